@@ -1,0 +1,3 @@
+pub mod FeatureTexts
+pub mod GeometryKinds
+pub mod Texts

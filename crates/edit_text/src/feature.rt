@@ -1,0 +1,57 @@
+/// A point of the world: `x` grows to the right, `y` downwards, and the whole world is 2^32 wide and high.
+#[derive(Clone, Copy, Debug, PartialEq, Eq)]
+pub struct World {
+    pub x: u32,
+    pub y: u32,
+}
+
+/// What a feature is made of.
+#[derive(Debug, PartialEq, Eq, Drop)]
+pub enum Geometry {
+    /// Single points.
+    Points(Vec<World>),
+    /// Lines, each of two points or more.
+    Lines(Vec<Vec<World>>),
+    /// Polygons, each an outer ring and then its inner rings, of three points or more each.
+    Polygons(Vec<Vec<Vec<World>>>),
+}
+
+/// The value of a tag.
+#[derive(Debug, PartialEq, Eq, Drop)]
+pub enum EditValue {
+    Text(String),
+    Natural(u64),
+    /// A number below 0.
+    Negative(i64),
+    Truth(bool),
+}
+
+/// A key and its value.
+#[derive(Debug, PartialEq, Eq, Drop)]
+pub struct Tag {
+    pub key: String,
+    pub value: EditValue,
+}
+
+/// A feature of the map, without its number.
+#[derive(Debug, PartialEq, Eq, Drop)]
+pub struct Feature {
+    /// The name of its layer.
+    pub layer: String,
+    /// The first zoom that shows it.
+    pub minzoom: u8,
+    /// The last zoom that shows it.
+    pub maxzoom: u8,
+    pub geometry: Geometry,
+    /// Its tags, with strictly ascending keys.
+    pub tags: Vec<Tag>,
+}
+
+/// A change of the map.
+#[derive(Debug, PartialEq, Eq, Drop)]
+pub enum Edit {
+    /// The number has this feature from now on.
+    Put { id: u64, feature: Feature },
+    /// The number has no feature from now on.
+    Delete { id: u64 },
+}

@@ -1,0 +1,7 @@
+pub mod FaultyLaws
+pub mod Shaped
+pub mod Spelled
+pub mod SpelledLaws
+pub mod Steps
+pub mod Stepwise
+pub mod Written

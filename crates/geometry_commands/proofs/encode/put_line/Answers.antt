@@ -1,0 +1,22 @@
+use Rattle.std.proofs.Common.{◌≡◌, ◌∷◌, [], ◌-◌, length, take, drop, get_or, refl, sym, ◌∙◌, arith}
+use Rattle.std.proofs.lemmas.List.{append-nil}
+use Rattle.geometry_commands.specs.Commands.{command, origin}
+use Rattle.geometry_commands.specs.Shapes.{close_spelled}
+use Rattle.geometry_commands.proofs.Written.{split_first, line_written}
+use Rattle.geometry_commands.proofs.encode.put_line.Goals as goal
+
+pub returns-in_ok-push-3-clause-line : goal.returns-in_ok-push-3-clause-line
+returns-in_ok-push-3-clause-line c =
+    let line = c.args.line.now in
+    let others = c.put_steps.new.out.items in
+    let close : close_spelled c.args.closed ≡ command 7 1 ∷ [] = rw c.if-closed.true refl in
+    let all = line_written c.args.closed c.args.from (get_or line 0 origin) (take (length line - 1) (drop 1 line)) line c.times.result c.times-2.result c.args.out.now.items c.push.new.self.items c.put_step.new.out.items c.push-2.new.self.items others (split_first line origin (omega arith)) c.times.ensures c.times-2.ensures c.in_ok-push.ensures.items c.in_ok-put_step.ensures.step c.in_ok-push-2.ensures.items c.in_ok-last.ensures.steps in
+    c.in_ok-push-3.ensures.items ∙ rw c.times-then-closed.ensures (rw close at all)
+
+pub returns-else-closed-clause-line : goal.returns-else-closed-clause-line
+returns-else-closed-clause-line c =
+    let line = c.args.line.now in
+    let others = c.put_steps.new.out.items in
+    let close : close_spelled c.args.closed ≡ [] = rw c.if-closed.false refl in
+    let all = line_written c.args.closed c.args.from (get_or line 0 origin) (take (length line - 1) (drop 1 line)) line c.times.result c.times-2.result c.args.out.now.items c.push.new.self.items c.put_step.new.out.items c.push-2.new.self.items others (split_first line origin (omega arith)) c.times.ensures c.times-2.ensures c.in_ok-push.ensures.items c.in_ok-put_step.ensures.step c.in_ok-push-2.ensures.items c.in_ok-last.ensures.steps in
+    sym (append-nil others) ∙ rw close at all

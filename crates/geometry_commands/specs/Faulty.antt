@@ -1,0 +1,68 @@
+-- The faults that integers have, each at its place.
+use Rattle.std.specs.Prelude.{◌≡◌, ℕ, ◌<◌, ◌%◌, Bool, true, false, List, [], ◌∷◌, ◌++◌, length}
+use Rattle.std.specs.List.{AllByRecursion}
+use Rattle.geometry_commands.specs.declared.point.Pt.{Pt}
+use Rattle.geometry_commands.specs.declared.decoding.GeometryFault.{GeometryFault}
+use Rattle.geometry_commands.specs.declared.decoding.GeometryFault.TheVariants as faults
+use Rattle.geometry_commands.specs.declared.kinds.ShapeKind.{ShapeKind}
+use Rattle.geometry_commands.specs.declared.kinds.ShapeKind.TheVariants as kinds
+use Rattle.geometry_commands.specs.Commands.{steps, command, origin}
+use Rattle.geometry_commands.specs.Ways.{led_to, FitsPt}
+use Rattle.geometry_commands.specs.Shapes.{last_of, lines_spelled, least, IsLine}
+
+-- where a command of this number must stand, the integers end, or another stands
+pub data CommandHas (id : ℕ) (ints : List ℕ) (d : GeometryFault) : Type 0 where
+  ends : d ≡ faults.Cut → ints ≡ [] → CommandHas id ints d
+  other : d ≡ faults.Command → (c : ℕ) → (rest : List ℕ) → ints ≡ c ∷ rest → (c % 8 ≡ id → ⊥) → CommandHas id ints d
+
+-- where a point must stand, fewer than two integers stand, or two that lead too far
+pub data StepHas (from : Pt) (ints : List ℕ) (d : GeometryFault) : Type 0 where
+  few : d ≡ faults.Cut → length ints < 2 → StepHas from ints d
+  far : d ≡ faults.Cursor → (a : ℕ) → (b : ℕ) → (rest : List ℕ) → ints ≡ a ∷ b ∷ rest → (FitsPt (led_to from a b) → ⊥) → StepHas from ints d
+
+-- behind fewer points than there must be, one has a fault
+pub record WalkHas (count : ℕ) (from : Pt) (ints : List ℕ) (d : GeometryFault) : Type 0 where
+  pub points : List Pt
+  pub rest : List ℕ
+  pub fewer : length points < count
+  pub spelled : ints ≡ steps from points ++ rest
+  pub fits : AllByRecursion FitsPt points
+  pub fault : StepHas (last_of from points) rest d
+
+-- what doesn't begin as a line, or a ring, must, from where the one before it ends
+pub data LineHas (closed : Bool) (from : Pt) (ints : List ℕ) (d : GeometryFault) : Type 0 where
+  at_move : CommandHas 1 ints d → LineHas closed from ints d
+  move_count : d ≡ faults.Count → (n : ℕ) → (rest : List ℕ) → ints ≡ command 1 n ∷ rest → (n ≡ 1 → ⊥) → LineHas closed from ints d
+  at_first : (rest : List ℕ) → ints ≡ command 1 1 ∷ rest → WalkHas 1 from rest d → LineHas closed from ints d
+  at_line : (ps : List Pt) → (rest : List ℕ) → length ps ≡ 1 → ints ≡ command 1 1 ∷ (steps from ps ++ rest) → CommandHas 2 rest d → LineHas closed from ints d
+  line_count : d ≡ faults.Count → (ps : List Pt) → (n : ℕ) → (rest : List ℕ) → length ps ≡ 1 → ints ≡ command 1 1 ∷ (steps from ps ++ (command 2 n ∷ rest)) → n < least closed → LineHas closed from ints d
+  at_others : (ps : List Pt) → (n : ℕ) → (rest : List ℕ) → length ps ≡ 1 → ints ≡ command 1 1 ∷ (steps from ps ++ (command 2 n ∷ rest)) → WalkHas n (last_of from ps) rest d → LineHas closed from ints d
+  at_close : closed ≡ true → (ps : List Pt) → (qs : List Pt) → (rest : List ℕ) → length ps ≡ 1 → ints ≡ command 1 1 ∷ (steps from ps ++ (command 2 (length qs) ∷ (steps (last_of from ps) qs ++ rest))) → CommandHas 7 rest d → LineHas closed from ints d
+  close_count : d ≡ faults.Count → closed ≡ true → (ps : List Pt) → (qs : List Pt) → (n : ℕ) → (rest : List ℕ) → length ps ≡ 1 → ints ≡ command 1 1 ∷ (steps from ps ++ (command 2 (length qs) ∷ (steps (last_of from ps) qs ++ (command 7 n ∷ rest)))) → (n ≡ 1 → ⊥) → LineHas closed from ints d
+
+-- where the way along lines ends
+abbrev pub end_of : Pt → List (List Pt) → Pt
+end_of from [] = from
+end_of from (l ∷ ls) = end_of (last_of from l) ls
+
+-- behind whole lines stands what is none
+pub record LinesHas (closed : Bool) (from : Pt) (ints : List ℕ) (d : GeometryFault) : Type 0 where
+  pub lines : List (List Pt)
+  pub rest : List ℕ
+  pub spelled : ints ≡ lines_spelled closed from lines ++ rest
+  pub each : AllByRecursion (IsLine closed) lines
+  pub some : 0 < length rest
+  pub fault : LineHas closed (end_of from lines) rest d
+
+pub data PointsHas (ints : List ℕ) (d : GeometryFault) : Type 0 where
+  at_points : 0 < length ints → CommandHas 1 ints d → PointsHas ints d
+  no_point : d ≡ faults.Count → (rest : List ℕ) → ints ≡ command 1 0 ∷ rest → PointsHas ints d
+  at_ways : (n : ℕ) → (rest : List ℕ) → ints ≡ command 1 n ∷ rest → WalkHas n origin rest d → PointsHas ints d
+  behind : d ≡ faults.Command → (ps : List Pt) → (rest : List ℕ) → ints ≡ command 1 (length ps) ∷ (steps origin ps ++ rest) → 0 < length rest → PointsHas ints d
+
+-- a fault of integers that are to be a shape of this kind
+abbrev pub ShapeHas : ShapeKind → List ℕ → GeometryFault → Type 0
+ShapeHas kinds.Unknown ints d = ⊥
+ShapeHas kinds.Points ints d = PointsHas ints d
+ShapeHas kinds.Lines ints d = LinesHas false origin ints d
+ShapeHas kinds.Polygons ints d = LinesHas true origin ints d

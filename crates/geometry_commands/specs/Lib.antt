@@ -1,0 +1,7 @@
+pub mod Commands
+pub mod Decoding
+pub mod Encodable
+pub mod Faulty
+pub mod Identifiers
+pub mod Shapes
+pub mod Ways

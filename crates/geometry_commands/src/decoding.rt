@@ -1,0 +1,219 @@
+ghost use Rattle.std.specs.Prelude.{◌≡◌, length, map, IfOk, IfErr};
+ghost use Rattle.geometry_commands.specs.Faulty.{ShapeHas};
+ghost use Rattle.geometry_commands.specs.Shapes.{shape_view, ShapeView, IsShape};
+ghost use Rattle.geometry_commands.specs.Ways.{along_at, moved_at};
+ghost use Rattle.geometry_commands.specs.Decoding.{Gives, command_at, step_at, walk_at, close_at, line_at, lines_at, points_at, shape_at};
+ghost use Rattle.geometry_commands.specs.Identifiers.{id_number};
+ghost use Rattle.geometry_commands.specs.declared.decoding.GeometryFault.TheVariants.{Memory};
+
+use crate::command::CommandId;
+use crate::kinds::{Shape, ShapeKind};
+use crate::point::Pt;
+use pb_wire::unzigzag;
+use std::alloc::{AllocError, AllocFailed, Global};
+
+/// Why integers are no shape of a kind, or that memory ran out.
+#[derive(Clone, Copy, Debug, PartialEq, Eq)]
+pub enum GeometryFault {
+    /// Another command stands where one must, or something behind the points.
+    Command,
+    /// A command is done fewer or more times than the kind allows.
+    Count,
+    /// The integers end where a command or a point must stand.
+    Cut,
+    /// A coordinate leaves 64 bits.
+    Cursor,
+    Memory,
+}
+
+impl<T: Drop> From<AllocFailed<T>> for GeometryFault {
+    ghost from_gives = { λ _ e. e ≡ Memory };
+
+    fn from(_e: AllocFailed<T>) -> GeometryFault {
+        GeometryFault::Memory
+    }
+}
+
+impl From<AllocError> for GeometryFault {
+    ghost from_gives = { λ _ e. e ≡ Memory };
+
+    fn from(_e: AllocError) -> GeometryFault {
+        GeometryFault::Memory
+    }
+}
+
+/// Where a number leads along one axis.
+fn along(from: i64, way: u32) -> Option<i64>
+    ensures { result ≡ along_at from way }
+{
+    from.checked_add(unzigzag(u64::from(way)))
+}
+
+/// The place that two numbers lead to from another.
+#[tactic(auto, unfolding(crate::specs::Ways::led_to, crate::specs::Ways::fits))]
+fn moved(from: Pt, dx: u32, dy: u32) -> Option<Pt>
+    ensures { result ≡ moved_at from dx dy }
+{
+    let x = along(from.x, dx)?;
+    let y = along(from.y, dy)?;
+    Some(Pt { x, y })
+}
+
+/// How many times this command is done, which must stand in front, and what stands behind it.
+#[tactic(auto, unfolding(crate::specs::Decoding::command_at))]
+fn command_of(id: CommandId, ints: &[u32]) -> Result<(u32, &[u32]), GeometryFault>
+    ensures { Gives (λ x. (x.0, x.1.now)) result (command_at (id_number id) ints.now) }
+{
+    if ints.len() == 0 {
+        return Err(GeometryFault::Cut);
+    }
+    if ints[0] % 8 == id.number() {
+        Ok((ints[0] / 8, &ints[1..]))
+    } else {
+        Err(GeometryFault::Command)
+    }
+}
+
+/// The point to which the next two integers lead.
+#[tactic(auto, unfolding(crate::specs::Decoding::step_at))]
+fn step_of(from: Pt, ints: &[u32]) -> Result<(Pt, &[u32]), GeometryFault>
+    ensures { Gives (λ x. (x.0, x.1.now)) result (step_at from ints.now) }
+{
+    if ints.len() < 2 {
+        return Err(GeometryFault::Cut);
+    }
+    match moved(from, ints[0], ints[1]) {
+        Some(to) => Ok((to, &ints[2..])),
+        None => Err(GeometryFault::Cursor),
+    }
+}
+
+/// So many points more, where the cursor stands then, and what stands behind them.
+fn walk<'a>(
+    before: Vec<Pt>,
+    from: Pt,
+    count: u32,
+    ints: &'a [u32],
+) -> Result<(Vec<Pt>, Pt, &'a [u32]), GeometryFault>
+    ensures { Gives (λ x. (x.0.items, x.1, x.2.now)) result (walk_at count before.items from ints.entry.now) }
+{
+    let mut points = before;
+    let mut at = from;
+    let mut rest = ints;
+    for i in 0..count {
+        let (to, after) = step_of(at, rest)?;
+        points.push(to)?;
+        at = to;
+        rest = after;
+    }
+    Ok((points, at, rest))
+}
+
+/// What stands behind the command that closes a ring.
+#[tactic(auto, unfolding(crate::specs::Decoding::close_at))]
+fn close_of(closed: bool, ints: &[u32]) -> Result<&[u32], GeometryFault>
+    ensures { Gives (λ x. x.now) result (close_at closed ints.now) }
+{
+    if closed {
+        let (count, rest) = command_of(CommandId::ClosePath, ints)?;
+        if count == 1 {
+            Ok(rest)
+        } else {
+            Err(GeometryFault::Count)
+        }
+    } else {
+        Ok(ints)
+    }
+}
+
+/// A line, or a ring, which is closed.
+#[tactic(auto, unfolding(crate::specs::Decoding::line_at, crate::specs::Decoding::line_first, crate::specs::Decoding::line_second, crate::specs::Decoding::line_others, crate::specs::Decoding::line_end))]
+fn line_of(
+    alloc: Global,
+    closed: bool,
+    from: Pt,
+    ints: &[u32],
+) -> Result<(Vec<Pt>, Pt, &[u32]), GeometryFault>
+    ensures { Gives (λ x. (x.0.items, x.1, x.2.now)) result (line_at closed from ints.now) }
+{
+    let (count, rest) = command_of(CommandId::MoveTo, ints)?;
+    if count != 1 {
+        return Err(GeometryFault::Count);
+    }
+    let (points, at, rest) = walk(Vec::new(alloc), from, 1, rest)?;
+    let (count, rest) = command_of(CommandId::LineTo, rest)?;
+    let least = if closed { 2 } else { 1 };
+    if count < least {
+        return Err(GeometryFault::Count);
+    }
+    let (points, at, rest) = walk(points, at, count, rest)?;
+    let rest = close_of(closed, rest)?;
+    Ok((points, at, rest))
+}
+
+/// Lines, or rings, each from where the one before it ends.
+fn lines_of(alloc: Global, closed: bool, ints: &[u32]) -> Result<Vec<Vec<Pt>>, GeometryFault>
+    ensures { Gives (λ v. map (λ l. l.items) v.items) result (lines_at closed ints.now) }
+{
+    let mut lines = Vec::new(alloc);
+    let mut at = Pt::ORIGIN;
+    let mut rest = ints;
+    while rest.len() > 0 {
+        let (line, to, after) = line_of(alloc, closed, at, rest)?;
+        lines.push(line)?;
+        at = to;
+        rest = after;
+    }
+    Ok(lines)
+}
+
+/// The points of one move.
+#[tactic(auto, unfolding(crate::specs::Decoding::points_at, crate::specs::Decoding::points_behind, crate::specs::Decoding::points_end))]
+fn points_of(alloc: Global, ints: &[u32]) -> Result<Vec<Pt>, GeometryFault>
+    ensures { Gives (λ v. v.items) result (points_at ints.now) }
+{
+    if ints.len() == 0 {
+        return Ok(Vec::new(alloc));
+    }
+    let (count, rest) = command_of(CommandId::MoveTo, ints)?;
+    if count == 0 {
+        return Err(GeometryFault::Count);
+    }
+    let (points, _at, rest) = walk(Vec::new(alloc), Pt::ORIGIN, count, rest)?;
+    if rest.len() == 0 {
+        Ok(points)
+    } else {
+        Err(GeometryFault::Command)
+    }
+}
+
+/// The shape of this kind that the integers spell, by the commands that its kind allows (Mapbox Vector Tile 2.1,
+/// 4.3.4): points are one MoveTo, a line is a MoveTo and a LineTo, a ring has a ClosePath behind its LineTo of two
+/// points or more. No integers are an empty shape of their kind. Rings may turn either way and have no area, and a
+/// point may stand where the one before it stands.
+///
+/// What is answered is the first fault from left to right.
+pub fn decode(alloc: Global, kind: ShapeKind, ints: &[u32]) -> Result<Shape, GeometryFault>
+    // What is found is spelled so.
+    ensures found { IfOk result (λ s. IsShape kind ints.now (shape_view s)) }
+    // What is spelled so is found, unless memory runs out.
+    ensures only { (s : ShapeView) → IsShape kind ints.now s → Gives shape_view result (Ok s) }
+    // The fault is one that the integers have.
+    ensures fault { IfErr result (λ d. (d ≡ GeometryFault.Memory → ⊥) → ShapeHas kind ints.now d) }
+    ensures exact { Gives shape_view result (shape_at kind ints.now) }
+{
+    shape_of(alloc, kind, ints)
+}
+
+/// The shape, as the definitions read it.
+#[tactic(auto, unfolding(crate::specs::Decoding::shape_at))]
+fn shape_of(alloc: Global, kind: ShapeKind, ints: &[u32]) -> Result<Shape, GeometryFault>
+    ensures { Gives shape_view result (shape_at kind ints.now) }
+{
+    match kind {
+        ShapeKind::Points => Ok(Shape::Points(points_of(alloc, ints)?)),
+        ShapeKind::Lines => Ok(Shape::Lines(lines_of(alloc, false, ints)?)),
+        ShapeKind::Polygons => Ok(Shape::Rings(lines_of(alloc, true, ints)?)),
+        ShapeKind::Unknown => Ok(Shape::Raw(ints.to_vec(alloc)?)),
+    }
+}

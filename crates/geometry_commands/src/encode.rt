@@ -1,0 +1,128 @@
+ghost use Rattle.std.specs.Prelude.{◌≡◌, ◌+◌, ◌*◌, ◌<◌, ◌^◌, ◌++◌, ◌-ℤ◌, pos, length, map, false, true, IfOk, OnOk};
+ghost use Rattle.pb_wire.specs.Zigzag.{zigzagged};
+ghost use Rattle.geometry_commands.specs.Commands.{IsShort, IsNear, AreNear, step, steps, points_spelled, origin};
+ghost use Rattle.geometry_commands.specs.Encodable.{CanSpell, CanSpellLine, CanSpellLines};
+ghost use Rattle.geometry_commands.specs.Shapes as shapes;
+ghost use Rattle.geometry_commands.specs.Shapes.{last_of, line_spelled, lines_spelled, IsLine, IsShape};
+ghost use Rattle.geometry_commands.specs.Ways.{FitsPt};
+ghost use Rattle.std.specs.List.{AllByRecursion};
+
+use crate::command::CommandId;
+use crate::kinds::ShapeKind;
+use crate::point::Pt;
+use pb_wire::{Memory, zigzag};
+use std::alloc::Global;
+
+/// The way along one axis, zigzag encoded.
+fn way(from: i64, to: i64) -> u32
+    requires { IsShort (to -ℤ from) }
+    ensures { result ≡ zigzagged (to -ℤ from) }
+{
+    zigzag(to - from) as u32
+}
+
+/// Appends the two numbers of the way from one point to the next.
+#[tactic(auto, unfolding(crate::specs::Ways::fits))]
+fn put_step(out: &mut Vec<u32>, from: Pt, to: Pt) -> Result<(), Memory>
+    requires { IsNear from to }
+    ensures step { OnOk result (out.new.items ≡ out.old.items ++ step from to) }
+    ensures fits { FitsPt to }
+{
+    out.push(way(from.x, to.x))?;
+    out.push(way(from.y, to.y))?;
+    Ok(())
+}
+
+/// Appends the way from a point along the others, and tells where it ends.
+fn put_steps(out: &mut Vec<u32>, from: Pt, points: &[Pt]) -> Result<Pt, Memory>
+    requires { AreNear from points.now }
+    ensures steps { OnOk result (out.new.items ≡ out.old.items ++ steps from points.now) }
+    ensures last { IfOk result (λ at. at ≡ last_of from points.now) }
+    ensures fits { OnOk result (AllByRecursion FitsPt points.now) }
+{
+    let mut at = from;
+    for point in points {
+        put_step(out, at, *point)?;
+        at = *point;
+    }
+    Ok(at)
+}
+
+/// Appends a line, or a ring, which is closed, and tells where the cursor stands then.
+fn put_line(out: &mut Vec<u32>, closed: bool, from: Pt, line: &[Pt]) -> Result<Pt, Memory>
+    requires { CanSpellLine closed from line.now }
+    ensures line { OnOk result (out.new.items ≡ out.old.items ++ line_spelled closed from line.now) }
+    ensures last { IfOk result (λ at. at ≡ last_of from line.now) }
+    ensures whole { OnOk result (IsLine closed line.now) }
+{
+    let first = line[0];
+    let others = &line[1..];
+    out.push(CommandId::MoveTo.times(1))?;
+    put_step(out, from, first)?;
+    out.push(CommandId::LineTo.times(others.len() as u32))?;
+    let last = put_steps(out, first, others)?;
+    if closed {
+        out.push(CommandId::ClosePath.times(1))?;
+    }
+    Ok(last)
+}
+
+/// Lines, or rings, each from where the one before it ends.
+fn encode_all(alloc: Global, closed: bool, lines: &[Vec<Pt>]) -> Result<Vec<u32>, Memory>
+    requires { CanSpellLines closed origin (map (λ l. l.items) lines.now) }
+    ensures spelled { IfOk result (λ v. v.items ≡ lines_spelled closed origin (map (λ l. l.items) lines.now)) }
+    ensures whole { OnOk result (AllByRecursion (IsLine closed) (map (λ l. l.items) lines.now)) }
+{
+    let mut out = Vec::new(alloc);
+    let mut at = Pt::ORIGIN;
+    for line in lines {
+        at = put_line(&mut out, closed, at, line.as_slice())?;
+    }
+    Ok(out)
+}
+
+/// The integers of points: one command to move, and the way along all of them (Mapbox Vector Tile 2.1, 4.3.4.2).
+///
+/// There is at least one point, and fewer than 2^29. From point to point, the first counted from (0,0), each
+/// coordinate changes by at most 2^31 - 1. The only error is want of memory.
+pub fn encode_points(alloc: Global, points: &[Pt]) -> Result<Vec<u32>, Memory>
+    requires { CanSpell (shapes.points points.now) }
+    ensures spelled { IfOk result (λ v. v.items ≡ points_spelled points.now) }
+    // The integers are these points.
+    ensures shape { IfOk result (λ v. IsShape ShapeKind.Points v.items (shapes.points points.now)) }
+{
+    let mut out = Vec::new(alloc);
+    out.push(CommandId::MoveTo.times(points.len() as u32))?;
+    put_steps(&mut out, Pt::ORIGIN, points)?;
+    Ok(out)
+}
+
+/// The integers of lines: for each a command to move, and one to draw along its other points (Mapbox Vector Tile 2.1,
+/// 4.3.4.3).
+///
+/// A line has at least two points, and fewer than 2^29. From point to point, the first counted from (0,0) and the
+/// first of each further line from the last of the one before it, each coordinate changes by at most 2^31 - 1. There
+/// may be no lines. The only error is want of memory.
+pub fn encode_lines(alloc: Global, lines: &[Vec<Pt>]) -> Result<Vec<u32>, Memory>
+    requires { CanSpell (shapes.lines (map (λ l. l.items) lines.now)) }
+    ensures spelled { IfOk result (λ v. v.items ≡ lines_spelled false origin (map (λ l. l.items) lines.now)) }
+    // The integers are these lines.
+    ensures shape { IfOk result (λ v. IsShape ShapeKind.Lines v.items (shapes.lines (map (λ l. l.items) lines.now))) }
+{
+    encode_all(alloc, false, lines)
+}
+
+/// The integers of rings: for each a command to move, one to draw along its other points, and one to close it (Mapbox
+/// Vector Tile 2.1, 4.3.4.4).
+///
+/// A ring has at least three points, the first not repeated at its end, and fewer than 2^29. From point to point, the
+/// first counted from (0,0) and the first of each further ring from the last of the one before it, each coordinate
+/// changes by at most 2^31 - 1. There may be no rings. The only error is want of memory.
+pub fn encode_rings(alloc: Global, rings: &[Vec<Pt>]) -> Result<Vec<u32>, Memory>
+    requires { CanSpell (shapes.rings (map (λ l. l.items) rings.now)) }
+    ensures spelled { IfOk result (λ v. v.items ≡ lines_spelled true origin (map (λ l. l.items) rings.now)) }
+    // The integers are these rings.
+    ensures shape { IfOk result (λ v. IsShape ShapeKind.Polygons v.items (shapes.rings (map (λ l. l.items) rings.now))) }
+{
+    encode_all(alloc, true, rings)
+}

@@ -1,0 +1,204 @@
+ghost use Rattle.std.specs.Prelude.{◌≡◌, IfOk};
+
+use super::*;
+use pb_wire::Memory;
+use std::alloc::Global;
+use std::process::Abort;
+use std::test::Fail;
+
+/// A point.
+const fn pt(x: i64, y: i64) -> Pt
+    ensures { result ≡ record { x = x; y = y } }
+{
+    Pt { x, y }
+}
+
+/// The integers are read as this shape.
+fn reads(
+    rt: &impl Abort,
+    alloc: Global,
+    kind: ShapeKind,
+    ints: &[u32],
+    shape: &Shape,
+) -> Result<(), Fail> {
+    let read = decode(alloc, kind, ints)?;
+    assert_eq!(rt; &read, shape);
+    Ok(())
+}
+
+/// "Example Point" of the standard.
+#[test]
+fn one_point(rt: HostRuntime) -> Result<(), Fail> {
+    let points = [pt(25, 17)];
+    let ints = [9, 50, 34];
+    assert_eq!(rt;
+        encode_points(rt.alloc(), &points)?.as_slice(),
+        ints.as_slice()
+    );
+    let shape = Shape::Points(points.to_vec(rt.alloc())?);
+    reads(&rt, rt.alloc(), ShapeKind::Points, &ints, &shape)
+}
+
+/// "Example Multi Point" of the standard.
+#[test]
+fn two_points(rt: HostRuntime) -> Result<(), Fail> {
+    let points = [pt(5, 7), pt(3, 2)];
+    let ints = [17, 10, 14, 3, 9];
+    assert_eq!(rt;
+        encode_points(rt.alloc(), &points)?.as_slice(),
+        ints.as_slice()
+    );
+    let shape = Shape::Points(points.to_vec(rt.alloc())?);
+    reads(&rt, rt.alloc(), ShapeKind::Points, &ints, &shape)
+}
+
+/// "Example Multi Linestring" of the standard; the first line is its "Example Linestring".
+#[test]
+fn two_lines(rt: HostRuntime) -> Result<(), Fail> {
+    let first = [pt(2, 2), pt(2, 10), pt(10, 10)].to_vec(rt.alloc())?;
+    let second = [pt(1, 1), pt(3, 5)].to_vec(rt.alloc())?;
+    let lines = vec![in rt.alloc(); first, second]?;
+    let ints = [9, 4, 4, 18, 0, 16, 16, 0, 9, 17, 17, 10, 4, 8];
+    assert_eq!(rt;
+        encode_lines(rt.alloc(), lines.as_slice())?.as_slice(),
+        ints.as_slice()
+    );
+    let shape = Shape::Lines(lines);
+    reads(&rt, rt.alloc(), ShapeKind::Lines, &ints, &shape)
+}
+
+/// "Example Linestring" of the standard.
+#[test]
+fn one_line(rt: HostRuntime) -> Result<(), Fail> {
+    let line = [pt(2, 2), pt(2, 10), pt(10, 10)].to_vec(rt.alloc())?;
+    let lines = vec![in rt.alloc(); line]?;
+    let ints = [9, 4, 4, 18, 0, 16, 16, 0];
+    assert_eq!(rt;
+        encode_lines(rt.alloc(), lines.as_slice())?.as_slice(),
+        ints.as_slice()
+    );
+    let shape = Shape::Lines(lines);
+    reads(&rt, rt.alloc(), ShapeKind::Lines, &ints, &shape)
+}
+
+/// "Example Polygon" of the standard.
+#[test]
+fn one_ring(rt: HostRuntime) -> Result<(), Fail> {
+    let ring = [pt(3, 6), pt(8, 12), pt(20, 34)].to_vec(rt.alloc())?;
+    let rings = vec![in rt.alloc(); ring]?;
+    let ints = [9, 6, 12, 18, 10, 12, 24, 44, 15];
+    assert_eq!(rt;
+        encode_rings(rt.alloc(), rings.as_slice())?.as_slice(),
+        ints.as_slice()
+    );
+    let shape = Shape::Rings(rings);
+    reads(&rt, rt.alloc(), ShapeKind::Polygons, &ints, &shape)
+}
+
+/// "Example Multi Polygon" of the standard.
+#[test]
+fn two_polygons(rt: HostRuntime) -> Result<(), Fail> {
+    let alone = [pt(0, 0), pt(10, 0), pt(10, 10), pt(0, 10)].to_vec(rt.alloc())?;
+    let outer = [pt(11, 11), pt(20, 11), pt(20, 20), pt(11, 20)].to_vec(rt.alloc())?;
+    let inner = [pt(13, 13), pt(13, 17), pt(17, 17), pt(17, 13)].to_vec(rt.alloc())?;
+    let rings = vec![in rt.alloc(); alone, outer, inner]?;
+    let ints = [
+        9, 0, 0, 26, 20, 0, 0, 20, 19, 0, 15, 9, 22, 2, 26, 18, 0, 0, 18, 17, 0, 15, 9, 4, 13, 26,
+        0, 8, 8, 0, 0, 7, 15,
+    ];
+    assert_eq!(rt;
+        encode_rings(rt.alloc(), rings.as_slice())?.as_slice(),
+        ints.as_slice()
+    );
+    let shape = Shape::Rings(rings);
+    reads(&rt, rt.alloc(), ShapeKind::Polygons, &ints, &shape)
+}
+
+#[test]
+fn no_integers(rt: HostRuntime) -> Result<(), Fail> {
+    let none = Shape::Points(Vec::new(rt.alloc()));
+    reads(&rt, rt.alloc(), ShapeKind::Points, &[], &none)?;
+    let none = Shape::Lines(Vec::new(rt.alloc()));
+    reads(&rt, rt.alloc(), ShapeKind::Lines, &[], &none)?;
+    let none = Shape::Rings(Vec::new(rt.alloc()));
+    reads(&rt, rt.alloc(), ShapeKind::Polygons, &[], &none)?;
+    assert!(rt; encode_lines(rt.alloc(), &[])?.is_empty());
+    assert!(rt; encode_rings(rt.alloc(), &[])?.is_empty());
+    Ok(())
+}
+
+#[test]
+fn keeps_what_is_unknown(rt: HostRuntime) -> Result<(), Fail> {
+    let ints = [5, 0, 7];
+    let raw = Shape::Raw(ints.to_vec(rt.alloc())?);
+    reads(&rt, rt.alloc(), ShapeKind::Unknown, &ints, &raw)
+}
+
+/// The integers are refused with this fault.
+fn refuses(rt: &impl Abort, alloc: Global, kind: ShapeKind, ints: &[u32], fault: GeometryFault) {
+    assert_eq!(rt; decode(alloc, kind, ints).err(), Some(fault));
+}
+
+#[test]
+fn names_the_first_fault(rt: HostRuntime) {
+    let alloc = rt.alloc();
+    refuses(&rt, alloc, ShapeKind::Points, &[9, 50], GeometryFault::Cut);
+    refuses(&rt, alloc, ShapeKind::Points, &[1], GeometryFault::Count);
+    refuses(
+        &rt,
+        alloc,
+        ShapeKind::Points,
+        &[10, 50, 34],
+        GeometryFault::Command,
+    );
+    refuses(
+        &rt,
+        alloc,
+        ShapeKind::Points,
+        &[9, 50, 34, 9],
+        GeometryFault::Command,
+    );
+    refuses(&rt, alloc, ShapeKind::Lines, &[9, 4, 4], GeometryFault::Cut);
+    refuses(
+        &rt,
+        alloc,
+        ShapeKind::Lines,
+        &[17, 4, 4, 0, 0],
+        GeometryFault::Count,
+    );
+    refuses(
+        &rt,
+        alloc,
+        ShapeKind::Lines,
+        &[9, 4, 4, 2],
+        GeometryFault::Count,
+    );
+    refuses(
+        &rt,
+        alloc,
+        ShapeKind::Lines,
+        &[9, 4, 4, 10, 2, 2, 15],
+        GeometryFault::Command,
+    );
+    refuses(
+        &rt,
+        alloc,
+        ShapeKind::Polygons,
+        &[9, 0, 0, 10, 2, 2],
+        GeometryFault::Count,
+    );
+    refuses(
+        &rt,
+        alloc,
+        ShapeKind::Polygons,
+        &[9, 0, 0, 18, 2, 2, 4, 4],
+        GeometryFault::Cut,
+    );
+    refuses(
+        &rt,
+        alloc,
+        ShapeKind::Polygons,
+        &[9, 0, 0, 18, 2, 2, 4, 4, 23],
+        GeometryFault::Count,
+    );
+}

@@ -1,0 +1,5 @@
+pub mod Ids
+pub mod Places
+pub mod Powers
+pub mod Stands
+pub mod SameTile

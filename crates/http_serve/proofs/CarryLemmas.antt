@@ -1,0 +1,188 @@
+-- Requests one after the other, and their replies.
+use Rattle.std.proofs.Common.{◌≡◌, ℕ, List, [], ◌∷◌, ◌++◌, Option, Bool, true, false, take, drop, length, ◌+◌, ◌-◌, ◌^◌, ◌<◌, min, inl, inr, arith, length-append, refl, sym, ap, ◌∙◌, subst, append_assoc}
+use Rattle.std.proofs.lemmas.List.{append-nil}
+use Rattle.std.specs.Io.KnownBytes.{Appends}
+use Rattle.http_serve.specs.declared.refusals.Refusal.{Refusal}
+use Rattle.http_serve.specs.Message.{Message, IsHead, IsMessage, Begins, Ending, going, closed, asked, refused, EndsAs, IsRefused, asks_to_close}
+use Rattle.http_serve.specs.Question.{Question, question_of, question_at, path_of}
+use Rattle.http_serve.specs.declared.frames.Frame.{Frame}
+use Rattle.http_serve.specs.Frame.{IsFrameOf}
+use Rattle.http_serve.specs.Reply.{ReplyView, reply_bytes, refusal_bytes}
+use Rattle.http_serve.specs.Served.{RisesBy, reply_count, Answers, AnswersEnd, Carries, Ends, Breaks, Anything}
+use Rattle.http_serve.proofs.HeadLemmas.{IsHead-append}
+use Rattle.http_serve.proofs.KnownLemmas.{Appends-then, Appends_none}
+
+pub IsMessage-append : (bytes more : List ℕ) (message : Message) (rest : List ℕ) → IsMessage bytes message rest
+    → IsMessage (bytes ++ more) message (rest ++ more)
+IsMessage-append bytes more message rest is = record {
+  head =
+      subst (λ (t : List ℕ). IsHead (bytes ++ more) message.head t) (append_assoc message.body rest more)
+      (IsHead-append bytes more message.head (message.body ++ rest) is.head);
+  body = is.body;
+}
+
+pub Begins-append : (more : List ℕ) (bytes : List ℕ) (messages : List Message) (rest : List ℕ) → Begins bytes messages rest
+    → Begins (bytes ++ more) messages (rest ++ more)
+Begins-append more bytes [] rest is = ap (λ (t : List ℕ). t ++ more) is
+Begins-append more bytes (message ∷ messages) rest is =
+    (is.0 ++ more, IsMessage-append bytes more message is.0 is.1, is.2, Begins-append more is.0 messages rest is.3)
+
+pub Begins-then : (bytes : List ℕ) (messages others : List Message) (middle rest : List ℕ) → Begins bytes messages middle
+    → Begins middle others rest → Begins bytes (messages ++ others) rest
+Begins-then bytes [] others middle rest x y = subst (λ (t : List ℕ). Begins t others rest) (sym x) y
+Begins-then bytes (message ∷ messages) others middle rest x y = (x.0, x.1, x.2, Begins-then x.0 messages others middle rest x.3 y)
+
+-- ---- counts
+
+pub rises_none : (a : ℕ) → a < 2 ^ 64 → RisesBy a 0 a
+rises_none a fits = omega arith
+
+capped_twice : (most a m n : ℕ) → min (min (a + m) most + n) most ≡ min (a + (m + n)) most
+capped_twice most a m n = omega arith
+
+pub rises_then : (a m b n c : ℕ) → RisesBy a m b → RisesBy b n c → RisesBy a (m + n) c
+rises_then a m b n c x y = y ∙ ap (λ (k : ℕ). min (k + n) (2 ^ 64 - 1)) x ∙ capped_twice (2 ^ 64 - 1) a m n
+
+pub reply_count_split : (messages : List Message) (ending : Ending) → reply_count messages ending ≡ length messages + reply_count [] ending
+reply_count_split messages going = omega arith
+reply_count_split messages closed = omega arith
+reply_count_split messages (asked message) = refl
+reply_count_split messages (refused refusal) = refl
+
+pub reply_count-append : (messages others : List Message) (ending : Ending)
+    → reply_count (messages ++ others) ending ≡ length messages + reply_count others ending
+reply_count-append messages others ending =
+    omega (arith, reply_count_split (messages ++ others) ending, reply_count_split others ending, length-append messages others)
+
+-- ---- replies
+
+module _ {S : Type 0} (replies : S → Question → ReplyView → S → Type 0) where
+  pub Answers-then : (old : S) (messages others : List Message) (a b : List ℕ) (middle new : S)
+      → Answers replies old messages a middle → Answers replies middle others b new → Answers replies old (messages ++ others) (a ++ b) new
+  Answers-then old [] others a b middle new x y =
+      let start : Answers replies old others b new = subst (λ (s : S). Answers replies s others b new) x.1 y in
+      subst (λ (t : List ℕ). Answers replies old others (t ++ b) new) (sym x.0) start
+  Answers-then old (message ∷ messages) others a b middle new x y = (
+    x.0,
+    x.1,
+    x.2 ++ b,
+    x.3,
+    ap (λ (t : List ℕ). t ++ b) x.4 ∙ append_assoc (reply_bytes false x.0) x.2 b,
+    Answers-then x.1 messages others x.2 b middle new x.5 y,
+  )
+
+  pub Carries_start : (old : S) (bytes : List ℕ) (held : Option (List ℕ)) (before : ℕ) → before < 2 ^ 64
+      → Carries replies old bytes held before old bytes held before
+  Carries_start old bytes held before fits = record {
+    messages = [];
+    out = [];
+    begins = refl;
+    answers = (refl, refl);
+    written = Appends_none held;
+    counted = rises_none before fits;
+  }
+
+  -- one more request is answered
+  pub Carries_push : (old : S) (bytes : List ℕ) (held : Option (List ℕ)) (before : ℕ) (middle : S) (input : List ℕ) (holds : Option (List ℕ)) (so_far : ℕ)
+      (message : Message) (reply : ReplyView) (new : S) (rest : List ℕ) (now : Option (List ℕ)) (after : ℕ)
+      → Carries replies old bytes held before middle input holds so_far → IsMessage input message rest → asks_to_close message.head ≡ false
+      → replies middle (question_of message) reply new → Appends holds now (reply_bytes false reply) → RisesBy so_far 1 after
+      → Carries replies old bytes held before new rest now after
+  Carries_push old bytes held before middle input holds so_far message reply new rest now after so is goes_on given sent one = record {
+    messages = so.messages ++ message ∷ [];
+    out = so.out ++ reply_bytes false reply;
+    begins = Begins-then bytes so.messages (message ∷ []) input rest so.begins (rest, is, goes_on, refl);
+    answers =
+        Answers-then old so.messages (message ∷ []) so.out (reply_bytes false reply) middle new so.answers
+        (reply, new, [], given, sym (append-nil (reply_bytes false reply)), (refl, refl));
+    written = Appends-then held holds now so.out (reply_bytes false reply) so.written sent;
+    counted =
+        subst (λ (n : ℕ). RisesBy before n after) (sym (length-append so.messages (message ∷ [])))
+        (rises_then before (length so.messages) so_far 1 after so.counted one);
+  }
+
+  -- what comes next ends the connection
+  pub Ends_push : (old : S) (bytes : List ℕ) (held : Option (List ℕ)) (before : ℕ) (middle : S) (input : List ℕ) (holds : Option (List ℕ)) (so_far : ℕ)
+      (follow : List ℕ → Type 0) (ending : Ending) (last : List ℕ) (new : S) (now : Option (List ℕ)) (after : ℕ)
+      → Carries replies old bytes held before middle input holds so_far → ((more : List ℕ) → follow more → EndsAs (input ++ more) ending)
+      → AnswersEnd replies middle ending last new → Appends holds now last → RisesBy so_far (reply_count [] ending) after
+      → Ends replies old bytes follow held before ending new now after
+  Ends_push old bytes held before middle input holds so_far follow ending last new now after so ends given sent count = record {
+    messages = so.messages;
+    out = so.out ++ last;
+    requests = λ more h. (input ++ more, Begins-append more bytes so.messages input so.begins, ends more h);
+    answers = record { middle = middle; front = so.out; last = last; each = so.answers; end = given; is = refl };
+    written = Appends-then held holds now so.out last so.written sent;
+    counted =
+        subst (λ (n : ℕ). RisesBy before n after) (sym (reply_count_split so.messages ending))
+        (rises_then before (length so.messages) so_far (reply_count [] ending) after so.counted count);
+  }
+
+  -- a write failed in a refusal
+  pub Breaks_refused : (old : S) (bytes : List ℕ) (held : Option (List ℕ)) (before : ℕ) (middle : S) (input : List ℕ) (holds : Option (List ℕ)) (so_far : ℕ)
+      (refusal : Refusal) (n : ℕ) (now : Option (List ℕ)) → Carries replies old bytes held before middle input holds so_far
+      → 0 < length input → IsRefused input refusal → n < length (refusal_bytes refusal) → Appends holds now (take n (refusal_bytes refusal))
+      → Breaks replies old bytes held before middle now so_far
+  Breaks_refused old bytes held before middle input holds so_far refusal n now so some is cut sent = record {
+    middle = middle;
+    rest = input;
+    between = holds;
+    carries = so;
+    next = refusal_bytes refusal;
+    count = n;
+    replied = inr (record { refusal = refusal; some = some; is = is; same = refl; out_is = refl });
+    cut = cut;
+    written = sent;
+  }
+
+  -- ---- a request in a frame
+
+  module _ (old : S) (bytes : List ℕ) (held : Option (List ℕ)) (before : ℕ) (middle : S) (input : List ℕ) (holds : Option (List ℕ)) (so_far : ℕ)
+      (frame : Frame) (message : Message) (reply : ReplyView) (new : S) (now : Option (List ℕ))
+      (so : Carries replies old bytes held before middle input holds so_far) (is : IsFrameOf input frame message)
+      (given : replies middle (question_at input frame) reply new) where
+    asked_so : replies middle (question_of message) reply new
+    asked_so =
+        let same : question_at input frame ≡ question_of message = λ i. record {
+          method = is.method i;
+          path = path_of (is.target i);
+          body = is.body i;
+        } in
+        subst (λ (q : Question). replies middle q reply new) same given
+
+    pub Frame_push : (after : ℕ) → frame.close ≡ false → Appends holds now (reply_bytes frame.close reply) → RisesBy so_far 1 after
+        → Carries replies old bytes held before new (drop frame.body.end input) now after
+    Frame_push after goes_on sent one =
+        Carries_push old bytes held before middle input holds so_far message reply new (drop frame.body.end input) now after so is.is
+        (sym is.close ∙ goes_on) asked_so
+        (subst (λ (b : Bool). Appends holds now (reply_bytes b reply)) goes_on sent) one
+
+    pub Frame_ends : (after : ℕ) → frame.close ≡ true → Appends holds now (reply_bytes frame.close reply) → RisesBy so_far 1 after
+        → Ends replies old bytes Anything held before (asked message) new now after
+    Frame_ends after closes sent one =
+        Ends_push old bytes held before middle input holds so_far Anything (asked message) (reply_bytes true reply) new now after so
+        (λ more _. (drop frame.body.end input ++ more, IsMessage-append input more message (drop frame.body.end input) is.is, sym is.close ∙ closes))
+        (reply, asked_so, refl)
+        (subst (λ (b : Bool). Appends holds now (reply_bytes b reply)) closes sent) one
+
+    pub Frame_breaks : (n : ℕ) → n < length (reply_bytes frame.close reply) → Appends holds now (take n (reply_bytes frame.close reply))
+        → Breaks replies old bytes held before new now so_far
+    Frame_breaks n cut sent = record {
+      middle = middle;
+      rest = input;
+      between = holds;
+      carries = so;
+      next = reply_bytes frame.close reply;
+      count = n;
+      replied =
+          inl (record {
+            message = message;
+            rest = drop frame.body.end input;
+            reply = reply;
+            is = is.is;
+            replied = asked_so;
+            out_is = ap (λ (b : Bool). reply_bytes b reply) is.close;
+          });
+      cut = cut;
+      written = sent;
+    }

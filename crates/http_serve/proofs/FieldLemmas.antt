@@ -1,0 +1,158 @@
+-- Values of content-length.
+use Rattle.std.proofs.Common.{◌≡◌, ℕ, ◌+◌, ◌-◌, ◌*◌, ◌<◌, ◌≤◌, List, [], ◌∷◌, ◌++◌, Bool, true, false, ◌&&◌, cond, length, take, drop, map, min, refl, sym, ap, ◌∙◌, arith, get_or, Ok, Err, Result, nat_le}
+use Rattle.std.specs.List.{filter, list_all}
+use Rattle.std.specs.Char.{digit_value, is_ascii_digit}
+use Rattle.std.specs.Str.Parse.{digits_value}
+use Rattle.std.proofs.lemmas.List.{take_more, map-append, take-append-drop}
+use Rattle.std.proofs.lemmas.List.Elements.{filter-append}
+use Rattle.std.proofs.lemmas.List.Sums.{AllPass-from_list_all}
+use Rattle.std.proofs.lemmas.Bool.Decides.{nat_tests}
+use Rattle.std.proofs.lemmas.Int.Digits.{digits_value_more}
+use Rattle.httparse.specs.declared.spans.HeaderSpan.{HeaderSpan}
+use Rattle.httparse.specs.Spans.{header_bytes, span_bytes}
+use Rattle.std.specs.List.{list_any, slice_split, position, position_or_len}
+use Rattle.std.proofs.Common.{zero, suc, length-drop, Option, Some, None, inl, inr, not, nat_lt}
+use Rattle.std.proofs.lemmas.Bool.{cases_lt}
+use Rattle.std.specs.Prelude.{◌||◌, ◌==◌, codes}
+use Rattle.std.proofs.Common.{subst}
+use Rattle.std.proofs.lemmas.List.{take_all}
+use Rattle.std.proofs.lemmas.List.Splits.{slice_split_first, slice_split_none}
+use Rattle.std.proofs.lemmas.List.Sums.{fails_before_first, prefix_len-le-length}
+use Rattle.httparse.specs.Ascii.{comma}
+use Rattle.httparse.specs.Grammar.{trim_ows}
+use Rattle.http_serve.specs.declared.refusals.Refusal.{Refusal}
+use Rattle.http_serve.specs.declared.refusals.Refusal.TheVariants.{Head}
+use Rattle.http_serve.specs.Fields.{NamedValue, is_content_length, lengths_of, stated_length, is_numeral, is_word, lists_close, is_close, says_close}
+
+-- one more digit, capped
+capped_more : (x d : ℕ) → min (min x 65537 * 10 + d) 65537 ≡ min (x * 10 + d) 65537
+capped_more x d = omega arith
+
+digit_is : (b : ℕ) → is_ascii_digit b ≡ true → digit_value b ≡ b - 48
+digit_is b is = grind (arith, nat_tests)
+
+pub capped_step : (ds : List ℕ) (i n d r : ℕ) → list_all is_ascii_digit ds ≡ true → i < length ds
+    → n ≡ min (digits_value 10 (take i ds)) 65537 → d ≡ get_or ds i 0 - 48 → r ≡ min (n * 10 + d) 65537
+    → r ≡ min (digits_value 10 (take (i + 1) ds)) 65537
+capped_step ds i n d r all at so digit now =
+    let here : is_ascii_digit (get_or ds i 0) ≡ true = AllPass-from_list_all is_ascii_digit ds all i 0 at in
+    let value = digit_is (get_or ds i 0) here in
+    let more = digits_value_more 10 ds i at in
+    let capped = capped_more (digits_value 10 (take i ds)) (digit_value (get_or ds i 0)) in
+    now ∙ ap (λ (k : ℕ). min (k * 10 + d) 65537) so
+    ∙ ap (λ (k : ℕ). min (min (digits_value 10 (take i ds)) 65537 * 10 + k) 65537) (digit ∙ sym value)
+    ∙ capped ∙ ap (λ (k : ℕ). min k 65537) (sym more)
+
+-- more fields
+pub lengths-append : (xs ys : List NamedValue) → lengths_of (xs ++ ys) ≡ lengths_of xs ++ lengths_of ys
+lengths-append xs ys =
+    ap (λ (fields : List NamedValue). map (λ field. field.1) fields) (filter-append is_content_length xs ys)
+    ∙ map-append (λ (field : NamedValue). field.1) (filter is_content_length xs) (filter is_content_length ys)
+
+lengths_one : (x : NamedValue) (b : Bool) → is_content_length x ≡ b → lengths_of (x ∷ []) ≡ cond b (x.1 ∷ []) []
+lengths_one x true is = rw is refl
+lengths_one x false is = rw is refl
+
+-- one more field
+pub lengths_step : (bytes : List ℕ) (fields : List HeaderSpan) (i : ℕ) (d : HeaderSpan) (b : Bool) → i < length fields
+    → is_content_length (header_bytes bytes (get_or fields i d)) ≡ b
+    → lengths_of (map (header_bytes bytes) (take (i + 1) fields))
+    ≡ lengths_of (map (header_bytes bytes) (take i fields)) ++ cond b (span_bytes bytes (get_or fields i d).value ∷ []) []
+lengths_step bytes fields i d b at is =
+    ap (λ (f : List HeaderSpan). lengths_of (map (header_bytes bytes) f)) (take_more fields i d at)
+    ∙ ap lengths_of (map-append (header_bytes bytes) (take i fields) (get_or fields i d ∷ []))
+    ∙ lengths-append (map (header_bytes bytes) (take i fields)) (header_bytes bytes (get_or fields i d) ∷ [])
+    ∙ ap (λ (t : List (List ℕ)). lengths_of (map (header_bytes bytes) (take i fields)) ++ t) (lengths_one (header_bytes bytes (get_or fields i d)) b is)
+
+-- two values are refused, whatever fields follow
+pub two_lengths : (bytes : List ℕ) (fields : List HeaderSpan) (i : ℕ) (v w : List ℕ)
+    → lengths_of (map (header_bytes bytes) (take i fields)) ≡ v ∷ w ∷ []
+    → stated_length (lengths_of (map (header_bytes bytes) fields)) ≡ Err Head
+two_lengths bytes fields i v w so =
+    let parts = ap (λ (f : List HeaderSpan). lengths_of (map (header_bytes bytes) f)) (sym (take-append-drop i fields))
+    ∙ ap lengths_of (map-append (header_bytes bytes) (take i fields) (drop i fields))
+    ∙ lengths-append (map (header_bytes bytes) (take i fields)) (map (header_bytes bytes) (drop i fields)) in
+    ap stated_length (parts ∙ ap (λ (t : List (List ℕ)). t ++ lengths_of (map (header_bytes bytes) (drop i fields))) so)
+
+numeral_bound : (v : List ℕ) (a b : Bool) (n k : ℕ) → b ≡ nat_le k 65536
+    → ◌≡◌ {A = Result ℕ Refusal} (cond (a && b) (Ok k) (Err Head)) (Ok n) → n ≤ 65536
+numeral_bound v true true n k is e = let same : k ≡ n = cc in grind (arith, nat_tests)
+numeral_bound v true false n k is e = cc
+numeral_bound v false b n k is e = cc
+
+-- no length above the limit is stated
+pub stated_bound : (values : List (List ℕ)) (n : ℕ) → stated_length values ≡ Ok n → n ≤ 65536
+stated_bound [] n e = let same : 0 ≡ n = cc in omega arith
+stated_bound (v ∷ []) n e =
+    numeral_bound v (is_numeral v) (nat_le (digits_value 10 v) 65536) n (digits_value 10 v) refl e
+stated_bound (v ∷ w ∷ more) n e = cc
+
+-- ---- the options of a connection
+
+-- whether the value without the options up to a comma lists close
+pub lists_close_more : (value : List ℕ) (n : ℕ) → n ≡ position_or_len (λ byte. byte == comma) value → n < length value
+    → lists_close value ≡ is_word (codes "close") (trim_ows (take n value)) || lists_close (drop (n + 1) value)
+lists_close_more value n at more =
+    let Test : Type 0 = List (List ℕ) in
+    let closes : List ℕ → Bool = λ option. is_word (codes "close") (trim_ows option) in
+    let first = slice_split_first (λ byte. byte == comma) value 0 (subst (λ (k : ℕ). k < length value) at more) in
+    ap (λ (parts : List (List ℕ)). list_any closes parts) first
+    ∙ ap (λ (k : ℕ). closes (take k value) || lists_close (drop (k + 1) value)) (sym at)
+
+-- one option is left
+pub lists_close_last : (value : List ℕ) (n : ℕ) → n ≡ position_or_len (λ byte. byte == comma) value → n ≡ length value
+    → lists_close value ≡ is_word (codes "close") (trim_ows (take n value)) || false
+lists_close_last value n at last =
+    let closes : List ℕ → Bool = λ option. is_word (codes "close") (trim_ows option) in
+    let one = slice_split_none (λ byte. byte == comma) value
+    (λ k d below. fails_before_first (λ byte. byte == comma) value k d (subst (λ (m : ℕ). k < m) (sym last ∙ at) below)) in
+    ap (λ (parts : List (List ℕ)). list_any closes parts) one
+    ∙ ap (λ (option : List ℕ). closes option || false) (sym (take_all n value (omega arith)))
+
+-- where no byte passes, the place is the length
+pub no_place : (p : ℕ → Bool) (xs : List ℕ) → position p xs ≡ None → length xs ≡ position_or_len p xs
+no_place p xs none = by (nat_lt (position_or_len p xs) (length xs)) refl none
+  where
+    by : (b : Bool) → b ≡ nat_lt (position_or_len p xs) (length xs) → cond b (Some (position_or_len p xs)) None ≡ None
+        → length xs ≡ position_or_len p xs
+    by true is e = cc
+    by false is e = let most = prefix_len-le-length (λ (x : ℕ). not (p x)) xs in grind (arith, nat_tests)
+
+-- a slice from a place to the end
+pub rest_is : (k : ℕ) (xs : List ℕ) → take (length xs - k) (drop k xs) ≡ drop k xs
+rest_is k xs = take_all (length xs - k) (drop k xs) (omega (arith, length-drop k xs))
+
+module _ (value rest : List ℕ) (n : ℕ) (at : n ≡ position_or_len (λ byte. byte == comma) rest) (within : n ≤ length rest)
+    (so_far : lists_close rest ≡ lists_close value) where
+  pub close_found : is_word (codes "close") (trim_ows (take n rest)) ≡ true → true ≡ lists_close value
+  close_found found = elim (cases_lt n (length rest)) [
+    | inl more ↦ sym (ap (λ (b : Bool). b || lists_close (drop (n + 1) rest)) found) ∙ sym (lists_close_more rest n at more) ∙ so_far
+    | inr last ↦ sym (ap (λ (b : Bool). b || false) found) ∙ sym (lists_close_last rest n at (omega arith)) ∙ so_far
+  ]
+
+  pub close_none : is_word (codes "close") (trim_ows (take n rest)) ≡ false → n ≡ length rest → false ≡ lists_close value
+  close_none other last =
+      sym (ap (λ (b : Bool). b || false) other) ∙ sym (lists_close_last rest n at last) ∙ so_far
+
+  pub close_goes : is_word (codes "close") (trim_ows (take n rest)) ≡ false → n < length rest
+      → lists_close (take (length rest - (n + 1)) (drop (n + 1) rest)) ≡ lists_close value
+  close_goes other more =
+      ap lists_close (rest_is (n + 1) rest)
+      ∙ sym (ap (λ (b : Bool). b || lists_close (drop (n + 1) rest)) other) ∙ sym (lists_close_more rest n at more) ∙ so_far
+
+-- a field that says close is found
+pub close_at : (bytes : List ℕ) (fields : List HeaderSpan) (i : ℕ) (d : HeaderSpan) → i < length fields
+    → is_close (header_bytes bytes (get_or fields i d)) ≡ true → says_close (map (header_bytes bytes) fields) ≡ true
+close_at bytes [] i d at is = absurd (omega arith)
+close_at bytes (x ∷ fields) zero d at is = ap (λ (b : Bool). b || says_close (map (header_bytes bytes) fields)) is
+close_at bytes (x ∷ fields) (suc i) d at is =
+    let found = close_at bytes fields i d (omega arith) is in
+    ap (λ (b : Bool). is_close (header_bytes bytes x) || b) found ∙ or_true (is_close (header_bytes bytes x))
+  where
+    or_true : (b : Bool) → b || true ≡ true
+    or_true true = refl
+    or_true false = refl
+
+-- both facts of a test of two parts
+pub both_true : (a b : Bool) → a ≡ true → b ≡ true → a && b ≡ true
+both_true a b x y = ap (λ (t : Bool). t && b) x ∙ y

@@ -1,0 +1,296 @@
+-- A connection, read by read.
+use Rattle.std.proofs.Common.{◌≡◌, ◌≢◌, ℕ, ◌<◌, ◌≤◌, ◌^◌, List, [], ◌∷◌, ◌++◌, Option, Some, None, take, length, ◌+◌, refl, sym, ap, ◌∙◌, subst, append_assoc, arith, inl, length-append}
+use Rattle.std.specs.Prelude.{⊤}
+use Rattle.std.proofs.lemmas.List.{append-nil}
+use Rattle.std.specs.Io.KnownBytes.{Appends, Consumes, IsAtEnd}
+use Rattle.http_serve.specs.declared.refusals.Refusal.{Refusal}
+use Rattle.http_serve.specs.declared.refusals.Refusal.TheVariants.{Head}
+use Rattle.http_serve.specs.declared.connection.End.{End}
+use Rattle.http_serve.specs.declared.connection.End.TheVariants.{Closed, Asked, Refused, Turns}
+use Rattle.http_serve.specs.declared.connection.Served.{Served}
+use Rattle.http_serve.specs.declared.connection.ServeFault.{ServeFault}
+use Rattle.http_serve.specs.declared.connection.ServeFault.TheVariants.{Memory, Read, Write}
+use Rattle.http_serve.specs.Message.{Message, Ending, going, closed, asked, refused, EndsAs, IsRefused, Requests}
+use Rattle.http_serve.specs.Question.{Question}
+use Rattle.http_serve.specs.Reply.{ReplyView, refusal_bytes}
+use Rattle.http_serve.specs.Served.{RisesBy, reply_count, Answers, AnswersEnd, AnswersAll, Carries, Ends, Breaks, Anything, MayFollow}
+use Rattle.http_serve.specs.Steps.{HasPlainEnd, IsFinished, IsUnfinished, IsBroken}
+use Rattle.http_serve.specs.Told.{end_of, IfTurns, IsServed, IsServedTo, IsServedSoFar, IsServedInPart, IsServedUpTo, IsAnswered, AnswersInput}
+use Rattle.http_serve.proofs.HeadLemmas.{empty_no_head, refused_none}
+use Rattle.http_serve.proofs.KnownLemmas.{Appends-then, Consumes-then, Consumes_none}
+use Rattle.http_serve.proofs.CarryLemmas.{Begins-append, Begins-then, Answers-then, Carries_start, Ends_push, Breaks_refused, rises_then, reply_count-append}
+
+pub finished_other : (end : End) (ending : Ending) (last : List ℕ) → end ≡ end_of ending → HasPlainEnd ending last → end ≢ Turns
+finished_other end going last told plain e = absurd plain
+finished_other end closed last told plain e = cc
+finished_other end (asked message) last told plain e = cc
+finished_other end (refused refusal) last told plain e = cc
+
+no_items : (xs : List ℕ) → length xs ≡ 0 → xs ≡ []
+no_items [] e = refl
+no_items (x ∷ xs) e = absurd (omega arith)
+
+not_turns : (end : End) (stopped ended : Type 0) → end ≢ Turns → ended → IfTurns end stopped ended
+not_turns Closed stopped ended other x = x
+not_turns Asked stopped ended other x = x
+not_turns Refused stopped ended other x = x
+not_turns Turns stopped ended other x = absurd (other refl)
+
+-- the replies to the whole requests of the bytes so far are written, and what is left begins with none
+pub record IsSoFar {S : Type 0} (replies : S → Question → ReplyView → S → Type 0) (old : S) (left held : Option (List ℕ))
+    (new : S) (leaves holds : Option (List ℕ)) (requests : ℕ) (waiting : List ℕ) (reason : Refusal) : Type 0 where
+  pub bytes : List ℕ
+  pub read : Consumes left leaves bytes
+  pub carries : Carries replies old bytes held 0 new waiting holds requests
+  pub few : length waiting < 73728
+  pub refused : IsRefused waiting reason
+
+module _ {S : Type 0} (replies : S → Question → ReplyView → S → Type 0) where
+  pub SoFar_start : (old : S) (left held : Option (List ℕ)) (waiting : List ℕ) → waiting ≡ []
+      → IsSoFar replies old left held old left held 0 waiting Head
+  SoFar_start old left held waiting empty =
+      let none = empty_no_head waiting (ap length empty) in
+      let size : length waiting ≡ 0 = ap length empty in
+      record {
+        bytes = waiting;
+        read = subst (λ (t : List ℕ). Consumes left left t) (sym empty) (Consumes_none left);
+        carries = Carries_start replies old waiting held 0 (omega arith);
+        few = omega arith;
+        refused = inl (refl, none);
+      }
+
+  -- more is read
+  Carries-more : (old : S) (bytes : List ℕ) (held : Option (List ℕ)) (before : ℕ) (new : S) (rest : List ℕ) (holds : Option (List ℕ)) (after : ℕ) (more : List ℕ)
+      → Carries replies old bytes held before new rest holds after → Carries replies old (bytes ++ more) held before new (rest ++ more) holds after
+  Carries-more old bytes held before new rest holds after more so = record {
+    messages = so.messages;
+    out = so.out;
+    begins = Begins-append more bytes so.messages rest so.begins;
+    answers = so.answers;
+    written = so.written;
+    counted = so.counted;
+  }
+
+  Carries-then : (old : S) (bytes : List ℕ) (held : Option (List ℕ)) (before : ℕ) (middle : S) (input : List ℕ) (holds : Option (List ℕ)) (so_far : ℕ)
+      (new : S) (rest : List ℕ) (now : Option (List ℕ)) (after : ℕ)
+      → Carries replies old bytes held before middle input holds so_far → Carries replies middle input holds so_far new rest now after
+      → Carries replies old bytes held before new rest now after
+  Carries-then old bytes held before middle input holds so_far new rest now after x y = record {
+    messages = x.messages ++ y.messages;
+    out = x.out ++ y.out;
+    begins = Begins-then bytes x.messages y.messages input rest x.begins y.begins;
+    answers = Answers-then replies old x.messages y.messages x.out y.out middle new x.answers y.answers;
+    written = Appends-then held holds now x.out y.out x.written y.written;
+    counted =
+        subst (λ (n : ℕ). RisesBy before n after) (sym (length-append x.messages y.messages))
+        (rises_then before (length x.messages) so_far (length y.messages) after x.counted y.counted);
+  }
+
+  All-then : (old : S) (messages others : List Message) (a b : List ℕ) (middle new : S) (ending : Ending)
+      → Answers replies old messages a middle → AnswersAll replies middle others ending b new
+      → AnswersAll replies old (messages ++ others) ending (a ++ b) new
+  All-then old messages others a b middle new ending x y = record {
+    middle = y.middle;
+    front = a ++ y.front;
+    last = y.last;
+    each = Answers-then replies old messages others a y.front middle y.middle x y.each;
+    end = y.end;
+    is = ap (λ (t : List ℕ). a ++ t) y.is ∙ sym (append_assoc a y.front y.last);
+  }
+
+  Ends-then : (old : S) (bytes : List ℕ) (held : Option (List ℕ)) (before : ℕ) (middle : S) (input : List ℕ) (holds : Option (List ℕ)) (so_far : ℕ)
+      (follow : List ℕ → Type 0) (ending : Ending) (new : S) (now : Option (List ℕ)) (after : ℕ)
+      → Carries replies old bytes held before middle input holds so_far → Ends replies middle input follow holds so_far ending new now after
+      → Ends replies old bytes follow held before ending new now after
+  Ends-then old bytes held before middle input holds so_far follow ending new now after x y = record {
+    messages = x.messages ++ y.messages;
+    out = x.out ++ y.out;
+    requests = λ more h.
+        let r = y.requests more h in
+        (r.0, Begins-then (bytes ++ more) x.messages y.messages (input ++ more) r.0 (Begins-append more bytes x.messages input x.begins) r.1, r.2);
+    answers = All-then old x.messages y.messages x.out y.out middle new ending x.answers y.answers;
+    written = Appends-then held holds now x.out y.out x.written y.written;
+    counted =
+        subst (λ (n : ℕ). RisesBy before n after) (sym (reply_count-append x.messages y.messages ending))
+        (rises_then before (length x.messages) so_far (reply_count y.messages ending) after x.counted y.counted);
+  }
+
+  Breaks-then : (old : S) (bytes : List ℕ) (held : Option (List ℕ)) (before : ℕ) (middle : S) (input : List ℕ) (holds : Option (List ℕ)) (so_far : ℕ)
+      (new : S) (now : Option (List ℕ)) (after : ℕ)
+      → Carries replies old bytes held before middle input holds so_far → Breaks replies middle input holds so_far new now after
+      → Breaks replies old bytes held before new now after
+  Breaks-then old bytes held before middle input holds so_far new now after x y = record {
+    middle = y.middle;
+    rest = y.rest;
+    between = y.between;
+    carries = Carries-then old bytes held before middle input holds so_far y.middle y.rest y.between after x y.carries;
+    next = y.next;
+    count = y.count;
+    replied = y.replied;
+    cut = y.cut;
+    written = y.written;
+  }
+
+  module _ (old : S) (left held : Option (List ℕ)) (middle : S) (leaves holds : Option (List ℕ)) (requests : ℕ) (waiting : List ℕ) (reason : Refusal)
+      (so : IsSoFar replies old left held middle leaves holds requests waiting reason) where
+    -- a read failed, or the bound on reads is met
+    pub SoFar_stops : IsServedSoFar replies old left held requests middle leaves holds
+    SoFar_stops = record {
+      bytes = so.bytes;
+      rest = waiting;
+      read = so.read;
+      carries = so.carries;
+      none = λ message behind. refused_none waiting reason message behind so.refused;
+    }
+
+    -- a read that failed gave nothing
+    pub SoFar_failed_read : (last : Option (List ℕ)) → Consumes leaves last [] → IsServedSoFar replies old left held requests middle last holds
+    SoFar_failed_read last came = record {
+      bytes = so.bytes;
+      rest = waiting;
+      read =
+          let P : List ℕ → Type 0 = λ t. Consumes left last t in
+          subst P (append-nil so.bytes) (Consumes-then left leaves last so.bytes [] so.read came);
+      carries = so.carries;
+      none = λ message behind. refused_none waiting reason message behind so.refused;
+    }
+
+    module _ (more : List ℕ) (last : Option (List ℕ)) (came : Consumes leaves last more) (new : S) (now : Option (List ℕ))
+        (full : List ℕ) (joined : full ≡ waiting ++ more) where
+      -- more came, and the whole requests in it are answered
+      pub SoFar_goes : (rest : List ℕ) (after : ℕ) (next : Refusal) → Carries replies middle full holds requests new rest now after
+          → length rest < 73728 → IsRefused rest next → IsSoFar replies old left held new last now after rest next
+      SoFar_goes rest after next y few none = record {
+        bytes = so.bytes ++ more;
+        read = Consumes-then left leaves last so.bytes more so.read came;
+        carries =
+            Carries-then old (so.bytes ++ more) held 0 middle (waiting ++ more) holds requests new rest now after
+            (Carries-more old so.bytes held 0 middle waiting holds requests more so.carries)
+            (subst (λ (t : List ℕ). Carries replies middle t holds requests new rest now after) joined y);
+        few = few;
+        refused = none;
+      }
+
+      pub SoFar_ends : (served : Served) (ending : Ending) → Ends replies middle full Anything holds requests ending new now served.requests
+          → served.end ≡ end_of ending → IsServedTo replies old left held served new last now
+      SoFar_ends served ending y told = record {
+        bytes = so.bytes ++ more;
+        read = Consumes-then left leaves last so.bytes more so.read came;
+        ending = ending;
+        told = told;
+        ends =
+            Ends-then old (so.bytes ++ more) held 0 middle (waiting ++ more) holds requests (MayFollow last) ending new now served.requests
+            (Carries-more old so.bytes held 0 middle waiting holds requests more so.carries)
+            (record {
+              messages = y.messages;
+              out = y.out;
+              requests = λ m _. subst (λ (t : List ℕ). Requests (t ++ m) y.messages ending) joined (y.requests m tt);
+              answers = y.answers;
+              written = y.written;
+              counted = y.counted;
+            });
+      }
+
+      pub SoFar_told : (served : Served) (ending : Ending) → Ends replies middle full Anything holds requests ending new now served.requests
+          → served.end ≡ end_of ending → served.end ≢ Turns → IsServed replies old left held served new last now
+      SoFar_told served ending y told other = not_turns served.end _ _ other (SoFar_ends served ending y told)
+
+      pub SoFar_breaks : (after : ℕ) → Breaks replies middle full holds requests new now after
+          → IsServedInPart replies old left held after new last now
+      SoFar_breaks after y = record {
+        bytes = so.bytes ++ more;
+        read = Consumes-then left leaves last so.bytes more so.read came;
+        breaks =
+            Breaks-then old (so.bytes ++ more) held 0 middle (waiting ++ more) holds requests new now after
+            (Carries-more old so.bytes held 0 middle waiting holds requests more so.carries)
+            (subst (λ (t : List ℕ). Breaks replies middle t holds requests new now after) joined y);
+      }
+
+      pub SoFar_broken : (fault : ServeFault) → IsBroken replies middle full holds requests fault new now
+          → IsServedUpTo replies old left held fault new last now
+      SoFar_broken Memory y = absurd y
+      SoFar_broken (Read n) y = absurd y
+      SoFar_broken (Write n) y = SoFar_breaks n y
+
+    -- the input ended
+    SoFar_finish : (served : Served) (last : Option (List ℕ)) (now : Option (List ℕ)) → Consumes leaves last [] → IsAtEnd last
+        → IsFinished waiting reason holds requests served now → IsServedTo replies old left held served middle last now
+    SoFar_finish served last now came at_end y = record {
+      bytes = so.bytes;
+      read =
+          let P : List ℕ → Type 0 = λ t. Consumes left last t in
+          subst P (append-nil so.bytes) (Consumes-then left leaves last so.bytes [] so.read came);
+      ending = y.ending;
+      told = y.told;
+      ends =
+          Ends_push replies old so.bytes held 0 middle waiting holds requests (MayFollow last) y.ending y.last middle now served.requests so.carries
+          (λ more may. subst (λ (t : List ℕ). EndsAs t y.ending) (sym (ap (λ (t : List ℕ). waiting ++ t) (may at_end) ∙ append-nil waiting)) (y.ends so.refused))
+          (plain y.ending y.last y.plain) y.written y.counted;
+    }
+      where
+        plain : (ending : Ending) (text : List ℕ) → HasPlainEnd ending text → AnswersEnd replies middle ending text middle
+        plain going text h = absurd h
+        plain closed text h = (h, refl)
+        plain (asked message) text h = absurd h
+        plain (refused refusal) text h = (h, refl)
+
+    SoFar_unfinished : (last : Option (List ℕ)) (count : ℕ) (now : Option (List ℕ)) → Consumes leaves last []
+        → 0 < length waiting → count < length (refusal_bytes reason) → Appends holds now (take count (refusal_bytes reason))
+        → IsServedInPart replies old left held requests middle last now
+    SoFar_unfinished last count now came some cut y = record {
+      bytes = so.bytes;
+      read =
+          let P : List ℕ → Type 0 = λ t. Consumes left last t in
+          subst P (append-nil so.bytes) (Consumes-then left leaves last so.bytes [] so.read came);
+      breaks = Breaks_refused replies old so.bytes held 0 middle waiting holds requests reason count now so.carries some so.refused cut y;
+    }
+
+    module _ (n : ℕ) (more : List ℕ) (last now : Option (List ℕ)) (full : List ℕ) (came : Consumes leaves last more)
+        (joined : full ≡ waiting ++ more) (size : n ≡ length more) (zero : n ≡ 0) where
+      none_came : more ≡ []
+      none_came = no_items more (omega arith)
+
+      same_waits : full ≡ waiting
+      same_waits = joined ∙ ap (λ (t : List ℕ). waiting ++ t) none_came ∙ append-nil waiting
+
+      pub SoFar_done : (n ≡ 0 → IsAtEnd last) → (served : Served)
+          → IsFinished full reason holds requests served now → IsServed replies old left held served middle last now
+      SoFar_done at_end served y =
+          let z = subst (λ (t : List ℕ). IsFinished t reason holds requests served now) same_waits y in
+          not_turns served.end _ _ (finished_other served.end z.ending z.last z.told z.plain)
+          (SoFar_finish served last now (subst (λ (t : List ℕ). Consumes leaves last t) none_came came) (at_end zero) z)
+
+      pub SoFar_failed : (fault : ServeFault) → IsUnfinished full reason holds requests fault now
+          → IsServedUpTo replies old left held fault middle last now
+      SoFar_failed fault y =
+          let z = subst (λ (t : List ℕ). IsUnfinished t reason holds requests fault now) same_waits y in
+          subst (λ (f : ServeFault). IsServedUpTo replies old left held f middle last now) (sym z.told)
+          (SoFar_unfinished last z.count now (subst (λ (t : List ℕ). Consumes leaves last t) none_came came) z.some z.cut z.written)
+
+  -- where the input is known, all of it is answered
+  served_whole : (old : S) (input : List ℕ) (held : Option (List ℕ)) (served : Served) (new : S) (leaves holds : Option (List ℕ))
+      → IsServedTo replies old (Some input) held served new leaves holds → IsAnswered replies old input held served new holds
+  served_whole old input held served new None holds x = absurd x.read
+  served_whole old input held served new (Some behind) holds x = record {
+    messages = x.ends.messages;
+    ending = x.ending;
+    told = x.told;
+    requests =
+        subst (λ (t : List ℕ). Requests t x.ends.messages x.ending) (sym x.read) (x.ends.requests behind (λ nothing. nothing));
+    out = x.ends.out;
+    answers = x.ends.answers;
+    written = x.ends.written;
+    counted = x.ends.counted;
+  }
+
+  if_turns : (end : End) (stopped ended other : Type 0) → (ended → other) → IfTurns end stopped ended → IfTurns end ⊤ other
+  if_turns Closed stopped ended other f x = f x
+  if_turns Asked stopped ended other f x = f x
+  if_turns Refused stopped ended other f x = f x
+  if_turns Turns stopped ended other f x = tt
+
+  pub served_input : (old : S) (left held : Option (List ℕ)) (served : Served) (new : S) (leaves holds : Option (List ℕ))
+      → IsServed replies old left held served new leaves holds → AnswersInput replies old left held served new holds
+  served_input old None held served new leaves holds x = tt
+  served_input old (Some input) held served new leaves holds x =
+      if_turns served.end _ _ _ (served_whole old input held served new leaves holds) x

@@ -1,0 +1,32 @@
+-- What the search for a request finds.
+use Rattle.std.specs.Prelude.{◌≡◌, ℕ, ◌<◌, ◌≤◌, List, ◌++◌, length, drop}
+use Rattle.httparse.specs.Spans.{span_bytes, IsWithin}
+use Rattle.http_serve.specs.declared.frames.Frame.{Frame}
+use Rattle.http_serve.specs.declared.frames.Next.{Next}
+use Rattle.http_serve.specs.declared.frames.Next.TheVariants.{Whole, Refused, More}
+use Rattle.http_serve.specs.declared.refusals.Refusal.{Refusal}
+use Rattle.http_serve.specs.Message.{Message, IsMessage, IsRefused, asks_to_close}
+
+-- bytes begin with this message, and the frame has its parts
+pub record IsFrameOf (bytes : List ℕ) (frame : Frame) (message : Message) : Type 0 where
+  pub method_within : IsWithin (length bytes) frame.method
+  pub target_within : IsWithin (length bytes) frame.target
+  pub body_within : IsWithin (length bytes) frame.body
+  pub some : 0 < frame.body.end
+  pub is : IsMessage bytes message (drop frame.body.end bytes)
+  pub method : span_bytes bytes frame.method ≡ message.head.method
+  pub target : span_bytes bytes frame.target ≡ message.head.target
+  pub body : span_bytes bytes frame.body ≡ message.body
+  pub close : frame.close ≡ asks_to_close message.head
+
+-- bytes, with what may follow them up to a length, begin with no request
+pub record IsMissing (bytes : List ℕ) (refusal : Refusal) (until : ℕ) : Type 0 where
+  pub few : length bytes < until
+  pub bound : until ≤ 73728
+  pub refused : (more : List ℕ) → length (bytes ++ more) < until → IsRefused (bytes ++ more) refusal
+
+-- what bytes begin with
+abbrev pub IsNext : List ℕ → Next → Type 0
+IsNext bytes (Whole frame) = (message : Message) × IsFrameOf bytes frame message
+IsNext bytes (Refused refusal) = (0 < length bytes) × ((more : List ℕ) → IsRefused (bytes ++ more) refusal)
+IsNext bytes (More missing) = IsMissing bytes missing.refusal missing.until

@@ -1,0 +1,10 @@
+pub mod Fields
+pub mod Frame
+pub mod Input
+pub mod Message
+pub mod Question
+pub mod Reply
+pub mod Sent
+pub mod Served
+pub mod Steps
+pub mod Told

@@ -1,0 +1,31 @@
+-- What a handler is asked.
+use Rattle.std.specs.Prelude.{ℕ, List, ◌==◌}
+use Rattle.std.specs.List.{before_first}
+use Rattle.httparse.specs.Spans.{span_bytes}
+use Rattle.http_serve.specs.declared.frames.Frame.{Frame}
+use Rattle.http_serve.specs.Message.{Message}
+
+-- what a handler sees of a request
+pub record Question : Type 0 where
+  pub method : List ℕ
+  pub path : List ℕ
+  pub body : List ℕ
+
+-- b'?'
+abbrev pub question_mark : ℕ
+question_mark = 63
+
+-- a request's path: its target up to the first question mark
+abbrev pub path_of : List ℕ → List ℕ
+path_of target = before_first (λ byte. byte == question_mark) target
+
+abbrev pub question_of : Message → Question
+question_of message = record { method = message.head.method; path = path_of message.head.target; body = message.body }
+
+-- the question in a frame of the bytes
+abbrev pub question_at : List ℕ → Frame → Question
+question_at bytes frame = record {
+  method = span_bytes bytes frame.method;
+  path = path_of (span_bytes bytes frame.target);
+  body = span_bytes bytes frame.body;
+}

@@ -1,0 +1,101 @@
+-- What a connection writes, by what it reads.
+use Rattle.std.specs.Prelude.{◌≡◌, ℕ, ◌+◌, ◌-◌, ◌^◌, ◌<◌, min, List, [], ◌∷◌, ◌++◌, Bool, true, false, length, take, Option, ⊤, ◌⊎◌}
+use Rattle.std.specs.Io.KnownBytes.{Appends, IsAtEnd}
+use Rattle.http_serve.specs.declared.refusals.Refusal.{Refusal}
+use Rattle.http_serve.specs.Message.{Message, IsMessage, IsRefused, Begins, Ending, going, closed, asked, refused, Requests, asks_to_close}
+use Rattle.http_serve.specs.Question.{Question, question_of}
+use Rattle.http_serve.specs.Reply.{ReplyView, reply_bytes, refusal_bytes}
+
+-- a count rises by n, and stops at the greatest u64
+abbrev pub RisesBy : ℕ → ℕ → ℕ → Type 0
+RisesBy old n new = new ≡ min (old + n) (2 ^ 64 - 1)
+
+-- how many replies these requests and this ending have
+abbrev pub reply_count : List Message → Ending → ℕ
+reply_count messages going = length messages
+reply_count messages closed = length messages
+reply_count messages (asked message) = length messages + 1
+reply_count messages (refused refusal) = length messages + 1
+
+module _ {S : Type 0} (replies : S → Question → ReplyView → S → Type 0) where
+  -- one reply for each request, in order
+  abbrev pub Answers : S → List Message → List ℕ → S → Type 0
+  Answers old [] out new = (out ≡ []) × (new ≡ old)
+  Answers old (message ∷ messages) out new =
+      (reply : ReplyView) × (middle : S) × (more : List ℕ) × replies old (question_of message) reply middle
+      × (out ≡ reply_bytes false reply ++ more) × Answers middle messages more new
+
+  -- what the end is answered with
+  abbrev pub AnswersEnd : S → Ending → List ℕ → S → Type 0
+  AnswersEnd old going out new = (out ≡ []) × (new ≡ old)
+  AnswersEnd old closed out new = (out ≡ []) × (new ≡ old)
+  AnswersEnd old (asked message) out new =
+      (reply : ReplyView) × replies old (question_of message) reply new × (out ≡ reply_bytes true reply)
+  AnswersEnd old (refused refusal) out new = (out ≡ refusal_bytes refusal) × (new ≡ old)
+
+  -- the replies to all requests and to the end
+  pub record AnswersAll (old : S) (messages : List Message) (ending : Ending) (out : List ℕ) (new : S) : Type 0 where
+    pub middle : S
+    pub front : List ℕ
+    pub last : List ℕ
+    pub each : Answers old messages front middle
+    pub end : AnswersEnd middle ending last new
+    pub is : out ≡ front ++ last
+
+  -- bytes are some whole requests, whose replies are written and counted, and then rest
+  pub record Carries (old : S) (bytes : List ℕ) (held : Option (List ℕ)) (before : ℕ)
+      (new : S) (rest : List ℕ) (holds : Option (List ℕ)) (after : ℕ) : Type 0 where
+    pub messages : List Message
+    pub out : List ℕ
+    pub begins : Begins bytes messages rest
+    pub answers : Answers old messages out new
+    pub written : Appends held holds out
+    pub counted : RisesBy before (length messages) after
+
+  -- bytes, with what may follow, are requests up to an ending, and the replies are written and counted
+  pub record Ends (old : S) (bytes : List ℕ) (follow : List ℕ → Type 0) (held : Option (List ℕ)) (before : ℕ) (ending : Ending)
+      (new : S) (holds : Option (List ℕ)) (after : ℕ) : Type 0 where
+    pub messages : List Message
+    pub out : List ℕ
+    pub requests : (more : List ℕ) → follow more → Requests (bytes ++ more) messages ending
+    pub answers : AnswersAll old messages ending out new
+    pub written : Appends held holds out
+    pub counted : RisesBy before (reply_count messages ending) after
+
+  -- out is the reply to the request that bytes begin with
+  pub record AnswersNext (old : S) (bytes out : List ℕ) (new : S) : Type 0 where
+    pub message : Message
+    pub rest : List ℕ
+    pub reply : ReplyView
+    pub is : IsMessage bytes message rest
+    pub replied : replies old (question_of message) reply new
+    pub out_is : out ≡ reply_bytes (asks_to_close message.head) reply
+
+  -- out is the reply to bytes that begin with no request
+  pub record RefusesNext (old : S) (bytes out : List ℕ) (new : S) : Type 0 where
+    pub refusal : Refusal
+    pub some : 0 < length bytes
+    pub is : IsRefused bytes refusal
+    pub same : new ≡ old
+    pub out_is : out ≡ refusal_bytes refusal
+
+  -- a write failed: the replies to some whole requests are written, and the first bytes of the next reply
+  pub record Breaks (old : S) (bytes : List ℕ) (held : Option (List ℕ)) (before : ℕ)
+      (new : S) (holds : Option (List ℕ)) (after : ℕ) : Type 0 where
+    pub middle : S
+    pub rest : List ℕ
+    pub between : Option (List ℕ)
+    pub carries : Carries old bytes held before middle rest between after
+    pub next : List ℕ
+    pub count : ℕ
+    pub replied : AnswersNext middle rest next new ⊎ RefusesNext middle rest next new
+    pub cut : count < length next
+    pub written : Appends between holds (take count next)
+
+-- anything may follow
+abbrev pub Anything : List ℕ → Type 0
+Anything more = ⊤
+
+-- what may follow, where this is known to be left of the input
+abbrev pub MayFollow : Option (List ℕ) → List ℕ → Type 0
+MayFollow left more = IsAtEnd left → more ≡ []

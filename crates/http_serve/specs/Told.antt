@@ -1,0 +1,80 @@
+-- What a connection came to.
+use Rattle.std.specs.Prelude.{◌≡◌, ℕ, List, Some, None, Option, ⊤}
+use Rattle.std.specs.Io.KnownBytes.{Consumes, Appends}
+use Rattle.http_serve.specs.declared.connection.End.{End}
+use Rattle.http_serve.specs.declared.connection.End.TheVariants.{Closed, Asked, Refused, Turns}
+use Rattle.http_serve.specs.declared.connection.ServeFault.{ServeFault}
+use Rattle.http_serve.specs.declared.connection.ServeFault.TheVariants.{Memory, Read, Write}
+use Rattle.http_serve.specs.declared.connection.Served.{Served}
+use Rattle.http_serve.specs.Message.{Message, IsMessage, Requests, Ending, going, closed, asked, refused}
+use Rattle.http_serve.specs.Question.{Question}
+use Rattle.http_serve.specs.Reply.{ReplyView}
+use Rattle.http_serve.specs.Served.{RisesBy, reply_count, AnswersAll, Carries, Ends, Breaks, MayFollow}
+
+-- the end that is told
+abbrev pub end_of : Ending → End
+end_of going = Turns
+end_of closed = Closed
+end_of (asked message) = Asked
+end_of (refused refusal) = Refused
+
+-- the first fact where the bound on reads was met, and else the second
+abbrev pub IfTurns : End → Type 0 → Type 0 → Type 0
+IfTurns Turns stopped ended = stopped
+IfTurns Closed stopped ended = ended
+IfTurns Asked stopped ended = ended
+IfTurns Refused stopped ended = ended
+
+module _ {S : Type 0} (replies : S → Question → ReplyView → S → Type 0) where
+  -- The bytes that were read are these requests up to an ending, whatever may follow, and the replies were
+  -- written and counted. Nothing may follow where the input's end was read.
+  pub record IsServedTo (old : S) (left : Option (List ℕ)) (held : Option (List ℕ)) (served : Served)
+      (new : S) (leaves : Option (List ℕ)) (holds : Option (List ℕ)) : Type 0 where
+    pub bytes : List ℕ
+    pub read : Consumes left leaves bytes
+    pub ending : Ending
+    pub told : served.end ≡ end_of ending
+    pub ends : Ends replies old bytes (MayFollow leaves) held 0 ending new holds served.requests
+
+  -- the replies to the whole requests of the bytes that were read were written and counted
+  pub record IsServedSoFar (old : S) (left : Option (List ℕ)) (held : Option (List ℕ)) (requests : ℕ)
+      (new : S) (leaves : Option (List ℕ)) (holds : Option (List ℕ)) : Type 0 where
+    pub bytes : List ℕ
+    pub rest : List ℕ
+    pub read : Consumes left leaves bytes
+    pub carries : Carries replies old bytes held 0 new rest holds requests
+    pub none : (message : Message) (behind : List ℕ) → ¬ (IsMessage rest message behind)
+
+  -- the same, but of the last reply only the first bytes were written, and it isn't counted
+  pub record IsServedInPart (old : S) (left : Option (List ℕ)) (held : Option (List ℕ)) (requests : ℕ)
+      (new : S) (leaves : Option (List ℕ)) (holds : Option (List ℕ)) : Type 0 where
+    pub bytes : List ℕ
+    pub read : Consumes left leaves bytes
+    pub breaks : Breaks replies old bytes held 0 new holds requests
+
+  -- what a connection came to
+  abbrev pub IsServed : S → Option (List ℕ) → Option (List ℕ) → Served → S → Option (List ℕ) → Option (List ℕ) → Type 0
+  IsServed old left held served new leaves holds =
+      IfTurns served.end (IsServedSoFar old left held served.requests new leaves holds) (IsServedTo old left held served new leaves holds)
+
+  -- what a fault leaves
+  abbrev pub IsServedUpTo : S → Option (List ℕ) → Option (List ℕ) → ServeFault → S → Option (List ℕ) → Option (List ℕ) → Type 0
+  IsServedUpTo old left held Memory new leaves holds = (new ≡ old) × (leaves ≡ left) × (holds ≡ held)
+  IsServedUpTo old left held (Read requests) new leaves holds = IsServedSoFar old left held requests new leaves holds
+  IsServedUpTo old left held (Write requests) new leaves holds = IsServedInPart old left held requests new leaves holds
+
+  -- all bytes of the input are these requests up to an ending, and their replies, in order, are what was written
+  pub record IsAnswered (old : S) (input : List ℕ) (held : Option (List ℕ)) (served : Served) (new : S) (holds : Option (List ℕ)) : Type 0 where
+    pub messages : List Message
+    pub ending : Ending
+    pub told : served.end ≡ end_of ending
+    pub requests : Requests input messages ending
+    pub out : List ℕ
+    pub answers : AnswersAll replies old messages ending out new
+    pub written : Appends held holds out
+    pub counted : RisesBy 0 (reply_count messages ending) served.requests
+
+  -- the same, where the input is known and the bound on reads wasn't met
+  abbrev pub AnswersInput : S → Option (List ℕ) → Option (List ℕ) → Served → S → Option (List ℕ) → Type 0
+  AnswersInput old None held served new holds = ⊤
+  AnswersInput old (Some input) held served new holds = IfTurns served.end ⊤ (IsAnswered old input held served new holds)

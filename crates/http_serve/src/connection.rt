@@ -1,0 +1,264 @@
+//! A connection: each request gets a reply.
+ghost use Rattle.std.specs.Prelude.{◌≡◌, ◌≤◌, ◌<◌, ◌^◌, ℕ, List, length, IfOk, IfErr, vec_capacity};
+ghost use Rattle.httparse.specs.Spans.{IsWithin};
+ghost use Rattle.http_serve.specs.Question.{path_of, question_at};
+ghost use Rattle.http_serve.specs.Reply.{ReplyView, HasShortKind, reply_view, reply_bytes, refusal_bytes};
+ghost use Rattle.http_serve.specs.Sent.{Sends};
+ghost use Rattle.http_serve.specs.Steps.{IsPaused, IsBroken, IsFinished, IsUnfinished};
+ghost use Rattle.http_serve.specs.Told.{IsServed, IsServedUpTo, AnswersInput};
+
+use crate::fields::position_or_len;
+use crate::frames::{Frame, Next, find_request};
+use crate::inputs::Input;
+use crate::replies::{MOST_REPLY_HEAD, put_reply_head};
+use crate::writes::{WriteFault, send_both};
+use crate::{Handler, Refusal, Reply, Request};
+use std::alloc::Global;
+use std::io::{Read, Write};
+
+/// How a connection ended.
+#[derive(Clone, Copy, Debug, PartialEq, Eq)]
+pub enum End {
+    /// The input ended between two requests.
+    Closed,
+    /// A request was of HTTP/1.0, or its connection listed close.
+    Asked,
+    /// The input had what is no request.
+    Refused,
+    /// The bound on reads was met.
+    Turns,
+}
+
+/// What a connection came to.
+#[derive(Clone, Copy, Debug, PartialEq, Eq)]
+pub struct Served {
+    /// How many replies were written whole, up to the greatest `u64`. A refusal is a reply.
+    pub requests: u64,
+    /// How the connection ended.
+    pub end: End,
+}
+
+/// Why a connection was given up. `requests` counts the replies that were written whole.
+#[derive(Clone, Copy, Debug, PartialEq, Eq)]
+pub enum ServeFault {
+    /// Memory ran out before the first read.
+    Memory,
+    /// A read failed.
+    Read { requests: u64 },
+    /// A write failed, or took nothing.
+    Write { requests: u64 },
+}
+
+/// Why the answering of requests stops.
+#[derive(Clone, Copy, Debug)]
+enum Pause {
+    /// The connection ended.
+    Ended(Served),
+    /// So many replies were written, and more bytes are needed. If none follow, this is why there is no request.
+    More { requests: u64, refusal: Refusal },
+}
+
+/// A request's path: its target up to the first question mark.
+fn path_of(target: &[u8]) -> &[u8]
+    ensures { result.now ≡ path_of target.now }
+{
+    &target[..position_or_len(target, b'?')]
+}
+
+/// Writes a reply, which says whether it is the last one.
+fn send_reply<W: Write>(writer: &mut W, head: &mut Vec<u8>, reply: &Reply, close: bool) -> Result<(), WriteFault>
+    requires kind { HasShortKind (reply_view reply.now) }
+    requires room { 256 ≤ vec_capacity head.old }
+    ensures room { 256 ≤ vec_capacity head.new }
+    ensures sent { Sends result (W.contents writer.old) (W.contents writer.new) (reply_bytes close (reply_view reply.now)) }
+{
+    put_reply_head(head, reply, close);
+    send_both(writer, head.as_slice(), reply.sent_content())
+}
+
+/// Answers the request in a frame of these bytes.
+fn answer_one<H: Handler, W: Write>(
+    handler: &mut H,
+    writer: &mut W,
+    head: &mut Vec<u8>,
+    bytes: &[u8],
+    frame: &Frame,
+) -> Result<(), WriteFault>
+    requires method { IsWithin (length bytes.now) frame.now.method }
+    requires target { IsWithin (length bytes.now) frame.now.target }
+    requires body { IsWithin (length bytes.now) frame.now.body }
+    requires room { 256 ≤ vec_capacity head.old }
+    ensures room { 256 ≤ vec_capacity head.new }
+    ensures reply { (reply : ReplyView) × H.replies handler.old (question_at bytes.now frame.now) reply handler.new
+        × Sends result (W.contents writer.old) (W.contents writer.new) (reply_bytes frame.now.close reply) }
+{
+    let request = Request {
+        method: frame.method.of(bytes),
+        path: path_of(frame.target.of(bytes)),
+        body: frame.body.of(bytes),
+    };
+    let reply = handler.answer(&request);
+    send_reply(writer, head, &reply, frame.close)
+}
+
+/// Tells that the bytes are no request.
+fn refuse<W: Write>(writer: &mut W, head: &mut Vec<u8>, refusal: Refusal) -> Result<(), WriteFault>
+    requires room { 256 ≤ vec_capacity head.old }
+    ensures room { 256 ≤ vec_capacity head.new }
+    ensures sent { Sends result (W.contents writer.old) (W.contents writer.new) (refusal_bytes refusal) }
+{
+    send_reply(writer, head, &refusal.reply(), true)
+}
+
+/// The bytes that wait, and room for the head of a reply.
+#[derive(Drop)]
+struct Session {
+    input: Input,
+    head: Vec<u8>,
+}
+
+/// Answers each whole request, and drops it from the input. So many replies were written before.
+fn answer_whole<H: Handler, W: Write>(
+    handler: &mut H,
+    writer: &mut W,
+    session: &mut Session,
+    mut requests: u64,
+) -> Result<Pause, ServeFault>
+    requires room { 256 ≤ vec_capacity session.old.head }
+    ensures room { 256 ≤ vec_capacity session.new.head }
+    ensures ok { IfOk result (λ pause. IsPaused H.replies handler.old session.old.input.waiting (W.contents writer.old) requests pause
+        handler.new session.new.input.waiting (W.contents writer.new)) }
+    ensures err { IfErr result (λ fault. IsBroken H.replies handler.old session.old.input.waiting (W.contents writer.old) requests fault
+        handler.new (W.contents writer.new)) }
+{
+    'requests: loop {
+        let frame = match find_request(session.input.waiting()) {
+            Next::Whole(frame) => frame,
+            Next::More(missing) => {
+                return Ok(Pause::More {
+                    requests,
+                    refusal: missing.refusal,
+                });
+            }
+            Next::Refused(refusal) => match refuse(writer, &mut session.head, refusal) {
+                Ok(()) => {
+                    return Ok(Pause::Ended(Served {
+                        requests: requests.saturating_add(1),
+                        end: End::Refused,
+                    }));
+                }
+                Err(_) => return Err(ServeFault::Write { requests }),
+            },
+        };
+        let waiting = session.input.waiting();
+        match answer_one(handler, writer, &mut session.head, waiting, &frame) {
+            Ok(()) => requests = requests.saturating_add(1),
+            Err(_) => return Err(ServeFault::Write { requests }),
+        }
+        if frame.close {
+            let end = End::Asked;
+            return Ok(Pause::Ended(Served { requests, end }));
+        }
+        session.input.drop_front(frame.body.end);
+    }
+}
+
+/// Answers the end of the input, where so many replies were written before.
+fn finish<W: Write>(
+    writer: &mut W,
+    session: &mut Session,
+    requests: u64,
+    reason: Refusal,
+) -> Result<Served, ServeFault>
+    requires room { 256 ≤ vec_capacity session.old.head }
+    ensures ends { IfOk result (λ served. IsFinished session.old.input.waiting reason (W.contents writer.old) requests
+        served (W.contents writer.new)) }
+    ensures fault { IfErr result (λ fault. IsUnfinished session.old.input.waiting reason (W.contents writer.old) requests
+        fault (W.contents writer.new)) }
+{
+    if session.input.waiting().is_empty() {
+        return Ok(Served {
+            requests,
+            end: End::Closed,
+        });
+    }
+    match refuse(writer, &mut session.head, reason) {
+        Ok(()) => Ok(Served {
+            requests: requests.saturating_add(1),
+            end: End::Refused,
+        }),
+        Err(_) => Err(ServeFault::Write { requests }),
+    }
+}
+
+/// Serves a connection by at most so many reads. After them the whole requests among the bytes read are answered.
+pub fn serve_turns<R: Read, W: Write, H: Handler>(
+    alloc: Global,
+    reader: &mut R,
+    writer: &mut W,
+    handler: &mut H,
+    turns: u64,
+) -> Result<Served, ServeFault>
+    ensures served { IfOk result (λ served. IsServed H.replies handler.old (R.remaining reader.old) (W.contents writer.old) served
+        handler.new (R.remaining reader.new) (W.contents writer.new)) }
+    ensures fault { IfErr result (λ fault. IsServedUpTo H.replies handler.old (R.remaining reader.old) (W.contents writer.old) fault
+        handler.new (R.remaining reader.new) (W.contents writer.new)) }
+{
+    let Ok(input) = Input::new(alloc) else {
+        return Err(ServeFault::Memory);
+    };
+    let Ok(head) = Vec::with_capacity(alloc, MOST_REPLY_HEAD) else {
+        return Err(ServeFault::Memory);
+    };
+    let mut session = Session { input, head };
+    let mut requests = 0;
+    let mut reason = Refusal::Head;
+    for _turn in 0..turns {
+        match session.input.read_from(reader) {
+            Ok(0) => match finish(writer, &mut session, requests, reason) {
+                Ok(served) => return Ok(served),
+                Err(fault) => return Err(fault),
+            },
+            Ok(_) => {}
+            Err(_) => return Err(ServeFault::Read { requests }),
+        }
+        match answer_whole(handler, writer, &mut session, requests) {
+            Ok(Pause::Ended(served)) => return Ok(served),
+            Ok(Pause::More {
+                requests: answered,
+                refusal,
+            }) => {
+                requests = answered;
+                reason = refusal;
+            }
+            Err(fault) => return Err(fault),
+        }
+    }
+    Ok(Served {
+        requests,
+        end: End::Turns,
+    })
+}
+
+/// How many reads one connection makes at most.
+const MOST_TURNS: u64 = 4_294_967_296;
+
+/// Serves a connection by at most 4,294,967,296 reads: one reply to each request, in order, and one to what is no request.
+pub fn serve<R: Read, W: Write, H: Handler>(
+    alloc: Global,
+    reader: &mut R,
+    writer: &mut W,
+    handler: &mut H,
+) -> Result<Served, ServeFault>
+    ensures input { IfOk result (λ served. AnswersInput H.replies handler.old (R.remaining reader.old) (W.contents writer.old) served
+        handler.new (W.contents writer.new)) }
+    ensures served { IfOk result (λ served. IsServed H.replies handler.old (R.remaining reader.old) (W.contents writer.old) served
+        handler.new (R.remaining reader.new) (W.contents writer.new)) }
+    ensures fault { IfErr result (λ fault. IsServedUpTo H.replies handler.old (R.remaining reader.old) (W.contents writer.old) fault
+        handler.new (R.remaining reader.new) (W.contents writer.new)) }
+{
+    match serve_turns(alloc, reader, writer, handler, MOST_TURNS) {
+        Ok(served) => Ok(served),
+        Err(fault) => Err(fault),
+    }
+}

@@ -1,0 +1,179 @@
+//! What the fields of a head say of its body and of the connection (RFC 9110, 8.6 and 7.6.1).
+ghost use Rattle.std.specs.Prelude.{◌≡◌, ◌≤◌, ◌<◌, ◌&&◌, ◌==◌, ◌^◌, true, min, ℕ, nat_lt, length, take, map, reverse, codes, All};
+ghost use Rattle.std.specs.List.{list_all, position, position_or_len};
+ghost use Rattle.std.specs.Char.{is_ascii_digit};
+ghost use Rattle.std.specs.Str.Parse.{digits_value};
+ghost use Rattle.httparse.specs.Spans.{IsHeaderWithin, header_bytes};
+ghost use Rattle.httparse.specs.Grammar.{is_ows, skip_ows, trim_ows};
+ghost use Rattle.http_serve.specs.Fields.{is_word, numeral_length, body_length, lists_close, is_close, says_close};
+
+use crate::Refusal;
+use httparse::spans::HeaderSpan;
+
+/// The most bytes that a body may have.
+pub(crate) const MOST_BODY: u64 = 65_536;
+
+/// Whether a field is called content-length.
+fn is_length_name(name: &[u8]) -> bool
+    ensures { result ≡ is_word (codes "content-length") name.now }
+{
+    name.eq_ignore_ascii_case(b"content-length")
+}
+
+/// The number that the digits write, or one above the limit where it is above.
+fn capped_number(digits: &[u8]) -> u64
+    requires { list_all is_ascii_digit digits.now ≡ true }
+    ensures { result ≡ min (digits_value 10 digits.now) 65537 }
+{
+    let mut number = 0u64;
+    for digit in digits {
+        number = (number * 10 + u64::from(*digit - b'0')).min(MOST_BODY + 1);
+    }
+    number
+}
+
+/// Whether each byte is a digit.
+fn are_digits(bytes: &[u8]) -> bool
+    ensures { result ≡ list_all is_ascii_digit bytes.now }
+{
+    bytes.iter().all(|byte| byte.is_ascii_digit())
+}
+
+/// The length that a value of content-length writes.
+fn numeral_length(value: &[u8]) -> Result<u64, Refusal>
+    ensures { result ≡ numeral_length value.now }
+{
+    if value.is_empty() || !are_digits(value) {
+        return Err(Refusal::Head);
+    }
+    let number = capped_number(value);
+    if number > MOST_BODY {
+        return Err(Refusal::Head);
+    }
+    Ok(number)
+}
+
+/// How long the body of a request is, by the fields of its head.
+pub(crate) fn body_length(bytes: &[u8], fields: &[HeaderSpan]) -> Result<u64, Refusal>
+    requires { All (IsHeaderWithin (length bytes.now)) fields.now }
+    ensures { result ≡ body_length (map (header_bytes bytes.now) fields.now) }
+{
+    let mut stated = None;
+    for field in fields {
+        if is_length_name(field.name.of(bytes)) {
+            if stated.is_some() {
+                return Err(Refusal::Head);
+            }
+            stated = Some(field.value);
+        }
+    }
+    match stated {
+        None => Ok(0),
+        Some(value) => numeral_length(value.of(bytes)),
+    }
+}
+
+/// Whether a field is called connection.
+fn is_connection_name(name: &[u8]) -> bool
+    ensures { result ≡ is_word (codes "connection") name.now }
+{
+    name.eq_ignore_ascii_case(b"connection")
+}
+
+/// Whether a byte is a space or a tab.
+fn is_ows(byte: u8) -> bool
+    ensures { result ≡ is_ows byte }
+{
+    byte == b' ' || byte == b'\t'
+}
+
+/// The first place of a byte.
+fn position_of(bytes: &[u8], wanted: u8) -> Option<usize>
+    ensures { result ≡ position (λ byte. byte == wanted) bytes.now }
+{
+    bytes.iter().position(|byte| *byte == wanted)
+}
+
+/// The first place of a byte, or the length where it isn't there.
+pub(crate) fn position_or_len(bytes: &[u8], wanted: u8) -> usize
+    ensures place { result ≡ position_or_len (λ byte. byte == wanted) bytes.now }
+    ensures within { result ≤ length bytes.now }
+{
+    match position_of(bytes, wanted) {
+        Some(at) => at,
+        None => bytes.len(),
+    }
+}
+
+/// The bytes without the spaces and tabs in front.
+fn trim_front(bytes: &[u8]) -> &[u8]
+    ensures { result.now ≡ skip_ows bytes.now }
+{
+    let mut rest = bytes;
+    while let [first, more @ ..] = rest {
+        if !is_ows(*first) {
+            return rest;
+        }
+        rest = more;
+    }
+    rest
+}
+
+/// The bytes without the spaces and tabs at the end.
+fn trim_back(bytes: &[u8]) -> &[u8]
+    ensures { result.now ≡ reverse (skip_ows (reverse bytes.now)) }
+{
+    let mut rest = bytes;
+    while let [more @ .., last] = rest {
+        if !is_ows(*last) {
+            return rest;
+        }
+        rest = more;
+    }
+    rest
+}
+
+/// The bytes without the spaces and tabs at both ends.
+#[tactic(auto, unfolding(httparse::specs::Grammar::trim_ows))]
+fn trim_ows(bytes: &[u8]) -> &[u8]
+    ensures { result.now ≡ trim_ows bytes.now }
+{
+    trim_back(trim_front(bytes))
+}
+
+/// Whether an option of a connection is close.
+fn is_close_option(option: &[u8]) -> bool
+    ensures { result ≡ is_word (codes "close") (trim_ows option.now) }
+{
+    trim_ows(option).eq_ignore_ascii_case(b"close")
+}
+
+/// Whether a value of connection lists close.
+fn lists_close(value: &[u8]) -> bool
+    ensures { result ≡ lists_close value.now }
+{
+    let mut rest = value;
+    loop {
+        let at = position_or_len(rest, b',');
+        if is_close_option(&rest[..at]) {
+            return true;
+        }
+        if at == rest.len() {
+            return false;
+        }
+        rest = &rest[at + 1..];
+    }
+}
+
+/// Whether the fields of a head ask for the end of the connection.
+pub(crate) fn says_close(bytes: &[u8], fields: &[HeaderSpan]) -> bool
+    requires { All (IsHeaderWithin (length bytes.now)) fields.now }
+    ensures { result ≡ says_close (map (header_bytes bytes.now) fields.now) }
+{
+    for field in fields {
+        if is_connection_name(field.name.of(bytes)) && lists_close(field.value.of(bytes)) {
+            return true;
+        }
+    }
+    false
+}

@@ -1,0 +1,113 @@
+//! The request that bytes begin with (RFC 9112, 2 to 6).
+ghost use Rattle.std.specs.Prelude.{◌≡◌, ◌≤◌, ◌<◌, ◌^◌, ◌==◌, ◌||◌, length, map, All};
+ghost use Rattle.httparse.specs.Spans.{IsRequestWithin, IsRequestOf, IsHeaderWithin, header_bytes};
+ghost use Rattle.http_serve.specs.Fields.{says_close};
+ghost use Rattle.http_serve.specs.Frame.{IsNext};
+
+use crate::Refusal;
+use crate::fields::{MOST_BODY, body_length, says_close};
+use httparse::spans::{EMPTY_HEADER_SPAN, HeaderSpan, RequestSpans, Span, parse_request};
+use httparse::{Error, Status};
+
+/// The most bytes that a head may have.
+pub(crate) const MOST_HEAD: usize = 8_192;
+/// The most fields that a head may have.
+const MOST_FIELDS: usize = 32;
+/// The most bytes that a request may have.
+pub(crate) const MOST_REQUEST: usize = MOST_HEAD + MOST_BODY as usize;
+
+/// Where the parts of a request are.
+#[derive(Clone, Copy, Debug)]
+pub(crate) struct Frame {
+    pub(crate) method: Span,
+    pub(crate) target: Span,
+    pub(crate) body: Span,
+    /// Whether the request asks for the end of the connection.
+    pub(crate) close: bool,
+}
+
+/// What is known where no whole request is there.
+#[derive(Clone, Copy, Debug)]
+pub(crate) struct Missing {
+    /// Why there is no request, if nothing follows.
+    pub(crate) refusal: Refusal,
+    /// Below so many bytes in all there is no whole request.
+    pub(crate) until: usize,
+}
+
+/// What bytes begin with.
+#[derive(Clone, Copy, Debug)]
+pub(crate) enum Next {
+    /// A request.
+    Whole(Frame),
+    /// No request, whatever follows.
+    Refused(Refusal),
+    /// No whole request so far.
+    More(Missing),
+}
+
+/// What bytes begin with.
+pub(crate) fn find_request(bytes: &[u8]) -> Next
+    ensures { IsNext bytes.now result }
+{
+    let refusal = Refusal::Head;
+    if bytes.is_empty() {
+        return Next::More(Missing { refusal, until: 1 });
+    }
+    let full = bytes.len() >= MOST_HEAD;
+    let mut fields = [EMPTY_HEADER_SPAN; MOST_FIELDS];
+    match parse_request(bytes, &mut fields) {
+        Ok(Status::Complete(head)) if head.len > MOST_HEAD => Next::Refused(refusal),
+        Ok(Status::Complete(head)) => framed(bytes, &head, &fields),
+        Ok(Status::Partial) if full => Next::Refused(refusal),
+        Ok(Status::Partial) => Next::More(Missing {
+            refusal,
+            until: bytes.len() + 1,
+        }),
+        Err(Error::TooManyHeaders) if !full => Next::More(Missing {
+            refusal,
+            until: MOST_HEAD,
+        }),
+        Err(_) => Next::Refused(refusal),
+    }
+}
+
+// Whether a request is of HTTP/1.0, or its fields ask for the end of the connection.
+fn asks_to_close(bytes: &[u8], version: u8, fields: &[HeaderSpan]) -> bool
+    requires { All (IsHeaderWithin (length bytes.now)) fields.now }
+    ensures { result ≡ (version == 0 || says_close (map (header_bytes bytes.now) fields.now)) }
+{
+    version == 0 || says_close(bytes, fields)
+}
+
+// What bytes begin with, where a head is there.
+fn framed(bytes: &[u8], head: &RequestSpans, fields: &[HeaderSpan]) -> Next
+    requires within { IsRequestWithin bytes.now fields.now head.now }
+    requires is { IsRequestOf bytes.now fields.now head.now }
+    requires some { 0 < length bytes.now }
+    requires size { head.now.len ≤ 8192 }
+    requires room { length fields.now ≤ 32 }
+    ensures { IsNext bytes.now result }
+{
+    let fields = &fields[..head.headers];
+    let size = match body_length(bytes, fields) {
+        Ok(size) => size as usize,
+        Err(refusal) => return Next::Refused(refusal),
+    };
+    let end = head.len + size;
+    if end > bytes.len() {
+        return Next::More(Missing {
+            refusal: Refusal::Head,
+            until: end,
+        });
+    }
+    Next::Whole(Frame {
+        method: head.method,
+        target: head.path,
+        body: Span {
+            start: head.len,
+            end,
+        },
+        close: asks_to_close(bytes, head.version, fields),
+    })
+}

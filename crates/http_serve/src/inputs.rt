@@ -1,0 +1,112 @@
+//! The bytes that were read and wait.
+ghost use Rattle.std.specs.Prelude.{◌≡◌, ◌≤◌, ◌<◌, ◌+◌, ◌-◌, ◌++◌, ◌^◌, ℕ, List, [], length, take, drop, slice_range, vec_len, IfOk, OnOk, OnErr};
+ghost use Rattle.http_serve.specs.Input.{InputView};
+ghost use Rattle.std.specs.Io.KnownBytes.{Consumes, IsAtEnd};
+
+use crate::frames::MOST_REQUEST;
+use std::alloc::{AllocError, Global};
+use std::io::Read;
+use std::marker::Model;
+
+/// A read failed.
+#[derive(Clone, Copy, Debug, PartialEq, Eq)]
+pub(crate) struct ReadFault;
+
+/// How many bytes the buffer has. Where it is used up and less than one request waits, more bytes were
+/// answered than wait, so that moving those that wait to its front costs less than reading the others did.
+const SPACE: usize = 2 * MOST_REQUEST;
+
+/// Makes one read behind a place of the buffer.
+fn read_behind<R: Read>(
+    reader: &mut R,
+    buffer: &mut [u8],
+    end: usize,
+) -> Result<usize, ReadFault>
+    requires { end < length buffer.old }
+    ensures ok { IfOk result (λ n. (more : List ℕ) × Consumes (R.remaining reader.old) (R.remaining reader.new) more
+        × (take (end + n) buffer.new ≡ take end buffer.old ++ more) × (n ≡ length more) × (n ≡ 0 → IsAtEnd (R.remaining reader.new))) }
+    ensures within { IfOk result (λ n. end + n ≤ length buffer.old) }
+    ensures err { OnErr result (Consumes (R.remaining reader.old) (R.remaining reader.new) [] × (take end buffer.new ≡ take end buffer.old)) }
+{
+    match reader.read(&mut buffer[end..]) {
+        Ok(count) => Ok(count),
+        Err(_) => Err(ReadFault),
+    }
+}
+
+/// The bytes that were read and aren't answered yet, in a buffer of fixed length.
+#[derive(Drop)]
+pub(crate) struct Input {
+    buffer: Vec<u8>,
+    /// Where the bytes that wait begin.
+    start: usize,
+    /// Where they end.
+    end: usize,
+}
+
+impl Model for Input {
+    ghost Value = { InputView };
+
+    ghost view = { λ i. record { waiting = slice_range i.buffer.items i.start i.end; room = vec_len i.buffer - i.end } };
+
+    ghost invariant = { λ i. (i.start ≤ i.end) × (i.end ≤ vec_len i.buffer) × (vec_len i.buffer ≡ 147456) };
+}
+
+impl Input {
+    /// An empty input with its buffer.
+    pub(crate) fn new(alloc: Global) -> Result<Self, AllocError>
+        ensures { IfOk result (λ input. input.waiting ≡ []) }
+    {
+        let buffer = vec![in alloc; 0; SPACE]?;
+        Ok(Input {
+            buffer,
+            start: 0,
+            end: 0,
+        })
+    }
+
+    /// The bytes that wait.
+    pub(crate) fn waiting(&self) -> &[u8]
+        ensures { result.now ≡ self.now.waiting }
+    {
+        &self.buffer[self.start..self.end]
+    }
+
+    /// Drops the first of the bytes that wait.
+    pub(crate) fn drop_front(&mut self, count: usize)
+        requires { count ≤ length self.old.waiting }
+        ensures { self.new.waiting ≡ drop count self.old.waiting }
+    {
+        self.start += count;
+    }
+
+    /// Moves the bytes that wait to the front of the buffer, where it is used up.
+    fn make_room(&mut self)
+        requires { length self.old.waiting < 73728 }
+        ensures same { self.new.waiting ≡ self.old.waiting }
+        ensures room { 0 < self.new.room }
+    {
+        if self.end == self.buffer.len() {
+            self.buffer.copy_within(self.start..self.end, 0);
+            self.end -= self.start;
+            self.start = 0;
+        }
+    }
+
+    /// Makes one read, and adds what it gave.
+    pub(crate) fn read_from<R: Read>(&mut self, reader: &mut R) -> Result<usize, ReadFault>
+        requires { length self.old.waiting < 73728 }
+        ensures ok { IfOk result (λ n. (more : List ℕ) × Consumes (R.remaining reader.old) (R.remaining reader.new) more
+            × (self.new.waiting ≡ self.old.waiting ++ more) × (n ≡ length more) × (n ≡ 0 → IsAtEnd (R.remaining reader.new))) }
+        ensures err { OnErr result (Consumes (R.remaining reader.old) (R.remaining reader.new) [] × (self.new.waiting ≡ self.old.waiting)) }
+    {
+        self.make_room();
+        match read_behind(reader, self.buffer.as_mut_slice(), self.end) {
+            Ok(count) => {
+                self.end += count;
+                Ok(count)
+            }
+            Err(fault) => Err(fault),
+        }
+    }
+}

@@ -1,0 +1,21 @@
+//! Requests of an HTTP/1.1 connection, and a reply to each.
+#![tactic(auto)]
+
+mod connection;
+mod fields;
+mod frames;
+mod handlers;
+mod inputs;
+mod laws;
+mod refusals;
+mod replies;
+mod writes;
+
+pub use connection::{End, ServeFault, Served, serve, serve_turns};
+pub use handlers::{Handler, Request};
+pub use laws::one_reading;
+pub use refusals::Refusal;
+pub use replies::{Content, Reply};
+
+#[cfg(test)]
+mod tests;

@@ -1,0 +1,30 @@
+//! What is answered to bytes that are no request.
+ghost use Rattle.std.specs.Prelude.{◌≡◌};
+ghost use Rattle.http_serve.specs.Reply.{HasShortKind, reply_view, refusal_view};
+
+use crate::{Content, Reply};
+use http::StatusCode;
+
+/// Why bytes begin with no request.
+#[derive(Clone, Copy, Debug, PartialEq, Eq)]
+pub enum Refusal {
+    /// No head is there, its content-length is no single number up to 65,536, or its body is cut short.
+    Head,
+}
+
+impl Refusal {
+    /// The reply that tells it.
+    #[tactic(auto, unfolding(crate::specs::Reply::refusal_view))]
+    pub(crate) fn reply(self) -> Reply
+        ensures reply { reply_view result ≡ refusal_view self }
+        ensures kind { HasShortKind (reply_view result) }
+    {
+        match self {
+            Refusal::Head => Reply {
+                status: StatusCode::BAD_REQUEST,
+                kind: Some("text/plain"),
+                content: Content::Fixed(b"Head\n"),
+            },
+        }
+    }
+}

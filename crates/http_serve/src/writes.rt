@@ -1,0 +1,33 @@
+//! Writes that say how far they came.
+ghost use Rattle.std.specs.Prelude.{◌++◌};
+ghost use Rattle.http_serve.specs.Sent.{Sends};
+
+use std::io::Write;
+
+/// A write failed or took nothing.
+#[derive(Clone, Copy, Debug, PartialEq, Eq)]
+pub(crate) struct WriteFault;
+
+/// Writes all the bytes, or some of the first where a write fails or takes nothing.
+pub(crate) fn send_all<W: Write>(writer: &mut W, bytes: &[u8]) -> Result<(), WriteFault>
+    ensures { Sends result (W.contents writer.old) (W.contents writer.new) bytes.now }
+{
+    let mut at = 0;
+    while at < bytes.len() {
+        match writer.write(&bytes[at..]) {
+            Ok(0) | Err(_) => return Err(WriteFault),
+            Ok(count) => at += count,
+        }
+    }
+    Ok(())
+}
+
+/// Writes one text after the other.
+pub(crate) fn send_both<W: Write>(writer: &mut W, first: &[u8], second: &[u8]) -> Result<(), WriteFault>
+    ensures { Sends result (W.contents writer.old) (W.contents writer.new) (first.now ++ second.now) }
+{
+    match send_all(writer, first) {
+        Ok(()) => send_all(writer, second),
+        Err(fault) => Err(fault),
+    }
+}

@@ -1,0 +1,7 @@
+pub mod FaultLaws
+pub mod Message
+pub mod MessageLaws
+pub mod Placed
+pub mod ReadVarint
+pub mod VarintLaws
+pub mod Varints

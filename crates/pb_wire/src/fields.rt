@@ -1,0 +1,84 @@
+//! The fields of a message.
+
+ghost use Rattle.std.specs.Prelude.{ℕ, ◌+◌, ◌<◌, ◌≤◌, ◌^◌, length, IsTrue};
+ghost use Rattle.pb_wire.specs.Lengths.{has_its_length};
+
+use crate::fault::WireFault;
+use crate::reading::field_of;
+
+/// The value of a field, by its wire type. What isn't a number is the part of the message's bytes that stands there.
+#[derive(Clone, Copy, Debug)]
+pub enum FieldValue<'a> {
+    /// A number (wire type 0).
+    Varint(u64),
+    /// Eight bytes (wire type 1).
+    Eight(&'a [u8]),
+    /// Bytes that stand behind their length: a text, a message inside, or packed numbers (wire type 2).
+    Bytes(&'a [u8]),
+    /// Four bytes (wire type 5).
+    Four(&'a [u8]),
+}
+
+/// A field of a message (Protocol Buffers, "Encoding", "Message Structure"). `Eight` and `Four` have their length.
+#[derive(Clone, Copy, Debug)]
+pub struct Field<'a> {
+    /// The field's number, 1 to 536,870,911.
+    pub number: u32,
+    pub value: FieldValue<'a>,
+    pub ghost fixed: { IsTrue (has_its_length value) },
+    pub ghost numbered: { (0 < number) × (number ≤ 536870911) },
+}
+
+/// Goes over the fields of a message, in the order of their bytes. A fault is the last item: behind it nothing is
+/// read.
+///
+/// A field's faults come in this order: its key is cut or no number; its number is out of range; its wire type is
+/// none of 0, 1, 2 and 5; its value is cut or no number. No item takes memory.
+#[derive(Drop)]
+pub struct Fields<'a> {
+    rest: &'a [u8],
+    at: usize,
+    ghost fits: { at + length rest.now < 2 ^ 64 },
+}
+
+impl<'a> Fields<'a> {
+    ghost use Rattle.std.specs.Prelude.{◌≡◌};
+    ghost use Rattle.pb_wire.specs.Items.{fields_rest, items_of};
+
+    /// The fields of the message that the bytes are.
+    pub fn new(bytes: &'a [u8]) -> Self
+        ensures { fields_rest result ≡ items_of bytes.entry.now }
+    {
+        Fields { rest: bytes, at: 0 }
+    }
+}
+
+impl<'a> Iterator for Fields<'a> {
+    type Item = Result<Field<'a>, WireFault>;
+
+    ghost use Rattle.std.specs.Iterator.{YieldsFirstBy, item_count};
+    ghost use Rattle.pb_wire.specs.Items.{fields_rest, item_view};
+
+    ghost next_gives = { YieldsFirstBy item_view fields_rest };
+
+    ghost remaining = { item_count fields_rest };
+
+    fn next(&mut self) -> Option<Result<Field<'a>, WireFault>> {
+        if self.rest.is_empty() {
+            return None;
+        }
+        let bytes = self.rest;
+        let at = self.at;
+        match field_of(bytes) {
+            Ok((field, len)) => {
+                self.rest = &bytes[len..];
+                self.at = at + len;
+                Some(Ok(field))
+            }
+            Err(kind) => {
+                self.rest = &bytes[..0];
+                Some(Err(WireFault { at, kind }))
+            }
+        }
+    }
+}

@@ -1,0 +1,62 @@
+//! Numbers of seven bits a byte.
+
+ghost use Rattle.std.specs.Prelude.{◌≡◌, ℕ, ◌+◌, ◌<◌, ◌≤◌, ◌↔◌, ◌++◌, List, length, take, IfOk, IsErrOf, OnOk, OnErr, vec_len, vec_capacity};
+ghost use Rattle.pb_wire.specs.Varint.{varint, varint_at, IsVarint, IsCut, IsOverlong};
+ghost use Rattle.pb_wire.specs.Fault.{placed};
+
+use crate::Memory;
+use crate::fault::{FaultKind, WireFault};
+
+/// Appends the shortest spelling of `n`: seven bits a byte, lowest first, the high bit set on each but the last
+/// (Protocol Buffers, "Encoding", "Base 128 Varints"). An `Err` changes nothing, and comes only where the vector had to
+/// grow.
+pub fn put_varint(out: &mut Vec<u8>, n: u64) -> Result<(), Memory>
+    ensures ok { OnOk result (out.new.items ≡ out.old.items ++ varint n) }
+    ensures err { OnErr result (out.new.items ≡ out.old.items) }
+    ensures full { OnErr result (vec_capacity out.old < vec_len out.old + length (varint n)) }
+{
+    let mut spelling = [0u8; 10];
+    let mut rest = n;
+    let mut len = 0usize;
+    while rest >= 128 {
+        spelling[len] = 128 + (rest % 128) as u8;
+        rest /= 128;
+        len += 1;
+    }
+    spelling[len] = rest as u8;
+    out.extend_from_slice(&spelling[..len + 1])
+}
+
+/// The number in front, and how many bytes it takes: at most ten, and not always the fewest. Bytes may follow it.
+///
+/// `Cut` is answered where the bytes end inside the number, `Varint` where its tenth byte is above 1.
+pub fn get_varint(bytes: &[u8]) -> Result<(u64, usize), WireFault>
+    // What is found stands there.
+    ensures found { IfOk result (λ r. (r.1 ≤ length bytes.now) × IsVarint (take r.1 bytes.now) r.0) }
+    // What stands there is found, whatever follows it.
+    ensures only { (front rest : List ℕ) (n : ℕ) → IsVarint front n → bytes.now ≡ front ++ rest → result ≡ Ok (n, length front) }
+    ensures cut { IsErrOf result (record { at = 0; kind = FaultKind.Cut }) ↔ IsCut bytes.now }
+    ensures overlong { IsErrOf result (record { at = 0; kind = FaultKind.Varint }) ↔ IsOverlong bytes.now }
+    ensures exact { result ≡ placed 0 (varint_at bytes.now) }
+{
+    read(bytes).map_err(|kind| WireFault { at: 0, kind })
+}
+
+/// The number in front, and how many bytes it takes; a fault without a place.
+pub(crate) fn read(bytes: &[u8]) -> Result<(u64, usize), FaultKind>
+    ensures within { IfOk result (λ r. (0 < r.1) × (r.1 ≤ length bytes.now)) }
+    ensures exact { result ≡ varint_at bytes.now }
+{
+    let mut value = 0u64;
+    for (i, byte) in bytes.iter().enumerate() {
+        let byte = u64::from(*byte);
+        if i == 9 && byte > 1 {
+            return Err(FaultKind::Varint);
+        }
+        value += (byte % 128) << (7 * i);
+        if byte < 128 {
+            return Ok((value, i + 1));
+        }
+    }
+    Err(FaultKind::Cut)
+}

@@ -1,0 +1,78 @@
+-- Where each field of a header stands. Numbers stand lowest byte first.
+use Rattle.std.specs.Prelude.{◌≡◌, ℕ, ℤ, ◌+◌, ◌≤◌, List, [], ◌∷◌, ◌++◌, length, take, codes, slice_index, slice_range}
+use Rattle.std.specs.Int.{w32, w64, from_le_bytes, to_le_bytes, cast_signed, cast_unsigned}
+use Rattle.pm_header.specs.declared.part.Part.{Part}
+use Rattle.pm_header.specs.declared.header.Header.{Header}
+
+-- the first bytes of each archive
+abbrev pub magic : List ℕ
+magic = codes "PMTiles"
+
+-- the number in the eight bytes from a place on
+abbrev pub number_at : ℕ → List ℕ → ℕ
+number_at place bytes = from_le_bytes w64 (slice_range bytes place (place + 8))
+
+-- the signed number in the four bytes from a place on
+abbrev pub position_at : ℕ → List ℕ → ℤ
+position_at place bytes = cast_signed w32 (from_le_bytes w32 (slice_range bytes place (place + 4)))
+
+-- an offset, and the length behind it
+abbrev pub part_at : ℕ → List ℕ → Part
+part_at place bytes = record { offset = number_at place bytes; length = number_at (place + 8) bytes }
+
+-- each field at its place
+unfoldable pub header_at : List ℕ → Header
+header_at bytes = record {
+  root = part_at 8 bytes;
+  metadata = part_at 24 bytes;
+  leaves = part_at 40 bytes;
+  tiles = part_at 56 bytes;
+  addressed = number_at 72 bytes;
+  entries = number_at 80 bytes;
+  contents = number_at 88 bytes;
+  clustered = slice_index bytes 96;
+  internal = slice_index bytes 97;
+  compression = slice_index bytes 98;
+  kind = slice_index bytes 99;
+  min_zoom = slice_index bytes 100;
+  max_zoom = slice_index bytes 101;
+  min_lon = position_at 102 bytes;
+  min_lat = position_at 106 bytes;
+  max_lon = position_at 110 bytes;
+  max_lat = position_at 114 bytes;
+  centre_zoom = slice_index bytes 118;
+  centre_lon = position_at 119 bytes;
+  centre_lat = position_at 123 bytes;
+}
+
+-- the bytes begin with this header
+pub record IsHeader (bytes : List ℕ) (header : Header) : Type 0 where
+  pub whole : 127 ≤ length bytes
+  pub magic_is : take 7 bytes ≡ magic
+  pub version_is : slice_index bytes 7 ≡ 3
+  pub fields_are : header ≡ header_at bytes
+
+-- ---- the bytes of the fields one after the other
+
+abbrev pub little_8 : ℕ → List ℕ
+little_8 n = to_le_bytes w64 n
+
+abbrev pub little_4 : ℤ → List ℕ
+little_4 z = to_le_bytes w32 (cast_unsigned w32 z)
+
+-- the magic, the version and the sections
+unfoldable pub section_bytes : Header → List ℕ
+section_bytes h =
+    magic ++ 3 ∷ [] ++ little_8 h.root.offset ++ little_8 h.root.length ++ little_8 h.metadata.offset ++ little_8 h.metadata.length
+    ++ little_8 h.leaves.offset ++ little_8 h.leaves.length ++ little_8 h.tiles.offset ++ little_8 h.tiles.length
+
+-- the counts, and what the archive and its tiles are
+unfoldable pub count_bytes : Header → List ℕ
+count_bytes h =
+    little_8 h.addressed ++ little_8 h.entries ++ little_8 h.contents ++ h.clustered ∷ [] ++ h.internal ∷ [] ++ h.compression ∷ [] ++ h.kind ∷ []
+    ++ h.min_zoom ∷ [] ++ h.max_zoom ∷ []
+
+-- where the tiles lie, and where a viewer may begin
+unfoldable pub position_bytes : Header → List ℕ
+position_bytes h =
+    little_4 h.min_lon ++ little_4 h.min_lat ++ little_4 h.max_lon ++ little_4 h.max_lat ++ h.centre_zoom ∷ [] ++ little_4 h.centre_lon ++ little_4 h.centre_lat

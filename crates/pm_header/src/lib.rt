@@ -1,0 +1,18 @@
+//! The header of a tile archive: its first 127 bytes (PMTiles 3, 3). No call takes memory.
+#![tactic(auto)]
+
+mod fault;
+mod header;
+mod part;
+mod reading;
+mod writing;
+
+pub use fault::HeaderFault;
+pub use header::Header;
+pub use part::Part;
+
+/// How many bytes a header has.
+pub const HEADER_BYTES: usize = 127;
+
+#[cfg(test)]
+mod tests;

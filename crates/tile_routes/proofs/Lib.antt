@@ -1,0 +1,3 @@
+mod Capped
+mod Keys
+mod Texts

@@ -1,0 +1,4 @@
+pub mod Number
+pub mod Kept
+pub mod Paths
+pub mod Targets

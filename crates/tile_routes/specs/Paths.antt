@@ -1,0 +1,88 @@
+-- What a path asks for: the route that the router finds, and the numbers in its place.
+use Rattle.std.specs.Prelude.{ℕ, ◌<◌, ◌-◌, ◌^◌, ◌&&◌, Bool, true, false, nat_lt, nat_le, List, [], ◌∷◌, length, take, drop, codes, Option, Some, None, Result, Ok, Err, if◌then◌else◌, nat_eq}
+use Rattle.std.specs.Cmp.Lexicographic.{pointwise}
+use Rattle.std.specs.List.{list_all}
+use Rattle.std.specs.Char.{is_ascii}
+use Rattle.matchit.specs.Rows.{RowsOf}
+use Rattle.matchit.specs.Order.{placed}
+use Rattle.matchit.specs.Route.{parse_route, Scan}
+use Rattle.matchit.specs.Router.{RouteOf, route_from}
+use Rattle.matchit.specs.Params.{walk, named}
+use Rattle.matchit.specs.Seek.{first}
+use Rattle.matchit.specs.declared.error.InsertError.{InsertError}
+use Rattle.tile_routes.specs.declared.routes.Place.{Place}
+use Rattle.tile_routes.specs.declared.routes.Place.TheVariants as places
+use Rattle.tile_routes.specs.declared.target.TileFormat.{TileFormat}
+use Rattle.tile_routes.specs.declared.target.TileFormat.TheVariants.{Mvt, Hex}
+use Rattle.tile_routes.specs.Number.{number_of}
+
+-- the rows with a route's text in its place
+abbrev pub with_scan : Result Scan InsertError → Place → RowsOf (RouteOf Place) → RowsOf (RouteOf Place)
+with_scan (Ok scan) place rows = placed ((route_from scan place).pattern, route_from scan place) rows
+with_scan (Err error) place rows = rows
+
+abbrev pub with_route : List ℕ → Place → RowsOf (RouteOf Place) → RowsOf (RouteOf Place)
+with_route text place rows = with_scan (parse_route text) place rows
+
+-- the paths that are served, as the router keeps them
+unfoldable pub place_rows : RowsOf (RouteOf Place)
+place_rows = with_route (codes "/map/{z}/{x}/{y}") places.Tile (with_route (codes "/features/{id}") places.Feature [])
+
+-- what a path asks for
+pub data Asked : Type 0 where
+  asked_feature : ℕ → Asked
+  asked_tile : ℕ → ℕ → ℕ → TileFormat → Asked
+  asked_nothing : Asked
+
+abbrev pub ends_as : List ℕ → List ℕ → Bool
+ends_as ending text = pointwise nat_eq (drop (length text - length ending) text) ending
+
+-- what stands before the ending
+abbrev pub stem : List ℕ → List ℕ → List ℕ
+stem ending text = take (length text - length ending) text
+
+-- a row's text before its ending, and the format that the ending names
+abbrev pub row_and_format : List ℕ → Option (List ℕ × TileFormat)
+row_and_format name =
+    if ends_as (codes ".mvt") name then Some (stem (codes ".mvt") name, Mvt)
+    else (if ends_as (codes ".hex") name then Some (stem (codes ".hex") name, Hex) else None)
+
+abbrev pub feature_asked : Option ℕ → Asked
+feature_asked None = asked_nothing
+feature_asked (Some id) = asked_feature id
+
+-- a zoom up to 16, with a column and a row below 2 ^ zoom
+abbrev pub is_served : ℕ → ℕ → ℕ → Bool
+is_served z x y = nat_le z 16 && (nat_lt x (2 ^ z) && nat_lt y (2 ^ z))
+
+abbrev pub tile_asked : Option ℕ → Option ℕ → Option ℕ → TileFormat → Asked
+tile_asked (Some z) (Some x) (Some y) format =
+    if is_served z x y then asked_tile z x y format else asked_nothing
+tile_asked (Some z) (Some x) None format = asked_nothing
+tile_asked (Some z) None y format = asked_nothing
+tile_asked None x y format = asked_nothing
+
+abbrev pub named_tile : Option ℕ → Option ℕ → Option (List ℕ × TileFormat) → Asked
+named_tile z x None = asked_nothing
+named_tile z x (Some row) = tile_asked z x (number_of row.0) row.1
+
+-- the part of a path with this name, and nothing where there is none
+abbrev pub part_named : List ℕ → List (List ℕ × List ℕ) → List ℕ
+part_named name parts = text_or_nothing (named name parts)
+  where
+    text_or_nothing : Option (List ℕ) → List ℕ
+    text_or_nothing None = []
+    text_or_nothing (Some text) = text
+
+abbrev pub place_asked : Place → List (List ℕ × List ℕ) → Asked
+place_asked places.Feature parts = feature_asked (number_of (part_named (codes "id") parts))
+place_asked places.Tile parts =
+    named_tile (number_of (part_named (codes "z") parts)) (number_of (part_named (codes "x") parts)) (row_and_format (part_named (codes "y") parts))
+
+abbrev pub route_asked : Option (RouteOf Place) → List ℕ → Asked
+route_asked None path = asked_nothing
+route_asked (Some route) path = place_asked route.value (walk route.pattern route.text path route.names 0 0)
+
+-- what a path asks for; paths are ASCII
+unfoldable pub asked_by : List ℕ → Asked
+asked_by path = if list_all is_ascii path then route_asked (first place_rows path) path else asked_nothing

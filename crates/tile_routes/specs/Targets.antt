@@ -1,0 +1,28 @@
+-- Targets without where they lie in memory.
+use Rattle.std.specs.Prelude.{ℕ, ◌<◌, ◌≤◌, ◌^◌, List}
+use Rattle.std.specs.Borrow.{Bor}
+use Rattle.matchit.specs.Params.{walk}
+use Rattle.matchit.specs.declared.params.Params.{Params}
+use Rattle.tile_routes.specs.declared.target.Target.{Target}
+use Rattle.tile_routes.specs.declared.target.Target.TheVariants.{Feature, Tile, Nothing}
+use Rattle.tile_routes.specs.declared.target.TileFormat.{TileFormat}
+use Rattle.tile_routes.specs.Paths.{Asked, asked_feature, asked_tile, asked_nothing}
+
+-- what a target asks for
+abbrev pub asked_of : Target → Asked
+asked_of (Feature id) = asked_feature id
+asked_of (Tile at format) = asked_tile at.z at.x at.y format
+asked_of Nothing = asked_nothing
+
+-- a number below 2 ^ 63, and a tile of a zoom up to 16
+abbrev pub IsInRange : Target → Type 0
+IsInRange (Feature id) = id < 2 ^ 63
+IsInRange (Tile at format) = at.z ≤ 16
+IsInRange Nothing = Unit {0}
+
+abbrev pub row_view : Bor (List ℕ) × TileFormat → List ℕ × TileFormat
+row_view r = (r.0.now, r.1)
+
+-- each name of a match with the part of the path that it took
+abbrev pub parts_of : Params → List (List ℕ × List ℕ)
+parts_of params = walk params.pattern.now params.text.now params.path.now params.names.now 0 0

@@ -1,0 +1,112 @@
+ghost use Rattle.std.specs.Prelude.{◌≡◌, true, false, IfOk, MatchOption};
+ghost use Rattle.std.specs.List.{list_all};
+ghost use Rattle.std.specs.Char.{is_ascii};
+ghost use Rattle.matchit.specs.Seek.{first};
+ghost use Rattle.matchit.specs.Params.{AllText};
+ghost use Rattle.tile_routes.specs.Kept.{rows-prop};
+ghost use Rattle.tile_routes.specs.Paths.{place_rows, place_asked, part_named, route_asked, asked_by};
+ghost use Rattle.tile_routes.specs.Targets.{asked_of, IsInRange, parts_of};
+
+use crate::target::{Target, feature_target, tile_target};
+use matchit::{InsertError, Params, Router};
+use std::alloc::{AllocError, Global};
+
+/// What the paths of a route are for.
+#[derive(Clone, Copy, Debug, PartialEq, Eq)]
+pub enum Place {
+    Feature,
+    Tile,
+}
+
+/// The paths that are served.
+#[derive(Drop)]
+pub struct Routes {
+    router: Router<Place>,
+    ghost rows: { router ≡ place_rows } by { rows-prop router },
+}
+
+/// The router of the paths.
+fn places(alloc: Global) -> Result<Router<Place>, InsertError>
+    ensures { IfOk result (λ router. router ≡ place_rows) }
+{
+    let mut router = Router::new(alloc);
+    router.insert("/features/{id}", Place::Feature)?;
+    router.insert("/map/{z}/{x}/{y}", Place::Tile)?;
+    Ok(router)
+}
+
+/// Whether each byte is ASCII.
+fn are_ascii(bytes: &[u8]) -> bool
+    ensures { result ≡ list_all is_ascii bytes.now }
+{
+    bytes.iter().all(|byte| byte.is_ascii())
+}
+
+/// The bytes as a text, where all are ASCII.
+fn ascii_text(bytes: &[u8]) -> Option<&str>
+    ensures { MatchOption result (list_all is_ascii bytes.now ≡ false) (λ text. (text.now ≡ bytes.now) × (list_all is_ascii bytes.now ≡ true)) }
+{
+    if !are_ascii(bytes) {
+        return None;
+    }
+    match str::from_utf8(bytes) {
+        Ok(text) => Some(text),
+        Err(_) => None,
+    }
+}
+
+/// The part of a path with this name, and nothing where there is none.
+fn part<'p>(params: &Params<'_, 'p>, name: &str) -> &'p [u8]
+    requires { AllText (parts_of params.now) }
+    ensures { result.now ≡ part_named name.now (parts_of params.now) }
+{
+    match params.get(name) {
+        Some(text) => text.as_bytes(),
+        None => b"",
+    }
+}
+
+/// What the parts of a path of this place ask for.
+fn place_target(place: Place, params: &Params<'_, '_>) -> Target
+    requires { AllText (parts_of params.now) }
+    ensures asked { asked_of result ≡ place_asked place (parts_of params.now) }
+    ensures range { IsInRange result }
+{
+    match place {
+        Place::Feature => feature_target(part(params, "id")),
+        Place::Tile => tile_target(part(params, "z"), part(params, "x"), part(params, "y")),
+    }
+}
+
+impl Routes {
+    /// The router, which is made once and then asked for each request.
+    pub fn new(alloc: Global) -> Result<Routes, AllocError> {
+        match places(alloc) {
+            Ok(router) => Ok(Routes { router }),
+            Err(_) => Err(AllocError),
+        }
+    }
+
+    /// What an ASCII path asks for.
+    fn found(&self, path: &str) -> Target
+        requires { list_all is_ascii path.now ≡ true }
+        ensures asked { asked_of result ≡ route_asked (first place_rows path.now) path.now }
+        ensures range { IsInRange result }
+    {
+        match self.router.at(path) {
+            Ok(found) => place_target(*found.value, &found.params),
+            Err(_) => Target::Nothing,
+        }
+    }
+
+    /// What a path, without its query, asks for.
+    pub fn target(&self, path: &[u8]) -> Target
+        ensures asked { asked_of result ≡ asked_by path.now }
+        ensures range { IsInRange result }
+    {
+        match ascii_text(path) {
+            Some(path) => self.found(path),
+            None => Target::Nothing,
+        }
+    }
+}

@@ -1,0 +1,86 @@
+ghost use Rattle.std.specs.Prelude.{◌≡◌, IsTrue};
+ghost use Rattle.std.specs.Option.{option_map};
+ghost use Rattle.tile_routes.specs.Number.{number_of};
+ghost use Rattle.tile_routes.specs.Paths.{Asked, asked_tile, is_served, feature_asked, named_tile, row_and_format};
+ghost use Rattle.tile_routes.specs.Targets.{asked_of, IsInRange, row_view};
+
+use crate::number::path_number;
+use hilbert_id::TileAt;
+
+/// How a tile is written in its reply.
+#[derive(Clone, Copy, Debug, PartialEq, Eq)]
+pub enum TileFormat {
+    /// The bytes of the tile (`.mvt`).
+    Mvt,
+    /// The bytes as hex text in lower case (`.hex`).
+    Hex,
+}
+
+/// What a path asks for.
+#[derive(Clone, Copy, Debug, PartialEq, Eq)]
+pub enum Target {
+    /// `/features/{id}`: the feature of this number, which is below 2^63.
+    Feature(u64),
+    /// `/map/{z}/{x}/{y}.mvt` and `.hex`: a tile of a zoom up to 16.
+    Tile(TileAt, TileFormat),
+    /// Any other path.
+    Nothing,
+}
+
+/// The feature whose number the text writes.
+pub(crate) fn feature_target(id: &[u8]) -> Target
+    ensures asked { asked_of result ≡ feature_asked (number_of id.now) }
+    ensures range { IsInRange result }
+{
+    match path_number(id) {
+        Some(id) => Target::Feature(id),
+        None => Target::Nothing,
+    }
+}
+
+/// What stands before the ending of a tile's name, and the format that the ending names.
+fn format_of(name: &[u8]) -> Option<(&[u8], TileFormat)>
+    ensures { option_map row_view result ≡ row_and_format name.now }
+{
+    if let Some(row) = name.strip_suffix(b".mvt") {
+        return Some((row, TileFormat::Mvt));
+    }
+    if let Some(row) = name.strip_suffix(b".hex") {
+        return Some((row, TileFormat::Hex));
+    }
+    None
+}
+
+/// Whether a tile of this zoom, column and row is served.
+fn is_served(z: u64, x: u64, y: u64) -> bool
+    ensures { result ≡ is_served z x y }
+{
+    z <= 16 && x < 1 << z && y < 1 << z
+}
+
+/// The tile of a zoom, a column and a row.
+fn tile_at(z: u64, x: u64, y: u64, format: TileFormat) -> Target
+    requires { IsTrue (is_served z x y) }
+    ensures asked { asked_of result ≡ asked_tile z x y format }
+    ensures range { IsInRange result }
+{
+    match TileAt::new(z as u8, x as u32, y as u32) {
+        Some(at) => Target::Tile(at, format),
+        None => Target::Nothing,
+    }
+}
+
+/// The tile whose zoom, column and row with its ending these are.
+pub(crate) fn tile_target(z: &[u8], x: &[u8], name: &[u8]) -> Target
+    ensures asked { asked_of result ≡ named_tile (number_of z.now) (number_of x.now) (row_and_format name.now) }
+    ensures range { IsInRange result }
+{
+    let (Some((row, format)), Some(z), Some(x)) = (format_of(name), path_number(z), path_number(x))
+    else {
+        return Target::Nothing;
+    };
+    match path_number(row) {
+        Some(y) if is_served(z, x, y) => tile_at(z, x, y, format),
+        _ => Target::Nothing,
+    }
+}
