@@ -1,3 +1,16 @@
+pub mod Codecs
+pub mod Decoded
+pub mod EditCodecs
 pub mod FeatureTexts
+pub mod FieldCodecs
 pub mod GeometryKinds
+pub mod KeyOrder
+pub mod KindCodecs
+pub mod Many
+pub mod ManyCodec
+pub mod NextKey
+pub mod ShapeCodecs
+pub mod TagCodecs
 pub mod Texts
+pub mod Utf8Tests
+pub mod ValueCodecs

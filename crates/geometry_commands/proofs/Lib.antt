@@ -2,6 +2,5 @@ pub mod FaultyLaws
 pub mod Shaped
 pub mod Spelled
 pub mod SpelledLaws
-pub mod Steps
 pub mod Stepwise
 pub mod Written

@@ -278,9 +278,6 @@ lines_found (suc n) closed before from (i ∷ is) all le e =
       each = (one.line, more.each);
     }
 
-abbrev front_line : Bool → Pt → List Pt → List ℕ → List ℕ
-front_line closed from l rest = line_spelled closed from l ++ rest
-
 lines_first : (n : ℕ) (closed : Bool) (before : List (List Pt)) (from : Pt) (ints : List ℕ) (w : Walk) → length w.2 < length ints → line_at closed from ints ≡ Ok w → length ints ≤ suc n → lines_in (suc n) closed before from ints ≡ lines_in n closed (before ++ w.0 ∷ []) w.1 w.2
 unfolding lines_in
 lines_first n closed before from [] w some e le = absurd (omega arith)

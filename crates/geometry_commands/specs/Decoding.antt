@@ -5,7 +5,7 @@ use Rattle.geometry_commands.specs.declared.decoding.GeometryFault.{GeometryFaul
 use Rattle.geometry_commands.specs.declared.decoding.GeometryFault.TheVariants.{Command, Count, Cut, Cursor, Memory}
 use Rattle.geometry_commands.specs.declared.kinds.ShapeKind.{ShapeKind}
 use Rattle.geometry_commands.specs.declared.kinds.ShapeKind.TheVariants as kinds
-use Rattle.geometry_commands.specs.Commands.{origin}
+use Rattle.geometry_commands.specs.Commands.{move_to, line_to, close_path, origin}
 use Rattle.geometry_commands.specs.Ways.{led_to, fits}
 use Rattle.geometry_commands.specs.Shapes.{ShapeView, points, lines, rings, raw, least}
 
@@ -47,7 +47,7 @@ walk_at zero before from ints = Ok (before, from, ints)
 walk_at (suc more) before from ints = step_at from ints >>= λ s. walk_at more (before ++ s.0 ∷ []) s.0 s.1
 
 unfoldable pub close_at : Bool → List ℕ → Read (List ℕ)
-close_at true ints = command_at 7 ints >>= λ c. if c.0 == 1 then Ok c.1 else Err Count
+close_at true ints = command_at close_path ints >>= λ c. if c.0 == 1 then Ok c.1 else Err Count
 close_at false ints = Ok ints
 
 abbrev pub line_made : Walk → List ℕ → Read Walk
@@ -62,14 +62,14 @@ line_others closed first c = if nat_lt c.0 (least closed) then Err Count else (w
 
 -- behind the first point
 unfoldable pub line_second : Bool → Walk → Read Walk
-line_second closed first = command_at 2 first.2 >>= line_others closed first
+line_second closed first = command_at line_to first.2 >>= line_others closed first
 
 -- behind a command to move so many times
 unfoldable pub line_first : Bool → Pt → ℕ × List ℕ → Read Walk
 line_first closed from m = if m.0 == 1 then (walk_at 1 [] from m.1 >>= line_second closed) else Err Count
 
 unfoldable pub line_at : Bool → Pt → List ℕ → Read Walk
-line_at closed from ints = command_at 1 ints >>= line_first closed from
+line_at closed from ints = command_at move_to ints >>= line_first closed from
 
 -- the lines behind those that were read, so many at most
 unfoldable pub lines_in : ℕ → Bool → List (List Pt) → Pt → List ℕ → Read (List (List Pt))
@@ -88,7 +88,7 @@ unfoldable pub points_behind : ℕ × List ℕ → Read (List Pt)
 points_behind c = if c.0 == 0 then Err Count else (walk_at c.0 [] origin c.1 >>= points_end)
 
 unfoldable pub points_at : List ℕ → Read (List Pt)
-points_at ints = if length ints == 0 then Ok [] else (command_at 1 ints >>= points_behind)
+points_at ints = if length ints == 0 then Ok [] else (command_at move_to ints >>= points_behind)
 
 unfoldable pub shape_at : ShapeKind → List ℕ → Read ShapeView
 shape_at kinds.Points ints = points_at ints >>= λ ps. Ok (points ps)

@@ -6,7 +6,7 @@ use Rattle.geometry_commands.specs.declared.decoding.GeometryFault.{GeometryFaul
 use Rattle.geometry_commands.specs.declared.decoding.GeometryFault.TheVariants as faults
 use Rattle.geometry_commands.specs.declared.kinds.ShapeKind.{ShapeKind}
 use Rattle.geometry_commands.specs.declared.kinds.ShapeKind.TheVariants as kinds
-use Rattle.geometry_commands.specs.Commands.{steps, command, origin}
+use Rattle.geometry_commands.specs.Commands.{steps, command, move_to, line_to, close_path, origin}
 use Rattle.geometry_commands.specs.Ways.{led_to, FitsPt}
 use Rattle.geometry_commands.specs.Shapes.{last_of, lines_spelled, least, IsLine}
 
@@ -31,14 +31,14 @@ pub record WalkHas (count : ℕ) (from : Pt) (ints : List ℕ) (d : GeometryFaul
 
 -- what doesn't begin as a line, or a ring, must, from where the one before it ends
 pub data LineHas (closed : Bool) (from : Pt) (ints : List ℕ) (d : GeometryFault) : Type 0 where
-  at_move : CommandHas 1 ints d → LineHas closed from ints d
-  move_count : d ≡ faults.Count → (n : ℕ) → (rest : List ℕ) → ints ≡ command 1 n ∷ rest → (n ≡ 1 → ⊥) → LineHas closed from ints d
-  at_first : (rest : List ℕ) → ints ≡ command 1 1 ∷ rest → WalkHas 1 from rest d → LineHas closed from ints d
-  at_line : (ps : List Pt) → (rest : List ℕ) → length ps ≡ 1 → ints ≡ command 1 1 ∷ (steps from ps ++ rest) → CommandHas 2 rest d → LineHas closed from ints d
-  line_count : d ≡ faults.Count → (ps : List Pt) → (n : ℕ) → (rest : List ℕ) → length ps ≡ 1 → ints ≡ command 1 1 ∷ (steps from ps ++ (command 2 n ∷ rest)) → n < least closed → LineHas closed from ints d
-  at_others : (ps : List Pt) → (n : ℕ) → (rest : List ℕ) → length ps ≡ 1 → ints ≡ command 1 1 ∷ (steps from ps ++ (command 2 n ∷ rest)) → WalkHas n (last_of from ps) rest d → LineHas closed from ints d
-  at_close : closed ≡ true → (ps : List Pt) → (qs : List Pt) → (rest : List ℕ) → length ps ≡ 1 → ints ≡ command 1 1 ∷ (steps from ps ++ (command 2 (length qs) ∷ (steps (last_of from ps) qs ++ rest))) → CommandHas 7 rest d → LineHas closed from ints d
-  close_count : d ≡ faults.Count → closed ≡ true → (ps : List Pt) → (qs : List Pt) → (n : ℕ) → (rest : List ℕ) → length ps ≡ 1 → ints ≡ command 1 1 ∷ (steps from ps ++ (command 2 (length qs) ∷ (steps (last_of from ps) qs ++ (command 7 n ∷ rest)))) → (n ≡ 1 → ⊥) → LineHas closed from ints d
+  at_move : CommandHas move_to ints d → LineHas closed from ints d
+  move_count : d ≡ faults.Count → (n : ℕ) → (rest : List ℕ) → ints ≡ command move_to n ∷ rest → (n ≡ 1 → ⊥) → LineHas closed from ints d
+  at_first : (rest : List ℕ) → ints ≡ command move_to 1 ∷ rest → WalkHas 1 from rest d → LineHas closed from ints d
+  at_line : (ps : List Pt) → (rest : List ℕ) → length ps ≡ 1 → ints ≡ command move_to 1 ∷ (steps from ps ++ rest) → CommandHas line_to rest d → LineHas closed from ints d
+  line_count : d ≡ faults.Count → (ps : List Pt) → (n : ℕ) → (rest : List ℕ) → length ps ≡ 1 → ints ≡ command move_to 1 ∷ (steps from ps ++ (command line_to n ∷ rest)) → n < least closed → LineHas closed from ints d
+  at_others : (ps : List Pt) → (n : ℕ) → (rest : List ℕ) → length ps ≡ 1 → ints ≡ command move_to 1 ∷ (steps from ps ++ (command line_to n ∷ rest)) → WalkHas n (last_of from ps) rest d → LineHas closed from ints d
+  at_close : closed ≡ true → (ps : List Pt) → (qs : List Pt) → (rest : List ℕ) → length ps ≡ 1 → ints ≡ command move_to 1 ∷ (steps from ps ++ (command line_to (length qs) ∷ (steps (last_of from ps) qs ++ rest))) → CommandHas close_path rest d → LineHas closed from ints d
+  close_count : d ≡ faults.Count → closed ≡ true → (ps : List Pt) → (qs : List Pt) → (n : ℕ) → (rest : List ℕ) → length ps ≡ 1 → ints ≡ command move_to 1 ∷ (steps from ps ++ (command line_to (length qs) ∷ (steps (last_of from ps) qs ++ (command close_path n ∷ rest)))) → (n ≡ 1 → ⊥) → LineHas closed from ints d
 
 -- where the way along lines ends
 abbrev pub end_of : Pt → List (List Pt) → Pt
@@ -55,10 +55,10 @@ pub record LinesHas (closed : Bool) (from : Pt) (ints : List ℕ) (d : GeometryF
   pub fault : LineHas closed (end_of from lines) rest d
 
 pub data PointsHas (ints : List ℕ) (d : GeometryFault) : Type 0 where
-  at_points : 0 < length ints → CommandHas 1 ints d → PointsHas ints d
-  no_point : d ≡ faults.Count → (rest : List ℕ) → ints ≡ command 1 0 ∷ rest → PointsHas ints d
-  at_ways : (n : ℕ) → (rest : List ℕ) → ints ≡ command 1 n ∷ rest → WalkHas n origin rest d → PointsHas ints d
-  behind : d ≡ faults.Command → (ps : List Pt) → (rest : List ℕ) → ints ≡ command 1 (length ps) ∷ (steps origin ps ++ rest) → 0 < length rest → PointsHas ints d
+  at_points : 0 < length ints → CommandHas move_to ints d → PointsHas ints d
+  no_point : d ≡ faults.Count → (rest : List ℕ) → ints ≡ command move_to 0 ∷ rest → PointsHas ints d
+  at_ways : (n : ℕ) → (rest : List ℕ) → ints ≡ command move_to n ∷ rest → WalkHas n origin rest d → PointsHas ints d
+  behind : d ≡ faults.Command → (ps : List Pt) → (rest : List ℕ) → ints ≡ command move_to (length ps) ∷ (steps origin ps ++ rest) → 0 < length rest → PointsHas ints d
 
 -- a fault of integers that are to be a shape of this kind
 abbrev pub ShapeHas : ShapeKind → List ℕ → GeometryFault → Type 0

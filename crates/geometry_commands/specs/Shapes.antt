@@ -6,7 +6,7 @@ use Rattle.geometry_commands.specs.declared.kinds.Shape.{Shape}
 use Rattle.geometry_commands.specs.declared.kinds.Shape.TheVariants as shapes
 use Rattle.geometry_commands.specs.declared.kinds.ShapeKind.{ShapeKind}
 use Rattle.geometry_commands.specs.declared.kinds.ShapeKind.TheVariants as kinds
-use Rattle.geometry_commands.specs.Commands.{step, steps, command, points_spelled, origin}
+use Rattle.geometry_commands.specs.Commands.{step, steps, command, move_to, line_to, close_path, points_spelled, origin}
 use Rattle.geometry_commands.specs.Ways.{FitsPt}
 
 -- a shape without where it lies in memory
@@ -28,13 +28,13 @@ last_of p [] = p
 last_of p (q ∷ qs) = last_of q qs
 
 abbrev pub close_spelled : Bool → List ℕ
-close_spelled true = command 7 1 ∷ []
+close_spelled true = command close_path 1 ∷ []
 close_spelled false = []
 
 -- a line, or a ring, which is closed: a move to its first point, and the way along the others
 unfoldable pub line_spelled : Bool → Pt → List Pt → List ℕ
 line_spelled closed from [] = []
-line_spelled closed from (p ∷ ps) = command 1 1 ∷ (step from p ++ (command 2 (length ps) ∷ (steps p ps ++ close_spelled closed)))
+line_spelled closed from (p ∷ ps) = command move_to 1 ∷ (step from p ++ (command line_to (length ps) ∷ (steps p ps ++ close_spelled closed)))
 
 -- each from where the one before it ends
 unfoldable pub lines_spelled : Bool → Pt → List (List Pt) → List ℕ

@@ -10,8 +10,8 @@ use Rattle.std.proofs.lemmas.Bool.Decides.{nat_tests}
 use Rattle.std.proofs.lemmas.Int.Digits.{digits_value_more}
 use Rattle.httparse.specs.declared.spans.HeaderSpan.{HeaderSpan}
 use Rattle.httparse.specs.Spans.{header_bytes, span_bytes}
-use Rattle.std.specs.List.{list_any, slice_split, position, position_or_len}
-use Rattle.std.proofs.Common.{zero, suc, length-drop, Option, Some, None, inl, inr, not, nat_lt}
+use Rattle.std.specs.List.{list_any, position, position_or_len}
+use Rattle.std.proofs.Common.{zero, suc, length-drop, Some, None, inl, inr, not, nat_lt}
 use Rattle.std.proofs.lemmas.Bool.{cases_lt}
 use Rattle.std.specs.Prelude.{◌||◌, ◌==◌, codes}
 use Rattle.std.proofs.Common.{subst}

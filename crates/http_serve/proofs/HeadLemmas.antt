@@ -167,7 +167,7 @@ module _ (bytes : List ℕ) (fields : List HeaderSpan) (spans : RequestSpans) (h
               let same : spans.len + n - spans.len ≡ n = omega arith in
               ap (λ (k : ℕ). take k (drop spans.len bytes)) same;
           close = closes ∙ ap (λ (k : ℕ). k == 0 || says_close (map (header_bytes bytes) (take spans.headers fields))) at.version
-          ∙ ap (λ (named : List NamedValue). h.minor == 0 || says_close named) at.fields;
+              ∙ ap (λ (named : List NamedValue). h.minor == 0 || says_close named) at.fields;
         },
       )
 
@@ -182,16 +182,20 @@ empty_missing bytes empty = record {
 }
 
 -- without a head so far, one more byte is needed
-pub partial_missing : (bytes : List ℕ) → HasNoRequest bytes → length bytes < 8192 → IsMissing bytes Head (length bytes + 1)
-partial_missing bytes none few = record {
+pub headless_missing : (bytes : List ℕ) → HasNoHead bytes → length bytes < 8192 → IsMissing bytes Head (length bytes + 1)
+headless_missing bytes none few = record {
   few = omega arith;
   bound = omega arith;
   refused = λ more below. inl (refl, same more (omega (arith, length-append bytes more)));
 }
   where
     same : (more : List ℕ) → length more ≡ 0 → HasNoHead (bytes ++ more)
-    same [] e = subst HasNoHead (sym (append-nil bytes)) (λ head rest is. none head rest is.reads)
+    same [] e = subst HasNoHead (sym (append-nil bytes)) none
     same (x ∷ more) e = absurd (omega arith)
+
+-- the same by the parser's word
+pub partial_missing : (bytes : List ℕ) → HasNoRequest bytes → length bytes < 8192 → IsMissing bytes Head (length bytes + 1)
+partial_missing bytes none few = headless_missing bytes (λ head rest is. none head rest is.reads) few
 
 -- too many fields
 pub overflows_missing : (bytes : List ℕ) → RequestOverflows 32 bytes → length bytes < 8192 → IsMissing bytes Head 8192

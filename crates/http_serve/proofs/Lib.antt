@@ -3,6 +3,7 @@ pub mod FieldLemmas
 pub mod HeadLemmas
 pub mod InputLemmas
 pub mod KnownLemmas
+pub mod LineLemmas
 pub mod ReplyLemmas
 pub mod ServeLemmas
 pub mod ReadingLemmas

@@ -1,11 +1,11 @@
 -- There is one message at the front of bytes, and so one list of requests.
-use Rattle.std.proofs.Common.{◌≡◌, ◌≢◌, ℕ, ◌+◌, ◌<◌, ◌≤◌, List, [], ◌∷◌, ◌++◌, Bool, true, false, length, take, drop, refl, sym, ap, ◌∙◌, subst, arith, length-append, Ok, Err, Result, inl, inr, ◌⊎◌}
+use Rattle.std.proofs.Common.{◌≡◌, ◌≢◌, ℕ, List, [], ◌∷◌, ◌++◌, true, false, length, take, drop, refl, sym, ap, ◌∙◌, subst, arith, Ok, Err, Result, inl, inr}
 use Rattle.std.proofs.Math.Seq.{take-append_seam, drop-append_seam}
 use Rattle.httparse.specs.Grammar.{RequestHead}
 use Rattle.httparse.proofs.GrammarLemmas.{request_unique}
 use Rattle.http_serve.specs.declared.refusals.Refusal.{Refusal}
 use Rattle.http_serve.specs.Fields.{body_length}
-use Rattle.http_serve.specs.Message.{Message, IsHead, IsMessage, IsRefused, HasFault, IsFault, Begins, Ending, going, closed, asked, refused, EndsAs, Requests, asks_to_close, fields_of}
+use Rattle.http_serve.specs.Message.{Message, IsHead, IsMessage, IsRefused, IsFault, Begins, Ending, going, closed, asked, refused, EndsAs, Requests, asks_to_close, fields_of}
 use Rattle.http_serve.proofs.HeadLemmas.{empty_no_head, refused_none}
 
 head_unique : (bytes : List ℕ) (h k : RequestHead) (r q : List ℕ) → IsHead bytes h r → IsHead bytes k q → (h ≡ k) × (r ≡ q)

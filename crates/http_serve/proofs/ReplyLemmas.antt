@@ -1,5 +1,5 @@
 -- How long the head of a reply may be.
-use Rattle.std.proofs.Common.{◌≡◌, ◌++◌, ◌∙◌, ap, append_assoc, ◌≤◌, ℕ, List, [], Option, Some, None, Bool, true, false, ◌==◌, length, unwrap_or, if◌then◌else◌, codes, lit≤}
+use Rattle.std.proofs.Common.{◌≡◌, ◌++◌, ◌∙◌, ap, append_assoc, ◌≤◌, ℕ, List, [], Option, Bool, true, false, ◌==◌, length, unwrap_or, if◌then◌else◌, lit≤}
 use Rattle.http.specs.StatusCode.{reason_phrase}
 
 -- a phrase of at most 31 bytes, or none

@@ -1,6 +1,6 @@
 -- A connection, read by read.
-use Rattle.std.proofs.Common.{◌≡◌, ◌≢◌, ℕ, ◌<◌, ◌≤◌, ◌^◌, List, [], ◌∷◌, ◌++◌, Option, Some, None, take, length, ◌+◌, refl, sym, ap, ◌∙◌, subst, append_assoc, arith, inl, length-append}
-use Rattle.std.specs.Prelude.{⊤}
+use Rattle.std.proofs.Common.{◌≡◌, ◌≢◌, ℕ, ◌<◌, ◌≤◌, List, [], ◌∷◌, ◌++◌, Option, Some, None, take, length, ◌+◌, refl, sym, ap, ◌∙◌, subst, append_assoc, arith, inl, length-append}
+use Rattle.std.specs.Prelude.{⊤, Result, Ok, Err, IfOk, IfErr}
 use Rattle.std.proofs.lemmas.List.{append-nil}
 use Rattle.std.specs.Io.KnownBytes.{Appends, Consumes, IsAtEnd}
 use Rattle.http_serve.specs.declared.refusals.Refusal.{Refusal}
@@ -15,7 +15,7 @@ use Rattle.http_serve.specs.Question.{Question}
 use Rattle.http_serve.specs.Reply.{ReplyView, refusal_bytes}
 use Rattle.http_serve.specs.Served.{RisesBy, reply_count, Answers, AnswersEnd, AnswersAll, Carries, Ends, Breaks, Anything, MayFollow}
 use Rattle.http_serve.specs.Steps.{HasPlainEnd, IsFinished, IsUnfinished, IsBroken}
-use Rattle.http_serve.specs.Told.{end_of, IfTurns, IsServed, IsServedTo, IsServedSoFar, IsServedInPart, IsServedUpTo, IsAnswered, AnswersInput}
+use Rattle.http_serve.specs.Told.{end_of, IfTurns, IsServed, IsServedTo, IsServedSoFar, IsServedInPart, IsServedUpTo, IsAnswered, IsWithinTurns, AnswersInput}
 use Rattle.http_serve.proofs.HeadLemmas.{empty_no_head, refused_none}
 use Rattle.http_serve.proofs.KnownLemmas.{Appends-then, Consumes-then, Consumes_none}
 use Rattle.http_serve.proofs.CarryLemmas.{Begins-append, Begins-then, Answers-then, Carries_start, Ends_push, Breaks_refused, rises_then, reply_count-append}
@@ -25,6 +25,15 @@ finished_other end going last told plain e = absurd plain
 finished_other end closed last told plain e = cc
 finished_other end (asked message) last told plain e = cc
 finished_other end (refused refusal) last told plain e = cc
+
+-- a fact for the value of a result, from another
+pub if_ok : {A E : Type 0} (r : Result A E) (P Q : A → Type 0) → ((a : A) → P a → Q a) → IfOk r P → IfOk r Q
+if_ok (Ok a) P Q f x = f a x
+if_ok (Err e) P Q f x = tt
+
+pub if_err : {A E : Type 0} (r : Result A E) (P Q : E → Type 0) → ((e : E) → P e → Q e) → IfErr r P → IfErr r Q
+if_err (Ok a) P Q f x = tt
+if_err (Err e) P Q f x = f e x
 
 no_items : (xs : List ℕ) → length xs ≡ 0 → xs ≡ []
 no_items [] e = refl
@@ -294,3 +303,39 @@ module _ {S : Type 0} (replies : S → Question → ReplyView → S → Type 0) 
   served_input old None held served new leaves holds x = tt
   served_input old (Some input) held served new leaves holds x =
       if_turns served.end _ _ _ (served_whole old input held served new leaves holds) x
+
+-- ---- turns
+
+-- each turn took a byte of the input, where it is known
+abbrev pub TakesTurns : Option (List ℕ) → Option (List ℕ) → ℕ → Type 0
+TakesTurns None left turns = ⊤
+TakesTurns (Some input) None turns = ⊥
+TakesTurns (Some input) (Some left) turns = turns + length left ≤ length input
+
+pub turns_start : (input : Option (List ℕ)) → TakesTurns input input 0
+turns_start None = tt
+turns_start (Some input) = omega arith
+
+pub turns_more : (input left last : Option (List ℕ)) (turns n : ℕ) (more : List ℕ) → TakesTurns input left turns → Consumes left last more
+    → n ≡ length more → n ≢ 0 → TakesTurns input last (turns + 1)
+turns_more None left last turns n more so came size some = tt
+turns_more (Some input) None last turns n more so came size some = absurd so
+turns_more (Some input) (Some left) None turns n more so came size some = absurd came
+turns_more (Some input) (Some left) (Some last) turns n more so came size some =
+    omega (arith, ap length came, length-append more last)
+
+pub turns_over : (input left : Option (List ℕ)) (turns most : ℕ) → TakesTurns input left turns → most ≤ turns → (end : End)
+    → IsWithinTurns input most end
+turns_over None left turns most so over end = tt
+turns_over (Some input) None turns most so over end = absurd so
+turns_over (Some input) (Some left) turns most so over end = λ few e. omega arith
+
+-- an end of another kind
+pub other_turns : (input : Option (List ℕ)) (most : ℕ) (end : End) → end ≢ Turns → IsWithinTurns input most end
+other_turns None most end other = tt
+other_turns (Some input) most end other = λ few. other
+
+pub finished_turns : (input : Option (List ℕ)) (most : ℕ) (waiting : List ℕ) (reason : Refusal) (held : Option (List ℕ)) (before : ℕ)
+    (served : Served) (holds : Option (List ℕ)) → IsFinished waiting reason held before served holds → IsWithinTurns input most served.end
+finished_turns input most waiting reason held before served holds x =
+    other_turns input most served.end (finished_other served.end x.ending x.last x.told x.plain)

@@ -1,9 +1,11 @@
 pub mod Fields
 pub mod Frame
 pub mod Input
+pub mod Lines
 pub mod Message
 pub mod Question
 pub mod Reply
+pub mod Search
 pub mod Sent
 pub mod Served
 pub mod Steps

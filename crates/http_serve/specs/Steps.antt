@@ -1,7 +1,6 @@
 -- What the steps of a connection tell.
 use Rattle.std.specs.Prelude.{◌≡◌, ◌≢◌, ℕ, ◌<◌, List, [], length, take, Option}
 use Rattle.std.specs.Io.KnownBytes.{Appends}
-use Rattle.http_serve.specs.declared.connection.End.{End}
 use Rattle.http_serve.specs.declared.connection.End.TheVariants.{Turns}
 use Rattle.http_serve.specs.declared.connection.Pause.{Pause}
 use Rattle.http_serve.specs.declared.connection.Pause.TheVariants.{Ended, More}

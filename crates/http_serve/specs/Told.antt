@@ -1,5 +1,5 @@
 -- What a connection came to.
-use Rattle.std.specs.Prelude.{◌≡◌, ℕ, List, Some, None, Option, ⊤}
+use Rattle.std.specs.Prelude.{◌≡◌, ◌≢◌, ◌<◌, ℕ, List, length, Some, None, Option, ⊤}
 use Rattle.std.specs.Io.KnownBytes.{Consumes, Appends}
 use Rattle.http_serve.specs.declared.connection.End.{End}
 use Rattle.http_serve.specs.declared.connection.End.TheVariants.{Closed, Asked, Refused, Turns}
@@ -24,6 +24,11 @@ IfTurns Turns stopped ended = stopped
 IfTurns Closed stopped ended = ended
 IfTurns Asked stopped ended = ended
 IfTurns Refused stopped ended = ended
+
+-- the bound on reads isn't met by an input that is known to have fewer bytes
+abbrev pub IsWithinTurns : Option (List ℕ) → ℕ → End → Type 0
+IsWithinTurns None turns end = ⊤
+IsWithinTurns (Some input) turns end = length input < turns → end ≢ Turns
 
 module _ {S : Type 0} (replies : S → Question → ReplyView → S → Type 0) where
   -- The bytes that were read are these requests up to an ending, whatever may follow, and the replies were

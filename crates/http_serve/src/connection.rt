@@ -1,18 +1,20 @@
 //! A connection: each request gets a reply.
-ghost use Rattle.std.specs.Prelude.{◌≡◌, ◌≤◌, ◌<◌, ◌^◌, ℕ, List, length, IfOk, IfErr, vec_capacity};
+ghost use Rattle.std.specs.Prelude.{◌≡◌, ◌≤◌, ◌<◌, ◌^◌, ℕ, List, length, IfOk, IfErr, OnOk, vec_capacity};
 ghost use Rattle.httparse.specs.Spans.{IsWithin};
 ghost use Rattle.http_serve.specs.Question.{path_of, question_at};
 ghost use Rattle.http_serve.specs.Reply.{ReplyView, HasShortKind, reply_view, reply_bytes, refusal_bytes};
+ghost use Rattle.http_serve.specs.Search.{IsKnown};
 ghost use Rattle.http_serve.specs.Sent.{Sends};
 ghost use Rattle.http_serve.specs.Steps.{IsPaused, IsBroken, IsFinished, IsUnfinished};
-ghost use Rattle.http_serve.specs.Told.{IsServed, IsServedUpTo, AnswersInput};
+ghost use Rattle.http_serve.specs.Told.{IsServed, IsServedUpTo, IsWithinTurns, AnswersInput};
 
 use crate::fields::position_or_len;
-use crate::frames::{Frame, Next, find_request};
+use crate::frames::{Frame, Next};
 use crate::inputs::Input;
-use crate::replies::{MOST_REPLY_HEAD, put_reply_head};
-use crate::writes::{WriteFault, send_both};
-use crate::{Handler, Refusal, Reply, Request};
+use crate::replies::{REPLY_SPACE, send_reply};
+use crate::searches::{START, Search, find_next};
+use crate::writes::WriteFault;
+use crate::{Handler, Refusal, Request};
 use std::alloc::Global;
 use std::io::{Read, Write};
 
@@ -65,30 +67,19 @@ fn path_of(target: &[u8]) -> &[u8]
     &target[..position_or_len(target, b'?')]
 }
 
-/// Writes a reply, which says whether it is the last one.
-fn send_reply<W: Write>(writer: &mut W, head: &mut Vec<u8>, reply: &Reply, close: bool) -> Result<(), WriteFault>
-    requires kind { HasShortKind (reply_view reply.now) }
-    requires room { 256 ≤ vec_capacity head.old }
-    ensures room { 256 ≤ vec_capacity head.new }
-    ensures sent { Sends result (W.contents writer.old) (W.contents writer.new) (reply_bytes close (reply_view reply.now)) }
-{
-    put_reply_head(head, reply, close);
-    send_both(writer, head.as_slice(), reply.sent_content())
-}
-
 /// Answers the request in a frame of these bytes.
 fn answer_one<H: Handler, W: Write>(
     handler: &mut H,
     writer: &mut W,
-    head: &mut Vec<u8>,
+    out: &mut Vec<u8>,
     bytes: &[u8],
     frame: &Frame,
 ) -> Result<(), WriteFault>
     requires method { IsWithin (length bytes.now) frame.now.method }
     requires target { IsWithin (length bytes.now) frame.now.target }
     requires body { IsWithin (length bytes.now) frame.now.body }
-    requires room { 256 ≤ vec_capacity head.old }
-    ensures room { 256 ≤ vec_capacity head.new }
+    requires room { 16384 ≤ vec_capacity out.old }
+    ensures room { 16384 ≤ vec_capacity out.new }
     ensures reply { (reply : ReplyView) × H.replies handler.old (question_at bytes.now frame.now) reply handler.new
         × Sends result (W.contents writer.old) (W.contents writer.new) (reply_bytes frame.now.close reply) }
 {
@@ -98,23 +89,24 @@ fn answer_one<H: Handler, W: Write>(
         body: frame.body.of(bytes),
     };
     let reply = handler.answer(&request);
-    send_reply(writer, head, &reply, frame.close)
+    send_reply(writer, out, &reply, frame.close)
 }
 
 /// Tells that the bytes are no request.
-fn refuse<W: Write>(writer: &mut W, head: &mut Vec<u8>, refusal: Refusal) -> Result<(), WriteFault>
-    requires room { 256 ≤ vec_capacity head.old }
-    ensures room { 256 ≤ vec_capacity head.new }
+fn refuse<W: Write>(writer: &mut W, out: &mut Vec<u8>, refusal: Refusal) -> Result<(), WriteFault>
+    requires room { 16384 ≤ vec_capacity out.old }
+    ensures room { 16384 ≤ vec_capacity out.new }
     ensures sent { Sends result (W.contents writer.old) (W.contents writer.new) (refusal_bytes refusal) }
 {
-    send_reply(writer, head, &refusal.reply(), true)
+    send_reply(writer, out, &refusal.reply(), true)
 }
 
-/// The bytes that wait, and room for the head of a reply.
+/// The bytes that wait, what is known of them, and room for replies.
 #[derive(Drop)]
 struct Session {
     input: Input,
-    head: Vec<u8>,
+    search: Search,
+    out: Vec<u8>,
 }
 
 /// Answers each whole request, and drops it from the input. So many replies were written before.
@@ -124,15 +116,17 @@ fn answer_whole<H: Handler, W: Write>(
     session: &mut Session,
     mut requests: u64,
 ) -> Result<Pause, ServeFault>
-    requires room { 256 ≤ vec_capacity session.old.head }
-    ensures room { 256 ≤ vec_capacity session.new.head }
+    requires room { 16384 ≤ vec_capacity session.old.out }
+    requires known { IsKnown session.old.input.waiting session.old.search }
+    ensures room { 16384 ≤ vec_capacity session.new.out }
+    ensures known { OnOk result (IsKnown session.new.input.waiting session.new.search) }
     ensures ok { IfOk result (λ pause. IsPaused H.replies handler.old session.old.input.waiting (W.contents writer.old) requests pause
         handler.new session.new.input.waiting (W.contents writer.new)) }
     ensures err { IfErr result (λ fault. IsBroken H.replies handler.old session.old.input.waiting (W.contents writer.old) requests fault
         handler.new (W.contents writer.new)) }
 {
     'requests: loop {
-        let frame = match find_request(session.input.waiting()) {
+        let frame = match find_next(session.input.waiting(), &mut session.search) {
             Next::Whole(frame) => frame,
             Next::More(missing) => {
                 return Ok(Pause::More {
@@ -140,7 +134,7 @@ fn answer_whole<H: Handler, W: Write>(
                     refusal: missing.refusal,
                 });
             }
-            Next::Refused(refusal) => match refuse(writer, &mut session.head, refusal) {
+            Next::Refused(refusal) => match refuse(writer, &mut session.out, refusal) {
                 Ok(()) => {
                     return Ok(Pause::Ended(Served {
                         requests: requests.saturating_add(1),
@@ -151,7 +145,7 @@ fn answer_whole<H: Handler, W: Write>(
             },
         };
         let waiting = session.input.waiting();
-        match answer_one(handler, writer, &mut session.head, waiting, &frame) {
+        match answer_one(handler, writer, &mut session.out, waiting, &frame) {
             Ok(()) => requests = requests.saturating_add(1),
             Err(_) => return Err(ServeFault::Write { requests }),
         }
@@ -160,6 +154,7 @@ fn answer_whole<H: Handler, W: Write>(
             return Ok(Pause::Ended(Served { requests, end }));
         }
         session.input.drop_front(frame.body.end);
+        session.search = START;
     }
 }
 
@@ -170,7 +165,7 @@ fn finish<W: Write>(
     requests: u64,
     reason: Refusal,
 ) -> Result<Served, ServeFault>
-    requires room { 256 ≤ vec_capacity session.old.head }
+    requires room { 16384 ≤ vec_capacity session.old.out }
     ensures ends { IfOk result (λ served. IsFinished session.old.input.waiting reason (W.contents writer.old) requests
         served (W.contents writer.new)) }
     ensures fault { IfErr result (λ fault. IsUnfinished session.old.input.waiting reason (W.contents writer.old) requests
@@ -182,7 +177,7 @@ fn finish<W: Write>(
             end: End::Closed,
         });
     }
-    match refuse(writer, &mut session.head, reason) {
+    match refuse(writer, &mut session.out, reason) {
         Ok(()) => Ok(Served {
             requests: requests.saturating_add(1),
             end: End::Refused,
@@ -203,31 +198,36 @@ pub fn serve_turns<R: Read, W: Write, H: Handler>(
         handler.new (R.remaining reader.new) (W.contents writer.new)) }
     ensures fault { IfErr result (λ fault. IsServedUpTo H.replies handler.old (R.remaining reader.old) (W.contents writer.old) fault
         handler.new (R.remaining reader.new) (W.contents writer.new)) }
+    ensures turns { IfOk result (λ served. IsWithinTurns (R.remaining reader.old) turns served.end) }
 {
     let Ok(input) = Input::new(alloc) else {
         return Err(ServeFault::Memory);
     };
-    let Ok(head) = Vec::with_capacity(alloc, MOST_REPLY_HEAD) else {
+    let Ok(out) = Vec::with_capacity(alloc, REPLY_SPACE) else {
         return Err(ServeFault::Memory);
     };
-    let mut session = Session { input, head };
+    let mut session = Session {
+        input,
+        search: START,
+        out,
+    };
     let mut requests = 0;
     let mut reason = Refusal::Head;
     for _turn in 0..turns {
-        match session.input.read_from(reader) {
-            Ok(0) => match finish(writer, &mut session, requests, reason) {
-                Ok(served) => return Ok(served),
-                Err(fault) => return Err(fault),
-            },
-            Ok(_) => {}
-            Err(_) => return Err(ServeFault::Read { requests }),
+        let Ok(count) = session.input.read_from(reader) else {
+            return Err(ServeFault::Read { requests });
+        };
+        if count == 0 {
+            return finish(writer, &mut session, requests, reason);
         }
         match answer_whole(handler, writer, &mut session, requests) {
             Ok(Pause::Ended(served)) => return Ok(served),
-            Ok(Pause::More {
-                requests: answered,
-                refusal,
-            }) => {
+            Ok(
+                Pause::More {
+                    requests: answered,
+                    refusal,
+                },
+            ) => {
                 requests = answered;
                 reason = refusal;
             }
@@ -256,9 +256,7 @@ pub fn serve<R: Read, W: Write, H: Handler>(
         handler.new (R.remaining reader.new) (W.contents writer.new)) }
     ensures fault { IfErr result (λ fault. IsServedUpTo H.replies handler.old (R.remaining reader.old) (W.contents writer.old) fault
         handler.new (R.remaining reader.new) (W.contents writer.new)) }
+    ensures turns { IfOk result (λ served. IsWithinTurns (R.remaining reader.old) 4294967296 served.end) }
 {
-    match serve_turns(alloc, reader, writer, handler, MOST_TURNS) {
-        Ok(served) => Ok(served),
-        Err(fault) => Err(fault),
-    }
+    serve_turns(alloc, reader, writer, handler, MOST_TURNS)
 }

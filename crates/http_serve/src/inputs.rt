@@ -17,11 +17,7 @@ pub(crate) struct ReadFault;
 const SPACE: usize = 2 * MOST_REQUEST;
 
 /// Makes one read behind a place of the buffer.
-fn read_behind<R: Read>(
-    reader: &mut R,
-    buffer: &mut [u8],
-    end: usize,
-) -> Result<usize, ReadFault>
+fn read_behind<R: Read>(reader: &mut R, buffer: &mut [u8], end: usize) -> Result<usize, ReadFault>
     requires { end < length buffer.old }
     ensures ok { IfOk result (λ n. (more : List ℕ) × Consumes (R.remaining reader.old) (R.remaining reader.new) more
         × (take (end + n) buffer.new ≡ take end buffer.old ++ more) × (n ≡ length more) × (n ≡ 0 → IsAtEnd (R.remaining reader.new))) }

@@ -7,8 +7,10 @@ mod frames;
 mod handlers;
 mod inputs;
 mod laws;
+mod lines;
 mod refusals;
 mod replies;
+mod searches;
 mod writes;
 
 pub use connection::{End, ServeFault, Served, serve, serve_turns};

@@ -1,9 +1,12 @@
 //! Replies and their bytes.
 ghost use Rattle.std.specs.Prelude.{◌≡◌, ◌≤◌, ◌<◌, ◌+◌, ◌++◌, ◌^◌, [], length, vec_len, vec_capacity, true, false, ◌==◌};
-ghost use Rattle.http_serve.specs.Reply.{ReplyView, HasShortKind, reply_view, content_bytes, phrase_of, type_line, length_line, closing_line, content_lines, reply_head, sent_content, has_no_content};
+ghost use Rattle.http_serve.specs.Reply.{ReplyView, HasShortKind, reply_view, content_bytes, phrase_of, type_line, length_line, closing_line, content_lines, reply_head, sent_content, has_no_content, reply_bytes};
+ghost use Rattle.http_serve.specs.Sent.{Sends};
 
+use crate::writes::{WriteFault, send_all, send_both};
 use http::StatusCode;
 use itoa::Buffer;
+use std::io::Write;
 
 /// The content of a reply.
 #[derive(Drop)]
@@ -57,9 +60,6 @@ impl Reply {
     }
 }
 
-/// How many bytes the head of a reply may have.
-pub(crate) const MOST_REPLY_HEAD: usize = 256;
-
 // Adds text where there is room.
 fn put(out: &mut Vec<u8>, text: &[u8])
     requires { vec_len out.old + length text.now ≤ vec_capacity out.old }
@@ -91,64 +91,89 @@ fn closing_line(close: bool) -> &'static [u8]
 
 /// Adds the line of the type, where there is one.
 #[tactic(auto, unfolding(crate::specs::Reply::type_line))]
-fn put_type_line(head: &mut Vec<u8>, reply: &Reply)
+fn put_type_line(out: &mut Vec<u8>, reply: &Reply)
     requires kind { HasShortKind (reply_view reply.now) }
-    requires room { vec_len head.old + 80 ≤ vec_capacity head.old }
-    ensures items { head.new.items ≡ head.old.items ++ type_line (reply_view reply.now).kind }
-    ensures len { vec_len head.new ≤ vec_len head.old + 80 }
-    ensures capacity { vec_capacity head.old ≤ vec_capacity head.new }
+    requires room { vec_len out.old + 80 ≤ vec_capacity out.old }
+    ensures items { out.new.items ≡ out.old.items ++ type_line (reply_view reply.now).kind }
+    ensures len { vec_len out.new ≤ vec_len out.old + 80 }
+    ensures capacity { vec_capacity out.old ≤ vec_capacity out.new }
 {
     let Some(kind) = reply.kind else {
         return;
     };
-    put(head, b"content-type: ");
-    put(head, kind.as_bytes());
-    put(head, b"\r\n");
+    put(out, b"content-type: ");
+    put(out, kind.as_bytes());
+    put(out, b"\r\n");
 }
 
 /// Adds the line of the length.
 #[tactic(auto, unfolding(crate::specs::Reply::length_line))]
-fn put_length_line(head: &mut Vec<u8>, size: usize)
-    requires { vec_len head.old + 58 ≤ vec_capacity head.old }
-    ensures items { head.new.items ≡ head.old.items ++ length_line size }
-    ensures len { vec_len head.new ≤ vec_len head.old + 58 }
-    ensures capacity { vec_capacity head.old ≤ vec_capacity head.new }
+fn put_length_line(out: &mut Vec<u8>, size: usize)
+    requires { vec_len out.old + 58 ≤ vec_capacity out.old }
+    ensures items { out.new.items ≡ out.old.items ++ length_line size }
+    ensures len { vec_len out.new ≤ vec_len out.old + 58 }
+    ensures capacity { vec_capacity out.old ≤ vec_capacity out.new }
 {
-    put(head, b"content-length: ");
-    put(head, Buffer::new().format(size).as_bytes());
-    put(head, b"\r\n");
+    put(out, b"content-length: ");
+    put(out, Buffer::new().format(size).as_bytes());
+    put(out, b"\r\n");
 }
 
 /// Adds the lines of the type and of the length.
-fn put_content_lines(head: &mut Vec<u8>, reply: &Reply)
+fn put_content_lines(out: &mut Vec<u8>, reply: &Reply)
     requires kind { HasShortKind (reply_view reply.now) }
-    requires room { vec_len head.old + 138 ≤ vec_capacity head.old }
-    ensures items { head.new.items ≡ head.old.items ++ content_lines (reply_view reply.now) }
-    ensures len { vec_len head.new ≤ vec_len head.old + 138 }
-    ensures capacity { vec_capacity head.old ≤ vec_capacity head.new }
+    requires room { vec_len out.old + 138 ≤ vec_capacity out.old }
+    ensures items { out.new.items ≡ out.old.items ++ content_lines (reply_view reply.now) }
+    ensures len { vec_len out.new ≤ vec_len out.old + 138 }
+    ensures capacity { vec_capacity out.old ≤ vec_capacity out.new }
 {
     if reply.has_no_content() {
         return;
     }
-    put_type_line(head, reply);
-    put_length_line(head, reply.content.as_bytes().len());
+    put_type_line(out, reply);
+    put_length_line(out, reply.content.as_bytes().len());
 }
 
-/// Makes the head of a reply.
+/// Makes the head of a reply, which has at most 256 bytes.
 #[tactic(auto, unfolding(crate::specs::Reply::reply_head))]
-pub(crate) fn put_reply_head(head: &mut Vec<u8>, reply: &Reply, close: bool)
+fn put_reply_head(out: &mut Vec<u8>, reply: &Reply, close: bool)
     requires kind { HasShortKind (reply_view reply.now) }
-    requires room { 256 ≤ vec_capacity head.old }
-    ensures items { head.new.items ≡ reply_head close (reply_view reply.now) }
-    ensures capacity { vec_capacity head.old ≤ vec_capacity head.new }
+    requires room { 256 ≤ vec_capacity out.old }
+    ensures items { out.new.items ≡ reply_head close (reply_view reply.now) }
+    ensures short { vec_len out.new ≤ 256 }
+    ensures capacity { vec_capacity out.old ≤ vec_capacity out.new }
 {
-    head.clear();
-    put(head, b"HTTP/1.1 ");
-    put(head, reply.status.as_str().as_bytes());
-    put(head, b" ");
-    put(head, phrase_of(reply.status).as_bytes());
-    put(head, b"\r\n");
-    put_content_lines(head, reply);
-    put(head, closing_line(close));
-    put(head, b"\r\n");
+    out.clear();
+    put(out, b"HTTP/1.1 ");
+    put(out, reply.status.as_str().as_bytes());
+    put(out, b" ");
+    put(out, phrase_of(reply.status).as_bytes());
+    put(out, b"\r\n");
+    put_content_lines(out, reply);
+    put(out, closing_line(close));
+    put(out, b"\r\n");
+}
+
+/// How many bytes of replies are gathered for one write.
+pub(crate) const REPLY_SPACE: usize = 16_384;
+
+/// Writes a reply, which says whether it is the last one: in one write, if all its bytes fit into the buffer.
+pub(crate) fn send_reply<W: Write>(
+    writer: &mut W,
+    out: &mut Vec<u8>,
+    reply: &Reply,
+    close: bool,
+) -> Result<(), WriteFault>
+    requires kind { HasShortKind (reply_view reply.now) }
+    requires room { 16384 ≤ vec_capacity out.old }
+    ensures room { 16384 ≤ vec_capacity out.new }
+    ensures sent { Sends result (W.contents writer.old) (W.contents writer.new) (reply_bytes close (reply_view reply.now)) }
+{
+    put_reply_head(out, reply, close);
+    let content = reply.sent_content();
+    if content.len() <= REPLY_SPACE - out.len() {
+        put(out, content);
+        return send_all(writer, out.as_slice());
+    }
+    send_both(writer, out.as_slice(), content)
 }

@@ -23,7 +23,11 @@ pub(crate) fn send_all<W: Write>(writer: &mut W, bytes: &[u8]) -> Result<(), Wri
 }
 
 /// Writes one text after the other.
-pub(crate) fn send_both<W: Write>(writer: &mut W, first: &[u8], second: &[u8]) -> Result<(), WriteFault>
+pub(crate) fn send_both<W: Write>(
+    writer: &mut W,
+    first: &[u8],
+    second: &[u8],
+) -> Result<(), WriteFault>
     ensures { Sends result (W.contents writer.old) (W.contents writer.new) (first.now ++ second.now) }
 {
     match send_all(writer, first) {

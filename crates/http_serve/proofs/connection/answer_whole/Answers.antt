@@ -15,7 +15,7 @@ pub returns-in-More-clause-ok : goal.returns-in-More-clause-ok
 returns-in-More-clause-ok g c =
     let input = c.requests.session.input.waiting in
     let missing = c.in-More.missing in
-    let found = subst (λ (t : List ℕ). IsNext t (More missing)) c.waiting.ensures c.in-More.ensures in
+    let found = subst (λ (t : List ℕ). IsNext t (More missing)) c.waiting.ensures c.in-More.ensures.next in
     let told = missing_now input missing.refusal missing.until found in
     (c.requests.invariant.carries, told.0, told.1)
 
@@ -23,7 +23,7 @@ pub returns-in-Ok-clause-ok : goal.returns-in-Ok-clause-ok
 returns-in-Ok-clause-ok g c =
     let input = c.requests.session.input.waiting in
     let refusal = c.in-Refused.refusal in
-    let found = subst (λ (t : List ℕ). IsNext t (Refused refusal)) c.waiting.ensures c.in-Refused.ensures in (
+    let found = subst (λ (t : List ℕ). IsNext t (Refused refusal)) c.waiting.ensures c.in-Refused.ensures.next in (
       refused refusal,
       Ends_push g.H.Handler.replies _ _ _ c.args.requests _ input _ c.requests.requests Anything (refused refusal) (refusal_bytes refusal) _ _
           c.saturating_add.result c.requests.invariant.carries
@@ -36,7 +36,7 @@ pub returns-in-Err-clause-err : goal.returns-in-Err-clause-err
 returns-in-Err-clause-err g c =
     let input = c.requests.session.input.waiting in
     let refusal = c.in-Refused.refusal in
-    let found = subst (λ (t : List ℕ). IsNext t (Refused refusal)) c.waiting.ensures c.in-Refused.ensures in
+    let found = subst (λ (t : List ℕ). IsNext t (Refused refusal)) c.waiting.ensures c.in-Refused.ensures.next in
     let sent = c.in-Err.ensures.sent in
     Breaks_refused g.H.Handler.replies _ _ _ c.args.requests _ input _ c.requests.requests refusal sent.0 _ c.requests.invariant.carries found.0
     (subst (λ (t : List ℕ). IsRefused t refusal) (append-nil input) (found.1 [])) sent.1 sent.2
@@ -45,7 +45,7 @@ pub returns-in-Err-answer_one-clause-err : goal.returns-in-Err-answer_one-clause
 returns-in-Err-answer_one-clause-err g c =
     let frame = c.in-Whole.frame in
     let input = c.requests.session.input.waiting in
-    let found = subst (λ (t : List ℕ). IsNext t (Whole frame)) c.waiting.ensures c.in-Whole.ensures in
+    let found = subst (λ (t : List ℕ). IsNext t (Whole frame)) c.waiting.ensures c.in-Whole.ensures.next in
     let told = subst (λ (t : List ℕ). (reply : ReplyView) × g.H.Handler.replies c.requests.handler (question_at t frame) reply c.answer_one.new.handler × ((n : ℕ) × (n < length (reply_bytes frame.close reply)) × Appends (g.W.Write.contents c.requests.writer) (g.W.Write.contents c.answer_one.new.writer) (take n (reply_bytes frame.close reply)))) c.waiting-waiting.ensures c.in-Err-answer_one.ensures.reply in
     Frame_breaks g.H.Handler.replies _ _ _ c.args.requests _ input _ c.requests.requests frame found.0 told.0 _ _ c.requests.invariant.carries found.1 told.1
     told.2.0 told.2.1 told.2.2
@@ -54,7 +54,7 @@ pub returns-then-frame-clause-ok : goal.returns-then-frame-clause-ok
 returns-then-frame-clause-ok g c =
     let frame = c.in-Whole.frame in
     let input = c.requests.session.input.waiting in
-    let found = subst (λ (t : List ℕ). IsNext t (Whole frame)) c.waiting.ensures c.in-Whole.ensures in
+    let found = subst (λ (t : List ℕ). IsNext t (Whole frame)) c.waiting.ensures c.in-Whole.ensures.next in
     let told = subst (λ (t : List ℕ). (reply : ReplyView) × g.H.Handler.replies c.requests.handler (question_at t frame) reply c.answer_one.new.handler × Appends (g.W.Write.contents c.requests.writer) (g.W.Write.contents c.answer_one.new.writer) (reply_bytes frame.close reply)) c.waiting-waiting.ensures c.in-Ok-answer_one.ensures.reply in (
       asked found.0,
       Frame_ends g.H.Handler.replies _ _ _ c.args.requests _ input _ c.requests.requests frame found.0 told.0 _ _ c.requests.invariant.carries found.1 told.1
@@ -67,10 +67,11 @@ pub requests-preserved : goal.requests-preserved
 requests-preserved g c =
     let frame = c.in-Whole.frame in
     let input = c.requests.session.input.waiting in
-    let found = subst (λ (t : List ℕ). IsNext t (Whole frame)) c.waiting.ensures c.in-Whole.ensures in
+    let found = subst (λ (t : List ℕ). IsNext t (Whole frame)) c.waiting.ensures c.in-Whole.ensures.next in
     let told = subst (λ (t : List ℕ). (reply : ReplyView) × g.H.Handler.replies c.requests.handler (question_at t frame) reply c.answer_one.new.handler × Appends (g.W.Write.contents c.requests.writer) (g.W.Write.contents c.answer_one.new.writer) (reply_bytes frame.close reply)) c.waiting-waiting.ensures c.in-Ok-answer_one.ensures.reply in
     record {
       room = c.in-Ok-answer_one.ensures.room;
+      known = (omega arith, refl);
       carries =
           subst (λ (t : List ℕ). Carries g.H.Handler.replies c.args.handler.now c.args.session.now.input.waiting (g.W.Write.contents c.args.writer.now) c.args.requests c.answer_one.new.handler t (g.W.Write.contents c.answer_one.new.writer) c.saturating_add-requests.result)
           (sym c.drop_front.ensures)

@@ -1,10 +1,14 @@
-use Rattle.std.proofs.Common.{arith}
-use Rattle.http_serve.proofs.ServeLemmas.{SoFar_start, SoFar_stops, SoFar_failed_read, SoFar_goes, SoFar_told, SoFar_broken, SoFar_done, SoFar_failed}
+use Rattle.std.proofs.Common.{arith, refl, sym, subst, List, ℕ}
+use Rattle.http_serve.specs.Search.{IsKnown}
+use Rattle.http_serve.proofs.LineLemmas.{IsKnown-append}
+use Rattle.http_serve.proofs.ServeLemmas.{SoFar_start, SoFar_stops, SoFar_failed_read, SoFar_goes, SoFar_told, SoFar_broken, SoFar_done, SoFar_failed, if_ok, if_err, turns_start, turns_more, turns_over, other_turns, finished_turns}
 use Rattle.http_serve.proofs.connection.serve_turns.Goals as goal
 
 pub loop-turn-init : goal.loop-turn-init
 loop-turn-init g c = record {
   room = omega (arith, c.in-Ok-with_capacity.ensures.exact);
+  known = (omega arith, refl);
+  taken = turns_start (g.R.Read.remaining c.args.reader.now);
   so_far = SoFar_start g.H.Handler.replies _ _ _ c.in-Ok.input.waiting c.in-Ok.ensures;
 }
 
@@ -15,15 +19,15 @@ returns-in-Ok-Ended-clause-served g c =
     SoFar_told g.H.Handler.replies _ _ _ _ _ _ c.loop-turn.requests _ _ c.loop-turn.invariant.so_far came.0 _ came.1 _ _ _ came.2
     c.in-Ok-Ended.served pause.0 pause.1 pause.2 pause.3
 
-pub returns-in-Err-answer_whole-clause-fault : goal.returns-in-Err-answer_whole-clause-fault
-returns-in-Err-answer_whole-clause-fault g c =
-    let came = c.in-Ok-read_from.ensures.ok in
-    SoFar_broken g.H.Handler.replies _ _ _ _ _ _ c.loop-turn.requests _ _ c.loop-turn.invariant.so_far came.0 _ came.1 _ _ _ came.2
-    c.in-Err-answer_whole.fault c.in-Err-answer_whole.ensures.err
-
 pub returns-in-Err-clause-fault : goal.returns-in-Err-clause-fault
 returns-in-Err-clause-fault g c =
-    SoFar_failed_read g.H.Handler.replies _ _ _ _ _ _ c.loop-turn.requests _ _ c.loop-turn.invariant.so_far _ c.in-Err.ensures.err.0
+    let came = c.in-Ok-read_from.ensures.ok in
+    SoFar_broken g.H.Handler.replies _ _ _ _ _ _ c.loop-turn.requests _ _ c.loop-turn.invariant.so_far came.0 _ came.1 _ _ _ came.2
+    c.in-Err.fault c.in-Err.ensures.err
+
+pub returns-in_default-read_from-clause-fault : goal.returns-in_default-read_from-clause-fault
+returns-in_default-read_from-clause-fault g c =
+    SoFar_failed_read g.H.Handler.replies _ _ _ _ _ _ c.loop-turn.requests _ _ c.loop-turn.invariant.so_far _ c.in_default-read_from.ensures.err.0
 
 pub returns-clause-served : goal.returns-clause-served
 returns-clause-served g c = SoFar_stops g.H.Handler.replies _ _ _ _ _ _ c.loop-turn.requests _ _ c.loop-turn.invariant.so_far
@@ -34,19 +38,42 @@ loop-turn-preserved g c =
     let pause = rw c.in-Ok-More.field-0-is at c.in-Ok-More.ensures.ok in
     record {
       room = c.in-Ok-More.ensures.room;
+      known = c.in-Ok-More.ensures.known;
+      taken =
+          turns_more (g.R.Read.remaining c.args.reader.now) _ _ c.loop-turn._turn c.in-Ok-read_from.count came.0 c.loop-turn.invariant.taken
+          came.1 came.3 c.if-count-eq0.false;
       so_far =
           SoFar_goes g.H.Handler.replies _ _ _ _ _ _ c.loop-turn.requests _ _ c.loop-turn.invariant.so_far came.0 _ came.1 _ _ _ came.2
           _ c.in-Ok-More.answered c.in-Ok-More.refusal pause.0 pause.1 pause.2;
     }
 
-pub returns-in-Ok-finish-clause-served : goal.returns-in-Ok-finish-clause-served
-returns-in-Ok-finish-clause-served g c =
-    let came = c.in-Ok-eq0.ensures.ok in
-    SoFar_done g.H.Handler.replies _ _ _ _ _ _ c.loop-turn.requests _ _ c.loop-turn.invariant.so_far _ came.0 _ _ _ came.1 came.2 came.3
-    c.in-Ok-eq0.field-0-test came.4 c.in-Ok-finish.served c.in-Ok-finish.ensures.ends
+pub returns-then-count-eq0-clause-served : goal.returns-then-count-eq0-clause-served
+returns-then-count-eq0-clause-served g c =
+    let came = c.in-Ok-read_from.ensures.ok in
+    if_ok c.finish.result _ _
+    (SoFar_done g.H.Handler.replies _ _ _ _ _ _ c.loop-turn.requests _ _ c.loop-turn.invariant.so_far _ came.0 _ _ _ came.1 came.2 came.3
+    c.if-count-eq0.true came.4) c.finish.ensures.ends
 
-pub returns-in-Err-finish-clause-fault : goal.returns-in-Err-finish-clause-fault
-returns-in-Err-finish-clause-fault g c =
-    let came = c.in-Ok-eq0.ensures.ok in
-    SoFar_failed g.H.Handler.replies _ _ _ _ _ _ c.loop-turn.requests _ _ c.loop-turn.invariant.so_far _ came.0 _ _ _ came.1 came.2 came.3
-    c.in-Ok-eq0.field-0-test c.in-Err-finish.fault c.in-Err-finish.ensures.fault
+pub returns-then-count-eq0-clause-fault : goal.returns-then-count-eq0-clause-fault
+returns-then-count-eq0-clause-fault g c =
+    let came = c.in-Ok-read_from.ensures.ok in
+    if_err c.finish.result _ _
+    (SoFar_failed g.H.Handler.replies _ _ _ _ _ _ c.loop-turn.requests _ _ c.loop-turn.invariant.so_far _ came.0 _ _ _ came.1 came.2 came.3
+    c.if-count-eq0.true) c.finish.ensures.fault
+
+pub returns-then-count-eq0-clause-turns : goal.returns-then-count-eq0-clause-turns
+returns-then-count-eq0-clause-turns g c =
+    if_ok c.finish.result _ _ (λ served. finished_turns _ c.args.turns _ _ _ _ served _) c.finish.ensures.ends
+
+pub returns-clause-turns : goal.returns-clause-turns
+returns-clause-turns g c = turns_over _ _ c.loop-turn._turn c.args.turns c.loop-turn.invariant.taken c.loop-turn-test.false _
+
+pub returns-in-Ok-Ended-clause-turns : goal.returns-in-Ok-Ended-clause-turns
+returns-in-Ok-Ended-clause-turns g c =
+    let pause = rw c.in-Ok-Ended.field-0-is at c.in-Ok-Ended.ensures.ok in
+    other_turns _ c.args.turns c.in-Ok-Ended.served.end pause.3
+
+pub answer_whole-requires-clause-known : goal.answer_whole-requires-clause-known
+answer_whole-requires-clause-known g c =
+    let came = c.in-Ok-read_from.ensures.ok in
+    subst (λ (t : List ℕ). IsKnown t c.loop-turn.session.search) (sym came.2) (IsKnown-append _ came.0 c.loop-turn.session.search c.loop-turn.invariant.known)

@@ -1,6 +1,6 @@
 use Rattle.std.proofs.Common.{refl, inl, ◌<◌, arith, length}
 use Rattle.httparse.specs.Grammar.{print_request}
-use Rattle.http_serve.proofs.HeadLemmas.{some_bytes, no_bytes, long_no_head, full_no_head, empty_missing, partial_missing, overflows_missing, overflows_no_head}
+use Rattle.http_serve.proofs.HeadLemmas.{some_bytes, no_bytes, long_no_head, full_no_head, empty_missing}
 use Rattle.http_serve.proofs.frames.find_request.Goals as goal
 
 pub returns-then-is_empty : goal.returns-then-is_empty

@@ -1,4 +1,4 @@
-use Rattle.std.proofs.Common.{ap, ◌∙◌, sym, arith, take, drop, length, length-drop}
+use Rattle.std.proofs.Common.{ap, ◌∙◌, arith, take, length, length-drop}
 use Rattle.std.proofs.lemmas.List.{take_rest}
 use Rattle.http_serve.proofs.InputLemmas.{written_behind}
 use Rattle.http_serve.proofs.inputs.read_behind.Goals as goal

@@ -1,5 +1,4 @@
-use Rattle.std.proofs.Common.{sym, ap, ◌∙◌, List, ℕ, [], Option, unwrap_or, length, ◌≤◌, subst, arith}
-use Rattle.http.specs.StatusCode.{reason_phrase}
+use Rattle.std.proofs.Common.{ap, List, ℕ, [], Option, unwrap_or, length, arith}
 use Rattle.http_serve.specs.Reply.{phrase_of}
 use Rattle.http_serve.proofs.ReplyLemmas.{reason_short}
 use Rattle.http_serve.proofs.replies.phrase_of.Goals as goal

@@ -11,7 +11,7 @@ returns-in-Ok-clause-ok g c =
       came.1,
       read_more i.buffer.items c.as_mut_slice.result.now c.read_behind.new.buffer i.buffer.len i.start i.end c.read_behind.auto.buffer
           c.as_mut_slice.ensures.value c.as_mut_slice.ensures.len c.self.invariant.0 c.self.invariant.1 came.0 c.in-Ok.count came.2
-      ∙ ap (λ (v : InputView). v.waiting ++ came.0) c.self.view_is ∙ ap (λ (t : List ℕ). t ++ came.0) c.make_room.ensures.same,
+          ∙ ap (λ (v : InputView). v.waiting ++ came.0) c.self.view_is ∙ ap (λ (t : List ℕ). t ++ came.0) c.make_room.ensures.same,
       came.3,
       came.4,
     )
@@ -23,5 +23,5 @@ returns-in-Err-clause-err g c =
       none.0,
       read_none i.buffer.items c.as_mut_slice.result.now c.read_behind.new.buffer i.buffer.len i.start i.end c.read_behind.auto.buffer
           c.as_mut_slice.ensures.value c.as_mut_slice.ensures.len c.self.invariant.0 c.self.invariant.1 none.1
-      ∙ ap (λ (v : InputView). v.waiting) c.self.view_is ∙ c.make_room.ensures.same,
+          ∙ ap (λ (v : InputView). v.waiting) c.self.view_is ∙ c.make_room.ensures.same,
     )

@@ -1,0 +1,28 @@
+-- A loop that reads so many.
+use Rattle.std.proofs.Common.{◌≡◌, ℕ, suc, ◌+◌, ◌-◌, ◌<◌, ◌≤◌, List, [], ◌∷◌, ◌++◌, Ok, Err, sym, ap, ◌∙◌, arith}
+use Rattle.edit_codec.specs.declared.fault.TextFault.{TextFault}
+use Rattle.edit_codec.specs.Reading.{Part, then_read, many_at}
+
+many_at-suc : {A : Type 0} (read : List A → List ℕ → Part A) (n more : ℕ) (done : List A) (bytes : List ℕ) → n ≡ suc more → many_at read n done bytes ≡ then_read (read done bytes) (λ x rest. many_at read more (done ++ x ∷ []) rest)
+unfolding many_at
+many_at-suc read n more done bytes e = ap (λ k. many_at read k done bytes) e
+
+-- one was read
+pub many_step : {A : Type 0} (read : List A → List ℕ → Part A) (count i : ℕ) (done : List A) (bytes : List ℕ) (x : A) (rest : List ℕ) (whole : Part (List A))
+    → i < count → many_at read (count - i) done bytes ≡ whole → read done bytes ≡ Ok (x, rest) → many_at read (count - (i + 1)) (done ++ x ∷ []) rest ≡ whole
+many_step read count i done bytes x rest whole h so_far one =
+    sym (many_at-suc read (count - i) (count - (i + 1)) done bytes (omega arith) ∙ ap (λ p. then_read p (λ y behind. many_at read (count - (i + 1)) (done ++ y ∷ []) behind)) one) ∙ so_far
+
+-- one could not be read
+pub many_stop : {A : Type 0} (read : List A → List ℕ → Part A) (count i : ℕ) (done : List A) (bytes : List ℕ) (fault : TextFault) (whole : Part (List A))
+    → i < count → many_at read (count - i) done bytes ≡ whole → read done bytes ≡ Err fault → whole ≡ Err fault
+many_stop read count i done bytes fault whole h so_far one =
+    sym so_far ∙ many_at-suc read (count - i) (count - (i + 1)) done bytes (omega arith) ∙ ap (λ p. then_read p (λ y behind. many_at read (count - (i + 1)) (done ++ y ∷ []) behind)) one
+
+-- all were read
+pub many_done : {A : Type 0} (read : List A → List ℕ → Part A) (count i : ℕ) (done : List A) (bytes : List ℕ) (whole : Part (List A))
+    → count ≤ i → many_at read (count - i) done bytes ≡ whole → whole ≡ Ok (done, bytes)
+unfolding many_at
+many_done read count i done bytes whole h so_far =
+    let none : count - i ≡ 0 = omega arith in
+    sym so_far ∙ ap (λ k. many_at read k done bytes) none

@@ -1,0 +1,7 @@
+use Rattle.std.proofs.Common.{◌≡◌, ◌-◌, [], map}
+use Rattle.edit_codec.specs.Reading.{many_at, line_at}
+use Rattle.edit_codec.proofs.shapes.read_each_line.Given as goal
+
+-- those so far, and those that are left
+abbrev pub invariant-loop : goal.invariant-loop
+invariant-loop l = many_at (λ _. line_at l.least) (l.count - l.counter) (map (λ l. l.items) l.lines.items) l.rest ≡ many_at (λ _. line_at l.least) l.count [] l.bytes

@@ -1,0 +1,31 @@
+ghost use Rattle.edit_codec.specs.declared.fault.TextFault.TheVariants.{Memory};
+ghost use Rattle.std.specs.Prelude.{◌≡◌};
+
+use std::alloc::{AllocError, AllocFailed};
+
+/// Why no text of an edit stands in front of some bytes.
+#[derive(Clone, Copy, Debug, PartialEq, Eq)]
+pub enum TextFault {
+    /// Fewer than 32,768 bytes, which end before the text does, and each field that is whole among them is allowed.
+    Cut,
+    /// Bytes that begin no text of an edit.
+    Bad,
+    /// A growth was refused.
+    Memory,
+}
+
+impl<T: Drop> From<AllocFailed<T>> for TextFault {
+    ghost from_gives = { λ _ e. e ≡ Memory };
+
+    fn from(_e: AllocFailed<T>) -> TextFault {
+        TextFault::Memory
+    }
+}
+
+impl From<AllocError> for TextFault {
+    ghost from_gives = { λ _ e. e ≡ Memory };
+
+    fn from(_e: AllocError) -> TextFault {
+        TextFault::Memory
+    }
+}

@@ -1,0 +1,7 @@
+mod ListLemmas
+mod OutlineLemmas
+mod TagLemmas
+mod WriteLemmas
+pub mod GeometryLaws
+pub mod TagLaws
+pub mod FaultLaws

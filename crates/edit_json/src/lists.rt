@@ -1,0 +1,123 @@
+//! The lists of a geometry.
+
+ghost use Rattle.std.specs.Prelude.{◌≡◌, ◌^◌, map};
+ghost use Rattle.serde_json.specs.View.{view, items_view};
+ghost use Rattle.edit_json.specs.Lists.{Gives, below, point_at, list_of, count_fits, points_at, lines_at, geometry_at};
+ghost use Rattle.edit_json.specs.Outline.{shape_data};
+ghost use Rattle.edit_text.specs.Data.{geometry_data};
+
+use crate::outline::Shape;
+use edit_text::{EditFault, Geometry, World};
+use serde_json::Value;
+use std::alloc::Global;
+
+/// The most that a list of a geometry may have.
+const MOST: usize = 65_535;
+
+/// A whole number of 0 to 2^32 - 1.
+#[tactic(auto, unfolding(crate::specs::Lists::below))]
+fn coordinate(value: &Value) -> Option<u32>
+    ensures { result ≡ below (2 ^ 32) (view value.now) }
+{
+    u32::try_from(value.as_u64()?).ok()
+}
+
+/// The point `[x,y]`.
+#[tactic(auto, unfolding(crate::specs::Lists::point_at, crate::specs::Lists::pair_at))]
+fn point(value: &Value) -> Option<World>
+    ensures { result ≡ point_at (view value.now) }
+{
+    match value.as_array()?.as_slice() {
+        [x, y] => Some(World {
+            x: coordinate(x)?,
+            y: coordinate(y)?,
+        }),
+        _ => None,
+    }
+}
+
+/// Whether a list may have so many.
+fn is_count(count: usize, least: usize) -> bool
+    ensures { result ≡ count_fits least count }
+{
+    least <= count && count <= MOST
+}
+
+/// At least so many points.
+#[tactic(auto, unfolding(crate::specs::Lists::list_of, crate::specs::Lists::each))]
+fn read_points(alloc: Global, list: &[Value], least: usize) -> Result<Vec<World>, EditFault>
+    ensures { Gives EditFault.Geometry (λ v. v.items) result
+        (list_of least point_at (items_view list.now)) }
+{
+    if !is_count(list.len(), least) {
+        return Err(EditFault::Geometry);
+    }
+    let mut points = Vec::with_capacity(alloc, list.len())?;
+    for value in list {
+        points.push(point(value).ok_or(EditFault::Geometry)?)?;
+    }
+    Ok(points)
+}
+
+/// A line or a ring of at least so many points.
+#[tactic(auto, unfolding(crate::specs::Lists::points_at))]
+fn line(alloc: Global, value: &Value, least: usize) -> Result<Vec<World>, EditFault>
+    ensures { Gives EditFault.Geometry (λ v. v.items) result (points_at least (view value.now)) }
+{
+    let list = value.as_array().ok_or(EditFault::Geometry)?;
+    read_points(alloc, list, least)
+}
+
+/// Lines or rings, each of at least so many points.
+#[tactic(auto, unfolding(crate::specs::Lists::list_of, crate::specs::Lists::each))]
+fn read_lines(alloc: Global, list: &[Value], least: usize) -> Result<Vec<Vec<World>>, EditFault>
+    ensures { Gives EditFault.Geometry (λ v. map (λ l. l.items) v.items) result
+        (list_of 1 (points_at least) (items_view list.now)) }
+{
+    if !is_count(list.len(), 1) {
+        return Err(EditFault::Geometry);
+    }
+    let mut lines = Vec::with_capacity(alloc, list.len())?;
+    for value in list {
+        lines.push(line(alloc, value, least)?)?;
+    }
+    Ok(lines)
+}
+
+/// A polygon: its rings.
+#[tactic(auto, unfolding(crate::specs::Lists::lines_at))]
+fn polygon(alloc: Global, value: &Value) -> Result<Vec<Vec<World>>, EditFault>
+    ensures { Gives EditFault.Geometry (λ v. map (λ l. l.items) v.items) result
+        (lines_at 3 (view value.now)) }
+{
+    let list = value.as_array().ok_or(EditFault::Geometry)?;
+    read_lines(alloc, list, 3)
+}
+
+/// Polygons.
+#[tactic(auto, unfolding(crate::specs::Lists::list_of, crate::specs::Lists::each))]
+fn read_polygons(alloc: Global, list: &[Value]) -> Result<Vec<Vec<Vec<World>>>, EditFault>
+    ensures { Gives EditFault.Geometry (λ v. map (λ p. map (λ r. r.items) p.items) v.items) result
+        (list_of 1 (lines_at 3) (items_view list.now)) }
+{
+    if !is_count(list.len(), 1) {
+        return Err(EditFault::Geometry);
+    }
+    let mut polygons = Vec::with_capacity(alloc, list.len())?;
+    for value in list {
+        polygons.push(polygon(alloc, value)?)?;
+    }
+    Ok(polygons)
+}
+
+/// The geometry of a list.
+#[tactic(auto, unfolding(crate::specs::Lists::geometry_at))]
+pub(crate) fn read_geometry(alloc: Global, shape: Shape<'_>) -> Result<Geometry, EditFault>
+    ensures { Gives EditFault.Geometry geometry_data result (geometry_at (shape_data shape.entry)) }
+{
+    match shape {
+        Shape::Points(list) => Ok(Geometry::Points(read_points(alloc, list, 1)?)),
+        Shape::Lines(list) => Ok(Geometry::Lines(read_lines(alloc, list, 2)?)),
+        Shape::Polygons(list) => Ok(Geometry::Polygons(read_polygons(alloc, list)?)),
+    }
+}

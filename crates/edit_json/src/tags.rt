@@ -1,0 +1,104 @@
+//! The tags of a feature.
+
+ghost use Rattle.std.specs.Prelude.{◌≡◌, ◌≤◌, ◌↔◌, length, map, All, IsTrue, IfOk};
+ghost use Rattle.std.specs.Cmp.Lexicographic.{slice_cmp};
+ghost use Rattle.std.specs.List.Sorted.{IsStrictlySortedBy};
+ghost use Rattle.std.specs.Ordering.{nat_cmp};
+ghost use Rattle.serde_json.specs.View.{view, members_view};
+ghost use Rattle.edit_text.specs.Data.{value_data, tag_data};
+ghost use Rattle.edit_text.specs.Limits.{IsName};
+ghost use Rattle.edit_json.specs.Faults.{names_of};
+ghost use Rattle.edit_json.specs.Lists.{Gives};
+ghost use Rattle.edit_json.specs.Tags.{value_at, tag_at, tags_at};
+
+use edit_text::{EditFault, EditValue, Tag};
+use serde_json::Value;
+use serde_json::value::Map;
+use std::alloc::Global;
+
+/// The most tags of a feature.
+const MOST_TAGS: usize = 64;
+
+/// The most bytes of a name.
+const LONGEST_NAME: usize = 64;
+
+/// The most bytes of a tag's text.
+const LONGEST_TEXT: usize = 1024;
+
+/// Whether a layer or a tag may have this name.
+pub(crate) fn is_name(name: &str) -> bool
+    ensures { IsTrue result ↔ IsName name.now }
+{
+    !name.is_empty() && name.len() <= LONGEST_NAME
+}
+
+/// Whether each member has a key for a name.
+fn has_keys(tags: &Map<String, Value>) -> bool
+    ensures { IsTrue result ↔ All IsName (names_of (members_view tags.now.entries)) }
+{
+    for key in tags.keys() {
+        if !is_name(key.as_str()) {
+            return false;
+        }
+    }
+    true
+}
+
+/// Whether the tags are few, and their keys of 1 to 64 bytes.
+pub(crate) fn are_tags(tags: &Map<String, Value>) -> bool
+    ensures fits { IsTrue result ↔ ((length (names_of (members_view tags.now.entries)) ≤ 64)
+        × All IsName (names_of (members_view tags.now.entries))) }
+    // An object's names ascend.
+    ensures ascending { IsStrictlySortedBy (slice_cmp nat_cmp)
+        (names_of (members_view tags.now.entries)) }
+{
+    tags.len() <= MOST_TAGS && has_keys(tags)
+}
+
+/// The value of a tag.
+#[tactic(auto, unfolding(crate::specs::Tags::value_at))]
+fn read_value(alloc: Global, value: &Value) -> Result<EditValue, EditFault>
+    ensures { Gives EditFault.Value value_data result (value_at (view value.now)) }
+{
+    if let Some(text) = value.as_str() {
+        if text.len() > LONGEST_TEXT {
+            return Err(EditFault::Value);
+        }
+        return Ok(EditValue::Text(String::from_str(alloc, text)?));
+    }
+    if let Some(truth) = value.as_bool() {
+        return Ok(EditValue::Truth(truth));
+    }
+    if let Some(number) = value.as_u64() {
+        return Ok(EditValue::Natural(number));
+    }
+    match value.as_i64() {
+        Some(number) if number < 0 => Ok(EditValue::Negative(number)),
+        _ => Err(EditFault::Value),
+    }
+}
+
+/// The tag of a member.
+#[tactic(auto, unfolding(crate::specs::Tags::tag_at))]
+fn read_tag(alloc: Global, key: &str, value: &Value) -> Result<Tag, EditFault>
+    ensures { Gives EditFault.Value tag_data result (tag_at key.now (view value.now)) }
+{
+    let value = read_value(alloc, value)?;
+    Ok(Tag {
+        key: String::from_str(alloc, key)?,
+        value,
+    })
+}
+
+/// The tags, in the order of their keys.
+#[tactic(auto, unfolding(crate::specs::Tags::tags_at))]
+pub(crate) fn read_tags(alloc: Global, tags: &Map<String, Value>) -> Result<Vec<Tag>, EditFault>
+    ensures { Gives EditFault.Value (λ v. map tag_data v.items) result
+        (tags_at (members_view tags.now.entries)) }
+{
+    let mut read = Vec::with_capacity(alloc, tags.len())?;
+    for (key, value) in tags {
+        read.push(read_tag(alloc, key.as_str(), value)?)?;
+    }
+    Ok(read)
+}

@@ -1,0 +1,7 @@
+mod Entries
+mod Listed
+mod Maps
+mod Numbers
+mod Places
+mod Shown
+mod Unique

@@ -1,0 +1,57 @@
+-- What a tile shows of a feature that keeps the limits can be written.
+use Rattle.std.proofs.Common.{◌≡◌, ℕ, ◌+◌, ◌<◌, Bool, true, false, List, [], ◌∷◌, ◌++◌, length, map, take, get_or, Option, Some, None, All, refl, sym, ap, arith, if◌then◌else◌}
+use Rattle.std.specs.Option.{option_map}
+use Rattle.std.specs.Str.{bytes_eq}
+use Rattle.std.proofs.lemmas.List.{length-map, map-append, take_more}
+use Rattle.std.proofs.lemmas.List.Elements.{All-map, All-weaker, All-push, filter_map-append}
+use Rattle.edit_text.specs.Data.{FeatureData, TagData, ValueData, text_value, natural_value, negative_value, truth_value}
+use Rattle.edit_text.specs.Limits.{IsAllowed, ValueFits}
+use Rattle.geometry_commands.specs.Shapes.{ShapeView}
+use Rattle.geometry_commands.specs.Encodable.{CanSpell}
+use Rattle.mvt_layer.specs.Tile.{FeatureView}
+use Rattle.mvt_write.specs.CanWrite.{CanWriteValue}
+use Rattle.tile_cutter.specs.Cut.{feature_cut, geometry_cut, shown_with, shown_tag, shown_value}
+use Rattle.feature_store.specs.declared.entry.Entry.{Entry}
+use Rattle.feature_store.specs.Gathered.{IsWritable, more_for}
+use Rattle.feature_store.specs.Inside.{entry_data, entries_data}
+use Rattle.feature_store.specs.Layers.{cut_for, cuts_of}
+
+tags_of_shape : (tags : List TagData) (b : Bool) (o : Option ShapeView) (v : FeatureView) → (if b then option_map (shown_with tags) o else None) ≡ Some v → v.tags ≡ map shown_tag tags
+tags_of_shape tags false o v h = cc
+tags_of_shape tags true None v h = cc
+tags_of_shape tags true (Some s) v h = let same : shown_with tags s ≡ v = cc in sym (ap (λ (f : FeatureView). f.tags) same)
+
+-- the tags of what is shown are the feature's
+pub tags_shown : (f : FeatureData) (z x y : ℕ) (v : FeatureView) → feature_cut f z x y ≡ Some v → v.tags ≡ map shown_tag f.tags
+unfolding feature_cut
+tags_shown f z x y v h = tags_of_shape f.tags _ (geometry_cut z x y f.geometry) v h
+
+value_writable : (v : ValueData) → ValueFits v → CanWriteValue (shown_value v)
+value_writable (text_value t) h = tt
+value_writable (natural_value n) h = tt
+value_writable (negative_value z) h = h
+value_writable (truth_value b) h = tt
+
+keys_shown : (tags : List TagData) → map (λ t. t.0) (map shown_tag tags) ≡ map (λ t. t.key) tags
+keys_shown [] = refl
+keys_shown (t ∷ tags) = ap (λ ks. t.key ∷ ks) (keys_shown tags)
+
+-- with its number, it can be written
+pub writable : (id : ℕ) (f : FeatureData) (z x y : ℕ) (v : FeatureView) → IsAllowed id f → feature_cut f z x y ≡ Some v → CanSpell v.shape → IsWritable (record v { id = Some id })
+writable id f z x y v allowed cut spelled = record {
+  can_write = record {
+    id = refl;
+    values = rw (tags_shown f z x y v cut) (All-map (λ t. CanWriteValue t.1) shown_tag f.tags (All-weaker (λ t. ValueFits t.value) (λ t. CanWriteValue (shown_value t.value)) (λ t. value_writable t.value) f.tags allowed.values));
+    keys = rw (tags_shown f z x y v cut, keys_shown f.tags) allowed.tags.ascending;
+    shape = spelled;
+  };
+  few = rw (tags_shown f z x y v cut) (omega (arith, length-map f.tags shown_tag, allowed.tags.few));
+}
+
+-- one feature more that can be written
+pub more_writable : (fs : List FeatureView) (name layer : List ℕ) (f : FeatureView) → All IsWritable fs → IsWritable f → All IsWritable (more_for fs name layer f)
+more_writable fs name layer f all one = elim (bytes_eq name layer) as (λ b. All IsWritable (if b then fs ++ f ∷ [] else fs)) [ true ↦ All-push IsWritable fs f all one | false ↦ all ]
+
+-- what a tile shows of a map and one entry more
+pub cuts_of-push : (es : List Entry) (i : ℕ) (e : Entry) (name : List ℕ) (z x y : ℕ) → i < length es → e ≡ get_or es i e → cuts_of (entries_data (take (i + 1) es)) name z x y ≡ cuts_of (entries_data (take i es)) name z x y ++ cuts_of (entry_data e ∷ []) name z x y
+cuts_of-push es i e name z x y lt is = rw (take_more es i e lt, ← is, map-append) (filter_map-append (cut_for name z x y) (entries_data (take i es)) (entry_data e ∷ []))

@@ -1,0 +1,39 @@
+-- The layers of a tile.
+use Rattle.std.specs.Prelude.{◌≡◌, ℕ, ◌<◌, List, length, map, All, Contains, Option, Some, None, IsSome, option_map, filter_map, if◌then◌else◌}
+use Rattle.std.specs.Ordering.{nat_cmp}
+use Rattle.std.specs.Str.{bytes_eq}
+use Rattle.std.specs.Cmp.Lexicographic.{slice_cmp}
+use Rattle.std.specs.List.Sorted.{IsStrictlySortedBy}
+use Rattle.edit_text.specs.Data.{FeatureData}
+use Rattle.mvt_layer.specs.Tile.{FeatureView, LayerView}
+use Rattle.tile_cutter.specs.Cut.{feature_cut}
+use Rattle.feature_store.specs.Store.{FeatureMap}
+
+-- what the tile shows of a feature, with its number as id
+abbrev pub numbered_cut : ℕ → ℕ → ℕ → ℕ × FeatureData → Option FeatureView
+numbered_cut z x y e = option_map (λ (f : FeatureView). record f { id = Some e.0 }) (feature_cut e.1 z x y)
+
+-- the same, where the feature is of the layer with this name
+abbrev pub cut_for : List ℕ → ℕ → ℕ → ℕ → ℕ × FeatureData → Option FeatureView
+cut_for name z x y e = if bytes_eq e.1.layer name then numbered_cut z x y e else None
+
+-- what the tile shows of the features of this layer, in the order of the map
+abbrev pub cuts_of : FeatureMap → List ℕ → ℕ → ℕ → ℕ → List FeatureView
+cuts_of m name z x y = filter_map (cut_for name z x y) m
+
+-- the names of layers
+abbrev pub names_of : List LayerView → List (List ℕ)
+names_of ls = map (λ l. l.name) ls
+
+-- a layer of which the tile shows something: all that it shows of it
+pub record IsLayer (m : FeatureMap) (z x y : ℕ) (l : LayerView) : Type 0 where
+  pub version : l.version ≡ 2
+  pub extent : l.extent ≡ 4096
+  pub some : 0 < length l.features
+  pub cuts : l.features ≡ cuts_of m l.name z x y
+
+-- the layers of a tile of the map: names ascend byte by byte, and a feature of which the tile shows something has its layer
+pub record AreLayers (m : FeatureMap) (z x y : ℕ) (ls : List LayerView) : Type 0 where
+  pub ascending : IsStrictlySortedBy (slice_cmp nat_cmp) (names_of ls)
+  pub layers : All (IsLayer m z x y) ls
+  pub every : All (λ e. IsSome (feature_cut e.1 z x y) → Contains (names_of ls) e.1.layer) m

@@ -1,0 +1,5 @@
+pub mod Gathered
+pub mod Inside
+pub mod Layers
+pub mod Places
+pub mod Store

@@ -1,0 +1,18 @@
+//! The map in memory: its features by number, and the layers of a tile.
+#![tactic(auto)]
+
+mod copies;
+mod entry;
+mod gathered;
+mod laws;
+mod layers;
+mod limit;
+mod search;
+mod store;
+
+pub use laws::one_list_law;
+pub use limit::MOST_FEATURES;
+pub use store::Store;
+
+#[cfg(test)]
+mod tests;

@@ -1,0 +1,142 @@
+ghost use Rattle.std.specs.Prelude.{◌≡◌, ℕ, [], ◌≤◌, ◌≢◌, ◌↔◌, length, Some, IsSome, None, IfOk, OnOk, OnErr, IsTrue, option_map};
+ghost use Rattle.edit_text.specs.Data.{feature_data};
+ghost use Rattle.edit_text.specs.Limits.{IsAllowed};
+ghost use Rattle.mvt_layer.specs.Tile.{layer_views};
+ghost use Rattle.mvt_write.specs.CanWrite.{CanWriteAll};
+ghost use Rattle.feature_store.specs.Layers.{AreLayers};
+ghost use Rattle.feature_store.specs.Store.{IsMap, HasRoom, feature_at, with_feature, without_feature};
+
+use crate::copies::copy_entries;
+use crate::entry::Entry;
+use crate::gathered::gather;
+use crate::layers::listed;
+use crate::limit::MOST_FEATURES;
+use crate::search::find;
+use edit_text::{Feature, Memory};
+use hilbert_id::TileAt;
+use mvt_layer::Layer;
+use std::alloc::{AllocError, Global};
+use std::marker::Model;
+
+/// A map from numbers to features that keep the limits of a feature.
+#[derive(Debug, Drop)]
+pub struct Store {
+    entries: Vec<Entry>,
+}
+
+impl Model for Store {
+    ghost use Rattle.feature_store.specs.Store.{StoreView};
+
+    ghost Value = { StoreView };
+
+    ghost use Rattle.feature_store.specs.Inside.{store_view, IsStore};
+
+    ghost view = { store_view };
+
+    ghost invariant = { IsStore };
+}
+
+impl Store {
+    /// The empty map.
+    pub fn new(alloc: Global) -> Store
+        ensures { result.features ≡ [] }
+    {
+        Store {
+            entries: Vec::new(alloc),
+        }
+    }
+
+    /// How many features there are.
+    pub fn len(&self) -> usize
+        ensures count { result ≡ length self.now.features }
+        ensures map { IsMap self.now.features }
+    {
+        self.entries.len()
+    }
+
+    pub fn is_empty(&self) -> bool
+        ensures { IsTrue result ↔ (self.now.features ≡ []) }
+    {
+        self.entries.is_empty()
+    }
+
+    /// The feature with this number, by a binary search.
+    pub fn get(&self, id: u64) -> Option<&Feature>
+        ensures { option_map (λ f. feature_data f.now) result ≡ feature_at self.now.features id }
+    {
+        match find(&self.entries, id) {
+            Ok(at) => Some(&self.entries[at].feature),
+            Err(_) => None,
+        }
+    }
+
+    /// Makes room for a feature of this number, so that `place` needs no memory. A store of `MOST_FEATURES` has room only
+    /// for the numbers that are there.
+    pub fn room(&mut self, id: u64) -> Result<(), Memory>
+        ensures map { self.new.features ≡ self.old.features }
+        ensures room { OnOk result (HasRoom self.new id) }
+        // It is refused only where room was missing, and nothing changes then.
+        ensures missing { OnErr result (¬ HasRoom self.old id) }
+        ensures unchanged { OnErr result (self.new ≡ self.old) }
+    {
+        if self.get(id).is_some() {
+            return Ok(());
+        }
+        if self.entries.len() >= MOST_FEATURES {
+            return Err(AllocError);
+        }
+        self.entries.reserve(1)
+    }
+
+    /// Gives the number this feature, whatever feature it had. It takes no memory.
+    pub fn place(&mut self, id: u64, feature: Feature)
+        requires allowed { IsAllowed id (feature_data feature) }
+        requires room { HasRoom self.old id }
+        ensures map { self.new.features ≡ with_feature self.old.features id (feature_data feature) }
+        ensures here { feature_at self.new.features id ≡ Some (feature_data feature) }
+        ensures others { (n : ℕ) → n ≢ id → feature_at self.new.features n ≡ feature_at self.old.features n }
+    {
+        match find(&self.entries, id) {
+            Ok(at) => self.entries[at] = Entry { id, feature },
+            Err(at) => self.entries.insert(at, Entry { id, feature }).unwrap(),
+        }
+    }
+
+    /// Takes the number's feature away, and says whether it had one. It takes no memory.
+    pub fn remove(&mut self, id: u64) -> bool
+        ensures found { IsTrue result ↔ IsSome (feature_at self.old.features id) }
+        ensures map { self.new.features ≡ without_feature self.old.features id }
+        ensures gone { feature_at self.new.features id ≡ None }
+        ensures others { (n : ℕ) → n ≢ id → feature_at self.new.features n ≡ feature_at self.old.features n }
+    {
+        match find(&self.entries, id) {
+            Ok(at) => {
+                let _entry = self.entries.remove(at);
+                true
+            }
+            Err(_) => false,
+        }
+    }
+
+    /// The layers of a tile: names ascend byte by byte, and the features of a layer by number, each with its number as id
+    /// (Mapbox Vector Tile 2.1, 4.1 and 4.2). A layer of which the tile shows nothing is left out.
+    ///
+    /// One pass over the features; the layers borrow names, keys and texts from them. The only error is want of memory.
+    pub fn layers(&self, alloc: Global, at: TileAt) -> Result<Vec<Layer<'_>>, Memory>
+        requires { at.z ≤ 16 }
+        ensures layers { IfOk result (λ v. AreLayers self.now.features at.z at.x at.y (layer_views v.items)) }
+        // They can be written as a tile.
+        ensures can_write { IfOk result (λ v. CanWriteAll (layer_views v.items)) }
+    {
+        let gathered = gather(alloc, &self.entries, at)?;
+        listed(alloc, gathered)
+    }
+
+    /// The same map once more. The only error is want of memory.
+    pub fn copy(&self) -> Result<Store, Memory>
+        ensures { IfOk result (λ s. s.features ≡ self.now.features) }
+    {
+        let entries = copy_entries(*self.entries.allocator(), &self.entries)?;
+        Ok(Store { entries })
+    }
+}

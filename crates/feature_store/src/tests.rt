@@ -1,0 +1,88 @@
+use super::*;
+use edit_text::{Feature, Geometry, World, check};
+use hilbert_id::TileAt;
+use mvt_layer::Layer;
+use std::alloc::{AllocError, Global};
+use std::process::Abort;
+use std::test::Fail;
+
+/// A point at the world's corner.
+fn corner(alloc: Global, layer: &str, minzoom: u8) -> Result<Feature, AllocError> {
+    Ok(Feature {
+        layer: String::from_str(alloc, layer)?,
+        minzoom,
+        maxzoom: 2,
+        geometry: Geometry::Points(vec![in alloc; World { x: 0, y: 0 }]?),
+        tags: Vec::new(alloc),
+    })
+}
+
+fn put(store: &mut Store, id: u64, feature: Feature) -> Result<(), Fail> {
+    check(id, &feature)?;
+    store.room(id)?;
+    store.place(id, feature);
+    Ok(())
+}
+
+/// A store of features with these numbers and layers.
+fn filled(alloc: Global, entries: &[(u64, &str)]) -> Result<Store, Fail> {
+    let mut store = Store::new(alloc);
+    for (id, layer) in entries {
+        put(&mut store, *id, corner(alloc, layer, 0)?)?;
+    }
+    Ok(store)
+}
+
+fn layer_at(store: &Store, id: u64) -> Option<&str> {
+    store.get(id).map(|feature| feature.layer.as_str())
+}
+
+#[test]
+fn keeps_features_by_number(rt: HostRuntime) -> Result<(), Fail> {
+    let mut store = filled(rt.alloc(), &[(7, "b"), (3, "a"), (9, "a"), (3, "c")])?;
+    assert_eq!(rt; store.len(), 3);
+    assert_eq!(rt; layer_at(&store, 3), Some("c"));
+    assert_eq!(rt; layer_at(&store, 7), Some("b"));
+    assert_eq!(rt; layer_at(&store, 8), None);
+    assert_eq!(rt; layer_at(&store, 9), Some("a"));
+
+    assert!(rt; store.remove(7));
+    assert!(rt; !store.remove(7));
+    assert_eq!(rt; store.len(), 2);
+    assert_eq!(rt; layer_at(&store, 7), None);
+    assert_eq!(rt; layer_at(&store, 9), Some("a"));
+
+    let copy = store.copy()?;
+    assert_eq!(rt; copy.len(), 2);
+    assert_eq!(rt; layer_at(&copy, 3), Some("c"));
+    assert_eq!(rt; layer_at(&copy, 9), Some("a"));
+    Ok(())
+}
+
+/// Asserts the name and the numbers of a layer.
+fn assert_layer(rt: &impl Abort, layer: &Layer<'_>, name: &str, ids: &[u64]) {
+    assert_eq!(rt; layer.name, name);
+    assert_eq!(rt; layer.version, 2);
+    assert_eq!(rt; layer.extent, 4096);
+    assert_eq!(rt; layer.features.len(), ids.len());
+    for (feature, id) in layer.features.iter().zip(ids) {
+        assert_eq!(rt; feature.id, Some(*id));
+    }
+}
+
+#[test]
+fn layers_stand_in_byte_order(rt: HostRuntime) -> Result<(), Fail> {
+    let alloc = rt.alloc();
+    let mut store = filled(alloc, &[(9, "b"), (7, "b"), (5, "a"), (8, "B")])?;
+    put(&mut store, 6, corner(alloc, "c", 1)?)?;
+    let at = TileAt::new(0, 0, 0).ok_or("a place")?;
+    let layers = store.layers(alloc, at)?;
+    assert_eq!(rt; layers.len(), 3);
+    assert_layer(&rt, &layers[0], "B", &[8]);
+    assert_layer(&rt, &layers[1], "a", &[5]);
+    assert_layer(&rt, &layers[2], "b", &[7, 9]);
+
+    let elsewhere = TileAt::new(1, 1, 1).ok_or("a place")?;
+    assert!(rt; store.layers(alloc, elsewhere)?.is_empty());
+    Ok(())
+}

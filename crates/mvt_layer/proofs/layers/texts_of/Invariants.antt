@@ -1,0 +1,7 @@
+use Rattle.std.proofs.Common.{◌≡◌, drop}
+use Rattle.mvt_layer.specs.Tile.{bytes_of}
+use Rattle.mvt_layer.specs.Reading.{folded, part_more, each_in, text_at}
+use Rattle.mvt_layer.proofs.layers.texts_of.Given as goal
+
+abbrev pub invariant-loop-part : goal.invariant-loop-part
+invariant-loop-part l = folded (part_more (text_at)) (bytes_of l.texts.items) (bytes_of (drop l.part-index l.raw)) ≡ each_in (text_at) (bytes_of l.raw)

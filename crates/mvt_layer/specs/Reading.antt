@@ -1,0 +1,267 @@
+-- Reading a tile, with the first fault that is met.
+use Rattle.std.specs.Prelude.{◌≡◌, ℕ, zero, suc, negsuc, ◌-◌, ◌/◌, ◌^◌, ◌==◌, ◌||◌, ◌&&◌, ◌%◌, not, nat_lt, Bool, true, false, if◌then◌else◌, List, [], ◌∷◌, ◌++◌, length, drop, slice_get, Option, Some, None, Result, Ok, Err}
+use Rattle.std.specs.Str.{is_utf8, bytes_eq}
+use Rattle.pb_wire.specs.Varint.{varint_at}
+use Rattle.pb_wire.specs.declared.fault.FaultKind.{FaultKind}
+use Rattle.pb_wire.specs.Message.{Value, varint_value, eight_bytes, some_bytes, four_bytes, Entry}
+use Rattle.pb_wire.specs.Items.{Item, items_of}
+use Rattle.geometry_commands.specs.declared.decoding.GeometryFault.{GeometryFault}
+use Rattle.geometry_commands.specs.declared.kinds.ShapeKind.{ShapeKind}
+use Rattle.geometry_commands.specs.declared.kinds.ShapeKind.TheVariants as kinds
+use Rattle.geometry_commands.specs.Shapes.{ShapeView}
+use Rattle.geometry_commands.specs.Decoding.{shape_at}
+use Rattle.mvt_layer.specs.declared.fault.TileFault.{TileFault}
+use Rattle.mvt_layer.specs.declared.fault.TileFault.TheVariants as faults
+use Rattle.mvt_layer.specs.Tile.{TagView, text, natural, negative, truth, float, double, Tagged, FeatureView, LayerView}
+
+abbrev pub Read : Type 0 → Type 0
+Read X = Result X TileFault
+
+infixl 10 ◌>>=◌
+abbrev pub ◌>>=◌ : {A B : Type 0} → Read A → (A → Read B) → Read B
+(Ok x) >>= f = f x
+(Err fault) >>= f = Err fault
+
+-- a function answers what reading gives, unless memory ran out
+abbrev pub Fails : {Y : Type 0} → TileFault → Read Y → Type 0
+Fails faults.Memory read = Unit {0}
+Fails faults.Wire read = read ≡ Err faults.Wire
+Fails faults.Kind read = read ≡ Err faults.Kind
+Fails faults.Range read = read ≡ Err faults.Range
+Fails faults.Utf8 read = read ≡ Err faults.Utf8
+Fails faults.Name read = read ≡ Err faults.Name
+Fails faults.Version read = read ≡ Err faults.Version
+Fails faults.Extent read = read ≡ Err faults.Extent
+Fails faults.LayerTwice read = read ≡ Err faults.LayerTwice
+Fails faults.Value read = read ≡ Err faults.Value
+Fails faults.Tag read = read ≡ Err faults.Tag
+Fails faults.Geometry read = read ≡ Err faults.Geometry
+
+abbrev pub Gives : {X Y : Type 0} → (X → Y) → Result X TileFault → Read Y → Type 0
+Gives view (Ok x) read = read ≡ Ok (view x)
+Gives view (Err e) read = Fails e read
+
+-- ---- one pass over the fields of a message
+
+-- a state after all the items, or the first fault
+unfoldable pub folded : {S X : Type 0} → (S → X → Read S) → S → List X → Read S
+folded step s [] = Ok s
+folded step s (i ∷ is) = step s i >>= λ next. folded step next is
+
+-- a state after one item more, where only the fields of this number count
+abbrev pub after : {S : Type 0} → ℕ → (S → Value → Read S) → S → Item → Read S
+after number step s (Err fault) = Err faults.Wire
+after number step s (Ok f) = if f.number == number then step s f.value else Ok s
+
+abbrev pub pass : {S : Type 0} → ℕ → (S → Value → Read S) → S → List ℕ → Read S
+pass number step s bytes = folded (after number step) s (items_of bytes)
+
+abbrev pub number_after : Option ℕ → Value → Read (Option ℕ)
+number_after last (varint_value n) = Ok (Some n)
+number_after last (eight_bytes part) = Err faults.Kind
+number_after last (some_bytes part) = Err faults.Kind
+number_after last (four_bytes part) = Err faults.Kind
+
+abbrev pub bytes_after : Option (List ℕ) → Value → Read (Option (List ℕ))
+bytes_after last (some_bytes part) = Ok (Some part)
+bytes_after last (varint_value n) = Err faults.Kind
+bytes_after last (eight_bytes part) = Err faults.Kind
+bytes_after last (four_bytes part) = Err faults.Kind
+
+abbrev pub parts_after : List (List ℕ) → Value → Read (List (List ℕ))
+parts_after before (some_bytes part) = Ok (before ++ part ∷ [])
+parts_after before (varint_value n) = Err faults.Kind
+parts_after before (eight_bytes part) = Err faults.Kind
+parts_after before (four_bytes part) = Err faults.Kind
+
+-- a number of 32 bits
+abbrev pub number_more : List ℕ → ℕ → Read (List ℕ)
+number_more before n = if nat_lt 4294967295 n then Err faults.Range else Ok (before ++ n ∷ [])
+
+-- what a number in front leads to
+abbrev pub packed_then : (ℕ × ℕ → Read (List ℕ)) → Result (ℕ × ℕ) FaultKind → Read (List ℕ)
+packed_then next (Ok n) = next n
+packed_then next (Err kind) = Err faults.Wire
+
+-- numbers one after the other, so many at most
+unfoldable pub packed_in : ℕ → List ℕ → List ℕ → Read (List ℕ)
+packed_in zero before bytes = Ok before
+packed_in (suc more) before [] = Ok before
+packed_in (suc more) before (b ∷ bs) = packed_then (λ n. number_more before n.0 >>= λ ns. packed_in more ns (drop n.1 (b ∷ bs))) (varint_at (b ∷ bs))
+
+abbrev pub numbers_after : List ℕ → Value → Read (List ℕ)
+numbers_after before (varint_value n) = number_more before n
+numbers_after before (some_bytes part) = packed_in (length part) before part
+numbers_after before (eight_bytes part) = Err faults.Kind
+numbers_after before (four_bytes part) = Err faults.Kind
+
+abbrev pub last_number_in : ℕ → List ℕ → Read (Option ℕ)
+last_number_in number bytes = pass number number_after None bytes
+
+abbrev pub last_bytes_in : ℕ → List ℕ → Read (Option (List ℕ))
+last_bytes_in number bytes = pass number bytes_after None bytes
+
+abbrev pub parts_in : ℕ → List ℕ → Read (List (List ℕ))
+parts_in number bytes = pass number parts_after [] bytes
+
+abbrev pub numbers_in : ℕ → List ℕ → Read (List ℕ)
+numbers_in number bytes = pass number numbers_after [] bytes
+
+-- ---- values
+
+abbrev pub text_at : List ℕ → Read (List ℕ)
+text_at bytes = if is_utf8 bytes then Ok bytes else Err faults.Utf8
+
+-- the integer of 64 bits in two's complement
+abbrev pub plain_tag : ℕ → TagView
+plain_tag n = if nat_lt n (2 ^ 63) then natural n else negative (negsuc (18446744073709551615 - n))
+
+-- the integer that n spells by zigzag
+abbrev pub zigzag_tag : ℕ → TagView
+zigzag_tag n = if n % 2 == 0 then natural (n / 2) else negative (negsuc (n / 2))
+
+abbrev pub is_known : ℕ → Bool
+is_known number = nat_lt 0 number && nat_lt number 8
+
+-- whether a value of this number is of this wire type
+abbrev pub has_kind : ℕ → Value → Bool
+has_kind number (some_bytes part) = number == 1
+has_kind number (four_bytes part) = number == 2
+has_kind number (eight_bytes part) = number == 3
+has_kind number (varint_value n) = nat_lt 3 number
+
+abbrev pub may_follow : Option Entry → ℕ → Bool
+may_follow None number = true
+may_follow (Some f) number = f.number == number
+
+-- the last field that says a value, where all that do have one number
+abbrev pub value_after : Option Entry → Item → Read (Option Entry)
+value_after last (Err fault) = Err faults.Wire
+value_after last (Ok f) =
+    if is_known f.number then (if has_kind f.number f.value then (if may_follow last f.number then Ok (Some f) else Err faults.Value) else Err faults.Kind)
+    else Ok last
+
+-- the meaning of a field
+unfoldable pub meaning : ℕ → Value → Read TagView
+meaning number (some_bytes part) = text_at part >>= λ t. Ok (text t)
+meaning number (four_bytes part) = Ok (float part)
+meaning number (eight_bytes part) = Ok (double part)
+meaning number (varint_value n) =
+    if number == 4 then Ok (plain_tag n)
+    else (if number == 5 then Ok (natural n)
+    else (if number == 6 then Ok (zigzag_tag n)
+    else Ok (truth (not (n == 0)))))
+
+abbrev pub meant : Option Entry → Read TagView
+meant None = Err faults.Value
+meant (Some f) = meaning f.number f.value
+
+abbrev pub last_value_in : List ℕ → Read (Option Entry)
+last_value_in bytes = folded value_after None (items_of bytes)
+
+unfoldable pub tag_value_at : List ℕ → Read TagView
+tag_value_at bytes = last_value_in bytes >>= meant
+
+-- ---- lists of parts
+
+-- what was read, and what one part more reads as
+abbrev pub part_more : {X : Type 0} → (List ℕ → Read X) → List X → List ℕ → Read (List X)
+part_more read before part = read part >>= λ x. Ok (before ++ x ∷ [])
+
+abbrev pub each_in : {X : Type 0} → (List ℕ → Read X) → List (List ℕ) → Read (List X)
+each_in read parts = folded (part_more read) [] parts
+
+-- ---- features
+
+abbrev pub kind_of : Option ℕ → ShapeKind
+kind_of None = kinds.Unknown
+kind_of (Some n) = if n == 1 then kinds.Points else (if n == 2 then kinds.Lines else (if n == 3 then kinds.Polygons else kinds.Unknown))
+
+abbrev pub shape_read : Result ShapeView GeometryFault → Read ShapeView
+shape_read (Ok s) = Ok s
+shape_read (Err fault) = Err faults.Geometry
+
+abbrev pub any_of : {X : Type 0} → (X → Bool) → List X → Bool
+any_of p [] = false
+any_of p (x ∷ xs) = if p x then true else any_of p xs
+
+abbrev pub has_number : List ℕ → ℕ → Bool
+has_number ms n = any_of (λ m. m == n) ms
+
+abbrev pub found_tag : Option (List ℕ) → Option TagView → Read Tagged
+found_tag (Some key) (Some value) = Ok (key, value)
+found_tag (Some key) None = Err faults.Tag
+found_tag None value = Err faults.Tag
+
+-- the tag of a key index and a value index, where those key indices were used
+unfoldable pub tag_at : List (List ℕ) → List TagView → List ℕ → ℕ → ℕ → Read Tagged
+tag_at keys values used k v = if has_number used k then Err faults.Tag else found_tag (slice_get keys k) (slice_get values v)
+
+unfoldable pub tags_at : List (List ℕ) → List TagView → List ℕ → List Tagged → List ℕ → Read (List Tagged)
+tags_at keys values used before [] = Ok before
+tags_at keys values used before (k ∷ []) = Err faults.Tag
+tags_at keys values used before (k ∷ v ∷ ns) = tag_at keys values used k v >>= λ t. tags_at keys values (used ++ k ∷ []) (before ++ t ∷ []) ns
+
+abbrev pub feature_made : Option ℕ → List Tagged → ShapeView → Read FeatureView
+feature_made id tags shape = Ok (record { id = id; tags = tags; shape = shape })
+
+-- what the raw parts of a feature make
+unfoldable pub feature_of_parts : List (List ℕ) → List TagView → Option ℕ → Option ℕ → List ℕ → List ℕ → Read FeatureView
+feature_of_parts keys values id kind indices ints =
+    tags_at keys values [] [] indices >>= λ tags. shape_read (shape_at (kind_of kind) ints) >>= λ shape. feature_made id tags shape
+
+unfoldable pub feature_at : List (List ℕ) → List TagView → List ℕ → Read FeatureView
+feature_at keys values bytes =
+    last_number_in 1 bytes >>= λ id.
+    last_number_in 3 bytes >>= λ kind.
+    numbers_in 2 bytes >>= λ indices.
+    numbers_in 4 bytes >>= λ ints.
+    feature_of_parts keys values id kind indices ints
+
+-- ---- layers
+
+abbrev pub name_at : Option (List ℕ) → Read (List ℕ)
+name_at None = Err faults.Name
+name_at (Some part) = text_at part
+
+-- a number of 32 bits, or what it is where there is none
+abbrev pub small_at : ℕ → Option ℕ → Read ℕ
+small_at otherwise None = Ok otherwise
+small_at otherwise (Some n) = if nat_lt 4294967295 n then Err faults.Range else Ok n
+
+unfoldable pub version_at : Option ℕ → Read ℕ
+version_at last = small_at 1 last >>= λ n. if (n == 1) || (n == 2) then Ok n else Err faults.Version
+
+unfoldable pub extent_at : Option ℕ → Read ℕ
+extent_at last = small_at 4096 last >>= λ n. if n == 0 then Err faults.Extent else Ok n
+
+abbrev pub layer_made : List ℕ → ℕ → ℕ → List FeatureView → Read LayerView
+layer_made name version extent features = Ok (record { name = name; version = version; extent = extent; features = features })
+
+unfoldable pub layer_at : List ℕ → Read LayerView
+layer_at bytes =
+    last_bytes_in 1 bytes >>= λ raw_name. name_at raw_name >>= λ name.
+    last_number_in 15 bytes >>= λ raw_version. version_at raw_version >>= λ version.
+    last_number_in 5 bytes >>= λ raw_extent. extent_at raw_extent >>= λ extent.
+    parts_in 3 bytes >>= λ raw_keys. each_in text_at raw_keys >>= λ keys.
+    parts_in 4 bytes >>= λ raw_values. each_in tag_value_at raw_values >>= λ values.
+    parts_in 2 bytes >>= λ raw_features. each_in (feature_at keys values) raw_features >>= λ features.
+    layer_made name version extent features
+
+-- ---- tiles
+
+abbrev pub has_name : List LayerView → List ℕ → Bool
+has_name ls name = any_of (λ l. bytes_eq l.name name) ls
+
+-- the layers with one more, whose name is to be new
+abbrev pub layer_added : List LayerView → LayerView → Read (List LayerView)
+layer_added before l = if has_name before l.name then Err faults.LayerTwice else Ok (before ++ l ∷ [])
+
+abbrev pub layer_more : List LayerView → List ℕ → Read (List LayerView)
+layer_more before part = layer_at part >>= layer_added before
+
+abbrev pub layers_in : List (List ℕ) → Read (List LayerView)
+layers_in parts = folded layer_more [] parts
+
+unfoldable pub tile_at : List ℕ → Read (List LayerView)
+tile_at bytes = parts_in 3 bytes >>= λ raw. layers_in raw

@@ -1,0 +1,110 @@
+//! Features.
+
+ghost use Rattle.std.specs.Prelude.{◌≡◌, ℕ, [], slice_get};
+ghost use Rattle.geometry_commands.specs.Shapes.{shape_view};
+ghost use Rattle.mvt_layer.specs.Tile.{bytes_of, tag_view, tag_views, tagged, feature_view};
+ghost use Rattle.mvt_layer.specs.Reading.{Gives, found_tag, kind_of, tags_at, shape_read, feature_at, feature_of_parts};
+ghost use Rattle.geometry_commands.specs.Decoding.{shape_at};
+
+use crate::fault::TileFault;
+use crate::passes::{last_number, numbers};
+use crate::tile::{TagValue, TileFeature};
+use geometry_commands::{GeometryFault, Shape, ShapeKind, decode};
+use std::alloc::Global;
+use std::collections::BTreeSet;
+
+// Field numbers of a feature.
+const ID: u32 = 1;
+
+const TAGS: u32 = 2;
+
+const KIND: u32 = 3;
+
+const GEOMETRY: u32 = 4;
+
+/// The tag of these two indices.
+fn tag_of<'a>(
+    keys: &[&'a str],
+    values: &[TagValue<'a>],
+    key: u32,
+    value: u32,
+) -> Result<(&'a str, TagValue<'a>), TileFault>
+    ensures { Gives (λ t. (t.0.now, tag_view t.1)) result (found_tag (slice_get (bytes_of keys.entry.now) key) (slice_get (tag_views values.entry.now) value)) }
+{
+    let Some(text) = keys.get(key as usize) else {
+        return Err(TileFault::Tag);
+    };
+    let Some(said) = values.get(value as usize) else {
+        return Err(TileFault::Tag);
+    };
+    Ok((*text, *said))
+}
+
+/// The tags of these indices, a key's and a value's in turn. A key index comes once.
+fn tags_of<'a>(
+    alloc: Global,
+    keys: &[&'a str],
+    values: &[TagValue<'a>],
+    indices: &[u32],
+) -> Result<Vec<(&'a str, TagValue<'a>)>, TileFault>
+    ensures { Gives (λ v. tagged v.items) result (tags_at (bytes_of keys.entry.now) (tag_views values.entry.now) [] [] indices.now) }
+{
+    let mut used = BTreeSet::new(alloc);
+    let mut tags = Vec::new(alloc);
+    let mut rest = indices;
+    while rest.len() > 0 {
+        if rest.len() < 2 {
+            return Err(TileFault::Tag);
+        }
+        let is_new = used.insert(rest[0])?;
+        if !is_new {
+            return Err(TileFault::Tag);
+        }
+        let tag = tag_of(keys, values, rest[0], rest[1])?;
+        tags.push(tag)?;
+        rest = &rest[2..];
+    }
+    Ok(tags)
+}
+
+/// The kind that a feature tells; unknown where it tells none, or one that the standard doesn't have.
+fn kind_said(kind: Option<u64>) -> ShapeKind
+    ensures { result ≡ kind_of kind }
+{
+    match kind {
+        Some(1) => ShapeKind::Points,
+        Some(2) => ShapeKind::Lines,
+        Some(3) => ShapeKind::Polygons,
+        _ => ShapeKind::Unknown,
+    }
+}
+
+/// The shape that a feature's integers spell.
+fn shape_of(alloc: Global, kind: ShapeKind, ints: &[u32]) -> Result<Shape, TileFault>
+    ensures { Gives shape_view result (shape_read (shape_at kind ints.now)) }
+{
+    match decode(alloc, kind, ints) {
+        Ok(shape) => Ok(shape),
+        Err(GeometryFault::Memory) => Err(TileFault::Memory),
+        Err(_) => Err(TileFault::Geometry),
+    }
+}
+
+/// A feature, with the pools of its layer.
+#[tactic(auto, unfolding(crate::specs::Reading::feature_at, crate::specs::Reading::feature_of_parts))]
+pub(crate) fn feature_of<'a>(
+    alloc: Global,
+    keys: &[&'a str],
+    values: &[TagValue<'a>],
+    bytes: &'a [u8],
+) -> Result<TileFeature<'a>, TileFault>
+    ensures { Gives feature_view result (feature_at (bytes_of keys.entry.now) (tag_views values.entry.now) bytes.entry.now) }
+{
+    let id = last_number(bytes, ID)?;
+    let kind = last_number(bytes, KIND)?;
+    let indices = numbers(alloc, bytes, TAGS)?;
+    let ints = numbers(alloc, bytes, GEOMETRY)?;
+    let tags = tags_of(alloc, keys, values, &indices)?;
+    let shape = shape_of(alloc, kind_said(kind), &ints)?;
+    Ok(TileFeature { id, tags, shape })
+}

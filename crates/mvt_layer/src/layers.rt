@@ -1,0 +1,197 @@
+//! Layers and tiles.
+
+ghost use Rattle.std.specs.Prelude.{◌≡◌, ℕ, [], List, map, IfOk, IfErr};
+ghost use Rattle.mvt_layer.specs.Faulty.{TileHas};
+ghost use Rattle.mvt_layer.specs.Reads.{ReadsAs};
+ghost use Rattle.std.specs.Option.{option_map};
+ghost use Rattle.mvt_layer.specs.Tile.{bytes_of, tag_view, tag_views, feature_view, layer_view, layer_views, LayerView};
+ghost use Rattle.mvt_layer.specs.Reading.{Gives, text_at, tag_value_at, feature_at, each_in, name_at, small_at, version_at, extent_at, layer_at, layer_more, layers_in, tile_at};
+
+use crate::fault::TileFault;
+use crate::features::feature_of;
+use crate::named::NamedLayers;
+use crate::passes::{last_bytes, last_number, parts};
+use crate::tile::{Layer, TagValue, TileFeature};
+use crate::values::{tag_value_of, text_of};
+use std::alloc::Global;
+
+// Field numbers of a layer, and of a tile.
+const NAME: u32 = 1;
+
+const FEATURES: u32 = 2;
+
+const KEYS: u32 = 3;
+
+const VALUES: u32 = 4;
+
+const EXTENT: u32 = 5;
+
+const VERSION: u32 = 15;
+
+const LAYERS: u32 = 3;
+
+/// The keys' texts.
+fn texts_of<'a>(alloc: Global, raw: &[&'a [u8]]) -> Result<Vec<&'a str>, TileFault>
+    ensures { Gives (λ v. bytes_of v.items) result (each_in text_at (bytes_of raw.entry.now)) }
+{
+    let mut texts = Vec::new(alloc);
+    for part in raw {
+        let text = text_of(*part)?;
+        texts.push(text)?;
+    }
+    Ok(texts)
+}
+
+fn values_of<'a>(alloc: Global, raw: &[&'a [u8]]) -> Result<Vec<TagValue<'a>>, TileFault>
+    ensures { Gives (λ v. tag_views v.items) result (each_in tag_value_at (bytes_of raw.entry.now)) }
+{
+    let mut values = Vec::new(alloc);
+    for part in raw {
+        let value = tag_value_of(*part)?;
+        values.push(value)?;
+    }
+    Ok(values)
+}
+
+/// The features, with the pools of their layer.
+fn features_of<'a>(
+    alloc: Global,
+    keys: &[&'a str],
+    values: &[TagValue<'a>],
+    raw: &[&'a [u8]],
+) -> Result<Vec<TileFeature<'a>>, TileFault>
+    ensures { Gives (λ v. map feature_view v.items) result (each_in (feature_at (bytes_of keys.entry.now) (tag_views values.entry.now)) (bytes_of raw.entry.now)) }
+{
+    let mut features = Vec::new(alloc);
+    for part in raw {
+        let feature = feature_of(alloc, keys, values, *part)?;
+        features.push(feature)?;
+    }
+    Ok(features)
+}
+
+/// The layer's name.
+fn name_of(last: Option<&[u8]>) -> Result<&str, TileFault>
+    ensures { Gives (λ t. t.now) result (name_at (option_map (λ b. b.now) last.entry)) }
+{
+    match last {
+        Some(part) => text_of(part),
+        None => Err(TileFault::Name),
+    }
+}
+
+/// A number of 32 bits, or what it is where there is none.
+fn small(otherwise: u32, last: Option<u64>) -> Result<u32, TileFault>
+    ensures { Gives (λ n. n) result (small_at otherwise last) }
+{
+    match last {
+        None => Ok(otherwise),
+        Some(n) => {
+            if n > 4_294_967_295 {
+                Err(TileFault::Range)
+            } else {
+                Ok(n as u32)
+            }
+        }
+    }
+}
+
+/// The layer's version, 1 where it tells none.
+#[tactic(auto, unfolding(crate::specs::Reading::version_at))]
+fn version_of(last: Option<u64>) -> Result<u32, TileFault>
+    ensures { Gives (λ n. n) result (version_at last) }
+{
+    let n = small(1, last)?;
+    if n == 1 || n == 2 {
+        Ok(n)
+    } else {
+        Err(TileFault::Version)
+    }
+}
+
+/// The layer's extent, 4096 where it tells none.
+#[tactic(auto, unfolding(crate::specs::Reading::extent_at))]
+fn extent_of(last: Option<u64>) -> Result<u32, TileFault>
+    ensures { Gives (λ n. n) result (extent_at last) }
+{
+    let n = small(4096, last)?;
+    if n == 0 {
+        Err(TileFault::Extent)
+    } else {
+        Ok(n)
+    }
+}
+
+/// A layer: its pools first, wherever they stand, and then its features.
+#[tactic(auto, unfolding(crate::specs::Reading::layer_at))]
+fn layer_of<'a>(alloc: Global, bytes: &'a [u8]) -> Result<Layer<'a>, TileFault>
+    ensures { Gives layer_view result (layer_at bytes.entry.now) }
+{
+    let name = name_of(last_bytes(bytes, NAME)?)?;
+    let version = version_of(last_number(bytes, VERSION)?)?;
+    let extent = extent_of(last_number(bytes, EXTENT)?)?;
+    let raw_keys = parts(alloc, bytes, KEYS)?;
+    let keys = texts_of(alloc, &raw_keys)?;
+    let raw_values = parts(alloc, bytes, VALUES)?;
+    let values = values_of(alloc, &raw_values)?;
+    let raw_features = parts(alloc, bytes, FEATURES)?;
+    let features = features_of(alloc, &keys, &values, &raw_features)?;
+    Ok(Layer {
+        name,
+        version,
+        extent,
+        features,
+    })
+}
+
+/// The layers with the one that this part says.
+fn layer_behind<'a>(
+    alloc: Global,
+    before: NamedLayers<'a>,
+    part: &'a [u8],
+) -> Result<NamedLayers<'a>, TileFault>
+    ensures { Gives (λ n. layer_views n.layers.items) result (layer_more (layer_views before.entry.layers.items) part.entry.now) }
+{
+    let layer = layer_of(alloc, part)?;
+    before.with(layer)
+}
+
+/// The layers that these parts say, of different names.
+fn layers_of<'a>(alloc: Global, raw: &[&'a [u8]]) -> Result<Vec<Layer<'a>>, TileFault>
+    ensures { Gives (λ v. layer_views v.items) result (layers_in (bytes_of raw.entry.now)) }
+{
+    let mut all = NamedLayers::new(alloc);
+    for part in raw {
+        all = layer_behind(alloc, all, *part)?;
+    }
+    Ok(all.into_layers())
+}
+
+/// The tile, as the definitions read it.
+#[tactic(auto, unfolding(crate::specs::Reading::tile_at))]
+fn tile_of<'a>(alloc: Global, bytes: &'a [u8]) -> Result<Vec<Layer<'a>>, TileFault>
+    ensures { Gives (λ v. layer_views v.items) result (tile_at bytes.entry.now) }
+{
+    let raw = parts(alloc, bytes, LAYERS)?;
+    layers_of(alloc, &raw)
+}
+
+/// The layers of a tile (Mapbox Vector Tile 2.1, 4). Names, keys and texts are parts of the bytes.
+///
+/// Versions 1 and 2 are read; a layer that tells none is of version 1, one that tells no extent has 4096. Fields that
+/// the standard doesn't have are skipped, the last of a field that is to come once counts, and numbers of tags and
+/// geometry may come packed or one by one. A feature of no kind, or of one that the standard doesn't have, keeps its
+/// integers as `Shape::Raw`.
+///
+/// Where a tile has several faults, the one that is told is one that it has.
+pub fn read_tile<'a>(alloc: Global, bytes: &'a [u8]) -> Result<Vec<Layer<'a>>, TileFault>
+    // What is read stands there.
+    ensures found { IfOk result (λ v. ReadsAs bytes.entry.now (layer_views v.items)) }
+    // What stands there is read, unless memory runs out.
+    ensures only { (ls : List LayerView) → ReadsAs bytes.entry.now ls → Gives (λ v. layer_views v.items) result (Ok ls) }
+    // The fault is one that the bytes have.
+    ensures fault { IfErr result (λ d. (d ≡ TileFault.Memory → ⊥) → TileHas bytes.entry.now d) }
+    ensures exact { Gives (λ v. layer_views v.items) result (tile_at bytes.entry.now) }
+{
+    tile_of(alloc, bytes)
+}

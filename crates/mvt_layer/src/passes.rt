@@ -1,0 +1,161 @@
+//! One pass over the fields of a message, for one field number.
+
+ghost use Rattle.std.specs.Prelude.{◌≡◌, ℕ, length, List, Option};
+ghost use Rattle.std.specs.Option.{option_map};
+ghost use Rattle.pb_wire.specs.Items.{item_view};
+ghost use Rattle.mvt_layer.specs.Tile.{bytes_of};
+ghost use Rattle.mvt_layer.specs.Reading.{Gives, after, number_after, bytes_after, parts_after, numbers_after, number_more, packed_in, last_number_in, last_bytes_in, parts_in, numbers_in};
+
+use crate::fault::TileFault;
+use pb_wire::{Field, FieldValue, Fields, WireFault, get_varint};
+use std::alloc::Global;
+
+type FieldItem<'a> = Result<Field<'a>, WireFault>;
+
+/// The number that one more item leaves.
+fn number_behind(
+    number: u32,
+    last: Option<u64>,
+    item: FieldItem<'_>,
+) -> Result<Option<u64>, TileFault>
+    ensures { Gives (λ n. n) result (after number number_after last (item_view item.entry)) }
+{
+    match item {
+        Err(_) => Err(TileFault::Wire),
+        Ok(field) if field.number != number => Ok(last),
+        Ok(field) => match field.value {
+            FieldValue::Varint(n) => Ok(Some(n)),
+            _ => Err(TileFault::Kind),
+        },
+    }
+}
+
+/// The last number of a field.
+pub(crate) fn last_number(bytes: &[u8], number: u32) -> Result<Option<u64>, TileFault>
+    ensures { Gives (λ n. n) result (last_number_in number bytes.now) }
+{
+    let mut last = None;
+    for item in Fields::new(bytes) {
+        last = number_behind(number, last, item)?;
+    }
+    Ok(last)
+}
+
+fn bytes_behind<'a>(
+    number: u32,
+    last: Option<&'a [u8]>,
+    item: FieldItem<'a>,
+) -> Result<Option<&'a [u8]>, TileFault>
+    ensures { Gives (option_map (λ b. b.now)) result (after number bytes_after (option_map (λ b. b.now) last.entry) (item_view item.entry)) }
+{
+    match item {
+        Err(_) => Err(TileFault::Wire),
+        Ok(field) if field.number != number => Ok(last),
+        Ok(field) => match field.value {
+            FieldValue::Bytes(part) => Ok(Some(part)),
+            _ => Err(TileFault::Kind),
+        },
+    }
+}
+
+/// The last bytes of a field.
+pub(crate) fn last_bytes<'a>(bytes: &'a [u8], number: u32) -> Result<Option<&'a [u8]>, TileFault>
+    ensures { Gives (option_map (λ b. b.now)) result (last_bytes_in number bytes.entry.now) }
+{
+    let mut last = None;
+    for item in Fields::new(bytes) {
+        last = bytes_behind(number, last, item)?;
+    }
+    Ok(last)
+}
+
+fn parts_behind<'a>(
+    number: u32,
+    before: Vec<&'a [u8]>,
+    item: FieldItem<'a>,
+) -> Result<Vec<&'a [u8]>, TileFault>
+    ensures { Gives (λ v. bytes_of v.items) result (after number parts_after (bytes_of before.entry.items) (item_view item.entry)) }
+{
+    let mut parts = before;
+    match item {
+        Err(_) => Err(TileFault::Wire),
+        Ok(field) if field.number != number => Ok(parts),
+        Ok(field) => match field.value {
+            FieldValue::Bytes(part) => {
+                parts.push(part)?;
+                Ok(parts)
+            }
+            _ => Err(TileFault::Kind),
+        },
+    }
+}
+
+/// The parts of a field that may come many times.
+pub(crate) fn parts<'a>(
+    alloc: Global,
+    bytes: &'a [u8],
+    number: u32,
+) -> Result<Vec<&'a [u8]>, TileFault>
+    ensures { Gives (λ v. bytes_of v.items) result (parts_in number bytes.entry.now) }
+{
+    let mut all = Vec::new(alloc);
+    for item in Fields::new(bytes) {
+        all = parts_behind(number, all, item)?;
+    }
+    Ok(all)
+}
+
+/// One number of 32 bits more.
+fn with_number(before: Vec<u32>, n: u64) -> Result<Vec<u32>, TileFault>
+    ensures { Gives (λ v. v.items) result (number_more before.items n) }
+{
+    if n > 4_294_967_295 {
+        return Err(TileFault::Range);
+    }
+    let mut numbers = before;
+    numbers.push(n as u32)?;
+    Ok(numbers)
+}
+
+/// The numbers that stand one after the other, behind those before.
+fn with_packed(before: Vec<u32>, bytes: &[u8]) -> Result<Vec<u32>, TileFault>
+    ensures { Gives (λ v. v.items) result (packed_in (length bytes.now) before.items bytes.now) }
+{
+    let mut numbers = before;
+    let mut rest = bytes;
+    while rest.len() > 0 {
+        match get_varint(rest) {
+            Ok((n, len)) => {
+                numbers = with_number(numbers, n)?;
+                rest = &rest[len..];
+            }
+            Err(_) => return Err(TileFault::Wire),
+        }
+    }
+    Ok(numbers)
+}
+
+fn numbers_behind(number: u32, before: Vec<u32>, item: FieldItem<'_>) -> Result<Vec<u32>, TileFault>
+    ensures { Gives (λ v. v.items) result (after number numbers_after before.items (item_view item.entry)) }
+{
+    match item {
+        Err(_) => Err(TileFault::Wire),
+        Ok(field) if field.number != number => Ok(before),
+        Ok(field) => match field.value {
+            FieldValue::Varint(n) => with_number(before, n),
+            FieldValue::Bytes(part) => with_packed(before, part),
+            _ => Err(TileFault::Kind),
+        },
+    }
+}
+
+/// The numbers of a field, packed or not.
+pub(crate) fn numbers(alloc: Global, bytes: &[u8], number: u32) -> Result<Vec<u32>, TileFault>
+    ensures { Gives (λ v. v.items) result (numbers_in number bytes.now) }
+{
+    let mut all = Vec::new(alloc);
+    for item in Fields::new(bytes) {
+        all = numbers_behind(number, all, item)?;
+    }
+    Ok(all)
+}

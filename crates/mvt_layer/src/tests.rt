@@ -1,0 +1,272 @@
+use super::*;
+use geometry_commands::{Pt, Shape};
+use std::alloc::{AllocError, Global};
+use std::process::Abort;
+use std::test::Fail;
+
+/// The bytes are read as these layers.
+fn reads(rt: &impl Abort, alloc: Global, bytes: &[u8], layers: Vec<Layer<'_>>) -> Result<(), Fail> {
+    let read = read_tile(alloc, bytes)?;
+    assert!(rt; read == layers);
+    Ok(())
+}
+
+fn shape_of_points(alloc: Global, points: &[Pt]) -> Result<Shape, AllocError> {
+    Ok(Shape::Points(points.to_vec(alloc)?))
+}
+
+#[test]
+fn one_point(rt: HostRuntime) -> Result<(), Fail> {
+    let feature = TileFeature {
+        id: Some(7),
+        tags: Vec::new(rt.alloc()),
+        shape: shape_of_points(rt.alloc(), &[Pt::ORIGIN])?,
+    };
+    let layer = Layer {
+        name: "p",
+        version: 2,
+        extent: 4096,
+        features: vec![in rt.alloc(); feature]?,
+    };
+    let bytes = [
+        0x1a, 0x13, 0x0a, 0x01, 0x70, 0x12, 0x09, 0x08, 0x07, 0x18, 0x01, 0x22, 0x03, 0x09, 0x00,
+        0x00, 0x28, 0x80, 0x20, 0x78, 0x02,
+    ];
+    reads(&rt, rt.alloc(), &bytes, vec![in rt.alloc(); layer]?)
+}
+
+#[test]
+fn no_bytes_are_no_layers(rt: HostRuntime) -> Result<(), Fail> {
+    reads(&rt, rt.alloc(), &[], Vec::new(rt.alloc()))
+}
+
+/// A value in each of the fields that the writer uses.
+#[test]
+fn four_tags(rt: HostRuntime) -> Result<(), Fail> {
+    let tags = [
+        ("a", TagValue::Text("x")),
+        ("b", TagValue::Negative(-2)),
+        ("c", TagValue::Natural(3)),
+        ("d", TagValue::Truth(true)),
+    ];
+    let feature = TileFeature {
+        id: Some(7),
+        tags: tags.to_vec(rt.alloc())?,
+        shape: shape_of_points(rt.alloc(), &[Pt::ORIGIN])?,
+    };
+    let layer = Layer {
+        name: "p",
+        version: 2,
+        extent: 4096,
+        features: vec![in rt.alloc(); feature]?,
+    };
+    let bytes = [
+        0x1a, 0x3a, 0x0a, 0x01, 0x70, 0x12, 0x13, 0x08, 0x07, 0x12, 0x08, 0x00, 0x00, 0x01, 0x01,
+        0x02, 0x02, 0x03, 0x03, 0x18, 0x01, 0x22, 0x03, 0x09, 0x00, 0x00, 0x1a, 0x01, 0x61, 0x1a,
+        0x01, 0x62, 0x1a, 0x01, 0x63, 0x1a, 0x01, 0x64, 0x22, 0x03, 0x0a, 0x01, 0x78, 0x22, 0x02,
+        0x30, 0x03, 0x22, 0x02, 0x28, 0x03, 0x22, 0x02, 0x38, 0x01, 0x28, 0x80, 0x20, 0x78, 0x02,
+    ];
+    reads(&rt, rt.alloc(), &bytes, vec![in rt.alloc(); layer]?)
+}
+
+// The tiles below are made by bench/tiles/foreign_tiles.py.
+
+/// No id, no version, indices one by one, and a tag that no writer of ours makes.
+#[test]
+fn a_float(rt: HostRuntime) -> Result<(), Fail> {
+    let tags = [("k", TagValue::Float([0, 0, 0x80, 0x3f]))];
+    let feature = TileFeature {
+        id: None,
+        tags: tags.to_vec(rt.alloc())?,
+        shape: shape_of_points(rt.alloc(), &[Pt::ORIGIN])?,
+    };
+    let layer = Layer {
+        name: "p",
+        version: 1,
+        extent: 4096,
+        features: vec![in rt.alloc(); feature]?,
+    };
+    let bytes = [
+        0x1a, 0x1b, 0x0a, 0x01, 0x70, 0x12, 0x0c, 0x10, 0x00, 0x10, 0x00, 0x18, 0x01, 0x20, 0x09,
+        0x20, 0x00, 0x20, 0x00, 0x1a, 0x01, 0x6b, 0x22, 0x05, 0x15, 0x00, 0x00, 0x80, 0x3f,
+    ];
+    reads(&rt, rt.alloc(), &bytes, vec![in rt.alloc(); layer]?)
+}
+
+/// Every kind of value, in a layer whose name comes last.
+#[test]
+fn every_kind_of_value(rt: HostRuntime) -> Result<(), Fail> {
+    let tags = [
+        ("a", TagValue::Text("x")),
+        ("b", TagValue::Double([0, 0, 0, 0, 0, 0, 0xe0, 0x3f])),
+        ("c", TagValue::Natural(5)),
+        ("d", TagValue::Negative(-5)),
+        ("e", TagValue::Natural(u64::MAX)),
+        ("f", TagValue::Negative(-3)),
+        ("g", TagValue::Truth(true)),
+    ];
+    let feature = TileFeature {
+        id: Some(7),
+        tags: tags.to_vec(rt.alloc())?,
+        shape: shape_of_points(rt.alloc(), &[Pt { x: 25, y: 17 }])?,
+    };
+    let layer = Layer {
+        name: "v",
+        version: 2,
+        extent: 512,
+        features: vec![in rt.alloc(); feature]?,
+    };
+    let bytes = [
+        0x1a, 0x6e, 0x78, 0x02, 0x1a, 0x01, 0x61, 0x1a, 0x01, 0x62, 0x1a, 0x01, 0x63, 0x1a, 0x01,
+        0x64, 0x1a, 0x01, 0x65, 0x1a, 0x01, 0x66, 0x1a, 0x01, 0x67, 0x22, 0x03, 0x0a, 0x01, 0x78,
+        0x22, 0x09, 0x19, 0x00, 0x00, 0x00, 0x00, 0x00, 0x00, 0xe0, 0x3f, 0x22, 0x02, 0x20, 0x05,
+        0x22, 0x0b, 0x20, 0xfb, 0xff, 0xff, 0xff, 0xff, 0xff, 0xff, 0xff, 0xff, 0x01, 0x22, 0x0b,
+        0x28, 0xff, 0xff, 0xff, 0xff, 0xff, 0xff, 0xff, 0xff, 0xff, 0x01, 0x22, 0x02, 0x30, 0x05,
+        0x22, 0x02, 0x38, 0x01, 0x28, 0x80, 0x04, 0x12, 0x19, 0x12, 0x0e, 0x00, 0x00, 0x01, 0x01,
+        0x02, 0x02, 0x03, 0x03, 0x04, 0x04, 0x05, 0x05, 0x06, 0x06, 0x08, 0x07, 0x22, 0x03, 0x09,
+        0x32, 0x22, 0x18, 0x01, 0x0a, 0x01, 0x76,
+    ];
+    reads(&rt, rt.alloc(), &bytes, vec![in rt.alloc(); layer]?)
+}
+
+/// Longer spellings, unknown fields, fields of which the last counts, and a list packed in part.
+#[test]
+fn loose_spellings(rt: HostRuntime) -> Result<(), Fail> {
+    let line = [Pt { x: 2, y: 2 }, Pt { x: 2, y: 10 }, Pt { x: 10, y: 10 }].to_vec(rt.alloc())?;
+    let feature = TileFeature {
+        id: Some(2),
+        tags: Vec::new(rt.alloc()),
+        shape: Shape::Lines(vec![in rt.alloc(); line]?),
+    };
+    let layer = Layer {
+        name: "new",
+        version: 2,
+        extent: 256,
+        features: vec![in rt.alloc(); feature]?,
+    };
+    let bytes = [
+        0x48, 0x03, 0x1a, 0xc9, 0x00, 0x0a, 0x03, 0x6f, 0x6c, 0x64, 0x0a, 0x83, 0x80, 0x00, 0x6e,
+        0x65, 0x77, 0x28, 0x01, 0x28, 0x80, 0x82, 0x80, 0x00, 0x31, 0x00, 0x00, 0x00, 0x00, 0x00,
+        0x00, 0x00, 0x00, 0x78, 0x01, 0x78, 0x82, 0x00, 0x12, 0x26, 0x08, 0x01, 0x08, 0x82, 0x80,
+        0x80, 0x80, 0x80, 0x80, 0x80, 0x80, 0x80, 0x00, 0x18, 0x01, 0x18, 0x02, 0x22, 0x02, 0x09,
+        0x04, 0x20, 0x04, 0x20, 0x12, 0x22, 0x00, 0x22, 0x04, 0x00, 0x10, 0x10, 0x00, 0x45, 0x00,
+        0x00, 0x00, 0x00, 0x0a, 0x0c, 0x6e, 0x6f, 0x6e, 0x65, 0x20, 0x6f, 0x66, 0x20, 0x6f, 0x75,
+        0x72, 0x73,
+    ];
+    reads(&rt, rt.alloc(), &bytes, vec![in rt.alloc(); layer]?)
+}
+
+/// A layer without features, and shapes of kinds that the standard has and has not.
+#[test]
+fn kinds_of_shapes(rt: HostRuntime) -> Result<(), Fail> {
+    let empty = Layer {
+        name: "",
+        version: 1,
+        extent: 4096,
+        features: Vec::new(rt.alloc()),
+    };
+    let ring = [Pt { x: 3, y: 6 }, Pt { x: 8, y: 12 }, Pt { x: 20, y: 34 }].to_vec(rt.alloc())?;
+    let polygon = TileFeature {
+        id: None,
+        tags: Vec::new(rt.alloc()),
+        shape: Shape::Rings(vec![in rt.alloc(); ring]?),
+    };
+    let raw = TileFeature {
+        id: None,
+        tags: Vec::new(rt.alloc()),
+        shape: Shape::Raw([1, 2].to_vec(rt.alloc())?),
+    };
+    let future = TileFeature {
+        id: None,
+        tags: Vec::new(rt.alloc()),
+        shape: Shape::Raw(Vec::new(rt.alloc())),
+    };
+    let layer = Layer {
+        name: "k",
+        version: 1,
+        extent: 4096,
+        features: vec![in rt.alloc(); polygon, raw, future]?,
+    };
+    let bytes = [
+        0x1a, 0x04, 0x0a, 0x00, 0x78, 0x01, 0x1a, 0x1c, 0x0a, 0x01, 0x6b, 0x12, 0x0d, 0x18, 0x03,
+        0x22, 0x09, 0x09, 0x06, 0x0c, 0x12, 0x0a, 0x0c, 0x18, 0x2c, 0x0f, 0x12, 0x04, 0x22, 0x02,
+        0x01, 0x02, 0x12, 0x02, 0x18, 0x04,
+    ];
+    reads(&rt, rt.alloc(), &bytes, vec![in rt.alloc(); empty, layer]?)
+}
+
+/// The bytes are refused with this fault.
+fn refuses(rt: &impl Abort, alloc: Global, fault: TileFault, bytes: &[u8]) {
+    assert_eq!(rt; read_tile(alloc, bytes).err(), Some(fault));
+}
+
+#[test]
+fn names_faults_of_layers(rt: HostRuntime) {
+    let alloc = rt.alloc();
+    refuses(&rt, alloc, TileFault::Wire, &[0x1a]);
+    refuses(
+        &rt,
+        alloc,
+        TileFault::Wire,
+        &[
+            0x1a, 0x13, 0x0a, 0x01, 0x70, 0x12, 0x09, 0x08, 0x07, 0x18, 0x01, 0x22, 0x03, 0x09,
+            0x00, 0x00, 0x28, 0x80, 0x20, 0x78,
+        ],
+    );
+    refuses(&rt, alloc, TileFault::Kind, &[0x18, 0]);
+    refuses(&rt, alloc, TileFault::Name, &[0x1a, 0]);
+    refuses(&rt, alloc, TileFault::Utf8, &[0x1a, 3, 0x0a, 1, 0xff]);
+    refuses(
+        &rt,
+        alloc,
+        TileFault::Version,
+        &[0x1a, 5, 0x0a, 1, 0x70, 0x78, 3],
+    );
+    refuses(
+        &rt,
+        alloc,
+        TileFault::Extent,
+        &[0x1a, 5, 0x0a, 1, 0x70, 0x28, 0],
+    );
+    refuses(
+        &rt,
+        alloc,
+        TileFault::LayerTwice,
+        &[0x1a, 3, 0x0a, 1, 0x70, 0x1a, 3, 0x0a, 1, 0x70],
+    );
+    refuses(
+        &rt,
+        alloc,
+        TileFault::Range,
+        &[0x1a, 9, 0x0a, 1, 0x70, 0x28, 128, 128, 128, 128, 16],
+    );
+}
+
+#[test]
+fn names_faults_of_features(rt: HostRuntime) {
+    let alloc = rt.alloc();
+    refuses(
+        &rt,
+        alloc,
+        TileFault::Tag,
+        &[0x1a, 9, 0x0a, 1, 0x70, 0x12, 4, 0x12, 2, 0, 0],
+    );
+    refuses(
+        &rt,
+        alloc,
+        TileFault::Tag,
+        &[0x1a, 7, 0x0a, 1, 0x70, 0x12, 2, 0x10, 0],
+    );
+    refuses(
+        &rt,
+        alloc,
+        TileFault::Value,
+        &[0x1a, 5, 0x0a, 1, 0x70, 0x22, 0],
+    );
+    refuses(
+        &rt,
+        alloc,
+        TileFault::Geometry,
+        &[0x1a, 9, 0x0a, 1, 0x70, 0x12, 4, 0x18, 1, 0x20, 0],
+    );
+}

@@ -1,0 +1,10 @@
+mod Examples
+mod FeatureSteps
+mod FeaturesRead
+mod LayerSteps
+mod LayersRead
+mod Lists
+mod Messages
+mod Pooled
+mod TagSteps
+mod ValuesRead

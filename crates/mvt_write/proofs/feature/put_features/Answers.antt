@@ -1,0 +1,42 @@
+use Rattle.std.proofs.Common.{◌≡◌, ◌+◌, ◌++◌, List, ℕ, map, take, take_all, subst, sym, ap, ◌∙◌}
+use Rattle.mvt_layer.specs.declared.tile.TileFeature.{TileFeature}
+use Rattle.mvt_layer.specs.Tile.{feature_view, bytes_of}
+use Rattle.mvt_write.specs.CanWrite.{CanWriteFeature}
+use Rattle.mvt_write.specs.Fits.{FitsFeature}
+use Rattle.mvt_write.specs.Values.{messages_of}
+use Rattle.mvt_write.specs.Written.{bytes_field, value_written}
+use Rattle.mvt_write.proofs.Lists.{map_more, mapped_has, all_more}
+use Rattle.mvt_write.proofs.FeatureSteps.{features_used, features_more}
+use Rattle.mvt_write.proofs.feature.put_features.Goals as goal
+
+pub feature_bytes-requires : goal.feature_bytes-requires
+feature_bytes-requires c =
+    let feature = c.feature-item.result in
+    let here = mapped_has feature_view CanWriteFeature c.args.features.now c.loop-feature.feature-index feature c.loop-feature-test.true c.requires in
+    subst (λ (f : TileFeature). CanWriteFeature (feature_view f)) (sym c.feature-item.is) here
+
+pub loop-feature-preserved : goal.loop-feature-preserved
+loop-feature-preserved c =
+    let feature = c.feature-item.result in
+    let features = c.args.features.now in
+    let so_far = map feature_view (take c.loop-feature.feature-index features) in
+    let with_next = map feature_view (take (c.loop-feature.feature-index + 1) features) in
+    let keys = bytes_of c.loop-feature.keys.entries.items in
+    let new_keys = bytes_of c.feature_bytes.new.keys.entries.items in
+    let values = messages_of c.loop-feature.values.entries.items in
+    let new_values = messages_of c.feature_bytes.new.values.entries.items in
+    let before = c.loop-feature.invariant in
+    let step = c.in_ok-bytes.ensures in
+    let more = rw (← c.feature-item.is) at (map_more feature_view features c.loop-feature.feature-index feature c.loop-feature-test.true) in
+    record {
+      keys = features_used (λ t. t.0) (bytes_of c.args.keys.now.entries.items) keys new_keys so_far with_next (feature_view feature) before.keys step.keys more;
+      values = features_used (λ t. value_written t.1) (messages_of c.args.values.now.entries.items) values new_values so_far with_next (feature_view feature) before.values step.values more;
+      written = features_more keys new_keys values new_values _ _ c.args.out.now.items c.loop-feature.out.items c.in_ok-bytes.bytes.items c.put_bytes.new.out.items so_far with_next (feature_view feature) before.written step.keys step.values step.written (c.in_ok-put_bytes.ensures ∙ ap (λ (b : List ℕ). c.loop-feature.out.items ++ bytes_field 2 b) c.deref.ensures.value) more;
+      fits = all_more FitsFeature so_far with_next (feature_view feature) before.fits step.fits more;
+    }
+
+pub returns-clause-written : goal.returns-clause-written
+returns-clause-written c = λ ks vs.
+    let features = c.args.features.now in
+    let all : take c.loop-feature.feature-index features ≡ features = take_all c.loop-feature.feature-index features c.loop-feature-test.false in
+    rw all at (c.loop-feature.invariant.written ks vs)

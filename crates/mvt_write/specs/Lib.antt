@@ -1,0 +1,6 @@
+pub mod CanWrite
+pub mod Distinct
+pub mod Fits
+pub mod Pools
+pub mod Values
+pub mod Written

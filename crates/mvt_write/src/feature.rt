@@ -1,0 +1,102 @@
+//! Features.
+
+ghost use Rattle.std.specs.Prelude.{◌≡◌, [], ◌∷◌, ◌++◌, List, ℕ, All, ◌<◌, ◌^◌, IfSome, IfOk, OnOk, map};
+ghost use Rattle.std.specs.List.{flat_map};
+ghost use Rattle.geometry_commands.specs.Encodable.{CanSpell};
+ghost use Rattle.geometry_commands.specs.Shapes.{shape_view, shape_spelled, kind_of, IsShape};
+ghost use Rattle.mvt_layer.specs.Tile.{bytes_of, feature_view};
+ghost use Rattle.mvt_write.specs.CanWrite.{CanWriteFeature};
+ghost use Rattle.mvt_write.specs.Fits.{FitsFeature};
+ghost use Rattle.mvt_write.specs.Pools.{AddsUses};
+ghost use Rattle.mvt_write.specs.Values.{messages_of};
+ghost use Rattle.mvt_write.specs.Written.{id_written, kind_number, bytes_field, feature_written, keys_used, values_used, tags_of};
+
+use crate::field::{put_bytes, put_number, put_packed};
+use crate::pool::Pool;
+use crate::tags::put_tags;
+use crate::value::PoolValue;
+use geometry_commands::{Shape, encode_lines, encode_points, encode_rings};
+use mvt_layer::TileFeature;
+use pb_wire::Memory;
+use std::alloc::Global;
+
+/// Appends the field of a feature's id, where it has one.
+fn put_id(out: &mut Vec<u8>, id: Option<u64>) -> Result<(), Memory>
+    ensures written { OnOk result (out.new.items ≡ out.old.items ++ id_written id) }
+    ensures fits { IfSome id (λ id. id < 2 ^ 64) }
+{
+    match id {
+        Some(id) => put_number(out, 1, id),
+        None => Ok(()),
+    }
+}
+
+/// The type of a geometry (Mapbox Vector Tile 2.1, 4.3.4).
+fn geometry_type(shape: &Shape) -> u64
+    ensures { result ≡ kind_number (shape_view shape.now) }
+{
+    match shape {
+        Shape::Raw(_) => 0,
+        Shape::Points(_) => 1,
+        Shape::Lines(_) => 2,
+        Shape::Rings(_) => 3,
+    }
+}
+
+/// The integers of a geometry.
+fn geometry_integers(alloc: Global, shape: &Shape) -> Result<Vec<u32>, Memory>
+    requires { CanSpell (shape_view shape.now) }
+    ensures spelled { IfOk result (λ v. v.items ≡ shape_spelled (shape_view shape.now)) }
+    ensures shape { IfOk result (λ v. IsShape (kind_of (shape_view shape.now)) v.items (shape_view shape.now)) }
+{
+    match shape {
+        Shape::Points(points) => encode_points(alloc, points),
+        Shape::Lines(lines) => encode_lines(alloc, lines),
+        Shape::Rings(rings) => encode_rings(alloc, rings),
+        Shape::Raw(_) => unreachable!(),
+    }
+}
+
+/// The message of a feature (Mapbox Vector Tile 2.1, 4.2), by the pools of its layer, to which its tags are added.
+#[tactic(auto, unfolding(crate::specs::Written::feature_written))]
+fn feature_bytes<'a>(
+    alloc: Global,
+    keys: &mut Pool<&'a str>,
+    values: &mut Pool<PoolValue<'a>>,
+    feature: &TileFeature<'a>,
+) -> Result<Vec<u8>, Memory>
+    requires { CanWriteFeature (feature_view feature.now) }
+    ensures keys { OnOk result (AddsUses (bytes_of keys.old.entries.items) (bytes_of keys.new.entries.items) (keys_used (feature_view feature.now).tags)) }
+    ensures values { OnOk result (AddsUses (messages_of values.old.entries.items) (messages_of values.new.entries.items) (values_used (feature_view feature.now).tags)) }
+    ensures written { IfOk result (λ v. (later_keys later_values : List (List ℕ)) → v.items ≡ feature_written (bytes_of keys.new.entries.items ++ later_keys) (messages_of values.new.entries.items ++ later_values) (feature_view feature.now)) }
+    ensures fits { OnOk result (FitsFeature (feature_view feature.now)) }
+{
+    let mut out = Vec::new(alloc);
+    put_id(&mut out, feature.id)?;
+    put_tags(alloc, &mut out, keys, values, &feature.tags)?;
+    put_number(&mut out, 3, geometry_type(&feature.shape))?;
+    let integers = geometry_integers(alloc, &feature.shape)?;
+    put_packed(alloc, &mut out, 4, &integers)?;
+    Ok(out)
+}
+
+/// Appends the fields of features.
+pub(crate) fn put_features<'a>(
+    alloc: Global,
+    out: &mut Vec<u8>,
+    keys: &mut Pool<&'a str>,
+    values: &mut Pool<PoolValue<'a>>,
+    features: &[TileFeature<'a>],
+) -> Result<(), Memory>
+    requires { All CanWriteFeature (map feature_view features.now) }
+    ensures keys { OnOk result (AddsUses (bytes_of keys.old.entries.items) (bytes_of keys.new.entries.items) (keys_used (tags_of (map feature_view features.now)))) }
+    ensures values { OnOk result (AddsUses (messages_of values.old.entries.items) (messages_of values.new.entries.items) (values_used (tags_of (map feature_view features.now)))) }
+    ensures written { OnOk result ((later_keys later_values : List (List ℕ)) → out.new.items ≡ out.old.items ++ flat_map (λ f. bytes_field 2 (feature_written (bytes_of keys.new.entries.items ++ later_keys) (messages_of values.new.entries.items ++ later_values) f)) (map feature_view features.now)) }
+    ensures fits { OnOk result (All FitsFeature (map feature_view features.now)) }
+{
+    for feature in features {
+        let bytes = feature_bytes(alloc, keys, values, feature)?;
+        put_bytes(out, 2, &bytes)?;
+    }
+    Ok(())
+}

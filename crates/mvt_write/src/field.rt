@@ -1,0 +1,55 @@
+//! Fields of messages.
+
+ghost use Rattle.std.specs.Prelude.{◌≡◌, ◌*◌, ◌+◌, ◌<◌, ◌^◌, ◌++◌, All, IfOk, OnOk};
+ghost use Rattle.std.specs.List.{flat_map};
+ghost use Rattle.pb_wire.specs.Varint.{varint};
+ghost use Rattle.mvt_write.specs.Written.{number_field, bytes_field, packed_field};
+
+use pb_wire::{Memory, put_varint};
+use std::alloc::Global;
+
+/// Appends a field that is a number.
+pub(crate) fn put_number(out: &mut Vec<u8>, number: u32, n: u64) -> Result<(), Memory>
+    requires { number < 2 ^ 29 }
+    ensures { OnOk result (out.new.items ≡ out.old.items ++ number_field number n) }
+{
+    put_varint(out, 8 * u64::from(number))?;
+    put_varint(out, n)
+}
+
+/// Appends a field that is bytes.
+pub(crate) fn put_bytes(out: &mut Vec<u8>, number: u32, bytes: &[u8]) -> Result<(), Memory>
+    requires { number < 2 ^ 29 }
+    ensures { OnOk result (out.new.items ≡ out.old.items ++ bytes_field number bytes.now) }
+{
+    put_varint(out, 8 * u64::from(number) + 2)?;
+    put_varint(out, bytes.len() as u64)?;
+    out.extend_from_slice(bytes)
+}
+
+/// The numbers one after the other.
+fn packed(alloc: Global, numbers: &[u32]) -> Result<Vec<u8>, Memory>
+    ensures written { IfOk result (λ v. v.items ≡ flat_map varint numbers.now) }
+    ensures fits { OnOk result (All (λ n. n < 2 ^ 32) numbers.now) }
+{
+    let mut out = Vec::new(alloc);
+    for n in numbers {
+        put_varint(&mut out, u64::from(*n))?;
+    }
+    Ok(out)
+}
+
+/// Appends a field that is many numbers.
+pub(crate) fn put_packed(
+    alloc: Global,
+    out: &mut Vec<u8>,
+    number: u32,
+    numbers: &[u32],
+) -> Result<(), Memory>
+    requires { number < 2 ^ 29 }
+    ensures written { OnOk result (out.new.items ≡ out.old.items ++ packed_field number numbers.now) }
+    ensures fits { OnOk result (All (λ n. n < 2 ^ 32) numbers.now) }
+{
+    let bytes = packed(alloc, numbers)?;
+    put_bytes(out, number, &bytes)
+}

@@ -1,0 +1,40 @@
+//! Layers.
+
+ghost use Rattle.std.specs.Prelude.{◌≡◌, ◌++◌, IfOk, OnOk};
+ghost use Rattle.mvt_layer.specs.Tile.{layer_view};
+ghost use Rattle.mvt_write.specs.CanWrite.{CanWriteLayer};
+ghost use Rattle.mvt_write.specs.Fits.{FitsLayer};
+ghost use Rattle.mvt_write.specs.Written.{number_field, layer_written};
+
+use crate::feature::put_features;
+use crate::field::{put_bytes, put_number};
+use crate::pool::Pool;
+use mvt_layer::Layer;
+use pb_wire::Memory;
+use std::alloc::Global;
+
+/// Appends the fields behind the pools.
+fn put_end(out: &mut Vec<u8>, layer: &Layer<'_>) -> Result<(), Memory>
+    ensures { OnOk result (out.new.items ≡ out.old.items ++ (number_field 5 layer.now.extent ++ number_field 15 layer.now.version)) }
+{
+    put_number(out, 5, u64::from(layer.extent))?;
+    put_number(out, 15, u64::from(layer.version))
+}
+
+/// The message of a layer (Mapbox Vector Tile 2.1, 4.1).
+#[tactic(auto, unfolding(crate::specs::Written::layer_with))]
+pub(crate) fn layer_bytes(alloc: Global, layer: &Layer<'_>) -> Result<Vec<u8>, Memory>
+    requires { CanWriteLayer (layer_view layer.now) }
+    ensures written { IfOk result (λ v. v.items ≡ layer_written (layer_view layer.now)) }
+    ensures fits { OnOk result (FitsLayer (layer_view layer.now)) }
+{
+    let mut keys = Pool::new(alloc);
+    let mut values = Pool::new(alloc);
+    let mut out = Vec::new(alloc);
+    put_bytes(&mut out, 1, layer.name.as_bytes())?;
+    put_features(alloc, &mut out, &mut keys, &mut values, &layer.features)?;
+    keys.put(alloc, &mut out, 3)?;
+    values.put(alloc, &mut out, 4)?;
+    put_end(&mut out, layer)?;
+    Ok(out)
+}

@@ -1,0 +1,16 @@
+//! Vector tiles as bytes.
+#![tactic(auto)]
+
+mod entry;
+mod feature;
+mod field;
+mod layer;
+mod pool;
+mod tags;
+mod tile;
+mod value;
+
+pub use tile::write_tile;
+
+#[cfg(test)]
+mod tests;

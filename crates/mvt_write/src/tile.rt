@@ -1,0 +1,26 @@
+ghost use Rattle.std.specs.Prelude.{◌≡◌, IfOk};
+ghost use Rattle.mvt_layer.specs.Tile.{layer_views};
+ghost use Rattle.mvt_layer.specs.Reads.{ReadsAs};
+ghost use Rattle.mvt_write.specs.Written.{written};
+ghost use Rattle.mvt_write.specs.CanWrite.{CanWriteAll};
+
+use crate::field::put_bytes;
+use crate::layer::layer_bytes;
+use mvt_layer::Layer;
+use pb_wire::Memory;
+use std::alloc::Global;
+
+/// The one spelling of the layers (Mapbox Vector Tile 2.1, 4).
+#[tactic(auto, unfolding(crate::specs::Written::written))]
+pub fn write_tile(alloc: Global, layers: &[Layer<'_>]) -> Result<Vec<u8>, Memory>
+    requires { CanWriteAll (layer_views layers.now) }
+    ensures written { IfOk result (λ v. v.items ≡ written (layer_views layers.now)) }
+    ensures reads { IfOk result (λ v. ReadsAs v.items (layer_views layers.now)) }
+{
+    let mut out = Vec::new(alloc);
+    for layer in layers {
+        let bytes = layer_bytes(alloc, layer)?;
+        put_bytes(&mut out, 3, &bytes)?;
+    }
+    Ok(out)
+}

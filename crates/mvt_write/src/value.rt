@@ -1,0 +1,50 @@
+//! The values that a pool holds.
+
+ghost use Rattle.std.specs.Prelude.{◌≡◌, IfOk};
+ghost use Rattle.mvt_layer.specs.Tile.{tag_view};
+ghost use Rattle.mvt_write.specs.CanWrite.{CanWriteValue};
+ghost use Rattle.mvt_write.specs.Values.{value_view};
+ghost use Rattle.mvt_write.specs.Written.{value_written};
+
+use crate::field::{put_bytes, put_number};
+use mvt_layer::TagValue;
+use pb_wire::{Memory, zigzag};
+use std::alloc::Global;
+
+/// The value of a tag that can be written: every one but a floating point number.
+#[derive(Clone, Copy, PartialEq, Eq, PartialOrd, Ord)]
+pub(crate) enum PoolValue<'a> {
+    Text(&'a str),
+    Natural(u64),
+    Negative(i64),
+    Truth(bool),
+}
+
+/// The value of a tag, for a pool.
+pub(crate) fn pool_value(value: TagValue<'_>) -> PoolValue<'_>
+    requires { CanWriteValue (tag_view value) }
+    ensures { value_view result ≡ tag_view value.entry }
+{
+    match value {
+        TagValue::Text(text) => PoolValue::Text(text),
+        TagValue::Natural(n) => PoolValue::Natural(n),
+        TagValue::Negative(n) => PoolValue::Negative(n),
+        TagValue::Truth(truth) => PoolValue::Truth(truth),
+        _ => unreachable!(),
+    }
+}
+
+/// The message that says a value (Mapbox Vector Tile 2.1, 4.4).
+#[tactic(auto, unfolding(crate::specs::Written::value_written))]
+pub(crate) fn value_bytes(alloc: Global, value: PoolValue<'_>) -> Result<Vec<u8>, Memory>
+    ensures { IfOk result (λ v. v.items ≡ value_written (value_view value.entry)) }
+{
+    let mut out = Vec::new(alloc);
+    match value {
+        PoolValue::Text(text) => put_bytes(&mut out, 1, text.as_bytes())?,
+        PoolValue::Natural(n) => put_number(&mut out, 5, n)?,
+        PoolValue::Negative(n) => put_number(&mut out, 6, zigzag(n))?,
+        PoolValue::Truth(truth) => put_number(&mut out, 7, u64::from(truth))?,
+    }
+    Ok(out)
+}

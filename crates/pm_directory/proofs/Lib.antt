@@ -1,0 +1,7 @@
+pub mod Ascending
+pub mod Chain
+pub mod DirectoryLaws
+pub mod EntryLaws
+pub mod NumberLaws
+pub mod Steps
+pub mod Written

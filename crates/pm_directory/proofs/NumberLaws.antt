@@ -1,0 +1,158 @@
+-- Numbers that are read are spelled so, and those that are spelled so are read.
+use Rattle.std.proofs.Common.{◌≡◌, ℕ, zero, suc, Bool, true, false, cond, ltb, List, [], ◌∷◌, ◌++◌, length, take, drop, Result, Ok, Err, ◌⊎◌, inl, inr, refl, sym, ap, subst, ◌∙◌, append_assoc, append-nil, arith}
+use Rattle.std.proofs.lemmas.List.{take-append-drop, drop_at}
+use Rattle.pb_wire.specs.declared.fault.FaultKind.{FaultKind}
+use Rattle.pb_wire.specs.declared.fault.FaultKind.TheVariants as kinds
+use Rattle.pb_wire.specs.Varint.{IsVarint, behind, read_in, varint_at}
+use Rattle.pb_wire.proofs.VarintLaws.{found, found_is, spelling_is_found, cut_is, overlong_is}
+use Rattle.pm_directory.specs.declared.fault.DirectoryFault.{DirectoryFault}
+use Rattle.pm_directory.specs.declared.fault.DirectoryFault.TheVariants as faults
+use Rattle.pm_directory.specs.Directory.{AreVarints}
+use Rattle.pm_directory.specs.Faulty.{NumberHas, cut, overlong, NumbersHave}
+use Rattle.pm_directory.specs.Reading.{Read, ◌>>=◌, number_of, number_at, numbers_at}
+use Rattle.pm_directory.proofs.Chain.{done, same_done, same_failed, not_both, bind_ok, bind_err}
+
+-- ---- a number alone has no fault of a field
+
+abbrev wrong : FaultKind → Result (ℕ × ℕ) FaultKind
+wrong kind = Err kind
+
+not_found : (n : ℕ × ℕ) (kind : FaultKind) → Ok n ≡ wrong kind → ⊥
+not_found n kind e = cc
+
+chosen : {A : Type 0} (b : Bool) (x y z : A) → cond b x y ≡ z → (x ≡ z) ⊎ (y ≡ z)
+chosen true x y z e = inl e
+chosen false x y z e = inr e
+
+behind_err : (b : ℕ) (r : Result (ℕ × ℕ) FaultKind) (kind : FaultKind) → behind b r ≡ Err kind → r ≡ Err kind
+unfolding behind
+behind_err b (Ok high) kind e = absurd cc
+behind_err b (Err other) kind e = cc
+
+-- the faults that a number may have
+abbrev IsNumbers : FaultKind → Type 0
+IsNumbers kinds.Cut = Unit {0}
+IsNumbers kinds.Varint = Unit {0}
+IsNumbers kinds.Number = ⊥
+IsNumbers kinds.WireType = ⊥
+
+of_fault : (c d : FaultKind) → wrong c ≡ wrong d → IsNumbers c → IsNumbers d
+of_fault c d e h = let k : c ≡ d = cc in subst IsNumbers k h
+
+read_fault : (bytes : List ℕ) (more : ℕ) (kind : FaultKind) → read_in bytes more ≡ Err kind → IsNumbers kind
+unfolding read_in
+read_fault [] more kind e = of_fault kinds.Cut kind e tt
+read_fault (b ∷ bs) zero kind e =
+    elim (chosen (ltb b 2) (Ok (b, 1)) (wrong kinds.Varint) (wrong kind) e) [ inl hit ↦ absurd (not_found (b, 1) kind hit) | inr other ↦ of_fault kinds.Varint kind other tt ]
+read_fault (b ∷ bs) (suc more) kind e =
+    elim (chosen (ltb b 128) (Ok (b, 1)) (behind b (read_in bs more)) (wrong kind) e) [
+      | inl hit ↦ absurd (not_found (b, 1) kind hit)
+      | inr other ↦ read_fault bs more kind (behind_err b (read_in bs more) kind other)
+    ]
+
+varint_fault : (bytes : List ℕ) (kind : FaultKind) → varint_at bytes ≡ Err kind → IsNumbers kind
+unfolding varint_at
+varint_fault bytes kind e = read_fault bytes 9 kind e
+
+-- ---- one number
+
+number_ok : (bytes : List ℕ) (r : Result (ℕ × ℕ) FaultKind) (n : ℕ) (rest : List ℕ) → number_of bytes r ≡ Ok (n, rest) → (len : ℕ) × (r ≡ Ok (n, len)) × (rest ≡ drop len bytes)
+unfolding number_of
+number_ok bytes (Ok x) n rest e =
+    let p = same_done (x.0, drop x.1 bytes) (n, rest) e in
+    let first : x.0 ≡ n = ap (λ (q : ℕ × List ℕ). q.0) p in
+    let second : drop x.1 bytes ≡ rest = ap (λ (q : ℕ × List ℕ). q.1) p in
+    (x.1, ap (λ (k : ℕ). found k x.1) first, sym second)
+number_ok bytes (Err kinds.Cut) n rest e = absurd (not_both (n, rest) faults.Cut (sym e))
+number_ok bytes (Err kinds.Varint) n rest e = absurd (not_both (n, rest) faults.Varint (sym e))
+number_ok bytes (Err kinds.Number) n rest e = absurd (not_both (n, rest) faults.Cut (sym e))
+number_ok bytes (Err kinds.WireType) n rest e = absurd (not_both (n, rest) faults.Cut (sym e))
+
+pub number_found : (bytes : List ℕ) (n : ℕ) (rest : List ℕ) → number_at bytes ≡ Ok (n, rest) → (front : List ℕ) × (bytes ≡ front ++ rest) × IsVarint front n
+unfolding number_at
+number_found bytes n rest e =
+    let x = number_ok bytes (varint_at bytes) n rest e in
+    let h = found_is bytes n x.0 x.1 in
+    (take x.0 bytes, sym (take-append-drop x.0 bytes) ∙ ap (λ (r : List ℕ). take x.0 bytes ++ r) (sym x.2), h.1)
+
+pub number_only : (front rest : List ℕ) (n : ℕ) → IsVarint front n → number_at (front ++ rest) ≡ Ok (n, rest)
+unfolding number_at number_of
+number_only front rest n h =
+    ap (number_of (front ++ rest)) (spelling_is_found front rest n h) ∙ ap (λ (r : List ℕ). done (n, r)) (drop_at front rest (length front) refl)
+
+number_has : (bytes : List ℕ) (r : Result (ℕ × ℕ) FaultKind) (d : DirectoryFault) → varint_at bytes ≡ r → number_of bytes r ≡ Err d → NumberHas bytes d
+unfolding number_of
+number_has bytes (Ok x) d is e = absurd (not_both (x.0, drop x.1 bytes) d e)
+number_has bytes (Err kinds.Cut) d is e = cut (sym (same_failed {A = ℕ × List ℕ} faults.Cut d e)) (cut_is bytes is)
+number_has bytes (Err kinds.Varint) d is e = overlong (sym (same_failed {A = ℕ × List ℕ} faults.Varint d e)) (overlong_is bytes is)
+number_has bytes (Err kinds.Number) d is e = absurd (varint_fault bytes kinds.Number is)
+number_has bytes (Err kinds.WireType) d is e = absurd (varint_fault bytes kinds.WireType is)
+
+pub number_err : (bytes : List ℕ) (d : DirectoryFault) → number_at bytes ≡ Err d → NumberHas bytes d
+unfolding number_at
+number_err bytes d e = number_has bytes (varint_at bytes) d refl e
+
+-- ---- numbers one after the other
+
+pub record AreRead (count : ℕ) (before bytes all rest : List ℕ) : Type 0 where
+  pub numbers : List ℕ
+  pub front : List ℕ
+  pub all_is : all ≡ before ++ numbers
+  pub count_is : length numbers ≡ count
+  pub parts : bytes ≡ front ++ rest
+  pub spelled : AreVarints front numbers
+
+pub numbers_found : (count : ℕ) (before bytes all rest : List ℕ) → numbers_at count before bytes ≡ Ok (all, rest) → AreRead count before bytes all rest
+unfolding numbers_at
+numbers_found zero before bytes all rest e =
+    let p = same_done (before, bytes) (all, rest) e in
+    record {
+      numbers = [];
+      front = [];
+      all_is = sym (ap (λ (q : List ℕ × List ℕ). q.0) p) ∙ sym (append-nil before);
+      count_is = refl;
+      parts = ap (λ (q : List ℕ × List ℕ). q.1) p;
+      spelled = refl;
+    }
+numbers_found (suc more) before bytes all rest e =
+    let x = bind_ok (number_at bytes) (λ x. numbers_at more (before ++ x.0 ∷ []) x.1) (all, rest) e in
+    let n = number_found bytes x.0.0 x.0.1 x.1 in
+    let h = numbers_found more (before ++ x.0.0 ∷ []) x.0.1 all rest x.2 in
+    record {
+      numbers = x.0.0 ∷ h.numbers;
+      front = n.0 ++ h.front;
+      all_is = h.all_is ∙ append_assoc before (x.0.0 ∷ []) h.numbers;
+      count_is = omega (arith, h.count_is);
+      parts = n.1 ∙ ap (λ (r : List ℕ). n.0 ++ r) h.parts ∙ sym (append_assoc n.0 h.front rest);
+      spelled = (n.0, h.front, refl, n.2, h.spelled);
+    }
+
+pub numbers_only : (numbers before front rest : List ℕ) → AreVarints front numbers → numbers_at (length numbers) before (front ++ rest) ≡ Ok (before ++ numbers, rest)
+unfolding numbers_at
+numbers_only [] before front rest h = rw (h, append-nil before) refl
+numbers_only (n ∷ ns) before front rest h =
+    let shape : front ++ rest ≡ h.0 ++ (h.1 ++ rest) = ap (λ (r : List ℕ). r ++ rest) h.2 ∙ append_assoc h.0 h.1 rest in
+    let one : number_at (front ++ rest) ≡ Ok (n, h.1 ++ rest) = ap number_at shape ∙ number_only h.0 (h.1 ++ rest) n h.3 in
+    ap (λ (r : Read (ℕ × List ℕ)). r >>= λ x. numbers_at (length ns) (before ++ x.0 ∷ []) x.1) one
+    ∙ numbers_only ns (before ++ n ∷ []) h.1 rest h.4
+    ∙ ap (λ (all : List ℕ). done (all, rest)) (append_assoc before (n ∷ []) ns)
+
+pub numbers_err : (count : ℕ) (before bytes : List ℕ) (d : DirectoryFault) → numbers_at count before bytes ≡ Err d → NumbersHave count bytes d
+unfolding numbers_at
+numbers_err zero before bytes d e = absurd (not_both (before, bytes) d e)
+numbers_err (suc more) before bytes d e =
+    elim (bind_err (number_at bytes) (λ x. numbers_at more (before ++ x.0 ∷ []) x.1) d e) [
+      | inl here ↦ record { numbers = []; front = []; rest = bytes; fewer = omega arith; parts = refl; spelled = refl; fault = number_err bytes d here }
+      | inr later ↦
+          let n = number_found bytes later.0.0 later.0.1 later.1 in
+          let h = numbers_err more (before ++ later.0.0 ∷ []) later.0.1 d later.2 in
+          record {
+            numbers = later.0.0 ∷ h.numbers;
+            front = n.0 ++ h.front;
+            rest = h.rest;
+            fewer = omega (arith, h.fewer);
+            parts = n.1 ∙ ap (λ (r : List ℕ). n.0 ++ r) h.parts ∙ sym (append_assoc n.0 h.front h.rest);
+            spelled = (n.0, h.front, refl, n.2, h.spelled);
+            fault = h.fault;
+          }
+    ]

@@ -1,0 +1,4 @@
+pub mod Directory
+pub mod Faulty
+pub mod Lookup
+pub mod Reading

@@ -1,0 +1,42 @@
+ghost use Rattle.std.specs.Prelude.{◌≡◌};
+ghost use Rattle.pm_directory.specs.declared.fault.DirectoryFault.TheVariants.{Memory};
+
+use std::alloc::{AllocError, AllocFailed};
+
+/// Why bytes are no directory. Where they have several faults, one of these is named.
+#[derive(Clone, Copy, Debug, PartialEq, Eq)]
+pub enum DirectoryFault {
+    /// The bytes end inside a number or before the last one, or are fewer than a byte for each number.
+    Cut,
+    /// A number goes on after its tenth byte, or passes 64 bits.
+    Varint,
+    /// Bytes stand behind the last number.
+    Rest,
+    /// An id isn't above the one before it, or is in the run before it.
+    Order,
+    /// A length is 0.
+    Length,
+    /// The first offset refers to an entry before.
+    Offset,
+    /// A run or a length is 2^32 or more, an id or an offset 2^64 or more, or an id and its run reach
+    /// past the ids of zoom 31.
+    Range,
+    /// Memory ran out. This says nothing of the bytes.
+    Memory,
+}
+
+impl<T: Drop> From<AllocFailed<T>> for DirectoryFault {
+    ghost from_gives = { λ _ e. e ≡ Memory };
+
+    fn from(_e: AllocFailed<T>) -> DirectoryFault {
+        DirectoryFault::Memory
+    }
+}
+
+impl From<AllocError> for DirectoryFault {
+    ghost from_gives = { λ _ e. e ≡ Memory };
+
+    fn from(_e: AllocError) -> DirectoryFault {
+        DirectoryFault::Memory
+    }
+}

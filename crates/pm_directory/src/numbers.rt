@@ -1,0 +1,41 @@
+//! The numbers of which a directory consists.
+
+ghost use Rattle.std.specs.Prelude.{◌≡◌, [], length, IfOk};
+ghost use Rattle.pm_directory.specs.Reading.{Gives, number_at, numbers_at};
+
+use crate::fault::DirectoryFault;
+use pb_wire::{FaultKind, get_varint};
+use std::alloc::Global;
+
+// The number in front, and the bytes behind it.
+#[tactic(auto, unfolding(crate::specs::Reading::number_at, crate::specs::Reading::number_of))]
+pub(crate) fn number(bytes: &[u8]) -> Result<(u64, &[u8]), DirectoryFault>
+    ensures { Gives (λ x. (x.0, x.1.now)) result (number_at bytes.now) }
+{
+    match get_varint(bytes) {
+        Ok((number, len)) => Ok((number, &bytes[len..])),
+        Err(fault) => match fault.kind {
+            FaultKind::Varint => Err(DirectoryFault::Varint),
+            _ => Err(DirectoryFault::Cut),
+        },
+    }
+}
+
+// So many numbers, and the bytes behind them.
+pub(crate) fn numbers(
+    alloc: Global,
+    count: usize,
+    bytes: &[u8],
+) -> Result<(Vec<u64>, &[u8]), DirectoryFault>
+    ensures count { IfOk result (λ x. length x.0.items ≡ count) }
+    ensures exact { Gives (λ x. (x.0.items, x.1.now)) result (numbers_at count [] bytes.now) }
+{
+    let mut numbers = Vec::new(alloc);
+    let mut rest = bytes;
+    for i in 0..count {
+        let (number, after) = number(rest)?;
+        numbers.push(number)?;
+        rest = after;
+    }
+    Ok((numbers, rest))
+}

@@ -1,0 +1,154 @@
+//! Directories as entries.
+
+ghost use Rattle.std.specs.Prelude.{◌≡◌, ◌≢◌, ◌*◌, [], List, length, IfOk, IfErr, MatchResult};
+ghost use Rattle.pm_directory.specs.Directory.{IsDirectory};
+ghost use Rattle.pm_directory.specs.Faulty.{DirectoryHas};
+ghost use Rattle.pm_directory.specs.Reading.{Gives, id_at, run_at, length_at, place_at, entry_at, entries_at, columns_at, directory_at};
+ghost use Rattle.pm_directory.specs.declared.entry.Entry.{Entry};
+
+use crate::entry::Entry;
+use crate::fault::DirectoryFault;
+use crate::numbers::{number, numbers};
+use std::alloc::Global;
+
+/// Behind the last tile id of zoom 31.
+pub(crate) const IDS_END: u64 = 6_148_914_691_236_517_205;
+
+// The id so far behind that of the entry before.
+fn id_behind(before: Option<Entry>, delta: u64) -> Result<u64, DirectoryFault>
+    ensures { result ≡ id_at before delta }
+{
+    match before {
+        None => Ok(delta),
+        Some(entry) if delta < u64::from(entry.run.max(1)) => Err(DirectoryFault::Order),
+        Some(entry) => entry.id.checked_add(delta).ok_or(DirectoryFault::Range),
+    }
+}
+
+// The run of an entry of this id.
+fn run_of(id: u64, run: u64) -> Result<u32, DirectoryFault>
+    ensures { result ≡ run_at id run }
+{
+    if run > u64::from(u32::MAX) || id > IDS_END || IDS_END - id < run {
+        return Err(DirectoryFault::Range);
+    }
+    Ok(run as u32)
+}
+
+fn length_of(length: u64) -> Result<u32, DirectoryFault>
+    ensures { result ≡ length_at length }
+{
+    if length == 0 {
+        return Err(DirectoryFault::Length);
+    }
+    u32::try_from(length).map_err(|_| DirectoryFault::Range)
+}
+
+// The offset that a number says: 0 where the entry before ends, else the number less 1.
+fn offset_behind(before: Option<Entry>, number: u64) -> Result<u64, DirectoryFault>
+    ensures { result ≡ place_at before number }
+{
+    if number > 0 {
+        return Ok(number - 1);
+    }
+    match before {
+        None => Err(DirectoryFault::Offset),
+        Some(entry) => entry
+            .offset
+            .checked_add(u64::from(entry.length))
+            .ok_or(DirectoryFault::Range),
+    }
+}
+
+// The entry of a number of each column.
+#[tactic(auto, unfolding(crate::specs::Reading::entry_at))]
+fn entry_behind(
+    before: Option<Entry>,
+    delta: u64,
+    run: u64,
+    length: u64,
+    offset: u64,
+) -> Result<Entry, DirectoryFault>
+    ensures { result ≡ entry_at before delta run length offset }
+{
+    let id = id_behind(before, delta)?;
+    let run = run_of(id, run)?;
+    let length = length_of(length)?;
+    let offset = offset_behind(before, offset)?;
+    Ok(Entry {
+        id,
+        run,
+        length,
+        offset,
+    })
+}
+
+// The entries of four columns.
+fn entries_of(
+    alloc: Global,
+    deltas: &[u64],
+    runs: &[u64],
+    lengths: &[u64],
+    offsets: &[u64],
+) -> Result<Vec<Entry>, DirectoryFault>
+    requires runs { length runs.now ≡ length deltas.now }
+    requires lengths { length lengths.now ≡ length deltas.now }
+    requires offsets { length offsets.now ≡ length deltas.now }
+    ensures { Gives (λ v. v.items) result (entries_at None [] deltas.now runs.now lengths.now offsets.now) }
+{
+    let mut entries = Vec::new(alloc);
+    let mut before = None;
+    for i in 0..deltas.len() {
+        let entry = entry_behind(before, deltas[i], runs[i], lengths[i], offsets[i])?;
+        entries.push(entry)?;
+        before = Some(entry);
+    }
+    Ok(entries)
+}
+
+// How many entries there are, and the numbers of their four columns one behind the other.
+#[tactic(auto, unfolding(crate::specs::Reading::columns_at))]
+fn columns(alloc: Global, bytes: &[u8]) -> Result<(usize, Vec<u64>), DirectoryFault>
+    ensures four { IfOk result (λ x. length x.1.items ≡ 4 * x.0) }
+    ensures exact { Gives (λ x. (x.0, x.1.items)) result (columns_at bytes.now) }
+{
+    let (count, rest) = number(bytes)?;
+    // Each number of the columns has a byte or more.
+    if count > rest.len() as u64 / 4 {
+        return Err(DirectoryFault::Cut);
+    }
+    let count = count as usize;
+    let (numbers, rest) = numbers(alloc, 4 * count, rest)?;
+    if rest.len() > 0 {
+        return Err(DirectoryFault::Rest);
+    }
+    Ok((count, numbers))
+}
+
+#[tactic(auto, unfolding(crate::specs::Reading::directory_at))]
+fn entries_in(alloc: Global, bytes: &[u8]) -> Result<Vec<Entry>, DirectoryFault>
+    ensures { Gives (λ entries. entries.items) result (directory_at bytes.now) }
+{
+    let (count, numbers) = columns(alloc, bytes)?;
+    let (deltas, others) = numbers.split_at(count);
+    let (runs, others) = others.split_at(count);
+    let (lengths, offsets) = others.split_at(count);
+    entries_of(alloc, deltas, runs, lengths, offsets)
+}
+
+/// The entries of a directory (PMTiles 3, 4.2): in ascending order, without overlapping runs.
+///
+/// Whatever count the bytes begin with, memory is taken only for numbers that stand there.
+pub fn read_directory(alloc: Global, bytes: &[u8]) -> Result<Vec<Entry>, DirectoryFault>
+    ensures found { IfOk result (λ entries. IsDirectory bytes.now entries.items) }
+
+    // A directory is refused for want of memory alone.
+    ensures only { (entries : List Entry) → IsDirectory bytes.now entries
+        → MatchResult result (λ read. read.items ≡ entries) (λ fault. fault ≡ DirectoryFault.Memory) }
+
+    // Another fault is one that the bytes have, and of several the first that is met.
+    ensures fault { IfErr result (λ fault. fault ≢ DirectoryFault.Memory → DirectoryHas bytes.now fault) }
+    ensures first { Gives (λ entries. entries.items) result (directory_at bytes.now) }
+{
+    entries_in(alloc, bytes)
+}

@@ -1,0 +1,81 @@
+//! Entries as a directory.
+
+ghost use Rattle.std.specs.Prelude.{◌≡◌, ◌+◌, ◌<◌, ◌^◌, ◌++◌, OnOk, IfOk};
+ghost use Rattle.std.specs.List.{AllByRecursion};
+ghost use Rattle.pm_directory.specs.Directory.{IsAscending, IsEntry, HasEnd, IsDirectory, id_deltas, runs_of, lengths_of, offset_number, offset_numbers, varints, directory_bytes};
+
+use crate::Memory;
+use crate::entry::Entry;
+use pb_wire::put_varint;
+use std::alloc::Global;
+
+fn put_deltas(out: &mut Vec<u8>, entries: &[Entry]) -> Result<(), Memory>
+    requires { IsAscending entries.now }
+    ensures { OnOk result (out.new.items ≡ out.old.items ++ varints (id_deltas 0 entries.now)) }
+{
+    let mut before = 0;
+    for entry in entries {
+        put_varint(out, entry.id - before)?;
+        before = entry.id;
+    }
+    Ok(())
+}
+
+fn put_runs(out: &mut Vec<u8>, entries: &[Entry]) -> Result<(), Memory>
+    ensures { OnOk result (out.new.items ≡ out.old.items ++ varints (runs_of entries.now)) }
+{
+    for entry in entries {
+        put_varint(out, u64::from(entry.run))?;
+    }
+    Ok(())
+}
+
+fn put_lengths(out: &mut Vec<u8>, entries: &[Entry]) -> Result<(), Memory>
+    ensures { OnOk result (out.new.items ≡ out.old.items ++ varints (lengths_of entries.now)) }
+{
+    for entry in entries {
+        put_varint(out, u64::from(entry.length))?;
+    }
+    Ok(())
+}
+
+// The number of an offset behind where the entry before ends.
+fn number_of_offset(end: Option<u64>, offset: u64) -> u64
+    requires { offset + 1 < 2 ^ 64 }
+    ensures { result ≡ offset_number end offset }
+{
+    match end {
+        Some(end) if end == offset => 0,
+        _ => offset + 1,
+    }
+}
+
+fn put_offsets(out: &mut Vec<u8>, entries: &[Entry]) -> Result<(), Memory>
+    requires { AllByRecursion HasEnd entries.now }
+    ensures { OnOk result (out.new.items ≡ out.old.items ++ varints (offset_numbers None entries.now)) }
+{
+    let mut end = None;
+    for entry in entries {
+        put_varint(out, number_of_offset(end, entry.offset))?;
+        end = Some(entry.offset + u64::from(entry.length));
+    }
+    Ok(())
+}
+
+/// The directory of these entries (PMTiles 3, 4.2), each number spelled as short as can be, and an offset as 0
+/// wherever its content follows that of the entry before.
+pub fn write_directory(alloc: Global, entries: &[Entry]) -> Result<Vec<u8>, Memory>
+    requires ascending { IsAscending entries.now }
+    requires each { AllByRecursion IsEntry entries.now }
+    requires ends { AllByRecursion HasEnd entries.now }
+    ensures directory { IfOk result (λ bytes. IsDirectory bytes.items entries.now) }
+    ensures spelling { IfOk result (λ bytes. bytes.items ≡ directory_bytes entries.now) }
+{
+    let mut bytes = Vec::new(alloc);
+    put_varint(&mut bytes, entries.len() as u64)?;
+    put_deltas(&mut bytes, entries)?;
+    put_runs(&mut bytes, entries)?;
+    put_lengths(&mut bytes, entries)?;
+    put_offsets(&mut bytes, entries)?;
+    Ok(bytes)
+}

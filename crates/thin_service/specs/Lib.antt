@@ -1,0 +1,4 @@
+pub mod Bodies
+pub mod Requests
+pub mod State
+pub mod Words

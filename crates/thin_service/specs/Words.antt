@@ -1,0 +1,83 @@
+-- The replies of the service.
+use Rattle.std.specs.Prelude.{ℕ, List, ◌++◌, codes, decimal, Option, Some, None}
+use Rattle.hex.specs.Hex.{encode_lower}
+use Rattle.http_serve.specs.Reply.{ReplyView}
+use Rattle.edit_text.specs.declared.fault.EditFault.{EditFault}
+use Rattle.edit_text.specs.declared.fault.EditFault.TheVariants as edits
+use Rattle.tile_routes.specs.declared.target.TileFormat.{TileFormat}
+use Rattle.tile_routes.specs.declared.target.TileFormat.TheVariants.{Mvt, Hex}
+use Rattle.thin_service.specs.declared.fault.RequestFault.{RequestFault}
+use Rattle.thin_service.specs.declared.fault.RequestFault.TheVariants.{NotFound, Json, Edit, NumbersSpent, JournalFull, Memory}
+
+unfoldable pub text_type : List ℕ
+text_type = codes "text/plain"
+
+unfoldable pub json_type : List ℕ
+json_type = codes "application/json"
+
+unfoldable pub tile_type : List ℕ
+tile_type = codes "application/vnd.mapbox-vector-tile"
+
+-- ---- refusals
+
+-- the word of a fault of an edit, and a line feed
+unfoldable pub edit_word : EditFault → List ℕ
+edit_word edits.Member = codes "E1 Member\n"
+edit_word edits.Number = codes "E2 Number\n"
+edit_word edits.Layer = codes "E3 Layer\n"
+edit_word edits.Zoom = codes "E4 Zoom\n"
+edit_word edits.Geometry = codes "E5 Geometry\n"
+edit_word edits.Tags = codes "E6 Tags\n"
+edit_word edits.Value = codes "E7 Value\n"
+edit_word edits.Long = codes "E8 Long\n"
+edit_word edits.Reach = codes "E9 Reach\n"
+edit_word edits.Memory = codes "Memory\n"
+
+unfoldable pub fault_word : RequestFault → List ℕ
+fault_word NotFound = codes "NotFound\n"
+fault_word Json = codes "Json\n"
+fault_word (Edit fault) = edit_word fault
+fault_word NumbersSpent = codes "NumbersSpent\n"
+fault_word JournalFull = codes "JournalFull need 1 free 0\n"
+fault_word Memory = codes "Memory\n"
+
+abbrev pub edit_status : EditFault → ℕ
+edit_status edits.Memory = 503
+edit_status fault = 400
+
+abbrev pub fault_status : RequestFault → ℕ
+fault_status NotFound = 404
+fault_status Json = 400
+fault_status (Edit fault) = edit_status fault
+fault_status NumbersSpent = 500
+fault_status JournalFull = 507
+fault_status Memory = 503
+
+-- a refusal: its word as a text
+abbrev pub refusal_of : RequestFault → ReplyView
+refusal_of fault = record { status = fault_status fault; kind = Some text_type; content = fault_word fault }
+
+-- ---- answers
+
+-- the number of an edit that was made
+unfoldable pub edit_text : ℕ → List ℕ
+edit_text number = codes "{\"edit\":" ++ decimal number ++ codes "}"
+
+abbrev pub edit_reply : ℕ → ReplyView
+edit_reply number = record { status = 200; kind = Some json_type; content = edit_text number }
+
+-- no tile
+abbrev pub no_tile : ReplyView
+no_tile = record { status = 204; kind = None; content = codes "" }
+
+abbrev pub format_type : TileFormat → List ℕ
+format_type Mvt = tile_type
+format_type Hex = text_type
+
+abbrev pub format_content : TileFormat → List ℕ → List ℕ
+format_content Mvt bytes = bytes
+format_content Hex bytes = encode_lower bytes
+
+-- a tile
+abbrev pub tile_reply : TileFormat → List ℕ → ReplyView
+tile_reply format bytes = record { status = 200; kind = Some (format_type format); content = format_content format bytes }

@@ -1,0 +1,11 @@
+pub mod Chains
+pub mod Areas
+pub mod Boxes
+pub mod Drawn
+pub mod Each
+pub mod Kept
+pub mod Outside
+pub mod Passes
+pub mod Spelled
+pub mod Turned
+pub mod Ways

@@ -1,0 +1,236 @@
+-- Outside the tiles that a feature covers nothing of it is shown.
+use Rattle.std.proofs.Common.{◌≡◌, ℕ, ℤ, pos, negsuc, ◌+◌, ◌-◌, ◌*◌, ◌/◌, ◌^◌, ◌<◌, ◌≤◌, ◌-ℤ◌, ◌<ℤ◌, min, max, Bool, true, false, cond, not, ◌&&◌, List, [], ◌∷◌, ◌++◌, Option, Some, None, map, length, refl, sym, ap, ◌∙◌, subst, ⊎_elim, arith}
+use Rattle.std.specs.Prelude.{All, filter, flat_map, fold, int_le}
+use Rattle.std.specs.List.{slice_split}
+use Rattle.std.specs.Int.{int_min, int_max, div_ceil}
+use Rattle.std.proofs.lemmas.Int.{ints, clamps}
+use Rattle.std.proofs.lemmas.Grind.{div_ceil_times}
+use Rattle.std.proofs.lemmas.Bool.{cases_lt}
+use Rattle.std.proofs.lemmas.List.Elements.{All-nil, All-cons, All-head, All-tail, All-weaker}
+use Rattle.edit_text.specs.declared.feature.World.{World}
+use Rattle.edit_text.specs.Data.{FeatureData, GeometryData, world_points, world_lines, world_polygons}
+use Rattle.geometry_commands.specs.declared.point.Pt.{Pt}
+use Rattle.mvt_layer.specs.Tile.{FeatureView}
+use Rattle.tile_cutter.specs.declared.reach.TileRange.{TileRange}
+use Rattle.tile_cutter.specs.Cut.{quantised_axis, tile_points, tile_ring, in_box, least_corner, greatest_corner, reaches_box, meets_box, points_cut, Segment, segments, is_kept, way_along, is_some_segment, line_cut, lines_cut, is_ring, outward, inner_rings, polygon_cut, polygons_cut, unless_empty, geometry_cut, has_zoom, shown_with, feature_cut}
+use Rattle.tile_cutter.specs.Covered.{all_of, all_points, least_of, greatest_of, first_met, last_met, covered, IsInRange}
+use Rattle.tile_cutter.proofs.Passes.{stands_at}
+use Rattle.tile_cutter.proofs.Kept.{points_all, ring_all}
+use Rattle.tile_cutter.proofs.Chains.{is_left_out}
+use Rattle.tile_cutter.proofs.Drawn.{Both, all_segments}
+
+-- ---- the four sides of the box
+
+abbrev IsRight : Pt → Type 0
+IsRight p = pos 4160 <ℤ p.x
+
+abbrev IsLeft : Pt → Type 0
+IsLeft p = p.x <ℤ negsuc 63
+
+abbrev IsBelow : Pt → Type 0
+IsBelow p = pos 4160 <ℤ p.y
+
+abbrev IsAbove : Pt → Type 0
+IsAbove p = p.y <ℤ negsuc 63
+
+past : (a b : ℤ) → b <ℤ a → int_le a b ≡ false
+past a b h = grind (arith, ints)
+
+first_false : (a b : Bool) → a ≡ false → (a && b) ≡ false
+first_false a b e = rw e refl
+
+second_false : (a b : Bool) → b ≡ false → (a && b) ≡ false
+second_false true b e = e
+second_false false b e = refl
+
+fold_keeps : (P : Pt → Type 0) (f : Pt → Pt → Pt) → ((p q : Pt) → P p → P q → P (f p q)) → (p : Pt) (ps : List Pt) → P p → All P ps → P (fold f p ps)
+fold_keeps P f keeps p [] here all = here
+fold_keeps P f keeps p (q ∷ qs) here all = fold_keeps P f keeps (f p q) qs (keeps p q here (All-head P q qs all)) (All-tail P q qs all)
+
+-- what is on one side isn't in the box, and doesn't meet it
+record IsSide (P : Pt → Type 0) : Type 0 where
+  out : (p : Pt) → P p → in_box p ≡ false
+  apart : (p : Pt) (ps : List Pt) → P p → All P ps → meets_box (p ∷ ps) ≡ false
+
+right_least : (p q : Pt) → IsRight p → IsRight q → IsRight (least_corner p q)
+right_least p q p_is q_is = omega (arith, ints, clamps, p_is, q_is)
+
+left_greatest : (p q : Pt) → IsLeft p → IsLeft q → IsLeft (greatest_corner p q)
+left_greatest p q p_is q_is = omega (arith, ints, clamps, p_is, q_is)
+
+below_least : (p q : Pt) → IsBelow p → IsBelow q → IsBelow (least_corner p q)
+below_least p q p_is q_is = omega (arith, ints, clamps, p_is, q_is)
+
+above_greatest : (p q : Pt) → IsAbove p → IsAbove q → IsAbove (greatest_corner p q)
+above_greatest p q p_is q_is = omega (arith, ints, clamps, p_is, q_is)
+
+right_side : IsSide IsRight
+right_side = record {
+  out = λ p h. first_false _ _ (first_false _ _ (second_false _ _ (past p.x (pos 4160) h)));
+  apart = λ p ps here all. first_false _ _ (first_false _ _ (first_false _ _ (past (fold least_corner p ps).x (pos 4160) (fold_keeps IsRight least_corner right_least p ps here all))))
+}
+
+left_side : IsSide IsLeft
+left_side = record {
+  out = λ p h. first_false _ _ (first_false _ _ (first_false _ _ (past (negsuc 63) p.x h)));
+  apart = λ p ps here all. first_false _ _ (first_false _ _ (second_false _ _ (past (negsuc 63) (fold greatest_corner p ps).x (fold_keeps IsLeft greatest_corner left_greatest p ps here all))))
+}
+
+below_side : IsSide IsBelow
+below_side = record {
+  out = λ p h. second_false _ _ (past p.y (pos 4160) h);
+  apart = λ p ps here all. first_false _ _ (second_false _ _ (past (fold least_corner p ps).y (pos 4160) (fold_keeps IsBelow least_corner below_least p ps here all)))
+}
+
+above_side : IsSide IsAbove
+above_side = record {
+  out = λ p h. first_false _ _ (second_false _ _ (past (negsuc 63) p.y h));
+  apart = λ p ps here all. second_false _ _ (past (negsuc 63) (fold greatest_corner p ps).y (fold_keeps IsAbove greatest_corner above_greatest p ps here all))
+}
+
+-- ---- a geometry on one side
+
+filter_nothing : {X : Type 0} (p : X → Bool) (xs : List X) → All (λ x. p x ≡ false) xs → filter p xs ≡ []
+filter_nothing p [] all = refl
+filter_nothing p (x ∷ xs) all = rw (All-head (λ y. p y ≡ false) x xs all) (filter_nothing p xs (All-tail (λ y. p y ≡ false) x xs all))
+
+flat_nothing : {X Y : Type 0} (f : X → List Y) (xs : List X) → All (λ x. f x ≡ []) xs → flat_map f xs ≡ []
+flat_nothing f [] all = refl
+flat_nothing f (x ∷ xs) all = rw (All-head (λ y. f y ≡ []) x xs all) (flat_nothing f xs (All-tail (λ y. f y ≡ []) x xs all))
+
+split_nothing : (ss : List Segment) → All (λ s. is_kept s ≡ false) ss → filter is_some_segment (slice_split is_left_out ss) ≡ []
+split_nothing [] all = refl
+split_nothing (s ∷ ss) all = rw (All-head (λ t. is_kept t ≡ false) s ss all) (split_nothing ss (All-tail (λ t. is_kept t ≡ false) s ss all))
+
+all_parts : {X Y : Type 0} (P : Y → Type 0) (f : X → List Y) (xs : List X) → All P (flat_map f xs) → All (λ x. All P (f x)) xs
+all_parts P f [] all = All-nil (λ x. All P (f x))
+all_parts {X} {Y} P f (x ∷ xs) all =
+    let both = split (f x) (flat_map f xs) all in
+    All-cons (λ y. All P (f y)) x xs both.0 (all_parts P f xs both.1)
+  where
+    split : (us vs : List Y) → All P (us ++ vs) → All P us × All P vs
+    split [] vs all = (All-nil P, all)
+    split (u ∷ us) vs all =
+        let rest = split us vs (All-tail P u (us ++ vs) all) in
+        (All-cons P u us (All-head P u (us ++ vs) all) rest.0, rest.1)
+
+no_points : (P : Pt → Type 0) → IsSide P → (zoom column row : ℕ) (ps : List World) → All (λ p. P (stands_at zoom column row p)) ps → points_cut zoom column row ps ≡ []
+unfolding points_cut
+no_points P side zoom column row ps all =
+    filter_nothing in_box (tile_points zoom column row ps) (All-weaker P (λ p. in_box p ≡ false) side.out (tile_points zoom column row ps) (points_all P zoom column row ps all))
+
+no_line : (P : Pt → Type 0) → IsSide P → (zoom column row : ℕ) (ps : List World) → All (λ p. P (stands_at zoom column row p)) ps → line_cut zoom column row ps ≡ []
+unfolding line_cut
+no_line P side zoom column row ps all =
+    let ss = segments (tile_points zoom column row ps) in
+    let ends = all_segments P (tile_points zoom column row ps) (points_all P zoom column row ps all) in
+    let none = All-weaker (Both P) (λ s. is_kept s ≡ false) (λ s both. side.apart s.0 (s.1 ∷ []) both.0 (All-cons P s.1 [] both.1 (All-nil P))) ss ends in
+    ap (map way_along) (split_nothing ss none)
+
+no_polygon : (P : Pt → Type 0) → IsSide P → (zoom column row : ℕ) (rs : List (List World)) → All (λ p. P (stands_at zoom column row p)) (all_of rs) → polygon_cut zoom column row rs ≡ []
+unfolding polygon_cut
+no_polygon P side zoom column row [] all = refl
+no_polygon P side zoom column row (outer ∷ inners) all =
+    let rings = all_parts (λ p. P (stands_at zoom column row p)) (λ r. r) (outer ∷ inners) all in
+    let outer_all = All-head (λ r. All (λ p. P (stands_at zoom column row p)) r) outer inners rings in
+    let apart = ring_apart (tile_ring zoom column row outer) (ring_all P zoom column row outer outer_all) in
+    rw (second_false (is_ring (tile_ring zoom column row outer)) (meets_box (tile_ring zoom column row outer)) apart) refl
+  where
+    ring_apart : (ps : List Pt) → All P ps → meets_box ps ≡ false
+    ring_apart [] ps_all = refl
+    ring_apart (p ∷ ps) ps_all = side.apart p ps (All-head P p ps ps_all) (All-tail P p ps ps_all)
+
+no_geometry : (P : Pt → Type 0) → IsSide P → (zoom column row : ℕ) (g : GeometryData) → All (λ p. P (stands_at zoom column row p)) (all_points g) → geometry_cut zoom column row g ≡ None
+unfolding geometry_cut lines_cut polygons_cut
+no_geometry P side zoom column row (world_points ps) all = rw (no_points P side zoom column row ps all) refl
+no_geometry P side zoom column row (world_lines ls) all =
+    let Stands : World → Type 0 = λ p. P (stands_at zoom column row p) in
+    rw (flat_nothing (line_cut zoom column row) ls (All-weaker (All Stands) (λ l. line_cut zoom column row l ≡ []) (no_line P side zoom column row) ls (all_parts Stands (λ l. l) ls all))) refl
+no_geometry P side zoom column row (world_polygons ps) all =
+    let Stands : World → Type 0 = λ p. P (stands_at zoom column row p) in
+    rw (flat_nothing (polygon_cut zoom column row) ps (All-weaker (λ p. All Stands (all_of p)) (λ p. polygon_cut zoom column row p ≡ []) (no_polygon P side zoom column row) ps (all_parts Stands all_of ps all))) refl
+
+no_feature : (f : FeatureData) (zoom column row : ℕ) → geometry_cut zoom column row f.geometry ≡ None → feature_cut f zoom column row ≡ None
+unfolding feature_cut
+no_feature f zoom column row none = rw none (go (has_zoom f zoom))
+  where
+    go : (b : Bool) → ◌≡◌ {A = Option FeatureView} (cond b None None) None
+    go true = refl
+    go false = refl
+
+-- ---- coordinates outside the range
+
+fold_min_below : {X : Type 0} (f : X → ℕ) (m : ℕ) (xs : List X) → (fold min m (map f xs) ≤ m) × All (λ x. fold min m (map f xs) ≤ f x) xs
+fold_min_below f m [] = (omega arith, All-nil (λ x. m ≤ f x))
+fold_min_below f m (x ∷ xs) =
+    let rest = fold_min_below f (min m (f x)) xs in
+    (omega (arith, rest.0), All-cons (λ y. fold min (min m (f x)) (map f xs) ≤ f y) x xs (omega (arith, rest.0)) rest.1)
+
+least_below : {X : Type 0} (f : X → ℕ) (xs : List X) → All (λ x. least_of (map f xs) ≤ f x) xs
+least_below f [] = All-nil (λ x. 0 ≤ f x)
+least_below f (x ∷ xs) =
+    let rest = fold_min_below f (f x) xs in
+    All-cons (λ y. fold min (f x) (map f xs) ≤ f y) x xs rest.0 rest.1
+
+fold_max_above : {X : Type 0} (f : X → ℕ) (m : ℕ) (xs : List X) → (m ≤ fold max m (map f xs)) × All (λ x. f x ≤ fold max m (map f xs)) xs
+fold_max_above f m [] = (omega arith, All-nil (λ x. f x ≤ m))
+fold_max_above f m (x ∷ xs) =
+    let rest = fold_max_above f (max m (f x)) xs in
+    (omega (arith, rest.0), All-cons (λ y. f y ≤ fold max (max m (f x)) (map f xs)) x xs (omega (arith, rest.0)) rest.1)
+
+greatest_above : {X : Type 0} (f : X → ℕ) (xs : List X) → All (λ x. f x ≤ greatest_of (map f xs)) xs
+greatest_above f [] = All-nil (λ x. f x ≤ 0)
+greatest_above f (x ∷ xs) =
+    let rest = fold_max_above f (f x) xs in
+    All-cons (λ y. f y ≤ fold max (f x) (map f xs)) x xs rest.0 rest.1
+
+-- before the first column, or row, that is met
+before_first : (at least u : ℕ) → at < first_met least → least ≤ u → pos 4160 <ℤ (pos u -ℤ pos (4096 * at))
+before_first at least u lt le =
+    let ceil = div_ceil_times (least - 4160) 4096 (omega arith) in
+    let far : 4096 * at + 4160 < least = omega (arith, ceil.1, lt) in
+    omega (arith, ints)
+
+-- behind the last
+behind_last : (zoom at greatest u : ℕ) → last_met zoom greatest < at → at < 2 ^ zoom → u ≤ greatest → (pos u -ℤ pos (4096 * at)) <ℤ negsuc 63
+behind_last zoom at greatest u lt inside le =
+    let far : greatest + 64 < 4096 * at = omega (arith, lt) in
+    omega (arith, ints)
+
+-- ---- the law
+
+pub outside : (f : FeatureData) (zoom column row : ℕ) (range : TileRange) → range ≡ covered f.geometry zoom → column < 2 ^ zoom → row < 2 ^ zoom → ¬ IsInRange range column row → feature_cut f zoom column row ≡ None
+unfolding covered
+outside f zoom column row range range_is across down out =
+    let ps = all_points f.geometry in
+    let x : World → ℕ = λ p. quantised_axis zoom p.x in
+    let y : World → ℕ = λ p. quantised_axis zoom p.y in
+    let x0_is : range.x0 ≡ first_met (least_of (map x ps)) = ap (λ r. r.x0) range_is in
+    let x1_is : range.x1 ≡ last_met zoom (greatest_of (map x ps)) = ap (λ r. r.x1) range_is in
+    let y0_is : range.y0 ≡ first_met (least_of (map y ps)) = ap (λ r. r.y0) range_is in
+    let y1_is : range.y1 ≡ last_met zoom (greatest_of (map y ps)) = ap (λ r. r.y1) range_is in
+    no_feature f zoom column row (⊎_elim
+      (λ (lt : column < range.x0).
+        let first : column < first_met (least_of (map x ps)) = rw (← x0_is) lt in
+        no_geometry IsRight right_side zoom column row f.geometry
+        (All-weaker (λ p. least_of (map x ps) ≤ x p) (λ p. IsRight (stands_at zoom column row p)) (λ p le. before_first column (least_of (map x ps)) (x p) first le) ps (least_below x ps)))
+      (λ (right_of : range.x0 ≤ column). ⊎_elim
+        (λ (lt : range.x1 < column).
+          let last : last_met zoom (greatest_of (map x ps)) < column = rw (← x1_is) lt in
+          no_geometry IsLeft left_side zoom column row f.geometry
+          (All-weaker (λ p. x p ≤ greatest_of (map x ps)) (λ p. IsLeft (stands_at zoom column row p)) (λ p le. behind_last zoom column (greatest_of (map x ps)) (x p) last across le) ps (greatest_above x ps)))
+        (λ (left_of : column ≤ range.x1). ⊎_elim
+          (λ (lt : row < range.y0).
+            let first : row < first_met (least_of (map y ps)) = rw (← y0_is) lt in
+            no_geometry IsBelow below_side zoom column row f.geometry
+            (All-weaker (λ p. least_of (map y ps) ≤ y p) (λ p. IsBelow (stands_at zoom column row p)) (λ p le. before_first row (least_of (map y ps)) (y p) first le) ps (least_below y ps)))
+          (λ (below : range.y0 ≤ row). ⊎_elim
+            (λ (lt : range.y1 < row).
+              let last : last_met zoom (greatest_of (map y ps)) < row = rw (← y1_is) lt in
+              no_geometry IsAbove above_side zoom column row f.geometry
+              (All-weaker (λ p. y p ≤ greatest_of (map y ps)) (λ p. IsAbove (stands_at zoom column row p)) (λ p le. behind_last zoom row (greatest_of (map y ps)) (y p) last down le) ps (greatest_above y ps)))
+            (λ (above : row ≤ range.y1). absurd (out (record { left = right_of; right = left_of; top = below; bottom = above })))
+            (cases_lt range.y1 row))
+          (cases_lt row range.y0))
+        (cases_lt range.x1 column))
+      (cases_lt column range.x0))

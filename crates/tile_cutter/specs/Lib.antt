@@ -1,0 +1,5 @@
+pub mod Corners
+pub mod Covered
+pub mod Cut
+pub mod Passes
+pub mod Range

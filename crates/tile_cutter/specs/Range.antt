@@ -1,0 +1,35 @@
+-- How far points stand from the origin.
+use Rattle.std.specs.Prelude.{ℕ, ℤ, pos, neg_ℤ, ◌*◌, ◌^◌, ◌<◌, ◌+ℤ◌, ◌≤ℤ◌, ◌<ℤ◌, Bool, List, length, All}
+use Rattle.edit_text.specs.declared.feature.World.{World}
+use Rattle.geometry_commands.specs.declared.point.Pt.{Pt}
+use Rattle.geometry_commands.specs.Shapes.{least}
+
+-- a point of the world
+abbrev pub IsInWorld : World → Type 0
+IsInWorld p = (p.x < 2 ^ 32) × (p.y < 2 ^ 32)
+
+-- a number of so many bits and a sign
+pub record IsWithin (bits : ℕ) (u : ℤ) : Type 0 where
+  pub low : neg_ℤ (pos (2 ^ bits)) ≤ℤ u
+  pub high : u ≤ℤ pos (2 ^ bits)
+
+-- a point so near that twice the area of a ring can be computed
+pub record IsSmall (p : Pt) : Type 0 where
+  pub across : IsWithin 45 p.x
+  pub down : IsWithin 45 p.y
+
+-- a coordinate in the tiles of a column or a row, of a zoom of fewer than 2^31 coordinates
+pub record IsOfSide (at : ℕ) (u : ℤ) : Type 0 where
+  pub low : pos 0 ≤ℤ (u +ℤ pos (4096 * at))
+  pub high : (u +ℤ pos (4096 * at)) <ℤ pos (2 ^ 31)
+
+-- a point in the tile of a column and a row
+pub record IsOfTile (column row : ℕ) (p : Pt) : Type 0 where
+  pub across : IsOfSide column p.x
+  pub down : IsOfSide row p.y
+
+-- a line, or a ring, which is closed, that can be written
+pub record IsDrawable (closed : Bool) (column row : ℕ) (ps : List Pt) : Type 0 where
+  pub long : least closed < length ps
+  pub few : length ps < 2 ^ 29
+  pub of_tile : All (IsOfTile column row) ps

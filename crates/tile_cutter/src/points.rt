@@ -1,0 +1,58 @@
+ghost use Rattle.std.specs.Prelude.{◌≡◌, ◌≤◌, option_map, All, IfOk, IfSome, OnOk};
+ghost use Rattle.edit_text.specs.Limits.{CountFits};
+ghost use Rattle.geometry_commands.specs.Encodable.{CanSpell};
+ghost use Rattle.geometry_commands.specs.Shapes as shapes;
+ghost use Rattle.geometry_commands.specs.Shapes.{shape_view};
+ghost use Rattle.tile_cutter.specs.Cut.{points_cut, unless_empty};
+ghost use Rattle.tile_cutter.specs.Passes.{is_shown};
+ghost use Rattle.tile_cutter.specs.Range.{IsOfTile};
+
+use crate::bounds::is_in_box;
+use crate::place::{place, repeats};
+use edit_text::{Memory, World};
+use geometry_commands::{Pt, Shape};
+use hilbert_id::TileAt;
+use std::alloc::Global;
+
+/// Whether a tile shows a point: it isn't the one before it again, and stands in the box.
+fn is_shown(before: Option<Pt>, here: Pt) -> bool
+    ensures { result ≡ is_shown before here }
+{
+    !repeats(before, here) && is_in_box(here)
+}
+
+/// The points that a tile shows.
+fn cut_points(alloc: Global, points: &[World], at: TileAt) -> Result<Vec<Pt>, Memory>
+    requires { at.z ≤ 16 }
+    ensures points { IfOk result (λ v. v.items ≡ points_cut at.z at.x at.y points.now) }
+    ensures of_tile { OnOk result (All (IsOfTile at.x at.y) (points_cut at.z at.x at.y points.now)) }
+{
+    let mut shown = Vec::new(alloc);
+    let mut before = None;
+    for point in points {
+        let here = place(*point, at);
+        if is_shown(before, here) {
+            shown.push(here)?;
+        }
+        before = Some(here);
+    }
+    Ok(shown)
+}
+
+/// What a tile shows of points, as a shape that can be written.
+pub(crate) fn points_shape(
+    alloc: Global,
+    points: &[World],
+    at: TileAt,
+) -> Result<Option<Shape>, Memory>
+    requires zoom { at.z ≤ 16 }
+    requires limits { CountFits 1 points.now }
+    ensures shape { IfOk result (λ o. option_map shape_view o ≡ unless_empty shapes.points (points_cut at.z at.x at.y points.now)) }
+    ensures writable { IfOk result (λ o. IfSome o (λ s. CanSpell (shape_view s))) }
+{
+    let shown = cut_points(alloc, points, at)?;
+    if shown.is_empty() {
+        return Ok(None);
+    }
+    Ok(Some(Shape::Points(shown)))
+}

@@ -1,0 +1,72 @@
+//! A vector tile server whose map is edited while it serves.
+#![tactic(auto)]
+
+use clap::{Arg, ArgAction, Command};
+use http_serve::ServeFault;
+use std::process::ExitCode;
+use thin_service::{ThinService, thin_serve};
+
+/// The fewest sectors of a disk.
+const LEAST_SECTORS: u64 = 64;
+/// The most sectors of a disk.
+const MOST_SECTORS: u64 = 16_777_216;
+
+/// Prints a fault's name.
+fn refused(rt: &impl Eprint, name: &str) -> anyhow::Result<ExitCode> {
+    eprintln!(rt; "vtserve: {name}")?;
+    Ok(ExitCode::from(1))
+}
+
+/// The name of what ended a connection.
+fn fault_name(fault: ServeFault) -> &'static str {
+    match fault {
+        ServeFault::Memory => "Memory",
+        ServeFault::Read { .. } => "Read",
+        ServeFault::Write { .. } => "Write",
+    }
+}
+
+/// Serves one connection on standard input and output, with the empty map.
+fn demo(rt: &HostRuntime, sectors: u64) -> anyhow::Result<ExitCode> {
+    if sectors < LEAST_SECTORS {
+        return refused(rt, "TooSmall");
+    }
+    if sectors > MOST_SECTORS {
+        return refused(rt, "Damaged");
+    }
+    let Ok(mut service) = ThinService::new(rt.alloc()) else {
+        return refused(rt, "Memory");
+    };
+    match thin_serve(rt.alloc(), &mut rt.stdin(), &mut rt.stdout(), &mut service) {
+        Ok(_) => Ok(ExitCode::SUCCESS),
+        Err(fault) => refused(rt, fault_name(fault)),
+    }
+}
+
+fn main(rt: HostRuntime) -> anyhow::Result<ExitCode> {
+    let alloc = rt.alloc();
+    let words: Vec<String> = std::env::args(&rt)?.collect(alloc)?;
+    let sectors = Arg::new(alloc, "N")
+        .required(true)
+        .action(ArgAction::Set)
+        .value_parser(clap::value_parser!(u64))
+        .help("Sectors of 512 bytes, from 64 to 16777216");
+    let demo_command = Command::new(alloc, "demo")
+        .about("Serves one connection on standard input and output, over an empty map in memory")
+        .arg(sectors)?;
+    let command = Command::new(alloc, "vtserve")
+        .about("A vector tile server whose map is edited while it serves")
+        .subcommand_required(true)
+        .subcommand(demo_command)?;
+    let matches = match command.try_get_matches_from(words.as_slice()) {
+        Ok(matches) => matches,
+        Err(error) => {
+            error.print(&rt)?;
+            return Ok(ExitCode::from(error.exit_code() as u8));
+        }
+    };
+    match matches.subcommand() {
+        Some(("demo", words)) => demo(&rt, words.get_one::<u64>("N").unwrap_or(0)),
+        _ => Ok(ExitCode::from(2)),
+    }
+}
