@@ -3,8 +3,9 @@ use Rattle.std.proofs.Common.{◌≡◌, ℕ, suc, ◌^◌, ◌<◌, ◌≤◌, 
 use Rattle.std.specs.Prelude.{option_map, option_and_then, if◌then◌else◌, nat_lt}
 use Rattle.std.proofs.lemmas.Bool.{ltb-true}
 use Rattle.std.proofs.lemmas.Bool.Decides.{nat_tests}
-use Rattle.std.proofs.lemmas.List.Elements.{All-cons, All-nil}
+use Rattle.std.proofs.lemmas.List.Elements.{All-nil, All-cons, All-head, All-tail}
 use Rattle.serde_json.specs.Data.{Data, null, boolean, number, string, array, object, unsigned, negative, float, Items, no_items, item}
+use Rattle.serde_json.specs.Events.{items_len}
 use Rattle.serde_json.specs.Find.{as_array}
 use Rattle.serde_json.specs.View.{items_of}
 use Rattle.edit_text.specs.declared.feature.World.{World}
@@ -12,8 +13,7 @@ use Rattle.edit_text.specs.Data.{GeometryData, world_points, world_lines, world_
 use Rattle.edit_text.specs.Limits.{CountFits, GeometryFits}
 use Rattle.edit_json.specs.Json.{ShapeData, point_list, line_list, polygon_list, point_json, points_json, lines_json, shape_of}
 use Rattle.edit_json.specs.Faults.{IsOfWorld, LiesInWorld}
-use Rattle.edit_json.specs.Lists.{below, pair_at, point_at, each, items_length, count_fits, list_of, points_at, lines_at, geometry_at}
-use Rattle.edit_json.proofs.TagLemmas.{All-head, All-tail}
+use Rattle.edit_json.specs.Lists.{below, pair_at, point_at, each, has_count, list_of, points_at, lines_at, geometry_at}
 
 -- what `one` reads is exactly what has this JSON and keeps to P
 pub record Reads {A : Type 0} (one : Data → Option A) (json : A → Data) (P : A → Type 0) : Type 0 where
@@ -87,9 +87,9 @@ bind-some (Some x) None xs e = cc
 bind-some (Some x) (Some ys) xs e = (x, (ys, (refl, refl, cc)))
 
 module _ {A : Type 0} (one : Data → Option A) (json : A → Data) (P : A → Type 0) (r : Reads one json P) where
-  items_length-of : (xs : List A) → items_length (items_of (map json xs)) ≡ length xs
-  items_length-of [] = refl
-  items_length-of (x ∷ xs) = ap suc (items_length-of xs)
+  items_len-of : (xs : List A) → items_len (items_of (map json xs)) ≡ length xs
+  items_len-of [] = refl
+  items_len-of (x ∷ xs) = ap suc (items_len-of xs)
 
   each-says : (ds : Items) (xs : List A) → each one ds ≡ Some xs → (ds ≡ items_of (map json xs)) × All P xs
   unfolding each
@@ -105,10 +105,10 @@ module _ {A : Type 0} (one : Data → Option A) (json : A → Data) (P : A → T
   each-finds [] h = refl
   each-finds (x ∷ xs) h = rw (r.finds x (All-head P x xs h), each-finds xs (All-tail P x xs h)) refl
 
-  count-says : (least n : ℕ) → count_fits least n ≡ true → (least ≤ n) × (n ≤ 65535)
+  count-says : (least n : ℕ) → has_count least n ≡ true → (least ≤ n) × (n ≤ 65535)
   count-says least n h = (grind (arith, nat_tests), grind (arith, nat_tests))
 
-  count-finds : (least n : ℕ) → least ≤ n → n ≤ 65535 → count_fits least n ≡ true
+  count-finds : (least n : ℕ) → least ≤ n → n ≤ 65535 → has_count least n ≡ true
   count-finds least n g h = grind (arith, nat_tests)
 
   abbrev Fits : ℕ → List A → Type 0
@@ -117,15 +117,15 @@ module _ {A : Type 0} (one : Data → Option A) (json : A → Data) (P : A → T
   pub list_of-says : (least : ℕ) (ds : Items) (xs : List A) → list_of least one ds ≡ Some xs → (ds ≡ items_of (map json xs)) × Fits least xs
   unfolding list_of
   list_of-says least ds xs e =
-      let h = if-some (count_fits least (items_length ds)) (each one ds) xs e in
+      let h = if-some (has_count least (items_len ds)) (each one ds) xs e in
       let f = each-says ds xs h.1 in
-      let n = ap items_length f.0 ∙ items_length-of xs in
-      let k = count-says least (items_length ds) h.0 in
+      let n = ap items_len f.0 ∙ items_len-of xs in
+      let k = count-says least (items_len ds) h.0 in
       (f.0, ((omega (arith, n, k.0), omega (arith, n, k.1)), f.1))
 
   pub list_of-finds : (least : ℕ) (xs : List A) → Fits least xs → list_of least one (items_of (map json xs)) ≡ Some xs
   unfolding list_of
-  list_of-finds least xs h = rw (items_length-of xs, count-finds least (length xs) h.0.0 h.0.1) (each-finds xs h.1)
+  list_of-finds least xs h = rw (items_len-of xs, count-finds least (length xs) h.0.0 h.0.1) (each-finds xs h.1)
 
   array-says : (least : ℕ) (d : Data) (xs : List A) → option_and_then (list_of least one) (as_array d) ≡ Some xs → (d ≡ array (items_of (map json xs))) × Fits least xs
   array-says least null xs e = cc

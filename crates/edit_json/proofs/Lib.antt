@@ -1,3 +1,4 @@
+mod SoFar
 mod ListLemmas
 mod OutlineLemmas
 mod TagLemmas

@@ -4,7 +4,7 @@ use Rattle.std.specs.Prelude.{option_map, option_and_then, nat_le, int_lt}
 use Rattle.std.proofs.lemmas.Bool.{leb-true, ltb-true}
 use Rattle.std.proofs.lemmas.Int.{ints}
 use Rattle.std.proofs.lemmas.Bool.Decides.{nat_tests}
-use Rattle.std.proofs.lemmas.List.Elements.{All-cons, All-nil}
+use Rattle.std.proofs.lemmas.List.Elements.{All-nil, All-cons, All-head, All-tail}
 use Rattle.serde_json.specs.Data.{Data, null, boolean, number, string, array, object, unsigned, negative, float, Members, no_members, member}
 use Rattle.edit_text.specs.Data.{ValueData, text_value, natural_value, negative_value, truth_value, TagData}
 use Rattle.edit_text.specs.Limits.{ValueFits, ValuesFit, keys_of}
@@ -12,7 +12,6 @@ use Rattle.edit_json.specs.Json.{value_json, tags_json}
 use Rattle.edit_json.specs.Faults.{names_of}
 use Rattle.edit_json.specs.Tags.{value_at, tag_at, tags_at}
 use Rattle.edit_json.proofs.GeometryLaws.{if-some}
-use Rattle.edit_json.proofs.TagLemmas.{All-head, All-tail}
 
 -- ---- values
 

@@ -5,13 +5,14 @@ use Rattle.std.specs.Cmp.Lexicographic.{slice_cmp}
 use Rattle.std.specs.List.{AllByRecursion}
 use Rattle.std.specs.List.Sorted.{IsStrictlySortedBy}
 use Rattle.std.specs.String.{string_cmp}
-use Rattle.std.proofs.lemmas.List.Elements.{All-cons, All-nil}
+use Rattle.std.proofs.lemmas.List.Elements.{All-nil, All-cons, All-head, All-tail}
 use Rattle.serde_json.specs.View.{view, members_view}
 use Rattle.serde_json.specs.declared.value.Value.{Value}
 use Rattle.edit_text.specs.Data.{TagData}
 use Rattle.edit_text.specs.Limits.{IsName}
 use Rattle.edit_json.specs.Faults.{names_of}
 use Rattle.edit_json.specs.Tags.{tag_at, tags_at}
+use Rattle.edit_json.proofs.SoFar.{goes_on, goes_on-cons}
 
 abbrev pub texts_of : List (String Global) → List (List ℕ)
 texts_of ks = map (λ k. string_bytes k) ks
@@ -26,12 +27,6 @@ length-names_of [] = refl
 length-names_of (e ∷ es) = ap suc (length-names_of es)
 
 -- ---- the names of keys
-
-pub All-head : {X : Type 0} (P : X → Type 0) (x : X) (xs : List X) → All P (x ∷ xs) → P x
-All-head P x xs h = h 0 x (omega arith)
-
-pub All-tail : {X : Type 0} (P : X → Type 0) (x : X) (xs : List X) → All P (x ∷ xs) → All P xs
-All-tail P x xs h k d l = h (suc k) d (omega arith)
 
 -- a loop over the keys: those that are left decide
 abbrev pub Decide : List (String Global) → Type 0 → Type 0
@@ -73,22 +68,14 @@ names_ascend es h = let P : List (List ℕ) → Type 0 = λ ns. IsStrictlySorted
 
 -- ---- the tags
 
--- what is read so far, and the members that are left
-abbrev pub goes_on : List TagData → Option (List TagData) → Option (List TagData)
-goes_on ts None = None
-goes_on ts (Some us) = Some (ts ++ us)
-
+-- what is read so far with the members that are left
 abbrev pub rest_gives : List TagData → List (String Global × Value) → Option (List TagData)
 rest_gives ts es = goes_on ts (tags_at (members_view es))
-
-goes_on-one : (ts : List TagData) (t : TagData) (o : Option (List TagData)) → goes_on ts (option_map (λ us. t ∷ us) o) ≡ goes_on (ts ++ t ∷ []) o
-goes_on-one ts t None = refl
-goes_on-one ts t (Some us) = ap Some (sym (append_assoc ts (t ∷ []) us))
 
 pub tags_more : (ts : List TagData) (s t : List (String Global × Value)) (k : String Global) (v : Value) (d : TagData) → s ≡ (k, v) ∷ t → tag_at (string_bytes k) (view v) ≡ Some d
     → rest_gives ts s ≡ rest_gives (ts ++ d ∷ []) t
 unfolding tags_at
-tags_more ts s t k v d e f = ap (rest_gives ts) e ∙ rw f (goes_on-one ts d (tags_at (members_view t)))
+tags_more ts s t k v d e f = ap (rest_gives ts) e ∙ rw f (goes_on-cons ts d (tags_at (members_view t)))
 
 pub tags_fault : (ts : List TagData) (s t : List (String Global × Value)) (k : String Global) (v : Value) → s ≡ (k, v) ∷ t → tag_at (string_bytes k) (view v) ≡ None → rest_gives ts s ≡ None
 unfolding tags_at

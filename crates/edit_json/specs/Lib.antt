@@ -1,4 +1,5 @@
 pub mod Faults
+pub mod Gives
 pub mod Json
 pub mod Lists
 pub mod Outline

@@ -1,16 +1,13 @@
 -- What the lists of a geometry are read as.
 use Rattle.std.specs.Prelude.{◌≡◌, ℕ, suc, ◌^◌, ◌&&◌, nat_lt, nat_le, if◌then◌else◌, Bool, List, [], ◌∷◌, Option, Some, None, option_and_then, option_map, Result, MatchResult, ◌⊎◌}
 use Rattle.serde_json.specs.Data.{Data, Items, no_items, item}
+use Rattle.serde_json.specs.Events.{items_len}
 use Rattle.serde_json.specs.Find.{as_u64, as_number, as_array}
 use Rattle.edit_text.specs.declared.feature.World.{World}
 use Rattle.edit_text.specs.declared.fault.EditFault.{EditFault}
 use Rattle.edit_text.specs.declared.fault.EditFault.TheVariants as faults
 use Rattle.edit_text.specs.Data.{GeometryData, world_points, world_lines, world_polygons}
 use Rattle.edit_json.specs.Json.{ShapeData, point_list, line_list, polygon_list}
-
--- the value that there is, or the fault where there is none; want of memory aside
-abbrev pub Gives : {T A : Type 0} → EditFault → (T → A) → Result T EditFault → Option A → Type 0
-Gives fault show result found = MatchResult result (λ x. found ≡ Some (show x)) (λ e. (e ≡ faults.Memory) ⊎ ((e ≡ fault) × (found ≡ None)))
 
 -- a whole number below the limit
 unfoldable pub below : ℕ → Data → Option ℕ
@@ -30,17 +27,13 @@ unfoldable pub each : {A : Type 0} → (Data → Option A) → Items → Option 
 each one no_items = Some []
 each one (item d ds) = option_and_then (λ x. option_map (λ xs. x ∷ xs) (each one ds)) (one d)
 
-abbrev pub items_length : Items → ℕ
-items_length no_items = 0
-items_length (item d ds) = suc (items_length ds)
-
 -- how many a list of a geometry may have
-abbrev pub count_fits : ℕ → ℕ → Bool
-count_fits least n = nat_le least n && nat_le n 65535
+abbrev pub has_count : ℕ → ℕ → Bool
+has_count least n = nat_le least n && nat_le n 65535
 
 -- a list of so many items, each by `one`
 unfoldable pub list_of : {A : Type 0} → ℕ → (Data → Option A) → Items → Option (List A)
-list_of least one ds = if count_fits least (items_length ds) then each one ds else None
+list_of least one ds = if has_count least (items_len ds) then each one ds else None
 
 unfoldable pub points_at : ℕ → Data → Option (List World)
 points_at least d = option_and_then (list_of least point_at) (as_array d)

@@ -1,6 +1,13 @@
-//! A feature as JSON, both ways: an object with exactly the members `geometry`, `layer`, `maxzoom`, `minzoom` and `tags`.
+//! A feature as JSON, both ways.
+//!
+//! A feature's value is an object with exactly five members: `layer` is a text; `minzoom` and `maxzoom` are whole
+//! numbers; `geometry` is an object with exactly one of `points`, a list of points `[x,y]`, `lines`, a list of lists of
+//! points, and `polygons`, a list of polygons, each a list of rings, each a list of points; and `tags` is an object from
+//! keys to texts, whole numbers and truth values. A whole number is one that `as_u64` or `as_i64` of `serde_json` gives,
+//! so `-0`, `1.0` and `1e0` are none.
 #![tactic(auto)]
 
+mod limits;
 mod lists;
 mod outline;
 mod reader;
@@ -9,3 +16,6 @@ mod writer;
 
 pub use reader::feature_from_json;
 pub use writer::feature_to_json;
+
+#[cfg(test)]
+mod tests;

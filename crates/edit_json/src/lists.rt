@@ -2,21 +2,20 @@
 
 ghost use Rattle.std.specs.Prelude.{◌≡◌, ◌^◌, map};
 ghost use Rattle.serde_json.specs.View.{view, items_view};
-ghost use Rattle.edit_json.specs.Lists.{Gives, below, point_at, list_of, count_fits, points_at, lines_at, geometry_at};
+ghost use Rattle.edit_json.specs.Gives.{Gives};
+ghost use Rattle.edit_json.specs.Lists.{below, point_at, list_of, points_at, lines_at, geometry_at};
 ghost use Rattle.edit_json.specs.Outline.{shape_data};
 ghost use Rattle.edit_text.specs.Data.{geometry_data};
 
+use crate::limits::count_fits;
 use crate::outline::Shape;
 use edit_text::{EditFault, Geometry, World};
 use serde_json::Value;
 use std::alloc::Global;
 
-/// The most that a list of a geometry may have.
-const MOST: usize = 65_535;
-
 /// A whole number of 0 to 2^32 - 1.
 #[tactic(auto, unfolding(crate::specs::Lists::below))]
-fn coordinate(value: &Value) -> Option<u32>
+fn read_coordinate(value: &Value) -> Option<u32>
     ensures { result ≡ below (2 ^ 32) (view value.now) }
 {
     u32::try_from(value.as_u64()?).ok()
@@ -24,23 +23,16 @@ fn coordinate(value: &Value) -> Option<u32>
 
 /// The point `[x,y]`.
 #[tactic(auto, unfolding(crate::specs::Lists::point_at, crate::specs::Lists::pair_at))]
-fn point(value: &Value) -> Option<World>
+fn read_point(value: &Value) -> Option<World>
     ensures { result ≡ point_at (view value.now) }
 {
     match value.as_array()?.as_slice() {
         [x, y] => Some(World {
-            x: coordinate(x)?,
-            y: coordinate(y)?,
+            x: read_coordinate(x)?,
+            y: read_coordinate(y)?,
         }),
         _ => None,
     }
-}
-
-/// Whether a list may have so many.
-fn is_count(count: usize, least: usize) -> bool
-    ensures { result ≡ count_fits least count }
-{
-    least <= count && count <= MOST
 }
 
 /// At least so many points.
@@ -49,19 +41,19 @@ fn read_points(alloc: Global, list: &[Value], least: usize) -> Result<Vec<World>
     ensures { Gives EditFault.Geometry (λ v. v.items) result
         (list_of least point_at (items_view list.now)) }
 {
-    if !is_count(list.len(), least) {
+    if !count_fits(list.len(), least) {
         return Err(EditFault::Geometry);
     }
     let mut points = Vec::with_capacity(alloc, list.len())?;
     for value in list {
-        points.push(point(value).ok_or(EditFault::Geometry)?)?;
+        points.push(read_point(value).ok_or(EditFault::Geometry)?)?;
     }
     Ok(points)
 }
 
 /// A line or a ring of at least so many points.
 #[tactic(auto, unfolding(crate::specs::Lists::points_at))]
-fn line(alloc: Global, value: &Value, least: usize) -> Result<Vec<World>, EditFault>
+fn read_line(alloc: Global, value: &Value, least: usize) -> Result<Vec<World>, EditFault>
     ensures { Gives EditFault.Geometry (λ v. v.items) result (points_at least (view value.now)) }
 {
     let list = value.as_array().ok_or(EditFault::Geometry)?;
@@ -74,19 +66,19 @@ fn read_lines(alloc: Global, list: &[Value], least: usize) -> Result<Vec<Vec<Wor
     ensures { Gives EditFault.Geometry (λ v. map (λ l. l.items) v.items) result
         (list_of 1 (points_at least) (items_view list.now)) }
 {
-    if !is_count(list.len(), 1) {
+    if !count_fits(list.len(), 1) {
         return Err(EditFault::Geometry);
     }
     let mut lines = Vec::with_capacity(alloc, list.len())?;
     for value in list {
-        lines.push(line(alloc, value, least)?)?;
+        lines.push(read_line(alloc, value, least)?)?;
     }
     Ok(lines)
 }
 
 /// A polygon: its rings.
 #[tactic(auto, unfolding(crate::specs::Lists::lines_at))]
-fn polygon(alloc: Global, value: &Value) -> Result<Vec<Vec<World>>, EditFault>
+fn read_polygon(alloc: Global, value: &Value) -> Result<Vec<Vec<World>>, EditFault>
     ensures { Gives EditFault.Geometry (λ v. map (λ l. l.items) v.items) result
         (lines_at 3 (view value.now)) }
 {
@@ -100,12 +92,12 @@ fn read_polygons(alloc: Global, list: &[Value]) -> Result<Vec<Vec<Vec<World>>>, 
     ensures { Gives EditFault.Geometry (λ v. map (λ p. map (λ r. r.items) p.items) v.items) result
         (list_of 1 (lines_at 3) (items_view list.now)) }
 {
-    if !is_count(list.len(), 1) {
+    if !count_fits(list.len(), 1) {
         return Err(EditFault::Geometry);
     }
     let mut polygons = Vec::with_capacity(alloc, list.len())?;
     for value in list {
-        polygons.push(polygon(alloc, value)?)?;
+        polygons.push(read_polygon(alloc, value)?)?;
     }
     Ok(polygons)
 }

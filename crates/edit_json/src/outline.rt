@@ -30,7 +30,7 @@ pub(crate) struct Outline<'v> {
 }
 
 /// The value of the next member, which must have this name.
-fn named<'v>(members: &mut Iter<'v, String, Value>, name: &str) -> Option<&'v Value>
+fn next_named<'v>(members: &mut Iter<'v, String, Value>, name: &str) -> Option<&'v Value>
     ensures { MatchOption result
         ((d : Data) (ms : Members) → members_view members.old ≢ with_member name.now d ms)
         (λ v. members_view members.old ≡ with_member name.now (view v.now) (members_view members.new)) }
@@ -44,7 +44,7 @@ fn named<'v>(members: &mut Iter<'v, String, Value>, name: &str) -> Option<&'v Va
 }
 
 /// A whole number of 0 to 255.
-fn zoom(value: &Value) -> Option<u8>
+fn read_zoom(value: &Value) -> Option<u8>
     ensures { MatchOption result
         ((n : ℕ) → n < 256 → view value.now ≢ number (unsigned n))
         (λ n. view value.now ≡ number (unsigned n)) }
@@ -59,10 +59,10 @@ fn read_shape(value: &Value) -> Option<Shape<'_>>
         ((s : ShapeData) → view value.now ≢ shape_json s)
         (λ s. view value.now ≡ shape_json (shape_data s)) }
 {
-    let mut members = value.as_object()?.iter();
-    let (kind, value) = members.next()?;
+    let mut kinds = value.as_object()?.iter();
+    let (kind, value) = kinds.next()?;
     let list = value.as_array()?;
-    if members.next().is_some() {
+    if kinds.next().is_some() {
         return None;
     }
     match kind.as_str() {
@@ -81,11 +81,11 @@ pub(crate) fn read_outline(value: &Value) -> Option<Outline<'_>>
         (λ o. IsOutline (view value.now) (outline_data o)) }
 {
     let mut members = value.as_object()?.iter();
-    let shape = read_shape(named(&mut members, "geometry")?)?;
-    let layer = named(&mut members, "layer")?.as_str()?;
-    let maxzoom = zoom(named(&mut members, "maxzoom")?)?;
-    let minzoom = zoom(named(&mut members, "minzoom")?)?;
-    let tags = named(&mut members, "tags")?.as_object()?;
+    let shape = read_shape(next_named(&mut members, "geometry")?)?;
+    let layer = next_named(&mut members, "layer")?.as_str()?;
+    let maxzoom = read_zoom(next_named(&mut members, "maxzoom")?)?;
+    let minzoom = read_zoom(next_named(&mut members, "minzoom")?)?;
+    let tags = next_named(&mut members, "tags")?.as_object()?;
     if members.next().is_some() {
         return None;
     }

@@ -8,32 +8,22 @@ ghost use Rattle.serde_json.specs.View.{view, members_view};
 ghost use Rattle.edit_text.specs.Data.{value_data, tag_data};
 ghost use Rattle.edit_text.specs.Limits.{IsName};
 ghost use Rattle.edit_json.specs.Faults.{names_of};
-ghost use Rattle.edit_json.specs.Lists.{Gives};
+ghost use Rattle.edit_json.specs.Gives.{Gives};
 ghost use Rattle.edit_json.specs.Tags.{value_at, tag_at, tags_at};
 
+use crate::limits::is_name;
 use edit_text::{EditFault, EditValue, Tag};
 use serde_json::Value;
 use serde_json::value::Map;
 use std::alloc::Global;
 
 /// The most tags of a feature.
-const MOST_TAGS: usize = 64;
-
-/// The most bytes of a name.
-const LONGEST_NAME: usize = 64;
-
+const TAGS: usize = 64;
 /// The most bytes of a tag's text.
-const LONGEST_TEXT: usize = 1024;
+const TEXT_LEN: usize = 1024;
 
-/// Whether a layer or a tag may have this name.
-pub(crate) fn is_name(name: &str) -> bool
-    ensures { IsTrue result ↔ IsName name.now }
-{
-    !name.is_empty() && name.len() <= LONGEST_NAME
-}
-
-/// Whether each member has a key for a name.
-fn has_keys(tags: &Map<String, Value>) -> bool
+/// Whether each key is a name.
+fn keys_fit(tags: &Map<String, Value>) -> bool
     ensures { IsTrue result ↔ All IsName (names_of (members_view tags.now.entries)) }
 {
     for key in tags.keys() {
@@ -45,14 +35,14 @@ fn has_keys(tags: &Map<String, Value>) -> bool
 }
 
 /// Whether the tags are few, and their keys of 1 to 64 bytes.
-pub(crate) fn are_tags(tags: &Map<String, Value>) -> bool
+pub(crate) fn tags_fit(tags: &Map<String, Value>) -> bool
     ensures fits { IsTrue result ↔ ((length (names_of (members_view tags.now.entries)) ≤ 64)
         × All IsName (names_of (members_view tags.now.entries))) }
     // An object's names ascend.
     ensures ascending { IsStrictlySortedBy (slice_cmp nat_cmp)
         (names_of (members_view tags.now.entries)) }
 {
-    tags.len() <= MOST_TAGS && has_keys(tags)
+    tags.len() <= TAGS && keys_fit(tags)
 }
 
 /// The value of a tag.
@@ -61,7 +51,7 @@ fn read_value(alloc: Global, value: &Value) -> Result<EditValue, EditFault>
     ensures { Gives EditFault.Value value_data result (value_at (view value.now)) }
 {
     if let Some(text) = value.as_str() {
-        if text.len() > LONGEST_TEXT {
+        if text.len() > TEXT_LEN {
             return Err(EditFault::Value);
         }
         return Ok(EditValue::Text(String::from_str(alloc, text)?));

@@ -24,17 +24,17 @@ features_more keys new_keys values new_values used_keys used_values start bytes 
     let front : bytes ≡ start ++ flat_map (field_of (new_keys ++ ks) (new_values ++ vs)) fs = before (by_keys.grows.0 ++ ks) (by_values.grows.0 ++ vs) ∙ rw (← k, ← v) refl in
     step ∙ ap₂ (λ (a b : List ℕ). a ++ bytes_field 2 b) front (written ks vs) ∙ flat_map_more (field_of (new_keys ++ ks) (new_values ++ vs)) start fs f ∙ ap (λ (gs : List FeatureView). start ++ flat_map (field_of (new_keys ++ ks) (new_values ++ vs)) gs) (sym is)
 
-regrouped : (a b c d e : List ℕ) → (((a ++ b) ++ c) ++ d) ++ e ≡ a ++ (b ++ (c ++ (d ++ e)))
+regrouped : (a b c d e : List ℕ) → ((a ++ b) ++ (c ++ d)) ++ e ≡ a ++ (b ++ (c ++ (d ++ e)))
 regrouped a b c d e = simp append_assoc
 
 -- the fields of a layer, each behind those before it
-pub layer_joined : (l : LayerView) (keys values : List (List ℕ)) (a b c d e : List ℕ) → keys ≡ pool_of (keys_used (tags_of l.features)) → values ≡ pool_of (values_used (tags_of l.features)) → a ≡ bytes_field 1 l.name → b ≡ a ++ flat_map (field_of keys values) l.features → c ≡ b ++ flat_map (bytes_field 3) keys → d ≡ c ++ flat_map (bytes_field 4) values → e ≡ d ++ (number_field 5 l.extent ++ number_field 15 l.version) → e ≡ layer_written l
+pub layer_joined : (l : LayerView) (keys values : List (List ℕ)) (a b c d : List ℕ) → keys ≡ pool_of (keys_used (tags_of l.features)) → values ≡ pool_of (values_used (tags_of l.features)) → a ≡ bytes_field 1 l.name → b ≡ a ++ flat_map (field_of keys values) l.features → c ≡ b ++ (flat_map (bytes_field 3) keys ++ flat_map (bytes_field 4) values) → d ≡ c ++ (number_field 5 l.extent ++ number_field 15 l.version) → d ≡ layer_written l
 unfolding layer_with
-layer_joined l keys values a b c d e by_keys by_values at_a at_b at_c at_d at_e =
+layer_joined l keys values a b c d by_keys by_values at_a at_b at_c at_d =
     let name = bytes_field 1 l.name in
     let features = flat_map (field_of keys values) l.features in
     let held_keys = flat_map (bytes_field 3) keys in
     let held_values = flat_map (bytes_field 4) values in
     let end = number_field 5 l.extent ++ number_field 15 l.version in
-    let whole : e ≡ (((name ++ features) ++ held_keys) ++ held_values) ++ end = cc in
+    let whole : d ≡ ((name ++ features) ++ (held_keys ++ held_values)) ++ end = cc in
     whole ∙ regrouped name features held_keys held_values end ∙ rw (by_keys, by_values) refl

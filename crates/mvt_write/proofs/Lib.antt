@@ -1,4 +1,3 @@
-mod Examples
 mod FeatureSteps
 mod FeaturesRead
 mod LayerSteps

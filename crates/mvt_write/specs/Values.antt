@@ -1,7 +1,5 @@
 -- The values that a pool holds.
-use Rattle.std.specs.Prelude.{ℕ, List, map}
 use Rattle.mvt_layer.specs.Tile.{TagView, text, natural, negative, truth}
-use Rattle.mvt_write.specs.Written.{value_written}
 use Rattle.mvt_write.specs.declared.value.PoolValue.{PoolValue}
 use Rattle.mvt_write.specs.declared.value.PoolValue.TheVariants as values
 
@@ -11,7 +9,3 @@ value_view (values.Text t) = text t.now
 value_view (values.Natural n) = natural n
 value_view (values.Negative z) = negative z
 value_view (values.Truth b) = truth b
-
--- the messages of values
-abbrev pub messages_of : List PoolValue → List (List ℕ)
-messages_of vs = map (λ v. value_written (value_view v)) vs

@@ -7,7 +7,7 @@ ghost use Rattle.mvt_write.specs.Written.{bytes_field, value_written};
 ghost use Rattle.mvt_write.specs.Values.{value_view};
 
 use crate::field::put_bytes;
-use crate::value::{PoolValue, value_bytes};
+use crate::value::PoolValue;
 use pb_wire::Memory;
 use std::alloc::Global;
 
@@ -43,7 +43,7 @@ impl<'a> Entry for PoolValue<'a> {
     ghost same = { same_value };
 
     fn put(self, alloc: Global, out: &mut Vec<u8>, number: u32) -> Result<(), Memory> {
-        let message = value_bytes(alloc, self)?;
+        let message = self.message(alloc)?;
         put_bytes(out, number, &message)
     }
 }

@@ -1,20 +1,18 @@
 //! Features.
 
-ghost use Rattle.std.specs.Prelude.{◌≡◌, [], ◌∷◌, ◌++◌, List, ℕ, All, ◌<◌, ◌^◌, IfSome, IfOk, OnOk, map};
+ghost use Rattle.std.specs.Prelude.{◌≡◌, ◌++◌, List, ℕ, All, ◌<◌, ◌^◌, IfSome, IfOk, OnOk, map};
 ghost use Rattle.std.specs.List.{flat_map};
 ghost use Rattle.geometry_commands.specs.Encodable.{CanSpell};
 ghost use Rattle.geometry_commands.specs.Shapes.{shape_view, shape_spelled, kind_of, IsShape};
-ghost use Rattle.mvt_layer.specs.Tile.{bytes_of, feature_view};
+ghost use Rattle.mvt_layer.specs.Tile.{feature_view};
 ghost use Rattle.mvt_write.specs.CanWrite.{CanWriteFeature};
 ghost use Rattle.mvt_write.specs.Fits.{FitsFeature};
-ghost use Rattle.mvt_write.specs.Pools.{AddsUses};
-ghost use Rattle.mvt_write.specs.Values.{messages_of};
-ghost use Rattle.mvt_write.specs.Written.{id_written, kind_number, bytes_field, feature_written, keys_used, values_used, tags_of};
+ghost use Rattle.mvt_write.specs.Held.{held_keys, held_values, AddsTags};
+ghost use Rattle.mvt_write.specs.Written.{id_written, kind_number, bytes_field, feature_written, tags_of};
 
 use crate::field::{put_bytes, put_number, put_packed};
-use crate::pool::Pool;
+use crate::tag_pools::TagPools;
 use crate::tags::put_tags;
-use crate::value::PoolValue;
 use geometry_commands::{Shape, encode_lines, encode_points, encode_rings};
 use mvt_layer::TileFeature;
 use pb_wire::Memory;
@@ -61,41 +59,38 @@ fn geometry_integers(alloc: Global, shape: &Shape) -> Result<Vec<u32>, Memory>
 #[tactic(auto, unfolding(crate::specs::Written::feature_written))]
 fn feature_bytes<'a>(
     alloc: Global,
-    keys: &mut Pool<&'a str>,
-    values: &mut Pool<PoolValue<'a>>,
+    pools: &mut TagPools<'a>,
     feature: &TileFeature<'a>,
 ) -> Result<Vec<u8>, Memory>
     requires { CanWriteFeature (feature_view feature.now) }
-    ensures keys { OnOk result (AddsUses (bytes_of keys.old.entries.items) (bytes_of keys.new.entries.items) (keys_used (feature_view feature.now).tags)) }
-    ensures values { OnOk result (AddsUses (messages_of values.old.entries.items) (messages_of values.new.entries.items) (values_used (feature_view feature.now).tags)) }
-    ensures written { IfOk result (λ v. (later_keys later_values : List (List ℕ)) → v.items ≡ feature_written (bytes_of keys.new.entries.items ++ later_keys) (messages_of values.new.entries.items ++ later_values) (feature_view feature.now)) }
+    ensures pools { OnOk result (AddsTags pools.old pools.new (feature_view feature.now).tags) }
+    // Entries that are added later change nothing.
+    ensures written { IfOk result (λ v. (later_keys later_values : List (List ℕ)) → v.items ≡ feature_written (held_keys pools.new ++ later_keys) (held_values pools.new ++ later_values) (feature_view feature.now)) }
     ensures fits { OnOk result (FitsFeature (feature_view feature.now)) }
 {
     let mut out = Vec::new(alloc);
     put_id(&mut out, feature.id)?;
-    put_tags(alloc, &mut out, keys, values, &feature.tags)?;
+    put_tags(alloc, &mut out, pools, &feature.tags)?;
     put_number(&mut out, 3, geometry_type(&feature.shape))?;
     let integers = geometry_integers(alloc, &feature.shape)?;
     put_packed(alloc, &mut out, 4, &integers)?;
     Ok(out)
 }
 
-/// Appends the fields of features.
+/// Appends the fields of features, whose tags are added to the pools.
 pub(crate) fn put_features<'a>(
     alloc: Global,
     out: &mut Vec<u8>,
-    keys: &mut Pool<&'a str>,
-    values: &mut Pool<PoolValue<'a>>,
+    pools: &mut TagPools<'a>,
     features: &[TileFeature<'a>],
 ) -> Result<(), Memory>
     requires { All CanWriteFeature (map feature_view features.now) }
-    ensures keys { OnOk result (AddsUses (bytes_of keys.old.entries.items) (bytes_of keys.new.entries.items) (keys_used (tags_of (map feature_view features.now)))) }
-    ensures values { OnOk result (AddsUses (messages_of values.old.entries.items) (messages_of values.new.entries.items) (values_used (tags_of (map feature_view features.now)))) }
-    ensures written { OnOk result ((later_keys later_values : List (List ℕ)) → out.new.items ≡ out.old.items ++ flat_map (λ f. bytes_field 2 (feature_written (bytes_of keys.new.entries.items ++ later_keys) (messages_of values.new.entries.items ++ later_values) f)) (map feature_view features.now)) }
+    ensures pools { OnOk result (AddsTags pools.old pools.new (tags_of (map feature_view features.now))) }
+    ensures written { OnOk result ((later_keys later_values : List (List ℕ)) → out.new.items ≡ out.old.items ++ flat_map (λ f. bytes_field 2 (feature_written (held_keys pools.new ++ later_keys) (held_values pools.new ++ later_values) f)) (map feature_view features.now)) }
     ensures fits { OnOk result (All FitsFeature (map feature_view features.now)) }
 {
     for feature in features {
-        let bytes = feature_bytes(alloc, keys, values, feature)?;
+        let bytes = feature_bytes(alloc, pools, feature)?;
         put_bytes(out, 2, &bytes)?;
     }
     Ok(())

@@ -8,7 +8,7 @@ ghost use Rattle.mvt_write.specs.Written.{number_field, layer_written};
 
 use crate::feature::put_features;
 use crate::field::{put_bytes, put_number};
-use crate::pool::Pool;
+use crate::tag_pools::TagPools;
 use mvt_layer::Layer;
 use pb_wire::Memory;
 use std::alloc::Global;
@@ -28,13 +28,11 @@ pub(crate) fn layer_bytes(alloc: Global, layer: &Layer<'_>) -> Result<Vec<u8>, M
     ensures written { IfOk result (λ v. v.items ≡ layer_written (layer_view layer.now)) }
     ensures fits { OnOk result (FitsLayer (layer_view layer.now)) }
 {
-    let mut keys = Pool::new(alloc);
-    let mut values = Pool::new(alloc);
+    let mut pools = TagPools::new(alloc);
     let mut out = Vec::new(alloc);
     put_bytes(&mut out, 1, layer.name.as_bytes())?;
-    put_features(alloc, &mut out, &mut keys, &mut values, &layer.features)?;
-    keys.put(alloc, &mut out, 3)?;
-    values.put(alloc, &mut out, 4)?;
+    put_features(alloc, &mut out, &mut pools, &layer.features)?;
+    pools.put(alloc, &mut out)?;
     put_end(&mut out, layer)?;
     Ok(out)
 }

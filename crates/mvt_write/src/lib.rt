@@ -6,6 +6,7 @@ mod feature;
 mod field;
 mod layer;
 mod pool;
+mod tag_pools;
 mod tags;
 mod tile;
 mod value;

@@ -50,8 +50,8 @@ impl<T: Entry> Pool<T> {
         requires { number < 2 ^ 29 }
         ensures { OnOk result (out.new.items ≡ out.old.items ++ flat_map (bytes_field number) (map T.spelled self.now.entries.items)) }
     {
-        for entry in &self.entries {
-            (*entry).put(alloc, out, number)?;
+        for &entry in &self.entries {
+            entry.put(alloc, out, number)?;
         }
         Ok(())
     }

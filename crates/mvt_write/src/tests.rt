@@ -1,6 +1,8 @@
 ghost use Rattle.std.specs.Prelude.{◌≡◌, ◌<◌, ◌^◌, [], All, IfOk, length, map};
-ghost use Rattle.mvt_layer.specs.Tile.{feature_view};
-ghost use Rattle.mvt_write.specs.CanWrite.{CanWriteFeature};
+ghost use Rattle.geometry_commands.specs.Encodable.{CanSpell};
+ghost use Rattle.geometry_commands.specs.Shapes.{shape_view};
+ghost use Rattle.mvt_layer.specs.Tile.{feature_view, tagged};
+ghost use Rattle.mvt_write.specs.CanWrite.{CanWriteValue, CanWriteFeature, HasAscendingKeys};
 ghost use Rattle.mvt_write.specs.Written.{tags_of};
 
 use super::*;
@@ -24,16 +26,35 @@ fn tile_of(alloc: Global, name: &str, features: Vec<TileFeature<'_>>) -> Result<
     write_tile(alloc, &layers)
 }
 
-/// The feature of this number, a point at (0,0).
-fn point(alloc: Global, id: u64) -> Result<TileFeature<'static>, AllocError>
-    ensures can { IfOk result (λ f. CanWriteFeature (feature_view f)) }
-    ensures untagged { IfOk result (λ f. f.tags.items ≡ []) }
+/// The feature of this number.
+fn feature<'a>(id: u64, tags: Vec<(&'a str, TagValue<'a>)>, shape: Shape) -> TileFeature<'a>
+    requires values { All (λ t. CanWriteValue t.1) (tagged tags.items) }
+    requires keys { HasAscendingKeys (tagged tags.items) }
+    requires shape { CanSpell (shape_view shape) }
+    ensures can { CanWriteFeature (feature_view result) }
+    ensures tags { result.tags.items ≡ tags.entry.items }
 {
-    Ok(TileFeature {
+    TileFeature {
         id: Some(id),
-        tags: Vec::new(alloc),
-        shape: Shape::Points(vec![in alloc; Pt { x: 0, y: 0 }]?),
-    })
+        tags,
+        shape,
+    }
+}
+
+/// The feature of this number without tags.
+fn untagged(alloc: Global, id: u64, shape: Shape) -> TileFeature<'static>
+    requires { CanSpell (shape_view shape) }
+    ensures can { CanWriteFeature (feature_view result) }
+    ensures tags { result.tags.items ≡ [] }
+{
+    feature(id, Vec::new(alloc), shape)
+}
+
+/// The point (0,0).
+fn origin(alloc: Global) -> Result<Shape, AllocError>
+    ensures { IfOk result (λ shape. CanSpell (shape_view shape)) }
+{
+    Ok(Shape::Points(vec![in alloc; Pt { x: 0, y: 0 }]?))
 }
 
 #[test]
@@ -46,7 +67,7 @@ fn no_layers(rt: HostRuntime) -> Result<(), Fail> {
 #[test]
 fn one_point(rt: HostRuntime) -> Result<(), Fail> {
     let alloc = rt.alloc();
-    let features = vec![in alloc; point(alloc, 7)?]?;
+    let features = vec![in alloc; untagged(alloc, 7, origin(alloc)?)]?;
     let bytes = tile_of(alloc, "p", features)?;
     assert_eq!(rt;
         bytes.as_slice(),
@@ -62,8 +83,9 @@ fn one_point(rt: HostRuntime) -> Result<(), Fail> {
 #[test]
 fn two_features(rt: HostRuntime) -> Result<(), Fail> {
     let alloc = rt.alloc();
-    let features = vec![in alloc; point(alloc, 7)?, point(alloc, 8)?]?;
-    let bytes = tile_of(alloc, "p", features)?;
+    let first = untagged(alloc, 7, origin(alloc)?);
+    let second = untagged(alloc, 8, origin(alloc)?);
+    let bytes = tile_of(alloc, "p", vec![in alloc; first, second]?)?;
     assert_eq!(rt;
         bytes.as_slice(),
         [
@@ -80,11 +102,7 @@ fn two_features(rt: HostRuntime) -> Result<(), Fail> {
 fn one_line(rt: HostRuntime) -> Result<(), Fail> {
     let alloc = rt.alloc();
     let line = vec![in alloc; Pt { x: 0, y: 0 }, Pt { x: 1, y: 0 }]?;
-    let feature = TileFeature {
-        id: Some(7),
-        tags: Vec::new(alloc),
-        shape: Shape::Lines(vec![in alloc; line]?),
-    };
+    let feature = untagged(alloc, 7, Shape::Lines(vec![in alloc; line]?));
     let bytes = tile_of(alloc, "l", vec![in alloc; feature]?)?;
     assert_eq!(rt;
         bytes.as_slice(),
@@ -101,11 +119,7 @@ fn one_line(rt: HostRuntime) -> Result<(), Fail> {
 fn one_ring(rt: HostRuntime) -> Result<(), Fail> {
     let alloc = rt.alloc();
     let ring = vec![in alloc; Pt { x: 3, y: 6 }, Pt { x: 8, y: 12 }, Pt { x: 20, y: 34 }]?;
-    let feature = TileFeature {
-        id: Some(7),
-        tags: Vec::new(alloc),
-        shape: Shape::Rings(vec![in alloc; ring]?),
-    };
+    let feature = untagged(alloc, 7, Shape::Rings(vec![in alloc; ring]?));
     let bytes = tile_of(alloc, "p", vec![in alloc; feature]?)?;
     assert_eq!(rt;
         bytes.as_slice(),
@@ -127,12 +141,11 @@ fn four_tags(rt: HostRuntime) -> Result<(), Fail> {
         ("c", TagValue::Natural(3)),
         ("d", TagValue::Truth(true)),
     ]?;
-    let feature = TileFeature {
-        id: Some(7),
-        tags,
-        shape: Shape::Points(vec![in alloc; Pt { x: 0, y: 0 }]?),
-    };
-    let bytes = tile_of(alloc, "p", vec![in alloc; feature]?)?;
+    let bytes = tile_of(
+        alloc,
+        "p",
+        vec![in alloc; feature(7, tags, origin(alloc)?)]?,
+    )?;
     assert_eq!(rt;
         bytes.as_slice(),
         [
@@ -141,6 +154,27 @@ fn four_tags(rt: HostRuntime) -> Result<(), Fail> {
             0x61, 0x1a, 0x01, 0x62, 0x1a, 0x01, 0x63, 0x1a, 0x01, 0x64, 0x22, 0x03, 0x0a, 0x01,
             0x78, 0x22, 0x02, 0x30, 0x03, 0x22, 0x02, 0x28, 0x03, 0x22, 0x02, 0x38, 0x01, 0x28,
             0x80, 0x20, 0x78, 0x02
+        ]
+        .as_slice()
+    );
+    Ok(())
+}
+
+#[test]
+fn one_tag_of_two_features(rt: HostRuntime) -> Result<(), Fail> {
+    let alloc = rt.alloc();
+    let tags = vec![in alloc; ("a", TagValue::Text("x"))]?;
+    let first = feature(7, tags, origin(alloc)?);
+    let tags = vec![in alloc; ("a", TagValue::Text("x"))]?;
+    let second = feature(8, tags, origin(alloc)?);
+    let bytes = tile_of(alloc, "p", vec![in alloc; first, second]?)?;
+    assert_eq!(rt;
+        bytes.as_slice(),
+        [
+            0x1a, 0x2e, 0x0a, 0x01, 0x70, 0x12, 0x0d, 0x08, 0x07, 0x12, 0x02, 0x00, 0x00, 0x18,
+            0x01, 0x22, 0x03, 0x09, 0x00, 0x00, 0x12, 0x0d, 0x08, 0x08, 0x12, 0x02, 0x00, 0x00,
+            0x18, 0x01, 0x22, 0x03, 0x09, 0x00, 0x00, 0x1a, 0x01, 0x61, 0x22, 0x03, 0x0a, 0x01,
+            0x78, 0x28, 0x80, 0x20, 0x78, 0x02
         ]
         .as_slice()
     );

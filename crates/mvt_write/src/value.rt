@@ -3,7 +3,6 @@
 ghost use Rattle.std.specs.Prelude.{◌≡◌, IfOk};
 ghost use Rattle.mvt_layer.specs.Tile.{tag_view};
 ghost use Rattle.mvt_write.specs.CanWrite.{CanWriteValue};
-ghost use Rattle.mvt_write.specs.Values.{value_view};
 ghost use Rattle.mvt_write.specs.Written.{value_written};
 
 use crate::field::{put_bytes, put_number};
@@ -20,31 +19,35 @@ pub(crate) enum PoolValue<'a> {
     Truth(bool),
 }
 
-/// The value of a tag, for a pool.
-pub(crate) fn pool_value(value: TagValue<'_>) -> PoolValue<'_>
-    requires { CanWriteValue (tag_view value) }
-    ensures { value_view result ≡ tag_view value.entry }
-{
-    match value {
-        TagValue::Text(text) => PoolValue::Text(text),
-        TagValue::Natural(n) => PoolValue::Natural(n),
-        TagValue::Negative(n) => PoolValue::Negative(n),
-        TagValue::Truth(truth) => PoolValue::Truth(truth),
-        _ => unreachable!(),
-    }
-}
+impl<'a> PoolValue<'a> {
+    ghost use Rattle.mvt_write.specs.Values.{value_view};
 
-/// The message that says a value (Mapbox Vector Tile 2.1, 4.4).
-#[tactic(auto, unfolding(crate::specs::Written::value_written))]
-pub(crate) fn value_bytes(alloc: Global, value: PoolValue<'_>) -> Result<Vec<u8>, Memory>
-    ensures { IfOk result (λ v. v.items ≡ value_written (value_view value.entry)) }
-{
-    let mut out = Vec::new(alloc);
-    match value {
-        PoolValue::Text(text) => put_bytes(&mut out, 1, text.as_bytes())?,
-        PoolValue::Natural(n) => put_number(&mut out, 5, n)?,
-        PoolValue::Negative(n) => put_number(&mut out, 6, zigzag(n))?,
-        PoolValue::Truth(truth) => put_number(&mut out, 7, u64::from(truth))?,
+    /// The value of a tag.
+    pub fn new(value: TagValue<'a>) -> Self
+        requires { CanWriteValue (tag_view value) }
+        ensures { value_view result ≡ tag_view value.entry }
+    {
+        match value {
+            TagValue::Text(text) => PoolValue::Text(text),
+            TagValue::Natural(n) => PoolValue::Natural(n),
+            TagValue::Negative(n) => PoolValue::Negative(n),
+            TagValue::Truth(truth) => PoolValue::Truth(truth),
+            _ => unreachable!(),
+        }
     }
-    Ok(out)
+
+    /// The message that says the value (Mapbox Vector Tile 2.1, 4.4).
+    #[tactic(auto, unfolding(crate::specs::Written::value_written))]
+    pub fn message(self, alloc: Global) -> Result<Vec<u8>, Memory>
+        ensures { IfOk result (λ v. v.items ≡ value_written (value_view self.entry)) }
+    {
+        let mut out = Vec::new(alloc);
+        match self {
+            PoolValue::Text(text) => put_bytes(&mut out, 1, text.as_bytes())?,
+            PoolValue::Natural(n) => put_number(&mut out, 5, n)?,
+            PoolValue::Negative(n) => put_number(&mut out, 6, zigzag(n))?,
+            PoolValue::Truth(truth) => put_number(&mut out, 7, u64::from(truth))?,
+        }
+        Ok(out)
+    }
 }

@@ -3,5 +3,6 @@ pub mod Chain
 pub mod DirectoryLaws
 pub mod EntryLaws
 pub mod NumberLaws
+pub mod Sizes
 pub mod Steps
 pub mod Written

@@ -1,6 +1,6 @@
 //! Entries as a directory.
 
-ghost use Rattle.std.specs.Prelude.{◌≡◌, ◌+◌, ◌<◌, ◌^◌, ◌++◌, OnOk, IfOk};
+ghost use Rattle.std.specs.Prelude.{◌≡◌, ◌+◌, ◌*◌, ◌<◌, ◌≤◌, ◌^◌, ◌++◌, length, OnOk, IfOk};
 ghost use Rattle.std.specs.List.{AllByRecursion};
 ghost use Rattle.pm_directory.specs.Directory.{IsAscending, IsEntry, HasEnd, IsDirectory, id_deltas, runs_of, lengths_of, offset_number, offset_numbers, varints, directory_bytes};
 
@@ -70,6 +70,7 @@ pub fn write_directory(alloc: Global, entries: &[Entry]) -> Result<Vec<u8>, Memo
     requires ends { AllByRecursion HasEnd entries.now }
     ensures directory { IfOk result (λ bytes. IsDirectory bytes.items entries.now) }
     ensures spelling { IfOk result (λ bytes. bytes.items ≡ directory_bytes entries.now) }
+    ensures size { length entries.now < 16384 → IfOk result (λ bytes. length bytes.items ≤ 2 + 29 * length entries.now) }
 {
     let mut bytes = Vec::new(alloc);
     put_varint(&mut bytes, entries.len() as u64)?;

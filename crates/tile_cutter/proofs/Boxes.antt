@@ -39,25 +39,25 @@ quantised_mono zoom a b less =
 quantised_min : (zoom a b : ℕ) → quantised_axis zoom (min a b) ≡ min (quantised_axis zoom a) (quantised_axis zoom b)
 quantised_min zoom a b = ⊎_elim
     (λ (lt : a < b).
-      let less = quantised_mono zoom a b (omega arith) in
-      let is : min a b ≡ a = omega arith in
-      rw is (omega arith))
+    let less = quantised_mono zoom a b (omega arith) in
+    let is : min a b ≡ a = omega arith in
+    rw is (omega arith))
     (λ (le : b ≤ a).
-      let less = quantised_mono zoom b a le in
-      let is : min a b ≡ b = omega arith in
-      rw is (omega arith))
+    let less = quantised_mono zoom b a le in
+    let is : min a b ≡ b = omega arith in
+    rw is (omega arith))
     (cases_lt a b)
 
 quantised_max : (zoom a b : ℕ) → quantised_axis zoom (max a b) ≡ max (quantised_axis zoom a) (quantised_axis zoom b)
 quantised_max zoom a b = ⊎_elim
     (λ (lt : a < b).
-      let less = quantised_mono zoom a b (omega arith) in
-      let is : max a b ≡ b = omega arith in
-      rw is (omega arith))
+    let less = quantised_mono zoom a b (omega arith) in
+    let is : max a b ≡ b = omega arith in
+    rw is (omega arith))
     (λ (le : b ≤ a).
-      let less = quantised_mono zoom b a le in
-      let is : max a b ≡ a = omega arith in
-      rw is (omega arith))
+    let less = quantised_mono zoom b a le in
+    let is : max a b ≡ a = omega arith in
+    rw is (omega arith))
     (cases_lt a b)
 
 -- ---- the corners are the least and the greatest coordinates

@@ -67,25 +67,25 @@ above_greatest p q p_is q_is = omega (arith, ints, clamps, p_is, q_is)
 right_side : IsSide IsRight
 right_side = record {
   out = λ p h. first_false _ _ (first_false _ _ (second_false _ _ (past p.x (pos 4160) h)));
-  apart = λ p ps here all. first_false _ _ (first_false _ _ (first_false _ _ (past (fold least_corner p ps).x (pos 4160) (fold_keeps IsRight least_corner right_least p ps here all))))
+  apart = λ p ps here all. first_false _ _ (first_false _ _ (first_false _ _ (past (fold least_corner p ps).x (pos 4160) (fold_keeps IsRight least_corner right_least p ps here all))));
 }
 
 left_side : IsSide IsLeft
 left_side = record {
   out = λ p h. first_false _ _ (first_false _ _ (first_false _ _ (past (negsuc 63) p.x h)));
-  apart = λ p ps here all. first_false _ _ (first_false _ _ (second_false _ _ (past (negsuc 63) (fold greatest_corner p ps).x (fold_keeps IsLeft greatest_corner left_greatest p ps here all))))
+  apart = λ p ps here all. first_false _ _ (first_false _ _ (second_false _ _ (past (negsuc 63) (fold greatest_corner p ps).x (fold_keeps IsLeft greatest_corner left_greatest p ps here all))));
 }
 
 below_side : IsSide IsBelow
 below_side = record {
   out = λ p h. second_false _ _ (past p.y (pos 4160) h);
-  apart = λ p ps here all. first_false _ _ (second_false _ _ (past (fold least_corner p ps).y (pos 4160) (fold_keeps IsBelow least_corner below_least p ps here all)))
+  apart = λ p ps here all. first_false _ _ (second_false _ _ (past (fold least_corner p ps).y (pos 4160) (fold_keeps IsBelow least_corner below_least p ps here all)));
 }
 
 above_side : IsSide IsAbove
 above_side = record {
   out = λ p h. first_false _ _ (second_false _ _ (past (negsuc 63) p.y h));
-  apart = λ p ps here all. second_false _ _ (past (negsuc 63) (fold greatest_corner p ps).y (fold_keeps IsAbove greatest_corner above_greatest p ps here all))
+  apart = λ p ps here all. second_false _ _ (past (negsuc 63) (fold greatest_corner p ps).y (fold_keeps IsAbove greatest_corner above_greatest p ps here all));
 }
 
 -- ---- a geometry on one side
@@ -210,27 +210,27 @@ outside f zoom column row range range_is across down out =
     let y0_is : range.y0 ≡ first_met (least_of (map y ps)) = ap (λ r. r.y0) range_is in
     let y1_is : range.y1 ≡ last_met zoom (greatest_of (map y ps)) = ap (λ r. r.y1) range_is in
     no_feature f zoom column row (⊎_elim
-      (λ (lt : column < range.x0).
-        let first : column < first_met (least_of (map x ps)) = rw (← x0_is) lt in
-        no_geometry IsRight right_side zoom column row f.geometry
-        (All-weaker (λ p. least_of (map x ps) ≤ x p) (λ p. IsRight (stands_at zoom column row p)) (λ p le. before_first column (least_of (map x ps)) (x p) first le) ps (least_below x ps)))
-      (λ (right_of : range.x0 ≤ column). ⊎_elim
-        (λ (lt : range.x1 < column).
-          let last : last_met zoom (greatest_of (map x ps)) < column = rw (← x1_is) lt in
-          no_geometry IsLeft left_side zoom column row f.geometry
-          (All-weaker (λ p. x p ≤ greatest_of (map x ps)) (λ p. IsLeft (stands_at zoom column row p)) (λ p le. behind_last zoom column (greatest_of (map x ps)) (x p) last across le) ps (greatest_above x ps)))
-        (λ (left_of : column ≤ range.x1). ⊎_elim
-          (λ (lt : row < range.y0).
-            let first : row < first_met (least_of (map y ps)) = rw (← y0_is) lt in
-            no_geometry IsBelow below_side zoom column row f.geometry
-            (All-weaker (λ p. least_of (map y ps) ≤ y p) (λ p. IsBelow (stands_at zoom column row p)) (λ p le. before_first row (least_of (map y ps)) (y p) first le) ps (least_below y ps)))
-          (λ (below : range.y0 ≤ row). ⊎_elim
-            (λ (lt : range.y1 < row).
-              let last : last_met zoom (greatest_of (map y ps)) < row = rw (← y1_is) lt in
-              no_geometry IsAbove above_side zoom column row f.geometry
-              (All-weaker (λ p. y p ≤ greatest_of (map y ps)) (λ p. IsAbove (stands_at zoom column row p)) (λ p le. behind_last zoom row (greatest_of (map y ps)) (y p) last down le) ps (greatest_above y ps)))
-            (λ (above : row ≤ range.y1). absurd (out (record { left = right_of; right = left_of; top = below; bottom = above })))
-            (cases_lt range.y1 row))
-          (cases_lt row range.y0))
-        (cases_lt range.x1 column))
-      (cases_lt column range.x0))
+    (λ (lt : column < range.x0).
+    let first : column < first_met (least_of (map x ps)) = rw (← x0_is) lt in
+    no_geometry IsRight right_side zoom column row f.geometry
+    (All-weaker (λ p. least_of (map x ps) ≤ x p) (λ p. IsRight (stands_at zoom column row p)) (λ p le. before_first column (least_of (map x ps)) (x p) first le) ps (least_below x ps)))
+    (λ (right_of : range.x0 ≤ column). ⊎_elim
+    (λ (lt : range.x1 < column).
+    let last : last_met zoom (greatest_of (map x ps)) < column = rw (← x1_is) lt in
+    no_geometry IsLeft left_side zoom column row f.geometry
+    (All-weaker (λ p. x p ≤ greatest_of (map x ps)) (λ p. IsLeft (stands_at zoom column row p)) (λ p le. behind_last zoom column (greatest_of (map x ps)) (x p) last across le) ps (greatest_above x ps)))
+    (λ (left_of : column ≤ range.x1). ⊎_elim
+    (λ (lt : row < range.y0).
+    let first : row < first_met (least_of (map y ps)) = rw (← y0_is) lt in
+    no_geometry IsBelow below_side zoom column row f.geometry
+    (All-weaker (λ p. least_of (map y ps) ≤ y p) (λ p. IsBelow (stands_at zoom column row p)) (λ p le. before_first row (least_of (map y ps)) (y p) first le) ps (least_below y ps)))
+    (λ (below : range.y0 ≤ row). ⊎_elim
+    (λ (lt : range.y1 < row).
+    let last : last_met zoom (greatest_of (map y ps)) < row = rw (← y1_is) lt in
+    no_geometry IsAbove above_side zoom column row f.geometry
+    (All-weaker (λ p. y p ≤ greatest_of (map y ps)) (λ p. IsAbove (stands_at zoom column row p)) (λ p le. behind_last zoom row (greatest_of (map y ps)) (y p) last down le) ps (greatest_above y ps)))
+    (λ (above : row ≤ range.y1). absurd (out (record { left = right_of; right = left_of; top = below; bottom = above })))
+    (cases_lt range.y1 row))
+    (cases_lt row range.y0))
+    (cases_lt range.x1 column))
+    (cases_lt column range.x0))

@@ -11,7 +11,7 @@ abbrev pub widened : Option Corners → World → Corners
 widened None p = record { least = p; greatest = p }
 widened (Some c) p = record {
   least = record { x = min c.least.x p.x; y = min c.least.y p.y };
-  greatest = record { x = max c.greatest.x p.x; y = max c.greatest.y p.y }
+  greatest = record { x = max c.greatest.x p.x; y = max c.greatest.y p.y };
 }
 
 abbrev pub widen : Option Corners → World → Option Corners
@@ -36,5 +36,5 @@ range_of c zoom = record {
   x0 = first_met (quantised_axis zoom (least_corner_of c).x);
   x1 = last_met zoom (quantised_axis zoom (greatest_corner_of c).x);
   y0 = first_met (quantised_axis zoom (least_corner_of c).y);
-  y1 = last_met zoom (quantised_axis zoom (greatest_corner_of c).y)
+  y1 = last_met zoom (quantised_axis zoom (greatest_corner_of c).y);
 }

@@ -1,13 +1,14 @@
 ghost use Rattle.std.specs.Prelude.{◌≡◌, [], ◌∷◌};
 ghost use Rattle.tile_cutter.specs.Cut.{in_box, least_corner, greatest_corner, reaches_box, meets_box};
 
+use crate::place::{EXTENT, MARGIN};
 use geometry_commands::Pt;
 
 /// How far the box of a tile reaches to the left and upwards.
-const BOX_START: i64 = -64;
+const BOX_START: i64 = -(MARGIN as i64);
 
 /// How far the box of a tile reaches to the right and downwards.
-const BOX_END: i64 = 4160;
+const BOX_END: i64 = (EXTENT + MARGIN) as i64;
 
 /// Whether a point stands in the box of its tile.
 pub(crate) fn is_in_box(point: Pt) -> bool

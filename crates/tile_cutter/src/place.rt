@@ -1,5 +1,5 @@
-ghost use Rattle.std.specs.Prelude.{◌≡◌, ◌≤◌};
-ghost use Rattle.tile_cutter.specs.Cut.{quantised, placed};
+ghost use Rattle.std.specs.Prelude.{◌≡◌, ◌<◌, ◌≤◌, ◌^◌};
+ghost use Rattle.tile_cutter.specs.Cut.{quantised_axis, quantised, placed};
 ghost use Rattle.tile_cutter.specs.Passes.{repeats};
 ghost use Rattle.tile_cutter.specs.Range.{IsInWorld};
 
@@ -7,16 +7,34 @@ use edit_text::World;
 use geometry_commands::Pt;
 use hilbert_id::TileAt;
 
+/// How many coordinates a tile has along each side.
+pub(crate) const EXTENT: u32 = 4096;
+
+/// How far the box of a tile reaches beyond each side.
+pub(crate) const MARGIN: u32 = 64;
+
+/// The zoom at which the coordinates of tiles are those of the world.
+const WORLD_ZOOM: u8 = 20;
+
+/// A coordinate of the world as a zoom sees it, rounded down.
+pub(crate) fn quantise(coordinate: u32, zoom: u8) -> u32
+    requires { zoom ≤ 16 }
+    ensures quantised { result ≡ quantised_axis zoom coordinate }
+    ensures bound { result < 2 ^ 31 }
+{
+    coordinate >> (WORLD_ZOOM - zoom)
+}
+
 /// Where a point of the world stands in a tile, as the tile's zoom sees it.
 pub(crate) fn place(point: World, at: TileAt) -> Pt
     requires { at.z ≤ 16 }
     ensures place { result ≡ placed at.x at.y (quantised at.z point) }
     ensures in_world { IsInWorld point }
 {
-    let shift = 20 - at.z;
+    let extent = i64::from(EXTENT);
     Pt {
-        x: i64::from(point.x >> shift) - 4096 * i64::from(at.x),
-        y: i64::from(point.y >> shift) - 4096 * i64::from(at.y),
+        x: i64::from(quantise(point.x, at.z)) - extent * i64::from(at.x),
+        y: i64::from(quantise(point.y, at.z)) - extent * i64::from(at.y),
     }
 }
 

@@ -5,6 +5,7 @@ ghost use Rattle.tile_cutter.specs.Covered.{all_of, all_points, first_met, last_
 ghost use Rattle.tile_cutter.specs.Corners.{widened, corners_after, range_of};
 ghost use Rattle.tile_cutter.specs.Passes.{lists_of};
 
+use crate::place::{EXTENT, MARGIN, quantise};
 use edit_text::{EditFault, Feature, Geometry, World};
 
 /// The most tiles that a feature may cover at all its zooms together.
@@ -101,7 +102,9 @@ fn first_met(least: u32, zoom: u8) -> u32
     requires { zoom ≤ 16 }
     ensures { result ≡ first_met (quantised_axis zoom least) }
 {
-    (least >> (20 - zoom)).saturating_sub(4160).div_ceil(4096)
+    quantise(least, zoom)
+        .saturating_sub(EXTENT + MARGIN)
+        .div_ceil(EXTENT)
 }
 
 /// The last column, or row, of a zoom whose box reaches a coordinate of the world.
@@ -110,7 +113,7 @@ fn last_met(greatest: u32, zoom: u8) -> u32
     ensures { result ≡ last_met zoom (quantised_axis zoom greatest) }
 {
     let last = (1 << zoom) - 1;
-    last.min(((greatest >> (20 - zoom)) + 64) / 4096)
+    last.min((quantise(greatest, zoom) + MARGIN) / EXTENT)
 }
 
 /// The tiles of a zoom whose boxes a bounding box meets; without points, those of the world's upper left corner.

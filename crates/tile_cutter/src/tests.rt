@@ -88,7 +88,11 @@ fn assert_shown(
     cases: &[Shown],
 ) -> Result<(), Fail> {
     for Shown { tile, integers } in cases {
-        assert_eq!(rt; integers_in(alloc, feature, *tile)?.as_slice(), *integers, "in {tile:?}");
+        assert_eq!(rt;
+            integers_in(alloc, feature, *tile)?.as_slice(),
+            *integers,
+            "in {tile:?}"
+        );
     }
     Ok(())
 }
@@ -237,17 +241,43 @@ fn rings_of_polygons(rt: HostRuntime) -> Result<(), Fail> {
         (0, 104857600),
     ];
     // (10,10), (20,10), (20,20)
-    let triangle: &[(u32, u32)] = &[(10485760, 10485760), (20971520, 10485760), (20971520, 20971520)];
+    let triangle: &[(u32, u32)] = &[
+        (10485760, 10485760),
+        (20971520, 10485760),
+        (20971520, 20971520),
+    ];
     // (10,10), (20,20), (30,30) has no area.
-    let flat: &[(u32, u32)] = &[(10485760, 10485760), (20971520, 20971520), (31457280, 31457280)];
+    let flat: &[(u32, u32)] = &[
+        (10485760, 10485760),
+        (20971520, 20971520),
+        (31457280, 31457280),
+    ];
     let outer_alone: &[u32] = &[9, 0, 0, 26, 200, 0, 0, 200, 199, 0, 15];
     let both: &[u32] = &[
         9, 0, 0, 26, 200, 0, 0, 200, 199, 0, 15, 9, 20, 179, 18, 20, 20, 0, 19, 15,
     ];
-    let at_zero = |integers| [Shown { tile: (0, 0, 0), integers }];
-    assert_shown(&rt, alloc, &polygon_of(alloc, &[square, flat])?, &at_zero(outer_alone))?;
-    assert_shown(&rt, alloc, &polygon_of(alloc, &[square, flat, triangle])?, &at_zero(both))?;
-    assert_shown(&rt, alloc, &polygon_of(alloc, &[flat, square])?, &at_zero(&[]))?;
+    let at_zero = |integers| [Shown {
+        tile: (0, 0, 0),
+        integers,
+    }];
+    assert_shown(
+        &rt,
+        alloc,
+        &polygon_of(alloc, &[square, flat])?,
+        &at_zero(outer_alone),
+    )?;
+    assert_shown(
+        &rt,
+        alloc,
+        &polygon_of(alloc, &[square, flat, triangle])?,
+        &at_zero(both),
+    )?;
+    assert_shown(
+        &rt,
+        alloc,
+        &polygon_of(alloc, &[flat, square])?,
+        &at_zero(&[]),
+    )?;
     // In tile 1/1/1 nothing of the square is in reach.
     let far = [Shown {
         tile: (1, 1, 1),
@@ -259,8 +289,7 @@ fn rings_of_polygons(rt: HostRuntime) -> Result<(), Fail> {
 #[test]
 fn zooms_and_tags(rt: HostRuntime) -> Result<(), Fail> {
     let alloc = rt.alloc();
-    let values = vec![
-        in alloc;
+    let values = vec![in alloc;
         EditValue::Text(String::from_str(alloc, "x")?),
         EditValue::Negative(-2),
         EditValue::Natural(3),
@@ -325,7 +354,11 @@ fn tiles_round_an_edge(rt: HostRuntime) -> Result<(), Fail> {
     for (x, range) in [(2181038080, (0, 1, 0, 0)), (2181562368, (1, 1, 0, 0))] {
         let point = points_of(alloc, &[(x, 0)])?;
         let covered = covers(&point, 1);
-        assert_eq!(rt; (covered.x0, covered.x1, covered.y0, covered.y1), range, "at {x}");
+        assert_eq!(rt;
+            (covered.x0, covered.x1, covered.y0, covered.y1),
+            range,
+            "at {x}"
+        );
     }
     Ok(())
 }

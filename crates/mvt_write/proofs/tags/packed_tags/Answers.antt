@@ -1,9 +1,9 @@
 use Rattle.std.proofs.Common.{◌≡◌, ◌+◌, take, take_all, subst}
 use Rattle.std.specs.Prelude.{All}
-use Rattle.mvt_layer.specs.Tile.{tagged, bytes_of}
+use Rattle.mvt_layer.specs.Tile.{tagged}
 use Rattle.mvt_write.specs.CanWrite.{CanWriteValue}
 use Rattle.mvt_write.specs.Fits.{FitsTag}
-use Rattle.mvt_write.specs.Values.{messages_of}
+use Rattle.mvt_write.specs.Held.{held_keys, held_values}
 use Rattle.mvt_write.specs.Written.{value_written}
 use Rattle.mvt_write.proofs.Lists.{map_more, mapped_has, all_more}
 use Rattle.mvt_write.proofs.TagSteps.{the_tag, used_more, indices_more}
@@ -17,16 +17,18 @@ loop-key-preserved c =
     let tags = c.args.tags.now in
     let so_far = tagged (take c.loop-key.key-index tags) in
     let with_next = tagged (take (c.loop-key.key-index + 1) tags) in
-    let keys = bytes_of c.loop-key.keys.entries.items in
-    let new_keys = bytes_of c.put_indices.new.keys.entries.items in
-    let values = messages_of c.loop-key.values.entries.items in
-    let new_values = messages_of c.put_indices.new.values.entries.items in
+    let keys = held_keys c.loop-key.pools in
+    let new_keys = held_keys c.put_indices.new.pools in
+    let values = held_values c.loop-key.pools in
+    let new_values = held_values c.put_indices.new.pools in
     let before = c.loop-key.invariant in
     let step = c.in_ok-put_indices.ensures in
     let more = map_more the_tag tags c.loop-key.key-index _ c.loop-key-test.true in
     record {
-      keys = used_more (λ t. t.0) (bytes_of c.args.keys.now.entries.items) keys new_keys so_far with_next _ before.keys step.keys more;
-      values = used_more (λ t. value_written t.1) (messages_of c.args.values.now.entries.items) values new_values so_far with_next _ before.values step.values more;
+      pools = record {
+        keys = used_more (λ t. t.0) (held_keys c.args.pools.now) keys new_keys so_far with_next _ before.pools.keys step.keys more;
+        values = used_more (λ t. value_written t.1) (held_values c.args.pools.now) values new_values so_far with_next _ before.pools.values step.values more;
+      };
       written = indices_more keys new_keys values new_values so_far with_next _ c.loop-key.out.items c.put_indices.new.out.items before.written step.keys step.values step.written more;
       fits = all_more FitsTag so_far with_next _ before.fits step.fits more;
     }

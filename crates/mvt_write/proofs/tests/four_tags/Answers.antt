@@ -1,15 +1,7 @@
-use Rattle.std.proofs.Common.{[], List, map, sym, subst}
-use Rattle.std.specs.Prelude.{All, Some}
-use Rattle.std.proofs.lemmas.List.Elements.{All-cons, All-nil}
-use Rattle.geometry_commands.specs.declared.kinds.Shape.TheVariants as shapes
-use Rattle.mvt_layer.specs.declared.tile.TileFeature.{TileFeature}
-use Rattle.mvt_layer.specs.Tile.{feature_view}
-use Rattle.mvt_write.specs.CanWrite.{CanWriteFeature}
-use Rattle.mvt_write.proofs.Examples.{tags_can}
+use Rattle.std.proofs.Common.{rules}
+use Rattle.std.specs.List.Sorted.{IsStrictlySortedBy}
 use Rattle.mvt_write.proofs.tests.four_tags.Goals as goal
 
-pub tile_of-requires-clause-each : goal.tile_of-requires-clause-each
-tile_of-requires-clause-each g c =
-    let made : TileFeature = record { id = Some 7; tags = c.in_ok-tags.tags; shape = shapes.Points c.in_ok-vec.field-0 } in
-    let can : CanWriteFeature (feature_view made) = rw (c.in_ok-tags.ensures.items, c.in_ok-vec.ensures.items) tags_can in
-    subst (λ (fs : List TileFeature). All CanWriteFeature (map feature_view fs)) (sym c.in_ok-vec-2.ensures.items) (All-cons CanWriteFeature (feature_view made) [] can (All-nil CanWriteFeature))
+pub feature-requires-clause-keys : goal.feature-requires-clause-keys
+unfolding IsStrictlySortedBy
+feature-requires-clause-keys g c = rw c.in_ok-tags.ensures.items (search rules)

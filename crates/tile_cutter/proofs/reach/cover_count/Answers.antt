@@ -17,7 +17,7 @@ loop-zoom-preserved c =
     let next = sum_next (λ z. tiles_of (range_of c.corners_of-corners.result z)) zoom (c.args.feature.now.maxzoom + 1) c.loop-zoom-test.true in
     record {
       count = omega (arith, here, next, c.loop-zoom.invariant.count);
-      bound = omega (arith, c.loop-zoom.invariant.bound, c.tiles_of-count.ensures.bound)
+      bound = omega (arith, c.loop-zoom.invariant.bound, c.tiles_of-count.ensures.bound);
     }
 
 pub returns : goal.returns

@@ -10,5 +10,5 @@ abbrev pub invariant-loop-zoom : goal.invariant-loop-zoom
 invariant-loop-zoom l = record {
   count : l.count + sum_by (λ z. tiles_of (range_of l.corners z)) (range_with_len l.zoom (l.zoom-end - l.zoom))
       ≡ sum_by (λ z. tiles_of (range_of l.corners z)) (range_with_len l.initial.zoom (l.zoom-end - l.initial.zoom));
-  bound : l.count ≤ 2 ^ 32 * l.zoom
+  bound : l.count ≤ 2 ^ 32 * l.zoom;
 }

@@ -1,0 +1,38 @@
+//! The two pools of a layer.
+
+use crate::pool::Pool;
+use crate::value::PoolValue;
+use pb_wire::Memory;
+use std::alloc::Global;
+
+/// The keys and the values of a layer's tags.
+#[derive(Drop)]
+pub(crate) struct TagPools<'a> {
+    pub keys: Pool<&'a str>,
+    pub values: Pool<PoolValue<'a>>,
+}
+
+impl<'a> TagPools<'a> {
+    ghost use Rattle.std.specs.Prelude.{◌≡◌, [], ◌++◌, OnOk};
+    ghost use Rattle.std.specs.List.{flat_map};
+    ghost use Rattle.mvt_write.specs.Held.{held_keys, held_values};
+    ghost use Rattle.mvt_write.specs.Written.{bytes_field};
+
+    pub fn new(alloc: Global) -> Self
+        ensures keys { held_keys result ≡ [] }
+        ensures values { held_values result ≡ [] }
+    {
+        TagPools {
+            keys: Pool::new(alloc),
+            values: Pool::new(alloc),
+        }
+    }
+
+    /// Appends the fields of the keys, and then those of the values.
+    pub fn put(&self, alloc: Global, out: &mut Vec<u8>) -> Result<(), Memory>
+        ensures { OnOk result (out.new.items ≡ out.old.items ++ (flat_map (bytes_field 3) (held_keys self.now) ++ flat_map (bytes_field 4) (held_values self.now))) }
+    {
+        self.keys.put(alloc, out, 3)?;
+        self.values.put(alloc, out, 4)
+    }
+}
