@@ -1,5 +1,5 @@
 #!/bin/bash
-# Measures how fast tiles are cut, written and read: makes a scratch repository of links to the product's crates in bench/work, and runs main.rt there.
+# Measures how fast tiles are cut, written and read: makes a scratch repository of links to the product's crates in bench/work, and runs main.rt.txt there.
 set -euo pipefail
 here="$(cd "$(dirname "$0")" && pwd)"
 top="$(cd "$here/../.." && pwd)"
@@ -11,6 +11,6 @@ for crate in pb_wire hilbert_id geometry_commands mvt_layer mvt_write edit_text 
 done > "$work/crates.txt"
 echo "codec_bench: feature_store edit_text mvt_layer mvt_write hilbert_id anyhow" >> "$work/crates.txt"
 cp "$top/HANDLES" "$work/HANDLES"
-cp "$here/main.rt" "$work/crates/codec_bench/src/main.rt"
+cp "$here/main.rt.txt" "$work/crates/codec_bench/src/main.rt"
 cd "$work/crates/codec_bench"
 rt run
