@@ -184,8 +184,8 @@ fn cut_polygon(
     let Some((outer, inners)) = polygon.split_first() else {
         return Ok(());
     };
-    if let Some(outer_ring) = shown_ring(alloc, outer, at, Role::Outer)? {
-        shown.push(outer_ring)?;
+    if let Some(ring) = shown_ring(alloc, outer, at, Role::Outer)? {
+        shown.push(ring)?;
         cut_inner_rings(alloc, shown, inners, at)?;
     }
     Ok(())

@@ -1,6 +1,8 @@
 //! A vector tile server whose map is edited while it serves.
 #![tactic(auto)]
 
+ghost use Rattle.std.specs.Prelude.{◌≡◌, ◌<◌, ◌≤◌, ◌↔◌, IsOk};
+
 use clap::{Arg, ArgAction, Command};
 use http_serve::ServeFault;
 use std::process::ExitCode;
@@ -10,6 +12,37 @@ use thin_service::{ThinService, thin_serve};
 const LEAST_SECTORS: u64 = 64;
 /// The most sectors of a disk.
 const MOST_SECTORS: u64 = 16_777_216;
+
+/// Why so many sectors are no disk.
+#[derive(Clone, Copy, Debug, PartialEq, Eq)]
+enum SizeFault {
+    TooSmall,
+    Damaged,
+}
+
+impl SizeFault {
+    fn name(self) -> &'static str {
+        match self {
+            SizeFault::TooSmall => "TooSmall",
+            SizeFault::Damaged => "Damaged",
+        }
+    }
+}
+
+/// Whether a disk may have so many sectors.
+fn check_size(sectors: u64) -> Result<(), SizeFault>
+    ensures fits { IsOk result ↔ ((64 ≤ sectors) × (sectors ≤ 16777216)) }
+    ensures small { (result ≡ Err SizeFault.TooSmall) ↔ (sectors < 64) }
+    ensures large { (result ≡ Err SizeFault.Damaged) ↔ (16777216 < sectors) }
+{
+    if sectors < LEAST_SECTORS {
+        return Err(SizeFault::TooSmall);
+    }
+    if sectors > MOST_SECTORS {
+        return Err(SizeFault::Damaged);
+    }
+    Ok(())
+}
 
 /// Prints a fault's name.
 fn refused(rt: &impl Eprint, name: &str) -> anyhow::Result<ExitCode> {
@@ -28,11 +61,8 @@ fn fault_name(fault: ServeFault) -> &'static str {
 
 /// Serves one connection on standard input and output, with the empty map.
 fn demo(rt: &HostRuntime, sectors: u64) -> anyhow::Result<ExitCode> {
-    if sectors < LEAST_SECTORS {
-        return refused(rt, "TooSmall");
-    }
-    if sectors > MOST_SECTORS {
-        return refused(rt, "Damaged");
+    if let Err(fault) = check_size(sectors) {
+        return refused(rt, fault.name());
     }
     let Ok(mut service) = ThinService::new(rt.alloc()) else {
         return refused(rt, "Memory");
@@ -68,5 +98,27 @@ fn main(rt: HostRuntime) -> anyhow::Result<ExitCode> {
     match matches.subcommand() {
         Some(("demo", words)) => demo(&rt, words.get_one::<u64>("N").unwrap_or(0)),
         _ => Ok(ExitCode::from(2)),
+    }
+}
+
+#[cfg(test)]
+mod tests {
+    use super::*;
+
+    #[test]
+    fn sizes(rt: HostRuntime) {
+        for (sectors, fault) in [
+            (0, Some("TooSmall")),
+            (63, Some("TooSmall")),
+            (64, None),
+            (16_777_216, None),
+            (16_777_217, Some("Damaged")),
+        ] {
+            assert_eq!(rt;
+                check_size(sectors).err().map(SizeFault::name),
+                fault,
+                "{sectors}"
+            );
+        }
     }
 }

@@ -27,7 +27,7 @@ pub returns-in_ok-cut_inner_rings-clause-rings : goal.returns-in_ok-cut_inner_ri
 returns-in_ok-cut_inner_rings-clause-rings c =
     let at = c.args.at in
     let outer = c.in-Some.outer.now in
-    let ring = c.in-Some-2.outer_ring in
+    let ring = c.in-Some-2.ring in
     let shown = ap (λ ps. shown_ring Outer (tile_ring at.z at.x at.y ps)) (sym c.deref.ensures.value) ∙ sym c.in_ok-ring.ensures.ring ∙ ap (option_map (λ v. v.items)) c.in-Some-2.is in
     let more = ap lists_of c.in_ok-push.ensures.items ∙ map_push (λ v. v.items) c.args.shown.now.items ring in
     rings_appended at.z at.x at.y (lists_of c.args.polygon.now) outer.items (lists_of c.in-Some.inners.now) ring.items (lists_of c.args.shown.now.items) _ _
@@ -37,7 +37,7 @@ pub returns-in_ok-cut_inner_rings-clause-drawable : goal.returns-in_ok-cut_inner
 returns-in_ok-cut_inner_rings-clause-drawable c =
     let at = c.args.at in
     let outer = c.in-Some.outer.now in
-    let ring = c.in-Some-2.outer_ring in
+    let ring = c.in-Some-2.ring in
     let shown = ap (λ ps. shown_ring Outer (tile_ring at.z at.x at.y ps)) (sym c.deref.ensures.value) ∙ sym c.in_ok-ring.ensures.ring ∙ ap (option_map (λ v. v.items)) c.in-Some-2.is in
     let drawable = subst (λ ps. All (IsDrawable true at.x at.y) (option_to_list (shown_ring Outer (tile_ring at.z at.x at.y ps)))) c.deref.ensures.value c.in_ok-ring.ensures.drawable in
     rings_drawable at.z at.x at.y (lists_of c.args.polygon.now) outer.items (lists_of c.in-Some.inners.now) ring.items
