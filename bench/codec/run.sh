@@ -1,9 +1,9 @@
 #!/bin/bash
-# Measures how fast tiles are cut, written and read: makes a scratch repository of links to the product's crates in bench/work, and runs main.rt.txt there.
+# Measures how fast tiles are cut, written and read: makes a scratch repository of links to the product's crates, outside of this one, and runs main.rt.txt there.
 set -euo pipefail
 here="$(cd "$(dirname "$0")" && pwd)"
 top="$(cd "$here/../.." && pwd)"
-work="$top/bench/work/codec"
+work="$(mktemp -d)"
 mkdir -p "$work/crates/codec_bench/src"
 for crate in pb_wire hilbert_id geometry_commands mvt_layer mvt_write edit_text tile_cutter feature_store; do
     ln -sfn "$top/crates/$crate" "$work/crates/$crate"
