@@ -1,5 +1,5 @@
 #!/usr/bin/env python3
-"""Runs the program on its stored input with each allocation refused in turn, until a run meets none.
+"""Runs the program on its stored input with each allocation refused in turn, until runs meet none.
 
     python3 bench/memory/run.py [PROGRAM]       PROGRAM is crates/vtserve/out/vtserve, which `rt run` leaves there
 
@@ -14,6 +14,7 @@ import tempfile
 
 HERE = os.path.dirname(os.path.abspath(__file__))
 CRATE = os.path.join(HERE, "..", "..", "crates", "vtserve")
+CALM = 100  # so many runs in a row that meet no refusal, or none that matters, end the series
 PROGRAM = sys.argv[1] if len(sys.argv) > 1 else os.path.join(CRATE, "out", "vtserve")
 
 
@@ -23,7 +24,7 @@ def main():
     with open(os.path.join(CRATE, "stdout"), "rb") as file:
         whole = file.read()
     outcomes = collections.Counter()
-    bad = 0
+    bad = calm = 0
     with tempfile.TemporaryDirectory() as folder:
         shim = os.path.join(folder, "refuse.so")
         subprocess.run(["gcc", "-shared", "-fPIC", "-o", shim, os.path.join(HERE, "refuse.c"), "-ldl"], check=True)
@@ -32,7 +33,11 @@ def main():
                                   env={"LD_PRELOAD": shim, "FAIL_AT": str(number)})
             codes = tuple(code.decode() for code in re.findall(rb"HTTP/1\.1 (\d+)", done.stdout))
             if done.returncode == 0 and done.stdout == whole:
-                break
+                calm += 1
+                if calm == CALM:
+                    break
+                continue
+            calm = 0
             outcomes[(done.returncode, codes, done.stderr.decode().strip())] += 1
             if done.returncode == 0 and codes not in (("503", "204"), ("200", "503")):
                 bad += 1
@@ -40,7 +45,7 @@ def main():
                 bad += 1
     for outcome, times in outcomes.items():
         print(times, "times: status %d, replies %s, %r" % (outcome[0], list(outcome[1]), outcome[2]))
-    print(f"{number - 1} allocations, {bad} bad outcomes")
+    print(f"{number - CALM} allocations, {bad} bad outcomes")
     return 1 if bad else 0
 
 
