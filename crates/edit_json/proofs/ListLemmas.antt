@@ -1,12 +1,12 @@
 -- The lists of a geometry, as the loops read them.
-use Rattle.std.proofs.Common.{◌≡◌, ℕ, ◌+◌, ◌<◌, ◌≤◌, true, false, List, [], ◌∷◌, ◌++◌, length, drop, get_or, Option, Some, None, refl, ap, ◌∙◌, arith, append-nil}
-use Rattle.std.proofs.lemmas.List.{at_drop_more, at_drop_all}
+use Rattle.std.proofs.Common.{◌≡◌, ℕ, ◌<◌, ◌≤◌, true, false, List, [], ◌∷◌, length, drop, Option, Some, None, refl, ap, ◌∙◌, arith, append-nil}
+use Rattle.std.proofs.lemmas.List.{at_drop_all}
 use Rattle.serde_json.specs.Data.{Data}
-use Rattle.serde_json.specs.View.{view, items_view}
+use Rattle.serde_json.specs.View.{items_view}
 use Rattle.serde_json.specs.declared.value.Value.{Value}
 use Rattle.serde_json.proofs.Views.{items_len-items_view}
 use Rattle.edit_json.specs.Lists.{pair_at, each, has_count, list_of}
-use Rattle.edit_json.proofs.SoFar.{goes_on, goes_on-nil, goes_on-cons}
+use Rattle.edit_json.proofs.SoFar.{goes_on}
 
 -- a list of another length than two is no point
 pub pair_at-short : (vs : List Value) → length vs < 2 → pair_at (items_view vs) ≡ None

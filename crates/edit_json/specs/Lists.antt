@@ -1,11 +1,9 @@
 -- What the lists of a geometry are read as.
-use Rattle.std.specs.Prelude.{◌≡◌, ℕ, suc, ◌^◌, ◌&&◌, nat_lt, nat_le, if◌then◌else◌, Bool, List, [], ◌∷◌, Option, Some, None, option_and_then, option_map, Result, MatchResult, ◌⊎◌}
+use Rattle.std.specs.Prelude.{ℕ, ◌^◌, ◌&&◌, nat_lt, nat_le, if◌then◌else◌, Bool, List, [], ◌∷◌, Option, Some, None, option_and_then, option_map}
 use Rattle.serde_json.specs.Data.{Data, Items, no_items, item}
 use Rattle.serde_json.specs.Events.{items_len}
 use Rattle.serde_json.specs.Find.{as_u64, as_number, as_array}
 use Rattle.edit_text.specs.declared.feature.World.{World}
-use Rattle.edit_text.specs.declared.fault.EditFault.{EditFault}
-use Rattle.edit_text.specs.declared.fault.EditFault.TheVariants as faults
 use Rattle.edit_text.specs.Data.{GeometryData, world_points, world_lines, world_polygons}
 use Rattle.edit_json.specs.Json.{ShapeData, point_list, line_list, polygon_list}
 

@@ -1,5 +1,5 @@
 -- Bounding boxes of points of the world, and the tiles that they meet.
-use Rattle.std.proofs.Common.{◌≡◌, ℕ, ◌+◌, ◌-◌, ◌*◌, ◌/◌, ◌^◌, ◌<◌, ◌≤◌, suc, min, max, Bool, true, false, cond, List, [], ◌∷◌, ◌++◌, Option, Some, None, map, drop, get_or, length, add-one, refl, sym, ap, ◌∙◌, subst, ◌⊎◌, inl, inr, ⊎_elim, arith}
+use Rattle.std.proofs.Common.{◌≡◌, ℕ, ◌+◌, ◌-◌, ◌^◌, ◌<◌, ◌≤◌, suc, min, max, List, [], ◌∷◌, Option, Some, None, map, drop, get_or, length, add-one, refl, sym, ap, ◌∙◌, ⊎_elim, arith}
 use Rattle.std.specs.Prelude.{flat_map, fold, sum_by}
 use Rattle.std.specs.List.{range_with_len}
 use Rattle.std.proofs.Math.Seq.{drop-cons}

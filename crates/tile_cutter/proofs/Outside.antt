@@ -1,8 +1,7 @@
 -- Outside the tiles that a feature covers nothing of it is shown.
-use Rattle.std.proofs.Common.{◌≡◌, ℕ, ℤ, pos, negsuc, ◌+◌, ◌-◌, ◌*◌, ◌/◌, ◌^◌, ◌<◌, ◌≤◌, ◌-ℤ◌, ◌<ℤ◌, min, max, Bool, true, false, cond, not, ◌&&◌, List, [], ◌∷◌, ◌++◌, Option, Some, None, map, length, refl, sym, ap, ◌∙◌, subst, ⊎_elim, arith}
+use Rattle.std.proofs.Common.{◌≡◌, ℕ, ℤ, pos, negsuc, ◌+◌, ◌-◌, ◌*◌, ◌^◌, ◌<◌, ◌≤◌, ◌-ℤ◌, ◌<ℤ◌, min, max, Bool, true, false, cond, ◌&&◌, List, [], ◌∷◌, ◌++◌, Option, None, map, refl, ap, ⊎_elim, arith}
 use Rattle.std.specs.Prelude.{All, filter, flat_map, fold, int_le}
 use Rattle.std.specs.List.{slice_split}
-use Rattle.std.specs.Int.{int_min, int_max, div_ceil}
 use Rattle.std.proofs.lemmas.Int.{ints, clamps}
 use Rattle.std.proofs.lemmas.Grind.{div_ceil_times}
 use Rattle.std.proofs.lemmas.Bool.{cases_lt}
@@ -12,7 +11,7 @@ use Rattle.edit_text.specs.Data.{FeatureData, GeometryData, world_points, world_
 use Rattle.geometry_commands.specs.declared.point.Pt.{Pt}
 use Rattle.mvt_layer.specs.Tile.{FeatureView}
 use Rattle.tile_cutter.specs.declared.reach.TileRange.{TileRange}
-use Rattle.tile_cutter.specs.Cut.{quantised_axis, tile_points, tile_ring, in_box, least_corner, greatest_corner, reaches_box, meets_box, points_cut, Segment, segments, is_kept, way_along, is_some_segment, line_cut, lines_cut, is_ring, outward, inner_rings, polygon_cut, polygons_cut, unless_empty, geometry_cut, has_zoom, shown_with, feature_cut}
+use Rattle.tile_cutter.specs.Cut.{quantised_axis, tile_points, tile_ring, in_box, least_corner, greatest_corner, meets_box, points_cut, Segment, segments, is_kept, way_along, is_some_segment, line_cut, lines_cut, is_ring, polygon_cut, polygons_cut, geometry_cut, has_zoom, feature_cut}
 use Rattle.tile_cutter.specs.Covered.{all_of, all_points, least_of, greatest_of, first_met, last_met, covered, IsInRange}
 use Rattle.tile_cutter.proofs.Passes.{stands_at}
 use Rattle.tile_cutter.proofs.Kept.{points_all, ring_all}
