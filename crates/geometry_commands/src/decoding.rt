@@ -11,18 +11,24 @@ use crate::kinds::{Shape, ShapeKind};
 use crate::point::Pt;
 use pb_wire::unzigzag;
 use std::alloc::{AllocError, AllocFailed, Global};
+use thiserror::Error;
 
 /// Why integers are no shape of a kind, or that memory ran out.
-#[derive(Clone, Copy, Debug, PartialEq, Eq)]
+#[derive(Clone, Copy, Debug, PartialEq, Eq, Error)]
 pub enum GeometryFault {
     /// Another command stands where one must, or something behind the points.
+    #[error("another command than one that must stand there")]
     Command,
     /// A command is done fewer or more times than the kind allows.
+    #[error("a command is done fewer or more times than it may be")]
     Count,
     /// The integers end where a command or a point must stand.
+    #[error("the integers end inside the shape")]
     Cut,
     /// A coordinate leaves 64 bits.
+    #[error("a coordinate leaves 64 bits")]
     Cursor,
+    #[error("out of memory")]
     Memory,
 }
 

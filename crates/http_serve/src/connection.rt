@@ -17,6 +17,7 @@ use crate::writes::WriteFault;
 use crate::{Handler, Refusal, Request};
 use std::alloc::Global;
 use std::io::{Read, Write};
+use thiserror::Error;
 
 /// How a connection ended.
 #[derive(Clone, Copy, Debug, PartialEq, Eq)]
@@ -41,13 +42,16 @@ pub struct Served {
 }
 
 /// Why a connection was given up. `requests` counts the replies that were written whole.
-#[derive(Clone, Copy, Debug, PartialEq, Eq)]
+#[derive(Clone, Copy, Debug, PartialEq, Eq, Error)]
 pub enum ServeFault {
     /// Memory ran out before the first read.
+    #[error("out of memory before the first read")]
     Memory,
     /// A read failed.
+    #[error("a read failed after {requests} replies")]
     Read { requests: u64 },
     /// A write failed, or took nothing.
+    #[error("a write failed after {requests} replies")]
     Write { requests: u64 },
 }
 

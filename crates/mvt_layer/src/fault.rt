@@ -4,32 +4,45 @@ ghost use Rattle.std.specs.Prelude.{◌≡◌};
 ghost use Rattle.mvt_layer.specs.declared.fault.TileFault.TheVariants.{Memory};
 
 use std::alloc::{AllocError, AllocFailed};
+use thiserror::Error;
 
 /// Why bytes are no tile, or that memory ran out.
-#[derive(Clone, Copy, Debug, PartialEq, Eq)]
+#[derive(Clone, Copy, Debug, PartialEq, Eq, Error)]
 pub enum TileFault {
     /// M1: bytes that are to be a message are none.
+    #[error("bytes that are to be a message are none")]
     Wire,
     /// M2: a field has another wire type than its number asks for.
+    #[error("a field has another wire type than its number asks for")]
     Kind,
     /// M3: a version, an extent, or a number among tags or geometry of 2^32 or more.
+    #[error("a number of 2^32 or more")]
     Range,
     /// M4: a layer's name, a key or a text is not UTF-8.
+    #[error("a text is not UTF-8")]
     Utf8,
     /// M5: a layer has no name.
+    #[error("a layer has no name")]
     Name,
     /// M6: a layer's version is neither 1 nor 2.
+    #[error("a layer's version is neither 1 nor 2")]
     Version,
     /// M7: a layer's extent is 0.
+    #[error("a layer's extent is 0")]
     Extent,
     /// M8: two layers have one name.
+    #[error("two layers have one name")]
     LayerTwice,
     /// M9: a value has no kind of field, or more than one.
+    #[error("a value has no kind of field, or more than one")]
     Value,
     /// M10: a feature has an odd number of tag indices, one that the pools lack, or one key index twice.
+    #[error("a feature's tags are no pairs of indices into the pools")]
     Tag,
     /// M11: a feature's integers are no shape of its kind.
+    #[error("a feature's geometry is no shape of its kind")]
     Geometry,
+    #[error("out of memory")]
     Memory,
 }
 

@@ -1,18 +1,25 @@
+use thiserror::Error;
+
 /// What is wrong with the bytes of a message.
-#[derive(Clone, Copy, Debug, PartialEq, Eq)]
+#[derive(Clone, Copy, Debug, PartialEq, Eq, Error)]
 pub enum FaultKind {
     /// The bytes end inside a number or a value.
+    #[error("the bytes end inside a number or a value")]
     Cut,
     /// A number's tenth byte is above 1: it goes on, or passes 64 bits.
+    #[error("a number is longer than ten bytes or passes 64 bits")]
     Varint,
     /// The number of a field is 0 or above 536,870,911.
+    #[error("the number of a field is 0 or above 536,870,911")]
     Number,
     /// The wire type is 3, 4, 6 or 7.
+    #[error("no such wire type")]
     WireType,
 }
 
 /// A fault of a message, or of a number that stands alone.
-#[derive(Clone, Copy, Debug, PartialEq, Eq)]
+#[derive(Clone, Copy, Debug, PartialEq, Eq, Error)]
+#[error("{kind}, in the field at byte {at}")]
 pub struct WireFault {
     /// Where the key of the field with the fault begins, counted in bytes from the message's first; 0 for a number that
     /// stands alone.

@@ -2,26 +2,35 @@ ghost use Rattle.std.specs.Prelude.{◌≡◌};
 ghost use Rattle.pm_directory.specs.declared.fault.DirectoryFault.TheVariants.{Memory};
 
 use std::alloc::{AllocError, AllocFailed};
+use thiserror::Error;
 
 /// Why bytes are no directory. Where they have several faults, one of these is named.
-#[derive(Clone, Copy, Debug, PartialEq, Eq)]
+#[derive(Clone, Copy, Debug, PartialEq, Eq, Error)]
 pub enum DirectoryFault {
     /// The bytes end inside a number or before the last one, or are fewer than a byte for each number.
+    #[error("the bytes end inside the directory")]
     Cut,
     /// A number goes on after its tenth byte, or passes 64 bits.
+    #[error("a number is longer than ten bytes or passes 64 bits")]
     Varint,
     /// Bytes stand behind the last number.
+    #[error("bytes stand behind the directory")]
     Rest,
     /// An id isn't above the one before it, or is in the run before it.
+    #[error("the entries do not ascend, or runs overlap")]
     Order,
     /// A length is 0.
+    #[error("the length of an entry is 0")]
     Length,
     /// The first offset refers to an entry before.
+    #[error("the first entry has no offset")]
     Offset,
     /// A run or a length is 2^32 or more, an id or an offset 2^64 or more, or an id and its run reach
     /// past the ids of zoom 31.
+    #[error("a number is out of its range")]
     Range,
     /// Memory ran out. This says nothing of the bytes.
+    #[error("out of memory")]
     Memory,
 }
 
