@@ -1,3 +1,4 @@
+pub mod Counts
 pub mod Directory
 pub mod Faulty
 pub mod Lookup

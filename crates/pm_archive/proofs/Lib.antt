@@ -1,0 +1,13 @@
+pub mod CountedLaws
+pub mod CountedListed
+pub mod KeepsLaws
+pub mod ListedClauses
+pub mod ListedEntries
+pub mod ListedLaws
+pub mod ListedSteps
+pub mod LookedLaws
+pub mod LookedSteps
+pub mod OpenedLaws
+pub mod VerifiedFaults
+pub mod VerifiedLaws
+pub mod VerifiedListed

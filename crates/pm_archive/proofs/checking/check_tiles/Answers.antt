@@ -1,0 +1,21 @@
+use Rattle.std.proofs.Common.{rules}
+use Rattle.pm_archive.specs.Entries.{LiesIn}
+use Rattle.pm_archive.specs.Verified.{HasTile}
+use Rattle.pm_archive.proofs.VerifiedLaws.{at_place, each_from, first_from}
+use Rattle.pm_archive.proofs.checking.check_tiles.Goals as goal
+
+pub loop-entry-preserved : goal.loop-entry-preserved
+loop-entry-preserved g c =
+    let h = c.args.header.now in
+    let was = c.loop-entry.invariant in
+    let es = c.args.tiles.now in
+    let i = c.loop-entry.entry-index in
+    let t = c.in-Ok.ensures.tile in
+    record {
+      keeps = search rules;
+      places = λ bytes holds lies. c.in-Ok.ensures.places bytes (was.keeps.same_bytes bytes holds) (at_place (LiesIn h.tiles) es i _ c.loop-entry-test.true lies) (was.places bytes holds lies);
+      each = λ bytes holds lies rest. was.each bytes holds lies (each_from (HasTile bytes h) es i _ c.loop-entry-test.true
+          (t bytes (was.keeps.same_bytes bytes holds) (at_place (LiesIn h.tiles) es i _ c.loop-entry-test.true lies) (was.places bytes holds lies)) rest);
+      first = λ bytes holds lies d rest. was.first bytes holds lies d (first_from bytes h es i _ d c.loop-entry-test.true
+          (t bytes (was.keeps.same_bytes bytes holds) (at_place (LiesIn h.tiles) es i _ c.loop-entry-test.true lies) (was.places bytes holds lies)) rest);
+    }

@@ -1,0 +1,34 @@
+use Rattle.std.proofs.Common.{◌≡◌, ◌∙◌}
+use Rattle.pm_archive.specs.Reading.{lists_at, tile_at}
+use Rattle.pm_archive.proofs.KeepsLaws.{keeps_on}
+use Rattle.pm_archive.proofs.ListedLaws.{each_on, each_fault, lists_tile, lists_leaf, leaf_fault}
+use Rattle.pm_archive.proofs.listing.+listing.Goals as goal
+
+pub push_each-returns-in-Err-clause-listed : goal.push_each-returns-in-Err-clause-listed
+push_each-returns-in-Err-clause-listed g t c = λ bytes held.
+    each_fault (lists_at bytes c.args.header.now c.args.more) c.args.bound c.args.entries.now c.loop-i.i _ c.loop-i.tiles.items c.bound_behind-bound.result _ c.in-Err.fault c.loop-i-test.true c.bound_behind-bound.ensures (c.loop-i.invariant.listed bytes held)
+    (c.in-Err.ensures.listed bytes (c.loop-i.invariant.source.same_bytes bytes held))
+
+pub push_each-loop-i-preserved : goal.push_each-loop-i-preserved
+push_each-loop-i-preserved g t c = record {
+  source = keeps_on c.loop-i.invariant.source c.in-Ok.ensures.source;
+  listed = λ bytes held. c.loop-i.invariant.listed bytes held
+      ∙ each_on (lists_at bytes c.args.header.now c.args.more) c.args.bound c.args.entries.now c.loop-i.i _ c.loop-i.tiles.items c.bound_behind-bound.result _ c.loop-i-test.true c.bound_behind-bound.ensures (c.in-Ok.ensures.listed bytes (c.loop-i.invariant.source.same_bytes bytes held));
+}
+
+pub push_listed-returns-then-entry-gt0-clause-listed :
+    goal.push_listed-returns-then-entry-gt0-clause-listed
+push_listed-returns-then-entry-gt0-clause-listed g t c = λ bytes held.
+    let same : lists_at bytes c.args.header.now c.args.more c.args.entry c.args.bound ≡ tile_at c.args.header.now c.args.entry = lists_tile bytes c.args.header.now c.args.more c.args.entry c.args.bound c.if-entry-gt0.true in
+    rw same c.push_tile.ensures.tile
+
+pub push_listed-returns-in-Ok-clause-listed : goal.push_listed-returns-in-Ok-clause-listed
+push_listed-returns-in-Ok-clause-listed g t c = λ bytes held.
+    let leaf = c.in-Ok.ensures.leaf bytes held in
+    let same = lists_leaf bytes c.args.header.now c.args.more c.args.entry c.args.bound c.if-more-eq0.false c.if-entry-gt0.false in
+    let value = c.deref.ensures.value in
+    rw (same, leaf, ← value) (c.push_each.ensures.listed bytes (c.in-Ok.ensures.source.same_bytes bytes held))
+
+pub push_listed-returns-in-Err-clause-listed : goal.push_listed-returns-in-Err-clause-listed
+push_listed-returns-in-Err-clause-listed g t c = λ bytes held.
+    leaf_fault bytes c.args.header.now c.args.more c.args.entry c.args.bound c.args.tiles.now.items c.in-Err.fault c.if-more-eq0.false c.if-entry-gt0.false (c.in-Err.ensures.leaf bytes held)

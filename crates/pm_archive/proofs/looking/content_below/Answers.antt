@@ -1,0 +1,19 @@
+use Rattle.std.proofs.Common.{Err, option_map}
+use Rattle.pm_archive.specs.Entries.{ids_end, most_leaves, entry_of}
+use Rattle.pm_archive.specs.Archive.{content_of}
+use Rattle.pm_archive.specs.Looked.{reached_at, content_at}
+use Rattle.pm_archive.proofs.LookedSteps.{answer_found}
+use Rattle.pm_archive.proofs.LookedLaws.{looked_up, content_found}
+use Rattle.pm_archive.proofs.looking.content_below.Goals as goal
+
+pub returns-in-Ok-clause-content : goal.returns-in-Ok-clause-content
+returns-in-Ok-clause-content g c bytes tiles holds lists =
+    let h = c.args.header.now in
+    let found = content_found bytes h c.args.id most_leaves ids_end c.args.root.now tiles c.leading.result (c.leading.ensures, c.requires.ascending, lists) c.in-Ok.entry (c.in-Ok.ensures.first bytes holds) in
+    answer_found (option_map (λ v. v.items)) c.content_in.result (content_at bytes h c.in-Ok.entry) (content_of bytes h tiles c.args.id) found (c.content_in.ensures.first bytes (c.in-Ok.ensures.source.same_bytes bytes holds))
+
+pub returns-in-Err-clause-content : goal.returns-in-Err-clause-content
+returns-in-Err-clause-content g c bytes tiles holds lists =
+    let h = c.args.header.now in
+    let reaches = looked_up bytes h c.args.id most_leaves ids_end c.args.root.now tiles c.leading.result (c.leading.ensures, c.requires.ascending, lists) in
+    answer_found (λ e. e) (Err c.in-Err.fault) (reached_at bytes h c.args.id most_leaves c.leading.result) (entry_of tiles c.args.id) reaches (c.in-Err.ensures.first bytes holds)

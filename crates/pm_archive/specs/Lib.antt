@@ -1,0 +1,10 @@
+pub mod Answers
+pub mod Archive
+pub mod Entries
+pub mod Listing
+pub mod Looked
+pub mod Reading
+pub mod Sections
+pub mod Source
+pub mod Verified
+pub mod VerifiedPieces

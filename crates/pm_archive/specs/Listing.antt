@@ -1,0 +1,13 @@
+-- Listing, one entry after the other.
+use Rattle.std.specs.Prelude.{ℕ, List, ◌++◌, max, Ok, Option, Some, None, if◌then◌else◌, nat_lt}
+use Rattle.pm_directory.specs.declared.entry.Entry.{Entry}
+use Rattle.pm_directory.specs.Directory.{ids_behind}
+use Rattle.pm_archive.specs.Reading.{Read, ◌>>=◌}
+
+-- what a reading lists, behind the tile entries that there were before
+abbrev pub behind : List Entry → Read (List Entry) → Read (List Entry)
+behind before reading = reading >>= λ listed. Ok (before ++ listed)
+
+-- an id of the entry that isn't between these
+abbrev pub stray_of : ℕ → ℕ → Entry → Option ℕ
+stray_of from bound e = if nat_lt e.id from then Some e.id else (if nat_lt bound (ids_behind e) then Some (max e.id bound) else None)

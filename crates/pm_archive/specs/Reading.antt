@@ -1,0 +1,84 @@
+-- The faults of an archive's sections and directories, in the order in which they are looked for.
+use Rattle.std.specs.Prelude.{◌≡◌, ◌≢◌, ℕ, zero, suc, ◌+◌, ◌<◌, ◌≤◌, ◌⊎◌, max, List, [], ◌∷◌, ◌++◌, length, take, slice_index, Result, Ok, Err, Option, Some, None, if◌then◌else◌, nat_lt, nat_le}
+use Rattle.pm_header.specs.declared.header.Header.{Header}
+use Rattle.pm_header.specs.Layout.{IsHeader, magic}
+use Rattle.pm_directory.specs.declared.entry.Entry.{Entry}
+use Rattle.pm_directory.specs.declared.fault.DirectoryFault.{DirectoryFault}
+use Rattle.pm_directory.specs.Directory.{IsDirectory, ids_behind}
+use Rattle.pm_directory.specs.Reading.{directory_at}
+use Rattle.pm_archive.specs.declared.fault.ArchiveFault.{ArchiveFault}
+use Rattle.pm_archive.specs.declared.fault.ArchiveFault.TheVariants as faults
+use Rattle.pm_archive.specs.declared.fault.Section.{Section}
+use Rattle.pm_archive.specs.declared.fault.Section.TheVariants as sections
+use Rattle.pm_archive.specs.Sections.{end_of, section_bytes, HasSections}
+use Rattle.pm_archive.specs.Entries.{ids_end, most_leaves, entry_bytes, bound_of}
+
+-- ---- opening
+
+-- the first section that is in the wrong place, of a file of so many bytes
+pub data IsMisplaced (count : ℕ) (h : Header) (s : Section) : Type 0 where
+  root_misplaced : s ≡ sections.Root → (count < end_of h.root) ⊎ (16384 < end_of h.root) → IsMisplaced count h s
+  metadata_misplaced : s ≡ sections.Metadata → end_of h.root ≤ count → end_of h.root ≤ 16384 → count < end_of h.metadata → IsMisplaced count h s
+  leaves_misplaced : s ≡ sections.Leaves → end_of h.root ≤ count → end_of h.root ≤ 16384 → end_of h.metadata ≤ count → count < end_of h.leaves → IsMisplaced count h s
+  tiles_misplaced : s ≡ sections.Tiles → end_of h.root ≤ count → end_of h.root ≤ 16384 → end_of h.metadata ≤ count → end_of h.leaves ≤ count → count < end_of h.tiles → IsMisplaced count h s
+
+-- each section is in its place, in a file of so many bytes
+abbrev pub ArePlaced : ℕ → Header → Type 0
+ArePlaced count h = (end_of h.root ≤ count) × (end_of h.root ≤ 16384) × (end_of h.metadata ≤ count) × (end_of h.leaves ≤ count) × (end_of h.tiles ≤ count)
+
+-- the first fault of bytes that have no sections or no root directory
+pub data OpeningHas (bytes : List ℕ) (d : ArchiveFault) : Type 0 where
+  is_short : d ≡ faults.Short → length bytes < 127 → OpeningHas bytes d
+  other_magic : d ≡ faults.Magic → 127 ≤ length bytes → take 7 bytes ≢ magic → OpeningHas bytes d
+  other_version : d ≡ faults.Version (slice_index bytes 7) → 127 ≤ length bytes → take 7 bytes ≡ magic → slice_index bytes 7 ≢ 3 → OpeningHas bytes d
+  misplaced : (h : Header) → (s : Section) → d ≡ faults.Section s → IsHeader bytes h → IsMisplaced (length bytes) h s → OpeningHas bytes d
+  compressed : (h : Header) → d ≡ faults.Compressed h.internal → IsHeader bytes h → ArePlaced (length bytes) h → 2 ≤ h.internal → OpeningHas bytes d
+  no_directory : (h : Header) → d ≡ faults.Directory h.root.offset → HasSections bytes h → ((entries : List Entry) → ¬ IsDirectory (section_bytes h.root bytes) entries) → OpeningHas bytes d
+
+-- ---- listing: the root's entries in order, each leaf directory where it is named
+
+abbrev pub Read : Type 0 → Type 0
+Read X = Result X ArchiveFault
+
+infixl 10 ◌>>=◌
+abbrev pub ◌>>=◌ : {A B : Type 0} → Read A → (A → Read B) → Read B
+(Ok x) >>= f = f x
+(Err e) >>= f = Err e
+
+-- the least id of the entries that isn't between these
+abbrev pub stray_id : ℕ → ℕ → List Entry → Option ℕ
+stray_id from bound [] = None
+stray_id from bound (e ∷ es) = if nat_lt e.id from then Some e.id else (if nat_lt bound (ids_behind e) then Some (max e.id bound) else stray_id from bound es)
+
+abbrev pub unless_stray : List Entry → Option ℕ → Read (List Entry)
+unless_stray entries None = Ok entries
+unless_stray entries (Some id) = Err (faults.Order id)
+
+abbrev pub directory_or_fault : ℕ → Result (List Entry) DirectoryFault → Read (List Entry)
+directory_or_fault place (Ok entries) = Ok entries
+directory_or_fault place (Err _) = Err (faults.Directory place)
+
+-- the entries of the leaf directory that an entry names, wherever its ids lie
+unfoldable pub directory_of_entry : List ℕ → Header → Entry → Read (List Entry)
+directory_of_entry bytes h e = if nat_le (e.offset + e.length) h.leaves.length then directory_or_fault (h.leaves.offset + e.offset) (directory_at (entry_bytes h.leaves e bytes)) else Err (faults.Place e.id)
+
+-- the same, where its ids are between that of the entry and the bound
+unfoldable pub leaf_at : List ℕ → Header → Entry → ℕ → Read (List Entry)
+leaf_at bytes h e bound = directory_of_entry bytes h e >>= λ entries. unless_stray entries (stray_id e.id bound entries)
+
+unfoldable pub tile_at : Header → Entry → Read (List Entry)
+tile_at h e = if nat_le (e.offset + e.length) h.tiles.length then Ok (e ∷ []) else Err (faults.Place e.id)
+
+-- what the entries list, one after the other
+abbrev pub each_at : (Entry → ℕ → Read (List Entry)) → ℕ → List Entry → Read (List Entry)
+each_at lists bound [] = Ok []
+each_at lists bound (e ∷ es) = lists e (bound_of bound es) >>= λ front. each_at lists bound es >>= λ rest. Ok (front ++ rest)
+
+-- what an entry lists, below which so many more leaf directories may stand
+abbrev pub lists_at : List ℕ → Header → ℕ → Entry → ℕ → Read (List Entry)
+lists_at bytes h zero e bound = if nat_lt 0 e.run then tile_at h e else Err faults.Depth
+lists_at bytes h (suc more) e bound = if nat_lt 0 e.run then tile_at h e else (leaf_at bytes h e bound >>= each_at (lists_at bytes h more) bound)
+
+-- the tile entries below a root directory of these entries, or the first fault
+abbrev pub list_at : List ℕ → Header → List Entry → Read (List Entry)
+list_at bytes h root = each_at (lists_at bytes h most_leaves) ids_end root

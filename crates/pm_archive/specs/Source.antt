@@ -1,0 +1,17 @@
+-- Sources of bytes.
+use Rattle.std.specs.Prelude.{◌≡◌, ℕ, List}
+use Rattle.pm_header.specs.declared.header.Header.{Header}
+use Rattle.pm_directory.specs.declared.entry.Entry.{Entry}
+
+-- an archive that was opened, as contracts see it: its source, its header and the entries of its root directory
+pub record ArchiveView (S : Type 0) : Type 0 where
+  pub source : S
+  pub header : Header
+  pub root : List Entry
+
+-- The source is as it was: of so many bytes, of the bytes that it had, and no more apt to fail.
+pub record Keeps {S : Type 0} (count : S → ℕ) (holds : S → List ℕ → Type 0) (fails : S → Type 0) (old new : S) : Type 0 where
+  pub same_count : count new ≡ count old
+  pub same_bytes : (bytes : List ℕ) → holds old bytes → holds new bytes
+  pub no_others : (bytes : List ℕ) → holds new bytes → holds old bytes
+  pub same_faults : fails new → fails old

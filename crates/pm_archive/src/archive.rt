@@ -1,0 +1,132 @@
+//! Archives that are open.
+
+ghost use Rattle.std.specs.Prelude.{◌≡◌, ◌≢◌, ◌↔◌, ℕ, ◌≤◌, List, length, Option, Some, None, IfOk, IfErr, MatchResult, option_map};
+ghost use Rattle.std.specs.List.{AllByRecursion};
+ghost use Rattle.pm_header.specs.declared.header.Header.{Header};
+ghost use Rattle.pm_directory.specs.declared.entry.Entry.{Entry};
+ghost use Rattle.pm_directory.specs.Directory.{IsAscending, IsDirectory, IsEntry};
+ghost use Rattle.pm_archive.specs.declared.report.Report.{Report};
+ghost use Rattle.pm_archive.specs.Source.{ArchiveView, Keeps};
+ghost use Rattle.pm_archive.specs.Sections.{HasSections, section_bytes};
+ghost use Rattle.pm_archive.specs.Entries.{HasEntries};
+ghost use Rattle.pm_archive.specs.Archive.{content_of};
+ghost use Rattle.pm_archive.specs.Reading.{ArePlaced, OpeningHas, list_at};
+ghost use Rattle.pm_archive.specs.Verified.{IsSound, VerifyingHas};
+ghost use Rattle.pm_archive.specs.Answers.{Answers, IsOutside, UnlessOutside};
+
+use crate::fault::ArchiveFault;
+use crate::listing::entries_below;
+use crate::looking::content_below;
+use crate::opening::header_and_root;
+use crate::report::Report;
+use crate::source::Bytes;
+use crate::verifying::verdict_below;
+use pm_directory::Entry;
+use pm_header::Header;
+use std::alloc::Global;
+use std::marker::Model;
+
+/// An archive that was opened: its source, its header and its root directory.
+#[derive(Drop)]
+pub struct Archive<B: Bytes + Drop> {
+    source: B,
+    header: Header,
+    root: Vec<Entry>,
+}
+
+impl<B: Bytes + Drop> Model for Archive<B> {
+    ghost Value = { ArchiveView B };
+
+    ghost view = { λ a. record { source = a.source; header = a.header; root = a.root.items } };
+
+    ghost invariant = { λ a. ArePlaced (B.count a.source) a.header × IsAscending a.root.items
+        × ((bytes : List ℕ) → B.holds a.source bytes → HasSections bytes a.header × IsDirectory (section_bytes a.header.root bytes) a.root.items)
+        × AllByRecursion IsEntry a.root.items };
+}
+
+impl<B: Bytes + Drop> Archive<B> {
+    /// Opens an archive: reads its header and its root directory, and nothing else.
+    ///
+    /// # Errors
+    ///
+    /// `Short`, `Magic`, `Version`, `Section`, `Compressed`, `Directory` of the root, the first that there is in this order.
+    pub fn open(alloc: Global, source: B) -> Result<Archive<B>, ArchiveFault>
+        ensures source { IfOk result (λ a. Keeps B.count B.holds B.fails source a.source) }
+        ensures found { (bytes : List ℕ) → B.holds source bytes → IfOk result (λ a. HasSections bytes a.header × IsDirectory (section_bytes a.header.root bytes) a.root) }
+        ensures only { (bytes : List ℕ) (h : Header) (root : List Entry) → B.holds source bytes → HasSections bytes h → IsDirectory (section_bytes h.root bytes) root
+            → MatchResult result (λ a. (a.header ≡ h) × (a.root ≡ root)) IsOutside }
+        ensures fault { (bytes : List ℕ) → B.holds source bytes → IfErr result (UnlessOutside (OpeningHas bytes)) }
+        ensures read { result ≡ Err ArchiveFault.Read → B.fails source }
+    {
+        let mut source = source;
+        match header_and_root(alloc, &mut source) {
+            Ok((header, root)) => Ok(Archive {
+                source,
+                header,
+                root,
+            }),
+            Err(fault) => Err(fault),
+        }
+    }
+
+    /// The header.
+    pub fn header(&self) -> Header
+        ensures { result ≡ self.now.header }
+    {
+        self.header
+    }
+
+    /// The tile entries of all directories, in ascending order.
+    ///
+    /// # Errors
+    ///
+    /// `Directory`, `Order`, `Depth`, `Place`, the first that is met going through the directories in order, each leaf
+    /// directory where it is named.
+    pub fn list(&mut self, alloc: Global) -> Result<Vec<Entry>, ArchiveFault>
+        ensures header { self.new.header ≡ self.old.header }
+        ensures root { self.new.root ≡ self.old.root }
+        ensures source { Keeps B.count B.holds B.fails self.old.source self.new.source }
+        ensures found { (bytes : List ℕ) → B.holds self.old.source bytes → IfOk result (λ tiles. HasEntries bytes self.old.header tiles.items) }
+        ensures only { (bytes : List ℕ) (tiles : List Entry) → B.holds self.old.source bytes → HasEntries bytes self.old.header tiles
+            → MatchResult result (λ listed. listed.items ≡ tiles) IsOutside }
+        ensures first { (bytes : List ℕ) → B.holds self.old.source bytes → Answers (λ tiles. tiles.items) result (list_at bytes self.old.header self.old.root) }
+        ensures read { result ≡ Err ArchiveFault.Read → B.fails self.old.source }
+    {
+        entries_below(alloc, &mut self.source, &self.header, &self.root)
+    }
+
+    /// The content of a tile id, `None` where no entry has it. Reads the directories on the way to its entry, and the
+    /// content.
+    ///
+    /// # Errors
+    ///
+    /// Where `list` has no fault there is none. Else perhaps `Directory`, `Depth` or `Place` on the way.
+    pub fn tile(&mut self, alloc: Global, id: u64) -> Result<Option<Vec<u8>>, ArchiveFault>
+        ensures header { self.new.header ≡ self.old.header }
+        ensures root { self.new.root ≡ self.old.root }
+        ensures source { Keeps B.count B.holds B.fails self.old.source self.new.source }
+        ensures content { (bytes : List ℕ) (tiles : List Entry) → B.holds self.old.source bytes → HasEntries bytes self.old.header tiles
+            → MatchResult result (λ content. option_map (λ v. v.items) content ≡ content_of bytes self.old.header tiles id) IsOutside }
+        ensures read { result ≡ Err ArchiveFault.Read → B.fails self.old.source }
+    {
+        content_below(alloc, &mut self.source, &self.header, &self.root, id)
+    }
+
+    /// Judges the archive: its metadata, its directories, the counts of its header, and each tile where they are Mapbox
+    /// vector tiles that aren't compressed.
+    ///
+    /// # Errors
+    ///
+    /// `Metadata`, then those of `list`, then `Count` (addressed, entries, contents), then `Tile`, the first that there is.
+    pub fn verify(&mut self, alloc: Global) -> Result<Report, ArchiveFault>
+        ensures header { self.new.header ≡ self.old.header }
+        ensures root { self.new.root ≡ self.old.root }
+        ensures source { Keeps B.count B.holds B.fails self.old.source self.new.source }
+        ensures found { (bytes : List ℕ) → B.holds self.old.source bytes → IfOk result (IsSound bytes) }
+        ensures only { (bytes : List ℕ) (report : Report) → B.holds self.old.source bytes → IsSound bytes report → MatchResult result (λ told. told ≡ report) IsOutside }
+        ensures fault { (bytes : List ℕ) → B.holds self.old.source bytes → IfErr result (UnlessOutside (VerifyingHas bytes self.old.header self.old.root)) }
+        ensures read { result ≡ Err ArchiveFault.Read → B.fails self.old.source }
+    {
+        verdict_below(alloc, &mut self.source, &self.header, &self.root)
+    }
+}

@@ -1,0 +1,135 @@
+//! Whether the contents of tiles can be read.
+
+ghost use Rattle.std.specs.Prelude.{◌≡◌, ◌≤◌, ◌↔◌, ℕ, List, Err, IfOk, IfErr, OnOk, MatchResult, IsTrue};
+ghost use Rattle.std.specs.List.{AllByRecursion};
+ghost use Rattle.pm_archive.specs.Source.{Keeps};
+ghost use Rattle.pm_archive.specs.Sections.{end_of};
+ghost use Rattle.pm_archive.specs.Entries.{LiesIn, entry_bytes};
+ghost use Rattle.pm_archive.specs.Answers.{IsOutside, UnlessOutside};
+ghost use Rattle.pm_archive.specs.Verified.{IsTile, HasTile};
+ghost use Rattle.pm_archive.specs.VerifiedPieces.{IsTileFault, IsFirstTileFault, AreRead};
+
+use crate::fault::ArchiveFault;
+use crate::reading::bytes_at;
+use crate::source::Bytes;
+use mvt_layer::{TileFault, read_tile};
+use pm_directory::Entry;
+use pm_header::Header;
+use std::alloc::{AllocError, Global};
+use std::collections::BTreeSet;
+
+// Whether the bytes are a vector tile.
+pub(crate) fn is_tile(alloc: Global, content: &[u8]) -> Result<bool, AllocError>
+    ensures { IfOk result (λ is. IsTrue is ↔ IsTile content.now) }
+{
+    match read_tile(alloc, content) {
+        Ok(_) => Ok(true),
+        Err(fault) => match fault {
+            TileFault::Memory => Err(AllocError),
+            _ => Ok(false),
+        },
+    }
+}
+
+// The content of an entry. A source that tells other bytes at each read may have listed it outside of its section.
+fn content_at<B: Bytes>(
+    alloc: Global,
+    source: &mut B,
+    header: &Header,
+    entry: Entry,
+) -> Result<Vec<u8>, ArchiveFault>
+    requires { end_of header.now.tiles ≤ B.count source.old }
+    ensures source { Keeps B.count B.holds B.fails source.old source.new }
+    ensures content { (bytes : List ℕ) → B.holds source.old bytes → LiesIn header.now.tiles entry
+        → MatchResult result (λ v. v.items ≡ entry_bytes header.now.tiles entry bytes) IsOutside }
+    ensures read { result ≡ Err ArchiveFault.Read → B.fails source.old }
+{
+    let length = u64::from(entry.length);
+    if entry.offset > header.tiles.length || header.tiles.length - entry.offset < length {
+        return Err(ArchiveFault::Place(entry.id));
+    }
+    // A section of the source ends before place 2^64.
+    let _count = source.len();
+    bytes_at(alloc, source, header.tiles.offset + entry.offset, length)
+}
+
+// Reads the tile of an entry.
+fn check_tile<B: Bytes>(
+    alloc: Global,
+    source: &mut B,
+    header: &Header,
+    entry: Entry,
+) -> Result<(), ArchiveFault>
+    requires { end_of header.now.tiles ≤ B.count source.old }
+    ensures source { Keeps B.count B.holds B.fails source.old source.new }
+    ensures tile { (bytes : List ℕ) → B.holds source.old bytes → LiesIn header.now.tiles entry → OnOk result (HasTile bytes header.now entry) }
+    ensures fault { (bytes : List ℕ) → B.holds source.old bytes → LiesIn header.now.tiles entry → IfErr result (UnlessOutside (IsTileFault bytes header.now entry)) }
+    ensures read { result ≡ Err ArchiveFault.Read → B.fails source.old }
+{
+    let content = match content_at(alloc, source, header, entry) {
+        Ok(content) => content,
+        Err(fault) => return Err(fault),
+    };
+    match is_tile(alloc, &content) {
+        Ok(true) => Ok(()),
+        Ok(false) => Err(ArchiveFault::Tile(entry.id)),
+        Err(_) => Err(ArchiveFault::Memory),
+    }
+}
+
+// Reads the tile of an entry, unless its place is one of those that were read. Then it is one of them.
+fn check_once<B: Bytes>(
+    alloc: Global,
+    source: &mut B,
+    header: &Header,
+    places: &mut BTreeSet<(u64, u32)>,
+    entry: Entry,
+) -> Result<(), ArchiveFault>
+    requires { end_of header.now.tiles ≤ B.count source.old }
+    ensures source { Keeps B.count B.holds B.fails source.old source.new }
+    ensures tile { (bytes : List ℕ) → B.holds source.old bytes → LiesIn header.now.tiles entry → AreRead bytes header.now places.old
+        → OnOk result (HasTile bytes header.now entry) }
+    ensures places { (bytes : List ℕ) → B.holds source.old bytes → LiesIn header.now.tiles entry → AreRead bytes header.now places.old
+        → OnOk result (AreRead bytes header.now places.new) }
+    ensures fault { (bytes : List ℕ) → B.holds source.old bytes → LiesIn header.now.tiles entry → AreRead bytes header.now places.old
+        → IfErr result (UnlessOutside (IsTileFault bytes header.now entry)) }
+    ensures read { result ≡ Err ArchiveFault.Read → B.fails source.old }
+{
+    let place = (entry.offset, entry.length);
+    if places.contains(&place) {
+        return Ok(());
+    }
+    match check_tile(alloc, source, header, entry) {
+        Ok(()) => {}
+        Err(fault) => return Err(fault),
+    }
+    match places.insert(place) {
+        Ok(_) => Ok(()),
+        Err(_) => Err(ArchiveFault::Memory),
+    }
+}
+
+// Reads the tile of each entry, each place once.
+pub(crate) fn check_tiles<B: Bytes>(
+    alloc: Global,
+    source: &mut B,
+    header: &Header,
+    tiles: &[Entry],
+) -> Result<(), ArchiveFault>
+    requires { end_of header.now.tiles ≤ B.count source.old }
+    ensures source { Keeps B.count B.holds B.fails source.old source.new }
+    ensures each { (bytes : List ℕ) → B.holds source.old bytes → AllByRecursion (LiesIn header.now.tiles) tiles.now
+        → OnOk result (AllByRecursion (HasTile bytes header.now) tiles.now) }
+    ensures fault { (bytes : List ℕ) → B.holds source.old bytes → AllByRecursion (LiesIn header.now.tiles) tiles.now
+        → IfErr result (UnlessOutside (IsFirstTileFault bytes header.now tiles.now)) }
+    ensures read { result ≡ Err ArchiveFault.Read → B.fails source.old }
+{
+    let mut places = BTreeSet::new(alloc);
+    for entry in tiles {
+        match check_once(alloc, source, header, &mut places, *entry) {
+            Ok(()) => {}
+            Err(fault) => return Err(fault),
+        }
+    }
+    Ok(())
+}

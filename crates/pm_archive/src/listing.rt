@@ -1,0 +1,177 @@
+//! The tile entries of all directories.
+
+ghost use Rattle.std.specs.Prelude.{◌≡◌, ◌≢◌, ℕ, List, Err, IfOk};
+ghost use Rattle.pm_directory.specs.Directory.{IsAscending};
+ghost use Rattle.pm_archive.specs.Source.{Keeps};
+ghost use Rattle.pm_archive.specs.Entries.{bound_of};
+ghost use Rattle.pm_archive.specs.Reading.{ArePlaced, each_at, leaf_at, list_at, lists_at, stray_id, tile_at};
+ghost use Rattle.pm_archive.specs.Answers.{Answers};
+ghost use Rattle.pm_archive.specs.Listing.{behind, stray_of};
+
+use crate::fault::ArchiveFault;
+use crate::reading::{directory_of, lies_in};
+use crate::source::Bytes;
+use pm_directory::Entry;
+use pm_header::Header;
+use std::alloc::Global;
+
+/// The ids of all tiles are below this one.
+const IDS_END: u64 = 6_148_914_691_236_517_205;
+/// So many leaf directories may stand one below the other.
+pub(crate) const MOST_LEAVES: u8 = 3;
+
+// An id below which are those to which an entry leads, by the entries behind it.
+fn bound_behind(entries: &[Entry], bound: u64) -> u64
+    ensures { result ≡ bound_of bound entries.now }
+{
+    match entries.first() {
+        Some(next) => next.id,
+        None => bound,
+    }
+}
+
+// An id of an entry that isn't between these.
+fn stray(entry: Entry, from: u64, bound: u64) -> Option<u64>
+    ensures { result ≡ stray_of from bound entry }
+{
+    if entry.id < from {
+        Some(entry.id)
+    } else if entry.id >= bound || u64::from(entry.run) > bound - entry.id {
+        Some(entry.id.max(bound))
+    } else {
+        None
+    }
+}
+
+// The least id of the entries that isn't between these.
+fn least_stray(entries: &[Entry], from: u64, bound: u64) -> Option<u64>
+    ensures { result ≡ stray_id from bound entries.now }
+{
+    for entry in entries {
+        if let Some(id) = stray(*entry, from, bound) {
+            return Some(id);
+        }
+    }
+    None
+}
+
+// The entries of the leaf directory that an entry names, where their ids are below the bound.
+#[tactic(auto, unfolding(crate::specs::Reading::leaf_at))]
+fn leaf_of<B: Bytes>(
+    alloc: Global,
+    source: &mut B,
+    header: &Header,
+    entry: Entry,
+    bound: u64,
+) -> Result<Vec<Entry>, ArchiveFault>
+    requires { ArePlaced (B.count source.old) header.now }
+    ensures source { Keeps B.count B.holds B.fails source.old source.new }
+    ensures leaf { (bytes : List ℕ) → B.holds source.old bytes → Answers (λ v. v.items) result (leaf_at bytes header.now entry bound) }
+    ensures ascending { IfOk result (λ v. IsAscending v.items) }
+    ensures read { result ≡ Err ArchiveFault.Read → B.fails source.old }
+{
+    let entries = match directory_of(alloc, source, header, entry) {
+        Ok(entries) => entries,
+        Err(fault) => return Err(fault),
+    };
+    match least_stray(&entries, entry.id, bound) {
+        Some(id) => Err(ArchiveFault::Order(id)),
+        None => Ok(entries),
+    }
+}
+
+// Adds a tile entry.
+#[tactic(auto, unfolding(crate::specs::Reading::tile_at))]
+fn push_tile(header: &Header, entry: Entry, tiles: &mut Vec<Entry>) -> Result<(), ArchiveFault>
+    ensures tile { Answers (λ done. tiles.new.items) result (behind tiles.old.items (tile_at header.now entry)) }
+    ensures read { result ≢ Err ArchiveFault.Read }
+{
+    if !lies_in(header.tiles, entry) {
+        return Err(ArchiveFault::Place(entry.id));
+    }
+    match tiles.push(entry) {
+        Ok(()) => Ok(()),
+        Err(_) => Err(ArchiveFault::Memory),
+    }
+}
+
+// Adds what an entry lists, below which so many more leaf directories may stand.
+#[cycle(listing)]
+fn push_listed<B: Bytes>(
+    alloc: Global,
+    source: &mut B,
+    header: &Header,
+    entry: Entry,
+    bound: u64,
+    more: u8,
+    tiles: &mut Vec<Entry>,
+) -> Result<(), ArchiveFault>
+    requires { ArePlaced (B.count source.old) header.now }
+    ensures source { Keeps B.count B.holds B.fails source.old source.new }
+    ensures listed { (bytes : List ℕ) → B.holds source.old bytes → Answers (λ done. tiles.new.items) result (behind tiles.old.items (lists_at bytes header.now more entry bound)) }
+    ensures read { result ≡ Err ArchiveFault.Read → B.fails source.old }
+{
+    if entry.run > 0 {
+        return push_tile(header, entry, tiles);
+    }
+    if more == 0 {
+        return Err(ArchiveFault::Depth);
+    }
+    match leaf_of(alloc, source, header, entry, bound) {
+        Ok(entries) => push_each(alloc, source, header, &entries, bound, more - 1, tiles),
+        Err(fault) => Err(fault),
+    }
+}
+
+// Adds what the entries list, one after the other.
+#[cycle(listing)]
+fn push_each<B: Bytes>(
+    alloc: Global,
+    source: &mut B,
+    header: &Header,
+    entries: &[Entry],
+    bound: u64,
+    more: u8,
+    tiles: &mut Vec<Entry>,
+) -> Result<(), ArchiveFault>
+    requires { ArePlaced (B.count source.old) header.now }
+    ensures source { Keeps B.count B.holds B.fails source.old source.new }
+    ensures listed { (bytes : List ℕ) → B.holds source.old bytes → Answers (λ done. tiles.new.items) result (behind tiles.old.items (each_at (lists_at bytes header.now more) bound entries.now)) }
+    ensures read { result ≡ Err ArchiveFault.Read → B.fails source.old }
+{
+    for (i, entry) in entries.iter().enumerate() {
+        let bound = bound_behind(&entries[i + 1..], bound);
+        match push_listed(alloc, source, header, *entry, bound, more, tiles) {
+            Ok(()) => {}
+            Err(fault) => return Err(fault),
+        }
+    }
+    Ok(())
+}
+
+// The tile entries below a root directory, or the first fault.
+pub(crate) fn entries_below<B: Bytes>(
+    alloc: Global,
+    source: &mut B,
+    header: &Header,
+    root: &[Entry],
+) -> Result<Vec<Entry>, ArchiveFault>
+    requires { ArePlaced (B.count source.old) header.now }
+    ensures source { Keeps B.count B.holds B.fails source.old source.new }
+    ensures first { (bytes : List ℕ) → B.holds source.old bytes → Answers (λ v. v.items) result (list_at bytes header.now root.now) }
+    ensures read { result ≡ Err ArchiveFault.Read → B.fails source.old }
+{
+    let mut tiles = Vec::new(alloc);
+    match push_each(
+        alloc,
+        source,
+        header,
+        root,
+        IDS_END,
+        MOST_LEAVES,
+        &mut tiles,
+    ) {
+        Ok(()) => Ok(tiles),
+        Err(fault) => Err(fault),
+    }
+}

@@ -1,0 +1,144 @@
+//! The content of one tile id.
+
+ghost use Rattle.std.specs.Prelude.{◌≡◌, ℕ, ◌≤◌, List, Ok, Err, MatchResult, Option, Some, None, option_map};
+ghost use Rattle.pm_header.specs.declared.part.Part.{Part};
+ghost use Rattle.pm_directory.specs.declared.entry.Entry.{Entry};
+ghost use Rattle.pm_directory.specs.Directory.{IsAscending};
+ghost use Rattle.pm_archive.specs.Source.{Keeps};
+ghost use Rattle.pm_archive.specs.Sections.{end_of};
+ghost use Rattle.pm_archive.specs.Entries.{EachLists, Lists, ids_end, most_leaves};
+ghost use Rattle.pm_archive.specs.Archive.{content_of};
+ghost use Rattle.pm_archive.specs.Reading.{ArePlaced};
+ghost use Rattle.pm_archive.specs.Answers.{Answers, IsOutside};
+ghost use Rattle.pm_archive.specs.Looked.{leading_of, leading_at, reached_at, content_at, place_in};
+
+use crate::fault::ArchiveFault;
+use crate::listing::MOST_LEAVES;
+use crate::reading::{bytes_at, directory_of};
+use crate::source::Bytes;
+use pm_directory::{Entry, find};
+use pm_header::{Header, Part};
+use std::alloc::Global;
+
+// The entry of a directory that leads to an id.
+#[tactic(auto, unfolding(crate::specs::Looked::leading_of))]
+fn leading(entries: &[Entry], id: u64) -> Option<Entry>
+    requires { IsAscending entries.now }
+    ensures { result ≡ leading_of id entries.now }
+{
+    find(entries, id)
+}
+
+// The same, of the leaf directory that an entry names.
+#[tactic(auto, unfolding(crate::specs::Looked::leading_at))]
+fn leading_in<B: Bytes>(
+    alloc: Global,
+    source: &mut B,
+    header: &Header,
+    leaf: Entry,
+    id: u64,
+) -> Result<Option<Entry>, ArchiveFault>
+    requires { end_of header.now.leaves ≤ B.count source.old }
+    ensures source { Keeps B.count B.holds B.fails source.old source.new }
+    ensures first { (bytes : List ℕ) → B.holds source.old bytes → Answers (λ entry. entry) result (leading_at bytes header.now id leaf) }
+    ensures read { result ≡ Err ArchiveFault.Read → B.fails source.old }
+{
+    match directory_of(alloc, source, header, leaf) {
+        Ok(entries) => Ok(leading(&entries, id)),
+        Err(fault) => Err(fault),
+    }
+}
+
+// The tile entry that an entry is, or to which its leaf directory leads, below which so many more may stand.
+#[tactic(auto, unfolding(crate::specs::Looked::reached_at))]
+fn tile_entry<B: Bytes>(
+    alloc: Global,
+    source: &mut B,
+    header: &Header,
+    entry: Option<Entry>,
+    id: u64,
+    more: u8,
+) -> Result<Option<Entry>, ArchiveFault>
+    requires { end_of header.now.leaves ≤ B.count source.old }
+    ensures source { Keeps B.count B.holds B.fails source.old source.new }
+    ensures first { (bytes : List ℕ) → B.holds source.old bytes → Answers (λ e. e) result (reached_at bytes header.now id more entry) }
+    ensures read { result ≡ Err ArchiveFault.Read → B.fails source.old }
+{
+    let leaf = match entry {
+        Some(leaf) => leaf,
+        None => return Ok(None),
+    };
+    if leaf.run > 0 {
+        return Ok(Some(leaf));
+    }
+    if more == 0 {
+        return Err(ArchiveFault::Depth);
+    }
+    match leading_in(alloc, source, header, leaf, id) {
+        Ok(below) => tile_entry(alloc, source, header, below, id, more - 1),
+        Err(fault) => Err(fault),
+    }
+}
+
+// Where the bytes of an entry begin, if they lie inside its section.
+#[tactic(auto, unfolding(crate::specs::Looked::place_in))]
+fn place_of<B: Bytes>(source: &B, section: Part, entry: Entry) -> Option<u64>
+    requires { end_of section ≤ B.count source.now }
+    ensures { result ≡ place_in section entry }
+{
+    // The section ends inside the source, whose length has 64 bits: so the sum below fits.
+    let _count = source.len();
+    let end = entry.offset.checked_add(u64::from(entry.length))?;
+    if end > section.length {
+        return None;
+    }
+    Some(section.offset + entry.offset)
+}
+
+// The content of a tile entry.
+#[tactic(auto, unfolding(crate::specs::Looked::content_at, crate::specs::Looked::place_in))]
+fn content_in<B: Bytes>(
+    alloc: Global,
+    source: &mut B,
+    header: &Header,
+    entry: Option<Entry>,
+) -> Result<Option<Vec<u8>>, ArchiveFault>
+    requires { end_of header.now.tiles ≤ B.count source.old }
+    ensures source { Keeps B.count B.holds B.fails source.old source.new }
+    ensures first { (bytes : List ℕ) → B.holds source.old bytes → Answers (option_map (λ v. v.items)) result (content_at bytes header.now entry) }
+    ensures read { result ≡ Err ArchiveFault.Read → B.fails source.old }
+{
+    let entry = match entry {
+        Some(entry) => entry,
+        None => return Ok(None),
+    };
+    let place = match place_of(source, header.tiles, entry) {
+        Some(place) => place,
+        None => return Err(ArchiveFault::Place(entry.id)),
+    };
+    match bytes_at(alloc, source, place, u64::from(entry.length)) {
+        Ok(content) => Ok(Some(content)),
+        Err(fault) => Err(fault),
+    }
+}
+
+// The content of an id, by the directories on the way to its entry.
+pub(crate) fn content_below<B: Bytes>(
+    alloc: Global,
+    source: &mut B,
+    header: &Header,
+    root: &[Entry],
+    id: u64,
+) -> Result<Option<Vec<u8>>, ArchiveFault>
+    requires placed { ArePlaced (B.count source.old) header.now }
+    requires ascending { IsAscending root.now }
+    ensures source { Keeps B.count B.holds B.fails source.old source.new }
+    ensures content { (bytes : List ℕ) (tiles : List Entry) → B.holds source.old bytes → EachLists (Lists bytes header.now most_leaves) ids_end root.now tiles
+        → MatchResult result (λ content. option_map (λ v. v.items) content ≡ content_of bytes header.now tiles id) IsOutside }
+    ensures read { result ≡ Err ArchiveFault.Read → B.fails source.old }
+{
+    match tile_entry(alloc, source, header, leading(root, id), id, MOST_LEAVES) {
+        Ok(entry) => content_in(alloc, source, header, entry),
+        Err(fault) => Err(fault),
+    }
+}

@@ -1,0 +1,96 @@
+//! Pieces of a source: its bytes and its directories.
+
+ghost use Rattle.std.specs.Prelude.{◌≡◌, ◌↔◌, ℕ, ◌+◌, ◌≤◌, List, Err, IfOk, IfErr, IsTrue, slice_range};
+ghost use Rattle.std.specs.List.{AllByRecursion};
+ghost use Rattle.pm_directory.specs.Directory.{IsAscending, IsEntry};
+ghost use Rattle.pm_directory.specs.Reading.{directory_at};
+ghost use Rattle.pm_archive.specs.Source.{Keeps};
+ghost use Rattle.pm_archive.specs.Sections.{end_of};
+ghost use Rattle.pm_archive.specs.Entries.{LiesIn};
+ghost use Rattle.pm_archive.specs.Reading.{directory_of_entry, directory_or_fault};
+ghost use Rattle.pm_archive.specs.Answers.{Answers, IsOutside};
+
+use crate::fault::ArchiveFault;
+use crate::source::Bytes;
+use pm_directory::{DirectoryFault, Entry, read_directory};
+use pm_header::{Header, Part};
+use std::alloc::Global;
+
+// The bytes from a place on.
+pub(crate) fn bytes_at<B: Bytes>(
+    alloc: Global,
+    source: &mut B,
+    at: u64,
+    length: u64,
+) -> Result<Vec<u8>, ArchiveFault>
+    requires { at + length ≤ B.count source.old }
+    ensures source { Keeps B.count B.holds B.fails source.old source.new }
+    ensures bytes { (bytes : List ℕ) → B.holds source.old bytes → IfOk result (λ v. v.items ≡ slice_range bytes at (at + length)) }
+    ensures fault { IfErr result IsOutside }
+    ensures read { result ≡ Err ArchiveFault.Read → B.fails source.old }
+{
+    let mut bytes = match vec![in alloc; 0; length as usize] {
+        Ok(bytes) => bytes,
+        Err(_) => return Err(ArchiveFault::Memory),
+    };
+    match source.read_at(at, &mut bytes) {
+        Ok(()) => Ok(bytes),
+        Err(_) => Err(ArchiveFault::Read),
+    }
+}
+
+// The entries of the directory that stands at a place.
+pub(crate) fn directory_from<B: Bytes>(
+    alloc: Global,
+    source: &mut B,
+    at: u64,
+    length: u64,
+) -> Result<Vec<Entry>, ArchiveFault>
+    requires { at + length ≤ B.count source.old }
+    ensures source { Keeps B.count B.holds B.fails source.old source.new }
+    ensures directory { (bytes : List ℕ) → B.holds source.old bytes → Answers (λ v. v.items) result (directory_or_fault at (directory_at (slice_range bytes at (at + length)))) }
+    ensures ascending { IfOk result (λ v. IsAscending v.items) }
+    ensures each { IfOk result (λ v. AllByRecursion IsEntry v.items) }
+    ensures read { result ≡ Err ArchiveFault.Read → B.fails source.old }
+{
+    let bytes = match bytes_at(alloc, source, at, length) {
+        Ok(bytes) => bytes,
+        Err(fault) => return Err(fault),
+    };
+    match read_directory(alloc, &bytes) {
+        Ok(entries) => Ok(entries),
+        Err(DirectoryFault::Memory) => Err(ArchiveFault::Memory),
+        Err(_) => Err(ArchiveFault::Directory(at)),
+    }
+}
+
+// The bytes of an entry lie inside its section.
+pub(crate) fn lies_in(section: Part, entry: Entry) -> bool
+    ensures { IsTrue result ↔ LiesIn section entry }
+{
+    entry.offset <= section.length && u64::from(entry.length) <= section.length - entry.offset
+}
+
+// The entries of the leaf directory that an entry names, wherever its ids lie.
+#[tactic(auto, unfolding(crate::specs::Reading::directory_of_entry))]
+pub(crate) fn directory_of<B: Bytes>(
+    alloc: Global,
+    source: &mut B,
+    header: &Header,
+    entry: Entry,
+) -> Result<Vec<Entry>, ArchiveFault>
+    requires { end_of header.now.leaves ≤ B.count source.old }
+    ensures source { Keeps B.count B.holds B.fails source.old source.new }
+    ensures directory { (bytes : List ℕ) → B.holds source.old bytes → Answers (λ v. v.items) result (directory_of_entry bytes header.now entry) }
+    ensures ascending { IfOk result (λ v. IsAscending v.items) }
+    ensures each { IfOk result (λ v. AllByRecursion IsEntry v.items) }
+    ensures read { result ≡ Err ArchiveFault.Read → B.fails source.old }
+{
+    // The sections end where the source does, so that no place is past 64 bits.
+    let _count = source.len();
+    if !lies_in(header.leaves, entry) {
+        return Err(ArchiveFault::Place(entry.id));
+    }
+    let at = header.leaves.offset + entry.offset;
+    directory_from(alloc, source, at, u64::from(entry.length))
+}

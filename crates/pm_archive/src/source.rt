@@ -1,0 +1,57 @@
+ghost use Rattle.std.proofs.Common.{rules};
+ghost use Rattle.std.specs.Prelude.{◌≡◌, ℕ, ◌+◌, ◌≤◌, List, length, OnOk, OnErr, slice_range};
+
+use thiserror::Error;
+
+/// A source of bytes couldn't be read.
+#[derive(Clone, Copy, Debug, PartialEq, Eq, Error)]
+#[error("the bytes could not be read")]
+pub struct ReadFault;
+
+/// Bytes that can be read at any place, as those of a file.
+pub trait Bytes {
+    /// How many bytes there are.
+    ghost count: { Self → ℕ };
+
+    /// It has these bytes. A source that may tell anything has none.
+    ghost holds: { Self → List ℕ → Type 0 };
+
+    /// A read of it may fail.
+    ghost fails: { Self → Type 0 };
+
+    /// How many bytes there are.
+    fn len(&self) -> u64
+        ensures { result ≡ count self.now };
+
+    /// Reads the bytes from a place on, as many as `into` has room for. After a fault `into` has any bytes.
+    fn read_at(&mut self, at: u64, into: &mut [u8]) -> Result<(), ReadFault>
+        requires { at + length into.old ≤ count self.old }
+        ensures count { count self.new ≡ count self.old }
+        ensures holds { (bytes : List ℕ) → holds self.old bytes → holds self.new bytes }
+        ensures held { (bytes : List ℕ) → holds self.new bytes → holds self.old bytes }
+        ensures fails { fails self.new → fails self.old }
+        ensures gives { (bytes : List ℕ) → holds self.old bytes → OnOk result (into.new ≡ slice_range bytes at (at + length into.old)) }
+        ensures fault { OnErr result (fails self.old) };
+
+    ghost sized: { (source : Self) (bytes : List ℕ) → holds source bytes → length bytes ≡ count source };
+}
+
+impl Bytes for &[u8] {
+    ghost count = { λ s. length s.now };
+
+    ghost holds = { λ s bytes. s.now ≡ bytes };
+
+    ghost fails = { λ s. ⊥ };
+
+    fn len(&self) -> u64 {
+        self[..].len() as u64
+    }
+
+    fn read_at(&mut self, at: u64, into: &mut [u8]) -> Result<(), ReadFault> {
+        let at = at as usize;
+        into.copy_from_slice(&self[at..at + into.len()]);
+        Ok(())
+    }
+
+    ghost sized = { Prim.search rules };
+}

@@ -1,0 +1,131 @@
+//! Whether an archive that was opened is sound.
+
+ghost use Rattle.std.specs.Prelude.{◌≡◌, ◌≢◌, ℕ, ◌^◌, ◌<◌, ◌≤◌, List, Ok, Err, IfOk, IfErr, OnOk};
+ghost use Rattle.std.specs.List.{AllByRecursion};
+ghost use Rattle.pm_directory.specs.Counts.{addressed_by};
+ghost use Rattle.pm_directory.specs.Directory.{IsAscending, IsEntry};
+ghost use Rattle.pm_archive.specs.Source.{Keeps};
+ghost use Rattle.pm_archive.specs.Sections.{end_of, section_bytes};
+ghost use Rattle.pm_archive.specs.Entries.{LiesIn};
+ghost use Rattle.pm_archive.specs.Archive.{IsMetadata, HasCounts};
+ghost use Rattle.pm_archive.specs.Reading.{ArePlaced};
+ghost use Rattle.pm_archive.specs.Verified.{IsVerified, VerifyingHas, AreVector, HasTile, report_of};
+ghost use Rattle.pm_archive.specs.VerifiedPieces.{IsFirstTileFault, IsMetadataFault, IsCountFault};
+ghost use Rattle.pm_archive.specs.Answers.{UnlessOutside};
+
+use crate::checking::check_tiles;
+use crate::counting::{check_counts, told};
+use crate::fault::ArchiveFault;
+use crate::listing::entries_below;
+use crate::metadata::is_metadata;
+use crate::reading::bytes_at;
+use crate::report::Report;
+use crate::source::Bytes;
+use pm_directory::Entry;
+use pm_header::Header;
+use std::alloc::Global;
+
+// The kind of archives of vector tiles, and what says that nothing is compressed.
+const VECTOR_TILES: u8 = 1;
+
+const NOT_COMPRESSED: u8 = 1;
+
+// Reads the metadata.
+fn check_metadata<B: Bytes>(
+    alloc: Global,
+    source: &mut B,
+    header: &Header,
+) -> Result<(), ArchiveFault>
+    requires { end_of header.now.metadata ≤ B.count source.old }
+    ensures source { Keeps B.count B.holds B.fails source.old source.new }
+    ensures found { (bytes : List ℕ) → B.holds source.old bytes → OnOk result (IsMetadata (section_bytes header.now.metadata bytes)) }
+    ensures fault { (bytes : List ℕ) → B.holds source.old bytes → IfErr result (UnlessOutside (IsMetadataFault bytes header.now)) }
+    ensures read { result ≡ Err ArchiveFault.Read → B.fails source.old }
+{
+    let metadata = match bytes_at(
+        alloc,
+        source,
+        header.metadata.offset,
+        header.metadata.length,
+    ) {
+        Ok(metadata) => metadata,
+        Err(fault) => return Err(fault),
+    };
+    match is_metadata(alloc, &metadata) {
+        Ok(true) => Ok(()),
+        Ok(false) => Err(ArchiveFault::Metadata),
+        Err(_) => Err(ArchiveFault::Memory),
+    }
+}
+
+// What is told of the entries, where the counts of the header agree.
+fn report_on(alloc: Global, header: &Header, tiles: &[Entry]) -> Result<Report, ArchiveFault>
+    ensures counts { addressed_by tiles.now < 2 ^ 64 → IfOk result (λ _. HasCounts header.now tiles.now) }
+    ensures told { addressed_by tiles.now < 2 ^ 64 → IfOk result (λ report. report ≡ report_of tiles.now) }
+    ensures fault { addressed_by tiles.now < 2 ^ 64 → IfErr result (UnlessOutside (IsCountFault header.now tiles.now)) }
+    ensures read { result ≢ Err ArchiveFault.Read }
+{
+    let report = match told(alloc, tiles) {
+        Ok(report) => report,
+        Err(_) => return Err(ArchiveFault::Memory),
+    };
+    match check_counts(header, report) {
+        Ok(()) => Ok(report),
+        Err(count) => Err(ArchiveFault::Count(count)),
+    }
+}
+
+// Reads the tile of each entry, where the tiles are vector tiles that aren't compressed.
+fn check_vector_tiles<B: Bytes>(
+    alloc: Global,
+    source: &mut B,
+    header: &Header,
+    tiles: &[Entry],
+) -> Result<(), ArchiveFault>
+    requires { end_of header.now.tiles ≤ B.count source.old }
+    ensures source { Keeps B.count B.holds B.fails source.old source.new }
+    ensures each { (bytes : List ℕ) → B.holds source.old bytes → AllByRecursion (LiesIn header.now.tiles) tiles.now
+        → OnOk result (AreVector header.now → AllByRecursion (HasTile bytes header.now) tiles.now) }
+    ensures fault { (bytes : List ℕ) → B.holds source.old bytes → AllByRecursion (LiesIn header.now.tiles) tiles.now
+        → IfErr result (UnlessOutside (λ d. AreVector header.now × IsFirstTileFault bytes header.now tiles.now d)) }
+    ensures read { result ≡ Err ArchiveFault.Read → B.fails source.old }
+{
+    if header.kind != VECTOR_TILES || header.compression != NOT_COMPRESSED {
+        return Ok(());
+    }
+    check_tiles(alloc, source, header, tiles)
+}
+
+// What the archive has, or the first fault.
+pub(crate) fn verdict_below<B: Bytes>(
+    alloc: Global,
+    source: &mut B,
+    header: &Header,
+    root: &[Entry],
+) -> Result<Report, ArchiveFault>
+    requires placed { ArePlaced (B.count source.old) header.now }
+    requires ascending { IsAscending root.now }
+    requires each { AllByRecursion IsEntry root.now }
+    ensures source { Keeps B.count B.holds B.fails source.old source.new }
+    ensures found { (bytes : List ℕ) → B.holds source.old bytes → IfOk result (IsVerified bytes header.now root.now) }
+    ensures fault { (bytes : List ℕ) → B.holds source.old bytes → IfErr result (UnlessOutside (VerifyingHas bytes header.now root.now)) }
+    ensures read { result ≡ Err ArchiveFault.Read → B.fails source.old }
+{
+    match check_metadata(alloc, source, header) {
+        Ok(()) => {}
+        Err(fault) => return Err(fault),
+    }
+    let listed = match entries_below(alloc, source, header, root) {
+        Ok(listed) => listed,
+        Err(fault) => return Err(fault),
+    };
+    let tiles = listed.as_slice();
+    let report = match report_on(alloc, header, tiles) {
+        Ok(report) => report,
+        Err(fault) => return Err(fault),
+    };
+    match check_vector_tiles(alloc, source, header, tiles) {
+        Ok(()) => Ok(report),
+        Err(fault) => Err(fault),
+    }
+}

@@ -1,0 +1,168 @@
+-- The sections one behind the other are an archive.
+use Rattle.std.proofs.Common.{◌≡◌, ℕ, ◌+◌, ◌≤◌, List, [], ◌++◌, length, Vec, Global, Result, inr, refl, sym, ap, subst, ◌∙◌, append_assoc, arith}
+use Rattle.std.specs.List.{concat}
+use Rattle.std.specs.Result.{IfOk}
+use Rattle.std.proofs.lemmas.List.{length-append, append-nil}
+use Rattle.std.proofs.lemmas.Result.{IfOk-weaker}
+use Rattle.pm_header.specs.declared.part.Part.{Part}
+use Rattle.pm_header.specs.declared.header.Header.{Header}
+use Rattle.pm_header.specs.Layout.{IsHeader}
+use Rattle.pm_directory.specs.declared.entry.Entry.{Entry}
+use Rattle.pm_archive.specs.Sections.{section_bytes, HasSections}
+use Rattle.pm_archive.specs.Archive.{IsMetadata, HasCounts, IsArchive, IsArchiveOf}
+use Rattle.pm_runs.specs.Tiles.{Tile}
+use Rattle.pm_runs.specs.Placed.{ArePlaced}
+use Rattle.pm_build.specs.declared.header.Counts.{Counts}
+use Rattle.pm_build.specs.declared.header.Lengths.{Lengths}
+use Rattle.pm_build.specs.Built.{tile_content}
+use Rattle.pm_build.specs.Leaves.{AreDirectories}
+use Rattle.pm_build.specs.Laid.{AreJoined, AreZooms, BeginFor, SaysTiles, header_for, lengths_of}
+use Rattle.pm_build.proofs.Contents.{have_tiles, lie_in, addressed_all, content_named}
+use Rattle.pm_build.proofs.Headers.{header_there}
+use Rattle.pm_build.proofs.Listed.{has_entries}
+use Rattle.pm_build.proofs.Pieces.{part_middle}
+
+-- the header has these lengths and counts, and places the sections one behind the other
+record IsLaid (h : Header) (root : List ℕ) (metadata : List ℕ) (leaves : List ℕ) (contents : List ℕ) (n : Counts) : Type 0 where
+  root_at : h.root.offset ≡ 127
+  root_is : h.root.length ≡ length root
+  metadata_at : h.metadata.offset ≡ 127 + length root
+  metadata_is : h.metadata.length ≡ length metadata
+  leaves_at : h.leaves.offset ≡ 127 + length root + length metadata
+  leaves_is : h.leaves.length ≡ length leaves
+  tiles_at : h.tiles.offset ≡ 127 + length root + length metadata + length leaves
+  tiles_is : h.tiles.length ≡ length contents
+  plain : h.internal ≡ 1
+  addressed_is : h.addressed ≡ n.addressed
+  entries_is : h.entries ≡ n.entries
+  contents_is : h.contents ≡ n.contents
+
+laid : (root metadata leaves contents : List ℕ) (n : Counts) (low high : ℕ) → IsLaid (header_for (lengths_of root metadata leaves contents) n low high) root metadata leaves contents n
+unfolding header_for
+laid root metadata leaves contents n low high = record {
+  root_at = refl;
+  root_is = refl;
+  metadata_at = refl;
+  metadata_is = refl;
+  leaves_at = refl;
+  leaves_is = refl;
+  tiles_at = refl;
+  tiles_is = refl;
+  plain = refl;
+  addressed_is = refl;
+  entries_is = refl;
+  contents_is = refl;
+}
+
+section_at : (p : Part) (before part behind : List ℕ) → p.offset ≡ length before → p.length ≡ length part → section_bytes p (before ++ (part ++ behind)) ≡ part
+section_at p before part behind at size = part_middle before part behind p.offset (p.offset + p.length) (sym at) (ap (λ (n : ℕ). p.offset + n) (sym size))
+
+-- each section is where the header says
+record HasParts (bytes : List ℕ) (h : Header) (root : List ℕ) (metadata : List ℕ) (leaves : List ℕ) (contents : List ℕ) : Type 0 where
+  size : length bytes ≡ 127 + length root + length metadata + length leaves + length contents
+  header_there : IsHeader bytes h
+  root_there : section_bytes h.root bytes ≡ root
+  metadata_there : section_bytes h.metadata bytes ≡ metadata
+  leaves_there : section_bytes h.leaves bytes ≡ leaves
+  tiles_there : section_bytes h.tiles bytes ≡ contents
+
+parts_there : (bytes root metadata leaves contents : List ℕ) (h : Header) (n : Counts) → IsLaid h root metadata leaves contents n → AreJoined bytes h root metadata leaves contents → HasParts bytes h root metadata leaves contents
+parts_there bytes root metadata leaves contents h n is (front, header, whole, parts) =
+    let behind = root ++ (metadata ++ (leaves ++ contents)) in
+    let second = front ++ root in
+    let third = second ++ metadata in
+    let fourth = third ++ leaves in
+    let at_second : bytes ≡ second ++ (metadata ++ (leaves ++ contents)) = parts ∙ sym (append_assoc front root (metadata ++ (leaves ++ contents))) in
+    let at_third : bytes ≡ third ++ (leaves ++ contents) = at_second ∙ sym (append_assoc second metadata (leaves ++ contents)) in
+    let at_fourth : bytes ≡ fourth ++ contents = at_third ∙ sym (append_assoc third leaves contents) in
+    let to_end : fourth ++ contents ≡ fourth ++ (contents ++ []) = ap (λ (bs : List ℕ). fourth ++ bs) (sym (append-nil contents)) in
+    let size_2 = length-append front root in
+    let size_3 = length-append second metadata in
+    let size_4 = length-append third leaves in
+    let size_5 = length-append fourth contents in
+    record {
+      size = ap (λ (bs : List ℕ). length bs) at_fourth ∙ omega arith;
+      header_there = subst (λ (bs : List ℕ). IsHeader bs h) (sym parts) (header_there front behind whole h header);
+      root_there = ap (λ (bs : List ℕ). section_bytes h.root bs) parts ∙ section_at h.root front root (metadata ++ (leaves ++ contents)) (is.root_at ∙ sym whole) is.root_is;
+      metadata_there = ap (λ (bs : List ℕ). section_bytes h.metadata bs) at_second ∙ section_at h.metadata second metadata (leaves ++ contents) (is.metadata_at ∙ omega arith) is.metadata_is;
+      leaves_there = ap (λ (bs : List ℕ). section_bytes h.leaves bs) at_third ∙ section_at h.leaves third leaves contents (is.leaves_at ∙ omega arith) is.leaves_is;
+      tiles_there = ap (λ (bs : List ℕ). section_bytes h.tiles bs) (at_fourth ∙ to_end) ∙ section_at h.tiles fourth contents [] (is.tiles_at ∙ omega arith) is.tiles_is;
+    }
+
+sections_there : (bytes root metadata leaves contents : List ℕ) (h : Header) (n : Counts) → IsLaid h root metadata leaves contents n → HasParts bytes h root metadata leaves contents → length root ≤ 14850 → HasSections bytes h
+sections_there bytes root metadata leaves contents h n is has low =
+    let size = has.size in
+    let root_at = is.root_at in let root_is = is.root_is in
+    let metadata_at = is.metadata_at in let metadata_is = is.metadata_is in
+    let leaves_at = is.leaves_at in let leaves_is = is.leaves_is in
+    let tiles_at = is.tiles_at in let tiles_is = is.tiles_is in
+    let plain = is.plain in
+    record {
+      header = has.header_there;
+      root_inside = omega arith;
+      root_early = omega arith;
+      metadata_inside = omega arith;
+      leaves_inside = omega arith;
+      tiles_inside = omega arith;
+      plain = omega arith;
+    }
+
+-- what is counted
+abbrev pub counts_of : List Tile → List Entry → List (List ℕ) → Counts
+counts_of tiles es cs = record { addressed = length tiles; entries = length es; contents = length cs }
+
+counts_there : (h : Header) (tiles : List Tile) (es : List Entry) (cs : List (List ℕ)) (root metadata leaves : List ℕ) → IsLaid h root metadata leaves (concat cs) (counts_of tiles es cs) → ArePlaced tiles es cs → HasCounts h es
+counts_there h tiles es cs root metadata leaves is placed =
+    let all = addressed_all (concat cs) placed.runs es placed.named in
+    let together = ap (λ (ts : List Tile). length ts) placed.longest.together in
+    record {
+      addressed = inr (is.addressed_is ∙ sym together ∙ all);
+      entries = inr is.entries_is;
+      contents = inr (is.contents_is ∙ sym placed.places);
+    }
+
+is_laid_archive : (bytes root metadata leaves : List ℕ) (tiles : List Tile) (es : List Entry) (cs : List (List ℕ)) (h : Header) → IsLaid h root metadata leaves (concat cs) (counts_of tiles es cs) → AreJoined bytes h root metadata leaves (concat cs)
+    → ArePlaced tiles es cs → AreDirectories root leaves es → length root ≤ 14850 → IsMetadata metadata → IsArchiveOf bytes (tile_content tiles)
+is_laid_archive bytes root metadata leaves tiles es cs h is joined placed directories low meta =
+    let has = parts_there bytes root metadata leaves (concat cs) h (counts_of tiles es cs) is joined in
+    let some = have_tiles (concat cs) placed.runs es placed.named placed.longest.each in
+    let archive : IsArchive bytes h es = record {
+      sections = sections_there bytes root metadata leaves (concat cs) h (counts_of tiles es cs) is has low;
+      entries = has_entries bytes root leaves h es has.root_there has.leaves_there is.leaves_is directories placed.ascending placed.each some (lie_in (concat cs) h placed.runs es is.tiles_is placed.named);
+      counts = counts_there h tiles es cs root metadata leaves is placed;
+      metadata = subst (λ (bs : List ℕ). IsMetadata bs) (sym has.metadata_there) meta;
+    } in
+    (h, es, archive, λ id. ap (λ (ts : List Tile). tile_content ts id) (sym placed.longest.together) ∙ content_named bytes (concat cs) h placed.runs es id has.tiles_there is.tiles_is placed.named)
+
+is_archive : (bytes root metadata leaves : List ℕ) (tiles : List Tile) (es : List Entry) (cs : List (List ℕ)) (h : Header) (low high : ℕ) → h ≡ header_for (lengths_of root metadata leaves (concat cs)) (counts_of tiles es cs) low high → AreJoined bytes h root metadata leaves (concat cs)
+    → ArePlaced tiles es cs → AreDirectories root leaves es → length root ≤ 14850 → IsMetadata metadata → IsArchiveOf bytes (tile_content tiles)
+is_archive bytes root metadata leaves tiles es cs h low high e joined placed directories early meta =
+    let is : IsLaid h root metadata leaves (concat cs) (counts_of tiles es cs) = subst (λ (g : Header). IsLaid g root metadata leaves (concat cs) (counts_of tiles es cs)) (sym e) (laid root metadata leaves (concat cs) (counts_of tiles es cs) low high) in
+    is_laid_archive bytes root metadata leaves tiles es cs h is joined placed directories early meta
+
+pub archive_joined : {E : Type 0} (r : Result (Vec ℕ Global) E) (root metadata leaves : List ℕ) (tiles : List Tile) (es : List Entry) (cs : List (List ℕ)) (h : Header) (low high : ℕ) → h ≡ header_for (lengths_of root metadata leaves (concat cs)) (counts_of tiles es cs) low high
+    → ArePlaced tiles es cs → AreDirectories root leaves es → length root ≤ 14850 → IsMetadata metadata → IfOk r (λ v. AreJoined v.items h root metadata leaves (concat cs)) → IfOk r (λ v. IsArchiveOf v.items (tile_content tiles))
+archive_joined r root metadata leaves tiles es cs h low high e placed directories early meta =
+    IfOk-weaker r (λ v. AreJoined v.items h root metadata leaves (concat cs)) (λ v. IsArchiveOf v.items (tile_content tiles)) (λ v joined. is_archive v.items root metadata leaves tiles es cs h low high e joined placed directories early meta)
+
+joined_size : (bytes root metadata leaves contents : List ℕ) (h : Header) (n : ℕ) → length root + length leaves ≤ n → AreJoined bytes h root metadata leaves contents → length bytes ≤ 127 + length metadata + n + length contents
+joined_size bytes root metadata leaves contents h n size (front, header, whole, parts) =
+    omega (arith, ap (λ (bs : List ℕ). length bs) parts, length-append front (root ++ (metadata ++ (leaves ++ contents))), length-append root (metadata ++ (leaves ++ contents)), length-append metadata (leaves ++ contents), length-append leaves contents)
+
+pub size_joined : {E : Type 0} (r : Result (Vec ℕ Global) E) (root metadata leaves contents : List ℕ) (h : Header) (n : ℕ) → length root + length leaves ≤ n → IfOk r (λ v. AreJoined v.items h root metadata leaves contents) → IfOk r (λ v. length v.items ≤ 127 + length metadata + n + length contents)
+size_joined r root metadata leaves contents h n size =
+    IfOk-weaker r (λ v. AreJoined v.items h root metadata leaves contents) (λ v. length v.items ≤ 127 + length metadata + n + length contents) (λ v joined. joined_size v.items root metadata leaves contents h n size joined)
+
+says_tiles : (l : Lengths) (n : Counts) (low high : ℕ) (tiles : List Tile) → AreZooms tiles low high → SaysTiles tiles (header_for l n low high)
+unfolding header_for
+says_tiles l n low high tiles zooms = record { clustered = refl; plain_directories = refl; plain_tiles = refl; vector_tiles = refl; zooms = zooms }
+
+begin_for : (bytes root metadata leaves contents : List ℕ) (h : Header) (tiles : List Tile) → SaysTiles tiles h → AreJoined bytes h root metadata leaves contents → BeginFor bytes tiles
+begin_for bytes root metadata leaves contents h tiles says (front, header, whole, parts) =
+    (h, subst (λ (bs : List ℕ). IsHeader bs h) (sym parts) (header_there front (root ++ (metadata ++ (leaves ++ contents))) whole h header), says)
+
+pub header_joined : {E : Type 0} (r : Result (Vec ℕ Global) E) (root metadata leaves contents : List ℕ) (tiles : List Tile) (n : Counts) (h : Header) (low high : ℕ) → h ≡ header_for (lengths_of root metadata leaves contents) n low high → AreZooms tiles low high
+    → IfOk r (λ v. AreJoined v.items h root metadata leaves contents) → IfOk r (λ v. BeginFor v.items tiles)
+header_joined r root metadata leaves contents tiles n h low high e zooms =
+    let says : SaysTiles tiles h = subst (λ (g : Header). SaysTiles tiles g) (sym e) (says_tiles (lengths_of root metadata leaves contents) n low high tiles zooms) in
+    IfOk-weaker r (λ v. AreJoined v.items h root metadata leaves contents) (λ v. BeginFor v.items tiles) (λ v joined. begin_for v.items root metadata leaves contents h tiles says joined)

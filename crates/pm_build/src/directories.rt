@@ -1,0 +1,100 @@
+//! The directories of an archive.
+
+ghost use Rattle.std.specs.Prelude.{◌≡◌, ◌+◌, ◌*◌, ◌<◌, ◌≤◌, ◌++◌, List, length, OnOk, IfOk};
+ghost use Rattle.std.specs.List.{AllByRecursion};
+ghost use Rattle.pm_directory.specs.declared.entry.Entry.{Entry};
+ghost use Rattle.pm_directory.specs.Directory.{IsAscending, IsEntry, HasEnd};
+ghost use Rattle.pm_build.specs.Leaves.{AreLeaves, AreDirectories};
+
+use crate::Memory;
+use pm_directory::{Entry, write_directory};
+use std::alloc::Global;
+
+// How many entries a root directory of tile entries has at most, and a leaf directory.
+const DIRECTORY_ENTRIES: usize = 512;
+
+/// The bytes of the directories of an archive.
+#[derive(Debug, Drop)]
+pub(crate) struct Directories {
+    /// The root directory.
+    pub(crate) root: Vec<u8>,
+    /// The leaf directories one behind the other. There may be none.
+    pub(crate) leaves: Vec<u8>,
+}
+
+/// Leaf directories, and the entries that name them.
+#[derive(Debug, Drop)]
+struct Leaves {
+    names: Vec<Entry>,
+    bytes: Vec<u8>,
+}
+
+// Puts a leaf directory of these entries behind the others.
+fn push_leaf(alloc: Global, leaves: &mut Leaves, entries: &[Entry]) -> Result<(), Memory>
+    requires some { 0 < length entries.now }
+    requires few { length entries.now ≤ 512 }
+    requires ascending { IsAscending entries.now }
+    requires each { AllByRecursion IsEntry entries.now }
+    requires ends { AllByRecursion HasEnd entries.now }
+    ensures count { OnOk result (length leaves.new.names.items ≡ length leaves.old.names.items + 1) }
+    ensures leaves { OnOk result ((before : List Entry) → AreLeaves leaves.old.bytes.items leaves.old.names.items before
+        → AreLeaves leaves.new.bytes.items leaves.new.names.items (before ++ entries.now)) }
+{
+    let bytes = write_directory(alloc, entries)?;
+    let name = Entry {
+        id: entries[0].id,
+        run: 0,
+        length: bytes.len() as u32,
+        offset: leaves.bytes.len() as u64,
+    };
+    leaves.bytes.extend_from_slice(&bytes)?;
+    leaves.names.push(name)?;
+    Ok(())
+}
+
+// Leaf directories of these entries, of 512 each, the last of the rest.
+fn write_leaves(alloc: Global, entries: &[Entry]) -> Result<Leaves, Memory>
+    requires ascending { IsAscending entries.now }
+    requires each { AllByRecursion IsEntry entries.now }
+    requires ends { AllByRecursion HasEnd entries.now }
+    ensures leaves { IfOk result (λ leaves. AreLeaves leaves.bytes.items leaves.names.items entries.now) }
+    ensures few { IfOk result (λ leaves. 512 * length leaves.names.items ≤ length entries.now + 511) }
+{
+    let mut leaves = Leaves {
+        names: Vec::new(alloc),
+        bytes: Vec::new(alloc),
+    };
+    let mut rest = entries;
+    while rest.len() > 0 {
+        let (leaf, behind) = rest.split_at(rest.len().min(DIRECTORY_ENTRIES));
+        push_leaf(alloc, &mut leaves, leaf)?;
+        rest = behind;
+    }
+    Ok(leaves)
+}
+
+/// The directories of these tile entries: up to 512 in the root, more in leaf directories of 512 each.
+pub(crate) fn write_directories(alloc: Global, entries: &[Entry]) -> Result<Directories, Memory>
+    requires some { 0 < length entries.now }
+    requires few { length entries.now ≤ 131072 }
+    requires ascending { IsAscending entries.now }
+    requires each { AllByRecursion IsEntry entries.now }
+    requires ends { AllByRecursion HasEnd entries.now }
+    ensures directories { IfOk result (λ d. AreDirectories d.root.items d.leaves.items entries.now) }
+    ensures root { IfOk result (λ d. length d.root.items ≤ 2 + 29 * 512) }
+    ensures size { IfOk result (λ d. length d.root.items + length d.leaves.items ≤ 64 * length entries.now) }
+{
+    if entries.len() <= DIRECTORY_ENTRIES {
+        let root = write_directory(alloc, entries)?;
+        return Ok(Directories {
+            root,
+            leaves: Vec::new(alloc),
+        });
+    }
+    let leaves = write_leaves(alloc, entries)?;
+    let root = write_directory(alloc, &leaves.names)?;
+    Ok(Directories {
+        root,
+        leaves: leaves.bytes,
+    })
+}

@@ -1,0 +1,89 @@
+//! The header of an archive whose sections stand without gaps.
+
+ghost use Rattle.std.specs.Prelude.{◌≡◌, ◌+◌, ◌<◌, ◌^◌};
+ghost use Rattle.pm_build.specs.Laid.{IsZoomOf, header_for};
+
+use hilbert_id::tile_of;
+use pm_header::{HEADER_BYTES, Header, Part};
+
+/// How many bytes the sections have.
+#[derive(Clone, Copy, Debug, PartialEq, Eq)]
+pub(crate) struct Lengths {
+    pub(crate) root: u64,
+    pub(crate) metadata: u64,
+    pub(crate) leaves: u64,
+    pub(crate) tiles: u64,
+}
+
+/// How many tiles, tile entries and contents there are.
+#[derive(Clone, Copy, Debug, PartialEq, Eq)]
+pub(crate) struct Counts {
+    pub(crate) addressed: u64,
+    pub(crate) entries: u64,
+    pub(crate) contents: u64,
+}
+
+// Neither directories and metadata nor tiles are compressed.
+const PLAIN: u8 = 1;
+// The contents are Mapbox vector tiles.
+const VECTOR_TILES: u8 = 1;
+// The map's edges, in degrees times 10,000,000.
+const EAST: i32 = 1_800_000_000;
+
+const NORTH: i32 = 850_511_287;
+
+/// The zoom of a tile id.
+pub(crate) fn zoom_of(id: u64) -> u8
+    requires { id < 6148914691236517205 }
+    ensures { IsZoomOf id result }
+{
+    match tile_of(id) {
+        Some(at) => at.z,
+        None => unreachable!(),
+    }
+}
+
+/// The header of sections of these lengths, in the order root directory, metadata, leaf directories, contents.
+#[tactic(auto, unfolding(crate::specs::Laid::header_for))]
+pub(crate) fn header_of(lengths: Lengths, counts: Counts, min_zoom: u8, max_zoom: u8) -> Header
+    requires { 127 + lengths.root + lengths.metadata + lengths.leaves < 2 ^ 64 }
+    ensures { result ≡ header_for lengths counts min_zoom max_zoom }
+{
+    let metadata = HEADER_BYTES as u64 + lengths.root;
+    let leaves = metadata + lengths.metadata;
+    let tiles = leaves + lengths.leaves;
+    Header {
+        root: Part {
+            offset: HEADER_BYTES as u64,
+            length: lengths.root,
+        },
+        metadata: Part {
+            offset: metadata,
+            length: lengths.metadata,
+        },
+        leaves: Part {
+            offset: leaves,
+            length: lengths.leaves,
+        },
+        tiles: Part {
+            offset: tiles,
+            length: lengths.tiles,
+        },
+        addressed: counts.addressed,
+        entries: counts.entries,
+        contents: counts.contents,
+        clustered: 1,
+        internal: PLAIN,
+        compression: PLAIN,
+        kind: VECTOR_TILES,
+        min_zoom,
+        max_zoom,
+        min_lon: -EAST,
+        min_lat: -NORTH,
+        max_lon: EAST,
+        max_lat: NORTH,
+        centre_zoom: min_zoom,
+        centre_lon: 0,
+        centre_lat: 0,
+    }
+}

@@ -1,0 +1,5 @@
+pub mod Counting
+pub mod Entries
+pub mod Growing
+pub mod Joining
+pub mod Offsets
