@@ -3,8 +3,13 @@
 
 ghost use Rattle.std.specs.Prelude.{◌≡◌, ◌<◌, ◌≤◌, ◌↔◌, IsOk};
 
+mod archives;
+
+use archives::{show_file, verify_file};
 use clap::{Arg, ArgAction, Command};
 use http_serve::ServeFault;
+use std::alloc::{AllocError, Global};
+use std::fmt::Display;
 use std::process::ExitCode;
 use thin_service::{ThinService, thin_serve};
 
@@ -45,7 +50,7 @@ fn check_size(sectors: u64) -> Result<(), SizeFault>
 }
 
 /// Prints a fault's name.
-fn refused(rt: &impl Eprint, name: &str) -> anyhow::Result<ExitCode> {
+fn refused(rt: &impl Eprint, name: impl Display + Drop) -> anyhow::Result<ExitCode> {
     eprintln!(rt; "vtserve: {name}")?;
     Ok(ExitCode::from(1))
 }
@@ -73,6 +78,19 @@ fn demo(rt: &HostRuntime, sectors: u64) -> anyhow::Result<ExitCode> {
     }
 }
 
+/// A command over an archive in a file.
+fn archive_command<'a>(
+    alloc: Global,
+    name: &'a str,
+    about: &'a str,
+) -> Result<Command<'a>, AllocError> {
+    let file = Arg::new(alloc, "FILE")
+        .required(true)
+        .action(ArgAction::Set)
+        .help("A tile archive (PMTiles 3)");
+    Command::new(alloc, name).about(about).arg(file)
+}
+
 fn main(rt: HostRuntime) -> anyhow::Result<ExitCode> {
     let alloc = rt.alloc();
     let words: Vec<String> = std::env::args(&rt)?.collect(alloc)?;
@@ -84,10 +102,22 @@ fn main(rt: HostRuntime) -> anyhow::Result<ExitCode> {
     let demo_command = Command::new(alloc, "demo")
         .about("Serves one connection on standard input and output, over an empty map in memory")
         .arg(sectors)?;
+    let show_command = archive_command(
+        alloc,
+        "show",
+        "Prints the header and the metadata of a tile archive",
+    )?;
+    let verify_command = archive_command(
+        alloc,
+        "verify",
+        "Judges a tile archive: prints what it has, or its first fault",
+    )?;
     let command = Command::new(alloc, "vtserve")
         .about("A vector tile server whose map is edited while it serves")
         .subcommand_required(true)
-        .subcommand(demo_command)?;
+        .subcommand(demo_command)?
+        .subcommand(show_command)?
+        .subcommand(verify_command)?;
     let matches = match command.try_get_matches_from(words.as_slice()) {
         Ok(matches) => matches,
         Err(error) => {
@@ -97,6 +127,8 @@ fn main(rt: HostRuntime) -> anyhow::Result<ExitCode> {
     };
     match matches.subcommand() {
         Some(("demo", words)) => demo(&rt, words.get_one::<u64>("N").unwrap_or(0)),
+        Some(("show", words)) => show_file(&rt, words.get_str("FILE").unwrap_or("")),
+        Some(("verify", words)) => verify_file(&rt, words.get_str("FILE").unwrap_or("")),
         _ => Ok(ExitCode::from(2)),
     }
 }

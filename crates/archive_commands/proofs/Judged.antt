@@ -1,0 +1,44 @@
+-- From the contracts of an archive over a slice, which can't fail to be read.
+use Rattle.std.proofs.Common.{◌≡◌, ℕ, List, Result, Ok, Err, MatchResult, IfErr, refl, ap}
+use Rattle.pm_header.specs.declared.header.Header.{Header}
+use Rattle.pm_directory.specs.declared.entry.Entry.{Entry}
+use Rattle.pm_directory.specs.Directory.{IsDirectory}
+use Rattle.pm_archive.specs.declared.report.Report.{Report}
+use Rattle.pm_archive.specs.declared.fault.ArchiveFault.{ArchiveFault}
+use Rattle.pm_archive.specs.declared.fault.ArchiveFault.TheVariants.{Read, Memory}
+use Rattle.pm_archive.specs.Answers.{IsOutside, UnlessOutside}
+use Rattle.pm_archive.specs.Sections.{HasSections, section_bytes}
+use Rattle.pm_archive.specs.Reading.{OpeningHas}
+use Rattle.pm_archive.specs.Verified.{IsSound, VerifyingHas}
+use Rattle.archive_commands.specs.Faults.{FirstFault, of_opening, of_archive}
+
+-- a fault outside of the bytes that is no failed read is want of memory
+pub memory_from_outside : (d : ArchiveFault) → IsOutside d → (d ≡ Read → ⊥) → d ≡ Memory
+memory_from_outside Read h unread = absurd (unread refl)
+memory_from_outside Memory h unread = refl
+memory_from_outside _ h unread = absurd h
+
+pub UnlessOutside-weaker : (P Q : ArchiveFault → Type 0) (d : ArchiveFault) → ((e : ArchiveFault) → P e → Q e) → UnlessOutside P d → UnlessOutside Q d
+UnlessOutside-weaker P Q Read f h = tt
+UnlessOutside-weaker P Q Memory f h = tt
+UnlessOutside-weaker P Q d f h = f d h
+
+-- the opening of a sound archive fails only by want of memory
+pub only_at_opening : (bytes : List ℕ) (d : ArchiveFault) → ((h : Header) (root : List Entry) → HasSections bytes h → IsDirectory (section_bytes h.root bytes) root → IsOutside d)
+    → (d ≡ Read → ⊥) → (report : Report) → IsSound bytes report → d ≡ Memory
+only_at_opening bytes d only unread report sound =
+    let root = sound.archive.entries in memory_from_outside d (only sound.header root.0 sound.archive.sections root.1) unread
+
+pub only_at_judging : (report : Report) (r : Result Report ArchiveFault) → (r ≡ Err Read → ⊥) → MatchResult r (λ told. told ≡ report) IsOutside
+    → MatchResult r (λ told. told ≡ report) (λ d. d ≡ Memory)
+only_at_judging report (Ok told) unread h = h
+only_at_judging report (Err d) unread h = memory_from_outside d h (λ e. unread (ap Err e))
+
+pub fault_at_opening : (bytes : List ℕ) (d : ArchiveFault) → UnlessOutside (OpeningHas bytes) d → UnlessOutside (FirstFault bytes) d
+fault_at_opening bytes d h = UnlessOutside-weaker (OpeningHas bytes) (FirstFault bytes) d (λ e has. of_opening has) h
+
+pub fault_at_judging : (bytes : List ℕ) (h : Header) (root : List Entry) → HasSections bytes h → IsDirectory (section_bytes h.root bytes) root
+    → (r : Result Report ArchiveFault) → IfErr r (UnlessOutside (VerifyingHas bytes h root)) → IfErr r (UnlessOutside (FirstFault bytes))
+fault_at_judging bytes h root sections directory (Ok told) has = has
+fault_at_judging bytes h root sections directory (Err d) has =
+    UnlessOutside-weaker (VerifyingHas bytes h root) (FirstFault bytes) d (λ e v. of_archive h root sections directory v) has

@@ -1,0 +1,65 @@
+-- What is told of an archive's header and metadata.
+use Rattle.std.specs.Prelude.{◌≡◌, ◌≢◌, ℕ, ◌<◌, ◌≤◌, List, ◌++◌, length, take, slice_index, codes, decimal, IsUtf8}
+use Rattle.pm_header.specs.declared.header.Header.{Header}
+use Rattle.pm_header.specs.declared.fault.HeaderFault.{HeaderFault}
+use Rattle.pm_header.specs.declared.fault.HeaderFault.TheVariants.{Short, Magic, Version}
+use Rattle.pm_header.specs.Layout.{IsHeader, magic}
+use Rattle.pm_archive.specs.Sections.{end_of, section_bytes}
+
+-- the first fault of bytes that begin with no header
+abbrev pub HeaderHas : List ℕ → HeaderFault → Type 0
+HeaderHas bytes Short = length bytes < 127
+HeaderHas bytes Magic = (127 ≤ length bytes) × (take 7 bytes ≢ magic)
+HeaderHas bytes (Version n) = (127 ≤ length bytes) × (take 7 bytes ≡ magic) × (slice_index bytes 7 ≡ n) × (n ≢ 3)
+
+-- ---- the lines of a header
+
+unfoldable pub kind_lines : Header → List ℕ
+kind_lines h =
+    codes "version: 3\ntile type: " ++ (decimal h.kind
+    ++ (codes "\ntile compression: " ++ (decimal h.compression
+    ++ (codes "\ninternal compression: " ++ (decimal h.internal ++ codes "\n")))))
+
+unfoldable pub zoom_lines : Header → List ℕ
+zoom_lines h =
+    codes "clustered: " ++ (decimal h.clustered
+    ++ (codes "\nzooms: " ++ (decimal h.min_zoom
+    ++ (codes " to " ++ (decimal h.max_zoom ++ codes "\n")))))
+
+unfoldable pub count_lines : Header → List ℕ
+count_lines h =
+    codes "addressed tiles: " ++ (decimal h.addressed
+    ++ (codes "\ntile entries: " ++ (decimal h.entries
+    ++ (codes "\ntile contents: " ++ (decimal h.contents ++ codes "\n")))))
+
+abbrev pub header_lines : Header → List ℕ
+header_lines h = kind_lines h ++ zoom_lines h ++ count_lines h
+
+-- ---- the line of the metadata
+
+unfoldable pub compressed_line : ℕ → List ℕ
+compressed_line n = codes "metadata: compressed " ++ decimal n ++ codes "\n"
+
+unfoldable pub text_line : List ℕ → List ℕ
+text_line text = codes "metadata: " ++ text ++ codes "\n"
+
+unfoldable pub unreadable_line : List ℕ
+unreadable_line = codes "metadata: unreadable\n"
+
+-- the metadata lie inside the file, and are a text
+abbrev pub HasText : List ℕ → Header → Type 0
+HasText bytes h = (end_of h.metadata ≤ length bytes) × IsUtf8 (section_bytes h.metadata bytes)
+
+-- this is the line
+pub data IsMetadataLine (bytes : List ℕ) (h : Header) (line : List ℕ) : Type 0 where
+  is_compressed : 2 ≤ h.internal → line ≡ compressed_line h.internal → IsMetadataLine bytes h line
+  is_text : h.internal < 2 → HasText bytes h → line ≡ text_line (section_bytes h.metadata bytes) → IsMetadataLine bytes h line
+  is_unreadable : h.internal < 2 → ¬ HasText bytes h → line ≡ unreadable_line → IsMetadataLine bytes h line
+
+-- the text shows the header with which the bytes begin, and the metadata that it names
+pub record IsShown (bytes text : List ℕ) : Type 0 where
+  pub header : Header
+  pub begins : IsHeader bytes header
+  pub line : List ℕ
+  pub metadata : IsMetadataLine bytes header line
+  pub lines : text ≡ header_lines header ++ line

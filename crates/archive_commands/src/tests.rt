@@ -1,0 +1,127 @@
+use super::*;
+use std::alloc::Global;
+use std::test::Fail;
+
+/// An archive of three tiles with one content, which is a vector tile with one point.
+const SOUND: [u8; 223] = *b"PMTiles\x03\
+    \x7f\0\0\0\0\0\0\0\x09\0\0\0\0\0\0\0\x88\0\0\0\0\0\0\0\x42\0\0\0\0\0\0\0\
+    \xca\0\0\0\0\0\0\0\0\0\0\0\0\0\0\0\xca\0\0\0\0\0\0\0\x15\0\0\0\0\0\0\0\
+    \x03\0\0\0\0\0\0\0\x02\0\0\0\0\0\0\0\x01\0\0\0\0\0\0\0\
+    \x01\x01\x01\x01\x00\x02\
+    \x00\x2e\xb6\x94\x49\x3a\x4e\xcd\x00\xd2\x49\x6b\xb7\xc5\xb1\x32\x00\0\0\0\0\0\0\0\0\
+    \x02\x00\x05\x02\x01\x15\x15\x01\x01\
+    {\"vector_layers\":[{\"fields\":{},\"id\":\"p\",\"maxzoom\":2,\"minzoom\":0}]}\
+    \x1a\x13\x0a\x01\x70\x12\x09\x08\x07\x18\x01\x22\x03\x09\x00\x00\x28\x80\x20\x78\x02";
+
+/// An archive whose root names a leaf directory that names itself.
+const LEAF_IN_ITSELF: [u8; 139] = *b"PMTiles\x03\
+    \x7f\0\0\0\0\0\0\0\x05\0\0\0\0\0\0\0\x84\0\0\0\0\0\0\0\x02\0\0\0\0\0\0\0\
+    \x86\0\0\0\0\0\0\0\x05\0\0\0\0\0\0\0\x8b\0\0\0\0\0\0\0\0\0\0\0\0\0\0\0\
+    \0\0\0\0\0\0\0\0\0\0\0\0\0\0\0\0\0\0\0\0\0\0\0\0\
+    \x00\x01\x01\x01\x00\x00\
+    \0\0\0\0\0\0\0\0\0\0\0\0\0\0\0\0\x00\0\0\0\0\0\0\0\0\
+    \x01\x00\x00\x05\x01{}\x01\x00\x00\x05\x01";
+
+/// The header of the sound archive.
+const LINES: &str =
+    "version: 3\ntile type: 1\ntile compression: 1\ninternal compression: 1\nclustered: 1\nzooms: 0 to 2\naddressed tiles: 3\ntile entries: 2\ntile contents: 1\n";
+
+/// The sound archive with some bytes changed.
+fn changed(changes: &[(usize, u8)]) -> [u8; 223] {
+    let mut archive = SOUND;
+    for (at, byte) in changes {
+        if let Some(place) = archive.get_mut(*at) {
+            *place = *byte;
+        }
+    }
+    archive
+}
+
+/// What is told of an archive.
+fn told(alloc: Global, archive: &[u8]) -> Result<String, Fail> {
+    Ok(Verdict::of(verify(alloc, archive)).to_string(alloc)?)
+}
+
+#[test]
+fn verdicts(rt: HostRuntime) -> Result<(), Fail> {
+    let alloc = rt.alloc();
+    let cases: [(&[(usize, u8)], usize, &str); 11] = [
+        (&[], 223, "ok: 3 tiles, 2 entries, 1 contents"),
+        (
+            &[(72, 0), (80, 0), (88, 0)],
+            223,
+            "ok: 3 tiles, 2 entries, 1 contents",
+        ),
+        (&[(98, 2)], 223, "ok: 3 tiles, 2 entries, 1 contents"),
+        (&[(72, 4)], 223, "count: addressed"),
+        (&[(222, 3)], 223, "bad tile: 0"),
+        (&[], 222, "section: tiles"),
+        (&[], 126, "short header"),
+        (&[(97, 2)], 223, "compressed directories: 2"),
+        (&[(0, 0)], 223, "bad magic"),
+        (&[(7, 2)], 223, "version: 2"),
+        (&[(136, 0)], 223, "bad metadata"),
+    ];
+    for (changes, length, line) in cases {
+        let archive = changed(changes);
+        let archive = archive.get(..length).ok_or("a length")?;
+        let said = told(alloc, archive)?;
+        assert_eq!(rt; said.as_str(), line);
+    }
+    let said = told(alloc, &LEAF_IN_ITSELF)?;
+    assert_eq!(rt; said.as_str(), "leaf depth");
+    Ok(())
+}
+
+/// What is shown of an archive.
+fn shown(alloc: Global, archive: &[u8]) -> Result<Vec<u8>, Fail> {
+    let mut out = Vec::new(alloc);
+    show(archive, &mut out)?;
+    Ok(out)
+}
+
+#[test]
+fn headers_and_metadata(rt: HostRuntime) -> Result<(), Fail> {
+    let alloc = rt.alloc();
+    let json = r#"{"vector_layers":[{"fields":{},"id":"p","maxzoom":2,"minzoom":0}]}"#;
+    // a byte that is no text, a section that ends one byte behind the file, one whose end is no number
+    let cases: [(&[(usize, u8)], &str); 4] = [
+        (&[], json),
+        (&[(136, 0xff)], "unreadable"),
+        (&[(32, 88)], "unreadable"),
+        (&[(39, 255), (31, 255)], "unreadable"),
+    ];
+    for (changes, metadata) in cases {
+        let out = shown(alloc, &changed(changes))?;
+        let expected = format!(in alloc; "{LINES}metadata: {metadata}\n")?;
+        assert_eq!(rt; out.as_slice(), expected.as_bytes(), "{metadata}");
+    }
+    let out = shown(alloc, &changed(&[(97, 2)]))?;
+    assert!(rt; out.ends_with(b"\nmetadata: compressed 2\n".as_slice()));
+    Ok(())
+}
+
+#[test]
+fn archives_that_are_not_shown(rt: HostRuntime) -> Result<(), Fail> {
+    let alloc = rt.alloc();
+    let mut out = Vec::new(alloc);
+    for (changes, length, name) in [
+        (&[(0, 0)], 126, "Short"),
+        (&[(0, 0)], 127, "Magic"),
+        (&[(7, 2)], 127, "Version"),
+    ] {
+        let archive = changed(changes);
+        let archive = archive.get(..length).ok_or("a length")?;
+        let fault = show(archive, &mut out).err().ok_or("a fault")?;
+        let said = fault.to_string(alloc)?;
+        assert_eq!(rt; said.as_str(), name);
+    }
+    assert_eq!(rt; out.len(), 0);
+    // a writer that has no place for the last line feed
+    let mut place = [0; 223];
+    let mut writer = place.as_mut_slice();
+    let fault = show(&SOUND, &mut writer).err().ok_or("a fault")?;
+    let said = fault.to_string(alloc)?;
+    assert_eq!(rt; said.as_str(), "Write");
+    Ok(())
+}

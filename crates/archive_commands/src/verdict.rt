@@ -1,0 +1,41 @@
+//! What is told of an archive that was judged.
+
+ghost use Rattle.std.specs.Prelude.{◌≡◌};
+ghost use Rattle.archive_commands.specs.Told.{verdict_of};
+
+use pm_archive::{ArchiveFault, Report};
+use std::fmt;
+
+/// What is told of an archive that was judged.
+#[derive(Clone, Copy, Debug, PartialEq, Eq)]
+pub enum Verdict {
+    /// It is sound.
+    Sound(Report),
+    /// It has a fault.
+    Faulty(ArchiveFault),
+    /// It couldn't be judged: memory ran out, or it couldn't be read.
+    Unjudged(ArchiveFault),
+}
+
+impl Verdict {
+    /// The verdict for what judging an archive gave.
+    pub fn of(judged: Result<Report, ArchiveFault>) -> Verdict
+        ensures { result ≡ verdict_of judged }
+    {
+        match judged {
+            Ok(report) => Verdict::Sound(report),
+            Err(fault @ (ArchiveFault::Read | ArchiveFault::Memory)) => Verdict::Unjudged(fault),
+            Err(fault) => Verdict::Faulty(fault),
+        }
+    }
+}
+
+impl fmt::Display for Verdict {
+    fn fmt<W: fmt::Write>(&self, f: &mut fmt::Formatter<W>) -> fmt::Result {
+        match self {
+            Verdict::Sound(report) => write!(f, "ok: {report}"),
+            Verdict::Faulty(fault) => write!(f, "{fault}"),
+            Verdict::Unjudged(fault) => write!(f, "{fault}"),
+        }
+    }
+}

@@ -1,0 +1,28 @@
+//! Whether an archive is sound.
+
+ghost use Rattle.std.specs.Prelude.{◌≡◌, ◌≢◌, IfOk, IfErr, MatchResult};
+ghost use Rattle.pm_archive.specs.declared.report.Report.{Report};
+ghost use Rattle.pm_archive.specs.Verified.{IsSound};
+ghost use Rattle.pm_archive.specs.Answers.{UnlessOutside};
+ghost use Rattle.archive_commands.specs.Faults.{FirstFault};
+
+use pm_archive::{Archive, ArchiveFault, Report};
+use std::alloc::Global;
+
+/// Judges an archive: what it has where it is sound, else its first fault.
+///
+/// # Errors
+///
+/// The first fault of the bytes, or `Memory`.
+pub fn verify(alloc: Global, archive: &[u8]) -> Result<Report, ArchiveFault>
+    ensures found { IfOk result (IsSound archive.now) }
+    ensures only { (report : Report) → IsSound archive.now report → MatchResult result (λ told. told ≡ report) (λ fault. fault ≡ ArchiveFault.Memory) }
+    ensures fault { IfErr result (UnlessOutside (FirstFault archive.now)) }
+    ensures read { result ≢ Err ArchiveFault.Read }
+{
+    let mut archive = match Archive::open(alloc, archive) {
+        Ok(archive) => archive,
+        Err(fault) => return Err(fault),
+    };
+    archive.verify(alloc)
+}
