@@ -1,0 +1,3 @@
+mod Chosen
+mod Picks
+pub mod History
