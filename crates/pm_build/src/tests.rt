@@ -53,21 +53,6 @@ fn joins_runs_and_contents(rt: HostRuntime) -> Result<(), Fail> {
     Ok(())
 }
 
-// Pieces of an archive of the tiles 0, 2, 4 and so on to 1024, all of the content 7, and where they begin.
-const LEAVES_PIECES: [(usize, &[u8]); 6] = [
-    // The root directory names leaf directories of 2050 and 6 bytes, from the ids 0 and 1024 on.
-    (8, &[127, 0, 0, 0, 0, 0, 0, 0, 11, 0, 0, 0, 0, 0, 0, 0]),
-    (127, &[2, 0, 0x80, 8, 0, 0, 0x82, 0x10, 6, 1, 0]),
-    // The leaf directories have 2056 bytes.
-    (
-        40,
-        &[204, 0, 0, 0, 0, 0, 0, 0, 0x08, 0x08, 0, 0, 0, 0, 0, 0],
-    ),
-    (204, &[0x80, 4, 0, 2, 2, 2, 2, 2]),
-    (2254, &[1, 0x80, 8, 1, 1, 1]),
-    (2260, &[7]),
-];
-
 // The first tiles of even ids, all of the content 7.
 fn even_tiles(alloc: Global, count: u32) -> Result<Vec<(u64, Vec<u8>)>, AllocError> {
     let mut tiles = Vec::new(alloc);
@@ -77,18 +62,39 @@ fn even_tiles(alloc: Global, count: u32) -> Result<Vec<(u64, Vec<u8>)>, AllocErr
     Ok(tiles)
 }
 
+// The leaf directory of the first 512 of these tiles: how many there are, how far each id is behind the one before it,
+// then runs and lengths of 1, and offsets of 0, each spelled as one more.
+fn first_leaf(alloc: Global) -> Result<Vec<u8>, AllocError> {
+    let mut leaf = Vec::from_slice(alloc, &[0x80, 4, 0])?;
+    leaf.resize(3 + 511, 2)?;
+    leaf.resize(3 + 511 + 3 * 512, 1)?;
+    Ok(leaf)
+}
+
+// Where the sections of an archive of 513 of these tiles lie, as its header says: two leaf directories of 2050 and of 6
+// bytes, and one content.
+const SECTIONS: [u64; 8] = [127, 11, 138, 66, 204, 2056, 2260, 1];
+
 #[test]
 fn many_entries_stand_in_leaves(rt: HostRuntime) -> Result<(), Fail> {
     let alloc = rt.alloc();
-    let tiles = even_tiles(alloc, 513)?;
-    let bytes = archive(alloc, &tiles)?;
-    assert_eq!(rt; bytes.len(), 2261);
-    for (from, piece) in LEAVES_PIECES {
+    let bytes = archive(alloc, &even_tiles(alloc, 513)?)?;
+    for (i, number) in SECTIONS.iter().enumerate() {
+        let at = 8 + 8 * i;
         assert_eq!(rt;
-            bytes.get(from..from + piece.len()),
-            Some(piece),
-            "from {from} on"
+            bytes.get(at..at + 8),
+            Some(number.to_le_bytes().as_slice())
         );
     }
+    // The root directory names leaves from the ids 0 and 1024 on.
+    let root = [2, 0, 0x80, 8, 0, 0, 0x82, 0x10, 6, 1, 0];
+    assert_eq!(rt; bytes.get(127..138), Some(root.as_slice()));
+    assert_eq!(rt; bytes.get(138..204), Some(METADATA));
+    let leaf = first_leaf(alloc)?;
+    assert_eq!(rt; bytes.get(204..2254), Some(leaf.as_slice()));
+    assert_eq!(rt;
+        bytes.get(2254..),
+        Some([1, 0x80, 8, 1, 1, 1, 7].as_slice())
+    );
     Ok(())
 }
