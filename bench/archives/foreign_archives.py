@@ -497,6 +497,9 @@ def random_changes(count):
 
 # ---- the program
 
+# So many that didn't agree are printed of each part.
+MOST_PRINTED = 20
+
 
 class Runs:
     def __init__(self, program, folder):
@@ -509,7 +512,7 @@ class Runs:
         self.all += 1
         if told == (status, out, err):
             self.agreed += 1
-        else:
+        elif self.all - self.agreed <= MOST_PRINTED:
             print(f"{name}: {words[0]} is to give {(status, out, err)} and gave {told}")
 
     def over(self, name, command, archive, status, out, err=""):

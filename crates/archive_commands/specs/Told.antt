@@ -1,5 +1,5 @@
 -- What is told of an archive that was judged.
-use Rattle.std.specs.Prelude.{Result, Ok, Err}
+use Rattle.std.specs.Prelude.{ℕ, Result, Ok, Err}
 use Rattle.pm_archive.specs.declared.report.Report.{Report}
 use Rattle.pm_archive.specs.declared.fault.ArchiveFault.{ArchiveFault}
 use Rattle.pm_archive.specs.declared.fault.ArchiveFault.TheVariants.{Read, Memory}
@@ -12,3 +12,9 @@ verdict_of (Ok report) = Sound report
 verdict_of (Err Read) = Unjudged Read
 verdict_of (Err Memory) = Unjudged Memory
 verdict_of (Err fault) = Faulty fault
+
+-- the exit status of a program that tells it
+abbrev pub status_of : Verdict → ℕ
+status_of (Sound _) = 0
+status_of (Faulty _) = 1
+status_of (Unjudged _) = 1

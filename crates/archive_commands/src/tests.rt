@@ -1,4 +1,6 @@
 use super::*;
+use pm_archive::{ArchiveFault, Count, Section, is_metadata};
+use pm_build::{BuildFault, are_tiles, build};
 use std::alloc::Global;
 use std::test::Fail;
 
@@ -37,38 +39,41 @@ fn changed(changes: &[(usize, u8)]) -> [u8; 223] {
     archive
 }
 
-/// What is told of an archive.
-fn told(alloc: Global, archive: &[u8]) -> Result<String, Fail> {
-    Ok(Verdict::of(verify(alloc, archive)).to_string(alloc)?)
+/// What is told of an archive: a line, and the exit status.
+fn told(alloc: Global, archive: &[u8]) -> Result<(String, u8), Fail> {
+    let verdict = Verdict::of(verify(alloc, archive));
+    Ok((verdict.to_string(alloc)?, verdict.status()))
 }
 
 #[test]
 fn verdicts(rt: HostRuntime) -> Result<(), Fail> {
     let alloc = rt.alloc();
-    let cases: [(&[(usize, u8)], usize, &str); 11] = [
-        (&[], 223, "ok: 3 tiles, 2 entries, 1 contents"),
+    let cases: [(&[(usize, u8)], usize, &str, u8); 11] = [
+        (&[], 223, "ok: 3 tiles, 2 entries, 1 contents", 0),
         (
             &[(72, 0), (80, 0), (88, 0)],
             223,
             "ok: 3 tiles, 2 entries, 1 contents",
+            0,
         ),
-        (&[(98, 2)], 223, "ok: 3 tiles, 2 entries, 1 contents"),
-        (&[(72, 4)], 223, "count: addressed"),
-        (&[(222, 3)], 223, "bad tile: 0"),
-        (&[], 222, "section: tiles"),
-        (&[], 126, "short header"),
-        (&[(97, 2)], 223, "compressed directories: 2"),
-        (&[(0, 0)], 223, "bad magic"),
-        (&[(7, 2)], 223, "version: 2"),
-        (&[(136, 0)], 223, "bad metadata"),
+        (&[(98, 2)], 223, "ok: 3 tiles, 2 entries, 1 contents", 0),
+        (&[(72, 4)], 223, "count: addressed", 1),
+        (&[(222, 3)], 223, "bad tile: 0", 1),
+        (&[], 222, "section: tiles", 1),
+        (&[], 126, "short header", 1),
+        (&[(97, 2)], 223, "compressed directories: 2", 1),
+        (&[(0, 0)], 223, "bad magic", 1),
+        (&[(7, 2)], 223, "version: 2", 1),
+        (&[(136, 0)], 223, "bad metadata", 1),
     ];
-    for (changes, length, line) in cases {
+    for (changes, length, line, code) in cases {
         let archive = changed(changes);
         let archive = archive.get(..length).ok_or("a length")?;
-        let said = told(alloc, archive)?;
+        let (said, status) = told(alloc, archive)?;
         assert_eq!(rt; said.as_str(), line);
+        assert_eq!(rt; status, code);
     }
-    let said = told(alloc, &LEAF_IN_ITSELF)?;
+    let (said, _) = told(alloc, &LEAF_IN_ITSELF)?;
     assert_eq!(rt; said.as_str(), "leaf depth");
     Ok(())
 }
@@ -123,5 +128,78 @@ fn archives_that_are_not_shown(rt: HostRuntime) -> Result<(), Fail> {
     let fault = show(&SOUND, &mut writer).err().ok_or("a fault")?;
     let said = fault.to_string(alloc)?;
     assert_eq!(rt; said.as_str(), "Write");
+    Ok(())
+}
+
+#[test]
+fn lines_of_faults(rt: HostRuntime) -> Result<(), Fail> {
+    for (fault, line) in [
+        (ArchiveFault::Section(Section::Root), "section: root"),
+        (
+            ArchiveFault::Section(Section::Metadata),
+            "section: metadata",
+        ),
+        (ArchiveFault::Section(Section::Leaves), "section: leaves"),
+        (ArchiveFault::Directory(127), "bad directory at: 127"),
+        (ArchiveFault::Order(9), "order: 9"),
+        (ArchiveFault::Place(5), "place: 5"),
+        (ArchiveFault::Count(Count::Entries), "count: entries"),
+        (ArchiveFault::Count(Count::Contents), "count: contents"),
+        (ArchiveFault::Read, "Read"),
+        (ArchiveFault::Memory, "Memory"),
+    ] {
+        let said = Verdict::of(Err(fault)).to_string(rt.alloc())?;
+        assert_eq!(rt; said.as_str(), line);
+    }
+    Ok(())
+}
+
+/// Tiles of these ids, all with the one tile of the sound archive.
+fn tiles_at(alloc: Global, ids: &[u64]) -> Result<Vec<(u64, Vec<u8>)>, Fail> {
+    let content = SOUND.get(202..).ok_or("a tile")?;
+    let mut tiles = Vec::new(alloc);
+    for id in ids {
+        tiles.push((*id, Vec::from_slice(alloc, content)?))?;
+    }
+    Ok(tiles)
+}
+
+/// The archive of tiles of these ids, with the metadata of the sound archive.
+fn built(alloc: Global, ids: &[u64]) -> Result<Result<Vec<u8>, BuildFault>, Fail> {
+    let metadata = SOUND.get(136..202).ok_or("metadata")?;
+    let tiles = tiles_at(alloc, ids)?;
+    if tiles.is_empty() || !are_tiles(&tiles) || !is_metadata(alloc, metadata)? {
+        return Err(Fail::from("no tiles"));
+    }
+    Ok(build(alloc, &tiles, metadata))
+}
+
+#[test]
+fn three_tiles_are_built_as_that_archive(rt: HostRuntime) -> Result<(), Fail> {
+    let archive = built(rt.alloc(), &[0, 1, 5])??;
+    assert_eq!(rt; archive.as_slice(), SOUND.as_slice());
+    Ok(())
+}
+
+/// So many even numbers.
+fn even(alloc: Global, count: u32) -> Result<Vec<u64>, Fail> {
+    let mut numbers = Vec::new(alloc);
+    for i in 0..count {
+        numbers.push(2 * u64::from(i))?;
+    }
+    Ok(numbers)
+}
+
+#[test]
+fn as_many_entries_as_there_may_be(rt: HostRuntime) -> Result<(), Fail> {
+    let alloc = rt.alloc();
+    let archive = built(alloc, &even(alloc, 131_072)?)??;
+    let (said, _) = told(alloc, &archive)?;
+    assert_eq!(rt;
+        said.as_str(),
+        "ok: 131072 tiles, 131072 entries, 1 contents"
+    );
+    let refused = built(alloc, &even(alloc, 131_073)?)?;
+    assert_eq!(rt; refused.err(), Some(BuildFault::TooManyEntries));
     Ok(())
 }

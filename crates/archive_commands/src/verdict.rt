@@ -1,7 +1,7 @@
 //! What is told of an archive that was judged.
 
 ghost use Rattle.std.specs.Prelude.{◌≡◌};
-ghost use Rattle.archive_commands.specs.Told.{verdict_of};
+ghost use Rattle.archive_commands.specs.Told.{status_of, verdict_of};
 
 use pm_archive::{ArchiveFault, Report};
 use std::fmt;
@@ -26,6 +26,16 @@ impl Verdict {
             Ok(report) => Verdict::Sound(report),
             Err(fault @ (ArchiveFault::Read | ArchiveFault::Memory)) => Verdict::Unjudged(fault),
             Err(fault) => Verdict::Faulty(fault),
+        }
+    }
+
+    /// The exit status of a program that tells it: 0 where the archive is sound, else 1.
+    pub fn status(self) -> u8
+        ensures { result ≡ status_of self }
+    {
+        match self {
+            Verdict::Sound(_) => 0,
+            Verdict::Faulty(_) | Verdict::Unjudged(_) => 1,
         }
     }
 }

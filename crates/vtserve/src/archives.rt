@@ -2,13 +2,23 @@
 
 use crate::refused;
 use archive_commands::{Verdict, show, verify};
-use std::fs;
 use std::process::ExitCode;
+use std::{fs, io};
+
+/// The bytes of a file, or the name of the fault.
+fn file_bytes(rt: &HostRuntime, path: &str) -> Result<Vec<u8>, &'static str> {
+    match fs::read(rt, path) {
+        Ok(bytes) => Ok(bytes),
+        Err(error) if error.kind() == io::ErrorKind::OutOfMemory => Err("Memory"),
+        Err(_) => Err("File"),
+    }
+}
 
 /// Prints the header and the metadata of an archive.
 pub(crate) fn show_file(rt: &HostRuntime, path: &str) -> anyhow::Result<ExitCode> {
-    let Ok(archive) = fs::read(rt, path) else {
-        return refused(rt, "File");
+    let archive = match file_bytes(rt, path) {
+        Ok(archive) => archive,
+        Err(name) => return refused(rt, name),
     };
     match show(archive.as_slice(), &mut rt.stdout()) {
         Ok(()) => Ok(ExitCode::SUCCESS),
@@ -18,17 +28,16 @@ pub(crate) fn show_file(rt: &HostRuntime, path: &str) -> anyhow::Result<ExitCode
 
 /// Judges an archive, and prints what is told of it.
 pub(crate) fn verify_file(rt: &HostRuntime, path: &str) -> anyhow::Result<ExitCode> {
-    let Ok(archive) = fs::read(rt, path) else {
-        return refused(rt, "File");
+    let archive = match file_bytes(rt, path) {
+        Ok(archive) => archive,
+        Err(name) => return refused(rt, name),
     };
     let verdict = Verdict::of(verify(rt.alloc(), archive.as_slice()));
-    let status = match verdict {
-        Verdict::Sound(_) => ExitCode::SUCCESS,
-        Verdict::Faulty(_) => ExitCode::from(1),
-        Verdict::Unjudged(fault) => return refused(rt, fault),
-    };
+    if let Verdict::Unjudged(fault) = verdict {
+        return refused(rt, fault);
+    }
     match println!(rt; "{verdict}") {
-        Ok(()) => Ok(status),
+        Ok(()) => Ok(ExitCode::from(verdict.status())),
         Err(_) => refused(rt, "Write"),
     }
 }
