@@ -22,6 +22,9 @@ import tempfile
 from collections import namedtuple
 from pathlib import Path
 
+sys.path.append(str(Path(__file__).resolve().parents[1] / "model"))
+from wire import varint
+
 # ---- the format
 
 HEADER = struct.Struct("<7sB8Q3Q6B4iB2i")
@@ -35,16 +38,6 @@ ALL_IDS = sum(4**zoom for zoom in range(32))
 
 # A run of 0 makes the entry one of a leaf directory.
 Entry = namedtuple("Entry", "id run length offset")
-
-
-def varint(n, length=0):
-    """Seven bits a byte, lowest first; `length` bytes at least."""
-    out = []
-    while n >= 128 or len(out) + 1 < length:
-        out.append(n % 128 + 128)
-        n //= 128
-    out.append(n)
-    return bytes(out)
 
 
 def directory(entries, longer=0, each_offset=False):

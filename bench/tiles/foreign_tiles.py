@@ -8,16 +8,11 @@ unpacked lists, fields that the schema lacks, and fields that come again.
 """
 
 import struct
+import sys
+from pathlib import Path
 
-
-def varint(n, length=0):
-    """Seven bits a byte, lowest first; `length` bytes at least."""
-    out = []
-    while n >= 128 or len(out) + 1 < length:
-        out.append(n % 128 + 128)
-        n //= 128
-    out.append(n)
-    return bytes(out)
+sys.path.append(str(Path(__file__).resolve().parents[1] / "model"))
+from wire import varint
 
 
 def number(field, n, length=0):

@@ -1,6 +1,5 @@
 -- Looking up one tile id: the entry of each directory that leads to it, from the root on.
 use Rattle.std.specs.Prelude.{ℕ, zero, suc, ◌+◌, ◌-◌, ◌||◌, List, length, slice_get, Option, Some, None, Ok, Err, if◌then◌else◌, nat_eq, nat_lt, nat_le}
-use Rattle.pm_header.specs.declared.part.Part.{Part}
 use Rattle.pm_header.specs.declared.header.Header.{Header}
 use Rattle.pm_directory.specs.declared.entry.Entry.{Entry}
 use Rattle.pm_directory.specs.Lookup.{up_to}
@@ -31,10 +30,6 @@ reached_at bytes h id zero None = Ok None
 reached_at bytes h id zero (Some e) = if nat_lt 0 e.run then Ok (Some e) else Err faults.Depth
 reached_at bytes h id (suc more) None = Ok None
 reached_at bytes h id (suc more) (Some e) = if nat_lt 0 e.run then Ok (Some e) else (leading_at bytes h id e >>= reached_at bytes h id more)
-
--- where the bytes of an entry begin, if they lie inside its section
-unfoldable pub place_in : Part → Entry → Option ℕ
-place_in section e = if nat_le (e.offset + e.length) section.length then Some (section.offset + e.offset) else None
 
 -- the content of a tile entry
 unfoldable pub content_at : List ℕ → Header → Option Entry → Read (Option (List ℕ))

@@ -66,6 +66,10 @@ directory_of_entry bytes h e = if nat_le (e.offset + e.length) h.leaves.length t
 unfoldable pub leaf_at : List ℕ → Header → Entry → ℕ → Read (List Entry)
 leaf_at bytes h e bound = directory_of_entry bytes h e >>= λ entries. unless_stray entries (stray_id e.id bound entries)
 
+-- the content of a tile entry
+unfoldable pub content_of_tile : List ℕ → Header → Entry → Read (List ℕ)
+content_of_tile bytes h e = if nat_le (e.offset + e.length) h.tiles.length then Ok (entry_bytes h.tiles e bytes) else Err (faults.Place e.id)
+
 unfoldable pub tile_at : Header → Entry → Read (List Entry)
 tile_at h e = if nat_le (e.offset + e.length) h.tiles.length then Ok (e ∷ []) else Err (faults.Place e.id)
 

@@ -10,7 +10,7 @@ ghost use Rattle.pm_archive.specs.Verified.{IsTile, HasTile};
 ghost use Rattle.pm_archive.specs.VerifiedPieces.{IsTileFault, IsFirstTileFault, AreRead};
 
 use crate::fault::ArchiveFault;
-use crate::reading::bytes_at;
+use crate::reading::content_of;
 use crate::source::Bytes;
 use mvt_layer::{TileFault, read_tile};
 use pm_directory::Entry;
@@ -31,28 +31,6 @@ pub(crate) fn is_tile(alloc: Global, content: &[u8]) -> Result<bool, AllocError>
     }
 }
 
-// The content of an entry. A source that tells other bytes at each read may have listed it outside of its section.
-fn content_at<B: Bytes>(
-    alloc: Global,
-    source: &mut B,
-    header: &Header,
-    entry: Entry,
-) -> Result<Vec<u8>, ArchiveFault>
-    requires { end_of header.now.tiles ≤ B.count source.old }
-    ensures source { Keeps B.count B.holds B.fails source.old source.new }
-    ensures content { (bytes : List ℕ) → B.holds source.old bytes → LiesIn header.now.tiles entry
-        → MatchResult result (λ v. v.items ≡ entry_bytes header.now.tiles entry bytes) IsOutside }
-    ensures read { result ≡ Err ArchiveFault.Read → B.fails source.old }
-{
-    let length = u64::from(entry.length);
-    if entry.offset > header.tiles.length || header.tiles.length - entry.offset < length {
-        return Err(ArchiveFault::Place(entry.id));
-    }
-    // A section of the source ends before place 2^64.
-    let _count = source.len();
-    bytes_at(alloc, source, header.tiles.offset + entry.offset, length)
-}
-
 // Reads the tile of an entry.
 fn check_tile<B: Bytes>(
     alloc: Global,
@@ -66,7 +44,7 @@ fn check_tile<B: Bytes>(
     ensures fault { (bytes : List ℕ) → B.holds source.old bytes → LiesIn header.now.tiles entry → IfErr result (UnlessOutside (IsTileFault bytes header.now entry)) }
     ensures read { result ≡ Err ArchiveFault.Read → B.fails source.old }
 {
-    let content = match content_at(alloc, source, header, entry) {
+    let content = match content_of(alloc, source, header, entry) {
         Ok(content) => content,
         Err(fault) => return Err(fault),
     };

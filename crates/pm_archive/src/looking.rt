@@ -1,7 +1,6 @@
 //! The content of one tile id.
 
 ghost use Rattle.std.specs.Prelude.{◌≡◌, ℕ, ◌≤◌, List, Ok, Err, MatchResult, Option, Some, None, option_map};
-ghost use Rattle.pm_header.specs.declared.part.Part.{Part};
 ghost use Rattle.pm_directory.specs.declared.entry.Entry.{Entry};
 ghost use Rattle.pm_directory.specs.Directory.{IsAscending};
 ghost use Rattle.pm_archive.specs.Source.{Keeps};
@@ -10,14 +9,14 @@ ghost use Rattle.pm_archive.specs.Entries.{EachLists, Lists, ids_end, most_leave
 ghost use Rattle.pm_archive.specs.Archive.{content_of};
 ghost use Rattle.pm_archive.specs.Reading.{ArePlaced};
 ghost use Rattle.pm_archive.specs.Answers.{Answers, IsOutside};
-ghost use Rattle.pm_archive.specs.Looked.{leading_of, leading_at, reached_at, content_at, place_in};
+ghost use Rattle.pm_archive.specs.Looked.{leading_of, leading_at, reached_at, content_at};
 
 use crate::fault::ArchiveFault;
 use crate::listing::MOST_LEAVES;
-use crate::reading::{bytes_at, directory_of};
+use crate::reading::{content_of, directory_of};
 use crate::source::Bytes;
 use pm_directory::{Entry, find};
-use pm_header::{Header, Part};
+use pm_header::Header;
 use std::alloc::Global;
 
 // The entry of a directory that leads to an id.
@@ -80,23 +79,8 @@ fn tile_entry<B: Bytes>(
     }
 }
 
-// Where the bytes of an entry begin, if they lie inside its section.
-#[tactic(auto, unfolding(crate::specs::Looked::place_in))]
-fn place_of<B: Bytes>(source: &B, section: Part, entry: Entry) -> Option<u64>
-    requires { end_of section ≤ B.count source.now }
-    ensures { result ≡ place_in section entry }
-{
-    // The section ends inside the source, whose length has 64 bits: so the sum below fits.
-    let _count = source.len();
-    let end = entry.offset.checked_add(u64::from(entry.length))?;
-    if end > section.length {
-        return None;
-    }
-    Some(section.offset + entry.offset)
-}
-
-// The content of a tile entry.
-#[tactic(auto, unfolding(crate::specs::Looked::content_at, crate::specs::Looked::place_in))]
+// The content of a tile entry, if there is one.
+#[tactic(auto, unfolding(crate::specs::Looked::content_at, crate::specs::Reading::content_of_tile))]
 fn content_in<B: Bytes>(
     alloc: Global,
     source: &mut B,
@@ -112,11 +96,7 @@ fn content_in<B: Bytes>(
         Some(entry) => entry,
         None => return Ok(None),
     };
-    let place = match place_of(source, header.tiles, entry) {
-        Some(place) => place,
-        None => return Err(ArchiveFault::Place(entry.id)),
-    };
-    match bytes_at(alloc, source, place, u64::from(entry.length)) {
+    match content_of(alloc, source, header, entry) {
         Ok(content) => Ok(Some(content)),
         Err(fault) => Err(fault),
     }

@@ -1,13 +1,13 @@
 //! Pieces of a source: its bytes and its directories.
 
-ghost use Rattle.std.specs.Prelude.{◌≡◌, ◌↔◌, ℕ, ◌+◌, ◌≤◌, List, Err, IfOk, IfErr, IsTrue, slice_range};
+ghost use Rattle.std.specs.Prelude.{◌≡◌, ◌↔◌, ℕ, ◌+◌, ◌≤◌, List, Err, IfOk, IfErr, IsTrue, MatchResult, slice_range};
 ghost use Rattle.std.specs.List.{AllByRecursion};
 ghost use Rattle.pm_directory.specs.Directory.{IsAscending, IsEntry};
 ghost use Rattle.pm_directory.specs.Reading.{directory_at};
 ghost use Rattle.pm_archive.specs.Source.{Keeps};
 ghost use Rattle.pm_archive.specs.Sections.{end_of};
-ghost use Rattle.pm_archive.specs.Entries.{LiesIn};
-ghost use Rattle.pm_archive.specs.Reading.{directory_of_entry, directory_or_fault};
+ghost use Rattle.pm_archive.specs.Entries.{LiesIn, entry_bytes};
+ghost use Rattle.pm_archive.specs.Reading.{content_of_tile, directory_of_entry, directory_or_fault};
 ghost use Rattle.pm_archive.specs.Answers.{Answers, IsOutside};
 
 use crate::fault::ArchiveFault;
@@ -93,4 +93,27 @@ pub(crate) fn directory_of<B: Bytes>(
     }
     let at = header.leaves.offset + entry.offset;
     directory_from(alloc, source, at, u64::from(entry.length))
+}
+
+// The content of a tile entry.
+#[tactic(auto, unfolding(crate::specs::Reading::content_of_tile))]
+pub(crate) fn content_of<B: Bytes>(
+    alloc: Global,
+    source: &mut B,
+    header: &Header,
+    entry: Entry,
+) -> Result<Vec<u8>, ArchiveFault>
+    requires { end_of header.now.tiles ≤ B.count source.old }
+    ensures source { Keeps B.count B.holds B.fails source.old source.new }
+    ensures content { (bytes : List ℕ) → B.holds source.old bytes → Answers (λ v. v.items) result (content_of_tile bytes header.now entry) }
+    ensures inside { (bytes : List ℕ) → B.holds source.old bytes → LiesIn header.now.tiles entry
+        → MatchResult result (λ v. v.items ≡ entry_bytes header.now.tiles entry bytes) IsOutside }
+    ensures read { result ≡ Err ArchiveFault.Read → B.fails source.old }
+{
+    let _count = source.len();
+    if !lies_in(header.tiles, entry) {
+        return Err(ArchiveFault::Place(entry.id));
+    }
+    let at = header.tiles.offset + entry.offset;
+    bytes_at(alloc, source, at, u64::from(entry.length))
 }
