@@ -1,3 +1,5 @@
+mod Choices
 mod Chosen
 mod Picks
+pub mod Follows
 pub mod History

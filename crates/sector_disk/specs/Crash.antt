@@ -1,5 +1,5 @@
 -- What a crash of a disk in memory leaves, by a choice for each unsynced sector.
-use Rattle.std.specs.Prelude.{◌+◌, ◌==◌, ℕ, List, [], ◌∷◌, ◌++◌, length, min, slice_index, slice_index_or, if◌then◌else◌}
+use Rattle.std.specs.Prelude.{◌+◌, ◌==◌, ◌≡◌, ◌<◌, ◌≤◌, ℕ, List, [], ◌∷◌, ◌++◌, length, min, slice_index, slice_index_or, if◌then◌else◌}
 use Rattle.std.proofs.Common.{zero, suc}
 use Rattle.sector_disk.specs.Disk.{History, Image, seen}
 use Rattle.sector_disk.specs.Disk.History.{begun, wrote, tried, synced}
@@ -30,3 +30,10 @@ picked old writes choice = slice_index_or (old ∷ writes) (min choice (length w
 -- The i-th unsynced sector, in ascending order, has what the i-th number picks, and 0 stands for a number that is missing.
 abbrev pub chosen : History → List ℕ → Image
 chosen history choice at = picked (settled history at) (since history at) (slice_index choice (unsynced_below (since history) at))
+
+-- The choice gives the image on the first sectors. It has a number for each unsynced one, at most that of its writes.
+pub record IsChoice (history : History) (count : ℕ) (image : Image) (choice : List ℕ) : Type 0 where
+  pub gives : (at : ℕ) → at < count → chosen history choice at ≡ image at
+  pub one_each : length choice ≡ unsynced_below (since history) count
+  pub within : (at : ℕ) → at < count → 0 < length (since history at)
+      → slice_index choice (unsynced_below (since history) at) ≤ length (since history at)

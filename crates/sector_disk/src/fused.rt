@@ -34,7 +34,10 @@ impl<D: Sectors> FusedDisk<D> {
         ensures disk { result.disk ≡ disk }
         ensures passes { result.passes ≡ passes }
         ensures calls { result.calls ≡ 0 }
-        ensures faults { result.faults ≡ 0 }
+        ensures faults { ⟦<FusedDisk<D> as Sectors>⟧.faults result ≡ 0 }
+        ensures sectors { ⟦<FusedDisk<D> as Sectors>⟧.sectors result ≡ D.sectors disk }
+        ensures honest { ⟦<FusedDisk<D> as Sectors>⟧.honest result ↔ D.honest disk }
+        ensures history { ⟦<FusedDisk<D> as Sectors>⟧.history result ≡ D.history disk }
     {
         FusedDisk {
             disk,

@@ -10,9 +10,12 @@ mod memory;
 mod skipping;
 
 pub use disk::{DiskFault, Sectors};
-pub use file::FileDisk;
+pub use file::{FileDisk, FileFault, SectorFile};
 pub use fused::FusedDisk;
-pub use laws::{chosen_is_left, seen_is_left};
+pub use laws::{
+    calls_follow, chosen_is_left, images_go_on, left_is_chosen, one_image_is_left_by_a_sync,
+    seen_is_left, settled_or_written_is_held,
+};
 pub use memory::MemoryDisk;
 pub use skipping::SkipDisk;
 

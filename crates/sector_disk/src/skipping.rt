@@ -49,7 +49,10 @@ impl<D: Sectors> SkipDisk<D> {
         ensures fails { result.fails ≡ fails }
         ensures done { result.done ≡ done }
         ensures calls { result.calls ≡ 0 }
-        ensures faults { result.faults ≡ 0 }
+        ensures faults { ⟦<SkipDisk<D> as Sectors>⟧.faults result ≡ 0 }
+        ensures sectors { ⟦<SkipDisk<D> as Sectors>⟧.sectors result ≡ D.sectors disk }
+        ensures honest { ⟦<SkipDisk<D> as Sectors>⟧.honest result ↔ D.honest disk }
+        ensures history { ⟦<SkipDisk<D> as Sectors>⟧.history result ≡ D.history disk }
     {
         SkipDisk {
             disk,
@@ -142,7 +145,8 @@ impl<D: Sectors> Sectors for SkipDisk<D> {
         ensures skipped { IsSkipped self.old → IsErr result }
         ensures undone { IsSkipped self.old → self.old.done ≡ false → self.new.disk ≡ self.old.disk }
         ensures done { IsSkipped self.old → IsTrue self.old.done
-            → Tells (λ told. CountsFault told (D.faults self.old.disk) (D.faults self.new.disk)) }
+            → Tells (λ told. CountsFault told (D.faults self.old.disk) (D.faults self.new.disk)
+            × (D.honest self.old.disk → OnOk told (into.new ≡ seen (D.history self.old.disk) at))) }
     {
         let outcome = match self.takes_call() {
             Turn::Passed => self.disk.read(at, into),

@@ -1,0 +1,31 @@
+use Rattle.std.proofs.Common.{◌∙◌, inl, refl, arith}
+use Rattle.trial_journal.proofs.BodyLemmas.{staged_start, body_within, body_leaves, body_seen}
+use Rattle.trial_journal.proofs.bodies.write_bodies.Goals as goal
+
+pub loop-part-init : goal.loop-part-init
+loop-part-init g c = record {
+  count = refl;
+  honest = (λ h. h, λ h. h);
+  faults = refl;
+  leaves = λ honest. staged_start _ _ _ _;
+  within = λ honest at left may. inl may;
+  bodies = λ honest part pos lt. absurd (omega arith);
+}
+
+pub returns-in_err-write-clause-leaves : goal.returns-in_err-write-clause-leaves
+returns-in_err-write-clause-leaves g c honest =
+    let inv = c.loop-part.invariant in
+    body_leaves _ _ _ _ c.loop-part.part (omega arith) (omega arith) _ c.part_sector-sector.ensures _ _ _ (c.write.ensures.writes (inv.honest.0 honest)) (inv.within honest) (inv.leaves honest)
+
+pub loop-part-preserved : goal.loop-part-preserved
+loop-part-preserved g c =
+    let inv = c.loop-part.invariant in
+    let ok = c.in_ok-write.ensures in
+    record {
+      count = ok.count ∙ inv.count;
+      honest = (λ h. ok.honest.0 (inv.honest.0 h), λ h. inv.honest.1 (ok.honest.1 h));
+      faults = ok.faults ∙ inv.faults;
+      leaves = λ honest. body_leaves _ _ _ _ c.loop-part.part (omega arith) (omega arith) _ c.part_sector-sector.ensures _ _ _ (c.write.ensures.writes (inv.honest.0 honest)) (inv.within honest) (inv.leaves honest);
+      within = λ honest. body_within _ _ _ _ c.loop-part.part (omega arith) (omega arith) _ c.part_sector-sector.ensures _ _ _ (c.write.ensures.writes (inv.honest.0 honest)) (inv.within honest);
+      bodies = λ honest. body_seen _ _ _ c.loop-part.part _ _ _ c.part_sector-sector.ensures (ok.writes (inv.honest.0 honest)) (inv.bodies honest);
+    }
