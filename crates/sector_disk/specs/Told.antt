@@ -18,11 +18,11 @@ abbrev pub memory_sectors : MemoryDisk → ℕ
 memory_sectors disk = disk.count
 
 abbrev pub memory_faults : MemoryDisk → ℕ
-memory_faults disk = disk.faults
+memory_faults disk = disk.faults.count
 
 -- the sectors and the faults of a disk in a file
 abbrev pub file_sectors : {F : Type 0} → FileDisk F → ℕ
 file_sectors disk = disk.count
 
 abbrev pub file_faults : {F : Type 0} → FileDisk F → ℕ
-file_faults disk = disk.faults
+file_faults disk = disk.faults.count

@@ -1,9 +1,9 @@
 //! A disk in a file.
 ghost use Rattle.std.specs.Prelude.{[], ◌≡◌, ◌<◌, ◌≤◌, ◌*◌, ◌/◌, ◌^◌, IfOk, IfErr, IsErrAnd};
-ghost use Rattle.sector_disk.specs.Disk.{CountsFault};
 ghost use Rattle.sector_disk.specs.Disk.History.{begun};
 ghost use Rattle.sector_disk.specs.Files.{IsOpen, IsGrow, IsOfCreate};
 
+use crate::faults::Faults;
 use crate::{DiskFault, Sectors};
 use std::fs::{OpenFile, OpenOptions};
 use std::io::{self, Read, Seek, Write};
@@ -61,7 +61,7 @@ pub enum FileFault {
 pub struct FileDisk<F> {
     file: F,
     count: u64,
-    faults: u64,
+    faults: Faults,
     ghost fits: { count * 512 < 2 ^ 64 },
 }
 
@@ -80,21 +80,7 @@ impl<F: SectorFile + Drop> FileDisk<F> {
         FileDisk {
             file,
             count: bytes / SECTOR_BYTES,
-            faults: 0,
-        }
-    }
-
-    /// Counts the fault of an outcome, and tells it without its cause.
-    fn tells(&mut self, outcome: io::Result<()>) -> Result<(), DiskFault>
-        ensures count { self.new.count ≡ self.old.count }
-        ensures faults { CountsFault result self.old.faults self.new.faults }
-    {
-        match outcome {
-            Ok(()) => Ok(()),
-            Err(_) => {
-                self.faults = self.faults.saturating_add(1);
-                Err(DiskFault)
-            }
+            faults: Faults::none(),
         }
     }
 }
@@ -164,16 +150,16 @@ impl<F: SectorFile + Drop> Sectors for FileDisk<F> {
 
     fn read(&mut self, at: u64, into: &mut [u8; 512]) -> Result<(), DiskFault> {
         let outcome = self.file.read_at(into, at * SECTOR_BYTES);
-        self.tells(outcome)
+        self.faults.tells(outcome.map_err(|_| DiskFault))
     }
 
     fn write(&mut self, at: u64, from: &[u8; 512]) -> Result<(), DiskFault> {
         let outcome = self.file.write_at(from, at * SECTOR_BYTES);
-        self.tells(outcome)
+        self.faults.tells(outcome.map_err(|_| DiskFault))
     }
 
     fn sync(&mut self) -> Result<(), DiskFault> {
         let outcome = self.file.sync_data();
-        self.tells(outcome)
+        self.faults.tells(outcome.map_err(|_| DiskFault))
     }
 }

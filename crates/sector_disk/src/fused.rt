@@ -3,6 +3,7 @@ ghost use Rattle.std.specs.Prelude.{◌≡◌, ◌<◌, ◌↔◌, OnOk, IsErr, 
 ghost use Rattle.sector_disk.specs.Disk.{seen, Writes, Syncs, CountsFault};
 ghost use Rattle.sector_disk.specs.Faulty.{IsWhole, CountsCall};
 
+use crate::faults::Faults;
 use crate::{DiskFault, Sectors};
 use std::marker::Model;
 
@@ -12,7 +13,7 @@ pub struct FusedDisk<D: Sectors> {
     disk: D,
     passes: u64,
     calls: u64,
-    faults: u64,
+    faults: Faults,
 }
 
 impl<D: Sectors> Model for FusedDisk<D> {
@@ -24,7 +25,7 @@ impl<D: Sectors> Model for FusedDisk<D> {
       disk = fused.disk;
       passes = fused.passes;
       calls = fused.calls;
-      faults = fused.faults;
+      faults = fused.faults.count;
     } };
 }
 
@@ -43,7 +44,7 @@ impl<D: Sectors> FusedDisk<D> {
             disk,
             passes,
             calls: 0,
-            faults: 0,
+            faults: Faults::none(),
         }
     }
 
@@ -81,20 +82,6 @@ impl<D: Sectors> FusedDisk<D> {
         self.calls = self.calls.saturating_add(1);
         is_passed
     }
-
-    /// Counts the fault of an outcome, and tells it on.
-    fn tells(&mut self, outcome: Result<(), DiskFault>) -> Result<(), DiskFault>
-        ensures outcome { result ≡ outcome }
-        ensures disk { self.new.disk ≡ self.old.disk }
-        ensures passes { self.new.passes ≡ self.old.passes }
-        ensures calls { self.new.calls ≡ self.old.calls }
-        ensures faults { CountsFault outcome self.old.faults self.new.faults }
-    {
-        if outcome.is_err() {
-            self.faults = self.faults.saturating_add(1);
-        }
-        outcome
-    }
 }
 
 impl<D: Sectors> Sectors for FusedDisk<D> {
@@ -128,7 +115,7 @@ impl<D: Sectors> Sectors for FusedDisk<D> {
         } else {
             Err(DiskFault)
         };
-        self.tells(outcome)
+        self.faults.tells(outcome)
     }
 
     fn write(&mut self, at: u64, from: &[u8; 512]) -> Result<(), DiskFault>
@@ -148,7 +135,7 @@ impl<D: Sectors> Sectors for FusedDisk<D> {
         } else {
             Err(DiskFault)
         };
-        self.tells(outcome)
+        self.faults.tells(outcome)
     }
 
     fn sync(&mut self) -> Result<(), DiskFault>
@@ -167,6 +154,6 @@ impl<D: Sectors> Sectors for FusedDisk<D> {
         } else {
             Err(DiskFault)
         };
-        self.tells(outcome)
+        self.faults.tells(outcome)
     }
 }

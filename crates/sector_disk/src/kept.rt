@@ -1,23 +1,26 @@
 //! What a disk in memory keeps, and how it goes with its history.
-ghost use Rattle.std.specs.Prelude.{◌≡◌, ◌++◌, ◌∷◌, [], ◌==◌, ◌-◌, ℕ, List, OnOk, OnErr, IfOk, MatchResult, length, min, replicate, slice_index, slice_index_or, if◌then◌else◌};
-ghost use Rattle.std.specs.BTreeMap.{IsOrdered};
+ghost use Rattle.std.specs.Prelude.{◌≡◌, ◌++◌, ◌∷◌, [], ◌==◌, ◌-◌, ℕ, List, OnOk, OnErr, IfOk, MatchResult, is_some, length, min, replicate, slice_index, slice_index_or, if◌then◌else◌};
+ghost use Rattle.std.specs.HashMap.{get};
+ghost use Rattle.std.specs.List.{IsDistinct};
+ghost use Rattle.std.specs.List.Sorted.{IsStrictlySortedBy};
 ghost use Rattle.std.specs.Ordering.{nat_cmp};
+ghost use Rattle.std.specs.Set.{is_member};
 ghost use Rattle.std.proofs.Props.{props};
 ghost use Rattle.sector_disk.specs.Crash.{chosen};
 ghost use Rattle.sector_disk.specs.Disk.{seen, FailedWrite};
 ghost use Rattle.sector_disk.specs.Disk.History.{begun, wrote, synced};
-ghost use Rattle.sector_disk.specs.Kept.{sector_at, versions_or, picked_of, put_all, history_of, Agrees, HasWrites};
+ghost use Rattle.sector_disk.specs.Kept.{sector_at, versions_or, picked_of, put_at, history_of, Agrees, HasWrites};
 
 use crate::Memory;
 use std::alloc::{AllocError, Global};
-use std::collections::BTreeMap;
+use std::collections::HashMap;
 use std::snapshot::Snapshot;
 
 /// The sectors that aren't known to be zeros.
-pub type Contents = BTreeMap<u64, [u8; 512]>;
+pub type Contents = HashMap<u64, [u8; 512]>;
 
 /// Of each sector that was written since the last sync: its bytes at that sync, and then those of each write.
-pub type Versions = BTreeMap<u64, Vec<[u8; 512]>>;
+pub type Versions = HashMap<u64, Vec<[u8; 512]>>;
 
 /// The writes and syncs so far, the newest outermost. Only clauses read them: a snapshot has no bytes.
 #[derive(Drop)]
@@ -65,16 +68,19 @@ fn add_version(
     Ok(())
 }
 
-/// Puts a version into a sector: that of this number, or the last one.
+/// Puts a version into a sector: that of this number, or the last one. One without versions stays as it is.
 fn put_version(
     contents: &mut Contents,
+    unsynced: &Versions,
     at: u64,
-    versions: &[[u8; 512]],
     wanted: u32,
 ) -> Result<(), Memory>
     ensures { OnOk result ((place : ℕ) → sector_at contents.new place
-        ≡ (if place == at then picked_of (sector_at contents.old at) versions.now wanted else sector_at contents.old place)) }
+        ≡ (if place == at then picked_of (sector_at contents.old at) (versions_or [] unsynced.now at) wanted else sector_at contents.old place)) }
 {
+    let Some(versions) = unsynced.get(&at) else {
+        return Ok(());
+    };
     let last = versions.len().saturating_sub(1);
     if let Some(bytes) = versions.get((wanted as usize).min(last)) {
         contents.insert(at, *bytes)?;
@@ -82,15 +88,40 @@ fn put_version(
     Ok(())
 }
 
-/// Puts a version into each unsynced sector, by the numbers in turn, and 0 where one is missing.
-fn put_versions(contents: &mut Contents, unsynced: &Versions, choice: &[u32]) -> Result<(), Memory>
-    ensures put { OnOk result ((place : ℕ) → sector_at contents.new place
-        ≡ put_all choice.now 0 unsynced.now.entries (sector_at contents.old) place) }
-    ensures ordered { IsOrdered nat_cmp unsynced.now }
+/// The sectors that have versions, once each.
+fn listed_sectors(alloc: Global, unsynced: &Versions) -> Result<Vec<u64>, Memory>
+    ensures apart { IfOk result (λ sectors. IsDistinct ◌==◌ sectors.items) }
+    ensures whole { IfOk result (λ sectors. (place : ℕ) → is_member ◌==◌ sectors.items place ≡ is_some (get ◌==◌ unsynced.now place)) }
 {
-    for (index, (at, versions)) in unsynced.iter().enumerate() {
+    unsynced.keys().copied().collect(alloc)
+}
+
+/// The sectors that have versions, in ascending order.
+#[tactic(auto, using(crate::proofs::Picks::still_listed))]
+fn unsynced_sectors(alloc: Global, unsynced: &Versions) -> Result<Vec<u64>, Memory>
+    ensures ascend { IfOk result (λ sectors. IsStrictlySortedBy nat_cmp sectors.items) }
+    ensures whole { IfOk result (λ sectors. (place : ℕ) → is_member ◌==◌ sectors.items place ≡ is_some (get ◌==◌ unsynced.now place)) }
+{
+    let mut sectors = listed_sectors(alloc, unsynced)?;
+    sectors.sort_unstable();
+    Ok(sectors)
+}
+
+/// Puts a version into each unsynced sector, in ascending order, by the numbers in turn, and 0 where one is missing.
+fn put_versions(
+    alloc: Global,
+    contents: &mut Contents,
+    unsynced: &Versions,
+    choice: &[u32],
+) -> Result<(), Memory>
+    requires { HasWrites unsynced.now }
+    ensures { OnOk result ((place : ℕ) → sector_at contents.new place
+        ≡ put_at choice.now (versions_or [] unsynced.now) (sector_at contents.old) place) }
+{
+    let sectors = unsynced_sectors(alloc, unsynced)?;
+    for (index, at) in sectors.iter().enumerate() {
         let wanted = choice.get(index).copied().unwrap_or(0);
-        put_version(contents, *at, versions, wanted)?;
+        put_version(contents, unsynced, *at, wanted)?;
     }
     Ok(())
 }
@@ -105,7 +136,7 @@ impl Kept {
         let past = Past::Begun(Snapshot::of(&contents));
         Kept {
             contents,
-            unsynced: BTreeMap::new(alloc),
+            unsynced: HashMap::new(alloc),
             past,
         }
     }
@@ -143,19 +174,19 @@ impl Kept {
     }
 
     /// Lets go of what a crash could have left beside the bytes as they are now.
-    pub fn sync(&mut self)
+    pub fn sync(&mut self, alloc: Global)
         ensures { kept_history self.new ≡ synced (kept_history self.old) }
     {
-        self.unsynced.clear();
+        self.unsynced = HashMap::new(alloc);
         self.past = Past::Synced(Snapshot::of(&self.past));
     }
 
     /// What a crash leaves by this choice.
-    pub fn left_by(&self, choice: &[u32]) -> Result<Contents, Memory>
+    pub fn left_by(&self, alloc: Global, choice: &[u32]) -> Result<Contents, Memory>
         ensures { IfOk result (λ contents. (at : ℕ) → sector_at contents at ≡ chosen (kept_history self.now) choice.now at) }
     {
         let mut contents = self.contents.clone()?;
-        put_versions(&mut contents, &self.unsynced, choice)?;
+        put_versions(alloc, &mut contents, &self.unsynced, choice)?;
         Ok(contents)
     }
 }

@@ -2,6 +2,7 @@
 #![tactic(auto)]
 
 mod disk;
+mod faults;
 mod file;
 mod fused;
 mod kept;

@@ -1,27 +1,31 @@
 //! A disk in memory, which can be asked what a crash leaves of it.
-ghost use Rattle.std.specs.Prelude.{◌≡◌, IfOk, replicate};
+ghost use Rattle.std.specs.Prelude.{◌≡◌, ◌<◌, ◌↔◌, IfOk, IsOk, OnOk, replicate};
 ghost use Rattle.sector_disk.specs.Crash.{chosen};
+ghost use Rattle.sector_disk.specs.Disk.{seen, Syncs, CountsFault};
 ghost use Rattle.sector_disk.specs.Disk.History.{begun};
 ghost use Rattle.sector_disk.specs.Told.{memory_history, memory_sectors, memory_faults};
 
+use crate::faults::Faults;
 use crate::kept::Kept;
 use crate::{DiskFault, Memory, Sectors};
 use std::alloc::Global;
-use std::collections::BTreeMap;
+use std::collections::HashMap;
 
 /// A disk in memory. It takes memory for the sectors that were written alone, and for each write since the last
-/// sync. A write fails only where memory is refused.
+/// sync. A write fails only where memory is refused. The time of a read or a write doesn't grow with the disk, save
+/// that a write now and then makes room for the next ones.
 #[derive(Drop)]
 pub struct MemoryDisk {
     alloc: Global,
     count: u64,
-    faults: u64,
+    faults: Faults,
     kept: Kept,
 }
 
 impl MemoryDisk {
-    /// A disk of so many sectors of zeros.
+    /// A disk of so many sectors of zeros. It takes no memory for them, so none is refused.
     pub fn new(alloc: Global, count: u64) -> Result<MemoryDisk, Memory>
+        ensures made { IsOk result }
         ensures count { IfOk result (λ disk. ⟦<MemoryDisk as Sectors>⟧.sectors disk ≡ count) }
         ensures faults { IfOk result (λ disk. ⟦<MemoryDisk as Sectors>⟧.faults disk ≡ 0) }
         ensures honest { IfOk result ⟦<MemoryDisk as Sectors>⟧.honest }
@@ -30,14 +34,14 @@ impl MemoryDisk {
         Ok(MemoryDisk {
             alloc,
             count,
-            faults: 0,
-            kept: Kept::new(alloc, BTreeMap::new(alloc)),
+            faults: Faults::none(),
+            kept: Kept::new(alloc, HashMap::new(alloc)),
         })
     }
 
     /// The disk that a crash now leaves. The sectors that were written since the last sync take a number each, in
     /// ascending order: for 0, or where there is none, they have the bytes of that sync, and for j those of the
-    /// j-th write since, or of the last one if there are fewer.
+    /// j-th write since, or of the last one if there are fewer. It takes time by the sectors that were written.
     pub fn crash(&self, choice: &[u32]) -> Result<MemoryDisk, Memory>
         ensures count { IfOk result (λ disk. ⟦<MemoryDisk as Sectors>⟧.sectors disk ≡ ⟦<MemoryDisk as Sectors>⟧.sectors self.now) }
         ensures faults { IfOk result (λ disk. ⟦<MemoryDisk as Sectors>⟧.faults disk ≡ 0) }
@@ -45,11 +49,11 @@ impl MemoryDisk {
         ensures left { IfOk result (λ disk. ⟦<MemoryDisk as Sectors>⟧.history disk
             ≡ begun (chosen (⟦<MemoryDisk as Sectors>⟧.history self.now) choice.now)) }
     {
-        let contents = self.kept.left_by(choice)?;
+        let contents = self.kept.left_by(self.alloc, choice)?;
         Ok(MemoryDisk {
             alloc: self.alloc,
             count: self.count,
-            faults: 0,
+            faults: Faults::none(),
             kept: Kept::new(self.alloc, contents),
         })
     }
@@ -68,23 +72,32 @@ impl Sectors for MemoryDisk {
         self.count
     }
 
-    fn read(&mut self, at: u64, into: &mut [u8; 512]) -> Result<(), DiskFault> {
+    fn read(&mut self, at: u64, into: &mut [u8; 512]) -> Result<(), DiskFault>
+        requires { at < memory_sectors self.old }
+        ensures count { memory_sectors self.new ≡ memory_sectors self.old }
+        ensures faults { CountsFault result (memory_faults self.old) (memory_faults self.new) }
+        ensures honest { ⟦<MemoryDisk as Sectors>⟧.honest self.old ↔ ⟦<MemoryDisk as Sectors>⟧.honest self.new }
+        ensures history { ⟦<MemoryDisk as Sectors>⟧.honest self.old → memory_history self.new ≡ memory_history self.old }
+        ensures gives { ⟦<MemoryDisk as Sectors>⟧.honest self.old → OnOk result (into.new ≡ seen (memory_history self.old) at) }
+        ensures never_fails { IsOk result }
+    {
         *into = self.kept.sector(at);
         Ok(())
     }
 
     fn write(&mut self, at: u64, from: &[u8; 512]) -> Result<(), DiskFault> {
-        match self.kept.write(self.alloc, at, from) {
-            Ok(()) => Ok(()),
-            Err(_) => {
-                self.faults = self.faults.saturating_add(1);
-                Err(DiskFault)
-            }
-        }
+        let outcome = self.kept.write(self.alloc, at, from);
+        self.faults.tells(outcome.map_err(|_| DiskFault))
     }
 
-    fn sync(&mut self) -> Result<(), DiskFault> {
-        self.kept.sync();
+    fn sync(&mut self) -> Result<(), DiskFault>
+        ensures count { memory_sectors self.new ≡ memory_sectors self.old }
+        ensures faults { CountsFault result (memory_faults self.old) (memory_faults self.new) }
+        ensures honest { ⟦<MemoryDisk as Sectors>⟧.honest self.old ↔ ⟦<MemoryDisk as Sectors>⟧.honest self.new }
+        ensures syncs { ⟦<MemoryDisk as Sectors>⟧.honest self.old → Syncs result (memory_history self.old) (memory_history self.new) }
+        ensures never_fails { IsOk result }
+    {
+        self.kept.sync(self.alloc);
         Ok(())
     }
 }

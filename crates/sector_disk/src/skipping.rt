@@ -4,6 +4,7 @@ ghost use Rattle.sector_disk.specs.Disk.{seen, Writes, Syncs, CountsFault};
 ghost use Rattle.sector_disk.specs.Faulty.{IsSkipped, CountsCall, Tells};
 ghost use Rattle.sector_disk.specs.Turn.{IsTurn};
 
+use crate::faults::Faults;
 use crate::{DiskFault, Sectors};
 use std::marker::Model;
 
@@ -25,7 +26,7 @@ pub struct SkipDisk<D: Sectors> {
     fails: u64,
     done: bool,
     calls: u64,
-    faults: u64,
+    faults: Faults,
 }
 
 impl<D: Sectors> Model for SkipDisk<D> {
@@ -38,7 +39,7 @@ impl<D: Sectors> Model for SkipDisk<D> {
       fails = skipping.fails;
       done = skipping.done;
       calls = skipping.calls;
-      faults = skipping.faults;
+      faults = skipping.faults.count;
     } };
 }
 
@@ -59,7 +60,7 @@ impl<D: Sectors> SkipDisk<D> {
             fails,
             done,
             calls: 0,
-            faults: 0,
+            faults: Faults::none(),
         }
     }
 
@@ -101,21 +102,6 @@ impl<D: Sectors> SkipDisk<D> {
             (true, false) => Turn::Left,
         }
     }
-
-    /// Counts the fault of an outcome, and tells it on.
-    fn tells(&mut self, outcome: Result<(), DiskFault>) -> Result<(), DiskFault>
-        ensures outcome { result ≡ outcome }
-        ensures disk { self.new.disk ≡ self.old.disk }
-        ensures fails { self.new.fails ≡ self.old.fails }
-        ensures done { self.new.done ≡ self.old.done }
-        ensures calls { self.new.calls ≡ self.old.calls }
-        ensures faults { CountsFault outcome self.old.faults self.new.faults }
-    {
-        if outcome.is_err() {
-            self.faults = self.faults.saturating_add(1);
-        }
-        outcome
-    }
 }
 
 impl<D: Sectors> Sectors for SkipDisk<D> {
@@ -156,7 +142,7 @@ impl<D: Sectors> Sectors for SkipDisk<D> {
             }
             Turn::Left => Err(DiskFault),
         };
-        self.tells(outcome)
+        self.faults.tells(outcome)
     }
 
     fn write(&mut self, at: u64, from: &[u8; 512]) -> Result<(), DiskFault>
@@ -183,7 +169,7 @@ impl<D: Sectors> Sectors for SkipDisk<D> {
             }
             Turn::Left => Err(DiskFault),
         };
-        self.tells(outcome)
+        self.faults.tells(outcome)
     }
 
     fn sync(&mut self) -> Result<(), DiskFault>
@@ -209,6 +195,6 @@ impl<D: Sectors> Sectors for SkipDisk<D> {
             }
             Turn::Left => Err(DiskFault),
         };
-        self.tells(outcome)
+        self.faults.tells(outcome)
     }
 }
