@@ -1,12 +1,12 @@
 #!/bin/bash
-# Measures how fast tiles are cut, written and read: makes a scratch repository of links to the product's crates, outside of this one, and runs main.rt.txt there.
+# Measures how fast tiles are cut, written and read: makes a scratch repository with copies of the product's crates, outside of this one, and runs main.rt.txt there.
 set -euo pipefail
 here="$(cd "$(dirname "$0")" && pwd)"
 top="$(cd "$here/../.." && pwd)"
 work="$(mktemp -d)"
 mkdir -p "$work/crates/codec_bench/src"
 for crate in pb_wire hilbert_id geometry_commands mvt_layer mvt_write edit_text tile_cutter feature_store; do
-    ln -sfn "$top/crates/$crate" "$work/crates/$crate"
+    cp -a "$top/crates/$crate" "$work/crates/$crate"
     grep "^$crate:" "$top/crates.txt"
 done > "$work/crates.txt"
 echo "codec_bench: feature_store edit_text mvt_layer mvt_write hilbert_id anyhow" >> "$work/crates.txt"
