@@ -1,4 +1,4 @@
-use Rattle.sector_disk.proofs.Follows.{write_follows, sync_follows, follows_on}
+use Rattle.sector_disk.proofs.Moments.{write_follows, sync_follows, follows_on}
 use Rattle.sector_disk.proofs.History.{any_write, any_sync}
 use Rattle.sector_disk.proofs.laws.calls_follow.Goals as goal
 

@@ -1,4 +1,4 @@
-use Rattle.sector_disk.proofs.Follows.{goes_by}
+use Rattle.sector_disk.proofs.Moments.{goes_by}
 use Rattle.sector_disk.proofs.laws.images_go_on.Goals as goal
 
 pub returns : goal.returns
