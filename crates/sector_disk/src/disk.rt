@@ -2,23 +2,26 @@
 ghost use Rattle.std.specs.Prelude.{◌≡◌, ◌<◌, ◌↔◌, ℕ, OnOk};
 ghost use Rattle.sector_disk.specs.Disk.{History, seen, Writes, Syncs, CountsFault};
 
+use thiserror::Error;
+
 /// A call of the disk failed.
-#[derive(Clone, Copy, Debug, PartialEq, Eq)]
+#[derive(Clone, Copy, Debug, PartialEq, Eq, Error)]
+#[error("a call of the disk failed")]
 pub struct DiskFault;
 
-/// A disk of sectors of 512 bytes each, by numbers from 0 on. What is written is sure to outlive a crash once a
-/// later `sync` has succeeded.
+/// A disk of sectors of 512 bytes each, by numbers from 0 on and below `count`. What is written is sure to outlive a
+/// crash once a later `sync` has succeeded.
 pub trait Sectors {
-    // The disk keeps to its history. Nothing is promised of the bytes of one that doesn't.
+    /// The disk keeps to its history. Nothing is promised of the bytes of one that doesn't.
     ghost honest: { Self → Type 0 };
 
-    // What it was asked to write and to sync.
+    /// What it was asked to write and to sync.
     ghost history: { Self → History };
 
-    // How many sectors it has.
+    /// How many sectors it has.
     ghost sectors: { Self → ℕ };
 
-    // How many calls have failed, up to the last u64.
+    /// How many calls have failed, up to the last u64.
     ghost faults: { Self → ℕ };
 
     /// How many sectors the disk has. No call changes it.

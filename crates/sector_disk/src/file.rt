@@ -49,7 +49,7 @@ pub enum FileFault {
     /// No file can be made there; what was there isn't touched.
     #[error("the file can't be made: {0}")]
     Create(io::Error),
-    /// The file can't be made that long, or not be synced; it is removed again.
+    /// The file can't be made that long, or not be synced; it is removed, where the system lets it.
     #[error("the file can't be filled: {0}")]
     Grow(io::Error),
 }
@@ -103,7 +103,7 @@ impl<F: SectorFile + Read + Write + Seek + OpenFile + Drop> FileDisk<F> {
 
     /// Makes a file of so many sectors of zeros at a path where there is nothing, and opens it. The error is `Create`
     /// or `Grow`, and `Grow` where so many sectors are more than 2^64 - 1 bytes. Where the file can't be filled, it is
-    /// removed. That the folder keeps the file's name after a crash is for the caller to see to.
+    /// removed, if the system lets it. That the folder keeps the file's name after a crash is for the caller to see to.
     pub fn create<R: Files<File = F>>(
         files: &R,
         path: &str,
@@ -150,16 +150,16 @@ impl<F: SectorFile + Drop> Sectors for FileDisk<F> {
 
     fn read(&mut self, at: u64, into: &mut [u8; 512]) -> Result<(), DiskFault> {
         let outcome = self.file.read_at(into, at * SECTOR_BYTES);
-        self.faults.tells(outcome.map_err(|_| DiskFault))
+        self.faults.record(outcome.map_err(|_| DiskFault))
     }
 
     fn write(&mut self, at: u64, from: &[u8; 512]) -> Result<(), DiskFault> {
         let outcome = self.file.write_at(from, at * SECTOR_BYTES);
-        self.faults.tells(outcome.map_err(|_| DiskFault))
+        self.faults.record(outcome.map_err(|_| DiskFault))
     }
 
     fn sync(&mut self) -> Result<(), DiskFault> {
         let outcome = self.file.sync_data();
-        self.faults.tells(outcome.map_err(|_| DiskFault))
+        self.faults.record(outcome.map_err(|_| DiskFault))
     }
 }

@@ -67,9 +67,7 @@ impl<D: Sectors> FusedDisk<D> {
         } = self;
         disk
     }
-}
 
-impl<D: Sectors> FusedDisk<D> {
     /// Counts a call, and says whether it is passed on.
     fn takes_call(&mut self) -> bool
         ensures passed { IsTrue result ↔ IsWhole self.old }
@@ -115,7 +113,7 @@ impl<D: Sectors> Sectors for FusedDisk<D> {
         } else {
             Err(DiskFault)
         };
-        self.faults.tells(outcome)
+        self.faults.record(outcome)
     }
 
     fn write(&mut self, at: u64, from: &[u8; 512]) -> Result<(), DiskFault>
@@ -135,7 +133,7 @@ impl<D: Sectors> Sectors for FusedDisk<D> {
         } else {
             Err(DiskFault)
         };
-        self.faults.tells(outcome)
+        self.faults.record(outcome)
     }
 
     fn sync(&mut self) -> Result<(), DiskFault>
@@ -154,6 +152,6 @@ impl<D: Sectors> Sectors for FusedDisk<D> {
         } else {
             Err(DiskFault)
         };
-        self.faults.tells(outcome)
+        self.faults.record(outcome)
     }
 }

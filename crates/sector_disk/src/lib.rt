@@ -14,8 +14,8 @@ pub use disk::{DiskFault, Sectors};
 pub use file::{FileDisk, FileFault, SectorFile};
 pub use fused::FusedDisk;
 pub use laws::{
-    calls_follow, chosen_is_left, images_go_on, left_is_chosen, one_image_is_left_by_a_sync,
-    seen_is_left, settled_or_written_is_held,
+    calls_follow_law, chosen_is_left_law, held_law, images_go_on_law, left_is_chosen_law,
+    seen_is_left_law, synced_law,
 };
 pub use memory::MemoryDisk;
 pub use skipping::SkipDisk;

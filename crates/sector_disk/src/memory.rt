@@ -11,8 +11,8 @@ use crate::{DiskFault, Memory, Sectors};
 use std::alloc::Global;
 use std::collections::HashMap;
 
-/// A disk in memory. It takes memory for the sectors that were written alone, and for each write since the last
-/// sync. A write fails only where memory is refused. The time of a read or a write doesn't grow with the disk, save
+/// A disk in memory. It takes memory only for the sectors that were written, and for each write since the last
+/// sync. Where that is refused a write fails; a read and a sync never do. The time of a read or a write doesn't grow with the disk, save
 /// that a write now and then makes room for the next ones.
 #[derive(Drop)]
 pub struct MemoryDisk {
@@ -87,7 +87,7 @@ impl Sectors for MemoryDisk {
 
     fn write(&mut self, at: u64, from: &[u8; 512]) -> Result<(), DiskFault> {
         let outcome = self.kept.write(self.alloc, at, from);
-        self.faults.tells(outcome.map_err(|_| DiskFault))
+        self.faults.record(outcome.map_err(|_| DiskFault))
     }
 
     fn sync(&mut self) -> Result<(), DiskFault>

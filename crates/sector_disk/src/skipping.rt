@@ -1,7 +1,7 @@
 //! A disk of which one call fails.
 ghost use Rattle.std.specs.Prelude.{◌≡◌, ◌<◌, ◌↔◌, OnOk, IsErr, IsTrue, false};
 ghost use Rattle.sector_disk.specs.Disk.{seen, Writes, Syncs, CountsFault};
-ghost use Rattle.sector_disk.specs.Faulty.{IsSkipped, CountsCall, Tells};
+ghost use Rattle.sector_disk.specs.Faulty.{IsSkipped, CountsCall, SomeOutcome};
 ghost use Rattle.sector_disk.specs.Turn.{IsTurn};
 
 use crate::faults::Faults;
@@ -13,13 +13,13 @@ use std::marker::Model;
 pub enum Turn {
     /// It is passed on.
     Passed,
-    /// It is made, and then told as failed.
+    /// It is made, and then reported as failed.
     Made,
     /// It isn't made.
     Left,
 }
 
-/// Passes each call on to its disk but one, which fails. That call isn't made, or it is made and then told as failed.
+/// Passes each call on to its disk but one, which fails. That call isn't made, or it is made and then reported as failed.
 #[derive(Drop)]
 pub struct SkipDisk<D: Sectors> {
     disk: D,
@@ -131,8 +131,8 @@ impl<D: Sectors> Sectors for SkipDisk<D> {
         ensures skipped { IsSkipped self.old → IsErr result }
         ensures undone { IsSkipped self.old → self.old.done ≡ false → self.new.disk ≡ self.old.disk }
         ensures done { IsSkipped self.old → IsTrue self.old.done
-            → Tells (λ told. CountsFault told (D.faults self.old.disk) (D.faults self.new.disk)
-            × (D.honest self.old.disk → OnOk told (into.new ≡ seen (D.history self.old.disk) at))) }
+            → SomeOutcome (λ outcome. CountsFault outcome (D.faults self.old.disk) (D.faults self.new.disk)
+            × (D.honest self.old.disk → OnOk outcome (into.new ≡ seen (D.history self.old.disk) at))) }
     {
         let outcome = match self.takes_call() {
             Turn::Passed => self.disk.read(at, into),
@@ -142,7 +142,7 @@ impl<D: Sectors> Sectors for SkipDisk<D> {
             }
             Turn::Left => Err(DiskFault),
         };
-        self.faults.tells(outcome)
+        self.faults.record(outcome)
     }
 
     fn write(&mut self, at: u64, from: &[u8; 512]) -> Result<(), DiskFault>
@@ -158,8 +158,8 @@ impl<D: Sectors> Sectors for SkipDisk<D> {
         ensures skipped { IsSkipped self.old → IsErr result }
         ensures undone { IsSkipped self.old → self.old.done ≡ false → self.new.disk ≡ self.old.disk }
         ensures done { IsSkipped self.old → IsTrue self.old.done
-            → Tells (λ told. CountsFault told (D.faults self.old.disk) (D.faults self.new.disk)
-            × (D.honest self.old.disk → Writes told at from.now (D.history self.old.disk) (D.history self.new.disk))) }
+            → SomeOutcome (λ outcome. CountsFault outcome (D.faults self.old.disk) (D.faults self.new.disk)
+            × (D.honest self.old.disk → Writes outcome at from.now (D.history self.old.disk) (D.history self.new.disk))) }
     {
         let outcome = match self.takes_call() {
             Turn::Passed => self.disk.write(at, from),
@@ -169,7 +169,7 @@ impl<D: Sectors> Sectors for SkipDisk<D> {
             }
             Turn::Left => Err(DiskFault),
         };
-        self.faults.tells(outcome)
+        self.faults.record(outcome)
     }
 
     fn sync(&mut self) -> Result<(), DiskFault>
@@ -184,8 +184,8 @@ impl<D: Sectors> Sectors for SkipDisk<D> {
         ensures skipped { IsSkipped self.old → IsErr result }
         ensures undone { IsSkipped self.old → self.old.done ≡ false → self.new.disk ≡ self.old.disk }
         ensures done { IsSkipped self.old → IsTrue self.old.done
-            → Tells (λ told. CountsFault told (D.faults self.old.disk) (D.faults self.new.disk)
-            × (D.honest self.old.disk → Syncs told (D.history self.old.disk) (D.history self.new.disk))) }
+            → SomeOutcome (λ outcome. CountsFault outcome (D.faults self.old.disk) (D.faults self.new.disk)
+            × (D.honest self.old.disk → Syncs outcome (D.history self.old.disk) (D.history self.new.disk))) }
     {
         let outcome = match self.takes_call() {
             Turn::Passed => self.disk.sync(),
@@ -195,6 +195,6 @@ impl<D: Sectors> Sectors for SkipDisk<D> {
             }
             Turn::Left => Err(DiskFault),
         };
-        self.faults.tells(outcome)
+        self.faults.record(outcome)
     }
 }

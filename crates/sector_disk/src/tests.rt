@@ -19,7 +19,7 @@ fn first<D: Sectors>(disk: &mut D, at: u64) -> u8
     }
 }
 
-/// Fills a sector with a byte, and says whether that was told of as done.
+/// Fills a sector with a byte, and says whether that was reported as done.
 fn put<D: Sectors>(disk: &mut D, at: u64, byte: u8) -> bool
     requires { at < D.sectors disk.old }
     ensures { D.sectors disk.new ≡ D.sectors disk.old }

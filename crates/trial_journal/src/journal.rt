@@ -30,8 +30,9 @@ impl Journal {
         }
     }
 
-    /// Adds a text, of one sector for each part, and gives its number. At `Ok` each crash from then on leaves it. At
-    /// `Err` the disk may hold it or not, and the journal hasn't moved.
+    /// Adds a text, of one sector for each part, and gives its number. At `Ok` a crash leaves it, and goes on to leave it
+    /// while only appends write. At `Err` the disk may hold it or not, and the journal hasn't moved: nothing is promised
+    /// of a further append.
     pub fn append<D: Sectors>(&mut self, disk: &mut D, parts: &[[u8; 510]]) -> Result<u8, DiskFault>
         requires some { 0 < length parts.now }
         requires room { self.old.place + length parts.now ≤ D.sectors disk.old }
