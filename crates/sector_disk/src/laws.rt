@@ -1,7 +1,10 @@
 //! Laws of disks, by functions that do nothing and whose clauses are proved.
 
-ghost use Rattle.std.specs.Prelude.{◌≡◌, ◌≤◌, ◌↔◌, ◌⊎◌, ℕ, List, Result};
+ghost use Rattle.std.specs.Prelude.{◌≡◌, ◌==◌, ◌≤◌, ◌/◌, ◌↔◌, ◌⊎◌, ◌∷◌, if◌then◌else◌, ℕ, List, Result};
 ghost use Rattle.std.specs.List.{IsAmong};
+ghost use Rattle.sector_disk.specs.Calls.{Call, Fate, replayed, IsUsable, IsHonest};
+ghost use Rattle.sector_disk.specs.Calls.Call.{gave, gave_none, took, refused, flushed, not_flushed};
+ghost use Rattle.sector_disk.specs.Calls.Fate.{old_bytes, new_bytes};
 ghost use Rattle.sector_disk.specs.Crash.{settled, written_since, chosen, IsChoice};
 ghost use Rattle.sector_disk.specs.Disk.{History, Image, seen, MayHold, MayLeave, moment, LeftSince, Writes, Syncs};
 ghost use Rattle.sector_disk.specs.Disk.History.{synced};
@@ -50,4 +53,36 @@ pub fn chosen_is_left_law()
 pub fn left_is_chosen_law()
     ensures { (history : History) (image : Image) → MayLeave history image
         → (count : ℕ) → (choice : List ℕ) × IsChoice history count image choice }
+{}
+
+/// A file stays honest while its answers are what its history says. A read keeps it so where it gives what the history says,
+/// or fails, whatever was asked before. A write and a sync keep it so, done or failed, where none has failed before.
+pub fn stays_honest_law()
+    ensures read { (found : History) (fate : Fate) (calls : List Call) (offset : ℕ) (bytes : List ℕ) → IsHonest found fate calls
+        → bytes ≡ seen (replayed found fate calls) (offset / 512) → IsHonest found fate (gave offset bytes ∷ calls) }
+    ensures failed_read { (found : History) (fate : Fate) (calls : List Call) (offset : ℕ) → IsHonest found fate calls
+        → IsHonest found fate (gave_none offset ∷ calls) }
+    ensures write { (found : History) (fate : Fate) (calls : List Call) (offset : ℕ) (bytes : List ℕ) → IsHonest found fate calls
+        → IsUsable calls → IsHonest found fate (took offset bytes ∷ calls) }
+    ensures failed_write { (found : History) (fate : Fate) (calls : List Call) (offset : ℕ) (bytes : List ℕ) → IsHonest found fate calls
+        → IsUsable calls → IsHonest found fate (refused offset bytes ∷ calls) }
+    ensures sync { (found : History) (fate : Fate) (calls : List Call) → IsHonest found fate calls
+        → IsUsable calls → IsHonest found fate (flushed ∷ calls) }
+    ensures failed_sync { (found : History) (fate : Fate) (calls : List Call) → IsHonest found fate calls
+        → IsUsable calls → IsHonest found fate (not_flushed ∷ calls) }
+{}
+
+/// Until a write fails, its fate makes no difference. A file that then gives the old bytes of the sector, or the new ones,
+/// is honest by one of the two fates. By the one a read gives what it gave before, by the other the new bytes.
+pub fn fate_law()
+    ensures undecided { (found : History) (one other : Fate) (calls : List Call) → IsUsable calls
+        → (replayed found one calls ≡ replayed found other calls) × (IsHonest found one calls → IsHonest found other calls) }
+    ensures either { (found : History) (one : Fate) (calls : List Call) (offset : ℕ) (bytes given : List ℕ)
+        → IsHonest found one calls → IsUsable calls → (given ≡ seen (replayed found one calls) (offset / 512)) ⊎ (given ≡ bytes)
+        → (fate : Fate) × IsHonest found fate (gave offset given ∷ refused offset bytes ∷ calls) }
+    ensures old { (found : History) (calls : List Call) (offset : ℕ) (bytes : List ℕ) (at : ℕ)
+        → seen (replayed found old_bytes (refused offset bytes ∷ calls)) at ≡ seen (replayed found old_bytes calls) at }
+    ensures new { (found : History) (calls : List Call) (offset : ℕ) (bytes : List ℕ) (at : ℕ)
+        → seen (replayed found new_bytes (refused offset bytes ∷ calls)) at
+        ≡ (if at == offset / 512 then bytes else seen (replayed found new_bytes calls) at) }
 {}

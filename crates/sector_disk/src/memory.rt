@@ -1,7 +1,7 @@
 //! A disk in memory, which can be asked what a crash leaves of it.
-ghost use Rattle.std.specs.Prelude.{◌≡◌, ◌<◌, ◌↔◌, IfOk, IsOk, OnOk, replicate};
+ghost use Rattle.std.specs.Prelude.{◌≡◌, ◌<◌, IfOk, IsOk, OnOk, replicate};
 ghost use Rattle.sector_disk.specs.Crash.{chosen};
-ghost use Rattle.sector_disk.specs.Disk.{seen, Syncs, CountsFault};
+ghost use Rattle.sector_disk.specs.Disk.{seen, Writes, Syncs, CountsFault};
 ghost use Rattle.sector_disk.specs.Disk.History.{begun};
 ghost use Rattle.sector_disk.specs.Told.{memory_history, memory_sectors, memory_faults};
 
@@ -12,8 +12,8 @@ use std::alloc::Global;
 use std::collections::HashMap;
 
 /// A disk in memory. It takes memory only for the sectors that were written, and for each write since the last
-/// sync. Where that is refused a write fails; a read and a sync never do. The time of a read or a write doesn't grow with the disk, save
-/// that a write now and then makes room for the next ones.
+/// sync. Where that is refused a write fails; a read and a sync never do. The time of a read or a write doesn't grow
+/// with the disk, save that a write now and then makes room for the next ones.
 #[derive(Drop)]
 pub struct MemoryDisk {
     alloc: Global,
@@ -76,16 +76,24 @@ impl Sectors for MemoryDisk {
         requires { at < memory_sectors self.old }
         ensures count { memory_sectors self.new ≡ memory_sectors self.old }
         ensures faults { CountsFault result (memory_faults self.old) (memory_faults self.new) }
-        ensures honest { ⟦<MemoryDisk as Sectors>⟧.honest self.old ↔ ⟦<MemoryDisk as Sectors>⟧.honest self.new }
-        ensures history { ⟦<MemoryDisk as Sectors>⟧.honest self.old → memory_history self.new ≡ memory_history self.old }
-        ensures gives { ⟦<MemoryDisk as Sectors>⟧.honest self.old → OnOk result (into.new ≡ seen (memory_history self.old) at) }
+        ensures honest { ⟦<MemoryDisk as Sectors>⟧.honest self.new → ⟦<MemoryDisk as Sectors>⟧.honest self.old }
+        ensures stays_honest { ⟦<MemoryDisk as Sectors>⟧.honest self.new }
+        ensures history { ⟦<MemoryDisk as Sectors>⟧.honest self.new → memory_history self.new ≡ memory_history self.old }
+        ensures gives { ⟦<MemoryDisk as Sectors>⟧.honest self.new → OnOk result (into.new ≡ seen (memory_history self.old) at) }
         ensures never_fails { IsOk result }
     {
         *into = self.kept.sector(at);
         Ok(())
     }
 
-    fn write(&mut self, at: u64, from: &[u8; 512]) -> Result<(), DiskFault> {
+    fn write(&mut self, at: u64, from: &[u8; 512]) -> Result<(), DiskFault>
+        requires { at < memory_sectors self.old }
+        ensures count { memory_sectors self.new ≡ memory_sectors self.old }
+        ensures faults { CountsFault result (memory_faults self.old) (memory_faults self.new) }
+        ensures honest { ⟦<MemoryDisk as Sectors>⟧.honest self.new → ⟦<MemoryDisk as Sectors>⟧.honest self.old }
+        ensures stays_honest { ⟦<MemoryDisk as Sectors>⟧.honest self.new }
+        ensures writes { ⟦<MemoryDisk as Sectors>⟧.honest self.new → Writes result at from.now (memory_history self.old) (memory_history self.new) }
+    {
         let outcome = self.kept.write(self.alloc, at, from);
         self.faults.record(outcome.map_err(|_| DiskFault))
     }
@@ -93,8 +101,9 @@ impl Sectors for MemoryDisk {
     fn sync(&mut self) -> Result<(), DiskFault>
         ensures count { memory_sectors self.new ≡ memory_sectors self.old }
         ensures faults { CountsFault result (memory_faults self.old) (memory_faults self.new) }
-        ensures honest { ⟦<MemoryDisk as Sectors>⟧.honest self.old ↔ ⟦<MemoryDisk as Sectors>⟧.honest self.new }
-        ensures syncs { ⟦<MemoryDisk as Sectors>⟧.honest self.old → Syncs result (memory_history self.old) (memory_history self.new) }
+        ensures honest { ⟦<MemoryDisk as Sectors>⟧.honest self.new → ⟦<MemoryDisk as Sectors>⟧.honest self.old }
+        ensures stays_honest { ⟦<MemoryDisk as Sectors>⟧.honest self.new }
+        ensures syncs { ⟦<MemoryDisk as Sectors>⟧.honest self.new → Syncs result (memory_history self.old) (memory_history self.new) }
         ensures never_fails { IsOk result }
     {
         self.kept.sync(self.alloc);

@@ -1,8 +1,11 @@
-//! An append that ends after each of its calls, and then a crash.
+//! An append that ends after each of its calls, and then a crash; and appends to a file.
 ghost use Rattle.std.specs.Prelude.{◌≡◌, ◌<◌, ◌≤◌};
 
 use crate::Journal;
-use sector_disk::{FusedDisk, MemoryDisk, Sectors};
+use sector_disk::{FileDisk, FusedDisk, MemoryDisk, Sectors, Unknown, Zeros};
+use std::env::temp_dir;
+use std::fs;
+use std::hash::{BuildHasher, RandomState};
 use std::test::Fail;
 
 /// For each of three sectors, whether a crash leaves its last write.
@@ -77,5 +80,23 @@ fn crashes_after_each_call(rt: HostRuntime) -> Result<(), Fail> {
             assert_eq!(rt; standing(&mut left), texts, "{passes} calls, {choice:?}");
         }
     }
+    Ok(())
+}
+
+#[test]
+fn appends_to_a_file(rt: HostRuntime) -> Result<(), Fail> {
+    let folder = temp_dir(&rt)?;
+    let key = RandomState::new(&rt)?.hash_one(&0u8);
+    let path = format!(in rt.alloc(); "{}/trial_journal_{key}", folder.display())?;
+    let mut disk = FileDisk::create(&rt, path.as_str(), 8, Zeros)?;
+    let mut journal = Journal::new();
+    journal.append(&mut disk, &[[10; 510]])?;
+    journal.append(&mut disk, &[[20; 510], [21; 510], [22; 510]])?;
+    assert_eq!(rt; standing(&mut disk), 2);
+    let mut again = FileDisk::open(&rt, path.as_str(), Unknown)?;
+    let count = again.count();
+    assert_eq!(rt; count, 8);
+    assert_eq!(rt; standing(&mut again), 2);
+    fs::remove_file(&rt, path.as_str())?;
     Ok(())
 }

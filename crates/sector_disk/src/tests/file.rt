@@ -3,11 +3,12 @@ ghost use Rattle.std.specs.Prelude.{◌≡◌, ◌<◌};
 
 use super::{first, put};
 use crate::file::fill;
-use crate::{DiskFault, FileDisk, FileFault, SectorFile, Sectors};
+use crate::{DiskFault, FileDisk, FileFault, SectorFile, Sectors, SystemFile, Unknown, Zeros};
 use std::cell::Cell;
 use std::env::temp_dir;
 use std::fs::OpenFile;
 use std::hash::{BuildHasher, RandomState};
+use std::mem::size_of;
 use std::os::unix::fs::FileExt;
 use std::test::Fail;
 use std::{fs, io};
@@ -20,47 +21,78 @@ enum Asked {
     Sync,
 }
 
+/// What a file was asked in order, with room for one call more than any test makes.
+type Asks = [Option<Asked>; 7];
+
 /// A file that notes what it is asked. It has one sector's bytes, which it gives to each read and a write replaces.
 #[derive(Drop)]
 struct NotedFile {
-    asked: Vec<Asked>,
-    bytes: [u8; 512],
+    asked: Cell<Asks>,
+    bytes: Cell<[u8; 512]>,
     /// The call that fails, by its number from 1 on.
     fails: usize,
 }
 
 impl NotedFile {
-    fn new(rt: &HostRuntime, fails: usize) -> NotedFile {
+    fn new(fails: usize, bytes: [u8; 512]) -> NotedFile {
         NotedFile {
-            asked: Vec::new(rt.alloc()),
-            bytes: [0; 512],
+            asked: Cell::new([None; 7]),
+            bytes: Cell::new(bytes),
             fails,
         }
     }
 
-    fn note(&mut self, asked: Asked) -> io::Result<()> {
-        self.asked.push(asked)?;
-        if self.asked.len() == self.fails {
+    fn note(&self, asked: Asked) -> io::Result<()> {
+        let mut all = self.asked.get();
+        let mut number: usize = 1;
+        for place in &mut all {
+            if place.is_none() {
+                *place = Some(asked);
+                break;
+            }
+            number = number.saturating_add(1);
+        }
+        self.asked.set(all);
+        if number == self.fails {
             return Err(io::ErrorKind::Other.into());
         }
         Ok(())
     }
 }
 
-impl SectorFile for &mut NotedFile {
-    fn read_at(&mut self, into: &mut [u8; 512], offset: u64) -> io::Result<()> {
+impl FileExt for &NotedFile {
+    fn read_at(&self, buf: &mut [u8], offset: u64) -> io::Result<usize> {
         self.note(Asked::Read(offset))?;
-        *into = self.bytes;
-        Ok(())
+        let bytes = self.bytes.get();
+        let count = buf.len().min(512);
+        buf[..count].copy_from_slice(&bytes[..count]);
+        Ok(count)
     }
 
-    fn write_at(&mut self, from: &[u8; 512], offset: u64) -> io::Result<()> {
-        self.note(Asked::Write(offset, from[0]))?;
-        self.bytes = *from;
-        Ok(())
+    fn write_at(&self, buf: &[u8], offset: u64) -> io::Result<usize> {
+        self.note(Asked::Write(offset, buf.first().copied().unwrap_or(99)))?;
+        let mut bytes = self.bytes.get();
+        let count = buf.len().min(512);
+        bytes[..count].copy_from_slice(&buf[..count]);
+        self.bytes.set(bytes);
+        Ok(count)
+    }
+}
+
+impl OpenFile for &NotedFile {
+    fn metadata(&self) -> io::Result<fs::Metadata> {
+        Err(io::ErrorKind::Unsupported.into())
     }
 
-    fn sync_data(&mut self) -> io::Result<()> {
+    fn set_len(&self, _size: u64) -> io::Result<()> {
+        Err(io::ErrorKind::Unsupported.into())
+    }
+
+    fn sync_all(&self) -> io::Result<()> {
+        Err(io::ErrorKind::Unsupported.into())
+    }
+
+    fn sync_data(&self) -> io::Result<()> {
         self.note(Asked::Sync)
     }
 }
@@ -78,9 +110,8 @@ fn sector_from(start: u8) -> [u8; 512] {
 
 #[test]
 fn asks_its_file(rt: HostRuntime) -> Result<(), Fail> {
-    let mut file = NotedFile::new(&rt, 0);
-    file.bytes = sector_from(7);
-    let mut disk = FileDisk::new(&mut file, 2048);
+    let file = NotedFile::new(0, sector_from(7));
+    let mut disk = FileDisk::new(SystemFile::new(&file), 2048, Unknown);
     assert_eq!(rt; disk.count(), 4);
     let mut into = [0; 512];
     assert!(rt; disk.read(3, &mut into).is_ok());
@@ -92,14 +123,15 @@ fn asks_its_file(rt: HostRuntime) -> Result<(), Fail> {
     assert!(rt; disk.read(1, &mut into).is_ok());
     assert_eq!(rt; into, sector_from(9));
     let asked = [
-        Asked::Read(1536),
-        Asked::Write(1024, 8),
-        Asked::Write(0, 5),
-        Asked::Sync,
-        Asked::Write(1024, 9),
-        Asked::Read(512),
+        Some(Asked::Read(1536)),
+        Some(Asked::Write(1024, 8)),
+        Some(Asked::Write(0, 5)),
+        Some(Asked::Sync),
+        Some(Asked::Write(1024, 9)),
+        Some(Asked::Read(512)),
+        None,
     ];
-    assert_eq!(rt; file.asked.as_slice(), asked.as_slice());
+    assert_eq!(rt; file.asked.get(), asked);
     Ok(())
 }
 
@@ -120,17 +152,17 @@ fn tells_a_fault_once(rt: HostRuntime) -> Result<(), Fail> {
         [true, false, true],
         [true, true, false],
     ];
-    let asked = [Asked::Read(0), Asked::Write(0, 1), Asked::Sync];
+    let read = Some(Asked::Read(0));
+    let write = Some(Asked::Write(0, 1));
+    let sync = Some(Asked::Sync);
+    let asked = [read, write, sync, read, write, sync, None];
     for (fails, row) in (1..=3).zip(rows) {
-        let mut file = NotedFile::new(&rt, fails);
-        let mut disk = FileDisk::new(&mut file, 512);
+        let file = NotedFile::new(fails, [0; 512]);
+        let mut disk = FileDisk::new(SystemFile::new(&file), 512, Unknown);
         assert_eq!(rt; done(&mut disk), row);
         assert_eq!(rt; disk.count(), 1);
         assert_eq!(rt; done(&mut disk), [true; 3]);
-        assert_eq!(rt;
-            file.asked.as_slice(),
-            [asked, asked].concat(rt.alloc())?.as_slice()
-        );
+        assert_eq!(rt; file.asked.get(), asked);
     }
     Ok(())
 }
@@ -147,7 +179,7 @@ struct ShortFile {
     data_syncs: Cell<u64>,
 }
 
-impl FileExt for ShortFile {
+impl FileExt for &ShortFile {
     fn read_at(&self, buf: &mut [u8], offset: u64) -> io::Result<usize> {
         let count = buf.len().min(200);
         buf[..count].fill((offset % 251) as u8);
@@ -164,7 +196,7 @@ impl FileExt for ShortFile {
     }
 }
 
-impl OpenFile for ShortFile {
+impl OpenFile for &ShortFile {
     fn metadata(&self) -> io::Result<fs::Metadata> {
         Err(io::ErrorKind::Unsupported.into())
     }
@@ -187,18 +219,19 @@ impl OpenFile for ShortFile {
 
 #[test]
 fn asks_the_system(rt: HostRuntime) -> Result<(), Fail> {
-    let mut file = ShortFile {
+    let file = ShortFile {
         end: Cell::new(512),
         length: Cell::new(0),
         synced_length: Cell::new(0),
         data_syncs: Cell::new(0),
     };
-    fill(&file, 1536)?;
+    fill(&&file, 1536)?;
     assert_eq!(rt; file.length.get(), 1536);
     assert_eq!(rt; file.synced_length.get(), 1536);
     assert_eq!(rt; file.data_syncs.get(), 0);
+    let mut system = SystemFile::new(&file);
     let mut into = [0; 512];
-    SectorFile::read_at(&mut file, &mut into, 1024)?;
+    system.read_at(&mut into, 1024)?;
     // Reads at 1024, 1224 and 1424, which are 20 + 4 * 251, 220 + 4 * 251 and 169 + 5 * 251.
     for (at, byte) in [
         (0, 20),
@@ -210,14 +243,20 @@ fn asks_the_system(rt: HostRuntime) -> Result<(), Fail> {
     ] {
         assert_eq!(rt; into[at], byte);
     }
-    SectorFile::write_at(&mut file, &[7; 512], 512)?;
+    system.write_at(&[7; 512], 512)?;
     assert_eq!(rt; file.end.get(), 1024);
     // A sync is of the data alone, and there is none but those asked for.
     file.synced_length.set(0);
     assert_eq!(rt; file.data_syncs.get(), 0);
-    SectorFile::sync_data(&mut file)?;
+    system.sync_data()?;
     assert_eq!(rt; file.data_syncs.get(), 1);
     assert_eq!(rt; file.synced_length.get(), 0);
+    Ok(())
+}
+
+#[test]
+fn keeps_no_bytes_of_the_record(rt: HostRuntime) -> Result<(), Fail> {
+    assert_eq!(rt; size_of::<SystemFile<u64>>(), size_of::<u64>());
     Ok(())
 }
 
@@ -240,12 +279,12 @@ fn set_len(rt: &HostRuntime, path: &str, bytes: u64) -> io::Result<()> {
 #[test]
 fn keeps_what_was_synced(rt: HostRuntime) -> Result<(), Fail> {
     let path = free_path(&rt)?;
-    let mut disk = FileDisk::create(&rt, path.as_str(), 3)?;
+    let mut disk = FileDisk::create(&rt, path.as_str(), 3, Zeros)?;
     assert_eq!(rt; disk.count(), 3);
     assert_eq!(rt; first(&mut disk, 2), 0);
     assert!(rt; put(&mut disk, 2, 7));
     assert!(rt; disk.sync().is_ok());
-    let mut again = FileDisk::open(&rt, path.as_str())?;
+    let mut again = FileDisk::open(&rt, path.as_str(), Unknown)?;
     assert_eq!(rt; again.count(), 3);
     assert_eq!(rt; first(&mut again, 1), 0);
     assert_eq!(rt; first(&mut again, 2), 7);
@@ -265,7 +304,10 @@ fn counts_whole_sectors(rt: HostRuntime) -> Result<(), Fail> {
     fs::write(&rt, path.as_str(), "")?;
     for (bytes, sectors) in [(0, 0), (511, 0), (512, 1), (1600, 3)] {
         set_len(&rt, path.as_str(), bytes)?;
-        assert_eq!(rt; FileDisk::open(&rt, path.as_str())?.count(), sectors);
+        assert_eq!(rt;
+            FileDisk::open(&rt, path.as_str(), Unknown)?.count(),
+            sectors
+        );
     }
     fs::remove_file(&rt, path.as_str())?;
     Ok(())
@@ -293,19 +335,19 @@ fn name(rt: &HostRuntime, fault: Option<FileFault>) -> Result<&'static str, Fail
 fn names_its_faults(rt: HostRuntime) -> Result<(), Fail> {
     let path = free_path(&rt)?;
     let path = path.as_str();
-    let opened = FileDisk::open(&rt, path).err();
+    let opened = FileDisk::open(&rt, path, Unknown).err();
     assert_eq!(rt; name(&rt, opened)?, "Open");
     // No system has a file of 2^63 bytes, and 2^64 aren't a u64.
     for count in [1 << 54, 1 << 55] {
-        let made = FileDisk::create(&rt, path, count).err();
+        let made = FileDisk::create(&rt, path, count, Zeros).err();
         assert_eq!(rt; name(&rt, made)?, "Grow");
         assert!(rt; !fs::exists(&rt, path)?);
     }
     let inside = format!(in rt.alloc(); "{path}/disk")?;
-    let made = FileDisk::create(&rt, inside.as_str(), 3).err();
+    let made = FileDisk::create(&rt, inside.as_str(), 3, Zeros).err();
     assert_eq!(rt; name(&rt, made)?, "Create");
     fs::write(&rt, path, "as before")?;
-    let made = FileDisk::create(&rt, path, 3).err();
+    let made = FileDisk::create(&rt, path, 3, Zeros).err();
     assert_eq!(rt; name(&rt, made)?, "Create");
     assert_eq!(rt; fs::read(&rt, path)?.as_slice(), b"as before".as_slice());
     fs::remove_file(&rt, path)?;

@@ -5,7 +5,7 @@ use Rattle.trial_journal.proofs.bodies.write_bodies.Goals as goal
 pub loop-part-init : goal.loop-part-init
 loop-part-init g c = record {
   count = refl;
-  honest = (λ h. h, λ h. h);
+  honest = λ honest. honest;
   faults = refl;
   leaves = λ honest. staged_start _ _ _ _;
   within = λ honest at left may. inl may;
@@ -15,7 +15,9 @@ loop-part-init g c = record {
 pub returns-in_err-write-clause-leaves : goal.returns-in_err-write-clause-leaves
 returns-in_err-write-clause-leaves g c honest =
     let inv = c.loop-part.invariant in
-    body_leaves _ _ _ _ c.loop-part.part (omega arith) (omega arith) _ c.part_sector-sector.ensures _ _ _ (c.write.ensures.writes (inv.honest.0 honest)) (inv.within honest) (inv.leaves honest)
+    let before = c.write.ensures.honest honest in
+    body_leaves _ _ _ _ c.loop-part.part (omega arith) (omega arith) _ c.part_sector-sector.ensures _ _ _ (c.write.ensures.writes honest)
+    (inv.within before) (inv.leaves before)
 
 pub loop-part-preserved : goal.loop-part-preserved
 loop-part-preserved g c =
@@ -23,9 +25,11 @@ loop-part-preserved g c =
     let ok = c.in_ok-write.ensures in
     record {
       count = ok.count ∙ inv.count;
-      honest = (λ h. ok.honest.0 (inv.honest.0 h), λ h. inv.honest.1 (ok.honest.1 h));
+      honest = λ honest. inv.honest (ok.honest honest);
       faults = ok.faults ∙ inv.faults;
-      leaves = λ honest. body_leaves _ _ _ _ c.loop-part.part (omega arith) (omega arith) _ c.part_sector-sector.ensures _ _ _ (c.write.ensures.writes (inv.honest.0 honest)) (inv.within honest) (inv.leaves honest);
-      within = λ honest. body_within _ _ _ _ c.loop-part.part (omega arith) (omega arith) _ c.part_sector-sector.ensures _ _ _ (c.write.ensures.writes (inv.honest.0 honest)) (inv.within honest);
-      bodies = λ honest. body_seen _ _ _ c.loop-part.part _ _ _ c.part_sector-sector.ensures (ok.writes (inv.honest.0 honest)) (inv.bodies honest);
+      leaves = λ honest. body_leaves _ _ _ _ c.loop-part.part (omega arith) (omega arith) _ c.part_sector-sector.ensures _ _ _
+          (c.write.ensures.writes honest) (inv.within (ok.honest honest)) (inv.leaves (ok.honest honest));
+      within = λ honest. body_within _ _ _ _ c.loop-part.part (omega arith) (omega arith) _ c.part_sector-sector.ensures _ _ _
+          (c.write.ensures.writes honest) (inv.within (ok.honest honest));
+      bodies = λ honest. body_seen _ _ _ c.loop-part.part _ _ _ c.part_sector-sector.ensures (ok.writes honest) (inv.bodies (ok.honest honest));
     }

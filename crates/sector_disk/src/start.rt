@@ -1,0 +1,40 @@
+//! What a file is supposed to have as it is opened.
+ghost use Rattle.std.specs.Prelude.{[], replicate};
+ghost use Rattle.sector_disk.specs.Calls.{Fate};
+ghost use Rattle.sector_disk.specs.Calls.Fate.{old_bytes};
+ghost use Rattle.sector_disk.specs.Disk.{History};
+ghost use Rattle.sector_disk.specs.Disk.History.{begun};
+
+/// What a file had as it was opened, and what becomes of a write that fails. No code can read either, and a function over
+/// `S: Start` is proved for all that they may be. Disks of one `S` are supposed to have had the same, so each file is
+/// opened with a start of its own.
+pub trait Start: Drop {
+    /// The history that the file had. After a program was killed it may end in writes that no sync has settled: a read
+    /// gives them, and a crash may still take them away.
+    ghost found: { History };
+
+    /// Which bytes a read gives of the sector of a write that failed. That is named beforehand, because a read changes no
+    /// history; and once, because a disk is honest no longer when a further write is asked for.
+    ghost fate: { Fate };
+}
+
+/// For a program to name, over code that is proved for any `S: Start`. At this type itself the clauses on contents say
+/// nothing of a file once one of its sectors was read.
+#[derive(Drop)]
+pub struct Unknown;
+
+impl Start for Unknown {
+    ghost found = { begun (λ _. []) };
+
+    ghost fate = { old_bytes };
+}
+
+/// Zeros in each sector, as in a file that was just made. After a write that fails, a read gives what it gave before.
+#[derive(Drop)]
+pub struct Zeros;
+
+impl Start for Zeros {
+    ghost found = { begun (λ _. replicate 512 0) };
+
+    ghost fate = { old_bytes };
+}
