@@ -12,7 +12,13 @@ use Rattle.pm_archive.specs.Reading.{OpeningHas}
 use Rattle.pm_archive.specs.Verified.{IsSound, VerifyingHas}
 use Rattle.archive_commands.specs.Faults.{FirstFault, of_opening, of_archive}
 
--- a fault outside of the bytes that is no failed read is want of memory
+abbrev judged : ArchiveFault → Result Report ArchiveFault
+judged d = Err d
+
+pub same_fault : (c d : ArchiveFault) → judged c ≡ judged d → c ≡ d
+same_fault c d e = cc
+
+-- a fault outside of the bytes that is no failed read is that memory ran out
 pub memory_from_outside : (d : ArchiveFault) → IsOutside d → (d ≡ Read → ⊥) → d ≡ Memory
 memory_from_outside Read h unread = absurd (unread refl)
 memory_from_outside Memory h unread = refl
@@ -23,7 +29,7 @@ UnlessOutside-weaker P Q Read f h = tt
 UnlessOutside-weaker P Q Memory f h = tt
 UnlessOutside-weaker P Q d f h = f d h
 
--- the opening of a sound archive fails only by want of memory
+-- the opening of a sound archive fails only where memory runs out
 pub only_at_opening : (bytes : List ℕ) (d : ArchiveFault) → ((h : Header) (root : List Entry) → HasSections bytes h → IsDirectory (section_bytes h.root bytes) root → IsOutside d)
     → (d ≡ Read → ⊥) → (report : Report) → IsSound bytes report → d ≡ Memory
 only_at_opening bytes d only unread report sound =

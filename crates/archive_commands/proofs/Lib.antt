@@ -1,2 +1,3 @@
 mod Judged
+mod PutLaws
 mod Written

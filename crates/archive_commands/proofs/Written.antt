@@ -1,13 +1,13 @@
 -- What several writes leave, and the faults of a header.
-use Rattle.std.proofs.Common.{◌≡◌, ◌≢◌, ◌↔◌, ℕ, ◌<◌, ◌≤◌, List, length, take, slice_index, ◌++◌, Option, Some, None, Result, Err, refl, ap, ◌∙◌, append_assoc}
+use Rattle.std.proofs.Common.{◌≡◌, ◌≢◌, ◌↔◌, ℕ, ◌<◌, ◌≤◌, List, length, take, slice_index, ◌++◌, Option, Some, None, Result, Err, ap, ◌∙◌, append_assoc}
 use Rattle.std.specs.Io.KnownBytes.{Appends}
 use Rattle.pm_header.specs.declared.header.Header.{Header}
 use Rattle.pm_header.specs.declared.fault.HeaderFault.{HeaderFault}
 use Rattle.pm_header.specs.declared.fault.HeaderFault.TheVariants.{Short, Magic, Version}
-use Rattle.pm_header.specs.Layout.{IsHeader, magic}
+use Rattle.pm_header.specs.Layout.{magic}
 use Rattle.archive_commands.specs.declared.showing.ShowFault.{ShowFault}
 use Rattle.archive_commands.specs.declared.showing.ShowFault.TheVariants as faults
-use Rattle.archive_commands.specs.Shown.{HeaderHas, IsMetadataLine, IsShown, header_lines}
+use Rattle.archive_commands.specs.Shown.{HeaderHas}
 
 -- one write behind another
 pub Appends-both : (old mid new : Option (List ℕ)) (xs ys : List ℕ) → Appends old mid xs → Appends mid new ys → Appends old new (xs ++ ys)
@@ -15,18 +15,6 @@ Appends-both None mid new xs ys h k = tt
 Appends-both (Some o) None new xs ys h k = absurd h
 Appends-both (Some o) (Some m) None xs ys h k = absurd k
 Appends-both (Some o) (Some m) (Some n) xs ys h k = k ∙ (ap (λ s. s ++ ys) h ∙ append_assoc o xs ys)
-
-pub three_writes : (a b c d : Option (List ℕ)) (xs ys zs : List ℕ) → Appends a b xs → Appends b c ys → Appends c d zs → Appends a d (xs ++ ys ++ zs)
-three_writes a b c d xs ys zs h k l = Appends-both a c d (xs ++ ys) zs (Appends-both a b c xs ys h k) l
-
--- the lines of the header, and then that of the metadata
-pub shown_by : (bytes : List ℕ) (h : Header) (old mid new : Option (List ℕ)) → IsHeader bytes h → Appends old mid (header_lines h)
-    → ((line : List ℕ) × IsMetadataLine bytes h line × Appends mid new line) → (text : List ℕ) × IsShown bytes text × Appends old new text
-shown_by bytes h old mid new begins front back = (
-  header_lines h ++ back.0,
-  record { header = h; begins = begins; line = back.0; metadata = back.1; lines = refl },
-  Appends-both old mid new (header_lines h) back.0 front back.2,
-)
 
 -- the fault of the header is the one that is told
 abbrev read : HeaderFault → Result Header HeaderFault

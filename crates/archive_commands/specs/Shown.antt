@@ -3,6 +3,10 @@ use Rattle.std.specs.Prelude.{◌≡◌, ◌≢◌, ℕ, ◌<◌, ◌≤◌, Lis
 use Rattle.pm_header.specs.declared.header.Header.{Header}
 use Rattle.pm_header.specs.declared.fault.HeaderFault.{HeaderFault}
 use Rattle.pm_header.specs.declared.fault.HeaderFault.TheVariants.{Short, Magic, Version}
+use Rattle.archive_commands.specs.declared.showing.ShowFault.{ShowFault}
+use Rattle.archive_commands.specs.declared.showing.Metadata.{Metadata}
+use Rattle.archive_commands.specs.declared.showing.Metadata.TheVariants.{Compressed, Text, Unreadable}
+use Rattle.archive_commands.specs.declared.showing.ShowFault.TheVariants as show_faults
 use Rattle.pm_header.specs.Layout.{IsHeader, magic}
 use Rattle.pm_archive.specs.Sections.{end_of, section_bytes}
 
@@ -12,39 +16,41 @@ HeaderHas bytes Short = length bytes < 127
 HeaderHas bytes Magic = (127 ≤ length bytes) × (take 7 bytes ≢ magic)
 HeaderHas bytes (Version n) = (127 ≤ length bytes) × (take 7 bytes ≡ magic) × (slice_index bytes 7 ≡ n) × (n ≢ 3)
 
+-- holds where what is shown couldn't be written
+abbrev pub IfWrite : Type 0 → ShowFault → Type 0
+IfWrite P (show_faults.Header _) = Unit {0}
+IfWrite P (show_faults.Write _) = P
+
 -- ---- the lines of a header
 
-unfoldable pub kind_lines : Header → List ℕ
-kind_lines h =
+unfoldable pub header_lines : Header → List ℕ
+header_lines h =
     codes "version: 3\ntile type: " ++ (decimal h.kind
     ++ (codes "\ntile compression: " ++ (decimal h.compression
-    ++ (codes "\ninternal compression: " ++ (decimal h.internal ++ codes "\n")))))
-
-unfoldable pub zoom_lines : Header → List ℕ
-zoom_lines h =
-    codes "clustered: " ++ (decimal h.clustered
+    ++ (codes "\ninternal compression: " ++ (decimal h.internal
+    ++ (codes "\nclustered: " ++ (decimal h.clustered
     ++ (codes "\nzooms: " ++ (decimal h.min_zoom
-    ++ (codes " to " ++ (decimal h.max_zoom ++ codes "\n")))))
-
-unfoldable pub count_lines : Header → List ℕ
-count_lines h =
-    codes "addressed tiles: " ++ (decimal h.addressed
+    ++ (codes " to " ++ (decimal h.max_zoom
+    ++ (codes "\naddressed tiles: " ++ (decimal h.addressed
     ++ (codes "\ntile entries: " ++ (decimal h.entries
-    ++ (codes "\ntile contents: " ++ (decimal h.contents ++ codes "\n")))))
-
-abbrev pub header_lines : Header → List ℕ
-header_lines h = kind_lines h ++ zoom_lines h ++ count_lines h
+    ++ (codes "\ntile contents: " ++ (decimal h.contents ++ codes "\n")))))))))))))))))
 
 -- ---- the line of the metadata
 
 unfoldable pub compressed_line : ℕ → List ℕ
-compressed_line n = codes "metadata: compressed " ++ decimal n ++ codes "\n"
+compressed_line n = codes "metadata: compressed " ++ (decimal n ++ codes "\n")
 
 unfoldable pub text_line : List ℕ → List ℕ
-text_line text = codes "metadata: " ++ text ++ codes "\n"
+text_line text = codes "metadata: " ++ (text ++ codes "\n")
 
 unfoldable pub unreadable_line : List ℕ
 unreadable_line = codes "metadata: unreadable\n"
+
+-- the line for what is to be told of them
+abbrev pub metadata_line : Metadata → List ℕ
+metadata_line (Compressed n) = compressed_line n
+metadata_line (Text text) = text_line text.now
+metadata_line Unreadable = unreadable_line
 
 -- the metadata lie inside the file, and are a text
 abbrev pub HasText : List ℕ → Header → Type 0

@@ -1,11 +1,13 @@
 //! What an archive says of itself.
 
-ghost use Rattle.std.specs.Prelude.{◌≡◌, ◌≢◌, ℕ, ◌≤◌, ◌<◌, ◌↔◌, List, length, take, OnOk, IfOk, IfErr, MatchOption, Option, slice_index};
+ghost use Rattle.std.specs.Prelude.{◌≡◌, ◌≢◌, ℕ, ◌≤◌, ◌<◌, ◌↔◌, List, ◌++◌, length, take, OnOk, IfOk, IfErr, MatchOption, Option, slice_index};
 ghost use Rattle.std.specs.Io.KnownBytes.{Appends};
 ghost use Rattle.pm_header.specs.Layout.{IsHeader};
 ghost use Rattle.pm_archive.specs.Sections.{end_of, section_bytes};
-ghost use Rattle.archive_commands.specs.Shown.{HeaderHas, HasText, IsMetadataLine, IsShown, kind_lines, zoom_lines, count_lines, header_lines};
+ghost use Rattle.archive_commands.specs.Shown.{HeaderHas, HasText, IfWrite, IsMetadataLine, IsShown, header_lines, metadata_line};
+ghost use Rattle.archive_commands.specs.Put.{AppendsPart, Puts};
 
+use crate::putting::{Piece, put_pieces};
 use pm_header::{Header, HeaderFault, Part};
 use std::io::Write;
 use std::{fmt, io, str};
@@ -51,79 +53,91 @@ fn metadata_text<'a>(archive: &'a [u8], header: &Header) -> Option<&'a str>
     str::from_utf8(bytes).ok()
 }
 
-/// Writes what the tiles and the directories are.
-#[tactic(auto, unfolding(crate::specs::Shown::kind_lines))]
-fn write_kinds<W: Write>(header: &Header, out: &mut W) -> io::Result<()>
-    ensures { OnOk result (Appends (W.contents out.old) (W.contents out.new) (kind_lines header.now)) }
-{
-    let Header {
-        kind,
-        compression,
-        internal,
-        ..
-    } = *header;
-    write!(
-        out,
-        "version: 3\ntile type: {kind}\ntile compression: {compression}\ninternal compression: {internal}\n"
-    )
-}
-
-/// Writes how the tiles lie, and their zooms.
-#[tactic(auto, unfolding(crate::specs::Shown::zoom_lines))]
-fn write_zooms<W: Write>(header: &Header, out: &mut W) -> io::Result<()>
-    ensures { OnOk result (Appends (W.contents out.old) (W.contents out.new) (zoom_lines header.now)) }
-{
-    let Header {
-        clustered,
-        min_zoom,
-        max_zoom,
-        ..
-    } = *header;
-    write!(
-        out,
-        "clustered: {clustered}\nzooms: {min_zoom} to {max_zoom}\n"
-    )
-}
-
-/// Writes the counts.
-#[tactic(auto, unfolding(crate::specs::Shown::count_lines))]
-fn write_counts<W: Write>(header: &Header, out: &mut W) -> io::Result<()>
-    ensures { OnOk result (Appends (W.contents out.old) (W.contents out.new) (count_lines header.now)) }
-{
-    let Header {
-        addressed,
-        entries,
-        contents,
-        ..
-    } = *header;
-    write!(
-        out,
-        "addressed tiles: {addressed}\ntile entries: {entries}\ntile contents: {contents}\n"
-    )
-}
-
 /// Writes what a header says.
-#[tactic(auto, using(crate::proofs::Written::three_writes))]
+#[tactic(auto, unfolding(crate::specs::Shown::header_lines))]
 fn write_header<W: Write>(header: &Header, out: &mut W) -> io::Result<()>
-    ensures { OnOk result (Appends (W.contents out.old) (W.contents out.new) (header_lines header.now)) }
+    ensures { Puts (W.contents out.old) (W.contents out.new) result (header_lines header.now) }
 {
-    write_kinds(header, out)?;
-    write_zooms(header, out)?;
-    write_counts(header, out)
+    let pieces = [
+        Piece::Text("version: 3\ntile type: "),
+        Piece::Number(u64::from(header.kind)),
+        Piece::Text("\ntile compression: "),
+        Piece::Number(u64::from(header.compression)),
+        Piece::Text("\ninternal compression: "),
+        Piece::Number(u64::from(header.internal)),
+        Piece::Text("\nclustered: "),
+        Piece::Number(u64::from(header.clustered)),
+        Piece::Text("\nzooms: "),
+        Piece::Number(u64::from(header.min_zoom)),
+        Piece::Text(" to "),
+        Piece::Number(u64::from(header.max_zoom)),
+        Piece::Text("\naddressed tiles: "),
+        Piece::Number(header.addressed),
+        Piece::Text("\ntile entries: "),
+        Piece::Number(header.entries),
+        Piece::Text("\ntile contents: "),
+        Piece::Number(header.contents),
+        Piece::Text("\n"),
+    ];
+    put_pieces(out, &pieces)
+}
+
+/// What is told of the metadata.
+#[derive(Clone, Copy)]
+enum Metadata<'a> {
+    /// They are compressed, by this number of the header.
+    Compressed(u8),
+    Text(&'a str),
+    /// They lie outside of the file, or are no text.
+    Unreadable,
+}
+
+/// What is to be told of the metadata.
+fn metadata_of<'a>(archive: &'a [u8], header: &Header) -> Metadata<'a>
+    ensures { IsMetadataLine archive.now header.now (metadata_line result) }
+{
+    if header.internal >= 2 {
+        return Metadata::Compressed(header.internal);
+    }
+    match metadata_text(archive, header) {
+        Some(text) => Metadata::Text(text),
+        None => Metadata::Unreadable,
+    }
 }
 
 /// Writes the line of the metadata.
 #[tactic(auto, unfolding(crate::specs::Shown::compressed_line, crate::specs::Shown::text_line, crate::specs::Shown::unreadable_line))]
-fn write_metadata<W: Write>(archive: &[u8], header: &Header, out: &mut W) -> io::Result<()>
-    ensures { OnOk result ((line : List ℕ) × IsMetadataLine archive.now header.now line × Appends (W.contents out.old) (W.contents out.new) line) }
+fn write_metadata<W: Write>(metadata: Metadata<'_>, out: &mut W) -> io::Result<()>
+    ensures { Puts (W.contents out.old) (W.contents out.new) result (metadata_line metadata.entry) }
 {
-    let internal = header.internal;
-    if internal >= 2 {
-        return writeln!(out, "metadata: compressed {internal}");
+    match metadata {
+        Metadata::Compressed(internal) => put_pieces(
+            out,
+            &[
+                Piece::Text("metadata: compressed "),
+                Piece::Number(u64::from(internal)),
+                Piece::Text("\n"),
+            ],
+        ),
+        Metadata::Text(text) => put_pieces(
+            out,
+            &[
+                Piece::Text("metadata: "),
+                Piece::Text(text),
+                Piece::Text("\n"),
+            ],
+        ),
+        Metadata::Unreadable => put_pieces(out, &[Piece::Text("metadata: unreadable\n")]),
     }
-    match metadata_text(archive, header) {
-        Some(text) => writeln!(out, "metadata: {text}"),
-        None => writeln!(out, "metadata: unreadable"),
+}
+
+/// Writes what a header says, and the line of the metadata.
+fn write_shown<W: Write>(header: &Header, metadata: Metadata<'_>, out: &mut W) -> io::Result<()>
+    ensures { Puts (W.contents out.old) (W.contents out.new) result (header_lines header.now ++ metadata_line metadata.entry) }
+{
+    match write_header(header, out) {
+        Ok(()) => write_metadata(metadata, out),
+        Err(error) => Err(error),
     }
 }
 
@@ -131,20 +145,21 @@ fn write_metadata<W: Write>(archive: &[u8], header: &Header, out: &mut W) -> io:
 ///
 /// # Errors
 ///
-/// `Header` where the bytes begin with no header; nothing is written then. `Write` where the writer fails.
+/// `Header` where the bytes begin with no header; nothing is written then. `Write` where the writer fails: then what was
+/// written is a first part of what is shown, and not all of it.
 pub fn show<W: Write>(archive: &[u8], out: &mut W) -> Result<(), ShowFault>
     ensures shown { OnOk result ((text : List ℕ) × IsShown archive.now text × Appends (W.contents out.old) (W.contents out.new) text) }
     ensures header { (fault : HeaderFault) → (result ≡ Err (ShowFault.Header fault)) ↔ HeaderHas archive.now fault }
+    ensures part { IfErr result (λ fault. IfWrite ((text : List ℕ) × IsShown archive.now text
+        × AppendsPart (W.contents out.old) (W.contents out.new) text) fault) }
     ensures nothing { (fault : HeaderFault) → result ≡ Err (ShowFault.Header fault) → out.new ≡ out.old }
 {
     let header = match Header::from_bytes(archive) {
         Ok(header) => header,
         Err(fault) => return Err(ShowFault::Header(fault)),
     };
-    if let Err(error) = write_header(&header, out) {
-        return Err(ShowFault::Write(error));
-    }
-    match write_metadata(archive, &header, out) {
+    let metadata = metadata_of(archive, &header);
+    match write_shown(&header, metadata, out) {
         Ok(()) => Ok(()),
         Err(error) => Err(ShowFault::Write(error)),
     }

@@ -2,6 +2,7 @@ use super::*;
 use pm_archive::{ArchiveFault, Count, Section, is_metadata};
 use pm_build::{BuildFault, are_tiles, build};
 use std::alloc::Global;
+use std::io::{self, ErrorKind, Write};
 use std::test::Fail;
 
 /// An archive of three tiles with one content, which is a vector tile with one point.
@@ -128,6 +129,55 @@ fn archives_that_are_not_shown(rt: HostRuntime) -> Result<(), Fail> {
     let fault = show(&SOUND, &mut writer).err().ok_or("a fault")?;
     let said = fault.to_string(alloc)?;
     assert_eq!(rt; said.as_str(), "Write");
+    Ok(())
+}
+
+/// A writer that takes up to five bytes a write, is interrupted at each third, and fails once no writes are left.
+#[derive(Drop)]
+struct Slow {
+    held: Vec<u8>,
+    writes_left: u8,
+    has_failed: bool,
+}
+
+impl Write for Slow {
+    fn write(&mut self, buf: &[u8]) -> io::Result<usize> {
+        if self.writes_left == 0 {
+            self.has_failed = true;
+            return Err(io::Error::from(ErrorKind::BrokenPipe));
+        }
+        self.writes_left -= 1;
+        if self.writes_left % 3 == 0 {
+            return Err(io::Error::from(ErrorKind::Interrupted));
+        }
+        let part = &buf[..buf.len().min(5)];
+        self.held.extend_from_slice(part)?;
+        Ok(part.len())
+    }
+
+    fn flush(&mut self) -> io::Result<()> {
+        Ok(())
+    }
+}
+
+#[test]
+fn writes_that_fail(rt: HostRuntime) -> Result<(), Fail> {
+    let alloc = rt.alloc();
+    let whole = shown(alloc, &SOUND)?;
+    let mut is_last_shown = false;
+    for writes_left in 0..=100 {
+        let mut out = Slow {
+            held: Vec::new(alloc),
+            writes_left,
+            has_failed: false,
+        };
+        let is_shown = show(&SOUND, &mut out).is_ok();
+        assert_eq!(rt; is_shown, !out.has_failed, "{writes_left}");
+        assert!(rt; whole.starts_with(&out.held), "{writes_left}");
+        assert_eq!(rt; out.held.len() == whole.len(), is_shown, "{writes_left}");
+        is_last_shown = is_shown;
+    }
+    assert!(rt; is_last_shown);
     Ok(())
 }
 

@@ -1,6 +1,8 @@
 //! Whether an archive is sound.
 
 ghost use Rattle.std.specs.Prelude.{◌≡◌, ◌≢◌, IfOk, IfErr, MatchResult};
+ghost use Rattle.pm_header.specs.declared.header.Header.{Header};
+ghost use Rattle.pm_archive.specs.Sections.{HasSections};
 ghost use Rattle.pm_archive.specs.declared.report.Report.{Report};
 ghost use Rattle.pm_archive.specs.Verified.{IsSound};
 ghost use Rattle.pm_archive.specs.Answers.{UnlessOutside};
@@ -13,16 +15,17 @@ use std::alloc::Global;
 ///
 /// # Errors
 ///
-/// The first fault of the bytes, or `Memory`.
+/// The first fault of the bytes, or `Memory`: that only where the bytes have sections.
 pub fn verify(alloc: Global, archive: &[u8]) -> Result<Report, ArchiveFault>
     ensures found { IfOk result (IsSound archive.now) }
     ensures only { (report : Report) → IsSound archive.now report → MatchResult result (λ told. told ≡ report) (λ fault. fault ≡ ArchiveFault.Memory) }
     ensures fault { IfErr result (UnlessOutside (FirstFault archive.now)) }
     ensures read { result ≢ Err ArchiveFault.Read }
+    ensures memory { result ≡ Err ArchiveFault.Memory → (h : Header) × HasSections archive.now h }
 {
     let mut archive = match Archive::open(alloc, archive) {
         Ok(archive) => archive,
-        Err(fault) => return Err(fault),
+        Err((_, fault)) => return Err(fault),
     };
     archive.verify(alloc)
 }

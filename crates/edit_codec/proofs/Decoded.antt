@@ -8,7 +8,7 @@ use Rattle.edit_text.specs.Spelled.{spelled}
 use Rattle.edit_text.proofs.TextLengths.{length-eight_bytes, length-spelled}
 use Rattle.edit_codec.specs.declared.fault.TextFault.{TextFault}
 use Rattle.edit_codec.specs.declared.fault.TextFault.TheVariants.{Cut, Bad, Memory}
-use Rattle.edit_codec.specs.Edits.{IsEdit}
+use Rattle.edit_text.specs.Types.{IsEdit}
 use Rattle.edit_codec.specs.Decoding.{BeginsWith, IsCut}
 use Rattle.edit_codec.specs.Reading.{Part, cut_as_bad, edit_at, decode_at}
 use Rattle.edit_codec.proofs.Codecs.{AreBytes, bytes_before}
@@ -152,3 +152,13 @@ err_bad bytes Memory told e = absurd (cc)
 pub told_either : {T : Type 0} (r : Result T TextFault) (fault : TextFault) → r ≡ Err fault → (fault ≡ Cut) ⊎ (fault ≡ Memory) → (r ≡ Err Cut) ⊎ (r ≡ Err Memory)
 told_either r fault e (inl is) = inl (e ∙ ap (λ f. Err f) is)
 told_either r fault e (inr is) = inr (e ∙ ap (λ f. Err f) is)
+
+-- ---- one edit
+
+-- where the same bytes begin with the texts of two edits, these are the same edit, and the same bytes follow
+pub one_edit : (e f : EditData) (behind after : List ℕ) → IsEdit e → IsEdit f → spelled e ++ behind ≡ spelled f ++ after → (e ≡ f) × (behind ≡ after)
+one_edit e f behind after is other same =
+    let one = codec_edit.reads e behind (table_from e is) in
+    let two = codec_edit.reads f after (table_from f other) in
+    let pair : ◌≡◌ {A = EditData × List ℕ} (e, behind) (f, after) = cc in
+    (ap (λ q. q.0) pair, ap (λ q. q.1) pair)

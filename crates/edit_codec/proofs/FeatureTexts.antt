@@ -3,7 +3,7 @@ use Rattle.std.proofs.Common.{◌≡◌, ℕ, List, [], ◌∷◌, ◌++◌, Res
 use Rattle.std.specs.Str.{IsUtf8}
 use Rattle.edit_text.specs.Data.{FeatureData}
 use Rattle.edit_text.specs.Spelled.{spelled_name, spelled_geometry, spelled_tags, spelled_feature}
-use Rattle.edit_codec.specs.Edits.{GeometryFitsTypes, TagFitsTypes, FeatureFitsTypes}
+use Rattle.edit_text.specs.Types.{LiesInWorld, TagFitsTypes, FeatureFitsTypes}
 
 pub feature_put : (f : FeatureData) (front named zoomed shaped out : List ℕ)
     → named ≡ front ++ spelled_name f.layer → zoomed ≡ named ++ (f.minzoom ∷ f.maxzoom ∷ []) → shaped ≡ zoomed ++ spelled_geometry f.geometry → out ≡ shaped ++ spelled_tags f.tags
@@ -15,6 +15,6 @@ feature_put f front named zoomed shaped out n z s o =
 
 pub ruleset features = (feature_put)
 
-pub feature_types : {E : Type 0} (r : Result (Unit {0}) E) (f : FeatureData) → IsUtf8 f.layer → GeometryFitsTypes f.geometry → OnOk r (All TagFitsTypes f.tags) → OnOk r (FeatureFitsTypes f)
+pub feature_types : {E : Type 0} (r : Result (Unit {0}) E) (f : FeatureData) → IsUtf8 f.layer → LiesInWorld f.geometry → OnOk r (All TagFitsTypes f.tags) → OnOk r (FeatureFitsTypes f)
 feature_types (Ok x) f layer geometry tags = record { layer = layer; geometry = geometry; tags = tags }
 feature_types (Err e) f layer geometry tags = tt

@@ -1,6 +1,7 @@
 pub mod Codecs
 pub mod Decoded
 pub mod EditCodecs
+pub mod Faults
 pub mod FeatureTexts
 pub mod FieldCodecs
 pub mod GeometryKinds
@@ -9,6 +10,7 @@ pub mod KindCodecs
 pub mod Many
 pub mod ManyCodec
 pub mod NextKey
+pub mod PointLists
 pub mod ShapeCodecs
 pub mod TagCodecs
 pub mod Texts

@@ -10,7 +10,7 @@ use Rattle.edit_text.specs.Limits.{CountFits, GeometryFits}
 use Rattle.edit_text.specs.Spelled.{two_bytes, four_bytes, spelled_list, spelled_point, spelled_line, spelled_geometry}
 use Rattle.edit_text.proofs.TextLengths.{length-four_bytes}
 use Rattle.edit_codec.specs.declared.fault.TextFault.TheVariants.{Cut, Bad}
-use Rattle.edit_codec.specs.Edits.{PointFitsTypes, GeometryFitsTypes}
+use Rattle.edit_text.specs.Types.{IsOfWorld, LiesInWorld}
 use Rattle.edit_codec.specs.Reading.{Part, then_read, read_as, read_if, many_at, two_at, four_at, point_at, list_at, line_at, lines_at, polygons_at, geometry_behind, geometry_at}
 use Rattle.edit_codec.specs.Cut.{EndsWithin, EndsBehind, EndsBehindKind, EndsAmong, EndsInList, EndsInLine, IsLine, EndsInRings, IsPolygon, EndsInGeometry}
 use Rattle.edit_codec.proofs.Codecs.{Codec, codec_same, codec_then, codec_as, codec_if}
@@ -20,11 +20,11 @@ use Rattle.edit_codec.proofs.KindCodecs.{KindCodec, pick, kind_none, kind_or, co
 
 -- ---- points
 
-point_codec_parts : Codec point_at spelled_point PointFitsTypes (λ bytes. EndsWithin 4 bytes ⊎ EndsBehind four_bytes (λ x. x < 2 ^ 32) (λ x. EndsWithin 4) bytes)
+point_codec_parts : Codec point_at spelled_point IsOfWorld (λ bytes. EndsWithin 4 bytes ⊎ EndsBehind four_bytes (λ x. x < 2 ^ 32) (λ x. EndsWithin 4) bytes)
 unfolding point_at spelled_point
 point_codec_parts = codec_then four_at four_bytes (λ x. x < 2 ^ 32) (EndsWithin 4)
     (λ x rest. read_as (λ y. record { x = x; y = y }) (four_at rest)) (λ x p. four_bytes p.y) (λ x p. (p.x ≡ x) × (p.y < 2 ^ 32)) (λ x. EndsWithin 4)
-    spelled_point PointFitsTypes
+    spelled_point IsOfWorld
     codec_four
     (λ x fits. codec_as four_at four_bytes (λ y. y < 2 ^ 32) (EndsWithin 4) (λ y. record { x = x; y = y }) (λ p. four_bytes p.y) (λ p. (p.x ≡ x) × (p.y < 2 ^ 32)) codec_four
     (λ y h l. ((refl, l), refl))
@@ -47,7 +47,7 @@ point_ends bytes l (inr long) =
     ap (λ p. then_read p (λ x rest. read_as (λ y. record { x = x; y = y }) (four_at rest))) (four_long bytes long)
     ∙ ap (read_as (λ y. record { x = from_le_bytes w32 (take 4 bytes); y = y })) (codec_four.ends (drop 4 bytes) (omega (arith, length-drop 4 bytes)))
 
-codec_point : Codec point_at spelled_point PointFitsTypes (EndsWithin 8)
+codec_point : Codec point_at spelled_point IsOfWorld (EndsWithin 8)
 codec_point = record {
   found = point_codec_parts.found;
   reads = point_codec_parts.reads;
@@ -84,7 +84,7 @@ codec_list least read spell Is Ends c = codec_then (λ bytes. read_if (nat_le le
 
 codec_line : (least : ℕ) → Codec (line_at least) spelled_line (IsLine least) (EndsInLine least)
 unfolding line_at
-codec_line least = codec_list least point_at spelled_point PointFitsTypes (EndsWithin 8) codec_point
+codec_line least = codec_list least point_at spelled_point IsOfWorld (EndsWithin 8) codec_point
 
 codec_lines : (least : ℕ) → Codec (lines_at least) (spelled_list spelled_line) (λ ls. CountFits 1 ls × All (IsLine least) ls) (EndsInList 1 spelled_line (IsLine least) (EndsInLine least))
 unfolding lines_at
@@ -151,7 +151,7 @@ polygons_text (world_lines lines) is = absurd is
 polygons_text (world_polygons polygons) is = refl
 
 abbrev pub IsGeometry : GeometryData → Type 0
-IsGeometry g = GeometryFits g × GeometryFitsTypes g
+IsGeometry g = GeometryFits g × LiesInWorld g
 
 geometry_to : (g : GeometryData) → ArePoints g ⊎ (AreLines g ⊎ (ArePolygons g ⊎ ⊥)) → IsGeometry g
 geometry_to (world_points points) (inl is) = (is.0, is.1)

@@ -9,7 +9,7 @@ use Rattle.edit_text.specs.Data.{TagData}
 use Rattle.edit_text.specs.Limits.{IsName, ValueFits, ValuesFit, TagsFit, HasAscendingKeys, keys_of}
 use Rattle.edit_text.specs.Spelled.{spelled_name, spelled_value, spelled_tag, spelled_tags}
 use Rattle.edit_text.proofs.Mapped.{All-from_map}
-use Rattle.edit_codec.specs.Edits.{TagFitsTypes}
+use Rattle.edit_text.specs.Types.{TagFitsTypes}
 use Rattle.edit_codec.specs.Reading.{read_as, read_if, many_at, byte_at, name_at, value_at, is_next_key, tag_at, tags_at}
 use Rattle.edit_codec.specs.Cut.{EndsWithin, EndsAmong, one_byte, EndsInName, EndsInValue, IsNextKey, EndsInTag, AreTags, EndsInTags}
 use Rattle.edit_codec.proofs.Codecs.{Codec, codec_same, codec_then, codec_as, codec_if}

@@ -9,7 +9,7 @@ use Rattle.edit_text.specs.Data.{ValueData, text_value, natural_value, negative_
 use Rattle.edit_text.specs.Limits.{ValueFits}
 use Rattle.edit_text.specs.Spelled.{two_bytes, eight_bytes, spelled_value}
 use Rattle.edit_codec.specs.declared.fault.TextFault.TheVariants.{Bad}
-use Rattle.edit_codec.specs.Edits.{ValueFitsTypes}
+use Rattle.edit_text.specs.Types.{ValueFitsTypes}
 use Rattle.edit_codec.specs.Reading.{Part, read_as, eight_at, long_text_at, negative_at, value_behind, value_at}
 use Rattle.edit_codec.specs.Cut.{EndsWithin, EndsBehindKind, EndsInText, EndsInValue}
 use Rattle.edit_codec.proofs.Codecs.{Codec, codec_same, codec_as, codec_if}

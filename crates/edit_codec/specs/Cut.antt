@@ -9,7 +9,7 @@ use Rattle.edit_text.specs.declared.feature.World.{World}
 use Rattle.edit_text.specs.Data.{TagData}
 use Rattle.edit_text.specs.Limits.{IsName, CountFits, NumberFits, GeometryFits, ValueFits, HasAscendingKeys, keys_of}
 use Rattle.edit_text.specs.Spelled.{two_bytes, eight_bytes, spelled_list, spelled_point, spelled_line, spelled_geometry, spelled_name, spelled_tag}
-use Rattle.edit_codec.specs.Edits.{PointFitsTypes, GeometryFitsTypes, TagFitsTypes}
+use Rattle.edit_text.specs.Types.{IsOfWorld, LiesInWorld, TagFitsTypes}
 
 -- ---- ends
 
@@ -50,10 +50,10 @@ EndsInList least spell Is Ends bytes =
 
 -- inside a list of points, which has at least so many
 abbrev pub EndsInLine : ℕ → List ℕ → Type 0
-EndsInLine least bytes = EndsInList least spelled_point PointFitsTypes (EndsWithin 8) bytes
+EndsInLine least bytes = EndsInList least spelled_point IsOfWorld (EndsWithin 8) bytes
 
 abbrev pub IsLine : ℕ → List World → Type 0
-IsLine least points = CountFits least points × All PointFitsTypes points
+IsLine least points = CountFits least points × All IsOfWorld points
 
 abbrev pub EndsInRings : List ℕ → Type 0
 EndsInRings bytes = EndsInList 1 spelled_line (IsLine 3) (EndsInLine 3) bytes
@@ -96,7 +96,7 @@ EndsInZooms bytes = EndsWithin 1 bytes ⊎ EndsBehind one_byte (λ zoom. zoom �
 
 -- behind the zooms
 abbrev pub EndsInShape : List ℕ → Type 0
-EndsInShape bytes = EndsInGeometry bytes ⊎ EndsBehind spelled_geometry (λ g. GeometryFits g × GeometryFitsTypes g) (λ _. EndsInTags) bytes
+EndsInShape bytes = EndsInGeometry bytes ⊎ EndsBehind spelled_geometry (λ g. GeometryFits g × LiesInWorld g) (λ _. EndsInTags) bytes
 
 -- behind the layer
 abbrev pub EndsInBody : List ℕ → Type 0

@@ -1,5 +1,5 @@
 -- Reading from left to right: what stands in front and the bytes behind it, or the first fault that is met.
-use Rattle.std.specs.Prelude.{◌≡◌, ◌≢◌, ℕ, zero, suc, ◌^◌, ◌==◌, ◌&&◌, Bool, true, false, List, [], ◌∷◌, ◌++◌, length, take, drop, Result, Ok, Err, nat_lt, nat_le, if◌then◌else◌}
+use Rattle.std.specs.Prelude.{◌≡◌, ◌≢◌, ◌⊎◌, ℕ, zero, suc, ◌^◌, ◌==◌, ◌&&◌, Bool, true, false, List, [], ◌∷◌, ◌++◌, length, take, drop, Result, Ok, Err, IsOk, nat_lt, nat_le, if◌then◌else◌}
 use Rattle.std.specs.Ordering.{nat_cmp, is_lt}
 use Rattle.std.specs.Cmp.Lexicographic.{slice_cmp}
 use Rattle.std.specs.Int.{w16, w32, w64, from_le_bytes, cast_signed}
@@ -18,7 +18,12 @@ abbrev pub Reads : {X A : Type 0} → (X → A × List ℕ) → Result X TextFau
 Reads view (Ok x) part = part ≡ Ok (view x)
 Reads view (Err fault) part = part ≡ Err fault
 
--- the same, but for want of memory
+-- the same, but memory may run out where something would be found
+abbrev pub Finds : {X A : Type 0} → (X → A × List ℕ) → Result X TextFault → Part A → Type 0
+Finds view (Ok x) part = part ≡ Ok (view x)
+Finds view (Err fault) part = (part ≡ Err fault) ⊎ ((fault ≡ Memory) × IsOk part)
+
+-- the same, but memory may run out before a fault is met
 abbrev pub Gives : {X A : Type 0} → (X → A × List ℕ) → Result X TextFault → Part A → Type 0
 Gives view (Ok x) part = part ≡ Ok (view x)
 Gives view (Err fault) part = fault ≢ Memory → part ≡ Err fault
@@ -87,6 +92,10 @@ line_at least bytes = list_at least point_at bytes
 unfoldable pub lines_at : ℕ → List ℕ → Part (List (List World))
 lines_at least bytes = list_at 1 (line_at least) bytes
 
+-- the first of these lines or rings is there
+abbrev pub HasFirstLine : ℕ → List ℕ → Type 0
+HasFirstLine least bytes = (x : ℕ × List ℕ) × (two_at bytes ≡ Ok x) × IsOk (line_at least x.1)
+
 unfoldable pub polygons_at : List ℕ → Part (List (List (List World)))
 polygons_at bytes = list_at 1 (lines_at 3) bytes
 
@@ -128,8 +137,11 @@ is_next_key (t ∷ u ∷ ts) key = is_next_key (u ∷ ts) key
 unfoldable pub tag_at : List TagData → List ℕ → Part TagData
 tag_at tags bytes = then_read (read_if (is_next_key tags) (name_at bytes)) (λ key rest. read_as (λ value. record { key = key; value = value }) (value_at rest))
 
+abbrev pub tag_count_at : List ℕ → Part ℕ
+tag_count_at bytes = read_if (λ count. nat_le count 64) (byte_at bytes)
+
 unfoldable pub tags_at : List ℕ → Part (List TagData)
-tags_at bytes = then_read (read_if (λ count. nat_le count 64) (byte_at bytes)) (λ count. many_at tag_at count [])
+tags_at bytes = then_read (tag_count_at bytes) (λ count. many_at tag_at count [])
 
 -- ---- features and edits
 

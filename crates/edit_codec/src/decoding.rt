@@ -3,7 +3,7 @@
 ghost use Rattle.std.specs.Prelude.{◌≡◌, ℕ, ◌<◌, ◌⊎◌, List, length, IfOk, MatchResult};
 ghost use Rattle.edit_text.specs.Data.{EditData, edit_data};
 ghost use Rattle.edit_text.specs.Spelled.{spelled};
-ghost use Rattle.edit_codec.specs.Decoding.{BeginsWith, IsCut};
+ghost use Rattle.edit_codec.specs.Decoding.{BeginsWith, BeginsAsPut, IsCut};
 ghost use Rattle.edit_codec.specs.Reading.{Gives, decode_at};
 
 use crate::edits::read_edit;
@@ -17,7 +17,8 @@ const EDIT_LEN: usize = 32_768;
 /// The edit in front, whose text is no longer than the longest, and the bytes up to there that are behind it.
 #[tactic(auto, unfolding(crate::specs::Reading::decode_at))]
 fn read_short(alloc: Global, bytes: &[u8]) -> Result<(Edit, &[u8]), TextFault>
-    ensures { Gives (λ r. (edit_data r.0, r.1.now)) result (decode_at bytes.now) }
+    ensures edit { Gives (λ r. (edit_data r.0, r.1.now)) result (decode_at bytes.now) }
+    ensures memory { result ≡ Err TextFault.Memory → BeginsAsPut bytes.now }
 {
     if bytes.len() < EDIT_LEN {
         return read_edit(alloc, bytes);
@@ -42,6 +43,8 @@ pub fn decode(alloc: Global, bytes: &[u8]) -> Result<(Edit, usize), TextFault>
     ensures only_cut { IsCut bytes.now
         → (result ≡ Err TextFault.Cut) ⊎ (result ≡ Err TextFault.Memory) }
     // All other bytes are bad, memory aside.
+    // Memory runs out only at what begins as a Put.
+    ensures memory { result ≡ Err TextFault.Memory → BeginsAsPut bytes.now }
     ensures bad { result ≡ Err TextFault.Bad → ¬ IsCut bytes.now × ((e : EditData) → ¬ BeginsWith e bytes.now) }
 {
     let (edit, rest) = read_short(alloc, bytes)?;

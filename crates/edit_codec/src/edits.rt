@@ -1,7 +1,8 @@
 //! Features and edits in front of bytes.
 
-ghost use Rattle.std.specs.Prelude.{◌≡◌, ℕ};
+ghost use Rattle.std.specs.Prelude.{◌≡◌, ◌≢◌, ℕ};
 ghost use Rattle.edit_text.specs.Data.{feature_data, edit_data};
+ghost use Rattle.edit_codec.specs.Decoding.{BeginsAsPut};
 ghost use Rattle.edit_codec.specs.Reading.{Reads, Gives, zooms_at, feature_at, put_at, edit_behind, edit_at};
 
 use crate::fault::TextFault;
@@ -58,7 +59,10 @@ fn read_put(alloc: Global, bytes: &[u8]) -> Result<(Edit, &[u8]), TextFault>
 /// The edit of this kind.
 #[tactic(auto, unfolding(crate::specs::Reading::edit_behind))]
 fn read_edit_of(alloc: Global, kind: u8, bytes: &[u8]) -> Result<(Edit, &[u8]), TextFault>
-    ensures { Gives (λ r. (edit_data r.0, r.1.now)) result (edit_behind kind bytes.now) }
+    ensures edit { Gives (λ r. (edit_data r.0, r.1.now)) result (edit_behind kind bytes.now) }
+    // Only a Put takes memory.
+    ensures other { kind ≢ 1 → Reads (λ r. (edit_data r.0, r.1.now)) result (edit_behind kind bytes.now) }
+    ensures memory { result ≡ Err TextFault.Memory → kind ≡ 1 }
 {
     match kind {
         1 => read_put(alloc, bytes),
@@ -72,7 +76,8 @@ fn read_edit_of(alloc: Global, kind: u8, bytes: &[u8]) -> Result<(Edit, &[u8]), 
 
 #[tactic(auto, unfolding(crate::specs::Reading::edit_at))]
 pub(crate) fn read_edit(alloc: Global, bytes: &[u8]) -> Result<(Edit, &[u8]), TextFault>
-    ensures { Gives (λ r. (edit_data r.0, r.1.now)) result (edit_at bytes.now) }
+    ensures edit { Gives (λ r. (edit_data r.0, r.1.now)) result (edit_at bytes.now) }
+    ensures memory { result ≡ Err TextFault.Memory → BeginsAsPut bytes.now }
 {
     let (kind, rest) = read_byte(bytes)?;
     read_edit_of(alloc, kind, rest)

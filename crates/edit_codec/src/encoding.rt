@@ -5,7 +5,7 @@ ghost use Rattle.std.specs.Str.{IsUtf8};
 ghost use Rattle.edit_text.specs.Data.{put, delete, feature_data, geometry_data, value_data, tag_data, edit_data};
 ghost use Rattle.edit_text.specs.Limits.{IsName, LayerFits, GeometryFits, TagsFit, ValueFits, ValuesFit, IsAllowed, IsAllowedEdit, NumberFits};
 ghost use Rattle.edit_text.specs.Spelled.{two_bytes, eight_bytes, spelled_name, spelled_list, spelled_point, spelled_line, spelled_geometry, spelled_value, spelled_tag, spelled_tags, spelled_feature, spelled};
-ghost use Rattle.edit_codec.specs.Edits.{PointFitsTypes, GeometryFitsTypes, ValueFitsTypes, TagFitsTypes, FeatureFitsTypes, IsEdit};
+ghost use Rattle.edit_text.specs.Types.{IsOfWorld, LiesInWorld, ValueFitsTypes, TagFitsTypes, FeatureFitsTypes, IsEdit};
 
 use crate::Memory;
 use edit_text::{Edit, EditValue, Feature, Geometry, Tag, World, put_text_len};
@@ -32,7 +32,7 @@ fn put_name(out: &mut Vec<u8>, name: &str) -> Result<(), Memory>
 #[tactic(auto, unfolding(edit_text::specs::Spelled::spelled_point, edit_text::specs::Spelled::four_bytes))]
 fn put_point(out: &mut Vec<u8>, point: &World) -> Result<(), Memory>
     ensures text { OnOk result (out.new.items ≡ out.old.items ++ spelled_point point.now) }
-    ensures types { OnOk result (PointFitsTypes point.now) }
+    ensures types { OnOk result (IsOfWorld point.now) }
 {
     out.extend_from_slice(&point.x.to_le_bytes())?;
     out.extend_from_slice(&point.y.to_le_bytes())
@@ -41,7 +41,7 @@ fn put_point(out: &mut Vec<u8>, point: &World) -> Result<(), Memory>
 fn put_line(out: &mut Vec<u8>, points: &[World]) -> Result<(), Memory>
     requires { length points.now ≤ 65535 }
     ensures text { OnOk result (out.new.items ≡ out.old.items ++ spelled_line points.now) }
-    ensures types { OnOk result (All PointFitsTypes points.now) }
+    ensures types { OnOk result (All IsOfWorld points.now) }
 {
     put_count(out, points.len())?;
     for point in points {
@@ -55,7 +55,7 @@ fn put_lines(out: &mut Vec<u8>, lines: &[Vec<World>]) -> Result<(), Memory>
     requires points { All (λ l. length l.items ≤ 65535) lines.now }
     ensures text { OnOk result
         (out.new.items ≡ out.old.items ++ spelled_list spelled_line (map (λ l. l.items) lines.now)) }
-    ensures types { OnOk result (All (All PointFitsTypes) (map (λ l. l.items) lines.now)) }
+    ensures types { OnOk result (All (All IsOfWorld) (map (λ l. l.items) lines.now)) }
 {
     put_count(out, lines.len())?;
     for line in lines {
@@ -71,7 +71,7 @@ fn put_polygons(out: &mut Vec<u8>, polygons: &[Vec<Vec<World>>]) -> Result<(), M
     ensures text { OnOk result (out.new.items ≡ out.old.items
         ++ spelled_list (spelled_list spelled_line) (map (λ p. map (λ r. r.items) p.items) polygons.now)) }
     ensures types { OnOk result
-        (All (All (All PointFitsTypes)) (map (λ p. map (λ r. r.items) p.items) polygons.now)) }
+        (All (All (All IsOfWorld)) (map (λ p. map (λ r. r.items) p.items) polygons.now)) }
 {
     put_count(out, polygons.len())?;
     for rings in polygons {
@@ -85,7 +85,7 @@ fn put_geometry(out: &mut Vec<u8>, geometry: &Geometry) -> Result<(), Memory>
     requires { GeometryFits (geometry_data geometry.now) }
     ensures text { OnOk result
         (out.new.items ≡ out.old.items ++ spelled_geometry (geometry_data geometry.now)) }
-    ensures types { OnOk result (GeometryFitsTypes (geometry_data geometry.now)) }
+    ensures types { OnOk result (LiesInWorld (geometry_data geometry.now)) }
 {
     match geometry {
         Geometry::Points(points) => {

@@ -3,13 +3,13 @@
 ghost use Rattle.std.specs.Prelude.{◌≡◌, ℕ, ◌≤◌, List, ◌++◌, length};
 ghost use Rattle.edit_text.specs.Data.{EditData};
 ghost use Rattle.edit_text.specs.Spelled.{spelled};
-ghost use Rattle.edit_codec.specs.Edits.{IsEdit};
+ghost use Rattle.edit_text.specs.Types.{IsEdit};
 
 /// No two edits have one text, and no text of an edit begins another's: where the same bytes begin with the texts of
-/// two edits, these are the same edit.
+/// two edits, these are the same edit, and the same bytes follow.
 pub fn spelling_law()
     ensures { (e f : EditData) (behind after : List ℕ) → IsEdit e → IsEdit f
-        → spelled e ++ behind ≡ spelled f ++ after → e ≡ f }
+        → spelled e ++ behind ≡ spelled f ++ after → (e ≡ f) × (behind ≡ after) }
 {}
 
 /// The text of an edit has 9 to 32,768 bytes.

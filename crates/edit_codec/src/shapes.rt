@@ -1,13 +1,16 @@
 //! Geometries in front of bytes.
 
-ghost use Rattle.std.specs.Prelude.{◌≡◌, ℕ, ◌≤◌, [], map, nat_le};
+ghost use Rattle.std.specs.Prelude.{◌≡◌, ℕ, ◌<◌, ◌≤◌, [], map, nat_le, IsOk};
 ghost use Rattle.edit_text.specs.Data.{geometry_data};
-ghost use Rattle.edit_codec.specs.Reading.{Reads, Gives, read_if, many_at, two_at, point_at, line_at, lines_at, polygons_at, geometry_behind, geometry_at};
+ghost use Rattle.edit_codec.specs.Reading.{Reads, Finds, Gives, read_if, many_at, two_at, point_at, line_at, lines_at, HasFirstLine, polygons_at, geometry_behind, geometry_at};
 
 use crate::fault::TextFault;
 use crate::fields::{read_byte, read_u16, read_u32};
 use edit_text::{Geometry, World};
 use std::alloc::Global;
+
+/// The bytes of a point.
+const POINT_LEN: usize = 8;
 
 /// A count of at least so many.
 fn read_count(bytes: &[u8], least: u16) -> Result<(u16, &[u8]), TextFault>
@@ -29,11 +32,14 @@ fn read_point(bytes: &[u8]) -> Result<(World, &[u8]), TextFault>
     Ok((World { x, y }, rest))
 }
 
-/// So many points.
+/// So many points. Room for them is made once they are known to be there.
 fn read_points(alloc: Global, count: u16, bytes: &[u8]) -> Result<(Vec<World>, &[u8]), TextFault>
-    ensures { Gives (λ r. (r.0.items, r.1.now)) result (many_at (λ _. point_at) count [] bytes.now) }
+    ensures { Finds (λ r. (r.0.items, r.1.now)) result (many_at (λ _. point_at) count [] bytes.now) }
 {
-    let mut points = Vec::new(alloc);
+    if bytes.len() / POINT_LEN < usize::from(count) {
+        return Err(TextFault::Cut);
+    }
+    let mut points = Vec::with_capacity(alloc, usize::from(count))?;
     let mut rest = bytes;
     for _ in 0..count {
         let (point, behind) = read_point(rest)?;
@@ -45,7 +51,7 @@ fn read_points(alloc: Global, count: u16, bytes: &[u8]) -> Result<(Vec<World>, &
 
 #[tactic(auto, unfolding(crate::specs::Reading::line_at))]
 fn read_line(alloc: Global, bytes: &[u8], least: u16) -> Result<(Vec<World>, &[u8]), TextFault>
-    ensures { Gives (λ r. (r.0.items, r.1.now)) result (line_at least bytes.now) }
+    ensures { Finds (λ r. (r.0.items, r.1.now)) result (line_at least bytes.now) }
 {
     let (count, rest) = read_count(bytes, least)?;
     read_points(alloc, count, rest)
@@ -58,8 +64,10 @@ fn read_each_line(
     bytes: &[u8],
     least: u16,
 ) -> Result<(Vec<Vec<World>>, &[u8]), TextFault>
-    ensures { Gives (λ r. (map (λ l. l.items) r.0.items, r.1.now)) result
+    ensures lines { Gives (λ r. (map (λ l. l.items) r.0.items, r.1.now)) result
         (many_at (λ _. line_at least) count [] bytes.now) }
+    // No memory is taken before a first line is there.
+    ensures first { result ≡ Err TextFault.Memory → IsOk (line_at least bytes.now) }
 {
     let mut lines = Vec::new(alloc);
     let mut rest = bytes;
@@ -77,7 +85,8 @@ fn read_lines(
     bytes: &[u8],
     least: u16,
 ) -> Result<(Vec<Vec<World>>, &[u8]), TextFault>
-    ensures { Gives (λ r. (map (λ l. l.items) r.0.items, r.1.now)) result (lines_at least bytes.now) }
+    ensures lines { Gives (λ r. (map (λ l. l.items) r.0.items, r.1.now)) result (lines_at least bytes.now) }
+    ensures first { result ≡ Err TextFault.Memory → HasFirstLine least bytes.now }
 {
     let (count, rest) = read_count(bytes, 1)?;
     read_each_line(alloc, count, rest, least)
@@ -89,8 +98,10 @@ fn read_each_polygon(
     count: u16,
     bytes: &[u8],
 ) -> Result<(Vec<Vec<Vec<World>>>, &[u8]), TextFault>
-    ensures { Gives (λ r. (map (λ p. map (λ l. l.items) p.items) r.0.items, r.1.now)) result
+    ensures polygons { Gives (λ r. (map (λ p. map (λ l. l.items) p.items) r.0.items, r.1.now)) result
         (many_at (λ _. lines_at 3) count [] bytes.now) }
+    // No memory is taken before a first ring is there.
+    ensures first { result ≡ Err TextFault.Memory → HasFirstLine 3 bytes.now }
 {
     let mut polygons = Vec::new(alloc);
     let mut rest = bytes;
@@ -114,7 +125,9 @@ fn read_polygons(alloc: Global, bytes: &[u8]) -> Result<(Vec<Vec<Vec<World>>>, &
 /// The lists of a geometry of this kind.
 #[tactic(auto, unfolding(crate::specs::Reading::geometry_behind))]
 fn read_shape(alloc: Global, kind: u8, bytes: &[u8]) -> Result<(Geometry, &[u8]), TextFault>
-    ensures { Gives (λ r. (geometry_data r.0, r.1.now)) result (geometry_behind kind bytes.now) }
+    ensures shape { Gives (λ r. (geometry_data r.0, r.1.now)) result (geometry_behind kind bytes.now) }
+    ensures none { kind ≡ 0 → result ≡ Err TextFault.Bad }
+    ensures unknown { 3 < kind → result ≡ Err TextFault.Bad }
 {
     match kind {
         1 => {

@@ -12,7 +12,7 @@ use Rattle.edit_text.specs.declared.feature.World.{World}
 use Rattle.edit_text.specs.Data.{GeometryData, world_points, world_lines, world_polygons}
 use Rattle.edit_text.specs.Limits.{CountFits, GeometryFits}
 use Rattle.edit_json.specs.Json.{ShapeData, point_list, line_list, polygon_list, point_json, points_json, lines_json, shape_of}
-use Rattle.edit_json.specs.Faults.{IsOfWorld, LiesInWorld}
+use Rattle.edit_text.specs.Types.{IsOfWorld, LiesInWorld}
 use Rattle.edit_json.specs.Lists.{below, pair_at, point_at, each, has_count, list_of, points_at, lines_at, geometry_at}
 
 -- what `one` reads is exactly what has this JSON and keeps to P

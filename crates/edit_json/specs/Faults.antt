@@ -1,23 +1,14 @@
 -- What a JSON value tells of a feature: that it is the feature's value, or the first fault that it has.
-use Rattle.std.specs.Prelude.{◌≡◌, ℕ, ◌<◌, ◌≤◌, ◌^◌, List, [], ◌∷◌, length, All, ⊤}
+use Rattle.std.specs.Prelude.{◌≡◌, ℕ, ◌<◌, ◌≤◌, List, [], ◌∷◌, length, All, ⊤}
 use Rattle.serde_json.specs.Data.{Data, Members, no_members, member}
-use Rattle.edit_text.specs.declared.feature.World.{World}
 use Rattle.edit_text.specs.declared.fault.EditFault.{EditFault}
 use Rattle.edit_text.specs.declared.fault.EditFault.TheVariants as faults
-use Rattle.edit_text.specs.Data.{GeometryData, world_points, world_lines, world_polygons, TagData, FeatureData}
+use Rattle.edit_text.specs.Data.{GeometryData, TagData, FeatureData}
 use Rattle.edit_text.specs.Limits.{IsName, LayerFits, ZoomsFit, GeometryFits, TagsFit, ValuesFit}
+use Rattle.edit_text.specs.Types.{LiesInWorld}
 use Rattle.edit_json.specs.Json.{shape_of, tags_json, OutlineData, outline_json, json_of}
 
 -- ---- a feature's value
-
--- the coordinates are those of the world
-abbrev pub IsOfWorld : World → Type 0
-IsOfWorld p = (p.x < 2 ^ 32) × (p.y < 2 ^ 32)
-
-abbrev pub LiesInWorld : GeometryData → Type 0
-LiesInWorld (world_points points) = All IsOfWorld points
-LiesInWorld (world_lines lines) = All (All IsOfWorld) lines
-LiesInWorld (world_polygons polygons) = All (All (All IsOfWorld)) polygons
 
 -- the value is the feature's, which keeps to the limits of the map
 pub record IsFeature (d : Data) (f : FeatureData) : Type 0 where

@@ -1,9 +1,10 @@
 //! The lists of a geometry.
 
-ghost use Rattle.std.specs.Prelude.{◌≡◌, ◌^◌, map};
+ghost use Rattle.std.specs.Prelude.{◌≡◌, ◌^◌, map, true, false, OnOk, IfErr};
+ghost use Rattle.serde_json.specs.Find.{as_array};
 ghost use Rattle.serde_json.specs.View.{view, items_view};
-ghost use Rattle.edit_json.specs.Gives.{Gives};
-ghost use Rattle.edit_json.specs.Lists.{below, point_at, list_of, points_at, lines_at, geometry_at};
+ghost use Rattle.edit_json.specs.Gives.{Tells, Gives};
+ghost use Rattle.edit_json.specs.Lists.{below, point_at, has_count, list_of, points_at, lines_at, geometry_at};
 ghost use Rattle.edit_json.specs.Outline.{shape_data};
 ghost use Rattle.edit_text.specs.Data.{geometry_data};
 
@@ -35,18 +36,47 @@ fn read_point(value: &Value) -> Option<World>
     }
 }
 
+/// The point of a value.
+fn point_in(value: &Value) -> Result<World, EditFault>
+    ensures { Tells EditFault.Geometry (λ p. p) result (point_at (view value.now)) }
+{
+    read_point(value).ok_or(EditFault::Geometry)
+}
+
+/// The elements of a value that is a list.
+fn list_in(value: &Value) -> Result<&[Value], EditFault>
+    ensures { Tells EditFault.Geometry (λ l. items_view l.now) result (as_array (view value.now)) }
+{
+    match value.as_array() {
+        Some(list) => Ok(list.as_slice()),
+        None => Err(EditFault::Geometry),
+    }
+}
+
+/// A list of so many elements has enough, and not too many.
+fn check_count(count: usize, least: usize) -> Result<(), EditFault>
+    ensures ok { OnOk result (has_count least count ≡ true) }
+    ensures fault { IfErr result (λ e. (e ≡ EditFault.Geometry) × (has_count least count ≡ false)) }
+{
+    if count_fits(count, least) {
+        Ok(())
+    } else {
+        Err(EditFault::Geometry)
+    }
+}
+
 /// At least so many points.
 #[tactic(auto, unfolding(crate::specs::Lists::list_of, crate::specs::Lists::each))]
 fn read_points(alloc: Global, list: &[Value], least: usize) -> Result<Vec<World>, EditFault>
     ensures { Gives EditFault.Geometry (λ v. v.items) result
         (list_of least point_at (items_view list.now)) }
 {
-    if !count_fits(list.len(), least) {
-        return Err(EditFault::Geometry);
+    if let Err(fault) = check_count(list.len(), least) {
+        return Err(fault);
     }
     let mut points = Vec::with_capacity(alloc, list.len())?;
     for value in list {
-        points.push(read_point(value).ok_or(EditFault::Geometry)?)?;
+        points.push(point_in(value)?)?;
     }
     Ok(points)
 }
@@ -56,7 +86,7 @@ fn read_points(alloc: Global, list: &[Value], least: usize) -> Result<Vec<World>
 fn read_line(alloc: Global, value: &Value, least: usize) -> Result<Vec<World>, EditFault>
     ensures { Gives EditFault.Geometry (λ v. v.items) result (points_at least (view value.now)) }
 {
-    let list = value.as_array().ok_or(EditFault::Geometry)?;
+    let list = list_in(value)?;
     read_points(alloc, list, least)
 }
 
@@ -66,8 +96,8 @@ fn read_lines(alloc: Global, list: &[Value], least: usize) -> Result<Vec<Vec<Wor
     ensures { Gives EditFault.Geometry (λ v. map (λ l. l.items) v.items) result
         (list_of 1 (points_at least) (items_view list.now)) }
 {
-    if !count_fits(list.len(), 1) {
-        return Err(EditFault::Geometry);
+    if let Err(fault) = check_count(list.len(), 1) {
+        return Err(fault);
     }
     let mut lines = Vec::with_capacity(alloc, list.len())?;
     for value in list {
@@ -82,7 +112,7 @@ fn read_polygon(alloc: Global, value: &Value) -> Result<Vec<Vec<World>>, EditFau
     ensures { Gives EditFault.Geometry (λ v. map (λ l. l.items) v.items) result
         (lines_at 3 (view value.now)) }
 {
-    let list = value.as_array().ok_or(EditFault::Geometry)?;
+    let list = list_in(value)?;
     read_lines(alloc, list, 3)
 }
 
@@ -92,8 +122,8 @@ fn read_polygons(alloc: Global, list: &[Value]) -> Result<Vec<Vec<Vec<World>>>, 
     ensures { Gives EditFault.Geometry (λ v. map (λ p. map (λ r. r.items) p.items) v.items) result
         (list_of 1 (lines_at 3) (items_view list.now)) }
 {
-    if !count_fits(list.len(), 1) {
-        return Err(EditFault::Geometry);
+    if let Err(fault) = check_count(list.len(), 1) {
+        return Err(fault);
     }
     let mut polygons = Vec::with_capacity(alloc, list.len())?;
     for value in list {

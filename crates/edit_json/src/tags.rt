@@ -1,14 +1,15 @@
 //! The tags of a feature.
 
-ghost use Rattle.std.specs.Prelude.{◌≡◌, ◌≤◌, ◌↔◌, length, map, All, IsTrue, IfOk};
+ghost use Rattle.std.specs.Prelude.{◌≡◌, ◌≤◌, ◌↔◌, length, map, All, IsTrue, IfOk, IfErr, OnOk};
 ghost use Rattle.std.specs.Cmp.Lexicographic.{slice_cmp};
 ghost use Rattle.std.specs.List.Sorted.{IsStrictlySortedBy};
 ghost use Rattle.std.specs.Ordering.{nat_cmp};
 ghost use Rattle.serde_json.specs.View.{view, members_view};
 ghost use Rattle.edit_text.specs.Data.{value_data, tag_data};
 ghost use Rattle.edit_text.specs.Limits.{IsName};
+ghost use Rattle.edit_text.specs.Types.{ValueFitsTypes, TagFitsTypes};
 ghost use Rattle.edit_json.specs.Faults.{names_of};
-ghost use Rattle.edit_json.specs.Gives.{Gives};
+ghost use Rattle.edit_json.specs.Gives.{Finds, Gives};
 ghost use Rattle.edit_json.specs.Tags.{value_at, tag_at, tags_at};
 
 use crate::limits::is_name;
@@ -35,7 +36,7 @@ fn keys_fit(tags: &Map<String, Value>) -> bool
 }
 
 /// Whether the tags are few, and their keys of 1 to 64 bytes.
-pub(crate) fn tags_fit(tags: &Map<String, Value>) -> bool
+fn tags_fit(tags: &Map<String, Value>) -> bool
     ensures fits { IsTrue result ↔ ((length (names_of (members_view tags.now.entries)) ≤ 64)
         × All IsName (names_of (members_view tags.now.entries))) }
     // An object's names ascend.
@@ -45,10 +46,26 @@ pub(crate) fn tags_fit(tags: &Map<String, Value>) -> bool
     tags.len() <= TAGS && keys_fit(tags)
 }
 
+/// The tags are few, and their keys of 1 to 64 bytes.
+pub(crate) fn check_tags(tags: &Map<String, Value>) -> Result<(), EditFault>
+    ensures ok { OnOk result ((length (names_of (members_view tags.now.entries)) ≤ 64) × All IsName (names_of (members_view tags.now.entries))) }
+    ensures fault { IfErr result (λ e. (e ≡ EditFault.Tags)
+        × ¬ ((length (names_of (members_view tags.now.entries)) ≤ 64) × All IsName (names_of (members_view tags.now.entries)))) }
+    // An object's names ascend.
+    ensures ascending { IsStrictlySortedBy (slice_cmp nat_cmp) (names_of (members_view tags.now.entries)) }
+{
+    if tags_fit(tags) {
+        Ok(())
+    } else {
+        Err(EditFault::Tags)
+    }
+}
+
 /// The value of a tag.
 #[tactic(auto, unfolding(crate::specs::Tags::value_at))]
 fn read_value(alloc: Global, value: &Value) -> Result<EditValue, EditFault>
-    ensures { Gives EditFault.Value value_data result (value_at (view value.now)) }
+    ensures value { Finds EditFault.Value value_data result (value_at (view value.now)) }
+    ensures types { IfOk result (λ v. ValueFitsTypes (value_data v)) }
 {
     if let Some(text) = value.as_str() {
         if text.len() > TEXT_LEN {
@@ -71,7 +88,8 @@ fn read_value(alloc: Global, value: &Value) -> Result<EditValue, EditFault>
 /// The tag of a member.
 #[tactic(auto, unfolding(crate::specs::Tags::tag_at))]
 fn read_tag(alloc: Global, key: &str, value: &Value) -> Result<Tag, EditFault>
-    ensures { Gives EditFault.Value tag_data result (tag_at key.now (view value.now)) }
+    ensures tag { Finds EditFault.Value tag_data result (tag_at key.now (view value.now)) }
+    ensures types { IfOk result (λ t. TagFitsTypes (tag_data t)) }
 {
     let value = read_value(alloc, value)?;
     Ok(Tag {
@@ -83,8 +101,9 @@ fn read_tag(alloc: Global, key: &str, value: &Value) -> Result<Tag, EditFault>
 /// The tags, in the order of their keys.
 #[tactic(auto, unfolding(crate::specs::Tags::tags_at))]
 pub(crate) fn read_tags(alloc: Global, tags: &Map<String, Value>) -> Result<Vec<Tag>, EditFault>
-    ensures { Gives EditFault.Value (λ v. map tag_data v.items) result
+    ensures tags { Gives EditFault.Value (λ v. map tag_data v.items) result
         (tags_at (members_view tags.now.entries)) }
+    ensures types { IfOk result (λ v. All TagFitsTypes (map tag_data v.items)) }
 {
     let mut read = Vec::with_capacity(alloc, tags.len())?;
     for (key, value) in tags {

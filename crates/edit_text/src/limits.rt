@@ -14,8 +14,8 @@ use crate::lengths::put_text_len;
 
 /// Numbers of features are below 2^63.
 const NUMBERS: u64 = 1 << 63;
-/// The greatest zoom of a feature.
-const GREATEST_ZOOM: u8 = 16;
+/// The greatest zoom of a feature, and of a tile of the map.
+pub const GREATEST_ZOOM: u8 = 16;
 /// The most bytes of a name of a layer or a key of a tag.
 const NAME_LEN: usize = 64;
 /// The most elements of a list of points, lines, rings or polygons.

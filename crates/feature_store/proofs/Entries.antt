@@ -1,16 +1,17 @@
 -- Entries and the map that they keep.
-use Rattle.std.proofs.Common.{◌≡◌, ℕ, suc, All, subst, ◌-◌, ◌<◌, ◌≤◌, ◌⊎◌, min, List, length, get_or, set, Some, IsSome, sym, ap, ◌∙◌, inl, inr, length-set, arith}
+use Rattle.std.proofs.Common.{length-set, ◌+◌, ◌≡◌, ℕ, suc, All, subst, ◌-◌, ◌<◌, ◌≤◌, ◌⊎◌, List, length, get_or, set, Some, IsSome, sym, ap, ◌∙◌, inl, inr, arith}
 use Rattle.std.specs.List.{insert, remove}
 use Rattle.std.proofs.lemmas.List.{length-map, map-set, map-append, take-map, drop-map, get_or-map}
 use mathlib.Core.Bool.{false≢true}
 use Rattle.std.proofs.lemmas.List.Edits.{length-insert}
 use Rattle.edit_text.specs.declared.feature.Feature.{Feature}
 use Rattle.edit_text.specs.Data.{FeatureData, feature_data}
-use Rattle.edit_text.specs.Limits.{IsAllowed}
-use Rattle.feature_store.specs.declared.limit.TheConstants.{MOST_FEATURES}
+use Rattle.edit_text.specs.Data.{put}
+use Rattle.edit_text.specs.Types.{IsEdit}
+use Rattle.feature_store.specs.declared.limit.TheConstants.{TEXTS_END}
 use Rattle.feature_store.specs.declared.entry.Entry.{Entry}
 use Rattle.feature_store.specs.Inside.{entry_data, entries_data}
-use Rattle.feature_store.specs.Store.{FeatureMap, IsMap, feature_at, with_feature, without_feature}
+use Rattle.feature_store.specs.Store.{FeatureMap, IsMap, feature_at, with_feature, without_feature, snapshot}
 use Rattle.feature_store.specs.Places.{StandsAt, IsGapFor}
 use Rattle.feature_store.proofs.Maps.{stands_in, gap_in, feature_at_stands, feature_at_gap, with_feature_stands, with_feature_gap, without_feature_stands, IsMap-with_feature}
 
@@ -38,20 +39,29 @@ module _ (es : List Entry) (id i : ℕ) where
     pub insert_there : IsGapFor (entries_data es) id i → entries_data (insert es i entry) ≡ with_feature (entries_data es) id (feature_data f)
     insert_there h = rw (map-append, ← take-map entry_data i es, ← drop-map entry_data i es) (with_feature_gap (entries_data es) id i (feature_data f) h)
 
-    pub IsMap-set_there : IsMap (entries_data es) → IsAllowed id (feature_data f) → StandsAt (entries_data es) id i → IsMap (entries_data (set es i entry))
-    IsMap-set_there is_map allowed h =
-        rw (set_there h) (IsMap-with_feature _ id _ is_map allowed (rw (← set_there h) (omega (arith, is_map.few, length-map es entry_data, length-map (set es i entry) entry_data, length-set es i entry))))
+    pub count_set_there : length (entries_data (set es i entry)) ≡ length (entries_data es)
+    count_set_there = omega (arith, length-map es entry_data, length-map (set es i entry) entry_data, length-set es i entry)
 
-    pub IsMap-insert_there : IsMap (entries_data es) → IsAllowed id (feature_data f) → IsGapFor (entries_data es) id i → length es < MOST_FEATURES → IsMap (entries_data (insert es i entry))
-    IsMap-insert_there is_map allowed h few =
-        rw (insert_there h) (IsMap-with_feature _ id _ is_map allowed (rw (← insert_there h) (omega (arith, length-map (insert es i entry) entry_data, length-insert es i entry (gap_in_entries h)))))
+    pub count_insert_there : IsGapFor (entries_data es) id i → length (entries_data (insert es i entry)) ≡ length (entries_data es) + 1
+    count_insert_there h =
+        omega (arith, length-map es entry_data, length-map (insert es i entry) entry_data, length-insert es i entry (gap_in_entries h))
+
+    -- the texts are short together once the number has the feature
+    abbrev pub IsShortWith : Type 0
+    IsShortWith = length (snapshot (with_feature (entries_data es) id (feature_data f))) < TEXTS_END
+
+    pub IsMap-set_there : IsMap (entries_data es) → IsEdit (put id (feature_data f)) → IsShortWith → StandsAt (entries_data es) id i → IsMap (entries_data (set es i entry))
+    IsMap-set_there is_map edit short h = rw (set_there h) (IsMap-with_feature _ id _ is_map edit short)
+
+    pub IsMap-insert_there : IsMap (entries_data es) → IsEdit (put id (feature_data f)) → IsShortWith → IsGapFor (entries_data es) id i → IsMap (entries_data (insert es i entry))
+    IsMap-insert_there is_map edit short h = rw (insert_there h) (IsMap-with_feature _ id _ is_map edit short)
 
   pub remove_there : StandsAt (entries_data es) id i → entries_data (remove es i) ≡ without_feature (entries_data es) id
   remove_there h = rw (map-append, ← take-map entry_data i es, ← drop-map entry_data (suc i) es) (without_feature_stands (entries_data es) id i h)
 
 -- where a number has a gap, room for it is room for one more
-pub room_in_gap : (m : FeatureMap) (id i capacity len : ℕ) → IsMap m → IsGapFor m id i → (0 < min capacity MOST_FEATURES - len) ⊎ IsSome (feature_at m id) → (len < capacity) × (len < MOST_FEATURES)
-room_in_gap m id i capacity len is_map gap (inl spare) = (omega arith, omega arith)
+pub room_in_gap : (m : FeatureMap) (id i capacity len : ℕ) → IsMap m → IsGapFor m id i → (0 < capacity - len) ⊎ IsSome (feature_at m id) → len < capacity
+room_in_gap m id i capacity len is_map gap (inl spare) = omega arith
 room_in_gap m id i capacity len is_map gap (inr there) = absurd (false≢true (rw (feature_at_gap m id i is_map.ascending gap) at there))
 
 -- what holds of each pair of the map holds of each entry

@@ -1,7 +1,13 @@
 mod Entries
 mod Listed
 mod Maps
+mod Names
 mod Numbers
 mod Places
 mod Shown
-mod Unique
+mod Sizes
+pub mod Snapshots
+pub mod Texts
+mod Tiles
+mod TilesRead
+pub mod Unique

@@ -1,5 +1,5 @@
 -- What is gathered for a tile is the tile's list of layers.
-use Rattle.std.proofs.Common.{◌≡◌, ℕ, ◌*◌, ◌<◌, ◌≤◌, Bool, true, false, cond, List, [], ◌∷◌, ◌++◌, length, map, Option, Some, None, Result, Ok, Err, IfOk, IsSome, is_some, IfSome, All, Vec, Bor, refl, sym, ap, subst, ◌∙◌, arith}
+use Rattle.std.proofs.Common.{◌≡◌, ℕ, zero, suc, ◌⊎◌, inl, inr, ◌<◌, Bool, true, false, cond, List, [], ◌∷◌, length, map, Option, Some, None, Result, Ok, Err, IfOk, IsSome, is_some, IfSome, All, Vec, Bor, refl, sym, ap, subst, ◌∙◌, arith}
 use mathlib.Core.Bool.{false≢true}
 use Rattle.std.specs.Option.{option_map_or}
 use Rattle.std.specs.Str.{bytes_eq}
@@ -12,21 +12,16 @@ use Rattle.std.specs.Cmp.Lexicographic.{slice_cmp}
 use Rattle.std.specs.BTreeMap.{is_at, IsOrdered}
 use Rattle.std.specs.Map.{keys_of, lookup}
 use Rattle.std.proofs.lemmas.Cmp.{nat_list_cmp_total, on_total}
-use Rattle.std.proofs.lemmas.List.{length-map, length-append}
-use Rattle.std.proofs.lemmas.List.Elements.{All-nil, All-cons, All-head, All-tail, All-map, All-weaker, Contains-append_right}
+use Rattle.std.proofs.lemmas.List.{length-map}
+use Rattle.std.proofs.lemmas.List.Elements.{All-nil, All-cons, All-map, All-weaker, Contains-append_right}
 use Rattle.std.proofs.lemmas.Slice.Eq.{bytes_eq-Decides}
 use Rattle.std.proofs.lemmas.Map.Text.{is_eq-slice_cmp}
 use Rattle.std.proofs.lemmas.Map.Views.{All-found}
 use Rattle.edit_text.specs.Data.{FeatureData}
 use Rattle.mvt_layer.specs.declared.tile.TileFeature.{TileFeature}
 use Rattle.mvt_layer.specs.Tile.{FeatureView, LayerView, feature_view}
-use Rattle.mvt_layer.specs.Reading.{has_name}
-use Rattle.mvt_layer.specs.Reads.{AreNamed}
-use Rattle.mvt_write.specs.CanWrite.{CanWriteFeature, CanWriteLayer, CanWriteAll}
-use Rattle.mvt_write.specs.Written.{tags_of}
 use Rattle.tile_cutter.specs.Cut.{feature_cut}
-use Rattle.feature_store.specs.declared.limit.TheConstants.{MOST_FEATURES}
-use Rattle.feature_store.specs.Gathered.{Gathered, features_of, gathered_for, HasNoEmpty, IsWritable, IsAllWritable, layer_of, layers_of}
+use Rattle.feature_store.specs.Gathered.{Gathered, features_of, gathered_for, HasNoEmpty, layer_of, layers_of}
 use Rattle.feature_store.specs.Layers.{cut_for, cuts_of, names_of, IsLayer, AreLayers}
 use Rattle.feature_store.specs.Store.{FeatureMap}
 
@@ -35,8 +30,12 @@ use Rattle.feature_store.specs.Store.{FeatureMap}
 pub contains_here : {X : Type 0} (x : X) (xs : List X) → Contains (x ∷ xs) x
 contains_here x xs = (0, omega arith, refl)
 
-contains_on : {X : Type 0} (x : X) (xs : List X) (y : X) → Contains xs y → Contains (x ∷ xs) y
+pub contains_on : {X : Type 0} (x : X) (xs : List X) (y : X) → Contains xs y → Contains (x ∷ xs) y
 contains_on x xs y h = Contains-append_right (x ∷ []) xs y h
+
+pub contains_cases : (n : List ℕ) (ns : List (List ℕ)) (x : List ℕ) → Contains (n ∷ ns) x → (n ≡ x) ⊎ Contains ns x
+contains_cases n ns x (zero, lt, is) = inl is
+contains_cases n ns x (suc k, lt, is) = inr (k, omega arith, is)
 
 -- the entries of what is gathered
 abbrev pub Entries : Type 0
@@ -85,53 +84,12 @@ first_among z x y e m (Some v) is h =
     let same : bytes_eq e.1.layer e.1.layer ≡ true = (bytes_eq-Decides e.1.layer e.1.layer).1 refl in
     rw (same, is) (omega arith)
 
-shown_among : (z x y : ℕ) (m : FeatureMap) → All (IsAmong m z x y) m
+pub shown_among : (z x y : ℕ) (m : FeatureMap) → All (IsAmong m z x y) m
 shown_among z x y [] = All-nil (IsAmong [] z x y)
 shown_among z x y (e ∷ m) =
     All-cons (IsAmong (e ∷ m) z x y) e m
     (first_among z x y e m (feature_cut e.1 z x y) refl)
     (All-weaker (IsAmong m z x y) (IsAmong (e ∷ m) z x y) (λ f shown there. longer (cut_for f.1.layer z x y e) (cuts_of m f.1.layer z x y) (shown there)) m (shown_among z x y m))
-
-length-cuts_of : (m : FeatureMap) (name : List ℕ) (z x y : ℕ) → length (cuts_of m name z x y) ≤ length m
-length-cuts_of [] name z x y = omega arith
-length-cuts_of (e ∷ m) name z x y = by (cut_for name z x y e) (length-cuts_of m name z x y)
-  where
-    by : (o : Option FeatureView) → length (cuts_of m name z x y) ≤ length m → length (cons_option o (cuts_of m name z x y)) ≤ length (e ∷ m)
-    by None h = omega arith
-    by (Some v) h = omega arith
-
-few_tags : (fs : List FeatureView) → All IsWritable fs → length (tags_of fs) ≤ 64 * length fs
-few_tags [] all = omega arith
-few_tags (f ∷ fs) all = omega (arith, length-append f.tags (tags_of fs), few_tags fs (All-tail IsWritable f fs all), (All-head IsWritable f fs all).few)
-
--- ---- names differ
-
--- none of these names is the name of a layer before
-abbrev pub AreNew : List LayerView → List (List ℕ) → Type 0
-AreNew before names = AllByRecursion (λ n. has_name before n ≡ false) names
-
-no_names : (names : List (List ℕ)) → AreNew [] names
-no_names [] = tt
-no_names (n ∷ names) = (refl, no_names names)
-
--- one layer more before, of another name
-not_named : (before : List LayerView) (l : LayerView) (n : List ℕ) → has_name before n ≡ false → bytes_eq l.name n ≡ false → has_name (before ++ l ∷ []) n ≡ false
-not_named [] l n h differs = ap (λ b. cond b true false) differs
-not_named (k ∷ before) l n h differs = by (bytes_eq k.name n) h (λ is. not_named before l n is differs)
-  where
-    by : (b : Bool) → cond b true (has_name before n) ≡ false → (has_name before n ≡ false → has_name (before ++ l ∷ []) n ≡ false) → cond b true (has_name (before ++ l ∷ []) n) ≡ false
-    by true is rest = absurd (false≢true (sym is))
-    by false is rest = rest is
-
-still_new : (before : List LayerView) (l : LayerView) (names : List (List ℕ)) → AreNew before names → AllByRecursion (λ n. slice_cmp nat_cmp l.name n ≡ Less) names → AreNew (before ++ l ∷ []) names
-still_new before l [] new above = tt
-still_new before l (n ∷ names) new above = (not_named before l n new.0 (sym (is_eq-slice_cmp l.name n) ∙ ap is_eq above.0), still_new before l names new.1 above.1)
-
--- layers of ascending names have different names
-are_named : (before ls : List LayerView) → IsStrictlySortedBy (slice_cmp nat_cmp) (names_of ls) → AreNew before (names_of ls) → AreNamed before ls
-unfolding IsStrictlySortedBy
-are_named before [] s new = tt
-are_named before (l ∷ ls) s new = (new.0, are_named (before ++ l ∷ []) ls s.1 (still_new before l (names_of ls) new.1 s.0))
 
 -- ---- all of it
 
@@ -168,23 +126,8 @@ module _ (m : FeatureMap) (z x y : ℕ) (g : Gathered) (cuts : (name : List ℕ)
     every = All-weaker (IsAmong m z x y) (λ e. IsSome (feature_cut e.1 z x y) → Contains (names_of (layers_of g)) e.1.layer) (λ e shown there. named e.1.layer (shown there)) m (shown_among z x y m);
   }
 
-  layer_can_write : length m ≤ MOST_FEATURES → IsAllWritable g → (e : Bor (List ℕ) × Vec TileFeature Global) → IsFound e → CanWriteLayer (layer_of e)
-  layer_can_write few writable e is =
-      let all : All IsWritable (features_of e.1) = subst (λ o. All IsWritable (option_map_or features_of o [])) is (writable e.0.now) in
-      record {
-        extent = refl;
-        version = refl;
-        features = All-weaker IsWritable CanWriteFeature (λ f w. w.can_write) (features_of e.1) all;
-        few = omega (arith, few_tags (features_of e.1) all, ap length (cuts_at e is), length-cuts_of m e.0.now z x y);
-      }
-
-  pub can_write_all : length m ≤ MOST_FEATURES → IsAllWritable g → CanWriteAll (layers_of g)
-  can_write_all few writable = record {
-    layers = All-map CanWriteLayer layer_of g.entries (All-weaker IsFound (λ e. CanWriteLayer (layer_of e)) (layer_can_write few writable) g.entries found);
-    named = are_named [] (layers_of g) (names_ascend g.entries ordered) (no_names (names_of (layers_of g)));
-  }
-
 -- what holds of the layers of what is gathered holds of the list of them
-pub of_listed : {V E : Type 0} (views : V → List LayerView) (ls : List LayerView) (Q : Type 0) (P : List LayerView → Type 0) (r : Result V E) → IfOk r (λ v. views v ≡ ls) → IfOk r (λ _. Q) → (Q → P ls) → IfOk r (λ v. P (views v))
+pub of_listed : {V E : Type 0} (views : V → List LayerView) (ls : List LayerView) (Q : Type 0) (P : List LayerView → Type 0) (r : Result V E)
+    → IfOk r (λ v. views v ≡ ls) → IfOk r (λ _. Q) → (Q → P ls) → IfOk r (λ v. P (views v))
 of_listed views ls Q P (Ok v) is ordered holds = rw is (holds ordered)
 of_listed views ls Q P (Err e) is ordered holds = tt

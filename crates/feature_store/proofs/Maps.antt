@@ -9,9 +9,10 @@ use Rattle.std.specs.BTreeMap.{insert_entry, is_at}
 use Rattle.std.specs.Map.{keys_of, lookup, remove_entry}
 use Rattle.std.proofs.lemmas.List.Elements.{All-cons, All-head, All-tail}
 use Rattle.edit_text.specs.Data.{FeatureData}
-use Rattle.edit_text.specs.Limits.{IsAllowed}
-use Rattle.feature_store.specs.declared.limit.TheConstants.{MOST_FEATURES}
-use Rattle.feature_store.specs.Store.{FeatureMap, IsMap, feature_at, with_feature, without_feature}
+use Rattle.edit_text.specs.Data.{put}
+use Rattle.edit_text.specs.Types.{IsEdit}
+use Rattle.feature_store.specs.declared.limit.TheConstants.{TEXTS_END}
+use Rattle.feature_store.specs.Store.{FeatureMap, IsMap, feature_at, with_feature, without_feature, snapshot}
 use Rattle.feature_store.specs.Places.{StandsAt, IsGapFor}
 use Rattle.feature_store.proofs.Numbers.{less, equal, greater, below, at_same, at_other, by_order}
 
@@ -41,13 +42,13 @@ lookup_here n e m h = ap (λ b. cond b (Some e.1) (lookup (is_at (nat_cmp n)) m)
 lookup_on : (n : ℕ) (e : ℕ × FeatureData) (m : FeatureMap) → n ≢ e.0 → lookup (is_at (nat_cmp n)) (e ∷ m) ≡ lookup (is_at (nat_cmp n)) m
 lookup_on n e m h = ap (λ b. cond b (Some e.1) (lookup (is_at (nat_cmp n)) m)) (at_other n e.0 h)
 
-removed_here : (n : ℕ) (e : ℕ × FeatureData) (m : FeatureMap) → n ≡ e.0 → remove_entry (is_at (nat_cmp n)) (e ∷ m) ≡ m
+pub removed_here : (n : ℕ) (e : ℕ × FeatureData) (m : FeatureMap) → n ≡ e.0 → remove_entry (is_at (nat_cmp n)) (e ∷ m) ≡ m
 removed_here n e m h = ap (λ b. cond b m (e ∷ remove_entry (is_at (nat_cmp n)) m)) (at_same n e.0 h)
 
-removed_on : (n : ℕ) (e : ℕ × FeatureData) (m : FeatureMap) → n ≢ e.0 → remove_entry (is_at (nat_cmp n)) (e ∷ m) ≡ e ∷ remove_entry (is_at (nat_cmp n)) m
+pub removed_on : (n : ℕ) (e : ℕ × FeatureData) (m : FeatureMap) → n ≢ e.0 → remove_entry (is_at (nat_cmp n)) (e ∷ m) ≡ e ∷ remove_entry (is_at (nat_cmp n)) m
 removed_on n e m h = ap (λ b. cond b m (e ∷ remove_entry (is_at (nat_cmp n)) m)) (at_other n e.0 h)
 
-set_step : (n : ℕ) (f : FeatureData) (e : ℕ × FeatureData) (m : FeatureMap) (o : Ordering) → nat_cmp n e.0 ≡ o → insert_entry nat_cmp (e ∷ m) n f ≡ match_ordering o ((n, f) ∷ e ∷ m) ((e.0, f) ∷ m) (e ∷ insert_entry nat_cmp m n f)
+pub set_step : (n : ℕ) (f : FeatureData) (e : ℕ × FeatureData) (m : FeatureMap) (o : Ordering) → nat_cmp n e.0 ≡ o → insert_entry nat_cmp (e ∷ m) n f ≡ match_ordering o ((n, f) ∷ e ∷ m) ((e.0, f) ∷ m) (e ∷ insert_entry nat_cmp m n f)
 set_step n f e m o h = ap (λ r. match_ordering r ((n, f) ∷ e ∷ m) ((e.0, f) ∷ m) (e ∷ insert_entry nat_cmp m n f)) h
 
 -- ---- at a place
@@ -144,13 +145,6 @@ All-removed_entry P (e ∷ m) id a =
     let on : (id ≢ e.0) → All P (remove_entry (is_at (nat_cmp id)) (e ∷ m)) = λ h. subst (All P) (sym (removed_on id e m h)) (All-cons P e (remove_entry (is_at (nat_cmp id)) m) (All-head P e m a) (All-removed_entry P m id (All-tail P e m a))) in
     by_order id e.0 (λ h. on (λ t. omega arith)) (λ h. subst (All P) (sym (removed_here id e m h)) (All-tail P e m a)) (λ h. on (λ t. omega arith))
 
-pub length_removed : (m : FeatureMap) (id : ℕ) → length (remove_entry (is_at (nat_cmp id)) m) ≤ length m
-length_removed [] id = omega arith
-length_removed (e ∷ m) id =
-    let Q : FeatureMap → Type 0 = λ n. length n ≤ length (e ∷ m) in
-    let on : (id ≢ e.0) → Q (remove_entry (is_at (nat_cmp id)) (e ∷ m)) = λ h. subst Q (sym (removed_on id e m h)) (omega (arith, length_removed m id)) in
-    by_order id e.0 (λ h. on (λ t. omega arith)) (λ h. subst Q (sym (removed_here id e m h)) (omega arith)) (λ h. on (λ t. omega arith))
-
 -- ---- what is found afterwards
 
 pub lookup_set_same : (m : FeatureMap) (id : ℕ) (f : FeatureData) → lookup (is_at (nat_cmp id)) (insert_entry nat_cmp m id f) ≡ Some f
@@ -216,21 +210,21 @@ pub without_feature_gap : (m : FeatureMap) (id i : ℕ) → Ascends m → IsGapF
 unfolding without_feature
 without_feature_gap m id i s h = remove_gap m id i s h
 
--- a feature that keeps the limits is set, and there are not too many then
-pub IsMap-with_feature : (m : FeatureMap) (id : ℕ) (f : FeatureData) → IsMap m → IsAllowed id f → length (with_feature m id f) ≤ MOST_FEATURES → IsMap (with_feature m id f)
+-- a feature is set, and the texts are short together then
+pub IsMap-with_feature : (m : FeatureMap) (id : ℕ) (f : FeatureData) → IsMap m → IsEdit (put id f) → length (snapshot (with_feature m id f)) < TEXTS_END → IsMap (with_feature m id f)
 unfolding with_feature
-IsMap-with_feature m id f is_map allowed few = record {
+IsMap-with_feature m id f is_map edit short = record {
   ascending = ascends_set m id f is_map.ascending;
-  allowed = All-set_entry (λ e. IsAllowed e.0 e.1) m id f allowed is_map.allowed;
-  few = few;
+  edits = All-set_entry (λ e. IsEdit (put e.0 e.1)) m id f edit is_map.edits;
+  short = short;
 }
 
-pub IsMap-without_feature : (m : FeatureMap) (id : ℕ) → IsMap m → IsMap (without_feature m id)
+pub IsMap-without_feature : (m : FeatureMap) (id : ℕ) → IsMap m → length (snapshot (without_feature m id)) < TEXTS_END → IsMap (without_feature m id)
 unfolding without_feature
-IsMap-without_feature m id is_map = record {
+IsMap-without_feature m id is_map short = record {
   ascending = ascends_removed m id is_map.ascending;
-  allowed = All-removed_entry (λ e. IsAllowed e.0 e.1) m id is_map.allowed;
-  few = omega (arith, length_removed m id, is_map.few);
+  edits = All-removed_entry (λ e. IsEdit (put e.0 e.1)) m id is_map.edits;
+  short = short;
 }
 
 pub feature_at-with_same : (m : FeatureMap) (id : ℕ) (f : FeatureData) → feature_at (with_feature m id f) id ≡ Some f

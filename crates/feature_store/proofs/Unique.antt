@@ -1,24 +1,23 @@
 -- A map has one list of layers at a tile.
-use Rattle.std.proofs.Common.{◌≡◌, ℕ, zero, suc, ◌<◌, ◌⊎◌, Bool, true, false, List, [], ◌∷◌, length, Option, Some, None, IsSome, is_some, All, inl, inr, refl, sym, ap, subst, ◌∙◌, arith}
+use Rattle.std.proofs.Common.{◌≡◌, ℕ, ◌<◌, ◌≤◌, ◌^◌, Bool, true, false, List, [], ◌∷◌, length, Option, Some, None, IsSome, is_some, All, inl, inr, refl, sym, ap, subst, ◌∙◌, arith}
 use Rattle.std.specs.Str.{bytes_eq}
 use Rattle.std.specs.List.{Contains}
 use Rattle.std.specs.List.Sorted.{IsStrictlySortedBy}
 use Rattle.std.specs.Ordering.{nat_cmp, ordering_reverse}
 use Rattle.std.specs.declared.cmp.Ordering.TheVariants.{Less}
 use Rattle.std.specs.Cmp.Lexicographic.{slice_cmp}
+use Rattle.std.proofs.lemmas.Bool.Decides.{nat_tests}
 use Rattle.std.proofs.lemmas.Cmp.{nat_list_cmp_total}
 use Rattle.std.proofs.lemmas.List.Elements.{All-head, All-tail, All-map, All-weaker, All-contains, All-from_recursion, Contains-append_right}
 use Rattle.std.proofs.lemmas.Map.Keys.{sorted_head, sorted_tail}
 use Rattle.std.proofs.lemmas.Slice.Eq.{bytes_eq-Decides}
+use Rattle.edit_text.specs.declared.limits.TheConstants.{GREATEST_ZOOM}
 use Rattle.mvt_layer.specs.Tile.{FeatureView, LayerView}
 use Rattle.tile_cutter.specs.Cut.{feature_cut}
 use Rattle.feature_store.specs.Store.{FeatureMap}
-use Rattle.feature_store.specs.Layers.{cuts_of, names_of, IsLayer, AreLayers}
-use Rattle.feature_store.proofs.Listed.{contains_here}
-
-contains_cases : (n : List ℕ) (ns : List (List ℕ)) (x : List ℕ) → Contains (n ∷ ns) x → (n ≡ x) ⊎ Contains ns x
-contains_cases n ns x (zero, lt, is) = inl is
-contains_cases n ns x (suc k, lt, is) = inr (k, omega arith, is)
+use Rattle.feature_store.specs.Layers.{cuts_of, is_tile, layer_names, layers, names_of, IsLayer, AreLayers}
+use Rattle.feature_store.proofs.Listed.{contains_here, contains_cases}
+use Rattle.feature_store.proofs.Names.{layers_named, are_named}
 
 -- byte by byte, no name is before itself
 before_itself : (n : List ℕ) → slice_cmp nat_cmp n n ≡ Less → ⊥
@@ -81,3 +80,25 @@ module _ (m : FeatureMap) (z x y : ℕ) where
 
   pub one_list : (a b : List LayerView) → AreLayers m z x y a → AreLayers m z x y b → a ≡ b
   one_list a b are_a are_b = same_lists a b are_a.ascending are_b.ascending are_a.layers are_b.layers (named_in a b are_a are_b) (named_in b a are_b are_a)
+
+  -- where the map has the tile, its layers are the one list of which these things are true
+  inside : is_tile z x y ≡ true → layers m z x y ≡ layers_named m z x y (layer_names m)
+  unfolding layers
+  inside is = rw is refl
+
+  pub is_the_list : is_tile z x y ≡ true → (ls : List LayerView) → AreLayers m z x y ls → ls ≡ layers m z x y
+  is_the_list is ls are = one_list ls (layers_named m z x y (layer_names m)) are (are_named m z x y) ∙ sym (inside is)
+
+  pub the_list_is : is_tile z x y ≡ true → (ls : List LayerView) → ls ≡ layers m z x y → AreLayers m z x y ls
+  the_list_is is ls same = subst (AreLayers m z x y) (sym (same ∙ inside is)) (are_named m z x y)
+
+  pub outside : is_tile z x y ≡ false → layers m z x y ≡ []
+  unfolding layers
+  outside is = rw is refl
+
+-- a tile of a zoom up to the greatest, and one above it
+pub a_tile : (z x y : ℕ) → z ≤ GREATEST_ZOOM → x < 2 ^ z → y < 2 ^ z → is_tile z x y ≡ true
+a_tile z x y zoom column row = grind (arith, nat_tests)
+
+pub no_tile : (z x y : ℕ) → GREATEST_ZOOM < z → is_tile z x y ≡ false
+no_tile z x y above = grind (arith, nat_tests)

@@ -1,5 +1,5 @@
 -- What a tile shows, gathered by the names of layers.
-use Rattle.std.specs.Prelude.{ℕ, ◌<◌, ◌≤◌, ◌++◌, ◌∷◌, List, [], length, map, All, Vec, IfSome, if◌then◌else◌}
+use Rattle.std.specs.Prelude.{ℕ, ◌<◌, ◌++◌, ◌∷◌, List, [], length, map, Vec, IfSome, if◌then◌else◌}
 use Rattle.std.specs.Borrow.{Bor}
 use Rattle.std.specs.Option.{option_map_or}
 use Rattle.std.specs.Ordering.{nat_cmp}
@@ -9,7 +9,6 @@ use Rattle.std.specs.BTreeMap.{BTreeMap, get_by}
 use Rattle.std.specs.declared.alloc.Global.{Global}
 use Rattle.mvt_layer.specs.declared.tile.TileFeature.{TileFeature}
 use Rattle.mvt_layer.specs.Tile.{FeatureView, LayerView, feature_view}
-use Rattle.mvt_write.specs.CanWrite.{CanWriteFeature}
 
 -- the features of each name
 abbrev pub Gathered : Type 0
@@ -30,15 +29,6 @@ HasNoEmpty g = (name : List ℕ) → IfSome (get_by (λ k. slice_cmp nat_cmp nam
 -- the features of a name, with one more where it is the name of a layer
 abbrev pub more_for : List FeatureView → List ℕ → List ℕ → FeatureView → List FeatureView
 more_for fs name layer f = if bytes_eq name layer then fs ++ f ∷ [] else fs
-
--- a feature that can be written, and adds few tags to its layer
-pub record IsWritable (f : FeatureView) : Type 0 where
-  pub can_write : CanWriteFeature f
-  pub few : length f.tags ≤ 64
-
--- all that is gathered can be written
-abbrev pub IsAllWritable : Gathered → Type 0
-IsAllWritable g = (name : List ℕ) → All IsWritable (gathered_for g name)
 
 -- a name and its features as a layer
 abbrev pub layer_of : Bor (List ℕ) × Vec TileFeature Global → LayerView

@@ -1,7 +1,6 @@
 -- How a store keeps its map.
-use Rattle.std.specs.Prelude.{ℕ, ◌-◌, List, map, min, vec_len, vec_capacity}
+use Rattle.std.specs.Prelude.{ℕ, ◌-◌, List, map, vec_len, vec_capacity}
 use Rattle.edit_text.specs.Data.{FeatureData, feature_data}
-use Rattle.feature_store.specs.declared.limit.TheConstants.{MOST_FEATURES}
 use Rattle.feature_store.specs.declared.entry.Entry.{Entry}
 use Rattle.feature_store.specs.declared.store.Store.TheInside.{Inside}
 use Rattle.feature_store.specs.Store.{FeatureMap, StoreView, IsMap}
@@ -14,9 +13,9 @@ entry_data e = (e.id, feature_data e.feature)
 abbrev pub entries_data : List Entry → FeatureMap
 entries_data es = map entry_data es
 
--- no more features than the most find room
+-- what the entries have room for beyond themselves
 abbrev pub store_view : Inside → StoreView
-store_view s = record { features = entries_data s.entries.items; spare = min (vec_capacity s.entries) MOST_FEATURES - vec_len s.entries }
+store_view s = record { features = entries_data s.entries.items; spare = vec_capacity s.entries - vec_len s.entries }
 
 -- what holds of every store
 abbrev pub IsStore : Inside → Type 0

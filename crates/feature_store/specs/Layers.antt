@@ -1,10 +1,12 @@
 -- The layers of a tile.
-use Rattle.std.specs.Prelude.{◌≡◌, ℕ, ◌<◌, List, length, map, All, Contains, Option, Some, None, IsSome, option_map, filter_map, if◌then◌else◌}
-use Rattle.std.specs.Ordering.{nat_cmp}
+use Rattle.std.specs.Prelude.{◌≡◌, ℕ, ◌<◌, ◌^◌, ◌&&◌, Bool, nat_le, nat_lt, List, [], ◌∷◌, length, map, All, Contains}
+use Rattle.std.specs.Prelude.{Option, Some, None, IsSome, option_map, filter_map, if◌then◌else◌}
+use Rattle.std.specs.Ordering.{nat_cmp, match_ordering}
 use Rattle.std.specs.Str.{bytes_eq}
 use Rattle.std.specs.Cmp.Lexicographic.{slice_cmp}
 use Rattle.std.specs.List.Sorted.{IsStrictlySortedBy}
 use Rattle.edit_text.specs.Data.{FeatureData}
+use Rattle.edit_text.specs.declared.limits.TheConstants.{GREATEST_ZOOM}
 use Rattle.mvt_layer.specs.Tile.{FeatureView, LayerView}
 use Rattle.tile_cutter.specs.Cut.{feature_cut}
 use Rattle.feature_store.specs.Store.{FeatureMap}
@@ -20,6 +22,34 @@ cut_for name z x y e = if bytes_eq e.1.layer name then numbered_cut z x y e else
 -- what the tile shows of the features of this layer, in the order of the map
 abbrev pub cuts_of : FeatureMap → List ℕ → ℕ → ℕ → ℕ → List FeatureView
 cuts_of m name z x y = filter_map (cut_for name z x y) m
+
+-- ---- the list of them
+
+-- names that ascend byte by byte, with one more in its place, where it isn't there
+abbrev pub with_name : List ℕ → List (List ℕ) → List (List ℕ)
+with_name n [] = n ∷ []
+with_name n (k ∷ ks) = match_ordering (slice_cmp nat_cmp n k) (n ∷ k ∷ ks) (k ∷ ks) (k ∷ with_name n ks)
+
+-- the names of the layers of a map, each once, ascending byte by byte
+abbrev pub layer_names : FeatureMap → List (List ℕ)
+layer_names [] = []
+layer_names (e ∷ m) = with_name e.1.layer (layer_names m)
+
+-- a layer of these features, and none where there is no feature
+abbrev pub layer_with : List ℕ → List FeatureView → Option LayerView
+layer_with name [] = None
+layer_with name (f ∷ fs) = Some (record { name = name; version = 2; extent = 4096; features = f ∷ fs })
+
+-- a tile of a zoom that a map has
+abbrev pub is_tile : ℕ → ℕ → ℕ → Bool
+is_tile z x y = nat_le z GREATEST_ZOOM && (nat_lt x (2 ^ z) && nat_lt y (2 ^ z))
+
+-- The layers of a tile: for each layer of the map all that the tile shows of it, and none where that is nothing. Where
+-- the map has no such tile there are none.
+unfoldable pub layers : FeatureMap → ℕ → ℕ → ℕ → List LayerView
+layers m z x y = if is_tile z x y then filter_map (λ name. layer_with name (cuts_of m name z x y)) (layer_names m) else []
+
+-- ---- the same, as what is true of them
 
 -- the names of layers
 abbrev pub names_of : List LayerView → List (List ℕ)

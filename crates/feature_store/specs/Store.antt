@@ -1,12 +1,14 @@
--- The map: features by number.
-use Rattle.std.specs.Prelude.{ℕ, ◌<◌, ◌≤◌, ◌⊎◌, List, length, All, Option, IsSome}
+-- The map: features by number, edits of it, and its snapshot.
+use Rattle.std.specs.Prelude.{ℕ, ◌+◌, ◌-◌, ◌<◌, ◌⊎◌, List, length, All, fold, Option, IsSome, is_some, if◌then◌else◌}
 use Rattle.std.specs.Ordering.{nat_cmp}
+use Rattle.std.specs.List.{flat_map}
 use Rattle.std.specs.List.Sorted.{IsStrictlySortedBy}
 use Rattle.std.specs.BTreeMap.{insert_entry, is_at}
 use Rattle.std.specs.Map.{keys_of, lookup, remove_entry}
-use Rattle.edit_text.specs.Data.{FeatureData}
-use Rattle.edit_text.specs.Limits.{IsAllowed}
-use Rattle.feature_store.specs.declared.limit.TheConstants.{MOST_FEATURES}
+use Rattle.edit_text.specs.Data.{FeatureData, EditData, put, delete}
+use Rattle.edit_text.specs.Spelled.{spelled}
+use Rattle.edit_text.specs.Types.{IsEdit}
+use Rattle.feature_store.specs.declared.limit.TheConstants.{TEXTS_END}
 
 -- numbers, each with its feature
 abbrev pub FeatureMap : Type 0
@@ -24,11 +26,28 @@ with_feature m id feature = insert_entry nat_cmp m id feature
 unfoldable pub without_feature : FeatureMap → ℕ → FeatureMap
 without_feature m id = remove_entry (is_at (nat_cmp id)) m
 
--- the numbers ascend, each feature keeps the limits, and there are not too many
+-- the map after an edit
+abbrev pub changed : FeatureMap → EditData → FeatureMap
+changed m (put id f) = with_feature m id f
+changed m (delete id) = without_feature m id
+
+-- the map after edits, from the first to the last
+abbrev pub after : FeatureMap → List EditData → FeatureMap
+after m es = fold changed m es
+
+-- the text that gives a number its feature
+abbrev pub entry_text : ℕ × FeatureData → List ℕ
+entry_text e = spelled (put e.0 e.1)
+
+-- the snapshot of a map: these texts, in ascending number
+unfoldable pub snapshot : FeatureMap → List ℕ
+snapshot m = flat_map entry_text m
+
+-- the numbers ascend, each keeps the limits with its feature and what types promise, and their texts are short together
 pub record IsMap (m : FeatureMap) : Type 0 where
   pub ascending : IsStrictlySortedBy nat_cmp (keys_of m)
-  pub allowed : All (λ e. IsAllowed e.0 e.1) m
-  pub few : length m ≤ MOST_FEATURES
+  pub edits : All (λ e. IsEdit (put e.0 e.1)) m
+  pub short : length (snapshot m) < TEXTS_END
 
 -- what contracts see of a store: its map, and how many features more it takes without memory
 pub record StoreView : Type 0 where
@@ -38,3 +57,15 @@ pub record StoreView : Type 0 where
 -- the number can be set without memory
 abbrev pub HasRoom : StoreView → ℕ → Type 0
 HasRoom s id = (0 < s.spare) ⊎ IsSome (feature_at s.features id)
+
+-- how many features more find room once the number has one: a number that had none took the room of one
+abbrev pub spare_with : StoreView → ℕ → ℕ
+spare_with s id = if is_some (feature_at s.features id) then s.spare else s.spare - 1
+
+-- how many features there are once the number has one
+abbrev pub count_with : StoreView → ℕ → ℕ
+count_with s id = if is_some (feature_at s.features id) then length s.features else length s.features + 1
+
+-- and how many find room once it has none: a number that had one left the room of one
+abbrev pub spare_without : StoreView → ℕ → ℕ
+spare_without s id = if is_some (feature_at s.features id) then s.spare + 1 else s.spare

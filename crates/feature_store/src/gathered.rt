@@ -1,8 +1,8 @@
-ghost use Rattle.std.specs.Prelude.{◌≡◌, ℕ, ◌≤◌, List, ◌∷◌, ◌++◌, [], All, OnOk, IfOk, IfSome, option_map};
+ghost use Rattle.std.specs.Prelude.{◌≡◌, ℕ, ◌≤◌, List, ◌∷◌, ◌++◌, [], All, OnOk, IfOk, option_map};
 ghost use Rattle.edit_text.specs.Data.{feature_data};
 ghost use Rattle.edit_text.specs.Limits.{IsAllowed};
 ghost use Rattle.mvt_layer.specs.Tile.{feature_view};
-ghost use Rattle.feature_store.specs.Gathered.{gathered_for, more_for, HasNoEmpty, IsWritable, IsAllWritable};
+ghost use Rattle.feature_store.specs.Gathered.{gathered_for, more_for, HasNoEmpty};
 ghost use Rattle.feature_store.specs.Inside.{entry_data, entries_data};
 ghost use Rattle.feature_store.specs.Layers.{numbered_cut, cuts_of};
 
@@ -22,7 +22,6 @@ fn shown<'a>(alloc: Global, entry: &'a Entry, at: TileAt) -> Result<Option<TileF
     requires zoom { at.z ≤ 16 }
     requires allowed { IsAllowed entry.now.id (feature_data entry.now.feature) }
     ensures cut { IfOk result (λ o. option_map feature_view o ≡ numbered_cut at.z at.x at.y (entry_data entry.now)) }
-    ensures writable { IfOk result (λ o. IfSome o (λ f. IsWritable (feature_view f))) }
 {
     match cut(alloc, &entry.feature, at)? {
         Some(feature) => Ok(Some(TileFeature {
@@ -57,7 +56,6 @@ fn add_shown<'a>(
     requires allowed { IsAllowed entry.now.id (feature_data entry.now.feature) }
     ensures added { OnOk result ((name : List ℕ) → gathered_for gathered.new name ≡ gathered_for gathered.old name ++ cuts_of (entry_data entry.now ∷ []) name at.z at.x at.y) }
     ensures no_empty { OnOk result (HasNoEmpty gathered.old → HasNoEmpty gathered.new) }
-    ensures writable { OnOk result (IsAllWritable gathered.old → IsAllWritable gathered.new) }
 {
     if let Some(feature) = shown(alloc, entry, at)? {
         add(gathered, entry.feature.layer.as_str(), feature)?;
@@ -75,7 +73,6 @@ pub(crate) fn gather<'a>(
     requires allowed { All (λ e. IsAllowed e.id (feature_data e.feature)) entries.now }
     ensures cuts { IfOk result (λ g. (name : List ℕ) → gathered_for g name ≡ cuts_of (entries_data entries.now) name at.z at.x at.y) }
     ensures no_empty { IfOk result HasNoEmpty }
-    ensures writable { IfOk result IsAllWritable }
 {
     let mut gathered = BTreeMap::new(alloc);
     for entry in entries {

@@ -10,8 +10,8 @@ mod limit;
 mod search;
 mod store;
 
-pub use laws::one_list_law;
-pub use limit::MOST_FEATURES;
+pub use laws::{edit_law, layers_law, snapshot_law, tile_law};
+pub use limit::TEXTS_END;
 pub use store::Store;
 
 #[cfg(test)]

@@ -1,2 +1,3 @@
-/// The most features that a store takes. With at most 64 tags each, 32 bits count the tags of any layer of a tile.
-pub const MOST_FEATURES: usize = 67_108_863;
+/// The texts of all features of a store, as the journal and a snapshot have them, are fewer bytes than this together. A
+/// tag takes three bytes of a text at least, so that 32 bits count the tags of any layer of a tile.
+pub const TEXTS_END: u64 = 8_589_934_592;

@@ -1,24 +1,25 @@
-ghost use Rattle.std.specs.Prelude.{◌≡◌, ℕ, [], ◌≤◌, ◌≢◌, ◌↔◌, length, Some, IsSome, None, IfOk, OnOk, OnErr, IsTrue, option_map};
-ghost use Rattle.edit_text.specs.Data.{feature_data};
-ghost use Rattle.edit_text.specs.Limits.{IsAllowed};
+ghost use Rattle.std.specs.Prelude.{◌≡◌, ℕ, [], ◌*◌, ◌<◌, ◌≤◌, ◌≢◌, ◌↔◌, length, Some, IsSome, None, IfOk, OnOk, OnErr, IsTrue, option_map};
+ghost use Rattle.edit_text.specs.Data.{feature_data, put};
+ghost use Rattle.edit_text.specs.Types.{IsEdit};
 ghost use Rattle.mvt_layer.specs.Tile.{layer_views};
 ghost use Rattle.mvt_write.specs.CanWrite.{CanWriteAll};
-ghost use Rattle.feature_store.specs.Layers.{AreLayers};
-ghost use Rattle.feature_store.specs.Store.{IsMap, HasRoom, feature_at, with_feature, without_feature};
+ghost use Rattle.feature_store.specs.Layers.{layers};
+ghost use Rattle.feature_store.specs.Store.{IsMap, HasRoom, feature_at, with_feature, without_feature, snapshot, count_with, spare_with, spare_without};
 
 use crate::copies::copy_entries;
 use crate::entry::Entry;
 use crate::gathered::gather;
 use crate::layers::listed;
-use crate::limit::MOST_FEATURES;
+use crate::limit::TEXTS_END;
 use crate::search::find;
-use edit_text::{Feature, Memory};
+use edit_text::{Feature, GREATEST_ZOOM, Memory};
 use hilbert_id::TileAt;
 use mvt_layer::Layer;
-use std::alloc::{AllocError, Global};
+use std::alloc::Global;
 use std::marker::Model;
 
-/// A map from numbers to features that keep the limits of a feature.
+/// A map from numbers to features that keep the limits of a feature. The texts of all of them, as the journal and a
+/// snapshot have them, are fewer than `TEXTS_END` bytes together.
 #[derive(Debug, Drop)]
 pub struct Store {
     entries: Vec<Entry>,
@@ -46,7 +47,7 @@ impl Store {
         }
     }
 
-    /// How many features there are.
+    /// How many features there are. The text of each has at most 32,768 bytes.
     pub fn len(&self) -> usize
         ensures count { result ≡ length self.now.features }
         ensures map { IsMap self.now.features }
@@ -70,29 +71,28 @@ impl Store {
         }
     }
 
-    /// Makes room for a feature of this number, so that `place` needs no memory. A store of `MOST_FEATURES` has room only
-    /// for the numbers that are there.
+    /// Makes room for a feature of this number, so that `place` needs no memory.
     pub fn room(&mut self, id: u64) -> Result<(), Memory>
         ensures map { self.new.features ≡ self.old.features }
         ensures room { OnOk result (HasRoom self.new id) }
-        // It is refused only where room was missing, and nothing changes then.
+        // It fails only where room was missing, and nothing changes then.
         ensures missing { OnErr result (¬ HasRoom self.old id) }
         ensures unchanged { OnErr result (self.new ≡ self.old) }
     {
         if self.get(id).is_some() {
             return Ok(());
         }
-        if self.entries.len() >= MOST_FEATURES {
-            return Err(AllocError);
-        }
         self.entries.reserve(1)
     }
 
     /// Gives the number this feature, whatever feature it had. It takes no memory.
     pub fn place(&mut self, id: u64, feature: Feature)
-        requires allowed { IsAllowed id (feature_data feature) }
+        requires edit { IsEdit (put id (feature_data feature)) }
         requires room { HasRoom self.old id }
+        requires texts { length (snapshot (with_feature self.old.features id (feature_data feature))) < TEXTS_END }
         ensures map { self.new.features ≡ with_feature self.old.features id (feature_data feature) }
+        ensures spare { self.new.spare ≡ spare_with self.old id }
+        ensures count { length self.new.features ≡ count_with self.old id }
         ensures here { feature_at self.new.features id ≡ Some (feature_data feature) }
         ensures others { (n : ℕ) → n ≢ id → feature_at self.new.features n ≡ feature_at self.old.features n }
     {
@@ -106,6 +106,7 @@ impl Store {
     pub fn remove(&mut self, id: u64) -> bool
         ensures found { IsTrue result ↔ IsSome (feature_at self.old.features id) }
         ensures map { self.new.features ≡ without_feature self.old.features id }
+        ensures spare { self.new.spare ≡ spare_without self.old id }
         ensures gone { feature_at self.new.features id ≡ None }
         ensures others { (n : ℕ) → n ≢ id → feature_at self.new.features n ≡ feature_at self.old.features n }
     {
@@ -119,20 +120,24 @@ impl Store {
     }
 
     /// The layers of a tile: names ascend byte by byte, and the features of a layer by number, each with its number as id
-    /// (Mapbox Vector Tile 2.1, 4.1 and 4.2). A layer of which the tile shows nothing is left out.
+    /// (Mapbox Vector Tile 2.1, 4.1 and 4.2). A layer of which the tile shows nothing is left out; above the greatest zoom
+    /// there is none.
     ///
-    /// One pass over the features; the layers borrow names, keys and texts from them. The only error is want of memory.
-    pub fn layers(&self, alloc: Global, at: TileAt) -> Result<Vec<Layer<'_>>, Memory>
-        requires { at.z ≤ 16 }
-        ensures layers { IfOk result (λ v. AreLayers self.now.features at.z at.x at.y (layer_views v.items)) }
+    /// One pass over the features; the layers borrow names, keys and texts from them. The only error is out of memory.
+    pub fn layers(&self, at: TileAt) -> Result<Vec<Layer<'_>>, Memory>
+        ensures layers { IfOk result (λ v. layer_views v.items ≡ layers self.now.features at.z at.x at.y) }
         // They can be written as a tile.
         ensures can_write { IfOk result (λ v. CanWriteAll (layer_views v.items)) }
     {
+        let alloc = *self.entries.allocator();
+        if at.z > GREATEST_ZOOM {
+            return Ok(Vec::new(alloc));
+        }
         let gathered = gather(alloc, &self.entries, at)?;
         listed(alloc, gathered)
     }
 
-    /// The same map once more. The only error is want of memory.
+    /// The same map once more. The only error is out of memory.
     pub fn copy(&self) -> Result<Store, Memory>
         ensures { IfOk result (λ s. s.features ≡ self.now.features) }
     {

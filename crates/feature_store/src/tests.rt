@@ -1,5 +1,6 @@
 use super::*;
-use edit_text::{Feature, Geometry, World, check};
+use edit_codec::encode;
+use edit_text::{Edit, Feature, Geometry, World, check};
 use hilbert_id::TileAt;
 use mvt_layer::Layer;
 use std::alloc::{AllocError, Global};
@@ -17,10 +18,20 @@ fn corner(alloc: Global, layer: &str, minzoom: u8) -> Result<Feature, AllocError
     })
 }
 
-fn put(store: &mut Store, id: u64, feature: Feature) -> Result<(), Fail> {
+/// The most features of a store in a test.
+const MOST: usize = 1_000;
+
+fn put(alloc: Global, store: &mut Store, id: u64, feature: Feature) -> Result<(), Fail> {
     check(id, &feature)?;
+    let edit = Edit::Put { id, feature };
+    let _text = encode(alloc, &edit)?;
+    if store.len() > MOST {
+        return Err("too many features".into());
+    }
     store.room(id)?;
-    store.place(id, feature);
+    if let Edit::Put { id, feature } = edit {
+        store.place(id, feature);
+    }
     Ok(())
 }
 
@@ -28,7 +39,7 @@ fn put(store: &mut Store, id: u64, feature: Feature) -> Result<(), Fail> {
 fn filled(alloc: Global, entries: &[(u64, &str)]) -> Result<Store, Fail> {
     let mut store = Store::new(alloc);
     for (id, layer) in entries {
-        put(&mut store, *id, corner(alloc, layer, 0)?)?;
+        put(alloc, &mut store, *id, corner(alloc, layer, 0)?)?;
     }
     Ok(store)
 }
@@ -74,15 +85,30 @@ fn assert_layer(rt: &impl Abort, layer: &Layer<'_>, name: &str, ids: &[u64]) {
 fn layers_stand_in_byte_order(rt: HostRuntime) -> Result<(), Fail> {
     let alloc = rt.alloc();
     let mut store = filled(alloc, &[(9, "b"), (7, "b"), (5, "a"), (8, "B")])?;
-    put(&mut store, 6, corner(alloc, "c", 1)?)?;
+    put(alloc, &mut store, 6, corner(alloc, "c", 1)?)?;
     let at = TileAt::new(0, 0, 0).ok_or("a place")?;
-    let layers = store.layers(alloc, at)?;
+    let layers = store.layers(at)?;
     assert_eq!(rt; layers.len(), 3);
     assert_layer(&rt, &layers[0], "B", &[8]);
     assert_layer(&rt, &layers[1], "a", &[5]);
     assert_layer(&rt, &layers[2], "b", &[7, 9]);
 
     let elsewhere = TileAt::new(1, 1, 1).ok_or("a place")?;
-    assert!(rt; store.layers(alloc, elsewhere)?.is_empty());
+    assert!(rt; store.layers(elsewhere)?.is_empty());
+    Ok(())
+}
+
+/// Above the greatest zoom of a feature there are no layers, whatever the map has.
+#[test]
+fn no_layers_above_the_greatest_zoom(rt: HostRuntime) -> Result<(), Fail> {
+    let alloc = rt.alloc();
+    let mut store = Store::new(alloc);
+    let mut feature = corner(alloc, "a", 0)?;
+    feature.maxzoom = 16;
+    put(alloc, &mut store, 1, feature)?;
+    for (zoom, count) in [(0, 1), (16, 1), (17, 0), (31, 0)] {
+        let at = TileAt::new(zoom, 0, 0).ok_or("a place")?;
+        assert_eq!(rt; store.layers(at)?.len(), count, "at zoom {zoom}");
+    }
     Ok(())
 }

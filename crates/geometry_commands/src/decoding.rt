@@ -1,9 +1,11 @@
-ghost use Rattle.std.specs.Prelude.{◌≡◌, length, map, IfOk, IfErr};
+ghost use Rattle.std.specs.Prelude.{◌≡◌, ◌≢◌, ◌+◌, ◌*◌, ◌/◌, ◌<◌, ◌≤◌, ◌⊎◌, Bool, List, length, map, vec_len, vec_capacity, Ok, Err, IfOk, IfErr, OnOk};
 ghost use Rattle.geometry_commands.specs.Faulty.{ShapeHas};
-ghost use Rattle.geometry_commands.specs.Shapes.{shape_view, ShapeView, IsShape};
+ghost use Rattle.geometry_commands.specs.Shapes.{shape_view, ShapeView, IsShape, least};
 ghost use Rattle.geometry_commands.specs.Ways.{along_at, moved_at};
-ghost use Rattle.geometry_commands.specs.Decoding.{Gives, command_at, step_at, walk_at, close_at, line_at, lines_at, points_at, shape_at};
+ghost use Rattle.geometry_commands.specs.Decoding.{Fails, Gives, command_at, step_at, walk_at, close_at, line_at, line_second, lines_at, points_at, shape_at};
 ghost use Rattle.geometry_commands.specs.Identifiers.{id_number};
+ghost use Rattle.geometry_commands.specs.Commands.{move_to, line_to};
+ghost use Rattle.geometry_commands.specs.declared.point.Pt.{Pt};
 ghost use Rattle.geometry_commands.specs.declared.decoding.GeometryFault.TheVariants.{Memory};
 
 use crate::command::CommandId;
@@ -68,7 +70,9 @@ fn moved(from: Pt, dx: u32, dy: u32) -> Option<Pt>
 /// How many times this command is done, which must stand in front, and what stands behind it.
 #[tactic(auto, unfolding(crate::specs::Decoding::command_at))]
 fn command_of(id: CommandId, ints: &[u32]) -> Result<(u32, &[u32]), GeometryFault>
-    ensures { Gives (λ x. (x.0, x.1.now)) result (command_at (id_number id) ints.now) }
+    ensures exact { Gives (λ x. (x.0, x.1.now)) result (command_at (id_number id) ints.now) }
+    ensures behind { IfOk result (λ x. length x.1.now + 1 ≡ length ints.now) }
+    ensures memory { result ≢ Err GeometryFault.Memory }
 {
     if ints.len() == 0 {
         return Err(GeometryFault::Cut);
@@ -83,7 +87,9 @@ fn command_of(id: CommandId, ints: &[u32]) -> Result<(u32, &[u32]), GeometryFaul
 /// The point to which the next two integers lead.
 #[tactic(auto, unfolding(crate::specs::Decoding::step_at))]
 fn step_of(from: Pt, ints: &[u32]) -> Result<(Pt, &[u32]), GeometryFault>
-    ensures { Gives (λ x. (x.0, x.1.now)) result (step_at from ints.now) }
+    ensures exact { Gives (λ x. (x.0, x.1.now)) result (step_at from ints.now) }
+    ensures behind { IfOk result (λ x. length x.1.now + 2 ≡ length ints.now) }
+    ensures memory { result ≢ Err GeometryFault.Memory }
 {
     if ints.len() < 2 {
         return Err(GeometryFault::Cut);
@@ -94,14 +100,18 @@ fn step_of(from: Pt, ints: &[u32]) -> Result<(Pt, &[u32]), GeometryFault>
     }
 }
 
-/// So many points more, where the cursor stands then, and what stands behind them.
+/// So many points more, where the cursor stands then, and what stands behind them. However many there are to be, memory
+/// is taken only for points that stand there.
 fn walk<'a>(
     before: Vec<Pt>,
     from: Pt,
     count: u32,
     ints: &'a [u32],
 ) -> Result<(Vec<Pt>, Pt, &'a [u32]), GeometryFault>
-    ensures { Gives (λ x. (x.0.items, x.1, x.2.now)) result (walk_at count before.items from ints.entry.now) }
+    ensures exact { Gives (λ x. (x.0.items, x.1, x.2.now)) result (walk_at count before.items from ints.entry.now) }
+    ensures behind { IfOk result (λ x. length x.2.now + 2 * count ≡ length ints.entry.now) }
+    // Memory runs out only where the vector has no room for the points that stand there.
+    ensures full { IfErr result (λ fault. fault ≡ GeometryFault.Memory → vec_capacity before < vec_len before + length ints.entry.now / 2) }
 {
     let mut points = before;
     let mut at = from;
@@ -118,7 +128,8 @@ fn walk<'a>(
 /// What stands behind the command that closes a ring.
 #[tactic(auto, unfolding(crate::specs::Decoding::close_at))]
 fn close_of(closed: bool, ints: &[u32]) -> Result<&[u32], GeometryFault>
-    ensures { Gives (λ x. x.now) result (close_at closed ints.now) }
+    ensures exact { Gives (λ x. x.now) result (close_at closed ints.now) }
+    ensures memory { result ≢ Err GeometryFault.Memory }
 {
     if closed {
         let (count, rest) = command_of(CommandId::ClosePath, ints)?;
@@ -132,6 +143,42 @@ fn close_of(closed: bool, ints: &[u32]) -> Result<&[u32], GeometryFault>
     }
 }
 
+/// What stands behind the command to move to the first point of a line, which is done once.
+#[tactic(auto, unfolding(crate::specs::Decoding::line_at, crate::specs::Decoding::line_first))]
+fn start_of(ints: &[u32]) -> Result<&[u32], GeometryFault>
+    ensures found { IfOk result (λ rest. command_at move_to ints.now ≡ Ok (1, rest.now)) }
+    ensures behind { IfOk result (λ rest. length rest.now + 1 ≡ length ints.now) }
+    ensures fault { IfErr result (λ fault. (closed : Bool) (from : Pt) → Fails fault (line_at closed from ints.now)) }
+    ensures memory { result ≢ Err GeometryFault.Memory }
+{
+    let (count, rest) = match command_of(CommandId::MoveTo, ints) {
+        Ok(front) => front,
+        Err(fault) => return Err(fault),
+    };
+    if count != 1 {
+        return Err(GeometryFault::Count);
+    }
+    Ok(rest)
+}
+
+/// How many points a line has behind its first one, and what stands behind this command.
+#[tactic(auto, unfolding(crate::specs::Decoding::line_second, crate::specs::Decoding::line_others))]
+fn count_of(closed: bool, ints: &[u32]) -> Result<(u32, &[u32]), GeometryFault>
+    ensures found { IfOk result (λ x. (command_at line_to ints.now ≡ Ok (x.0, x.1.now)) × (least closed ≤ x.0)) }
+    ensures fault { IfErr result (λ fault. (points : List Pt) (at : Pt) → Fails fault (line_second closed (points, at, ints.now))) }
+    ensures memory { result ≢ Err GeometryFault.Memory }
+{
+    let (count, rest) = match command_of(CommandId::LineTo, ints) {
+        Ok(front) => front,
+        Err(fault) => return Err(fault),
+    };
+    let least = if closed { 2 } else { 1 };
+    if count < least {
+        return Err(GeometryFault::Count);
+    }
+    Ok((count, rest))
+}
+
 /// A line, or a ring, which is closed.
 #[tactic(auto, unfolding(crate::specs::Decoding::line_at, crate::specs::Decoding::line_first, crate::specs::Decoding::line_second, crate::specs::Decoding::line_others, crate::specs::Decoding::line_end))]
 fn line_of(
@@ -140,18 +187,13 @@ fn line_of(
     from: Pt,
     ints: &[u32],
 ) -> Result<(Vec<Pt>, Pt, &[u32]), GeometryFault>
-    ensures { Gives (λ x. (x.0.items, x.1, x.2.now)) result (line_at closed from ints.now) }
+    ensures exact { Gives (λ x. (x.0.items, x.1, x.2.now)) result (line_at closed from ints.now) }
+    ensures long { OnOk result (3 ≤ length ints.now) }
+    ensures memory { IfErr result (λ fault. fault ≡ GeometryFault.Memory → 3 ≤ length ints.now) }
 {
-    let (count, rest) = command_of(CommandId::MoveTo, ints)?;
-    if count != 1 {
-        return Err(GeometryFault::Count);
-    }
+    let rest = start_of(ints)?;
     let (points, at, rest) = walk(Vec::new(alloc), from, 1, rest)?;
-    let (count, rest) = command_of(CommandId::LineTo, rest)?;
-    let least = if closed { 2 } else { 1 };
-    if count < least {
-        return Err(GeometryFault::Count);
-    }
+    let (count, rest) = count_of(closed, rest)?;
     let (points, at, rest) = walk(points, at, count, rest)?;
     let rest = close_of(closed, rest)?;
     Ok((points, at, rest))
@@ -159,7 +201,8 @@ fn line_of(
 
 /// Lines, or rings, each from where the one before it ends.
 fn lines_of(alloc: Global, closed: bool, ints: &[u32]) -> Result<Vec<Vec<Pt>>, GeometryFault>
-    ensures { Gives (λ v. map (λ l. l.items) v.items) result (lines_at closed ints.now) }
+    ensures exact { Gives (λ v. map (λ l. l.items) v.items) result (lines_at closed ints.now) }
+    ensures memory { IfErr result (λ fault. fault ≡ GeometryFault.Memory → 3 ≤ length ints.now) }
 {
     let mut lines = Vec::new(alloc);
     let mut at = Pt::ORIGIN;
@@ -173,24 +216,49 @@ fn lines_of(alloc: Global, closed: bool, ints: &[u32]) -> Result<Vec<Vec<Pt>>, G
     Ok(lines)
 }
 
+/// How many points there are, at least one, and what stands behind this command.
+#[tactic(auto, unfolding(crate::specs::Decoding::points_at, crate::specs::Decoding::points_behind))]
+fn points_count(ints: &[u32]) -> Result<(u32, &[u32]), GeometryFault>
+    requires { 0 < length ints.now }
+    ensures found { IfOk result (λ x. (command_at move_to ints.now ≡ Ok (x.0, x.1.now)) × (0 < x.0)) }
+    ensures behind { IfOk result (λ x. length x.1.now + 1 ≡ length ints.now) }
+    ensures fault { IfErr result (λ fault. Fails fault (points_at ints.now)) }
+    ensures memory { result ≢ Err GeometryFault.Memory }
+{
+    let (count, rest) = match command_of(CommandId::MoveTo, ints) {
+        Ok(front) => front,
+        Err(fault) => return Err(fault),
+    };
+    if count == 0 {
+        return Err(GeometryFault::Count);
+    }
+    Ok((count, rest))
+}
+
+/// Nothing stands behind the points.
+fn check_end(rest: &[u32]) -> Result<(), GeometryFault>
+    ensures end { OnOk result (length rest.now ≡ 0) }
+    ensures fault { IfErr result (λ fault. (fault ≡ GeometryFault.Command) × (0 < length rest.now)) }
+{
+    if rest.len() > 0 {
+        return Err(GeometryFault::Command);
+    }
+    Ok(())
+}
+
 /// The points of one move.
 #[tactic(auto, unfolding(crate::specs::Decoding::points_at, crate::specs::Decoding::points_behind, crate::specs::Decoding::points_end))]
 fn points_of(alloc: Global, ints: &[u32]) -> Result<Vec<Pt>, GeometryFault>
-    ensures { Gives (λ v. v.items) result (points_at ints.now) }
+    ensures exact { Gives (λ v. v.items) result (points_at ints.now) }
+    ensures memory { IfErr result (λ fault. fault ≡ GeometryFault.Memory → 3 ≤ length ints.now) }
 {
     if ints.len() == 0 {
         return Ok(Vec::new(alloc));
     }
-    let (count, rest) = command_of(CommandId::MoveTo, ints)?;
-    if count == 0 {
-        return Err(GeometryFault::Count);
-    }
+    let (count, rest) = points_count(ints)?;
     let (points, _at, rest) = walk(Vec::new(alloc), Pt::ORIGIN, count, rest)?;
-    if rest.len() == 0 {
-        Ok(points)
-    } else {
-        Err(GeometryFault::Command)
-    }
+    check_end(rest)?;
+    Ok(points)
 }
 
 /// The shape of this kind that the integers spell, by the commands that its kind allows (Mapbox Vector Tile 2.1,
@@ -198,7 +266,8 @@ fn points_of(alloc: Global, ints: &[u32]) -> Result<Vec<Pt>, GeometryFault>
 /// points or more. No integers are an empty shape of their kind. Rings may turn either way and have no area, and a
 /// point may stand where the one before it stands.
 ///
-/// What is answered is the first fault from left to right.
+/// What is answered is the first fault from left to right. However many points a command claims, memory is taken only for
+/// those that stand behind it: a claim that isn't met is `Cut`.
 pub fn decode(alloc: Global, kind: ShapeKind, ints: &[u32]) -> Result<Shape, GeometryFault>
     // What is found is spelled so.
     ensures found { IfOk result (λ s. IsShape kind ints.now (shape_view s)) }
@@ -207,6 +276,8 @@ pub fn decode(alloc: Global, kind: ShapeKind, ints: &[u32]) -> Result<Shape, Geo
     // The fault is one that the integers have.
     ensures fault { IfErr result (λ d. (d ≡ GeometryFault.Memory → ⊥) → ShapeHas kind ints.now d) }
     ensures exact { Gives shape_view result (shape_at kind ints.now) }
+    // Memory runs out only where a command and a point may stand, or all integers are to be kept.
+    ensures memory { IfErr result (λ d. d ≡ GeometryFault.Memory → (kind ≡ ShapeKind.Unknown) ⊎ (3 ≤ length ints.now)) }
 {
     shape_of(alloc, kind, ints)
 }
@@ -214,7 +285,8 @@ pub fn decode(alloc: Global, kind: ShapeKind, ints: &[u32]) -> Result<Shape, Geo
 /// The shape, as the definitions read it.
 #[tactic(auto, unfolding(crate::specs::Decoding::shape_at))]
 fn shape_of(alloc: Global, kind: ShapeKind, ints: &[u32]) -> Result<Shape, GeometryFault>
-    ensures { Gives shape_view result (shape_at kind ints.now) }
+    ensures exact { Gives shape_view result (shape_at kind ints.now) }
+    ensures memory { IfErr result (λ d. d ≡ GeometryFault.Memory → (kind ≡ ShapeKind.Unknown) ⊎ (3 ≤ length ints.now)) }
 {
     match kind {
         ShapeKind::Points => Ok(Shape::Points(points_of(alloc, ints)?)),

@@ -84,7 +84,7 @@ fn encode_all(alloc: Global, closed: bool, lines: &[Vec<Pt>]) -> Result<Vec<u32>
 /// The integers of points: one command to move, and the way along all of them (Mapbox Vector Tile 2.1, 4.3.4.2).
 ///
 /// There is at least one point, and fewer than 2^29. From point to point, the first counted from (0,0), each
-/// coordinate changes by at most 2^31 - 1. The only error is want of memory.
+/// coordinate changes by at most 2^31 - 1. The only error is that memory runs out.
 pub fn encode_points(alloc: Global, points: &[Pt]) -> Result<Vec<u32>, Memory>
     requires { CanSpell (shapes.points points.now) }
     ensures spelled { IfOk result (λ v. v.items ≡ points_spelled points.now) }
@@ -102,7 +102,7 @@ pub fn encode_points(alloc: Global, points: &[Pt]) -> Result<Vec<u32>, Memory>
 ///
 /// A line has at least two points, and fewer than 2^29. From point to point, the first counted from (0,0) and the
 /// first of each further line from the last of the one before it, each coordinate changes by at most 2^31 - 1. There
-/// may be no lines. The only error is want of memory.
+/// may be no lines. The only error is that memory runs out.
 pub fn encode_lines(alloc: Global, lines: &[Vec<Pt>]) -> Result<Vec<u32>, Memory>
     requires { CanSpell (shapes.lines (map (λ l. l.items) lines.now)) }
     ensures spelled { IfOk result (λ v. v.items ≡ lines_spelled false origin (map (λ l. l.items) lines.now)) }
@@ -117,7 +117,7 @@ pub fn encode_lines(alloc: Global, lines: &[Vec<Pt>]) -> Result<Vec<u32>, Memory
 ///
 /// A ring has at least three points, the first not repeated at its end, and fewer than 2^29. From point to point, the
 /// first counted from (0,0) and the first of each further ring from the last of the one before it, each coordinate
-/// changes by at most 2^31 - 1. There may be no rings. The only error is want of memory.
+/// changes by at most 2^31 - 1. There may be no rings. The only error is that memory runs out.
 pub fn encode_rings(alloc: Global, rings: &[Vec<Pt>]) -> Result<Vec<u32>, Memory>
     requires { CanSpell (shapes.rings (map (λ l. l.items) rings.now)) }
     ensures spelled { IfOk result (λ v. v.items ≡ lines_spelled true origin (map (λ l. l.items) rings.now)) }

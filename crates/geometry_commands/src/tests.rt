@@ -202,3 +202,18 @@ fn names_the_first_fault(rt: HostRuntime) {
         GeometryFault::Count,
     );
 }
+
+/// A command that is done 2^29 - 1 times, the most that it can say, with fewer points behind it.
+#[test]
+fn claimed_points_are_not_there(rt: HostRuntime) {
+    let alloc = rt.alloc();
+    let (moves, draws) = (0xffff_fff9, 0xffff_fffa);
+    for (kind, ints) in [
+        (ShapeKind::Points, [moves, 2, 2, 2, 2, 2].as_slice()),
+        (ShapeKind::Points, [moves].as_slice()),
+        (ShapeKind::Lines, [9, 0, 0, draws, 2, 2].as_slice()),
+        (ShapeKind::Polygons, [9, 0, 0, draws, 2, 2].as_slice()),
+    ] {
+        refuses(&rt, alloc, kind, ints, GeometryFault::Cut);
+    }
+}

@@ -1,13 +1,15 @@
 -- Requests one after the other, and their replies.
-use Rattle.std.proofs.Common.{◌≡◌, ℕ, List, [], ◌∷◌, ◌++◌, Option, Bool, true, false, take, drop, length, ◌+◌, ◌-◌, ◌^◌, ◌<◌, min, inl, inr, arith, length-append, refl, sym, ap, ◌∙◌, subst, append_assoc}
+use Rattle.std.proofs.Common.{◌≡◌, ℕ, List, [], ◌∷◌, ◌++◌, Option, true, false, take, drop, length, ◌+◌, ◌-◌, ◌^◌, ◌<◌, min, inl, inr, arith, length-append}
+use Rattle.std.proofs.Common.{refl, sym, ap, ◌∙◌, subst, append_assoc}
 use Rattle.std.proofs.lemmas.List.{append-nil}
 use Rattle.std.specs.Io.KnownBytes.{Appends}
+use Rattle.httparse.specs.Grammar.{RequestHead}
 use Rattle.http_serve.specs.declared.refusals.Refusal.{Refusal}
 use Rattle.http_serve.specs.Message.{Message, IsHead, IsMessage, Begins, Ending, going, closed, asked, refused, EndsAs, IsRefused, asks_to_close}
 use Rattle.http_serve.specs.Question.{Question, question_of, question_at, path_of}
 use Rattle.http_serve.specs.declared.frames.Frame.{Frame}
 use Rattle.http_serve.specs.Frame.{IsFrameOf}
-use Rattle.http_serve.specs.Reply.{ReplyView, reply_bytes, refusal_bytes}
+use Rattle.http_serve.specs.Reply.{ReplyView, is_head, reply_bytes, reply_to, reply_at, refusal_bytes}
 use Rattle.http_serve.specs.Served.{RisesBy, reply_count, Answers, AnswersEnd, Carries, Ends, Breaks, Anything}
 use Rattle.http_serve.proofs.HeadLemmas.{IsHead-append}
 use Rattle.http_serve.proofs.KnownLemmas.{Appends-then, Appends_none}
@@ -47,7 +49,7 @@ pub reply_count_split : (messages : List Message) (ending : Ending) → reply_co
 reply_count_split messages going = omega arith
 reply_count_split messages closed = omega arith
 reply_count_split messages (asked message) = refl
-reply_count_split messages (refused refusal) = refl
+reply_count_split messages (refused head refusal) = refl
 
 pub reply_count-append : (messages others : List Message) (ending : Ending)
     → reply_count (messages ++ others) ending ≡ length messages + reply_count others ending
@@ -67,7 +69,7 @@ module _ {S : Type 0} (replies : S → Question → ReplyView → S → Type 0) 
     x.1,
     x.2 ++ b,
     x.3,
-    ap (λ (t : List ℕ). t ++ b) x.4 ∙ append_assoc (reply_bytes false x.0) x.2 b,
+    ap (λ (t : List ℕ). t ++ b) x.4 ∙ append_assoc (reply_to message x.0) x.2 b,
     Answers-then x.1 messages others x.2 b middle new x.5 y,
   )
 
@@ -86,16 +88,16 @@ module _ {S : Type 0} (replies : S → Question → ReplyView → S → Type 0) 
   pub Carries_push : (old : S) (bytes : List ℕ) (held : Option (List ℕ)) (before : ℕ) (middle : S) (input : List ℕ) (holds : Option (List ℕ)) (so_far : ℕ)
       (message : Message) (reply : ReplyView) (new : S) (rest : List ℕ) (now : Option (List ℕ)) (after : ℕ)
       → Carries replies old bytes held before middle input holds so_far → IsMessage input message rest → asks_to_close message.head ≡ false
-      → replies middle (question_of message) reply new → Appends holds now (reply_bytes false reply) → RisesBy so_far 1 after
+      → replies middle (question_of message) reply new → Appends holds now (reply_to message reply) → RisesBy so_far 1 after
       → Carries replies old bytes held before new rest now after
   Carries_push old bytes held before middle input holds so_far message reply new rest now after so is goes_on given sent one = record {
     messages = so.messages ++ message ∷ [];
-    out = so.out ++ reply_bytes false reply;
+    out = so.out ++ reply_to message reply;
     begins = Begins-then bytes so.messages (message ∷ []) input rest so.begins (rest, is, goes_on, refl);
     answers =
-        Answers-then old so.messages (message ∷ []) so.out (reply_bytes false reply) middle new so.answers
-        (reply, new, [], given, sym (append-nil (reply_bytes false reply)), (refl, refl));
-    written = Appends-then held holds now so.out (reply_bytes false reply) so.written sent;
+        Answers-then old so.messages (message ∷ []) so.out (reply_to message reply) middle new so.answers
+        (reply, new, [], given, sym (append-nil (reply_to message reply)), (refl, refl));
+    written = Appends-then held holds now so.out (reply_to message reply) so.written sent;
     counted =
         subst (λ (n : ℕ). RisesBy before n after) (sym (length-append so.messages (message ∷ [])))
         (rises_then before (length so.messages) so_far 1 after so.counted one);
@@ -120,17 +122,19 @@ module _ {S : Type 0} (replies : S → Question → ReplyView → S → Type 0) 
 
   -- a write failed in a refusal
   pub Breaks_refused : (old : S) (bytes : List ℕ) (held : Option (List ℕ)) (before : ℕ) (middle : S) (input : List ℕ) (holds : Option (List ℕ)) (so_far : ℕ)
-      (refusal : Refusal) (n : ℕ) (now : Option (List ℕ)) → Carries replies old bytes held before middle input holds so_far
-      → 0 < length input → IsRefused input refusal → n < length (refusal_bytes refusal) → Appends holds now (take n (refusal_bytes refusal))
-      → Breaks replies old bytes held before middle now so_far
-  Breaks_refused old bytes held before middle input holds so_far refusal n now so some is cut sent = record {
+      (follow : List ℕ → Type 0) (head : Option RequestHead) (refusal : Refusal) (n : ℕ) (now : Option (List ℕ))
+      → Carries replies old bytes held before middle input holds so_far
+      → 0 < length input → ((more : List ℕ) → follow more → IsRefused (input ++ more) head refusal)
+      → n < length (refusal_bytes head refusal) → Appends holds now (take n (refusal_bytes head refusal))
+      → Breaks replies old bytes follow held before middle now so_far
+  Breaks_refused old bytes held before middle input holds so_far follow head refusal n now so some is cut sent = record {
     middle = middle;
     rest = input;
     between = holds;
     carries = so;
-    next = refusal_bytes refusal;
+    next = refusal_bytes head refusal;
     count = n;
-    replied = inr (record { refusal = refusal; some = some; is = is; same = refl; out_is = refl });
+    replied = inr (record { head = head; refusal = refusal; some = some; is = is; same = refl; out_is = refl });
     cut = cut;
     written = sent;
   }
@@ -146,33 +150,39 @@ module _ {S : Type 0} (replies : S → Question → ReplyView → S → Type 0) 
         let same : question_at input frame ≡ question_of message = λ i. record {
           method = is.method i;
           path = path_of (is.target i);
+          range = is.range i;
           body = is.body i;
+          close = is.close i;
         } in
         subst (λ (q : Question). replies middle q reply new) same given
 
-    pub Frame_push : (after : ℕ) → frame.close ≡ false → Appends holds now (reply_bytes frame.close reply) → RisesBy so_far 1 after
+    -- the reply of the frame is the reply to its message
+    same_reply : reply_at input frame reply ≡ reply_to message reply
+    same_reply = λ i. reply_bytes (is.close i) (is_head (is.method i)) reply
+
+    pub Frame_push : (after : ℕ) → frame.close ≡ false → Appends holds now (reply_at input frame reply) → RisesBy so_far 1 after
         → Carries replies old bytes held before new (drop frame.body.end input) now after
     Frame_push after goes_on sent one =
         Carries_push old bytes held before middle input holds so_far message reply new (drop frame.body.end input) now after so is.is
         (sym is.close ∙ goes_on) asked_so
-        (subst (λ (b : Bool). Appends holds now (reply_bytes b reply)) goes_on sent) one
+        (subst (λ (t : List ℕ). Appends holds now t) same_reply sent) one
 
-    pub Frame_ends : (after : ℕ) → frame.close ≡ true → Appends holds now (reply_bytes frame.close reply) → RisesBy so_far 1 after
+    pub Frame_ends : (after : ℕ) → frame.close ≡ true → Appends holds now (reply_at input frame reply) → RisesBy so_far 1 after
         → Ends replies old bytes Anything held before (asked message) new now after
     Frame_ends after closes sent one =
-        Ends_push old bytes held before middle input holds so_far Anything (asked message) (reply_bytes true reply) new now after so
+        Ends_push old bytes held before middle input holds so_far Anything (asked message) (reply_to message reply) new now after so
         (λ more _. (drop frame.body.end input ++ more, IsMessage-append input more message (drop frame.body.end input) is.is, sym is.close ∙ closes))
         (reply, asked_so, refl)
-        (subst (λ (b : Bool). Appends holds now (reply_bytes b reply)) closes sent) one
+        (subst (λ (t : List ℕ). Appends holds now t) same_reply sent) one
 
-    pub Frame_breaks : (n : ℕ) → n < length (reply_bytes frame.close reply) → Appends holds now (take n (reply_bytes frame.close reply))
-        → Breaks replies old bytes held before new now so_far
+    pub Frame_breaks : (n : ℕ) → n < length (reply_at input frame reply) → Appends holds now (take n (reply_at input frame reply))
+        → Breaks replies old bytes Anything held before new now so_far
     Frame_breaks n cut sent = record {
       middle = middle;
       rest = input;
       between = holds;
       carries = so;
-      next = reply_bytes frame.close reply;
+      next = reply_at input frame reply;
       count = n;
       replied =
           inl (record {
@@ -181,7 +191,7 @@ module _ {S : Type 0} (replies : S → Question → ReplyView → S → Type 0) 
             reply = reply;
             is = is.is;
             replied = asked_so;
-            out_is = ap (λ (b : Bool). reply_bytes b reply) is.close;
+            out_is = same_reply;
           });
       cut = cut;
       written = sent;

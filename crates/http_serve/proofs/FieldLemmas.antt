@@ -1,5 +1,6 @@
 -- Values of content-length.
-use Rattle.std.proofs.Common.{◌≡◌, ℕ, ◌+◌, ◌-◌, ◌*◌, ◌<◌, ◌≤◌, List, [], ◌∷◌, ◌++◌, Bool, true, false, ◌&&◌, cond, length, take, drop, map, min, refl, sym, ap, ◌∙◌, arith, get_or, Ok, Err, Result, nat_le}
+use Rattle.std.proofs.Common.{◌≡◌, ℕ, ◌+◌, ◌-◌, ◌*◌, ◌<◌, ◌≤◌, List, [], ◌∷◌, ◌++◌, Bool, true, false, ◌&&◌, cond, length, take, drop, map, min, refl, sym}
+use Rattle.std.proofs.Common.{ap, ◌∙◌, arith, get_or, Ok, Err, Result, nat_le}
 use Rattle.std.specs.List.{filter, list_all}
 use Rattle.std.specs.Char.{digit_value, is_ascii_digit}
 use Rattle.std.specs.Str.Parse.{digits_value}
@@ -22,7 +23,7 @@ use Rattle.httparse.specs.Ascii.{comma}
 use Rattle.httparse.specs.Grammar.{trim_ows}
 use Rattle.http_serve.specs.declared.refusals.Refusal.{Refusal}
 use Rattle.http_serve.specs.declared.refusals.Refusal.TheVariants.{Head}
-use Rattle.http_serve.specs.Fields.{NamedValue, is_content_length, lengths_of, stated_length, is_numeral, is_word, lists_close, is_close, says_close}
+use Rattle.http_serve.specs.Fields.{NamedValue, values_of, stated_length, only_value, is_numeral, is_word, lists_close, is_close, says_close}
 
 -- one more digit, capped
 capped_more : (x d : ℕ) → min (min x 65537 * 10 + d) 65537 ≡ min (x * 10 + d) 65537
@@ -44,35 +45,49 @@ capped_step ds i n d r all at so digit now =
     ∙ capped ∙ ap (λ (k : ℕ). min k 65537) (sym more)
 
 -- more fields
-pub lengths-append : (xs ys : List NamedValue) → lengths_of (xs ++ ys) ≡ lengths_of xs ++ lengths_of ys
-lengths-append xs ys =
-    ap (λ (fields : List NamedValue). map (λ field. field.1) fields) (filter-append is_content_length xs ys)
-    ∙ map-append (λ (field : NamedValue). field.1) (filter is_content_length xs) (filter is_content_length ys)
+values-append : (word : List ℕ) (xs ys : List NamedValue) → values_of word (xs ++ ys) ≡ values_of word xs ++ values_of word ys
+values-append word xs ys =
+    let named : NamedValue → Bool = λ field. is_word word field.0 in
+    ap (λ (fields : List NamedValue). map (λ field. field.1) fields) (filter-append named xs ys)
+    ∙ map-append (λ (field : NamedValue). field.1) (filter named xs) (filter named ys)
 
-lengths_one : (x : NamedValue) (b : Bool) → is_content_length x ≡ b → lengths_of (x ∷ []) ≡ cond b (x.1 ∷ []) []
-lengths_one x true is = rw is refl
-lengths_one x false is = rw is refl
+values_one : (word : List ℕ) (x : NamedValue) (b : Bool) → is_word word x.0 ≡ b → values_of word (x ∷ []) ≡ cond b (x.1 ∷ []) []
+values_one word x true is = rw is refl
+values_one word x false is = rw is refl
 
 -- one more field
-pub lengths_step : (bytes : List ℕ) (fields : List HeaderSpan) (i : ℕ) (d : HeaderSpan) (b : Bool) → i < length fields
-    → is_content_length (header_bytes bytes (get_or fields i d)) ≡ b
-    → lengths_of (map (header_bytes bytes) (take (i + 1) fields))
-    ≡ lengths_of (map (header_bytes bytes) (take i fields)) ++ cond b (span_bytes bytes (get_or fields i d).value ∷ []) []
-lengths_step bytes fields i d b at is =
-    ap (λ (f : List HeaderSpan). lengths_of (map (header_bytes bytes) f)) (take_more fields i d at)
-    ∙ ap lengths_of (map-append (header_bytes bytes) (take i fields) (get_or fields i d ∷ []))
-    ∙ lengths-append (map (header_bytes bytes) (take i fields)) (header_bytes bytes (get_or fields i d) ∷ [])
-    ∙ ap (λ (t : List (List ℕ)). lengths_of (map (header_bytes bytes) (take i fields)) ++ t) (lengths_one (header_bytes bytes (get_or fields i d)) b is)
+pub values_step : (word bytes : List ℕ) (fields : List HeaderSpan) (i : ℕ) (d : HeaderSpan) (b : Bool) → i < length fields
+    → is_word word (span_bytes bytes (get_or fields i d).name) ≡ b
+    → values_of word (map (header_bytes bytes) (take (i + 1) fields))
+    ≡ values_of word (map (header_bytes bytes) (take i fields)) ++ cond b (span_bytes bytes (get_or fields i d).value ∷ []) []
+values_step word bytes fields i d b at is =
+    ap (λ (f : List HeaderSpan). values_of word (map (header_bytes bytes) f)) (take_more fields i d at)
+    ∙ ap (values_of word) (map-append (header_bytes bytes) (take i fields) (get_or fields i d ∷ []))
+    ∙ values-append word (map (header_bytes bytes) (take i fields)) (header_bytes bytes (get_or fields i d) ∷ [])
+    ∙ ap (λ (t : List (List ℕ)). values_of word (map (header_bytes bytes) (take i fields)) ++ t)
+    (values_one word (header_bytes bytes (get_or fields i d)) b is)
 
--- two values are refused, whatever fields follow
-pub two_lengths : (bytes : List ℕ) (fields : List HeaderSpan) (i : ℕ) (v w : List ℕ)
-    → lengths_of (map (header_bytes bytes) (take i fields)) ≡ v ∷ w ∷ []
-    → stated_length (lengths_of (map (header_bytes bytes) fields)) ≡ Err Head
-two_lengths bytes fields i v w so =
-    let parts = ap (λ (f : List HeaderSpan). lengths_of (map (header_bytes bytes) f)) (sym (take-append-drop i fields))
-    ∙ ap lengths_of (map-append (header_bytes bytes) (take i fields) (drop i fields))
-    ∙ lengths-append (map (header_bytes bytes) (take i fields)) (map (header_bytes bytes) (drop i fields)) in
-    ap stated_length (parts ∙ ap (λ (t : List (List ℕ)). t ++ lengths_of (map (header_bytes bytes) (drop i fields))) so)
+-- two values are more than one, whatever fields follow
+pub two_values : (word bytes : List ℕ) (fields : List HeaderSpan) (i : ℕ) (v w : List ℕ)
+    → values_of word (map (header_bytes bytes) (take i fields)) ≡ v ∷ w ∷ []
+    → 1 < length (values_of word (map (header_bytes bytes) fields))
+two_values word bytes fields i v w so =
+    let parts = ap (λ (f : List HeaderSpan). values_of word (map (header_bytes bytes) f)) (sym (take-append-drop i fields))
+    ∙ ap (values_of word) (map-append (header_bytes bytes) (take i fields) (drop i fields))
+    ∙ values-append word (map (header_bytes bytes) (take i fields)) (map (header_bytes bytes) (drop i fields)) in
+    let whole = ap length (parts ∙ ap (λ (t : List (List ℕ)). t ++ values_of word (map (header_bytes bytes) (drop i fields))) so) in
+    omega arith
+
+-- more than one value states no length, and is no range
+pub often_refused : (values : List (List ℕ)) → 1 < length values → stated_length values ≡ Err Head
+often_refused [] h = absurd (omega arith)
+often_refused (v ∷ []) h = absurd (omega arith)
+often_refused (v ∷ w ∷ more) h = refl
+
+pub often_none : (values : List (List ℕ)) → 1 < length values → only_value values ≡ None
+often_none [] h = absurd (omega arith)
+often_none (v ∷ []) h = absurd (omega arith)
+often_none (v ∷ w ∷ more) h = refl
 
 numeral_bound : (v : List ℕ) (a b : Bool) (n k : ℕ) → b ≡ nat_le k 65536
     → ◌≡◌ {A = Result ℕ Refusal} (cond (a && b) (Ok k) (Err Head)) (Ok n) → n ≤ 65536

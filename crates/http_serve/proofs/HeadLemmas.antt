@@ -1,17 +1,20 @@
 -- The head that bytes begin with is there whatever follows, and there is only one.
-use Rattle.std.proofs.Common.{◌≡◌, ℕ, ◌+◌, ◌-◌, ◌<◌, ◌≤◌, List, [], ◌∷◌, ◌++◌, length, take, drop, map, Bool, refl, sym, ap, ◌∙◌, subst, arith, length-append, length-drop, Ok, Err, Result, ◌==◌, ◌||◌, true, false}
+use Rattle.std.proofs.Common.{◌≡◌, ℕ, ◌+◌, ◌-◌, ◌<◌, ◌≤◌, List, [], ◌∷◌, ◌++◌, length, take, drop, map, Bool, refl, sym, ap, ◌∙◌, subst, arith}
+use Rattle.std.proofs.Common.{length-append, length-drop, Ok, Err, Result, ◌==◌, ◌||◌, true, false}
 use Rattle.std.proofs.lemmas.Bool.Decides.{nat_tests}
-use Rattle.std.proofs.Common.{inl, inr}
+use Rattle.std.proofs.Common.{Option, None, Some}
 use Rattle.http_serve.specs.Frame.{IsMissing}
 use Rattle.std.proofs.lemmas.List.{append-nil, take-append-drop, drop-drop, length-take, length-take-le, length-map}
 use Rattle.httparse.specs.Grammar.{RequestHead, IsRequestHead, ReadsRequest, print_request, HasNoRequest}
-use Rattle.httparse.specs.Spans.{IsRequestAt, IsRequestWithin, RequestOverflows, header_bytes, name_and_value}
+use Rattle.std.specs.Prelude.{IfSome, option_map}
+use Rattle.httparse.specs.declared.spans.Span.{Span}
+use Rattle.httparse.specs.Spans.{IsWithin, span_bytes, IsRequestAt, IsRequestWithin, RequestOverflows, header_bytes, name_and_value}
 use Rattle.httparse.specs.declared.spans.HeaderSpan.{HeaderSpan}
 use Rattle.httparse.specs.declared.spans.RequestSpans.{RequestSpans}
 use Rattle.httparse.proofs.GrammarLemmas.{request_unique, request_prefix_free, ReadsRequest-append}
 use Rattle.http_serve.specs.declared.refusals.Refusal.{Refusal}
 use Rattle.http_serve.specs.declared.refusals.Refusal.TheVariants.{Head}
-use Rattle.http_serve.specs.Fields.{NamedValue, body_length, says_close}
+use Rattle.http_serve.specs.Fields.{NamedValue, body_length, range_of, says_close}
 use Rattle.http_serve.specs.Frame.{IsFrameOf}
 use Rattle.http_serve.specs.Message.{Message, IsHead, IsMessage, HasNoHead, HasFault, IsFault, IsRefused, fields_of}
 
@@ -101,9 +104,8 @@ module _ (bytes : List ℕ) (fields : List HeaderSpan) (spans : RequestSpans) (h
   -- the fields are refused, whatever follows
   pub stated_fault : spans.len ≤ 8192 → length fields ≤ 32 → (refusal : Refusal)
       → body_length (map (header_bytes bytes) (take spans.headers fields)) ≡ Err refusal
-      → (more : List ℕ) → HasFault (bytes ++ more) refusal
+      → (more : List ℕ) → HasFault (bytes ++ more) h refusal
   stated_fault size room refusal e more = record {
-    head = h;
     rest = drop spans.len bytes ++ more;
     is = IsHead-append bytes more h (drop spans.len bytes) (spans_head size room);
     fault = subst (λ (s : Result ℕ Refusal). IsFault (length (drop spans.len bytes ++ more)) s refusal) (sym e ∙ spans_stated) refl;
@@ -112,9 +114,8 @@ module _ (bytes : List ℕ) (fields : List HeaderSpan) (spans : RequestSpans) (h
   -- the body isn't whole, nor with few bytes more
   pub short_fault : IsRequestWithin bytes fields spans → spans.len ≤ 8192 → length fields ≤ 32 → (n : ℕ)
       → body_length (map (header_bytes bytes) (take spans.headers fields)) ≡ Ok n
-      → (more : List ℕ) → length (bytes ++ more) < spans.len + n → HasFault (bytes ++ more) Head
+      → (more : List ℕ) → length (bytes ++ more) < spans.len + n → HasFault (bytes ++ more) h Head
   short_fault within size room n e more short = record {
-    head = h;
     rest = drop spans.len bytes ++ more;
     is = IsHead-append bytes more h (drop spans.len bytes) (spans_head size room);
     fault =
@@ -144,13 +145,16 @@ module _ (bytes : List ℕ) (fields : List HeaderSpan) (spans : RequestSpans) (h
       → body_length (map (header_bytes bytes) (take spans.headers fields)) ≡ Ok n
       → spans.len + n ≤ length bytes → (close : Bool)
       → close ≡ spans.version == 0 || says_close (map (header_bytes bytes) (take spans.headers fields))
+      → (range : Option Span) → IfSome range (IsWithin (length bytes))
+      → option_map (span_bytes bytes) range ≡ range_of (map (header_bytes bytes) (take spans.headers fields))
       → (message : Message) × IsFrameOf bytes (record {
         method = spans.method;
         target = spans.path;
         body = record { start = spans.len; end = spans.len + n };
+        range = range;
         close = close;
       }) message
-  spans_frame within size room n e fits close closes =
+  spans_frame within size room n e fits close closes range range_within range_is =
       let limit = within.section.len_fits in
       let method = within.method in
       let path = within.path in (
@@ -166,6 +170,8 @@ module _ (bytes : List ℕ) (fields : List HeaderSpan) (spans : RequestSpans) (h
           body =
               let same : spans.len + n - spans.len ≡ n = omega arith in
               ap (λ (k : ℕ). take k (drop spans.len bytes)) same;
+          range_within = range_within;
+          range = range_is ∙ ap range_of at.fields;
           close = closes ∙ ap (λ (k : ℕ). k == 0 || says_close (map (header_bytes bytes) (take spans.headers fields))) at.version
               ∙ ap (λ (named : List NamedValue). h.minor == 0 || says_close named) at.fields;
         },
@@ -178,7 +184,8 @@ pub empty_missing : (bytes : List ℕ) → length bytes ≡ 0 → IsMissing byte
 empty_missing bytes empty = record {
   few = omega arith;
   bound = omega arith;
-  refused = λ more below. inl (refl, empty_no_head (bytes ++ more) (omega arith));
+  head = None;
+  refused = λ more below. (refl, empty_no_head (bytes ++ more) (omega arith));
 }
 
 -- without a head so far, one more byte is needed
@@ -186,7 +193,8 @@ pub headless_missing : (bytes : List ℕ) → HasNoHead bytes → length bytes <
 headless_missing bytes none few = record {
   few = omega arith;
   bound = omega arith;
-  refused = λ more below. inl (refl, same more (omega (arith, length-append bytes more)));
+  head = None;
+  refused = λ more below. (refl, same more (omega (arith, length-append bytes more)));
 }
   where
     same : (more : List ℕ) → length more ≡ 0 → HasNoHead (bytes ++ more)
@@ -202,14 +210,16 @@ pub overflows_missing : (bytes : List ℕ) → RequestOverflows 32 bytes → len
 overflows_missing bytes over few = record {
   few = few;
   bound = omega arith;
-  refused = λ more below. inl (refl, overflows_no_head bytes over more);
+  head = None;
+  refused = λ more below. (refl, overflows_no_head bytes over more);
 }
 
 -- bytes that are refused begin with no message
-pub refused_none : (bytes : List ℕ) (refusal : Refusal) (m : Message) (r : List ℕ) → IsRefused bytes refusal → IsMessage bytes m r → ⊥
-refused_none bytes refusal m r (inl none) x = none.1 m.head (m.body ++ r) x.head
-refused_none bytes refusal m r (inr fault) x =
-    let same = request_unique bytes fault.head m.head fault.rest (m.body ++ r) fault.is.reads x.head.reads in
+pub refused_none : (bytes : List ℕ) (head : Option RequestHead) (refusal : Refusal) (m : Message) (r : List ℕ)
+    → IsRefused bytes head refusal → IsMessage bytes m r → ⊥
+refused_none bytes None refusal m r none x = none.1 m.head (m.body ++ r) x.head
+refused_none bytes (Some head) refusal m r fault x =
+    let same = request_unique bytes head m.head fault.rest (m.body ++ r) fault.is.reads x.head.reads in
     let stated = ap (λ (h : RequestHead). body_length (fields_of h)) same.0 ∙ x.body in
     let short = subst (λ (s : Result ℕ Refusal). IsFault (length fault.rest) s refusal) stated fault.fault in
     let all = ap length same.1 in
@@ -217,11 +227,12 @@ refused_none bytes refusal m r (inr fault) x =
 
 -- where no whole request is there
 pub missing_now : (bytes : List ℕ) (refusal : Refusal) (until : ℕ) → IsMissing bytes refusal until
-    → (length bytes < 73728) × IsRefused bytes refusal
+    → (length bytes < 73728) × (head : Option RequestHead) × IsRefused bytes head refusal
 missing_now bytes refusal until is =
     let few = is.few in
     let bound = is.bound in
     let size : length (bytes ++ []) < until = omega (arith, length-append bytes []) in (
       omega arith,
-      subst (λ (t : List ℕ). IsRefused t refusal) (append-nil bytes) (is.refused [] size),
+      is.head,
+      subst (λ (t : List ℕ). IsRefused t is.head refusal) (append-nil bytes) (is.refused [] size),
     )

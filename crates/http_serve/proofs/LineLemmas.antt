@@ -1,10 +1,12 @@
 -- Bytes without an empty line behind a line have no head.
-use Rattle.std.proofs.Common.{◌≡◌, ◌≢◌, ℕ, ◌+◌, ◌-◌, ◌<◌, ◌≤◌, List, [], ◌∷◌, ◌++◌, Bool, true, false, ◌==◌, ◌||◌, if◌then◌else◌, IsTrue, length, take, drop, refl, sym, ap, ◌∙◌, subst, arith, append_assoc, length-append}
+use Rattle.std.proofs.Common.{◌≡◌, ◌≢◌, ℕ, ◌+◌, ◌-◌, ◌<◌, ◌≤◌, List, [], ◌∷◌, ◌++◌, Bool, true, false, ◌==◌, ◌||◌, if◌then◌else◌, IsTrue, length, take, drop}
+use Rattle.std.proofs.Common.{refl, sym, ap, ◌∙◌, subst, arith, append_assoc, length-append}
 use Rattle.std.specs.List.{flat_map}
 use Rattle.std.proofs.lemmas.List.{take-append-drop, take_all, take_rest, take-append-le}
 use Rattle.std.proofs.lemmas.Bool.{eqb-true}
 use Rattle.httparse.specs.Ascii.{line_feed, carriage_return, space, colon}
-use Rattle.httparse.specs.Grammar.{LineEnd, crlf, lf, print_end, print_blank, print_version, Field, print_field, print_section, IsToken, is_token_byte, RequestHead, IsRequestHead, print_request}
+use Rattle.httparse.specs.Grammar.{LineEnd, crlf, lf, print_end, print_blank, print_version, Field, print_field, print_section, IsToken, is_token_byte}
+use Rattle.httparse.specs.Grammar.{RequestHead, IsRequestHead, print_request}
 use Rattle.http_serve.specs.declared.lines.Lines.{Lines}
 use Rattle.http_serve.specs.declared.lines.Lines.TheVariants.{Blank, Inside, Ended, Empty}
 use Rattle.http_serve.specs.Lines.{after_byte, after_bytes}
@@ -136,7 +138,8 @@ head_empty h is =
     let section = print_section h.fields h.last in
     let line = start ++ h.method ++ target ++ version in
     let begun : IsPast (after_bytes Blank (start ++ h.method)) =
-    subst IsPast (sym (after_bytes-append Blank start h.method ∙ ap (λ (s : Lines). after_bytes s h.method) (blank_ends h.blank))) (method_past h.method is.method) in
+    subst IsPast (sym (after_bytes-append Blank start h.method ∙ ap (λ (s : Lines). after_bytes s h.method) (blank_ends h.blank)))
+    (method_past h.method is.method) in
     let past : IsPast (after_bytes Blank line) =
     subst IsPast (sym (after_bytes-append Blank (start ++ h.method ++ target) version))
     (past_bytes (after_bytes Blank (start ++ h.method ++ target)) version
@@ -175,13 +178,14 @@ module _ (bytes : List ℕ) (n : ℕ) (old new : Lines) (so : after_bytes Blank 
 
 -- more bytes leave what is known
 pub IsKnown-append : (bytes more : List ℕ) (search : Search) → IsKnown bytes search → IsKnown (bytes ++ more) search
-IsKnown-append bytes more (AtHead scanned lines tried) is =
+IsKnown-append bytes more (AtHead scanned lines place) is =
     let within = is.0 in (
       omega (arith, length-append bytes more),
       ap (λ (t : List ℕ). after_bytes Blank t) (take-append-le scanned bytes more within) ∙ is.1,
     )
 IsKnown-append bytes more (Until missing) is = (
   is.0,
-  λ m below. subst (λ (t : List ℕ). IsRefused t missing.refusal) (sym (append_assoc bytes more m))
-      (is.1 (more ++ m) (subst (λ (t : List ℕ). length t < missing.until) (append_assoc bytes more m) below)),
+  is.1,
+  λ m below. subst (λ (t : List ℕ). IsRefused t is.1 missing.refusal) (sym (append_assoc bytes more m))
+      (is.2 (more ++ m) (subst (λ (t : List ℕ). length t < missing.until) (append_assoc bytes more m) below)),
 )

@@ -1,11 +1,13 @@
 -- There is one message at the front of bytes, and so one list of requests.
-use Rattle.std.proofs.Common.{◌≡◌, ◌≢◌, ℕ, List, [], ◌∷◌, ◌++◌, true, false, length, take, drop, refl, sym, ap, ◌∙◌, subst, arith, Ok, Err, Result, inl, inr}
+use Rattle.std.proofs.Common.{◌≡◌, ◌≢◌, ℕ, List, [], ◌∷◌, ◌++◌, true, false, length, take, drop, refl, sym, ap, ◌∙◌, subst, arith, Ok, Err, Result, Option}
+use Rattle.std.proofs.Common.{None, Some}
 use Rattle.std.proofs.Math.Seq.{take-append_seam, drop-append_seam}
 use Rattle.httparse.specs.Grammar.{RequestHead}
 use Rattle.httparse.proofs.GrammarLemmas.{request_unique}
 use Rattle.http_serve.specs.declared.refusals.Refusal.{Refusal}
 use Rattle.http_serve.specs.Fields.{body_length}
-use Rattle.http_serve.specs.Message.{Message, IsHead, IsMessage, IsRefused, IsFault, Begins, Ending, going, closed, asked, refused, EndsAs, Requests, asks_to_close, fields_of}
+use Rattle.http_serve.specs.Message.{Message, IsHead, IsMessage, IsRefused, IsFault, Begins, Ending, going, closed, asked, refused, EndsAs, Requests}
+use Rattle.http_serve.specs.Message.{asks_to_close, fields_of}
 use Rattle.http_serve.proofs.HeadLemmas.{empty_no_head, refused_none}
 
 head_unique : (bytes : List ℕ) (h k : RequestHead) (r q : List ℕ) → IsHead bytes h r → IsHead bytes k q → (h ≡ k) × (r ≡ q)
@@ -30,17 +32,19 @@ fault_unique : (left : ℕ) (stated : Result ℕ Refusal) (a b : Refusal) → Is
 fault_unique left (Ok n) a b x y = x.1 ∙ sym y.1
 fault_unique left (Err e) a b x y = x ∙ sym y
 
-refusal_unique : (bytes : List ℕ) (a b : Refusal) → IsRefused bytes a → IsRefused bytes b → a ≡ b
-refusal_unique bytes a b (inl x) (inl y) = x.0 ∙ sym y.0
-refusal_unique bytes a b (inl x) (inr y) = absurd (x.1 y.head y.rest y.is)
-refusal_unique bytes a b (inr x) (inl y) = absurd (y.1 x.head x.rest x.is)
-refusal_unique bytes a b (inr x) (inr y) =
-    let same = head_unique bytes x.head y.head x.rest y.rest x.is y.is in
+refusal_unique : (bytes : List ℕ) (h k : Option RequestHead) (a b : Refusal) → IsRefused bytes h a → IsRefused bytes k b
+    → (h ≡ k) × (a ≡ b)
+refusal_unique bytes None None a b x y = (refl, x.0 ∙ sym y.0)
+refusal_unique bytes None (Some k) a b x y = absurd (x.1 k y.rest y.is)
+refusal_unique bytes (Some h) None a b x y = absurd (y.1 h x.rest x.is)
+refusal_unique bytes (Some h) (Some k) a b x y =
+    let same = head_unique bytes h k x.rest y.rest x.is y.is in
     let P : ℕ → Result ℕ Refusal → Type 0 = λ n s. IsFault n s a in
-    let moved : IsFault (length y.rest) (body_length (fields_of y.head)) a =
-    subst (λ (n : ℕ). P n (body_length (fields_of y.head))) (ap length same.1)
-    (subst (λ (h : RequestHead). P (length x.rest) (body_length (fields_of h))) same.0 x.fault) in
-    fault_unique (length y.rest) (body_length (fields_of y.head)) a b moved y.fault
+    let moved : IsFault (length y.rest) (body_length (fields_of k)) a =
+    subst (λ (n : ℕ). P n (body_length (fields_of k))) (ap length same.1)
+    (subst (λ (t : RequestHead). P (length x.rest) (body_length (fields_of t))) same.0 x.fault) in
+    let some : RequestHead → Option RequestHead = λ head. Some head in
+    (ap some same.0, fault_unique (length y.rest) (body_length (fields_of k)) a b moved y.fault)
 
 -- no message is where the bytes end, but for one that ends them
 end_none : (bytes : List ℕ) (ending : Ending) (m : Message) (r : List ℕ) → (ending ≢ going) → EndsAs bytes ending → IsMessage bytes m r
@@ -51,20 +55,22 @@ end_none bytes (asked message) m r other x is goes_on =
     let same = ap (λ (k : Message). asks_to_close k.head) (message_unique bytes message m x.0 r x.1 is).0 in
     let bad : true ≡ false = sym x.2 ∙ same ∙ goes_on in
     absurd (cc)
-end_none bytes (refused refusal) m r other x is goes_on = refused_none bytes refusal m r x.1 is
+end_none bytes (refused head refusal) m r other x is goes_on = refused_none bytes head refusal m r x.1 is
 
 end_unique : (bytes : List ℕ) (a b : Ending) → (a ≢ going) → (b ≢ going) → EndsAs bytes a → EndsAs bytes b → a ≡ b
 end_unique bytes going b f g x y = absurd (f refl)
 end_unique bytes a going f g x y = absurd (g refl)
 end_unique bytes closed closed f g x y = refl
 end_unique bytes closed (asked m) f g x y = absurd (empty_no_head bytes (ap length x) m.head (m.body ++ y.0) y.1.head)
-end_unique bytes closed (refused e) f g x y = let some = y.0 in absurd (omega (arith, ap length x))
+end_unique bytes closed (refused h e) f g x y = let some = y.0 in absurd (omega (arith, ap length x))
 end_unique bytes (asked m) closed f g x y = absurd (empty_no_head bytes (ap length y) m.head (m.body ++ x.0) x.1.head)
 end_unique bytes (asked m) (asked n) f g x y = ap asked (message_unique bytes m n x.0 y.0 x.1 y.1).0
-end_unique bytes (asked m) (refused e) f g x y = absurd (refused_none bytes e m x.0 y.1 x.1)
-end_unique bytes (refused e) closed f g x y = let some = x.0 in absurd (omega (arith, ap length y))
-end_unique bytes (refused e) (asked m) f g x y = absurd (refused_none bytes e m y.0 x.1 y.1)
-end_unique bytes (refused d) (refused e) f g x y = ap refused (refusal_unique bytes d e x.1 y.1)
+end_unique bytes (asked m) (refused h e) f g x y = absurd (refused_none bytes h e m x.0 y.1 x.1)
+end_unique bytes (refused h e) closed f g x y = let some = x.0 in absurd (omega (arith, ap length y))
+end_unique bytes (refused h e) (asked m) f g x y = absurd (refused_none bytes h e m y.0 x.1 y.1)
+end_unique bytes (refused h d) (refused k e) f g x y =
+    let same = refusal_unique bytes h k d e x.1 y.1 in
+    λ i. refused (same.0 i) (same.1 i)
 
 pub requests_unique : (bytes : List ℕ) (messages others : List Message) (ending other : Ending)
     → (ending ≢ going) → (other ≢ going) → Requests bytes messages ending → Requests bytes others other

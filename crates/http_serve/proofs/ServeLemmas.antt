@@ -1,6 +1,8 @@
 -- A connection, read by read.
-use Rattle.std.proofs.Common.{◌≡◌, ◌≢◌, ℕ, ◌<◌, ◌≤◌, List, [], ◌∷◌, ◌++◌, Option, Some, None, take, length, ◌+◌, refl, sym, ap, ◌∙◌, subst, append_assoc, arith, inl, length-append}
-use Rattle.std.specs.Prelude.{⊤, Result, Ok, Err, IfOk, IfErr}
+use Rattle.std.proofs.Common.{◌≡◌, ◌≢◌, ℕ, ◌<◌, ◌≤◌, List, [], ◌∷◌, ◌++◌, Option, Some, None, take, length, ◌+◌, ◌*◌, refl, sym, ap, ◌∙◌, subst}
+use Rattle.std.proofs.Common.{append_assoc, arith, inl, inr, length-append}
+use Rattle.std.specs.Prelude.{⊤, ◌⊎◌, Result, Ok, Err, IfOk, IfErr}
+use Rattle.httparse.specs.Grammar.{RequestHead}
 use Rattle.std.proofs.lemmas.List.{append-nil}
 use Rattle.std.specs.Io.KnownBytes.{Appends, Consumes, IsAtEnd}
 use Rattle.http_serve.specs.declared.refusals.Refusal.{Refusal}
@@ -10,12 +12,14 @@ use Rattle.http_serve.specs.declared.connection.End.TheVariants.{Closed, Asked, 
 use Rattle.http_serve.specs.declared.connection.Served.{Served}
 use Rattle.http_serve.specs.declared.connection.ServeFault.{ServeFault}
 use Rattle.http_serve.specs.declared.connection.ServeFault.TheVariants.{Memory, Read, Write}
+use Rattle.http_serve.specs.Input.{buffer_size}
 use Rattle.http_serve.specs.Message.{Message, Ending, going, closed, asked, refused, EndsAs, IsRefused, Requests}
 use Rattle.http_serve.specs.Question.{Question}
 use Rattle.http_serve.specs.Reply.{ReplyView, refusal_bytes}
-use Rattle.http_serve.specs.Served.{RisesBy, reply_count, Answers, AnswersEnd, AnswersAll, Carries, Ends, Breaks, Anything, MayFollow}
+use Rattle.http_serve.specs.Served.{RisesBy, reply_count, Answers, AnswersEnd, AnswersAll, AnswersNext, RefusesNext, Carries, Ends, Breaks, Anything, MayFollow}
 use Rattle.http_serve.specs.Steps.{HasPlainEnd, IsFinished, IsUnfinished, IsBroken}
-use Rattle.http_serve.specs.Told.{end_of, IfTurns, IsServed, IsServedTo, IsServedSoFar, IsServedInPart, IsServedUpTo, IsAnswered, IsWithinTurns, AnswersInput}
+use Rattle.http_serve.specs.Told.{end_of, IfTurns, IsServed, IsServedTo, IsServedSoFar, IsServedInPart, IsServedUpTo, IsAnswered, LosesAtLeast, LosesAtMost}
+use Rattle.http_serve.specs.Told.{MeetsTurns, KeepsTurns, AnswersInput}
 use Rattle.http_serve.proofs.HeadLemmas.{empty_no_head, refused_none}
 use Rattle.http_serve.proofs.KnownLemmas.{Appends-then, Consumes-then, Consumes_none}
 use Rattle.http_serve.proofs.CarryLemmas.{Begins-append, Begins-then, Answers-then, Carries_start, Ends_push, Breaks_refused, rises_then, reply_count-append}
@@ -24,7 +28,7 @@ pub finished_other : (end : End) (ending : Ending) (last : List ℕ) → end ≡
 finished_other end going last told plain e = absurd plain
 finished_other end closed last told plain e = cc
 finished_other end (asked message) last told plain e = cc
-finished_other end (refused refusal) last told plain e = cc
+finished_other end (refused head refusal) last told plain e = cc
 
 -- a fact for the value of a result, from another
 pub if_ok : {A E : Type 0} (r : Result A E) (P Q : A → Type 0) → ((a : A) → P a → Q a) → IfOk r P → IfOk r Q
@@ -52,7 +56,8 @@ pub record IsSoFar {S : Type 0} (replies : S → Question → ReplyView → S �
   pub read : Consumes left leaves bytes
   pub carries : Carries replies old bytes held 0 new waiting holds requests
   pub few : length waiting < 73728
-  pub refused : IsRefused waiting reason
+  pub head : Option RequestHead
+  pub refused : IsRefused waiting head reason
 
 module _ {S : Type 0} (replies : S → Question → ReplyView → S → Type 0) where
   pub SoFar_start : (old : S) (left held : Option (List ℕ)) (waiting : List ℕ) → waiting ≡ []
@@ -65,11 +70,13 @@ module _ {S : Type 0} (replies : S → Question → ReplyView → S → Type 0) 
         read = subst (λ (t : List ℕ). Consumes left left t) (sym empty) (Consumes_none left);
         carries = Carries_start replies old waiting held 0 (omega arith);
         few = omega arith;
-        refused = inl (refl, none);
+        head = None;
+        refused = (refl, none);
       }
 
   -- more is read
-  Carries-more : (old : S) (bytes : List ℕ) (held : Option (List ℕ)) (before : ℕ) (new : S) (rest : List ℕ) (holds : Option (List ℕ)) (after : ℕ) (more : List ℕ)
+  Carries-more : (old : S) (bytes : List ℕ) (held : Option (List ℕ)) (before : ℕ) (new : S) (rest : List ℕ)
+      (holds : Option (List ℕ)) (after : ℕ) (more : List ℕ)
       → Carries replies old bytes held before new rest holds after → Carries replies old (bytes ++ more) held before new (rest ++ more) holds after
   Carries-more old bytes held before new rest holds after more so = record {
     messages = so.messages;
@@ -124,18 +131,32 @@ module _ {S : Type 0} (replies : S → Question → ReplyView → S → Type 0) 
         (rises_then before (length x.messages) so_far (reply_count y.messages ending) after x.counted y.counted);
   }
 
+  -- what is refused whatever follows is refused with what may follow
+  Next-follows : (old : S) (bytes out : List ℕ) (follow : List ℕ → Type 0) (new : S)
+      → AnswersNext replies old bytes out new ⊎ RefusesNext replies old bytes Anything out new
+      → AnswersNext replies old bytes out new ⊎ RefusesNext replies old bytes follow out new
+  Next-follows old bytes out follow new (inl answered) = inl answered
+  Next-follows old bytes out follow new (inr refuses) = inr (record {
+    head = refuses.head;
+    refusal = refuses.refusal;
+    some = refuses.some;
+    is = λ more _. refuses.is more tt;
+    same = refuses.same;
+    out_is = refuses.out_is;
+  })
+
   Breaks-then : (old : S) (bytes : List ℕ) (held : Option (List ℕ)) (before : ℕ) (middle : S) (input : List ℕ) (holds : Option (List ℕ)) (so_far : ℕ)
-      (new : S) (now : Option (List ℕ)) (after : ℕ)
-      → Carries replies old bytes held before middle input holds so_far → Breaks replies middle input holds so_far new now after
-      → Breaks replies old bytes held before new now after
-  Breaks-then old bytes held before middle input holds so_far new now after x y = record {
+      (follow : List ℕ → Type 0) (new : S) (now : Option (List ℕ)) (after : ℕ)
+      → Carries replies old bytes held before middle input holds so_far → Breaks replies middle input Anything holds so_far new now after
+      → Breaks replies old bytes follow held before new now after
+  Breaks-then old bytes held before middle input holds so_far follow new now after x y = record {
     middle = y.middle;
     rest = y.rest;
     between = y.between;
     carries = Carries-then old bytes held before middle input holds so_far y.middle y.rest y.between after x y.carries;
     next = y.next;
     count = y.count;
-    replied = y.replied;
+    replied = Next-follows y.middle y.rest y.next follow new y.replied;
     cut = y.cut;
     written = y.written;
   }
@@ -149,7 +170,7 @@ module _ {S : Type 0} (replies : S → Question → ReplyView → S → Type 0) 
       rest = waiting;
       read = so.read;
       carries = so.carries;
-      none = λ message behind. refused_none waiting reason message behind so.refused;
+      none = λ message behind. refused_none waiting so.head reason message behind so.refused;
     }
 
     -- a read that failed gave nothing
@@ -161,15 +182,15 @@ module _ {S : Type 0} (replies : S → Question → ReplyView → S → Type 0) 
           let P : List ℕ → Type 0 = λ t. Consumes left last t in
           subst P (append-nil so.bytes) (Consumes-then left leaves last so.bytes [] so.read came);
       carries = so.carries;
-      none = λ message behind. refused_none waiting reason message behind so.refused;
+      none = λ message behind. refused_none waiting so.head reason message behind so.refused;
     }
 
     module _ (more : List ℕ) (last : Option (List ℕ)) (came : Consumes leaves last more) (new : S) (now : Option (List ℕ))
         (full : List ℕ) (joined : full ≡ waiting ++ more) where
       -- more came, and the whole requests in it are answered
-      pub SoFar_goes : (rest : List ℕ) (after : ℕ) (next : Refusal) → Carries replies middle full holds requests new rest now after
-          → length rest < 73728 → IsRefused rest next → IsSoFar replies old left held new last now after rest next
-      SoFar_goes rest after next y few none = record {
+      pub SoFar_goes : (rest : List ℕ) (after : ℕ) (head : Option RequestHead) (next : Refusal) → Carries replies middle full holds requests new rest now after
+          → length rest < 73728 → IsRefused rest head next → IsSoFar replies old left held new last now after rest next
+      SoFar_goes rest after head next y few none = record {
         bytes = so.bytes ++ more;
         read = Consumes-then left leaves last so.bytes more so.read came;
         carries =
@@ -177,6 +198,7 @@ module _ {S : Type 0} (replies : S → Question → ReplyView → S → Type 0) 
             (Carries-more old so.bytes held 0 middle waiting holds requests more so.carries)
             (subst (λ (t : List ℕ). Carries replies middle t holds requests new rest now after) joined y);
         few = few;
+        head = head;
         refused = none;
       }
 
@@ -204,15 +226,15 @@ module _ {S : Type 0} (replies : S → Question → ReplyView → S → Type 0) 
           → served.end ≡ end_of ending → served.end ≢ Turns → IsServed replies old left held served new last now
       SoFar_told served ending y told other = not_turns served.end _ _ other (SoFar_ends served ending y told)
 
-      pub SoFar_breaks : (after : ℕ) → Breaks replies middle full holds requests new now after
+      pub SoFar_breaks : (after : ℕ) → Breaks replies middle full Anything holds requests new now after
           → IsServedInPart replies old left held after new last now
       SoFar_breaks after y = record {
         bytes = so.bytes ++ more;
         read = Consumes-then left leaves last so.bytes more so.read came;
         breaks =
-            Breaks-then old (so.bytes ++ more) held 0 middle (waiting ++ more) holds requests new now after
+            Breaks-then old (so.bytes ++ more) held 0 middle (waiting ++ more) holds requests (MayFollow last) new now after
             (Carries-more old so.bytes held 0 middle waiting holds requests more so.carries)
-            (subst (λ (t : List ℕ). Breaks replies middle t holds requests new now after) joined y);
+            (subst (λ (t : List ℕ). Breaks replies middle t Anything holds requests new now after) joined y);
       }
 
       pub SoFar_broken : (fault : ServeFault) → IsBroken replies middle full holds requests fault new now
@@ -223,7 +245,7 @@ module _ {S : Type 0} (replies : S → Question → ReplyView → S → Type 0) 
 
     -- the input ended
     SoFar_finish : (served : Served) (last : Option (List ℕ)) (now : Option (List ℕ)) → Consumes leaves last [] → IsAtEnd last
-        → IsFinished waiting reason holds requests served now → IsServedTo replies old left held served middle last now
+        → IsFinished waiting so.head reason holds requests served now → IsServedTo replies old left held served middle last now
     SoFar_finish served last now came at_end y = record {
       bytes = so.bytes;
       read =
@@ -233,7 +255,8 @@ module _ {S : Type 0} (replies : S → Question → ReplyView → S → Type 0) 
       told = y.told;
       ends =
           Ends_push replies old so.bytes held 0 middle waiting holds requests (MayFollow last) y.ending y.last middle now served.requests so.carries
-          (λ more may. subst (λ (t : List ℕ). EndsAs t y.ending) (sym (ap (λ (t : List ℕ). waiting ++ t) (may at_end) ∙ append-nil waiting)) (y.ends so.refused))
+          (λ more may. subst (λ (t : List ℕ). EndsAs t y.ending)
+          (sym (ap (λ (t : List ℕ). waiting ++ t) (may at_end) ∙ append-nil waiting)) (y.ends so.refused))
           (plain y.ending y.last y.plain) y.written y.counted;
     }
       where
@@ -241,17 +264,20 @@ module _ {S : Type 0} (replies : S → Question → ReplyView → S → Type 0) 
         plain going text h = absurd h
         plain closed text h = (h, refl)
         plain (asked message) text h = absurd h
-        plain (refused refusal) text h = (h, refl)
+        plain (refused head refusal) text h = (h, refl)
 
-    SoFar_unfinished : (last : Option (List ℕ)) (count : ℕ) (now : Option (List ℕ)) → Consumes leaves last []
-        → 0 < length waiting → count < length (refusal_bytes reason) → Appends holds now (take count (refusal_bytes reason))
+    SoFar_unfinished : (last : Option (List ℕ)) (count : ℕ) (now : Option (List ℕ)) → Consumes leaves last [] → IsAtEnd last
+        → 0 < length waiting → count < length (refusal_bytes so.head reason) → Appends holds now (take count (refusal_bytes so.head reason))
         → IsServedInPart replies old left held requests middle last now
-    SoFar_unfinished last count now came some cut y = record {
+    SoFar_unfinished last count now came at_end some cut y = record {
       bytes = so.bytes;
       read =
           let P : List ℕ → Type 0 = λ t. Consumes left last t in
           subst P (append-nil so.bytes) (Consumes-then left leaves last so.bytes [] so.read came);
-      breaks = Breaks_refused replies old so.bytes held 0 middle waiting holds requests reason count now so.carries some so.refused cut y;
+      breaks =
+          Breaks_refused replies old so.bytes held 0 middle waiting holds requests (MayFollow last) so.head reason count now so.carries some
+          (λ more may. subst (λ (t : List ℕ). IsRefused t so.head reason)
+          (sym (ap (λ (t : List ℕ). waiting ++ t) (may at_end) ∙ append-nil waiting)) so.refused) cut y;
     }
 
     module _ (n : ℕ) (more : List ℕ) (last now : Option (List ℕ)) (full : List ℕ) (came : Consumes leaves last more)
@@ -263,18 +289,18 @@ module _ {S : Type 0} (replies : S → Question → ReplyView → S → Type 0) 
       same_waits = joined ∙ ap (λ (t : List ℕ). waiting ++ t) none_came ∙ append-nil waiting
 
       pub SoFar_done : (n ≡ 0 → IsAtEnd last) → (served : Served)
-          → IsFinished full reason holds requests served now → IsServed replies old left held served middle last now
+          → IsFinished full so.head reason holds requests served now → IsServed replies old left held served middle last now
       SoFar_done at_end served y =
-          let z = subst (λ (t : List ℕ). IsFinished t reason holds requests served now) same_waits y in
+          let z = subst (λ (t : List ℕ). IsFinished t so.head reason holds requests served now) same_waits y in
           not_turns served.end _ _ (finished_other served.end z.ending z.last z.told z.plain)
           (SoFar_finish served last now (subst (λ (t : List ℕ). Consumes leaves last t) none_came came) (at_end zero) z)
 
-      pub SoFar_failed : (fault : ServeFault) → IsUnfinished full reason holds requests fault now
+      pub SoFar_failed : (n ≡ 0 → IsAtEnd last) → (fault : ServeFault) → IsUnfinished full so.head reason holds requests fault now
           → IsServedUpTo replies old left held fault middle last now
-      SoFar_failed fault y =
-          let z = subst (λ (t : List ℕ). IsUnfinished t reason holds requests fault now) same_waits y in
+      SoFar_failed at_end fault y =
+          let z = subst (λ (t : List ℕ). IsUnfinished t so.head reason holds requests fault now) same_waits y in
           subst (λ (f : ServeFault). IsServedUpTo replies old left held f middle last now) (sym z.told)
-          (SoFar_unfinished last z.count now (subst (λ (t : List ℕ). Consumes leaves last t) none_came came) z.some z.cut z.written)
+          (SoFar_unfinished last z.count now (subst (λ (t : List ℕ). Consumes leaves last t) none_came came) (at_end zero) z.some z.cut z.written)
 
   -- where the input is known, all of it is answered
   served_whole : (old : S) (input : List ℕ) (held : Option (List ℕ)) (served : Served) (new : S) (leaves holds : Option (List ℕ))
@@ -306,36 +332,54 @@ module _ {S : Type 0} (replies : S → Question → ReplyView → S → Type 0) 
 
 -- ---- turns
 
--- each turn took a byte of the input, where it is known
-abbrev pub TakesTurns : Option (List ℕ) → Option (List ℕ) → ℕ → Type 0
-TakesTurns None left turns = ⊤
-TakesTurns (Some input) None turns = ⊥
-TakesTurns (Some input) (Some left) turns = turns + length left ≤ length input
+pub least_start : (input : Option (List ℕ)) → LosesAtLeast 0 input input
+least_start None = tt
+least_start (Some input) = omega arith
 
-pub turns_start : (input : Option (List ℕ)) → TakesTurns input input 0
-turns_start None = tt
-turns_start (Some input) = omega arith
-
-pub turns_more : (input left last : Option (List ℕ)) (turns n : ℕ) (more : List ℕ) → TakesTurns input left turns → Consumes left last more
-    → n ≡ length more → n ≢ 0 → TakesTurns input last (turns + 1)
-turns_more None left last turns n more so came size some = tt
-turns_more (Some input) None last turns n more so came size some = absurd so
-turns_more (Some input) (Some left) None turns n more so came size some = absurd came
-turns_more (Some input) (Some left) (Some last) turns n more so came size some =
+-- one more read gave a byte
+pub least_more : (input left last : Option (List ℕ)) (turns n : ℕ) (more : List ℕ) → LosesAtLeast turns input left → Consumes left last more
+    → n ≡ length more → n ≢ 0 → LosesAtLeast (turns + 1) input last
+least_more None left last turns n more so came size some = tt
+least_more (Some input) None last turns n more so came size some = absurd so
+least_more (Some input) (Some left) None turns n more so came size some = absurd came
+least_more (Some input) (Some left) (Some last) turns n more so came size some =
     omega (arith, ap length came, length-append more last)
 
-pub turns_over : (input left : Option (List ℕ)) (turns most : ℕ) → TakesTurns input left turns → most ≤ turns → (end : End)
-    → IsWithinTurns input most end
-turns_over None left turns most so over end = tt
-turns_over (Some input) None turns most so over end = absurd so
-turns_over (Some input) (Some left) turns most so over end = λ few e. omega arith
+-- what is more is at least as much
+pub least_over : (input left : Option (List ℕ)) (turns most : ℕ) → LosesAtLeast turns input left → most ≤ turns → LosesAtLeast most input left
+least_over None left turns most so over = tt
+least_over (Some input) None turns most so over = absurd so
+least_over (Some input) (Some left) turns most so over = omega arith
+
+pub most_start : (input : Option (List ℕ)) (n : ℕ) → LosesAtMost n input input
+most_start None n = tt
+most_start (Some input) n = omega arith
+
+-- one more read gave so many bytes
+pub most_more : (input left last : Option (List ℕ)) (a b n : ℕ) (more : List ℕ) → LosesAtMost a input left → Consumes left last more
+    → n ≡ length more → a + n ≤ b → LosesAtMost b input last
+most_more None left last a b n more so came size few = tt
+most_more (Some input) None last a b n more so came size few = absurd so
+most_more (Some input) (Some left) None a b n more so came size few = absurd came
+most_more (Some input) (Some left) (Some last) a b n more so came size few =
+    omega (arith, ap length came, length-append more last)
+
+-- no read failed in what the input's end is answered with
+pub finished_reads : (turns : ℕ) (input left : Option (List ℕ)) (waiting : List ℕ) (head : Option RequestHead) (reason : Refusal)
+    (held : Option (List ℕ)) (before : ℕ) (result : Result Served ServeFault) (holds : Option (List ℕ))
+    → LosesAtMost (turns * buffer_size) input left
+    → IfErr result (λ fault. IsUnfinished waiting head reason held before fault holds) → KeepsTurns turns result input left
+finished_reads turns input left waiting head reason held before (Ok served) holds so x = so
+finished_reads turns input left waiting head reason held before (Err Memory) holds so x = let told = x.told in absurd (cc)
+finished_reads turns input left waiting head reason held before (Err (Read n)) holds so x = let told = x.told in absurd (cc)
+finished_reads turns input left waiting head reason held before (Err (Write n)) holds so x = so
 
 -- an end of another kind
-pub other_turns : (input : Option (List ℕ)) (most : ℕ) (end : End) → end ≢ Turns → IsWithinTurns input most end
-other_turns None most end other = tt
-other_turns (Some input) most end other = λ few. other
+pub other_turns : (turns : ℕ) (input left : Option (List ℕ)) (end : End) → end ≢ Turns → MeetsTurns turns input left end
+other_turns turns input left end other = not_turns end (LosesAtLeast turns input left) ⊤ other tt
 
-pub finished_turns : (input : Option (List ℕ)) (most : ℕ) (waiting : List ℕ) (reason : Refusal) (held : Option (List ℕ)) (before : ℕ)
-    (served : Served) (holds : Option (List ℕ)) → IsFinished waiting reason held before served holds → IsWithinTurns input most served.end
-finished_turns input most waiting reason held before served holds x =
-    other_turns input most served.end (finished_other served.end x.ending x.last x.told x.plain)
+pub finished_turns : (turns : ℕ) (input left : Option (List ℕ)) (waiting : List ℕ) (head : Option RequestHead) (reason : Refusal)
+    (held : Option (List ℕ)) (before : ℕ) (served : Served) (holds : Option (List ℕ))
+    → IsFinished waiting head reason held before served holds → MeetsTurns turns input left served.end
+finished_turns turns input left waiting head reason held before served holds x =
+    other_turns turns input left served.end (finished_other served.end x.ending x.last x.told x.plain)

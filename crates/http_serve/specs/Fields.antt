@@ -1,11 +1,15 @@
 -- What the fields of a head say of its body and of the connection.
-use Rattle.std.specs.Prelude.{ℕ, List, [], ◌∷◌, ◌==◌, ◌&&◌, Bool, cond, nat_eq, nat_lt, nat_le, length, map, filter, codes, Result, Ok, Err}
+use Rattle.std.specs.Prelude.{ℕ, List, [], ◌∷◌, ◌≡◌, ◌<◌, ◌==◌, ◌&&◌, Bool, cond, nat_eq, nat_lt, nat_le, length, map, filter, codes, Option, None, Some}
+use Rattle.std.specs.Prelude.{Result, Ok, Err}
 use Rattle.std.specs.List.{list_all, list_any, slice_split}
 use Rattle.std.specs.Char.{is_ascii_digit, to_ascii_lowercase}
 use Rattle.std.specs.Cmp.Lexicographic.{pointwise}
 use Rattle.std.specs.Str.Parse.{digits_value}
 use Rattle.httparse.specs.Ascii.{comma}
 use Rattle.httparse.specs.Grammar.{trim_ows}
+use Rattle.httparse.specs.Spans.{IsWithin, span_bytes}
+use Rattle.http_serve.specs.declared.fields.Stated.{Stated}
+use Rattle.http_serve.specs.declared.fields.Stated.TheVariants.{Never, Once, Often}
 use Rattle.http_serve.specs.declared.refusals.Refusal.{Refusal}
 use Rattle.http_serve.specs.declared.refusals.Refusal.TheVariants.{Head}
 
@@ -17,15 +21,17 @@ NamedValue = List ℕ × List ℕ
 abbrev pub is_word : List ℕ → List ℕ → Bool
 is_word word bytes = pointwise nat_eq (map to_ascii_lowercase bytes) word
 
+-- the values of the fields of this name
+abbrev pub values_of : List ℕ → List NamedValue → List (List ℕ)
+values_of word fields = map (λ field. field.1) (filter (λ field. is_word word field.0) fields)
+
+-- what is stated of these values: none, the one that there is, or that there are more
+abbrev pub IsStated : List ℕ → Stated → List (List ℕ) → Type 0
+IsStated bytes Never values = values ≡ []
+IsStated bytes (Once span) values = (values ≡ span_bytes bytes span ∷ []) × IsWithin (length bytes) span
+IsStated bytes Often values = 1 < length values
+
 -- ---- content-length
-
--- the field is called content-length
-abbrev pub is_content_length : NamedValue → Bool
-is_content_length field = is_word (codes "content-length") field.0
-
--- the values of the fields called content-length
-abbrev pub lengths_of : List NamedValue → List (List ℕ)
-lengths_of fields = map (λ field. field.1) (filter is_content_length fields)
 
 -- one or more digits
 abbrev pub is_numeral : List ℕ → Bool
@@ -44,7 +50,19 @@ stated_length (value ∷ other ∷ more) = Err Head
 
 -- how long the body is, or why the head is refused
 abbrev pub body_length : List NamedValue → Result ℕ Refusal
-body_length fields = stated_length (lengths_of fields)
+body_length fields = stated_length (values_of (codes "content-length") fields)
+
+-- ---- range
+
+-- the one value, where there is one and no more
+abbrev pub only_value : List (List ℕ) → Option (List ℕ)
+only_value [] = None
+only_value (value ∷ []) = Some value
+only_value (value ∷ other ∷ more) = None
+
+-- the value of the one field called range, without the white space around it
+abbrev pub range_of : List NamedValue → Option (List ℕ)
+range_of fields = only_value (values_of (codes "range") fields)
 
 -- ---- connection
 

@@ -1,5 +1,5 @@
 -- The requests that the bytes of a connection are.
-use Rattle.std.specs.Prelude.{◌≡◌, ℕ, ◌<◌, ◌≤◌, List, [], ◌∷◌, ◌++◌, Bool, true, false, ◌==◌, ◌||◌, length, map, Result, Ok, Err, ⊤, ◌⊎◌}
+use Rattle.std.specs.Prelude.{◌≡◌, ℕ, ◌<◌, ◌≤◌, List, [], ◌∷◌, ◌++◌, Bool, true, false, ◌==◌, ◌||◌, length, map, Option, None, Some, Result, Ok, Err, ⊤}
 use Rattle.httparse.specs.Grammar.{RequestHead, ReadsRequest, print_request}
 use Rattle.httparse.specs.Spans.{name_and_value}
 use Rattle.http_serve.specs.declared.refusals.Refusal.{Refusal}
@@ -38,16 +38,16 @@ abbrev pub IsFault : ℕ → Result ℕ Refusal → Refusal → Type 0
 IsFault left (Ok size) refusal = (left < size) × (refusal ≡ Head)
 IsFault left (Err stated) refusal = refusal ≡ stated
 
--- bytes begin with a head that is refused
-pub record HasFault (bytes : List ℕ) (refusal : Refusal) : Type 0 where
-  pub head : RequestHead
+-- bytes begin with this head, which is refused
+pub record HasFault (bytes : List ℕ) (head : RequestHead) (refusal : Refusal) : Type 0 where
   pub rest : List ℕ
   pub is : IsHead bytes head rest
   pub fault : IsFault (length rest) (body_length (fields_of head)) refusal
 
--- bytes, which are all there is, begin with no request, for this reason
-abbrev pub IsRefused : List ℕ → Refusal → Type 0
-IsRefused bytes refusal = ((refusal ≡ Head) × HasNoHead bytes) ⊎ HasFault bytes refusal
+-- bytes, which are all there is, begin with no request, for this reason: they have no head, or this one
+abbrev pub IsRefused : List ℕ → Option RequestHead → Refusal → Type 0
+IsRefused bytes None refusal = (refusal ≡ Head) × HasNoHead bytes
+IsRefused bytes (Some head) refusal = HasFault bytes head refusal
 
 -- bytes are these requests, none of which ends the connection, and then rest
 abbrev pub Begins : List ℕ → List Message → List ℕ → Type 0
@@ -63,15 +63,15 @@ pub data Ending : Type 0 where
   closed : Ending
   -- with a request that ends the connection
   asked : Message → Ending
-  -- with what is no request
-  refused : Refusal → Ending
+  -- with what is no request: its head, where it has one, and the reason
+  refused : Option RequestHead → Refusal → Ending
 
 -- bytes that are left behind the requests end so
 abbrev pub EndsAs : List ℕ → Ending → Type 0
 EndsAs bytes going = ⊤
 EndsAs bytes closed = bytes ≡ []
 EndsAs bytes (asked message) = (rest : List ℕ) × IsMessage bytes message rest × (asks_to_close message.head ≡ true)
-EndsAs bytes (refused refusal) = (0 < length bytes) × IsRefused bytes refusal
+EndsAs bytes (refused head refusal) = (0 < length bytes) × IsRefused bytes head refusal
 
 -- all the bytes of a connection are these requests, and then end so
 abbrev pub Requests : List ℕ → List Message → Ending → Type 0

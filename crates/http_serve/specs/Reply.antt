@@ -1,17 +1,31 @@
 -- Replies, and their bytes.
-use Rattle.std.specs.Prelude.{ℕ, List, [], ◌∷◌, ◌++◌, ◌==◌, Bool, true, false, cond, length, codes, decimal, Option, Some, None, option_map, unwrap_or, IfSome, ◌≤◌}
+use Rattle.std.specs.Prelude.{ℕ, List, [], ◌∷◌, ◌++◌, ◌==◌, ◌||◌, Bool, true, false, nat_eq, cond, length, codes, decimal, Option, Some, None, option_map}
+use Rattle.std.specs.Prelude.{unwrap_or, IfSome, ◌≤◌}
 use Rattle.http.specs.StatusCode.{code_digits, reason_phrase}
+use Rattle.std.specs.Cmp.Lexicographic.{pointwise}
+use Rattle.httparse.specs.Grammar.{RequestHead}
+use Rattle.httparse.specs.Spans.{span_bytes}
+use Rattle.http_serve.specs.Message.{Message, asks_to_close}
+use Rattle.http_serve.specs.declared.frames.Frame.{Frame}
 use Rattle.http_serve.specs.declared.refusals.Refusal.{Refusal}
 use Rattle.http_serve.specs.declared.refusals.Refusal.TheVariants.{Head}
 use Rattle.http_serve.specs.declared.replies.Content.{Content}
 use Rattle.http_serve.specs.declared.replies.Content.TheVariants.{Empty, Fixed, Whole}
+use Rattle.http_serve.specs.declared.replies.ContentRange.{ContentRange}
+use Rattle.http_serve.specs.declared.replies.ContentRange.TheVariants.{Part, Unsatisfied}
 use Rattle.http_serve.specs.declared.replies.Reply.{Reply}
 
--- what a reply says: its status, the type of its content, and the content
+-- what a reply says: its status, the type of its content, which part of it this is, the methods that are allowed, and the content
 pub record ReplyView : Type 0 where
   pub status : ℕ
   pub kind : Option (List ℕ)
+  pub range : Option ContentRange
+  pub allow : Option (List ℕ)
   pub content : List ℕ
+
+-- a reply of a status, a type and a content, which says nothing else
+abbrev pub plain_reply : ℕ → Option (List ℕ) → List ℕ → ReplyView
+plain_reply status kind content = record { status = status; kind = kind; range = None; allow = None; content = content }
 
 abbrev pub content_bytes : Content → List ℕ
 content_bytes Empty = []
@@ -22,12 +36,14 @@ abbrev pub reply_view : Reply → ReplyView
 reply_view reply = record {
   status = reply.status;
   kind = option_map (λ kind. kind.now) reply.kind;
+  range = reply.range;
+  allow = option_map (λ allow. allow.now) reply.allow;
   content = content_bytes reply.content;
 }
 
--- the name of the type has at most 64 bytes, so that the head of a reply has a bound
-abbrev pub HasShortKind : ReplyView → Type 0
-HasShortKind reply = IfSome reply.kind (λ kind. length kind ≤ 64)
+-- the name of the type and the list of methods have at most 64 bytes, so that the head of a reply has a bound
+abbrev pub HasShortWords : ReplyView → Type 0
+HasShortWords reply = IfSome reply.kind (λ kind. length kind ≤ 64) × IfSome reply.allow (λ allow. length allow ≤ 64)
 
 -- ---- bytes
 
@@ -43,6 +59,26 @@ unfoldable pub type_line : Option (List ℕ) → List ℕ
 type_line None = []
 type_line (Some kind) = codes "content-type: " ++ kind ++ line_end
 
+-- the line of a part: its first byte, its last byte, and how many there are in all (RFC 9110, 14.4)
+unfoldable pub part_line : ℕ → ℕ → ℕ → List ℕ
+part_line first last total =
+    codes "content-range: bytes " ++ decimal first ++ codes "-" ++ decimal last ++ codes "/" ++ decimal total ++ line_end
+
+-- the line of a range that isn't there: how many bytes there are in all
+unfoldable pub unsatisfied_line : ℕ → List ℕ
+unsatisfied_line total = codes "content-range: bytes */" ++ decimal total ++ line_end
+
+-- the line that tells which part of a whole the content is, where there is one
+abbrev pub range_line : Option ContentRange → List ℕ
+range_line None = []
+range_line (Some (Part first last total)) = part_line first last total
+range_line (Some (Unsatisfied total)) = unsatisfied_line total
+
+-- the line of the methods that are allowed, where there is one
+unfoldable pub allow_line : Option (List ℕ) → List ℕ
+allow_line None = []
+allow_line (Some methods) = codes "allow: " ++ methods ++ line_end
+
 -- the line of the length
 unfoldable pub length_line : ℕ → List ℕ
 length_line size = codes "content-length: " ++ decimal size ++ line_end
@@ -56,30 +92,44 @@ closing_line false = []
 abbrev pub has_no_content : ReplyView → Bool
 has_no_content reply = reply.status == 204
 
--- the lines that speak of the content
-abbrev pub content_lines : ReplyView → List ℕ
-content_lines reply = cond (has_no_content reply) [] (type_line reply.kind ++ length_line (length reply.content))
+-- the lines of the fields; those that speak of a content are left out where there is none
+abbrev pub field_lines : ReplyView → List ℕ
+field_lines reply =
+    cond (has_no_content reply) (allow_line reply.allow)
+    (type_line reply.kind ++ range_line reply.range ++ allow_line reply.allow ++ length_line (length reply.content))
 
 -- the head of a reply, with an empty line, which says whether it is the last one
 unfoldable pub reply_head : Bool → ReplyView → List ℕ
 reply_head close reply =
     codes "HTTP/1.1 " ++ code_digits reply.status ++ codes " " ++ phrase_of reply.status ++ line_end
-    ++ content_lines reply ++ closing_line close ++ line_end
+    ++ field_lines reply ++ closing_line close ++ line_end
 
--- the content that is sent
-abbrev pub sent_content : ReplyView → List ℕ
-sent_content reply = cond (has_no_content reply) [] reply.content
+-- the content that is sent: none in a reply that is only a head
+abbrev pub sent_content : Bool → ReplyView → List ℕ
+sent_content bare reply = cond (bare || has_no_content reply) [] reply.content
 
--- a reply, which says whether it is the last one
-abbrev pub reply_bytes : Bool → ReplyView → List ℕ
-reply_bytes close reply = reply_head close reply ++ sent_content reply
+-- a reply, which says whether it is the last one, and is whole or only its head
+abbrev pub reply_bytes : Bool → Bool → ReplyView → List ℕ
+reply_bytes close bare reply = reply_head close reply ++ sent_content bare reply
+
+-- the method is HEAD, whose replies are only heads (RFC 9110, 9.3.2)
+abbrev pub is_head : List ℕ → Bool
+is_head method = pointwise nat_eq method (codes "HEAD")
+
+-- the reply to a request
+abbrev pub reply_to : Message → ReplyView → List ℕ
+reply_to message reply = reply_bytes (asks_to_close message.head) (is_head message.head.method) reply
+
+-- the reply to the request in a frame of the bytes
+abbrev pub reply_at : List ℕ → Frame → ReplyView → List ℕ
+reply_at bytes frame reply = reply_bytes frame.close (is_head (span_bytes bytes frame.method)) reply
 
 -- ---- refusals
 
 -- 400 Bad Request, and the word of the refusal on a line
 unfoldable pub refusal_view : Refusal → ReplyView
-refusal_view Head = record { status = 400; kind = Some (codes "text/plain"); content = codes "Head\n" }
+refusal_view Head = plain_reply 400 (Some (codes "text/plain")) (codes "Head\n")
 
--- the reply to what is no request
-abbrev pub refusal_bytes : Refusal → List ℕ
-refusal_bytes refusal = reply_bytes true (refusal_view refusal)
+-- the reply to what is no request, whose head this is, where it has one
+abbrev pub refusal_bytes : Option RequestHead → Refusal → List ℕ
+refusal_bytes head Head = reply_bytes true false (refusal_view Head)

@@ -1,15 +1,17 @@
 -- What the search for a request knows of the bytes that wait.
-use Rattle.std.specs.Prelude.{◌≡◌, ℕ, ◌<◌, ◌≤◌, List, ◌++◌, length, take}
+use Rattle.std.specs.Prelude.{◌≡◌, ℕ, ◌<◌, ◌≤◌, List, ◌++◌, length, take, Option}
+use Rattle.httparse.specs.Grammar.{RequestHead}
 use Rattle.http_serve.specs.declared.lines.Lines.TheVariants.{Blank}
 use Rattle.http_serve.specs.declared.searches.Search.{Search}
 use Rattle.http_serve.specs.declared.searches.Search.TheVariants.{Head, Until}
 use Rattle.http_serve.specs.Lines.{after_bytes}
 use Rattle.http_serve.specs.Message.{IsRefused}
 
--- how far the first bytes are to an empty line, or up to which length no request is whole
+-- how far the first bytes are to an empty line, or up to which length no request is whole. Where a head may be at fault only says when it is parsed
 abbrev pub IsKnown : List ℕ → Search → Type 0
-IsKnown bytes (Head scanned lines tried) =
+IsKnown bytes (Head scanned lines place) =
     (scanned ≤ length bytes) × (after_bytes Blank (take scanned bytes) ≡ lines)
 IsKnown bytes (Until missing) =
     (missing.until ≤ 73728)
-    × ((more : List ℕ) → length (bytes ++ more) < missing.until → IsRefused (bytes ++ more) missing.refusal)
+    × (head : Option RequestHead)
+    × ((more : List ℕ) → length (bytes ++ more) < missing.until → IsRefused (bytes ++ more) head missing.refusal)

@@ -1,10 +1,11 @@
 -- What a connection writes, by what it reads.
-use Rattle.std.specs.Prelude.{◌≡◌, ℕ, ◌+◌, ◌-◌, ◌^◌, ◌<◌, min, List, [], ◌∷◌, ◌++◌, true, false, length, take, Option, ⊤, ◌⊎◌}
+use Rattle.std.specs.Prelude.{◌≡◌, ℕ, ◌+◌, ◌-◌, ◌^◌, ◌<◌, min, List, [], ◌∷◌, ◌++◌, length, take, Option, ⊤, ◌⊎◌}
 use Rattle.std.specs.Io.KnownBytes.{Appends, IsAtEnd}
+use Rattle.httparse.specs.Grammar.{RequestHead}
 use Rattle.http_serve.specs.declared.refusals.Refusal.{Refusal}
-use Rattle.http_serve.specs.Message.{Message, IsMessage, IsRefused, Begins, Ending, going, closed, asked, refused, Requests, asks_to_close}
+use Rattle.http_serve.specs.Message.{Message, IsMessage, IsRefused, Begins, Ending, going, closed, asked, refused, Requests}
 use Rattle.http_serve.specs.Question.{Question, question_of}
-use Rattle.http_serve.specs.Reply.{ReplyView, reply_bytes, refusal_bytes}
+use Rattle.http_serve.specs.Reply.{ReplyView, reply_to, refusal_bytes}
 
 -- a count rises by n, and stops at the greatest u64
 abbrev pub RisesBy : ℕ → ℕ → ℕ → Type 0
@@ -15,7 +16,7 @@ abbrev pub reply_count : List Message → Ending → ℕ
 reply_count messages going = length messages
 reply_count messages closed = length messages
 reply_count messages (asked message) = length messages + 1
-reply_count messages (refused refusal) = length messages + 1
+reply_count messages (refused head refusal) = length messages + 1
 
 module _ {S : Type 0} (replies : S → Question → ReplyView → S → Type 0) where
   -- one reply for each request, in order
@@ -23,15 +24,15 @@ module _ {S : Type 0} (replies : S → Question → ReplyView → S → Type 0) 
   Answers old [] out new = (out ≡ []) × (new ≡ old)
   Answers old (message ∷ messages) out new =
       (reply : ReplyView) × (middle : S) × (more : List ℕ) × replies old (question_of message) reply middle
-      × (out ≡ reply_bytes false reply ++ more) × Answers middle messages more new
+      × (out ≡ reply_to message reply ++ more) × Answers middle messages more new
 
   -- what the end is answered with
   abbrev pub AnswersEnd : S → Ending → List ℕ → S → Type 0
   AnswersEnd old going out new = (out ≡ []) × (new ≡ old)
   AnswersEnd old closed out new = (out ≡ []) × (new ≡ old)
   AnswersEnd old (asked message) out new =
-      (reply : ReplyView) × replies old (question_of message) reply new × (out ≡ reply_bytes true reply)
-  AnswersEnd old (refused refusal) out new = (out ≡ refusal_bytes refusal) × (new ≡ old)
+      (reply : ReplyView) × replies old (question_of message) reply new × (out ≡ reply_to message reply)
+  AnswersEnd old (refused head refusal) out new = (out ≡ refusal_bytes head refusal) × (new ≡ old)
 
   -- the replies to all requests and to the end
   pub record AnswersAll (old : S) (messages : List Message) (ending : Ending) (out : List ℕ) (new : S) : Type 0 where
@@ -69,18 +70,19 @@ module _ {S : Type 0} (replies : S → Question → ReplyView → S → Type 0) 
     pub reply : ReplyView
     pub is : IsMessage bytes message rest
     pub replied : replies old (question_of message) reply new
-    pub out_is : out ≡ reply_bytes (asks_to_close message.head) reply
+    pub out_is : out ≡ reply_to message reply
 
-  -- out is the reply to bytes that begin with no request
-  pub record RefusesNext (old : S) (bytes out : List ℕ) (new : S) : Type 0 where
+  -- out is the reply to bytes that begin with no request, with what may follow
+  pub record RefusesNext (old : S) (bytes : List ℕ) (follow : List ℕ → Type 0) (out : List ℕ) (new : S) : Type 0 where
+    pub head : Option RequestHead
     pub refusal : Refusal
     pub some : 0 < length bytes
-    pub is : IsRefused bytes refusal
+    pub is : (more : List ℕ) → follow more → IsRefused (bytes ++ more) head refusal
     pub same : new ≡ old
-    pub out_is : out ≡ refusal_bytes refusal
+    pub out_is : out ≡ refusal_bytes head refusal
 
   -- a write failed: the replies to some whole requests are written, and the first bytes of the next reply
-  pub record Breaks (old : S) (bytes : List ℕ) (held : Option (List ℕ)) (before : ℕ)
+  pub record Breaks (old : S) (bytes : List ℕ) (follow : List ℕ → Type 0) (held : Option (List ℕ)) (before : ℕ)
       (new : S) (holds : Option (List ℕ)) (after : ℕ) : Type 0 where
     pub middle : S
     pub rest : List ℕ
@@ -88,7 +90,7 @@ module _ {S : Type 0} (replies : S → Question → ReplyView → S → Type 0) 
     pub carries : Carries old bytes held before middle rest between after
     pub next : List ℕ
     pub count : ℕ
-    pub replied : AnswersNext middle rest next new ⊎ RefusesNext middle rest next new
+    pub replied : AnswersNext middle rest next new ⊎ RefusesNext middle rest follow next new
     pub cut : count < length next
     pub written : Appends between holds (take count next)
 

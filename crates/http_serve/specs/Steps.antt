@@ -1,6 +1,7 @@
 -- What the steps of a connection tell.
 use Rattle.std.specs.Prelude.{◌≡◌, ◌≢◌, ℕ, ◌<◌, List, [], length, take, Option}
 use Rattle.std.specs.Io.KnownBytes.{Appends}
+use Rattle.httparse.specs.Grammar.{RequestHead}
 use Rattle.http_serve.specs.declared.connection.End.TheVariants.{Turns}
 use Rattle.http_serve.specs.declared.connection.Pause.{Pause}
 use Rattle.http_serve.specs.declared.connection.Pause.TheVariants.{Ended, More}
@@ -19,27 +20,27 @@ abbrev pub HasPlainEnd : Ending → List ℕ → Type 0
 HasPlainEnd going last = ⊥
 HasPlainEnd closed last = last ≡ []
 HasPlainEnd (asked message) last = ⊥
-HasPlainEnd (refused refusal) last = last ≡ refusal_bytes refusal
+HasPlainEnd (refused head refusal) last = last ≡ refusal_bytes head refusal
 
 -- the input ended: with nothing, or it is refused
-pub record IsFinished (waiting : List ℕ) (reason : Refusal) (held : Option (List ℕ)) (before : ℕ)
+pub record IsFinished (waiting : List ℕ) (head : Option RequestHead) (reason : Refusal) (held : Option (List ℕ)) (before : ℕ)
     (served : Served) (holds : Option (List ℕ)) : Type 0 where
   pub ending : Ending
   pub last : List ℕ
   pub told : served.end ≡ end_of ending
   pub plain : HasPlainEnd ending last
-  pub ends : IsRefused waiting reason → EndsAs waiting ending
+  pub ends : IsRefused waiting head reason → EndsAs waiting ending
   pub written : Appends held holds last
   pub counted : RisesBy before (reply_count [] ending) served.requests
 
 -- the input ended and was refused, but a write failed
-pub record IsUnfinished (waiting : List ℕ) (reason : Refusal) (held : Option (List ℕ)) (before : ℕ)
+pub record IsUnfinished (waiting : List ℕ) (head : Option RequestHead) (reason : Refusal) (held : Option (List ℕ)) (before : ℕ)
     (fault : ServeFault) (holds : Option (List ℕ)) : Type 0 where
   pub some : 0 < length waiting
   pub count : ℕ
-  pub cut : count < length (refusal_bytes reason)
+  pub cut : count < length (refusal_bytes head reason)
   pub told : fault ≡ Write before
-  pub written : Appends held holds (take count (refusal_bytes reason))
+  pub written : Appends held holds (take count (refusal_bytes head reason))
 
 module _ {S : Type 0} (replies : S → Question → ReplyView → S → Type 0) where
   -- the whole requests of the bytes that waited are answered, and the connection ended or needs more bytes
@@ -48,10 +49,11 @@ module _ {S : Type 0} (replies : S → Question → ReplyView → S → Type 0) 
       (ending : Ending) × Ends replies old waiting Anything held before ending new holds served.requests
       × (served.end ≡ end_of ending) × (served.end ≢ Turns)
   IsPaused old waiting held before (More requests refusal) new rest holds =
-      Carries replies old waiting held before new rest holds requests × (length rest < 73728) × IsRefused rest refusal
+      Carries replies old waiting held before new rest holds requests × (length rest < 73728)
+      × (head : Option RequestHead) × IsRefused rest head refusal
 
   -- a write failed
   abbrev pub IsBroken : S → List ℕ → Option (List ℕ) → ℕ → ServeFault → S → Option (List ℕ) → Type 0
   IsBroken old waiting held before Memory new holds = ⊥
   IsBroken old waiting held before (Read requests) new holds = ⊥
-  IsBroken old waiting held before (Write requests) new holds = Breaks replies old waiting held before new holds requests
+  IsBroken old waiting held before (Write requests) new holds = Breaks replies old waiting Anything held before new holds requests

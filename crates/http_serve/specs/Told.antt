@@ -1,11 +1,12 @@
 -- What a connection came to.
-use Rattle.std.specs.Prelude.{◌≡◌, ◌≢◌, ◌<◌, ℕ, List, length, Some, None, Option, ⊤}
+use Rattle.std.specs.Prelude.{◌≡◌, ◌≤◌, ◌+◌, ◌-◌, ◌*◌, ℕ, List, length, Some, None, Option, Ok, Err, Result, ⊤}
 use Rattle.std.specs.Io.KnownBytes.{Consumes, Appends}
 use Rattle.http_serve.specs.declared.connection.End.{End}
 use Rattle.http_serve.specs.declared.connection.End.TheVariants.{Closed, Asked, Refused, Turns}
 use Rattle.http_serve.specs.declared.connection.ServeFault.{ServeFault}
 use Rattle.http_serve.specs.declared.connection.ServeFault.TheVariants.{Memory, Read, Write}
 use Rattle.http_serve.specs.declared.connection.Served.{Served}
+use Rattle.http_serve.specs.Input.{buffer_size}
 use Rattle.http_serve.specs.Message.{Message, IsMessage, Requests, Ending, going, closed, asked, refused}
 use Rattle.http_serve.specs.Question.{Question}
 use Rattle.http_serve.specs.Reply.{ReplyView}
@@ -16,7 +17,7 @@ abbrev pub end_of : Ending → End
 end_of going = Turns
 end_of closed = Closed
 end_of (asked message) = Asked
-end_of (refused refusal) = Refused
+end_of (refused head refusal) = Refused
 
 -- the first fact where the bound on reads was met, and else the second
 abbrev pub IfTurns : End → Type 0 → Type 0 → Type 0
@@ -25,10 +26,36 @@ IfTurns Closed stopped ended = ended
 IfTurns Asked stopped ended = ended
 IfTurns Refused stopped ended = ended
 
--- the bound on reads isn't met by an input that is known to have fewer bytes
-abbrev pub IsWithinTurns : Option (List ℕ) → ℕ → End → Type 0
-IsWithinTurns None turns end = ⊤
-IsWithinTurns (Some input) turns end = length input < turns → end ≢ Turns
+-- how many reads a connection makes at most
+abbrev pub most_reads : ℕ
+most_reads = 4294967296
+
+-- so many bytes at least were read of an input that is known
+abbrev pub LosesAtLeast : ℕ → Option (List ℕ) → Option (List ℕ) → Type 0
+LosesAtLeast bytes None left = ⊤
+LosesAtLeast bytes (Some input) None = ⊥
+LosesAtLeast bytes (Some input) (Some left) = bytes + length left ≤ length input
+
+-- so many bytes at most were read of an input that is known
+abbrev pub LosesAtMost : ℕ → Option (List ℕ) → Option (List ℕ) → Type 0
+LosesAtMost bytes None left = ⊤
+LosesAtMost bytes (Some input) None = ⊥
+LosesAtMost bytes (Some input) (Some left) = length input ≤ length left + bytes
+
+-- where the bound on reads is met, each of so many reads gave a byte of an input that is known
+abbrev pub MeetsTurns : ℕ → Option (List ℕ) → Option (List ℕ) → End → Type 0
+MeetsTurns turns input left end = IfTurns end (LosesAtLeast turns input left) ⊤
+
+-- how many of at most so many reads gave bytes: a read that fails is one of them, and gives none
+abbrev pub giving_reads : ℕ → Result Served ServeFault → ℕ
+giving_reads turns (Ok served) = turns
+giving_reads turns (Err Memory) = 0
+giving_reads turns (Err (Read requests)) = turns - 1
+giving_reads turns (Err (Write requests)) = turns
+
+-- no more than so many reads were made, each of at most the bytes that a buffer has
+abbrev pub KeepsTurns : ℕ → Result Served ServeFault → Option (List ℕ) → Option (List ℕ) → Type 0
+KeepsTurns turns result input left = LosesAtMost (giving_reads turns result * buffer_size) input left
 
 module _ {S : Type 0} (replies : S → Question → ReplyView → S → Type 0) where
   -- The bytes that were read are these requests up to an ending, whatever may follow, and the replies were
@@ -55,7 +82,7 @@ module _ {S : Type 0} (replies : S → Question → ReplyView → S → Type 0) 
       (new : S) (leaves : Option (List ℕ)) (holds : Option (List ℕ)) : Type 0 where
     pub bytes : List ℕ
     pub read : Consumes left leaves bytes
-    pub breaks : Breaks replies old bytes held 0 new holds requests
+    pub breaks : Breaks replies old bytes (MayFollow leaves) held 0 new holds requests
 
   -- what a connection came to
   abbrev pub IsServed : S → Option (List ℕ) → Option (List ℕ) → Served → S → Option (List ℕ) → Option (List ℕ) → Type 0

@@ -1,12 +1,14 @@
 //! A connection: each request gets a reply.
-ghost use Rattle.std.specs.Prelude.{◌≡◌, ◌≤◌, ◌<◌, ◌^◌, ℕ, List, length, IfOk, IfErr, OnOk, vec_capacity};
-ghost use Rattle.httparse.specs.Spans.{IsWithin};
+ghost use Rattle.std.specs.Prelude.{◌≡◌, ◌≤◌, ◌<◌, ◌^◌, ℕ, List, length, Option, IfSome, IfOk, IfErr, OnOk, vec_capacity};
+ghost use Rattle.httparse.specs.Grammar.{RequestHead};
+ghost use Rattle.httparse.specs.Spans.{IsWithin, span_bytes};
+ghost use Rattle.std.specs.Option.{option_map};
 ghost use Rattle.http_serve.specs.Question.{path_of, question_at};
-ghost use Rattle.http_serve.specs.Reply.{ReplyView, HasShortKind, reply_view, reply_bytes, refusal_bytes};
+ghost use Rattle.http_serve.specs.Reply.{ReplyView, is_head, reply_at, refusal_bytes};
 ghost use Rattle.http_serve.specs.Search.{IsKnown};
 ghost use Rattle.http_serve.specs.Sent.{Sends};
 ghost use Rattle.http_serve.specs.Steps.{IsPaused, IsBroken, IsFinished, IsUnfinished};
-ghost use Rattle.http_serve.specs.Told.{IsServed, IsServedUpTo, IsWithinTurns, AnswersInput};
+ghost use Rattle.http_serve.specs.Told.{IsServed, IsServedUpTo, most_reads, MeetsTurns, KeepsTurns, AnswersInput};
 
 use crate::fields::position_or_len;
 use crate::frames::{Frame, Next};
@@ -15,6 +17,7 @@ use crate::replies::{REPLY_SPACE, send_reply};
 use crate::searches::{START, Search, find_next};
 use crate::writes::WriteFault;
 use crate::{Handler, Refusal, Request};
+use httparse::spans::Span;
 use std::alloc::Global;
 use std::io::{Read, Write};
 use thiserror::Error;
@@ -71,6 +74,24 @@ fn path_of(target: &[u8]) -> &[u8]
     &target[..position_or_len(target, b'?')]
 }
 
+/// The bytes of a part, where it is there.
+fn part_of(bytes: &[u8], part: Option<Span>) -> Option<&[u8]>
+    requires { IfSome part (IsWithin (length bytes.now)) }
+    ensures { option_map (λ text. text.now) result ≡ option_map (span_bytes bytes.now) part }
+{
+    match part {
+        Some(span) => Some(span.of(bytes)),
+        None => None,
+    }
+}
+
+/// Whether a method is HEAD, whose replies are only heads (RFC 9110, 9.3.2).
+fn is_head(method: &[u8]) -> bool
+    ensures { result ≡ is_head method.now }
+{
+    method == b"HEAD".as_slice()
+}
+
 /// Answers the request in a frame of these bytes.
 fn answer_one<H: Handler, W: Write>(
     handler: &mut H,
@@ -82,27 +103,31 @@ fn answer_one<H: Handler, W: Write>(
     requires method { IsWithin (length bytes.now) frame.now.method }
     requires target { IsWithin (length bytes.now) frame.now.target }
     requires body { IsWithin (length bytes.now) frame.now.body }
+    requires range { IfSome frame.now.range (IsWithin (length bytes.now)) }
     requires room { 16384 ≤ vec_capacity out.old }
     ensures room { 16384 ≤ vec_capacity out.new }
     ensures reply { (reply : ReplyView) × H.replies handler.old (question_at bytes.now frame.now) reply handler.new
-        × Sends result (W.contents writer.old) (W.contents writer.new) (reply_bytes frame.now.close reply) }
+        × Sends result (W.contents writer.old) (W.contents writer.new) (reply_at bytes.now frame.now reply) }
 {
+    let method = frame.method.of(bytes);
     let request = Request {
-        method: frame.method.of(bytes),
+        method,
         path: path_of(frame.target.of(bytes)),
+        range: part_of(bytes, frame.range),
         body: frame.body.of(bytes),
+        close: frame.close,
     };
     let reply = handler.answer(&request);
-    send_reply(writer, out, &reply, frame.close)
+    send_reply(writer, out, &reply, frame.close, is_head(method))
 }
 
 /// Tells that the bytes are no request.
 fn refuse<W: Write>(writer: &mut W, out: &mut Vec<u8>, refusal: Refusal) -> Result<(), WriteFault>
     requires room { 16384 ≤ vec_capacity out.old }
     ensures room { 16384 ≤ vec_capacity out.new }
-    ensures sent { Sends result (W.contents writer.old) (W.contents writer.new) (refusal_bytes refusal) }
+    ensures sent { (head : Option RequestHead) → Sends result (W.contents writer.old) (W.contents writer.new) (refusal_bytes head refusal) }
 {
-    send_reply(writer, out, &refusal.reply(), true)
+    send_reply(writer, out, &refusal.reply(), true, false)
 }
 
 /// The bytes that wait, what is known of them, and room for replies.
@@ -170,9 +195,9 @@ fn finish<W: Write>(
     reason: Refusal,
 ) -> Result<Served, ServeFault>
     requires room { 16384 ≤ vec_capacity session.old.out }
-    ensures ends { IfOk result (λ served. IsFinished session.old.input.waiting reason (W.contents writer.old) requests
+    ensures ends { (head : Option RequestHead) → IfOk result (λ served. IsFinished session.old.input.waiting head reason (W.contents writer.old) requests
         served (W.contents writer.new)) }
-    ensures fault { IfErr result (λ fault. IsUnfinished session.old.input.waiting reason (W.contents writer.old) requests
+    ensures fault { (head : Option RequestHead) → IfErr result (λ fault. IsUnfinished session.old.input.waiting head reason (W.contents writer.old) requests
         fault (W.contents writer.new)) }
 {
     if session.input.waiting().is_empty() {
@@ -202,7 +227,8 @@ pub fn serve_turns<R: Read, W: Write, H: Handler>(
         handler.new (R.remaining reader.new) (W.contents writer.new)) }
     ensures fault { IfErr result (λ fault. IsServedUpTo H.replies handler.old (R.remaining reader.old) (W.contents writer.old) fault
         handler.new (R.remaining reader.new) (W.contents writer.new)) }
-    ensures turns { IfOk result (λ served. IsWithinTurns (R.remaining reader.old) turns served.end) }
+    ensures turns { IfOk result (λ served. MeetsTurns turns (R.remaining reader.old) (R.remaining reader.new) served.end) }
+    ensures reads { KeepsTurns turns result (R.remaining reader.old) (R.remaining reader.new) }
 {
     let Ok(input) = Input::new(alloc) else {
         return Err(ServeFault::Memory);
@@ -238,16 +264,14 @@ pub fn serve_turns<R: Read, W: Write, H: Handler>(
             Err(fault) => return Err(fault),
         }
     }
-    Ok(Served {
-        requests,
-        end: End::Turns,
-    })
+    let end = End::Turns;
+    Ok(Served { requests, end })
 }
 
 /// How many reads one connection makes at most.
-const MOST_TURNS: u64 = 4_294_967_296;
+pub const MOST_READS: u64 = 4_294_967_296;
 
-/// Serves a connection by at most 4,294,967,296 reads: one reply to each request, in order, and one to what is no request.
+/// Serves a connection by at most `MOST_READS` reads: one reply to each request, in order, and one to what is no request.
 pub fn serve<R: Read, W: Write, H: Handler>(
     alloc: Global,
     reader: &mut R,
@@ -260,7 +284,8 @@ pub fn serve<R: Read, W: Write, H: Handler>(
         handler.new (R.remaining reader.new) (W.contents writer.new)) }
     ensures fault { IfErr result (λ fault. IsServedUpTo H.replies handler.old (R.remaining reader.old) (W.contents writer.old) fault
         handler.new (R.remaining reader.new) (W.contents writer.new)) }
-    ensures turns { IfOk result (λ served. IsWithinTurns (R.remaining reader.old) 4294967296 served.end) }
+    ensures turns { IfOk result (λ served. MeetsTurns most_reads (R.remaining reader.old) (R.remaining reader.new) served.end) }
+    ensures reads { KeepsTurns most_reads result (R.remaining reader.old) (R.remaining reader.new) }
 {
-    serve_turns(alloc, reader, writer, handler, MOST_TURNS)
+    serve_turns(alloc, reader, writer, handler, MOST_READS)
 }

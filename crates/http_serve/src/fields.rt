@@ -1,23 +1,57 @@
 //! What the fields of a head say of its body and of the connection (RFC 9110, 8.6 and 7.6.1).
-ghost use Rattle.std.specs.Prelude.{◌≡◌, ◌≤◌, ◌<◌, ◌&&◌, ◌==◌, ◌^◌, true, min, ℕ, nat_lt, length, take, map, reverse, codes, All};
+ghost use Rattle.std.specs.Prelude.{◌≡◌, ◌≤◌, ◌<◌, ◌&&◌, ◌==◌, ◌^◌, true, min, ℕ, nat_lt, length, take, map, reverse, codes, All, IfSome};
 ghost use Rattle.std.specs.List.{list_all, position, position_or_len};
-ghost use Rattle.std.specs.Char.{is_ascii_digit};
+ghost use Rattle.std.specs.Char.{is_ascii_digit, to_ascii_lowercase};
 ghost use Rattle.std.specs.Str.Parse.{digits_value};
-ghost use Rattle.httparse.specs.Spans.{IsHeaderWithin, header_bytes};
+ghost use Rattle.std.specs.Option.{option_map};
+ghost use Rattle.httparse.specs.Spans.{IsHeaderWithin, IsWithin, header_bytes, span_bytes};
 ghost use Rattle.httparse.specs.Grammar.{is_ows, skip_ows, trim_ows};
-ghost use Rattle.http_serve.specs.Fields.{is_word, numeral_length, body_length, lists_close, is_close, says_close};
+ghost use Rattle.http_serve.specs.Fields.{is_word, IsStated, values_of, numeral_length, body_length, range_of, lists_close, is_close, says_close};
 
 use crate::Refusal;
-use httparse::spans::HeaderSpan;
+use httparse::spans::{HeaderSpan, Span};
 
 /// The most bytes that a body may have.
 pub(crate) const MOST_BODY: u64 = 65_536;
 
-/// Whether a field is called content-length.
-fn is_length_name(name: &[u8]) -> bool
-    ensures { result ≡ is_word (codes "content-length") name.now }
+/// What the fields of a name state.
+#[derive(Clone, Copy, Debug)]
+pub(crate) enum Stated {
+    /// There is no such field.
+    Never,
+    /// There is one, of this value.
+    Once(Span),
+    /// There are more.
+    Often,
+}
+
+/// Whether a name is this word of lower case letters, in any case.
+fn is_word(name: &[u8], word: &[u8]) -> bool
+    requires { map to_ascii_lowercase word.now ≡ word.now }
+    ensures { result ≡ is_word word.now name.now }
 {
-    name.eq_ignore_ascii_case(b"content-length")
+    name.eq_ignore_ascii_case(word)
+}
+
+/// What the fields state whose name is this word of lower case letters.
+fn find_stated(bytes: &[u8], fields: &[HeaderSpan], word: &[u8]) -> Stated
+    requires fields { All (IsHeaderWithin (length bytes.now)) fields.now }
+    requires word { map to_ascii_lowercase word.now ≡ word.now }
+    ensures { IsStated bytes.now result (values_of word.now (map (header_bytes bytes.now) fields.now)) }
+{
+    let mut found = None;
+    for field in fields {
+        if is_word(field.name.of(bytes), word) {
+            if found.is_some() {
+                return Stated::Often;
+            }
+            found = Some(field.value);
+        }
+    }
+    match found {
+        None => Stated::Never,
+        Some(value) => Stated::Once(value),
+    }
 }
 
 /// The number that the digits write, or one above the limit where it is above.
@@ -58,18 +92,22 @@ pub(crate) fn body_length(bytes: &[u8], fields: &[HeaderSpan]) -> Result<u64, Re
     requires { All (IsHeaderWithin (length bytes.now)) fields.now }
     ensures { result ≡ body_length (map (header_bytes bytes.now) fields.now) }
 {
-    let mut stated = None;
-    for field in fields {
-        if is_length_name(field.name.of(bytes)) {
-            if stated.is_some() {
-                return Err(Refusal::Head);
-            }
-            stated = Some(field.value);
-        }
+    match find_stated(bytes, fields, b"content-length") {
+        Stated::Never => Ok(0),
+        Stated::Once(value) => numeral_length(value.of(bytes)),
+        Stated::Often => Err(Refusal::Head),
     }
-    match stated {
-        None => Ok(0),
-        Some(value) => numeral_length(value.of(bytes)),
+}
+
+/// The value of the one field called range, without the white space around it.
+pub(crate) fn range_of(bytes: &[u8], fields: &[HeaderSpan]) -> Option<Span>
+    requires { All (IsHeaderWithin (length bytes.now)) fields.now }
+    ensures value { option_map (span_bytes bytes.now) result ≡ range_of (map (header_bytes bytes.now) fields.now) }
+    ensures within { IfSome result (IsWithin (length bytes.now)) }
+{
+    match find_stated(bytes, fields, b"range") {
+        Stated::Once(value) => Some(value),
+        _ => None,
     }
 }
 

@@ -5,7 +5,7 @@ ghost use Rattle.http_serve.specs.Fields.{says_close};
 ghost use Rattle.http_serve.specs.Frame.{IsNext};
 
 use crate::Refusal;
-use crate::fields::{MOST_BODY, body_length, says_close};
+use crate::fields::{MOST_BODY, body_length, range_of, says_close};
 use httparse::spans::{EMPTY_HEADER_SPAN, HeaderSpan, RequestSpans, Span, parse_request};
 use httparse::{Error, Status};
 
@@ -22,6 +22,8 @@ pub(crate) struct Frame {
     pub(crate) method: Span,
     pub(crate) target: Span,
     pub(crate) body: Span,
+    /// The value of the one field called range.
+    pub(crate) range: Option<Span>,
     /// Whether the request asks for the end of the connection.
     pub(crate) close: bool,
 }
@@ -108,6 +110,7 @@ fn framed(bytes: &[u8], head: &RequestSpans, fields: &[HeaderSpan]) -> Next
             start: head.len,
             end,
         },
+        range: range_of(bytes, fields),
         close: asks_to_close(bytes, head.version, fields),
     })
 }

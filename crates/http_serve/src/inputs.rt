@@ -1,6 +1,6 @@
 //! The bytes that were read and wait.
 ghost use Rattle.std.specs.Prelude.{◌≡◌, ◌≤◌, ◌<◌, ◌+◌, ◌-◌, ◌++◌, ◌^◌, ℕ, List, [], length, take, drop, slice_range, vec_len, IfOk, OnOk, OnErr};
-ghost use Rattle.http_serve.specs.Input.{InputView};
+ghost use Rattle.http_serve.specs.Input.{InputView, buffer_size};
 ghost use Rattle.std.specs.Io.KnownBytes.{Consumes, IsAtEnd};
 
 use crate::frames::MOST_REQUEST;
@@ -45,7 +45,7 @@ impl Model for Input {
 
     ghost view = { λ i. record { waiting = slice_range i.buffer.items i.start i.end; room = vec_len i.buffer - i.end } };
 
-    ghost invariant = { λ i. (i.start ≤ i.end) × (i.end ≤ vec_len i.buffer) × (vec_len i.buffer ≡ 147456) };
+    ghost invariant = { λ i. (i.start ≤ i.end) × (i.end ≤ vec_len i.buffer) × (vec_len i.buffer ≡ buffer_size) };
 }
 
 impl Input {
@@ -76,17 +76,20 @@ impl Input {
         self.start += count;
     }
 
-    /// Moves the bytes that wait to the front of the buffer, where it is used up.
-    fn make_room(&mut self)
+    /// Moves the bytes that wait to the front of the buffer, where it is used up. Returns how many bytes it moved.
+    pub(crate) fn make_room(&mut self) -> usize
         requires { length self.old.waiting < 73728 }
         ensures same { self.new.waiting ≡ self.old.waiting }
         ensures room { 0 < self.new.room }
+        ensures moved { result ≤ length self.old.waiting }
     {
-        if self.end == self.buffer.len() {
-            self.buffer.copy_within(self.start..self.end, 0);
-            self.end -= self.start;
-            self.start = 0;
+        if self.end < self.buffer.len() {
+            return 0;
         }
+        self.buffer.copy_within(self.start..self.end, 0);
+        self.end -= self.start;
+        self.start = 0;
+        self.end
     }
 
     /// Makes one read, and adds what it gave.
@@ -94,6 +97,7 @@ impl Input {
         requires { length self.old.waiting < 73728 }
         ensures ok { IfOk result (λ n. (more : List ℕ) × Consumes (R.remaining reader.old) (R.remaining reader.new) more
             × (self.new.waiting ≡ self.old.waiting ++ more) × (n ≡ length more) × (n ≡ 0 → IsAtEnd (R.remaining reader.new))) }
+        ensures few { IfOk result (λ n. n ≤ buffer_size) }
         ensures err { OnErr result (Consumes (R.remaining reader.old) (R.remaining reader.new) [] × (self.new.waiting ≡ self.old.waiting)) }
     {
         self.make_room();

@@ -8,16 +8,17 @@ mod handlers;
 mod inputs;
 mod laws;
 mod lines;
+mod places;
 mod refusals;
 mod replies;
 mod searches;
 mod writes;
 
-pub use connection::{End, ServeFault, Served, serve, serve_turns};
+pub use connection::{End, MOST_READS, ServeFault, Served, serve, serve_turns};
 pub use handlers::{Handler, Request};
 pub use laws::one_reading;
 pub use refusals::Refusal;
-pub use replies::{Content, Reply};
+pub use replies::{Content, ContentRange, Reply};
 
 #[cfg(test)]
 mod tests;

@@ -1,6 +1,6 @@
 //! What is answered to bytes that are no request.
 ghost use Rattle.std.specs.Prelude.{◌≡◌};
-ghost use Rattle.http_serve.specs.Reply.{HasShortKind, reply_view, refusal_view};
+ghost use Rattle.http_serve.specs.Reply.{HasShortWords, reply_view, refusal_view};
 
 use crate::{Content, Reply};
 use http::StatusCode;
@@ -17,14 +17,14 @@ impl Refusal {
     #[tactic(auto, unfolding(crate::specs::Reply::refusal_view))]
     pub(crate) fn reply(self) -> Reply
         ensures reply { reply_view result ≡ refusal_view self }
-        ensures kind { HasShortKind (reply_view result) }
+        ensures words { HasShortWords (reply_view result) }
     {
         match self {
-            Refusal::Head => Reply {
-                status: StatusCode::BAD_REQUEST,
-                kind: Some("text/plain"),
-                content: Content::Fixed(b"Head\n"),
-            },
+            Refusal::Head => Reply::plain(
+                StatusCode::BAD_REQUEST,
+                Some("text/plain"),
+                Content::Fixed(b"Head\n"),
+            ),
         }
     }
 }

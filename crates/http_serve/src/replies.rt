@@ -1,6 +1,9 @@
 //! Replies and their bytes.
-ghost use Rattle.std.specs.Prelude.{◌≡◌, ◌≤◌, ◌<◌, ◌+◌, ◌++◌, ◌^◌, [], length, vec_len, vec_capacity, true, false, ◌==◌};
-ghost use Rattle.http_serve.specs.Reply.{ReplyView, HasShortKind, reply_view, content_bytes, phrase_of, type_line, length_line, closing_line, content_lines, reply_head, sent_content, has_no_content, reply_bytes};
+ghost use Rattle.std.specs.Prelude.{◌≡◌, ◌≤◌, ◌<◌, ◌+◌, ◌++◌, ◌^◌, [], length, decimal, vec_len, vec_capacity, true, false, ◌==◌};
+ghost use Rattle.std.specs.Option.{option_map};
+ghost use Rattle.http_serve.specs.Reply.{ReplyView, HasShortWords, reply_view, plain_reply, content_bytes, phrase_of, type_line, part_line, unsatisfied_line};
+ghost use Rattle.http_serve.specs.Reply.{range_line, allow_line, length_line, closing_line, field_lines, reply_head, sent_content, has_no_content};
+ghost use Rattle.http_serve.specs.Reply.{reply_bytes};
 ghost use Rattle.http_serve.specs.Sent.{Sends};
 
 use crate::writes::{WriteFault, send_all, send_both};
@@ -32,16 +35,42 @@ impl Content {
     }
 }
 
-/// A reply to a request. A reply of 204 is sent without its content and its type.
+/// Which part of a whole the content of a reply is, in bytes (RFC 9110, 14.4).
+#[derive(Clone, Copy, Debug, PartialEq, Eq)]
+pub enum ContentRange {
+    /// The bytes from the first to the last one, counted from 0, of so many in all.
+    Part { first: u64, last: u64, total: u64 },
+    /// No part: the whole has so many bytes, and those that were asked for aren't among them.
+    Unsatisfied { total: u64 },
+}
+
+/// A reply to a request. A reply of 204 is sent without its content, its type and its range.
 #[derive(Drop)]
 pub struct Reply {
     pub status: StatusCode,
-    /// The type of the content, as in `text/plain`.
+    /// The type of the content, as in `text/plain`: at most 64 bytes.
     pub kind: Option<&'static str>,
+    /// Which part of a whole the content is.
+    pub range: Option<ContentRange>,
+    /// The methods that are allowed, as in `GET, HEAD`: at most 64 bytes.
+    pub allow: Option<&'static str>,
     pub content: Content,
 }
 
 impl Reply {
+    /// A reply of a status, a type and a content, which says nothing else.
+    pub fn plain(status: StatusCode, kind: Option<&'static str>, content: Content) -> Reply
+        ensures { reply_view result ≡ plain_reply status (option_map (λ kind. kind.now) kind.entry) (content_bytes content) }
+    {
+        Reply {
+            status,
+            kind,
+            range: None,
+            allow: None,
+            content,
+        }
+    }
+
     /// Whether it is of 204 No Content.
     fn has_no_content(&self) -> bool
         ensures { result ≡ has_no_content (reply_view self.now) }
@@ -49,11 +78,11 @@ impl Reply {
         self.status == StatusCode::NO_CONTENT
     }
 
-    /// The content that is sent.
-    pub(crate) fn sent_content(&self) -> &[u8]
-        ensures { result.now ≡ sent_content (reply_view self.now) }
+    /// The content that is sent: none in a reply that is only a head.
+    pub(crate) fn sent_content(&self, bare: bool) -> &[u8]
+        ensures { result.now ≡ sent_content bare (reply_view self.now) }
     {
-        if self.has_no_content() {
+        if bare || self.has_no_content() {
             return b"";
         }
         self.content.as_bytes()
@@ -89,10 +118,78 @@ fn closing_line(close: bool) -> &'static [u8]
     if close { b"connection: close\r\n" } else { b"" }
 }
 
+/// Adds a number in decimal, and the text behind it.
+fn put_number(out: &mut Vec<u8>, number: u64, behind: &[u8])
+    requires { vec_len out.old + 40 + length behind.now ≤ vec_capacity out.old }
+    ensures items { out.new.items ≡ out.old.items ++ (decimal number ++ behind.now) }
+    ensures len { vec_len out.new ≤ vec_len out.old + 40 + length behind.now }
+    ensures capacity { vec_capacity out.old ≤ vec_capacity out.new }
+{
+    put(out, Buffer::new().format(number).as_bytes());
+    put(out, behind);
+}
+
+/// Adds the line of a part.
+#[tactic(auto, unfolding(crate::specs::Reply::part_line))]
+fn put_part_line(out: &mut Vec<u8>, first: u64, last: u64, total: u64)
+    requires room { vec_len out.old + 145 ≤ vec_capacity out.old }
+    ensures items { out.new.items ≡ out.old.items ++ part_line first last total }
+    ensures len { vec_len out.new ≤ vec_len out.old + 145 }
+    ensures capacity { vec_capacity out.old ≤ vec_capacity out.new }
+{
+    put(out, b"content-range: bytes ");
+    put_number(out, first, b"-");
+    put_number(out, last, b"/");
+    put_number(out, total, b"\r\n");
+}
+
+/// Adds the line of a range that isn't there.
+#[tactic(auto, unfolding(crate::specs::Reply::unsatisfied_line))]
+fn put_unsatisfied_line(out: &mut Vec<u8>, total: u64)
+    requires room { vec_len out.old + 65 ≤ vec_capacity out.old }
+    ensures items { out.new.items ≡ out.old.items ++ unsatisfied_line total }
+    ensures len { vec_len out.new ≤ vec_len out.old + 65 }
+    ensures capacity { vec_capacity out.old ≤ vec_capacity out.new }
+{
+    put(out, b"content-range: bytes */");
+    put_number(out, total, b"\r\n");
+}
+
+/// Adds the line of the range, where there is one.
+fn put_range_line(out: &mut Vec<u8>, range: Option<ContentRange>)
+    requires room { vec_len out.old + 145 ≤ vec_capacity out.old }
+    ensures items { out.new.items ≡ out.old.items ++ range_line range }
+    ensures len { vec_len out.new ≤ vec_len out.old + 145 }
+    ensures capacity { vec_capacity out.old ≤ vec_capacity out.new }
+{
+    match range {
+        Some(ContentRange::Part { first, last, total }) => put_part_line(out, first, last, total),
+        Some(ContentRange::Unsatisfied { total }) => put_unsatisfied_line(out, total),
+        None => {}
+    }
+}
+
+/// Adds the line of the methods that are allowed, where there is one.
+#[tactic(auto, unfolding(crate::specs::Reply::allow_line))]
+fn put_allow_line(out: &mut Vec<u8>, reply: &Reply)
+    requires words { HasShortWords (reply_view reply.now) }
+    requires room { vec_len out.old + 73 ≤ vec_capacity out.old }
+    ensures items { out.new.items ≡ out.old.items ++ allow_line (reply_view reply.now).allow }
+    ensures len { vec_len out.new ≤ vec_len out.old + 73 }
+    ensures capacity { vec_capacity out.old ≤ vec_capacity out.new }
+{
+    let Some(methods) = reply.allow else {
+        return;
+    };
+    put(out, b"allow: ");
+    put(out, methods.as_bytes());
+    put(out, b"\r\n");
+}
+
 /// Adds the line of the type, where there is one.
 #[tactic(auto, unfolding(crate::specs::Reply::type_line))]
 fn put_type_line(out: &mut Vec<u8>, reply: &Reply)
-    requires kind { HasShortKind (reply_view reply.now) }
+    requires words { HasShortWords (reply_view reply.now) }
     requires room { vec_len out.old + 80 ≤ vec_capacity out.old }
     ensures items { out.new.items ≡ out.old.items ++ type_line (reply_view reply.now).kind }
     ensures len { vec_len out.new ≤ vec_len out.old + 80 }
@@ -119,28 +216,31 @@ fn put_length_line(out: &mut Vec<u8>, size: usize)
     put(out, b"\r\n");
 }
 
-/// Adds the lines of the type and of the length.
-fn put_content_lines(out: &mut Vec<u8>, reply: &Reply)
-    requires kind { HasShortKind (reply_view reply.now) }
-    requires room { vec_len out.old + 138 ≤ vec_capacity out.old }
-    ensures items { out.new.items ≡ out.old.items ++ content_lines (reply_view reply.now) }
-    ensures len { vec_len out.new ≤ vec_len out.old + 138 }
+/// Adds the lines of the fields.
+fn put_field_lines(out: &mut Vec<u8>, reply: &Reply)
+    requires words { HasShortWords (reply_view reply.now) }
+    requires room { vec_len out.old + 356 ≤ vec_capacity out.old }
+    ensures items { out.new.items ≡ out.old.items ++ field_lines (reply_view reply.now) }
+    ensures len { vec_len out.new ≤ vec_len out.old + 356 }
     ensures capacity { vec_capacity out.old ≤ vec_capacity out.new }
 {
     if reply.has_no_content() {
+        put_allow_line(out, reply);
         return;
     }
     put_type_line(out, reply);
+    put_range_line(out, reply.range);
+    put_allow_line(out, reply);
     put_length_line(out, reply.content.as_bytes().len());
 }
 
-/// Makes the head of a reply, which has at most 256 bytes.
+/// Makes the head of a reply, which has at most 512 bytes.
 #[tactic(auto, unfolding(crate::specs::Reply::reply_head))]
 fn put_reply_head(out: &mut Vec<u8>, reply: &Reply, close: bool)
-    requires kind { HasShortKind (reply_view reply.now) }
-    requires room { 256 ≤ vec_capacity out.old }
+    requires words { HasShortWords (reply_view reply.now) }
+    requires room { 512 ≤ vec_capacity out.old }
     ensures items { out.new.items ≡ reply_head close (reply_view reply.now) }
-    ensures short { vec_len out.new ≤ 256 }
+    ensures short { vec_len out.new ≤ 512 }
     ensures capacity { vec_capacity out.old ≤ vec_capacity out.new }
 {
     out.clear();
@@ -149,7 +249,7 @@ fn put_reply_head(out: &mut Vec<u8>, reply: &Reply, close: bool)
     put(out, b" ");
     put(out, phrase_of(reply.status).as_bytes());
     put(out, b"\r\n");
-    put_content_lines(out, reply);
+    put_field_lines(out, reply);
     put(out, closing_line(close));
     put(out, b"\r\n");
 }
@@ -157,20 +257,22 @@ fn put_reply_head(out: &mut Vec<u8>, reply: &Reply, close: bool)
 /// How many bytes of replies are gathered for one write.
 pub(crate) const REPLY_SPACE: usize = 16_384;
 
-/// Writes a reply, which says whether it is the last one: in one write, if all its bytes fit into the buffer.
+/// Writes a reply, which says whether it is the last one, and is whole or only its head: in one write, if all its bytes
+/// fit into the buffer.
 pub(crate) fn send_reply<W: Write>(
     writer: &mut W,
     out: &mut Vec<u8>,
     reply: &Reply,
     close: bool,
+    bare: bool,
 ) -> Result<(), WriteFault>
-    requires kind { HasShortKind (reply_view reply.now) }
+    requires words { HasShortWords (reply_view reply.now) }
     requires room { 16384 ≤ vec_capacity out.old }
     ensures room { 16384 ≤ vec_capacity out.new }
-    ensures sent { Sends result (W.contents writer.old) (W.contents writer.new) (reply_bytes close (reply_view reply.now)) }
+    ensures sent { Sends result (W.contents writer.old) (W.contents writer.new) (reply_bytes close bare (reply_view reply.now)) }
 {
     put_reply_head(out, reply, close);
-    let content = reply.sent_content();
+    let content = reply.sent_content(bare);
     if content.len() <= REPLY_SPACE - out.len() {
         put(out, content);
         return send_all(writer, out.as_slice());

@@ -1,22 +1,23 @@
 //! The search for a request among bytes that come in pieces.
-ghost use Rattle.std.specs.Prelude.{◌≡◌, ◌≤◌, length, take};
+ghost use Rattle.std.specs.Prelude.{◌≡◌, ◌≤◌, length, take, IfSome};
 ghost use Rattle.http_serve.specs.declared.lines.Lines.TheVariants.{Blank};
-ghost use Rattle.http_serve.specs.Frame.{IsNext};
+ghost use Rattle.http_serve.specs.Frame.{IsNext, IsMissing};
 ghost use Rattle.http_serve.specs.Lines.{after_bytes};
 ghost use Rattle.http_serve.specs.Search.{IsKnown};
 
 use crate::Refusal;
 use crate::frames::{MOST_HEAD, Missing, Next, find_request};
 use crate::lines::Lines;
+use crate::places::Place;
 
 /// What is known of the bytes that wait, so that they aren't looked through again for each piece.
 #[derive(Clone, Copy, Debug)]
 pub(crate) enum Search {
-    /// How far the first `scanned` bytes are to an empty line, which ends a head. The first `tried` were parsed.
+    /// How far the first `scanned` bytes are to an empty line, which ends a head, and where in the head they end.
     Head {
         scanned: usize,
         lines: Lines,
-        tried: usize,
+        place: Place,
     },
     /// Below a length there is no whole request.
     Until(Missing),
@@ -26,59 +27,73 @@ pub(crate) enum Search {
 pub(crate) const START: Search = Search::Head {
     scanned: 0,
     lines: Lines::Blank,
-    tried: 0,
+    place: Place::Front,
 };
 
+/// Goes on behind the bytes of a head that were scanned.
+fn scan_head(
+    bytes: &[u8],
+    scanned: usize,
+    lines: Lines,
+    place: Place,
+    search: &mut Search,
+) -> Option<Missing>
+    requires within { scanned ≤ length bytes.now }
+    requires lines { after_bytes Blank (take scanned bytes.now) ≡ lines }
+    ensures missing { IfSome result (λ missing. IsMissing bytes.now missing.refusal missing.until) }
+    ensures known { IsKnown bytes.now search.new }
+{
+    let lines = lines.after_bytes(&bytes[scanned..]);
+    let (place, doubtful) = place.after_bytes(&bytes[scanned..]);
+    let scanned = bytes.len();
+    *search = Search::Head {
+        scanned,
+        lines,
+        place,
+    };
+    if lines.has_empty() {
+        return None;
+    }
+    if doubtful || scanned >= MOST_HEAD {
+        return None;
+    }
+    Some(Missing {
+        refusal: Refusal::Head,
+        until: scanned + 1,
+    })
+}
+
+/// What is missing, where no parse is needed to tell it. A head is to be parsed where an empty line stands behind a line,
+/// where a byte may be its fault, and where it is as long as a head may be; a body where it is whole.
+pub(crate) fn known_missing(bytes: &[u8], search: &mut Search) -> Option<Missing>
+    requires { IsKnown bytes.now search.old }
+    ensures missing { IfSome result (λ missing. IsMissing bytes.now missing.refusal missing.until) }
+    ensures known { IsKnown bytes.now search.new }
+{
+    match *search {
+        Search::Until(missing) if bytes.len() < missing.until => Some(missing),
+        Search::Until(_) => None,
+        Search::Head {
+            scanned,
+            lines,
+            place,
+        } => scan_head(bytes, scanned, lines, place, search),
+    }
+}
+
 /// What bytes begin with, by their parse.
-fn parse_now(bytes: &[u8], search: &mut Search) -> Next
+pub(crate) fn parse_now(bytes: &[u8], search: &mut Search) -> Next
     requires { IsKnown bytes.now search.old }
     ensures next { IsNext bytes.now result }
     ensures known { IsKnown bytes.now search.new }
 {
     let next = find_request(bytes);
     if let Next::More(missing) = next {
-        *search = Search::Until(missing);
+        if missing.until - bytes.len() > 1 {
+            *search = Search::Until(missing);
+        }
     }
     next
-}
-
-/// What bytes begin with. They are parsed where they have an empty line behind a line, are as long as a head may be,
-/// or are twice as many as at the last parse.
-fn find_in_head(
-    bytes: &[u8],
-    scanned: usize,
-    lines: Lines,
-    tried: usize,
-    search: &mut Search,
-) -> Next
-    requires known { IsKnown bytes.now search.old }
-    requires within { scanned ≤ length bytes.now }
-    requires lines { after_bytes Blank (take scanned bytes.now) ≡ lines }
-    ensures next { IsNext bytes.now result }
-    ensures known { IsKnown bytes.now search.new }
-{
-    let lines = lines.after_bytes(&bytes[scanned..]);
-    if lines.has_empty() {
-        return parse_now(bytes, search);
-    }
-    let scanned = bytes.len();
-    if scanned < MOST_HEAD && scanned / 2 < tried {
-        *search = Search::Head {
-            scanned,
-            lines,
-            tried,
-        };
-        return Next::More(Missing {
-            refusal: Refusal::Head,
-            until: scanned + 1,
-        });
-    }
-    *search = Search::Head {
-        scanned,
-        lines,
-        tried: scanned,
-    };
-    find_request(bytes)
 }
 
 /// What bytes begin with. Each byte of a head is looked at a fixed number of times, whatever the pieces.
@@ -87,13 +102,8 @@ pub(crate) fn find_next(bytes: &[u8], search: &mut Search) -> Next
     ensures next { IsNext bytes.now result }
     ensures known { IsKnown bytes.now search.new }
 {
-    match *search {
-        Search::Until(missing) if bytes.len() < missing.until => Next::More(missing),
-        Search::Until(_) => parse_now(bytes, search),
-        Search::Head {
-            scanned,
-            lines,
-            tried,
-        } => find_in_head(bytes, scanned, lines, tried, search),
+    match known_missing(bytes, search) {
+        Some(missing) => Next::More(missing),
+        None => parse_now(bytes, search),
     }
 }

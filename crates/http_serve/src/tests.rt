@@ -1,8 +1,16 @@
 //! Connections over bytes in pieces, with faults of reads and writes.
 ghost use Rattle.std.specs.Prelude.{◌≡◌, ◌≤◌, length};
+ghost use Rattle.http_serve.specs.Reply.{HasShortWords, reply_view};
 
-use crate::{Content, End, Handler, Reply, Request, ServeFault, Served, serve, serve_turns};
+use crate::frames::MOST_REQUEST;
+use crate::inputs::Input;
+use crate::searches::{START, known_missing, parse_now};
+use crate::{
+    Content, ContentRange, End, Handler, Reply, Request, ServeFault, Served, serve, serve_turns,
+};
 use http::StatusCode;
+use httparse::Error;
+use httparse::spans::{EMPTY_HEADER_SPAN, parse_request};
 use std::alloc::{AllocError, Global};
 use std::cell::Cell;
 use std::io;
@@ -28,35 +36,79 @@ impl Handler for Echo {
     ghost replies = { λ old _ _ new. new ≡ old };
 
     fn answer(&mut self, request: &Request<'_>) -> Reply {
+        match request.range {
+            Some(b"bytes=42-") => return part_of_all(),
+            Some(b"bytes=1234-") => return outside_all(),
+            _ => {}
+        }
         let kind = Some("text/plain");
         if request.path == b"/none".as_slice() {
-            return Reply {
-                status: StatusCode::NO_CONTENT,
-                kind,
-                content: Content::Fixed(b"never sent"),
-            };
+            return Reply::plain(StatusCode::NO_CONTENT, kind, Content::Fixed(b"never sent"));
         }
         match echo_of(self.alloc, request) {
-            Ok(text) => Reply {
-                status: StatusCode::OK,
-                kind,
-                content: Content::Whole(text),
-            },
-            Err(_) => Reply {
-                status: StatusCode::SERVICE_UNAVAILABLE,
-                kind: None,
-                content: Content::Empty,
-            },
+            Ok(text) => Reply::plain(StatusCode::OK, kind, Content::Whole(text)),
+            Err(_) => Reply::plain(StatusCode::SERVICE_UNAVAILABLE, None, Content::Empty),
         }
     }
 }
 
-/// Gives so many bytes at a time, and at the end nothing or a fault.
+/// A part of 1,234 bytes.
+fn part_of_all() -> Reply
+    ensures { HasShortWords (reply_view result) }
+{
+    Reply {
+        status: StatusCode::PARTIAL_CONTENT,
+        kind: None,
+        range: Some(ContentRange::Part {
+            first: 42,
+            last: 43,
+            total: 1_234,
+        }),
+        allow: None,
+        content: Content::Fixed(b"42"),
+    }
+}
+
+/// No part of them.
+fn outside_all() -> Reply
+    ensures { HasShortWords (reply_view result) }
+{
+    Reply {
+        status: StatusCode::RANGE_NOT_SATISFIABLE,
+        kind: Some("text/plain"),
+        range: Some(ContentRange::Unsatisfied { total: 1_234 }),
+        allow: Some("GET, HEAD"),
+        content: Content::Empty,
+    }
+}
+
+/// Gives so many bytes at a time, and at the end nothing or a fault. Counts the calls that failed.
 #[derive(Clone, Copy)]
 struct Pieces<'a> {
     rest: &'a [u8],
     size: usize,
     fails: bool,
+    failed: usize,
+}
+
+impl Pieces<'_> {
+    fn new(rest: &[u8], size: usize) -> Pieces<'_> {
+        Pieces {
+            rest,
+            size,
+            fails: false,
+            failed: 0,
+        }
+    }
+
+    fn failing(rest: &[u8], size: usize) -> Pieces<'_> {
+        Pieces {
+            rest,
+            size,
+            fails: true,
+            failed: 0,
+        }
+    }
 }
 
 fn take_from<'a>(rest: &mut &'a [u8], size: usize, buf: &mut [u8]) -> usize
@@ -72,23 +124,29 @@ fn take_from<'a>(rest: &mut &'a [u8], size: usize, buf: &mut [u8]) -> usize
 impl Read for Pieces<'_> {
     fn read(&mut self, buf: &mut [u8]) -> io::Result<usize> {
         if self.fails && self.rest.is_empty() {
+            self.failed = self.failed.saturating_add(1);
             return Err(ErrorKind::ConnectionReset.into());
         }
         Ok(take_from(&mut self.rest, self.size, buf))
     }
 }
 
-/// Takes so many bytes, and then fails or takes nothing.
+/// Takes so many bytes at a time and in all, and then fails or takes nothing. Counts these calls.
 #[derive(Drop)]
 struct Narrow {
+    size: usize,
     room: usize,
     fails: bool,
+    failed: usize,
     taken: Vec<u8>,
 }
 
 impl Write for Narrow {
     fn write(&mut self, buf: &[u8]) -> io::Result<usize> {
-        let count = self.room.min(buf.len());
+        let count = self.room.min(self.size).min(buf.len());
+        if count == 0 {
+            self.failed = self.failed.saturating_add(1);
+        }
         if count == 0 && self.fails {
             return Err(ErrorKind::BrokenPipe.into());
         }
@@ -110,6 +168,14 @@ const A_LAST: &str =
 const B: &str =
     "HTTP/1.1 200 OK\r\ncontent-type: text/plain\r\ncontent-length: 9\r\n\r\nPUT /b\nhi";
 
+const A_HEAD: &str = "HTTP/1.1 200 OK\r\ncontent-type: text/plain\r\ncontent-length: 8\r\n\r\n";
+
+const PART: &str =
+    "HTTP/1.1 206 Partial Content\r\ncontent-range: bytes 42-43/1234\r\ncontent-length: 2\r\n\r\n42";
+
+const OUTSIDE: &str =
+    "HTTP/1.1 416 Range Not Satisfiable\r\ncontent-type: text/plain\r\ncontent-range: bytes */1234\r\nallow: GET, HEAD\r\ncontent-length: 0\r\n\r\n";
+
 const NONE: &str = "HTTP/1.1 204 No Content\r\n\r\n";
 
 const HEAD: &str =
@@ -118,7 +184,7 @@ const HEAD: &str =
 const TWO: &str = "GET /a HTTP/1.1\r\n\r\nPUT /b?c HTTP/1.1\r\nContent-Length: 002\r\n\r\nhi";
 
 /// What is read, the one or two replies, and how it ends.
-const TALKS: [(&str, &str, &str, End); 24] = [
+const TALKS: [(&str, &str, &str, End); 30] = [
     ("", "", "", End::Closed),
     (TWO, A, B, End::Closed),
     ("\r\n\nGET /a HTTP/1.1\n\n", A, "", End::Closed),
@@ -233,18 +299,59 @@ const TALKS: [(&str, &str, &str, End); 24] = [
         End::Closed,
     ),
     ("GET /a?b?c HTTP/1.1\r\n\r\n", A, "", End::Closed),
+    (
+        "HEAD /a HTTP/1.1\r\n\r\nGET /a HTTP/1.1\r\n\r\n",
+        A_HEAD,
+        A,
+        End::Closed,
+    ),
+    ("HEAD /none HTTP/1.1\r\n\r\n\r\n", NONE, HEAD, End::Refused),
+    (
+        "GET /a HTTP/1.1\r\nRange: \tbytes=42- \r\n\r\nGET /a HTTP/1.1\r\nrange: bytes=1234-\r\n\r\n",
+        PART,
+        OUTSIDE,
+        End::Closed,
+    ),
+    (
+        "GET /a HTTP/1.1\r\nrange: bytes=42-\r\nrange: bytes=42-\r\n\r\n",
+        A,
+        "",
+        End::Closed,
+    ),
+    (
+        "GET /a HTTP/1.1\r\nrange-x: bytes=42-\r\n\r\n",
+        A,
+        "",
+        End::Closed,
+    ),
+    (
+        "HEAD /a HTTP/1.1\r\ncontent-length: x\r\n\r\n",
+        HEAD,
+        "",
+        End::Refused,
+    ),
 ];
 
 /// Serves these bytes in pieces of this size.
 fn talk(alloc: Global, input: &[u8], size: usize) -> Result<(Vec<u8>, Served), ServeFault> {
     let mut out = Vec::new(alloc);
-    let mut reader = Pieces {
-        rest: input,
-        size,
-        fails: false,
-    };
+    let mut reader = Pieces::new(input, size);
     let served = serve(alloc, &mut reader, &mut out, &mut Echo { alloc })?;
     Ok((out, served))
+}
+
+/// Serves these bytes to a writer that takes at most so many bytes a call.
+fn talk_slowly(alloc: Global, input: &[u8], size: usize) -> Result<(Vec<u8>, Served), ServeFault> {
+    let mut writer = Narrow {
+        size,
+        room: usize::MAX,
+        fails: true,
+        failed: 0,
+        taken: Vec::new(alloc),
+    };
+    let mut reader = input;
+    let served = serve(alloc, &mut reader, &mut writer, &mut Echo { alloc })?;
+    Ok((writer.taken, served))
 }
 
 #[test]
@@ -255,6 +362,22 @@ fn replies_do_not_depend_on_the_pieces(rt: HostRuntime) -> Result<(), Fail> {
         let requests = u64::from(!first.is_empty()) + u64::from(!second.is_empty());
         for size in [1, 2, 7, 64, 4_096] {
             let (out, served) = talk(rt.alloc(), input.as_bytes(), size)?;
+            assert_eq!(rt; out.as_slice(), want.as_slice(), "of {input} by {size}");
+            assert_eq!(rt; served, Served { requests, end }, "of {input} by {size}");
+        }
+    }
+    Ok(())
+}
+
+/// A write that takes only a part is no fault.
+#[test]
+fn replies_do_not_depend_on_the_writes(rt: HostRuntime) -> Result<(), Fail> {
+    for (input, first, second, end) in TALKS {
+        let mut want = Vec::from_slice(rt.alloc(), first.as_bytes())?;
+        want.extend_from_slice(second.as_bytes())?;
+        let requests = u64::from(!first.is_empty()) + u64::from(!second.is_empty());
+        for size in [1, 3, 64] {
+            let (out, served) = talk_slowly(rt.alloc(), input.as_bytes(), size)?;
             assert_eq!(rt; out.as_slice(), want.as_slice(), "of {input} by {size}");
             assert_eq!(rt; served, Served { requests, end }, "of {input} by {size}");
         }
@@ -311,11 +434,7 @@ fn refusals_wait_for_no_more(rt: HostRuntime) -> Result<(), Fail> {
         (b"GET\r\n\r\nGET /a".as_slice(), 4),
     ] {
         let mut out = Vec::new(alloc);
-        let mut reader = Pieces {
-            rest: input,
-            size: 1,
-            fails: false,
-        };
+        let mut reader = Pieces::new(input, 1);
         let served = serve(alloc, &mut reader, &mut out, &mut Echo { alloc })?;
         assert_eq!(rt;
             served,
@@ -326,6 +445,140 @@ fn refusals_wait_for_no_more(rt: HostRuntime) -> Result<(), Fail> {
         );
         assert_eq!(rt; out.as_slice(), HEAD.as_bytes());
         assert_eq!(rt; input.len().saturating_sub(reader.rest.len()), read);
+    }
+    Ok(())
+}
+
+/// Heads at fault, at each place of a head.
+const FAULTS: [&[u8]; 34] = [
+    b"\r\rGET /a HTTP/1.1\r\n",
+    b"\n\rGET /a HTTP/1.1\r\n",
+    b" GET /a HTTP/1.1\r\n",
+    b"G\x01T /a HTTP/1.1\r\n",
+    b"(GET) /a HTTP/1.1\r\n",
+    b"GET\t/a HTTP/1.1\r\n",
+    b"GET\r\n\r\n",
+    b"GET  /a HTTP/1.1\r\n",
+    b"GET /\x01 HTTP/1.1\r\n",
+    b"GET /0123456789\x01",
+    b"GET /a\x7f HTTP/1.1\r\n",
+    b"GET /\xff HTTP/1.1\r\n",
+    b"GET /\xc3\xa9\xc3 HTTP/1.1\r\n",
+    b"GET /a\r\n\r\n",
+    b"GET /a  HTTP/1.1\r\n",
+    b"GET /a http/1.1\r\n",
+    b"GET /a HTTP/2.0\r\n",
+    b"GET /a HTTP/1.2\r\n",
+    b"GET /a HTTP/1.x\r\n",
+    b"GET /a HTTP/1.1 \r\n",
+    b"GET /a HTTP/1.11\r\n",
+    b"GET /a HTTP/1.1\rx: y",
+    b"GET /a HTTP/1.1\r\n x: y\r\n",
+    b"GET /a HTTP/1.1\r\n: y\r\n",
+    b"GET /a HTTP/1.1\r\nx y: z\r\n",
+    b"GET /a HTTP/1.1\r\nx : z\r\n",
+    b"GET /a HTTP/1.1\r\nx\r\n",
+    b"GET /a HTTP/1.1\r\nx: \x00\r\n",
+    b"GET /a HTTP/1.1\r\nx: a\x7fb\r\n",
+    b"GET /a HTTP/1.1\r\nx: y\rz\r\n",
+    b"GET /a HTTP/1.1\r\nx: y\r\n\rz",
+    b"GET /a HTTP/1.1\nx: y\n\xe9: z\n",
+    b"GET /\xc3\xa9 HTTP/1.1\r\nx\x01: y\r\n",
+    b"GET /\xc3\xa9 HTTP/1.0\r\n \r\n",
+];
+
+/// Behind how many bytes the parser finds a fault other than too many fields.
+fn first_fault(head: &[u8]) -> Option<usize> {
+    for size in 0..head.len() + 1 {
+        let mut fields = [EMPTY_HEADER_SPAN; 32];
+        match parse_request(&head[..size], &mut fields) {
+            Err(Error::TooManyHeaders) | Ok(_) => {}
+            Err(_) => return Some(size),
+        }
+    }
+    None
+}
+
+/// The byte at fault is answered, though the input is open behind it.
+#[test]
+fn a_head_at_fault_is_refused_at_its_fault(rt: HostRuntime) -> Result<(), Fail> {
+    let alloc = rt.alloc();
+    for (i, head) in FAULTS.iter().enumerate() {
+        let fault = first_fault(head).ok_or("a fault")?;
+        let mut out = Vec::new(alloc);
+        let mut reader = Pieces::failing(head, 1);
+        let served = serve(alloc, &mut reader, &mut out, &mut Echo { alloc })?;
+        assert_eq!(rt; served.end, End::Refused, "head {i}");
+        assert_eq!(rt; out.as_slice(), HEAD.as_bytes(), "head {i}");
+        assert_eq!(rt;
+            head.len().saturating_sub(reader.rest.len()),
+            fault,
+            "head {i}"
+        );
+    }
+    Ok(())
+}
+
+/// How often bytes that come one by one are parsed.
+fn count_parses(bytes: &[u8]) -> usize {
+    let mut search = START;
+    let mut parses = 0usize;
+    for size in 0..bytes.len() {
+        let so_far = &bytes[..size + 1];
+        if known_missing(so_far, &mut search).is_none() {
+            parse_now(so_far, &mut search);
+            parses = parses.saturating_add(1);
+        }
+    }
+    parses
+}
+
+#[test]
+fn a_head_is_parsed_a_few_times(rt: HostRuntime) -> Result<(), Fail> {
+    let alloc = rt.alloc();
+    let whole = head_of(alloc, 8_000, 3)?;
+    assert_eq!(rt; count_parses(whole.as_slice()), 1);
+    // too many fields: at the empty line
+    let fields = head_of(alloc, 8_000, 1_000)?;
+    assert_eq!(rt; count_parses(fields.as_slice()), 1);
+    // a target that isn't ASCII: behind it, and at the empty line
+    let mut target = Vec::from_slice(alloc, b"GET /")?;
+    for _ in 0..3_900 {
+        target.extend_from_slice("\u{e9}".as_bytes())?;
+    }
+    target.extend_from_slice(b" HTTP/1.1\r\n\r\n")?;
+    assert_eq!(rt; count_parses(target.as_slice()), 2);
+    Ok(())
+}
+
+/// How many bytes are moved in the buffer, where they come in pieces of this size, and each 8,000 are dropped.
+fn count_moved(alloc: Global, bytes: &[u8], size: usize) -> Result<usize, Fail> {
+    let mut input = Input::new(alloc)?;
+    let mut reader = Pieces::new(bytes, size);
+    let mut moved = 0usize;
+    for _ in 0..bytes.len() {
+        let waiting = input.waiting().len();
+        if waiting >= 8_000 {
+            input.drop_front(8_000);
+        }
+        if input.waiting().len() >= MOST_REQUEST {
+            return Err("more bytes wait than a request has".into());
+        }
+        moved = moved.saturating_add(input.make_room());
+        input
+            .read_from(&mut reader)
+            .map_err(|_| "a read that fails")?;
+    }
+    Ok(moved)
+}
+
+#[test]
+fn waiting_bytes_are_seldom_moved(rt: HostRuntime) -> Result<(), Fail> {
+    let alloc = rt.alloc();
+    for (count, size) in [(8_000, 1), (300_000, 100)] {
+        let bytes = vec![in alloc; b'x'; count]?;
+        let moved = count_moved(alloc, bytes.as_slice(), size)?;
+        assert!(rt; moved <= count, "{moved} by {size}");
     }
     Ok(())
 }
@@ -446,13 +699,10 @@ fn a_read_that_fails_ends_the_connection(rt: HostRuntime) -> Result<(), Fail> {
     let alloc = rt.alloc();
     for (size, requests) in [(0, 0), (18, 0), (19, 1), (60, 1)] {
         let mut out = Vec::new(alloc);
-        let mut reader = Pieces {
-            rest: &TWO.as_bytes()[..size],
-            size: 5,
-            fails: true,
-        };
+        let mut reader = Pieces::failing(&TWO.as_bytes()[..size], 5);
         let fault = serve(alloc, &mut reader, &mut out, &mut Echo { alloc });
         assert_eq!(rt; fault, Err(ServeFault::Read { requests }), "after {size}");
+        assert_eq!(rt; reader.failed, 1, "after {size}");
         let want = if requests == 0 { "" } else { A };
         assert_eq!(rt; out.as_slice(), want.as_bytes(), "after {size}");
     }
@@ -468,8 +718,10 @@ fn a_write_that_fails_leaves_a_prefix(rt: HostRuntime) -> Result<(), Fail> {
     for fails in [true, false] {
         for room in 0..whole.len() {
             let mut writer = Narrow {
+                size: usize::MAX,
                 room,
                 fails,
+                failed: 0,
                 taken: Vec::new(alloc),
             };
             let mut reader = input.as_bytes();
@@ -477,6 +729,7 @@ fn a_write_that_fails_leaves_a_prefix(rt: HostRuntime) -> Result<(), Fail> {
             let requests = u64::from(room >= A.len());
             assert_eq!(rt; fault, Err(ServeFault::Write { requests }), "at {room}");
             assert_eq!(rt; writer.taken.as_slice(), &whole[..room], "at {room}");
+            assert_eq!(rt; writer.failed, 1, "at {room}");
         }
     }
     Ok(())
@@ -487,11 +740,7 @@ fn stops_at_its_turns(rt: HostRuntime) -> Result<(), Fail> {
     let alloc = rt.alloc();
     for (turns, requests) in [(0, 0), (18, 0), (19, 1), (60, 1), (63, 2)] {
         let mut out = Vec::new(alloc);
-        let mut reader = Pieces {
-            rest: TWO.as_bytes(),
-            size: 1,
-            fails: false,
-        };
+        let mut reader = Pieces::failing(TWO.as_bytes(), 1);
         let served = serve_turns(alloc, &mut reader, &mut out, &mut Echo { alloc }, turns)?;
         assert_eq!(rt;
             served,
@@ -502,6 +751,7 @@ fn stops_at_its_turns(rt: HostRuntime) -> Result<(), Fail> {
             "after {turns}"
         );
         assert_eq!(rt; reader.rest.len() as u64, TWO.len() as u64 - turns);
+        assert_eq!(rt; reader.failed, 0, "after {turns}");
     }
     Ok(())
 }

@@ -1,9 +1,12 @@
 mod FeatureSteps
 mod FeaturesRead
+pub mod Integers
 mod LayerSteps
-mod LayersRead
+pub mod LayersRead
+pub mod Lengths
 mod Lists
 mod Messages
+pub mod Names
 mod Pooled
 mod TagSteps
 mod ValuesRead

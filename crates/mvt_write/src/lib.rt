@@ -4,6 +4,7 @@
 mod entry;
 mod feature;
 mod field;
+mod laws;
 mod layer;
 mod pool;
 mod tag_pools;
@@ -11,6 +12,7 @@ mod tags;
 mod tile;
 mod value;
 
+pub use laws::reading_law;
 pub use tile::write_tile;
 
 #[cfg(test)]

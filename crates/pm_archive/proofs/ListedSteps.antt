@@ -1,11 +1,13 @@
 -- Steps that may fail, one after the other.
-use Rattle.std.proofs.Common.{◌≡◌, ℕ, List, Bool, true, false, cond, Result, Ok, Err, Option, Some, None, ◌⊎◌, inl, inr, refl, sym, ap}
+use Rattle.std.proofs.Common.{◌≡◌, ℕ, List, Bool, true, false, cond, Result, Ok, Err, Option, Some, None, ◌⊎◌, inl, inr, refl, sym, ap, subst}
 use Rattle.pm_archive.specs.declared.fault.ArchiveFault.{ArchiveFault}
 use Rattle.pm_archive.specs.declared.fault.ArchiveFault.TheVariants as faults
 use Rattle.pm_directory.specs.declared.entry.Entry.{Entry}
 use Rattle.pm_directory.specs.declared.fault.DirectoryFault.{DirectoryFault}
 use Rattle.pm_archive.specs.Answers.{IsOutside, UnlessOutside}
-use Rattle.pm_archive.specs.Reading.{Read, ◌>>=◌, directory_or_fault}
+use Rattle.pm_directory.specs.declared.fault.DirectoryFault.TheVariants as directory_faults
+use Rattle.pm_directory.specs.Reading.{Fails}
+use Rattle.pm_archive.specs.Reading.{Read, ◌>>=◌, directory_or_fault, fault_at, stray_fault, unless_stray}
 
 abbrev pub done : {A : Type 0} → A → Read A
 done x = Ok x
@@ -51,3 +53,27 @@ pub is_outside : (P : ArchiveFault → Type 0) (d : ArchiveFault) → UnlessOuts
 is_outside P faults.Read h never = tt
 is_outside P faults.Memory h never = tt
 is_outside P d h never = absurd (never h)
+
+-- ---- the fault of a leaf directory
+
+-- that of a directory, as one of the archive
+pub read_fault : (place : ℕ) (d : DirectoryFault) (r : Result (List Entry) DirectoryFault) → Fails d r
+    → UnlessOutside (λ f. directory_or_fault place r ≡ Err f) (fault_at place d)
+read_fault place directory_faults.Memory r h = tt
+read_fault place directory_faults.Cut r h = rw h refl
+read_fault place directory_faults.Varint r h = rw h refl
+read_fault place directory_faults.Rest r h = rw h refl
+read_fault place directory_faults.Order r h = rw h refl
+read_fault place directory_faults.Length r h = rw h refl
+read_fault place directory_faults.Offset r h = rw h refl
+read_fault place directory_faults.Range r h = rw h refl
+
+-- that of an id that isn't between others
+pub stray_done : (es : List Entry) (o : Option ℕ) → done tt ≡ stray_fault o → unless_stray es o ≡ Ok es
+stray_done es None e = refl
+stray_done es (Some id) e = absurd (not_both tt (faults.Order id) e)
+
+pub stray_failed : (es : List Entry) (d : ArchiveFault) (o : Option ℕ) → failed d ≡ stray_fault o → UnlessOutside (λ f. unless_stray es o ≡ Err f) d
+stray_failed es d None e = absurd (not_both tt d (sym e))
+stray_failed es d (Some id) e = let P : ArchiveFault
+    → Type 0 = UnlessOutside (λ f. unless_stray es (Some id) ≡ Err f) in subst P (sym (same_failed d (faults.Order id) e)) refl

@@ -1,13 +1,15 @@
 -- Looking step by step.
-use Rattle.std.proofs.Common.{◌≡◌, ℕ, zero, suc, ◌≤◌, false, ltb, List, Some, Result, Ok, Err, ◌⊎◌, inl, inr, refl, sym, ◌∙◌}
+use Rattle.std.proofs.Common.{◌≡◌, ℕ, zero, suc, ◌≤◌, false, ltb, List, Some, Result, Ok, Err, ◌⊎◌, inl, inr, Option, refl, sym, ap, subst, ◌∙◌}
 use Rattle.std.specs.Prelude.{MatchResult}
 use Rattle.std.proofs.lemmas.Bool.{le-ltb}
 use Rattle.pm_header.specs.declared.header.Header.{Header}
 use Rattle.pm_directory.specs.declared.entry.Entry.{Entry}
 use Rattle.pm_archive.specs.declared.fault.ArchiveFault.{ArchiveFault}
 use Rattle.pm_archive.specs.declared.fault.ArchiveFault.TheVariants as faults
+use Rattle.pm_archive.specs.Entries.{most_leaves}
+use Rattle.pm_archive.specs.Reading.{Read, ◌>>=◌}
 use Rattle.pm_archive.specs.Answers.{IsOutside, UnlessOutside, Answers}
-use Rattle.pm_archive.specs.Looked.{leading_at, reached_at}
+use Rattle.pm_archive.specs.Looked.{leading_of, leading_at, reached_at, content_at, looked_at}
 
 abbrev Reads : Type 0 → Type 0
 Reads X = Result X ArchiveFault
@@ -50,3 +52,22 @@ reached_fault bytes h id zero leaf d names some = absurd (some refl)
 reached_fault bytes h id (suc more) leaf d names some =
     let none : ltb 0 leaf.run ≡ false = le-ltb 0 leaf.run names in
     fault_on (leading_at bytes h id leaf) (reached_at bytes h id (suc more) (Some leaf)) d (λ f e. rw (none, e) refl)
+
+-- ---- a content
+
+module _ (bytes : List ℕ) (h : Header) (id : ℕ) (root : List Entry) (start : Option Entry) (leads : start ≡ leading_of id root) where
+  looked_from : looked_at bytes h root id ≡ (reached_at bytes h id most_leaves start >>= content_at bytes h)
+  unfolding looked_at
+  looked_from = ap (λ (o : Option Entry). reached_at bytes h id most_leaves o >>= content_at bytes h) (sym leads)
+
+  -- what is answered for the tile entry to which the way leads
+  pub looked_on : {X : Type 0} (view : X → Option (List ℕ)) (r : Result X ArchiveFault) (found : Option Entry)
+      → reached_at bytes h id most_leaves start ≡ Ok found → Answers view r (content_at bytes h found) → Answers view r (looked_at bytes h root id)
+  looked_on {X} view r found is a =
+      let same : looked_at bytes h root id ≡ content_at bytes h found = looked_from ∙ rw is refl in
+      subst (λ (reading : Read (Option (List ℕ))). Answers view r reading) (sym same) a
+
+  -- a fault on the way
+  pub looked_fault : (d : ArchiveFault) → UnlessOutside (λ f. reached_at bytes h id most_leaves start ≡ Err f) d
+      → UnlessOutside (λ f. looked_at bytes h root id ≡ Err f) d
+  looked_fault d = fault_on (reached_at bytes h id most_leaves start) (looked_at bytes h root id) d (λ f e. looked_from ∙ rw e refl)

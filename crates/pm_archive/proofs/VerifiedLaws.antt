@@ -1,5 +1,8 @@
 -- Tiles that were read, and those that can't be.
-use Rattle.std.proofs.Common.{◌≡◌, ◌≢◌, ℕ, zero, suc, ◌+◌, ◌<◌, inr, Bool, true, false, cond, ◌&&◌, List, [], ◌∷◌, length, get_or, drop, refl, sym, subst, ◌∙◌, add-one, arith, slice_range, Ok}
+use Rattle.std.proofs.Common.{◌≡◌, ◌≢◌, ℕ, zero, suc, ◌+◌, ◌<◌, inr, Bool, true, false, cond, ◌&&◌, List, [], ◌∷◌, length, get_or, drop, refl, sym, subst, ◌∙◌, add-one, arith, slice_range, Ok, Err, Result, ◌↔◌}
+use Rattle.std.specs.Prelude.{IfOk, IsTrue}
+use Rattle.std.specs.declared.alloc.AllocError.{AllocError}
+use Rattle.std.proofs.lemmas.Bool.{false≢true}
 use Rattle.std.proofs.Math.Seq.{drop-cons}
 use Rattle.std.specs.List.{AllByRecursion}
 use Rattle.std.specs.Ordering.{is_eq, nat_cmp}
@@ -19,7 +22,7 @@ use Rattle.pm_archive.specs.VerifiedPieces.{IsFirstTileFault, place_cmp, AreRead
 
 -- ---- one tile
 
--- where reading says no list of layers, want of memory aside, there is none
+-- where reading says no list of layers, and memory sufficed, there is none
 no_layers : (d : TileFault) → d ≢ tile_faults.Memory → (ls : List LayerView) → ¬ Fails d (Ok ls)
 no_layers tile_faults.Memory other ls f = other refl
 no_layers tile_faults.Wire other ls f = cc
@@ -36,6 +39,12 @@ no_layers tile_faults.Geometry other ls f = cc
 
 pub no_tile : (content : List ℕ) (d : TileFault) → d ≢ tile_faults.Memory → ((ls : List LayerView) → ReadsAs content ls → Fails d (Ok ls)) → ¬ IsTile content
 no_tile content d other only t = no_layers d other t.0 (only t.0 t.1)
+
+-- a fault that says so of the bytes says that they are no tile
+pub refused_tile : (content : List ℕ) (d : TileFault) (r : Result Bool AllocError) → IfOk r (λ is. (is ≡ false) × (d ≢ tile_faults.Memory))
+    → ((ls : List LayerView) → ReadsAs content ls → Fails d (Ok ls)) → IfOk r (λ is. IsTrue is ↔ IsTile content)
+refused_tile content d (Ok is) h only = (λ t. absurd (false≢true (sym h.0 ∙ t)), λ t. absurd (no_tile content d h.1 only t))
+refused_tile content d (Err e) h only = tt
 
 -- ---- places
 

@@ -1,4 +1,4 @@
--- What a call answers, want of memory and failed reads aside.
+-- What a call answers, where memory suffices and no read fails.
 use Rattle.std.specs.Prelude.{◌≡◌, Result, Ok, Err}
 use Rattle.pm_archive.specs.declared.fault.ArchiveFault.{ArchiveFault}
 use Rattle.pm_archive.specs.declared.fault.ArchiveFault.TheVariants.{Read, Memory}

@@ -4,7 +4,7 @@ use Rattle.pm_header.specs.declared.header.Header.{Header}
 use Rattle.pm_directory.specs.declared.entry.Entry.{Entry}
 use Rattle.pm_directory.specs.Lookup.{up_to}
 use Rattle.pm_archive.specs.declared.fault.ArchiveFault.TheVariants as faults
-use Rattle.pm_archive.specs.Entries.{entry_bytes}
+use Rattle.pm_archive.specs.Entries.{entry_bytes, most_leaves}
 use Rattle.pm_archive.specs.Reading.{Read, ◌>>=◌, directory_of_entry}
 
 -- the last entry whose id is at most this one
@@ -31,7 +31,11 @@ reached_at bytes h id zero (Some e) = if nat_lt 0 e.run then Ok (Some e) else Er
 reached_at bytes h id (suc more) None = Ok None
 reached_at bytes h id (suc more) (Some e) = if nat_lt 0 e.run then Ok (Some e) else (leading_at bytes h id e >>= reached_at bytes h id more)
 
--- the content of a tile entry
+-- the content of a tile entry, if there is one
 unfoldable pub content_at : List ℕ → Header → Option Entry → Read (Option (List ℕ))
 content_at bytes h None = Ok None
 content_at bytes h (Some e) = if nat_le (e.offset + e.length) h.tiles.length then Ok (Some (entry_bytes h.tiles e bytes)) else Err (faults.Place e.id)
+
+-- the content of an id below a root directory of these entries, or the fault that stands on the way
+unfoldable pub looked_at : List ℕ → Header → List Entry → ℕ → Read (Option (List ℕ))
+looked_at bytes h root id = reached_at bytes h id most_leaves (leading_of id root) >>= content_at bytes h

@@ -4,6 +4,7 @@ use Rattle.pm_header.specs.declared.header.Header.{Header}
 use Rattle.pm_header.specs.Layout.{IsHeader, magic}
 use Rattle.pm_directory.specs.declared.entry.Entry.{Entry}
 use Rattle.pm_directory.specs.declared.fault.DirectoryFault.{DirectoryFault}
+use Rattle.pm_directory.specs.declared.fault.DirectoryFault.TheVariants as directory_faults
 use Rattle.pm_directory.specs.Directory.{IsDirectory, ids_behind}
 use Rattle.pm_directory.specs.Reading.{directory_at}
 use Rattle.pm_archive.specs.declared.fault.ArchiveFault.{ArchiveFault}
@@ -50,9 +51,19 @@ abbrev pub stray_id : ℕ → ℕ → List Entry → Option ℕ
 stray_id from bound [] = None
 stray_id from bound (e ∷ es) = if nat_lt e.id from then Some e.id else (if nat_lt bound (ids_behind e) then Some (max e.id bound) else stray_id from bound es)
 
+-- that an id isn't between these is a fault
+abbrev pub stray_fault : Option ℕ → Read (Unit {0})
+stray_fault None = Ok tt
+stray_fault (Some id) = Err (faults.Order id)
+
 abbrev pub unless_stray : List Entry → Option ℕ → Read (List Entry)
 unless_stray entries None = Ok entries
 unless_stray entries (Some id) = Err (faults.Order id)
+
+-- what a fault of the directory at a place is to the archive
+abbrev pub fault_at : ℕ → DirectoryFault → ArchiveFault
+fault_at place directory_faults.Memory = faults.Memory
+fault_at place _ = faults.Directory place
 
 abbrev pub directory_or_fault : ℕ → Result (List Entry) DirectoryFault → Read (List Entry)
 directory_or_fault place (Ok entries) = Ok entries

@@ -1,6 +1,6 @@
 //! Archives that are open.
 
-ghost use Rattle.std.specs.Prelude.{◌≡◌, ◌≢◌, ◌↔◌, ℕ, ◌≤◌, List, length, Option, Some, None, IfOk, IfErr, MatchResult, option_map};
+ghost use Rattle.std.specs.Prelude.{◌≡◌, ◌≢◌, ◌↔◌, ℕ, ◌≤◌, List, length, Option, Some, None, IsSome, IfOk, IfErr, MatchResult, option_map};
 ghost use Rattle.std.specs.List.{AllByRecursion};
 ghost use Rattle.pm_header.specs.declared.header.Header.{Header};
 ghost use Rattle.pm_directory.specs.declared.entry.Entry.{Entry};
@@ -11,6 +11,7 @@ ghost use Rattle.pm_archive.specs.Sections.{HasSections, section_bytes};
 ghost use Rattle.pm_archive.specs.Entries.{HasEntries};
 ghost use Rattle.pm_archive.specs.Archive.{content_of};
 ghost use Rattle.pm_archive.specs.Reading.{ArePlaced, OpeningHas, list_at};
+ghost use Rattle.pm_archive.specs.Looked.{leading_of, looked_at};
 ghost use Rattle.pm_archive.specs.Verified.{IsSound, VerifyingHas};
 ghost use Rattle.pm_archive.specs.Answers.{Answers, IsOutside, UnlessOutside};
 
@@ -45,18 +46,20 @@ impl<B: Bytes + Drop> Model for Archive<B> {
 }
 
 impl<B: Bytes + Drop> Archive<B> {
-    /// Opens an archive: reads its header and its root directory, and nothing else.
+    /// Opens an archive: reads its header and its root directory, and nothing else. A fault comes with the source.
     ///
     /// # Errors
     ///
     /// `Short`, `Magic`, `Version`, `Section`, `Compressed`, `Directory` of the root, the first that there is in this order.
-    pub fn open(alloc: Global, source: B) -> Result<Archive<B>, ArchiveFault>
-        ensures source { IfOk result (λ a. Keeps B.count B.holds B.fails source a.source) }
+    pub fn open(alloc: Global, source: B) -> Result<Archive<B>, (B, ArchiveFault)>
+        ensures source { IfOk result (λ a. Keeps B.count B.holds B.fails B.unchanged source a.source) }
+        ensures back { IfErr result (λ e. Keeps B.count B.holds B.fails B.unchanged source e.0) }
         ensures found { (bytes : List ℕ) → B.holds source bytes → IfOk result (λ a. HasSections bytes a.header × IsDirectory (section_bytes a.header.root bytes) a.root) }
         ensures only { (bytes : List ℕ) (h : Header) (root : List Entry) → B.holds source bytes → HasSections bytes h → IsDirectory (section_bytes h.root bytes) root
-            → MatchResult result (λ a. (a.header ≡ h) × (a.root ≡ root)) IsOutside }
-        ensures fault { (bytes : List ℕ) → B.holds source bytes → IfErr result (UnlessOutside (OpeningHas bytes)) }
-        ensures read { result ≡ Err ArchiveFault.Read → B.fails source }
+            → MatchResult result (λ a. (a.header ≡ h) × (a.root ≡ root)) (λ e. IsOutside e.1) }
+        ensures fault { (bytes : List ℕ) → B.holds source bytes → IfErr result (λ e. UnlessOutside (OpeningHas bytes) e.1) }
+        ensures read { IfErr result (λ e. e.1 ≡ ArchiveFault.Read → B.fails source) }
+        ensures memory { (bytes : List ℕ) → B.holds source bytes → IfErr result (λ e. e.1 ≡ ArchiveFault.Memory → (h : Header) × HasSections bytes h) }
     {
         let mut source = source;
         match header_and_root(alloc, &mut source) {
@@ -65,8 +68,15 @@ impl<B: Bytes + Drop> Archive<B> {
                 header,
                 root,
             }),
-            Err(fault) => Err(fault),
+            Err(fault) => Err((source, fault)),
         }
+    }
+
+    /// The source.
+    pub fn into_source(self) -> B
+        ensures { result ≡ self.source }
+    {
+        self.source
     }
 
     /// The header.
@@ -85,7 +95,7 @@ impl<B: Bytes + Drop> Archive<B> {
     pub fn list(&mut self, alloc: Global) -> Result<Vec<Entry>, ArchiveFault>
         ensures header { self.new.header ≡ self.old.header }
         ensures root { self.new.root ≡ self.old.root }
-        ensures source { Keeps B.count B.holds B.fails self.old.source self.new.source }
+        ensures source { Keeps B.count B.holds B.fails B.unchanged self.old.source self.new.source }
         ensures found { (bytes : List ℕ) → B.holds self.old.source bytes → IfOk result (λ tiles. HasEntries bytes self.old.header tiles.items) }
         ensures only { (bytes : List ℕ) (tiles : List Entry) → B.holds self.old.source bytes → HasEntries bytes self.old.header tiles
             → MatchResult result (λ listed. listed.items ≡ tiles) IsOutside }
@@ -100,14 +110,18 @@ impl<B: Bytes + Drop> Archive<B> {
     ///
     /// # Errors
     ///
-    /// Where `list` has no fault there is none. Else perhaps `Directory`, `Depth` or `Place` on the way.
+    /// `Directory`, `Depth`, `Place`, the first on the way; where `list` has no fault there is none. `Memory` only where an
+    /// entry of the root directory leads to the id.
     pub fn tile(&mut self, alloc: Global, id: u64) -> Result<Option<Vec<u8>>, ArchiveFault>
         ensures header { self.new.header ≡ self.old.header }
         ensures root { self.new.root ≡ self.old.root }
-        ensures source { Keeps B.count B.holds B.fails self.old.source self.new.source }
+        ensures source { Keeps B.count B.holds B.fails B.unchanged self.old.source self.new.source }
         ensures content { (bytes : List ℕ) (tiles : List Entry) → B.holds self.old.source bytes → HasEntries bytes self.old.header tiles
             → MatchResult result (λ content. option_map (λ v. v.items) content ≡ content_of bytes self.old.header tiles id) IsOutside }
+        ensures first { (bytes : List ℕ) → B.holds self.old.source bytes
+            → Answers (option_map (λ v. v.items)) result (looked_at bytes self.old.header self.old.root id) }
         ensures read { result ≡ Err ArchiveFault.Read → B.fails self.old.source }
+        ensures memory { result ≡ Err ArchiveFault.Memory → IsSome (leading_of id self.old.root) }
     {
         content_below(alloc, &mut self.source, &self.header, &self.root, id)
     }
@@ -121,7 +135,7 @@ impl<B: Bytes + Drop> Archive<B> {
     pub fn verify(&mut self, alloc: Global) -> Result<Report, ArchiveFault>
         ensures header { self.new.header ≡ self.old.header }
         ensures root { self.new.root ≡ self.old.root }
-        ensures source { Keeps B.count B.holds B.fails self.old.source self.new.source }
+        ensures source { Keeps B.count B.holds B.fails B.unchanged self.old.source self.new.source }
         ensures found { (bytes : List ℕ) → B.holds self.old.source bytes → IfOk result (IsSound bytes) }
         ensures only { (bytes : List ℕ) (report : Report) → B.holds self.old.source bytes → IsSound bytes report → MatchResult result (λ told. told ≡ report) IsOutside }
         ensures fault { (bytes : List ℕ) → B.holds self.old.source bytes → IfErr result (UnlessOutside (VerifyingHas bytes self.old.header self.old.root)) }

@@ -1,6 +1,6 @@
 //! Whether the contents of tiles can be read.
 
-ghost use Rattle.std.specs.Prelude.{◌≡◌, ◌≤◌, ◌↔◌, ℕ, List, Err, IfOk, IfErr, OnOk, MatchResult, IsTrue};
+ghost use Rattle.std.specs.Prelude.{◌≡◌, ◌≢◌, ◌≤◌, ◌↔◌, ℕ, List, false, Err, IfOk, IfErr, OnOk, OnErr, MatchResult, IsTrue};
 ghost use Rattle.std.specs.List.{AllByRecursion};
 ghost use Rattle.pm_archive.specs.Source.{Keeps};
 ghost use Rattle.pm_archive.specs.Sections.{end_of};
@@ -18,16 +18,36 @@ use pm_header::Header;
 use std::alloc::{AllocError, Global};
 use std::collections::BTreeSet;
 
+// What a fault says: that the bytes are no tile, unless memory ran out.
+fn refused(fault: TileFault) -> Result<bool, AllocError>
+    ensures memory { OnErr result (fault ≡ TileFault.Memory) }
+    ensures other { IfOk result (λ is. (is ≡ false) × (fault ≢ TileFault.Memory)) }
+{
+    match fault {
+        TileFault::Memory => Err(AllocError),
+        _ => Ok(false),
+    }
+}
+
 // Whether the bytes are a vector tile.
 pub(crate) fn is_tile(alloc: Global, content: &[u8]) -> Result<bool, AllocError>
     ensures { IfOk result (λ is. IsTrue is ↔ IsTile content.now) }
 {
     match read_tile(alloc, content) {
         Ok(_) => Ok(true),
-        Err(fault) => match fault {
-            TileFault::Memory => Err(AllocError),
-            _ => Ok(false),
-        },
+        Err(fault) => refused(fault),
+    }
+}
+
+// The content of an id is a tile.
+fn check_is_tile(is: bool, id: u64) -> Result<(), ArchiveFault>
+    ensures tile { OnOk result (IsTrue is) }
+    ensures fault { IfErr result (λ fault. (fault ≡ ArchiveFault.Tile id) × ¬ IsTrue is) }
+{
+    if is {
+        Ok(())
+    } else {
+        Err(ArchiveFault::Tile(id))
     }
 }
 
@@ -39,7 +59,7 @@ fn check_tile<B: Bytes>(
     entry: Entry,
 ) -> Result<(), ArchiveFault>
     requires { end_of header.now.tiles ≤ B.count source.old }
-    ensures source { Keeps B.count B.holds B.fails source.old source.new }
+    ensures source { Keeps B.count B.holds B.fails B.unchanged source.old source.new }
     ensures tile { (bytes : List ℕ) → B.holds source.old bytes → LiesIn header.now.tiles entry → OnOk result (HasTile bytes header.now entry) }
     ensures fault { (bytes : List ℕ) → B.holds source.old bytes → LiesIn header.now.tiles entry → IfErr result (UnlessOutside (IsTileFault bytes header.now entry)) }
     ensures read { result ≡ Err ArchiveFault.Read → B.fails source.old }
@@ -49,8 +69,7 @@ fn check_tile<B: Bytes>(
         Err(fault) => return Err(fault),
     };
     match is_tile(alloc, &content) {
-        Ok(true) => Ok(()),
-        Ok(false) => Err(ArchiveFault::Tile(entry.id)),
+        Ok(is) => check_is_tile(is, entry.id),
         Err(_) => Err(ArchiveFault::Memory),
     }
 }
@@ -64,7 +83,7 @@ fn check_once<B: Bytes>(
     entry: Entry,
 ) -> Result<(), ArchiveFault>
     requires { end_of header.now.tiles ≤ B.count source.old }
-    ensures source { Keeps B.count B.holds B.fails source.old source.new }
+    ensures source { Keeps B.count B.holds B.fails B.unchanged source.old source.new }
     ensures tile { (bytes : List ℕ) → B.holds source.old bytes → LiesIn header.now.tiles entry → AreRead bytes header.now places.old
         → OnOk result (HasTile bytes header.now entry) }
     ensures places { (bytes : List ℕ) → B.holds source.old bytes → LiesIn header.now.tiles entry → AreRead bytes header.now places.old
@@ -95,7 +114,7 @@ pub(crate) fn check_tiles<B: Bytes>(
     tiles: &[Entry],
 ) -> Result<(), ArchiveFault>
     requires { end_of header.now.tiles ≤ B.count source.old }
-    ensures source { Keeps B.count B.holds B.fails source.old source.new }
+    ensures source { Keeps B.count B.holds B.fails B.unchanged source.old source.new }
     ensures each { (bytes : List ℕ) → B.holds source.old bytes → AllByRecursion (LiesIn header.now.tiles) tiles.now
         → OnOk result (AllByRecursion (HasTile bytes header.now) tiles.now) }
     ensures fault { (bytes : List ℕ) → B.holds source.old bytes → AllByRecursion (LiesIn header.now.tiles) tiles.now

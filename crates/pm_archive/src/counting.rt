@@ -4,11 +4,12 @@ ghost use Rattle.std.specs.Prelude.{◌≡◌, ◌-◌, ◌^◌, ◌<◌, ◌↔
 ghost use Rattle.std.specs.BTreeSet.{IsFromIterResult};
 ghost use Rattle.pm_directory.specs.declared.entry.Entry.{Entry};
 ghost use Rattle.pm_directory.specs.Counts.{addressed_by, contents_of, place_of};
+ghost use Rattle.pm_archive.specs.declared.fault.Count.{Count};
 ghost use Rattle.pm_archive.specs.Archive.{Says, HasCounts};
-ghost use Rattle.pm_archive.specs.Verified.{report_of, HasOtherCount};
-ghost use Rattle.pm_archive.specs.VerifiedPieces.{place_cmp};
+ghost use Rattle.pm_archive.specs.Verified.{report_of};
+ghost use Rattle.pm_archive.specs.VerifiedPieces.{IsCountFault, place_cmp};
 
-use crate::fault::Count;
+use crate::fault::{ArchiveFault, Count};
 use crate::report::Report;
 use pm_directory::Entry;
 use pm_header::Header;
@@ -63,19 +64,20 @@ fn says(said: u64, number: u64) -> bool
     said == 0 || said == number
 }
 
-// The first count of a header that is another one than what is told of the entries.
-pub(crate) fn check_counts(header: &Header, report: Report) -> Result<(), Count>
+// The counts of a header are those of what is told of the entries. The first that is another one is the fault.
+pub(crate) fn check_counts(header: &Header, report: Report) -> Result<(), ArchiveFault>
     ensures agree { (tiles : List Entry) → report ≡ report_of tiles → OnOk result (HasCounts header.now tiles) }
-    ensures other { (tiles : List Entry) → report ≡ report_of tiles → IfErr result (HasOtherCount header.now tiles) }
+    ensures other { (tiles : List Entry) → report ≡ report_of tiles → IfErr result (IsCountFault header.now tiles) }
+    ensures counts { IfErr result (λ fault. (count : Count) × (fault ≡ ArchiveFault.Count count)) }
 {
     if !says(header.addressed, report.tiles) {
-        return Err(Count::Addressed);
+        return Err(ArchiveFault::Count(Count::Addressed));
     }
     if !says(header.entries, report.entries) {
-        return Err(Count::Entries);
+        return Err(ArchiveFault::Count(Count::Entries));
     }
     if !says(header.contents, report.contents) {
-        return Err(Count::Contents);
+        return Err(ArchiveFault::Count(Count::Contents));
     }
     Ok(())
 }

@@ -3,8 +3,8 @@
 ghost use Rattle.std.specs.Prelude.{◌≡◌, ◌≢◌, ℕ, List, Err, IfOk};
 ghost use Rattle.pm_directory.specs.Directory.{IsAscending};
 ghost use Rattle.pm_archive.specs.Source.{Keeps};
-ghost use Rattle.pm_archive.specs.Entries.{bound_of};
-ghost use Rattle.pm_archive.specs.Reading.{ArePlaced, each_at, leaf_at, list_at, lists_at, stray_id, tile_at};
+ghost use Rattle.pm_archive.specs.Entries.{LiesIn, bound_of};
+ghost use Rattle.pm_archive.specs.Reading.{ArePlaced, each_at, leaf_at, list_at, lists_at, stray_fault, stray_id, tile_at};
 ghost use Rattle.pm_archive.specs.Answers.{Answers};
 ghost use Rattle.pm_archive.specs.Listing.{behind, stray_of};
 
@@ -55,6 +55,16 @@ fn least_stray(entries: &[Entry], from: u64, bound: u64) -> Option<u64>
     None
 }
 
+// The ids of the entries are between these.
+fn check_between(entries: &[Entry], from: u64, bound: u64) -> Result<(), ArchiveFault>
+    ensures { result ≡ stray_fault (stray_id from bound entries.now) }
+{
+    match least_stray(entries, from, bound) {
+        Some(id) => Err(ArchiveFault::Order(id)),
+        None => Ok(()),
+    }
+}
+
 // The entries of the leaf directory that an entry names, where their ids are below the bound.
 #[tactic(auto, unfolding(crate::specs::Reading::leaf_at))]
 fn leaf_of<B: Bytes>(
@@ -65,7 +75,7 @@ fn leaf_of<B: Bytes>(
     bound: u64,
 ) -> Result<Vec<Entry>, ArchiveFault>
     requires { ArePlaced (B.count source.old) header.now }
-    ensures source { Keeps B.count B.holds B.fails source.old source.new }
+    ensures source { Keeps B.count B.holds B.fails B.unchanged source.old source.new }
     ensures leaf { (bytes : List ℕ) → B.holds source.old bytes → Answers (λ v. v.items) result (leaf_at bytes header.now entry bound) }
     ensures ascending { IfOk result (λ v. IsAscending v.items) }
     ensures read { result ≡ Err ArchiveFault.Read → B.fails source.old }
@@ -74,9 +84,9 @@ fn leaf_of<B: Bytes>(
         Ok(entries) => entries,
         Err(fault) => return Err(fault),
     };
-    match least_stray(&entries, entry.id, bound) {
-        Some(id) => Err(ArchiveFault::Order(id)),
-        None => Ok(entries),
+    match check_between(&entries, entry.id, bound) {
+        Ok(()) => Ok(entries),
+        Err(fault) => Err(fault),
     }
 }
 
@@ -85,6 +95,7 @@ fn leaf_of<B: Bytes>(
 fn push_tile(header: &Header, entry: Entry, tiles: &mut Vec<Entry>) -> Result<(), ArchiveFault>
     ensures tile { Answers (λ done. tiles.new.items) result (behind tiles.old.items (tile_at header.now entry)) }
     ensures read { result ≢ Err ArchiveFault.Read }
+    ensures memory { result ≡ Err ArchiveFault.Memory → LiesIn header.now.tiles entry }
 {
     if !lies_in(header.tiles, entry) {
         return Err(ArchiveFault::Place(entry.id));
@@ -107,9 +118,10 @@ fn push_listed<B: Bytes>(
     tiles: &mut Vec<Entry>,
 ) -> Result<(), ArchiveFault>
     requires { ArePlaced (B.count source.old) header.now }
-    ensures source { Keeps B.count B.holds B.fails source.old source.new }
+    ensures source { Keeps B.count B.holds B.fails B.unchanged source.old source.new }
     ensures listed { (bytes : List ℕ) → B.holds source.old bytes → Answers (λ done. tiles.new.items) result (behind tiles.old.items (lists_at bytes header.now more entry bound)) }
     ensures read { result ≡ Err ArchiveFault.Read → B.fails source.old }
+    ensures memory { entry.run ≡ 0 → more ≡ 0 → result ≢ Err ArchiveFault.Memory }
 {
     if entry.run > 0 {
         return push_tile(header, entry, tiles);
@@ -135,7 +147,7 @@ fn push_each<B: Bytes>(
     tiles: &mut Vec<Entry>,
 ) -> Result<(), ArchiveFault>
     requires { ArePlaced (B.count source.old) header.now }
-    ensures source { Keeps B.count B.holds B.fails source.old source.new }
+    ensures source { Keeps B.count B.holds B.fails B.unchanged source.old source.new }
     ensures listed { (bytes : List ℕ) → B.holds source.old bytes → Answers (λ done. tiles.new.items) result (behind tiles.old.items (each_at (lists_at bytes header.now more) bound entries.now)) }
     ensures read { result ≡ Err ArchiveFault.Read → B.fails source.old }
 {
@@ -157,7 +169,7 @@ pub(crate) fn entries_below<B: Bytes>(
     root: &[Entry],
 ) -> Result<Vec<Entry>, ArchiveFault>
     requires { ArePlaced (B.count source.old) header.now }
-    ensures source { Keeps B.count B.holds B.fails source.old source.new }
+    ensures source { Keeps B.count B.holds B.fails B.unchanged source.old source.new }
     ensures first { (bytes : List ℕ) → B.holds source.old bytes → Answers (λ v. v.items) result (list_at bytes header.now root.now) }
     ensures read { result ≡ Err ArchiveFault.Read → B.fails source.old }
 {

@@ -1,15 +1,15 @@
 //! The content of one tile id.
 
-ghost use Rattle.std.specs.Prelude.{◌≡◌, ℕ, ◌≤◌, List, Ok, Err, MatchResult, Option, Some, None, option_map};
+ghost use Rattle.std.specs.Prelude.{◌≡◌, ℕ, ◌<◌, ◌≤◌, List, Ok, Err, OnOk, MatchResult, Option, Some, None, IsSome, option_map};
 ghost use Rattle.pm_directory.specs.declared.entry.Entry.{Entry};
 ghost use Rattle.pm_directory.specs.Directory.{IsAscending};
 ghost use Rattle.pm_archive.specs.Source.{Keeps};
 ghost use Rattle.pm_archive.specs.Sections.{end_of};
-ghost use Rattle.pm_archive.specs.Entries.{EachLists, Lists, ids_end, most_leaves};
+ghost use Rattle.pm_archive.specs.Entries.{EachLists, LiesIn, Lists, ids_end, most_leaves};
 ghost use Rattle.pm_archive.specs.Archive.{content_of};
 ghost use Rattle.pm_archive.specs.Reading.{ArePlaced};
 ghost use Rattle.pm_archive.specs.Answers.{Answers, IsOutside};
-ghost use Rattle.pm_archive.specs.Looked.{leading_of, leading_at, reached_at, content_at};
+ghost use Rattle.pm_archive.specs.Looked.{leading_of, leading_at, reached_at, content_at, looked_at};
 
 use crate::fault::ArchiveFault;
 use crate::listing::MOST_LEAVES;
@@ -38,9 +38,11 @@ fn leading_in<B: Bytes>(
     id: u64,
 ) -> Result<Option<Entry>, ArchiveFault>
     requires { end_of header.now.leaves ≤ B.count source.old }
-    ensures source { Keeps B.count B.holds B.fails source.old source.new }
+    ensures source { Keeps B.count B.holds B.fails B.unchanged source.old source.new }
     ensures first { (bytes : List ℕ) → B.holds source.old bytes → Answers (λ entry. entry) result (leading_at bytes header.now id leaf) }
     ensures read { result ≡ Err ArchiveFault.Read → B.fails source.old }
+    ensures memory { result ≡ Err ArchiveFault.Memory → LiesIn header.now.leaves leaf }
+    ensures inside { OnOk result (LiesIn header.now.leaves leaf) }
 {
     match directory_of(alloc, source, header, leaf) {
         Ok(entries) => Ok(leading(&entries, id)),
@@ -59,9 +61,11 @@ fn tile_entry<B: Bytes>(
     more: u8,
 ) -> Result<Option<Entry>, ArchiveFault>
     requires { end_of header.now.leaves ≤ B.count source.old }
-    ensures source { Keeps B.count B.holds B.fails source.old source.new }
+    ensures source { Keeps B.count B.holds B.fails B.unchanged source.old source.new }
     ensures first { (bytes : List ℕ) → B.holds source.old bytes → Answers (λ e. e) result (reached_at bytes header.now id more entry) }
     ensures read { result ≡ Err ArchiveFault.Read → B.fails source.old }
+    ensures none { entry ≡ None → result ≡ Ok None }
+    ensures memory { result ≡ Err ArchiveFault.Memory → (leaf : Entry) × (entry ≡ Some leaf) × (leaf.run ≡ 0) × (0 < more) × LiesIn header.now.leaves leaf }
 {
     let leaf = match entry {
         Some(leaf) => leaf,
@@ -88,9 +92,10 @@ fn content_in<B: Bytes>(
     entry: Option<Entry>,
 ) -> Result<Option<Vec<u8>>, ArchiveFault>
     requires { end_of header.now.tiles ≤ B.count source.old }
-    ensures source { Keeps B.count B.holds B.fails source.old source.new }
+    ensures source { Keeps B.count B.holds B.fails B.unchanged source.old source.new }
     ensures first { (bytes : List ℕ) → B.holds source.old bytes → Answers (option_map (λ v. v.items)) result (content_at bytes header.now entry) }
     ensures read { result ≡ Err ArchiveFault.Read → B.fails source.old }
+    ensures memory { result ≡ Err ArchiveFault.Memory → (tile : Entry) × (entry ≡ Some tile) × LiesIn header.now.tiles tile }
 {
     let entry = match entry {
         Some(entry) => entry,
@@ -112,10 +117,12 @@ pub(crate) fn content_below<B: Bytes>(
 ) -> Result<Option<Vec<u8>>, ArchiveFault>
     requires placed { ArePlaced (B.count source.old) header.now }
     requires ascending { IsAscending root.now }
-    ensures source { Keeps B.count B.holds B.fails source.old source.new }
+    ensures source { Keeps B.count B.holds B.fails B.unchanged source.old source.new }
     ensures content { (bytes : List ℕ) (tiles : List Entry) → B.holds source.old bytes → EachLists (Lists bytes header.now most_leaves) ids_end root.now tiles
         → MatchResult result (λ content. option_map (λ v. v.items) content ≡ content_of bytes header.now tiles id) IsOutside }
+    ensures first { (bytes : List ℕ) → B.holds source.old bytes → Answers (option_map (λ v. v.items)) result (looked_at bytes header.now root.now id) }
     ensures read { result ≡ Err ArchiveFault.Read → B.fails source.old }
+    ensures memory { result ≡ Err ArchiveFault.Memory → IsSome (leading_of id root.now) }
 {
     match tile_entry(alloc, source, header, leading(root, id), id, MOST_LEAVES) {
         Ok(entry) => content_in(alloc, source, header, entry),

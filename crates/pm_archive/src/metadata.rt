@@ -1,22 +1,35 @@
 //! Whether metadata is a JSON object.
 
-ghost use Rattle.std.specs.Prelude.{◌↔◌, IfOk, IsTrue};
+ghost use Rattle.std.specs.Prelude.{◌≡◌, ◌↔◌, ◌<◌, false, length, IfOk, OnErr, IsTrue};
 ghost use Rattle.pm_archive.specs.Archive.{IsMetadata};
+ghost use Rattle.serde_json.specs.Errors.{IsMemory};
 
-use serde_json::Value;
+use serde_json::{Error, Value};
 use std::alloc::{AllocError, Global};
+
+// What an error says: that the bytes are no JSON text, unless memory ran out.
+fn refused(error: &Error) -> Result<bool, AllocError>
+    ensures memory { OnErr result (IsMemory error.now) }
+    ensures other { IfOk result (λ is. (is ≡ false) × ¬ IsMemory error.now) }
+{
+    if error.is_memory() {
+        Err(AllocError)
+    } else {
+        Ok(false)
+    }
+}
 
 /// Whether the bytes are metadata of an archive: a JSON text of an object, in UTF-8 (PMTiles 3, 5).
 ///
 /// # Errors
 ///
-/// A growth was refused.
+/// Memory ran out. That is never answered of no bytes.
 pub fn is_metadata(alloc: Global, bytes: &[u8]) -> Result<bool, AllocError>
-    ensures { IfOk result (λ is. IsTrue is ↔ IsMetadata bytes.now) }
+    ensures metadata { IfOk result (λ is. IsTrue is ↔ IsMetadata bytes.now) }
+    ensures memory { OnErr result (0 < length bytes.now) }
 {
     match Value::from_slice(alloc, bytes) {
         Ok(value) => Ok(value.is_object()),
-        Err(error) if error.is_memory() => Err(AllocError),
-        Err(_) => Ok(false),
+        Err(error) => refused(&error),
     }
 }

@@ -1,6 +1,6 @@
 //! The header and the root directory of an archive.
 
-ghost use Rattle.std.specs.Prelude.{◌≡◌, ◌↔◌, ℕ, ◌<◌, ◌≤◌, List, length, Err, IfOk, IfErr, IfSome, IfNone, IsTrue};
+ghost use Rattle.std.specs.Prelude.{◌≡◌, ◌≢◌, ◌↔◌, ℕ, ◌<◌, ◌≤◌, List, length, Err, IfOk, IfErr, IfSome, IfNone, IsTrue};
 ghost use Rattle.pm_header.specs.declared.header.Header.{Header};
 ghost use Rattle.pm_header.specs.Layout.{IsHeader};
 ghost use Rattle.pm_directory.specs.declared.entry.Entry.{Entry};
@@ -23,10 +23,11 @@ const OPENING_END: u64 = 16_384;
 
 // The header with which the bytes begin.
 fn header_in<B: Bytes>(source: &mut B) -> Result<Header, ArchiveFault>
-    ensures source { Keeps B.count B.holds B.fails source.old source.new }
+    ensures source { Keeps B.count B.holds B.fails B.unchanged source.old source.new }
     ensures found { (bytes : List ℕ) → B.holds source.old bytes → IfOk result (IsHeader bytes) }
     ensures fault { (bytes : List ℕ) → B.holds source.old bytes → IfErr result (UnlessOutside (OpeningHas bytes)) }
     ensures read { result ≡ Err ArchiveFault.Read → B.fails source.old }
+    ensures memory { result ≢ Err ArchiveFault.Memory }
 {
     if source.len() < HEADER_BYTES as u64 {
         return Err(ArchiveFault::Short);
@@ -80,13 +81,14 @@ pub(crate) fn header_and_root<B: Bytes>(
     alloc: Global,
     source: &mut B,
 ) -> Result<(Header, Vec<Entry>), ArchiveFault>
-    ensures source { Keeps B.count B.holds B.fails source.old source.new }
+    ensures source { Keeps B.count B.holds B.fails B.unchanged source.old source.new }
     ensures placed { IfOk result (λ x. ArePlaced (B.count source.old) x.0) }
     ensures ascending { IfOk result (λ x. IsAscending x.1.items) }
     ensures each { IfOk result (λ x. AllByRecursion IsEntry x.1.items) }
     ensures found { (bytes : List ℕ) → B.holds source.old bytes → IfOk result (λ x. HasSections bytes x.0 × IsDirectory (section_bytes x.0.root bytes) x.1.items) }
     ensures fault { (bytes : List ℕ) → B.holds source.old bytes → IfErr result (UnlessOutside (OpeningHas bytes)) }
     ensures read { result ≡ Err ArchiveFault.Read → B.fails source.old }
+    ensures memory { (bytes : List ℕ) → B.holds source.old bytes → result ≡ Err ArchiveFault.Memory → (h : Header) × HasSections bytes h }
 {
     let header = match header_in(source) {
         Ok(header) => header,

@@ -1,13 +1,13 @@
 //! Pieces of a source: its bytes and its directories.
 
-ghost use Rattle.std.specs.Prelude.{◌≡◌, ◌↔◌, ℕ, ◌+◌, ◌≤◌, List, Err, IfOk, IfErr, IsTrue, MatchResult, slice_range};
+ghost use Rattle.std.specs.Prelude.{◌≡◌, ◌↔◌, ℕ, ◌+◌, ◌≤◌, List, Err, length, IfOk, IfErr, OnOk, IsTrue, MatchResult, slice_range};
 ghost use Rattle.std.specs.List.{AllByRecursion};
 ghost use Rattle.pm_directory.specs.Directory.{IsAscending, IsEntry};
 ghost use Rattle.pm_directory.specs.Reading.{directory_at};
 ghost use Rattle.pm_archive.specs.Source.{Keeps};
 ghost use Rattle.pm_archive.specs.Sections.{end_of};
 ghost use Rattle.pm_archive.specs.Entries.{LiesIn, entry_bytes};
-ghost use Rattle.pm_archive.specs.Reading.{content_of_tile, directory_of_entry, directory_or_fault};
+ghost use Rattle.pm_archive.specs.Reading.{content_of_tile, directory_of_entry, directory_or_fault, fault_at};
 ghost use Rattle.pm_archive.specs.Answers.{Answers, IsOutside};
 
 use crate::fault::ArchiveFault;
@@ -15,6 +15,19 @@ use crate::source::Bytes;
 use pm_directory::{DirectoryFault, Entry, read_directory};
 use pm_header::{Header, Part};
 use std::alloc::Global;
+
+// Reads the bytes from a place on, as many as `into` has room for.
+fn read_into<B: Bytes>(source: &mut B, at: u64, into: &mut [u8]) -> Result<(), ArchiveFault>
+    requires { at + length into.old ≤ B.count source.old }
+    ensures source { Keeps B.count B.holds B.fails B.unchanged source.old source.new }
+    ensures bytes { (bytes : List ℕ) → B.holds source.old bytes → OnOk result (into.new ≡ slice_range bytes at (at + length into.old)) }
+    ensures fault { IfErr result (λ fault. (fault ≡ ArchiveFault.Read) × B.fails source.old) }
+{
+    match source.read_at(at, into) {
+        Ok(()) => Ok(()),
+        Err(_) => Err(ArchiveFault::Read),
+    }
+}
 
 // The bytes from a place on.
 pub(crate) fn bytes_at<B: Bytes>(
@@ -24,7 +37,7 @@ pub(crate) fn bytes_at<B: Bytes>(
     length: u64,
 ) -> Result<Vec<u8>, ArchiveFault>
     requires { at + length ≤ B.count source.old }
-    ensures source { Keeps B.count B.holds B.fails source.old source.new }
+    ensures source { Keeps B.count B.holds B.fails B.unchanged source.old source.new }
     ensures bytes { (bytes : List ℕ) → B.holds source.old bytes → IfOk result (λ v. v.items ≡ slice_range bytes at (at + length)) }
     ensures fault { IfErr result IsOutside }
     ensures read { result ≡ Err ArchiveFault.Read → B.fails source.old }
@@ -33,9 +46,19 @@ pub(crate) fn bytes_at<B: Bytes>(
         Ok(bytes) => bytes,
         Err(_) => return Err(ArchiveFault::Memory),
     };
-    match source.read_at(at, &mut bytes) {
+    match read_into(source, at, &mut bytes) {
         Ok(()) => Ok(bytes),
-        Err(_) => Err(ArchiveFault::Read),
+        Err(fault) => Err(fault),
+    }
+}
+
+// What a fault of the directory at a place is to the archive.
+fn directory_fault(at: u64, fault: DirectoryFault) -> ArchiveFault
+    ensures { result ≡ fault_at at fault }
+{
+    match fault {
+        DirectoryFault::Memory => ArchiveFault::Memory,
+        _ => ArchiveFault::Directory(at),
     }
 }
 
@@ -47,7 +70,7 @@ pub(crate) fn directory_from<B: Bytes>(
     length: u64,
 ) -> Result<Vec<Entry>, ArchiveFault>
     requires { at + length ≤ B.count source.old }
-    ensures source { Keeps B.count B.holds B.fails source.old source.new }
+    ensures source { Keeps B.count B.holds B.fails B.unchanged source.old source.new }
     ensures directory { (bytes : List ℕ) → B.holds source.old bytes → Answers (λ v. v.items) result (directory_or_fault at (directory_at (slice_range bytes at (at + length)))) }
     ensures ascending { IfOk result (λ v. IsAscending v.items) }
     ensures each { IfOk result (λ v. AllByRecursion IsEntry v.items) }
@@ -59,8 +82,7 @@ pub(crate) fn directory_from<B: Bytes>(
     };
     match read_directory(alloc, &bytes) {
         Ok(entries) => Ok(entries),
-        Err(DirectoryFault::Memory) => Err(ArchiveFault::Memory),
-        Err(_) => Err(ArchiveFault::Directory(at)),
+        Err(fault) => Err(directory_fault(at, fault)),
     }
 }
 
@@ -80,11 +102,13 @@ pub(crate) fn directory_of<B: Bytes>(
     entry: Entry,
 ) -> Result<Vec<Entry>, ArchiveFault>
     requires { end_of header.now.leaves ≤ B.count source.old }
-    ensures source { Keeps B.count B.holds B.fails source.old source.new }
+    ensures source { Keeps B.count B.holds B.fails B.unchanged source.old source.new }
     ensures directory { (bytes : List ℕ) → B.holds source.old bytes → Answers (λ v. v.items) result (directory_of_entry bytes header.now entry) }
     ensures ascending { IfOk result (λ v. IsAscending v.items) }
     ensures each { IfOk result (λ v. AllByRecursion IsEntry v.items) }
     ensures read { result ≡ Err ArchiveFault.Read → B.fails source.old }
+    ensures memory { result ≡ Err ArchiveFault.Memory → LiesIn header.now.leaves entry }
+    ensures inside { OnOk result (LiesIn header.now.leaves entry) }
 {
     // The sections end where the source does, so that no place is past 64 bits.
     let _count = source.len();
@@ -104,11 +128,12 @@ pub(crate) fn content_of<B: Bytes>(
     entry: Entry,
 ) -> Result<Vec<u8>, ArchiveFault>
     requires { end_of header.now.tiles ≤ B.count source.old }
-    ensures source { Keeps B.count B.holds B.fails source.old source.new }
+    ensures source { Keeps B.count B.holds B.fails B.unchanged source.old source.new }
     ensures content { (bytes : List ℕ) → B.holds source.old bytes → Answers (λ v. v.items) result (content_of_tile bytes header.now entry) }
     ensures inside { (bytes : List ℕ) → B.holds source.old bytes → LiesIn header.now.tiles entry
         → MatchResult result (λ v. v.items ≡ entry_bytes header.now.tiles entry bytes) IsOutside }
     ensures read { result ≡ Err ArchiveFault.Read → B.fails source.old }
+    ensures memory { result ≡ Err ArchiveFault.Memory → LiesIn header.now.tiles entry }
 {
     let _count = source.len();
     if !lies_in(header.tiles, entry) {

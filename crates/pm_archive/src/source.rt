@@ -1,4 +1,4 @@
-ghost use Rattle.std.proofs.Common.{rules};
+ghost use Rattle.std.proofs.Common.{rules, refl, ◌∙◌};
 ghost use Rattle.std.specs.Prelude.{◌≡◌, ℕ, ◌+◌, ◌≤◌, List, length, OnOk, OnErr, slice_range};
 
 use thiserror::Error;
@@ -19,6 +19,9 @@ pub trait Bytes {
     /// A read of it may fail.
     ghost fails: { Self → Type 0 };
 
+    /// What lies behind it is the same in both, as the history of a disk that it reads. A read leaves it so.
+    ghost unchanged: { Self → Self → Type 0 };
+
     /// How many bytes there are.
     fn len(&self) -> u64
         ensures { result ≡ count self.now };
@@ -30,10 +33,15 @@ pub trait Bytes {
         ensures holds { (bytes : List ℕ) → holds self.old bytes → holds self.new bytes }
         ensures held { (bytes : List ℕ) → holds self.new bytes → holds self.old bytes }
         ensures fails { fails self.new → fails self.old }
+        ensures unchanged { unchanged self.old self.new }
         ensures gives { (bytes : List ℕ) → holds self.old bytes → OnOk result (into.new ≡ slice_range bytes at (at + length into.old)) }
         ensures fault { OnErr result (fails self.old) };
 
     ghost sized: { (source : Self) (bytes : List ℕ) → holds source bytes → length bytes ≡ count source };
+
+    ghost unchanged_itself: { (source : Self) → unchanged source source };
+
+    ghost unchanged_on: { (first then last : Self) → unchanged first then → unchanged then last → unchanged first last };
 }
 
 impl Bytes for &[u8] {
@@ -42,6 +50,8 @@ impl Bytes for &[u8] {
     ghost holds = { λ s bytes. s.now ≡ bytes };
 
     ghost fails = { λ s. ⊥ };
+
+    ghost unchanged = { λ old new. new ≡ old };
 
     fn len(&self) -> u64 {
         self[..].len() as u64
@@ -54,4 +64,8 @@ impl Bytes for &[u8] {
     }
 
     ghost sized = { Prim.search rules };
+
+    ghost unchanged_itself = { λ s. refl };
+
+    ghost unchanged_on = { λ a b c first then. then ∙ first };
 }

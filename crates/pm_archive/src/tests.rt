@@ -62,16 +62,9 @@ fn tile_entries_are_listed(rt: HostRuntime) -> Result<(), Fail> {
     Ok(())
 }
 
-#[test]
-fn leaves_end_three_below_the_root(rt: HostRuntime) -> Result<(), Fail> {
-    let mut archive = Archive::open(rt.alloc(), CIRCLE.as_slice())?;
-    assert_eq!(rt; archive.list(rt.alloc()).err(), Some(ArchiveFault::Depth));
-    Ok(())
-}
-
 // Why the bytes aren't opened.
 fn fault(alloc: Global, bytes: &[u8]) -> Option<ArchiveFault> {
-    Archive::open(alloc, bytes).err()
+    Archive::open(alloc, bytes).err().map(|(_, fault)| fault)
 }
 
 #[test]
@@ -98,6 +91,57 @@ fn contents_of_ids(rt: HostRuntime) -> Result<(), Fail> {
     assert_eq!(rt; archive.tile(alloc, 5)?.as_deref(), Some(&TILES[202..]));
     assert_eq!(rt; archive.tile(alloc, 2)?.as_deref(), None);
     Ok(())
+}
+
+// Why the content of an id isn't told.
+fn fault_of_tile(alloc: Global, bytes: &[u8], id: u64) -> Option<ArchiveFault> {
+    let mut archive = Archive::open(alloc, bytes).ok()?;
+    archive.tile(alloc, id).err()
+}
+
+// Why the entries aren't listed.
+fn fault_of_list(alloc: Global, bytes: &[u8]) -> Option<ArchiveFault> {
+    let mut archive = Archive::open(alloc, bytes).ok()?;
+    archive.list(alloc).err()
+}
+
+#[test]
+fn faults_of_directories(rt: HostRuntime) {
+    let alloc = rt.alloc();
+    // The first tile is longer than the section of tiles; the other one isn't.
+    let mut long = TILES;
+    long[132] = 22;
+    // The leaf directory says two entries, and has one.
+    let mut cut = CIRCLE;
+    cut[134] = 2;
+    // The leaf directory begins with an id below that of the entry that names it.
+    let mut low = CIRCLE;
+    low[128] = 5;
+    for (bytes, id, looked, listed) in [
+        (
+            long.as_slice(),
+            0,
+            Some(ArchiveFault::Place(0)),
+            ArchiveFault::Place(0),
+        ),
+        (long.as_slice(), 5, None, ArchiveFault::Place(0)),
+        (
+            CIRCLE.as_slice(),
+            7,
+            Some(ArchiveFault::Depth),
+            ArchiveFault::Depth,
+        ),
+        (
+            cut.as_slice(),
+            7,
+            Some(ArchiveFault::Directory(134)),
+            ArchiveFault::Directory(134),
+        ),
+        (low.as_slice(), 4, None, ArchiveFault::Order(0)),
+    ] {
+        assert_eq!(rt; fault_of_tile(alloc, bytes, id), looked, "{id}");
+        assert_eq!(rt; fault_of_list(alloc, bytes), Some(listed), "{id}");
+    }
 }
 
 #[test]

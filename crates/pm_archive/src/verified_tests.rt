@@ -66,11 +66,20 @@ fn counts_entries(rt: HostRuntime) -> Result<(), Fail> {
     let mut header = unknown()?;
     assert_eq!(rt; check_counts(&header, report), Ok(()));
     header.contents = 3;
-    assert_eq!(rt; check_counts(&header, report), Err(Count::Contents));
+    assert_eq!(rt;
+        check_counts(&header, report),
+        Err(ArchiveFault::Count(Count::Contents))
+    );
     header.entries = 2;
-    assert_eq!(rt; check_counts(&header, report), Err(Count::Entries));
+    assert_eq!(rt;
+        check_counts(&header, report),
+        Err(ArchiveFault::Count(Count::Entries))
+    );
     header.addressed = 3;
-    assert_eq!(rt; check_counts(&header, report), Err(Count::Addressed));
+    assert_eq!(rt;
+        check_counts(&header, report),
+        Err(ArchiveFault::Count(Count::Addressed))
+    );
     Ok(())
 }
 

@@ -1,6 +1,6 @@
 //! Whether an archive that was opened is sound.
 
-ghost use Rattle.std.specs.Prelude.{◌≡◌, ◌≢◌, ℕ, ◌^◌, ◌<◌, ◌≤◌, List, Ok, Err, IfOk, IfErr, OnOk};
+ghost use Rattle.std.specs.Prelude.{◌≡◌, ◌≢◌, ℕ, ◌^◌, ◌<◌, ◌≤◌, List, Ok, Err, IfOk, IfErr, OnOk, IsTrue};
 ghost use Rattle.std.specs.List.{AllByRecursion};
 ghost use Rattle.pm_directory.specs.Counts.{addressed_by};
 ghost use Rattle.pm_directory.specs.Directory.{IsAscending, IsEntry};
@@ -30,6 +30,18 @@ const VECTOR_TILES: u8 = 1;
 
 const NOT_COMPRESSED: u8 = 1;
 
+// The metadata are an object.
+fn check_is_metadata(is: bool) -> Result<(), ArchiveFault>
+    ensures metadata { OnOk result (IsTrue is) }
+    ensures fault { IfErr result (λ fault. (fault ≡ ArchiveFault.Metadata) × ¬ IsTrue is) }
+{
+    if is {
+        Ok(())
+    } else {
+        Err(ArchiveFault::Metadata)
+    }
+}
+
 // Reads the metadata.
 fn check_metadata<B: Bytes>(
     alloc: Global,
@@ -37,7 +49,7 @@ fn check_metadata<B: Bytes>(
     header: &Header,
 ) -> Result<(), ArchiveFault>
     requires { end_of header.now.metadata ≤ B.count source.old }
-    ensures source { Keeps B.count B.holds B.fails source.old source.new }
+    ensures source { Keeps B.count B.holds B.fails B.unchanged source.old source.new }
     ensures found { (bytes : List ℕ) → B.holds source.old bytes → OnOk result (IsMetadata (section_bytes header.now.metadata bytes)) }
     ensures fault { (bytes : List ℕ) → B.holds source.old bytes → IfErr result (UnlessOutside (IsMetadataFault bytes header.now)) }
     ensures read { result ≡ Err ArchiveFault.Read → B.fails source.old }
@@ -52,8 +64,7 @@ fn check_metadata<B: Bytes>(
         Err(fault) => return Err(fault),
     };
     match is_metadata(alloc, &metadata) {
-        Ok(true) => Ok(()),
-        Ok(false) => Err(ArchiveFault::Metadata),
+        Ok(is) => check_is_metadata(is),
         Err(_) => Err(ArchiveFault::Memory),
     }
 }
@@ -71,7 +82,7 @@ fn report_on(alloc: Global, header: &Header, tiles: &[Entry]) -> Result<Report, 
     };
     match check_counts(header, report) {
         Ok(()) => Ok(report),
-        Err(count) => Err(ArchiveFault::Count(count)),
+        Err(fault) => Err(fault),
     }
 }
 
@@ -83,7 +94,7 @@ fn check_vector_tiles<B: Bytes>(
     tiles: &[Entry],
 ) -> Result<(), ArchiveFault>
     requires { end_of header.now.tiles ≤ B.count source.old }
-    ensures source { Keeps B.count B.holds B.fails source.old source.new }
+    ensures source { Keeps B.count B.holds B.fails B.unchanged source.old source.new }
     ensures each { (bytes : List ℕ) → B.holds source.old bytes → AllByRecursion (LiesIn header.now.tiles) tiles.now
         → OnOk result (AreVector header.now → AllByRecursion (HasTile bytes header.now) tiles.now) }
     ensures fault { (bytes : List ℕ) → B.holds source.old bytes → AllByRecursion (LiesIn header.now.tiles) tiles.now
@@ -106,7 +117,7 @@ pub(crate) fn verdict_below<B: Bytes>(
     requires placed { ArePlaced (B.count source.old) header.now }
     requires ascending { IsAscending root.now }
     requires each { AllByRecursion IsEntry root.now }
-    ensures source { Keeps B.count B.holds B.fails source.old source.new }
+    ensures source { Keeps B.count B.holds B.fails B.unchanged source.old source.new }
     ensures found { (bytes : List ℕ) → B.holds source.old bytes → IfOk result (IsVerified bytes header.now root.now) }
     ensures fault { (bytes : List ℕ) → B.holds source.old bytes → IfErr result (UnlessOutside (VerifyingHas bytes header.now root.now)) }
     ensures read { result ≡ Err ArchiveFault.Read → B.fails source.old }

@@ -1,5 +1,5 @@
 -- Numbers that are read are spelled so, and those that are spelled so are read.
-use Rattle.std.proofs.Common.{◌≡◌, ℕ, zero, suc, Bool, true, false, cond, ltb, List, [], ◌∷◌, ◌++◌, length, take, drop, Result, Ok, Err, ◌⊎◌, inl, inr, refl, sym, ap, subst, ◌∙◌, append_assoc, append-nil, arith}
+use Rattle.std.proofs.Common.{◌≡◌, ℕ, zero, suc, ◌*◌, ◌<◌, ◌≤◌, Bool, true, false, cond, ltb, List, [], ◌∷◌, ◌++◌, length, take, drop, Result, Ok, Err, ◌⊎◌, inl, inr, refl, sym, ap, subst, ◌∙◌, append_assoc, append-nil, arith}
 use Rattle.std.proofs.lemmas.List.{take-append-drop, drop_at}
 use Rattle.pb_wire.specs.declared.fault.FaultKind.{FaultKind}
 use Rattle.pb_wire.specs.declared.fault.FaultKind.TheVariants as kinds
@@ -8,7 +8,7 @@ use Rattle.pb_wire.proofs.VarintLaws.{found, found_is, spelling_is_found, cut_is
 use Rattle.pm_directory.specs.declared.fault.DirectoryFault.{DirectoryFault}
 use Rattle.pm_directory.specs.declared.fault.DirectoryFault.TheVariants as faults
 use Rattle.pm_directory.specs.Directory.{AreVarints}
-use Rattle.pm_directory.specs.Faulty.{NumberHas, cut, overlong, NumbersHave}
+use Rattle.pm_directory.specs.Faulty.{NumberHas, cut, overlong, NumbersHave, HasRoom}
 use Rattle.pm_directory.specs.Reading.{Read, ◌>>=◌, number_of, number_at, numbers_at}
 use Rattle.pm_directory.proofs.Chain.{done, same_done, same_failed, not_both, bind_ok, bind_err}
 
@@ -74,6 +74,10 @@ number_found bytes n rest e =
     let x = number_ok bytes (varint_at bytes) n rest e in
     let h = found_is bytes n x.0 x.1 in
     (take x.0 bytes, sym (take-append-drop x.0 bytes) ∙ ap (λ (r : List ℕ). take x.0 bytes ++ r) (sym x.2), h.1)
+
+-- where there is room for the numbers of some entries
+pub has_room : (bytes : List ℕ) (n : ℕ) (rest : List ℕ) → number_at bytes ≡ Ok (n, rest) → 4 * n ≤ length rest → 0 < 4 * n → HasRoom bytes
+has_room bytes n rest e room some = let h = number_found bytes n rest e in (n, h.0, rest, h.1, h.2, omega arith, room)
 
 pub number_only : (front rest : List ℕ) (n : ℕ) → IsVarint front n → number_at (front ++ rest) ≡ Ok (n, rest)
 unfolding number_at number_of

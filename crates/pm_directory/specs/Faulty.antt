@@ -67,3 +67,7 @@ pub data DirectoryHas (bytes : List ℕ) (d : DirectoryFault) : Type 0 where
   at_number : (n : ℕ) → (front : List ℕ) → (rest : List ℕ) → bytes ≡ front ++ rest → IsVarint front n → NumbersHave (4 * n) rest d → DirectoryHas bytes d
   bytes_behind : d ≡ faults.Rest → (numbers : List ℕ) → (n : ℕ) → (front : List ℕ) → (rest : List ℕ) → bytes ≡ front ++ rest → AreVarints front (n ∷ numbers) → length numbers ≡ 4 * n → 0 < length rest → DirectoryHas bytes d
   at_entry : (ds : List ℕ) → (rs : List ℕ) → (ls : List ℕ) → (os : List ℕ) → length rs ≡ length ds → length ls ≡ length ds → length os ≡ length ds → AreVarints bytes (length ds ∷ (ds ++ (rs ++ (ls ++ os)))) → EntriesHave None ds rs ls os d → DirectoryHas bytes d
+
+-- the bytes begin with a count of entries, and behind it stands a byte or more for each of their four numbers
+abbrev pub HasRoom : List ℕ → Type 0
+HasRoom bytes = (n : ℕ) × (front : List ℕ) × (rest : List ℕ) × (bytes ≡ front ++ rest) × IsVarint front n × (0 < n) × (4 * n ≤ length rest)

@@ -1,6 +1,6 @@
 //! The numbers of which a directory consists.
 
-ghost use Rattle.std.specs.Prelude.{◌≡◌, [], length, IfOk};
+ghost use Rattle.std.specs.Prelude.{◌≡◌, ◌≢◌, ◌<◌, [], length, Err, IfOk, IfErr};
 ghost use Rattle.pm_directory.specs.Reading.{Gives, number_at, numbers_at};
 
 use crate::fault::DirectoryFault;
@@ -10,7 +10,8 @@ use std::alloc::Global;
 // The number in front, and the bytes behind it.
 #[tactic(auto, unfolding(crate::specs::Reading::number_at, crate::specs::Reading::number_of))]
 pub(crate) fn number(bytes: &[u8]) -> Result<(u64, &[u8]), DirectoryFault>
-    ensures { Gives (λ x. (x.0, x.1.now)) result (number_at bytes.now) }
+    ensures exact { Gives (λ x. (x.0, x.1.now)) result (number_at bytes.now) }
+    ensures memory { result ≢ Err DirectoryFault.Memory }
 {
     match get_varint(bytes) {
         Ok((number, len)) => Ok((number, &bytes[len..])),
@@ -29,6 +30,7 @@ pub(crate) fn numbers(
 ) -> Result<(Vec<u64>, &[u8]), DirectoryFault>
     ensures count { IfOk result (λ x. length x.0.items ≡ count) }
     ensures exact { Gives (λ x. (x.0.items, x.1.now)) result (numbers_at count [] bytes.now) }
+    ensures memory { IfErr result (λ fault. fault ≡ DirectoryFault.Memory → 0 < count) }
 {
     let mut numbers = Vec::new(alloc);
     let mut rest = bytes;

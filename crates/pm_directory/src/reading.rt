@@ -1,9 +1,9 @@
 //! Directories as entries.
 
-ghost use Rattle.std.specs.Prelude.{◌≡◌, ◌≢◌, ◌*◌, [], List, length, IfOk, IfErr, MatchResult};
+ghost use Rattle.std.specs.Prelude.{◌≡◌, ◌≢◌, ◌*◌, ◌<◌, ◌≤◌, [], List, length, Ok, Err, IfOk, IfErr, OnOk, MatchResult};
 ghost use Rattle.pm_directory.specs.Directory.{IsDirectory};
-ghost use Rattle.pm_directory.specs.Faulty.{DirectoryHas};
-ghost use Rattle.pm_directory.specs.Reading.{Gives, id_at, run_at, length_at, place_at, entry_at, entries_at, columns_at, directory_at};
+ghost use Rattle.pm_directory.specs.Faulty.{DirectoryHas, HasRoom};
+ghost use Rattle.pm_directory.specs.Reading.{Gives, id_at, run_at, length_at, place_at, entry_at, entries_at, number_at, columns_at, directory_at};
 ghost use Rattle.pm_directory.specs.declared.entry.Entry.{Entry};
 
 use crate::entry::Entry;
@@ -94,7 +94,8 @@ fn entries_of(
     requires runs { length runs.now ≡ length deltas.now }
     requires lengths { length lengths.now ≡ length deltas.now }
     requires offsets { length offsets.now ≡ length deltas.now }
-    ensures { Gives (λ v. v.items) result (entries_at None [] deltas.now runs.now lengths.now offsets.now) }
+    ensures exact { Gives (λ v. v.items) result (entries_at None [] deltas.now runs.now lengths.now offsets.now) }
+    ensures memory { IfErr result (λ fault. fault ≡ DirectoryFault.Memory → 0 < length deltas.now) }
 {
     let mut entries = Vec::new(alloc);
     let mut before = None;
@@ -106,30 +107,65 @@ fn entries_of(
     Ok(entries)
 }
 
+// How many entries there are, and the bytes behind this count. Each number of their columns has a byte or more.
+#[tactic(auto, unfolding(crate::specs::Reading::columns_at))]
+fn count_of(bytes: &[u8]) -> Result<(usize, &[u8]), DirectoryFault>
+    ensures count { IfOk result (λ x. (number_at bytes.now ≡ Ok (x.0, x.1.now)) × (4 * x.0 ≤ length x.1.now)) }
+    ensures fault { IfErr result (λ fault. columns_at bytes.now ≡ Err fault) }
+    ensures memory { result ≢ Err DirectoryFault.Memory }
+{
+    let (count, rest) = match number(bytes) {
+        Ok(front) => front,
+        Err(fault) => return Err(fault),
+    };
+    if count > rest.len() as u64 / 4 {
+        return Err(DirectoryFault::Cut);
+    }
+    Ok((count as usize, rest))
+}
+
+// Nothing stands behind the last number.
+fn check_end(rest: &[u8]) -> Result<(), DirectoryFault>
+    ensures end { OnOk result (length rest.now ≡ 0) }
+    ensures fault { IfErr result (λ fault. (fault ≡ DirectoryFault.Rest) × (0 < length rest.now)) }
+{
+    if rest.len() > 0 {
+        return Err(DirectoryFault::Rest);
+    }
+    Ok(())
+}
+
 // How many entries there are, and the numbers of their four columns one behind the other.
 #[tactic(auto, unfolding(crate::specs::Reading::columns_at))]
 fn columns(alloc: Global, bytes: &[u8]) -> Result<(usize, Vec<u64>), DirectoryFault>
     ensures four { IfOk result (λ x. length x.1.items ≡ 4 * x.0) }
     ensures exact { Gives (λ x. (x.0, x.1.items)) result (columns_at bytes.now) }
+    ensures room { IfOk result (λ x. 0 < x.0 → HasRoom bytes.now) }
+    ensures memory { IfErr result (λ fault. fault ≡ DirectoryFault.Memory → HasRoom bytes.now) }
 {
-    let (count, rest) = number(bytes)?;
-    // Each number of the columns has a byte or more.
-    if count > rest.len() as u64 / 4 {
-        return Err(DirectoryFault::Cut);
+    let (count, rest) = match count_of(bytes) {
+        Ok(front) => front,
+        Err(fault) => return Err(fault),
+    };
+    let (numbers, rest) = match numbers(alloc, 4 * count, rest) {
+        Ok(front) => front,
+        Err(fault) => return Err(fault),
+    };
+    match check_end(rest) {
+        Ok(()) => Ok((count, numbers)),
+        Err(fault) => Err(fault),
     }
-    let count = count as usize;
-    let (numbers, rest) = numbers(alloc, 4 * count, rest)?;
-    if rest.len() > 0 {
-        return Err(DirectoryFault::Rest);
-    }
-    Ok((count, numbers))
 }
 
 #[tactic(auto, unfolding(crate::specs::Reading::directory_at))]
 fn entries_in(alloc: Global, bytes: &[u8]) -> Result<Vec<Entry>, DirectoryFault>
-    ensures { Gives (λ entries. entries.items) result (directory_at bytes.now) }
+    ensures exact { Gives (λ entries. entries.items) result (directory_at bytes.now) }
+    ensures memory { IfErr result (λ fault. fault ≡ DirectoryFault.Memory → HasRoom bytes.now) }
 {
-    let (count, numbers) = columns(alloc, bytes)?;
+    let (count, numbers) = match columns(alloc, bytes) {
+        Ok(columns) => columns,
+        Err(fault) => return Err(fault),
+    };
     let (deltas, others) = numbers.split_at(count);
     let (runs, others) = others.split_at(count);
     let (lengths, offsets) = others.split_at(count);
@@ -138,17 +174,21 @@ fn entries_in(alloc: Global, bytes: &[u8]) -> Result<Vec<Entry>, DirectoryFault>
 
 /// The entries of a directory (PMTiles 3, 4.2): in ascending order, without overlapping runs.
 ///
-/// Whatever count the bytes begin with, memory is taken only for numbers that stand there.
+/// Whatever count the bytes begin with, memory is taken only for numbers that stand there: a count of more entries than
+/// there are bytes for is `Cut`, and never `Memory`.
 pub fn read_directory(alloc: Global, bytes: &[u8]) -> Result<Vec<Entry>, DirectoryFault>
     ensures found { IfOk result (λ entries. IsDirectory bytes.now entries.items) }
 
-    // A directory is refused for want of memory alone.
+    // A directory is refused where memory runs out, and nowhere else.
     ensures only { (entries : List Entry) → IsDirectory bytes.now entries
         → MatchResult result (λ read. read.items ≡ entries) (λ fault. fault ≡ DirectoryFault.Memory) }
 
     // Another fault is one that the bytes have, and of several the first that is met.
     ensures fault { IfErr result (λ fault. fault ≢ DirectoryFault.Memory → DirectoryHas bytes.now fault) }
     ensures first { Gives (λ entries. entries.items) result (directory_at bytes.now) }
+
+    // Memory runs out only where the bytes have room for as many entries as they claim.
+    ensures memory { IfErr result (λ fault. fault ≡ DirectoryFault.Memory → HasRoom bytes.now) }
 {
     entries_in(alloc, bytes)
 }

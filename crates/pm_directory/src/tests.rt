@@ -59,6 +59,11 @@ fn refused_directories(rt: HostRuntime) {
         fault(&[0xff, 0xff, 0xff, 0xff, 0x0f]),
         Some(DirectoryFault::Cut)
     );
+    // A count of 2^60, and three bytes behind it.
+    assert_eq!(rt;
+        fault(&[128, 128, 128, 128, 128, 128, 128, 128, 16, 0, 1, 5]),
+        Some(DirectoryFault::Cut)
+    );
     assert_eq!(rt; fault(&[1, 0, 1, 5]), Some(DirectoryFault::Cut));
     assert_eq!(rt;
         fault(&[128, 128, 128, 128, 128, 128, 128, 128, 128, 2]),

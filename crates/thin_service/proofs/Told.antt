@@ -10,7 +10,7 @@ use Rattle.thin_service.specs.declared.fault.RequestFault.{RequestFault}
 use Rattle.thin_service.specs.declared.fault.RequestFault.TheVariants.{NotFound, Json, Edit, NumbersSpent, JournalFull, Memory}
 use Rattle.thin_service.specs.Bodies.{told_as, IsEditFault, IsJson, BreaksLimit, HasEditFault, no_feature, outside, HasBodyFault}
 
--- a fault with P is told as want of memory or as itself
+-- a fault with P is told as out of memory or as itself
 pub told : (P : EditFault → Type 0) (e : EditFault) → P e → (told_as e ≡ Memory) ⊎ IsEditFault P (told_as e)
 told P edits.Memory is = inl refl
 told P edits.Member is = inr (λ e. cc, is)
@@ -48,7 +48,8 @@ weaker P Q NumbersSpent to is = is
 weaker P Q JournalFull to is = is
 weaker P Q Memory to is = is
 
-as_body : (id : ℕ) (body : List ℕ) (fault : RequestFault) → IsEditFault (λ e. (d : Data) × IsJson body d × HasEditFault id d e) fault → HasBodyFault id body fault
+as_body : (id : ℕ) (body : List ℕ) (fault : RequestFault)
+    → IsEditFault (λ e. (d : Data) × IsJson body d × HasEditFault id d e) fault → HasBodyFault id body fault
 as_body id body (Edit e) is = is
 as_body id body NotFound is = absurd is
 as_body id body Json is = absurd is
@@ -57,7 +58,8 @@ as_body id body JournalFull is = absurd is
 as_body id body Memory is = absurd is
 
 -- a value in a body that is no feature
-pub value_fault : (id : ℕ) (body : List ℕ) (d : Data) (fault : RequestFault) → IsJson body d → IsEditFault (IsFirstJsonFault d) fault → HasBodyFault id body fault
+pub value_fault : (id : ℕ) (body : List ℕ) (d : Data) (fault : RequestFault) → IsJson body d
+    → IsEditFault (IsFirstJsonFault d) fault → HasBodyFault id body fault
 value_fault id body d fault json is =
     as_body id body fault (weaker (IsFirstJsonFault d) _ fault (λ e has. (d, json, no_feature has)) is)
 

@@ -47,7 +47,7 @@ abbrev pub told_as : EditFault → RequestFault
 told_as edits.Memory = Memory
 told_as fault = Edit fault
 
--- the fault of an edit, other than want of memory, with P
+-- the fault of an edit, other than out of memory, with P
 abbrev pub IsEditFault : (EditFault → Type 0) → RequestFault → Type 0
 IsEditFault P (Edit fault) = (fault ≢ edits.Memory) × P fault
 IsEditFault P _ = ⊥

@@ -1,5 +1,5 @@
 -- Requests to the service, and their replies.
-use Rattle.std.specs.Prelude.{◌≡◌, ℕ, ◌+◌, ◌-◌, ◌^◌, ◌<◌, ◌≤◌, ◌&&◌, ◌⊎◌, Bool, true, false, nat_eq, List, [], length, codes, None, if◌then◌else◌}
+use Rattle.std.specs.Prelude.{◌≡◌, ℕ, ◌+◌, ◌-◌, ◌^◌, ◌<◌, ◌≤◌, ◌⊎◌, Bool, nat_eq, List, [], length, codes, None, if◌then◌else◌}
 use Rattle.std.specs.Cmp.Lexicographic.{pointwise}
 use Rattle.http_serve.specs.Question.{Question}
 use Rattle.http_serve.specs.Reply.{ReplyView}
@@ -7,13 +7,14 @@ use Rattle.tile_routes.specs.declared.target.TileFormat.{TileFormat}
 use Rattle.tile_routes.specs.Paths.{Asked, asked_feature, asked_tile, asked_nothing, asked_by}
 use Rattle.edit_text.specs.Data.{FeatureData}
 use Rattle.feature_store.specs.Store.{FeatureMap, feature_at, with_feature}
-use Rattle.feature_store.specs.Layers.{AreLayers}
+use Rattle.feature_store.specs.Layers.{layers}
 use Rattle.mvt_layer.specs.Tile.{LayerView}
 use Rattle.mvt_layer.specs.Reads.{ReadsAs}
 use Rattle.mvt_write.specs.Written.{written}
 use Rattle.thin_service.specs.declared.fault.RequestFault.{RequestFault}
 use Rattle.thin_service.specs.declared.fault.RequestFault.TheVariants.{NotFound, NumbersSpent, JournalFull, Memory}
 use Rattle.thin_service.specs.Words.{refusal_of, edit_reply, no_tile, tile_reply}
+use Rattle.thin_service.specs.Full.{IsFull}
 use Rattle.thin_service.specs.Bodies.{SaysFeature, HasBodyFault}
 
 -- what a service has: the map, and how many edits were made
@@ -45,13 +46,9 @@ wanted_of question = wanted_by question.method (asked_by question.path)
 
 -- ---- how it is answered
 
--- so many features are kept at most
-abbrev pub most_kept : ℕ
-most_kept = 65536
-
 -- the map has no place for a further number
 abbrev pub IsFullFor : ServiceState → ℕ → Type 0
-IsFullFor s id = (most_kept ≤ length s.features) × (feature_at s.features id ≡ None)
+IsFullFor s id = IsFull s.features id
 
 -- the state behind the edit that sets the number's feature
 abbrev pub after_put : ServiceState → ℕ → FeatureData → ServiceState
@@ -78,22 +75,25 @@ AnswersPut old id body reply new =
     MakesPut old id body reply new
     ⊎ ((fault : RequestFault) × RefusesPut old id body fault × (reply ≡ refusal_of fault) × (new ≡ old))
 
--- The layers of the tile are cut from the map; where there are some, the reply has bytes that read as them.
-pub record AnswersTile (s : ServiceState) (z x y : ℕ) (format : TileFormat) (reply : ReplyView) : Type 0 where
-  pub layers : List LayerView
-  pub cut : AreLayers s.features z x y layers
-  pub told : ((layers ≡ []) × (reply ≡ no_tile)) ⊎ ((0 < length layers) × ReadsAs (written layers) layers × (reply ≡ tile_reply format (written layers)))
+-- there are no layers, and the reply says so; or it has bytes that read as them
+abbrev pub TellsLayers : List LayerView → TileFormat → ReplyView → Type 0
+TellsLayers ls format reply =
+    ((ls ≡ []) × (reply ≡ no_tile)) ⊎ ((0 < length ls) × ReadsAs (written ls) ls × (reply ≡ tile_reply format (written ls)))
 
--- the reply to what is wanted, and the state behind it
-abbrev pub Answers : ServiceState → Wanted → List ℕ → ReplyView → ServiceState → Type 0
-Answers old (put id) body reply new = AnswersPut old id body reply new
-Answers old (tile z x y format) body reply new = AnswersTile old z x y format reply × (new ≡ old)
-Answers old nothing body reply new = (reply ≡ refusal_of NotFound) × (new ≡ old)
+-- the reply tells the layers of the tile
+abbrev pub AnswersTile : ServiceState → ℕ → ℕ → ℕ → TileFormat → ReplyView → Type 0
+AnswersTile s z x y format reply = TellsLayers (layers s.features z x y) format reply
 
--- memory ran out: nothing changes, and the connection goes on
+-- out of memory: nothing changes, and the connection goes on
 abbrev pub LacksMemory : ServiceState → ReplyView → ServiceState → Type 0
 LacksMemory old reply new = (reply ≡ refusal_of Memory) × (new ≡ old)
 
+-- The reply to what is wanted, and the state behind it. An edit and a tile take memory, and what is not served takes none.
+abbrev pub Answers : ServiceState → Wanted → List ℕ → ReplyView → ServiceState → Type 0
+Answers old (put id) body reply new = AnswersPut old id body reply new ⊎ LacksMemory old reply new
+Answers old (tile z x y format) body reply new = (AnswersTile old z x y format reply × (new ≡ old)) ⊎ LacksMemory old reply new
+Answers old nothing body reply new = (reply ≡ refusal_of NotFound) × (new ≡ old)
+
 -- one reply to one question
 abbrev pub Replies : ServiceState → Question → ReplyView → ServiceState → Type 0
-Replies old question reply new = Answers old (wanted_of question) question.body reply new ⊎ LacksMemory old reply new
+Replies old question reply new = Answers old (wanted_of question) question.body reply new

@@ -5,7 +5,7 @@ use Rattle.thin_service.specs.declared.service.ThinService.{ThinService}
 use Rattle.thin_service.specs.Requests.{ServiceState, Replies}
 
 abbrev pub state_of : ThinService → ServiceState
-state_of s = record { features = s.store.features; edits = s.edits }
+state_of s = record { features = s.kept.store.features; edits = s.edits }
 
 -- one reply to one question
 abbrev pub ServiceReplies : ThinService → Question → ReplyView → ThinService → Type 0

@@ -1,7 +1,7 @@
 -- The replies of the service.
-use Rattle.std.specs.Prelude.{ℕ, List, ◌++◌, codes, decimal, Option, Some, None}
+use Rattle.std.specs.Prelude.{ℕ, List, ◌++◌, codes, decimal, Some, None}
 use Rattle.hex.specs.Hex.{encode_lower}
-use Rattle.http_serve.specs.Reply.{ReplyView}
+use Rattle.http_serve.specs.Reply.{ReplyView, plain_reply}
 use Rattle.edit_text.specs.declared.fault.EditFault.{EditFault}
 use Rattle.edit_text.specs.declared.fault.EditFault.TheVariants as edits
 use Rattle.tile_routes.specs.declared.target.TileFormat.{TileFormat}
@@ -55,7 +55,7 @@ fault_status Memory = 503
 
 -- a refusal: its word as a text
 abbrev pub refusal_of : RequestFault → ReplyView
-refusal_of fault = record { status = fault_status fault; kind = Some text_type; content = fault_word fault }
+refusal_of fault = plain_reply (fault_status fault) (Some text_type) (fault_word fault)
 
 -- ---- answers
 
@@ -64,11 +64,11 @@ unfoldable pub edit_text : ℕ → List ℕ
 edit_text number = codes "{\"edit\":" ++ decimal number ++ codes "}"
 
 abbrev pub edit_reply : ℕ → ReplyView
-edit_reply number = record { status = 200; kind = Some json_type; content = edit_text number }
+edit_reply number = plain_reply 200 (Some json_type) (edit_text number)
 
 -- no tile
 abbrev pub no_tile : ReplyView
-no_tile = record { status = 204; kind = None; content = codes "" }
+no_tile = plain_reply 204 None (codes "")
 
 abbrev pub format_type : TileFormat → List ℕ
 format_type Mvt = tile_type
@@ -80,4 +80,4 @@ format_content Hex bytes = encode_lower bytes
 
 -- a tile
 abbrev pub tile_reply : TileFormat → List ℕ → ReplyView
-tile_reply format bytes = record { status = 200; kind = Some (format_type format); content = format_content format bytes }
+tile_reply format bytes = plain_reply 200 (Some (format_type format)) (format_content format bytes)

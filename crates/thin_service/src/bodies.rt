@@ -1,8 +1,9 @@
 //! The feature in the body of a request.
-ghost use Rattle.std.specs.Prelude.{◌≡◌, ◌⊎◌, IfOk, IfErr, OnOk};
+ghost use Rattle.std.specs.Prelude.{◌≡◌, ◌<◌, ◌⊎◌, length, IfOk, IfErr, OnOk};
 ghost use Rattle.serde_json.specs.View.{view};
 ghost use Rattle.edit_text.specs.Data.{feature_data};
 ghost use Rattle.edit_text.specs.Limits.{IsAllowed, IsFirstFault};
+ghost use Rattle.edit_text.specs.Types.{FeatureFitsTypes};
 ghost use Rattle.edit_json.specs.Faults.{IsFeature, IsFirstJsonFault};
 ghost use Rattle.thin_service.specs.Bodies.{IsJson, KeepsLimits, BreaksLimit, SaysFeature, IsEditFault, HasBodyFault};
 
@@ -13,10 +14,11 @@ use serde_json::Value;
 use std::alloc::Global;
 use tile_cutter::check_reach;
 
-/// The JSON value in a body.
+/// The JSON value in a body. Only a body with bytes can be refused for memory.
 fn json_in(alloc: Global, body: &[u8]) -> Result<Value, RequestFault>
     ensures found { IfOk result (λ value. IsJson body.now (view value)) }
-    ensures refused { IfErr result (λ fault. (fault ≡ RequestFault.Memory) ⊎ ((fault ≡ RequestFault.Json) × HasBodyFault 0 body.now RequestFault.Json)) }
+    ensures refused { IfErr result (λ fault. ((fault ≡ RequestFault.Memory) × (0 < length body.now))
+        ⊎ ((fault ≡ RequestFault.Json) × HasBodyFault 0 body.now RequestFault.Json)) }
 {
     match Value::from_slice(alloc, body) {
         Ok(value) => Ok(value),
@@ -28,6 +30,7 @@ fn json_in(alloc: Global, body: &[u8]) -> Result<Value, RequestFault>
 /// The feature that a JSON value tells.
 fn feature_of(alloc: Global, value: &Value) -> Result<Feature, RequestFault>
     ensures found { IfOk result (λ feature. IsFeature (view value.now) (feature_data feature)) }
+    ensures types { IfOk result (λ feature. FeatureFitsTypes (feature_data feature)) }
     ensures refused { IfErr result (λ fault. (fault ≡ RequestFault.Memory) ⊎ IsEditFault (IsFirstJsonFault (view value.now)) fault) }
 {
     match feature_from_json(alloc, value) {
@@ -65,6 +68,7 @@ fn within_limits(id: u64, feature: &Feature) -> Result<(), RequestFault>
 /// The feature in a body, within the limits for its number.
 pub(crate) fn feature_in(alloc: Global, id: u64, body: &[u8]) -> Result<Feature, RequestFault>
     ensures found { IfOk result (λ feature. SaysFeature id body.now (feature_data feature)) }
+    ensures types { IfOk result (λ feature. FeatureFitsTypes (feature_data feature)) }
     ensures refused { IfErr result (λ fault. (fault ≡ RequestFault.Memory) ⊎ HasBodyFault id body.now fault) }
 {
     let value = match json_in(alloc, body) {

@@ -14,7 +14,7 @@ pub enum RequestFault {
     NumbersSpent,
     /// The map has as many features as the service keeps.
     JournalFull,
-    /// A growth was refused.
+    /// An allocation failed.
     Memory,
 }
 

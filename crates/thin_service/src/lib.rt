@@ -3,11 +3,13 @@
 
 mod bodies;
 mod fault;
+mod kept;
 mod replies;
 mod service;
 
 pub use fault::RequestFault;
-pub use service::{MOST_KEPT, ThinService, thin_serve};
+pub use kept::MOST_KEPT;
+pub use service::{ThinService, thin_serve};
 
 #[cfg(test)]
 mod tests;

@@ -1,7 +1,8 @@
 //! The replies of the service.
 ghost use Rattle.std.specs.Prelude.{◌≡◌, ◌≤◌, length, IfOk};
-ghost use Rattle.http_serve.specs.Reply.{reply_view, HasShortKind};
-ghost use Rattle.thin_service.specs.Words.{fault_word, edit_word, fault_status, edit_status, edit_text, edit_reply, no_tile, format_type, format_content, tile_reply, refusal_of, text_type, json_type, tile_type};
+ghost use Rattle.http_serve.specs.Reply.{reply_view, HasShortWords};
+ghost use Rattle.thin_service.specs.Words.{fault_word, edit_word, fault_status, edit_status, edit_text, edit_reply, no_tile, format_type, format_content};
+ghost use Rattle.thin_service.specs.Words.{tile_reply, refusal_of, text_type, json_type, tile_type};
 
 use crate::fault::RequestFault;
 use edit_text::EditFault;
@@ -73,13 +74,13 @@ fn fault_status(fault: RequestFault) -> StatusCode
 #[tactic(auto, unfolding(crate::specs::Words::text_type))]
 pub(crate) fn refusal(fault: RequestFault) -> Reply
     ensures reply { reply_view result ≡ refusal_of fault }
-    ensures kind { HasShortKind (reply_view result) }
+    ensures words { HasShortWords (reply_view result) }
 {
-    Reply {
-        status: fault_status(fault),
-        kind: Some("text/plain"),
-        content: Content::Fixed(fault_word(fault)),
-    }
+    Reply::plain(
+        fault_status(fault),
+        Some("text/plain"),
+        Content::Fixed(fault_word(fault)),
+    )
 }
 
 /// The text that tells the number of an edit.
@@ -99,26 +100,22 @@ pub(crate) fn edit_text(alloc: Global, number: u64) -> Result<Vec<u8>, AllocErro
 pub(crate) fn made(number: u64, text: Vec<u8>) -> Reply
     requires { text.items ≡ edit_text number }
     ensures reply { reply_view result ≡ edit_reply number }
-    ensures kind { HasShortKind (reply_view result) }
+    ensures words { HasShortWords (reply_view result) }
 {
     let _ = number;
-    Reply {
-        status: StatusCode::OK,
-        kind: Some("application/json"),
-        content: Content::Whole(text),
-    }
+    Reply::plain(
+        StatusCode::OK,
+        Some("application/json"),
+        Content::Whole(text),
+    )
 }
 
 /// The reply where a tile shows nothing.
 pub(crate) fn no_tile() -> Reply
     ensures reply { reply_view result ≡ no_tile }
-    ensures kind { HasShortKind (reply_view result) }
+    ensures words { HasShortWords (reply_view result) }
 {
-    Reply {
-        status: StatusCode::NO_CONTENT,
-        kind: None,
-        content: Content::Empty,
-    }
+    Reply::plain(StatusCode::NO_CONTENT, None, Content::Empty)
 }
 
 /// The type of a tile's content.
@@ -146,13 +143,9 @@ fn format_content(alloc: Global, format: TileFormat, bytes: Vec<u8>) -> Result<V
 /// The reply with a tile.
 pub(crate) fn tile(alloc: Global, format: TileFormat, bytes: Vec<u8>) -> Result<Reply, AllocError>
     ensures reply { IfOk result (λ reply. reply_view reply ≡ tile_reply format bytes.items) }
-    ensures kind { IfOk result (λ reply. HasShortKind (reply_view reply)) }
+    ensures words { IfOk result (λ reply. HasShortWords (reply_view reply)) }
 {
     let kind = format_type(format);
     let content = format_content(alloc, format, bytes)?;
-    Ok(Reply {
-        status: StatusCode::OK,
-        kind: Some(kind),
-        content: Content::Whole(content),
-    })
+    Ok(Reply::plain(StatusCode::OK, Some(kind), Content::Whole(content)))
 }

@@ -1,14 +1,13 @@
 ghost use Rattle.std.specs.Prelude.{◌≡◌, ◌≤◌, ◌<◌, ◌+◌, ◌-◌, ◌^◌, ◌⊎◌, [], IfOk, IfErr, OnOk};
-ghost use Rattle.feature_store.specs.Store.{HasRoom};
-ghost use Rattle.http_serve.specs.Told.{IsServed, IsServedUpTo, AnswersInput};
-ghost use Rattle.http_serve.specs.Reply.{reply_view, HasShortKind};
-ghost use Rattle.thin_service.specs.Requests.{MakesPut, RefusesPut, IsFullFor, AnswersTile, Replies};
+ghost use Rattle.http_serve.specs.Told.{IsServed, IsServedUpTo, most_reads, MeetsTurns, KeepsTurns, AnswersInput};
+ghost use Rattle.http_serve.specs.Reply.{reply_view, HasShortWords};
+ghost use Rattle.thin_service.specs.Requests.{MakesPut, RefusesPut, AnswersTile, Replies};
 ghost use Rattle.thin_service.specs.State.{ServiceReplies};
 
 use crate::bodies::feature_in;
 use crate::fault::RequestFault;
+use crate::kept::Kept;
 use crate::replies;
-use feature_store::Store;
 use hilbert_id::TileAt;
 use http_serve::{Handler, Reply, Request, ServeFault, Served, serve};
 use mvt_write::write_tile;
@@ -16,15 +15,12 @@ use std::alloc::{AllocError, Global};
 use std::io::{Read, Write};
 use tile_routes::{Routes, Target, TileFormat};
 
-/// How many features the service keeps at most.
-pub const MOST_KEPT: usize = 65_536;
-
 /// A map in memory, which answers requests.
 #[derive(Drop)]
 pub struct ThinService {
     alloc: Global,
     routes: Routes,
-    store: Store,
+    kept: Kept,
     edits: u64,
 }
 
@@ -38,7 +34,7 @@ impl ThinService {
         Ok(ThinService {
             alloc,
             routes: Routes::new(alloc)?,
-            store: Store::new(alloc),
+            kept: Kept::new(alloc),
             edits: 0,
         })
     }
@@ -51,26 +47,10 @@ impl ThinService {
         self.edits.checked_add(1).ok_or(RequestFault::NumbersSpent)
     }
 
-    /// Makes room for the feature of a number.
-    fn make_room(&mut self, id: u64) -> Result<(), RequestFault>
-        ensures state { state_of self.new ≡ state_of self.old }
-        ensures room { OnOk result (HasRoom self.new.store id) }
-        ensures place { OnOk result (¬ IsFullFor (state_of self.old) id) }
-        ensures full { IfErr result (λ fault. (fault ≡ RequestFault.Memory) ⊎ ((fault ≡ RequestFault.JournalFull) × IsFullFor (state_of self.old) id)) }
-    {
-        if self.store.len() >= MOST_KEPT && self.store.get(id).is_none() {
-            return Err(RequestFault::JournalFull);
-        }
-        match self.store.room(id) {
-            Ok(()) => Ok(()),
-            Err(_) => Err(RequestFault::Memory),
-        }
-    }
-
     /// Sets the feature of a number to the one in the body of a request.
     fn put(&mut self, id: u64, body: &[u8]) -> Result<Reply, RequestFault>
         ensures made { IfOk result (λ reply. MakesPut (state_of self.old) id body.now (reply_view reply) (state_of self.new)) }
-        ensures kind { IfOk result (λ reply. HasShortKind (reply_view reply)) }
+        ensures words { IfOk result (λ reply. HasShortWords (reply_view reply)) }
         ensures refused { IfErr result (λ fault. (state_of self.new ≡ state_of self.old)
             × ((fault ≡ RequestFault.Memory) ⊎ RefusesPut (state_of self.old) id body.now fault)) }
     {
@@ -85,9 +65,9 @@ impl ThinService {
         let Ok(text) = replies::edit_text(self.alloc, number) else {
             return Err(RequestFault::Memory);
         };
-        match self.make_room(id) {
+        match self.kept.make_room(id) {
             Ok(()) => {
-                self.store.place(id, feature);
+                self.kept.place(id, feature);
                 self.edits = number;
                 Ok(replies::made(number, text))
             }
@@ -97,11 +77,10 @@ impl ThinService {
 
     /// The tile, as it is asked for.
     fn tile(&self, at: TileAt, format: TileFormat) -> Result<Reply, AllocError>
-        requires { at.z ≤ 16 }
         ensures answers { IfOk result (λ reply. AnswersTile (state_of self.now) at.z at.x at.y format (reply_view reply)) }
-        ensures kind { IfOk result (λ reply. HasShortKind (reply_view reply)) }
+        ensures words { IfOk result (λ reply. HasShortWords (reply_view reply)) }
     {
-        let layers = self.store.layers(self.alloc, at)?;
+        let layers = self.kept.store.layers(at)?;
         if layers.len() == 0 {
             return Ok(replies::no_tile());
         }
@@ -133,8 +112,8 @@ impl Handler for ThinService {
     }
 }
 
-/// Serves a connection: one reply to each request, in order, and one to what is no request. At most 4,294,967,296
-/// reads are made.
+/// Serves a connection by at most `http_serve::MOST_READS` reads: one reply to each request, in order, and one to what is
+/// no request.
 pub fn thin_serve<R: Read, W: Write>(
     alloc: Global,
     reader: &mut R,
@@ -147,6 +126,8 @@ pub fn thin_serve<R: Read, W: Write>(
         service.new (R.remaining reader.new) (W.contents writer.new)) }
     ensures fault { IfErr result (λ fault. IsServedUpTo ServiceReplies service.old (R.remaining reader.old) (W.contents writer.old) fault
         service.new (R.remaining reader.new) (W.contents writer.new)) }
+    ensures turns { IfOk result (λ served. MeetsTurns most_reads (R.remaining reader.old) (R.remaining reader.new) served.end) }
+    ensures reads { KeepsTurns most_reads result (R.remaining reader.old) (R.remaining reader.new) }
 {
     serve(alloc, reader, writer, service)
 }

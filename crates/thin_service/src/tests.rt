@@ -1,6 +1,6 @@
 //! Connections from end to end. The tiles are those of `bench/model/tiles.py`, a second model that shares no code with this one.
 use crate::{ThinService, thin_serve};
-use http_serve::End;
+use http_serve::{End, Handler, Request};
 use std::alloc::{AllocError, Global};
 use std::io;
 use std::io::Read;
@@ -455,14 +455,19 @@ fn paths_and_methods_that_are_not_served(rt: HostRuntime) -> Result<(), Fail> {
         ("GET", "/map/0/1/0.mvt"),
         ("GET", "/map/0/0/0.png"),
         ("GET", "/map/0/0/0"),
-        ("HEAD", "/map/0/0/0.mvt"),
         ("PUT", "/map/0/0/0.mvt"),
+        ("POST", "/features/7"),
     ] {
         let asked = request(rt.alloc(), method, path, POINT)?;
         let reply = reply_behind(rt.alloc(), &[], asked.as_str())?;
         let expected = refusal(rt.alloc(), "404 Not Found", "NotFound")?;
         assert_eq!(rt; reply.as_slice(), expected.as_bytes(), "{method} {path}");
     }
+    // the reply to a HEAD is only a head
+    let asked = request(rt.alloc(), "HEAD", "/map/0/0/0.mvt", "")?;
+    let reply = reply_behind(rt.alloc(), &[], asked.as_str())?;
+    let head = b"HTTP/1.1 404 Not Found\r\ncontent-type: text/plain\r\ncontent-length: 9\r\n\r\n";
+    assert_eq!(rt; reply.as_slice(), head.as_slice());
     Ok(())
 }
 
@@ -488,14 +493,17 @@ fn the_pieces_do_not_matter(rt: HostRuntime) -> Result<(), Fail> {
 fn one_place_more_than_is_kept(rt: HostRuntime) -> Result<(), Fail> {
     let alloc = rt.alloc();
     let mut service = ThinService::new(alloc)?;
-    let mut input = String::new(alloc);
+    let mut out = Vec::new(alloc);
     for id in 0..65_536 {
         let path = format!(in alloc; "/features/{id}")?;
-        input.push_str(request(alloc, "PUT", path.as_str(), POINT)?.as_str())?;
+        service.answer(&Request {
+            method: b"PUT",
+            path: path.as_bytes(),
+            range: None,
+            body: POINT.as_bytes(),
+            close: false,
+        });
     }
-    let mut out = Vec::new(alloc);
-    thin_serve(alloc, &mut input.as_bytes(), &mut out, &mut service)?;
-    out.clear();
     let further = request(alloc, "PUT", "/features/65536", POINT)?;
     thin_serve(alloc, &mut further.as_bytes(), &mut out, &mut service)?;
     let full = refusal(

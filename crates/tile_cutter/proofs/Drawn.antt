@@ -7,7 +7,8 @@ use Rattle.std.proofs.lemmas.List.Elements.{All-nil, All-cons, All-head, All-tai
 use Rattle.edit_text.specs.declared.feature.World.{World}
 use Rattle.geometry_commands.specs.declared.point.Pt.{Pt}
 use Rattle.tile_cutter.specs.Cut.{Segment, segments, is_kept, way_along, is_some_segment, tile_points, line_cut, points_cut, in_box}
-use Rattle.tile_cutter.specs.Range.{IsInWorld, IsOfTile, IsDrawable}
+use Rattle.edit_text.specs.Types.{IsOfWorld}
+use Rattle.tile_cutter.specs.Range.{IsOfTile, IsDrawable}
 use Rattle.tile_cutter.proofs.Kept.{points_keep, length_points, stands_in_tile}
 use Rattle.tile_cutter.proofs.Chains.{is_left_out}
 
@@ -22,7 +23,7 @@ all_segments P (p ∷ q ∷ qs) all =
     let rest = All-tail P p (q ∷ qs) all in
     All-cons (Both P) (p, q) (segments (q ∷ qs)) (All-head P p (q ∷ qs) all, All-head P q qs rest) (all_segments P (q ∷ qs) rest)
 
-length_segments : (ps : List Pt) → length (segments ps) ≤ length ps
+pub length_segments : (ps : List Pt) → length (segments ps) ≤ length ps
 length_segments [] = omega arith
 length_segments (p ∷ []) = omega arith
 length_segments (p ∷ q ∷ qs) = let less = length_segments (q ∷ qs) in omega (arith, less)
@@ -63,7 +64,7 @@ way_drawable column row n (s ∷ ss) few is some =
       of_tile = All-cons P s.0 (map (λ t. t.1) (s ∷ ss)) first.0 (All-map P (λ t. t.1) (s ∷ ss) (All-weaker (Both P) (λ t. P t.1) (λ t both. both.1) (s ∷ ss) is.0));
     }
 
-pub line_drawable : (zoom column row : ℕ) (ps : List World) → zoom ≤ 16 → length ps ≤ 65535 → All IsInWorld ps → All (IsDrawable false column row) (line_cut zoom column row ps)
+pub line_drawable : (zoom column row : ℕ) (ps : List World) → zoom ≤ 16 → length ps ≤ 65535 → All IsOfWorld ps → All (IsDrawable false column row) (line_cut zoom column row ps)
 unfolding line_cut
 line_drawable zoom column row ps allowed few inside =
     let P = IsOfTile column row in
@@ -76,7 +77,7 @@ line_drawable zoom column row ps allowed few inside =
     let passes = filter_passes is_some_segment parts in
     All-map (IsDrawable false column row) way_along (filter is_some_segment parts) (λ k d lt. way_drawable column row n _ small (parts_all k d lt) (passes k d lt))
 
-pub points_of_tile : (zoom column row : ℕ) (ps : List World) → zoom ≤ 16 → All IsInWorld ps → All (IsOfTile column row) (points_cut zoom column row ps)
+pub points_of_tile : (zoom column row : ℕ) (ps : List World) → zoom ≤ 16 → All IsOfWorld ps → All (IsOfTile column row) (points_cut zoom column row ps)
 unfolding points_cut
 points_of_tile zoom column row ps allowed inside =
     All-filter in_box (IsOfTile column row) (tile_points zoom column row ps) (points_keep (IsOfTile column row) zoom column row ps (stands_in_tile zoom column row allowed) inside)

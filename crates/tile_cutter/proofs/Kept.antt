@@ -10,7 +10,8 @@ use Rattle.edit_text.specs.declared.feature.World.{World}
 use Rattle.geometry_commands.specs.declared.point.Pt.{Pt}
 use Rattle.tile_cutter.specs.Cut.{quantised_points, is_closed, tile_points, tile_ring}
 use Rattle.tile_cutter.specs.Passes.{repeats}
-use Rattle.tile_cutter.specs.Range.{IsInWorld, IsSmall, IsOfSide, IsOfTile}
+use Rattle.edit_text.specs.Types.{IsOfWorld}
+use Rattle.tile_cutter.specs.Range.{IsSmall, IsOfSide, IsOfTile}
 use Rattle.tile_cutter.proofs.Passes.{left_after, stands_at, tile_points_are}
 use Rattle.tile_cutter.proofs.Ways.{opened_placed}
 
@@ -38,9 +39,9 @@ pub points_all : (P : Pt → Type 0) (zoom column row : ℕ) (ps : List World) �
 points_all P zoom column row ps all =
     subst (All P) (tile_points_are zoom column row ps) (all_left P None (map (stands_at zoom column row) ps) (All-map P (stands_at zoom column row) ps all))
 
-pub points_keep : (P : Pt → Type 0) (zoom column row : ℕ) (ps : List World) → ((p : World) → IsInWorld p → P (stands_at zoom column row p))
-    → All IsInWorld ps → All P (tile_points zoom column row ps)
-points_keep P zoom column row ps each all = points_all P zoom column row ps (All-weaker IsInWorld (λ p. P (stands_at zoom column row p)) each ps all)
+pub points_keep : (P : Pt → Type 0) (zoom column row : ℕ) (ps : List World) → ((p : World) → IsOfWorld p → P (stands_at zoom column row p))
+    → All IsOfWorld ps → All P (tile_points zoom column row ps)
+points_keep P zoom column row ps each all = points_all P zoom column row ps (All-weaker IsOfWorld (λ p. P (stands_at zoom column row p)) each ps all)
 
 pub length_points : (zoom column row : ℕ) (ps : List World) → length (tile_points zoom column row ps) ≤ length ps
 length_points zoom column row ps =
@@ -63,9 +64,9 @@ ring_all P zoom column row ps all =
     go true kept = All-take P (length (quantised_points zoom ps) - 1) (tile_points zoom column row ps) kept
     go false kept = kept
 
-pub ring_keeps : (P : Pt → Type 0) (zoom column row : ℕ) (ps : List World) → ((p : World) → IsInWorld p → P (stands_at zoom column row p))
-    → All IsInWorld ps → All P (tile_ring zoom column row ps)
-ring_keeps P zoom column row ps each all = ring_all P zoom column row ps (All-weaker IsInWorld (λ p. P (stands_at zoom column row p)) each ps all)
+pub ring_keeps : (P : Pt → Type 0) (zoom column row : ℕ) (ps : List World) → ((p : World) → IsOfWorld p → P (stands_at zoom column row p))
+    → All IsOfWorld ps → All P (tile_ring zoom column row ps)
+ring_keeps P zoom column row ps each all = ring_all P zoom column row ps (All-weaker IsOfWorld (λ p. P (stands_at zoom column row p)) each ps all)
 
 pub length_ring : (zoom column row : ℕ) (ps : List World) → length (tile_ring zoom column row ps) ≤ length ps
 length_ring zoom column row ps =
@@ -90,10 +91,10 @@ side_placed zoom at w allowed fits =
     let below = quantised_below zoom w allowed fits in
     record { low = omega (arith, ints); high = omega (arith, ints) }
 
-pub stands_in_tile : (zoom column row : ℕ) → zoom ≤ 16 → (p : World) → IsInWorld p → IsOfTile column row (stands_at zoom column row p)
+pub stands_in_tile : (zoom column row : ℕ) → zoom ≤ 16 → (p : World) → IsOfWorld p → IsOfTile column row (stands_at zoom column row p)
 stands_in_tile zoom column row allowed p inside = record { across = side_placed zoom column p.x allowed inside.0; down = side_placed zoom row p.y allowed inside.1 }
 
-pub stands_small : (zoom column row : ℕ) → column < 2 ^ 32 → row < 2 ^ 32 → (p : World) → IsInWorld p → IsSmall (stands_at zoom column row p)
+pub stands_small : (zoom column row : ℕ) → column < 2 ^ 32 → row < 2 ^ 32 → (p : World) → IsOfWorld p → IsSmall (stands_at zoom column row p)
 stands_small zoom column row across down p inside =
     let x_less = div-le_self p.x (2 ^ (20 - zoom)) in
     let y_less = div-le_self p.y (2 ^ (20 - zoom)) in

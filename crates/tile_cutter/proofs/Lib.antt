@@ -6,6 +6,8 @@ pub mod Each
 pub mod Kept
 pub mod Outside
 pub mod Passes
+pub mod Shown
+pub mod Sizes
 pub mod Spelled
 pub mod Turned
 pub mod Ways

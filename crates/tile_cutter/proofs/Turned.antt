@@ -22,15 +22,15 @@ all_turned : (P : Pt → Type 0) (ps : List Pt) → All P ps → All P (turned p
 all_turned P [] all = all
 all_turned P (p ∷ ps) all = All-cons P p (reverse ps) (All-head P p ps all) (all_reverse_aux P ps [] (All-tail P p ps all) (All-nil P))
 
-length_turned : (ps : List Pt) → length (turned ps) ≡ length ps
+pub length_turned : (ps : List Pt) → length (turned ps) ≡ length ps
 length_turned [] = refl
 length_turned (p ∷ ps) = ap suc (length-reverse ps)
 
-turned_drawable : (column row : ℕ) (ps : List Pt) (b : Bool) → IsDrawable true column row ps → IsDrawable true column row (cond b (turned ps) ps)
+pub turned_drawable : (column row : ℕ) (ps : List Pt) (b : Bool) → IsDrawable true column row ps → IsDrawable true column row (cond b (turned ps) ps)
 turned_drawable column row ps true d = record { long = omega (arith, length_turned ps, d.long); few = omega (arith, length_turned ps, d.few); of_tile = all_turned (IsOfTile column row) ps d.of_tile }
 turned_drawable column row ps false d = d
 
-ring_long : (ps : List Pt) → is_ring ps ≡ true → 2 < length ps
+pub ring_long : (ps : List Pt) → is_ring ps ≡ true → 2 < length ps
 ring_long ps e = go (nat_le 3 (length ps)) refl e
   where
     go : (b : Bool) → nat_le 3 (length ps) ≡ b → (b && not (int_eq (twice_area ps) (pos 0))) ≡ true → 2 < length ps

@@ -1,12 +1,7 @@
 -- How far points stand from the origin.
 use Rattle.std.specs.Prelude.{ℕ, ℤ, pos, neg_ℤ, ◌*◌, ◌^◌, ◌<◌, ◌+ℤ◌, ◌≤ℤ◌, ◌<ℤ◌, Bool, List, length, All}
-use Rattle.edit_text.specs.declared.feature.World.{World}
 use Rattle.geometry_commands.specs.declared.point.Pt.{Pt}
 use Rattle.geometry_commands.specs.Shapes.{least}
-
--- a point of the world
-abbrev pub IsInWorld : World → Type 0
-IsInWorld p = (p.x < 2 ^ 32) × (p.y < 2 ^ 32)
 
 -- a number of so many bits and a sign
 pub record IsWithin (bits : ℕ) (u : ℤ) : Type 0 where

@@ -1,7 +1,7 @@
 ghost use Rattle.std.specs.Prelude.{◌≡◌, ◌<◌, ◌≤◌, ◌^◌};
 ghost use Rattle.tile_cutter.specs.Cut.{quantised_axis, quantised, placed};
 ghost use Rattle.tile_cutter.specs.Passes.{repeats};
-ghost use Rattle.tile_cutter.specs.Range.{IsInWorld};
+ghost use Rattle.edit_text.specs.Types.{IsOfWorld};
 
 use edit_text::World;
 use geometry_commands::Pt;
@@ -29,7 +29,7 @@ pub(crate) fn quantise(coordinate: u32, zoom: u8) -> u32
 pub(crate) fn place(point: World, at: TileAt) -> Pt
     requires { at.z ≤ 16 }
     ensures place { result ≡ placed at.x at.y (quantised at.z point) }
-    ensures in_world { IsInWorld point }
+    ensures in_world { IsOfWorld point }
 {
     let extent = i64::from(EXTENT);
     Pt {

@@ -5,7 +5,8 @@ ghost use Rattle.geometry_commands.specs.Shapes as shapes;
 ghost use Rattle.geometry_commands.specs.Shapes.{shape_view};
 ghost use Rattle.tile_cutter.specs.Cut.{tile_ring, cross, twice_area, turned, inner_rings, polygon_cut, polygons_cut, unless_empty};
 ghost use Rattle.tile_cutter.specs.Passes.{returns_to_start, wound, shown_ring, lists_of};
-ghost use Rattle.tile_cutter.specs.Range.{IsInWorld, IsWithin, IsSmall, IsDrawable};
+ghost use Rattle.edit_text.specs.Types.{IsOfWorld};
+ghost use Rattle.tile_cutter.specs.Range.{IsWithin, IsSmall, IsDrawable};
 
 use crate::bounds::ring_meets_box;
 use crate::place::{place, repeats};
@@ -37,7 +38,7 @@ fn returns_to_start(ring: &[Pt]) -> bool
 fn tile_ring(alloc: Global, points: &[World], at: TileAt) -> Result<Vec<Pt>, Memory>
     requires { at.z ≤ 16 }
     ensures ring { IfOk result (λ v. v.items ≡ tile_ring at.z at.x at.y points.now) }
-    ensures in_world { OnOk result (All IsInWorld points.now) }
+    ensures in_world { OnOk result (All IsOfWorld points.now) }
 {
     let mut ring = Vec::new(alloc);
     let mut before = None;

@@ -1,5 +1,5 @@
 -- The route that a path matches is one of the rows.
-use Rattle.std.proofs.Common.{◌≡◌, ℕ, zero, suc, ◌-◌, List, [], ◌∷◌, Bool, true, false, cond, Option, Some, None, length, refl, sym, ap, subst, ◌∙◌}
+use Rattle.std.proofs.Common.{ℕ, zero, suc, ◌-◌, List, [], ◌∷◌, Bool, true, false, cond, Option, Some, None, length}
 use Rattle.std.specs.Prelude.{ltb, ◌==◌}
 use Rattle.matchit.specs.Rows.{RowsOf, param_token, catch_all_token}
 use Rattle.matchit.specs.Seek.{own, step, or_else, with_suffix, longest_suffix, segment, same_text, has_slash, param_step, seek}
@@ -33,7 +33,8 @@ module _ {K : Type 0} (P : K → Type 0) where
   suffix-key : (suffix : List ℕ) (rs : RowsOf K) → EachKey rs → EachKey (with_suffix suffix rs)
   suffix-key suffix [] each = tt
   suffix-key suffix ((t, key) ∷ rest) each =
-      more-key (same_text (segment t) suffix) t key (with_suffix suffix rest) (with_suffix suffix rest) each.0 (suffix-key suffix rest each.1) (suffix-key suffix rest each.1)
+      more-key (same_text (segment t) suffix) t key (with_suffix suffix rest) (with_suffix suffix rest) each.0
+      (suffix-key suffix rest each.1) (suffix-key suffix rest each.1)
 
   either-key : (b : Bool) (p q : ℕ × RowsOf K) → EachKey p.1 → EachKey q.1 → EachKey (cond b p q).1
   either-key true p q left right = left

@@ -1,5 +1,6 @@
 -- What a path asks for: the route that the router finds, and the numbers in its place.
-use Rattle.std.specs.Prelude.{ℕ, ◌<◌, ◌-◌, ◌^◌, ◌&&◌, Bool, true, false, nat_lt, nat_le, List, [], ◌∷◌, length, take, drop, codes, Option, Some, None, Result, Ok, Err, if◌then◌else◌, nat_eq}
+use Rattle.std.specs.Prelude.{ℕ, ◌-◌, ◌^◌, ◌&&◌, Bool, nat_lt, nat_le, List, [], length, take, drop, codes, Option, Some, None, Result, Ok, Err}
+use Rattle.std.specs.Prelude.{if◌then◌else◌, nat_eq}
 use Rattle.std.specs.Cmp.Lexicographic.{pointwise}
 use Rattle.std.specs.List.{list_all}
 use Rattle.std.specs.Char.{is_ascii}
@@ -10,23 +11,23 @@ use Rattle.matchit.specs.Router.{RouteOf, route_from}
 use Rattle.matchit.specs.Params.{walk, named}
 use Rattle.matchit.specs.Seek.{first}
 use Rattle.matchit.specs.declared.error.InsertError.{InsertError}
-use Rattle.tile_routes.specs.declared.routes.Place.{Place}
-use Rattle.tile_routes.specs.declared.routes.Place.TheVariants as places
+use Rattle.tile_routes.specs.declared.routes.Route.{Route}
+use Rattle.tile_routes.specs.declared.routes.Route.TheVariants as routes
 use Rattle.tile_routes.specs.declared.target.TileFormat.{TileFormat}
 use Rattle.tile_routes.specs.declared.target.TileFormat.TheVariants.{Mvt, Hex}
 use Rattle.tile_routes.specs.Number.{number_of}
 
 -- the rows with a route's text in its place
-abbrev pub with_scan : Result Scan InsertError → Place → RowsOf (RouteOf Place) → RowsOf (RouteOf Place)
-with_scan (Ok scan) place rows = placed ((route_from scan place).pattern, route_from scan place) rows
-with_scan (Err error) place rows = rows
+abbrev pub with_scan : Result Scan InsertError → Route → RowsOf (RouteOf Route) → RowsOf (RouteOf Route)
+with_scan (Ok scan) route rows = placed ((route_from scan route).pattern, route_from scan route) rows
+with_scan (Err error) route rows = rows
 
-abbrev pub with_route : List ℕ → Place → RowsOf (RouteOf Place) → RowsOf (RouteOf Place)
-with_route text place rows = with_scan (parse_route text) place rows
+abbrev pub with_route : List ℕ → Route → RowsOf (RouteOf Route) → RowsOf (RouteOf Route)
+with_route text route rows = with_scan (parse_route text) route rows
 
 -- the paths that are served, as the router keeps them
-unfoldable pub place_rows : RowsOf (RouteOf Place)
-place_rows = with_route (codes "/map/{z}/{x}/{y}") places.Tile (with_route (codes "/features/{id}") places.Feature [])
+unfoldable pub served_rows : RowsOf (RouteOf Route)
+served_rows = with_route (codes "/map/{z}/{x}/{y}") routes.Tile (with_route (codes "/features/{id}") routes.Feature [])
 
 -- what a path asks for
 pub data Asked : Type 0 where
@@ -74,15 +75,16 @@ part_named name parts = text_or_nothing (named name parts)
     text_or_nothing None = []
     text_or_nothing (Some text) = text
 
-abbrev pub place_asked : Place → List (List ℕ × List ℕ) → Asked
-place_asked places.Feature parts = feature_asked (number_of (part_named (codes "id") parts))
-place_asked places.Tile parts =
+-- what the parts of a path on a route ask for
+abbrev pub asked_on : Route → List (List ℕ × List ℕ) → Asked
+asked_on routes.Feature parts = feature_asked (number_of (part_named (codes "id") parts))
+asked_on routes.Tile parts =
     named_tile (number_of (part_named (codes "z") parts)) (number_of (part_named (codes "x") parts)) (row_and_format (part_named (codes "y") parts))
 
-abbrev pub route_asked : Option (RouteOf Place) → List ℕ → Asked
-route_asked None path = asked_nothing
-route_asked (Some route) path = place_asked route.value (walk route.pattern route.text path route.names 0 0)
+abbrev pub asked_at : Option (RouteOf Route) → List ℕ → Asked
+asked_at None path = asked_nothing
+asked_at (Some route) path = asked_on route.value (walk route.pattern route.text path route.names 0 0)
 
 -- what a path asks for; paths are ASCII
 unfoldable pub asked_by : List ℕ → Asked
-asked_by path = if list_all is_ascii path then route_asked (first place_rows path) path else asked_nothing
+asked_by path = if list_all is_ascii path then asked_at (first served_rows path) path else asked_nothing

@@ -5,7 +5,7 @@ mod number;
 mod routes;
 mod target;
 
-pub use routes::{Place, Routes};
+pub use routes::{Route, Routes};
 pub use target::{Target, TileFormat};
 
 #[cfg(test)]

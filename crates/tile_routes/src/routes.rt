@@ -4,34 +4,36 @@ ghost use Rattle.std.specs.Char.{is_ascii};
 ghost use Rattle.matchit.specs.Seek.{first};
 ghost use Rattle.matchit.specs.Params.{AllText};
 ghost use Rattle.tile_routes.specs.Kept.{rows-prop};
-ghost use Rattle.tile_routes.specs.Paths.{place_rows, place_asked, part_named, route_asked, asked_by};
+ghost use Rattle.tile_routes.specs.Paths.{served_rows, asked_on, part_named, asked_at, asked_by};
 ghost use Rattle.tile_routes.specs.Targets.{asked_of, IsInRange, parts_of};
 
 use crate::target::{Target, feature_target, tile_target};
 use matchit::{InsertError, Params, Router};
 use std::alloc::{AllocError, Global};
 
-/// What the paths of a route are for.
+/// The routes that are served.
 #[derive(Clone, Copy, Debug, PartialEq, Eq)]
-pub enum Place {
+pub enum Route {
+    /// A feature of the map.
     Feature,
+    /// A tile of it.
     Tile,
 }
 
 /// The paths that are served.
 #[derive(Drop)]
 pub struct Routes {
-    router: Router<Place>,
-    ghost rows: { router ≡ place_rows } by { rows-prop router },
+    router: Router<Route>,
+    ghost rows: { router ≡ served_rows } by { rows-prop router },
 }
 
 /// The router of the paths.
-fn places(alloc: Global) -> Result<Router<Place>, InsertError>
-    ensures { IfOk result (λ router. router ≡ place_rows) }
+fn served(alloc: Global) -> Result<Router<Route>, InsertError>
+    ensures { IfOk result (λ router. router ≡ served_rows) }
 {
     let mut router = Router::new(alloc);
-    router.insert("/features/{id}", Place::Feature)?;
-    router.insert("/map/{z}/{x}/{y}", Place::Tile)?;
+    router.insert("/features/{id}", Route::Feature)?;
+    router.insert("/map/{z}/{x}/{y}", Route::Tile)?;
     Ok(router)
 }
 
@@ -66,22 +68,22 @@ fn part<'p>(params: &Params<'_, 'p>, name: &str) -> &'p [u8]
     }
 }
 
-/// What the parts of a path of this place ask for.
-fn place_target(place: Place, params: &Params<'_, '_>) -> Target
+/// What the parts of a path on this route ask for.
+fn route_target(route: Route, params: &Params<'_, '_>) -> Target
     requires { AllText (parts_of params.now) }
-    ensures asked { asked_of result ≡ place_asked place (parts_of params.now) }
+    ensures asked { asked_of result ≡ asked_on route (parts_of params.now) }
     ensures range { IsInRange result }
 {
-    match place {
-        Place::Feature => feature_target(part(params, "id")),
-        Place::Tile => tile_target(part(params, "z"), part(params, "x"), part(params, "y")),
+    match route {
+        Route::Feature => feature_target(part(params, "id")),
+        Route::Tile => tile_target(part(params, "z"), part(params, "x"), part(params, "y")),
     }
 }
 
 impl Routes {
     /// The router, which is made once and then asked for each request.
     pub fn new(alloc: Global) -> Result<Routes, AllocError> {
-        match places(alloc) {
+        match served(alloc) {
             Ok(router) => Ok(Routes { router }),
             Err(_) => Err(AllocError),
         }
@@ -90,11 +92,11 @@ impl Routes {
     /// What an ASCII path asks for.
     fn found(&self, path: &str) -> Target
         requires { list_all is_ascii path.now ≡ true }
-        ensures asked { asked_of result ≡ route_asked (first place_rows path.now) path.now }
+        ensures asked { asked_of result ≡ asked_at (first served_rows path.now) path.now }
         ensures range { IsInRange result }
     {
         match self.router.at(path) {
-            Ok(found) => place_target(*found.value, &found.params),
+            Ok(found) => route_target(*found.value, &found.params),
             Err(_) => Target::Nothing,
         }
     }

@@ -1,10 +1,11 @@
-use Rattle.std.proofs.Common.{Err, refl, ap}
-use Rattle.archive_commands.proofs.Judged.{only_at_opening, only_at_judging, fault_at_opening, fault_at_judging}
+use Rattle.std.proofs.Common.{refl}
+use Rattle.pm_archive.specs.declared.fault.ArchiveFault.TheVariants.{Memory}
+use Rattle.archive_commands.proofs.Judged.{same_fault, only_at_opening, only_at_judging, fault_at_opening, fault_at_judging}
 use Rattle.archive_commands.proofs.verifying.verify.Goals as goal
 
 pub returns-in-Err-clause-only : goal.returns-in-Err-clause-only
 returns-in-Err-clause-only c = let bytes = c.args.archive.now in
-    only_at_opening bytes c.in-Err.fault (λ h root. c.in-Err.ensures.only bytes h root refl) (λ e. c.in-Err.ensures.read (ap Err e))
+    only_at_opening bytes c.in-Err.fault (λ h root. c.in-Err.ensures.only bytes h root refl) c.in-Err.ensures.read
 
 pub returns-in-Err-clause-fault : goal.returns-in-Err-clause-fault
 returns-in-Err-clause-fault c = let bytes = c.args.archive.now in fault_at_opening bytes c.in-Err.fault (c.in-Err.ensures.fault bytes refl)
@@ -16,3 +17,6 @@ returns-clause-only c report sound = let bytes = c.args.archive.now in
 pub returns-clause-fault : goal.returns-clause-fault
 returns-clause-fault c = let bytes = c.args.archive.now in let found = c.in-Ok.ensures.found bytes refl in
     fault_at_judging bytes c.in-Ok.archive.header c.in-Ok.archive.root found.0 found.1 c.verify.result (c.verify.ensures.fault bytes (c.in-Ok.ensures.source.same_bytes bytes refl))
+
+pub returns-in-Err-clause-memory : goal.returns-in-Err-clause-memory
+returns-in-Err-clause-memory c e = c.in-Err.ensures.memory c.args.archive.now refl (same_fault c.in-Err.fault Memory e)

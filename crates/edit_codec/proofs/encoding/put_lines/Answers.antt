@@ -1,14 +1,14 @@
 use Rattle.std.proofs.Common.{All}
 use Rattle.edit_text.specs.Spelled.{spelled_line}
-use Rattle.edit_codec.specs.Edits.{PointFitsTypes}
+use Rattle.edit_text.specs.Types.{IsOfWorld}
 use Rattle.edit_codec.proofs.Texts.{IsPut-more, text_all, types_all}
 use Rattle.edit_codec.proofs.encoding.put_lines.Goals as goal
 
 pub loop-line-preserved : goal.loop-line-preserved
-loop-line-preserved c = IsPut-more spelled_line (All PointFitsTypes) (λ l. l.items) c.args.lines.now c.loop-line.line-index c.line-item.result _ _ _ _ c.loop-line-test.true c.loop-line.invariant (cc) c.in_ok-put_line.ensures.text c.in_ok-put_line.ensures.types
+loop-line-preserved c = IsPut-more spelled_line (All IsOfWorld) (λ l. l.items) c.args.lines.now c.loop-line.line-index c.line-item.result _ _ _ _ c.loop-line-test.true c.loop-line.invariant (cc) c.in_ok-put_line.ensures.text c.in_ok-put_line.ensures.types
 
 pub returns-clause-text : goal.returns-clause-text
-returns-clause-text c = text_all spelled_line (All PointFitsTypes) (λ l. l.items) c.args.lines.now c.loop-line.line-index _ _ _ c.loop-line-test.false c.in_ok-put_count.ensures c.loop-line.invariant
+returns-clause-text c = text_all spelled_line (All IsOfWorld) (λ l. l.items) c.args.lines.now c.loop-line.line-index _ _ _ c.loop-line-test.false c.in_ok-put_count.ensures c.loop-line.invariant
 
 pub returns-clause-types : goal.returns-clause-types
-returns-clause-types c = types_all spelled_line (All PointFitsTypes) (λ l. l.items) c.args.lines.now c.loop-line.line-index _ _ c.loop-line-test.false c.loop-line.invariant
+returns-clause-types c = types_all spelled_line (All IsOfWorld) (λ l. l.items) c.args.lines.now c.loop-line.line-index _ _ c.loop-line-test.false c.loop-line.invariant

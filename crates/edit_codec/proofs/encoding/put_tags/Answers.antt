@@ -3,7 +3,7 @@ use Rattle.edit_text.specs.Data.{tag_data}
 use Rattle.edit_text.specs.Limits.{IsName, ValueFits}
 use Rattle.edit_text.specs.Spelled.{spelled_tag}
 use Rattle.edit_text.proofs.Mapped.{All-from_map, read_from_map}
-use Rattle.edit_codec.specs.Edits.{TagFitsTypes}
+use Rattle.edit_text.specs.Types.{TagFitsTypes}
 use Rattle.edit_codec.proofs.Texts.{IsPut-more, tags_all, types_all}
 use Rattle.edit_codec.proofs.encoding.put_tags.Goals as goal
 

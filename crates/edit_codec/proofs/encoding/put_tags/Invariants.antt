@@ -1,6 +1,6 @@
 use Rattle.edit_text.specs.Data.{tag_data}
 use Rattle.edit_text.specs.Spelled.{spelled_tag}
-use Rattle.edit_codec.specs.Edits.{TagFitsTypes}
+use Rattle.edit_text.specs.Types.{TagFitsTypes}
 use Rattle.edit_codec.proofs.Texts.{IsPut}
 use Rattle.edit_codec.proofs.encoding.put_tags.Given as goal
 

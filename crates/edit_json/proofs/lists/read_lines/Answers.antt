@@ -1,13 +1,13 @@
-use Rattle.std.proofs.Common.{refl, sym, ◌∙◌, inr, map, arith}
+use Rattle.std.proofs.Common.{sym, ◌∙◌, inr, map, arith}
 use Rattle.edit_json.specs.Lists.{points_at}
 use Rattle.edit_json.proofs.ListLemmas.{list_of-refused, list_of-counted, rest_gives-end}
 use Rattle.edit_json.proofs.lists.read_lines.Goals as goal
 
-pub returns-then-not-count_fits : goal.returns-then-not-count_fits
-returns-then-not-count_fits c = inr (refl, list_of-refused (points_at c.args.least) 1 c.args.list.now (sym c.if-not-count_fits.ensures))
+pub returns-in-Err : goal.returns-in-Err
+returns-in-Err c = inr (c.in-Err.ensures.fault.0, list_of-refused (points_at c.args.least) 1 c.args.list.now c.in-Err.ensures.fault.1)
 
 pub returns : goal.returns
 returns c =
-    list_of-counted (points_at c.args.least) 1 c.args.list.now (sym c.if-not-count_fits.ensures)
+    list_of-counted (points_at c.args.least) 1 c.args.list.now c.in_default.ensures.ok
     ∙ sym c.loop-value.invariant
     ∙ rest_gives-end (points_at c.args.least) (map (λ l. l.items) c.loop-value.lines.items) c.args.list.now c.loop-value.value-index (omega arith)

@@ -1,11 +1,10 @@
-use Rattle.std.proofs.Common.{◌<◌, ℕ, List, [], refl, sym, subst, arith, length, length-append, take}
-use Rattle.std.proofs.lemmas.List.{append-nil}
+use Rattle.std.proofs.Common.{◌<◌, ℕ, List, refl, sym, subst, arith, length, length-append, take}
 use Rattle.std.specs.Io.KnownBytes.{Appends}
 use Rattle.http_serve.specs.declared.frames.Next.TheVariants.{Whole, Refused, More}
 use Rattle.http_serve.specs.Frame.{IsNext}
-use Rattle.http_serve.specs.Message.{asked, refused, IsRefused}
+use Rattle.http_serve.specs.Message.{asked, refused}
 use Rattle.http_serve.specs.Question.{question_at}
-use Rattle.http_serve.specs.Reply.{ReplyView, refusal_bytes, reply_bytes}
+use Rattle.http_serve.specs.Reply.{ReplyView, refusal_bytes, reply_at}
 use Rattle.http_serve.specs.Served.{Anything, Carries}
 use Rattle.http_serve.proofs.HeadLemmas.{missing_now}
 use Rattle.http_serve.proofs.CarryLemmas.{Ends_push, Breaks_refused, Frame_push, Frame_ends, Frame_breaks}
@@ -17,17 +16,17 @@ returns-in-More-clause-ok g c =
     let missing = c.in-More.missing in
     let found = subst (λ (t : List ℕ). IsNext t (More missing)) c.waiting.ensures c.in-More.ensures.next in
     let told = missing_now input missing.refusal missing.until found in
-    (c.requests.invariant.carries, told.0, told.1)
+    (c.requests.invariant.carries, told.0, told.1, told.2)
 
 pub returns-in-Ok-clause-ok : goal.returns-in-Ok-clause-ok
 returns-in-Ok-clause-ok g c =
     let input = c.requests.session.input.waiting in
     let refusal = c.in-Refused.refusal in
     let found = subst (λ (t : List ℕ). IsNext t (Refused refusal)) c.waiting.ensures c.in-Refused.ensures.next in (
-      refused refusal,
-      Ends_push g.H.Handler.replies _ _ _ c.args.requests _ input _ c.requests.requests Anything (refused refusal) (refusal_bytes refusal) _ _
+      refused found.0 refusal,
+      Ends_push g.H.Handler.replies _ _ _ c.args.requests _ input _ c.requests.requests Anything (refused found.0 refusal) (refusal_bytes found.0 refusal) _ _
           c.saturating_add.result c.requests.invariant.carries
-          (λ more _. (omega (arith, found.0, length-append input more), found.1 more)) (refl, refl) c.in-Ok.ensures.sent c.saturating_add.ensures,
+          (λ more _. (omega (arith, found.1, length-append input more), found.2 more)) (refl, refl) (c.in-Ok.ensures.sent found.0) c.saturating_add.ensures,
       refl,
       λ e. cc,
     )
@@ -37,16 +36,21 @@ returns-in-Err-clause-err g c =
     let input = c.requests.session.input.waiting in
     let refusal = c.in-Refused.refusal in
     let found = subst (λ (t : List ℕ). IsNext t (Refused refusal)) c.waiting.ensures c.in-Refused.ensures.next in
-    let sent = c.in-Err.ensures.sent in
-    Breaks_refused g.H.Handler.replies _ _ _ c.args.requests _ input _ c.requests.requests refusal sent.0 _ c.requests.invariant.carries found.0
-    (subst (λ (t : List ℕ). IsRefused t refusal) (append-nil input) (found.1 [])) sent.1 sent.2
+    let sent = c.in-Err.ensures.sent found.0 in
+    Breaks_refused g.H.Handler.replies _ _ _ c.args.requests _ input _ c.requests.requests Anything found.0 refusal sent.0 _
+    c.requests.invariant.carries found.1
+    (λ more _. found.2 more) sent.1 sent.2
 
 pub returns-in-Err-answer_one-clause-err : goal.returns-in-Err-answer_one-clause-err
 returns-in-Err-answer_one-clause-err g c =
     let frame = c.in-Whole.frame in
     let input = c.requests.session.input.waiting in
     let found = subst (λ (t : List ℕ). IsNext t (Whole frame)) c.waiting.ensures c.in-Whole.ensures.next in
-    let told = subst (λ (t : List ℕ). (reply : ReplyView) × g.H.Handler.replies c.requests.handler (question_at t frame) reply c.answer_one.new.handler × ((n : ℕ) × (n < length (reply_bytes frame.close reply)) × Appends (g.W.Write.contents c.requests.writer) (g.W.Write.contents c.answer_one.new.writer) (take n (reply_bytes frame.close reply)))) c.waiting-waiting.ensures c.in-Err-answer_one.ensures.reply in
+    let told = subst (λ (t : List ℕ). (reply : ReplyView)
+    × g.H.Handler.replies c.requests.handler (question_at t frame) reply c.answer_one.new.handler
+    × ((n : ℕ) × (n < length (reply_at t frame reply))
+    × Appends (g.W.Write.contents c.requests.writer) (g.W.Write.contents c.answer_one.new.writer) (take n (reply_at t frame reply))))
+    c.waiting-waiting.ensures c.in-Err-answer_one.ensures.reply in
     Frame_breaks g.H.Handler.replies _ _ _ c.args.requests _ input _ c.requests.requests frame found.0 told.0 _ _ c.requests.invariant.carries found.1 told.1
     told.2.0 told.2.1 told.2.2
 
@@ -55,10 +59,13 @@ returns-then-frame-clause-ok g c =
     let frame = c.in-Whole.frame in
     let input = c.requests.session.input.waiting in
     let found = subst (λ (t : List ℕ). IsNext t (Whole frame)) c.waiting.ensures c.in-Whole.ensures.next in
-    let told = subst (λ (t : List ℕ). (reply : ReplyView) × g.H.Handler.replies c.requests.handler (question_at t frame) reply c.answer_one.new.handler × Appends (g.W.Write.contents c.requests.writer) (g.W.Write.contents c.answer_one.new.writer) (reply_bytes frame.close reply)) c.waiting-waiting.ensures c.in-Ok-answer_one.ensures.reply in (
+    let told = subst (λ (t : List ℕ). (reply : ReplyView)
+    × g.H.Handler.replies c.requests.handler (question_at t frame) reply c.answer_one.new.handler
+    × Appends (g.W.Write.contents c.requests.writer) (g.W.Write.contents c.answer_one.new.writer) (reply_at t frame reply))
+    c.waiting-waiting.ensures c.in-Ok-answer_one.ensures.reply in (
       asked found.0,
-      Frame_ends g.H.Handler.replies _ _ _ c.args.requests _ input _ c.requests.requests frame found.0 told.0 _ _ c.requests.invariant.carries found.1 told.1
-          c.saturating_add-requests.result c.if-frame.true told.2 c.saturating_add-requests.ensures,
+      Frame_ends g.H.Handler.replies _ _ _ c.args.requests _ input _ c.requests.requests frame found.0 told.0 _ _
+          c.requests.invariant.carries found.1 told.1 c.saturating_add-requests.result c.if-frame.true told.2 c.saturating_add-requests.ensures,
       refl,
       λ e. cc,
     )
@@ -68,13 +75,17 @@ requests-preserved g c =
     let frame = c.in-Whole.frame in
     let input = c.requests.session.input.waiting in
     let found = subst (λ (t : List ℕ). IsNext t (Whole frame)) c.waiting.ensures c.in-Whole.ensures.next in
-    let told = subst (λ (t : List ℕ). (reply : ReplyView) × g.H.Handler.replies c.requests.handler (question_at t frame) reply c.answer_one.new.handler × Appends (g.W.Write.contents c.requests.writer) (g.W.Write.contents c.answer_one.new.writer) (reply_bytes frame.close reply)) c.waiting-waiting.ensures c.in-Ok-answer_one.ensures.reply in
+    let told = subst (λ (t : List ℕ). (reply : ReplyView)
+    × g.H.Handler.replies c.requests.handler (question_at t frame) reply c.answer_one.new.handler
+    × Appends (g.W.Write.contents c.requests.writer) (g.W.Write.contents c.answer_one.new.writer) (reply_at t frame reply))
+    c.waiting-waiting.ensures c.in-Ok-answer_one.ensures.reply in
     record {
       room = c.in-Ok-answer_one.ensures.room;
       known = (omega arith, refl);
       carries =
-          subst (λ (t : List ℕ). Carries g.H.Handler.replies c.args.handler.now c.args.session.now.input.waiting (g.W.Write.contents c.args.writer.now) c.args.requests c.answer_one.new.handler t (g.W.Write.contents c.answer_one.new.writer) c.saturating_add-requests.result)
+          subst (λ (t : List ℕ). Carries g.H.Handler.replies c.args.handler.now c.args.session.now.input.waiting (g.W.Write.contents c.args.writer.now)
+          c.args.requests c.answer_one.new.handler t (g.W.Write.contents c.answer_one.new.writer) c.saturating_add-requests.result)
           (sym c.drop_front.ensures)
-          (Frame_push g.H.Handler.replies _ _ _ c.args.requests _ input _ c.requests.requests frame found.0 told.0 _ _ c.requests.invariant.carries found.1 told.1
-          c.saturating_add-requests.result c.if-frame.false told.2 c.saturating_add-requests.ensures);
+          (Frame_push g.H.Handler.replies _ _ _ c.args.requests _ input _ c.requests.requests frame found.0 told.0 _ _
+          c.requests.invariant.carries found.1 told.1 c.saturating_add-requests.result c.if-frame.false told.2 c.saturating_add-requests.ensures);
     }

@@ -1,14 +1,17 @@
-use Rattle.std.proofs.Common.{arith, refl, sym, subst, List, ℕ}
+use Rattle.std.proofs.Common.{arith, refl, sym, subst, List, ℕ, ◌+◌, ◌*◌}
+use Rattle.http_serve.specs.Input.{buffer_size}
 use Rattle.http_serve.specs.Search.{IsKnown}
 use Rattle.http_serve.proofs.LineLemmas.{IsKnown-append}
-use Rattle.http_serve.proofs.ServeLemmas.{SoFar_start, SoFar_stops, SoFar_failed_read, SoFar_goes, SoFar_told, SoFar_broken, SoFar_done, SoFar_failed, if_ok, if_err, turns_start, turns_more, turns_over, other_turns, finished_turns}
+use Rattle.http_serve.proofs.ServeLemmas.{SoFar_start, SoFar_stops, SoFar_failed_read, SoFar_goes, SoFar_told, SoFar_broken, SoFar_done, SoFar_failed, if_ok}
+use Rattle.http_serve.proofs.ServeLemmas.{if_err, least_start, least_more, least_over, most_start, most_more, other_turns, finished_turns, finished_reads}
 use Rattle.http_serve.proofs.connection.serve_turns.Goals as goal
 
 pub loop-turn-init : goal.loop-turn-init
 loop-turn-init g c = record {
   room = omega (arith, c.in-Ok-with_capacity.ensures.exact);
   known = (omega arith, refl);
-  taken = turns_start (g.R.Read.remaining c.args.reader.now);
+  least = least_start (g.R.Read.remaining c.args.reader.now);
+  most = most_start (g.R.Read.remaining c.args.reader.now) _;
   so_far = SoFar_start g.H.Handler.replies _ _ _ c.in-Ok.input.waiting c.in-Ok.ensures;
 }
 
@@ -39,12 +42,16 @@ loop-turn-preserved g c =
     record {
       room = c.in-Ok-More.ensures.room;
       known = c.in-Ok-More.ensures.known;
-      taken =
-          turns_more (g.R.Read.remaining c.args.reader.now) _ _ c.loop-turn._turn c.in-Ok-read_from.count came.0 c.loop-turn.invariant.taken
+      least =
+          least_more (g.R.Read.remaining c.args.reader.now) _ _ c.loop-turn._turn c.in-Ok-read_from.count came.0 c.loop-turn.invariant.least
           came.1 came.3 c.if-count-eq0.false;
+      most =
+          let few = c.in-Ok-read_from.ensures.few in
+          most_more (g.R.Read.remaining c.args.reader.now) _ _ (c.loop-turn._turn * buffer_size) ((c.loop-turn._turn + 1) * buffer_size)
+          c.in-Ok-read_from.count came.0 c.loop-turn.invariant.most came.1 came.3 (omega arith);
       so_far =
           SoFar_goes g.H.Handler.replies _ _ _ _ _ _ c.loop-turn.requests _ _ c.loop-turn.invariant.so_far came.0 _ came.1 _ _ _ came.2
-          _ c.in-Ok-More.answered c.in-Ok-More.refusal pause.0 pause.1 pause.2;
+          _ c.in-Ok-More.answered pause.2 c.in-Ok-More.refusal pause.0 pause.1 pause.3;
     }
 
 pub returns-then-count-eq0-clause-served : goal.returns-then-count-eq0-clause-served
@@ -52,28 +59,39 @@ returns-then-count-eq0-clause-served g c =
     let came = c.in-Ok-read_from.ensures.ok in
     if_ok c.finish.result _ _
     (SoFar_done g.H.Handler.replies _ _ _ _ _ _ c.loop-turn.requests _ _ c.loop-turn.invariant.so_far _ came.0 _ _ _ came.1 came.2 came.3
-    c.if-count-eq0.true came.4) c.finish.ensures.ends
+    c.if-count-eq0.true came.4) (c.finish.ensures.ends c.loop-turn.invariant.so_far.head)
 
 pub returns-then-count-eq0-clause-fault : goal.returns-then-count-eq0-clause-fault
 returns-then-count-eq0-clause-fault g c =
     let came = c.in-Ok-read_from.ensures.ok in
     if_err c.finish.result _ _
     (SoFar_failed g.H.Handler.replies _ _ _ _ _ _ c.loop-turn.requests _ _ c.loop-turn.invariant.so_far _ came.0 _ _ _ came.1 came.2 came.3
-    c.if-count-eq0.true) c.finish.ensures.fault
+    c.if-count-eq0.true came.4) (c.finish.ensures.fault c.loop-turn.invariant.so_far.head)
 
 pub returns-then-count-eq0-clause-turns : goal.returns-then-count-eq0-clause-turns
 returns-then-count-eq0-clause-turns g c =
-    if_ok c.finish.result _ _ (λ served. finished_turns _ c.args.turns _ _ _ _ served _) c.finish.ensures.ends
+    if_ok c.finish.result _ _ (λ served. finished_turns c.args.turns _ _ _ _ _ _ _ served _)
+    (c.finish.ensures.ends c.loop-turn.invariant.so_far.head)
 
 pub returns-clause-turns : goal.returns-clause-turns
-returns-clause-turns g c = turns_over _ _ c.loop-turn._turn c.args.turns c.loop-turn.invariant.taken c.loop-turn-test.false _
+returns-clause-turns g c = least_over _ _ c.loop-turn._turn c.args.turns c.loop-turn.invariant.least c.loop-turn-test.false
 
 pub returns-in-Ok-Ended-clause-turns : goal.returns-in-Ok-Ended-clause-turns
 returns-in-Ok-Ended-clause-turns g c =
     let pause = rw c.in-Ok-Ended.field-0-is at c.in-Ok-Ended.ensures.ok in
-    other_turns _ c.args.turns c.in-Ok-Ended.served.end pause.3
+    other_turns c.args.turns _ _ c.in-Ok-Ended.served.end pause.3
 
 pub answer_whole-requires-clause-known : goal.answer_whole-requires-clause-known
 answer_whole-requires-clause-known g c =
     let came = c.in-Ok-read_from.ensures.ok in
     subst (λ (t : List ℕ). IsKnown t c.loop-turn.session.search) (sym came.2) (IsKnown-append _ came.0 c.loop-turn.session.search c.loop-turn.invariant.known)
+
+pub returns-then-count-eq0-clause-reads : goal.returns-then-count-eq0-clause-reads
+returns-then-count-eq0-clause-reads g c =
+    let came = c.in-Ok-read_from.ensures.ok in
+    let few = c.in-Ok-read_from.ensures.few in
+    let below = c.loop-turn-test.true in
+    finished_reads c.args.turns _ _ _ _ _ _ _ c.finish.result _
+    (most_more (g.R.Read.remaining c.args.reader.now) _ _ (c.loop-turn._turn * buffer_size) (c.args.turns * buffer_size)
+    c.in-Ok-read_from.count came.0 c.loop-turn.invariant.most came.1 came.3 (omega arith))
+    (c.finish.ensures.fault c.loop-turn.invariant.so_far.head)

@@ -17,5 +17,6 @@ loop-at-preserved g c =
       written =
           let P : List ℕ → Type 0 = λ t. Appends (g.W.Write.contents c.args.writer.now) (g.W.Write.contents c.write.new.self) t in
           let went = c.in-Ok.ensures.bytes in
-          subst P (ap (λ (t : List ℕ). take at bytes ++ take c.in-Ok.count t) all ∙ sym (take-add at c.in-Ok.count bytes)) (Appends-then _ _ _ (take at bytes) _ c.loop-at.invariant.written went);
+          subst P (ap (λ (t : List ℕ). take at bytes ++ take c.in-Ok.count t) all ∙ sym (take-add at c.in-Ok.count bytes))
+          (Appends-then _ _ _ (take at bytes) _ c.loop-at.invariant.written went);
     }

@@ -11,7 +11,7 @@ push_each-returns-in-Err-clause-listed g t c = λ bytes held.
 
 pub push_each-loop-i-preserved : goal.push_each-loop-i-preserved
 push_each-loop-i-preserved g t c = record {
-  source = keeps_on c.loop-i.invariant.source c.in-Ok.ensures.source;
+  source = keeps_on g.met.B.Bytes.unchanged_on c.loop-i.invariant.source c.in-Ok.ensures.source;
   listed = λ bytes held. c.loop-i.invariant.listed bytes held
       ∙ each_on (lists_at bytes c.args.header.now c.args.more) c.args.bound c.args.entries.now c.loop-i.i _ c.loop-i.tiles.items c.bound_behind-bound.result _ c.loop-i-test.true c.bound_behind-bound.ensures (c.in-Ok.ensures.listed bytes (c.loop-i.invariant.source.same_bytes bytes held));
 }

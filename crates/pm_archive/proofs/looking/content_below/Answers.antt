@@ -2,7 +2,7 @@ use Rattle.std.proofs.Common.{Err, option_map}
 use Rattle.pm_archive.specs.Entries.{ids_end, most_leaves, entry_of}
 use Rattle.pm_archive.specs.Archive.{content_of}
 use Rattle.pm_archive.specs.Looked.{reached_at, content_at}
-use Rattle.pm_archive.proofs.LookedSteps.{answer_found}
+use Rattle.pm_archive.proofs.LookedSteps.{answer_found, looked_on, looked_fault}
 use Rattle.pm_archive.proofs.LookedLaws.{looked_up, content_found}
 use Rattle.pm_archive.proofs.looking.content_below.Goals as goal
 
@@ -17,3 +17,13 @@ returns-in-Err-clause-content g c bytes tiles holds lists =
     let h = c.args.header.now in
     let reaches = looked_up bytes h c.args.id most_leaves ids_end c.args.root.now tiles c.leading.result (c.leading.ensures, c.requires.ascending, lists) in
     answer_found (λ e. e) (Err c.in-Err.fault) (reached_at bytes h c.args.id most_leaves c.leading.result) (entry_of tiles c.args.id) reaches (c.in-Err.ensures.first bytes holds)
+
+pub returns-in-Ok-clause-first : goal.returns-in-Ok-clause-first
+returns-in-Ok-clause-first g c bytes holds =
+    looked_on bytes c.args.header.now c.args.id c.args.root.now c.leading.result c.leading.ensures (option_map (λ v. v.items)) c.content_in.result
+    c.in-Ok.entry (c.in-Ok.ensures.first bytes holds)
+    (c.content_in.ensures.first bytes (c.in-Ok.ensures.source.same_bytes bytes holds))
+
+pub returns-in-Err-clause-first : goal.returns-in-Err-clause-first
+returns-in-Err-clause-first g c bytes holds =
+    looked_fault bytes c.args.header.now c.args.id c.args.root.now c.leading.result c.leading.ensures c.in-Err.fault (c.in-Err.ensures.first bytes holds)

@@ -4,7 +4,7 @@ use Rattle.std.proofs.lemmas.List.Elements.{All-more}
 use Rattle.geometry_commands.specs.declared.point.Pt.{Pt}
 use Rattle.tile_cutter.specs.Passes.{lists_of}
 use Rattle.std.specs.Prelude.{All}
-use Rattle.tile_cutter.specs.Range.{IsInWorld}
+use Rattle.edit_text.specs.Types.{IsOfWorld}
 use Rattle.tile_cutter.proofs.Drawn.{line_drawable}
 use Rattle.tile_cutter.proofs.Passes.{stands_at, next_stands}
 use Rattle.tile_cutter.proofs.Chains.{chains_left, line_begin, line_keeps, line_goes_on, line_ends}
@@ -33,7 +33,7 @@ loop-point-preserved c =
         | in-Some+in_ok-follow w ↦ rw (w.chains-is, w.chain-is, w.before-is) (line_goes_on chain before here rest _ _ done _ _ (other ∙ w.in-Some.is) w.in_ok-follow.ensures.chain w.in_ok-follow.ensures.ended so_far)
         | in_default w ↦ rw (w.chains-is, w.chain-is, w.before-is) (line_keeps chain before here rest done _ (other ∙ w.in_default.is) so_far)
       ];
-      in_world = All-more IsInWorld c.args.line.now c.loop-point.point-index _ c.loop-point-test.true c.loop-point.invariant.in_world c.place-here.ensures.in_world;
+      in_world = All-more IsOfWorld c.args.line.now c.loop-point.point-index _ c.loop-point-test.true c.loop-point.invariant.in_world c.place-here.ensures.in_world;
     }
 
 pub returns-clause-chains : goal.returns-clause-chains
@@ -48,5 +48,5 @@ returns-clause-chains c =
 pub returns-clause-drawable : goal.returns-clause-drawable
 returns-clause-drawable c =
     let at = c.args.at in
-    let inside = subst (All IsInWorld) (take_all c.loop-point.point-index c.args.line.now c.loop-point-test.false) c.loop-point.invariant.in_world in
+    let inside = subst (All IsOfWorld) (take_all c.loop-point.point-index c.args.line.now c.loop-point-test.false) c.loop-point.invariant.in_world in
     line_drawable at.z at.x at.y c.args.line.now c.requires.zoom c.requires.limits.1 inside

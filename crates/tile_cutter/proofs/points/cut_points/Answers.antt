@@ -4,7 +4,7 @@ use Rattle.std.proofs.lemmas.List.{drop_all, take_all}
 use Rattle.std.proofs.lemmas.List.Elements.{All-more}
 use Rattle.geometry_commands.specs.declared.point.Pt.{Pt}
 use Rattle.tile_cutter.specs.Cut.{in_box}
-use Rattle.tile_cutter.specs.Range.{IsInWorld}
+use Rattle.edit_text.specs.Types.{IsOfWorld}
 use Rattle.tile_cutter.proofs.Drawn.{points_of_tile}
 use Rattle.tile_cutter.proofs.Passes.{left_after, stands_at, points_begin, points_next, points_end, next_stands}
 use Rattle.tile_cutter.proofs.points.cut_points.Goals as goal
@@ -31,7 +31,7 @@ loop-point-preserved c =
         | then-is_shown+in_ok-push w ↦ rw (w.shown-is, w.before-is) (points_next before here rest out w.push.new.self.items _ (rw (test, w.if-is_shown.true) w.in_ok-push.ensures.items) so_far)
         | else-is_shown w ↦ rw (w.shown-is, w.before-is) (points_next before here rest out out _ (rw (test, w.if-is_shown.false) refl) so_far)
       ];
-      in_world = All-more IsInWorld c.args.points.now c.loop-point.point-index _ c.loop-point-test.true c.loop-point.invariant.in_world c.place-here.ensures.in_world;
+      in_world = All-more IsOfWorld c.args.points.now c.loop-point.point-index _ c.loop-point-test.true c.loop-point.invariant.in_world c.place-here.ensures.in_world;
     }
 
 pub returns-clause-points : goal.returns-clause-points
@@ -44,4 +44,4 @@ returns-clause-points c =
 pub returns-clause-of_tile : goal.returns-clause-of_tile
 returns-clause-of_tile c =
     let at = c.args.at in
-    points_of_tile at.z at.x at.y c.args.points.now c.requires (subst (All IsInWorld) (take_all c.loop-point.point-index c.args.points.now c.loop-point-test.false) c.loop-point.invariant.in_world)
+    points_of_tile at.z at.x at.y c.args.points.now c.requires (subst (All IsOfWorld) (take_all c.loop-point.point-index c.args.points.now c.loop-point-test.false) c.loop-point.invariant.in_world)

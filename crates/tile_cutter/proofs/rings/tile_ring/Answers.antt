@@ -4,7 +4,7 @@ use Rattle.std.proofs.lemmas.List.Elements.{All-more}
 use Rattle.geometry_commands.specs.declared.point.Pt.{Pt}
 use Rattle.std.specs.Prelude.{All}
 use Rattle.tile_cutter.specs.Passes.{returns_to_start}
-use Rattle.tile_cutter.specs.Range.{IsInWorld}
+use Rattle.edit_text.specs.Types.{IsOfWorld}
 use Rattle.tile_cutter.proofs.Passes.{left_after, stands_at, next_stands, tile_points_are, ring_next, ring_ends}
 use Rattle.tile_cutter.proofs.Ways.{ring_opened}
 use Rattle.tile_cutter.proofs.rings.tile_ring.Goals as goal
@@ -31,7 +31,7 @@ loop-point-preserved c =
         | then-not-repeats+in_ok-push w ↦ rw (w.ring-is, w.before-is) (ring_next before here rest out w.push.new.self.items _ (rw (test, w.if-not-repeats.true) w.in_ok-push.ensures.items) so_far)
         | else-not-repeats w ↦ rw (w.ring-is, w.before-is) (ring_next before here rest out out _ (rw (test, w.if-not-repeats.false) refl) so_far)
       ];
-      in_world = All-more IsInWorld c.args.points.now c.loop-point.point-index _ c.loop-point-test.true c.loop-point.invariant.in_world c.place-here.ensures.in_world;
+      in_world = All-more IsOfWorld c.args.points.now c.loop-point.point-index _ c.loop-point-test.true c.loop-point.invariant.in_world c.place-here.ensures.in_world;
     }
 
 pub returns-clause-ring : goal.returns-clause-ring
@@ -49,4 +49,4 @@ returns-clause-ring c =
     ]
 
 pub returns-clause-in_world : goal.returns-clause-in_world
-returns-clause-in_world c = subst (All IsInWorld) (take_all c.loop-point.point-index c.args.points.now c.loop-point-test.false) c.loop-point.invariant.in_world
+returns-clause-in_world c = subst (All IsOfWorld) (take_all c.loop-point.point-index c.args.points.now c.loop-point-test.false) c.loop-point.invariant.in_world

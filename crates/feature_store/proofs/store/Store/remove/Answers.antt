@@ -2,7 +2,8 @@ use Rattle.std.proofs.Common.{refl, sym, ap, ◌∙◌, arith}
 use mathlib.Core.Bool.{false≢true}
 use Rattle.std.specs.Option.{is_some}
 use Rattle.feature_store.proofs.Entries.{in_entries, feature_there, remove_there}
-use Rattle.feature_store.proofs.Maps.{IsMap-without_feature, without_feature_gap, feature_at_gap, feature_at-without_same, feature_at-without_other}
+use Rattle.feature_store.proofs.Maps.{without_feature_gap, feature_at_gap, feature_at-without_same, feature_at-without_other}
+use Rattle.feature_store.proofs.Snapshots.{map_without}
 use Rattle.feature_store.proofs.store.Store.remove.Goals as goal
 
 -- the number was there
@@ -10,7 +11,7 @@ pub remove-entry-requires : goal.remove-entry-requires
 remove-entry-requires c = omega (arith, in_entries _ _ _ c.in-Ok.ensures.found, c.deref.ensures.len)
 
 pub invariant_of-self : goal.invariant_of-self
-invariant_of-self c = rw (c.remove-entry.ensures.items, remove_there _ _ _ (rw c.deref.ensures.value at c.in-Ok.ensures.found)) (IsMap-without_feature _ _ c.self.invariant)
+invariant_of-self c = rw (c.remove-entry.ensures.items, remove_there _ _ _ (rw c.deref.ensures.value at c.in-Ok.ensures.found)) (map_without _ _ c.self.invariant)
 
 pub returns-in-Ok-clause-found : goal.returns-in-Ok-clause-found
 returns-in-Ok-clause-found c = (λ _. rw (← c.self.view_is) (ap is_some (feature_there _ _ _ c.remove-entry.result (rw c.deref.ensures.value at c.in-Ok.ensures.found) c.remove-entry.ensures.value)), λ _. refl)
@@ -33,3 +34,16 @@ returns-in-Err-clause-map c = rw (← c.self.view_is) (sym (without_feature_gap 
 
 pub returns-in-Err-clause-gone : goal.returns-in-Err-clause-gone
 returns-in-Err-clause-gone c = rw (← c.self.view_is) (feature_at_gap _ _ _ c.self.invariant.ascending (rw c.deref.ensures.value at c.in-Err.ensures.absent))
+
+-- ---- the room that is left
+
+pub returns-in-Ok-clause-spare : goal.returns-in-Ok-clause-spare
+returns-in-Ok-clause-spare c =
+    let stands = rw c.deref.ensures.value at c.in-Ok.ensures.found in
+    let there = feature_there _ _ _ c.remove-entry.result stands c.remove-entry.ensures.value in
+    let within = in_entries _ _ _ c.in-Ok.ensures.found in
+    let entries = c.self.inside.entries in
+    rw (← c.self.view_is, there) (omega (arith, c.remove-entry.ensures.len, c.remove-entry.ensures.capacity, within, c.deref.ensures.len, entries.ok.0, entries.ok.1, entries.small))
+
+pub returns-in-Err-clause-spare : goal.returns-in-Err-clause-spare
+returns-in-Err-clause-spare c = rw (← c.self.view_is, feature_at_gap _ _ _ c.self.invariant.ascending (rw c.deref.ensures.value at c.in-Err.ensures.absent)) refl

@@ -1,7 +1,7 @@
 use Rattle.tile_routes.proofs.Texts.{found-parts}
 use Rattle.tile_routes.proofs.routes.Routes.found.Goals as goal
 
-pub place_target-requires : goal.place_target-requires
-place_target-requires c =
+pub route_target-requires : goal.route_target-requires
+route_target-requires c =
     found-parts c.args.self.now.router c.in-Ok.found.params c.in-Ok.found.value.now c.args.path.now c.args.self.now.rows
     c.in-Ok.ensures.found c.in-Ok.ensures.path c.requires

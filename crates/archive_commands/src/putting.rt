@@ -1,0 +1,91 @@
+//! Text to a writer, of which a first part was written where the writer fails.
+
+ghost use Rattle.std.specs.Prelude.{◌≡◌, ◌<◌, length, decimal, MatchResult};
+ghost use Rattle.std.specs.Io.KnownBytes.{Keeps};
+ghost use Rattle.archive_commands.specs.Put.{Puts, SoFar, piece_text, pieces_text};
+
+use std::io::{self, ErrorKind, Write};
+
+/// A piece of a text.
+#[derive(Clone, Copy)]
+pub(crate) enum Piece<'a> {
+    Text(&'a str),
+    /// A number in decimal digits.
+    Number(u64),
+}
+
+/// Writes a first part of the bytes, of which there are some, and tells what is left of them: all where the write was
+/// interrupted.
+fn put_some<'a, W: Write>(out: &mut W, bytes: &'a [u8]) -> io::Result<&'a [u8]>
+    requires { 0 < length bytes.now }
+    ensures { MatchResult result (λ rest. SoFar (W.contents out.old) (W.contents out.new) bytes.now rest.now)
+        (λ _. Keeps (W.contents out.old) (W.contents out.new)) }
+{
+    match out.write(bytes) {
+        Ok(0) => Err(io::Error::from(ErrorKind::WriteZero)),
+        Ok(count) => Ok(&bytes[count..]),
+        Err(error) => {
+            if error.kind() == ErrorKind::Interrupted {
+                Ok(bytes)
+            } else {
+                Err(error)
+            }
+        }
+    }
+}
+
+/// Writes all of the bytes. After a fault a first part of them was written, and not all.
+fn put<W: Write>(out: &mut W, bytes: &[u8]) -> io::Result<()>
+    ensures { Puts (W.contents out.old) (W.contents out.new) result bytes.now }
+{
+    let mut rest = bytes;
+    for _ in 0..u64::MAX {
+        if rest.len() == 0 {
+            return Ok(());
+        }
+        match put_some(out, rest) {
+            Ok(left) => rest = left,
+            Err(error) => return Err(error),
+        }
+    }
+    if rest.len() == 0 {
+        Ok(())
+    } else {
+        Err(io::Error::from(ErrorKind::Interrupted))
+    }
+}
+
+/// Writes a number in decimal digits.
+fn put_number<W: Write>(out: &mut W, number: u64) -> io::Result<()>
+    ensures { Puts (W.contents out.old) (W.contents out.new) result (decimal number) }
+{
+    if number < 10 {
+        return put(out, &[b'0' + number as u8]);
+    }
+    match put_number(out, number / 10) {
+        Ok(()) => put(out, &[b'0' + (number % 10) as u8]),
+        Err(error) => Err(error),
+    }
+}
+
+fn put_piece<W: Write>(out: &mut W, piece: Piece<'_>) -> io::Result<()>
+    ensures { Puts (W.contents out.old) (W.contents out.new) result (piece_text piece.entry) }
+{
+    match piece {
+        Piece::Text(text) => put(out, text.as_bytes()),
+        Piece::Number(number) => put_number(out, number),
+    }
+}
+
+/// Writes the pieces one behind the other.
+pub(crate) fn put_pieces<W: Write>(out: &mut W, pieces: &[Piece<'_>]) -> io::Result<()>
+    ensures { Puts (W.contents out.old) (W.contents out.new) result (pieces_text pieces.now) }
+{
+    for piece in pieces {
+        match put_piece(out, *piece) {
+            Ok(()) => {}
+            Err(error) => return Err(error),
+        }
+    }
+    Ok(())
+}

@@ -1,8 +1,0 @@
-use Rattle.std.proofs.Common.{refl}
-use Rattle.matchit.proofs.OnLiterals.{matchit_on_literals}
-use Rattle.tile_routes.specs.Paths.{place_rows}
-use Rattle.tile_routes.proofs.routes.places.Goals as goal
-
-pub returns : goal.returns
-unfolding matchit_on_literals place_rows
-returns c = rw (c.in_ok-insert-2.ensures.1, c.in_ok-insert.ensures.1, c.new-router.ensures) refl
