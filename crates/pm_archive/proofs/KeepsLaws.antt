@@ -8,7 +8,6 @@ pub keeps_on : {S : Type 0} {count : S → ℕ} {holds : S → List ℕ → Type
     → {a b c : S} → Keeps count holds fails unchanged a b → Keeps count holds fails unchanged b c → Keeps count holds fails unchanged a c
 keeps_on on {a} {b} {c} first then = record {
   same_count = then.same_count ∙ first.same_count;
-  same_bytes = λ bytes held. then.same_bytes bytes (first.same_bytes bytes held);
   no_others = λ bytes held. first.no_others bytes (then.no_others bytes held);
   same_faults = λ failed. first.same_faults (then.same_faults failed);
   same_behind = on a b c first.same_behind then.same_behind;

@@ -9,10 +9,9 @@ pub record ArchiveView (S : Type 0) : Type 0 where
   pub header : Header
   pub root : List Entry
 
--- The source is as it was: of so many bytes, of the bytes that it had, no more apt to fail, and with the same behind it.
+-- The source is as it was: of so many bytes, of no bytes that it didn't have, no more apt to fail, and with the same behind it.
 pub record Keeps {S : Type 0} (count : S → ℕ) (holds : S → List ℕ → Type 0) (fails : S → Type 0) (unchanged : S → S → Type 0) (old new : S) : Type 0 where
   pub same_count : count new ≡ count old
-  pub same_bytes : (bytes : List ℕ) → holds old bytes → holds new bytes
   pub no_others : (bytes : List ℕ) → holds new bytes → holds old bytes
   pub same_faults : fails new → fails old
   pub same_behind : unchanged old new

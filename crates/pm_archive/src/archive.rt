@@ -54,12 +54,12 @@ impl<B: Bytes + Drop> Archive<B> {
     pub fn open(alloc: Global, source: B) -> Result<Archive<B>, (B, ArchiveFault)>
         ensures source { IfOk result (λ a. Keeps B.count B.holds B.fails B.unchanged source a.source) }
         ensures back { IfErr result (λ e. Keeps B.count B.holds B.fails B.unchanged source e.0) }
-        ensures found { (bytes : List ℕ) → B.holds source bytes → IfOk result (λ a. HasSections bytes a.header × IsDirectory (section_bytes a.header.root bytes) a.root) }
-        ensures only { (bytes : List ℕ) (h : Header) (root : List Entry) → B.holds source bytes → HasSections bytes h → IsDirectory (section_bytes h.root bytes) root
-            → MatchResult result (λ a. (a.header ≡ h) × (a.root ≡ root)) (λ e. IsOutside e.1) }
-        ensures fault { (bytes : List ℕ) → B.holds source bytes → IfErr result (λ e. UnlessOutside (OpeningHas bytes) e.1) }
+        ensures found { IfOk result (λ a. (bytes : List ℕ) → B.holds a.source bytes → HasSections bytes a.header × IsDirectory (section_bytes a.header.root bytes) a.root) }
+        ensures only { (bytes : List ℕ) (h : Header) (root : List Entry) → HasSections bytes h → IsDirectory (section_bytes h.root bytes) root
+            → MatchResult result (λ a. B.holds a.source bytes → (a.header ≡ h) × (a.root ≡ root)) (λ e. B.holds e.0 bytes → IsOutside e.1) }
+        ensures fault { IfErr result (λ e. (bytes : List ℕ) → B.holds e.0 bytes → UnlessOutside (OpeningHas bytes) e.1) }
         ensures read { IfErr result (λ e. e.1 ≡ ArchiveFault.Read → B.fails source) }
-        ensures memory { (bytes : List ℕ) → B.holds source bytes → IfErr result (λ e. e.1 ≡ ArchiveFault.Memory → (h : Header) × HasSections bytes h) }
+        ensures memory { IfErr result (λ e. (bytes : List ℕ) → B.holds e.0 bytes → e.1 ≡ ArchiveFault.Memory → (h : Header) × HasSections bytes h) }
     {
         let mut source = source;
         match header_and_root(alloc, &mut source) {
@@ -96,10 +96,10 @@ impl<B: Bytes + Drop> Archive<B> {
         ensures header { self.new.header ≡ self.old.header }
         ensures root { self.new.root ≡ self.old.root }
         ensures source { Keeps B.count B.holds B.fails B.unchanged self.old.source self.new.source }
-        ensures found { (bytes : List ℕ) → B.holds self.old.source bytes → IfOk result (λ tiles. HasEntries bytes self.old.header tiles.items) }
-        ensures only { (bytes : List ℕ) (tiles : List Entry) → B.holds self.old.source bytes → HasEntries bytes self.old.header tiles
+        ensures found { (bytes : List ℕ) → B.holds self.new.source bytes → IfOk result (λ tiles. HasEntries bytes self.old.header tiles.items) }
+        ensures only { (bytes : List ℕ) (tiles : List Entry) → B.holds self.new.source bytes → HasEntries bytes self.old.header tiles
             → MatchResult result (λ listed. listed.items ≡ tiles) IsOutside }
-        ensures first { (bytes : List ℕ) → B.holds self.old.source bytes → Answers (λ tiles. tiles.items) result (list_at bytes self.old.header self.old.root) }
+        ensures first { (bytes : List ℕ) → B.holds self.new.source bytes → Answers (λ tiles. tiles.items) result (list_at bytes self.old.header self.old.root) }
         ensures read { result ≡ Err ArchiveFault.Read → B.fails self.old.source }
     {
         entries_below(alloc, &mut self.source, &self.header, &self.root)
@@ -116,9 +116,9 @@ impl<B: Bytes + Drop> Archive<B> {
         ensures header { self.new.header ≡ self.old.header }
         ensures root { self.new.root ≡ self.old.root }
         ensures source { Keeps B.count B.holds B.fails B.unchanged self.old.source self.new.source }
-        ensures content { (bytes : List ℕ) (tiles : List Entry) → B.holds self.old.source bytes → HasEntries bytes self.old.header tiles
+        ensures content { (bytes : List ℕ) (tiles : List Entry) → B.holds self.new.source bytes → HasEntries bytes self.old.header tiles
             → MatchResult result (λ content. option_map (λ v. v.items) content ≡ content_of bytes self.old.header tiles id) IsOutside }
-        ensures first { (bytes : List ℕ) → B.holds self.old.source bytes
+        ensures first { (bytes : List ℕ) → B.holds self.new.source bytes
             → Answers (option_map (λ v. v.items)) result (looked_at bytes self.old.header self.old.root id) }
         ensures read { result ≡ Err ArchiveFault.Read → B.fails self.old.source }
         ensures memory { result ≡ Err ArchiveFault.Memory → IsSome (leading_of id self.old.root) }
@@ -136,9 +136,9 @@ impl<B: Bytes + Drop> Archive<B> {
         ensures header { self.new.header ≡ self.old.header }
         ensures root { self.new.root ≡ self.old.root }
         ensures source { Keeps B.count B.holds B.fails B.unchanged self.old.source self.new.source }
-        ensures found { (bytes : List ℕ) → B.holds self.old.source bytes → IfOk result (IsSound bytes) }
-        ensures only { (bytes : List ℕ) (report : Report) → B.holds self.old.source bytes → IsSound bytes report → MatchResult result (λ told. told ≡ report) IsOutside }
-        ensures fault { (bytes : List ℕ) → B.holds self.old.source bytes → IfErr result (UnlessOutside (VerifyingHas bytes self.old.header self.old.root)) }
+        ensures found { (bytes : List ℕ) → B.holds self.new.source bytes → IfOk result (IsSound bytes) }
+        ensures only { (bytes : List ℕ) (report : Report) → B.holds self.new.source bytes → IsSound bytes report → MatchResult result (λ told. told ≡ report) IsOutside }
+        ensures fault { (bytes : List ℕ) → B.holds self.new.source bytes → IfErr result (UnlessOutside (VerifyingHas bytes self.old.header self.old.root)) }
         ensures read { result ≡ Err ArchiveFault.Read → B.fails self.old.source }
     {
         verdict_below(alloc, &mut self.source, &self.header, &self.root)

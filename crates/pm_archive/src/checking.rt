@@ -60,8 +60,8 @@ fn check_tile<B: Bytes>(
 ) -> Result<(), ArchiveFault>
     requires { end_of header.now.tiles ≤ B.count source.old }
     ensures source { Keeps B.count B.holds B.fails B.unchanged source.old source.new }
-    ensures tile { (bytes : List ℕ) → B.holds source.old bytes → LiesIn header.now.tiles entry → OnOk result (HasTile bytes header.now entry) }
-    ensures fault { (bytes : List ℕ) → B.holds source.old bytes → LiesIn header.now.tiles entry → IfErr result (UnlessOutside (IsTileFault bytes header.now entry)) }
+    ensures tile { (bytes : List ℕ) → B.holds source.new bytes → LiesIn header.now.tiles entry → OnOk result (HasTile bytes header.now entry) }
+    ensures fault { (bytes : List ℕ) → B.holds source.new bytes → LiesIn header.now.tiles entry → IfErr result (UnlessOutside (IsTileFault bytes header.now entry)) }
     ensures read { result ≡ Err ArchiveFault.Read → B.fails source.old }
 {
     let content = match content_of(alloc, source, header, entry) {
@@ -84,11 +84,11 @@ fn check_once<B: Bytes>(
 ) -> Result<(), ArchiveFault>
     requires { end_of header.now.tiles ≤ B.count source.old }
     ensures source { Keeps B.count B.holds B.fails B.unchanged source.old source.new }
-    ensures tile { (bytes : List ℕ) → B.holds source.old bytes → LiesIn header.now.tiles entry → AreRead bytes header.now places.old
+    ensures tile { (bytes : List ℕ) → B.holds source.new bytes → LiesIn header.now.tiles entry → AreRead bytes header.now places.old
         → OnOk result (HasTile bytes header.now entry) }
-    ensures places { (bytes : List ℕ) → B.holds source.old bytes → LiesIn header.now.tiles entry → AreRead bytes header.now places.old
+    ensures places { (bytes : List ℕ) → B.holds source.new bytes → LiesIn header.now.tiles entry → AreRead bytes header.now places.old
         → OnOk result (AreRead bytes header.now places.new) }
-    ensures fault { (bytes : List ℕ) → B.holds source.old bytes → LiesIn header.now.tiles entry → AreRead bytes header.now places.old
+    ensures fault { (bytes : List ℕ) → B.holds source.new bytes → LiesIn header.now.tiles entry → AreRead bytes header.now places.old
         → IfErr result (UnlessOutside (IsTileFault bytes header.now entry)) }
     ensures read { result ≡ Err ArchiveFault.Read → B.fails source.old }
 {
@@ -115,9 +115,9 @@ pub(crate) fn check_tiles<B: Bytes>(
 ) -> Result<(), ArchiveFault>
     requires { end_of header.now.tiles ≤ B.count source.old }
     ensures source { Keeps B.count B.holds B.fails B.unchanged source.old source.new }
-    ensures each { (bytes : List ℕ) → B.holds source.old bytes → AllByRecursion (LiesIn header.now.tiles) tiles.now
+    ensures each { (bytes : List ℕ) → B.holds source.new bytes → AllByRecursion (LiesIn header.now.tiles) tiles.now
         → OnOk result (AllByRecursion (HasTile bytes header.now) tiles.now) }
-    ensures fault { (bytes : List ℕ) → B.holds source.old bytes → AllByRecursion (LiesIn header.now.tiles) tiles.now
+    ensures fault { (bytes : List ℕ) → B.holds source.new bytes → AllByRecursion (LiesIn header.now.tiles) tiles.now
         → IfErr result (UnlessOutside (IsFirstTileFault bytes header.now tiles.now)) }
     ensures read { result ≡ Err ArchiveFault.Read → B.fails source.old }
 {

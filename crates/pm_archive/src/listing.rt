@@ -76,7 +76,7 @@ fn leaf_of<B: Bytes>(
 ) -> Result<Vec<Entry>, ArchiveFault>
     requires { ArePlaced (B.count source.old) header.now }
     ensures source { Keeps B.count B.holds B.fails B.unchanged source.old source.new }
-    ensures leaf { (bytes : List ℕ) → B.holds source.old bytes → Answers (λ v. v.items) result (leaf_at bytes header.now entry bound) }
+    ensures leaf { (bytes : List ℕ) → B.holds source.new bytes → Answers (λ v. v.items) result (leaf_at bytes header.now entry bound) }
     ensures ascending { IfOk result (λ v. IsAscending v.items) }
     ensures read { result ≡ Err ArchiveFault.Read → B.fails source.old }
 {
@@ -119,7 +119,7 @@ fn push_listed<B: Bytes>(
 ) -> Result<(), ArchiveFault>
     requires { ArePlaced (B.count source.old) header.now }
     ensures source { Keeps B.count B.holds B.fails B.unchanged source.old source.new }
-    ensures listed { (bytes : List ℕ) → B.holds source.old bytes → Answers (λ done. tiles.new.items) result (behind tiles.old.items (lists_at bytes header.now more entry bound)) }
+    ensures listed { (bytes : List ℕ) → B.holds source.new bytes → Answers (λ done. tiles.new.items) result (behind tiles.old.items (lists_at bytes header.now more entry bound)) }
     ensures read { result ≡ Err ArchiveFault.Read → B.fails source.old }
     ensures memory { entry.run ≡ 0 → more ≡ 0 → result ≢ Err ArchiveFault.Memory }
 {
@@ -148,7 +148,7 @@ fn push_each<B: Bytes>(
 ) -> Result<(), ArchiveFault>
     requires { ArePlaced (B.count source.old) header.now }
     ensures source { Keeps B.count B.holds B.fails B.unchanged source.old source.new }
-    ensures listed { (bytes : List ℕ) → B.holds source.old bytes → Answers (λ done. tiles.new.items) result (behind tiles.old.items (each_at (lists_at bytes header.now more) bound entries.now)) }
+    ensures listed { (bytes : List ℕ) → B.holds source.new bytes → Answers (λ done. tiles.new.items) result (behind tiles.old.items (each_at (lists_at bytes header.now more) bound entries.now)) }
     ensures read { result ≡ Err ArchiveFault.Read → B.fails source.old }
 {
     for (i, entry) in entries.iter().enumerate() {
@@ -170,7 +170,7 @@ pub(crate) fn entries_below<B: Bytes>(
 ) -> Result<Vec<Entry>, ArchiveFault>
     requires { ArePlaced (B.count source.old) header.now }
     ensures source { Keeps B.count B.holds B.fails B.unchanged source.old source.new }
-    ensures first { (bytes : List ℕ) → B.holds source.old bytes → Answers (λ v. v.items) result (list_at bytes header.now root.now) }
+    ensures first { (bytes : List ℕ) → B.holds source.new bytes → Answers (λ v. v.items) result (list_at bytes header.now root.now) }
     ensures read { result ≡ Err ArchiveFault.Read → B.fails source.old }
 {
     let mut tiles = Vec::new(alloc);

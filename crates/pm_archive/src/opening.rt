@@ -24,8 +24,8 @@ const OPENING_END: u64 = 16_384;
 // The header with which the bytes begin.
 fn header_in<B: Bytes>(source: &mut B) -> Result<Header, ArchiveFault>
     ensures source { Keeps B.count B.holds B.fails B.unchanged source.old source.new }
-    ensures found { (bytes : List ℕ) → B.holds source.old bytes → IfOk result (IsHeader bytes) }
-    ensures fault { (bytes : List ℕ) → B.holds source.old bytes → IfErr result (UnlessOutside (OpeningHas bytes)) }
+    ensures found { (bytes : List ℕ) → B.holds source.new bytes → IfOk result (IsHeader bytes) }
+    ensures fault { (bytes : List ℕ) → B.holds source.new bytes → IfErr result (UnlessOutside (OpeningHas bytes)) }
     ensures read { result ≡ Err ArchiveFault.Read → B.fails source.old }
     ensures memory { result ≢ Err ArchiveFault.Memory }
 {
@@ -85,10 +85,10 @@ pub(crate) fn header_and_root<B: Bytes>(
     ensures placed { IfOk result (λ x. ArePlaced (B.count source.old) x.0) }
     ensures ascending { IfOk result (λ x. IsAscending x.1.items) }
     ensures each { IfOk result (λ x. AllByRecursion IsEntry x.1.items) }
-    ensures found { (bytes : List ℕ) → B.holds source.old bytes → IfOk result (λ x. HasSections bytes x.0 × IsDirectory (section_bytes x.0.root bytes) x.1.items) }
-    ensures fault { (bytes : List ℕ) → B.holds source.old bytes → IfErr result (UnlessOutside (OpeningHas bytes)) }
+    ensures found { (bytes : List ℕ) → B.holds source.new bytes → IfOk result (λ x. HasSections bytes x.0 × IsDirectory (section_bytes x.0.root bytes) x.1.items) }
+    ensures fault { (bytes : List ℕ) → B.holds source.new bytes → IfErr result (UnlessOutside (OpeningHas bytes)) }
     ensures read { result ≡ Err ArchiveFault.Read → B.fails source.old }
-    ensures memory { (bytes : List ℕ) → B.holds source.old bytes → result ≡ Err ArchiveFault.Memory → (h : Header) × HasSections bytes h }
+    ensures memory { (bytes : List ℕ) → B.holds source.new bytes → result ≡ Err ArchiveFault.Memory → (h : Header) × HasSections bytes h }
 {
     let header = match header_in(source) {
         Ok(header) => header,

@@ -20,7 +20,7 @@ use std::alloc::Global;
 fn read_into<B: Bytes>(source: &mut B, at: u64, into: &mut [u8]) -> Result<(), ArchiveFault>
     requires { at + length into.old ≤ B.count source.old }
     ensures source { Keeps B.count B.holds B.fails B.unchanged source.old source.new }
-    ensures bytes { (bytes : List ℕ) → B.holds source.old bytes → OnOk result (into.new ≡ slice_range bytes at (at + length into.old)) }
+    ensures bytes { (bytes : List ℕ) → B.holds source.new bytes → OnOk result (into.new ≡ slice_range bytes at (at + length into.old)) }
     ensures fault { IfErr result (λ fault. (fault ≡ ArchiveFault.Read) × B.fails source.old) }
 {
     match source.read_at(at, into) {
@@ -38,7 +38,7 @@ pub(crate) fn bytes_at<B: Bytes>(
 ) -> Result<Vec<u8>, ArchiveFault>
     requires { at + length ≤ B.count source.old }
     ensures source { Keeps B.count B.holds B.fails B.unchanged source.old source.new }
-    ensures bytes { (bytes : List ℕ) → B.holds source.old bytes → IfOk result (λ v. v.items ≡ slice_range bytes at (at + length)) }
+    ensures bytes { (bytes : List ℕ) → B.holds source.new bytes → IfOk result (λ v. v.items ≡ slice_range bytes at (at + length)) }
     ensures fault { IfErr result IsOutside }
     ensures read { result ≡ Err ArchiveFault.Read → B.fails source.old }
 {
@@ -71,7 +71,7 @@ pub(crate) fn directory_from<B: Bytes>(
 ) -> Result<Vec<Entry>, ArchiveFault>
     requires { at + length ≤ B.count source.old }
     ensures source { Keeps B.count B.holds B.fails B.unchanged source.old source.new }
-    ensures directory { (bytes : List ℕ) → B.holds source.old bytes → Answers (λ v. v.items) result (directory_or_fault at (directory_at (slice_range bytes at (at + length)))) }
+    ensures directory { (bytes : List ℕ) → B.holds source.new bytes → Answers (λ v. v.items) result (directory_or_fault at (directory_at (slice_range bytes at (at + length)))) }
     ensures ascending { IfOk result (λ v. IsAscending v.items) }
     ensures each { IfOk result (λ v. AllByRecursion IsEntry v.items) }
     ensures read { result ≡ Err ArchiveFault.Read → B.fails source.old }
@@ -103,7 +103,7 @@ pub(crate) fn directory_of<B: Bytes>(
 ) -> Result<Vec<Entry>, ArchiveFault>
     requires { end_of header.now.leaves ≤ B.count source.old }
     ensures source { Keeps B.count B.holds B.fails B.unchanged source.old source.new }
-    ensures directory { (bytes : List ℕ) → B.holds source.old bytes → Answers (λ v. v.items) result (directory_of_entry bytes header.now entry) }
+    ensures directory { (bytes : List ℕ) → B.holds source.new bytes → Answers (λ v. v.items) result (directory_of_entry bytes header.now entry) }
     ensures ascending { IfOk result (λ v. IsAscending v.items) }
     ensures each { IfOk result (λ v. AllByRecursion IsEntry v.items) }
     ensures read { result ≡ Err ArchiveFault.Read → B.fails source.old }
@@ -129,8 +129,8 @@ pub(crate) fn content_of<B: Bytes>(
 ) -> Result<Vec<u8>, ArchiveFault>
     requires { end_of header.now.tiles ≤ B.count source.old }
     ensures source { Keeps B.count B.holds B.fails B.unchanged source.old source.new }
-    ensures content { (bytes : List ℕ) → B.holds source.old bytes → Answers (λ v. v.items) result (content_of_tile bytes header.now entry) }
-    ensures inside { (bytes : List ℕ) → B.holds source.old bytes → LiesIn header.now.tiles entry
+    ensures content { (bytes : List ℕ) → B.holds source.new bytes → Answers (λ v. v.items) result (content_of_tile bytes header.now entry) }
+    ensures inside { (bytes : List ℕ) → B.holds source.new bytes → LiesIn header.now.tiles entry
         → MatchResult result (λ v. v.items ≡ entry_bytes header.now.tiles entry bytes) IsOutside }
     ensures read { result ≡ Err ArchiveFault.Read → B.fails source.old }
     ensures memory { result ≡ Err ArchiveFault.Memory → LiesIn header.now.tiles entry }

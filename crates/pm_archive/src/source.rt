@@ -13,7 +13,8 @@ pub trait Bytes {
     /// How many bytes there are.
     ghost count: { Self → ℕ };
 
-    /// It has these bytes. A source that may tell anything has none.
+    /// It has these bytes, and has kept to them so far. This may fall at any read, for good, and no code can tell. A source that
+    /// may tell anything has none.
     ghost holds: { Self → List ℕ → Type 0 };
 
     /// A read of it may fail.
@@ -30,11 +31,10 @@ pub trait Bytes {
     fn read_at(&mut self, at: u64, into: &mut [u8]) -> Result<(), ReadFault>
         requires { at + length into.old ≤ count self.old }
         ensures count { count self.new ≡ count self.old }
-        ensures holds { (bytes : List ℕ) → holds self.old bytes → holds self.new bytes }
         ensures held { (bytes : List ℕ) → holds self.new bytes → holds self.old bytes }
         ensures fails { fails self.new → fails self.old }
         ensures unchanged { unchanged self.old self.new }
-        ensures gives { (bytes : List ℕ) → holds self.old bytes → OnOk result (into.new ≡ slice_range bytes at (at + length into.old)) }
+        ensures gives { (bytes : List ℕ) → holds self.new bytes → OnOk result (into.new ≡ slice_range bytes at (at + length into.old)) }
         ensures fault { OnErr result (fails self.old) };
 
     ghost sized: { (source : Self) (bytes : List ℕ) → holds source bytes → length bytes ≡ count source };

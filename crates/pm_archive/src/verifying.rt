@@ -50,8 +50,8 @@ fn check_metadata<B: Bytes>(
 ) -> Result<(), ArchiveFault>
     requires { end_of header.now.metadata ≤ B.count source.old }
     ensures source { Keeps B.count B.holds B.fails B.unchanged source.old source.new }
-    ensures found { (bytes : List ℕ) → B.holds source.old bytes → OnOk result (IsMetadata (section_bytes header.now.metadata bytes)) }
-    ensures fault { (bytes : List ℕ) → B.holds source.old bytes → IfErr result (UnlessOutside (IsMetadataFault bytes header.now)) }
+    ensures found { (bytes : List ℕ) → B.holds source.new bytes → OnOk result (IsMetadata (section_bytes header.now.metadata bytes)) }
+    ensures fault { (bytes : List ℕ) → B.holds source.new bytes → IfErr result (UnlessOutside (IsMetadataFault bytes header.now)) }
     ensures read { result ≡ Err ArchiveFault.Read → B.fails source.old }
 {
     let metadata = match bytes_at(
@@ -95,9 +95,9 @@ fn check_vector_tiles<B: Bytes>(
 ) -> Result<(), ArchiveFault>
     requires { end_of header.now.tiles ≤ B.count source.old }
     ensures source { Keeps B.count B.holds B.fails B.unchanged source.old source.new }
-    ensures each { (bytes : List ℕ) → B.holds source.old bytes → AllByRecursion (LiesIn header.now.tiles) tiles.now
+    ensures each { (bytes : List ℕ) → B.holds source.new bytes → AllByRecursion (LiesIn header.now.tiles) tiles.now
         → OnOk result (AreVector header.now → AllByRecursion (HasTile bytes header.now) tiles.now) }
-    ensures fault { (bytes : List ℕ) → B.holds source.old bytes → AllByRecursion (LiesIn header.now.tiles) tiles.now
+    ensures fault { (bytes : List ℕ) → B.holds source.new bytes → AllByRecursion (LiesIn header.now.tiles) tiles.now
         → IfErr result (UnlessOutside (λ d. AreVector header.now × IsFirstTileFault bytes header.now tiles.now d)) }
     ensures read { result ≡ Err ArchiveFault.Read → B.fails source.old }
 {
@@ -118,8 +118,8 @@ pub(crate) fn verdict_below<B: Bytes>(
     requires ascending { IsAscending root.now }
     requires each { AllByRecursion IsEntry root.now }
     ensures source { Keeps B.count B.holds B.fails B.unchanged source.old source.new }
-    ensures found { (bytes : List ℕ) → B.holds source.old bytes → IfOk result (IsVerified bytes header.now root.now) }
-    ensures fault { (bytes : List ℕ) → B.holds source.old bytes → IfErr result (UnlessOutside (VerifyingHas bytes header.now root.now)) }
+    ensures found { (bytes : List ℕ) → B.holds source.new bytes → IfOk result (IsVerified bytes header.now root.now) }
+    ensures fault { (bytes : List ℕ) → B.holds source.new bytes → IfErr result (UnlessOutside (VerifyingHas bytes header.now root.now)) }
     ensures read { result ≡ Err ArchiveFault.Read → B.fails source.old }
 {
     match check_metadata(alloc, source, header) {

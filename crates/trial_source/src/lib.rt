@@ -1,4 +1,5 @@
-//! A trial of `pm_archive` over a device: whoever looks a tile up there knows that nothing was written to it.
+//! A trial of `pm_archive` over a device that may come to lie: where it told the truth, whoever looks a tile up there has
+//! the tile of its bytes, and knows that nothing was written to it.
 #![tactic(auto)]
 
 mod device;

@@ -1,4 +1,5 @@
-ghost use Rattle.std.specs.Prelude.{length};
+ghost use Rattle.std.proofs.Common.{refl};
+ghost use Rattle.std.specs.Prelude.{◌≡◌, false, length};
 
 use super::*;
 use pm_archive::ArchiveFault;
@@ -13,21 +14,27 @@ const TILES: [u8; 139] = *b"PMTiles\x03\
     \0\0\0\0\0\0\0\0\0\0\0\0\0\0\0\0\0\0\0\0\0\0\0\0\0\
     \x02\x00\x05\x02\x01\x01\x01\x01\x01{}T";
 
-/// A device in memory, that fails once it was read so many times.
+/// A device in memory, that fails once it was read so many times. It lies at the read that leaves so many, if there is one.
 #[derive(Drop)]
 struct Fake {
     bytes: [u8; 139],
     written: Vec<u64>,
     reads_left: u8,
+    lies_at: Option<u8>,
+    lied: bool,
 }
 
 impl Device for Fake {
+    ghost honest = { λ d. d.lied ≡ false };
+
     ghost history = { λ d. d.written.items };
 
-    ghost count = { λ d. 139 };
+    ghost contents = { λ d. d.bytes };
+
+    ghost count = { λ d. length d.bytes };
 
     fn len(&self) -> u64 {
-        139
+        self.bytes.len() as u64
     }
 
     fn read(&mut self, at: u64, into: &mut [u8]) -> Result<(), DeviceFault> {
@@ -35,17 +42,26 @@ impl Device for Fake {
             return Err(DeviceFault);
         }
         self.reads_left -= 1;
+        if Some(self.reads_left) == self.lies_at {
+            self.lied = true;
+            into.fill(b'?');
+            return Ok(());
+        }
         let at = at as usize;
         into.copy_from_slice(&self.bytes[at..at + into.len()]);
         Ok(())
     }
 
     fn write(&mut self, at: u64, byte: u8) -> Result<(), DeviceFault> {
-        let place = self.bytes.get_mut(at as usize).ok_or(DeviceFault)?;
+        if at >= self.bytes.len() as u64 {
+            return Err(DeviceFault);
+        }
         self.written.push(at).map_err(|_| DeviceFault)?;
-        *place = byte;
+        self.bytes[at as usize] = byte;
         Ok(())
     }
+
+    ghost sized = { λ d. refl };
 }
 
 #[test]
@@ -57,6 +73,8 @@ fn a_device_comes_back(rt: HostRuntime) -> Result<(), Fail> {
             bytes: TILES,
             written: Vec::new(alloc),
             reads_left,
+            lies_at: None,
+            lied: false,
         };
         assert!(rt; device.write(138, b'U').is_ok());
         let (device, content) = look_up(alloc, device, 5);
@@ -67,5 +85,21 @@ fn a_device_comes_back(rt: HostRuntime) -> Result<(), Fail> {
             assert_eq!(rt; content?.as_deref(), Some(b"U".as_slice()));
         }
     }
+    Ok(())
+}
+
+#[test]
+fn a_device_that_lies(rt: HostRuntime) -> Result<(), Fail> {
+    let alloc = rt.alloc();
+    let device = Fake {
+        bytes: TILES,
+        written: Vec::new(alloc),
+        reads_left: 3,
+        lies_at: Some(0),
+        lied: false,
+    };
+    let (device, content) = look_up(alloc, device, 5);
+    assert!(rt; device.lied);
+    assert_eq!(rt; content?.as_deref(), Some(b"?".as_slice()));
     Ok(())
 }

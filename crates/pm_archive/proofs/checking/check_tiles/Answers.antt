@@ -11,11 +11,12 @@ loop-entry-preserved g c =
     let es = c.args.tiles.now in
     let i = c.loop-entry.entry-index in
     let t = c.in-Ok.ensures.tile in
+    let before = c.in-Ok.ensures.source.no_others in
     record {
       keeps = search rules;
-      places = λ bytes holds lies. c.in-Ok.ensures.places bytes (was.keeps.same_bytes bytes holds) (at_place (LiesIn h.tiles) es i _ c.loop-entry-test.true lies) (was.places bytes holds lies);
-      each = λ bytes holds lies rest. was.each bytes holds lies (each_from (HasTile bytes h) es i _ c.loop-entry-test.true
-          (t bytes (was.keeps.same_bytes bytes holds) (at_place (LiesIn h.tiles) es i _ c.loop-entry-test.true lies) (was.places bytes holds lies)) rest);
-      first = λ bytes holds lies d rest. was.first bytes holds lies d (first_from bytes h es i _ d c.loop-entry-test.true
-          (t bytes (was.keeps.same_bytes bytes holds) (at_place (LiesIn h.tiles) es i _ c.loop-entry-test.true lies) (was.places bytes holds lies)) rest);
+      places = λ bytes holds lies. c.in-Ok.ensures.places bytes holds (at_place (LiesIn h.tiles) es i _ c.loop-entry-test.true lies) (was.places bytes (before bytes holds) lies);
+      each = λ bytes holds lies rest. was.each bytes (before bytes holds) lies (each_from (HasTile bytes h) es i _ c.loop-entry-test.true
+          (t bytes holds (at_place (LiesIn h.tiles) es i _ c.loop-entry-test.true lies) (was.places bytes (before bytes holds) lies)) rest);
+      first = λ bytes holds lies d rest. was.first bytes (before bytes holds) lies d (first_from bytes h es i _ d c.loop-entry-test.true
+          (t bytes holds (at_place (LiesIn h.tiles) es i _ c.loop-entry-test.true lies) (was.places bytes (before bytes holds) lies)) rest);
     }

@@ -6,14 +6,14 @@ use Rattle.pm_archive.proofs.listing.+listing.Goals as goal
 
 pub push_each-returns-in-Err-clause-listed : goal.push_each-returns-in-Err-clause-listed
 push_each-returns-in-Err-clause-listed g t c = λ bytes held.
-    each_fault (lists_at bytes c.args.header.now c.args.more) c.args.bound c.args.entries.now c.loop-i.i _ c.loop-i.tiles.items c.bound_behind-bound.result _ c.in-Err.fault c.loop-i-test.true c.bound_behind-bound.ensures (c.loop-i.invariant.listed bytes held)
-    (c.in-Err.ensures.listed bytes (c.loop-i.invariant.source.same_bytes bytes held))
+    each_fault (lists_at bytes c.args.header.now c.args.more) c.args.bound c.args.entries.now c.loop-i.i _ c.loop-i.tiles.items c.bound_behind-bound.result _ c.in-Err.fault c.loop-i-test.true c.bound_behind-bound.ensures (c.loop-i.invariant.listed bytes (c.in-Err.ensures.source.no_others bytes held))
+    (c.in-Err.ensures.listed bytes held)
 
 pub push_each-loop-i-preserved : goal.push_each-loop-i-preserved
 push_each-loop-i-preserved g t c = record {
   source = keeps_on g.met.B.Bytes.unchanged_on c.loop-i.invariant.source c.in-Ok.ensures.source;
-  listed = λ bytes held. c.loop-i.invariant.listed bytes held
-      ∙ each_on (lists_at bytes c.args.header.now c.args.more) c.args.bound c.args.entries.now c.loop-i.i _ c.loop-i.tiles.items c.bound_behind-bound.result _ c.loop-i-test.true c.bound_behind-bound.ensures (c.in-Ok.ensures.listed bytes (c.loop-i.invariant.source.same_bytes bytes held));
+  listed = λ bytes held. c.loop-i.invariant.listed bytes (c.in-Ok.ensures.source.no_others bytes held)
+      ∙ each_on (lists_at bytes c.args.header.now c.args.more) c.args.bound c.args.entries.now c.loop-i.i _ c.loop-i.tiles.items c.bound_behind-bound.result _ c.loop-i-test.true c.bound_behind-bound.ensures (c.in-Ok.ensures.listed bytes held);
 }
 
 pub push_listed-returns-then-entry-gt0-clause-listed :
@@ -24,10 +24,10 @@ push_listed-returns-then-entry-gt0-clause-listed g t c = λ bytes held.
 
 pub push_listed-returns-in-Ok-clause-listed : goal.push_listed-returns-in-Ok-clause-listed
 push_listed-returns-in-Ok-clause-listed g t c = λ bytes held.
-    let leaf = c.in-Ok.ensures.leaf bytes held in
+    let leaf = c.in-Ok.ensures.leaf bytes (c.push_each.ensures.source.no_others bytes held) in
     let same = lists_leaf bytes c.args.header.now c.args.more c.args.entry c.args.bound c.if-more-eq0.false c.if-entry-gt0.false in
     let value = c.deref.ensures.value in
-    rw (same, leaf, ← value) (c.push_each.ensures.listed bytes (c.in-Ok.ensures.source.same_bytes bytes held))
+    rw (same, leaf, ← value) (c.push_each.ensures.listed bytes held)
 
 pub push_listed-returns-in-Err-clause-listed : goal.push_listed-returns-in-Err-clause-listed
 push_listed-returns-in-Err-clause-listed g t c = λ bytes held.

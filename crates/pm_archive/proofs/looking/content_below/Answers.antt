@@ -9,8 +9,8 @@ use Rattle.pm_archive.proofs.looking.content_below.Goals as goal
 pub returns-in-Ok-clause-content : goal.returns-in-Ok-clause-content
 returns-in-Ok-clause-content g c bytes tiles holds lists =
     let h = c.args.header.now in
-    let found = content_found bytes h c.args.id most_leaves ids_end c.args.root.now tiles c.leading.result (c.leading.ensures, c.requires.ascending, lists) c.in-Ok.entry (c.in-Ok.ensures.first bytes holds) in
-    answer_found (option_map (λ v. v.items)) c.content_in.result (content_at bytes h c.in-Ok.entry) (content_of bytes h tiles c.args.id) found (c.content_in.ensures.first bytes (c.in-Ok.ensures.source.same_bytes bytes holds))
+    let found = content_found bytes h c.args.id most_leaves ids_end c.args.root.now tiles c.leading.result (c.leading.ensures, c.requires.ascending, lists) c.in-Ok.entry (c.in-Ok.ensures.first bytes (c.content_in.ensures.source.no_others bytes holds)) in
+    answer_found (option_map (λ v. v.items)) c.content_in.result (content_at bytes h c.in-Ok.entry) (content_of bytes h tiles c.args.id) found (c.content_in.ensures.first bytes holds)
 
 pub returns-in-Err-clause-content : goal.returns-in-Err-clause-content
 returns-in-Err-clause-content g c bytes tiles holds lists =
@@ -21,8 +21,8 @@ returns-in-Err-clause-content g c bytes tiles holds lists =
 pub returns-in-Ok-clause-first : goal.returns-in-Ok-clause-first
 returns-in-Ok-clause-first g c bytes holds =
     looked_on bytes c.args.header.now c.args.id c.args.root.now c.leading.result c.leading.ensures (option_map (λ v. v.items)) c.content_in.result
-    c.in-Ok.entry (c.in-Ok.ensures.first bytes holds)
-    (c.content_in.ensures.first bytes (c.in-Ok.ensures.source.same_bytes bytes holds))
+    c.in-Ok.entry (c.in-Ok.ensures.first bytes (c.content_in.ensures.source.no_others bytes holds))
+    (c.content_in.ensures.first bytes holds)
 
 pub returns-in-Err-clause-first : goal.returns-in-Err-clause-first
 returns-in-Err-clause-first g c bytes holds =
