@@ -5,11 +5,11 @@ here="$(cd "$(dirname "$0")" && pwd)"
 top="$(cd "$here/../.." && pwd)"
 work="$(mktemp -d)"
 mkdir -p "$work/crates/codec_bench/src"
-for crate in pb_wire hilbert_id geometry_commands mvt_layer mvt_write edit_text edit_codec tile_cutter feature_store; do
+for crate in pb_wire hilbert_id geometry_commands mvt_layer mvt_write feature_model edit_text tile_cutter feature_store; do
     cp -a "$top/crates/$crate" "$work/crates/$crate"
     grep "^$crate:" "$top/crates.txt"
 done > "$work/crates.txt"
-echo "codec_bench: feature_store edit_text edit_codec mvt_layer mvt_write hilbert_id anyhow" >> "$work/crates.txt"
+echo "codec_bench: feature_store feature_model edit_text mvt_layer mvt_write hilbert_id anyhow" >> "$work/crates.txt"
 cp "$top/HANDLES" "$work/HANDLES"
 cp "$here/main.rt.txt" "$work/crates/codec_bench/src/main.rt"
 mkdir -p "$work/crates/codec_bench/proofs/put"

@@ -3,12 +3,12 @@ use Rattle.std.proofs.Common.{◌≡◌, ℕ, ◌≤◌, List, length, All, Some
 use Rattle.std.specs.Cmp.Lexicographic.{slice_cmp}
 use Rattle.std.specs.List.Sorted.{IsStrictlySortedBy}
 use Rattle.serde_json.specs.Data.{Data, Members}
-use Rattle.edit_text.specs.declared.fault.EditFault.{EditFault}
-use Rattle.edit_text.specs.declared.fault.EditFault.TheVariants as faults
-use Rattle.edit_text.specs.Data.{GeometryData, TagData, FeatureData}
-use Rattle.edit_text.specs.Limits.{IsName, keys_of, GeometryFits, TagsFit, ValuesFit}
+use Rattle.feature_model.specs.declared.fault.EditFault.{EditFault}
+use Rattle.feature_model.specs.declared.fault.EditFault.TheVariants as faults
+use Rattle.feature_model.specs.Data.{GeometryData, TagData, FeatureData}
+use Rattle.feature_model.specs.Limits.{IsName, keys_of, GeometryFits, TagsFit, ValuesFit}
 use Rattle.edit_json.specs.Json.{points_name, lines_name, polygons_name, ShapeData, point_list, line_list, polygon_list, shape_json, shape_of, tags_json, OutlineData, outline_json, outline_of}
-use Rattle.edit_text.specs.Types.{LiesInWorld}
+use Rattle.feature_model.specs.Types.{LiesInWorld}
 use Rattle.edit_json.specs.Faults.{IsFeature, IsOutline, HasOutline, NameFits, RangeFits, HasGeometry, names_of, HasKeys, HasTags, IsFirstJsonFault}
 use Rattle.edit_json.specs.Lists.{geometry_at}
 use Rattle.edit_json.specs.Tags.{tags_at}

@@ -8,11 +8,11 @@ use Rattle.serde_json.specs.Data.{Data, null, boolean, number, string, array, ob
 use Rattle.serde_json.specs.Events.{items_len}
 use Rattle.serde_json.specs.Find.{as_array}
 use Rattle.serde_json.specs.View.{items_of}
-use Rattle.edit_text.specs.declared.feature.World.{World}
-use Rattle.edit_text.specs.Data.{GeometryData, world_points, world_lines, world_polygons}
-use Rattle.edit_text.specs.Limits.{CountFits, GeometryFits}
+use Rattle.feature_model.specs.declared.feature.World.{World}
+use Rattle.feature_model.specs.Data.{GeometryData, world_points, world_lines, world_polygons}
+use Rattle.feature_model.specs.Limits.{CountFits, GeometryFits}
 use Rattle.edit_json.specs.Json.{ShapeData, point_list, line_list, polygon_list, point_json, points_json, lines_json, shape_of}
-use Rattle.edit_text.specs.Types.{IsOfWorld, LiesInWorld}
+use Rattle.feature_model.specs.Types.{IsOfWorld, LiesInWorld}
 use Rattle.edit_json.specs.Lists.{below, pair_at, point_at, each, has_count, list_of, points_at, lines_at, geometry_at}
 
 -- what `one` reads is exactly what has this JSON and keeps to P

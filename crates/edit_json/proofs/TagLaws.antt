@@ -6,8 +6,8 @@ use Rattle.std.proofs.lemmas.Int.{ints}
 use Rattle.std.proofs.lemmas.Bool.Decides.{nat_tests}
 use Rattle.std.proofs.lemmas.List.Elements.{All-nil, All-cons, All-head, All-tail}
 use Rattle.serde_json.specs.Data.{Data, null, boolean, number, string, array, object, unsigned, negative, float, Members, no_members, member}
-use Rattle.edit_text.specs.Data.{ValueData, text_value, natural_value, negative_value, truth_value, TagData}
-use Rattle.edit_text.specs.Limits.{ValueFits, ValuesFit, keys_of}
+use Rattle.feature_model.specs.Data.{ValueData, text_value, natural_value, negative_value, truth_value, TagData}
+use Rattle.feature_model.specs.Limits.{ValueFits, ValuesFit, keys_of}
 use Rattle.edit_json.specs.Json.{value_json, tags_json}
 use Rattle.edit_json.specs.Faults.{names_of}
 use Rattle.edit_json.specs.Tags.{value_at, tag_at, tags_at}

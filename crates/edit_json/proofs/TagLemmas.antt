@@ -8,8 +8,8 @@ use Rattle.std.specs.String.{string_cmp}
 use Rattle.std.proofs.lemmas.List.Elements.{All-nil, All-cons, All-head, All-tail}
 use Rattle.serde_json.specs.View.{view, members_view}
 use Rattle.serde_json.specs.declared.value.Value.{Value}
-use Rattle.edit_text.specs.Data.{TagData}
-use Rattle.edit_text.specs.Limits.{IsName}
+use Rattle.feature_model.specs.Data.{TagData}
+use Rattle.feature_model.specs.Limits.{IsName}
 use Rattle.edit_json.specs.Faults.{names_of}
 use Rattle.edit_json.specs.Tags.{tag_at, tags_at}
 use Rattle.edit_json.proofs.SoFar.{goes_on, goes_on-cons}

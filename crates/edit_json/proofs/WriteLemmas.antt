@@ -6,8 +6,8 @@ use Rattle.std.specs.List.{AllByRecursion}
 use Rattle.std.specs.List.Sorted.{IsStrictlySortedBy}
 use Rattle.std.proofs.lemmas.Cmp.{nat_list_cmp_total}
 use Rattle.serde_json.specs.Data.{Data, Members, put, member}
-use Rattle.edit_text.specs.Data.{TagData}
-use Rattle.edit_text.specs.Limits.{keys_of, HasAscendingKeys}
+use Rattle.feature_model.specs.Data.{TagData}
+use Rattle.feature_model.specs.Limits.{keys_of, HasAscendingKeys}
 use Rattle.edit_json.specs.Json.{value_json, tags_json}
 
 key_above : (k : List ℕ) (ts : List TagData) (i : ℕ) (d : TagData) → i < length ts → AllByRecursion (λ y. slice_cmp nat_cmp k y ≡ Less) (keys_of ts) → slice_cmp nat_cmp (get_or ts i d).key k ≡ Greater

@@ -1,11 +1,11 @@
 -- What a JSON value tells of a feature: that it is the feature's value, or the first fault that it has.
 use Rattle.std.specs.Prelude.{◌≡◌, ℕ, ◌<◌, ◌≤◌, List, [], ◌∷◌, length, All, ⊤}
 use Rattle.serde_json.specs.Data.{Data, Members, no_members, member}
-use Rattle.edit_text.specs.declared.fault.EditFault.{EditFault}
-use Rattle.edit_text.specs.declared.fault.EditFault.TheVariants as faults
-use Rattle.edit_text.specs.Data.{GeometryData, TagData, FeatureData}
-use Rattle.edit_text.specs.Limits.{IsName, LayerFits, ZoomsFit, GeometryFits, TagsFit, ValuesFit}
-use Rattle.edit_text.specs.Types.{LiesInWorld}
+use Rattle.feature_model.specs.declared.fault.EditFault.{EditFault}
+use Rattle.feature_model.specs.declared.fault.EditFault.TheVariants as faults
+use Rattle.feature_model.specs.Data.{GeometryData, TagData, FeatureData}
+use Rattle.feature_model.specs.Limits.{IsName, LayerFits, ZoomsFit, GeometryFits, TagsFit, ValuesFit}
+use Rattle.feature_model.specs.Types.{LiesInWorld}
 use Rattle.edit_json.specs.Json.{shape_of, tags_json, OutlineData, outline_json, json_of}
 
 -- ---- a feature's value

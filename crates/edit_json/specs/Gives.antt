@@ -1,7 +1,7 @@
 -- What a step of the reader answers.
 use Rattle.std.specs.Prelude.{◌≡◌, Option, Some, None, IsSome, Result, MatchResult, ◌⊎◌}
-use Rattle.edit_text.specs.declared.fault.EditFault.{EditFault}
-use Rattle.edit_text.specs.declared.fault.EditFault.TheVariants as faults
+use Rattle.feature_model.specs.declared.fault.EditFault.{EditFault}
+use Rattle.feature_model.specs.declared.fault.EditFault.TheVariants as faults
 
 -- the value that there is, or the fault where there is none: the step takes no memory
 abbrev pub Tells : {T A : Type 0} → EditFault → (T → A) → Result T EditFault → Option A → Type 0

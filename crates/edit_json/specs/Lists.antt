@@ -3,8 +3,8 @@ use Rattle.std.specs.Prelude.{ℕ, ◌^◌, ◌&&◌, nat_lt, nat_le, if◌then�
 use Rattle.serde_json.specs.Data.{Data, Items, no_items, item}
 use Rattle.serde_json.specs.Events.{items_len}
 use Rattle.serde_json.specs.Find.{as_u64, as_number, as_array}
-use Rattle.edit_text.specs.declared.feature.World.{World}
-use Rattle.edit_text.specs.Data.{GeometryData, world_points, world_lines, world_polygons}
+use Rattle.feature_model.specs.declared.feature.World.{World}
+use Rattle.feature_model.specs.Data.{GeometryData, world_points, world_lines, world_polygons}
 use Rattle.edit_json.specs.Json.{ShapeData, point_list, line_list, polygon_list}
 
 -- a whole number below the limit

@@ -1,7 +1,7 @@
 -- What the members of `tags` are read as.
 use Rattle.std.specs.Prelude.{ℕ, nat_le, int_lt, pos, if◌then◌else◌, List, [], ◌∷◌, length, Option, Some, None, option_and_then, option_map}
 use Rattle.serde_json.specs.Data.{Data, null, boolean, number, string, array, object, unsigned, negative, float, Members, no_members, member}
-use Rattle.edit_text.specs.Data.{ValueData, text_value, natural_value, negative_value, truth_value, TagData}
+use Rattle.feature_model.specs.Data.{ValueData, text_value, natural_value, negative_value, truth_value, TagData}
 
 unfoldable pub value_at : Data → Option ValueData
 value_at null = None

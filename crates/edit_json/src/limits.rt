@@ -1,7 +1,7 @@
 //! The limits that a value is tested against before a feature is made of it.
 
 ghost use Rattle.std.specs.Prelude.{◌≡◌, ◌≤◌, ◌↔◌, IsTrue};
-ghost use Rattle.edit_text.specs.Limits.{IsName};
+ghost use Rattle.feature_model.specs.Limits.{IsName};
 ghost use Rattle.edit_json.specs.Lists.{has_count};
 
 /// The greatest zoom of a feature.

@@ -6,11 +6,11 @@ ghost use Rattle.serde_json.specs.View.{view, items_view};
 ghost use Rattle.edit_json.specs.Gives.{Tells, Gives};
 ghost use Rattle.edit_json.specs.Lists.{below, point_at, has_count, list_of, points_at, lines_at, geometry_at};
 ghost use Rattle.edit_json.specs.Outline.{shape_data};
-ghost use Rattle.edit_text.specs.Data.{geometry_data};
+ghost use Rattle.feature_model.specs.Data.{geometry_data};
 
 use crate::limits::count_fits;
 use crate::outline::Shape;
-use edit_text::{EditFault, Geometry, World};
+use feature_model::{EditFault, Geometry, World};
 use serde_json::Value;
 use std::alloc::Global;
 

@@ -2,8 +2,8 @@
 
 ghost use Rattle.std.specs.Prelude.{◌≡◌, ◌≢◌, IfOk, IfErr, MatchResult};
 ghost use Rattle.serde_json.specs.View.{view};
-ghost use Rattle.edit_text.specs.Data.{FeatureData, feature_data};
-ghost use Rattle.edit_text.specs.Types.{FeatureFitsTypes};
+ghost use Rattle.feature_model.specs.Data.{FeatureData, feature_data};
+ghost use Rattle.feature_model.specs.Types.{FeatureFitsTypes};
 ghost use Rattle.edit_json.specs.Faults.{IsFeature, IsOutline, NameFits, RangeFits, IsFirstJsonFault};
 ghost use Rattle.edit_json.specs.Outline.{outline_data};
 
@@ -11,7 +11,7 @@ use crate::limits::{is_name, zooms_fit};
 use crate::lists::read_geometry;
 use crate::outline::{Outline, read_outline};
 use crate::tags::{check_tags, read_tags};
-use edit_text::{EditFault, Feature};
+use feature_model::{EditFault, Feature};
 use serde_json::Value;
 use std::alloc::Global;
 

@@ -1,5 +1,5 @@
 use super::*;
-use edit_text::{EditFault, EditValue, Geometry, World};
+use feature_model::{EditFault, EditValue, Geometry, World};
 use serde_json::Value;
 use std::alloc::Global;
 use std::process::Abort;

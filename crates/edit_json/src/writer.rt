@@ -3,11 +3,11 @@
 ghost use Rattle.std.specs.Prelude.{◌≡◌, map, IfOk};
 ghost use Rattle.serde_json.specs.Data.{object, member, no_members};
 ghost use Rattle.serde_json.specs.View.{view};
-ghost use Rattle.edit_text.specs.Data.{geometry_data, value_data, tag_data, feature_data};
-ghost use Rattle.edit_text.specs.Limits.{HasAscendingKeys, TagsFit, ValueFits, ValuesFit};
+ghost use Rattle.feature_model.specs.Data.{geometry_data, value_data, tag_data, feature_data};
+ghost use Rattle.feature_model.specs.Limits.{HasAscendingKeys, TagsFit, ValueFits, ValuesFit};
 ghost use Rattle.edit_json.specs.Json.{point_json, points_json, lines_json, polygons_json, shape_of, shape_json, value_json, tags_json, json_of};
 
-use edit_text::{EditValue, Feature, Geometry, Memory, Tag, World};
+use feature_model::{EditValue, Feature, Geometry, Memory, Tag, World};
 use serde_json::value::Map;
 use serde_json::{Value, put};
 use std::alloc::Global;

@@ -1,4 +1,3 @@
-pub mod Data
-pub mod Limits
-pub mod Spelled
-pub mod Types
+pub mod Cut
+pub mod Decoding
+pub mod Reading

@@ -1,56 +1,35 @@
-ghost use Rattle.edit_text.specs.declared.fault.EditFault.TheVariants.{Memory};
+ghost use Rattle.edit_text.specs.declared.fault.TextFault.TheVariants.{Memory};
 ghost use Rattle.std.specs.Prelude.{◌≡◌};
 
 use std::alloc::{AllocError, AllocFailed};
 use thiserror::Error;
 
-/// Why a feature is no feature of a map, in the order in which faults are told.
+/// Why no text of an edit stands in front of some bytes.
 #[derive(Clone, Copy, Debug, PartialEq, Eq, Error)]
-pub enum EditFault {
-    /// E1: no object; a member missing, unknown or of another JSON kind; a zoom that is no whole number of 0 to 255.
-    #[error("E1 Member")]
-    Member,
-    /// E2: a number of 2^63 or more.
-    #[error("E2 Number")]
-    Number,
-    /// E3: a layer's name not of 1 to 64 bytes.
-    #[error("E3 Layer")]
-    Layer,
-    /// E4: `minzoom` above `maxzoom`, or `maxzoom` above 16.
-    #[error("E4 Zoom")]
-    Zoom,
-    /// E5: a list too short or above 65,535, or what is no list of points inside one.
-    #[error("E5 Geometry")]
-    Geometry,
-    /// E6: over 64 tags, a key not of 1 to 64 bytes, keys not strictly ascending.
-    #[error("E6 Tags")]
-    Tags,
-    /// E7: a value that no tag has.
-    #[error("E7 Value")]
-    Value,
-    /// E8: a text of over 32,768 bytes.
-    #[error("E8 Long")]
-    Long,
-    /// E9: a reach over 65,536 places.
-    #[error("E9 Reach")]
-    Reach,
+pub enum TextFault {
+    /// Fewer than 32,768 bytes, which end before the text does, and each field that is whole among them is allowed.
+    #[error("the text of an edit is cut short")]
+    Cut,
+    /// Bytes that begin no text of an edit.
+    #[error("no text of an edit")]
+    Bad,
     /// A growth was refused.
     #[error("out of memory")]
     Memory,
 }
 
-impl<T: Drop> From<AllocFailed<T>> for EditFault {
+impl<T: Drop> From<AllocFailed<T>> for TextFault {
     ghost from_gives = { λ _ e. e ≡ Memory };
 
-    fn from(_e: AllocFailed<T>) -> EditFault {
-        EditFault::Memory
+    fn from(_e: AllocFailed<T>) -> TextFault {
+        TextFault::Memory
     }
 }
 
-impl From<AllocError> for EditFault {
+impl From<AllocError> for TextFault {
     ghost from_gives = { λ _ e. e ≡ Memory };
 
-    fn from(_e: AllocError) -> EditFault {
-        EditFault::Memory
+    fn from(_e: AllocError) -> TextFault {
+        TextFault::Memory
     }
 }

@@ -1,17 +1,19 @@
-//! Features of a map, edits, and their limits.
+//! The text of an edit, both ways.
 #![tactic(auto)]
 
-mod copies;
+mod decoding;
+mod edits;
+mod encoding;
 mod fault;
-mod feature;
-mod lengths;
-mod limits;
+mod fields;
+mod laws;
+mod shapes;
+mod tags;
 
-pub use copies::copy;
-pub use fault::EditFault;
-pub use feature::{Edit, EditValue, Feature, Geometry, Tag, World};
-pub use lengths::put_text_len;
-pub use limits::{GREATEST_ZOOM, check};
+pub use decoding::decode;
+pub use encoding::{delete_text, encode};
+pub use fault::TextFault;
+pub use laws::{length_law, spelling_law};
 
 /// A growth that was refused.
 pub type Memory = std::alloc::AllocError;

@@ -4,10 +4,10 @@ use Rattle.std.specs.List.{insert, remove}
 use Rattle.std.proofs.lemmas.List.{length-map, map-set, map-append, take-map, drop-map, get_or-map}
 use mathlib.Core.Bool.{false≢true}
 use Rattle.std.proofs.lemmas.List.Edits.{length-insert}
-use Rattle.edit_text.specs.declared.feature.Feature.{Feature}
-use Rattle.edit_text.specs.Data.{FeatureData, feature_data}
-use Rattle.edit_text.specs.Data.{put}
-use Rattle.edit_text.specs.Types.{IsEdit}
+use Rattle.feature_model.specs.declared.feature.Feature.{Feature}
+use Rattle.feature_model.specs.Data.{FeatureData, feature_data}
+use Rattle.feature_model.specs.Data.{put}
+use Rattle.feature_model.specs.Types.{IsEdit}
 use Rattle.feature_store.specs.declared.limit.TheConstants.{TEXTS_END}
 use Rattle.feature_store.specs.declared.entry.Entry.{Entry}
 use Rattle.feature_store.specs.Inside.{entry_data, entries_data}

@@ -17,7 +17,7 @@ use Rattle.std.proofs.lemmas.List.Elements.{All-nil, All-cons, All-map, All-weak
 use Rattle.std.proofs.lemmas.Slice.Eq.{bytes_eq-Decides}
 use Rattle.std.proofs.lemmas.Map.Text.{is_eq-slice_cmp}
 use Rattle.std.proofs.lemmas.Map.Views.{All-found}
-use Rattle.edit_text.specs.Data.{FeatureData}
+use Rattle.feature_model.specs.Data.{FeatureData}
 use Rattle.mvt_layer.specs.declared.tile.TileFeature.{TileFeature}
 use Rattle.mvt_layer.specs.Tile.{FeatureView, LayerView, feature_view}
 use Rattle.tile_cutter.specs.Cut.{feature_cut}

@@ -8,9 +8,9 @@ use Rattle.std.specs.declared.cmp.Ordering.TheVariants.{Less, Equal, Greater}
 use Rattle.std.specs.BTreeMap.{insert_entry, is_at}
 use Rattle.std.specs.Map.{keys_of, lookup, remove_entry}
 use Rattle.std.proofs.lemmas.List.Elements.{All-cons, All-head, All-tail}
-use Rattle.edit_text.specs.Data.{FeatureData}
-use Rattle.edit_text.specs.Data.{put}
-use Rattle.edit_text.specs.Types.{IsEdit}
+use Rattle.feature_model.specs.Data.{FeatureData}
+use Rattle.feature_model.specs.Data.{put}
+use Rattle.feature_model.specs.Types.{IsEdit}
 use Rattle.feature_store.specs.declared.limit.TheConstants.{TEXTS_END}
 use Rattle.feature_store.specs.Store.{FeatureMap, IsMap, feature_at, with_feature, without_feature, snapshot}
 use Rattle.feature_store.specs.Places.{StandsAt, IsGapFor}

@@ -9,7 +9,7 @@ use Rattle.std.specs.declared.cmp.Ordering.TheVariants.{Less, Equal, Greater}
 use Rattle.std.specs.Cmp.Lexicographic.{slice_cmp}
 use Rattle.std.proofs.lemmas.Cmp.{nat_list_cmp_total}
 use Rattle.std.proofs.lemmas.List.Elements.{All-nil, All-cons, All-weaker}
-use Rattle.edit_text.specs.Data.{FeatureData}
+use Rattle.feature_model.specs.Data.{FeatureData}
 use Rattle.mvt_layer.specs.Tile.{FeatureView, LayerView}
 use Rattle.feature_store.specs.Layers.{cuts_of, with_name, layer_names, layer_with, names_of, IsLayer, AreLayers}
 use Rattle.feature_store.specs.Store.{FeatureMap}

@@ -5,8 +5,8 @@ use Rattle.std.specs.Str.{bytes_eq}
 use Rattle.std.specs.List.{cons_option}
 use Rattle.std.proofs.lemmas.List.{length-map, length-append, map-append, take_more}
 use Rattle.std.proofs.lemmas.List.Elements.{All-map, All-weaker, filter_map-append}
-use Rattle.edit_text.specs.Data.{FeatureData, TagData, ValueData, text_value, natural_value, negative_value, truth_value}
-use Rattle.edit_text.specs.Limits.{IsAllowed, ValueFits}
+use Rattle.feature_model.specs.Data.{FeatureData, TagData, ValueData, text_value, natural_value, negative_value, truth_value}
+use Rattle.feature_model.specs.Limits.{IsAllowed, ValueFits}
 use Rattle.geometry_commands.specs.Shapes.{ShapeView}
 use Rattle.geometry_commands.specs.Encodable.{CanSpell}
 use Rattle.mvt_layer.specs.Tile.{FeatureView}

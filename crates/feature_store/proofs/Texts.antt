@@ -7,11 +7,11 @@ use Rattle.std.specs.Map.{remove_entry}
 use Rattle.std.specs.declared.cmp.Ordering.TheVariants.{Less, Equal, Greater}
 use Rattle.std.proofs.lemmas.List.{length-append}
 use Rattle.std.proofs.lemmas.List.Elements.{All-head, All-tail}
-use Rattle.edit_text.specs.Data.{ValueData, text_value, natural_value, negative_value, truth_value, TagData, FeatureData, put}
-use Rattle.edit_text.specs.Limits.{IsName, keys_of}
-use Rattle.edit_text.specs.Spelled.{spelled, spelled_feature, spelled_name, spelled_value, spelled_tag, spelled_tags, eight_bytes, spelled_geometry}
-use Rattle.edit_text.specs.Types.{IsEdit}
-use Rattle.edit_codec.proofs.Decoded.{short_from}
+use Rattle.feature_model.specs.Data.{ValueData, text_value, natural_value, negative_value, truth_value, TagData, FeatureData, put}
+use Rattle.feature_model.specs.Limits.{IsName, keys_of}
+use Rattle.feature_model.specs.Spelled.{spelled, spelled_feature, spelled_name, spelled_value, spelled_tag, spelled_tags, eight_bytes, spelled_geometry}
+use Rattle.feature_model.specs.Types.{IsEdit}
+use Rattle.edit_text.proofs.Decoded.{short_from}
 use Rattle.feature_store.specs.declared.limit.TheConstants.{TEXTS_END}
 use Rattle.feature_store.specs.Store.{FeatureMap, IsMap, entry_text, snapshot, with_feature, without_feature}
 use Rattle.feature_store.proofs.Maps.{set_step, removed_here, removed_on}

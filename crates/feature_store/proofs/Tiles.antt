@@ -7,8 +7,8 @@ use Rattle.std.specs.List.{cons_option}
 use Rattle.std.proofs.lemmas.Int.{ints}
 use Rattle.std.proofs.lemmas.List.Elements.{All-nil, All-cons, All-head, All-tail, All-map, All-weaker}
 use Rattle.std.proofs.lemmas.Slice.Eq.{bytes_eq-Decides}
-use Rattle.edit_text.specs.Data.{FeatureData, TagData, ValueData, text_value, natural_value, negative_value, truth_value, put}
-use Rattle.edit_text.specs.Types.{IsEdit, ValueFitsTypes, TagFitsTypes}
+use Rattle.feature_model.specs.Data.{FeatureData, TagData, ValueData, text_value, natural_value, negative_value, truth_value, put}
+use Rattle.feature_model.specs.Types.{IsEdit, ValueFitsTypes, TagFitsTypes}
 use Rattle.geometry_commands.specs.Encodable.{CanSpell, FitsShape}
 use Rattle.geometry_commands.proofs.SpelledLaws.{spelled_is}
 use Rattle.mvt_layer.specs.Tile.{FeatureView, LayerView}

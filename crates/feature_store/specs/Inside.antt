@@ -1,6 +1,6 @@
 -- How a store keeps its map.
 use Rattle.std.specs.Prelude.{ℕ, ◌-◌, List, map, vec_len, vec_capacity}
-use Rattle.edit_text.specs.Data.{FeatureData, feature_data}
+use Rattle.feature_model.specs.Data.{FeatureData, feature_data}
 use Rattle.feature_store.specs.declared.entry.Entry.{Entry}
 use Rattle.feature_store.specs.declared.store.Store.TheInside.{Inside}
 use Rattle.feature_store.specs.Store.{FeatureMap, StoreView, IsMap}

@@ -5,8 +5,8 @@ use Rattle.std.specs.Ordering.{nat_cmp, match_ordering}
 use Rattle.std.specs.Str.{bytes_eq}
 use Rattle.std.specs.Cmp.Lexicographic.{slice_cmp}
 use Rattle.std.specs.List.Sorted.{IsStrictlySortedBy}
-use Rattle.edit_text.specs.Data.{FeatureData}
-use Rattle.edit_text.specs.declared.limits.TheConstants.{GREATEST_ZOOM}
+use Rattle.feature_model.specs.Data.{FeatureData}
+use Rattle.feature_model.specs.declared.limits.TheConstants.{GREATEST_ZOOM}
 use Rattle.mvt_layer.specs.Tile.{FeatureView, LayerView}
 use Rattle.tile_cutter.specs.Cut.{feature_cut}
 use Rattle.feature_store.specs.Store.{FeatureMap}

@@ -5,9 +5,9 @@ use Rattle.std.specs.List.{flat_map}
 use Rattle.std.specs.List.Sorted.{IsStrictlySortedBy}
 use Rattle.std.specs.BTreeMap.{insert_entry, is_at}
 use Rattle.std.specs.Map.{keys_of, lookup, remove_entry}
-use Rattle.edit_text.specs.Data.{FeatureData, EditData, put, delete}
-use Rattle.edit_text.specs.Spelled.{spelled}
-use Rattle.edit_text.specs.Types.{IsEdit}
+use Rattle.feature_model.specs.Data.{FeatureData, EditData, put, delete}
+use Rattle.feature_model.specs.Spelled.{spelled}
+use Rattle.feature_model.specs.Types.{IsEdit}
 use Rattle.feature_store.specs.declared.limit.TheConstants.{TEXTS_END}
 
 -- numbers, each with its feature

@@ -2,7 +2,7 @@ ghost use Rattle.std.specs.Prelude.{◌≡◌, IfOk};
 ghost use Rattle.feature_store.specs.Inside.{entry_data, entries_data};
 
 use crate::entry::Entry;
-use edit_text::{Memory, copy};
+use feature_model::{Memory, copy};
 use std::alloc::Global;
 
 /// An equal entry.

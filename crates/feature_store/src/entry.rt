@@ -1,4 +1,4 @@
-use edit_text::Feature;
+use feature_model::Feature;
 
 /// A feature and its number.
 #[derive(Debug, Drop)]

@@ -1,13 +1,13 @@
 ghost use Rattle.std.specs.Prelude.{◌≡◌, ℕ, ◌≤◌, List, ◌∷◌, ◌++◌, [], All, OnOk, IfOk, option_map};
-ghost use Rattle.edit_text.specs.Data.{feature_data};
-ghost use Rattle.edit_text.specs.Limits.{IsAllowed};
+ghost use Rattle.feature_model.specs.Data.{feature_data};
+ghost use Rattle.feature_model.specs.Limits.{IsAllowed};
 ghost use Rattle.mvt_layer.specs.Tile.{feature_view};
 ghost use Rattle.feature_store.specs.Gathered.{gathered_for, more_for, HasNoEmpty};
 ghost use Rattle.feature_store.specs.Inside.{entry_data, entries_data};
 ghost use Rattle.feature_store.specs.Layers.{numbered_cut, cuts_of};
 
 use crate::entry::Entry;
-use edit_text::Memory;
+use feature_model::Memory;
 use hilbert_id::TileAt;
 use mvt_layer::TileFeature;
 use std::alloc::Global;

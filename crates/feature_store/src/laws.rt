@@ -1,9 +1,9 @@
 //! Laws of maps, by functions that do nothing and whose clauses are proved.
 
 ghost use Rattle.std.specs.Prelude.{◌≡◌, ◌↔◌, ◌+◌, ◌*◌, ◌<◌, ◌≤◌, ◌^◌, ℕ, true, false, List, [], length};
-ghost use Rattle.edit_text.specs.Data.{FeatureData, EditData, put};
-ghost use Rattle.edit_text.specs.Spelled.{spelled};
-ghost use Rattle.edit_text.specs.Types.{IsEdit};
+ghost use Rattle.feature_model.specs.Data.{FeatureData, EditData, put};
+ghost use Rattle.feature_model.specs.Spelled.{spelled};
+ghost use Rattle.feature_model.specs.Types.{IsEdit};
 ghost use Rattle.mvt_layer.specs.Reads.{ReadsAs};
 ghost use Rattle.mvt_layer.specs.Tile.{LayerView};
 ghost use Rattle.mvt_write.specs.Written.{written};

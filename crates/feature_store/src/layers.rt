@@ -6,7 +6,7 @@ ghost use Rattle.mvt_layer.specs.Tile.{layer_views};
 ghost use Rattle.feature_store.specs.Gathered.{layers_of};
 
 use crate::gathered::Gathered;
-use edit_text::Memory;
+use feature_model::Memory;
 use mvt_layer::Layer;
 use std::alloc::Global;
 

@@ -1,6 +1,6 @@
 ghost use Rattle.std.specs.Prelude.{◌≡◌, ℕ, [], ◌*◌, ◌<◌, ◌≤◌, ◌≢◌, ◌↔◌, length, Some, IsSome, None, IfOk, OnOk, OnErr, IsTrue, option_map};
-ghost use Rattle.edit_text.specs.Data.{feature_data, put};
-ghost use Rattle.edit_text.specs.Types.{IsEdit};
+ghost use Rattle.feature_model.specs.Data.{feature_data, put};
+ghost use Rattle.feature_model.specs.Types.{IsEdit};
 ghost use Rattle.mvt_layer.specs.Tile.{layer_views};
 ghost use Rattle.mvt_write.specs.CanWrite.{CanWriteAll};
 ghost use Rattle.feature_store.specs.Layers.{layers};
@@ -12,7 +12,7 @@ use crate::gathered::gather;
 use crate::layers::listed;
 use crate::limit::TEXTS_END;
 use crate::search::find;
-use edit_text::{Feature, GREATEST_ZOOM, Memory};
+use feature_model::{Feature, GREATEST_ZOOM, Memory};
 use hilbert_id::TileAt;
 use mvt_layer::Layer;
 use std::alloc::Global;

@@ -1,6 +1,6 @@
 use super::*;
-use edit_codec::encode;
-use edit_text::{Edit, Feature, Geometry, World, check};
+use edit_text::encode;
+use feature_model::{Edit, Feature, Geometry, World, check};
 use hilbert_id::TileAt;
 use mvt_layer::Layer;
 use std::alloc::{AllocError, Global};

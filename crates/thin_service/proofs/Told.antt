@@ -1,10 +1,10 @@
 -- Faults as they are told.
 use Rattle.std.proofs.Common.{◌≡◌, ℕ, List, ◌⊎◌, inl, inr, refl}
 use Rattle.serde_json.specs.Data.{Data}
-use Rattle.edit_text.specs.Data.{FeatureData}
-use Rattle.edit_text.specs.Limits.{IsFirstFault}
-use Rattle.edit_text.specs.declared.fault.EditFault.{EditFault}
-use Rattle.edit_text.specs.declared.fault.EditFault.TheVariants as edits
+use Rattle.feature_model.specs.Data.{FeatureData}
+use Rattle.feature_model.specs.Limits.{IsFirstFault}
+use Rattle.feature_model.specs.declared.fault.EditFault.{EditFault}
+use Rattle.feature_model.specs.declared.fault.EditFault.TheVariants as edits
 use Rattle.edit_json.specs.Faults.{IsFeature, IsFirstJsonFault}
 use Rattle.thin_service.specs.declared.fault.RequestFault.{RequestFault}
 use Rattle.thin_service.specs.declared.fault.RequestFault.TheVariants.{NotFound, Json, Edit, NumbersSpent, JournalFull, Memory}

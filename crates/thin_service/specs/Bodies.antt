@@ -2,10 +2,10 @@
 use Rattle.std.specs.Prelude.{◌≡◌, ◌≢◌, ℕ, ◌<◌, ◌≤◌, ◌⊎◌, List, Some, IsUtf8}
 use Rattle.serde_json.specs.Data.{Data}
 use Rattle.serde_json.specs.Read.{read}
-use Rattle.edit_text.specs.Data.{FeatureData}
-use Rattle.edit_text.specs.Limits.{IsAllowed, IsFirstFault}
-use Rattle.edit_text.specs.declared.fault.EditFault.{EditFault}
-use Rattle.edit_text.specs.declared.fault.EditFault.TheVariants as edits
+use Rattle.feature_model.specs.Data.{FeatureData}
+use Rattle.feature_model.specs.Limits.{IsAllowed, IsFirstFault}
+use Rattle.feature_model.specs.declared.fault.EditFault.{EditFault}
+use Rattle.feature_model.specs.declared.fault.EditFault.TheVariants as edits
 use Rattle.tile_cutter.specs.Covered.{reach_of}
 use Rattle.edit_json.specs.Faults.{IsFeature, IsFirstJsonFault}
 use Rattle.thin_service.specs.declared.fault.RequestFault.{RequestFault}

@@ -5,7 +5,7 @@ use Rattle.http_serve.specs.Question.{Question}
 use Rattle.http_serve.specs.Reply.{ReplyView}
 use Rattle.tile_routes.specs.declared.target.TileFormat.{TileFormat}
 use Rattle.tile_routes.specs.Paths.{Asked, asked_feature, asked_tile, asked_nothing, asked_by}
-use Rattle.edit_text.specs.Data.{FeatureData}
+use Rattle.feature_model.specs.Data.{FeatureData}
 use Rattle.feature_store.specs.Store.{FeatureMap, feature_at, with_feature}
 use Rattle.feature_store.specs.Layers.{layers}
 use Rattle.mvt_layer.specs.Tile.{LayerView}

@@ -2,8 +2,8 @@
 use Rattle.std.specs.Prelude.{ℕ, List, ◌++◌, codes, decimal, Some, None}
 use Rattle.hex.specs.Hex.{encode_lower}
 use Rattle.http_serve.specs.Reply.{ReplyView, plain_reply}
-use Rattle.edit_text.specs.declared.fault.EditFault.{EditFault}
-use Rattle.edit_text.specs.declared.fault.EditFault.TheVariants as edits
+use Rattle.feature_model.specs.declared.fault.EditFault.{EditFault}
+use Rattle.feature_model.specs.declared.fault.EditFault.TheVariants as edits
 use Rattle.tile_routes.specs.declared.target.TileFormat.{TileFormat}
 use Rattle.tile_routes.specs.declared.target.TileFormat.TheVariants.{Mvt, Hex}
 use Rattle.thin_service.specs.declared.fault.RequestFault.{RequestFault}
@@ -60,11 +60,11 @@ refusal_of fault = plain_reply (fault_status fault) (Some text_type) (fault_word
 -- ---- answers
 
 -- the number of an edit that was made
-unfoldable pub edit_text : ℕ → List ℕ
-edit_text number = codes "{\"edit\":" ++ decimal number ++ codes "}"
+unfoldable pub edit_body : ℕ → List ℕ
+edit_body number = codes "{\"edit\":" ++ decimal number ++ codes "}"
 
 abbrev pub edit_reply : ℕ → ReplyView
-edit_reply number = plain_reply 200 (Some json_type) (edit_text number)
+edit_reply number = plain_reply 200 (Some json_type) (edit_body number)
 
 -- no tile
 abbrev pub no_tile : ReplyView

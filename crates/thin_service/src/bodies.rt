@@ -1,15 +1,15 @@
 //! The feature in the body of a request.
 ghost use Rattle.std.specs.Prelude.{◌≡◌, ◌<◌, ◌⊎◌, length, IfOk, IfErr, OnOk};
 ghost use Rattle.serde_json.specs.View.{view};
-ghost use Rattle.edit_text.specs.Data.{feature_data};
-ghost use Rattle.edit_text.specs.Limits.{IsAllowed, IsFirstFault};
-ghost use Rattle.edit_text.specs.Types.{FeatureFitsTypes};
+ghost use Rattle.feature_model.specs.Data.{feature_data};
+ghost use Rattle.feature_model.specs.Limits.{IsAllowed, IsFirstFault};
+ghost use Rattle.feature_model.specs.Types.{FeatureFitsTypes};
 ghost use Rattle.edit_json.specs.Faults.{IsFeature, IsFirstJsonFault};
 ghost use Rattle.thin_service.specs.Bodies.{IsJson, KeepsLimits, BreaksLimit, SaysFeature, IsEditFault, HasBodyFault};
 
 use crate::fault::RequestFault;
 use edit_json::feature_from_json;
-use edit_text::{EditFault, Feature, check};
+use feature_model::{EditFault, Feature, check};
 use serde_json::Value;
 use std::alloc::Global;
 use tile_cutter::check_reach;

@@ -1,4 +1,4 @@
-use edit_text::EditFault;
+use feature_model::EditFault;
 use std::alloc::AllocError;
 
 /// Why a request is refused. Nothing is changed by a refused request.

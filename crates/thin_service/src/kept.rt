@@ -1,12 +1,12 @@
 //! A map of a bounded number of features.
 ghost use Rattle.std.specs.Prelude.{◌≡◌, ◌≤◌, ◌⊎◌, [], length, IfErr, OnOk};
-ghost use Rattle.edit_text.specs.Data.{feature_data, put};
-ghost use Rattle.edit_text.specs.Types.{IsEdit};
+ghost use Rattle.feature_model.specs.Data.{feature_data, put};
+ghost use Rattle.feature_model.specs.Types.{IsEdit};
 ghost use Rattle.feature_store.specs.Store.{IsMap, HasRoom, with_feature};
 ghost use Rattle.thin_service.specs.Full.{IsFull};
 
 use crate::fault::RequestFault;
-use edit_text::Feature;
+use feature_model::Feature;
 use feature_store::Store;
 use std::alloc::Global;
 

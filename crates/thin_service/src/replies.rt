@@ -1,11 +1,11 @@
 //! The replies of the service.
 ghost use Rattle.std.specs.Prelude.{◌≡◌, ◌≤◌, length, IfOk};
 ghost use Rattle.http_serve.specs.Reply.{reply_view, HasShortWords};
-ghost use Rattle.thin_service.specs.Words.{fault_word, edit_word, fault_status, edit_status, edit_text, edit_reply, no_tile, format_type, format_content};
+ghost use Rattle.thin_service.specs.Words.{fault_word, edit_word, fault_status, edit_status, edit_body, edit_reply, no_tile, format_type, format_content};
 ghost use Rattle.thin_service.specs.Words.{tile_reply, refusal_of, text_type, json_type, tile_type};
 
 use crate::fault::RequestFault;
-use edit_text::EditFault;
+use feature_model::EditFault;
 use http::StatusCode;
 use http_serve::{Content, Reply};
 use itoa::Buffer;
@@ -84,9 +84,9 @@ pub(crate) fn refusal(fault: RequestFault) -> Reply
 }
 
 /// The text that tells the number of an edit.
-#[tactic(auto, unfolding(crate::specs::Words::edit_text))]
-pub(crate) fn edit_text(alloc: Global, number: u64) -> Result<Vec<u8>, AllocError>
-    ensures { IfOk result (λ text. text.items ≡ edit_text number) }
+#[tactic(auto, unfolding(crate::specs::Words::edit_body))]
+pub(crate) fn edit_body(alloc: Global, number: u64) -> Result<Vec<u8>, AllocError>
+    ensures { IfOk result (λ text. text.items ≡ edit_body number) }
 {
     let mut digits = Buffer::new();
     let mut text = Vec::from_slice(alloc, b"{\"edit\":")?;
@@ -98,7 +98,7 @@ pub(crate) fn edit_text(alloc: Global, number: u64) -> Result<Vec<u8>, AllocErro
 /// The reply to an edit that was made, whose number the text tells.
 #[tactic(auto, unfolding(crate::specs::Words::json_type))]
 pub(crate) fn made(number: u64, text: Vec<u8>) -> Reply
-    requires { text.items ≡ edit_text number }
+    requires { text.items ≡ edit_body number }
     ensures reply { reply_view result ≡ edit_reply number }
     ensures words { HasShortWords (reply_view result) }
 {

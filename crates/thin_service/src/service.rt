@@ -62,7 +62,7 @@ impl ThinService {
             Ok(number) => number,
             Err(fault) => return Err(fault),
         };
-        let Ok(text) = replies::edit_text(self.alloc, number) else {
+        let Ok(text) = replies::edit_body(self.alloc, number) else {
             return Err(RequestFault::Memory);
         };
         match self.kept.make_room(id) {

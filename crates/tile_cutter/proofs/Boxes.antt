@@ -9,8 +9,8 @@ use Rattle.std.proofs.lemmas.Grind.{fold-append}
 use Rattle.std.proofs.lemmas.Bool.{cases_lt}
 use Rattle.std.proofs.lemmas.List.Sums.{sum_by-cons}
 use Rattle.std.proofs.lemmas.List.{drop_all}
-use Rattle.edit_text.specs.declared.feature.World.{World}
-use Rattle.edit_text.specs.Data.{FeatureData, GeometryData}
+use Rattle.feature_model.specs.declared.feature.World.{World}
+use Rattle.feature_model.specs.Data.{FeatureData, GeometryData}
 use Rattle.tile_cutter.specs.declared.reach.Corners.{Corners}
 use Rattle.tile_cutter.specs.Cut.{quantised_axis}
 use Rattle.tile_cutter.specs.Covered.{all_points, least_of, greatest_of, covered, tiles_of, reach_of}

@@ -5,7 +5,7 @@ use Rattle.std.specs.List.{slice_split, onto_first}
 use Rattle.std.specs.Ordering.{int_eq}
 use Rattle.std.proofs.lemmas.List.{append-nil}
 use Rattle.std.proofs.lemmas.Bool.Decides.{Decides-int_eq, Decides-and}
-use Rattle.edit_text.specs.declared.feature.World.{World}
+use Rattle.feature_model.specs.declared.feature.World.{World}
 use Rattle.geometry_commands.specs.declared.point.Pt.{Pt}
 use Rattle.tile_cutter.specs.Cut.{Segment, segments, is_kept, way_along, is_some_segment, line_cut}
 use Rattle.tile_cutter.specs.Passes.{is_same_place, other_than, longer, chain_after, chain_of, ended_by}

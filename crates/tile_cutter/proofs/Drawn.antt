@@ -4,10 +4,10 @@ use Rattle.std.specs.Prelude.{All, filter}
 use Rattle.std.specs.List.{slice_split, onto_first}
 use Rattle.std.proofs.lemmas.List.{length-map}
 use Rattle.std.proofs.lemmas.List.Elements.{All-nil, All-cons, All-head, All-tail, All-map, All-filter, All-weaker, filter_passes}
-use Rattle.edit_text.specs.declared.feature.World.{World}
+use Rattle.feature_model.specs.declared.feature.World.{World}
 use Rattle.geometry_commands.specs.declared.point.Pt.{Pt}
 use Rattle.tile_cutter.specs.Cut.{Segment, segments, is_kept, way_along, is_some_segment, tile_points, line_cut, points_cut, in_box}
-use Rattle.edit_text.specs.Types.{IsOfWorld}
+use Rattle.feature_model.specs.Types.{IsOfWorld}
 use Rattle.tile_cutter.specs.Range.{IsOfTile, IsDrawable}
 use Rattle.tile_cutter.proofs.Kept.{points_keep, length_points, stands_in_tile}
 use Rattle.tile_cutter.proofs.Chains.{is_left_out}

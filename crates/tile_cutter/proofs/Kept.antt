@@ -6,11 +6,11 @@ use Rattle.std.proofs.Math.Pow.{pow_mono}
 use Rattle.std.proofs.lemmas.Int.{ints}
 use Rattle.std.proofs.lemmas.List.{length-map, length-take}
 use Rattle.std.proofs.lemmas.List.Elements.{All-cons, All-head, All-tail, All-map, All-take, All-weaker}
-use Rattle.edit_text.specs.declared.feature.World.{World}
+use Rattle.feature_model.specs.declared.feature.World.{World}
 use Rattle.geometry_commands.specs.declared.point.Pt.{Pt}
 use Rattle.tile_cutter.specs.Cut.{quantised_points, is_closed, tile_points, tile_ring}
 use Rattle.tile_cutter.specs.Passes.{repeats}
-use Rattle.edit_text.specs.Types.{IsOfWorld}
+use Rattle.feature_model.specs.Types.{IsOfWorld}
 use Rattle.tile_cutter.specs.Range.{IsSmall, IsOfSide, IsOfTile}
 use Rattle.tile_cutter.proofs.Passes.{left_after, stands_at, tile_points_are}
 use Rattle.tile_cutter.proofs.Ways.{opened_placed}

@@ -6,8 +6,8 @@ use Rattle.std.proofs.lemmas.Int.{ints, clamps}
 use Rattle.std.proofs.lemmas.Grind.{div_ceil_times}
 use Rattle.std.proofs.lemmas.Bool.{cases_lt}
 use Rattle.std.proofs.lemmas.List.Elements.{All-nil, All-cons, All-head, All-tail, All-weaker}
-use Rattle.edit_text.specs.declared.feature.World.{World}
-use Rattle.edit_text.specs.Data.{FeatureData, GeometryData, world_points, world_lines, world_polygons}
+use Rattle.feature_model.specs.declared.feature.World.{World}
+use Rattle.feature_model.specs.Data.{FeatureData, GeometryData, world_points, world_lines, world_polygons}
 use Rattle.geometry_commands.specs.declared.point.Pt.{Pt}
 use Rattle.mvt_layer.specs.Tile.{FeatureView}
 use Rattle.tile_cutter.specs.declared.reach.TileRange.{TileRange}

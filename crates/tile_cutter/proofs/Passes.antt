@@ -7,7 +7,7 @@ use Rattle.std.proofs.Math.Seq.{drop-cons}
 use Rattle.std.proofs.lemmas.List.{append-nil}
 use Rattle.std.proofs.lemmas.Int.{ints}
 use Rattle.std.proofs.lemmas.Bool.Decides.{Decides-int_eq, Decides-eqb, Decides-and, Decides-like, same_from_decides}
-use Rattle.edit_text.specs.declared.feature.World.{World}
+use Rattle.feature_model.specs.declared.feature.World.{World}
 use Rattle.geometry_commands.specs.declared.point.Pt.{Pt}
 use Rattle.tile_cutter.specs.Cut.{quantised, is_same, placed, tile_points, in_box, points_cut}
 use Rattle.tile_cutter.specs.Passes.{is_same_place, repeats, is_shown}

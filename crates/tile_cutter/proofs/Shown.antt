@@ -8,10 +8,10 @@ use Rattle.std.proofs.Math.Pow.{pow_mono}
 use Rattle.std.proofs.lemmas.Bool.{lt-ltb}
 use Rattle.std.proofs.lemmas.Int.{ints}
 use Rattle.std.proofs.lemmas.List.Elements.{All-nil, All-cons, All-head, All-tail, All-weaker, recursion_from_All}
-use Rattle.edit_text.specs.declared.feature.World.{World}
-use Rattle.edit_text.specs.Data.{FeatureData, GeometryData, world_points, world_lines, world_polygons, TagData}
-use Rattle.edit_text.specs.Limits.{CountFits, RingsFit, GeometryFits}
-use Rattle.edit_text.specs.Types.{IsOfWorld, LiesInWorld}
+use Rattle.feature_model.specs.declared.feature.World.{World}
+use Rattle.feature_model.specs.Data.{FeatureData, GeometryData, world_points, world_lines, world_polygons, TagData}
+use Rattle.feature_model.specs.Limits.{CountFits, RingsFit, GeometryFits}
+use Rattle.feature_model.specs.Types.{IsOfWorld, LiesInWorld}
 use Rattle.geometry_commands.specs.declared.point.Pt.{Pt}
 use Rattle.geometry_commands.specs.Encodable.{CanSpell, FitsShape}
 use Rattle.geometry_commands.specs.Shapes.{ShapeView, points, lines, rings}

@@ -3,10 +3,10 @@ use Rattle.std.proofs.Common.{◌≡◌, ℕ, ◌+◌, ◌*◌, ◌≤◌, suc, 
 use Rattle.std.specs.Prelude.{filter, int_lt}
 use Rattle.std.specs.List.{flat_map, slice_split, onto_first}
 use Rattle.std.proofs.lemmas.List.{length-append, length-map}
-use Rattle.edit_text.specs.declared.feature.World.{World}
-use Rattle.edit_text.specs.Data.{FeatureData, GeometryData, world_points, world_lines, world_polygons}
-use Rattle.edit_text.specs.Spelled.{spelled_line, spelled_list, spelled_geometry}
-use Rattle.edit_text.proofs.TextLengths.{length-spelled_line, length-spelled_list, length-points_text, length-lines_text, length-polygons_text}
+use Rattle.feature_model.specs.declared.feature.World.{World}
+use Rattle.feature_model.specs.Data.{FeatureData, GeometryData, world_points, world_lines, world_polygons}
+use Rattle.feature_model.specs.Spelled.{spelled_line, spelled_list, spelled_geometry}
+use Rattle.feature_model.proofs.TextLengths.{length-spelled_line, length-spelled_list, length-points_text, length-lines_text, length-polygons_text}
 use Rattle.geometry_commands.specs.declared.point.Pt.{Pt}
 use Rattle.geometry_commands.specs.Commands.{steps, points_spelled, origin}
 use Rattle.geometry_commands.specs.Shapes.{ShapeView, points, lines, rings, last_of, close_spelled, line_spelled, lines_spelled, shape_spelled}

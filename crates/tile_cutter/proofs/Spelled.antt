@@ -9,7 +9,7 @@ use Rattle.geometry_commands.specs.declared.point.Pt.{Pt}
 use Rattle.geometry_commands.specs.Commands.{IsShort, IsNear, AreNear, origin}
 use Rattle.geometry_commands.specs.Shapes.{ShapeView, last_of}
 use Rattle.geometry_commands.specs.Encodable.{CanSpellLines, CanSpellPoints}
-use Rattle.edit_text.specs.declared.feature.World.{World}
+use Rattle.feature_model.specs.declared.feature.World.{World}
 use Rattle.tile_cutter.specs.Cut.{tile_points, in_box, points_cut, unless_empty}
 use Rattle.tile_cutter.proofs.Kept.{length_points}
 use Rattle.tile_cutter.specs.Range.{IsOfSide, IsOfTile, IsDrawable}

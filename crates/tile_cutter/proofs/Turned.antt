@@ -6,7 +6,7 @@ use Rattle.std.specs.Ordering.{int_eq}
 use Rattle.std.proofs.lemmas.List.{append-nil, length-reverse}
 use Rattle.std.proofs.lemmas.List.Elements.{All-nil, All-cons, All-head, All-tail}
 use Rattle.std.proofs.lemmas.Bool.Decides.{nat_tests}
-use Rattle.edit_text.specs.declared.feature.World.{World}
+use Rattle.feature_model.specs.declared.feature.World.{World}
 use Rattle.geometry_commands.specs.declared.point.Pt.{Pt}
 use Rattle.tile_cutter.specs.declared.rings.Role.{Role}
 use Rattle.tile_cutter.specs.declared.rings.Role.TheVariants.{Outer, Inner}

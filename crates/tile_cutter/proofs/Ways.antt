@@ -4,7 +4,7 @@ use Rattle.std.proofs.lemmas.List.{append-nil, length-map, take_all, drop_all}
 use Rattle.std.specs.List.{take-map}
 use Rattle.geometry_commands.specs.declared.point.Pt.{Pt}
 use Rattle.geometry_commands.specs.Shapes.{last_of}
-use Rattle.edit_text.specs.declared.feature.World.{World}
+use Rattle.feature_model.specs.declared.feature.World.{World}
 use Rattle.tile_cutter.specs.Cut.{turned, placed, is_closed, last_from, quantised_points, tile_points, tile_ring}
 use Rattle.tile_cutter.specs.Passes.{repeats, returns_to_start}
 use Rattle.tile_cutter.proofs.Passes.{place_same}

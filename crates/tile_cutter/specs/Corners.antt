@@ -1,6 +1,6 @@
 -- The corners of the bounding box of points of the world, one point after the other.
 use Rattle.std.specs.Prelude.{ℕ, min, max, Option, Some, None, List, fold}
-use Rattle.edit_text.specs.declared.feature.World.{World}
+use Rattle.feature_model.specs.declared.feature.World.{World}
 use Rattle.tile_cutter.specs.declared.reach.Corners.{Corners}
 use Rattle.tile_cutter.specs.declared.reach.TileRange.{TileRange}
 use Rattle.tile_cutter.specs.Cut.{quantised_axis}

@@ -2,8 +2,8 @@
 use Rattle.std.specs.Prelude.{ℕ, ◌+◌, ◌-◌, ◌*◌, ◌/◌, ◌^◌, ◌≤◌, min, max, List, [], ◌∷◌, map, flat_map, fold, sum_by}
 use Rattle.std.specs.List.{range_with_len}
 use Rattle.std.specs.Int.{div_ceil}
-use Rattle.edit_text.specs.declared.feature.World.{World}
-use Rattle.edit_text.specs.Data.{FeatureData, GeometryData, world_points, world_lines, world_polygons}
+use Rattle.feature_model.specs.declared.feature.World.{World}
+use Rattle.feature_model.specs.Data.{FeatureData, GeometryData, world_points, world_lines, world_polygons}
 use Rattle.tile_cutter.specs.declared.reach.TileRange.{TileRange}
 use Rattle.tile_cutter.specs.Cut.{quantised_axis}
 

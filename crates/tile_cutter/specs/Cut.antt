@@ -3,8 +3,8 @@ use Rattle.std.specs.Prelude.{ℕ, ℤ, pos, negsuc, ◌-◌, ◌*◌, ◌/◌, 
 use Rattle.std.specs.List.{dedup, slice_split}
 use Rattle.std.specs.Int.{int_min, int_max}
 use Rattle.std.specs.Ordering.{int_eq}
-use Rattle.edit_text.specs.declared.feature.World.{World}
-use Rattle.edit_text.specs.Data.{FeatureData, GeometryData, world_points, world_lines, world_polygons, TagData, ValueData, text_value, natural_value, negative_value, truth_value}
+use Rattle.feature_model.specs.declared.feature.World.{World}
+use Rattle.feature_model.specs.Data.{FeatureData, GeometryData, world_points, world_lines, world_polygons, TagData, ValueData, text_value, natural_value, negative_value, truth_value}
 use Rattle.geometry_commands.specs.declared.point.Pt.{Pt}
 use Rattle.geometry_commands.specs.Shapes.{ShapeView, points, lines, rings}
 use Rattle.mvt_layer.specs.Tile.{FeatureView, TagView, Tagged, text, natural, negative, truth}

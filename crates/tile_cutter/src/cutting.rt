@@ -1,6 +1,6 @@
 ghost use Rattle.std.specs.Prelude.{◌≡◌, ◌≤◌, map, option_map, IfOk, IfSome};
-ghost use Rattle.edit_text.specs.Data.{feature_data, geometry_data, value_data, tag_data};
-ghost use Rattle.edit_text.specs.Limits.{GeometryFits};
+ghost use Rattle.feature_model.specs.Data.{feature_data, geometry_data, value_data, tag_data};
+ghost use Rattle.feature_model.specs.Limits.{GeometryFits};
 ghost use Rattle.geometry_commands.specs.Encodable.{CanSpell};
 ghost use Rattle.geometry_commands.specs.Shapes.{shape_view};
 ghost use Rattle.mvt_layer.specs.Tile.{feature_view, tag_view, tagged};
@@ -9,7 +9,7 @@ ghost use Rattle.tile_cutter.specs.Cut.{shown_value, shown_tag, geometry_cut, ha
 use crate::lines::lines_shape;
 use crate::points::points_shape;
 use crate::rings::rings_shape;
-use edit_text::{EditValue, Feature, Geometry, Memory, Tag};
+use feature_model::{EditValue, Feature, Geometry, Memory, Tag};
 use geometry_commands::Shape;
 use hilbert_id::TileAt;
 use mvt_layer::{TagValue, TileFeature};

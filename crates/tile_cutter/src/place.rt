@@ -1,9 +1,9 @@
 ghost use Rattle.std.specs.Prelude.{◌≡◌, ◌<◌, ◌≤◌, ◌^◌};
 ghost use Rattle.tile_cutter.specs.Cut.{quantised_axis, quantised, placed};
 ghost use Rattle.tile_cutter.specs.Passes.{repeats};
-ghost use Rattle.edit_text.specs.Types.{IsOfWorld};
+ghost use Rattle.feature_model.specs.Types.{IsOfWorld};
 
-use edit_text::World;
+use feature_model::World;
 use geometry_commands::Pt;
 use hilbert_id::TileAt;
 

@@ -1,5 +1,5 @@
 ghost use Rattle.std.specs.Prelude.{◌≡◌, ◌≤◌, option_map, All, IfOk, IfSome, OnOk};
-ghost use Rattle.edit_text.specs.Limits.{CountFits};
+ghost use Rattle.feature_model.specs.Limits.{CountFits};
 ghost use Rattle.geometry_commands.specs.Encodable.{CanSpell};
 ghost use Rattle.geometry_commands.specs.Shapes as shapes;
 ghost use Rattle.geometry_commands.specs.Shapes.{shape_view};
@@ -9,7 +9,7 @@ ghost use Rattle.tile_cutter.specs.Range.{IsOfTile};
 
 use crate::bounds::is_in_box;
 use crate::place::{place, repeats};
-use edit_text::{Memory, World};
+use feature_model::{Memory, World};
 use geometry_commands::{Pt, Shape};
 use hilbert_id::TileAt;
 use std::alloc::Global;

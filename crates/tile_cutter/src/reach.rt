@@ -1,12 +1,12 @@
 ghost use Rattle.std.specs.Prelude.{ℕ, ◌≡◌, ◌+◌, ◌-◌, ◌*◌, ◌<◌, ◌≤◌, ◌^◌, ◌↔◌, None, map, flat_map, IfErr, IsOk};
-ghost use Rattle.edit_text.specs.Data.{feature_data, geometry_data};
+ghost use Rattle.feature_model.specs.Data.{feature_data, geometry_data};
 ghost use Rattle.tile_cutter.specs.Cut.{quantised_axis, feature_cut};
 ghost use Rattle.tile_cutter.specs.Covered.{all_of, all_points, first_met, last_met, covered, tiles_of, reach_of, IsInRange};
 ghost use Rattle.tile_cutter.specs.Corners.{widened, corners_after, range_of};
 ghost use Rattle.tile_cutter.specs.Passes.{lists_of};
 
 use crate::place::{EXTENT, MARGIN, quantise};
-use edit_text::{EditFault, Feature, Geometry, World};
+use feature_model::{EditFault, Feature, Geometry, World};
 
 /// The most tiles that a feature may cover at all its zooms together.
 const MOST_TILES: u64 = 65_536;

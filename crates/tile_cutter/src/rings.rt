@@ -1,16 +1,16 @@
 ghost use Rattle.std.specs.Prelude.{◌≡◌, ◌≤◌, ◌<◌, ◌^◌, ◌*ℤ◌, ◌++◌, length, map, true, option_map, option_to_list, All, IfOk, IfSome, OnOk};
-ghost use Rattle.edit_text.specs.Limits.{CountFits, RingsFit};
+ghost use Rattle.feature_model.specs.Limits.{CountFits, RingsFit};
 ghost use Rattle.geometry_commands.specs.Encodable.{CanSpell};
 ghost use Rattle.geometry_commands.specs.Shapes as shapes;
 ghost use Rattle.geometry_commands.specs.Shapes.{shape_view};
 ghost use Rattle.tile_cutter.specs.Cut.{tile_ring, cross, twice_area, turned, inner_rings, polygon_cut, polygons_cut, unless_empty};
 ghost use Rattle.tile_cutter.specs.Passes.{returns_to_start, wound, shown_ring, lists_of};
-ghost use Rattle.edit_text.specs.Types.{IsOfWorld};
+ghost use Rattle.feature_model.specs.Types.{IsOfWorld};
 ghost use Rattle.tile_cutter.specs.Range.{IsWithin, IsSmall, IsDrawable};
 
 use crate::bounds::ring_meets_box;
 use crate::place::{place, repeats};
-use edit_text::{Memory, World};
+use feature_model::{Memory, World};
 use geometry_commands::{Pt, Shape};
 use hilbert_id::TileAt;
 use std::alloc::Global;

@@ -1,5 +1,5 @@
 use super::{check_reach, cover_count, covers, cut};
-use edit_text::{EditFault, EditValue, Feature, Geometry, Tag, World, check};
+use feature_model::{EditFault, EditValue, Feature, Geometry, Tag, World, check};
 use geometry_commands::{Shape, encode_lines, encode_points, encode_rings};
 use hilbert_id::TileAt;
 use mvt_layer::TagValue;

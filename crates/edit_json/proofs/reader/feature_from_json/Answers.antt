@@ -1,9 +1,9 @@
 use Rattle.std.proofs.Common.{refl, sym, subst}
-use Rattle.edit_text.specs.declared.fault.EditFault.TheVariants as faults
+use Rattle.feature_model.specs.declared.fault.EditFault.TheVariants as faults
 use Rattle.std.proofs.lemmas.Str.{IsUtf8-string_bytes}
 use Rattle.std.proofs.lemmas.Result.{err_from_is_err_and, IfErr-at_err}
 use Rattle.serde_json.specs.View.{view}
-use Rattle.edit_text.specs.Data.{geometry_data}
+use Rattle.feature_model.specs.Data.{geometry_data}
 use Rattle.edit_json.specs.Faults.{IsFirstJsonFault}
 use Rattle.edit_json.specs.Outline.{outline_data}
 use Rattle.edit_json.proofs.FaultLaws.{feature-one, feature-faultless, has_geometry, geometry-refused, tags-refused, feature-found}

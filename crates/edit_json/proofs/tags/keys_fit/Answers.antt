@@ -1,6 +1,6 @@
 use Rattle.std.proofs.Common.{All, refl, ◌∙◌}
 use Rattle.serde_json.specs.View.{members_view}
-use Rattle.edit_text.specs.Limits.{IsName}
+use Rattle.feature_model.specs.Limits.{IsName}
 use Rattle.edit_json.specs.Faults.{names_of}
 use Rattle.edit_json.proofs.TagLemmas.{keys_start, keys_more}
 use Rattle.edit_json.proofs.tags.keys_fit.Goals as goal

@@ -1,7 +1,7 @@
 use Rattle.std.proofs.Common.{◌↔◌, map, All}
 use Rattle.std.specs.Prelude.{string_bytes}
 use Rattle.serde_json.specs.View.{members_view}
-use Rattle.edit_text.specs.Limits.{IsName}
+use Rattle.feature_model.specs.Limits.{IsName}
 use Rattle.edit_json.specs.Faults.{names_of}
 use Rattle.edit_json.proofs.tags.keys_fit.Given as goal
 

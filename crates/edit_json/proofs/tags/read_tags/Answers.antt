@@ -2,8 +2,8 @@ use Rattle.std.proofs.Common.{sym, ap, ◌∙◌, map}
 use Rattle.std.proofs.lemmas.List.{map-append}
 use Rattle.std.proofs.lemmas.List.Elements.{All-push}
 use Rattle.serde_json.specs.View.{view}
-use Rattle.edit_text.specs.Data.{tag_data}
-use Rattle.edit_text.specs.Types.{TagFitsTypes}
+use Rattle.feature_model.specs.Data.{tag_data}
+use Rattle.feature_model.specs.Types.{TagFitsTypes}
 use Rattle.edit_json.specs.Tags.{tag_at}
 use Rattle.edit_json.proofs.TagLemmas.{tags_more}
 use Rattle.edit_json.proofs.tags.read_tags.Goals as goal

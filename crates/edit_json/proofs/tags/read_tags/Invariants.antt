@@ -1,7 +1,7 @@
 use Rattle.std.proofs.Common.{◌≡◌, map, All}
 use Rattle.serde_json.specs.View.{members_view}
-use Rattle.edit_text.specs.Data.{tag_data}
-use Rattle.edit_text.specs.Types.{TagFitsTypes}
+use Rattle.feature_model.specs.Data.{tag_data}
+use Rattle.feature_model.specs.Types.{TagFitsTypes}
 use Rattle.edit_json.specs.Tags.{tags_at}
 use Rattle.edit_json.proofs.TagLemmas.{rest_gives}
 use Rattle.edit_json.proofs.tags.read_tags.Given as goal

@@ -3,8 +3,8 @@ use Rattle.std.proofs.lemmas.List.{get_or-map, length-map, take_all}
 use Rattle.serde_json.specs.Data.{object}
 use Rattle.serde_json.specs.View.{view, members_view}
 use Rattle.serde_json.proofs.Views.{view-Object}
-use Rattle.edit_text.specs.Data.{TagData, tag_data}
-use Rattle.edit_text.specs.Limits.{ValueFits}
+use Rattle.feature_model.specs.Data.{TagData, tag_data}
+use Rattle.feature_model.specs.Limits.{ValueFits}
 use Rattle.edit_json.specs.Json.{tags_json}
 use Rattle.edit_json.proofs.WriteLemmas.{put-here}
 use Rattle.edit_json.proofs.writer.tags_value.Goals as goal

@@ -1,6 +1,6 @@
 use Rattle.std.proofs.Common.{◌≡◌, map, take}
 use Rattle.serde_json.specs.View.{members_view}
-use Rattle.edit_text.specs.Data.{tag_data}
+use Rattle.feature_model.specs.Data.{tag_data}
 use Rattle.edit_json.specs.Json.{tags_json}
 use Rattle.edit_json.proofs.writer.tags_value.Given as goal
 

@@ -1,7 +1,7 @@
 use Rattle.std.proofs.Common.{subst, arith}
-use Rattle.edit_text.specs.declared.feature.Edit.{Edit}
-use Rattle.edit_text.specs.Data.{edit_data}
-use Rattle.edit_text.specs.Types.{IsEdit}
+use Rattle.feature_model.specs.declared.feature.Edit.{Edit}
+use Rattle.feature_model.specs.Data.{edit_data}
+use Rattle.feature_model.specs.Types.{IsEdit}
 use Rattle.feature_store.proofs.Texts.{few_are_short}
 use Rattle.feature_store.proofs.tests.put.Goals as goal
 

@@ -1,6 +1,6 @@
 use Rattle.std.proofs.Common.{inr}
 use Rattle.serde_json.specs.View.{view}
-use Rattle.edit_text.specs.Data.{feature_data}
+use Rattle.feature_model.specs.Data.{feature_data}
 use Rattle.thin_service.proofs.Told.{limit_fault}
 use Rattle.thin_service.proofs.bodies.feature_in.Goals as goal
 

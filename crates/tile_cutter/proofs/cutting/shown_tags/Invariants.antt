@@ -1,5 +1,5 @@
 use Rattle.std.proofs.Common.{◌≡◌, map, take}
-use Rattle.edit_text.specs.Data.{tag_data}
+use Rattle.feature_model.specs.Data.{tag_data}
 use Rattle.mvt_layer.specs.Tile.{tagged}
 use Rattle.tile_cutter.specs.Cut.{shown_tag}
 use Rattle.tile_cutter.proofs.cutting.shown_tags.Given as goal

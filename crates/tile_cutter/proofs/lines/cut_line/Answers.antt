@@ -4,7 +4,7 @@ use Rattle.std.proofs.lemmas.List.Elements.{All-more}
 use Rattle.geometry_commands.specs.declared.point.Pt.{Pt}
 use Rattle.tile_cutter.specs.Passes.{lists_of}
 use Rattle.std.specs.Prelude.{All}
-use Rattle.edit_text.specs.Types.{IsOfWorld}
+use Rattle.feature_model.specs.Types.{IsOfWorld}
 use Rattle.tile_cutter.proofs.Drawn.{line_drawable}
 use Rattle.tile_cutter.proofs.Passes.{stands_at, next_stands}
 use Rattle.tile_cutter.proofs.Chains.{chains_left, line_begin, line_keeps, line_goes_on, line_ends}

@@ -2,7 +2,7 @@ use Rattle.std.proofs.Common.{◌≡◌, ◌++◌, drop, take, map}
 use Rattle.std.specs.Prelude.{All}
 use Rattle.tile_cutter.specs.Cut.{line_cut}
 use Rattle.tile_cutter.specs.Passes.{lists_of}
-use Rattle.edit_text.specs.Types.{IsOfWorld}
+use Rattle.feature_model.specs.Types.{IsOfWorld}
 use Rattle.tile_cutter.proofs.Passes.{stands_at}
 use Rattle.tile_cutter.proofs.Chains.{chains_left}
 use Rattle.tile_cutter.proofs.lines.cut_line.Given as goal

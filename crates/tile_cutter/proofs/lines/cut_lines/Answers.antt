@@ -2,7 +2,7 @@ use Rattle.std.proofs.Common.{◌++◌, false, ap, ◌∙◌, subst, arith}
 use Rattle.std.specs.Prelude.{All}
 use Rattle.std.proofs.lemmas.List.{take_all}
 use Rattle.std.proofs.lemmas.List.Elements.{All-more}
-use Rattle.edit_text.specs.Limits.{CountFits}
+use Rattle.feature_model.specs.Limits.{CountFits}
 use Rattle.tile_cutter.specs.Cut.{line_cut, lines_cut}
 use Rattle.tile_cutter.specs.Passes.{lists_of}
 use Rattle.tile_cutter.specs.Range.{IsDrawable}

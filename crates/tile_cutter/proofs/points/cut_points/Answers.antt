@@ -4,7 +4,7 @@ use Rattle.std.proofs.lemmas.List.{drop_all, take_all}
 use Rattle.std.proofs.lemmas.List.Elements.{All-more}
 use Rattle.geometry_commands.specs.declared.point.Pt.{Pt}
 use Rattle.tile_cutter.specs.Cut.{in_box}
-use Rattle.edit_text.specs.Types.{IsOfWorld}
+use Rattle.feature_model.specs.Types.{IsOfWorld}
 use Rattle.tile_cutter.proofs.Drawn.{points_of_tile}
 use Rattle.tile_cutter.proofs.Passes.{left_after, stands_at, points_begin, points_next, points_end, next_stands}
 use Rattle.tile_cutter.proofs.points.cut_points.Goals as goal

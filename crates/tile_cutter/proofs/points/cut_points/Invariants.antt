@@ -1,7 +1,7 @@
 use Rattle.std.proofs.Common.{◌≡◌, ◌++◌, drop, take, map}
 use Rattle.std.specs.Prelude.{All, filter}
 use Rattle.tile_cutter.specs.Cut.{in_box, points_cut}
-use Rattle.edit_text.specs.Types.{IsOfWorld}
+use Rattle.feature_model.specs.Types.{IsOfWorld}
 use Rattle.tile_cutter.proofs.Passes.{left_after, stands_at}
 use Rattle.tile_cutter.proofs.points.cut_points.Given as goal
 

@@ -1,7 +1,7 @@
 use Rattle.std.proofs.Common.{◌≡◌, ◌+◌, ◌-◌, ap, ◌∙◌, arith}
 use Rattle.std.specs.Prelude.{sum_by}
 use Rattle.std.specs.List.{range_with_len}
-use Rattle.edit_text.specs.Data.{feature_data}
+use Rattle.feature_model.specs.Data.{feature_data}
 use Rattle.tile_cutter.specs.Covered.{tiles_of}
 use Rattle.tile_cutter.specs.Corners.{range_of}
 use Rattle.tile_cutter.proofs.Boxes.{sum_next, reach_is}

@@ -1,5 +1,5 @@
 use Rattle.std.proofs.Common.{ap, ◌∙◌}
-use Rattle.edit_text.specs.Data.{geometry_data, feature_data}
+use Rattle.feature_model.specs.Data.{geometry_data, feature_data}
 use Rattle.tile_cutter.specs.Corners.{range_of}
 use Rattle.tile_cutter.proofs.Boxes.{covered_is}
 use Rattle.tile_cutter.proofs.Outside.{outside}

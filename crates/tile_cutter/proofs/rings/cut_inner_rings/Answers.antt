@@ -2,7 +2,7 @@ use Rattle.std.proofs.Common.{◌++◌, length, true, ap, ◌∙◌, subst, arit
 use Rattle.std.specs.Prelude.{All, option_to_list}
 use Rattle.std.proofs.lemmas.List.{take_all}
 use Rattle.std.proofs.lemmas.List.Elements.{All-more}
-use Rattle.edit_text.specs.Limits.{CountFits}
+use Rattle.feature_model.specs.Limits.{CountFits}
 use Rattle.tile_cutter.specs.declared.rings.Role.TheVariants.{Inner}
 use Rattle.tile_cutter.specs.Cut.{tile_ring}
 use Rattle.tile_cutter.specs.Passes.{shown_ring, lists_of}

@@ -2,7 +2,7 @@ use Rattle.std.proofs.Common.{true, length, ap, sym, ◌∙◌, subst, arith}
 use Rattle.std.specs.Prelude.{All, option_map, option_to_list}
 use Rattle.std.proofs.lemmas.List.{map_push}
 use Rattle.std.proofs.lemmas.List.Elements.{All-head, All-tail}
-use Rattle.edit_text.specs.Limits.{CountFits}
+use Rattle.feature_model.specs.Limits.{CountFits}
 use Rattle.tile_cutter.specs.declared.rings.Role.TheVariants.{Outer}
 use Rattle.tile_cutter.specs.Cut.{tile_ring}
 use Rattle.tile_cutter.specs.Passes.{shown_ring, lists_of}

@@ -2,7 +2,7 @@ use Rattle.std.proofs.Common.{◌++◌, true, ap, ◌∙◌, subst, arith}
 use Rattle.std.specs.Prelude.{All}
 use Rattle.std.proofs.lemmas.List.{take_all}
 use Rattle.std.proofs.lemmas.List.Elements.{All-more}
-use Rattle.edit_text.specs.Limits.{RingsFit}
+use Rattle.feature_model.specs.Limits.{RingsFit}
 use Rattle.tile_cutter.specs.Cut.{polygon_cut, polygons_cut}
 use Rattle.tile_cutter.specs.Passes.{lists_of}
 use Rattle.tile_cutter.specs.Range.{IsDrawable}

@@ -4,7 +4,7 @@ use Rattle.std.proofs.lemmas.List.Elements.{All-more}
 use Rattle.geometry_commands.specs.declared.point.Pt.{Pt}
 use Rattle.std.specs.Prelude.{All}
 use Rattle.tile_cutter.specs.Passes.{returns_to_start}
-use Rattle.edit_text.specs.Types.{IsOfWorld}
+use Rattle.feature_model.specs.Types.{IsOfWorld}
 use Rattle.tile_cutter.proofs.Passes.{left_after, stands_at, next_stands, tile_points_are, ring_next, ring_ends}
 use Rattle.tile_cutter.proofs.Ways.{ring_opened}
 use Rattle.tile_cutter.proofs.rings.tile_ring.Goals as goal

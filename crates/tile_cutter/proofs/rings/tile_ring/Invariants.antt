@@ -1,7 +1,7 @@
 use Rattle.std.proofs.Common.{◌≡◌, ◌++◌, drop, take, map}
 use Rattle.std.specs.Prelude.{All}
 use Rattle.tile_cutter.specs.Cut.{tile_points}
-use Rattle.edit_text.specs.Types.{IsOfWorld}
+use Rattle.feature_model.specs.Types.{IsOfWorld}
 use Rattle.tile_cutter.proofs.Passes.{left_after, stands_at}
 use Rattle.tile_cutter.proofs.rings.tile_ring.Given as goal
 

@@ -2,10 +2,10 @@ use Rattle.std.proofs.Common.{◌≡◌, ◌≤◌, List, sym, arith}
 use Rattle.std.proofs.lemmas.List.Elements.{All-weaker}
 use Rattle.mvt_layer.specs.Tile.{LayerView, layer_views}
 use Rattle.mvt_write.specs.CanWrite.{CanWriteAll}
-use Rattle.edit_text.specs.Data.{put}
-use Rattle.edit_text.specs.declared.limits.TheConstants.{GREATEST_ZOOM}
-use Rattle.edit_text.specs.Limits.{IsAllowed}
-use Rattle.edit_text.specs.Types.{IsEdit}
+use Rattle.feature_model.specs.Data.{put}
+use Rattle.feature_model.specs.declared.limits.TheConstants.{GREATEST_ZOOM}
+use Rattle.feature_model.specs.Limits.{IsAllowed}
+use Rattle.feature_model.specs.Types.{IsEdit}
 use Rattle.feature_store.specs.Gathered.{layers_of}
 use Rattle.feature_store.specs.Inside.{entries_data}
 use Rattle.feature_store.specs.Layers.{layers}

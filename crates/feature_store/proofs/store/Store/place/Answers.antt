@@ -1,5 +1,5 @@
 use Rattle.std.proofs.Common.{refl, sym, subst, ◌<◌, length, arith}
-use Rattle.edit_text.specs.Data.{feature_data}
+use Rattle.feature_model.specs.Data.{feature_data}
 use Rattle.feature_store.specs.declared.limit.TheConstants.{TEXTS_END}
 use Rattle.feature_store.specs.Store.{StoreView, HasRoom, with_feature, snapshot}
 use Rattle.feature_store.proofs.Entries.{in_entries, gap_in_entries, set_there, insert_there, IsMap-set_there, count_set_there, count_insert_there, IsMap-insert_there, room_in_gap}

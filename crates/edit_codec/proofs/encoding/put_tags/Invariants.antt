@@ -1,8 +1,0 @@
-use Rattle.edit_text.specs.Data.{tag_data}
-use Rattle.edit_text.specs.Spelled.{spelled_tag}
-use Rattle.edit_text.specs.Types.{TagFitsTypes}
-use Rattle.edit_codec.proofs.Texts.{IsPut}
-use Rattle.edit_codec.proofs.encoding.put_tags.Given as goal
-
-abbrev pub invariant-loop-tag : goal.invariant-loop-tag
-invariant-loop-tag l = IsPut spelled_tag TagFitsTypes tag_data l.tags l.tag-index l.initial.out.items l.out.items

@@ -1,0 +1,5 @@
+use Rattle.edit_text.proofs.Faults.{take_front}
+use Rattle.edit_text.proofs.decoding.read_short.Goals as goal
+
+pub returns-in-Err-Memory-clause-memory : goal.returns-in-Err-Memory-clause-memory
+returns-in-Err-Memory-clause-memory c = λ _. take_front 32768 c.args.bytes.now (c.in-Err-Memory.ensures.memory (cc))

@@ -1,7 +1,0 @@
-use Rattle.std.proofs.Common.{map, rules}
-use Rattle.edit_text.specs.Limits.{RingsFit}
-use Rattle.edit_text.proofs.Mapped.{tests_map}
-use Rattle.edit_text.proofs.limits.each_polygon_fits.Goals as goal
-
-pub returns : goal.returns
-returns c = tests_map RingsFit (λ p. map (λ r. r.items) p.items) c.args.polygons.now _ (search rules)

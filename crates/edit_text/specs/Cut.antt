@@ -1,0 +1,113 @@
+-- Bytes that end before the text of an edit does, where each field that is whole is allowed.
+use Rattle.std.specs.Prelude.{◌≡◌, ℕ, ◌<◌, ◌≤◌, ◌⊎◌, List, [], ◌∷◌, ◌++◌, length, All}
+use Rattle.std.specs.Ordering.{nat_cmp}
+use Rattle.std.specs.Cmp.Lexicographic.{slice_cmp}
+use Rattle.std.specs.List.{flat_map}
+use Rattle.std.specs.List.Sorted.{IsStrictlySortedBy}
+use Rattle.std.specs.Str.{IsUtf8}
+use Rattle.feature_model.specs.declared.feature.World.{World}
+use Rattle.feature_model.specs.Data.{TagData}
+use Rattle.feature_model.specs.Limits.{IsName, CountFits, NumberFits, GeometryFits, ValueFits, HasAscendingKeys, keys_of}
+use Rattle.feature_model.specs.Spelled.{two_bytes, eight_bytes, spelled_list, spelled_point, spelled_line, spelled_geometry, spelled_name, spelled_tag}
+use Rattle.feature_model.specs.Types.{IsOfWorld, LiesInWorld, TagFitsTypes}
+
+-- ---- ends
+
+-- The bytes end inside a field of so many bytes.
+abbrev pub EndsWithin : ℕ → List ℕ → Type 0
+EndsWithin len bytes = length bytes < len
+
+-- They have a whole first part, which is allowed, and end inside what comes behind it.
+abbrev pub EndsBehind : {A : Type 0} → (A → List ℕ) → (A → Type 0) → (A → List ℕ → Type 0) → List ℕ → Type 0
+EndsBehind {A} spell Is Ends bytes = (x : A) × (rest : List ℕ) × Is x × (bytes ≡ spell x ++ rest) × Ends x rest
+
+-- The first part is one byte.
+abbrev pub one_byte : ℕ → List ℕ
+one_byte b = b ∷ []
+
+-- The first part is this kind.
+abbrev pub EndsBehindKind : ℕ → (List ℕ → Type 0) → List ℕ → Type 0
+EndsBehindKind kind Ends bytes = (rest : List ℕ) × (bytes ≡ kind ∷ rest) × Ends rest
+
+-- They have fewer than so many whole parts, which are allowed together, and end inside the next.
+abbrev pub EndsAmong : {A : Type 0} → (A → List ℕ) → (List A → Type 0) → (List A → List ℕ → Type 0) → ℕ → List ℕ → Type 0
+EndsAmong {A} spell Are Ends count bytes = (xs : List A) × (rest : List ℕ) × (length xs < count) × Are xs × (bytes ≡ flat_map spell xs ++ rest) × Ends xs rest
+
+-- ---- names and texts
+
+abbrev pub EndsInName : List ℕ → Type 0
+EndsInName bytes = EndsWithin 1 bytes ⊎ EndsBehind one_byte (λ len. (1 ≤ len) × (len ≤ 64)) EndsWithin bytes
+
+abbrev pub EndsInText : List ℕ → Type 0
+EndsInText bytes = EndsWithin 2 bytes ⊎ EndsBehind two_bytes (λ len. len ≤ 1024) EndsWithin bytes
+
+-- ---- geometry
+
+-- inside a count or one of the things counted
+abbrev pub EndsInList : {A : Type 0} → ℕ → (A → List ℕ) → (A → Type 0) → (List ℕ → Type 0) → List ℕ → Type 0
+EndsInList least spell Is Ends bytes =
+    EndsWithin 2 bytes ⊎ EndsBehind two_bytes (λ count. (least ≤ count) × (count ≤ 65535)) (EndsAmong spell (All Is) (λ _. Ends)) bytes
+
+-- inside a list of points, which has at least so many
+abbrev pub EndsInLine : ℕ → List ℕ → Type 0
+EndsInLine least bytes = EndsInList least spelled_point IsOfWorld (EndsWithin 8) bytes
+
+abbrev pub IsLine : ℕ → List World → Type 0
+IsLine least points = CountFits least points × All IsOfWorld points
+
+abbrev pub EndsInRings : List ℕ → Type 0
+EndsInRings bytes = EndsInList 1 spelled_line (IsLine 3) (EndsInLine 3) bytes
+
+abbrev pub IsPolygon : List (List World) → Type 0
+IsPolygon rings = CountFits 1 rings × All (IsLine 3) rings
+
+abbrev pub EndsInGeometry : List ℕ → Type 0
+EndsInGeometry bytes = EndsWithin 1 bytes
+    ⊎ EndsBehindKind 1 (EndsInLine 1) bytes
+    ⊎ EndsBehindKind 2 (EndsInList 1 spelled_line (IsLine 2) (EndsInLine 2)) bytes
+    ⊎ EndsBehindKind 3 (EndsInList 1 (spelled_list spelled_line) IsPolygon EndsInRings) bytes
+
+-- ---- tags
+
+abbrev pub EndsInValue : List ℕ → Type 0
+EndsInValue bytes = EndsWithin 1 bytes
+    ⊎ EndsBehindKind 1 EndsInText bytes
+    ⊎ EndsBehindKind 2 (EndsWithin 8) bytes
+    ⊎ EndsBehindKind 3 (EndsWithin 8) bytes
+
+-- a key that may follow these tags
+abbrev pub IsNextKey : List TagData → List ℕ → Type 0
+IsNextKey tags key = IsName key × IsUtf8 key × IsStrictlySortedBy (slice_cmp nat_cmp) (keys_of tags ++ key ∷ [])
+
+-- inside the tag behind these
+abbrev pub EndsInTag : List TagData → List ℕ → Type 0
+EndsInTag tags bytes = EndsInName bytes ⊎ EndsBehind spelled_name (IsNextKey tags) (λ _. EndsInValue) bytes
+
+abbrev pub AreTags : List TagData → Type 0
+AreTags tags = All (λ t. IsName t.key × ValueFits t.value × TagFitsTypes t) tags × HasAscendingKeys tags
+
+abbrev pub EndsInTags : List ℕ → Type 0
+EndsInTags bytes = EndsWithin 1 bytes ⊎ EndsBehind one_byte (λ count. count ≤ 64) (EndsAmong spelled_tag AreTags EndsInTag) bytes
+
+-- ---- features and edits
+
+abbrev pub EndsInZooms : List ℕ → Type 0
+EndsInZooms bytes = EndsWithin 1 bytes ⊎ EndsBehind one_byte (λ zoom. zoom ≤ 16) (λ _. EndsWithin 1) bytes
+
+-- behind the zooms
+abbrev pub EndsInShape : List ℕ → Type 0
+EndsInShape bytes = EndsInGeometry bytes ⊎ EndsBehind spelled_geometry (λ g. GeometryFits g × LiesInWorld g) (λ _. EndsInTags) bytes
+
+-- behind the layer
+abbrev pub EndsInBody : List ℕ → Type 0
+EndsInBody bytes = EndsInZooms bytes
+    ⊎ EndsBehind (λ zooms. zooms.0 ∷ zooms.1 ∷ []) (λ zooms. (zooms.0 ≤ zooms.1) × (zooms.1 ≤ 16)) (λ (zooms : ℕ × ℕ). EndsInShape) bytes
+
+abbrev pub EndsInFeature : List ℕ → Type 0
+EndsInFeature bytes = EndsInName bytes ⊎ EndsBehind spelled_name (λ layer. IsName layer × IsUtf8 layer) (λ _. EndsInBody) bytes
+
+abbrev pub EndsInPut : List ℕ → Type 0
+EndsInPut bytes = EndsWithin 8 bytes ⊎ EndsBehind eight_bytes NumberFits (λ _. EndsInFeature) bytes
+
+abbrev pub EndsInEdit : List ℕ → Type 0
+EndsInEdit bytes = EndsWithin 1 bytes ⊎ EndsBehindKind 1 EndsInPut bytes ⊎ EndsBehindKind 2 (EndsWithin 8) bytes

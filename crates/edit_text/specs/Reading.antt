@@ -1,0 +1,182 @@
+-- Reading from left to right: what stands in front and the bytes behind it, or the first fault that is met.
+use Rattle.std.specs.Prelude.{◌≡◌, ◌≢◌, ◌⊎◌, ℕ, zero, suc, ◌^◌, ◌==◌, ◌&&◌, Bool, true, false, List, [], ◌∷◌, ◌++◌, length, take, drop, Result, Ok, Err, IsOk, nat_lt, nat_le, if◌then◌else◌}
+use Rattle.std.specs.Ordering.{nat_cmp, is_lt}
+use Rattle.std.specs.Cmp.Lexicographic.{slice_cmp}
+use Rattle.std.specs.Int.{w16, w32, w64, from_le_bytes, cast_signed}
+use Rattle.std.specs.Str.{is_utf8}
+use Rattle.feature_model.specs.declared.feature.World.{World}
+use Rattle.feature_model.specs.Data.{GeometryData, world_points, world_lines, world_polygons, ValueData, text_value, natural_value, negative_value, truth_value, TagData, FeatureData, EditData, put, delete}
+use Rattle.edit_text.specs.declared.fault.TextFault.{TextFault}
+use Rattle.edit_text.specs.declared.fault.TextFault.TheVariants.{Cut, Bad, Memory}
+
+-- what was read and the bytes behind it, or a fault
+abbrev pub Part : Type 0 → Type 0
+Part A = Result (A × List ℕ) TextFault
+
+-- a function answers what reading gives
+abbrev pub Reads : {X A : Type 0} → (X → A × List ℕ) → Result X TextFault → Part A → Type 0
+Reads view (Ok x) part = part ≡ Ok (view x)
+Reads view (Err fault) part = part ≡ Err fault
+
+-- the same, but memory may run out where something would be found
+abbrev pub Finds : {X A : Type 0} → (X → A × List ℕ) → Result X TextFault → Part A → Type 0
+Finds view (Ok x) part = part ≡ Ok (view x)
+Finds view (Err fault) part = (part ≡ Err fault) ⊎ ((fault ≡ Memory) × IsOk part)
+
+-- the same, but memory may run out before a fault is met
+abbrev pub Gives : {X A : Type 0} → (X → A × List ℕ) → Result X TextFault → Part A → Type 0
+Gives view (Ok x) part = part ≡ Ok (view x)
+Gives view (Err fault) part = fault ≢ Memory → part ≡ Err fault
+
+-- ---- ways to read
+
+-- first this, then what it leads to
+abbrev pub then_read : {A B : Type 0} → Part A → (A → List ℕ → Part B) → Part B
+then_read (Ok x) next = next x.0 x.1
+then_read (Err fault) next = Err fault
+
+-- what was read, as something else
+abbrev pub read_as : {A B : Type 0} → (A → B) → Part A → Part B
+read_as make (Ok x) = Ok (make x.0, x.1)
+read_as make (Err fault) = Err fault
+
+-- what was read, where it passes the test
+abbrev pub read_if : {A : Type 0} → (A → Bool) → Part A → Part A
+read_if test (Ok x) = if test x.0 then Ok x else Err Bad
+read_if test (Err fault) = Err fault
+
+-- so many more behind those that were read; how each is read may depend on those before it
+unfoldable pub many_at : {A : Type 0} → (List A → List ℕ → Part A) → ℕ → List A → List ℕ → Part (List A)
+many_at read zero done bytes = Ok (done, bytes)
+many_at read (suc more) done bytes = then_read (read done bytes) (λ x rest. many_at read more (done ++ x ∷ []) rest)
+
+-- ---- numbers and texts
+
+unfoldable pub byte_at : List ℕ → Part ℕ
+byte_at [] = Err Cut
+byte_at (b ∷ bs) = Ok (b, bs)
+
+unfoldable pub front_at : ℕ → List ℕ → Part (List ℕ)
+front_at len bytes = if nat_lt (length bytes) len then Err Cut else Ok (take len bytes, drop len bytes)
+
+unfoldable pub two_at : List ℕ → Part ℕ
+two_at bytes = read_as (from_le_bytes w16) (front_at 2 bytes)
+
+unfoldable pub four_at : List ℕ → Part ℕ
+four_at bytes = read_as (from_le_bytes w32) (front_at 4 bytes)
+
+unfoldable pub eight_at : List ℕ → Part ℕ
+eight_at bytes = read_as (from_le_bytes w64) (front_at 8 bytes)
+
+unfoldable pub text_at : ℕ → List ℕ → Part (List ℕ)
+text_at len bytes = read_if is_utf8 (front_at len bytes)
+
+unfoldable pub name_at : List ℕ → Part (List ℕ)
+name_at bytes = then_read (read_if (λ len. nat_le 1 len && nat_le len 64) (byte_at bytes)) text_at
+
+unfoldable pub long_text_at : List ℕ → Part (List ℕ)
+long_text_at bytes = then_read (read_if (λ len. nat_le len 1024) (two_at bytes)) text_at
+
+-- ---- geometry
+
+unfoldable pub point_at : List ℕ → Part World
+point_at bytes = then_read (four_at bytes) (λ x rest. read_as (λ y. record { x = x; y = y }) (four_at rest))
+
+-- a count of at least so many, and what is counted
+abbrev pub list_at : {A : Type 0} → ℕ → (List ℕ → Part A) → List ℕ → Part (List A)
+list_at least read bytes = then_read (read_if (nat_le least) (two_at bytes)) (λ count. many_at (λ _. read) count [])
+
+unfoldable pub line_at : ℕ → List ℕ → Part (List World)
+line_at least bytes = list_at least point_at bytes
+
+unfoldable pub lines_at : ℕ → List ℕ → Part (List (List World))
+lines_at least bytes = list_at 1 (line_at least) bytes
+
+-- the first of these lines or rings is there
+abbrev pub HasFirstLine : ℕ → List ℕ → Type 0
+HasFirstLine least bytes = (x : ℕ × List ℕ) × (two_at bytes ≡ Ok x) × IsOk (line_at least x.1)
+
+unfoldable pub polygons_at : List ℕ → Part (List (List (List World)))
+polygons_at bytes = list_at 1 (lines_at 3) bytes
+
+unfoldable pub geometry_behind : ℕ → List ℕ → Part GeometryData
+geometry_behind kind bytes =
+    if kind == 1 then read_as world_points (line_at 1 bytes)
+    else (if kind == 2 then read_as world_lines (lines_at 2 bytes)
+    else (if kind == 3 then read_as world_polygons (polygons_at bytes)
+    else Err Bad))
+
+unfoldable pub geometry_at : List ℕ → Part GeometryData
+geometry_at bytes = then_read (byte_at bytes) geometry_behind
+
+-- ---- tags
+
+-- an i64 of eight bytes, which is below 0
+unfoldable pub negative_at : List ℕ → Part ℕ
+negative_at bytes = read_if (λ n. nat_le (2 ^ 63) n) (eight_at bytes)
+
+unfoldable pub value_behind : ℕ → List ℕ → Part ValueData
+value_behind kind bytes =
+    if kind == 1 then read_as text_value (long_text_at bytes)
+    else (if kind == 2 then read_as natural_value (eight_at bytes)
+    else (if kind == 3 then read_as (λ n. negative_value (cast_signed w64 n)) (negative_at bytes)
+    else (if kind == 4 then Ok (truth_value false, bytes)
+    else (if kind == 5 then Ok (truth_value true, bytes)
+    else Err Bad))))
+
+unfoldable pub value_at : List ℕ → Part ValueData
+value_at bytes = then_read (byte_at bytes) value_behind
+
+-- the key comes behind the last of these tags
+unfoldable pub is_next_key : List TagData → List ℕ → Bool
+is_next_key [] key = true
+is_next_key (t ∷ []) key = is_lt (slice_cmp nat_cmp t.key key)
+is_next_key (t ∷ u ∷ ts) key = is_next_key (u ∷ ts) key
+
+-- the tag behind these
+unfoldable pub tag_at : List TagData → List ℕ → Part TagData
+tag_at tags bytes = then_read (read_if (is_next_key tags) (name_at bytes)) (λ key rest. read_as (λ value. record { key = key; value = value }) (value_at rest))
+
+abbrev pub tag_count_at : List ℕ → Part ℕ
+tag_count_at bytes = read_if (λ count. nat_le count 64) (byte_at bytes)
+
+unfoldable pub tags_at : List ℕ → Part (List TagData)
+tags_at bytes = then_read (tag_count_at bytes) (λ count. many_at tag_at count [])
+
+-- ---- features and edits
+
+unfoldable pub zooms_at : List ℕ → Part (ℕ × ℕ)
+zooms_at bytes = then_read (read_if (λ zoom. nat_le zoom 16) (byte_at bytes))
+    (λ first rest. read_as (λ last. (first, last)) (read_if (λ last. nat_le first last && nat_le last 16) (byte_at rest)))
+
+unfoldable pub feature_at : List ℕ → Part FeatureData
+feature_at bytes = then_read (name_at bytes) (λ layer behind_layer.
+    then_read (zooms_at behind_layer) (λ zooms behind_zooms.
+    then_read (geometry_at behind_zooms) (λ geometry behind_geometry.
+    read_as (λ tags. record { layer = layer; minzoom = zooms.0; maxzoom = zooms.1; geometry = geometry; tags = tags }) (tags_at behind_geometry))))
+
+unfoldable pub number_at : List ℕ → Part ℕ
+number_at bytes = read_if (λ id. nat_lt id (2 ^ 63)) (eight_at bytes)
+
+unfoldable pub put_at : List ℕ → Part EditData
+put_at bytes = then_read (number_at bytes) (λ id rest. read_as (put id) (feature_at rest))
+
+unfoldable pub edit_behind : ℕ → List ℕ → Part EditData
+edit_behind kind bytes =
+    if kind == 1 then put_at bytes
+    else (if kind == 2 then read_as delete (number_at bytes)
+    else Err Bad)
+
+unfoldable pub edit_at : List ℕ → Part EditData
+edit_at bytes = then_read (byte_at bytes) edit_behind
+
+-- bytes that end too early are bad where there is no room for more
+abbrev pub cut_as_bad : {A : Type 0} → Part A → Part A
+cut_as_bad (Ok x) = Ok x
+cut_as_bad (Err Cut) = Err Bad
+cut_as_bad (Err Bad) = Err Bad
+cut_as_bad (Err Memory) = Err Memory
+
+-- the edit in front, whose text is no longer than the longest
+unfoldable pub decode_at : List ℕ → Part EditData
+decode_at bytes = if nat_lt (length bytes) 32768 then edit_at bytes else cut_as_bad (edit_at (take 32768 bytes))

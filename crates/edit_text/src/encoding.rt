@@ -1,0 +1,224 @@
+//! Edits to texts.
+
+ghost use Rattle.std.specs.Prelude.{◌≡◌, ℕ, ◌<◌, ◌≤◌, ◌^◌, ◌++◌, length, map, All, OnOk, IfOk};
+ghost use Rattle.std.specs.Str.{IsUtf8};
+ghost use Rattle.feature_model.specs.Data.{put, delete, feature_data, geometry_data, value_data, tag_data, edit_data};
+ghost use Rattle.feature_model.specs.Limits.{IsName, LayerFits, GeometryFits, TagsFit, ValueFits, ValuesFit, IsAllowed, IsAllowedEdit, NumberFits};
+ghost use Rattle.feature_model.specs.Spelled.{two_bytes, eight_bytes, spelled_name, spelled_list, spelled_point, spelled_line, spelled_geometry, spelled_value, spelled_tag, spelled_tags, spelled_feature, spelled};
+ghost use Rattle.feature_model.specs.Types.{IsOfWorld, LiesInWorld, ValueFitsTypes, TagFitsTypes, FeatureFitsTypes, IsEdit};
+
+use crate::Memory;
+use feature_model::{Edit, EditValue, Feature, Geometry, Tag, World, put_text_len};
+use std::alloc::Global;
+
+#[tactic(auto, unfolding(feature_model::specs::Spelled::two_bytes))]
+fn put_count(out: &mut Vec<u8>, count: usize) -> Result<(), Memory>
+    requires { count ≤ 65535 }
+    ensures { OnOk result (out.new.items ≡ out.old.items ++ two_bytes count) }
+{
+    out.extend_from_slice(&(count as u16).to_le_bytes())
+}
+
+#[tactic(auto, unfolding(feature_model::specs::Spelled::spelled_name))]
+fn put_name(out: &mut Vec<u8>, name: &str) -> Result<(), Memory>
+    requires { IsName name.now }
+    ensures text { OnOk result (out.new.items ≡ out.old.items ++ spelled_name name.now) }
+    ensures types { IsUtf8 name.now }
+{
+    out.push(name.len() as u8)?;
+    out.extend_from_slice(name.as_bytes())
+}
+
+#[tactic(auto, unfolding(feature_model::specs::Spelled::spelled_point, feature_model::specs::Spelled::four_bytes))]
+fn put_point(out: &mut Vec<u8>, point: &World) -> Result<(), Memory>
+    ensures text { OnOk result (out.new.items ≡ out.old.items ++ spelled_point point.now) }
+    ensures types { OnOk result (IsOfWorld point.now) }
+{
+    out.extend_from_slice(&point.x.to_le_bytes())?;
+    out.extend_from_slice(&point.y.to_le_bytes())
+}
+
+fn put_line(out: &mut Vec<u8>, points: &[World]) -> Result<(), Memory>
+    requires { length points.now ≤ 65535 }
+    ensures text { OnOk result (out.new.items ≡ out.old.items ++ spelled_line points.now) }
+    ensures types { OnOk result (All IsOfWorld points.now) }
+{
+    put_count(out, points.len())?;
+    for point in points {
+        put_point(out, point)?;
+    }
+    Ok(())
+}
+
+fn put_lines(out: &mut Vec<u8>, lines: &[Vec<World>]) -> Result<(), Memory>
+    requires count { length lines.now ≤ 65535 }
+    requires points { All (λ l. length l.items ≤ 65535) lines.now }
+    ensures text { OnOk result
+        (out.new.items ≡ out.old.items ++ spelled_list spelled_line (map (λ l. l.items) lines.now)) }
+    ensures types { OnOk result (All (All IsOfWorld) (map (λ l. l.items) lines.now)) }
+{
+    put_count(out, lines.len())?;
+    for line in lines {
+        put_line(out, line)?;
+    }
+    Ok(())
+}
+
+fn put_polygons(out: &mut Vec<u8>, polygons: &[Vec<Vec<World>>]) -> Result<(), Memory>
+    requires count { length polygons.now ≤ 65535 }
+    requires rings { All (λ p. length p.items ≤ 65535) polygons.now }
+    requires points { All (λ p. All (λ r. length r.items ≤ 65535) p.items) polygons.now }
+    ensures text { OnOk result (out.new.items ≡ out.old.items
+        ++ spelled_list (spelled_list spelled_line) (map (λ p. map (λ r. r.items) p.items) polygons.now)) }
+    ensures types { OnOk result
+        (All (All (All IsOfWorld)) (map (λ p. map (λ r. r.items) p.items) polygons.now)) }
+{
+    put_count(out, polygons.len())?;
+    for rings in polygons {
+        put_lines(out, rings)?;
+    }
+    Ok(())
+}
+
+#[tactic(auto, using(crate::proofs::GeometryKinds::geometries))]
+fn put_geometry(out: &mut Vec<u8>, geometry: &Geometry) -> Result<(), Memory>
+    requires { GeometryFits (geometry_data geometry.now) }
+    ensures text { OnOk result
+        (out.new.items ≡ out.old.items ++ spelled_geometry (geometry_data geometry.now)) }
+    ensures types { OnOk result (LiesInWorld (geometry_data geometry.now)) }
+{
+    match geometry {
+        Geometry::Points(points) => {
+            out.push(1)?;
+            put_line(out, points)
+        }
+        Geometry::Lines(lines) => {
+            out.push(2)?;
+            put_lines(out, lines)
+        }
+        Geometry::Polygons(polygons) => {
+            out.push(3)?;
+            put_polygons(out, polygons)
+        }
+    }
+}
+
+#[tactic(auto, unfolding(feature_model::specs::Spelled::eight_bytes))]
+fn put_number(out: &mut Vec<u8>, number: u64) -> Result<(), Memory>
+    ensures { OnOk result (out.new.items ≡ out.old.items ++ eight_bytes number) }
+{
+    out.extend_from_slice(&number.to_le_bytes())
+}
+
+fn put_text(out: &mut Vec<u8>, text: &str) -> Result<(), Memory>
+    requires { length text.now ≤ 1024 }
+    ensures text { OnOk result
+        (out.new.items ≡ out.old.items ++ (two_bytes (length text.now) ++ text.now)) }
+    ensures types { IsUtf8 text.now }
+{
+    put_count(out, text.len())?;
+    out.extend_from_slice(text.as_bytes())
+}
+
+#[tactic(auto, unfolding(feature_model::specs::Spelled::spelled_value))]
+fn put_value(out: &mut Vec<u8>, value: &EditValue) -> Result<(), Memory>
+    requires { ValueFits (value_data value.now) }
+    ensures text { OnOk result (out.new.items ≡ out.old.items ++ spelled_value (value_data value.now)) }
+    ensures types { OnOk result (ValueFitsTypes (value_data value.now)) }
+{
+    match value {
+        EditValue::Text(text) => {
+            out.push(1)?;
+            put_text(out, text.as_str())
+        }
+        EditValue::Natural(number) => {
+            out.push(2)?;
+            put_number(out, *number)
+        }
+        EditValue::Negative(number) => {
+            out.push(3)?;
+            put_number(out, number.cast_unsigned())
+        }
+        EditValue::Truth(truth) => {
+            out.push(if *truth { 5 } else { 4 })?;
+            Ok(())
+        }
+    }
+}
+
+/// A key and its value.
+#[tactic(auto, unfolding(feature_model::specs::Spelled::spelled_tag))]
+fn put_tag(out: &mut Vec<u8>, tag: &Tag) -> Result<(), Memory>
+    requires key { IsName (tag_data tag.now).key }
+    requires value { ValueFits (tag_data tag.now).value }
+    ensures text { OnOk result (out.new.items ≡ out.old.items ++ spelled_tag (tag_data tag.now)) }
+    ensures types { OnOk result (TagFitsTypes (tag_data tag.now)) }
+{
+    put_name(out, tag.key.as_str())?;
+    put_value(out, &tag.value)
+}
+
+fn put_tags(out: &mut Vec<u8>, tags: &[Tag]) -> Result<(), Memory>
+    requires keys { TagsFit (map tag_data tags.now) }
+    requires values { ValuesFit (map tag_data tags.now) }
+    ensures text { OnOk result (out.new.items ≡ out.old.items ++ spelled_tags (map tag_data tags.now)) }
+    ensures types { OnOk result (All TagFitsTypes (map tag_data tags.now)) }
+{
+    out.push(tags.len() as u8)?;
+    for tag in tags {
+        put_tag(out, tag)?;
+    }
+    Ok(())
+}
+
+#[tactic(auto, using(crate::proofs::FeatureTexts::features))]
+fn put_feature(out: &mut Vec<u8>, feature: &Feature) -> Result<(), Memory>
+    requires layer { LayerFits (feature_data feature.now) }
+    requires geometry { GeometryFits (geometry_data feature.now.geometry) }
+    requires keys { TagsFit (map tag_data feature.now.tags.items) }
+    requires values { ValuesFit (map tag_data feature.now.tags.items) }
+    ensures text { OnOk result (out.new.items ≡ out.old.items ++ spelled_feature (feature_data feature.now)) }
+    ensures types { OnOk result (FeatureFitsTypes (feature_data feature.now)) }
+{
+    put_name(out, feature.layer.as_str())?;
+    out.extend_from_slice(&[feature.minzoom, feature.maxzoom])?;
+    put_geometry(out, &feature.geometry)?;
+    put_tags(out, &feature.tags)
+}
+
+/// The text that takes the number's feature away: nine bytes. The number is below 2^63.
+#[tactic(auto, unfolding(feature_model::specs::Spelled::spelled, feature_model::specs::Spelled::eight_bytes))]
+pub fn delete_text(id: u64) -> [u8; 9]
+    requires { NumberFits id }
+    ensures { result ≡ spelled (delete id) }
+{
+    let [a, b, c, d, e, f, g, h] = id.to_le_bytes();
+    [2, a, b, c, d, e, f, g, h]
+}
+
+/// The text that gives a number this feature.
+#[tactic(auto, unfolding(feature_model::specs::Spelled::spelled))]
+fn encode_put(alloc: Global, id: u64, feature: &Feature) -> Result<Vec<u8>, Memory>
+    requires { IsAllowed id (feature_data feature.now) }
+    ensures text { IfOk result (λ v. v.items ≡ spelled (put id (feature_data feature.now))) }
+    ensures types { OnOk result (FeatureFitsTypes (feature_data feature.now)) }
+{
+    let mut out = Vec::with_capacity(alloc, put_text_len(feature) as usize)?;
+    out.push(1)?;
+    put_number(&mut out, id)?;
+    put_feature(&mut out, feature)?;
+    Ok(out)
+}
+
+/// The text of an edit that is within the limits.
+pub fn encode(alloc: Global, edit: &Edit) -> Result<Vec<u8>, Memory>
+    requires { IsAllowedEdit (edit_data edit.now) }
+    ensures text { IfOk result (λ v. v.items ≡ spelled (edit_data edit.now)) }
+    // It is the text of an edit, so it can be decoded.
+    ensures edit { OnOk result (IsEdit (edit_data edit.now)) }
+{
+    match edit {
+        Edit::Put { id, feature } => encode_put(alloc, *id, feature),
+        Edit::Delete { id } => Vec::from_slice(alloc, &delete_text(*id)),
+    }
+}

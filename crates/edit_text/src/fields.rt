@@ -1,0 +1,106 @@
+//! Numbers and texts in front of bytes, each with the bytes behind it.
+
+ghost use Rattle.std.specs.Prelude.{◌≡◌, ℕ, ◌≤◌, length, IfOk};
+ghost use Rattle.edit_text.specs.Reading.{Reads, byte_at, front_at, two_at, four_at, eight_at, number_at, text_at, name_at, long_text_at};
+
+use crate::fault::TextFault;
+
+#[tactic(auto, unfolding(crate::specs::Reading::byte_at))]
+pub(crate) fn read_byte(bytes: &[u8]) -> Result<(u8, &[u8]), TextFault>
+    ensures { Reads (λ r. (r.0, r.1.now)) result (byte_at bytes.now) }
+{
+    match bytes {
+        [first, rest @ ..] => Ok((*first, rest)),
+        [] => Err(TextFault::Cut),
+    }
+}
+
+/// So many bytes.
+#[tactic(auto, unfolding(crate::specs::Reading::front_at))]
+fn read_front(bytes: &[u8], len: usize) -> Result<(&[u8], &[u8]), TextFault>
+    ensures exact { Reads (λ r. (r.0.now, r.1.now)) result (front_at len bytes.now) }
+    ensures len { IfOk result (λ r. length r.0.now ≡ len) }
+{
+    if bytes.len() < len {
+        return Err(TextFault::Cut);
+    }
+    Ok(bytes.split_at(len))
+}
+
+#[tactic(auto, unfolding(crate::specs::Reading::two_at))]
+pub(crate) fn read_u16(bytes: &[u8]) -> Result<(u16, &[u8]), TextFault>
+    ensures { Reads (λ r. (r.0, r.1.now)) result (two_at bytes.now) }
+{
+    let (front, rest) = read_front(bytes, 2)?;
+    let mut number = [0; 2];
+    number.copy_from_slice(front);
+    Ok((u16::from_le_bytes(number), rest))
+}
+
+#[tactic(auto, unfolding(crate::specs::Reading::four_at))]
+pub(crate) fn read_u32(bytes: &[u8]) -> Result<(u32, &[u8]), TextFault>
+    ensures { Reads (λ r. (r.0, r.1.now)) result (four_at bytes.now) }
+{
+    let (front, rest) = read_front(bytes, 4)?;
+    let mut number = [0; 4];
+    number.copy_from_slice(front);
+    Ok((u32::from_le_bytes(number), rest))
+}
+
+#[tactic(auto, unfolding(crate::specs::Reading::eight_at))]
+pub(crate) fn read_u64(bytes: &[u8]) -> Result<(u64, &[u8]), TextFault>
+    ensures { Reads (λ r. (r.0, r.1.now)) result (eight_at bytes.now) }
+{
+    let (front, rest) = read_front(bytes, 8)?;
+    let mut number = [0; 8];
+    number.copy_from_slice(front);
+    Ok((u64::from_le_bytes(number), rest))
+}
+
+/// The number of a feature, below 2^63.
+#[tactic(auto, unfolding(crate::specs::Reading::number_at))]
+pub(crate) fn read_number(bytes: &[u8]) -> Result<(u64, &[u8]), TextFault>
+    ensures { Reads (λ r. (r.0, r.1.now)) result (number_at bytes.now) }
+{
+    let (number, rest) = read_u64(bytes)?;
+    if number >= 1 << 63 {
+        return Err(TextFault::Bad);
+    }
+    Ok((number, rest))
+}
+
+/// So many bytes of UTF-8.
+#[tactic(auto, using(crate::proofs::Utf8Tests::utf8_tests), unfolding(crate::specs::Reading::text_at))]
+fn read_text(bytes: &[u8], len: usize) -> Result<(&str, &[u8]), TextFault>
+    ensures { Reads (λ r. (r.0.now, r.1.now)) result (text_at len bytes.now) }
+{
+    let (front, rest) = read_front(bytes, len)?;
+    match str::from_utf8(front) {
+        Ok(text) => Ok((text, rest)),
+        Err(_) => Err(TextFault::Bad),
+    }
+}
+
+/// The name of a layer or a key: 1 to 64 bytes.
+#[tactic(auto, unfolding(crate::specs::Reading::name_at))]
+pub(crate) fn read_name(bytes: &[u8]) -> Result<(&str, &[u8]), TextFault>
+    ensures { Reads (λ r. (r.0.now, r.1.now)) result (name_at bytes.now) }
+{
+    let (len, rest) = read_byte(bytes)?;
+    if len < 1 || len > 64 {
+        return Err(TextFault::Bad);
+    }
+    read_text(rest, usize::from(len))
+}
+
+/// The text of a value: at most 1,024 bytes.
+#[tactic(auto, unfolding(crate::specs::Reading::long_text_at))]
+pub(crate) fn read_long_text(bytes: &[u8]) -> Result<(&str, &[u8]), TextFault>
+    ensures { Reads (λ r. (r.0.now, r.1.now)) result (long_text_at bytes.now) }
+{
+    let (len, rest) = read_u16(bytes)?;
+    if len > 1024 {
+        return Err(TextFault::Bad);
+    }
+    read_text(rest, usize::from(len))
+}

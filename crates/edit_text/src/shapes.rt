@@ -1,0 +1,155 @@
+//! Geometries in front of bytes.
+
+ghost use Rattle.std.specs.Prelude.{◌≡◌, ℕ, ◌<◌, ◌≤◌, [], map, nat_le, IsOk};
+ghost use Rattle.feature_model.specs.Data.{geometry_data};
+ghost use Rattle.edit_text.specs.Reading.{Reads, Finds, Gives, read_if, many_at, two_at, point_at, line_at, lines_at, HasFirstLine, polygons_at, geometry_behind, geometry_at};
+
+use crate::fault::TextFault;
+use crate::fields::{read_byte, read_u16, read_u32};
+use feature_model::{Geometry, World};
+use std::alloc::Global;
+
+/// The bytes of a point.
+const POINT_LEN: usize = 8;
+
+/// A count of at least so many.
+fn read_count(bytes: &[u8], least: u16) -> Result<(u16, &[u8]), TextFault>
+    ensures { Reads (λ r. (r.0, r.1.now)) result (read_if (nat_le least) (two_at bytes.now)) }
+{
+    let (count, rest) = read_u16(bytes)?;
+    if count < least {
+        return Err(TextFault::Bad);
+    }
+    Ok((count, rest))
+}
+
+#[tactic(auto, unfolding(crate::specs::Reading::point_at))]
+fn read_point(bytes: &[u8]) -> Result<(World, &[u8]), TextFault>
+    ensures { Reads (λ r. (r.0, r.1.now)) result (point_at bytes.now) }
+{
+    let (x, rest) = read_u32(bytes)?;
+    let (y, rest) = read_u32(rest)?;
+    Ok((World { x, y }, rest))
+}
+
+/// So many points. Room for them is made once they are known to be there.
+fn read_points(alloc: Global, count: u16, bytes: &[u8]) -> Result<(Vec<World>, &[u8]), TextFault>
+    ensures { Finds (λ r. (r.0.items, r.1.now)) result (many_at (λ _. point_at) count [] bytes.now) }
+{
+    if bytes.len() / POINT_LEN < usize::from(count) {
+        return Err(TextFault::Cut);
+    }
+    let mut points = Vec::with_capacity(alloc, usize::from(count))?;
+    let mut rest = bytes;
+    for _ in 0..count {
+        let (point, behind) = read_point(rest)?;
+        points.push(point)?;
+        rest = behind;
+    }
+    Ok((points, rest))
+}
+
+#[tactic(auto, unfolding(crate::specs::Reading::line_at))]
+fn read_line(alloc: Global, bytes: &[u8], least: u16) -> Result<(Vec<World>, &[u8]), TextFault>
+    ensures { Finds (λ r. (r.0.items, r.1.now)) result (line_at least bytes.now) }
+{
+    let (count, rest) = read_count(bytes, least)?;
+    read_points(alloc, count, rest)
+}
+
+/// So many lines or rings, each of at least so many points.
+fn read_each_line(
+    alloc: Global,
+    count: u16,
+    bytes: &[u8],
+    least: u16,
+) -> Result<(Vec<Vec<World>>, &[u8]), TextFault>
+    ensures lines { Gives (λ r. (map (λ l. l.items) r.0.items, r.1.now)) result
+        (many_at (λ _. line_at least) count [] bytes.now) }
+    // No memory is taken before a first line is there.
+    ensures first { result ≡ Err TextFault.Memory → IsOk (line_at least bytes.now) }
+{
+    let mut lines = Vec::new(alloc);
+    let mut rest = bytes;
+    for _ in 0..count {
+        let (line, behind) = read_line(alloc, rest, least)?;
+        lines.push(line)?;
+        rest = behind;
+    }
+    Ok((lines, rest))
+}
+
+#[tactic(auto, unfolding(crate::specs::Reading::lines_at))]
+fn read_lines(
+    alloc: Global,
+    bytes: &[u8],
+    least: u16,
+) -> Result<(Vec<Vec<World>>, &[u8]), TextFault>
+    ensures lines { Gives (λ r. (map (λ l. l.items) r.0.items, r.1.now)) result (lines_at least bytes.now) }
+    ensures first { result ≡ Err TextFault.Memory → HasFirstLine least bytes.now }
+{
+    let (count, rest) = read_count(bytes, 1)?;
+    read_each_line(alloc, count, rest, least)
+}
+
+/// So many polygons.
+fn read_each_polygon(
+    alloc: Global,
+    count: u16,
+    bytes: &[u8],
+) -> Result<(Vec<Vec<Vec<World>>>, &[u8]), TextFault>
+    ensures polygons { Gives (λ r. (map (λ p. map (λ l. l.items) p.items) r.0.items, r.1.now)) result
+        (many_at (λ _. lines_at 3) count [] bytes.now) }
+    // No memory is taken before a first ring is there.
+    ensures first { result ≡ Err TextFault.Memory → HasFirstLine 3 bytes.now }
+{
+    let mut polygons = Vec::new(alloc);
+    let mut rest = bytes;
+    for _ in 0..count {
+        let (rings, behind) = read_lines(alloc, rest, 3)?;
+        polygons.push(rings)?;
+        rest = behind;
+    }
+    Ok((polygons, rest))
+}
+
+#[tactic(auto, unfolding(crate::specs::Reading::polygons_at))]
+fn read_polygons(alloc: Global, bytes: &[u8]) -> Result<(Vec<Vec<Vec<World>>>, &[u8]), TextFault>
+    ensures { Gives (λ r. (map (λ p. map (λ l. l.items) p.items) r.0.items, r.1.now)) result
+        (polygons_at bytes.now) }
+{
+    let (count, rest) = read_count(bytes, 1)?;
+    read_each_polygon(alloc, count, rest)
+}
+
+/// The lists of a geometry of this kind.
+#[tactic(auto, unfolding(crate::specs::Reading::geometry_behind))]
+fn read_shape(alloc: Global, kind: u8, bytes: &[u8]) -> Result<(Geometry, &[u8]), TextFault>
+    ensures shape { Gives (λ r. (geometry_data r.0, r.1.now)) result (geometry_behind kind bytes.now) }
+    ensures none { kind ≡ 0 → result ≡ Err TextFault.Bad }
+    ensures unknown { 3 < kind → result ≡ Err TextFault.Bad }
+{
+    match kind {
+        1 => {
+            let (points, rest) = read_line(alloc, bytes, 1)?;
+            Ok((Geometry::Points(points), rest))
+        }
+        2 => {
+            let (lines, rest) = read_lines(alloc, bytes, 2)?;
+            Ok((Geometry::Lines(lines), rest))
+        }
+        3 => {
+            let (polygons, rest) = read_polygons(alloc, bytes)?;
+            Ok((Geometry::Polygons(polygons), rest))
+        }
+        _ => Err(TextFault::Bad),
+    }
+}
+
+#[tactic(auto, unfolding(crate::specs::Reading::geometry_at))]
+pub(crate) fn read_geometry(alloc: Global, bytes: &[u8]) -> Result<(Geometry, &[u8]), TextFault>
+    ensures { Gives (λ r. (geometry_data r.0, r.1.now)) result (geometry_at bytes.now) }
+{
+    let (kind, rest) = read_byte(bytes)?;
+    read_shape(alloc, kind, rest)
+}

@@ -1,0 +1,4 @@
+pub mod Data
+pub mod Limits
+pub mod Spelled
+pub mod Types

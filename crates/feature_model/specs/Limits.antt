@@ -1,0 +1,93 @@
+-- The limits of a feature and its number, one for each fault, in the order in which faults are told.
+use Rattle.std.specs.Prelude.{ℕ, pos, ◌<◌, ◌≤◌, ◌^◌, ◌<ℤ◌, List, length, map, All}
+use Rattle.std.specs.Ordering.{nat_cmp}
+use Rattle.std.specs.Cmp.Lexicographic.{slice_cmp}
+use Rattle.std.specs.List.Sorted.{IsStrictlySortedBy}
+use Rattle.feature_model.specs.declared.feature.World.{World}
+use Rattle.feature_model.specs.declared.fault.EditFault.{EditFault}
+use Rattle.feature_model.specs.declared.fault.EditFault.TheVariants as faults
+use Rattle.feature_model.specs.Data.{GeometryData, world_points, world_lines, world_polygons, ValueData, text_value, natural_value, negative_value, truth_value, TagData, FeatureData, EditData, put, delete}
+use Rattle.feature_model.specs.Spelled.{spelled}
+
+-- a name has 1 to 64 bytes
+abbrev pub IsName : List ℕ → Type 0
+IsName bytes = (1 ≤ length bytes) × (length bytes ≤ 64)
+
+-- a list has at least so many, and at most as many as two bytes count
+abbrev pub CountFits : {A : Type 0} → ℕ → List A → Type 0
+CountFits least xs = (least ≤ length xs) × (length xs ≤ 65535)
+
+-- a polygon has a ring or more, each of three points or more
+abbrev pub RingsFit : List (List World) → Type 0
+RingsFit rings = CountFits 1 rings × All (CountFits 3) rings
+
+-- ---- the limits
+
+abbrev pub NumberFits : ℕ → Type 0
+NumberFits id = id < 2 ^ 63
+
+abbrev pub LayerFits : FeatureData → Type 0
+LayerFits f = IsName f.layer
+
+abbrev pub ZoomsFit : FeatureData → Type 0
+ZoomsFit f = (f.minzoom ≤ f.maxzoom) × (f.maxzoom ≤ 16)
+
+abbrev pub GeometryFits : GeometryData → Type 0
+GeometryFits (world_points points) = CountFits 1 points
+GeometryFits (world_lines lines) = CountFits 1 lines × All (CountFits 2) lines
+GeometryFits (world_polygons polygons) = CountFits 1 polygons × All RingsFit polygons
+
+-- the keys of tags, in their order
+abbrev pub keys_of : List TagData → List (List ℕ)
+keys_of tags = map (λ t. t.key) tags
+
+-- each key comes before the next, byte by byte
+abbrev pub HasAscendingKeys : List TagData → Type 0
+HasAscendingKeys tags = IsStrictlySortedBy (slice_cmp nat_cmp) (keys_of tags)
+
+pub record TagsFit (tags : List TagData) : Type 0 where
+  pub few : length tags ≤ 64
+  pub names : All IsName (keys_of tags)
+  pub ascending : HasAscendingKeys tags
+
+-- a text is short, and what is said to be negative is below 0
+abbrev pub ValueFits : ValueData → Type 0
+ValueFits (text_value bytes) = length bytes ≤ 1024
+ValueFits (natural_value n) = Unit {0}
+ValueFits (negative_value z) = z <ℤ pos 0
+ValueFits (truth_value b) = Unit {0}
+
+abbrev pub ValuesFit : List TagData → Type 0
+ValuesFit tags = All (λ t. ValueFits t.value) tags
+
+-- the text that sets the number's feature is short
+abbrev pub TextFits : ℕ → FeatureData → Type 0
+TextFits id f = length (spelled (put id f)) ≤ 32768
+
+-- ---- all of them
+
+pub record IsAllowed (id : ℕ) (f : FeatureData) : Type 0 where
+  pub number : NumberFits id
+  pub layer : LayerFits f
+  pub zooms : ZoomsFit f
+  pub geometry : GeometryFits f.geometry
+  pub tags : TagsFit f.tags
+  pub values : ValuesFit f.tags
+  pub text : TextFits id f
+
+-- an edit within the limits
+abbrev pub IsAllowedEdit : EditData → Type 0
+IsAllowedEdit (put id f) = IsAllowed id f
+IsAllowedEdit (delete id) = NumberFits id
+
+-- the fault's limit is broken, and those before it are kept
+abbrev pub IsFirstFault : ℕ → FeatureData → EditFault → Type 0
+IsFirstFault id f faults.Number = ¬ NumberFits id
+IsFirstFault id f faults.Layer = NumberFits id × ¬ LayerFits f
+IsFirstFault id f faults.Zoom = NumberFits id × LayerFits f × ¬ ZoomsFit f
+IsFirstFault id f faults.Geometry = NumberFits id × LayerFits f × ZoomsFit f × ¬ GeometryFits f.geometry
+IsFirstFault id f faults.Tags = NumberFits id × LayerFits f × ZoomsFit f × GeometryFits f.geometry × ¬ TagsFit f.tags
+IsFirstFault id f faults.Value = NumberFits id × LayerFits f × ZoomsFit f × GeometryFits f.geometry × TagsFit f.tags × ¬ ValuesFit f.tags
+IsFirstFault id f faults.Long = NumberFits id × LayerFits f × ZoomsFit f × GeometryFits f.geometry × TagsFit f.tags × ValuesFit f.tags × ¬ TextFits id f
+-- no other fault is told
+IsFirstFault id f _ = ⊥

@@ -1,0 +1,56 @@
+-- The text of an edit: one spelling for each.
+use Rattle.std.specs.Prelude.{ℕ, true, false, List, [], ◌∷◌, ◌++◌, length}
+use Rattle.std.specs.List.{flat_map}
+use Rattle.std.specs.Int.{w16, w32, w64, to_le_bytes, cast_unsigned}
+use Rattle.feature_model.specs.declared.feature.World.{World}
+use Rattle.feature_model.specs.Data.{GeometryData, world_points, world_lines, world_polygons, ValueData, text_value, natural_value, negative_value, truth_value, TagData, FeatureData, EditData, put, delete}
+
+-- a number in two, four or eight bytes, the lowest first
+unfoldable pub two_bytes : ℕ → List ℕ
+two_bytes n = to_le_bytes w16 n
+
+unfoldable pub four_bytes : ℕ → List ℕ
+four_bytes n = to_le_bytes w32 n
+
+unfoldable pub eight_bytes : ℕ → List ℕ
+eight_bytes n = to_le_bytes w64 n
+
+-- how many there are, and each one's text
+unfoldable pub spelled_list : {A : Type 0} → (A → List ℕ) → List A → List ℕ
+spelled_list spell xs = two_bytes (length xs) ++ flat_map spell xs
+
+unfoldable pub spelled_point : World → List ℕ
+spelled_point p = four_bytes p.x ++ four_bytes p.y
+
+-- a list of points
+abbrev pub spelled_line : List World → List ℕ
+spelled_line points = spelled_list spelled_point points
+
+unfoldable pub spelled_geometry : GeometryData → List ℕ
+spelled_geometry (world_points points) = 1 ∷ spelled_line points
+spelled_geometry (world_lines lines) = 2 ∷ spelled_list spelled_line lines
+spelled_geometry (world_polygons polygons) = 3 ∷ spelled_list (spelled_list spelled_line) polygons
+
+-- a short text: its length in one byte, and its bytes
+unfoldable pub spelled_name : List ℕ → List ℕ
+spelled_name bytes = length bytes ∷ bytes
+
+unfoldable pub spelled_value : ValueData → List ℕ
+spelled_value (text_value bytes) = 1 ∷ two_bytes (length bytes) ++ bytes
+spelled_value (natural_value n) = 2 ∷ eight_bytes n
+spelled_value (negative_value z) = 3 ∷ eight_bytes (cast_unsigned w64 z)
+spelled_value (truth_value false) = 4 ∷ []
+spelled_value (truth_value true) = 5 ∷ []
+
+unfoldable pub spelled_tag : TagData → List ℕ
+spelled_tag t = spelled_name t.key ++ spelled_value t.value
+
+unfoldable pub spelled_tags : List TagData → List ℕ
+spelled_tags tags = length tags ∷ flat_map spelled_tag tags
+
+unfoldable pub spelled_feature : FeatureData → List ℕ
+spelled_feature f = spelled_name f.layer ++ (f.minzoom ∷ f.maxzoom ∷ spelled_geometry f.geometry ++ spelled_tags f.tags)
+
+unfoldable pub spelled : EditData → List ℕ
+spelled (put id f) = 1 ∷ eight_bytes id ++ spelled_feature f
+spelled (delete id) = 2 ∷ eight_bytes id

@@ -1,0 +1,56 @@
+ghost use Rattle.feature_model.specs.declared.fault.EditFault.TheVariants.{Memory};
+ghost use Rattle.std.specs.Prelude.{◌≡◌};
+
+use std::alloc::{AllocError, AllocFailed};
+use thiserror::Error;
+
+/// Why a feature is no feature of a map, in the order in which faults are told.
+#[derive(Clone, Copy, Debug, PartialEq, Eq, Error)]
+pub enum EditFault {
+    /// E1: no object; a member missing, unknown or of another JSON kind; a zoom that is no whole number of 0 to 255.
+    #[error("E1 Member")]
+    Member,
+    /// E2: a number of 2^63 or more.
+    #[error("E2 Number")]
+    Number,
+    /// E3: a layer's name not of 1 to 64 bytes.
+    #[error("E3 Layer")]
+    Layer,
+    /// E4: `minzoom` above `maxzoom`, or `maxzoom` above 16.
+    #[error("E4 Zoom")]
+    Zoom,
+    /// E5: a list too short or above 65,535, or what is no list of points inside one.
+    #[error("E5 Geometry")]
+    Geometry,
+    /// E6: over 64 tags, a key not of 1 to 64 bytes, keys not strictly ascending.
+    #[error("E6 Tags")]
+    Tags,
+    /// E7: a value that no tag has.
+    #[error("E7 Value")]
+    Value,
+    /// E8: a text of over 32,768 bytes.
+    #[error("E8 Long")]
+    Long,
+    /// E9: a reach over 65,536 places.
+    #[error("E9 Reach")]
+    Reach,
+    /// A growth was refused.
+    #[error("out of memory")]
+    Memory,
+}
+
+impl<T: Drop> From<AllocFailed<T>> for EditFault {
+    ghost from_gives = { λ _ e. e ≡ Memory };
+
+    fn from(_e: AllocFailed<T>) -> EditFault {
+        EditFault::Memory
+    }
+}
+
+impl From<AllocError> for EditFault {
+    ghost from_gives = { λ _ e. e ≡ Memory };
+
+    fn from(_e: AllocError) -> EditFault {
+        EditFault::Memory
+    }
+}

@@ -1,0 +1,158 @@
+//! The limits of a feature and its number.
+
+ghost use Rattle.std.specs.Prelude.{◌≡◌, ℕ, ◌+◌, ◌<◌, ◌≤◌, ◌↔◌, length, map, All, IsTrue, IsOk, IfErr};
+ghost use Rattle.std.specs.Ordering.{nat_cmp, is_lt};
+ghost use Rattle.std.specs.Cmp.Lexicographic.{slice_cmp};
+ghost use Rattle.std.specs.List.Sorted.{IsStrictlySortedBy};
+ghost use Rattle.std.specs.String.{string_bytes};
+ghost use Rattle.feature_model.specs.Data.{world_polygons, feature_data, geometry_data, value_data, tag_data};
+ghost use Rattle.feature_model.specs.Limits.{IsName, CountFits, RingsFit, GeometryFits, TagsFit, ValueFits, ValuesFit, HasAscendingKeys, keys_of, IsAllowed, IsFirstFault};
+
+use crate::fault::EditFault;
+use crate::feature::{EditValue, Feature, Geometry, Tag, World};
+use crate::lengths::put_text_len;
+
+/// Numbers of features are below 2^63.
+const NUMBERS: u64 = 1 << 63;
+/// The greatest zoom of a feature, and of a tile of the map.
+pub const GREATEST_ZOOM: u8 = 16;
+/// The most bytes of a name of a layer or a key of a tag.
+const NAME_LEN: usize = 64;
+/// The most elements of a list of points, lines, rings or polygons.
+const LIST_LEN: usize = 65_535;
+/// The most tags of a feature.
+const TAGS: usize = 64;
+/// The most bytes of a tag's text.
+const TEXT_LEN: usize = 1024;
+/// The most bytes of an edit's text.
+const EDIT_LEN: u64 = 32_768;
+
+/// Whether a name has 1 to 64 bytes.
+fn is_name(name: &str) -> bool
+    ensures { IsTrue result ↔ IsName name.now }
+{
+    name.len() >= 1 && name.len() <= NAME_LEN
+}
+
+/// Whether a list of so many elements has enough, and not too many.
+fn count_fits(count: usize, least: usize) -> bool
+    ensures { IsTrue result ↔ ((least ≤ count) × (count ≤ 65535)) }
+{
+    least <= count && count <= LIST_LEN
+}
+
+/// Whether each line or ring has enough points, and not too many.
+fn lines_fit(lines: &[Vec<World>], least: usize) -> bool
+    ensures { IsTrue result ↔ All (CountFits least) (map (λ l. l.items) lines.now) }
+{
+    lines.iter().all(|line| count_fits(line.len(), least))
+}
+
+/// Whether a polygon has enough rings, and each ring enough points.
+fn rings_fit(rings: &[Vec<World>]) -> bool
+    ensures { IsTrue result ↔ RingsFit (map (λ r. r.items) rings.now) }
+{
+    count_fits(rings.len(), 1) && lines_fit(rings, 3)
+}
+
+/// Whether each polygon has enough rings and points.
+fn each_polygon_fits(polygons: &[Vec<Vec<World>>]) -> bool
+    ensures { IsTrue result ↔ All RingsFit (map (λ p. map (λ r. r.items) p.items) polygons.now) }
+{
+    polygons.iter().all(|rings| rings_fit(rings))
+}
+
+fn polygons_fit(polygons: &[Vec<Vec<World>>]) -> bool
+    ensures { IsTrue result
+        ↔ GeometryFits (world_polygons (map (λ p. map (λ r. r.items) p.items) polygons.now)) }
+{
+    count_fits(polygons.len(), 1) && each_polygon_fits(polygons)
+}
+
+fn geometry_fits(geometry: &Geometry) -> bool
+    ensures { IsTrue result ↔ GeometryFits (geometry_data geometry.now) }
+{
+    match geometry {
+        Geometry::Points(points) => count_fits(points.len(), 1),
+        Geometry::Lines(lines) => count_fits(lines.len(), 1) && lines_fit(lines, 2),
+        Geometry::Polygons(polygons) => polygons_fit(polygons),
+    }
+}
+
+/// Whether each key is a name.
+fn keys_are_names(tags: &[Tag]) -> bool
+    ensures { IsTrue result ↔ All IsName (keys_of (map tag_data tags.now)) }
+{
+    tags.iter().all(|tag| is_name(tag.key.as_str()))
+}
+
+/// Whether the key of one tag comes before that of another, byte by byte.
+fn is_before(tag: &Tag, other: &Tag) -> bool
+    ensures { result ≡ is_lt (slice_cmp nat_cmp (string_bytes tag.now.key) (string_bytes other.now.key)) }
+{
+    tag.key.as_str() < other.key.as_str()
+}
+
+/// Whether each key comes before the next, byte by byte.
+fn keys_ascend(tags: &[Tag]) -> bool
+    ensures { IsTrue result ↔ HasAscendingKeys (map tag_data tags.now) }
+{
+    for i in 1..tags.len() {
+        if !is_before(&tags[i - 1], &tags[i]) {
+            return false;
+        }
+    }
+    true
+}
+
+fn tags_fit(tags: &[Tag]) -> bool
+    ensures { IsTrue result ↔ TagsFit (map tag_data tags.now) }
+{
+    tags.len() <= TAGS && keys_are_names(tags) && keys_ascend(tags)
+}
+
+fn value_fits(value: &EditValue) -> bool
+    ensures { IsTrue result ↔ ValueFits (value_data value.now) }
+{
+    match value {
+        EditValue::Text(text) => text.len() <= TEXT_LEN,
+        EditValue::Negative(number) => *number < 0,
+        EditValue::Natural(_) | EditValue::Truth(_) => true,
+    }
+}
+
+fn values_fit(tags: &[Tag]) -> bool
+    ensures { IsTrue result ↔ ValuesFit (map tag_data tags.now) }
+{
+    tags.iter().all(|tag| value_fits(&tag.value))
+}
+
+/// Tests the limits of a feature of this number. The first that is broken is told: `Number`, `Layer`, `Zoom`,
+/// `Geometry`, `Tags`, `Value` or `Long`, in this order. Nothing else is an error, and no memory is taken.
+pub fn check(id: u64, feature: &Feature) -> Result<(), EditFault>
+    ensures ok { IsOk result ↔ IsAllowed id (feature_data feature.now) }
+    ensures first { IfErr result (IsFirstFault id (feature_data feature.now)) }
+{
+    if id >= NUMBERS {
+        return Err(EditFault::Number);
+    }
+    if !is_name(feature.layer.as_str()) {
+        return Err(EditFault::Layer);
+    }
+    if feature.minzoom > feature.maxzoom || feature.maxzoom > GREATEST_ZOOM {
+        return Err(EditFault::Zoom);
+    }
+    if !geometry_fits(&feature.geometry) {
+        return Err(EditFault::Geometry);
+    }
+    if !tags_fit(&feature.tags) {
+        return Err(EditFault::Tags);
+    }
+    if !values_fit(&feature.tags) {
+        return Err(EditFault::Value);
+    }
+    if put_text_len(feature) > EDIT_LEN {
+        return Err(EditFault::Long);
+    }
+    Ok(())
+}

@@ -1,0 +1,2 @@
+-- Lemmas of reading step by step.
+pub mod Steps

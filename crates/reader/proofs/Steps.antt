@@ -1,0 +1,93 @@
+-- Steps that may fail, one after the other.
+use Rattle.std.proofs.Common.{◌≡◌, ℕ, zero, suc, ◌+◌, ◌-◌, ◌<◌, ◌≤◌, List, [], ◌∷◌, Result, Ok, Err, refl, sym, ap, ◌∙◌, arith}
+use Rattle.reader.specs.Reading.{Read, ◌>>=◌, repeated, folded, Reads, Finds, GivesUnless, Gives}
+
+module _ {Fault : Type 0} where
+  -- ---- what was read
+
+  abbrev pub done : {A : Type 0} → A → Read Fault A
+  done x = Ok x
+
+  abbrev pub failed : {A : Type 0} → Fault → Read Fault A
+  failed fault = Err fault
+
+  pub same_value : {A : Type 0} (x y : A) → done x ≡ done y → x ≡ y
+  same_value x y e = cc
+
+  pub same_fault : {A : Type 0} (c d : Fault) → failed {A = A} c ≡ failed d → c ≡ d
+  same_fault c d e = cc
+
+  pub not_both : {A : Type 0} (x : A) (d : Fault) → done x ≡ failed d → ⊥
+  not_both x d e = cc
+
+  -- ---- one step after another
+
+  -- both were made
+  pub then_ok : {A B : Type 0} (first : Read Fault A) (next : A → Read Fault B) (y : B)
+      → (first >>= next) ≡ Ok y → (x : A) × (first ≡ Ok x) × (next x ≡ Ok y)
+  then_ok (Ok x) next y e = (x, refl, e)
+  then_ok (Err d) next y e = absurd (not_both y d (sym e))
+
+  -- the first led to the second
+  pub then_on : {A B : Type 0} (first : Read Fault A) (next : A → Read Fault B) (x : A) → first ≡ Ok x → (first >>= next) ≡ next x
+  then_on first next x e = ap (λ read. read >>= next) e
+
+  -- the first met a fault
+  pub then_stop : {A B : Type 0} (first : Read Fault A) (next : A → Read Fault B) (d : Fault) → first ≡ Err d → (first >>= next) ≡ Err d
+  then_stop first next d e = ap (λ read. read >>= next) e
+
+  -- ---- so many steps
+
+  pub repeated_on : {S : Type 0} (step : S → Read Fault S) (count i : ℕ) (state next : S) (whole : Read Fault S)
+      → i < count → repeated step (count - i) state ≡ whole → step state ≡ Ok next → repeated step (count - (i + 1)) next ≡ whole
+  unfolding repeated
+  repeated_on step count i state next whole less so_far stepped =
+      let more : count - i ≡ suc (count - (i + 1)) = omega arith in
+      let one : repeated step (count - i) state ≡ repeated step (count - (i + 1)) next = rw (more, stepped) refl in
+      sym one ∙ so_far
+
+  pub repeated_stop : {S : Type 0} (step : S → Read Fault S) (count i : ℕ) (state : S) (d : Fault) (whole : Read Fault S)
+      → i < count → repeated step (count - i) state ≡ whole → step state ≡ Err d → whole ≡ Err d
+  unfolding repeated
+  repeated_stop step count i state d whole less so_far stepped =
+      let more : count - i ≡ suc (count - (i + 1)) = omega arith in
+      let one : repeated step (count - i) state ≡ Err d = rw (more, stepped) refl in
+      sym so_far ∙ one
+
+  pub repeated_done : {S : Type 0} (step : S → Read Fault S) (count i : ℕ) (state : S) (whole : Read Fault S)
+      → count ≤ i → repeated step (count - i) state ≡ whole → whole ≡ Ok state
+  unfolding repeated
+  repeated_done step count i state whole all so_far =
+      let none : count - i ≡ 0 = omega arith in
+      let one : repeated step (count - i) state ≡ Ok state = rw none refl in
+      sym so_far ∙ one
+
+  -- ---- a step for each element
+
+  module _ {S X : Type 0} (step : S → X → Read Fault S) where
+    pub folded_on : (state next : S) (x : X) (left others : List X) (whole : Read Fault S)
+        → left ≡ x ∷ others → folded step state left ≡ whole → step state x ≡ Ok next → folded step next others ≡ whole
+    unfolding folded
+    folded_on state next x left others whole first so_far stepped =
+        let one : folded step state left ≡ folded step next others = rw (first, stepped) refl in
+        sym one ∙ so_far
+
+    pub folded_stop : (state : S) (x : X) (left others : List X) (d : Fault) (whole : Read Fault S)
+        → left ≡ x ∷ others → folded step state left ≡ whole → step state x ≡ Err d → whole ≡ Err d
+    unfolding folded
+    folded_stop state x left others d whole first so_far stepped =
+        let one : folded step state left ≡ Err d = rw (first, stepped) refl in
+        sym so_far ∙ one
+
+    pub folded_done : (state : S) (left : List X) (whole : Read Fault S) → left ≡ [] → folded step state left ≡ whole → whole ≡ Ok state
+    unfolding folded
+    folded_done state left whole nothing so_far =
+        let one : folded step state left ≡ Ok state = rw nothing refl in
+        sym so_far ∙ one
+
+  -- ---- what a function answers
+
+  -- a fault of a part is one of the whole
+  pub unless_on : {A B : Type 0} (IsOutside : Fault → Type 0) (fault : Fault) (part : Read Fault A) (whole : Read Fault B)
+      → ((d : Fault) → part ≡ Err d → whole ≡ Err d) → (¬ IsOutside fault → part ≡ Err fault) → ¬ IsOutside fault → whole ≡ Err fault
+  unless_on IsOutside fault part whole on h inside = on fault (h inside)

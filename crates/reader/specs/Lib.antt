@@ -1,0 +1,2 @@
+-- Reading step by step.
+pub mod Reading
