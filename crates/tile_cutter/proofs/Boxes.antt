@@ -12,6 +12,7 @@ use Rattle.std.proofs.lemmas.List.{drop_all}
 use Rattle.feature_model.specs.declared.feature.World.{World}
 use Rattle.feature_model.specs.Data.{FeatureData, GeometryData}
 use Rattle.tile_cutter.specs.declared.reach.Corners.{Corners}
+use Rattle.tile_cutter.specs.declared.place.TheConstants.{WORLD_ZOOM}
 use Rattle.tile_cutter.specs.Cut.{quantised_axis}
 use Rattle.tile_cutter.specs.Covered.{all_points, least_of, greatest_of, covered, tiles_of, reach_of}
 use Rattle.tile_cutter.specs.Corners.{widened, widen, corners_after, least_corner_of, greatest_corner_of, range_of}
@@ -33,8 +34,8 @@ corners_end f xs i c whole past so_far = ap (λ r. corners_after c (flat_map f r
 
 quantised_mono : (zoom a b : ℕ) → a ≤ b → quantised_axis zoom a ≤ quantised_axis zoom b
 quantised_mono zoom a b less =
-    let some : 0 < 2 ^ (20 - zoom) = one-le-pow (20 - zoom) 2 (omega arith) in
-    le-div (quantised_axis zoom a) b (2 ^ (20 - zoom)) some (omega (arith, div-mul-le_self a (2 ^ (20 - zoom)), less))
+    let some : 0 < 2 ^ (WORLD_ZOOM - zoom) = one-le-pow (WORLD_ZOOM - zoom) 2 (omega arith) in
+    le-div (quantised_axis zoom a) b (2 ^ (WORLD_ZOOM - zoom)) some (omega (arith, div-mul-le_self a (2 ^ (WORLD_ZOOM - zoom)), less))
 
 quantised_min : (zoom a b : ℕ) → quantised_axis zoom (min a b) ≡ min (quantised_axis zoom a) (quantised_axis zoom b)
 quantised_min zoom a b = ⊎_elim
@@ -80,7 +81,7 @@ greatest_y zoom (p ∷ ps) c = ap (λ m. fold max m (map (λ q. quantised_axis z
 
 -- the corners of no points stand at the origin
 origin_quantised : (zoom : ℕ) → 0 ≡ quantised_axis zoom 0
-origin_quantised zoom = sym (zero-div (2 ^ (20 - zoom)))
+origin_quantised zoom = sym (zero-div (2 ^ (WORLD_ZOOM - zoom)))
 
 pub least_x_is : (zoom : ℕ) (ps : List World) → least_of (map (λ p. quantised_axis zoom p.x) ps) ≡ quantised_axis zoom (least_corner_of (corners_after None ps)).x
 least_x_is zoom [] = origin_quantised zoom

@@ -8,6 +8,7 @@ use Rattle.feature_model.specs.declared.feature.World.{World}
 use Rattle.geometry_commands.specs.declared.point.Pt.{Pt}
 use Rattle.tile_cutter.specs.Cut.{Segment, segments, is_kept, way_along, is_some_segment, tile_points, line_cut, points_cut, in_box}
 use Rattle.feature_model.specs.Types.{IsOfWorld}
+use Rattle.feature_model.specs.declared.limits.TheConstants.{GREATEST_ZOOM}
 use Rattle.tile_cutter.specs.Range.{IsOfTile, IsDrawable}
 use Rattle.tile_cutter.proofs.Kept.{points_keep, length_points, stands_in_tile}
 use Rattle.tile_cutter.proofs.Chains.{is_left_out}
@@ -64,7 +65,7 @@ way_drawable column row n (s ∷ ss) few is some =
       of_tile = All-cons P s.0 (map (λ t. t.1) (s ∷ ss)) first.0 (All-map P (λ t. t.1) (s ∷ ss) (All-weaker (Both P) (λ t. P t.1) (λ t both. both.1) (s ∷ ss) is.0));
     }
 
-pub line_drawable : (zoom column row : ℕ) (ps : List World) → zoom ≤ 16 → length ps ≤ 65535 → All IsOfWorld ps → All (IsDrawable false column row) (line_cut zoom column row ps)
+pub line_drawable : (zoom column row : ℕ) (ps : List World) → zoom ≤ GREATEST_ZOOM → length ps ≤ 65535 → All IsOfWorld ps → All (IsDrawable false column row) (line_cut zoom column row ps)
 unfolding line_cut
 line_drawable zoom column row ps allowed few inside =
     let P = IsOfTile column row in
@@ -77,7 +78,7 @@ line_drawable zoom column row ps allowed few inside =
     let passes = filter_passes is_some_segment parts in
     All-map (IsDrawable false column row) way_along (filter is_some_segment parts) (λ k d lt. way_drawable column row n _ small (parts_all k d lt) (passes k d lt))
 
-pub points_of_tile : (zoom column row : ℕ) (ps : List World) → zoom ≤ 16 → All IsOfWorld ps → All (IsOfTile column row) (points_cut zoom column row ps)
+pub points_of_tile : (zoom column row : ℕ) (ps : List World) → zoom ≤ GREATEST_ZOOM → All IsOfWorld ps → All (IsOfTile column row) (points_cut zoom column row ps)
 unfolding points_cut
 points_of_tile zoom column row ps allowed inside =
     All-filter in_box (IsOfTile column row) (tile_points zoom column row ps) (points_keep (IsOfTile column row) zoom column row ps (stands_in_tile zoom column row allowed) inside)

@@ -11,9 +11,12 @@ use Rattle.geometry_commands.specs.declared.point.Pt.{Pt}
 use Rattle.tile_cutter.specs.Cut.{quantised_points, is_closed, tile_points, tile_ring}
 use Rattle.tile_cutter.specs.Passes.{repeats}
 use Rattle.feature_model.specs.Types.{IsOfWorld}
+use Rattle.feature_model.specs.declared.limits.TheConstants.{GREATEST_ZOOM}
+use Rattle.tile_cutter.specs.declared.place.TheConstants.{EXTENT, WORLD_ZOOM}
 use Rattle.tile_cutter.specs.Range.{IsSmall, IsOfSide, IsOfTile}
 use Rattle.tile_cutter.proofs.Passes.{left_after, stands_at, tile_points_are}
 use Rattle.tile_cutter.proofs.Ways.{opened_placed}
+use Rattle.tile_cutter.proofs.Zooms.{zoom_low}
 
 all_left : (P : Pt → Type 0) (before : Option Pt) (ps : List Pt) → All P ps → All P (left_after before ps)
 unfolding left_after
@@ -80,24 +83,24 @@ length_ring zoom column row ps =
 -- ---- where a point of the world stands
 
 -- a coordinate of the world, quantised
-pub quantised_below : (zoom w : ℕ) → zoom ≤ 16 → w < 2 ^ 32 → w / 2 ^ (20 - zoom) < 2 ^ 31
+pub quantised_below : (zoom w : ℕ) → zoom ≤ GREATEST_ZOOM → w < 2 ^ 32 → w / 2 ^ (WORLD_ZOOM - zoom) < 2 ^ 31
 quantised_below zoom w allowed fits =
-    let two : 2 ^ 1 ≤ 2 ^ (20 - zoom) = pow_mono {i = 1} {j = 20 - zoom} (omega arith) in
-    let less = mul-le-mul_left (w / 2 ^ (20 - zoom)) two in
-    omega (arith, less, div-mul-le_self w (2 ^ (20 - zoom)))
+    let two : 2 ^ 1 ≤ 2 ^ (WORLD_ZOOM - zoom) = pow_mono {i = 1} {j = WORLD_ZOOM - zoom} (omega (arith, zoom_low zoom allowed)) in
+    let less = mul-le-mul_left (w / 2 ^ (WORLD_ZOOM - zoom)) two in
+    omega (arith, less, div-mul-le_self w (2 ^ (WORLD_ZOOM - zoom)))
 
-side_placed : (zoom at w : ℕ) → zoom ≤ 16 → w < 2 ^ 32 → IsOfSide at (pos (w / 2 ^ (20 - zoom)) -ℤ pos (4096 * at))
+side_placed : (zoom at w : ℕ) → zoom ≤ GREATEST_ZOOM → w < 2 ^ 32 → IsOfSide at (pos (w / 2 ^ (WORLD_ZOOM - zoom)) -ℤ pos (EXTENT * at))
 side_placed zoom at w allowed fits =
     let below = quantised_below zoom w allowed fits in
     record { low = omega (arith, ints); high = omega (arith, ints) }
 
-pub stands_in_tile : (zoom column row : ℕ) → zoom ≤ 16 → (p : World) → IsOfWorld p → IsOfTile column row (stands_at zoom column row p)
+pub stands_in_tile : (zoom column row : ℕ) → zoom ≤ GREATEST_ZOOM → (p : World) → IsOfWorld p → IsOfTile column row (stands_at zoom column row p)
 stands_in_tile zoom column row allowed p inside = record { across = side_placed zoom column p.x allowed inside.0; down = side_placed zoom row p.y allowed inside.1 }
 
 pub stands_small : (zoom column row : ℕ) → column < 2 ^ 32 → row < 2 ^ 32 → (p : World) → IsOfWorld p → IsSmall (stands_at zoom column row p)
 stands_small zoom column row across down p inside =
-    let x_less = div-le_self p.x (2 ^ (20 - zoom)) in
-    let y_less = div-le_self p.y (2 ^ (20 - zoom)) in
+    let x_less = div-le_self p.x (2 ^ (WORLD_ZOOM - zoom)) in
+    let y_less = div-le_self p.y (2 ^ (WORLD_ZOOM - zoom)) in
     record {
       across = record { low = omega (arith, ints); high = omega (arith, ints) };
       down = record { low = omega (arith, ints); high = omega (arith, ints) };

@@ -1,5 +1,5 @@
 -- Outside the tiles that a feature covers nothing of it is shown.
-use Rattle.std.proofs.Common.{◌≡◌, ℕ, ℤ, pos, negsuc, ◌+◌, ◌-◌, ◌*◌, ◌^◌, ◌<◌, ◌≤◌, ◌-ℤ◌, ◌<ℤ◌, min, max, Bool, true, false, cond, ◌&&◌, List, [], ◌∷◌, ◌++◌, Option, None, map, refl, ap, ⊎_elim, arith}
+use Rattle.std.proofs.Common.{◌≡◌, ℕ, ℤ, pos, ◌+◌, ◌-◌, ◌*◌, ◌^◌, ◌<◌, ◌≤◌, ◌-ℤ◌, ◌<ℤ◌, min, max, Bool, true, false, cond, ◌&&◌, List, [], ◌∷◌, ◌++◌, Option, None, map, refl, ap, ⊎_elim, arith}
 use Rattle.std.specs.Prelude.{All, filter, flat_map, fold, int_le}
 use Rattle.std.specs.List.{slice_split}
 use Rattle.std.proofs.lemmas.Int.{ints, clamps}
@@ -11,7 +11,8 @@ use Rattle.feature_model.specs.Data.{FeatureData, GeometryData, world_points, wo
 use Rattle.geometry_commands.specs.declared.point.Pt.{Pt}
 use Rattle.mvt_layer.specs.Tile.{FeatureView}
 use Rattle.tile_cutter.specs.declared.reach.TileRange.{TileRange}
-use Rattle.tile_cutter.specs.Cut.{quantised_axis, tile_points, tile_ring, in_box, least_corner, greatest_corner, meets_box, points_cut, Segment, segments, is_kept, way_along, is_some_segment, line_cut, lines_cut, is_ring, polygon_cut, polygons_cut, geometry_cut, has_zoom, feature_cut}
+use Rattle.tile_cutter.specs.declared.place.TheConstants.{EXTENT, MARGIN}
+use Rattle.tile_cutter.specs.Cut.{quantised_axis, tile_points, tile_ring, box_start, box_end, in_box, least_corner, greatest_corner, meets_box, points_cut, Segment, segments, is_kept, way_along, is_some_segment, line_cut, lines_cut, is_ring, polygon_cut, polygons_cut, geometry_cut, has_zoom, feature_cut}
 use Rattle.tile_cutter.specs.Covered.{all_of, all_points, least_of, greatest_of, first_met, last_met, covered, IsInRange}
 use Rattle.tile_cutter.proofs.Passes.{stands_at}
 use Rattle.tile_cutter.proofs.Kept.{points_all, ring_all}
@@ -21,16 +22,16 @@ use Rattle.tile_cutter.proofs.Drawn.{Both, all_segments}
 -- ---- the four sides of the box
 
 abbrev IsRight : Pt → Type 0
-IsRight p = pos 4160 <ℤ p.x
+IsRight p = box_end <ℤ p.x
 
 abbrev IsLeft : Pt → Type 0
-IsLeft p = p.x <ℤ negsuc 63
+IsLeft p = p.x <ℤ box_start
 
 abbrev IsBelow : Pt → Type 0
-IsBelow p = pos 4160 <ℤ p.y
+IsBelow p = box_end <ℤ p.y
 
 abbrev IsAbove : Pt → Type 0
-IsAbove p = p.y <ℤ negsuc 63
+IsAbove p = p.y <ℤ box_start
 
 past : (a b : ℤ) → b <ℤ a → int_le a b ≡ false
 past a b h = grind (arith, ints)
@@ -65,26 +66,26 @@ above_greatest p q p_is q_is = omega (arith, ints, clamps, p_is, q_is)
 
 right_side : IsSide IsRight
 right_side = record {
-  out = λ p h. first_false _ _ (first_false _ _ (second_false _ _ (past p.x (pos 4160) h)));
-  apart = λ p ps here all. first_false _ _ (first_false _ _ (first_false _ _ (past (fold least_corner p ps).x (pos 4160) (fold_keeps IsRight least_corner right_least p ps here all))));
+  out = λ p h. first_false _ _ (first_false _ _ (second_false _ _ (past p.x box_end h)));
+  apart = λ p ps here all. first_false _ _ (first_false _ _ (first_false _ _ (past (fold least_corner p ps).x box_end (fold_keeps IsRight least_corner right_least p ps here all))));
 }
 
 left_side : IsSide IsLeft
 left_side = record {
-  out = λ p h. first_false _ _ (first_false _ _ (first_false _ _ (past (negsuc 63) p.x h)));
-  apart = λ p ps here all. first_false _ _ (first_false _ _ (second_false _ _ (past (negsuc 63) (fold greatest_corner p ps).x (fold_keeps IsLeft greatest_corner left_greatest p ps here all))));
+  out = λ p h. first_false _ _ (first_false _ _ (first_false _ _ (past box_start p.x h)));
+  apart = λ p ps here all. first_false _ _ (first_false _ _ (second_false _ _ (past box_start (fold greatest_corner p ps).x (fold_keeps IsLeft greatest_corner left_greatest p ps here all))));
 }
 
 below_side : IsSide IsBelow
 below_side = record {
-  out = λ p h. second_false _ _ (past p.y (pos 4160) h);
-  apart = λ p ps here all. first_false _ _ (second_false _ _ (past (fold least_corner p ps).y (pos 4160) (fold_keeps IsBelow least_corner below_least p ps here all)));
+  out = λ p h. second_false _ _ (past p.y box_end h);
+  apart = λ p ps here all. first_false _ _ (second_false _ _ (past (fold least_corner p ps).y box_end (fold_keeps IsBelow least_corner below_least p ps here all)));
 }
 
 above_side : IsSide IsAbove
 above_side = record {
-  out = λ p h. first_false _ _ (second_false _ _ (past (negsuc 63) p.y h));
-  apart = λ p ps here all. second_false _ _ (past (negsuc 63) (fold greatest_corner p ps).y (fold_keeps IsAbove greatest_corner above_greatest p ps here all));
+  out = λ p h. first_false _ _ (second_false _ _ (past box_start p.y h));
+  apart = λ p ps here all. second_false _ _ (past box_start (fold greatest_corner p ps).y (fold_keeps IsAbove greatest_corner above_greatest p ps here all));
 }
 
 -- ---- a geometry on one side
@@ -184,16 +185,16 @@ greatest_above f (x ∷ xs) =
     All-cons (λ y. f y ≤ fold max (f x) (map f xs)) x xs rest.0 rest.1
 
 -- before the first column, or row, that is met
-before_first : (at least u : ℕ) → at < first_met least → least ≤ u → pos 4160 <ℤ (pos u -ℤ pos (4096 * at))
+before_first : (at least u : ℕ) → at < first_met least → least ≤ u → box_end <ℤ (pos u -ℤ pos (EXTENT * at))
 before_first at least u lt le =
-    let ceil = div_ceil_times (least - 4160) 4096 (omega arith) in
-    let far : 4096 * at + 4160 < least = omega (arith, ceil.1, lt) in
+    let ceil = div_ceil_times (least - (EXTENT + MARGIN)) EXTENT (omega arith) in
+    let far : EXTENT * at + (EXTENT + MARGIN) < least = omega (arith, ceil.1, lt) in
     omega (arith, ints)
 
 -- behind the last
-behind_last : (zoom at greatest u : ℕ) → last_met zoom greatest < at → at < 2 ^ zoom → u ≤ greatest → (pos u -ℤ pos (4096 * at)) <ℤ negsuc 63
+behind_last : (zoom at greatest u : ℕ) → last_met zoom greatest < at → at < 2 ^ zoom → u ≤ greatest → (pos u -ℤ pos (EXTENT * at)) <ℤ box_start
 behind_last zoom at greatest u lt inside le =
-    let far : greatest + 64 < 4096 * at = omega (arith, lt) in
+    let far : greatest + MARGIN < EXTENT * at = omega (arith, lt) in
     omega (arith, ints)
 
 -- ---- the law

@@ -9,6 +9,7 @@ use Rattle.std.proofs.lemmas.Int.{ints}
 use Rattle.std.proofs.lemmas.Bool.Decides.{Decides-int_eq, Decides-eqb, Decides-and, Decides-like, same_from_decides}
 use Rattle.feature_model.specs.declared.feature.World.{World}
 use Rattle.geometry_commands.specs.declared.point.Pt.{Pt}
+use Rattle.tile_cutter.specs.declared.place.TheConstants.{EXTENT}
 use Rattle.tile_cutter.specs.Cut.{quantised, is_same, placed, tile_points, in_box, points_cut}
 use Rattle.tile_cutter.specs.Passes.{is_same_place, repeats, is_shown}
 
@@ -27,7 +28,7 @@ side_same a b k = same_from_decides (int_eq (pos a -ℤ pos k) (pos b -ℤ pos k
 
 -- two points stand at one place where they are one point
 pub place_same : (column row : ℕ) (p q : World) → is_same_place (placed column row p) (placed column row q) ≡ is_same p q
-place_same column row p q = rw (side_same p.x q.x (4096 * column), side_same p.y q.y (4096 * row)) refl
+place_same column row p q = rw (side_same p.x q.x (EXTENT * column), side_same p.y q.y (EXTENT * row)) refl
 
 world_same : (p q : World) → is_same p q ≡ true → p ≡ q
 world_same p q e =

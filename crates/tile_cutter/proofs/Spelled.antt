@@ -1,7 +1,6 @@
 -- What a tile shows can be written: from point to point no way is longer than 32 bits hold.
 use Rattle.std.proofs.Common.{◌≡◌, ℕ, ℤ, ◌^◌, ◌<◌, ◌≤◌, ◌-ℤ◌, suc, ◌==◌, Bool, true, false, cond, Vec, vec_len, Global, List, [], ◌∷◌, Some, None, length, refl, arith}
 use Rattle.std.specs.Prelude.{All, filter}
-use Rattle.std.proofs.Math.Pow.{pow_mono}
 use Rattle.std.proofs.lemmas.Int.{ints}
 use Rattle.std.proofs.lemmas.List.Elements.{All-head, All-tail}
 use Rattle.std.proofs.lemmas.Bool.Decides.{Decides-eqb, not_from_Decides}
@@ -10,8 +9,10 @@ use Rattle.geometry_commands.specs.Commands.{IsShort, IsNear, AreNear, origin}
 use Rattle.geometry_commands.specs.Shapes.{ShapeView, last_of}
 use Rattle.geometry_commands.specs.Encodable.{CanSpellLines, CanSpellPoints}
 use Rattle.feature_model.specs.declared.feature.World.{World}
+use Rattle.feature_model.specs.declared.limits.TheConstants.{GREATEST_ZOOM}
 use Rattle.tile_cutter.specs.Cut.{tile_points, in_box, points_cut, unless_empty}
 use Rattle.tile_cutter.proofs.Kept.{length_points}
+use Rattle.tile_cutter.proofs.Zooms.{side_low}
 use Rattle.tile_cutter.specs.Range.{IsOfSide, IsOfTile, IsDrawable}
 
 side_short : (at : ℕ) (u v : ℤ) → IsOfSide at u → IsOfSide at v → IsShort (v -ℤ u)
@@ -39,18 +40,19 @@ lines_spell closed column row from (l ∷ ls) from_is all =
     )
 
 -- the origin stands in the world of each tile
-origin_of_tile : (zoom column row : ℕ) → zoom ≤ 16 → column < 2 ^ zoom → row < 2 ^ zoom → IsOfTile column row origin
+origin_of_tile : (zoom column row : ℕ) → zoom ≤ GREATEST_ZOOM → column < 2 ^ zoom → row < 2 ^ zoom → IsOfTile column row origin
 origin_of_tile zoom column row allowed across down =
-    let most : 2 ^ zoom ≤ 2 ^ 16 = pow_mono {i = zoom} {j = 16} allowed in
+    let columns = side_low zoom column allowed across in
+    let rows = side_low zoom row allowed down in
     record {
       across = record { low = omega (arith, ints); high = omega (arith, ints) };
       down = record { low = omega (arith, ints); high = omega (arith, ints) };
     }
 
-pub spelled_lines : (closed : Bool) (zoom column row : ℕ) (ls : List (List Pt)) → zoom ≤ 16 → column < 2 ^ zoom → row < 2 ^ zoom → All (IsDrawable closed column row) ls → CanSpellLines closed origin ls
+pub spelled_lines : (closed : Bool) (zoom column row : ℕ) (ls : List (List Pt)) → zoom ≤ GREATEST_ZOOM → column < 2 ^ zoom → row < 2 ^ zoom → All (IsDrawable closed column row) ls → CanSpellLines closed origin ls
 spelled_lines closed zoom column row ls allowed across down all = lines_spell closed column row origin ls (origin_of_tile zoom column row allowed across down) all
 
-pub spelled_points : (zoom column row : ℕ) (ps : List Pt) → zoom ≤ 16 → column < 2 ^ zoom → row < 2 ^ zoom → 0 < length ps → length ps < 2 ^ 29 → All (IsOfTile column row) ps → CanSpellPoints ps
+pub spelled_points : (zoom column row : ℕ) (ps : List Pt) → zoom ≤ GREATEST_ZOOM → column < 2 ^ zoom → row < 2 ^ zoom → 0 < length ps → length ps < 2 ^ 29 → All (IsOfTile column row) ps → CanSpellPoints ps
 spelled_points zoom column row ps allowed across down some few all = record {
   some = some;
   few = few;

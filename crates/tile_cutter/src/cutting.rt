@@ -9,7 +9,7 @@ ghost use Rattle.tile_cutter.specs.Cut.{shown_value, shown_tag, geometry_cut, ha
 use crate::lines::lines_shape;
 use crate::points::points_shape;
 use crate::rings::rings_shape;
-use feature_model::{EditValue, Feature, Geometry, Memory, Tag};
+use feature_model::{EditValue, Feature, GREATEST_ZOOM, Geometry, Memory, Tag};
 use geometry_commands::Shape;
 use hilbert_id::TileAt;
 use mvt_layer::{TagValue, TileFeature};
@@ -48,7 +48,7 @@ fn has_zoom(feature: &Feature, zoom: u8) -> bool
 /// What of a geometry a tile shows.
 #[tactic(auto, unfolding(crate::specs::Cut::geometry_cut))]
 fn cut_geometry(alloc: Global, geometry: &Geometry, at: TileAt) -> Result<Option<Shape>, Memory>
-    requires zoom { at.z ≤ 16 }
+    requires zoom { at.z ≤ GREATEST_ZOOM }
     requires limits { GeometryFits (geometry_data geometry.now) }
     ensures shape { IfOk result (λ o. option_map shape_view o ≡ geometry_cut at.z at.x at.y (geometry_data geometry.now)) }
     ensures writable { IfOk result (λ o. IfSome o (λ s. CanSpell (shape_view s))) }
@@ -63,7 +63,7 @@ fn cut_geometry(alloc: Global, geometry: &Geometry, at: TileAt) -> Result<Option
 /// What of a feature a tile shows, without a number; nothing where nothing is left of it, or where it isn't shown at
 /// the tile's zoom.
 ///
-/// Points are shown where they stand in the tile's box, which reaches 64 beyond each edge; lines as the longest chains
+/// Points are shown where they stand in the tile's box, which reaches `MARGIN` beyond each edge; lines as the longest chains
 /// of segments that meet the box, not clipped; polygons whole where their outer ring meets it, outer rings with
 /// positive and inner rings with negative area (Mapbox Vector Tile 2.1, 4.3.4.4). The only error is want of memory.
 #[tactic(auto, unfolding(crate::specs::Cut::feature_cut))]
@@ -72,7 +72,7 @@ pub fn cut<'a>(
     feature: &'a Feature,
     at: TileAt,
 ) -> Result<Option<TileFeature<'a>>, Memory>
-    requires zoom { at.z ≤ 16 }
+    requires zoom { at.z ≤ GREATEST_ZOOM }
     requires limits { GeometryFits (geometry_data feature.now.geometry) }
     ensures cut { IfOk result (λ o. option_map feature_view o ≡ feature_cut (feature_data feature.now) at.z at.x at.y) }
     // What is shown can be written.

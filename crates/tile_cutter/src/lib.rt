@@ -10,7 +10,8 @@ mod reach;
 mod rings;
 
 pub use cutting::cut;
-pub use reach::{TileRange, check_reach, cover_count, covers};
+pub use place::{EXTENT, MARGIN, WORLD_ZOOM};
+pub use reach::{MOST_TILES, TileRange, check_reach, cover_count, covers};
 
 #[cfg(test)]
 mod tests;

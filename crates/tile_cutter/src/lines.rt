@@ -9,7 +9,7 @@ ghost use Rattle.tile_cutter.specs.Range.{IsDrawable};
 
 use crate::bounds::segment_meets_box;
 use crate::place::{place, repeats};
-use feature_model::{Memory, World};
+use feature_model::{GREATEST_ZOOM, Memory, World};
 use geometry_commands::{Pt, Shape};
 use hilbert_id::TileAt;
 use std::alloc::Global;
@@ -61,7 +61,7 @@ fn cut_line(
     line: &[World],
     at: TileAt,
 ) -> Result<(), Memory>
-    requires zoom { at.z ≤ 16 }
+    requires zoom { at.z ≤ GREATEST_ZOOM }
     requires limits { CountFits 2 line.now }
     ensures chains { OnOk result (lists_of chains.new.items ≡ lists_of chains.old.items ++ line_cut at.z at.x at.y line.now) }
     ensures drawable { OnOk result (All (IsDrawable false at.x at.y) (line_cut at.z at.x at.y line.now)) }
@@ -81,7 +81,7 @@ fn cut_line(
 
 /// What a tile shows of lines.
 fn cut_lines(alloc: Global, lines: &[Vec<World>], at: TileAt) -> Result<Vec<Vec<Pt>>, Memory>
-    requires zoom { at.z ≤ 16 }
+    requires zoom { at.z ≤ GREATEST_ZOOM }
     requires limits { All (CountFits 2) (lists_of lines.now) }
     ensures chains { IfOk result (λ v. lists_of v.items ≡ lines_cut at.z at.x at.y (lists_of lines.now)) }
     ensures drawable { OnOk result (All (IsDrawable false at.x at.y) (lines_cut at.z at.x at.y (lists_of lines.now))) }
@@ -99,7 +99,7 @@ pub(crate) fn lines_shape(
     lines: &[Vec<World>],
     at: TileAt,
 ) -> Result<Option<Shape>, Memory>
-    requires zoom { at.z ≤ 16 }
+    requires zoom { at.z ≤ GREATEST_ZOOM }
     requires limits { All (CountFits 2) (lists_of lines.now) }
     ensures shape { IfOk result (λ o. option_map shape_view o ≡ unless_empty shapes.lines (lines_cut at.z at.x at.y (lists_of lines.now))) }
     ensures writable { IfOk result (λ o. IfSome o (λ s. CanSpell (shape_view s))) }

@@ -9,7 +9,7 @@ ghost use Rattle.tile_cutter.specs.Range.{IsOfTile};
 
 use crate::bounds::is_in_box;
 use crate::place::{place, repeats};
-use feature_model::{Memory, World};
+use feature_model::{GREATEST_ZOOM, Memory, World};
 use geometry_commands::{Pt, Shape};
 use hilbert_id::TileAt;
 use std::alloc::Global;
@@ -23,7 +23,7 @@ fn is_shown(before: Option<Pt>, here: Pt) -> bool
 
 /// The points that a tile shows.
 fn cut_points(alloc: Global, points: &[World], at: TileAt) -> Result<Vec<Pt>, Memory>
-    requires { at.z ≤ 16 }
+    requires { at.z ≤ GREATEST_ZOOM }
     ensures points { IfOk result (λ v. v.items ≡ points_cut at.z at.x at.y points.now) }
     ensures of_tile { OnOk result (All (IsOfTile at.x at.y) (points_cut at.z at.x at.y points.now)) }
 {
@@ -45,7 +45,7 @@ pub(crate) fn points_shape(
     points: &[World],
     at: TileAt,
 ) -> Result<Option<Shape>, Memory>
-    requires zoom { at.z ≤ 16 }
+    requires zoom { at.z ≤ GREATEST_ZOOM }
     requires limits { CountFits 1 points.now }
     ensures shape { IfOk result (λ o. option_map shape_view o ≡ unless_empty shapes.points (points_cut at.z at.x at.y points.now)) }
     ensures writable { IfOk result (λ o. IfSome o (λ s. CanSpell (shape_view s))) }

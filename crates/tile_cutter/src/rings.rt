@@ -10,7 +10,7 @@ ghost use Rattle.tile_cutter.specs.Range.{IsWithin, IsSmall, IsDrawable};
 
 use crate::bounds::ring_meets_box;
 use crate::place::{place, repeats};
-use feature_model::{Memory, World};
+use feature_model::{GREATEST_ZOOM, Memory, World};
 use geometry_commands::{Pt, Shape};
 use hilbert_id::TileAt;
 use std::alloc::Global;
@@ -36,7 +36,7 @@ fn returns_to_start(ring: &[Pt]) -> bool
 
 /// The points of a ring in a tile, each that equals the one before it left out, and a last one that equals the first.
 fn tile_ring(alloc: Global, points: &[World], at: TileAt) -> Result<Vec<Pt>, Memory>
-    requires { at.z ≤ 16 }
+    requires { at.z ≤ GREATEST_ZOOM }
     ensures ring { IfOk result (λ v. v.items ≡ tile_ring at.z at.x at.y points.now) }
     ensures in_world { OnOk result (All IsOfWorld points.now) }
 {
@@ -129,7 +129,7 @@ fn shown_ring(
     at: TileAt,
     role: Role,
 ) -> Result<Option<Vec<Pt>>, Memory>
-    requires zoom { at.z ≤ 16 }
+    requires zoom { at.z ≤ GREATEST_ZOOM }
     requires few { length points.now < 2 ^ 29 }
     ensures ring { IfOk result (λ o. option_map (λ v. v.items) o ≡ shown_ring role (tile_ring at.z at.x at.y points.now)) }
     ensures drawable { OnOk result (All (IsDrawable true at.x at.y) (option_to_list (shown_ring role (tile_ring at.z at.x at.y points.now)))) }
@@ -158,7 +158,7 @@ fn cut_inner_rings(
     inners: &[Vec<World>],
     at: TileAt,
 ) -> Result<(), Memory>
-    requires zoom { at.z ≤ 16 }
+    requires zoom { at.z ≤ GREATEST_ZOOM }
     requires limits { All (CountFits 3) (lists_of inners.now) }
     ensures rings { OnOk result (lists_of shown.new.items ≡ lists_of shown.old.items ++ inner_rings at.z at.x at.y (lists_of inners.now)) }
     ensures drawable { OnOk result (All (IsDrawable true at.x at.y) (inner_rings at.z at.x at.y (lists_of inners.now))) }
@@ -177,7 +177,7 @@ fn cut_polygon(
     polygon: &[Vec<World>],
     at: TileAt,
 ) -> Result<(), Memory>
-    requires zoom { at.z ≤ 16 }
+    requires zoom { at.z ≤ GREATEST_ZOOM }
     requires limits { RingsFit (lists_of polygon.now) }
     ensures rings { OnOk result (lists_of shown.new.items ≡ lists_of shown.old.items ++ polygon_cut at.z at.x at.y (lists_of polygon.now)) }
     ensures drawable { OnOk result (All (IsDrawable true at.x at.y) (polygon_cut at.z at.x at.y (lists_of polygon.now))) }
@@ -198,7 +198,7 @@ fn cut_polygons(
     polygons: &[Vec<Vec<World>>],
     at: TileAt,
 ) -> Result<Vec<Vec<Pt>>, Memory>
-    requires zoom { at.z ≤ 16 }
+    requires zoom { at.z ≤ GREATEST_ZOOM }
     requires limits { All RingsFit (map (λ p. lists_of p.items) polygons.now) }
     ensures rings { IfOk result (λ v. lists_of v.items ≡ polygons_cut at.z at.x at.y (map (λ p. lists_of p.items) polygons.now)) }
     ensures drawable { OnOk result (All (IsDrawable true at.x at.y) (polygons_cut at.z at.x at.y (map (λ p. lists_of p.items) polygons.now))) }
@@ -216,7 +216,7 @@ pub(crate) fn rings_shape(
     polygons: &[Vec<Vec<World>>],
     at: TileAt,
 ) -> Result<Option<Shape>, Memory>
-    requires zoom { at.z ≤ 16 }
+    requires zoom { at.z ≤ GREATEST_ZOOM }
     requires limits { All RingsFit (map (λ p. lists_of p.items) polygons.now) }
     ensures shape { IfOk result (λ o. option_map shape_view o ≡ unless_empty shapes.rings (polygons_cut at.z at.x at.y (map (λ p. lists_of p.items) polygons.now))) }
     ensures writable { IfOk result (λ o. IfSome o (λ s. CanSpell (shape_view s))) }
