@@ -11,6 +11,7 @@ ghost use Rattle.feature_store.specs.Layers.{AreLayers, is_tile, layers};
 ghost use Rattle.feature_store.specs.Store.{FeatureMap, IsMap, with_feature, without_feature, changed, snapshot};
 
 use crate::limit::TEXTS_END;
+use feature_model::MOST_EDIT_BYTES;
 
 /// The layers of a tile are the one list of which `AreLayers` is true; where the map has no such tile, there are none.
 pub fn layers_law()
@@ -24,12 +25,12 @@ pub fn snapshot_law()
 {}
 
 /// A map after an edit is a map, where its texts are short together. They grow by the text of the edit at most, and each has
-/// at most 32,768 bytes.
+/// at most `MOST_EDIT_BYTES`.
 pub fn edit_law()
     ensures map { (m : FeatureMap) (e : EditData) → IsMap m → IsEdit e → length (snapshot (changed m e)) < TEXTS_END → IsMap (changed m e) }
     ensures put { (m : FeatureMap) (id : ℕ) (f : FeatureData)
         → length (snapshot (with_feature m id f)) ≤ length (snapshot m) + length (spelled (put id f)) }
-    ensures many { (m : FeatureMap) → IsMap m → length (snapshot m) ≤ 32768 * length m }
+    ensures many { (m : FeatureMap) → IsMap m → length (snapshot m) ≤ MOST_EDIT_BYTES * length m }
     ensures delete { (m : FeatureMap) (id : ℕ) → length (snapshot (without_feature m id)) ≤ length (snapshot m) }
 {}
 

@@ -7,14 +7,11 @@ ghost use Rattle.feature_store.specs.Gathered.{layers_of};
 
 use crate::gathered::Gathered;
 use feature_model::Memory;
-use mvt_layer::Layer;
+use mvt_layer::{DEFAULT_EXTENT, Layer};
 use std::alloc::Global;
 
 /// The version of the format that the layers say.
 const VERSION: u32 = 2;
-
-/// The width and height of a tile in its own coordinates.
-const EXTENT: u32 = 4096;
 
 /// What is gathered as layers, in the order of their names.
 pub(crate) fn listed<'a>(alloc: Global, gathered: Gathered<'a>) -> Result<Vec<Layer<'a>>, Memory>
@@ -26,7 +23,7 @@ pub(crate) fn listed<'a>(alloc: Global, gathered: Gathered<'a>) -> Result<Vec<La
         layers.push(Layer {
             name,
             version: VERSION,
-            extent: EXTENT,
+            extent: DEFAULT_EXTENT,
             features,
         })?;
     }

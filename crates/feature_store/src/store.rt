@@ -47,7 +47,7 @@ impl Store {
         }
     }
 
-    /// How many features there are. The text of each has at most 32,768 bytes.
+    /// How many features there are. The text of each has at most `MOST_EDIT_BYTES`.
     pub fn len(&self) -> usize
         ensures count { result ≡ length self.now.features }
         ensures map { IsMap self.now.features }
