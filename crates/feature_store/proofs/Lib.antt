@@ -1,4 +1,5 @@
 mod Entries
+pub mod Laws
 mod Listed
 mod Maps
 mod Names

@@ -8,7 +8,7 @@ use Rattle.mvt_layer.specs.Reads.{ReadsAs}
 use Rattle.mvt_write.specs.CanWrite.{CanWriteLayer}
 use Rattle.mvt_write.specs.Fits.{FitsLayer}
 use Rattle.mvt_write.specs.Written.{written}
-use Rattle.mvt_write.proofs.LayersRead.{written_reads}
+use Rattle.mvt_write.proofs.Laws.{written_reads}
 use Rattle.mvt_write.proofs.Lengths.{length_written}
 use Rattle.feature_store.specs.Layers.{is_tile, layers}
 use Rattle.feature_store.specs.Store.{FeatureMap, IsMap, snapshot}

@@ -4,11 +4,9 @@
 //! so on, those of one zoom in the order of its curve. No call takes memory.
 #![tactic(auto)]
 
-mod laws;
 mod number;
 mod tile_at;
 
-pub use laws::curve_law;
 pub use number::{TILE_IDS, id_of, tile_of};
 pub use tile_at::TileAt;
 
