@@ -51,7 +51,8 @@ pub map_after_edit : (m : FeatureMap) (e : EditData) → IsMap m → IsEdit e �
 map_after_edit = map_changed
 
 -- The texts grow by the text of the edit at most.
-pub snapshot_after_put : (m : FeatureMap) (id : ℕ) (f : FeatureData) → length (snapshot (with_feature m id f)) ≤ length (snapshot m) + length (spelled (put id f))
+pub snapshot_after_put : (m : FeatureMap) (id : ℕ) (f : FeatureData)
+    → length (snapshot (with_feature m id f)) ≤ length (snapshot m) + length (spelled (put id f))
 snapshot_after_put = with_takes
 
 -- An edit that takes a feature away makes them no longer.

@@ -4,7 +4,7 @@ mod Listed
 mod Maps
 mod Names
 mod Numbers
-mod Places
+mod Positions
 mod Shown
 mod Sizes
 pub mod Snapshots

@@ -68,7 +68,13 @@ pub tags_in_snapshot : (m : FeatureMap) → All (λ e. IsEdit (put e.0 e.1)) m �
 tags_in_snapshot [] edits = omega arith
 tags_in_snapshot (e ∷ m) edits =
     let P : ℕ × FeatureData → Type 0 = λ d. IsEdit (put d.0 d.1) in
-    omega (arith, length-append e.1.tags (all_tags m), snapshot_on e m, feature_takes e.0 e.1 (All-head P e m edits).0.tags.names, tags_in_snapshot m (All-tail P e m edits))
+    omega (
+      arith,
+      length-append e.1.tags (all_tags m),
+      snapshot_on e m,
+      feature_takes e.0 e.1 (All-head P e m edits).0.tags.names,
+      tags_in_snapshot m (All-tail P e m edits),
+    )
 
 -- each text is short
 pub snapshot_short : (m : FeatureMap) → All (λ e. IsEdit (put e.0 e.1)) m → length (snapshot m) ≤ MOST_EDIT_BYTES * length m
@@ -107,6 +113,7 @@ unfolding without_feature
 without_takes m id = removed_takes m id
 
 -- room for one more text is left where there are few features
-pub few_are_short : (m : FeatureMap) (id : ℕ) (f : FeatureData) → IsMap m → IsEdit (put id f) → MOST_EDIT_BYTES * (length m + 1) < TEXTS_END → length (snapshot (with_feature m id f)) < TEXTS_END
+pub few_are_short : (m : FeatureMap) (id : ℕ) (f : FeatureData) → IsMap m → IsEdit (put id f) → MOST_EDIT_BYTES * (length m + 1) < TEXTS_END
+    → length (snapshot (with_feature m id f)) < TEXTS_END
 few_are_short m id f is_map edit few =
     omega (arith, with_takes m id f, snapshot_short m is_map.edits, short_from (put id f) edit)

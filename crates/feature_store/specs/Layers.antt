@@ -26,7 +26,7 @@ cuts_of m name z x y = filter_map (cut_for name z x y) m
 
 -- ---- the list of them
 
--- names that ascend byte by byte, with one more in its place, where it isn't there
+-- names that ascend byte by byte, with one more among them, where it isn't there
 abbrev pub with_name : List ℕ → List (List ℕ) → List (List ℕ)
 with_name n [] = n ∷ []
 with_name n (k ∷ ks) = match_ordering (slice_cmp nat_cmp n k) (n ∷ k ∷ ks) (k ∷ ks) (k ∷ with_name n ks)

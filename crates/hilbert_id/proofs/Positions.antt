@@ -1,5 +1,6 @@
 -- A tile stands at one position of its zoom's curve.
-use Rattle.std.proofs.Common.{◌≡◌, ℕ, zero, suc, ◌+◌, ◌-◌, ◌*◌, ◌^◌, ◌<◌, cond, ltb, List, [], ◌∷◌, ◌++◌, length, get_or, map, Some, ◌⊎◌, inl, inr, refl, sym, ap, ◌∙◌, arith}
+use Rattle.std.proofs.Common.{◌≡◌, ℕ, zero, suc, ◌+◌, ◌-◌, ◌*◌, ◌^◌, ◌<◌, cond, ltb, List, [], ◌∷◌, ◌++◌, length, get_or, map, Some, ◌⊎◌, inl, inr, refl, sym}
+use Rattle.std.proofs.Common.{ap, ◌∙◌, arith}
 use Rattle.std.specs.List.{slice_get}
 use Rattle.std.proofs.lemmas.Option.{slice_get_within, slice_get-get_or}
 use Rattle.std.proofs.lemmas.Bool.{cases_lt, lt-ltb, le-ltb}
@@ -8,14 +9,16 @@ use Rattle.hilbert_id.specs.Curve.{turned, below, across, flipped, curve, Stands
 use Rattle.hilbert_id.proofs.Stands.{length-curve, len_of, stands_first, stands_turned, stands_below, stands_across, stands_flipped, same_position}
 
 -- an element of two lists is one of the first or of the second
-get_split : {X : Type 0} (xs ys : List X) (n : ℕ) (x : X) → slice_get (xs ++ ys) n ≡ Some x → (slice_get xs n ≡ Some x) ⊎ ((m : ℕ) × (n ≡ length xs + m) × (slice_get ys m ≡ Some x))
+get_split : {X : Type 0} (xs ys : List X) (n : ℕ) (x : X) → slice_get (xs ++ ys) n ≡ Some x
+    → (slice_get xs n ≡ Some x) ⊎ ((m : ℕ) × (n ≡ length xs + m) × (slice_get ys m ≡ Some x))
 get_split [] ys n x e = inr (n, omega arith, e)
 get_split (a ∷ xs) ys zero x e = inl e
 get_split (a ∷ xs) ys (suc n) x e =
     elim (get_split xs ys n x e) [ inl h ↦ inl h | inr h ↦ inr (h.0, omega (arith, h.1), h.2) ]
 
 -- an element of a mapped list comes from one of the list
-get_unmapped : (f : ℕ × ℕ → ℕ × ℕ) (ps : List (ℕ × ℕ)) (n : ℕ) (q : ℕ × ℕ) → slice_get (map f ps) n ≡ Some q → (p : ℕ × ℕ) × (slice_get ps n ≡ Some p) × (q ≡ f p)
+get_unmapped : (f : ℕ × ℕ → ℕ × ℕ) (ps : List (ℕ × ℕ)) (n : ℕ) (q : ℕ × ℕ) → slice_get (map f ps) n ≡ Some q
+    → (p : ℕ × ℕ) × (slice_get ps n ≡ Some p) × (q ≡ f p)
 get_unmapped f [] n q e = absurd cc
 get_unmapped f (p ∷ ps) zero q e = (p, refl, cc)
 get_unmapped f (p ∷ ps) (suc n) q e = get_unmapped f ps n q e
@@ -150,17 +153,29 @@ reached (suc k) x y hx hy =
           elim (cases_lt y (2 ^ k)) [
             | inl upper ↦ let h = reached k y x upper left in (h.0, omega (arith, four, h.1), stands_turned k y x h.0 h.2)
             | inr lower ↦
-                let h = reached k x (y - 2 ^ k) left (omega arith) in
-                (4 ^ k + h.0, omega (arith, four, h.1), same_position (suc k) k x y (4 ^ k + h.0) x (y - 2 ^ k + 2 ^ k) (4 ^ k + h.0) refl refl (omega arith) refl (stands_below k x (y - 2 ^ k) h.0 h.2))
+                let h = reached k x (y - 2 ^ k) left (omega arith) in (
+                  4 ^ k + h.0,
+                  omega (arith, four, h.1),
+                  same_position (suc k) k x y (4 ^ k + h.0) x (y - 2 ^ k + 2 ^ k) (4 ^ k + h.0) refl refl (omega arith) refl
+                      (stands_below k x (y - 2 ^ k) h.0 h.2),
+                )
           ]
       | inr right ↦
           elim (cases_lt y (2 ^ k)) [
             | inl upper ↦
-                let h = reached k (2 ^ k - 1 - y) (2 * 2 ^ k - 1 - x) (omega arith) (omega arith) in
-                (4 ^ k + (4 ^ k + (4 ^ k + h.0)), omega (arith, four, h.1), same_position (suc k) k x y (4 ^ k + (4 ^ k + (4 ^ k + h.0))) (2 * 2 ^ k - 1 - (2 * 2 ^ k - 1 - x)) (2 ^ k - 1 - (2 ^ k - 1 - y)) (4 ^ k + (4 ^ k + (4 ^ k + h.0))) refl (omega arith) (omega arith) refl (stands_flipped k (2 ^ k - 1 - y) (2 * 2 ^ k - 1 - x) h.0 h.2))
+                let h = reached k (2 ^ k - 1 - y) (2 * 2 ^ k - 1 - x) (omega arith) (omega arith) in (
+                  4 ^ k + (4 ^ k + (4 ^ k + h.0)),
+                  omega (arith, four, h.1),
+                  same_position (suc k) k x y (4 ^ k + (4 ^ k + (4 ^ k + h.0))) (2 * 2 ^ k - 1 - (2 * 2 ^ k - 1 - x)) (2 ^ k - 1 - (2 ^ k - 1 - y))
+                      (4 ^ k + (4 ^ k + (4 ^ k + h.0))) refl (omega arith) (omega arith) refl (stands_flipped k (2 ^ k - 1 - y) (2 * 2 ^ k - 1 - x) h.0 h.2),
+                )
             | inr lower ↦
-                let h = reached k (x - 2 ^ k) (y - 2 ^ k) (omega arith) (omega arith) in
-                (4 ^ k + (4 ^ k + h.0), omega (arith, four, h.1), same_position (suc k) k x y (4 ^ k + (4 ^ k + h.0)) (x - 2 ^ k + 2 ^ k) (y - 2 ^ k + 2 ^ k) (4 ^ k + (4 ^ k + h.0)) refl (omega arith) (omega arith) refl (stands_across k (x - 2 ^ k) (y - 2 ^ k) h.0 h.2))
+                let h = reached k (x - 2 ^ k) (y - 2 ^ k) (omega arith) (omega arith) in (
+                  4 ^ k + (4 ^ k + h.0),
+                  omega (arith, four, h.1),
+                  same_position (suc k) k x y (4 ^ k + (4 ^ k + h.0)) (x - 2 ^ k + 2 ^ k) (y - 2 ^ k + 2 ^ k) (4 ^ k + (4 ^ k + h.0)) refl (omega arith)
+                      (omega arith) refl (stands_across k (x - 2 ^ k) (y - 2 ^ k) h.0 h.2),
+                )
           ]
     ]
 

@@ -1,5 +1,6 @@
 -- Outside the tiles that a feature covers nothing of it is shown.
-use Rattle.std.proofs.Common.{◌≡◌, ℕ, ℤ, pos, ◌+◌, ◌-◌, ◌*◌, ◌^◌, ◌<◌, ◌≤◌, ◌-ℤ◌, ◌<ℤ◌, min, max, Bool, true, false, cond, ◌&&◌, List, [], ◌∷◌, ◌++◌, Option, None, map, refl, ap, ⊎_elim, arith}
+use Rattle.std.proofs.Common.{◌≡◌, ℕ, ℤ, pos, ◌+◌, ◌-◌, ◌*◌, ◌^◌, ◌<◌, ◌≤◌, ◌-ℤ◌, ◌<ℤ◌, min, max, Bool, true, false, cond, ◌&&◌, List, [], ◌∷◌, ◌++◌, Option}
+use Rattle.std.proofs.Common.{None, map, refl, ap, ⊎_elim, arith}
 use Rattle.std.specs.Prelude.{All, filter, flat_map, fold, int_le}
 use Rattle.std.specs.List.{slice_split}
 use Rattle.std.proofs.lemmas.Int.{ints, clamps}
@@ -11,8 +12,10 @@ use Rattle.feature_model.specs.Data.{FeatureData, GeometryData, world_points, wo
 use Rattle.geometry_commands.specs.declared.point.Pt.{Pt}
 use Rattle.mvt_layer.specs.Tile.{FeatureView}
 use Rattle.tile_cutter.specs.declared.reach.TileRange.{TileRange}
-use Rattle.tile_cutter.specs.declared.place.TheConstants.{EXTENT, MARGIN}
-use Rattle.tile_cutter.specs.Cut.{quantised_axis, tile_points, tile_ring, box_start, box_end, in_box, least_corner, greatest_corner, meets_box, points_cut, Segment, segments, is_kept, way_along, is_some_segment, line_cut, lines_cut, is_ring, polygon_cut, polygons_cut, geometry_cut, has_zoom, feature_cut}
+use Rattle.tile_cutter.specs.declared.coordinates.TheConstants.{EXTENT, MARGIN}
+use Rattle.tile_cutter.specs.Cut.{quantised_axis, tile_points, tile_ring, box_start, box_end, in_box, least_corner, greatest_corner, meets_box, points_cut}
+use Rattle.tile_cutter.specs.Cut.{Segment, segments, is_kept, way_along, is_some_segment, line_cut, lines_cut, is_ring, polygon_cut, polygons_cut, geometry_cut}
+use Rattle.tile_cutter.specs.Cut.{has_zoom, feature_cut}
 use Rattle.tile_cutter.specs.Covered.{all_of, all_points, least_of, greatest_of, first_met, last_met, covered, IsInRange}
 use Rattle.tile_cutter.proofs.Passes.{stands_at}
 use Rattle.tile_cutter.proofs.Kept.{points_all, ring_all}
@@ -67,19 +70,25 @@ above_greatest p q p_is q_is = omega (arith, ints, clamps, p_is, q_is)
 right_side : IsSide IsRight
 right_side = record {
   out = λ p h. first_false _ _ (first_false _ _ (second_false _ _ (past p.x box_end h)));
-  apart = λ p ps here all. first_false _ _ (first_false _ _ (first_false _ _ (past (fold least_corner p ps).x box_end (fold_keeps IsRight least_corner right_least p ps here all))));
+  apart =
+      λ p ps here all.
+      first_false _ _ (first_false _ _ (first_false _ _ (past (fold least_corner p ps).x box_end (fold_keeps IsRight least_corner right_least p ps here all))));
 }
 
 left_side : IsSide IsLeft
 left_side = record {
   out = λ p h. first_false _ _ (first_false _ _ (first_false _ _ (past box_start p.x h)));
-  apart = λ p ps here all. first_false _ _ (first_false _ _ (second_false _ _ (past box_start (fold greatest_corner p ps).x (fold_keeps IsLeft greatest_corner left_greatest p ps here all))));
+  apart =
+      λ p ps here all.
+      first_false _ _
+      (first_false _ _ (second_false _ _ (past box_start (fold greatest_corner p ps).x (fold_keeps IsLeft greatest_corner left_greatest p ps here all))));
 }
 
 below_side : IsSide IsBelow
 below_side = record {
   out = λ p h. second_false _ _ (past p.y box_end h);
-  apart = λ p ps here all. first_false _ _ (second_false _ _ (past (fold least_corner p ps).y box_end (fold_keeps IsBelow least_corner below_least p ps here all)));
+  apart =
+      λ p ps here all. first_false _ _ (second_false _ _ (past (fold least_corner p ps).y box_end (fold_keeps IsBelow least_corner below_least p ps here all)));
 }
 
 above_side : IsSide IsAbove
@@ -114,12 +123,15 @@ all_parts {X} {Y} P f (x ∷ xs) all =
         let rest = split us vs (All-tail P u (us ++ vs) all) in
         (All-cons P u us (All-head P u (us ++ vs) all) rest.0, rest.1)
 
-no_points : (P : Pt → Type 0) → IsSide P → (zoom column row : ℕ) (ps : List World) → All (λ p. P (stands_at zoom column row p)) ps → points_cut zoom column row ps ≡ []
+no_points : (P : Pt → Type 0) → IsSide P → (zoom column row : ℕ) (ps : List World) → All (λ p. P (stands_at zoom column row p)) ps
+    → points_cut zoom column row ps ≡ []
 unfolding points_cut
 no_points P side zoom column row ps all =
-    filter_nothing in_box (tile_points zoom column row ps) (All-weaker P (λ p. in_box p ≡ false) side.out (tile_points zoom column row ps) (points_all P zoom column row ps all))
+    filter_nothing in_box (tile_points zoom column row ps)
+    (All-weaker P (λ p. in_box p ≡ false) side.out (tile_points zoom column row ps) (points_all P zoom column row ps all))
 
-no_line : (P : Pt → Type 0) → IsSide P → (zoom column row : ℕ) (ps : List World) → All (λ p. P (stands_at zoom column row p)) ps → line_cut zoom column row ps ≡ []
+no_line : (P : Pt → Type 0) → IsSide P → (zoom column row : ℕ) (ps : List World) → All (λ p. P (stands_at zoom column row p)) ps
+    → line_cut zoom column row ps ≡ []
 unfolding line_cut
 no_line P side zoom column row ps all =
     let ss = segments (tile_points zoom column row ps) in
@@ -127,7 +139,8 @@ no_line P side zoom column row ps all =
     let none = All-weaker (Both P) (λ s. is_kept s ≡ false) (λ s both. side.apart s.0 (s.1 ∷ []) both.0 (All-cons P s.1 [] both.1 (All-nil P))) ss ends in
     ap (map way_along) (split_nothing ss none)
 
-no_polygon : (P : Pt → Type 0) → IsSide P → (zoom column row : ℕ) (rs : List (List World)) → All (λ p. P (stands_at zoom column row p)) (all_of rs) → polygon_cut zoom column row rs ≡ []
+no_polygon : (P : Pt → Type 0) → IsSide P → (zoom column row : ℕ) (rs : List (List World)) → All (λ p. P (stands_at zoom column row p)) (all_of rs)
+    → polygon_cut zoom column row rs ≡ []
 unfolding polygon_cut
 no_polygon P side zoom column row [] all = refl
 no_polygon P side zoom column row (outer ∷ inners) all =
@@ -140,15 +153,19 @@ no_polygon P side zoom column row (outer ∷ inners) all =
     ring_apart [] ps_all = refl
     ring_apart (p ∷ ps) ps_all = side.apart p ps (All-head P p ps ps_all) (All-tail P p ps ps_all)
 
-no_geometry : (P : Pt → Type 0) → IsSide P → (zoom column row : ℕ) (g : GeometryData) → All (λ p. P (stands_at zoom column row p)) (all_points g) → geometry_cut zoom column row g ≡ None
+no_geometry : (P : Pt → Type 0) → IsSide P → (zoom column row : ℕ) (g : GeometryData) → All (λ p. P (stands_at zoom column row p)) (all_points g)
+    → geometry_cut zoom column row g ≡ None
 unfolding geometry_cut lines_cut polygons_cut
 no_geometry P side zoom column row (world_points ps) all = rw (no_points P side zoom column row ps all) refl
 no_geometry P side zoom column row (world_lines ls) all =
     let Stands : World → Type 0 = λ p. P (stands_at zoom column row p) in
-    rw (flat_nothing (line_cut zoom column row) ls (All-weaker (All Stands) (λ l. line_cut zoom column row l ≡ []) (no_line P side zoom column row) ls (all_parts Stands (λ l. l) ls all))) refl
+    rw (flat_nothing (line_cut zoom column row) ls
+    (All-weaker (All Stands) (λ l. line_cut zoom column row l ≡ []) (no_line P side zoom column row) ls (all_parts Stands (λ l. l) ls all))) refl
 no_geometry P side zoom column row (world_polygons ps) all =
     let Stands : World → Type 0 = λ p. P (stands_at zoom column row p) in
-    rw (flat_nothing (polygon_cut zoom column row) ps (All-weaker (λ p. All Stands (all_of p)) (λ p. polygon_cut zoom column row p ≡ []) (no_polygon P side zoom column row) ps (all_parts Stands all_of ps all))) refl
+    rw (flat_nothing (polygon_cut zoom column row) ps
+    (All-weaker (λ p. All Stands (all_of p)) (λ p. polygon_cut zoom column row p ≡ []) (no_polygon P side zoom column row) ps
+    (all_parts Stands all_of ps all))) refl
 
 no_feature : (f : FeatureData) (zoom column row : ℕ) → geometry_cut zoom column row f.geometry ≡ None → feature_cut f zoom column row ≡ None
 unfolding feature_cut
@@ -199,7 +216,8 @@ behind_last zoom at greatest u lt inside le =
 
 -- ---- the law
 
-pub outside : (f : FeatureData) (zoom column row : ℕ) (range : TileRange) → range ≡ covered f.geometry zoom → column < 2 ^ zoom → row < 2 ^ zoom → ¬ IsInRange range column row → feature_cut f zoom column row ≡ None
+pub outside : (f : FeatureData) (zoom column row : ℕ) (range : TileRange) → range ≡ covered f.geometry zoom → column < 2 ^ zoom → row < 2 ^ zoom
+    → ¬ IsInRange range column row → feature_cut f zoom column row ≡ None
 unfolding covered
 outside f zoom column row range range_is across down out =
     let ps = all_points f.geometry in
@@ -213,22 +231,26 @@ outside f zoom column row range range_is across down out =
     (λ (lt : column < range.x0).
     let first : column < first_met (least_of (map x ps)) = rw (← x0_is) lt in
     no_geometry IsRight right_side zoom column row f.geometry
-    (All-weaker (λ p. least_of (map x ps) ≤ x p) (λ p. IsRight (stands_at zoom column row p)) (λ p le. before_first column (least_of (map x ps)) (x p) first le) ps (least_below x ps)))
+    (All-weaker (λ p. least_of (map x ps) ≤ x p) (λ p. IsRight (stands_at zoom column row p)) (λ p le. before_first column (least_of (map x ps)) (x p) first le)
+    ps (least_below x ps)))
     (λ (right_of : range.x0 ≤ column). ⊎_elim
     (λ (lt : range.x1 < column).
     let last : last_met zoom (greatest_of (map x ps)) < column = rw (← x1_is) lt in
     no_geometry IsLeft left_side zoom column row f.geometry
-    (All-weaker (λ p. x p ≤ greatest_of (map x ps)) (λ p. IsLeft (stands_at zoom column row p)) (λ p le. behind_last zoom column (greatest_of (map x ps)) (x p) last across le) ps (greatest_above x ps)))
+    (All-weaker (λ p. x p ≤ greatest_of (map x ps)) (λ p. IsLeft (stands_at zoom column row p))
+    (λ p le. behind_last zoom column (greatest_of (map x ps)) (x p) last across le) ps (greatest_above x ps)))
     (λ (left_of : column ≤ range.x1). ⊎_elim
     (λ (lt : row < range.y0).
     let first : row < first_met (least_of (map y ps)) = rw (← y0_is) lt in
     no_geometry IsBelow below_side zoom column row f.geometry
-    (All-weaker (λ p. least_of (map y ps) ≤ y p) (λ p. IsBelow (stands_at zoom column row p)) (λ p le. before_first row (least_of (map y ps)) (y p) first le) ps (least_below y ps)))
+    (All-weaker (λ p. least_of (map y ps) ≤ y p) (λ p. IsBelow (stands_at zoom column row p)) (λ p le. before_first row (least_of (map y ps)) (y p) first le) ps
+    (least_below y ps)))
     (λ (below : range.y0 ≤ row). ⊎_elim
     (λ (lt : range.y1 < row).
     let last : last_met zoom (greatest_of (map y ps)) < row = rw (← y1_is) lt in
     no_geometry IsAbove above_side zoom column row f.geometry
-    (All-weaker (λ p. y p ≤ greatest_of (map y ps)) (λ p. IsAbove (stands_at zoom column row p)) (λ p le. behind_last zoom row (greatest_of (map y ps)) (y p) last down le) ps (greatest_above y ps)))
+    (All-weaker (λ p. y p ≤ greatest_of (map y ps)) (λ p. IsAbove (stands_at zoom column row p))
+    (λ p le. behind_last zoom row (greatest_of (map y ps)) (y p) last down le) ps (greatest_above y ps)))
     (λ (above : row ≤ range.y1). absurd (out (record { left = right_of; right = left_of; top = below; bottom = above })))
     (cases_lt range.y1 row))
     (cases_lt row range.y0))

@@ -128,10 +128,14 @@ module _ (zoom column row : ℕ) (allowed : zoom ≤ GREATEST_ZOOM) (across : co
       )
 
   lists_shown : (closed : Bool) (ls : List (List Pt)) → All (IsDrawable closed column row) ls → IsShown (if closed then rings ls else lines ls)
-  lists_shown true ls all =
-      (spelled_lines true zoom column row ls allowed across down all, fit_lists column row (side_low zoom column allowed across) (side_low zoom row allowed down) true ls all)
-  lists_shown false ls all =
-      (spelled_lines false zoom column row ls allowed across down all, fit_lists column row (side_low zoom column allowed across) (side_low zoom row allowed down) false ls all)
+  lists_shown true ls all = (
+    spelled_lines true zoom column row ls allowed across down all,
+    fit_lists column row (side_low zoom column allowed across) (side_low zoom row allowed down) true ls all,
+  )
+  lists_shown false ls all = (
+    spelled_lines false zoom column row ls allowed across down all,
+    fit_lists column row (side_low zoom column allowed across) (side_low zoom row allowed down) false ls all,
+  )
 
   shape_shown : (g : GeometryData) (s : ShapeView) → GeometryFits g → LiesInWorld g → geometry_cut zoom column row g ≡ Some s → IsShown s
   unfolding geometry_cut

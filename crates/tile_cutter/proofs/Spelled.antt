@@ -1,5 +1,6 @@
 -- What a tile shows can be written: from point to point no way is longer than 32 bits hold.
-use Rattle.std.proofs.Common.{◌≡◌, ℕ, ℤ, ◌^◌, ◌<◌, ◌≤◌, ◌-ℤ◌, suc, ◌==◌, Bool, true, false, cond, Vec, vec_len, Global, List, [], ◌∷◌, Some, None, length, refl, arith}
+use Rattle.std.proofs.Common.{◌≡◌, ℕ, ℤ, ◌^◌, ◌<◌, ◌≤◌, ◌-ℤ◌, suc, ◌==◌, Bool, true, false, cond, Vec, vec_len, Global, List, [], ◌∷◌, Some, None, length, refl}
+use Rattle.std.proofs.Common.{arith}
 use Rattle.std.specs.Prelude.{All, filter}
 use Rattle.std.proofs.lemmas.Int.{ints}
 use Rattle.std.proofs.lemmas.List.Elements.{All-head, All-tail}
@@ -31,12 +32,14 @@ last_of_tile : (column row : ℕ) (p : Pt) (qs : List Pt) → IsOfTile column ro
 last_of_tile column row p [] p_is all = p_is
 last_of_tile column row p (q ∷ qs) p_is all = last_of_tile column row q qs (All-head (IsOfTile column row) q qs all) (All-tail (IsOfTile column row) q qs all)
 
-lines_spell : (closed : Bool) (column row : ℕ) (from : Pt) (ls : List (List Pt)) → IsOfTile column row from → All (IsDrawable closed column row) ls → CanSpellLines closed from ls
+lines_spell : (closed : Bool) (column row : ℕ) (from : Pt) (ls : List (List Pt)) → IsOfTile column row from → All (IsDrawable closed column row) ls
+    → CanSpellLines closed from ls
 lines_spell closed column row from [] from_is all = tt
 lines_spell closed column row from (l ∷ ls) from_is all =
     let here = All-head (IsDrawable closed column row) l ls all in (
       record { long = here.long; few = here.few; near = all_near column row from l from_is here.of_tile },
-      lines_spell closed column row (last_of from l) ls (last_of_tile column row from l from_is here.of_tile) (All-tail (IsDrawable closed column row) l ls all),
+      lines_spell closed column row (last_of from l) ls (last_of_tile column row from l from_is here.of_tile)
+          (All-tail (IsDrawable closed column row) l ls all),
     )
 
 -- the origin stands in the world of each tile
@@ -49,10 +52,13 @@ origin_of_tile zoom column row allowed across down =
       down = record { low = omega (arith, ints); high = omega (arith, ints) };
     }
 
-pub spelled_lines : (closed : Bool) (zoom column row : ℕ) (ls : List (List Pt)) → zoom ≤ GREATEST_ZOOM → column < 2 ^ zoom → row < 2 ^ zoom → All (IsDrawable closed column row) ls → CanSpellLines closed origin ls
-spelled_lines closed zoom column row ls allowed across down all = lines_spell closed column row origin ls (origin_of_tile zoom column row allowed across down) all
+pub spelled_lines : (closed : Bool) (zoom column row : ℕ) (ls : List (List Pt)) → zoom ≤ GREATEST_ZOOM → column < 2 ^ zoom → row < 2 ^ zoom
+    → All (IsDrawable closed column row) ls → CanSpellLines closed origin ls
+spelled_lines closed zoom column row ls allowed across down all =
+    lines_spell closed column row origin ls (origin_of_tile zoom column row allowed across down) all
 
-pub spelled_points : (zoom column row : ℕ) (ps : List Pt) → zoom ≤ GREATEST_ZOOM → column < 2 ^ zoom → row < 2 ^ zoom → 0 < length ps → length ps < 2 ^ 29 → All (IsOfTile column row) ps → CanSpellPoints ps
+pub spelled_points : (zoom column row : ℕ) (ps : List Pt) → zoom ≤ GREATEST_ZOOM → column < 2 ^ zoom → row < 2 ^ zoom → 0 < length ps → length ps < 2 ^ 29
+    → All (IsOfTile column row) ps → CanSpellPoints ps
 spelled_points zoom column row ps allowed across down some few all = record {
   some = some;
   few = few;
@@ -61,7 +67,8 @@ spelled_points zoom column row ps allowed across down some few all = record {
 
 -- ---- a shape, where something is left
 
-pub none_left : {X V : Type 0} (shape : List X → ShapeView) (v : Vec V Global) (xs ys : List X) → (vec_len v == 0) ≡ true → length xs ≡ length v.items → xs ≡ ys → None ≡ unless_empty shape ys
+pub none_left : {X V : Type 0} (shape : List X → ShapeView) (v : Vec V Global) (xs ys : List X) → (vec_len v == 0) ≡ true → length xs ≡ length v.items → xs ≡ ys
+    → None ≡ unless_empty shape ys
 none_left shape v [] ys empty same e = rw (← e) refl
 none_left shape v (x ∷ xs) ys empty same e =
     let none = (Decides-eqb (vec_len v) 0).0 empty in

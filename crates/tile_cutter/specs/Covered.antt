@@ -4,7 +4,7 @@ use Rattle.std.specs.List.{range_with_len}
 use Rattle.std.specs.Int.{div_ceil}
 use Rattle.feature_model.specs.declared.feature.World.{World}
 use Rattle.feature_model.specs.Data.{FeatureData, GeometryData, world_points, world_lines, world_polygons}
-use Rattle.tile_cutter.specs.declared.place.TheConstants.{EXTENT, MARGIN}
+use Rattle.tile_cutter.specs.declared.coordinates.TheConstants.{EXTENT, MARGIN}
 use Rattle.tile_cutter.specs.declared.reach.TileRange.{TileRange}
 use Rattle.tile_cutter.specs.Cut.{quantised_axis}
 

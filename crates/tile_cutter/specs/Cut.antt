@@ -1,14 +1,16 @@
 -- What of a feature a tile shows, whole lists at a time.
-use Rattle.std.specs.Prelude.{ℕ, ℤ, pos, neg_ℤ, ◌+◌, ◌-◌, ◌*◌, ◌/◌, ◌^◌, ◌+ℤ◌, ◌-ℤ◌, ◌*ℤ◌, ◌==◌, ◌&&◌, not, nat_le, int_le, int_lt, Bool, true, false, Option, Some, None, option_map, List, [], ◌∷◌, ◌++◌, map, filter, fold, flat_map, zip, reverse, take, drop, length, if◌then◌else◌}
+use Rattle.std.specs.Prelude.{ℕ, ℤ, pos, neg_ℤ, ◌+◌, ◌-◌, ◌*◌, ◌/◌, ◌^◌, ◌+ℤ◌, ◌-ℤ◌, ◌*ℤ◌, ◌==◌, ◌&&◌, not, nat_le, int_le, int_lt, Bool, true, false, Option}
+use Rattle.std.specs.Prelude.{Some, None, option_map, List, [], ◌∷◌, ◌++◌, map, filter, fold, flat_map, zip, reverse, take, drop, length, if◌then◌else◌}
 use Rattle.std.specs.List.{dedup, slice_split}
 use Rattle.std.specs.Int.{int_min, int_max}
 use Rattle.std.specs.Ordering.{int_eq}
 use Rattle.feature_model.specs.declared.feature.World.{World}
-use Rattle.feature_model.specs.Data.{FeatureData, GeometryData, world_points, world_lines, world_polygons, TagData, ValueData, text_value, natural_value, negative_value, truth_value}
+use Rattle.feature_model.specs.Data.{FeatureData, GeometryData, world_points, world_lines, world_polygons, TagData, ValueData, text_value, natural_value}
+use Rattle.feature_model.specs.Data.{negative_value, truth_value}
 use Rattle.geometry_commands.specs.declared.point.Pt.{Pt}
 use Rattle.geometry_commands.specs.Shapes.{ShapeView, points, lines, rings}
 use Rattle.mvt_layer.specs.Tile.{FeatureView, TagView, Tagged, text, natural, negative, truth}
-use Rattle.tile_cutter.specs.declared.place.TheConstants.{EXTENT, MARGIN, WORLD_ZOOM}
+use Rattle.tile_cutter.specs.declared.coordinates.TheConstants.{EXTENT, MARGIN, WORLD_ZOOM}
 
 -- a coordinate of the world as a zoom sees it, rounded down
 abbrev pub quantised_axis : ℕ → ℕ → ℕ
@@ -40,16 +42,16 @@ abbrev pub open_ring : List World → List World
 open_ring ps = if is_closed ps then take (length ps - 1) ps else ps
 
 -- where a quantised point stands in the tile of a column and a row
-abbrev pub placed : ℕ → ℕ → World → Pt
-placed column row p = record { x = pos p.x -ℤ pos (EXTENT * column); y = pos p.y -ℤ pos (EXTENT * row) }
+abbrev pub position_in : ℕ → ℕ → World → Pt
+position_in column row p = record { x = pos p.x -ℤ pos (EXTENT * column); y = pos p.y -ℤ pos (EXTENT * row) }
 
 -- a list of points in a tile
 abbrev pub tile_points : ℕ → ℕ → ℕ → List World → List Pt
-tile_points zoom column row ps = map (placed column row) (quantised_points zoom ps)
+tile_points zoom column row ps = map (position_in column row) (quantised_points zoom ps)
 
 -- a ring in a tile
 abbrev pub tile_ring : ℕ → ℕ → ℕ → List World → List Pt
-tile_ring zoom column row ps = map (placed column row) (open_ring (quantised_points zoom ps))
+tile_ring zoom column row ps = map (position_in column row) (open_ring (quantised_points zoom ps))
 
 -- the box of a tile reaches from here to there, ends included, across and down
 abbrev pub box_start : ℤ

@@ -2,7 +2,7 @@
 use Rattle.std.specs.Prelude.{ℕ, ℤ, pos, neg_ℤ, ◌*◌, ◌^◌, ◌<◌, ◌+ℤ◌, ◌≤ℤ◌, ◌<ℤ◌, Bool, List, length, All}
 use Rattle.geometry_commands.specs.declared.point.Pt.{Pt}
 use Rattle.geometry_commands.specs.Shapes.{least}
-use Rattle.tile_cutter.specs.declared.place.TheConstants.{EXTENT}
+use Rattle.tile_cutter.specs.declared.coordinates.TheConstants.{EXTENT}
 
 -- a number of so many bits and a sign
 pub record IsWithin (bits : ℕ) (u : ℤ) : Type 0 where

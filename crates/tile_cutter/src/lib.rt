@@ -2,15 +2,15 @@
 #![tactic(auto)]
 
 mod bounds;
+mod coordinates;
 mod cutting;
 mod lines;
-mod place;
 mod points;
 mod reach;
 mod rings;
 
+pub use coordinates::{EXTENT, MARGIN, WORLD_ZOOM};
 pub use cutting::cut;
-pub use place::{EXTENT, MARGIN, WORLD_ZOOM};
 pub use reach::{MOST_TILES, TileRange, check_reach, cover_count, covers};
 
 #[cfg(test)]

@@ -5,7 +5,7 @@ ghost use Rattle.tile_cutter.specs.Covered.{all_of, all_points, first_met, last_
 ghost use Rattle.tile_cutter.specs.Corners.{widened, corners_after, range_of};
 ghost use Rattle.tile_cutter.specs.Passes.{lists_of};
 
-use crate::place::{EXTENT, MARGIN, quantise};
+use crate::coordinates::{EXTENT, MARGIN, quantise};
 use feature_model::{EditFault, Feature, GREATEST_ZOOM, Geometry, World};
 
 /// The most tiles that a feature may cover at all its zooms together.

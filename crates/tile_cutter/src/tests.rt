@@ -187,7 +187,7 @@ fn lines_in_two_tiles(rt: HostRuntime) -> Result<(), Fail> {
 }
 
 #[test]
-fn line_of_one_place(rt: HostRuntime) -> Result<(), Fail> {
+fn line_of_one_point(rt: HostRuntime) -> Result<(), Fail> {
     let alloc = rt.alloc();
     // Up to zoom 5 both ends are one point, from zoom 6 on they are (0,0) and (1,0).
     let line = lines_of(alloc, &[&[(0, 0), (16384, 0)]])?;

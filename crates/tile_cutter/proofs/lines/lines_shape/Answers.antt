@@ -22,4 +22,5 @@ pub returns-clause-writable : goal.returns-clause-writable
 returns-clause-writable c =
     let at = c.args.at in
     let v = c.in_ok-chains.chains in
-    spelled_lines false at.z at.x at.y (lists_of v.items) c.requires.zoom at.column at.row (subst (All (IsDrawable false at.x at.y)) (sym c.in_ok-chains.ensures.chains) c.in_ok-chains.ensures.drawable)
+    spelled_lines false at.z at.x at.y (lists_of v.items) c.requires.zoom at.column at.row
+    (subst (All (IsDrawable false at.x at.y)) (sym c.in_ok-chains.ensures.chains) c.in_ok-chains.ensures.drawable)

@@ -28,7 +28,8 @@ returns-in_ok-cut_inner_rings-clause-rings c =
     let at = c.args.at in
     let outer = c.in-Some.outer.now in
     let ring = c.in-Some-2.ring in
-    let shown = ap (λ ps. shown_ring Outer (tile_ring at.z at.x at.y ps)) (sym c.deref.ensures.value) ∙ sym c.in_ok-ring.ensures.ring ∙ ap (option_map (λ v. v.items)) c.in-Some-2.is in
+    let shown = ap (λ ps. shown_ring Outer (tile_ring at.z at.x at.y ps)) (sym c.deref.ensures.value) ∙ sym c.in_ok-ring.ensures.ring
+    ∙ ap (option_map (λ v. v.items)) c.in-Some-2.is in
     let more = ap lists_of c.in_ok-push.ensures.items ∙ map_push (λ v. v.items) c.args.shown.now.items ring in
     rings_appended at.z at.x at.y (lists_of c.args.polygon.now) outer.items (lists_of c.in-Some.inners.now) ring.items (lists_of c.args.shown.now.items) _ _
     (ap lists_of c.in-Some.ensures.cases.0) shown more c.in_ok-cut_inner_rings.ensures.rings
@@ -38,8 +39,11 @@ returns-in_ok-cut_inner_rings-clause-drawable c =
     let at = c.args.at in
     let outer = c.in-Some.outer.now in
     let ring = c.in-Some-2.ring in
-    let shown = ap (λ ps. shown_ring Outer (tile_ring at.z at.x at.y ps)) (sym c.deref.ensures.value) ∙ sym c.in_ok-ring.ensures.ring ∙ ap (option_map (λ v. v.items)) c.in-Some-2.is in
-    let drawable = subst (λ ps. All (IsDrawable true at.x at.y) (option_to_list (shown_ring Outer (tile_ring at.z at.x at.y ps)))) c.deref.ensures.value c.in_ok-ring.ensures.drawable in
+    let shown = ap (λ ps. shown_ring Outer (tile_ring at.z at.x at.y ps)) (sym c.deref.ensures.value) ∙ sym c.in_ok-ring.ensures.ring
+    ∙ ap (option_map (λ v. v.items)) c.in-Some-2.is in
+    let drawable =
+    subst (λ ps. All (IsDrawable true at.x at.y) (option_to_list (shown_ring Outer (tile_ring at.z at.x at.y ps))))
+    c.deref.ensures.value c.in_ok-ring.ensures.drawable in
     rings_drawable at.z at.x at.y (lists_of c.args.polygon.now) outer.items (lists_of c.in-Some.inners.now) ring.items
     (ap lists_of c.in-Some.ensures.cases.0) shown drawable c.in_ok-cut_inner_rings.ensures.drawable
 
@@ -47,12 +51,15 @@ pub returns-in_default-2-clause-rings : goal.returns-in_default-2-clause-rings
 returns-in_default-2-clause-rings c =
     let at = c.args.at in
     let outer = c.in-Some.outer.now in
-    let hidden = ap (λ ps. shown_ring Outer (tile_ring at.z at.x at.y ps)) (sym c.deref.ensures.value) ∙ sym c.in_ok-ring.ensures.ring ∙ ap (option_map (λ v. v.items)) c.in_default-2.is in
-    nothing_appended at.z at.x at.y (lists_of c.args.polygon.now) outer.items (lists_of c.in-Some.inners.now) (lists_of c.args.shown.now.items) (ap lists_of c.in-Some.ensures.cases.0) hidden
+    let hidden = ap (λ ps. shown_ring Outer (tile_ring at.z at.x at.y ps)) (sym c.deref.ensures.value) ∙ sym c.in_ok-ring.ensures.ring
+    ∙ ap (option_map (λ v. v.items)) c.in_default-2.is in
+    nothing_appended at.z at.x at.y (lists_of c.args.polygon.now) outer.items (lists_of c.in-Some.inners.now) (lists_of c.args.shown.now.items)
+    (ap lists_of c.in-Some.ensures.cases.0) hidden
 
 pub returns-in_default-2-clause-drawable : goal.returns-in_default-2-clause-drawable
 returns-in_default-2-clause-drawable c =
     let at = c.args.at in
     let outer = c.in-Some.outer.now in
-    let hidden = ap (λ ps. shown_ring Outer (tile_ring at.z at.x at.y ps)) (sym c.deref.ensures.value) ∙ sym c.in_ok-ring.ensures.ring ∙ ap (option_map (λ v. v.items)) c.in_default-2.is in
+    let hidden = ap (λ ps. shown_ring Outer (tile_ring at.z at.x at.y ps)) (sym c.deref.ensures.value) ∙ sym c.in_ok-ring.ensures.ring
+    ∙ ap (option_map (λ v. v.items)) c.in_default-2.is in
     nothing_drawable at.z at.x at.y (lists_of c.args.polygon.now) outer.items (lists_of c.in-Some.inners.now) (ap lists_of c.in-Some.ensures.cases.0) hidden

@@ -22,4 +22,5 @@ pub returns-clause-writable : goal.returns-clause-writable
 returns-clause-writable c =
     let at = c.args.at in
     let v = c.in_ok-shown.shown in
-    spelled_lines true at.z at.x at.y (lists_of v.items) c.requires.zoom at.column at.row (subst (All (IsDrawable true at.x at.y)) (sym c.in_ok-shown.ensures.rings) c.in_ok-shown.ensures.drawable)
+    spelled_lines true at.z at.x at.y (lists_of v.items) c.requires.zoom at.column at.row
+    (subst (All (IsDrawable true at.x at.y)) (sym c.in_ok-shown.ensures.rings) c.in_ok-shown.ensures.drawable)

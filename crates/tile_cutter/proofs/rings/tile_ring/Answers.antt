@@ -19,19 +19,23 @@ loop-point-init c = record {
 pub loop-point-preserved : goal.loop-point-preserved
 loop-point-preserved c =
     let at = c.args.at in
-    let here = c.place-here.result in
+    let here = c.position-here.result in
     let before = c.loop-point.before in
     let out = c.loop-point.ring.items in
     let rest = map (stands_at at.z at.x at.y) (drop (c.loop-point.point-index + 1) c.args.points.now) in
-    let next = next_stands at.z at.x at.y c.args.points.now c.loop-point.point-index here _ c.loop-point-test.true c.place-here.ensures.place in
+    let next = next_stands at.z at.x at.y c.args.points.now c.loop-point.point-index here _ c.loop-point-test.true c.position-here.ensures.position in
     let so_far = ap (λ (r : List Pt). out ++ left_after before r) (sym next) ∙ c.loop-point.invariant.ring in
     let test = sym c.repeats.ensures in
     record {
       ring = elim c.if-not-repeats.branch [
-        | then-not-repeats+in_ok-push w ↦ rw (w.ring-is, w.before-is) (ring_next before here rest out w.push.new.self.items _ (rw (test, w.if-not-repeats.true) w.in_ok-push.ensures.items) so_far)
+        | then-not-repeats+in_ok-push w ↦
+            rw (w.ring-is, w.before-is)
+            (ring_next before here rest out w.push.new.self.items _ (rw (test, w.if-not-repeats.true) w.in_ok-push.ensures.items) so_far)
         | else-not-repeats w ↦ rw (w.ring-is, w.before-is) (ring_next before here rest out out _ (rw (test, w.if-not-repeats.false) refl) so_far)
       ];
-      in_world = All-more IsOfWorld c.args.points.now c.loop-point.point-index _ c.loop-point-test.true c.loop-point.invariant.in_world c.place-here.ensures.in_world;
+      in_world =
+          All-more IsOfWorld c.args.points.now c.loop-point.point-index _ c.loop-point-test.true c.loop-point.invariant.in_world
+          c.position-here.ensures.in_world;
     }
 
 pub returns-clause-ring : goal.returns-clause-ring
@@ -44,8 +48,11 @@ returns-clause-ring c =
     let test = c.returns_to_start.ensures ∙ ap returns_to_start c.deref.ensures.value in
     let long = sym c.deref.ensures.len ∙ ap length c.deref.ensures.value in
     elim c.if-returns_to_start.branch [
-      | then-returns_to_start w ↦ rw w.ring-is (ring_opened at.z at.x at.y c.args.points.now ring w.pop.new.self.items _ true whole (sym w.if-returns_to_start.true ∙ test) long w.pop.ensures.rest)
-      | else-returns_to_start w ↦ rw w.ring-is (ring_opened at.z at.x at.y c.args.points.now ring ring _ false whole (sym w.if-returns_to_start.false ∙ test) long refl)
+      | then-returns_to_start w ↦
+          rw w.ring-is
+          (ring_opened at.z at.x at.y c.args.points.now ring w.pop.new.self.items _ true whole (sym w.if-returns_to_start.true ∙ test) long w.pop.ensures.rest)
+      | else-returns_to_start w ↦
+          rw w.ring-is (ring_opened at.z at.x at.y c.args.points.now ring ring _ false whole (sym w.if-returns_to_start.false ∙ test) long refl)
     ]
 
 pub returns-clause-in_world : goal.returns-clause-in_world

@@ -1,5 +1,5 @@
 ghost use Rattle.std.specs.Prelude.{◌≡◌, ◌<◌, ◌≤◌, ◌^◌};
-ghost use Rattle.tile_cutter.specs.Cut.{quantised_axis, quantised, placed};
+ghost use Rattle.tile_cutter.specs.Cut.{quantised_axis, quantised, position_in};
 ghost use Rattle.tile_cutter.specs.Passes.{repeats};
 ghost use Rattle.feature_model.specs.Types.{IsOfWorld};
 
@@ -27,9 +27,9 @@ pub(crate) fn quantise(coordinate: u32, zoom: u8) -> u32
 }
 
 /// Where a point of the world stands in a tile, as the tile's zoom sees it.
-pub(crate) fn place(point: World, at: TileAt) -> Pt
+pub(crate) fn position(point: World, at: TileAt) -> Pt
     requires { at.z ≤ GREATEST_ZOOM }
-    ensures place { result ≡ placed at.x at.y (quantised at.z point) }
+    ensures position { result ≡ position_in at.x at.y (quantised at.z point) }
     ensures in_world { IsOfWorld point }
 {
     let extent = i64::from(EXTENT);
