@@ -40,28 +40,22 @@ quantised_mono zoom a b less =
     let some : 0 < 2 ^ (WORLD_ZOOM - zoom) = one-le-pow (WORLD_ZOOM - zoom) 2 (omega arith) in
     le-div (quantised_axis zoom a) b (2 ^ (WORLD_ZOOM - zoom)) some (omega (arith, div-mul-le_self a (2 ^ (WORLD_ZOOM - zoom)), less))
 
-quantised_min : (zoom a b : ℕ) → quantised_axis zoom (min a b) ≡ min (quantised_axis zoom a) (quantised_axis zoom b)
-quantised_min zoom a b = ⊎_elim
-    (λ (lt : a < b).
-    let less = quantised_mono zoom a b (omega arith) in
-    let is : min a b ≡ a = omega arith in
-    rw is (omega arith))
-    (λ (le : b ≤ a).
-    let less = quantised_mono zoom b a le in
-    let is : min a b ≡ b = omega arith in
-    rw is (omega arith))
-    (cases_lt a b)
+-- of two coordinates in their order
+quantised_order : (zoom a b less more : ℕ) → a ≤ b → less ≡ a → more ≡ b
+    → (quantised_axis zoom less ≡ min (quantised_axis zoom a) (quantised_axis zoom b))
+    × (quantised_axis zoom more ≡ max (quantised_axis zoom a) (quantised_axis zoom b))
+quantised_order zoom a b less more order less_is more_is =
+    let keeps = quantised_mono zoom a b order in
+    (rw less_is (omega (arith, keeps)), rw more_is (omega (arith, keeps)))
 
-quantised_max : (zoom a b : ℕ) → quantised_axis zoom (max a b) ≡ max (quantised_axis zoom a) (quantised_axis zoom b)
-quantised_max zoom a b = ⊎_elim
-    (λ (lt : a < b).
-    let less = quantised_mono zoom a b (omega arith) in
-    let is : max a b ≡ b = omega arith in
-    rw is (omega arith))
+quantised_both : (zoom a b : ℕ)
+    → (quantised_axis zoom (min a b) ≡ min (quantised_axis zoom a) (quantised_axis zoom b))
+    × (quantised_axis zoom (max a b) ≡ max (quantised_axis zoom a) (quantised_axis zoom b))
+quantised_both zoom a b = ⊎_elim
+    (λ (lt : a < b). quantised_order zoom a b (min a b) (max a b) (omega arith) (omega arith) (omega arith))
     (λ (le : b ≤ a).
-    let less = quantised_mono zoom b a le in
-    let is : max a b ≡ a = omega arith in
-    rw is (omega arith))
+    let turned = quantised_order zoom b a (min a b) (max a b) le (omega arith) (omega arith) in
+    (omega (arith, turned.0), omega (arith, turned.1)))
     (cases_lt a b)
 
 -- ---- the corners are the least and the greatest coordinates
@@ -69,27 +63,27 @@ quantised_max zoom a b = ⊎_elim
 least_x : (zoom : ℕ) (ps : List World) (c : Corners)
     → fold min (quantised_axis zoom c.least.x) (map (λ p. quantised_axis zoom p.x) ps) ≡ quantised_axis zoom (least_corner_of (corners_after (Some c) ps)).x
 least_x zoom [] c = refl
-least_x zoom (p ∷ ps) c = ap (λ m. fold min m (map (λ q. quantised_axis zoom q.x) ps)) (sym (quantised_min zoom c.least.x p.x))
+least_x zoom (p ∷ ps) c = ap (λ m. fold min m (map (λ q. quantised_axis zoom q.x) ps)) (sym (quantised_both zoom c.least.x p.x).0)
     ∙ least_x zoom ps (widened (Some c) p)
 
 least_y : (zoom : ℕ) (ps : List World) (c : Corners)
     → fold min (quantised_axis zoom c.least.y) (map (λ p. quantised_axis zoom p.y) ps) ≡ quantised_axis zoom (least_corner_of (corners_after (Some c) ps)).y
 least_y zoom [] c = refl
-least_y zoom (p ∷ ps) c = ap (λ m. fold min m (map (λ q. quantised_axis zoom q.y) ps)) (sym (quantised_min zoom c.least.y p.y))
+least_y zoom (p ∷ ps) c = ap (λ m. fold min m (map (λ q. quantised_axis zoom q.y) ps)) (sym (quantised_both zoom c.least.y p.y).0)
     ∙ least_y zoom ps (widened (Some c) p)
 
 greatest_x : (zoom : ℕ) (ps : List World) (c : Corners)
     → fold max (quantised_axis zoom c.greatest.x) (map (λ p. quantised_axis zoom p.x) ps)
     ≡ quantised_axis zoom (greatest_corner_of (corners_after (Some c) ps)).x
 greatest_x zoom [] c = refl
-greatest_x zoom (p ∷ ps) c = ap (λ m. fold max m (map (λ q. quantised_axis zoom q.x) ps)) (sym (quantised_max zoom c.greatest.x p.x))
+greatest_x zoom (p ∷ ps) c = ap (λ m. fold max m (map (λ q. quantised_axis zoom q.x) ps)) (sym (quantised_both zoom c.greatest.x p.x).1)
     ∙ greatest_x zoom ps (widened (Some c) p)
 
 greatest_y : (zoom : ℕ) (ps : List World) (c : Corners)
     → fold max (quantised_axis zoom c.greatest.y) (map (λ p. quantised_axis zoom p.y) ps)
     ≡ quantised_axis zoom (greatest_corner_of (corners_after (Some c) ps)).y
 greatest_y zoom [] c = refl
-greatest_y zoom (p ∷ ps) c = ap (λ m. fold max m (map (λ q. quantised_axis zoom q.y) ps)) (sym (quantised_max zoom c.greatest.y p.y))
+greatest_y zoom (p ∷ ps) c = ap (λ m. fold max m (map (λ q. quantised_axis zoom q.y) ps)) (sym (quantised_both zoom c.greatest.y p.y).1)
     ∙ greatest_y zoom ps (widened (Some c) p)
 
 -- the corners of no points stand at the origin

@@ -10,8 +10,9 @@ use Rattle.tile_cutter.specs.Cut.{Segment, segments, is_kept, way_along, is_some
 use Rattle.feature_model.specs.Types.{IsOfWorld}
 use Rattle.feature_model.specs.declared.limits.TheConstants.{GREATEST_ZOOM}
 use Rattle.tile_cutter.specs.Range.{IsOfTile, IsDrawable}
-use Rattle.tile_cutter.proofs.Kept.{points_keep, length_points, stands_in_tile}
+use Rattle.tile_cutter.proofs.Kept.{points_all, points_keep, length_points, stands_in_tile}
 use Rattle.tile_cutter.proofs.Chains.{is_left_out}
+use Rattle.tile_cutter.proofs.Passes.{stands_at}
 
 -- both ends
 abbrev pub Both : (Pt → Type 0) → Segment → Type 0
@@ -64,21 +65,22 @@ way_drawable column row n (s ∷ ss) few is some =
     record {
       long = omega (arith, long);
       few = omega (arith, long, is.1);
-      of_tile =
-          All-cons P s.0 (map (λ t. t.1) (s ∷ ss)) first.0 (All-map P (λ t. t.1) (s ∷ ss) (All-weaker (Both P) (λ t. P t.1) (λ t both. both.1) (s ∷ ss) is.0));
+      of_tile = All-cons P s.0 (map (λ t. t.1) (s ∷ ss)) first.0
+          (All-map P (λ t. t.1) (s ∷ ss) (All-weaker (Both P) (λ t. P t.1) (λ t both. both.1) (s ∷ ss) is.0));
     }
 
-pub line_drawable : (zoom column row : ℕ) (ps : List World) → zoom ≤ GREATEST_ZOOM → length ps ≤ 65535 → All IsOfWorld ps
+pub line_drawable : (zoom column row : ℕ) (ps : List World) → length ps < 2 ^ 28 → All (λ p. IsOfTile column row (stands_at zoom column row p)) ps
     → All (IsDrawable false column row) (line_cut zoom column row ps)
 unfolding line_cut
-line_drawable zoom column row ps allowed few inside =
+line_drawable zoom column row ps few stand =
     let P = IsOfTile column row in
     let tile = tile_points zoom column row ps in
     let n = length (segments tile) in
     let small : n + 1 < 2 ^ 29 = omega (arith, length_segments tile, length_points zoom column row ps) in
-    let points_all = points_keep P zoom column row ps (stands_in_tile zoom column row allowed) inside in
     let parts = slice_split is_left_out (segments tile) in
-    let parts_all = All-filter is_some_segment (IsPart (Both P) n) parts (all_split (Both P) (segments tile) (all_segments P tile points_all)) in
+    let parts_all =
+    All-filter is_some_segment (IsPart (Both P) n) parts
+    (all_split (Both P) (segments tile) (all_segments P tile (points_all P zoom column row ps stand))) in
     let passes = filter_passes is_some_segment parts in
     All-map (IsDrawable false column row) way_along (filter is_some_segment parts)
     (λ k d lt. way_drawable column row n _ small (parts_all k d lt) (passes k d lt))

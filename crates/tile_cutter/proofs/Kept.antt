@@ -2,7 +2,7 @@
 use Rattle.std.proofs.Common.{◌≡◌, ℕ, ◌-◌, ◌*◌, ◌/◌, ◌^◌, ◌<◌, ◌≤◌, suc, pos, ◌-ℤ◌, Bool, true, false, cond, List, [], ◌∷◌, Option, Some, None, map, take}
 use Rattle.std.proofs.Common.{length, sym, ap, subst, arith}
 use Rattle.std.specs.Prelude.{All}
-use Rattle.std.proofs.Math.Nat.{div-le_self, div-mul-le_self, mul-le-mul_left}
+use Rattle.std.proofs.Math.Nat.{div-mul-le_self, mul-le-mul_left}
 use Rattle.std.proofs.Math.Pow.{pow_mono}
 use Rattle.std.proofs.lemmas.Int.{ints}
 use Rattle.std.proofs.lemmas.List.{length-map, length-take}
@@ -104,11 +104,9 @@ pub stands_in_tile : (zoom column row : ℕ) → zoom ≤ GREATEST_ZOOM → (p :
 stands_in_tile zoom column row allowed p inside =
     record { across = side_position zoom column p.x allowed inside.0; down = side_position zoom row p.y allowed inside.1 }
 
-pub stands_small : (zoom column row : ℕ) → column < 2 ^ 32 → row < 2 ^ 32 → (p : World) → IsOfWorld p → IsSmall (stands_at zoom column row p)
-stands_small zoom column row across down p inside =
-    let x_less = div-le_self p.x (2 ^ (WORLD_ZOOM - zoom)) in
-    let y_less = div-le_self p.y (2 ^ (WORLD_ZOOM - zoom)) in
-    record {
-      across = record { low = omega (arith, ints); high = omega (arith, ints) };
-      down = record { low = omega (arith, ints); high = omega (arith, ints) };
-    }
+-- a point of a tile stands near
+pub small_of_tile : (column row : ℕ) → column < 2 ^ 32 → row < 2 ^ 32 → (p : Pt) → IsOfTile column row p → IsSmall p
+small_of_tile column row across down p is = record {
+  across = record { low = omega (arith, ints, is.across.low, is.across.high); high = omega (arith, ints, is.across.low, is.across.high) };
+  down = record { low = omega (arith, ints, is.down.low, is.down.high); high = omega (arith, ints, is.down.low, is.down.high) };
+}

@@ -1,6 +1,6 @@
 -- Outside the tiles that a feature covers nothing of it is shown.
 use Rattle.std.proofs.Common.{◌≡◌, ℕ, ℤ, pos, ◌+◌, ◌-◌, ◌*◌, ◌^◌, ◌<◌, ◌≤◌, ◌-ℤ◌, ◌<ℤ◌, min, max, Bool, true, false, cond, ◌&&◌, List, [], ◌∷◌, ◌++◌, Option}
-use Rattle.std.proofs.Common.{None, map, refl, ap, ⊎_elim, arith}
+use Rattle.std.proofs.Common.{None, map, refl, ap, ⊎_elim, ◌⊎◌, inl, inr, arith}
 use Rattle.std.specs.Prelude.{All, filter, flat_map, fold, int_le}
 use Rattle.std.specs.List.{slice_split}
 use Rattle.std.proofs.lemmas.Int.{ints, clamps}
@@ -216,41 +216,41 @@ behind_last zoom at greatest u lt inside le =
 
 -- ---- the law
 
+-- in a column, or a row, before the first or behind the last that is met nothing is shown
+beside : (g : GeometryData) (zoom column row at first last : ℕ) (along : World → ℕ) (Behind Before : Pt → Type 0) → IsSide Behind → IsSide Before
+    → ((p : World) → box_end <ℤ (pos (along p) -ℤ pos (EXTENT * at)) → Behind (stands_at zoom column row p))
+    → ((p : World) → (pos (along p) -ℤ pos (EXTENT * at)) <ℤ box_start → Before (stands_at zoom column row p))
+    → first ≡ first_met (least_of (map along (all_points g))) → last ≡ last_met zoom (greatest_of (map along (all_points g))) → at < 2 ^ zoom
+    → (at < first) ⊎ (last < at) → geometry_cut zoom column row g ≡ None
+beside g zoom column row at first last along Behind Before behind before is_behind is_before first_is last_is within (inl lt) =
+    let ps = all_points g in
+    let met : at < first_met (least_of (map along ps)) = rw (← first_is) lt in
+    no_geometry Behind behind zoom column row g
+    (All-weaker (λ p. least_of (map along ps) ≤ along p) (λ p. Behind (stands_at zoom column row p))
+    (λ p le. is_behind p (before_first at (least_of (map along ps)) (along p) met le)) ps (least_below along ps))
+beside g zoom column row at first last along Behind Before behind before is_behind is_before first_is last_is within (inr lt) =
+    let ps = all_points g in
+    let met : last_met zoom (greatest_of (map along ps)) < at = rw (← last_is) lt in
+    no_geometry Before before zoom column row g
+    (All-weaker (λ p. along p ≤ greatest_of (map along ps)) (λ p. Before (stands_at zoom column row p))
+    (λ p le. is_before p (behind_last zoom at (greatest_of (map along ps)) (along p) met within le)) ps (greatest_above along ps))
+
 pub outside : (f : FeatureData) (zoom column row : ℕ) (range : TileRange) → range ≡ covered f.geometry zoom → column < 2 ^ zoom → row < 2 ^ zoom
     → ¬ IsInRange range column row → feature_cut f zoom column row ≡ None
 unfolding covered
-outside f zoom column row range range_is across down out =
-    let ps = all_points f.geometry in
-    let x : World → ℕ = λ p. quantised_axis zoom p.x in
-    let y : World → ℕ = λ p. quantised_axis zoom p.y in
-    let x0_is : range.x0 ≡ first_met (least_of (map x ps)) = ap (λ r. r.x0) range_is in
-    let x1_is : range.x1 ≡ last_met zoom (greatest_of (map x ps)) = ap (λ r. r.x1) range_is in
-    let y0_is : range.y0 ≡ first_met (least_of (map y ps)) = ap (λ r. r.y0) range_is in
-    let y1_is : range.y1 ≡ last_met zoom (greatest_of (map y ps)) = ap (λ r. r.y1) range_is in
+outside f zoom column row range is across down out =
+    let columns = beside f.geometry zoom column row column range.x0 range.x1 (λ p. quantised_axis zoom p.x) IsRight IsLeft right_side left_side
+    (λ p h. h) (λ p h. h) (ap (λ r. r.x0) is) (ap (λ r. r.x1) is) across in
+    let rows = beside f.geometry zoom column row row range.y0 range.y1 (λ p. quantised_axis zoom p.y) IsBelow IsAbove below_side above_side
+    (λ p h. h) (λ p h. h) (ap (λ r. r.y0) is) (ap (λ r. r.y1) is) down in
     no_feature f zoom column row (⊎_elim
-    (λ (lt : column < range.x0).
-    let first : column < first_met (least_of (map x ps)) = rw (← x0_is) lt in
-    no_geometry IsRight right_side zoom column row f.geometry
-    (All-weaker (λ p. least_of (map x ps) ≤ x p) (λ p. IsRight (stands_at zoom column row p)) (λ p le. before_first column (least_of (map x ps)) (x p) first le)
-    ps (least_below x ps)))
+    (λ (lt : column < range.x0). columns (inl lt))
     (λ (right_of : range.x0 ≤ column). ⊎_elim
-    (λ (lt : range.x1 < column).
-    let last : last_met zoom (greatest_of (map x ps)) < column = rw (← x1_is) lt in
-    no_geometry IsLeft left_side zoom column row f.geometry
-    (All-weaker (λ p. x p ≤ greatest_of (map x ps)) (λ p. IsLeft (stands_at zoom column row p))
-    (λ p le. behind_last zoom column (greatest_of (map x ps)) (x p) last across le) ps (greatest_above x ps)))
+    (λ (lt : range.x1 < column). columns (inr lt))
     (λ (left_of : column ≤ range.x1). ⊎_elim
-    (λ (lt : row < range.y0).
-    let first : row < first_met (least_of (map y ps)) = rw (← y0_is) lt in
-    no_geometry IsBelow below_side zoom column row f.geometry
-    (All-weaker (λ p. least_of (map y ps) ≤ y p) (λ p. IsBelow (stands_at zoom column row p)) (λ p le. before_first row (least_of (map y ps)) (y p) first le) ps
-    (least_below y ps)))
+    (λ (lt : row < range.y0). rows (inl lt))
     (λ (below : range.y0 ≤ row). ⊎_elim
-    (λ (lt : range.y1 < row).
-    let last : last_met zoom (greatest_of (map y ps)) < row = rw (← y1_is) lt in
-    no_geometry IsAbove above_side zoom column row f.geometry
-    (All-weaker (λ p. y p ≤ greatest_of (map y ps)) (λ p. IsAbove (stands_at zoom column row p))
-    (λ p le. behind_last zoom row (greatest_of (map y ps)) (y p) last down le) ps (greatest_above y ps)))
+    (λ (lt : range.y1 < row). rows (inr lt))
     (λ (above : row ≤ range.y1). absurd (out (record { left = right_of; right = left_of; top = below; bottom = above })))
     (cases_lt range.y1 row))
     (cases_lt row range.y0))

@@ -1,11 +1,11 @@
 -- One pass over a list of points: each is looked at once, with the one before it.
 use Rattle.std.proofs.Common.{◌≡◌, ℕ, ◌*◌, ◌==◌, Bool, true, false, cond, not, ◌&&◌, List, [], ◌∷◌, ◌++◌, Option, Some, None, map, drop, get_or, length, ◌+◌}
-use Rattle.std.proofs.Common.{◌<◌, pos, ◌-ℤ◌, add-one, refl, sym, ap, ◌∙◌, append_assoc, arith}
+use Rattle.std.proofs.Common.{◌<◌, ◌≤◌, pos, ◌-ℤ◌, add-one, refl, sym, ap, ◌∙◌, append_assoc, arith}
 use Rattle.std.specs.Prelude.{filter}
 use Rattle.std.specs.List.{dedup_from}
 use Rattle.std.specs.Ordering.{int_eq}
 use Rattle.std.proofs.Math.Seq.{drop-cons}
-use Rattle.std.proofs.lemmas.List.{append-nil}
+use Rattle.std.proofs.lemmas.List.{append-nil, drop_all}
 use Rattle.std.proofs.lemmas.Int.{ints}
 use Rattle.std.proofs.lemmas.Bool.Decides.{Decides-int_eq, Decides-eqb, Decides-and, Decides-like, same_from_decides}
 use Rattle.feature_model.specs.declared.feature.World.{World}
@@ -69,9 +69,19 @@ tile_points_are zoom column row (p ∷ ps) =
     ∙ sym (positions_after column row (quantised zoom p) (map (quantised zoom) ps))
 
 -- the next point of a list
-pub next_stands : (zoom column row : ℕ) (ps : List World) (i : ℕ) (here : Pt) (d : World) → i < length ps → here ≡ stands_at zoom column row (get_or ps i d)
+next_stands : (zoom column row : ℕ) (ps : List World) (i : ℕ) (here : Pt) (d : World) → i < length ps → here ≡ stands_at zoom column row (get_or ps i d)
     → map (stands_at zoom column row) (drop i ps) ≡ here ∷ map (stands_at zoom column row) (drop (i + 1) ps)
 next_stands zoom column row ps i here d lt e = rw (e, add-one) (ap (map (stands_at zoom column row)) (drop-cons ps i d lt))
+
+-- a pass at the next point of a list, and at the list's end
+pub stands_next : {X : Type 0} (F : List Pt → X) (zoom column row : ℕ) (ps : List World) (i : ℕ) (here : Pt) (d : World) (whole : X) → i < length ps
+    → here ≡ stands_at zoom column row (get_or ps i d) → F (map (stands_at zoom column row) (drop i ps)) ≡ whole
+    → F (here ∷ map (stands_at zoom column row) (drop (i + 1) ps)) ≡ whole
+stands_next F zoom column row ps i here d whole lt e so_far = ap F (sym (next_stands zoom column row ps i here d lt e)) ∙ so_far
+
+pub stands_end : {X : Type 0} (F : List Pt → X) (zoom column row : ℕ) (ps : List World) (i : ℕ) (whole : X) → length ps ≤ i
+    → F (map (stands_at zoom column row) (drop i ps)) ≡ whole → F [] ≡ whole
+stands_end F zoom column row ps i whole past so_far = ap (λ r. F (map (stands_at zoom column row) r)) (sym (drop_all i ps past)) ∙ so_far
 
 -- ---- points
 

@@ -23,6 +23,7 @@ use Rattle.tile_cutter.specs.Cut.{polygons_cut, unless_empty, geometry_cut, show
 use Rattle.tile_cutter.specs.Range.{IsOfSide, IsOfTile, IsDrawable}
 use Rattle.tile_cutter.proofs.Drawn.{line_drawable, points_of_tile}
 use Rattle.tile_cutter.proofs.Each.{each_all}
+use Rattle.tile_cutter.proofs.Passes.{stands_at}
 use Rattle.tile_cutter.proofs.Kept.{ring_keeps, length_ring, stands_in_tile}
 use Rattle.tile_cutter.proofs.Spelled.{spelled_points, spelled_lines, length_points_cut}
 use Rattle.tile_cutter.proofs.Turned.{turned_drawable, ring_long}
@@ -54,7 +55,8 @@ module _ (zoom column row : ℕ) (allowed : zoom ≤ GREATEST_ZOOM) where
   unfolding lines_cut
   lines_drawable ls limits inside =
       each_all (IsDrawable false column row) (line_cut zoom column row) ls
-      (λ k d lt. line_drawable zoom column row (get_or ls k d) allowed (limits k d lt).1 (inside k d lt))
+      (λ k d lt. line_drawable zoom column row (get_or ls k d) (omega (arith, (limits k d lt).1))
+      (All-weaker IsOfWorld (λ p. IsOfTile column row (stands_at zoom column row p)) (stands_in_tile zoom column row allowed) (get_or ls k d) (inside k d lt)))
 
   -- a ring of three points or more that has an area
   ring_drawable : (ps : List World) → CountFits 3 ps → All IsOfWorld ps → is_ring (tile_ring zoom column row ps) ≡ true

@@ -1,7 +1,7 @@
 ghost use Rattle.std.specs.Prelude.{◌≡◌, ◌<◌, ◌≤◌, ◌^◌};
 ghost use Rattle.tile_cutter.specs.Cut.{quantised_axis, quantised, position_in};
 ghost use Rattle.tile_cutter.specs.Passes.{repeats};
-ghost use Rattle.feature_model.specs.Types.{IsOfWorld};
+ghost use Rattle.tile_cutter.specs.Range.{IsOfTile};
 
 use feature_model::{GREATEST_ZOOM, World};
 use geometry_commands::Pt;
@@ -30,7 +30,7 @@ pub(crate) fn quantise(coordinate: u32, zoom: u8) -> u32
 pub(crate) fn position(point: World, at: TileAt) -> Pt
     requires { at.z ≤ GREATEST_ZOOM }
     ensures position { result ≡ position_in at.x at.y (quantised at.z point) }
-    ensures in_world { IsOfWorld point }
+    ensures of_tile { IsOfTile at.x at.y result }
 {
     let extent = i64::from(EXTENT);
     Pt {

@@ -64,7 +64,8 @@ fn cut_line(
     requires zoom { at.z ≤ GREATEST_ZOOM }
     requires limits { CountFits 2 line.now }
     ensures chains { OnOk result (lists_of chains.new.items ≡ lists_of chains.old.items ++ line_cut at.z at.x at.y line.now) }
-    ensures drawable { OnOk result (All (IsDrawable false at.x at.y) (line_cut at.z at.x at.y line.now)) }
+    ensures drawable { OnOk result (All (IsDrawable false at.x at.y) (lists_of chains.old.items)
+        → All (IsDrawable false at.x at.y) (lists_of chains.new.items)) }
 {
     let mut chain = Vec::new(alloc);
     let mut before = None;
@@ -84,7 +85,7 @@ fn cut_lines(alloc: Global, lines: &[Vec<World>], at: TileAt) -> Result<Vec<Vec<
     requires zoom { at.z ≤ GREATEST_ZOOM }
     requires limits { All (CountFits 2) (lists_of lines.now) }
     ensures chains { IfOk result (λ v. lists_of v.items ≡ lines_cut at.z at.x at.y (lists_of lines.now)) }
-    ensures drawable { OnOk result (All (IsDrawable false at.x at.y) (lines_cut at.z at.x at.y (lists_of lines.now))) }
+    ensures drawable { IfOk result (λ v. All (IsDrawable false at.x at.y) (lists_of v.items)) }
 {
     let mut chains = Vec::new(alloc);
     for line in lines {

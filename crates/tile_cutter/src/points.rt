@@ -1,4 +1,4 @@
-ghost use Rattle.std.specs.Prelude.{◌≡◌, ◌≤◌, option_map, All, IfOk, IfSome, OnOk};
+ghost use Rattle.std.specs.Prelude.{◌≡◌, ◌≤◌, option_map, All, IfOk, IfSome};
 ghost use Rattle.feature_model.specs.Limits.{CountFits};
 ghost use Rattle.geometry_commands.specs.Encodable.{CanSpell};
 ghost use Rattle.geometry_commands.specs.Shapes as shapes;
@@ -25,7 +25,7 @@ fn is_shown(before: Option<Pt>, here: Pt) -> bool
 fn cut_points(alloc: Global, points: &[World], at: TileAt) -> Result<Vec<Pt>, AllocError>
     requires { at.z ≤ GREATEST_ZOOM }
     ensures points { IfOk result (λ v. v.items ≡ points_cut at.z at.x at.y points.now) }
-    ensures of_tile { OnOk result (All (IsOfTile at.x at.y) (points_cut at.z at.x at.y points.now)) }
+    ensures of_tile { IfOk result (λ v. All (IsOfTile at.x at.y) v.items) }
 {
     let mut shown = Vec::new(alloc);
     let mut before = None;

@@ -5,8 +5,7 @@ ghost use Rattle.geometry_commands.specs.Shapes as shapes;
 ghost use Rattle.geometry_commands.specs.Shapes.{shape_view};
 ghost use Rattle.tile_cutter.specs.Cut.{tile_ring, cross, twice_area, turned, inner_rings, polygon_cut, polygons_cut, unless_empty};
 ghost use Rattle.tile_cutter.specs.Passes.{returns_to_start, wound, shown_ring, lists_of};
-ghost use Rattle.feature_model.specs.Types.{IsOfWorld};
-ghost use Rattle.tile_cutter.specs.Range.{IsWithin, IsSmall, IsDrawable};
+ghost use Rattle.tile_cutter.specs.Range.{IsWithin, IsSmall, IsOfTile, IsDrawable};
 
 use crate::bounds::ring_meets_box;
 use crate::coordinates::{position, repeats};
@@ -38,7 +37,7 @@ fn returns_to_start(ring: &[Pt]) -> bool
 fn tile_ring(alloc: Global, points: &[World], at: TileAt) -> Result<Vec<Pt>, AllocError>
     requires { at.z ≤ GREATEST_ZOOM }
     ensures ring { IfOk result (λ v. v.items ≡ tile_ring at.z at.x at.y points.now) }
-    ensures in_world { OnOk result (All IsOfWorld points.now) }
+    ensures of_tile { IfOk result (λ v. All (IsOfTile at.x at.y) v.items) }
 {
     let mut ring = Vec::new(alloc);
     let mut before = None;
@@ -132,7 +131,7 @@ fn shown_ring(
     requires zoom { at.z ≤ GREATEST_ZOOM }
     requires few { length points.now < 2 ^ 29 }
     ensures ring { IfOk result (λ o. option_map (λ v. v.items) o ≡ shown_ring role (tile_ring at.z at.x at.y points.now)) }
-    ensures drawable { OnOk result (All (IsDrawable true at.x at.y) (option_to_list (shown_ring role (tile_ring at.z at.x at.y points.now)))) }
+    ensures drawable { IfOk result (λ o. IfSome o (λ v. IsDrawable true at.x at.y v.items)) }
 {
     let ring = tile_ring(alloc, points, at)?;
     if role == Role::Outer && !ring_meets_box(&ring) {
@@ -161,7 +160,8 @@ fn cut_inner_rings(
     requires zoom { at.z ≤ GREATEST_ZOOM }
     requires limits { All (CountFits 3) (lists_of inners.now) }
     ensures rings { OnOk result (lists_of shown.new.items ≡ lists_of shown.old.items ++ inner_rings at.z at.x at.y (lists_of inners.now)) }
-    ensures drawable { OnOk result (All (IsDrawable true at.x at.y) (inner_rings at.z at.x at.y (lists_of inners.now))) }
+    ensures drawable { OnOk result (All (IsDrawable true at.x at.y) (lists_of shown.old.items)
+        → All (IsDrawable true at.x at.y) (lists_of shown.new.items)) }
 {
     for inner in inners {
         let ring = shown_ring(alloc, inner, at, Role::Inner)?;
@@ -180,7 +180,8 @@ fn cut_polygon(
     requires zoom { at.z ≤ GREATEST_ZOOM }
     requires limits { RingsFit (lists_of polygon.now) }
     ensures rings { OnOk result (lists_of shown.new.items ≡ lists_of shown.old.items ++ polygon_cut at.z at.x at.y (lists_of polygon.now)) }
-    ensures drawable { OnOk result (All (IsDrawable true at.x at.y) (polygon_cut at.z at.x at.y (lists_of polygon.now))) }
+    ensures drawable { OnOk result (All (IsDrawable true at.x at.y) (lists_of shown.old.items)
+        → All (IsDrawable true at.x at.y) (lists_of shown.new.items)) }
 {
     let Some((outer, inners)) = polygon.split_first() else {
         return Ok(());
@@ -201,7 +202,7 @@ fn cut_polygons(
     requires zoom { at.z ≤ GREATEST_ZOOM }
     requires limits { All RingsFit (map (λ p. lists_of p.items) polygons.now) }
     ensures rings { IfOk result (λ v. lists_of v.items ≡ polygons_cut at.z at.x at.y (map (λ p. lists_of p.items) polygons.now)) }
-    ensures drawable { OnOk result (All (IsDrawable true at.x at.y) (polygons_cut at.z at.x at.y (map (λ p. lists_of p.items) polygons.now))) }
+    ensures drawable { IfOk result (λ v. All (IsDrawable true at.x at.y) (lists_of v.items)) }
 {
     let mut shown = Vec::new(alloc);
     for polygon in polygons {
