@@ -1,4 +1,4 @@
-ghost use Rattle.std.specs.Prelude.{◌≡◌, ℕ, [], ◌*◌, ◌<◌, ◌≤◌, ◌≢◌, ◌↔◌, length, Some, IsSome, None, IfOk, OnOk, OnErr, IsTrue, option_map};
+ghost use Rattle.std.specs.Prelude.{◌≡◌, ℕ, [], ◌*◌, ◌<◌, ◌≢◌, ◌↔◌, length, Some, IsSome, None, IfOk, OnOk, OnErr, IsTrue, option_map};
 ghost use Rattle.feature_model.specs.Data.{feature_data, put};
 ghost use Rattle.feature_model.specs.Types.{IsEdit};
 ghost use Rattle.mvt_layer.specs.Tile.{layer_views};
