@@ -25,7 +25,7 @@ const TAGS: usize = 64;
 /// The most bytes of a tag's text.
 const TEXT_LEN: usize = 1024;
 /// The most bytes of an edit's text.
-const EDIT_LEN: u64 = 32_768;
+pub const MOST_EDIT_BYTES: u64 = 32_768;
 
 /// Whether a name has 1 to 64 bytes.
 fn is_name(name: &str) -> bool
@@ -151,7 +151,7 @@ pub fn check(id: u64, feature: &Feature) -> Result<(), EditFault>
     if !values_fit(&feature.tags) {
         return Err(EditFault::Value);
     }
-    if put_text_len(feature) > EDIT_LEN {
+    if put_text_len(feature) > MOST_EDIT_BYTES {
         return Err(EditFault::Long);
     }
     Ok(())

@@ -1,5 +1,6 @@
 -- Entries and the map that they keep.
-use Rattle.std.proofs.Common.{length-set, ◌+◌, ◌≡◌, ℕ, suc, All, subst, ◌-◌, ◌<◌, ◌≤◌, ◌⊎◌, List, length, get_or, set, Some, IsSome, sym, ap, ◌∙◌, inl, inr, arith}
+use Rattle.std.proofs.Common.{length-set, ◌+◌, ◌≡◌, ℕ, suc, All, subst, ◌-◌, ◌<◌, ◌≤◌, ◌⊎◌, List, length, get_or, set, Some, IsSome, sym, ap, ◌∙◌, inl, inr}
+use Rattle.std.proofs.Common.{arith}
 use Rattle.std.specs.List.{insert, remove}
 use Rattle.std.proofs.lemmas.List.{length-map, map-set, map-append, take-map, drop-map, get_or-map}
 use mathlib.Core.Bool.{false≢true}
@@ -12,8 +13,9 @@ use Rattle.feature_store.specs.declared.limit.TheConstants.{TEXTS_END}
 use Rattle.feature_store.specs.declared.entry.Entry.{Entry}
 use Rattle.feature_store.specs.Inside.{entry_data, entries_data}
 use Rattle.feature_store.specs.Store.{FeatureMap, IsMap, feature_at, with_feature, without_feature, snapshot}
-use Rattle.feature_store.specs.Places.{StandsAt, IsGapFor}
-use Rattle.feature_store.proofs.Maps.{stands_in, gap_in, feature_at_stands, feature_at_gap, with_feature_stands, with_feature_gap, without_feature_stands, IsMap-with_feature}
+use Rattle.feature_store.specs.Positions.{StandsAt, IsGapFor}
+use Rattle.feature_store.proofs.Maps.{stands_in, gap_in, feature_at_stands, feature_at_gap, with_feature_stands, with_feature_gap, without_feature_stands}
+use Rattle.feature_store.proofs.Maps.{IsMap-with_feature}
 
 module _ (es : List Entry) (id i : ℕ) where
   pub in_entries : StandsAt (entries_data es) id i → i < length es
@@ -50,10 +52,12 @@ module _ (es : List Entry) (id i : ℕ) where
     abbrev pub IsShortWith : Type 0
     IsShortWith = length (snapshot (with_feature (entries_data es) id (feature_data f))) < TEXTS_END
 
-    pub IsMap-set_there : IsMap (entries_data es) → IsEdit (put id (feature_data f)) → IsShortWith → StandsAt (entries_data es) id i → IsMap (entries_data (set es i entry))
+    pub IsMap-set_there : IsMap (entries_data es) → IsEdit (put id (feature_data f)) → IsShortWith → StandsAt (entries_data es) id i
+        → IsMap (entries_data (set es i entry))
     IsMap-set_there is_map edit short h = rw (set_there h) (IsMap-with_feature _ id _ is_map edit short)
 
-    pub IsMap-insert_there : IsMap (entries_data es) → IsEdit (put id (feature_data f)) → IsShortWith → IsGapFor (entries_data es) id i → IsMap (entries_data (insert es i entry))
+    pub IsMap-insert_there : IsMap (entries_data es) → IsEdit (put id (feature_data f)) → IsShortWith → IsGapFor (entries_data es) id i
+        → IsMap (entries_data (insert es i entry))
     IsMap-insert_there is_map edit short h = rw (insert_there h) (IsMap-with_feature _ id _ is_map edit short)
 
   pub remove_there : StandsAt (entries_data es) id i → entries_data (remove es i) ≡ without_feature (entries_data es) id

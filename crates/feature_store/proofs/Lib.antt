@@ -1,9 +1,10 @@
 mod Entries
+pub mod Laws
 mod Listed
 mod Maps
 mod Names
 mod Numbers
-mod Places
+mod Positions
 mod Shown
 mod Sizes
 pub mod Snapshots

@@ -1,5 +1,6 @@
 -- What is gathered for a tile is the tile's list of layers.
-use Rattle.std.proofs.Common.{◌≡◌, ℕ, zero, suc, ◌⊎◌, inl, inr, ◌<◌, Bool, true, false, cond, List, [], ◌∷◌, length, map, Option, Some, None, Result, Ok, Err, IfOk, IsSome, is_some, IfSome, All, Vec, Bor, refl, sym, ap, subst, ◌∙◌, arith}
+use Rattle.std.proofs.Common.{◌≡◌, ℕ, zero, suc, ◌⊎◌, inl, inr, ◌<◌, Bool, true, false, cond, List, [], ◌∷◌, length, map, Option, Some, None, Result, Ok, Err}
+use Rattle.std.proofs.Common.{IfOk, IsSome, is_some, IfSome, All, Vec, Bor, refl, sym, ap, subst, ◌∙◌, arith}
 use mathlib.Core.Bool.{false≢true}
 use Rattle.std.specs.Option.{option_map_or}
 use Rattle.std.specs.Str.{bytes_eq}
@@ -53,17 +54,22 @@ found_named : (es : Entries) (name : List ℕ) → is_some (lookup (is_name name
 found_named [] name h = absurd (false≢true h)
 found_named (e ∷ es) name h = by (is_name name e.0) refl (found_named es name)
   where
-    by : (b : Bool) → is_name name e.0 ≡ b → (is_some (lookup (is_name name) es) ≡ true → Contains (names_of (map layer_of es)) name) → Contains (names_of (map layer_of (e ∷ es))) name
-    by true is rest = subst (λ n. Contains (names_of (map layer_of (e ∷ es))) n) (sym (same_name name e.0.now is)) (contains_here e.0.now (names_of (map layer_of es)))
-    by false is rest = contains_on e.0.now (names_of (map layer_of es)) name (rest (sym (ap (λ b. is_some (cond b (Some e.1) (lookup (is_name name) es))) is) ∙ h))
+    by : (b : Bool) → is_name name e.0 ≡ b → (is_some (lookup (is_name name) es) ≡ true → Contains (names_of (map layer_of es)) name)
+        → Contains (names_of (map layer_of (e ∷ es))) name
+    by true is rest =
+        subst (λ n. Contains (names_of (map layer_of (e ∷ es))) n) (sym (same_name name e.0.now is)) (contains_here e.0.now (names_of (map layer_of es)))
+    by false is rest =
+        contains_on e.0.now (names_of (map layer_of es)) name (rest (sym (ap (λ b. is_some (cond b (Some e.1) (lookup (is_name name) es))) is) ∙ h))
 
 -- the names of layers ascend as the keys do
-names_ascend : (es : Entries) → IsStrictlySortedBy (λ a b. slice_cmp nat_cmp a.now b.now) (keys_of es) → IsStrictlySortedBy (slice_cmp nat_cmp) (names_of (map layer_of es))
+names_ascend : (es : Entries) → IsStrictlySortedBy (λ a b. slice_cmp nat_cmp a.now b.now) (keys_of es)
+    → IsStrictlySortedBy (slice_cmp nat_cmp) (names_of (map layer_of es))
 unfolding IsStrictlySortedBy
 names_ascend [] s = tt
 names_ascend (e ∷ es) s = (along es s.0, names_ascend es s.1)
   where
-    along : (fs : Entries) → AllByRecursion (λ k. slice_cmp nat_cmp e.0.now k.now ≡ Less) (keys_of fs) → AllByRecursion (λ n. slice_cmp nat_cmp e.0.now n ≡ Less) (names_of (map layer_of fs))
+    along : (fs : Entries) → AllByRecursion (λ k. slice_cmp nat_cmp e.0.now k.now ≡ Less) (keys_of fs)
+        → AllByRecursion (λ n. slice_cmp nat_cmp e.0.now n ≡ Less) (names_of (map layer_of fs))
     along [] a = tt
     along (f ∷ fs) a = (a.0, along fs a.1)
 
@@ -78,7 +84,8 @@ longer : (o : Option FeatureView) (fs : List FeatureView) → 0 < length fs → 
 longer None fs h = h
 longer (Some f) fs h = omega arith
 
-first_among : (z x y : ℕ) (e : ℕ × FeatureData) (m : FeatureMap) (o : Option FeatureView) → feature_cut e.1 z x y ≡ o → is_some o ≡ true → 0 < length (cuts_of (e ∷ m) e.1.layer z x y)
+first_among : (z x y : ℕ) (e : ℕ × FeatureData) (m : FeatureMap) (o : Option FeatureView) → feature_cut e.1 z x y ≡ o → is_some o ≡ true
+    → 0 < length (cuts_of (e ∷ m) e.1.layer z x y)
 first_among z x y e m None is h = absurd (false≢true h)
 first_among z x y e m (Some v) is h =
     let same : bytes_eq e.1.layer e.1.layer ≡ true = (bytes_eq-Decides e.1.layer e.1.layer).1 refl in
@@ -89,11 +96,13 @@ shown_among z x y [] = All-nil (IsAmong [] z x y)
 shown_among z x y (e ∷ m) =
     All-cons (IsAmong (e ∷ m) z x y) e m
     (first_among z x y e m (feature_cut e.1 z x y) refl)
-    (All-weaker (IsAmong m z x y) (IsAmong (e ∷ m) z x y) (λ f shown there. longer (cut_for f.1.layer z x y e) (cuts_of m f.1.layer z x y) (shown there)) m (shown_among z x y m))
+    (All-weaker (IsAmong m z x y) (IsAmong (e ∷ m) z x y) (λ f shown there. longer (cut_for f.1.layer z x y e) (cuts_of m f.1.layer z x y) (shown there)) m
+    (shown_among z x y m))
 
 -- ---- all of it
 
-module _ (m : FeatureMap) (z x y : ℕ) (g : Gathered) (cuts : (name : List ℕ) → gathered_for g name ≡ cuts_of m name z x y) (ordered : IsOrdered (λ a b. slice_cmp nat_cmp a.now b.now) g) where
+module _ (m : FeatureMap) (z x y : ℕ) (g : Gathered) (cuts : (name : List ℕ) → gathered_for g name ≡ cuts_of m name z x y)
+    (ordered : IsOrdered (λ a b. slice_cmp nat_cmp a.now b.now) g) where
   -- what a name finds is what stands there
   abbrev pub IsFound : Bor (List ℕ) × Vec TileFeature Global → Type 0
   IsFound e = lookup (is_name e.0.now) g.entries ≡ Some e.1
@@ -123,7 +132,9 @@ module _ (m : FeatureMap) (z x y : ℕ) (g : Gathered) (cuts : (name : List ℕ)
   are_layers no_empty = record {
     ascending = names_ascend g.entries ordered;
     layers = All-map (IsLayer m z x y) layer_of g.entries (All-weaker IsFound (λ e. IsLayer m z x y (layer_of e)) (layer_is no_empty) g.entries found);
-    every = All-weaker (IsAmong m z x y) (λ e. IsSome (feature_cut e.1 z x y) → Contains (names_of (layers_of g)) e.1.layer) (λ e shown there. named e.1.layer (shown there)) m (shown_among z x y m);
+    every =
+        All-weaker (IsAmong m z x y) (λ e. IsSome (feature_cut e.1 z x y) → Contains (names_of (layers_of g)) e.1.layer)
+        (λ e shown there. named e.1.layer (shown there)) m (shown_among z x y m);
   }
 
 -- what holds of the layers of what is gathered holds of the list of them

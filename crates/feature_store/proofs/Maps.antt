@@ -1,4 +1,4 @@
--- What a place in a map says of the map, and what is kept when a number is set or taken away.
+-- What a position in a map says of the map, and what is kept when a number is set or taken away.
 use Rattle.std.proofs.Common.{◌≡◌, ◌≢◌, ℕ, zero, suc, ◌<◌, ◌≤◌, cond, [], ◌∷◌, length, get_or, set, Some, None, refl, sym, ap, subst, ◌∙◌, arith}
 use Rattle.std.specs.List.{All, insert, remove, AllByRecursion}
 use Rattle.std.specs.List.Sorted.{IsStrictlySortedBy}
@@ -13,7 +13,7 @@ use Rattle.feature_model.specs.Data.{put}
 use Rattle.feature_model.specs.Types.{IsEdit}
 use Rattle.feature_store.specs.declared.limit.TheConstants.{TEXTS_END}
 use Rattle.feature_store.specs.Store.{FeatureMap, IsMap, feature_at, with_feature, without_feature, snapshot}
-use Rattle.feature_store.specs.Places.{StandsAt, IsGapFor}
+use Rattle.feature_store.specs.Positions.{StandsAt, IsGapFor}
 use Rattle.feature_store.proofs.Numbers.{less, equal, greater, below, at_same, at_other, by_order}
 
 -- the numbers of a map ascend
@@ -48,10 +48,11 @@ removed_here n e m h = ap (λ b. cond b m (e ∷ remove_entry (is_at (nat_cmp n)
 pub removed_on : (n : ℕ) (e : ℕ × FeatureData) (m : FeatureMap) → n ≢ e.0 → remove_entry (is_at (nat_cmp n)) (e ∷ m) ≡ e ∷ remove_entry (is_at (nat_cmp n)) m
 removed_on n e m h = ap (λ b. cond b m (e ∷ remove_entry (is_at (nat_cmp n)) m)) (at_other n e.0 h)
 
-pub set_step : (n : ℕ) (f : FeatureData) (e : ℕ × FeatureData) (m : FeatureMap) (o : Ordering) → nat_cmp n e.0 ≡ o → insert_entry nat_cmp (e ∷ m) n f ≡ match_ordering o ((n, f) ∷ e ∷ m) ((e.0, f) ∷ m) (e ∷ insert_entry nat_cmp m n f)
+pub set_step : (n : ℕ) (f : FeatureData) (e : ℕ × FeatureData) (m : FeatureMap) (o : Ordering) → nat_cmp n e.0 ≡ o
+    → insert_entry nat_cmp (e ∷ m) n f ≡ match_ordering o ((n, f) ∷ e ∷ m) ((e.0, f) ∷ m) (e ∷ insert_entry nat_cmp m n f)
 set_step n f e m o h = ap (λ r. match_ordering r ((n, f) ∷ e ∷ m) ((e.0, f) ∷ m) (e ∷ insert_entry nat_cmp m n f)) h
 
--- ---- at a place
+-- ---- at a position
 
 pub lookup_stands : (m : FeatureMap) (id i : ℕ) (d : ℕ × FeatureData) → StandsAt m id i → lookup (is_at (nat_cmp id)) m ≡ Some (get_or m i d).1
 lookup_stands [] id i d h = absurd h
@@ -101,7 +102,8 @@ remove_gap (e ∷ m) id (suc i) s h = removed_on id e m (λ t. omega (arith, h.0
 
 -- ---- what is kept
 
-keys_set : (P : ℕ → Type 0) (m : FeatureMap) (id : ℕ) (f : FeatureData) → P id → AllByRecursion P (keys_of m) → AllByRecursion P (keys_of (insert_entry nat_cmp m id f))
+keys_set : (P : ℕ → Type 0) (m : FeatureMap) (id : ℕ) (f : FeatureData) → P id → AllByRecursion P (keys_of m)
+    → AllByRecursion P (keys_of (insert_entry nat_cmp m id f))
 keys_set P [] id f p a = (p, tt)
 keys_set P (e ∷ m) id f p a =
     let Q : FeatureMap → Type 0 = λ n. AllByRecursion P (keys_of n) in
@@ -116,14 +118,16 @@ ascends_set [] id f s = (tt, tt)
 ascends_set (e ∷ m) id f s = by_order id e.0
     (λ h. subst Ascends (sym (set_step id f e m Less (less id e.0 h))) ((less id e.0 h, raised m id e.0 h s.0), s))
     (λ h. subst Ascends (sym (set_step id f e m Equal (equal id e.0 h))) s)
-    (λ h. subst Ascends (sym (set_step id f e m Greater (greater id e.0 h))) (keys_set (λ k. nat_cmp e.0 k ≡ Less) m id f (less e.0 id h) s.0, ascends_set m id f s.1))
+    (λ h. subst Ascends (sym (set_step id f e m Greater (greater id e.0 h)))
+    (keys_set (λ k. nat_cmp e.0 k ≡ Less) m id f (less e.0 id h) s.0, ascends_set m id f s.1))
 
 pub All-set_entry : (P : ℕ × FeatureData → Type 0) (m : FeatureMap) (id : ℕ) (f : FeatureData) → P (id, f) → All P m → All P (insert_entry nat_cmp m id f)
 All-set_entry P [] id f p a = All-cons P (id, f) [] p a
 All-set_entry P (e ∷ m) id f p a = by_order id e.0
     (λ h. subst (All P) (sym (set_step id f e m Less (less id e.0 h))) (All-cons P (id, f) (e ∷ m) p a))
     (λ h. subst (All P) (sym (set_step id f e m Equal (equal id e.0 h))) (All-cons P (e.0, f) m (subst (λ k. P (k, f)) h p) (All-tail P e m a)))
-    (λ h. subst (All P) (sym (set_step id f e m Greater (greater id e.0 h))) (All-cons P e (insert_entry nat_cmp m id f) (All-head P e m a) (All-set_entry P m id f p (All-tail P e m a))))
+    (λ h. subst (All P) (sym (set_step id f e m Greater (greater id e.0 h)))
+    (All-cons P e (insert_entry nat_cmp m id f) (All-head P e m a) (All-set_entry P m id f p (All-tail P e m a))))
 
 keys_removed : (P : ℕ → Type 0) (m : FeatureMap) (id : ℕ) → AllByRecursion P (keys_of m) → AllByRecursion P (keys_of (remove_entry (is_at (nat_cmp id)) m))
 keys_removed P [] id a = tt
@@ -136,13 +140,16 @@ pub ascends_removed : (m : FeatureMap) (id : ℕ) → Ascends m → Ascends (rem
 unfolding IsStrictlySortedBy
 ascends_removed [] id s = tt
 ascends_removed (e ∷ m) id s =
-    let on : (id ≢ e.0) → Ascends (remove_entry (is_at (nat_cmp id)) (e ∷ m)) = λ h. subst Ascends (sym (removed_on id e m h)) (keys_removed (λ k. nat_cmp e.0 k ≡ Less) m id s.0, ascends_removed m id s.1) in
+    let on : (id ≢ e.0) → Ascends (remove_entry (is_at (nat_cmp id)) (e ∷ m)) =
+    λ h. subst Ascends (sym (removed_on id e m h)) (keys_removed (λ k. nat_cmp e.0 k ≡ Less) m id s.0, ascends_removed m id s.1) in
     by_order id e.0 (λ h. on (λ t. omega arith)) (λ h. subst Ascends (sym (removed_here id e m h)) s.1) (λ h. on (λ t. omega arith))
 
 pub All-removed_entry : (P : ℕ × FeatureData → Type 0) (m : FeatureMap) (id : ℕ) → All P m → All P (remove_entry (is_at (nat_cmp id)) m)
 All-removed_entry P [] id a = a
 All-removed_entry P (e ∷ m) id a =
-    let on : (id ≢ e.0) → All P (remove_entry (is_at (nat_cmp id)) (e ∷ m)) = λ h. subst (All P) (sym (removed_on id e m h)) (All-cons P e (remove_entry (is_at (nat_cmp id)) m) (All-head P e m a) (All-removed_entry P m id (All-tail P e m a))) in
+    let on : (id ≢ e.0) → All P (remove_entry (is_at (nat_cmp id)) (e ∷ m)) =
+    λ h. subst (All P) (sym (removed_on id e m h))
+    (All-cons P e (remove_entry (is_at (nat_cmp id)) m) (All-head P e m a) (All-removed_entry P m id (All-tail P e m a))) in
     by_order id e.0 (λ h. on (λ t. omega arith)) (λ h. subst (All P) (sym (removed_here id e m h)) (All-tail P e m a)) (λ h. on (λ t. omega arith))
 
 -- ---- what is found afterwards
@@ -154,13 +161,16 @@ lookup_set_same (e ∷ m) id f =
     by_order id e.0
     (λ h. subst Q (sym (set_step id f e m Less (less id e.0 h))) (lookup_here id (id, f) (e ∷ m) refl))
     (λ h. subst Q (sym (set_step id f e m Equal (equal id e.0 h))) (lookup_here id (e.0, f) m h))
-    (λ h. subst Q (sym (set_step id f e m Greater (greater id e.0 h))) (lookup_on id e (insert_entry nat_cmp m id f) (λ s. omega arith) ∙ lookup_set_same m id f))
+    (λ h. subst Q (sym (set_step id f e m Greater (greater id e.0 h)))
+    (lookup_on id e (insert_entry nat_cmp m id f) (λ s. omega arith) ∙ lookup_set_same m id f))
 
 -- one entry more, or another one, changes nothing where both give the same behind it
-lookup_past : (n : ℕ) (e : ℕ × FeatureData) (m k : FeatureMap) → lookup (is_at (nat_cmp n)) m ≡ lookup (is_at (nat_cmp n)) k → lookup (is_at (nat_cmp n)) (e ∷ m) ≡ lookup (is_at (nat_cmp n)) (e ∷ k)
+lookup_past : (n : ℕ) (e : ℕ × FeatureData) (m k : FeatureMap) → lookup (is_at (nat_cmp n)) m ≡ lookup (is_at (nat_cmp n)) k
+    → lookup (is_at (nat_cmp n)) (e ∷ m) ≡ lookup (is_at (nat_cmp n)) (e ∷ k)
 lookup_past n e m k h = ap (λ v. cond (is_at (nat_cmp n) e.0) (Some e.1) v) h
 
-pub lookup_set_other : (m : FeatureMap) (id : ℕ) (f : FeatureData) (n : ℕ) → n ≢ id → lookup (is_at (nat_cmp n)) (insert_entry nat_cmp m id f) ≡ lookup (is_at (nat_cmp n)) m
+pub lookup_set_other : (m : FeatureMap) (id : ℕ) (f : FeatureData) (n : ℕ) → n ≢ id
+    → lookup (is_at (nat_cmp n)) (insert_entry nat_cmp m id f) ≡ lookup (is_at (nat_cmp n)) m
 lookup_set_other [] id f n d = lookup_on n (id, f) [] d
 lookup_set_other (e ∷ m) id f n d =
     let Q : FeatureMap → Type 0 = λ k. lookup (is_at (nat_cmp n)) k ≡ lookup (is_at (nat_cmp n)) (e ∷ m) in
@@ -174,15 +184,20 @@ unfolding IsStrictlySortedBy
 lookup_removed_same [] id s = refl
 lookup_removed_same (e ∷ m) id s =
     let Q : FeatureMap → Type 0 = λ n. lookup (is_at (nat_cmp id)) n ≡ None in
-    let on : (id ≢ e.0) → Q (remove_entry (is_at (nat_cmp id)) (e ∷ m)) = λ h. subst Q (sym (removed_on id e m h)) (lookup_on id e (remove_entry (is_at (nat_cmp id)) m) h ∙ lookup_removed_same m id s.1) in
-    by_order id e.0 (λ h. on (λ t. omega arith)) (λ h. subst Q (sym (removed_here id e m h)) (lookup_above m id (subst (λ k. AreAbove k m) (sym h) s.0))) (λ h. on (λ t. omega arith))
+    let on : (id ≢ e.0) → Q (remove_entry (is_at (nat_cmp id)) (e ∷ m)) =
+    λ h. subst Q (sym (removed_on id e m h)) (lookup_on id e (remove_entry (is_at (nat_cmp id)) m) h ∙ lookup_removed_same m id s.1) in
+    by_order id e.0 (λ h. on (λ t. omega arith)) (λ h. subst Q (sym (removed_here id e m h)) (lookup_above m id (subst (λ k. AreAbove k m) (sym h) s.0)))
+    (λ h. on (λ t. omega arith))
 
-pub lookup_removed_other : (m : FeatureMap) (id n : ℕ) → n ≢ id → lookup (is_at (nat_cmp n)) (remove_entry (is_at (nat_cmp id)) m) ≡ lookup (is_at (nat_cmp n)) m
+pub lookup_removed_other : (m : FeatureMap) (id n : ℕ) → n ≢ id
+    → lookup (is_at (nat_cmp n)) (remove_entry (is_at (nat_cmp id)) m) ≡ lookup (is_at (nat_cmp n)) m
 lookup_removed_other [] id n d = refl
 lookup_removed_other (e ∷ m) id n d =
     let Q : FeatureMap → Type 0 = λ k. lookup (is_at (nat_cmp n)) k ≡ lookup (is_at (nat_cmp n)) (e ∷ m) in
-    let on : (id ≢ e.0) → Q (remove_entry (is_at (nat_cmp id)) (e ∷ m)) = λ h. subst Q (sym (removed_on id e m h)) (lookup_past n e (remove_entry (is_at (nat_cmp id)) m) m (lookup_removed_other m id n d)) in
-    by_order id e.0 (λ h. on (λ t. omega arith)) (λ h. subst Q (sym (removed_here id e m h)) (sym (lookup_on n e m (λ s. d (s ∙ sym h))))) (λ h. on (λ t. omega arith))
+    let on : (id ≢ e.0) → Q (remove_entry (is_at (nat_cmp id)) (e ∷ m)) =
+    λ h. subst Q (sym (removed_on id e m h)) (lookup_past n e (remove_entry (is_at (nat_cmp id)) m) m (lookup_removed_other m id n d)) in
+    by_order id e.0 (λ h. on (λ t. omega arith)) (λ h. subst Q (sym (removed_here id e m h)) (sym (lookup_on n e m (λ s. d (s ∙ sym h)))))
+    (λ h. on (λ t. omega arith))
 
 -- ---- the words of the store
 
@@ -211,7 +226,8 @@ unfolding without_feature
 without_feature_gap m id i s h = remove_gap m id i s h
 
 -- a feature is set, and the texts are short together then
-pub IsMap-with_feature : (m : FeatureMap) (id : ℕ) (f : FeatureData) → IsMap m → IsEdit (put id f) → length (snapshot (with_feature m id f)) < TEXTS_END → IsMap (with_feature m id f)
+pub IsMap-with_feature : (m : FeatureMap) (id : ℕ) (f : FeatureData) → IsMap m → IsEdit (put id f) → length (snapshot (with_feature m id f)) < TEXTS_END
+    → IsMap (with_feature m id f)
 unfolding with_feature
 IsMap-with_feature m id f is_map edit short = record {
   ascending = ascends_set m id f is_map.ascending;

@@ -10,6 +10,7 @@ use Rattle.std.specs.Cmp.Lexicographic.{slice_cmp}
 use Rattle.std.proofs.lemmas.Cmp.{nat_list_cmp_total}
 use Rattle.std.proofs.lemmas.List.Elements.{All-nil, All-cons, All-weaker}
 use Rattle.feature_model.specs.Data.{FeatureData}
+use Rattle.mvt_layer.specs.declared.layers.TheConstants.{DEFAULT_EXTENT}
 use Rattle.mvt_layer.specs.Tile.{FeatureView, LayerView}
 use Rattle.feature_store.specs.Layers.{cuts_of, with_name, layer_names, layer_with, names_of, IsLayer, AreLayers}
 use Rattle.feature_store.specs.Store.{FeatureMap}
@@ -101,7 +102,8 @@ module _ (m : FeatureMap) (z x y : ℕ) where
   all_named P [] all = tt
   all_named P (n ∷ names) all = by (cuts_of m n z x y) (all_named P names all.1)
     where
-      by : (fs : List FeatureView) → AllByRecursion P (names_of (layers_named names)) → AllByRecursion P (names_of (cons_option (layer_with n fs) (layers_named names)))
+      by : (fs : List FeatureView) → AllByRecursion P (names_of (layers_named names))
+          → AllByRecursion P (names_of (cons_option (layer_with n fs) (layers_named names)))
       by [] rest = rest
       by (f ∷ fs) rest = (all.0, rest)
 
@@ -118,17 +120,20 @@ module _ (m : FeatureMap) (z x y : ℕ) where
   each_layer [] = All-nil (IsLayer m z x y)
   each_layer (n ∷ names) = by (cuts_of m n z x y) refl (each_layer names)
     where
-      by : (fs : List FeatureView) → cuts_of m n z x y ≡ fs → All (IsLayer m z x y) (layers_named names) → All (IsLayer m z x y) (cons_option (layer_with n fs) (layers_named names))
+      by : (fs : List FeatureView) → cuts_of m n z x y ≡ fs → All (IsLayer m z x y) (layers_named names)
+          → All (IsLayer m z x y) (cons_option (layer_with n fs) (layers_named names))
       by [] is rest = rest
       by (f ∷ fs) is rest =
-          All-cons (IsLayer m z x y) (record { name = n; version = 2; extent = 4096; features = f ∷ fs }) (layers_named names)
+          All-cons (IsLayer m z x y) (record { name = n; version = 2; extent = DEFAULT_EXTENT; features = f ∷ fs }) (layers_named names)
           (record { version = refl; extent = refl; some = omega arith; cuts = sym is }) rest
 
-  shown_named : (names : List (List ℕ)) (name : List ℕ) → Contains names name → 0 < length (cuts_of m name z x y) → Contains (names_of (layers_named names)) name
+  shown_named : (names : List (List ℕ)) (name : List ℕ) → Contains names name → 0 < length (cuts_of m name z x y)
+      → Contains (names_of (layers_named names)) name
   shown_named [] name h some = absurd (omega (arith, h.1))
   shown_named (n ∷ names) name h some = by (cuts_of m n z x y) refl (shown_named names name)
     where
-      by : (fs : List FeatureView) → cuts_of m n z x y ≡ fs → (Contains names name → 0 < length (cuts_of m name z x y) → Contains (names_of (layers_named names)) name)
+      by : (fs : List FeatureView) → cuts_of m n z x y ≡ fs
+          → (Contains names name → 0 < length (cuts_of m name z x y) → Contains (names_of (layers_named names)) name)
           → Contains (names_of (cons_option (layer_with n fs) (layers_named names))) name
       by [] is rest = elim (contains_cases n names name h) [
         | inl e ↦ absurd (omega (arith, subst (λ k. 0 < length (cuts_of m k z x y)) (sym e) some, ap length is))

@@ -1,5 +1,6 @@
 -- What a tile shows of a feature that keeps the limits can be written.
-use Rattle.std.proofs.Common.{◌≡◌, ℕ, ◌+◌, ◌<◌, ◌≤◌, Bool, true, false, List, [], ◌∷◌, ◌++◌, length, map, take, get_or, Option, Some, None, refl, sym, ap, ◌∙◌, arith, if◌then◌else◌}
+use Rattle.std.proofs.Common.{◌≡◌, ℕ, ◌+◌, ◌<◌, ◌≤◌, Bool, true, false, List, [], ◌∷◌, ◌++◌, length, map, take, get_or, Option, Some, None, refl, sym, ap, ◌∙◌}
+use Rattle.std.proofs.Common.{arith, if◌then◌else◌}
 use Rattle.std.specs.Option.{option_map}
 use Rattle.std.specs.Str.{bytes_eq}
 use Rattle.std.specs.List.{cons_option}
@@ -19,7 +20,8 @@ use Rattle.feature_store.specs.Layers.{numbered_cut, cut_for, cuts_of}
 use Rattle.feature_store.specs.Store.{FeatureMap}
 use Rattle.feature_store.proofs.Texts.{all_tags}
 
-tags_of_shape : (tags : List TagData) (b : Bool) (o : Option ShapeView) (v : FeatureView) → (if b then option_map (shown_with tags) o else None) ≡ Some v → v.tags ≡ map shown_tag tags
+tags_of_shape : (tags : List TagData) (b : Bool) (o : Option ShapeView) (v : FeatureView) → (if b then option_map (shown_with tags) o else None) ≡ Some v
+    → v.tags ≡ map shown_tag tags
 tags_of_shape tags false o v h = cc
 tags_of_shape tags true None v h = cc
 tags_of_shape tags true (Some s) v h = let same : shown_with tags s ≡ v = cc in sym (ap (λ (f : FeatureView). f.tags) same)
@@ -40,7 +42,8 @@ keys_shown [] = refl
 keys_shown (t ∷ tags) = ap (λ ks. t.key ∷ ks) (keys_shown tags)
 
 -- with its number, it can be written
-pub writable : (id : ℕ) (f : FeatureData) (z x y : ℕ) (v : FeatureView) → IsAllowed id f → feature_cut f z x y ≡ Some v → CanSpell v.shape → CanWriteFeature (record v { id = Some id })
+pub writable : (id : ℕ) (f : FeatureData) (z x y : ℕ) (v : FeatureView) → IsAllowed id f → feature_cut f z x y ≡ Some v → CanSpell v.shape
+    → CanWriteFeature (record v { id = Some id })
 writable id f z x y v allowed cut spelled = record {
   id = refl;
   values = rw (tags_shown f z x y v cut)
@@ -51,8 +54,10 @@ writable id f z x y v allowed cut spelled = record {
 }
 
 -- what a tile shows of a map and one entry more
-pub cuts_of-push : (es : List Entry) (i : ℕ) (e : Entry) (name : List ℕ) (z x y : ℕ) → i < length es → e ≡ get_or es i e → cuts_of (entries_data (take (i + 1) es)) name z x y ≡ cuts_of (entries_data (take i es)) name z x y ++ cuts_of (entry_data e ∷ []) name z x y
-cuts_of-push es i e name z x y lt is = rw (take_more es i e lt, ← is, map-append) (filter_map-append (cut_for name z x y) (entries_data (take i es)) (entry_data e ∷ []))
+pub cuts_of-push : (es : List Entry) (i : ℕ) (e : Entry) (name : List ℕ) (z x y : ℕ) → i < length es → e ≡ get_or es i e
+    → cuts_of (entries_data (take (i + 1) es)) name z x y ≡ cuts_of (entries_data (take i es)) name z x y ++ cuts_of (entry_data e ∷ []) name z x y
+cuts_of-push es i e name z x y lt is =
+    rw (take_more es i e lt, ← is, map-append) (filter_map-append (cut_for name z x y) (entries_data (take i es)) (entry_data e ∷ []))
 
 -- ---- how many tags are shown
 
@@ -78,4 +83,9 @@ tags_in_cuts (e ∷ m) name z x y = by (cut_for name z x y e) refl (tags_in_cuts
         → length (tags_of (cons_option o (cuts_of m name z x y))) ≤ length (all_tags (e ∷ m))
     by None is less = omega (arith, length-append e.1.tags (all_tags m))
     by (Some v) is less =
-        omega (arith, length-append e.1.tags (all_tags m), length-append v.tags (tags_of (cuts_of m name z x y)), cut_for_tags name z x y e (bytes_eq e.1.layer name) v is)
+        omega (
+          arith,
+          length-append e.1.tags (all_tags m),
+          length-append v.tags (tags_of (cuts_of m name z x y)),
+          cut_for_tags name z x y e (bytes_eq e.1.layer name) v is,
+        )

@@ -14,7 +14,8 @@ use Rattle.std.proofs.lemmas.Map.Text.{is_eq-slice_cmp}
 use Rattle.std.proofs.lemmas.Slice.Eq.{bytes_eq-Decides}
 use Rattle.feature_model.specs.Data.{FeatureData, TagData, ValueData, text_value, natural_value, negative_value, truth_value}
 use Rattle.feature_model.specs.Spelled.{spelled_value, spelled_tag}
-use Rattle.feature_model.proofs.TextLengths.{length-text, length-natural, length-negative, length-truth, length-spelled_tag, length-spelled_tags, length-spelled}
+use Rattle.feature_model.proofs.TextLengths.{length-text, length-natural, length-negative, length-truth, length-spelled_tag, length-spelled_tags}
+use Rattle.feature_model.proofs.TextLengths.{length-spelled}
 use Rattle.mvt_layer.specs.Tile.{FeatureView, LayerView}
 use Rattle.mvt_write.specs.Written.{value_written, written}
 use Rattle.mvt_write.proofs.Lengths.{total, tag_size, feature_size, layer_size, length_value, length_written}

@@ -12,6 +12,7 @@ use Rattle.feature_model.specs.Limits.{IsName, keys_of}
 use Rattle.feature_model.specs.Spelled.{spelled, spelled_feature, spelled_name, spelled_value, spelled_tag, spelled_tags, eight_bytes, spelled_geometry}
 use Rattle.feature_model.specs.Types.{IsEdit}
 use Rattle.edit_text.proofs.Decoded.{short_from}
+use Rattle.feature_model.specs.declared.limits.TheConstants.{MOST_EDIT_BYTES}
 use Rattle.feature_store.specs.declared.limit.TheConstants.{TEXTS_END}
 use Rattle.feature_store.specs.Store.{FeatureMap, IsMap, entry_text, snapshot, with_feature, without_feature}
 use Rattle.feature_store.proofs.Maps.{set_step, removed_here, removed_on}
@@ -67,10 +68,16 @@ pub tags_in_snapshot : (m : FeatureMap) → All (λ e. IsEdit (put e.0 e.1)) m �
 tags_in_snapshot [] edits = omega arith
 tags_in_snapshot (e ∷ m) edits =
     let P : ℕ × FeatureData → Type 0 = λ d. IsEdit (put d.0 d.1) in
-    omega (arith, length-append e.1.tags (all_tags m), snapshot_on e m, feature_takes e.0 e.1 (All-head P e m edits).0.tags.names, tags_in_snapshot m (All-tail P e m edits))
+    omega (
+      arith,
+      length-append e.1.tags (all_tags m),
+      snapshot_on e m,
+      feature_takes e.0 e.1 (All-head P e m edits).0.tags.names,
+      tags_in_snapshot m (All-tail P e m edits),
+    )
 
--- each text has at most 32,768 bytes
-pub snapshot_short : (m : FeatureMap) → All (λ e. IsEdit (put e.0 e.1)) m → length (snapshot m) ≤ 32768 * length m
+-- each text is short
+pub snapshot_short : (m : FeatureMap) → All (λ e. IsEdit (put e.0 e.1)) m → length (snapshot m) ≤ MOST_EDIT_BYTES * length m
 snapshot_short [] edits = omega (arith, none_takes)
 snapshot_short (e ∷ m) edits =
     let P : ℕ × FeatureData → Type 0 = λ d. IsEdit (put d.0 d.1) in
@@ -106,6 +113,7 @@ unfolding without_feature
 without_takes m id = removed_takes m id
 
 -- room for one more text is left where there are few features
-pub few_are_short : (m : FeatureMap) (id : ℕ) (f : FeatureData) → IsMap m → IsEdit (put id f) → length m < 262143 → length (snapshot (with_feature m id f)) < TEXTS_END
+pub few_are_short : (m : FeatureMap) (id : ℕ) (f : FeatureData) → IsMap m → IsEdit (put id f) → MOST_EDIT_BYTES * (length m + 1) < TEXTS_END
+    → length (snapshot (with_feature m id f)) < TEXTS_END
 few_are_short m id f is_map edit few =
     omega (arith, with_takes m id f, snapshot_short m is_map.edits, short_from (put id f) edit)

@@ -2,12 +2,13 @@
 use Rattle.std.proofs.Common.{◌≡◌, ℕ, ◌*◌, ◌^◌, ◌<◌, ◌≤◌, Bool, true, false, List, [], length, refl, sym, ap, subst, arith}
 use Rattle.std.proofs.lemmas.List.Elements.{All-nil}
 use Rattle.std.proofs.lemmas.Bool.Decides.{nat_tests}
+use Rattle.feature_model.specs.declared.limits.TheConstants.{GREATEST_ZOOM}
 use Rattle.mvt_layer.specs.Tile.{LayerView}
 use Rattle.mvt_layer.specs.Reads.{ReadsAs}
 use Rattle.mvt_write.specs.CanWrite.{CanWriteLayer}
 use Rattle.mvt_write.specs.Fits.{FitsLayer}
 use Rattle.mvt_write.specs.Written.{written}
-use Rattle.mvt_write.proofs.LayersRead.{written_reads}
+use Rattle.mvt_write.proofs.Laws.{written_reads}
 use Rattle.mvt_write.proofs.Lengths.{length_written}
 use Rattle.feature_store.specs.Layers.{is_tile, layers}
 use Rattle.feature_store.specs.Store.{FeatureMap, IsMap, snapshot}
@@ -17,7 +18,7 @@ use Rattle.feature_store.proofs.Unique.{the_list_is, outside}
 
 -- a tile is one of the world
 module _ (z x y : ℕ) (is : is_tile z x y ≡ true) where
-  zoom_within : z ≤ 16
+  zoom_within : z ≤ GREATEST_ZOOM
   zoom_within = grind (arith, nat_tests)
 
   column_within : x < 2 ^ z

@@ -7,6 +7,7 @@ use Rattle.std.specs.Cmp.Lexicographic.{slice_cmp}
 use Rattle.std.specs.List.Sorted.{IsStrictlySortedBy}
 use Rattle.feature_model.specs.Data.{FeatureData}
 use Rattle.feature_model.specs.declared.limits.TheConstants.{GREATEST_ZOOM}
+use Rattle.mvt_layer.specs.declared.layers.TheConstants.{DEFAULT_EXTENT}
 use Rattle.mvt_layer.specs.Tile.{FeatureView, LayerView}
 use Rattle.tile_cutter.specs.Cut.{feature_cut}
 use Rattle.feature_store.specs.Store.{FeatureMap}
@@ -25,7 +26,7 @@ cuts_of m name z x y = filter_map (cut_for name z x y) m
 
 -- ---- the list of them
 
--- names that ascend byte by byte, with one more in its place, where it isn't there
+-- names that ascend byte by byte, with one more among them, where it isn't there
 abbrev pub with_name : List ℕ → List (List ℕ) → List (List ℕ)
 with_name n [] = n ∷ []
 with_name n (k ∷ ks) = match_ordering (slice_cmp nat_cmp n k) (n ∷ k ∷ ks) (k ∷ ks) (k ∷ with_name n ks)
@@ -38,7 +39,7 @@ layer_names (e ∷ m) = with_name e.1.layer (layer_names m)
 -- a layer of these features, and none where there is no feature
 abbrev pub layer_with : List ℕ → List FeatureView → Option LayerView
 layer_with name [] = None
-layer_with name (f ∷ fs) = Some (record { name = name; version = 2; extent = 4096; features = f ∷ fs })
+layer_with name (f ∷ fs) = Some (record { name = name; version = 2; extent = DEFAULT_EXTENT; features = f ∷ fs })
 
 -- a tile of a zoom that a map has
 abbrev pub is_tile : ℕ → ℕ → ℕ → Bool
@@ -58,7 +59,7 @@ names_of ls = map (λ l. l.name) ls
 -- a layer of which the tile shows something: all that it shows of it
 pub record IsLayer (m : FeatureMap) (z x y : ℕ) (l : LayerView) : Type 0 where
   pub version : l.version ≡ 2
-  pub extent : l.extent ≡ 4096
+  pub extent : l.extent ≡ DEFAULT_EXTENT
   pub some : 0 < length l.features
   pub cuts : l.features ≡ cuts_of m l.name z x y
 

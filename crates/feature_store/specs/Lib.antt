@@ -1,5 +1,5 @@
 pub mod Gathered
 pub mod Inside
 pub mod Layers
-pub mod Places
+pub mod Positions
 pub mod Store

@@ -7,10 +7,10 @@ ghost use Rattle.feature_store.specs.Inside.{entry_data, entries_data};
 ghost use Rattle.feature_store.specs.Layers.{numbered_cut, cuts_of};
 
 use crate::entry::Entry;
-use feature_model::Memory;
+use feature_model::GREATEST_ZOOM;
 use hilbert_id::TileAt;
 use mvt_layer::TileFeature;
-use std::alloc::Global;
+use std::alloc::{AllocError, Global};
 use std::collections::BTreeMap;
 use tile_cutter::cut;
 
@@ -18,8 +18,12 @@ use tile_cutter::cut;
 pub(crate) type Gathered<'a> = BTreeMap<&'a str, Vec<TileFeature<'a>>>;
 
 /// What the tile shows of an entry, with its number as id.
-fn shown<'a>(alloc: Global, entry: &'a Entry, at: TileAt) -> Result<Option<TileFeature<'a>>, Memory>
-    requires zoom { at.z ≤ 16 }
+fn shown<'a>(
+    alloc: Global,
+    entry: &'a Entry,
+    at: TileAt,
+) -> Result<Option<TileFeature<'a>>, AllocError>
+    requires zoom { at.z ≤ GREATEST_ZOOM }
     requires allowed { IsAllowed entry.now.id (feature_data entry.now.feature) }
     ensures cut { IfOk result (λ o. option_map feature_view o ≡ numbered_cut at.z at.x at.y (entry_data entry.now)) }
 {
@@ -37,8 +41,9 @@ fn add<'a>(
     gathered: &mut Gathered<'a>,
     layer: &'a str,
     feature: TileFeature<'a>,
-) -> Result<(), Memory>
-    ensures added { OnOk result ((name : List ℕ) → gathered_for gathered.new name ≡ more_for (gathered_for gathered.old name) name layer.now (feature_view feature.entry)) }
+) -> Result<(), AllocError>
+    ensures added { OnOk result
+        ((name : List ℕ) → gathered_for gathered.new name ≡ more_for (gathered_for gathered.old name) name layer.now (feature_view feature.entry)) }
     ensures no_empty { OnOk result (HasNoEmpty gathered.old → HasNoEmpty gathered.new) }
 {
     gathered.entry(layer)?.or_default().push(feature)?;
@@ -51,10 +56,11 @@ fn add_shown<'a>(
     gathered: &mut Gathered<'a>,
     entry: &'a Entry,
     at: TileAt,
-) -> Result<(), Memory>
-    requires zoom { at.z ≤ 16 }
+) -> Result<(), AllocError>
+    requires zoom { at.z ≤ GREATEST_ZOOM }
     requires allowed { IsAllowed entry.now.id (feature_data entry.now.feature) }
-    ensures added { OnOk result ((name : List ℕ) → gathered_for gathered.new name ≡ gathered_for gathered.old name ++ cuts_of (entry_data entry.now ∷ []) name at.z at.x at.y) }
+    ensures added { OnOk result
+        ((name : List ℕ) → gathered_for gathered.new name ≡ gathered_for gathered.old name ++ cuts_of (entry_data entry.now ∷ []) name at.z at.x at.y) }
     ensures no_empty { OnOk result (HasNoEmpty gathered.old → HasNoEmpty gathered.new) }
 {
     if let Some(feature) = shown(alloc, entry, at)? {
@@ -68,8 +74,8 @@ pub(crate) fn gather<'a>(
     alloc: Global,
     entries: &'a [Entry],
     at: TileAt,
-) -> Result<Gathered<'a>, Memory>
-    requires zoom { at.z ≤ 16 }
+) -> Result<Gathered<'a>, AllocError>
+    requires zoom { at.z ≤ GREATEST_ZOOM }
     requires allowed { All (λ e. IsAllowed e.id (feature_data e.feature)) entries.now }
     ensures cuts { IfOk result (λ g. (name : List ℕ) → gathered_for g name ≡ cuts_of (entries_data entries.now) name at.z at.x at.y) }
     ensures no_empty { IfOk result HasNoEmpty }

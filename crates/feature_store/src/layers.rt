@@ -6,18 +6,17 @@ ghost use Rattle.mvt_layer.specs.Tile.{layer_views};
 ghost use Rattle.feature_store.specs.Gathered.{layers_of};
 
 use crate::gathered::Gathered;
-use feature_model::Memory;
-use mvt_layer::Layer;
-use std::alloc::Global;
+use mvt_layer::{DEFAULT_EXTENT, Layer};
+use std::alloc::{AllocError, Global};
 
 /// The version of the format that the layers say.
 const VERSION: u32 = 2;
 
-/// The width and height of a tile in its own coordinates.
-const EXTENT: u32 = 4096;
-
 /// What is gathered as layers, in the order of their names.
-pub(crate) fn listed<'a>(alloc: Global, gathered: Gathered<'a>) -> Result<Vec<Layer<'a>>, Memory>
+pub(crate) fn listed<'a>(
+    alloc: Global,
+    gathered: Gathered<'a>,
+) -> Result<Vec<Layer<'a>>, AllocError>
     ensures layers { IfOk result (λ v. layer_views v.items ≡ layers_of gathered.entry) }
     ensures ordered { IfOk result (λ _. IsOrdered (λ a b. slice_cmp nat_cmp a.now b.now) gathered.entry) }
 {
@@ -26,7 +25,7 @@ pub(crate) fn listed<'a>(alloc: Global, gathered: Gathered<'a>) -> Result<Vec<La
         layers.push(Layer {
             name,
             version: VERSION,
-            extent: EXTENT,
+            extent: DEFAULT_EXTENT,
             features,
         })?;
     }

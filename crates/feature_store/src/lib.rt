@@ -4,13 +4,11 @@
 mod copies;
 mod entry;
 mod gathered;
-mod laws;
 mod layers;
 mod limit;
 mod search;
 mod store;
 
-pub use laws::{edit_law, layers_law, snapshot_law, tile_law};
 pub use limit::TEXTS_END;
 pub use store::Store;
 

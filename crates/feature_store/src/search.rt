@@ -3,7 +3,7 @@ ghost use Rattle.std.specs.Ordering.{nat_cmp};
 ghost use Rattle.std.specs.Map.{keys_of};
 ghost use Rattle.std.specs.List.Sorted.{IsStrictlySortedBy};
 ghost use Rattle.feature_store.specs.Inside.{entries_data};
-ghost use Rattle.feature_store.specs.Places.{StandsAt, IsGapFor};
+ghost use Rattle.feature_store.specs.Positions.{StandsAt, IsGapFor};
 
 use crate::entry::Entry;
 

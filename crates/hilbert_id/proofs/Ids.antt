@@ -4,7 +4,7 @@ use Rattle.std.proofs.Math.Nat.{pow-succ'}
 use Rattle.std.proofs.lemmas.Bool.{cases_lt}
 use Rattle.hilbert_id.specs.Curve.{StandsAt, first_id, IsTileId}
 use Rattle.hilbert_id.proofs.Powers.{two_below, four_is}
-use Rattle.hilbert_id.proofs.Places.{one_place, one_tile, place_below}
+use Rattle.hilbert_id.proofs.Positions.{one_position, one_tile, position_below}
 
 -- a zoom has one tile more than a multiple of three
 pub thirds : (z : ℕ) → 4 ^ z ≡ 3 * first_id z + 1
@@ -42,7 +42,7 @@ one_zoom z w n m hn hm e =
     ]
 
 pub one_id : (z x y a b : ℕ) → IsTileId z x y a → IsTileId z x y b → a ≡ b
-one_id z x y a b h g = h.2 ∙ ap (λ (n : ℕ). first_id z + n) (one_place z x y h.0 g.0 h.1 g.1) ∙ sym g.2
+one_id z x y a b h g = h.2 ∙ ap (λ (n : ℕ). first_id z + n) (one_position z x y h.0 g.0 h.1 g.1) ∙ sym g.2
 
 same_zoom : (z w a b m : ℕ) → z ≡ w → StandsAt w a b m → StandsAt z a b m
 same_zoom z w a b m e h = rw e h
@@ -50,14 +50,14 @@ same_zoom z w a b m e h = rw e h
 pub one_tile_of : (z x y w a b id : ℕ) → IsTileId z x y id → IsTileId w a b id → (z ≡ w) × (x ≡ a) × (y ≡ b)
 one_tile_of z x y w a b id h g =
     let e : first_id z + h.0 ≡ first_id w + g.0 = sym h.2 ∙ g.2 in
-    let ez = one_zoom z w h.0 g.0 (place_below z x y h.0 h.1) (place_below w a b g.0 g.1) e in
-    let n : h.0 ≡ g.0 = same_place z w h.0 g.0 ez e in
+    let ez = one_zoom z w h.0 g.0 (position_below z x y h.0 h.1) (position_below w a b g.0 g.1) e in
+    let n : h.0 ≡ g.0 = same_position z w h.0 g.0 ez e in
     let there : StandsAt z a b h.0 = moved z a b h.0 g.0 n (same_zoom z w a b g.0 ez g.1) in
     let both = one_tile z x y a b h.0 h.1 there in
     (ez, both.0, both.1)
   where
-    same_place : (z w n m : ℕ) → z ≡ w → first_id z + n ≡ first_id w + m → n ≡ m
-    same_place z w n m ez e = let k = ap first_id ez in omega arith
+    same_position : (z w n m : ℕ) → z ≡ w → first_id z + n ≡ first_id w + m → n ≡ m
+    same_position z w n m ez e = let k = ap first_id ez in omega arith
 
     moved : (z a b n m : ℕ) → n ≡ m → StandsAt z a b m → StandsAt z a b n
     moved z a b n m e h = rw e h
@@ -74,4 +74,4 @@ zoom_bits z bits id half low high =
 
 -- no tile has an id behind them
 pub ids_end : (z x y id : ℕ) → z ≤ 31 → IsTileId z x y id → 6148914691236517205 ≤ id → ⊥
-ids_end z x y id le h past = absurd (omega (arith, below_end z le, place_below z x y h.0 h.1, h.2))
+ids_end z x y id le h past = absurd (omega (arith, below_end z le, position_below z x y h.0 h.1, h.2))

@@ -1,5 +1,6 @@
 pub mod Ids
-pub mod Places
+pub mod Laws
+pub mod Positions
 pub mod Powers
 pub mod Stands
 pub mod SameTile

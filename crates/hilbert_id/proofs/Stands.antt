@@ -69,8 +69,8 @@ stands_flipped k a b n e =
     ∙ get_right (map (across (2 ^ k)) (curve k)) _ n (4 ^ k) (len_of k (across (2 ^ k)))
     ∙ get_mapped (flipped (2 ^ k)) (curve k) n (a, b) e
 
-pub same_place : (zoom k x y n x' y' n' : ℕ) → zoom ≡ suc k → x ≡ x' → y ≡ y' → n ≡ n' → StandsAt (suc k) x' y' n' → StandsAt zoom x y n
-same_place zoom k x y n x' y' n' ez ex ey en h = rw (ez, ex, ey, en) h
+pub same_position : (zoom k x y n x' y' n' : ℕ) → zoom ≡ suc k → x ≡ x' → y ≡ y' → n ≡ n' → StandsAt (suc k) x' y' n' → StandsAt zoom x y n
+same_position zoom k x y n x' y' n' ez ex ey en h = rw (ez, ex, ey, en) h
 
 -- ---- by the zoom, its half side and its quarter
 
@@ -84,44 +84,60 @@ stands_first zoom x y none hx hy =
     rw (none, ex, ey) refl
 
 pub first_quarter : (zoom x y n : ℕ) → 0 < zoom → StandsAt (zoom - 1) y x n → StandsAt zoom x y n
-first_quarter zoom x y n some e = same_place zoom (zoom - 1) x y n x y n (omega arith) refl refl refl (stands_turned (zoom - 1) y x n e)
+first_quarter zoom x y n some e = same_position zoom (zoom - 1) x y n x y n (omega arith) refl refl refl (stands_turned (zoom - 1) y x n e)
 
-pub second_quarter : (zoom x y n half each : ℕ) → 0 < zoom → half ≡ 2 ^ (zoom - 1) → each ≡ 4 ^ (zoom - 1) → half ≤ y → StandsAt (zoom - 1) x (y - half) n → StandsAt zoom x y (each + n)
+pub second_quarter : (zoom x y n half each : ℕ) → 0 < zoom → half ≡ 2 ^ (zoom - 1) → each ≡ 4 ^ (zoom - 1) → half ≤ y → StandsAt (zoom - 1) x (y - half) n
+    → StandsAt zoom x y (each + n)
 second_quarter zoom x y n half each some h q le e =
-    same_place zoom (zoom - 1) x y (each + n) x (y - half + 2 ^ (zoom - 1)) (4 ^ (zoom - 1) + n) (omega arith) refl (omega arith) (omega arith) (stands_below (zoom - 1) x (y - half) n e)
+    same_position zoom (zoom - 1) x y (each + n) x (y - half + 2 ^ (zoom - 1)) (4 ^ (zoom - 1) + n) (omega arith) refl (omega arith) (omega arith)
+    (stands_below (zoom - 1) x (y - half) n e)
 
-pub third_quarter : (zoom x y n half each : ℕ) → 0 < zoom → half ≡ 2 ^ (zoom - 1) → each ≡ 4 ^ (zoom - 1) → half ≤ x → half ≤ y → StandsAt (zoom - 1) (x - half) (y - half) n → StandsAt zoom x y (2 * each + n)
+pub third_quarter : (zoom x y n half each : ℕ) → 0 < zoom → half ≡ 2 ^ (zoom - 1) → each ≡ 4 ^ (zoom - 1) → half ≤ x → half ≤ y
+    → StandsAt (zoom - 1) (x - half) (y - half) n → StandsAt zoom x y (2 * each + n)
 third_quarter zoom x y n half each some h q lex ley e =
-    same_place zoom (zoom - 1) x y (2 * each + n) (x - half + 2 ^ (zoom - 1)) (y - half + 2 ^ (zoom - 1)) (4 ^ (zoom - 1) + (4 ^ (zoom - 1) + n)) (omega arith) (omega arith) (omega arith) (omega arith) (stands_across (zoom - 1) (x - half) (y - half) n e)
+    same_position zoom (zoom - 1) x y (2 * each + n) (x - half + 2 ^ (zoom - 1)) (y - half + 2 ^ (zoom - 1)) (4 ^ (zoom - 1) + (4 ^ (zoom - 1) + n))
+    (omega arith) (omega arith) (omega arith) (omega arith) (stands_across (zoom - 1) (x - half) (y - half) n e)
 
-pub fourth_quarter : (zoom x y n half each : ℕ) → 0 < zoom → half ≡ 2 ^ (zoom - 1) → each ≡ 4 ^ (zoom - 1) → x < 2 * half → y < half → StandsAt (zoom - 1) (half - 1 - y) (2 * half - 1 - x) n → StandsAt zoom x y (3 * each + n)
+pub fourth_quarter : (zoom x y n half each : ℕ) → 0 < zoom → half ≡ 2 ^ (zoom - 1) → each ≡ 4 ^ (zoom - 1) → x < 2 * half → y < half
+    → StandsAt (zoom - 1) (half - 1 - y) (2 * half - 1 - x) n → StandsAt zoom x y (3 * each + n)
 fourth_quarter zoom x y n half each some h q ltx lty e =
-    same_place zoom (zoom - 1) x y (3 * each + n) (2 * 2 ^ (zoom - 1) - 1 - (2 * half - 1 - x)) (2 ^ (zoom - 1) - 1 - (half - 1 - y)) (4 ^ (zoom - 1) + (4 ^ (zoom - 1) + (4 ^ (zoom - 1) + n))) (omega arith) (omega arith) (omega arith) (omega arith) (stands_flipped (zoom - 1) (half - 1 - y) (2 * half - 1 - x) n e)
+    same_position zoom (zoom - 1) x y (3 * each + n) (2 * 2 ^ (zoom - 1) - 1 - (2 * half - 1 - x)) (2 ^ (zoom - 1) - 1 - (half - 1 - y))
+    (4 ^ (zoom - 1) + (4 ^ (zoom - 1) + (4 ^ (zoom - 1) + n))) (omega arith) (omega arith) (omega arith) (omega arith)
+    (stands_flipped (zoom - 1) (half - 1 - y) (2 * half - 1 - x) n e)
 
--- ---- by a place and the size of a quarter
+-- ---- by a position and the size of a quarter
 
-quarter_place : (place each q : ℕ) → place / each ≡ q → place ≡ q * each + place % each
-quarter_place place each q e = sym (rw e at (div-add-mod' place each))
+quarter_position : (position each q : ℕ) → position / each ≡ q → position ≡ q * each + position % each
+quarter_position position each q e = sym (rw e at (div-add-mod' position each))
 
-pub stands_start : (zoom place : ℕ) → zoom ≡ 0 → place < 4 ^ zoom → StandsAt zoom 0 0 place
+pub stands_start : (zoom position : ℕ) → zoom ≡ 0 → position < 4 ^ zoom → StandsAt zoom 0 0 position
 unfolding curve
-stands_start zoom place none lt =
-    let small : place < 4 ^ 0 = rw none at lt in
-    let e : place ≡ 0 = omega arith in
+stands_start zoom position none lt =
+    let small : position < 4 ^ 0 = rw none at lt in
+    let e : position ≡ 0 = omega arith in
     rw (none, e) refl
 
-pub from_first : (zoom x y place each : ℕ) → 0 < zoom → each ≡ 4 ^ (zoom - 1) → place / each ≡ 0 → StandsAt (zoom - 1) x y (place % each) → StandsAt zoom y x place
-from_first zoom x y place each some q e h =
-    same_place zoom (zoom - 1) y x place y x (place % each) (omega arith) refl refl (omega (arith, quarter_place place each 0 e)) (stands_turned (zoom - 1) x y (place % each) h)
+pub from_first : (zoom x y position each : ℕ) → 0 < zoom → each ≡ 4 ^ (zoom - 1) → position / each ≡ 0 → StandsAt (zoom - 1) x y (position % each)
+    → StandsAt zoom y x position
+from_first zoom x y position each some q e h =
+    same_position zoom (zoom - 1) y x position y x (position % each) (omega arith) refl refl (omega (arith, quarter_position position each 0 e))
+    (stands_turned (zoom - 1) x y (position % each) h)
 
-pub from_second : (zoom x y place half each : ℕ) → 0 < zoom → half ≡ 2 ^ (zoom - 1) → each ≡ 4 ^ (zoom - 1) → place / each ≡ 1 → StandsAt (zoom - 1) x y (place % each) → StandsAt zoom x (y + half) place
-from_second zoom x y place half each some s q e h =
-    same_place zoom (zoom - 1) x (y + half) place x (y + 2 ^ (zoom - 1)) (4 ^ (zoom - 1) + place % each) (omega arith) refl (omega arith) (omega (arith, quarter_place place each 1 e)) (stands_below (zoom - 1) x y (place % each) h)
+pub from_second : (zoom x y position half each : ℕ) → 0 < zoom → half ≡ 2 ^ (zoom - 1) → each ≡ 4 ^ (zoom - 1) → position / each ≡ 1
+    → StandsAt (zoom - 1) x y (position % each) → StandsAt zoom x (y + half) position
+from_second zoom x y position half each some s q e h =
+    same_position zoom (zoom - 1) x (y + half) position x (y + 2 ^ (zoom - 1)) (4 ^ (zoom - 1) + position % each) (omega arith) refl (omega arith)
+    (omega (arith, quarter_position position each 1 e)) (stands_below (zoom - 1) x y (position % each) h)
 
-pub from_third : (zoom x y place half each : ℕ) → 0 < zoom → half ≡ 2 ^ (zoom - 1) → each ≡ 4 ^ (zoom - 1) → place / each ≡ 2 → StandsAt (zoom - 1) x y (place % each) → StandsAt zoom (x + half) (y + half) place
-from_third zoom x y place half each some s q e h =
-    same_place zoom (zoom - 1) (x + half) (y + half) place (x + 2 ^ (zoom - 1)) (y + 2 ^ (zoom - 1)) (4 ^ (zoom - 1) + (4 ^ (zoom - 1) + place % each)) (omega arith) (omega arith) (omega arith) (omega (arith, quarter_place place each 2 e)) (stands_across (zoom - 1) x y (place % each) h)
+pub from_third : (zoom x y position half each : ℕ) → 0 < zoom → half ≡ 2 ^ (zoom - 1) → each ≡ 4 ^ (zoom - 1) → position / each ≡ 2
+    → StandsAt (zoom - 1) x y (position % each) → StandsAt zoom (x + half) (y + half) position
+from_third zoom x y position half each some s q e h =
+    same_position zoom (zoom - 1) (x + half) (y + half) position (x + 2 ^ (zoom - 1)) (y + 2 ^ (zoom - 1)) (4 ^ (zoom - 1) + (4 ^ (zoom - 1) + position % each))
+    (omega arith) (omega arith) (omega arith) (omega (arith, quarter_position position each 2 e)) (stands_across (zoom - 1) x y (position % each) h)
 
-pub from_fourth : (zoom x y place half each : ℕ) → 0 < zoom → half ≡ 2 ^ (zoom - 1) → each ≡ 4 ^ (zoom - 1) → place / each ≡ 3 → StandsAt (zoom - 1) x y (place % each) → StandsAt zoom (2 * half - 1 - y) (half - 1 - x) place
-from_fourth zoom x y place half each some s q e h =
-    same_place zoom (zoom - 1) (2 * half - 1 - y) (half - 1 - x) place (2 * 2 ^ (zoom - 1) - 1 - y) (2 ^ (zoom - 1) - 1 - x) (4 ^ (zoom - 1) + (4 ^ (zoom - 1) + (4 ^ (zoom - 1) + place % each))) (omega arith) (omega arith) (omega arith) (omega (arith, quarter_place place each 3 e)) (stands_flipped (zoom - 1) x y (place % each) h)
+pub from_fourth : (zoom x y position half each : ℕ) → 0 < zoom → half ≡ 2 ^ (zoom - 1) → each ≡ 4 ^ (zoom - 1) → position / each ≡ 3
+    → StandsAt (zoom - 1) x y (position % each) → StandsAt zoom (2 * half - 1 - y) (half - 1 - x) position
+from_fourth zoom x y position half each some s q e h =
+    same_position zoom (zoom - 1) (2 * half - 1 - y) (half - 1 - x) position (2 * 2 ^ (zoom - 1) - 1 - y) (2 ^ (zoom - 1) - 1 - x)
+    (4 ^ (zoom - 1) + (4 ^ (zoom - 1) + (4 ^ (zoom - 1) + position % each))) (omega arith) (omega arith) (omega arith)
+    (omega (arith, quarter_position position each 3 e)) (stands_flipped (zoom - 1) x y (position % each) h)

@@ -27,7 +27,7 @@ fn quarter(zoom: u8) -> u64
 }
 
 // Where a column and a row stand in the curve of a zoom.
-fn place(zoom: u8, x: u32, y: u32) -> u64
+fn position(zoom: u8, x: u32, y: u32) -> u64
     requires zoom { zoom ≤ 31 }
     requires column { x < 2 ^ zoom }
     requires row { y < 2 ^ zoom }
@@ -40,10 +40,10 @@ fn place(zoom: u8, x: u32, y: u32) -> u64
     let half = half_side(zoom);
     let each = quarter(zoom);
     match (x < half, y < half) {
-        (true, true) => place(zoom - 1, y, x),
-        (true, false) => each + place(zoom - 1, x, y - half),
-        (false, false) => 2 * each + place(zoom - 1, x - half, y - half),
-        (false, true) => 3 * each + place(zoom - 1, half - 1 - y, 2 * half - 1 - x),
+        (true, true) => position(zoom - 1, y, x),
+        (true, false) => each + position(zoom - 1, x, y - half),
+        (false, false) => 2 * each + position(zoom - 1, x - half, y - half),
+        (false, true) => 3 * each + position(zoom - 1, half - 1 - y, 2 * half - 1 - x),
     }
 }
 
@@ -67,21 +67,21 @@ fn zoom_of(id: u64) -> u8
     ((3 * id + 1).ilog2() / 2) as u8
 }
 
-// The column and the row at a place of the curve of a zoom.
-fn column_and_row(zoom: u8, place: u64) -> (u32, u32)
+// The column and the row at a position of the curve of a zoom.
+fn column_and_row(zoom: u8, position: u64) -> (u32, u32)
     requires zoom { zoom ≤ 31 }
-    requires place { place < 4 ^ zoom }
+    requires position { position < 4 ^ zoom }
     ensures column { result.0 < 2 ^ zoom }
     ensures row { result.1 < 2 ^ zoom }
-    ensures stands { StandsAt zoom result.0 result.1 place }
+    ensures stands { StandsAt zoom result.0 result.1 position }
 {
     if zoom == 0 {
         return (0, 0);
     }
     let half = half_side(zoom);
     let each = quarter(zoom);
-    let (x, y) = column_and_row(zoom - 1, place % each);
-    match place / each {
+    let (x, y) = column_and_row(zoom - 1, position % each);
+    match position / each {
         0 => (y, x),
         1 => (x, y + half),
         2 => (x + half, y + half),
@@ -95,7 +95,7 @@ pub fn id_of(at: TileAt) -> u64
     ensures only { (id : ℕ) → IsTileId at.z at.x at.y id → id ≡ result }
     ensures below { result < TILE_IDS }
 {
-    first_of(at.z) + place(at.z, at.x, at.y)
+    first_of(at.z) + position(at.z, at.x, at.y)
 }
 
 /// The tile of an id. `None` where the id is `TILE_IDS` or more.

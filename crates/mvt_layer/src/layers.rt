@@ -15,6 +15,9 @@ use crate::tile::{Layer, TagValue, TileFeature};
 use crate::values::{tag_value_of, text_of};
 use std::alloc::Global;
 
+/// The extent of a layer that tells none, and of every layer that is written (MVT 2.1, 4.1).
+pub const DEFAULT_EXTENT: u32 = 4096;
+
 // Field numbers of a layer, and of a tile.
 const NAME: u32 = 1;
 
@@ -109,12 +112,12 @@ fn version_of(last: Option<u64>) -> Result<u32, TileFault>
     }
 }
 
-/// The layer's extent, 4096 where it tells none.
+/// The layer's extent, `DEFAULT_EXTENT` where it tells none.
 #[tactic(auto, unfolding(crate::specs::Reading::extent_at))]
 fn extent_of(last: Option<u64>) -> Result<u32, TileFault>
     ensures { Gives (λ n. n) result (extent_at last) }
 {
-    let n = small(4096, last)?;
+    let n = small(DEFAULT_EXTENT, last)?;
     if n == 0 {
         Err(TileFault::Extent)
     } else {

@@ -12,7 +12,7 @@ mod values;
 
 pub use fault::TileFault;
 pub use laws::one_reading_law;
-pub use layers::read_tile;
+pub use layers::{DEFAULT_EXTENT, read_tile};
 pub use tile::{Layer, TagValue, TileFeature};
 
 #[cfg(test)]

@@ -1,5 +1,6 @@
 -- What is written for a feature says it.
-use Rattle.std.proofs.Common.{◌≡◌, ℕ, Bool, true, false, eqb, ◌^◌, ◌<◌, Less, Equal, List, [], ◌∷◌, ◌++◌, length, map, nat_cmp, refl, sym, subst, ◌∙◌, arith, ne_eqb}
+use Rattle.std.proofs.Common.{◌≡◌, ℕ, Bool, true, false, eqb, ◌^◌, ◌<◌, Less, Equal, List, [], ◌∷◌, ◌++◌, length, map, nat_cmp, refl, sym, subst, ◌∙◌, arith}
+use Rattle.std.proofs.Common.{ne_eqb}
 use Rattle.std.specs.Prelude.{Option, Some, None, IsSome, IfSome, slice_get}
 use Rattle.std.specs.Cmp.{tied_itself}
 use Rattle.std.specs.Cmp.Lexicographic.{slice_cmp}
@@ -21,7 +22,8 @@ use Rattle.mvt_write.specs.Pools.{index_of}
 use Rattle.mvt_write.specs.Written.{value_written, number_field, packed_field, id_written, tag_indices, tags_written, kind_number, feature_written}
 use Rattle.mvt_write.proofs.Messages.{number_entry, bytes_entry, message_number, message_bytes, only_bytes, packed_are, length_in_field}
 
-has_number_by : (m : ℕ) (ms : List ℕ) (k n : ℕ) (same : Bool) → eqb m n ≡ same → (has_number ms n ≡ false → has_number (ms ++ k ∷ []) n ≡ false) → has_number (m ∷ ms) n ≡ false → has_number (m ∷ ms ++ k ∷ []) n ≡ false
+has_number_by : (m : ℕ) (ms : List ℕ) (k n : ℕ) (same : Bool) → eqb m n ≡ same → (has_number ms n ≡ false → has_number (ms ++ k ∷ []) n ≡ false)
+    → has_number (m ∷ ms) n ≡ false → has_number (m ∷ ms ++ k ∷ []) n ≡ false
 has_number_by m ms k n true is rest none = let no : true ≡ false = rw is at none in absurd (cc)
 has_number_by m ms k n false is rest none = rw is (rest (rw is at none))
 
@@ -41,23 +43,35 @@ module _ (keys messages : List (List ℕ)) (values : List TagView) where
   Unused used t = has_number used (index_of keys t.0) ≡ false
 
   -- an index that isn't used stays so behind that of a lesser key
-  unused_more : (t : Tagged) (ts : List Tagged) (used : List ℕ) → Found t → AllByRecursion Found ts → AllByRecursion (λ key. slice_cmp nat_cmp t.0 key ≡ Less) (map (λ u. u.0) ts) → AllByRecursion (Unused used) ts → AllByRecursion (Unused (used ++ index_of keys t.0 ∷ [])) ts
+  unused_more : (t : Tagged) (ts : List Tagged) (used : List ℕ) → Found t → AllByRecursion Found ts
+      → AllByRecursion (λ key. slice_cmp nat_cmp t.0 key ≡ Less) (map (λ u. u.0) ts) → AllByRecursion (Unused used) ts
+      → AllByRecursion (Unused (used ++ index_of keys t.0 ∷ [])) ts
   unused_more t [] used here found above unused = tt
   unused_more t (u ∷ us) used here found above unused =
       let apart : index_of keys t.0 ≡ index_of keys u.0 → ⊥ = λ same.
       let there : slice_get keys (index_of keys t.0) ≡ Some u.0 = rw same found.0.key in
       let keys_same : t.0 ≡ u.0 = cc (here.key, there) in
-      let tied : slice_cmp nat_cmp t.0 u.0 ≡ Equal = subst (λ (key : List ℕ). slice_cmp nat_cmp t.0 key ≡ Equal) keys_same (tied_itself nat_list_cmp_total t.0) in
+      let tied : slice_cmp nat_cmp t.0 u.0 ≡ Equal =
+      subst (λ (key : List ℕ). slice_cmp nat_cmp t.0 key ≡ Equal) keys_same (tied_itself nat_list_cmp_total t.0) in
       let less = above.0 in
       let both : Less ≡ Equal = sym less ∙ tied in
       absurd (cc)
       in
       (has_number-push used (index_of keys t.0) (index_of keys u.0) apart unused.0, unused_more t us used here found.1 above.1 unused.1)
 
-  tags_are : (tags : List Tagged) (used : List ℕ) → AllByRecursion Found tags → IsStrictlySortedBy (slice_cmp nat_cmp) (map (λ t. t.0) tags) → AllByRecursion (Unused used) tags → AreTags keys values used (tag_indices keys messages tags) tags
+  tags_are : (tags : List Tagged) (used : List ℕ) → AllByRecursion Found tags → IsStrictlySortedBy (slice_cmp nat_cmp) (map (λ t. t.0) tags)
+      → AllByRecursion (Unused used) tags → AreTags keys values used (tag_indices keys messages tags) tags
   unfolding IsStrictlySortedBy
   tags_are [] used found sorted unused = refl
-  tags_are (t ∷ ts) used found sorted unused = (t, ts, refl, unused.0, found.0.key, found.0.value, tags_are ts (used ++ index_of keys t.0 ∷ []) found.1 sorted.1 (unused_more t ts used found.0 found.1 sorted.0 unused.1))
+  tags_are (t ∷ ts) used found sorted unused = (
+    t,
+    ts,
+    refl,
+    unused.0,
+    found.0.key,
+    found.0.value,
+    tags_are ts (used ++ index_of keys t.0 ∷ []) found.1 sorted.1 (unused_more t ts used found.0 found.1 sorted.0 unused.1),
+  )
 
   none_used : (tags : List Tagged) → AllByRecursion (Unused []) tags
   none_used [] = tt
@@ -73,7 +87,8 @@ module _ (keys messages : List (List ℕ)) (values : List TagView) where
   tags_entries [] = []
   tags_entries (t ∷ ts) = bytes_entry 2 (flat_map varint (tag_indices keys messages (t ∷ ts))) ∷ []
 
-  tags_message : (tags : List Tagged) (rest : List ℕ) (fs : List Entry) → length (tags_written keys messages tags) < 2 ^ 64 → IsMessage rest fs → IsMessage (tags_written keys messages tags ++ rest) (tags_entries tags ++ fs)
+  tags_message : (tags : List Tagged) (rest : List ℕ) (fs : List Entry) → length (tags_written keys messages tags) < 2 ^ 64 → IsMessage rest fs
+      → IsMessage (tags_written keys messages tags ++ rest) (tags_entries tags ++ fs)
   tags_message [] rest fs below others = others
   tags_message (t ∷ ts) rest fs below others =
       let indices = flat_map varint (tag_indices keys messages (t ∷ ts)) in
@@ -104,25 +119,32 @@ module _ (keys messages : List (List ℕ)) (values : List TagView) where
   last_message shape below =
       let geometry = shape_bytes shape in
       let a = length-append (number_field 3 (kind_number shape)) (packed_field 4 (shape_spelled shape)) in
-      message_number 3 (kind_number shape) (packed_field 4 (shape_spelled shape)) (bytes_entry 4 geometry ∷ []) (omega arith, omega arith) (omega (arith, kind_small shape)) (only_bytes 4 geometry (omega arith, omega arith) (omega (arith, a, length_in_field 4 geometry)))
+      message_number 3 (kind_number shape) (packed_field 4 (shape_spelled shape)) (bytes_entry 4 geometry ∷ []) (omega arith, omega arith)
+      (omega (arith, kind_small shape)) (only_bytes 4 geometry (omega arith, omega arith) (omega (arith, a, length_in_field 4 geometry)))
 
-  ids_first : (id : ℕ) (tags : List Tagged) (shape : ShapeView) → values_of 1 (number_entry 1 id ∷ (tags_entries tags ++ last_entries shape)) ≡ varint_value id ∷ []
+  ids_first : (id : ℕ) (tags : List Tagged) (shape : ShapeView)
+      → values_of 1 (number_entry 1 id ∷ (tags_entries tags ++ last_entries shape)) ≡ varint_value id ∷ []
   ids_first id [] shape = refl
   ids_first id (t ∷ ts) shape = refl
 
-  kinds_third : (id : ℕ) (tags : List Tagged) (shape : ShapeView) → values_of 3 (number_entry 1 id ∷ (tags_entries tags ++ last_entries shape)) ≡ varint_value (kind_number shape) ∷ []
+  kinds_third : (id : ℕ) (tags : List Tagged) (shape : ShapeView)
+      → values_of 3 (number_entry 1 id ∷ (tags_entries tags ++ last_entries shape)) ≡ varint_value (kind_number shape) ∷ []
   kinds_third id [] shape = refl
   kinds_third id (t ∷ ts) shape = refl
 
-  integers_fourth : (id : ℕ) (tags : List Tagged) (shape : ShapeView) → values_of 4 (number_entry 1 id ∷ (tags_entries tags ++ last_entries shape)) ≡ some_bytes (shape_bytes shape) ∷ []
+  integers_fourth : (id : ℕ) (tags : List Tagged) (shape : ShapeView)
+      → values_of 4 (number_entry 1 id ∷ (tags_entries tags ++ last_entries shape)) ≡ some_bytes (shape_bytes shape) ∷ []
   integers_fourth id [] shape = refl
   integers_fourth id (t ∷ ts) shape = refl
 
-  indices_second : (id : ℕ) (tags : List Tagged) (shape : ShapeView) → AllByRecursion Found tags → AreNumbers (values_of 2 (number_entry 1 id ∷ (tags_entries tags ++ last_entries shape))) (tag_indices keys messages tags)
+  indices_second : (id : ℕ) (tags : List Tagged) (shape : ShapeView) → AllByRecursion Found tags
+      → AreNumbers (values_of 2 (number_entry 1 id ∷ (tags_entries tags ++ last_entries shape))) (tag_indices keys messages tags)
   indices_second id [] shape found = refl
   indices_second id (t ∷ ts) shape found = packed_are (tag_indices keys messages (t ∷ ts)) (small_indices (t ∷ ts) found)
 
-  says_by_id : (id : Option ℕ) (f : FeatureView) → f.id ≡ id → CanWriteFeature f → FitsFeature f → AllByRecursion Found f.tags → length (id_written id ++ (tags_written keys messages f.tags ++ last_fields f.shape)) < 2 ^ 64 → SaysFeature keys values (id_written id ++ (tags_written keys messages f.tags ++ last_fields f.shape)) f
+  says_by_id : (id : Option ℕ) (f : FeatureView) → f.id ≡ id → CanWriteFeature f → FitsFeature f → AllByRecursion Found f.tags
+      → length (id_written id ++ (tags_written keys messages f.tags ++ last_fields f.shape)) < 2 ^ 64
+      → SaysFeature keys values (id_written id ++ (tags_written keys messages f.tags ++ last_fields f.shape)) f
   says_by_id None f is can fits found below = let some : IsSome {T = ℕ} None = subst (λ (o : Option ℕ). IsSome o) is can.id in absurd (cc)
   says_by_id (Some id) f is can fits found below =
       let small : id < 2 ^ 64 = subst (λ (o : Option ℕ). IfSome o (λ n. n < 2 ^ 64)) is fits.id in
@@ -131,18 +153,23 @@ module _ (keys messages : List (List ℕ)) (values : List TagView) where
       let b = length-append (tags_written keys messages f.tags) (last_fields f.shape) in
       record {
         fields = number_entry 1 id ∷ (tags_entries f.tags ++ last_entries f.shape);
-        message = message_number 1 id rest (tags_entries f.tags ++ last_entries f.shape) (omega arith, omega arith) small (tags_message f.tags (last_fields f.shape) (last_entries f.shape) (omega (arith, a, b)) (last_message f.shape (omega (arith, a, b))));
+        message =
+            message_number 1 id rest (tags_entries f.tags ++ last_entries f.shape) (omega arith, omega arith) small
+            (tags_message f.tags (last_fields f.shape) (last_entries f.shape) (omega (arith, a, b)) (last_message f.shape (omega (arith, a, b))));
         id = rw (ids_first id f.tags f.shape) is;
         kind = Some (kind_number f.shape);
         kind_is = rw (kinds_third id f.tags f.shape) refl;
         indices = tag_indices keys messages f.tags;
         indices_are = indices_second id f.tags f.shape found;
         ints = shape_spelled f.shape;
-        ints_are = rw (integers_fourth id f.tags f.shape) (packed_are (shape_spelled f.shape) (recursion_from_All (λ n. n < 2 ^ 32) (shape_spelled f.shape) fits.integers));
+        ints_are =
+            rw (integers_fourth id f.tags f.shape)
+            (packed_are (shape_spelled f.shape) (recursion_from_All (λ n. n < 2 ^ 32) (shape_spelled f.shape) fits.integers));
         tags = tags_are f.tags [] found can.keys (none_used f.tags);
         shape = rw (kind_same f.shape) fits.shape;
       }
 
-  pub says_feature : (f : FeatureView) → CanWriteFeature f → FitsFeature f → AllByRecursion Found f.tags → length (feature_written keys messages f) < 2 ^ 64 → SaysFeature keys values (feature_written keys messages f) f
+  pub says_feature : (f : FeatureView) → CanWriteFeature f → FitsFeature f → AllByRecursion Found f.tags → length (feature_written keys messages f) < 2 ^ 64
+      → SaysFeature keys values (feature_written keys messages f) f
   unfolding feature_written
   says_feature f can fits found below = says_by_id f.id f refl can fits found below

@@ -1,5 +1,6 @@
 -- What is written for layers reads as these layers.
-use Rattle.std.proofs.Common.{◌≡◌, ℕ, Bool, true, false, eqb, inr, ◌^◌, ◌<◌, List, [], ◌∷◌, ◌++◌, length, get_or, map, refl, sym, ap, subst, ◌∙◌, append-nil, map-id, arith}
+use Rattle.std.proofs.Common.{◌≡◌, ℕ, Bool, true, false, eqb, inr, ◌^◌, ◌<◌, List, [], ◌∷◌, ◌++◌, length, get_or, map, refl, sym, ap, subst, ◌∙◌, append-nil}
+use Rattle.std.proofs.Common.{map-id, arith}
 use Rattle.std.specs.Prelude.{Some, All, if◌then◌else◌}
 use Rattle.std.specs.Str.{IsUtf8, bytes_eq}
 use Rattle.std.specs.Option.{option_map}
@@ -15,10 +16,12 @@ use Rattle.mvt_layer.specs.Reads.{values_of, Each, IsText, SaysValue, SaysFeatur
 use Rattle.mvt_write.specs.CanWrite.{CanWriteValue, CanWriteFeature, CanWriteLayer, CanWriteAll}
 use Rattle.mvt_write.specs.Fits.{FitsTag, FitsFeature, FitsLayer}
 use Rattle.mvt_write.specs.Pools.{pool_of, index_of, has_entry}
-use Rattle.mvt_write.specs.Written.{value_written, bytes_field, number_field, feature_written, tags_of, keys_used, values_used, layer_with, layer_written, written}
+use Rattle.mvt_write.specs.Written.{value_written, bytes_field, number_field, feature_written, tags_of, keys_used, values_used, layer_with, layer_written}
+use Rattle.mvt_write.specs.Written.{written}
 use Rattle.mvt_write.proofs.Lists.{front_has, back_has}
 use Rattle.mvt_write.proofs.Pooled.{index_within, found_at, has-pool_of, All-pool_of, length-pool_of}
-use Rattle.mvt_write.proofs.Messages.{number_entry, bytes_entry, message_number, message_bytes, only_number, length_in_field, fields_written, entries, message_each, values_same, values_other, each_says}
+use Rattle.mvt_write.proofs.Messages.{number_entry, bytes_entry, message_number, message_bytes, only_number, length_in_field, fields_written, entries}
+use Rattle.mvt_write.proofs.Messages.{message_each, values_same, values_other, each_says}
 use Rattle.mvt_write.proofs.ValuesRead.{value_apart, says_value}
 use Rattle.mvt_write.proofs.FeaturesRead.{Found, says_feature}
 
@@ -32,12 +35,15 @@ spoken (t ∷ ts) message = if bytes_eq (value_written t.1) message then t.1 els
 abbrev CanTag : Tagged → Type 0
 CanTag t = CanWriteValue t.1 × FitsTag t
 
-spoken_by : (u : Tagged) (us : List Tagged) (v : TagView) (same : Bool) → bytes_eq (value_written u.1) (value_written v) ≡ same → CanWriteValue u.1 → CanWriteValue v → (has_entry (values_used us) (value_written v) ≡ true → spoken us (value_written v) ≡ v) → has_entry (values_used (u ∷ us)) (value_written v) ≡ true → spoken (u ∷ us) (value_written v) ≡ v
+spoken_by : (u : Tagged) (us : List Tagged) (v : TagView) (same : Bool) → bytes_eq (value_written u.1) (value_written v) ≡ same → CanWriteValue u.1
+    → CanWriteValue v → (has_entry (values_used us) (value_written v) ≡ true → spoken us (value_written v) ≡ v)
+    → has_entry (values_used (u ∷ us)) (value_written v) ≡ true → spoken (u ∷ us) (value_written v) ≡ v
 unfolding spoken has_entry
 spoken_by u us v true is can_u can_v behind has = rw is (value_apart u.1 v can_u can_v ((bytes_eq-Decides (value_written u.1) (value_written v)).0 is))
 spoken_by u us v false is can_u can_v behind has = rw is (behind (rw is at has))
 
-spoken_is : (tags : List Tagged) (v : TagView) → AllByRecursion CanTag tags → CanWriteValue v → has_entry (values_used tags) (value_written v) ≡ true → spoken tags (value_written v) ≡ v
+spoken_is : (tags : List Tagged) (v : TagView) → AllByRecursion CanTag tags → CanWriteValue v → has_entry (values_used tags) (value_written v) ≡ true
+    → spoken tags (value_written v) ≡ v
 unfolding has_entry
 spoken_is [] v all can has = absurd (cc)
 spoken_is (u ∷ us) v all can has = spoken_by u us v (bytes_eq (value_written u.1) (value_written v)) refl all.0.0 can (spoken_is us v all.1 can) has
@@ -48,7 +54,8 @@ used_at : (part : Tagged → List ℕ) (tags : List Tagged) (i : ℕ) (d : Tagge
 unfolding has_entry
 used_at part tags i d within =
     let here = get_or-map part tags i d (part d) within in
-    list_any_at (λ held. bytes_eq held (part (get_or tags i d))) (map part tags) i (part d) (rw (length-map tags part) within) (rw here ((bytes_eq-Decides (part (get_or tags i d)) (part (get_or tags i d))).1 refl))
+    list_any_at (λ held. bytes_eq held (part (get_or tags i d))) (map part tags) i (part d) (rw (length-map tags part) within)
+    (rw here ((bytes_eq-Decides (part (get_or tags i d)) (part (get_or tags i d))).1 refl))
 
 module _ (tags : List Tagged) (can : All CanTag tags) where
   abbrev key_pool : List (List ℕ)
@@ -60,7 +67,8 @@ module _ (tags : List Tagged) (can : All CanTag tags) where
   abbrev value_pool : List TagView
   value_pool = map (spoken tags) message_pool
 
-  index_small : (part : Tagged → List ℕ) (entry : List ℕ) → length tags < 2 ^ 32 → has_entry (pool_of (map part tags)) entry ≡ true → index_of (pool_of (map part tags)) entry < 2 ^ 32
+  index_small : (part : Tagged → List ℕ) (entry : List ℕ) → length tags < 2 ^ 32 → has_entry (pool_of (map part tags)) entry ≡ true
+      → index_of (pool_of (map part tags)) entry < 2 ^ 32
   index_small part entry few has = omega (arith, index_within (pool_of (map part tags)) entry has, length-pool_of (map part tags), length-map tags part)
 
   found_all : length tags < 2 ^ 32 → All (Found key_pool message_pool value_pool) tags
@@ -73,7 +81,9 @@ module _ (tags : List Tagged) (can : All CanTag tags) where
       let has_value : has_entry message_pool (value_written t.1) ≡ true = has-pool_of (values_used tags) (value_written t.1) ∙ value_used in
       record {
         key = found_at key_pool t.0 has_key;
-        value = slice_get-map (spoken tags) message_pool (index_of message_pool (value_written t.1)) ∙ ap (option_map (spoken tags)) (found_at message_pool (value_written t.1) has_value) ∙ ap Some (spoken_is tags t.1 each (can i d within).0 value_used);
+        value = slice_get-map (spoken tags) message_pool (index_of message_pool (value_written t.1))
+            ∙ ap (option_map (spoken tags)) (found_at message_pool (value_written t.1) has_value)
+            ∙ ap Some (spoken_is tags t.1 each (can i d within).0 value_used);
         key_small = index_small (λ u. u.0) t.0 few has_key;
         value_small = index_small (λ u. value_written u.1) (value_written t.1) few has_value;
       }
@@ -102,9 +112,12 @@ tags_each : (P : Tagged → Type 0) (fs : List FeatureView) → AllByRecursion P
 tags_each P [] all = tt
 tags_each P (f ∷ fs) all = (front_has P f.tags (tags_of fs) all, tags_each P fs (back_has P f.tags (tags_of fs) all))
 
-features_say : (keys messages : List (List ℕ)) (values : List TagView) (fs : List FeatureView) → AllByRecursion CanWriteFeature fs → AllByRecursion FitsFeature fs → AllByRecursion (λ f. AllByRecursion (Found keys messages values) f.tags) fs → AllByRecursion (λ f. length (feature_written keys messages f) < 2 ^ 64 → SaysFeature keys values (feature_written keys messages f) f) fs
+features_say : (keys messages : List (List ℕ)) (values : List TagView) (fs : List FeatureView) → AllByRecursion CanWriteFeature fs
+    → AllByRecursion FitsFeature fs → AllByRecursion (λ f. AllByRecursion (Found keys messages values) f.tags) fs
+    → AllByRecursion (λ f. length (feature_written keys messages f) < 2 ^ 64 → SaysFeature keys values (feature_written keys messages f) f) fs
 features_say keys messages values [] can fits found = tt
-features_say keys messages values (f ∷ fs) can fits found = (says_feature keys messages values f can.0 fits.0 found.0, features_say keys messages values fs can.1 fits.1 found.1)
+features_say keys messages values (f ∷ fs) can fits found =
+    (says_feature keys messages values f can.0 fits.0 found.0, features_say keys messages values fs can.1 fits.1 found.1)
 
 texts_say : (keys : List (List ℕ)) → AllByRecursion IsUtf8 keys → AllByRecursion (λ key. length key < 2 ^ 64 → IsText key key) keys
 texts_say [] all = tt
@@ -117,7 +130,9 @@ abbrev end_entries : LayerView → List Entry
 end_entries l = number_entry 5 l.extent ∷ number_entry 15 l.version ∷ []
 
 end_message : (l : LayerView) → CanWriteLayer l → IsMessage (end_fields l) (end_entries l)
-end_message l can = message_number 5 l.extent (number_field 15 l.version) (number_entry 15 l.version ∷ []) (omega arith, omega arith) (omega (arith, can.extent)) (only_number 15 l.version (omega arith, omega arith) (omega (arith, can.version)))
+end_message l can =
+    message_number 5 l.extent (number_field 15 l.version) (number_entry 15 l.version ∷ []) (omega arith, omega arith) (omega (arith, can.extent))
+    (only_number 15 l.version (omega arith, omega arith) (omega (arith, can.version)))
 
 -- the parts that a layer's message has, behind its name
 module _ (write : FeatureView → List ℕ) (fs : List FeatureView) (keys messages : List (List ℕ)) (l : LayerView) where
@@ -125,24 +140,31 @@ module _ (write : FeatureView → List ℕ) (fs : List FeatureView) (keys messag
   middle = entries 2 write fs ++ (entries 3 (λ k. k) keys ++ (entries 4 (λ m. m) messages ++ end_entries l))
 
   none_of : (number : ℕ) → eqb 2 number ≡ false → eqb 3 number ≡ false → eqb 4 number ≡ false → values_of number middle ≡ values_of number (end_entries l)
-  none_of number two three four = values_other 2 write number fs (entries 3 (λ k. k) keys ++ (entries 4 (λ m. m) messages ++ end_entries l)) two ∙ values_other 3 (λ k. k) number keys (entries 4 (λ m. m) messages ++ end_entries l) three ∙ values_other 4 (λ m. m) number messages (end_entries l) four
+  none_of number two three four = values_other 2 write number fs (entries 3 (λ k. k) keys ++ (entries 4 (λ m. m) messages ++ end_entries l)) two
+      ∙ values_other 3 (λ k. k) number keys (entries 4 (λ m. m) messages ++ end_entries l) three ∙ values_other 4 (λ m. m) number messages (end_entries l) four
 
   abbrev some_parts : List (List ℕ) → List Value
   some_parts parts = map (λ p. some_bytes p) parts
 
   second : values_of 2 middle ≡ some_parts (map write fs)
   second =
-      let rest : values_of 2 (entries 3 (λ k. k) keys ++ (entries 4 (λ m. m) messages ++ end_entries l)) ≡ [] = values_other 3 (λ k. k) 2 keys (entries 4 (λ m. m) messages ++ end_entries l) refl ∙ values_other 4 (λ m. m) 2 messages (end_entries l) refl in
-      values_same 2 write fs (entries 3 (λ k. k) keys ++ (entries 4 (λ m. m) messages ++ end_entries l)) ∙ ap (λ (vs : List Value). some_parts (map write fs) ++ vs) rest ∙ append-nil (some_parts (map write fs))
+      let rest : values_of 2 (entries 3 (λ k. k) keys ++ (entries 4 (λ m. m) messages ++ end_entries l)) ≡ [] =
+      values_other 3 (λ k. k) 2 keys (entries 4 (λ m. m) messages ++ end_entries l) refl ∙ values_other 4 (λ m. m) 2 messages (end_entries l) refl in
+      values_same 2 write fs (entries 3 (λ k. k) keys ++ (entries 4 (λ m. m) messages ++ end_entries l))
+      ∙ ap (λ (vs : List Value). some_parts (map write fs) ++ vs) rest ∙ append-nil (some_parts (map write fs))
 
   third : values_of 3 middle ≡ some_parts (map (λ k. k) keys)
   third =
       let rest : values_of 3 (entries 4 (λ m. m) messages ++ end_entries l) ≡ [] = values_other 4 (λ m. m) 3 messages (end_entries l) refl in
-      values_other 2 write 3 fs (entries 3 (λ k. k) keys ++ (entries 4 (λ m. m) messages ++ end_entries l)) refl ∙ values_same 3 (λ k. k) keys (entries 4 (λ m. m) messages ++ end_entries l) ∙ ap (λ (vs : List Value). some_parts (map (λ k. k) keys) ++ vs) rest ∙ append-nil (some_parts (map (λ k. k) keys))
+      values_other 2 write 3 fs (entries 3 (λ k. k) keys ++ (entries 4 (λ m. m) messages ++ end_entries l)) refl
+      ∙ values_same 3 (λ k. k) keys (entries 4 (λ m. m) messages ++ end_entries l) ∙ ap (λ (vs : List Value). some_parts (map (λ k. k) keys) ++ vs) rest
+      ∙ append-nil (some_parts (map (λ k. k) keys))
 
   fourth : values_of 4 middle ≡ some_parts (map (λ m. m) messages)
   fourth =
-      values_other 2 write 4 fs (entries 3 (λ k. k) keys ++ (entries 4 (λ m. m) messages ++ end_entries l)) refl ∙ values_other 3 (λ k. k) 4 keys (entries 4 (λ m. m) messages ++ end_entries l) refl ∙ values_same 4 (λ m. m) messages (end_entries l) ∙ append-nil (some_parts (map (λ m. m) messages))
+      values_other 2 write 4 fs (entries 3 (λ k. k) keys ++ (entries 4 (λ m. m) messages ++ end_entries l)) refl
+      ∙ values_other 3 (λ k. k) 4 keys (entries 4 (λ m. m) messages ++ end_entries l) refl ∙ values_same 4 (λ m. m) messages (end_entries l)
+      ∙ append-nil (some_parts (map (λ m. m) messages))
 
 says_layer : (l : LayerView) → CanWriteLayer l → FitsLayer l → length (layer_written l) < 2 ^ 64 → SaysLayer (layer_written l) l
 unfolding layer_with
@@ -170,10 +192,14 @@ says_layer l can fits below =
     let values_small : length value_fields < 2 ^ 64 = omega (arith, a, b, c, d) in
     let m4 = message_each 4 (λ m. m) ms (end_fields l) (end_entries l) (omega arith, omega arith) values_small (end_message l can) in
     let m3 = message_each 3 (λ k. k) ks (value_fields ++ end_fields l) (entries 4 (λ m. m) ms ++ end_entries l) (omega arith, omega arith) keys_small m4 in
-    let m2 = message_each 2 write fs (key_fields ++ (value_fields ++ end_fields l)) (entries 3 (λ k. k) ks ++ (entries 4 (λ m. m) ms ++ end_entries l)) (omega arith, omega arith) features_small m3 in
+    let m2 =
+    message_each 2 write fs (key_fields ++ (value_fields ++ end_fields l)) (entries 3 (λ k. k) ks ++ (entries 4 (λ m. m) ms ++ end_entries l))
+    (omega arith, omega arith) features_small m3 in
     record {
       fields = bytes_entry 1 l.name ∷ middle write fs ks ms l;
-      message = message_bytes 1 l.name (feature_fields ++ (key_fields ++ (value_fields ++ end_fields l))) (middle write fs ks ms l) (omega arith, omega arith) (omega (arith, a, n)) m2;
+      message =
+          message_bytes 1 l.name (feature_fields ++ (key_fields ++ (value_fields ++ end_fields l))) (middle write fs ks ms l) (omega arith, omega arith)
+          (omega (arith, a, n)) m2;
       name = rw (none_of write fs ks ms l 1 refl refl refl) refl;
       name_text = fits.name;
       raw_version = Some l.version;
@@ -187,19 +213,24 @@ says_layer l can fits below =
       raw_keys = map (λ k. k) ks;
       raw_keys_are = third write fs ks ms l;
       keys = ks;
-      keys_are = subst (λ (texts : List (List ℕ)). Each IsText (map (λ k. k) ks) texts) (map-id ks) (each_says 3 (λ k. k) IsText (λ k. k) ks (texts_say ks (recursion_from_All IsUtf8 ks (texts_all tags can_tags))) keys_small);
+      keys_are =
+          subst (λ (texts : List (List ℕ)). Each IsText (map (λ k. k) ks) texts) (map-id ks)
+          (each_says 3 (λ k. k) IsText (λ k. k) ks (texts_say ks (recursion_from_All IsUtf8 ks (texts_all tags can_tags))) keys_small);
       raw_values = map (λ m. m) ms;
       raw_values_are = fourth write fs ks ms l;
       values = vs;
       values_are = each_says 4 (λ m. m) SaysValue (spoken tags) ms (recursion_from_All (Speaks tags can_tags) ms (speaks_all tags can_tags)) values_small;
       raw_features = map write fs;
       raw_features_are = second write fs ks ms l;
-      features = subst (λ (gs : List FeatureView). Each (SaysFeature ks vs) (map write fs) gs) (map-id fs) (each_says 2 write (SaysFeature ks vs) (λ f. f) fs (features_say ks ms vs fs can_each fits_each found) features_small);
+      features =
+          subst (λ (gs : List FeatureView). Each (SaysFeature ks vs) (map write fs) gs) (map-id fs)
+          (each_says 2 write (SaysFeature ks vs) (λ f. f) fs (features_say ks ms vs fs can_each fits_each found) features_small);
     }
 
 -- ---- tiles
 
-layers_say : (ls : List LayerView) → AllByRecursion CanWriteLayer ls → AllByRecursion FitsLayer ls → AllByRecursion (λ l. length (layer_written l) < 2 ^ 64 → SaysLayer (layer_written l) l) ls
+layers_say : (ls : List LayerView) → AllByRecursion CanWriteLayer ls → AllByRecursion FitsLayer ls
+    → AllByRecursion (λ l. length (layer_written l) < 2 ^ 64 → SaysLayer (layer_written l) l) ls
 layers_say [] can fits = tt
 layers_say (l ∷ ls) can fits = (says_layer l can.0 fits.0, layers_say ls can.1 fits.1)
 
@@ -213,6 +244,7 @@ written_reads ls can fits below =
       message = subst (λ (b : List ℕ). IsMessage b (entries 3 layer_written ls ++ [])) (append-nil (fields_written 3 layer_written ls)) m;
       parts = map layer_written ls;
       parts_are = values_same 3 layer_written ls [] ∙ append-nil (map (λ p. some_bytes p) (map layer_written ls));
-      layers = subst (λ (all : List LayerView). Each SaysLayer (map layer_written ls) all) (map-id ls) (each_says 3 layer_written SaysLayer (λ l. l) ls says below);
+      layers =
+          subst (λ (all : List LayerView). Each SaysLayer (map layer_written ls) all) (map-id ls) (each_says 3 layer_written SaysLayer (λ l. l) ls says below);
       named = can.named;
     }

@@ -1,8 +1,9 @@
 mod FeatureSteps
 mod FeaturesRead
 pub mod Integers
+pub mod Laws
 mod LayerSteps
-pub mod LayersRead
+mod LayersRead
 pub mod Lengths
 mod Lists
 mod Messages

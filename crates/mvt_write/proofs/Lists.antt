@@ -9,7 +9,7 @@ module _ {A B : Type 0} (f : A → B) where
   pub map_more : (xs : List A) (i : ℕ) (d : A) → i < length xs → map f (take (i + 1) xs) ≡ map f (take i xs) ++ f (get_or xs i d) ∷ []
   map_more xs i d within = ap (λ (ys : List A). map f ys) (take_more xs i d within) ∙ map-append f (take i xs) (get_or xs i d ∷ [])
 
-  -- what each has, the one at this place has
+  -- what each has, the one at this index has
   pub mapped_has : (P : B → Type 0) (xs : List A) (i : ℕ) (d : A) → i < length xs → All P (map f xs) → P (f (get_or xs i d))
   mapped_has P xs i d within all =
       subst P (get_or-map f xs i d (f d) within) (all i (f d) (rw (length-map xs f) within))

@@ -1,5 +1,6 @@
 -- What is written as fields is a message of these fields.
-use Rattle.std.proofs.Common.{◌≡◌, ℕ, false, eqb, ◌+◌, ◌*◌, ◌^◌, ◌<◌, ◌≤◌, List, [], ◌∷◌, ◌++◌, length, map, refl, sym, ap, subst, append_assoc, append-nil, add-zero, arith, eq-eqb}
+use Rattle.std.proofs.Common.{◌≡◌, ℕ, false, eqb, ◌+◌, ◌*◌, ◌^◌, ◌<◌, ◌≤◌, List, [], ◌∷◌, ◌++◌, length, map, refl, sym, ap, subst, append_assoc, append-nil}
+use Rattle.std.proofs.Common.{add-zero, arith, eq-eqb}
 use Rattle.std.specs.List.{flat_map, AllByRecursion}
 use Rattle.std.proofs.lemmas.List.{length-append}
 use Rattle.pb_wire.specs.Varint.{IsVarint, varint}
@@ -18,7 +19,8 @@ abbrev pub bytes_entry : ℕ → List ℕ → Entry
 bytes_entry number bytes = record { number = number; value = some_bytes bytes }
 
 -- a message that begins with a number
-pub message_number : (number n : ℕ) (rest : List ℕ) (fs : List Entry) → IsNumber number → n < 2 ^ 64 → IsMessage rest fs → IsMessage (number_field number n ++ rest) (number_entry number n ∷ fs)
+pub message_number : (number n : ℕ) (rest : List ℕ) (fs : List Entry) → IsNumber number → n < 2 ^ 64 → IsMessage rest fs
+    → IsMessage (number_field number n ++ rest) (number_entry number n ∷ fs)
 message_number number n rest fs fits below others = (
   number_field number n,
   rest,
@@ -35,7 +37,8 @@ message_number number n rest fs fits below others = (
 )
 
 -- a message that begins with bytes
-pub message_bytes : (number : ℕ) (bytes rest : List ℕ) (fs : List Entry) → IsNumber number → length bytes < 2 ^ 64 → IsMessage rest fs → IsMessage (bytes_field number bytes ++ rest) (bytes_entry number bytes ∷ fs)
+pub message_bytes : (number : ℕ) (bytes rest : List ℕ) (fs : List Entry) → IsNumber number → length bytes < 2 ^ 64 → IsMessage rest fs
+    → IsMessage (bytes_field number bytes ++ rest) (bytes_entry number bytes ∷ fs)
 message_bytes number bytes rest fs fits below others = (
   bytes_field number bytes,
   rest,
@@ -53,13 +56,17 @@ message_bytes number bytes rest fs fits below others = (
 
 -- messages of one field
 pub only_number : (number n : ℕ) → IsNumber number → n < 2 ^ 64 → IsMessage (number_field number n) (number_entry number n ∷ [])
-only_number number n fits below = subst (λ (b : List ℕ). IsMessage b (number_entry number n ∷ [])) (append-nil (number_field number n)) (message_number number n [] [] fits below refl)
+only_number number n fits below =
+    subst (λ (b : List ℕ). IsMessage b (number_entry number n ∷ [])) (append-nil (number_field number n)) (message_number number n [] [] fits below refl)
 
 pub only_bytes : (number : ℕ) (bytes : List ℕ) → IsNumber number → length bytes < 2 ^ 64 → IsMessage (bytes_field number bytes) (bytes_entry number bytes ∷ [])
-only_bytes number bytes fits below = subst (λ (b : List ℕ). IsMessage b (bytes_entry number bytes ∷ [])) (append-nil (bytes_field number bytes)) (message_bytes number bytes [] [] fits below refl)
+only_bytes number bytes fits below =
+    subst (λ (b : List ℕ). IsMessage b (bytes_entry number bytes ∷ [])) (append-nil (bytes_field number bytes))
+    (message_bytes number bytes [] [] fits below refl)
 
 pub length_in_field : (number : ℕ) (bytes : List ℕ) → length bytes ≤ length (bytes_field number bytes)
-length_in_field number bytes = omega (arith, length-append (varint (8 * number + 2)) (varint (length bytes) ++ bytes), length-append (varint (length bytes)) bytes)
+length_in_field number bytes =
+    omega (arith, length-append (varint (8 * number + 2)) (varint (length bytes) ++ bytes), length-append (varint (length bytes)) bytes)
 
 -- ---- one field for each item of a list
 
@@ -70,19 +77,23 @@ module _ {X : Type 0} (number : ℕ) (bytes_of : X → List ℕ) where
   abbrev pub entries : List X → List Entry
   entries xs = map (λ x. bytes_entry number (bytes_of x)) xs
 
-  lengths_in : (x : X) (xs : List X) → (length (bytes_of x) ≤ length (fields_written (x ∷ xs))) × (length (fields_written xs) ≤ length (fields_written (x ∷ xs)))
+  lengths_in : (x : X) (xs : List X)
+      → (length (bytes_of x) ≤ length (fields_written (x ∷ xs))) × (length (fields_written xs) ≤ length (fields_written (x ∷ xs)))
   lengths_in x xs =
       let e = length-append (bytes_field number (bytes_of x)) (fields_written xs) in
       let f = length_in_field number (bytes_of x) in
       (omega (arith, e, f), omega (arith, e))
 
-  pub message_each : (xs : List X) (rest : List ℕ) (fs : List Entry) → IsNumber number → length (fields_written xs) < 2 ^ 64 → IsMessage rest fs → IsMessage (fields_written xs ++ rest) (entries xs ++ fs)
+  pub message_each : (xs : List X) (rest : List ℕ) (fs : List Entry) → IsNumber number → length (fields_written xs) < 2 ^ 64 → IsMessage rest fs
+      → IsMessage (fields_written xs ++ rest) (entries xs ++ fs)
   message_each [] rest fs fits below others = others
   message_each (x ∷ xs) rest fs fits below others =
       let len = lengths_in x xs in
       let next = message_each xs rest fs fits (omega (arith, len.1)) others in
-      let regrouped : fields_written (x ∷ xs) ++ rest ≡ bytes_field number (bytes_of x) ++ (fields_written xs ++ rest) = append_assoc (bytes_field number (bytes_of x)) (fields_written xs) rest in
-      subst (λ (b : List ℕ). IsMessage b (bytes_entry number (bytes_of x) ∷ (entries xs ++ fs))) (sym regrouped) (message_bytes number (bytes_of x) (fields_written xs ++ rest) (entries xs ++ fs) fits (omega (arith, len.0)) next)
+      let regrouped : fields_written (x ∷ xs) ++ rest ≡ bytes_field number (bytes_of x) ++ (fields_written xs ++ rest) =
+      append_assoc (bytes_field number (bytes_of x)) (fields_written xs) rest in
+      subst (λ (b : List ℕ). IsMessage b (bytes_entry number (bytes_of x) ∷ (entries xs ++ fs))) (sym regrouped)
+      (message_bytes number (bytes_of x) (fields_written xs ++ rest) (entries xs ++ fs) fits (omega (arith, len.0)) next)
 
   -- the fields of this number are the parts, and no other number has one
   pub values_same : (xs : List X) (fs : List Entry) → values_of number (entries xs ++ fs) ≡ map (λ p. some_bytes p) (map bytes_of xs) ++ values_of number fs
@@ -94,7 +105,9 @@ module _ {X : Type 0} (number : ℕ) (bytes_of : X → List ℕ) where
   values_other other (x ∷ xs) fs differs = rw differs (values_other other xs fs differs)
 
   -- what each is written as says what it is taken for
-  pub each_says : {Y : Type 0} (Says : List ℕ → Y → Type 0) (taken : X → Y) (xs : List X) → AllByRecursion (λ x. length (bytes_of x) < 2 ^ 64 → Says (bytes_of x) (taken x)) xs → length (fields_written xs) < 2 ^ 64 → Each Says (map bytes_of xs) (map taken xs)
+  pub each_says : {Y : Type 0} (Says : List ℕ → Y → Type 0) (taken : X → Y) (xs : List X)
+      → AllByRecursion (λ x. length (bytes_of x) < 2 ^ 64 → Says (bytes_of x) (taken x)) xs → length (fields_written xs) < 2 ^ 64
+      → Each Says (map bytes_of xs) (map taken xs)
   each_says Says taken [] says below = tt
   each_says Says taken (x ∷ xs) says below =
       let len = lengths_in x xs in

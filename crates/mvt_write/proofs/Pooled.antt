@@ -1,5 +1,6 @@
 -- Pools, entry by entry.
-use Rattle.std.proofs.Common.{Bor, Ordering, is_eq, ◌≡◌, ℕ, ◌+◌, ◌<◌, ◌≤◌, Bool, true, false, cond, get_or, not, ◌||◌, eqb, List, [], ◌∷◌, ◌++◌, length, map, refl, sym, ap, subst, ◌∙◌, append_assoc, append-nil, arith}
+use Rattle.std.proofs.Common.{Bor, Ordering, is_eq, ◌≡◌, ℕ, ◌+◌, ◌<◌, ◌≤◌, Bool, true, false, cond, get_or, not, ◌||◌, eqb, List, [], ◌∷◌, ◌++◌, length, map}
+use Rattle.std.proofs.Common.{refl, sym, ap, subst, ◌∙◌, append_assoc, append-nil, arith}
 use Rattle.std.specs.Prelude.{filter, Option, Some, None, All, slice_get}
 use Rattle.std.specs.Option.{option_copied}
 use Rattle.std.specs.List.{list_any, position_or_len}
@@ -12,10 +13,12 @@ use Rattle.std.proofs.lemmas.Option.{slice_get-get_or}
 use Rattle.std.proofs.lemmas.List.Folds.{list_any-append, position_or_len_push, prefix_len-append}
 use Rattle.std.proofs.lemmas.Map.Views.{any-filter_same}
 use Rattle.std.proofs.lemmas.Slice.Eq.{bytes_eq-Decides}
-use Rattle.mvt_write.specs.Pools.{pool_of, index_of, has_entry, with_entry, place_in, AddsUses}
+use Rattle.mvt_write.specs.Pools.{pool_of, index_of, has_entry, with_entry, index_in, AddsUses}
 
 -- a test that is passed is passed before the end
-first_within : (test : List ℕ → Bool) (held : List ℕ) (pool : List (List ℕ)) (b : Bool) → test held ≡ b → (list_any test pool ≡ true → position_or_len test pool < length pool) → list_any test (held ∷ pool) ≡ true → position_or_len test (held ∷ pool) < length (held ∷ pool)
+first_within : (test : List ℕ → Bool) (held : List ℕ) (pool : List (List ℕ)) (b : Bool) → test held ≡ b
+    → (list_any test pool ≡ true → position_or_len test pool < length pool) → list_any test (held ∷ pool) ≡ true
+    → position_or_len test (held ∷ pool) < length (held ∷ pool)
 first_within test held pool true is behind e = rw is (omega arith)
 first_within test held pool false is behind e = let within = behind (rw is at e) in rw is (omega (arith, within))
 
@@ -24,7 +27,9 @@ passes_within test [] e = absurd (cc)
 passes_within test (held ∷ pool) e = first_within test held pool (test held) refl (passes_within test pool) e
 
 -- one that isn't passed comes to the end
-first_fails : (test : List ℕ → Bool) (held : List ℕ) (pool : List (List ℕ)) (b : Bool) → test held ≡ b → (list_any test pool ≡ false → position_or_len test pool ≡ length pool) → list_any test (held ∷ pool) ≡ false → position_or_len test (held ∷ pool) ≡ length (held ∷ pool)
+first_fails : (test : List ℕ → Bool) (held : List ℕ) (pool : List (List ℕ)) (b : Bool) → test held ≡ b
+    → (list_any test pool ≡ false → position_or_len test pool ≡ length pool) → list_any test (held ∷ pool) ≡ false
+    → position_or_len test (held ∷ pool) ≡ length (held ∷ pool)
 first_fails test held pool true is behind e = let no : true ≡ false = rw is at e in absurd (cc)
 first_fails test held pool false is behind e = let end = behind (rw is at e) in rw is (omega (arith, end))
 
@@ -47,13 +52,16 @@ or_end false false = refl
 
 has_push : (pool : List (List ℕ)) (entry query : List ℕ) → has_entry (pool ++ entry ∷ []) query ≡ (has_entry pool query || bytes_eq entry query)
 unfolding has_entry
-has_push pool entry query = list_any-append (λ held. bytes_eq held query) pool (entry ∷ []) ∙ or_end (list_any (λ held. bytes_eq held query) pool) (bytes_eq entry query)
+has_push pool entry query = list_any-append (λ held. bytes_eq held query) pool (entry ∷ [])
+    ∙ or_end (list_any (λ held. bytes_eq held query) pool) (bytes_eq entry query)
 
-index_push : (pool : List (List ℕ)) (entry query : List ℕ) → index_of (pool ++ entry ∷ []) query ≡ cond (eqb (index_of pool query) (length pool)) (length pool + cond (bytes_eq entry query) 0 1) (index_of pool query)
+index_push : (pool : List (List ℕ)) (entry query : List ℕ)
+    → index_of (pool ++ entry ∷ []) query ≡ cond (eqb (index_of pool query) (length pool)) (length pool + cond (bytes_eq entry query) 0 1) (index_of pool query)
 unfolding index_of
 index_push pool entry query = position_or_len_push (λ held. bytes_eq held query) pool entry
 
-push_by : (pool : List (List ℕ)) (entry query : List ℕ) (same has : Bool) → has_entry pool entry ≡ false → bytes_eq entry query ≡ same → has_entry pool query ≡ has → place_in (pool ++ entry ∷ []) query ≡ cond same (Some (length pool)) (place_in pool query)
+push_by : (pool : List (List ℕ)) (entry query : List ℕ) (same has : Bool) → has_entry pool entry ≡ false → bytes_eq entry query ≡ same
+    → has_entry pool query ≡ has → index_in (pool ++ entry ∷ []) query ≡ cond same (Some (length pool)) (index_in pool query)
 push_by pool entry query true true absent alike is =
     let e : entry ≡ query = (bytes_eq-Decides entry query).0 alike in
     let no : has_entry pool query ≡ false = subst (λ (q : List ℕ). has_entry pool q ≡ false) e absent in
@@ -68,8 +76,9 @@ push_by pool entry query false false absent alike is =
     rw (has_push pool entry query, is, alike) refl
 
 -- what is found once an entry is added
-pub place_in_push : (pool : List (List ℕ)) (entry query : List ℕ) → has_entry pool entry ≡ false → place_in (pool ++ entry ∷ []) query ≡ cond (bytes_eq entry query) (Some (length pool)) (place_in pool query)
-place_in_push pool entry query absent = push_by pool entry query (bytes_eq entry query) (has_entry pool query) absent refl refl
+pub index_in_push : (pool : List (List ℕ)) (entry query : List ℕ) → has_entry pool entry ≡ false
+    → index_in (pool ++ entry ∷ []) query ≡ cond (bytes_eq entry query) (Some (length pool)) (index_in pool query)
+index_in_push pool entry query absent = push_by pool entry query (bytes_eq entry query) (has_entry pool query) absent refl refl
 
 -- an entry is held once it is added
 with_entry_by : (pool : List (List ℕ)) (entry : List ℕ) (has : Bool) → has_entry pool entry ≡ has → has_entry (with_entry pool entry) entry ≡ true
@@ -80,21 +89,30 @@ pub has-with_entry : (pool : List (List ℕ)) (entry : List ℕ) → has_entry (
 has-with_entry pool entry = with_entry_by pool entry (has_entry pool entry) refl
 
 -- an entry that no look-up finds isn't held
-absent_by : (pool : List (List ℕ)) (entry : List ℕ) (found : Option (Bor ℕ)) (has : Bool) → has_entry pool entry ≡ has → option_copied found ≡ place_in pool entry → ((place : Bor ℕ) → found ≡ Some place → ⊥) → has ≡ false
+absent_by : (pool : List (List ℕ)) (entry : List ℕ) (found : Option (Bor ℕ)) (has : Bool) → has_entry pool entry ≡ has
+    → option_copied found ≡ index_in pool entry → ((index : Bor ℕ) → found ≡ Some index → ⊥) → has ≡ false
 absent_by pool entry found false is copied not_found = refl
 absent_by pool entry None true is copied not_found = let some : None ≡ Some (index_of pool entry) = rw is at copied in absurd (cc)
-absent_by pool entry (Some place) true is copied not_found = absurd (not_found place refl)
+absent_by pool entry (Some index) true is copied not_found = absurd (not_found index refl)
 
-pub absent_from : (pool : List (List ℕ)) (entry : List ℕ) (found : Option (Bor ℕ)) → option_copied found ≡ place_in pool entry → ((place : Bor ℕ) → found ≡ Some place → ⊥) → has_entry pool entry ≡ false
+pub absent_from : (pool : List (List ℕ)) (entry : List ℕ) (found : Option (Bor ℕ)) → option_copied found ≡ index_in pool entry
+    → ((index : Bor ℕ) → found ≡ Some index → ⊥) → has_entry pool entry ≡ false
 absent_from pool entry found copied not_found = absent_by pool entry found (has_entry pool entry) refl copied not_found
 
--- each look-up finds the place, also once an entry is added that none found
-pub placed_push : {K : Type 0} (spelled : K → List ℕ) (cmp : K → K → Ordering) → ((a b : K) → is_eq (cmp a b) ≡ bytes_eq (spelled a) (spelled b)) → (before after : K → Option ℕ) (items : List K) (entry : K) (place : ℕ) → place ≡ length items → (found : Option (Bor ℕ)) → ((q : K) → before q ≡ place_in (map spelled items) (spelled q)) → option_copied found ≡ before entry → ((place : Bor ℕ) → found ≡ Some place → ⊥) → ((q : K) → after q ≡ cond (is_eq (cmp entry q)) (Some place) (before q)) → (q : K) → after q ≡ place_in (map spelled (items ++ entry ∷ [])) (spelled q)
-placed_push {K} spelled cmp same before after items entry place last found placed copied not_found updates q =
-    let absent = absent_from (map spelled items) (spelled entry) found (copied ∙ placed entry) not_found in
-    let now = place_in_push (map spelled items) (spelled entry) (spelled q) absent in
-    let whole : place_in (map spelled (items ++ entry ∷ [])) (spelled q) ≡ cond (bytes_eq (spelled entry) (spelled q)) (Some place) (place_in (map spelled items) (spelled q)) = ap (λ (pool : List (List ℕ)). place_in pool (spelled q)) (map-append spelled items (entry ∷ [])) ∙ now ∙ ap (λ (n : ℕ). cond (bytes_eq (spelled entry) (spelled q)) (Some n) (place_in (map spelled items) (spelled q))) (length-map items spelled ∙ sym last) in
-    updates q ∙ rw (same entry q, placed q) (sym whole)
+-- each look-up finds the index, also once an entry is added that none found
+pub indexed_push : {K : Type 0} (spelled : K → List ℕ) (cmp : K → K → Ordering) → ((a b : K) → is_eq (cmp a b) ≡ bytes_eq (spelled a) (spelled b))
+    → (before after : K → Option ℕ) (items : List K) (entry : K) (index : ℕ) → index ≡ length items → (found : Option (Bor ℕ))
+    → ((q : K) → before q ≡ index_in (map spelled items) (spelled q)) → option_copied found ≡ before entry → ((index : Bor ℕ) → found ≡ Some index → ⊥)
+    → ((q : K) → after q ≡ cond (is_eq (cmp entry q)) (Some index) (before q)) → (q : K) → after q ≡ index_in (map spelled (items ++ entry ∷ [])) (spelled q)
+indexed_push {K} spelled cmp same before after items entry index last found indexed copied not_found updates q =
+    let absent = absent_from (map spelled items) (spelled entry) found (copied ∙ indexed entry) not_found in
+    let now = index_in_push (map spelled items) (spelled entry) (spelled q) absent in
+    let whole : index_in (map spelled (items ++ entry ∷ [])) (spelled q)
+    ≡ cond (bytes_eq (spelled entry) (spelled q)) (Some index) (index_in (map spelled items) (spelled q)) =
+    ap (λ (pool : List (List ℕ)). index_in pool (spelled q)) (map-append spelled items (entry ∷ [])) ∙ now
+    ∙ ap (λ (n : ℕ). cond (bytes_eq (spelled entry) (spelled q)) (Some n) (index_in (map spelled items) (spelled q)))
+    (length-map items spelled ∙ sym last) in
+    updates q ∙ rw (same entry q, indexed q) (sym whole)
 
 -- ---- one use more
 
@@ -109,7 +127,8 @@ apart_by held first entry true apart is same =
 abbrev without : List ℕ → List (List ℕ) → List (List ℕ)
 without first pool = filter (λ held. not (bytes_eq held first)) pool
 
-length_by : (first held : List ℕ) (pool : List (List ℕ)) (same : Bool) → bytes_eq held first ≡ same → length (without first pool) ≤ length pool → length (without first (held ∷ pool)) ≤ length (held ∷ pool)
+length_by : (first held : List ℕ) (pool : List (List ℕ)) (same : Bool) → bytes_eq held first ≡ same → length (without first pool) ≤ length pool
+    → length (without first (held ∷ pool)) ≤ length (held ∷ pool)
 length_by first held pool true is behind = rw is (omega (arith, behind))
 length_by first held pool false is behind = rw is (omega (arith, behind))
 
@@ -118,9 +137,12 @@ length-without first [] = omega arith
 length-without first (held ∷ pool) = length_by first held pool (bytes_eq held first) refl (length-without first pool)
 
 -- another entry stays, where one is taken out
-has-without : (first : List ℕ) (pool : List (List ℕ)) (entry : List ℕ) → bytes_eq first entry ≡ false → has_entry (without first pool) entry ≡ has_entry pool entry
+has-without : (first : List ℕ) (pool : List (List ℕ)) (entry : List ℕ) → bytes_eq first entry ≡ false
+    → has_entry (without first pool) entry ≡ has_entry pool entry
 unfolding has_entry
-has-without first pool entry apart = any-filter_same (λ held. bytes_eq held entry) (λ held. not (bytes_eq held first)) true (λ held is. apart_by held first entry (bytes_eq held first) apart is refl) pool
+has-without first pool entry apart =
+    any-filter_same (λ held. bytes_eq held entry) (λ held. not (bytes_eq held first)) true
+    (λ held is. apart_by held first entry (bytes_eq held first) apart is refl) pool
 
 has-cons : (first : List ℕ) (pool : List (List ℕ)) (entry : List ℕ) → has_entry (first ∷ pool) entry ≡ (bytes_eq first entry || has_entry pool entry)
 unfolding has_entry
@@ -138,7 +160,8 @@ apart_back first entry true apart is =
 with_new : (pool : List (List ℕ)) (entry : List ℕ) → has_entry pool entry ≡ false → with_entry pool entry ≡ pool ++ entry ∷ []
 with_new pool entry has = rw has refl
 
-push_first : (first : List ℕ) (pool : List (List ℕ)) (entry : List ℕ) (same has : Bool) → bytes_eq first entry ≡ same → has_entry pool entry ≡ has → first ∷ without first (with_entry pool entry) ≡ with_entry (first ∷ without first pool) entry
+push_first : (first : List ℕ) (pool : List (List ℕ)) (entry : List ℕ) (same has : Bool) → bytes_eq first entry ≡ same → has_entry pool entry ≡ has
+    → first ∷ without first (with_entry pool entry) ≡ with_entry (first ∷ without first pool) entry
 push_first first pool entry true true same has =
     let there : has_entry (first ∷ without first pool) entry ≡ true = has-cons first (without first pool) entry ∙ rw same refl in
     ap (λ (p : List (List ℕ)). first ∷ without first p) (with_held pool entry has) ∙ sym (with_held (first ∷ without first pool) entry there)
@@ -147,23 +170,30 @@ push_first first pool entry true false same has =
     let e : first ≡ entry = (bytes_eq-Decides first entry).0 same in
     let back : bytes_eq entry first ≡ true = (bytes_eq-Decides entry first).1 (sym e) in
     let last : without first (entry ∷ []) ≡ [] = rw back refl in
-    let less : without first (pool ++ entry ∷ []) ≡ without first pool = filter-append (λ held. not (bytes_eq held first)) pool (entry ∷ []) ∙ ap (λ (end : List (List ℕ)). without first pool ++ end) last ∙ append-nil (without first pool) in
-    ap (λ (p : List (List ℕ)). first ∷ without first p) (with_new pool entry has) ∙ ap (λ (p : List (List ℕ)). first ∷ p) less ∙ sym (with_held (first ∷ without first pool) entry there)
+    let less : without first (pool ++ entry ∷ []) ≡ without first pool = filter-append (λ held. not (bytes_eq held first)) pool (entry ∷ [])
+    ∙ ap (λ (end : List (List ℕ)). without first pool ++ end) last ∙ append-nil (without first pool) in
+    ap (λ (p : List (List ℕ)). first ∷ without first p) (with_new pool entry has) ∙ ap (λ (p : List (List ℕ)). first ∷ p) less
+    ∙ sym (with_held (first ∷ without first pool) entry there)
 push_first first pool entry false true same has =
-    let there : has_entry (first ∷ without first pool) entry ≡ true = has-cons first (without first pool) entry ∙ rw (same, has-without first pool entry same) has in
+    let there : has_entry (first ∷ without first pool) entry ≡ true = has-cons first (without first pool) entry
+    ∙ rw (same, has-without first pool entry same) has in
     ap (λ (p : List (List ℕ)). first ∷ without first p) (with_held pool entry has) ∙ sym (with_held (first ∷ without first pool) entry there)
 push_first first pool entry false false same has =
-    let there : has_entry (first ∷ without first pool) entry ≡ false = has-cons first (without first pool) entry ∙ rw (same, has-without first pool entry same) has in
+    let there : has_entry (first ∷ without first pool) entry ≡ false = has-cons first (without first pool) entry
+    ∙ rw (same, has-without first pool entry same) has in
     let turned : bytes_eq entry first ≡ false = apart_back first entry (bytes_eq entry first) same refl in
     let last : without first (entry ∷ []) ≡ entry ∷ [] = rw turned refl in
-    let more : without first (pool ++ entry ∷ []) ≡ without first pool ++ entry ∷ [] = filter-append (λ held. not (bytes_eq held first)) pool (entry ∷ []) ∙ ap (λ (end : List (List ℕ)). without first pool ++ end) last in
-    ap (λ (p : List (List ℕ)). first ∷ without first p) (with_new pool entry has) ∙ ap (λ (p : List (List ℕ)). first ∷ p) more ∙ sym (with_new (first ∷ without first pool) entry there)
+    let more : without first (pool ++ entry ∷ []) ≡ without first pool ++ entry ∷ [] = filter-append (λ held. not (bytes_eq held first)) pool (entry ∷ [])
+    ∙ ap (λ (end : List (List ℕ)). without first pool ++ end) last in
+    ap (λ (p : List (List ℕ)). first ∷ without first p) (with_new pool entry has) ∙ ap (λ (p : List (List ℕ)). first ∷ p) more
+    ∙ sym (with_new (first ∷ without first pool) entry there)
 
 -- a pool after one use more
 pub pool_of-push : (uses : List (List ℕ)) (entry : List ℕ) → pool_of (uses ++ entry ∷ []) ≡ with_entry (pool_of uses) entry
 unfolding pool_of has_entry
 pool_of-push [] entry = refl
-pool_of-push (first ∷ uses) entry = ap (λ (pool : List (List ℕ)). first ∷ without first pool) (pool_of-push uses entry) ∙ push_first first (pool_of uses) entry (bytes_eq first entry) (has_entry (pool_of uses) entry) refl refl
+pool_of-push (first ∷ uses) entry = ap (λ (pool : List (List ℕ)). first ∷ without first pool) (pool_of-push uses entry)
+    ∙ push_first first (pool_of uses) entry (bytes_eq first entry) (has_entry (pool_of uses) entry) refl refl
 
 -- ---- more entries change no index
 
@@ -194,8 +224,13 @@ adds_entry old new entry step =
 -- uses behind uses
 pub adds_more : (first then last us vs all : List (List ℕ)) → AddsUses first then us → AddsUses then last vs → all ≡ us ++ vs → AddsUses first last all
 adds_more first then last us vs all before after is = record {
-  grows = (before.grows.0 ++ after.grows.0, after.grows.1 ∙ ap (λ (pool : List (List ℕ)). pool ++ after.grows.0) before.grows.1 ∙ append_assoc first before.grows.0 after.grows.0);
-  pool = λ uses start. after.pool (uses ++ us) (before.pool uses start) ∙ ap pool_of (append_assoc uses us vs ∙ ap (λ (ws : List (List ℕ)). uses ++ ws) (sym is));
+  grows = (
+    before.grows.0 ++ after.grows.0,
+    after.grows.1 ∙ ap (λ (pool : List (List ℕ)). pool ++ after.grows.0) before.grows.1
+        ∙ append_assoc first before.grows.0 after.grows.0,
+  );
+  pool = λ uses start. after.pool (uses ++ us) (before.pool uses start)
+      ∙ ap pool_of (append_assoc uses us vs ∙ ap (λ (ws : List (List ℕ)). uses ++ ws) (sym is));
 }
 
 -- ---- what a pool holds
@@ -210,9 +245,11 @@ found_at pool entry has =
     slice_get-get_or pool (position_or_len test pool) [] within ∙ ap Some ((bytes_eq-Decides (get_or pool (position_or_len test pool) []) entry).0 passes)
 
 -- a pool holds what is used
-has_by : (first : List ℕ) (uses : List (List ℕ)) (entry : List ℕ) (same : Bool) → bytes_eq first entry ≡ same → has_entry (pool_of uses) entry ≡ has_entry uses entry → has_entry (first ∷ without first (pool_of uses)) entry ≡ has_entry (first ∷ uses) entry
+has_by : (first : List ℕ) (uses : List (List ℕ)) (entry : List ℕ) (same : Bool) → bytes_eq first entry ≡ same
+    → has_entry (pool_of uses) entry ≡ has_entry uses entry → has_entry (first ∷ without first (pool_of uses)) entry ≡ has_entry (first ∷ uses) entry
 has_by first uses entry true is behind = rw (has-cons first (without first (pool_of uses)) entry, has-cons first uses entry, is) refl
-has_by first uses entry false is behind = rw (has-cons first (without first (pool_of uses)) entry, has-cons first uses entry, is, has-without first (pool_of uses) entry is) behind
+has_by first uses entry false is behind =
+    rw (has-cons first (without first (pool_of uses)) entry, has-cons first uses entry, is, has-without first (pool_of uses) entry is) behind
 
 pub has-pool_of : (uses : List (List ℕ)) (entry : List ℕ) → has_entry (pool_of uses) entry ≡ has_entry uses entry
 unfolding pool_of
@@ -225,7 +262,8 @@ unfolding pool_of
 All-pool_of P [] all = all
 All-pool_of P (first ∷ uses) all =
     let each = recursion_from_All P (first ∷ uses) all in
-    All-cons P first (without first (pool_of uses)) each.0 (All-filter (λ held. not (bytes_eq held first)) P (pool_of uses) (All-pool_of P uses (All-from_recursion P uses each.1)))
+    All-cons P first (without first (pool_of uses)) each.0
+    (All-filter (λ held. not (bytes_eq held first)) P (pool_of uses) (All-pool_of P uses (All-from_recursion P uses each.1)))
 
 pub length-pool_of : (uses : List (List ℕ)) → length (pool_of uses) ≤ length uses
 unfolding pool_of

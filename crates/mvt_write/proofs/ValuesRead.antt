@@ -40,7 +40,8 @@ pub value_apart : (v w : TagView) → CanWriteValue v → CanWriteValue w → va
 value_apart v w can_v can_w e =
     let p = pooled v can_v in
     let q = pooled w can_w in
-    let alike = (bytes_eq-Decides (value_written (value_view p.0)) (value_written (value_view q.0))).1 (ap value_written p.1 ∙ e ∙ sym (ap value_written q.1)) in
+    let alike =
+    (bytes_eq-Decides (value_written (value_view p.0)) (value_written (value_view q.0))).1 (ap value_written p.1 ∙ e ∙ sym (ap value_written q.1)) in
     sym p.1 ∙ exact_value p.0 q.0 ((Equal-is ((value_ord.ghosts).cmp p.0 q.0)).0 (same_value p.0 q.0 ∙ alike)) ∙ q.1
 
 zigzag_back : (z : ℤ) → z <ℤ pos 0 → zigzag_tag (zigzagged z) ≡ negative z

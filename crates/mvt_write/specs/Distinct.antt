@@ -23,7 +23,9 @@ abbrev spelled_in : ℕ → ℕ → Bool → List ℕ
 spelled_in more n small = if small then n ∷ [] else (128 + n % 128) ∷ shortest_in more (n / 128)
 
 -- one byte more in front
-first_apart : (more a b : ℕ) (xs ys : List ℕ) (s t : Bool) → nat_lt a 128 ≡ s → nat_lt b 128 ≡ t → ((ws zs : List ℕ) → shortest_in more (a / 128) ++ ws ≡ shortest_in more (b / 128) ++ zs → (a / 128 ≡ b / 128) × (ws ≡ zs)) → spelled_in more a s ++ xs ≡ spelled_in more b t ++ ys → (a ≡ b) × (xs ≡ ys)
+first_apart : (more a b : ℕ) (xs ys : List ℕ) (s t : Bool) → nat_lt a 128 ≡ s → nat_lt b 128 ≡ t
+    → ((ws zs : List ℕ) → shortest_in more (a / 128) ++ ws ≡ shortest_in more (b / 128) ++ zs → (a / 128 ≡ b / 128) × (ws ≡ zs))
+    → spelled_in more a s ++ xs ≡ spelled_in more b t ++ ys → (a ≡ b) × (xs ≡ ys)
 first_apart more a b xs ys true true p q behind e = (cc, cc)
 first_apart more a b xs ys true false p q behind e = let head : a ≡ 128 + b % 128 = cc in absurd (grind (arith, nat_tests))
 first_apart more a b xs ys false true p q behind e = let head : 128 + a % 128 ≡ b = cc in absurd (grind (arith, nat_tests))
@@ -37,7 +39,8 @@ first_apart more a b xs ys false false p q behind e =
 shortest_apart : (more a b : ℕ) (xs ys : List ℕ) → shortest_in more a ++ xs ≡ shortest_in more b ++ ys → (a ≡ b) × (xs ≡ ys)
 unfolding shortest_in
 shortest_apart zero a b xs ys e = (cc, cc)
-shortest_apart (suc more) a b xs ys e = first_apart more a b xs ys (nat_lt a 128) (nat_lt b 128) refl refl (λ ws zs. shortest_apart more (a / 128) (b / 128) ws zs) e
+shortest_apart (suc more) a b xs ys e =
+    first_apart more a b xs ys (nat_lt a 128) (nat_lt b 128) refl refl (λ ws zs. shortest_apart more (a / 128) (b / 128) ws zs) e
 
 varint_apart : (a b : ℕ) (xs ys : List ℕ) → varint a ++ xs ≡ varint b ++ ys → (a ≡ b) × (xs ≡ ys)
 unfolding varint
@@ -57,13 +60,17 @@ zigzagged_apart (negsuc a) (pos b) e = absurd (omega arith)
 
 -- fields with different keys differ
 keys_apart : (j k : ℕ) (xs ys : List ℕ) → (j ≡ k → ⊥) → false ≡ bytes_eq (varint j ++ xs) (varint k ++ ys)
-keys_apart j k xs ys apart = same_from_decides false (bytes_eq (varint j ++ xs) (varint k ++ ys)) (λ e. absurd (cc), λ e. absurd (apart (varint_apart j k xs ys e).0)) (bytes_eq-Decides (varint j ++ xs) (varint k ++ ys))
+keys_apart j k xs ys apart =
+    same_from_decides false (bytes_eq (varint j ++ xs) (varint k ++ ys)) (λ e. absurd (cc), λ e. absurd (apart (varint_apart j k xs ys e).0))
+    (bytes_eq-Decides (varint j ++ xs) (varint k ++ ys))
 
 -- what is equal in an order is what is written alike
-same_kind : {K : Type 0} (R : K → K → Ordering) → IsTotalOrder R → CmpEqualImpliesEq R → (f : K → List ℕ) → ((x y : K) → f x ≡ f y → x ≡ y) → (x y : K) → is_eq (R x y) ≡ bytes_eq (f x) (f y)
+same_kind : {K : Type 0} (R : K → K → Ordering) → IsTotalOrder R → CmpEqualImpliesEq R → (f : K → List ℕ) → ((x y : K) → f x ≡ f y → x ≡ y) → (x y : K)
+    → is_eq (R x y) ≡ bytes_eq (f x) (f y)
 same_kind {K} R total exact f apart x y =
     same_from_decides (is_eq (R x y)) (bytes_eq (f x) (f y)) (Equal-is (R x y))
-    (Decides-like (bytes_eq (f x) (f y)) (λ e. subst (λ (z : K). R x z ≡ Equal) (apart x y e) (tied_itself total x)) (λ e. ap f (exact x y e)) (bytes_eq-Decides (f x) (f y)))
+    (Decides-like (bytes_eq (f x) (f y)) (λ e. subst (λ (z : K). R x z ≡ Equal) (apart x y e) (tied_itself total x)) (λ e. ap f (exact x y e))
+    (bytes_eq-Decides (f x) (f y)))
 
 same_truth : (a b : Bool) → is_eq (bool_cmp a b) ≡ bytes_eq (number_field 7 (if a then 1 else 0)) (number_field 7 (if b then 1 else 0))
 unfolding varint shortest_in
@@ -75,9 +82,12 @@ same_truth false false = refl
 -- values are equal where they are written alike
 pub same_value : (a b : PoolValue) → is_eq ((value_ord.ghosts).cmp a b) ≡ bytes_eq (value_written (value_view a)) (value_written (value_view b))
 unfolding value_written
-same_value (values.Text s) (values.Text t) = same_kind (slice_cmp nat_cmp) nat_list_cmp_total exact_bytes (bytes_field 1) (λ x y e. texts_apart 10 x y _ _ e) s.now t.now
+same_value (values.Text s) (values.Text t) =
+    same_kind (slice_cmp nat_cmp) nat_list_cmp_total exact_bytes (bytes_field 1) (λ x y e. texts_apart 10 x y _ _ e) s.now t.now
 same_value (values.Natural n) (values.Natural m) = same_kind nat_cmp nat_cmp_total exact_unsigned (number_field 5) (λ x y e. numbers_apart 40 x y e) n m
-same_value (values.Negative n) (values.Negative m) = same_kind int_cmp int_cmp_total exact_signed (λ z. number_field 6 (zigzagged z)) (λ x y e. zigzagged_apart x y (numbers_apart 48 (zigzagged x) (zigzagged y) e)) n m
+same_value (values.Negative n) (values.Negative m) =
+    same_kind int_cmp int_cmp_total exact_signed (λ z. number_field 6 (zigzagged z))
+    (λ x y e. zigzagged_apart x y (numbers_apart 48 (zigzagged x) (zigzagged y) e)) n m
 same_value (values.Truth n) (values.Truth m) = same_truth n m
 same_value (values.Text s) (values.Natural m) = keys_apart 10 40 _ _ (λ e. omega arith)
 same_value (values.Text s) (values.Negative m) = keys_apart 10 48 _ _ (λ e. omega arith)

@@ -1,4 +1,4 @@
--- Pools: what a layer holds once, and names by its place.
+-- Pools: what a layer holds once, and names by its index.
 use Rattle.std.specs.Prelude.{◌≡◌, ℕ, not, Bool, List, [], ◌∷◌, ◌++◌, filter, Option, Some, None, if◌then◌else◌}
 use Rattle.std.specs.List.{list_any, position_or_len}
 use Rattle.std.specs.Str.{bytes_eq}
@@ -8,7 +8,7 @@ unfoldable pub pool_of : List (List ℕ) → List (List ℕ)
 pool_of [] = []
 pool_of (first ∷ uses) = first ∷ filter (λ entry. not (bytes_eq entry first)) (pool_of uses)
 
--- the place of an entry of the pool
+-- the index of an entry of the pool
 unfoldable pub index_of : List (List ℕ) → List ℕ → ℕ
 index_of pool entry = position_or_len (λ held. bytes_eq held entry) pool
 
@@ -20,9 +20,9 @@ has_entry pool entry = list_any (λ held. bytes_eq held entry) pool
 abbrev pub with_entry : List (List ℕ) → List ℕ → List (List ℕ)
 with_entry pool entry = if has_entry pool entry then pool else pool ++ entry ∷ []
 
--- the place of the entry, where the pool holds it
-abbrev pub place_in : List (List ℕ) → List ℕ → Option ℕ
-place_in pool entry = if has_entry pool entry then Some (index_of pool entry) else None
+-- the index of the entry, where the pool holds it
+abbrev pub index_in : List (List ℕ) → List ℕ → Option ℕ
+index_in pool entry = if has_entry pool entry then Some (index_of pool entry) else None
 
 -- the new pool is the old one with more entries, and holds these uses behind those of the old one
 pub record AddsUses (old new more : List (List ℕ)) : Type 0 where

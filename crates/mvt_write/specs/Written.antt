@@ -52,7 +52,8 @@ kind_number (rings ls) = 3
 
 -- a feature, with the pools of its layer
 unfoldable pub feature_written : List (List ℕ) → List (List ℕ) → FeatureView → List ℕ
-feature_written keys values f = id_written f.id ++ (tags_written keys values f.tags ++ (number_field 3 (kind_number f.shape) ++ packed_field 4 (shape_spelled f.shape)))
+feature_written keys values f =
+    id_written f.id ++ (tags_written keys values f.tags ++ (number_field 3 (kind_number f.shape) ++ packed_field 4 (shape_spelled f.shape)))
 
 -- ---- layers
 

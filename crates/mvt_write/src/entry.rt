@@ -8,15 +8,14 @@ ghost use Rattle.mvt_write.specs.Values.{value_view};
 
 use crate::field::put_bytes;
 use crate::value::PoolValue;
-use pb_wire::Memory;
-use std::alloc::Global;
+use std::alloc::{AllocError, Global};
 
 /// A key or a value of tags, as a layer holds it.
 pub(crate) trait Entry: Ord + Copy {
     ghost spelled: { Self → List ℕ };
 
     /// Appends the entry as a field.
-    fn put(self, alloc: Global, out: &mut Vec<u8>, number: u32) -> Result<(), Memory>
+    fn put(self, alloc: Global, out: &mut Vec<u8>, number: u32) -> Result<(), AllocError>
         requires { number < 2 ^ 29 }
         ensures { OnOk result (out.new.items ≡ out.old.items ++ bytes_field number (spelled self)) };
 
@@ -30,7 +29,7 @@ impl<'a> Entry for &'a str {
 
     ghost same = { λ a b. is_eq-slice_cmp a.now b.now };
 
-    fn put(self, _alloc: Global, out: &mut Vec<u8>, number: u32) -> Result<(), Memory> {
+    fn put(self, _alloc: Global, out: &mut Vec<u8>, number: u32) -> Result<(), AllocError> {
         put_bytes(out, number, self.as_bytes())
     }
 }
@@ -42,7 +41,7 @@ impl<'a> Entry for PoolValue<'a> {
 
     ghost same = { same_value };
 
-    fn put(self, alloc: Global, out: &mut Vec<u8>, number: u32) -> Result<(), Memory> {
+    fn put(self, alloc: Global, out: &mut Vec<u8>, number: u32) -> Result<(), AllocError> {
         let message = self.message(alloc)?;
         put_bytes(out, number, &message)
     }

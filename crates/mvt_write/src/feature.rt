@@ -15,11 +15,10 @@ use crate::tag_pools::TagPools;
 use crate::tags::put_tags;
 use geometry_commands::{Shape, encode_lines, encode_points, encode_rings};
 use mvt_layer::TileFeature;
-use pb_wire::Memory;
-use std::alloc::Global;
+use std::alloc::{AllocError, Global};
 
 /// Appends the field of a feature's id, where it has one.
-fn put_id(out: &mut Vec<u8>, id: Option<u64>) -> Result<(), Memory>
+fn put_id(out: &mut Vec<u8>, id: Option<u64>) -> Result<(), AllocError>
     ensures written { OnOk result (out.new.items ≡ out.old.items ++ id_written id) }
     ensures fits { IfSome id (λ id. id < 2 ^ 64) }
 {
@@ -42,7 +41,7 @@ fn geometry_type(shape: &Shape) -> u64
 }
 
 /// The integers of a geometry.
-fn geometry_integers(alloc: Global, shape: &Shape) -> Result<Vec<u32>, Memory>
+fn geometry_integers(alloc: Global, shape: &Shape) -> Result<Vec<u32>, AllocError>
     requires { CanSpell (shape_view shape.now) }
     ensures spelled { IfOk result (λ v. v.items ≡ shape_spelled (shape_view shape.now)) }
     ensures shape { IfOk result (λ v. IsShape (kind_of (shape_view shape.now)) v.items (shape_view shape.now)) }
@@ -61,11 +60,13 @@ fn feature_bytes<'a>(
     alloc: Global,
     pools: &mut TagPools<'a>,
     feature: &TileFeature<'a>,
-) -> Result<Vec<u8>, Memory>
+) -> Result<Vec<u8>, AllocError>
     requires { CanWriteFeature (feature_view feature.now) }
     ensures pools { OnOk result (AddsTags pools.old pools.new (feature_view feature.now).tags) }
     // Entries that are added later change nothing.
-    ensures written { IfOk result (λ v. (later_keys later_values : List (List ℕ)) → v.items ≡ feature_written (held_keys pools.new ++ later_keys) (held_values pools.new ++ later_values) (feature_view feature.now)) }
+    ensures written { IfOk result
+        (λ v. (later_keys later_values : List (List ℕ))
+        → v.items ≡ feature_written (held_keys pools.new ++ later_keys) (held_values pools.new ++ later_values) (feature_view feature.now)) }
     ensures fits { OnOk result (FitsFeature (feature_view feature.now)) }
 {
     let mut out = Vec::new(alloc);
@@ -83,10 +84,14 @@ pub(crate) fn put_features<'a>(
     out: &mut Vec<u8>,
     pools: &mut TagPools<'a>,
     features: &[TileFeature<'a>],
-) -> Result<(), Memory>
+) -> Result<(), AllocError>
     requires { All CanWriteFeature (map feature_view features.now) }
     ensures pools { OnOk result (AddsTags pools.old pools.new (tags_of (map feature_view features.now))) }
-    ensures written { OnOk result ((later_keys later_values : List (List ℕ)) → out.new.items ≡ out.old.items ++ flat_map (λ f. bytes_field 2 (feature_written (held_keys pools.new ++ later_keys) (held_values pools.new ++ later_values) f)) (map feature_view features.now)) }
+    ensures written { OnOk result
+        ((later_keys later_values : List (List ℕ))
+        → out.new.items ≡ out.old.items
+        ++ flat_map (λ f. bytes_field 2 (feature_written (held_keys pools.new ++ later_keys) (held_values pools.new ++ later_values) f))
+        (map feature_view features.now)) }
     ensures fits { OnOk result (All FitsFeature (map feature_view features.now)) }
 {
     for feature in features {

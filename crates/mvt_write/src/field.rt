@@ -5,11 +5,11 @@ ghost use Rattle.std.specs.List.{flat_map};
 ghost use Rattle.pb_wire.specs.Varint.{varint};
 ghost use Rattle.mvt_write.specs.Written.{number_field, bytes_field, packed_field};
 
-use pb_wire::{Memory, put_varint};
-use std::alloc::Global;
+use pb_wire::put_varint;
+use std::alloc::{AllocError, Global};
 
 /// Appends a field that is a number.
-pub(crate) fn put_number(out: &mut Vec<u8>, number: u32, n: u64) -> Result<(), Memory>
+pub(crate) fn put_number(out: &mut Vec<u8>, number: u32, n: u64) -> Result<(), AllocError>
     requires { number < 2 ^ 29 }
     ensures { OnOk result (out.new.items ≡ out.old.items ++ number_field number n) }
 {
@@ -18,7 +18,7 @@ pub(crate) fn put_number(out: &mut Vec<u8>, number: u32, n: u64) -> Result<(), M
 }
 
 /// Appends a field that is bytes.
-pub(crate) fn put_bytes(out: &mut Vec<u8>, number: u32, bytes: &[u8]) -> Result<(), Memory>
+pub(crate) fn put_bytes(out: &mut Vec<u8>, number: u32, bytes: &[u8]) -> Result<(), AllocError>
     requires { number < 2 ^ 29 }
     ensures { OnOk result (out.new.items ≡ out.old.items ++ bytes_field number bytes.now) }
 {
@@ -28,7 +28,7 @@ pub(crate) fn put_bytes(out: &mut Vec<u8>, number: u32, bytes: &[u8]) -> Result<
 }
 
 /// The numbers one after the other.
-fn packed(alloc: Global, numbers: &[u32]) -> Result<Vec<u8>, Memory>
+fn packed(alloc: Global, numbers: &[u32]) -> Result<Vec<u8>, AllocError>
     ensures written { IfOk result (λ v. v.items ≡ flat_map varint numbers.now) }
     ensures fits { OnOk result (All (λ n. n < 2 ^ 32) numbers.now) }
 {
@@ -45,7 +45,7 @@ pub(crate) fn put_packed(
     out: &mut Vec<u8>,
     number: u32,
     numbers: &[u32],
-) -> Result<(), Memory>
+) -> Result<(), AllocError>
     requires { number < 2 ^ 29 }
     ensures written { OnOk result (out.new.items ≡ out.old.items ++ packed_field number numbers.now) }
     ensures fits { OnOk result (All (λ n. n < 2 ^ 32) numbers.now) }

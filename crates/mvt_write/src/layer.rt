@@ -10,11 +10,10 @@ use crate::feature::put_features;
 use crate::field::{put_bytes, put_number};
 use crate::tag_pools::TagPools;
 use mvt_layer::Layer;
-use pb_wire::Memory;
-use std::alloc::Global;
+use std::alloc::{AllocError, Global};
 
 /// Appends the fields behind the pools.
-fn put_end(out: &mut Vec<u8>, layer: &Layer<'_>) -> Result<(), Memory>
+fn put_end(out: &mut Vec<u8>, layer: &Layer<'_>) -> Result<(), AllocError>
     ensures { OnOk result (out.new.items ≡ out.old.items ++ (number_field 5 layer.now.extent ++ number_field 15 layer.now.version)) }
 {
     put_number(out, 5, u64::from(layer.extent))?;
@@ -23,7 +22,7 @@ fn put_end(out: &mut Vec<u8>, layer: &Layer<'_>) -> Result<(), Memory>
 
 /// The message of a layer (Mapbox Vector Tile 2.1, 4.1).
 #[tactic(auto, unfolding(crate::specs::Written::layer_with))]
-pub(crate) fn layer_bytes(alloc: Global, layer: &Layer<'_>) -> Result<Vec<u8>, Memory>
+pub(crate) fn layer_bytes(alloc: Global, layer: &Layer<'_>) -> Result<Vec<u8>, AllocError>
     requires { CanWriteLayer (layer_view layer.now) }
     ensures written { IfOk result (λ v. v.items ≡ layer_written (layer_view layer.now)) }
     ensures fits { OnOk result (FitsLayer (layer_view layer.now)) }

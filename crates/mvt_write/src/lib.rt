@@ -4,7 +4,6 @@
 mod entry;
 mod feature;
 mod field;
-mod laws;
 mod layer;
 mod pool;
 mod tag_pools;
@@ -12,7 +11,6 @@ mod tags;
 mod tile;
 mod value;
 
-pub use laws::reading_law;
 pub use tile::write_tile;
 
 #[cfg(test)]

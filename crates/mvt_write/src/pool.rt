@@ -1,22 +1,21 @@
-//! Pools: what a layer holds once, and names by its place.
+//! Pools: what a layer holds once, and names by its index.
 
 ghost use Rattle.std.specs.Prelude.{◌≡◌, ◌<◌, ◌^◌, ◌++◌, map, IfOk, OnOk, []};
 ghost use Rattle.std.specs.BTreeMap.{get};
 ghost use Rattle.std.specs.List.{flat_map};
 ghost use Rattle.mvt_write.specs.Written.{bytes_field};
-ghost use Rattle.mvt_write.specs.Pools.{index_of, place_in, with_entry};
+ghost use Rattle.mvt_write.specs.Pools.{index_of, index_in, with_entry};
 
 use crate::entry::Entry;
-use pb_wire::Memory;
-use std::alloc::Global;
+use std::alloc::{AllocError, Global};
 use std::collections::BTreeMap;
 
 /// Entries in the order of their first use, each once.
 #[derive(Drop)]
 pub(crate) struct Pool<T: Entry> {
     pub entries: Vec<T>,
-    places: BTreeMap<T, usize>,
-    ghost placed: { (entry : T) → get T.cmp places entry ≡ place_in (map T.spelled entries.items) (T.spelled entry) },
+    indices: BTreeMap<T, usize>,
+    ghost indexed: { (entry : T) → get T.cmp indices entry ≡ index_in (map T.spelled entries.items) (T.spelled entry) },
 }
 
 impl<T: Entry> Pool<T> {
@@ -26,27 +25,27 @@ impl<T: Entry> Pool<T> {
     {
         Pool {
             entries: Vec::new(alloc),
-            places: BTreeMap::new(alloc),
+            indices: BTreeMap::new(alloc),
         }
     }
 
-    /// The place of an entry, which is added at the end where it isn't there.
-    pub fn place_of(&mut self, entry: T) -> Result<usize, Memory>
-        ensures place { IfOk result (λ i. index_of (map T.spelled self.new.entries.items) (T.spelled entry) ≡ i) }
+    /// The index of an entry, which is added at the end where it isn't there.
+    pub fn index_of(&mut self, entry: T) -> Result<usize, AllocError>
+        ensures index { IfOk result (λ i. index_of (map T.spelled self.new.entries.items) (T.spelled entry) ≡ i) }
         ensures entries { OnOk result (map T.spelled self.new.entries.items ≡ with_entry (map T.spelled self.old.entries.items) (T.spelled entry)) }
     {
-        if let Some(place) = self.places.get(&entry) {
-            return Ok(*place);
+        if let Some(index) = self.indices.get(&entry) {
+            return Ok(*index);
         }
-        let place = self.entries.len();
+        let index = self.entries.len();
         self.entries.reserve(1)?;
-        self.places.insert(entry, place)?;
+        self.indices.insert(entry, index)?;
         self.entries.push(entry).unwrap();
-        Ok(place)
+        Ok(index)
     }
 
     /// Appends each entry as a field.
-    pub fn put(&self, alloc: Global, out: &mut Vec<u8>, number: u32) -> Result<(), Memory>
+    pub fn put(&self, alloc: Global, out: &mut Vec<u8>, number: u32) -> Result<(), AllocError>
         requires { number < 2 ^ 29 }
         ensures { OnOk result (out.new.items ≡ out.old.items ++ flat_map (bytes_field number) (map T.spelled self.now.entries.items)) }
     {

@@ -2,8 +2,7 @@
 
 use crate::pool::Pool;
 use crate::value::PoolValue;
-use pb_wire::Memory;
-use std::alloc::Global;
+use std::alloc::{AllocError, Global};
 
 /// The keys and the values of a layer's tags.
 #[derive(Drop)]
@@ -29,8 +28,9 @@ impl<'a> TagPools<'a> {
     }
 
     /// Appends the fields of the keys, and then those of the values.
-    pub fn put(&self, alloc: Global, out: &mut Vec<u8>) -> Result<(), Memory>
-        ensures { OnOk result (out.new.items ≡ out.old.items ++ (flat_map (bytes_field 3) (held_keys self.now) ++ flat_map (bytes_field 4) (held_values self.now))) }
+    pub fn put(&self, alloc: Global, out: &mut Vec<u8>) -> Result<(), AllocError>
+        ensures { OnOk result
+            (out.new.items ≡ out.old.items ++ (flat_map (bytes_field 3) (held_keys self.now) ++ flat_map (bytes_field 4) (held_values self.now))) }
     {
         self.keys.put(alloc, out, 3)?;
         self.values.put(alloc, out, 4)

@@ -14,8 +14,8 @@ use crate::field::put_bytes;
 use crate::tag_pools::TagPools;
 use crate::value::PoolValue;
 use mvt_layer::TagValue;
-use pb_wire::{Memory, put_varint};
-use std::alloc::Global;
+use pb_wire::put_varint;
+use std::alloc::{AllocError, Global};
 
 /// Appends the index of a tag's key and the index of its value.
 fn put_indices<'a>(
@@ -23,15 +23,17 @@ fn put_indices<'a>(
     pools: &mut TagPools<'a>,
     key: &'a str,
     value: TagValue<'a>,
-) -> Result<(), Memory>
+) -> Result<(), AllocError>
     requires { CanWriteValue (tag_view value) }
     ensures keys { OnOk result (held_keys pools.new ≡ with_entry (held_keys pools.old) key.entry.now) }
     ensures values { OnOk result (held_values pools.new ≡ with_entry (held_values pools.old) (value_written (tag_view value.entry))) }
-    ensures written { OnOk result (out.new.items ≡ out.old.items ++ (varint (index_of (held_keys pools.new) key.entry.now) ++ varint (index_of (held_values pools.new) (value_written (tag_view value.entry))))) }
+    ensures written { OnOk result
+        (out.new.items ≡ out.old.items
+        ++ (varint (index_of (held_keys pools.new) key.entry.now) ++ varint (index_of (held_values pools.new) (value_written (tag_view value.entry))))) }
     ensures fits { FitsTag (key.entry.now, tag_view value.entry) }
 {
-    put_varint(out, pools.keys.place_of(key)? as u64)?;
-    put_varint(out, pools.values.place_of(PoolValue::new(value))? as u64)
+    put_varint(out, pools.keys.index_of(key)? as u64)?;
+    put_varint(out, pools.values.index_of(PoolValue::new(value))? as u64)
 }
 
 /// The indices of tags, a key's and a value's in turn.
@@ -39,11 +41,13 @@ fn packed_tags<'a>(
     alloc: Global,
     pools: &mut TagPools<'a>,
     tags: &[(&'a str, TagValue<'a>)],
-) -> Result<Vec<u8>, Memory>
+) -> Result<Vec<u8>, AllocError>
     requires { All (λ t. CanWriteValue t.1) (tagged tags.now) }
     ensures pools { OnOk result (AddsTags pools.old pools.new (tagged tags.now)) }
     // Entries that are added later change no index.
-    ensures written { IfOk result (λ v. (later_keys later_values : List (List ℕ)) → v.items ≡ flat_map varint (tag_indices (held_keys pools.new ++ later_keys) (held_values pools.new ++ later_values) (tagged tags.now))) }
+    ensures written { IfOk result
+        (λ v. (later_keys later_values : List (List ℕ))
+        → v.items ≡ flat_map varint (tag_indices (held_keys pools.new ++ later_keys) (held_values pools.new ++ later_values) (tagged tags.now))) }
     ensures fits { OnOk result (All FitsTag (tagged tags.now)) }
 {
     let mut out = Vec::new(alloc);
@@ -59,10 +63,12 @@ pub(crate) fn put_tags<'a>(
     out: &mut Vec<u8>,
     pools: &mut TagPools<'a>,
     tags: &[(&'a str, TagValue<'a>)],
-) -> Result<(), Memory>
+) -> Result<(), AllocError>
     requires { All (λ t. CanWriteValue t.1) (tagged tags.now) }
     ensures pools { OnOk result (AddsTags pools.old pools.new (tagged tags.now)) }
-    ensures written { OnOk result ((later_keys later_values : List (List ℕ)) → out.new.items ≡ out.old.items ++ tags_written (held_keys pools.new ++ later_keys) (held_values pools.new ++ later_values) (tagged tags.now)) }
+    ensures written { OnOk result
+        ((later_keys later_values : List (List ℕ))
+        → out.new.items ≡ out.old.items ++ tags_written (held_keys pools.new ++ later_keys) (held_values pools.new ++ later_values) (tagged tags.now)) }
     ensures fits { OnOk result (All FitsTag (tagged tags.now)) }
 {
     let indices = packed_tags(alloc, pools, tags)?;

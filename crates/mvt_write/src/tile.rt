@@ -7,17 +7,16 @@ ghost use Rattle.mvt_write.specs.CanWrite.{CanWriteAll};
 use crate::field::put_bytes;
 use crate::layer::layer_bytes;
 use mvt_layer::Layer;
-use pb_wire::Memory;
-use std::alloc::Global;
+use std::alloc::{AllocError, Global};
 
 /// The one spelling of the layers (Mapbox Vector Tile 2.1, 4): fields in ascending number, numbers in their shortest
 /// spelling, the keys and values of tags in the order of their first use.
 ///
-/// The names of the layers differ, each has version 2 and extent 4096, and fewer than 2^32 tags. Each feature has an
+/// The names of the layers differ, each has version 2 and extent `DEFAULT_EXTENT`, and fewer than 2^32 tags. Each feature has an
 /// id and a shape that can be spelled; its tags stand in ascending order of their keys, without floating point numbers,
-/// and a `Negative` is below 0. There may be no layers. The only error is want of memory.
+/// and a `Negative` is below 0. There may be no layers. The only error is out of memory.
 #[tactic(auto, unfolding(crate::specs::Written::written))]
-pub fn write_tile(alloc: Global, layers: &[Layer<'_>]) -> Result<Vec<u8>, Memory>
+pub fn write_tile(alloc: Global, layers: &[Layer<'_>]) -> Result<Vec<u8>, AllocError>
     requires { CanWriteAll (layer_views layers.now) }
     ensures written { IfOk result (λ v. v.items ≡ written (layer_views layers.now)) }
     ensures reads { IfOk result (λ v. ReadsAs v.items (layer_views layers.now)) }

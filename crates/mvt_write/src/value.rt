@@ -7,8 +7,8 @@ ghost use Rattle.mvt_write.specs.Written.{value_written};
 
 use crate::field::{put_bytes, put_number};
 use mvt_layer::TagValue;
-use pb_wire::{Memory, zigzag};
-use std::alloc::Global;
+use pb_wire::zigzag;
+use std::alloc::{AllocError, Global};
 
 /// The value of a tag that can be written: every one but a floating point number.
 #[derive(Clone, Copy, PartialEq, Eq, PartialOrd, Ord)]
@@ -38,7 +38,7 @@ impl<'a> PoolValue<'a> {
 
     /// The message that says the value (Mapbox Vector Tile 2.1, 4.4).
     #[tactic(auto, unfolding(crate::specs::Written::value_written))]
-    pub fn message(self, alloc: Global) -> Result<Vec<u8>, Memory>
+    pub fn message(self, alloc: Global) -> Result<Vec<u8>, AllocError>
         ensures { IfOk result (λ v. v.items ≡ value_written (value_view self.entry)) }
     {
         let mut out = Vec::new(alloc);

@@ -1,5 +1,6 @@
 -- Twice the area of a ring: how large its parts are, and how they add up.
-use Rattle.std.proofs.Common.{◌≡◌, ℕ, ℤ, ◌+◌, add-one, drop, get_or, List, [], ◌∷◌, ◌++◌, map, length, refl, pos, negsuc, neg_ℤ, unsigned_abs, ◌*◌, ◌^◌, ◌<◌, ◌≤◌, ◌≤ℤ◌, ◌+ℤ◌, ◌*ℤ◌, ◌-ℤ◌, FitsSigned, to_z, of_z, w64, sym, ap, ◌∙◌, subst, arith}
+use Rattle.std.proofs.Common.{◌≡◌, ℕ, ℤ, ◌+◌, add-one, drop, get_or, List, [], ◌∷◌, ◌++◌, map, length, refl, pos, negsuc, neg_ℤ, unsigned_abs, ◌*◌, ◌^◌, ◌<◌}
+use Rattle.std.proofs.Common.{◌≤◌, ◌≤ℤ◌, ◌+ℤ◌, ◌*ℤ◌, ◌-ℤ◌, FitsSigned, to_z, of_z, w64, sym, ap, ◌∙◌, subst, arith}
 use Rattle.std.proofs.Math.Nat.{mul-le-mul}
 use Rattle.std.proofs.Math.Seq.{drop-cons}
 use Rattle.std.proofs.lemmas.List.{drop_all}

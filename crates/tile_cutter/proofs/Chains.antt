@@ -8,7 +8,7 @@ use Rattle.std.proofs.lemmas.Bool.Decides.{Decides-int_eq, Decides-and}
 use Rattle.feature_model.specs.declared.feature.World.{World}
 use Rattle.geometry_commands.specs.declared.point.Pt.{Pt}
 use Rattle.tile_cutter.specs.Cut.{Segment, segments, is_kept, way_along, is_some_segment, line_cut}
-use Rattle.tile_cutter.specs.Passes.{is_same_place, other_than, longer, chain_after, chain_of, ended_by}
+use Rattle.tile_cutter.specs.Passes.{is_same_position, other_than, longer, chain_after, chain_of, ended_by}
 use Rattle.tile_cutter.proofs.Passes.{left_after, stands_at, tile_points_are}
 
 abbrev pub is_left_out : Segment → Bool
@@ -38,7 +38,8 @@ joined_kept (p ∷ ps) s (part ∷ parts) =
 
 joined_ended : (chain : List Pt) (parts : List (List Segment)) → joined chain ([] ∷ parts) ≡ chain_of chain ++ joined [] parts
 joined_ended [] parts = sym (joined_none parts)
-joined_ended (p ∷ ps) parts = ap (λ (r : List Pt). chain_of (p ∷ r) ++ map way_along (filter is_some_segment parts)) (append-nil ps) ∙ ap (λ r. chain_of (p ∷ ps) ++ r) (sym (joined_none parts))
+joined_ended (p ∷ ps) parts = ap (λ (r : List Pt). chain_of (p ∷ r) ++ map way_along (filter is_some_segment parts)) (append-nil ps)
+    ∙ ap (λ r. chain_of (p ∷ ps) ++ r) (sym (joined_none parts))
 
 joined_step : (chain : List Pt) (s : Segment) (ss : List Segment)
     → joined chain (slice_split is_left_out (s ∷ ss)) ≡ ended_by chain s ++ joined (chain_after chain s) (slice_split is_left_out ss)
@@ -58,27 +59,28 @@ segments_behind (Some p) ps = segments (p ∷ ps)
 unfoldable pub chains_left : List Pt → Option Pt → List Pt → List (List Pt)
 chains_left chain before ps = joined chain (slice_split is_left_out (segments_behind before (left_after before ps)))
 
-same_place : (p q : Pt) → is_same_place p q ≡ true → p ≡ q
-same_place p q e =
+same_position : (p q : Pt) → is_same_position p q ≡ true → p ≡ q
+same_position p q e =
     let both = (Decides-and (int_eq p.x q.x) (int_eq p.y q.y) (Decides-int_eq p.x q.x) (Decides-int_eq p.y q.y)).0 e in
     ap (λ a. let w : Pt = record { x = a; y = p.y } in w) both.0 ∙ ap (λ b. let w : Pt = record { x = q.x; y = b } in w) both.1
 
-line_skip : (chain : List Pt) (before : Option Pt) (here : Pt) (rest : List Pt) → other_than before here ≡ None → chains_left chain before (here ∷ rest) ≡ chains_left chain (Some here) rest
+line_skip : (chain : List Pt) (before : Option Pt) (here : Pt) (rest : List Pt) → other_than before here ≡ None
+    → chains_left chain before (here ∷ rest) ≡ chains_left chain (Some here) rest
 unfolding chains_left left_after
 line_skip chain None here rest e = refl
-line_skip chain (Some q) here rest e = go (is_same_place here q) refl e
+line_skip chain (Some q) here rest e = go (is_same_position here q) refl e
   where
-    go : (b : Bool) → is_same_place here q ≡ b → cond b None (Some q) ≡ None
+    go : (b : Bool) → is_same_position here q ≡ b → cond b None (Some q) ≡ None
         → joined chain (slice_split is_left_out (segments (q ∷ cond b (left_after (Some here) rest) (here ∷ left_after (Some here) rest))))
         ≡ joined chain (slice_split is_left_out (segments (here ∷ left_after (Some here) rest)))
-    go true same none = ap (λ p. joined chain (slice_split is_left_out (segments (p ∷ left_after (Some here) rest)))) (sym (same_place here q same))
+    go true same none = ap (λ p. joined chain (slice_split is_left_out (segments (p ∷ left_after (Some here) rest)))) (sym (same_position here q same))
     go false same none = cc
 
 line_step : (chain : List Pt) (before : Option Pt) (here : Pt) (rest : List Pt) (last : Pt) → other_than before here ≡ Some last
     → chains_left chain before (here ∷ rest) ≡ ended_by chain (last, here) ++ chains_left (chain_after chain (last, here)) (Some here) rest
 unfolding chains_left left_after
 line_step chain None here rest last e = cc
-line_step chain (Some q) here rest last e = go (is_same_place here q) e
+line_step chain (Some q) here rest last e = go (is_same_position here q) e
   where
     go : (b : Bool) → cond b None (Some q) ≡ Some last
         → joined chain (slice_split is_left_out (segments (q ∷ cond b (left_after (Some here) rest) (here ∷ left_after (Some here) rest))))
@@ -100,14 +102,16 @@ pub line_keeps : (chain : List Pt) (before : Option Pt) (here : Pt) (rest : List
     → done ++ chains_left chain before (here ∷ rest) ≡ whole → done ++ chains_left chain (Some here) rest ≡ whole
 line_keeps chain before here rest done whole none so_far = ap (λ r. done ++ r) (sym (line_skip chain before here rest none)) ∙ so_far
 
-pub line_goes_on : (chain : List Pt) (before : Option Pt) (here : Pt) (rest : List Pt) (last : Pt) (chain' : List Pt) (done done' whole : List (List Pt)) → other_than before here ≡ Some last
+pub line_goes_on : (chain : List Pt) (before : Option Pt) (here : Pt) (rest : List Pt) (last : Pt) (chain' : List Pt) (done done' whole : List (List Pt))
+    → other_than before here ≡ Some last
     → chain' ≡ chain_after chain (last, here) → done' ≡ done ++ ended_by chain (last, here)
     → done ++ chains_left chain before (here ∷ rest) ≡ whole → done' ++ chains_left chain' (Some here) rest ≡ whole
 line_goes_on chain before here rest last chain' done done' whole some chain_is done_is so_far =
     rw (chain_is, done_is) (append_assoc done (ended_by chain (last, here)) (chains_left (chain_after chain (last, here)) (Some here) rest))
     ∙ ap (λ r. done ++ r) (sym (line_step chain before here rest last some)) ∙ so_far
 
-pub line_ends : (chain : List Pt) (before : Option Pt) (done whole : List (List Pt)) → done ++ chains_left chain before [] ≡ whole → done ++ chain_of chain ≡ whole
+pub line_ends : (chain : List Pt) (before : Option Pt) (done whole : List (List Pt)) → done ++ chains_left chain before [] ≡ whole
+    → done ++ chain_of chain ≡ whole
 unfolding chains_left left_after
 line_ends chain None done whole so_far = ap (λ r. done ++ r) (sym (append-nil (chain_of chain)) ∙ sym (joined_ended chain [])) ∙ so_far
 line_ends chain (Some p) done whole so_far = ap (λ r. done ++ r) (sym (append-nil (chain_of chain)) ∙ sym (joined_ended chain [])) ∙ so_far

@@ -1,5 +1,6 @@
 -- A loop that appends what each item gives.
-use Rattle.std.proofs.Common.{◌≡◌, ℕ, suc, ◌+◌, ◌<◌, ◌≤◌, List, [], ◌∷◌, ◌++◌, map, drop, get_or, length, add-one, refl, sym, ap, subst, ◌∙◌, append_assoc, arith}
+use Rattle.std.proofs.Common.{◌≡◌, ℕ, suc, ◌+◌, ◌<◌, ◌≤◌, List, [], ◌∷◌, ◌++◌, map, drop, get_or, length, add-one, refl, sym, ap, subst, ◌∙◌, append_assoc}
+use Rattle.std.proofs.Common.{arith}
 use Rattle.std.specs.Prelude.{All, flat_map}
 use Rattle.std.proofs.Math.Seq.{drop-cons}
 use Rattle.std.proofs.lemmas.List.{append-nil, drop_all, get_or-map, length-map}
@@ -9,7 +10,8 @@ pub each_begins : {V X Y : Type 0} (g : V → X) (f : X → List Y) (vs : List V
 each_begins g f [] = refl
 each_begins g f (v ∷ vs) = ap (λ r. f (g v) ++ r) (each_begins g f vs)
 
-pub each_next : {X Y : Type 0} (f : X → List Y) (xs : List X) (i : ℕ) (x : X) (done done' whole : List Y) → i < length xs → x ≡ get_or xs i x → done' ≡ done ++ f x
+pub each_next : {X Y : Type 0} (f : X → List Y) (xs : List X) (i : ℕ) (x : X) (done done' whole : List Y) → i < length xs → x ≡ get_or xs i x
+    → done' ≡ done ++ f x
     → done ++ flat_map f (drop i xs) ≡ whole → done' ++ flat_map f (drop (i + 1) xs) ≡ whole
 each_next f xs i x done done' whole lt item more so_far =
     let first = ap (flat_map f) (drop-cons xs i x lt) in
@@ -17,7 +19,8 @@ each_next f xs i x done done' whole lt item more so_far =
     ∙ ap (λ a. done ++ (f a ++ flat_map f (drop (suc i) xs))) item
     ∙ ap (λ r. done ++ r) (sym first) ∙ so_far
 
-pub each_ends : {X Y : Type 0} (f : X → List Y) (xs : List X) (i : ℕ) (done whole : List Y) → length xs ≤ i → done ++ flat_map f (drop i xs) ≡ whole → done ≡ whole
+pub each_ends : {X Y : Type 0} (f : X → List Y) (xs : List X) (i : ℕ) (done whole : List Y) → length xs ≤ i → done ++ flat_map f (drop i xs) ≡ whole
+    → done ≡ whole
 each_ends f xs i done whole past so_far = sym (append-nil done) ∙ ap (λ r. done ++ flat_map f r) (sym (drop_all i xs past)) ∙ so_far
 
 -- what holds of all that each item gives

@@ -1,7 +1,8 @@
 -- What all points of a list keep on their way to a tile.
-use Rattle.std.proofs.Common.{◌≡◌, ℕ, ◌-◌, ◌*◌, ◌/◌, ◌^◌, ◌<◌, ◌≤◌, suc, pos, ◌-ℤ◌, Bool, true, false, cond, List, [], ◌∷◌, Option, Some, None, map, take, length, sym, ap, subst, arith}
+use Rattle.std.proofs.Common.{◌≡◌, ℕ, ◌-◌, ◌*◌, ◌/◌, ◌^◌, ◌<◌, ◌≤◌, suc, pos, ◌-ℤ◌, Bool, true, false, cond, List, [], ◌∷◌, Option, Some, None, map, take}
+use Rattle.std.proofs.Common.{length, sym, ap, subst, arith}
 use Rattle.std.specs.Prelude.{All}
-use Rattle.std.proofs.Math.Nat.{div-le_self, div-mul-le_self, mul-le-mul_left}
+use Rattle.std.proofs.Math.Nat.{div-mul-le_self, mul-le-mul_left}
 use Rattle.std.proofs.Math.Pow.{pow_mono}
 use Rattle.std.proofs.lemmas.Int.{ints}
 use Rattle.std.proofs.lemmas.List.{length-map, length-take}
@@ -11,9 +12,12 @@ use Rattle.geometry_commands.specs.declared.point.Pt.{Pt}
 use Rattle.tile_cutter.specs.Cut.{quantised_points, is_closed, tile_points, tile_ring}
 use Rattle.tile_cutter.specs.Passes.{repeats}
 use Rattle.feature_model.specs.Types.{IsOfWorld}
+use Rattle.feature_model.specs.declared.limits.TheConstants.{GREATEST_ZOOM}
+use Rattle.tile_cutter.specs.declared.coordinates.TheConstants.{EXTENT, WORLD_ZOOM}
 use Rattle.tile_cutter.specs.Range.{IsSmall, IsOfSide, IsOfTile}
 use Rattle.tile_cutter.proofs.Passes.{left_after, stands_at, tile_points_are}
-use Rattle.tile_cutter.proofs.Ways.{opened_placed}
+use Rattle.tile_cutter.proofs.Ways.{opened_positions}
+use Rattle.tile_cutter.proofs.Zooms.{zoom_low}
 
 all_left : (P : Pt → Type 0) (before : Option Pt) (ps : List Pt) → All P ps → All P (left_after before ps)
 unfolding left_after
@@ -35,7 +39,8 @@ length_left before (p ∷ ps) = go (repeats before p) (length_left (Some p) ps)
 
 -- ---- the points of a tile
 
-pub points_all : (P : Pt → Type 0) (zoom column row : ℕ) (ps : List World) → All (λ p. P (stands_at zoom column row p)) ps → All P (tile_points zoom column row ps)
+pub points_all : (P : Pt → Type 0) (zoom column row : ℕ) (ps : List World) → All (λ p. P (stands_at zoom column row p)) ps
+    → All P (tile_points zoom column row ps)
 points_all P zoom column row ps all =
     subst (All P) (tile_points_are zoom column row ps) (all_left P None (map (stands_at zoom column row) ps) (All-map P (stands_at zoom column row) ps all))
 
@@ -50,17 +55,20 @@ length_points zoom column row ps =
     omega (arith, length-map ps (stands_at zoom column row))
 
 -- a ring is the points of a tile, or these without the last
-opened : (zoom column row : ℕ) (ps : List World) → (b : Bool) × (tile_ring zoom column row ps ≡ cond b (take (length (quantised_points zoom ps) - 1) (tile_points zoom column row ps)) (tile_points zoom column row ps))
+opened : (zoom column row : ℕ) (ps : List World)
+    → (b : Bool)
+    × (tile_ring zoom column row ps ≡ cond b (take (length (quantised_points zoom ps) - 1) (tile_points zoom column row ps)) (tile_points zoom column row ps))
 opened zoom column row ps =
     let qs = quantised_points zoom ps in
-    (is_closed qs, sym (opened_placed column row qs (is_closed qs)))
+    (is_closed qs, sym (opened_positions column row qs (is_closed qs)))
 
 pub ring_all : (P : Pt → Type 0) (zoom column row : ℕ) (ps : List World) → All (λ p. P (stands_at zoom column row p)) ps → All P (tile_ring zoom column row ps)
 ring_all P zoom column row ps all =
     let is = opened zoom column row ps in
     subst (All P) (sym is.1) (go is.0 (points_all P zoom column row ps all))
   where
-    go : (b : Bool) → All P (tile_points zoom column row ps) → All P (cond b (take (length (quantised_points zoom ps) - 1) (tile_points zoom column row ps)) (tile_points zoom column row ps))
+    go : (b : Bool) → All P (tile_points zoom column row ps)
+        → All P (cond b (take (length (quantised_points zoom ps) - 1) (tile_points zoom column row ps)) (tile_points zoom column row ps))
     go true kept = All-take P (length (quantised_points zoom ps) - 1) (tile_points zoom column row ps) kept
     go false kept = kept
 
@@ -73,32 +81,32 @@ length_ring zoom column row ps =
     let is = opened zoom column row ps in
     subst (λ (r : List Pt). length r ≤ length ps) (sym is.1) (go is.0 (length_points zoom column row ps))
   where
-    go : (b : Bool) → length (tile_points zoom column row ps) ≤ length ps → length (cond b (take (length (quantised_points zoom ps) - 1) (tile_points zoom column row ps)) (tile_points zoom column row ps)) ≤ length ps
+    go : (b : Bool) → length (tile_points zoom column row ps) ≤ length ps
+        → length (cond b (take (length (quantised_points zoom ps) - 1) (tile_points zoom column row ps)) (tile_points zoom column row ps)) ≤ length ps
     go true less = omega (arith, length-take (length (quantised_points zoom ps) - 1) (tile_points zoom column row ps))
     go false less = less
 
 -- ---- where a point of the world stands
 
 -- a coordinate of the world, quantised
-pub quantised_below : (zoom w : ℕ) → zoom ≤ 16 → w < 2 ^ 32 → w / 2 ^ (20 - zoom) < 2 ^ 31
+pub quantised_below : (zoom w : ℕ) → zoom ≤ GREATEST_ZOOM → w < 2 ^ 32 → w / 2 ^ (WORLD_ZOOM - zoom) < 2 ^ 31
 quantised_below zoom w allowed fits =
-    let two : 2 ^ 1 ≤ 2 ^ (20 - zoom) = pow_mono {i = 1} {j = 20 - zoom} (omega arith) in
-    let less = mul-le-mul_left (w / 2 ^ (20 - zoom)) two in
-    omega (arith, less, div-mul-le_self w (2 ^ (20 - zoom)))
+    let two : 2 ^ 1 ≤ 2 ^ (WORLD_ZOOM - zoom) = pow_mono {i = 1} {j = WORLD_ZOOM - zoom} (omega (arith, zoom_low zoom allowed)) in
+    let less = mul-le-mul_left (w / 2 ^ (WORLD_ZOOM - zoom)) two in
+    omega (arith, less, div-mul-le_self w (2 ^ (WORLD_ZOOM - zoom)))
 
-side_placed : (zoom at w : ℕ) → zoom ≤ 16 → w < 2 ^ 32 → IsOfSide at (pos (w / 2 ^ (20 - zoom)) -ℤ pos (4096 * at))
-side_placed zoom at w allowed fits =
+side_position : (zoom at w : ℕ) → zoom ≤ GREATEST_ZOOM → w < 2 ^ 32 → IsOfSide at (pos (w / 2 ^ (WORLD_ZOOM - zoom)) -ℤ pos (EXTENT * at))
+side_position zoom at w allowed fits =
     let below = quantised_below zoom w allowed fits in
     record { low = omega (arith, ints); high = omega (arith, ints) }
 
-pub stands_in_tile : (zoom column row : ℕ) → zoom ≤ 16 → (p : World) → IsOfWorld p → IsOfTile column row (stands_at zoom column row p)
-stands_in_tile zoom column row allowed p inside = record { across = side_placed zoom column p.x allowed inside.0; down = side_placed zoom row p.y allowed inside.1 }
+pub stands_in_tile : (zoom column row : ℕ) → zoom ≤ GREATEST_ZOOM → (p : World) → IsOfWorld p → IsOfTile column row (stands_at zoom column row p)
+stands_in_tile zoom column row allowed p inside =
+    record { across = side_position zoom column p.x allowed inside.0; down = side_position zoom row p.y allowed inside.1 }
 
-pub stands_small : (zoom column row : ℕ) → column < 2 ^ 32 → row < 2 ^ 32 → (p : World) → IsOfWorld p → IsSmall (stands_at zoom column row p)
-stands_small zoom column row across down p inside =
-    let x_less = div-le_self p.x (2 ^ (20 - zoom)) in
-    let y_less = div-le_self p.y (2 ^ (20 - zoom)) in
-    record {
-      across = record { low = omega (arith, ints); high = omega (arith, ints) };
-      down = record { low = omega (arith, ints); high = omega (arith, ints) };
-    }
+-- a point of a tile stands near
+pub small_of_tile : (column row : ℕ) → column < 2 ^ 32 → row < 2 ^ 32 → (p : Pt) → IsOfTile column row p → IsSmall p
+small_of_tile column row across down p is = record {
+  across = record { low = omega (arith, ints, is.across.low, is.across.high); high = omega (arith, ints, is.across.low, is.across.high) };
+  down = record { low = omega (arith, ints, is.down.low, is.down.high); high = omega (arith, ints, is.down.low, is.down.high) };
+}

@@ -11,3 +11,4 @@ pub mod Sizes
 pub mod Spelled
 pub mod Turned
 pub mod Ways
+pub mod Zooms

@@ -1,5 +1,6 @@
 -- Outside the tiles that a feature covers nothing of it is shown.
-use Rattle.std.proofs.Common.{◌≡◌, ℕ, ℤ, pos, negsuc, ◌+◌, ◌-◌, ◌*◌, ◌^◌, ◌<◌, ◌≤◌, ◌-ℤ◌, ◌<ℤ◌, min, max, Bool, true, false, cond, ◌&&◌, List, [], ◌∷◌, ◌++◌, Option, None, map, refl, ap, ⊎_elim, arith}
+use Rattle.std.proofs.Common.{◌≡◌, ℕ, ℤ, pos, ◌+◌, ◌-◌, ◌*◌, ◌^◌, ◌<◌, ◌≤◌, ◌-ℤ◌, ◌<ℤ◌, min, max, Bool, true, false, cond, ◌&&◌, List, [], ◌∷◌, ◌++◌, Option}
+use Rattle.std.proofs.Common.{None, map, refl, ap, ⊎_elim, ◌⊎◌, inl, inr, arith}
 use Rattle.std.specs.Prelude.{All, filter, flat_map, fold, int_le}
 use Rattle.std.specs.List.{slice_split}
 use Rattle.std.proofs.lemmas.Int.{ints, clamps}
@@ -11,7 +12,10 @@ use Rattle.feature_model.specs.Data.{FeatureData, GeometryData, world_points, wo
 use Rattle.geometry_commands.specs.declared.point.Pt.{Pt}
 use Rattle.mvt_layer.specs.Tile.{FeatureView}
 use Rattle.tile_cutter.specs.declared.reach.TileRange.{TileRange}
-use Rattle.tile_cutter.specs.Cut.{quantised_axis, tile_points, tile_ring, in_box, least_corner, greatest_corner, meets_box, points_cut, Segment, segments, is_kept, way_along, is_some_segment, line_cut, lines_cut, is_ring, polygon_cut, polygons_cut, geometry_cut, has_zoom, feature_cut}
+use Rattle.tile_cutter.specs.declared.coordinates.TheConstants.{EXTENT, MARGIN}
+use Rattle.tile_cutter.specs.Cut.{quantised_axis, tile_points, tile_ring, box_start, box_end, in_box, least_corner, greatest_corner, meets_box, points_cut}
+use Rattle.tile_cutter.specs.Cut.{Segment, segments, is_kept, way_along, is_some_segment, line_cut, lines_cut, is_ring, polygon_cut, polygons_cut, geometry_cut}
+use Rattle.tile_cutter.specs.Cut.{has_zoom, feature_cut}
 use Rattle.tile_cutter.specs.Covered.{all_of, all_points, least_of, greatest_of, first_met, last_met, covered, IsInRange}
 use Rattle.tile_cutter.proofs.Passes.{stands_at}
 use Rattle.tile_cutter.proofs.Kept.{points_all, ring_all}
@@ -21,16 +25,16 @@ use Rattle.tile_cutter.proofs.Drawn.{Both, all_segments}
 -- ---- the four sides of the box
 
 abbrev IsRight : Pt → Type 0
-IsRight p = pos 4160 <ℤ p.x
+IsRight p = box_end <ℤ p.x
 
 abbrev IsLeft : Pt → Type 0
-IsLeft p = p.x <ℤ negsuc 63
+IsLeft p = p.x <ℤ box_start
 
 abbrev IsBelow : Pt → Type 0
-IsBelow p = pos 4160 <ℤ p.y
+IsBelow p = box_end <ℤ p.y
 
 abbrev IsAbove : Pt → Type 0
-IsAbove p = p.y <ℤ negsuc 63
+IsAbove p = p.y <ℤ box_start
 
 past : (a b : ℤ) → b <ℤ a → int_le a b ≡ false
 past a b h = grind (arith, ints)
@@ -65,26 +69,32 @@ above_greatest p q p_is q_is = omega (arith, ints, clamps, p_is, q_is)
 
 right_side : IsSide IsRight
 right_side = record {
-  out = λ p h. first_false _ _ (first_false _ _ (second_false _ _ (past p.x (pos 4160) h)));
-  apart = λ p ps here all. first_false _ _ (first_false _ _ (first_false _ _ (past (fold least_corner p ps).x (pos 4160) (fold_keeps IsRight least_corner right_least p ps here all))));
+  out = λ p h. first_false _ _ (first_false _ _ (second_false _ _ (past p.x box_end h)));
+  apart =
+      λ p ps here all.
+      first_false _ _ (first_false _ _ (first_false _ _ (past (fold least_corner p ps).x box_end (fold_keeps IsRight least_corner right_least p ps here all))));
 }
 
 left_side : IsSide IsLeft
 left_side = record {
-  out = λ p h. first_false _ _ (first_false _ _ (first_false _ _ (past (negsuc 63) p.x h)));
-  apart = λ p ps here all. first_false _ _ (first_false _ _ (second_false _ _ (past (negsuc 63) (fold greatest_corner p ps).x (fold_keeps IsLeft greatest_corner left_greatest p ps here all))));
+  out = λ p h. first_false _ _ (first_false _ _ (first_false _ _ (past box_start p.x h)));
+  apart =
+      λ p ps here all.
+      first_false _ _
+      (first_false _ _ (second_false _ _ (past box_start (fold greatest_corner p ps).x (fold_keeps IsLeft greatest_corner left_greatest p ps here all))));
 }
 
 below_side : IsSide IsBelow
 below_side = record {
-  out = λ p h. second_false _ _ (past p.y (pos 4160) h);
-  apart = λ p ps here all. first_false _ _ (second_false _ _ (past (fold least_corner p ps).y (pos 4160) (fold_keeps IsBelow least_corner below_least p ps here all)));
+  out = λ p h. second_false _ _ (past p.y box_end h);
+  apart =
+      λ p ps here all. first_false _ _ (second_false _ _ (past (fold least_corner p ps).y box_end (fold_keeps IsBelow least_corner below_least p ps here all)));
 }
 
 above_side : IsSide IsAbove
 above_side = record {
-  out = λ p h. first_false _ _ (second_false _ _ (past (negsuc 63) p.y h));
-  apart = λ p ps here all. second_false _ _ (past (negsuc 63) (fold greatest_corner p ps).y (fold_keeps IsAbove greatest_corner above_greatest p ps here all));
+  out = λ p h. first_false _ _ (second_false _ _ (past box_start p.y h));
+  apart = λ p ps here all. second_false _ _ (past box_start (fold greatest_corner p ps).y (fold_keeps IsAbove greatest_corner above_greatest p ps here all));
 }
 
 -- ---- a geometry on one side
@@ -113,12 +123,15 @@ all_parts {X} {Y} P f (x ∷ xs) all =
         let rest = split us vs (All-tail P u (us ++ vs) all) in
         (All-cons P u us (All-head P u (us ++ vs) all) rest.0, rest.1)
 
-no_points : (P : Pt → Type 0) → IsSide P → (zoom column row : ℕ) (ps : List World) → All (λ p. P (stands_at zoom column row p)) ps → points_cut zoom column row ps ≡ []
+no_points : (P : Pt → Type 0) → IsSide P → (zoom column row : ℕ) (ps : List World) → All (λ p. P (stands_at zoom column row p)) ps
+    → points_cut zoom column row ps ≡ []
 unfolding points_cut
 no_points P side zoom column row ps all =
-    filter_nothing in_box (tile_points zoom column row ps) (All-weaker P (λ p. in_box p ≡ false) side.out (tile_points zoom column row ps) (points_all P zoom column row ps all))
+    filter_nothing in_box (tile_points zoom column row ps)
+    (All-weaker P (λ p. in_box p ≡ false) side.out (tile_points zoom column row ps) (points_all P zoom column row ps all))
 
-no_line : (P : Pt → Type 0) → IsSide P → (zoom column row : ℕ) (ps : List World) → All (λ p. P (stands_at zoom column row p)) ps → line_cut zoom column row ps ≡ []
+no_line : (P : Pt → Type 0) → IsSide P → (zoom column row : ℕ) (ps : List World) → All (λ p. P (stands_at zoom column row p)) ps
+    → line_cut zoom column row ps ≡ []
 unfolding line_cut
 no_line P side zoom column row ps all =
     let ss = segments (tile_points zoom column row ps) in
@@ -126,7 +139,8 @@ no_line P side zoom column row ps all =
     let none = All-weaker (Both P) (λ s. is_kept s ≡ false) (λ s both. side.apart s.0 (s.1 ∷ []) both.0 (All-cons P s.1 [] both.1 (All-nil P))) ss ends in
     ap (map way_along) (split_nothing ss none)
 
-no_polygon : (P : Pt → Type 0) → IsSide P → (zoom column row : ℕ) (rs : List (List World)) → All (λ p. P (stands_at zoom column row p)) (all_of rs) → polygon_cut zoom column row rs ≡ []
+no_polygon : (P : Pt → Type 0) → IsSide P → (zoom column row : ℕ) (rs : List (List World)) → All (λ p. P (stands_at zoom column row p)) (all_of rs)
+    → polygon_cut zoom column row rs ≡ []
 unfolding polygon_cut
 no_polygon P side zoom column row [] all = refl
 no_polygon P side zoom column row (outer ∷ inners) all =
@@ -139,15 +153,19 @@ no_polygon P side zoom column row (outer ∷ inners) all =
     ring_apart [] ps_all = refl
     ring_apart (p ∷ ps) ps_all = side.apart p ps (All-head P p ps ps_all) (All-tail P p ps ps_all)
 
-no_geometry : (P : Pt → Type 0) → IsSide P → (zoom column row : ℕ) (g : GeometryData) → All (λ p. P (stands_at zoom column row p)) (all_points g) → geometry_cut zoom column row g ≡ None
+no_geometry : (P : Pt → Type 0) → IsSide P → (zoom column row : ℕ) (g : GeometryData) → All (λ p. P (stands_at zoom column row p)) (all_points g)
+    → geometry_cut zoom column row g ≡ None
 unfolding geometry_cut lines_cut polygons_cut
 no_geometry P side zoom column row (world_points ps) all = rw (no_points P side zoom column row ps all) refl
 no_geometry P side zoom column row (world_lines ls) all =
     let Stands : World → Type 0 = λ p. P (stands_at zoom column row p) in
-    rw (flat_nothing (line_cut zoom column row) ls (All-weaker (All Stands) (λ l. line_cut zoom column row l ≡ []) (no_line P side zoom column row) ls (all_parts Stands (λ l. l) ls all))) refl
+    rw (flat_nothing (line_cut zoom column row) ls
+    (All-weaker (All Stands) (λ l. line_cut zoom column row l ≡ []) (no_line P side zoom column row) ls (all_parts Stands (λ l. l) ls all))) refl
 no_geometry P side zoom column row (world_polygons ps) all =
     let Stands : World → Type 0 = λ p. P (stands_at zoom column row p) in
-    rw (flat_nothing (polygon_cut zoom column row) ps (All-weaker (λ p. All Stands (all_of p)) (λ p. polygon_cut zoom column row p ≡ []) (no_polygon P side zoom column row) ps (all_parts Stands all_of ps all))) refl
+    rw (flat_nothing (polygon_cut zoom column row) ps
+    (All-weaker (λ p. All Stands (all_of p)) (λ p. polygon_cut zoom column row p ≡ []) (no_polygon P side zoom column row) ps
+    (all_parts Stands all_of ps all))) refl
 
 no_feature : (f : FeatureData) (zoom column row : ℕ) → geometry_cut zoom column row f.geometry ≡ None → feature_cut f zoom column row ≡ None
 unfolding feature_cut
@@ -184,50 +202,55 @@ greatest_above f (x ∷ xs) =
     All-cons (λ y. f y ≤ fold max (f x) (map f xs)) x xs rest.0 rest.1
 
 -- before the first column, or row, that is met
-before_first : (at least u : ℕ) → at < first_met least → least ≤ u → pos 4160 <ℤ (pos u -ℤ pos (4096 * at))
+before_first : (at least u : ℕ) → at < first_met least → least ≤ u → box_end <ℤ (pos u -ℤ pos (EXTENT * at))
 before_first at least u lt le =
-    let ceil = div_ceil_times (least - 4160) 4096 (omega arith) in
-    let far : 4096 * at + 4160 < least = omega (arith, ceil.1, lt) in
+    let ceil = div_ceil_times (least - (EXTENT + MARGIN)) EXTENT (omega arith) in
+    let far : EXTENT * at + (EXTENT + MARGIN) < least = omega (arith, ceil.1, lt) in
     omega (arith, ints)
 
 -- behind the last
-behind_last : (zoom at greatest u : ℕ) → last_met zoom greatest < at → at < 2 ^ zoom → u ≤ greatest → (pos u -ℤ pos (4096 * at)) <ℤ negsuc 63
+behind_last : (zoom at greatest u : ℕ) → last_met zoom greatest < at → at < 2 ^ zoom → u ≤ greatest → (pos u -ℤ pos (EXTENT * at)) <ℤ box_start
 behind_last zoom at greatest u lt inside le =
-    let far : greatest + 64 < 4096 * at = omega (arith, lt) in
+    let far : greatest + MARGIN < EXTENT * at = omega (arith, lt) in
     omega (arith, ints)
 
 -- ---- the law
 
-pub outside : (f : FeatureData) (zoom column row : ℕ) (range : TileRange) → range ≡ covered f.geometry zoom → column < 2 ^ zoom → row < 2 ^ zoom → ¬ IsInRange range column row → feature_cut f zoom column row ≡ None
+-- in a column, or a row, before the first or behind the last that is met nothing is shown
+beside : (g : GeometryData) (zoom column row at first last : ℕ) (along : World → ℕ) (Behind Before : Pt → Type 0) → IsSide Behind → IsSide Before
+    → ((p : World) → box_end <ℤ (pos (along p) -ℤ pos (EXTENT * at)) → Behind (stands_at zoom column row p))
+    → ((p : World) → (pos (along p) -ℤ pos (EXTENT * at)) <ℤ box_start → Before (stands_at zoom column row p))
+    → first ≡ first_met (least_of (map along (all_points g))) → last ≡ last_met zoom (greatest_of (map along (all_points g))) → at < 2 ^ zoom
+    → (at < first) ⊎ (last < at) → geometry_cut zoom column row g ≡ None
+beside g zoom column row at first last along Behind Before behind before is_behind is_before first_is last_is within (inl lt) =
+    let ps = all_points g in
+    let met : at < first_met (least_of (map along ps)) = rw (← first_is) lt in
+    no_geometry Behind behind zoom column row g
+    (All-weaker (λ p. least_of (map along ps) ≤ along p) (λ p. Behind (stands_at zoom column row p))
+    (λ p le. is_behind p (before_first at (least_of (map along ps)) (along p) met le)) ps (least_below along ps))
+beside g zoom column row at first last along Behind Before behind before is_behind is_before first_is last_is within (inr lt) =
+    let ps = all_points g in
+    let met : last_met zoom (greatest_of (map along ps)) < at = rw (← last_is) lt in
+    no_geometry Before before zoom column row g
+    (All-weaker (λ p. along p ≤ greatest_of (map along ps)) (λ p. Before (stands_at zoom column row p))
+    (λ p le. is_before p (behind_last zoom at (greatest_of (map along ps)) (along p) met within le)) ps (greatest_above along ps))
+
+pub outside : (f : FeatureData) (zoom column row : ℕ) (range : TileRange) → range ≡ covered f.geometry zoom → column < 2 ^ zoom → row < 2 ^ zoom
+    → ¬ IsInRange range column row → feature_cut f zoom column row ≡ None
 unfolding covered
-outside f zoom column row range range_is across down out =
-    let ps = all_points f.geometry in
-    let x : World → ℕ = λ p. quantised_axis zoom p.x in
-    let y : World → ℕ = λ p. quantised_axis zoom p.y in
-    let x0_is : range.x0 ≡ first_met (least_of (map x ps)) = ap (λ r. r.x0) range_is in
-    let x1_is : range.x1 ≡ last_met zoom (greatest_of (map x ps)) = ap (λ r. r.x1) range_is in
-    let y0_is : range.y0 ≡ first_met (least_of (map y ps)) = ap (λ r. r.y0) range_is in
-    let y1_is : range.y1 ≡ last_met zoom (greatest_of (map y ps)) = ap (λ r. r.y1) range_is in
+outside f zoom column row range is across down out =
+    let columns = beside f.geometry zoom column row column range.x0 range.x1 (λ p. quantised_axis zoom p.x) IsRight IsLeft right_side left_side
+    (λ p h. h) (λ p h. h) (ap (λ r. r.x0) is) (ap (λ r. r.x1) is) across in
+    let rows = beside f.geometry zoom column row row range.y0 range.y1 (λ p. quantised_axis zoom p.y) IsBelow IsAbove below_side above_side
+    (λ p h. h) (λ p h. h) (ap (λ r. r.y0) is) (ap (λ r. r.y1) is) down in
     no_feature f zoom column row (⊎_elim
-    (λ (lt : column < range.x0).
-    let first : column < first_met (least_of (map x ps)) = rw (← x0_is) lt in
-    no_geometry IsRight right_side zoom column row f.geometry
-    (All-weaker (λ p. least_of (map x ps) ≤ x p) (λ p. IsRight (stands_at zoom column row p)) (λ p le. before_first column (least_of (map x ps)) (x p) first le) ps (least_below x ps)))
+    (λ (lt : column < range.x0). columns (inl lt))
     (λ (right_of : range.x0 ≤ column). ⊎_elim
-    (λ (lt : range.x1 < column).
-    let last : last_met zoom (greatest_of (map x ps)) < column = rw (← x1_is) lt in
-    no_geometry IsLeft left_side zoom column row f.geometry
-    (All-weaker (λ p. x p ≤ greatest_of (map x ps)) (λ p. IsLeft (stands_at zoom column row p)) (λ p le. behind_last zoom column (greatest_of (map x ps)) (x p) last across le) ps (greatest_above x ps)))
+    (λ (lt : range.x1 < column). columns (inr lt))
     (λ (left_of : column ≤ range.x1). ⊎_elim
-    (λ (lt : row < range.y0).
-    let first : row < first_met (least_of (map y ps)) = rw (← y0_is) lt in
-    no_geometry IsBelow below_side zoom column row f.geometry
-    (All-weaker (λ p. least_of (map y ps) ≤ y p) (λ p. IsBelow (stands_at zoom column row p)) (λ p le. before_first row (least_of (map y ps)) (y p) first le) ps (least_below y ps)))
+    (λ (lt : row < range.y0). rows (inl lt))
     (λ (below : range.y0 ≤ row). ⊎_elim
-    (λ (lt : range.y1 < row).
-    let last : last_met zoom (greatest_of (map y ps)) < row = rw (← y1_is) lt in
-    no_geometry IsAbove above_side zoom column row f.geometry
-    (All-weaker (λ p. y p ≤ greatest_of (map y ps)) (λ p. IsAbove (stands_at zoom column row p)) (λ p le. behind_last zoom row (greatest_of (map y ps)) (y p) last down le) ps (greatest_above y ps)))
+    (λ (lt : range.y1 < row). rows (inr lt))
     (λ (above : row ≤ range.y1). absurd (out (record { left = right_of; right = left_of; top = below; bottom = above })))
     (cases_lt range.y1 row))
     (cases_lt row range.y0))

@@ -4,7 +4,6 @@ use Rattle.std.proofs.Common.{refl, ap, subst, arith, if◌then◌else◌}
 use Rattle.std.specs.Prelude.{All, filter, int_lt}
 use Rattle.std.specs.Option.{option_map}
 use Rattle.std.specs.List.{AllByRecursion}
-use Rattle.std.proofs.Math.Pow.{pow_mono}
 use Rattle.std.proofs.lemmas.Bool.{lt-ltb}
 use Rattle.std.proofs.lemmas.Int.{ints}
 use Rattle.std.proofs.lemmas.List.Elements.{All-nil, All-cons, All-head, All-tail, All-weaker, recursion_from_All}
@@ -12,6 +11,7 @@ use Rattle.feature_model.specs.declared.feature.World.{World}
 use Rattle.feature_model.specs.Data.{FeatureData, GeometryData, world_points, world_lines, world_polygons, TagData}
 use Rattle.feature_model.specs.Limits.{CountFits, RingsFit, GeometryFits}
 use Rattle.feature_model.specs.Types.{IsOfWorld, LiesInWorld}
+use Rattle.feature_model.specs.declared.limits.TheConstants.{GREATEST_ZOOM}
 use Rattle.geometry_commands.specs.declared.point.Pt.{Pt}
 use Rattle.geometry_commands.specs.Encodable.{CanSpell, FitsShape}
 use Rattle.geometry_commands.specs.Shapes.{ShapeView, points, lines, rings}
@@ -23,21 +23,23 @@ use Rattle.tile_cutter.specs.Cut.{polygons_cut, unless_empty, geometry_cut, show
 use Rattle.tile_cutter.specs.Range.{IsOfSide, IsOfTile, IsDrawable}
 use Rattle.tile_cutter.proofs.Drawn.{line_drawable, points_of_tile}
 use Rattle.tile_cutter.proofs.Each.{each_all}
+use Rattle.tile_cutter.proofs.Passes.{stands_at}
 use Rattle.tile_cutter.proofs.Kept.{ring_keeps, length_ring, stands_in_tile}
 use Rattle.tile_cutter.proofs.Spelled.{spelled_points, spelled_lines, length_points_cut}
 use Rattle.tile_cutter.proofs.Turned.{turned_drawable, ring_long}
+use Rattle.tile_cutter.proofs.Zooms.{side_low}
 
 -- ---- coordinates of 64 bits
 
-fits_side : (at : ℕ) (u : ℤ) → at < 2 ^ 16 → IsOfSide at u → fits_axis u ≡ true
+fits_side : (at : ℕ) (u : ℤ) → at < 2 ^ 19 → IsOfSide at u → fits_axis u ≡ true
 fits_side at (pos n) small is = lt-ltb n (2 ^ 63) (omega (arith, ints, is.low, is.high))
 fits_side at (negsuc n) small is = lt-ltb n (2 ^ 63) (omega (arith, ints, is.low, is.high))
 
-fits_point : (column row : ℕ) (p : Pt) → column < 2 ^ 16 → row < 2 ^ 16 → IsOfTile column row p → FitsPt p
+fits_point : (column row : ℕ) (p : Pt) → column < 2 ^ 19 → row < 2 ^ 19 → IsOfTile column row p → FitsPt p
 unfolding fits
 fits_point column row p across down is = rw (fits_side column p.x across is.across, fits_side row p.y down is.down) refl
 
-module _ (column row : ℕ) (across : column < 2 ^ 16) (down : row < 2 ^ 16) where
+module _ (column row : ℕ) (across : column < 2 ^ 19) (down : row < 2 ^ 19) where
   fit_all : (ps : List Pt) → All (IsOfTile column row) ps → AllByRecursion FitsPt ps
   fit_all ps all = recursion_from_All FitsPt ps (All-weaker (IsOfTile column row) FitsPt (λ p is. fits_point column row p across down is) ps all)
 
@@ -48,12 +50,13 @@ module _ (column row : ℕ) (across : column < 2 ^ 16) (down : row < 2 ^ 16) whe
 
 -- ---- each list of points that is shown
 
-module _ (zoom column row : ℕ) (allowed : zoom ≤ 16) where
+module _ (zoom column row : ℕ) (allowed : zoom ≤ GREATEST_ZOOM) where
   lines_drawable : (ls : List (List World)) → All (CountFits 2) ls → All (All IsOfWorld) ls → All (IsDrawable false column row) (lines_cut zoom column row ls)
   unfolding lines_cut
   lines_drawable ls limits inside =
       each_all (IsDrawable false column row) (line_cut zoom column row) ls
-      (λ k d lt. line_drawable zoom column row (get_or ls k d) allowed (limits k d lt).1 (inside k d lt))
+      (λ k d lt. line_drawable zoom column row (get_or ls k d) (omega (arith, (limits k d lt).1))
+      (All-weaker IsOfWorld (λ p. IsOfTile column row (stands_at zoom column row p)) (stands_in_tile zoom column row allowed) (get_or ls k d) (inside k d lt)))
 
   -- a ring of three points or more that has an area
   ring_drawable : (ps : List World) → CountFits 3 ps → All IsOfWorld ps → is_ring (tile_ring zoom column row ps) ≡ true
@@ -116,24 +119,25 @@ pub unless_some : {X : Type 0} (shape : List X → ShapeView) (xs : List X) (s :
 unless_some shape [] s h = cc
 unless_some shape (x ∷ xs) s h = (cc, omega arith)
 
-module _ (zoom column row : ℕ) (allowed : zoom ≤ 16) (across : column < 2 ^ zoom) (down : row < 2 ^ zoom) where
-  narrow : (at : ℕ) → at < 2 ^ zoom → at < 2 ^ 16
-  narrow at within = let most : 2 ^ zoom ≤ 2 ^ 16 = pow_mono {i = zoom} {j = 16} allowed in omega arith
-
+module _ (zoom column row : ℕ) (allowed : zoom ≤ GREATEST_ZOOM) (across : column < 2 ^ zoom) (down : row < 2 ^ zoom) where
   points_shown : (ps : List World) → CountFits 1 ps → All IsOfWorld ps → 0 < length (points_cut zoom column row ps)
       → IsShown (points (points_cut zoom column row ps))
   points_shown ps limits inside some =
       let shown = points_cut zoom column row ps in
       let all = points_of_tile zoom column row ps allowed inside in (
         spelled_points zoom column row shown allowed across down some (omega (arith, length_points_cut zoom column row ps, limits.1)) all,
-        fit_all column row (narrow column across) (narrow row down) shown all,
+        fit_all column row (side_low zoom column allowed across) (side_low zoom row allowed down) shown all,
       )
 
   lists_shown : (closed : Bool) (ls : List (List Pt)) → All (IsDrawable closed column row) ls → IsShown (if closed then rings ls else lines ls)
-  lists_shown true ls all =
-      (spelled_lines true zoom column row ls allowed across down all, fit_lists column row (narrow column across) (narrow row down) true ls all)
-  lists_shown false ls all =
-      (spelled_lines false zoom column row ls allowed across down all, fit_lists column row (narrow column across) (narrow row down) false ls all)
+  lists_shown true ls all = (
+    spelled_lines true zoom column row ls allowed across down all,
+    fit_lists column row (side_low zoom column allowed across) (side_low zoom row allowed down) true ls all,
+  )
+  lists_shown false ls all = (
+    spelled_lines false zoom column row ls allowed across down all,
+    fit_lists column row (side_low zoom column allowed across) (side_low zoom row allowed down) false ls all,
+  )
 
   shape_shown : (g : GeometryData) (s : ShapeView) → GeometryFits g → LiesInWorld g → geometry_cut zoom column row g ≡ Some s → IsShown s
   unfolding geometry_cut
@@ -161,7 +165,7 @@ pub shape_left : (f : FeatureData) (zoom column row : ℕ) (v : FeatureView) →
 unfolding feature_cut
 shape_left f zoom column row v h = shape_of f.tags (cut.has_zoom f zoom) (geometry_cut zoom column row f.geometry) v h
 
-pub feature_shown : (f : FeatureData) (zoom column row : ℕ) (v : FeatureView) → zoom ≤ 16 → column < 2 ^ zoom → row < 2 ^ zoom
+pub feature_shown : (f : FeatureData) (zoom column row : ℕ) (v : FeatureView) → zoom ≤ GREATEST_ZOOM → column < 2 ^ zoom → row < 2 ^ zoom
     → GeometryFits f.geometry → LiesInWorld f.geometry → feature_cut f zoom column row ≡ Some v → CanSpell v.shape × FitsShape v.shape
 feature_shown f zoom column row v allowed across down limits inside h =
     shape_shown zoom column row allowed across down f.geometry v.shape limits inside (shape_left f zoom column row v h)

@@ -1,8 +1,9 @@
 -- What a tile shows can be written: from point to point no way is longer than 32 bits hold.
-use Rattle.std.proofs.Common.{◌≡◌, ℕ, ℤ, ◌^◌, ◌<◌, ◌≤◌, ◌-ℤ◌, suc, ◌==◌, Bool, true, false, cond, Vec, vec_len, Global, List, [], ◌∷◌, Some, None, length, refl, arith}
+use Rattle.std.proofs.Common.{◌≡◌, ℕ, ℤ, ◌^◌, ◌<◌, ◌≤◌, ◌-ℤ◌, suc, ◌==◌, Bool, true, false, cond, Vec, vec_len, Global, List, [], ◌∷◌, Some, None, length, refl}
+use Rattle.std.proofs.Common.{arith}
 use Rattle.std.specs.Prelude.{All, filter}
-use Rattle.std.proofs.Math.Pow.{pow_mono}
 use Rattle.std.proofs.lemmas.Int.{ints}
+use Rattle.std.proofs.lemmas.List.{length-map}
 use Rattle.std.proofs.lemmas.List.Elements.{All-head, All-tail}
 use Rattle.std.proofs.lemmas.Bool.Decides.{Decides-eqb, not_from_Decides}
 use Rattle.geometry_commands.specs.declared.point.Pt.{Pt}
@@ -10,8 +11,11 @@ use Rattle.geometry_commands.specs.Commands.{IsShort, IsNear, AreNear, origin}
 use Rattle.geometry_commands.specs.Shapes.{ShapeView, last_of}
 use Rattle.geometry_commands.specs.Encodable.{CanSpellLines, CanSpellPoints}
 use Rattle.feature_model.specs.declared.feature.World.{World}
+use Rattle.feature_model.specs.declared.limits.TheConstants.{GREATEST_ZOOM}
 use Rattle.tile_cutter.specs.Cut.{tile_points, in_box, points_cut, unless_empty}
 use Rattle.tile_cutter.proofs.Kept.{length_points}
+use Rattle.tile_cutter.proofs.Zooms.{side_low}
+use Rattle.tile_cutter.specs.Passes.{lists_of}
 use Rattle.tile_cutter.specs.Range.{IsOfSide, IsOfTile, IsDrawable}
 
 side_short : (at : ℕ) (u v : ℤ) → IsOfSide at u → IsOfSide at v → IsShort (v -ℤ u)
@@ -30,27 +34,33 @@ last_of_tile : (column row : ℕ) (p : Pt) (qs : List Pt) → IsOfTile column ro
 last_of_tile column row p [] p_is all = p_is
 last_of_tile column row p (q ∷ qs) p_is all = last_of_tile column row q qs (All-head (IsOfTile column row) q qs all) (All-tail (IsOfTile column row) q qs all)
 
-lines_spell : (closed : Bool) (column row : ℕ) (from : Pt) (ls : List (List Pt)) → IsOfTile column row from → All (IsDrawable closed column row) ls → CanSpellLines closed from ls
+lines_spell : (closed : Bool) (column row : ℕ) (from : Pt) (ls : List (List Pt)) → IsOfTile column row from → All (IsDrawable closed column row) ls
+    → CanSpellLines closed from ls
 lines_spell closed column row from [] from_is all = tt
 lines_spell closed column row from (l ∷ ls) from_is all =
     let here = All-head (IsDrawable closed column row) l ls all in (
       record { long = here.long; few = here.few; near = all_near column row from l from_is here.of_tile },
-      lines_spell closed column row (last_of from l) ls (last_of_tile column row from l from_is here.of_tile) (All-tail (IsDrawable closed column row) l ls all),
+      lines_spell closed column row (last_of from l) ls (last_of_tile column row from l from_is here.of_tile)
+          (All-tail (IsDrawable closed column row) l ls all),
     )
 
 -- the origin stands in the world of each tile
-origin_of_tile : (zoom column row : ℕ) → zoom ≤ 16 → column < 2 ^ zoom → row < 2 ^ zoom → IsOfTile column row origin
+origin_of_tile : (zoom column row : ℕ) → zoom ≤ GREATEST_ZOOM → column < 2 ^ zoom → row < 2 ^ zoom → IsOfTile column row origin
 origin_of_tile zoom column row allowed across down =
-    let most : 2 ^ zoom ≤ 2 ^ 16 = pow_mono {i = zoom} {j = 16} allowed in
+    let columns = side_low zoom column allowed across in
+    let rows = side_low zoom row allowed down in
     record {
       across = record { low = omega (arith, ints); high = omega (arith, ints) };
       down = record { low = omega (arith, ints); high = omega (arith, ints) };
     }
 
-pub spelled_lines : (closed : Bool) (zoom column row : ℕ) (ls : List (List Pt)) → zoom ≤ 16 → column < 2 ^ zoom → row < 2 ^ zoom → All (IsDrawable closed column row) ls → CanSpellLines closed origin ls
-spelled_lines closed zoom column row ls allowed across down all = lines_spell closed column row origin ls (origin_of_tile zoom column row allowed across down) all
+pub spelled_lines : (closed : Bool) (zoom column row : ℕ) (ls : List (List Pt)) → zoom ≤ GREATEST_ZOOM → column < 2 ^ zoom → row < 2 ^ zoom
+    → All (IsDrawable closed column row) ls → CanSpellLines closed origin ls
+spelled_lines closed zoom column row ls allowed across down all =
+    lines_spell closed column row origin ls (origin_of_tile zoom column row allowed across down) all
 
-pub spelled_points : (zoom column row : ℕ) (ps : List Pt) → zoom ≤ 16 → column < 2 ^ zoom → row < 2 ^ zoom → 0 < length ps → length ps < 2 ^ 29 → All (IsOfTile column row) ps → CanSpellPoints ps
+pub spelled_points : (zoom column row : ℕ) (ps : List Pt) → zoom ≤ GREATEST_ZOOM → column < 2 ^ zoom → row < 2 ^ zoom → 0 < length ps → length ps < 2 ^ 29
+    → All (IsOfTile column row) ps → CanSpellPoints ps
 spelled_points zoom column row ps allowed across down some few all = record {
   some = some;
   few = few;
@@ -59,7 +69,8 @@ spelled_points zoom column row ps allowed across down some few all = record {
 
 -- ---- a shape, where something is left
 
-pub none_left : {X V : Type 0} (shape : List X → ShapeView) (v : Vec V Global) (xs ys : List X) → (vec_len v == 0) ≡ true → length xs ≡ length v.items → xs ≡ ys → None ≡ unless_empty shape ys
+pub none_left : {X V : Type 0} (shape : List X → ShapeView) (v : Vec V Global) (xs ys : List X) → (vec_len v == 0) ≡ true → length xs ≡ length v.items → xs ≡ ys
+    → None ≡ unless_empty shape ys
 none_left shape v [] ys empty same e = rw (← e) refl
 none_left shape v (x ∷ xs) ys empty same e =
     let none = (Decides-eqb (vec_len v) 0).0 empty in
@@ -73,6 +84,15 @@ some_length v some =
 pub some_left : {X : Type 0} (shape : List X → ShapeView) (xs ys : List X) → 0 < length xs → xs ≡ ys → Some (shape xs) ≡ unless_empty shape ys
 some_left shape [] ys lt e = absurd (omega arith)
 some_left shape (x ∷ xs) ys lt e = rw (← e) refl
+
+-- lists of points as a shape
+pub no_lists : (shape : List (List Pt) → ShapeView) (v : Vec (Vec Pt Global) Global) (ys : List (List Pt)) → (vec_len v == 0) ≡ true → lists_of v.items ≡ ys
+    → None ≡ unless_empty shape ys
+no_lists shape v ys empty is = none_left shape v (lists_of v.items) ys empty (length-map v.items (λ l. l.items)) is
+
+pub some_lists : (shape : List (List Pt) → ShapeView) (v : Vec (Vec Pt Global) Global) (ys : List (List Pt)) → (vec_len v == 0) ≡ false → lists_of v.items ≡ ys
+    → Some (shape (lists_of v.items)) ≡ unless_empty shape ys
+some_lists shape v ys some is = some_left shape (lists_of v.items) ys (omega (arith, length-map v.items (λ l. l.items), some_length v some)) is
 
 pub length_filter : {X : Type 0} (p : X → Bool) (xs : List X) → length (filter p xs) ≤ length xs
 length_filter p [] = omega arith

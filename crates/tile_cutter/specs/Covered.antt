@@ -4,6 +4,7 @@ use Rattle.std.specs.List.{range_with_len}
 use Rattle.std.specs.Int.{div_ceil}
 use Rattle.feature_model.specs.declared.feature.World.{World}
 use Rattle.feature_model.specs.Data.{FeatureData, GeometryData, world_points, world_lines, world_polygons}
+use Rattle.tile_cutter.specs.declared.coordinates.TheConstants.{EXTENT, MARGIN}
 use Rattle.tile_cutter.specs.declared.reach.TileRange.{TileRange}
 use Rattle.tile_cutter.specs.Cut.{quantised_axis}
 
@@ -28,10 +29,10 @@ greatest_of (n ∷ ns) = fold max n ns
 
 -- the columns, or rows, of a zoom whose boxes are met from the least to the greatest coordinate
 abbrev pub first_met : ℕ → ℕ
-first_met least = div_ceil (least - 4160) 4096
+first_met least = div_ceil (least - (EXTENT + MARGIN)) EXTENT
 
 abbrev pub last_met : ℕ → ℕ → ℕ
-last_met zoom greatest = min (2 ^ zoom - 1) ((greatest + 64) / 4096)
+last_met zoom greatest = min (2 ^ zoom - 1) ((greatest + MARGIN) / EXTENT)
 
 -- the tiles of a zoom that the bounding box of a geometry meets
 unfoldable pub covered : GeometryData → ℕ → TileRange

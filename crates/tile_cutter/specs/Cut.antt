@@ -1,17 +1,20 @@
 -- What of a feature a tile shows, whole lists at a time.
-use Rattle.std.specs.Prelude.{ℕ, ℤ, pos, negsuc, ◌-◌, ◌*◌, ◌/◌, ◌^◌, ◌+ℤ◌, ◌-ℤ◌, ◌*ℤ◌, ◌==◌, ◌&&◌, not, nat_le, int_le, int_lt, Bool, true, false, Option, Some, None, option_map, List, [], ◌∷◌, ◌++◌, map, filter, fold, flat_map, zip, reverse, take, drop, length, if◌then◌else◌}
+use Rattle.std.specs.Prelude.{ℕ, ℤ, pos, neg_ℤ, ◌+◌, ◌-◌, ◌*◌, ◌/◌, ◌^◌, ◌+ℤ◌, ◌-ℤ◌, ◌*ℤ◌, ◌==◌, ◌&&◌, not, nat_le, int_le, int_lt, Bool, true, false, Option}
+use Rattle.std.specs.Prelude.{Some, None, option_map, List, [], ◌∷◌, ◌++◌, map, filter, fold, flat_map, zip, reverse, take, drop, length, if◌then◌else◌}
 use Rattle.std.specs.List.{dedup, slice_split}
 use Rattle.std.specs.Int.{int_min, int_max}
 use Rattle.std.specs.Ordering.{int_eq}
 use Rattle.feature_model.specs.declared.feature.World.{World}
-use Rattle.feature_model.specs.Data.{FeatureData, GeometryData, world_points, world_lines, world_polygons, TagData, ValueData, text_value, natural_value, negative_value, truth_value}
+use Rattle.feature_model.specs.Data.{FeatureData, GeometryData, world_points, world_lines, world_polygons, TagData, ValueData, text_value, natural_value}
+use Rattle.feature_model.specs.Data.{negative_value, truth_value}
 use Rattle.geometry_commands.specs.declared.point.Pt.{Pt}
 use Rattle.geometry_commands.specs.Shapes.{ShapeView, points, lines, rings}
 use Rattle.mvt_layer.specs.Tile.{FeatureView, TagView, Tagged, text, natural, negative, truth}
+use Rattle.tile_cutter.specs.declared.coordinates.TheConstants.{EXTENT, MARGIN, WORLD_ZOOM}
 
 -- a coordinate of the world as a zoom sees it, rounded down
 abbrev pub quantised_axis : ℕ → ℕ → ℕ
-quantised_axis zoom w = w / 2 ^ (20 - zoom)
+quantised_axis zoom w = w / 2 ^ (WORLD_ZOOM - zoom)
 
 -- a point of the world as a zoom sees it
 abbrev pub quantised : ℕ → World → World
@@ -39,20 +42,27 @@ abbrev pub open_ring : List World → List World
 open_ring ps = if is_closed ps then take (length ps - 1) ps else ps
 
 -- where a quantised point stands in the tile of a column and a row
-abbrev pub placed : ℕ → ℕ → World → Pt
-placed column row p = record { x = pos p.x -ℤ pos (4096 * column); y = pos p.y -ℤ pos (4096 * row) }
+abbrev pub position_in : ℕ → ℕ → World → Pt
+position_in column row p = record { x = pos p.x -ℤ pos (EXTENT * column); y = pos p.y -ℤ pos (EXTENT * row) }
 
 -- a list of points in a tile
 abbrev pub tile_points : ℕ → ℕ → ℕ → List World → List Pt
-tile_points zoom column row ps = map (placed column row) (quantised_points zoom ps)
+tile_points zoom column row ps = map (position_in column row) (quantised_points zoom ps)
 
 -- a ring in a tile
 abbrev pub tile_ring : ℕ → ℕ → ℕ → List World → List Pt
-tile_ring zoom column row ps = map (placed column row) (open_ring (quantised_points zoom ps))
+tile_ring zoom column row ps = map (position_in column row) (open_ring (quantised_points zoom ps))
 
--- the box of a tile: 64 beyond each edge, ends included
+-- the box of a tile reaches from here to there, ends included, across and down
+abbrev pub box_start : ℤ
+box_start = neg_ℤ (pos MARGIN)
+
+abbrev pub box_end : ℤ
+box_end = pos (EXTENT + MARGIN)
+
+-- whether a point is in the box
 abbrev pub in_box : Pt → Bool
-in_box p = int_le (negsuc 63) p.x && int_le p.x (pos 4160) && int_le (negsuc 63) p.y && int_le p.y (pos 4160)
+in_box p = int_le box_start p.x && int_le p.x box_end && int_le box_start p.y && int_le p.y box_end
 
 -- the corners of the bounding box of two points
 abbrev pub least_corner : Pt → Pt → Pt
@@ -63,7 +73,7 @@ greatest_corner p q = record { x = int_max p.x q.x; y = int_max p.y q.y }
 
 -- whether a bounding box, by its corners, meets the box
 abbrev pub reaches_box : Pt → Pt → Bool
-reaches_box least greatest = int_le least.x (pos 4160) && int_le (negsuc 63) greatest.x && int_le least.y (pos 4160) && int_le (negsuc 63) greatest.y
+reaches_box least greatest = int_le least.x box_end && int_le box_start greatest.x && int_le least.y box_end && int_le box_start greatest.y
 
 -- whether the bounding box of points does
 abbrev pub meets_box : List Pt → Bool

@@ -8,13 +8,13 @@ use Rattle.tile_cutter.specs.declared.rings.Role.{Role}
 use Rattle.tile_cutter.specs.declared.rings.Role.TheVariants.{Outer, Inner}
 use Rattle.tile_cutter.specs.Cut.{in_box, Segment, is_kept, meets_box, is_ring, outward, inward}
 
-abbrev pub is_same_place : Pt → Pt → Bool
-is_same_place p q = int_eq p.x q.x && int_eq p.y q.y
+abbrev pub is_same_position : Pt → Pt → Bool
+is_same_position p q = int_eq p.x q.x && int_eq p.y q.y
 
 -- whether a point is the one before it again
 abbrev pub repeats : Option Pt → Pt → Bool
 repeats None p = false
-repeats (Some q) p = is_same_place p q
+repeats (Some q) p = is_same_position p q
 
 -- whether a tile shows a point
 abbrev pub is_shown : Option Pt → Pt → Bool
@@ -45,11 +45,11 @@ ended_by chain s = if is_kept s then [] else chain_of chain
 -- whether the last point of a ring is the first again
 abbrev pub returns_to_start : List Pt → Bool
 returns_to_start [] = false
-returns_to_start (p ∷ ps) = is_same_place p (last_of p ps)
+returns_to_start (p ∷ ps) = is_same_position p (last_of p ps)
 
 -- the points of a ring, a last one that equals the first left out
-abbrev pub open_places : List Pt → List Pt
-open_places ps = if returns_to_start ps then take (length ps - 1) ps else ps
+abbrev pub open_positions : List Pt → List Pt
+open_positions ps = if returns_to_start ps then take (length ps - 1) ps else ps
 
 -- a ring the way round that it has to go, where it has three points and an area
 abbrev pub wound : Role → List Pt → Option (List Pt)

@@ -2,6 +2,7 @@
 use Rattle.std.specs.Prelude.{ℕ, ℤ, pos, neg_ℤ, ◌*◌, ◌^◌, ◌<◌, ◌+ℤ◌, ◌≤ℤ◌, ◌<ℤ◌, Bool, List, length, All}
 use Rattle.geometry_commands.specs.declared.point.Pt.{Pt}
 use Rattle.geometry_commands.specs.Shapes.{least}
+use Rattle.tile_cutter.specs.declared.coordinates.TheConstants.{EXTENT}
 
 -- a number of so many bits and a sign
 pub record IsWithin (bits : ℕ) (u : ℤ) : Type 0 where
@@ -15,8 +16,8 @@ pub record IsSmall (p : Pt) : Type 0 where
 
 -- a coordinate in the tiles of a column or a row, of a zoom of fewer than 2^31 coordinates
 pub record IsOfSide (at : ℕ) (u : ℤ) : Type 0 where
-  pub low : pos 0 ≤ℤ (u +ℤ pos (4096 * at))
-  pub high : (u +ℤ pos (4096 * at)) <ℤ pos (2 ^ 31)
+  pub low : pos 0 ≤ℤ (u +ℤ pos (EXTENT * at))
+  pub high : (u +ℤ pos (EXTENT * at)) <ℤ pos (2 ^ 31)
 
 -- a point in the tile of a column and a row
 pub record IsOfTile (column row : ℕ) (p : Pt) : Type 0 where

@@ -1,7 +1,7 @@
 ghost use Rattle.std.specs.Prelude.{◌≡◌, [], ◌∷◌};
 ghost use Rattle.tile_cutter.specs.Cut.{in_box, least_corner, greatest_corner, reaches_box, meets_box};
 
-use crate::place::{EXTENT, MARGIN};
+use crate::coordinates::{EXTENT, MARGIN};
 use geometry_commands::Pt;
 
 /// How far the box of a tile reaches to the left and upwards.

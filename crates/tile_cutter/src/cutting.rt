@@ -9,11 +9,11 @@ ghost use Rattle.tile_cutter.specs.Cut.{shown_value, shown_tag, geometry_cut, ha
 use crate::lines::lines_shape;
 use crate::points::points_shape;
 use crate::rings::rings_shape;
-use feature_model::{EditValue, Feature, Geometry, Memory, Tag};
+use feature_model::{EditValue, Feature, GREATEST_ZOOM, Geometry, Tag};
 use geometry_commands::Shape;
 use hilbert_id::TileAt;
 use mvt_layer::{TagValue, TileFeature};
-use std::alloc::Global;
+use std::alloc::{AllocError, Global};
 
 /// The value of a tag as a tile has it.
 fn shown_value(value: &EditValue) -> TagValue<'_>
@@ -28,7 +28,10 @@ fn shown_value(value: &EditValue) -> TagValue<'_>
 }
 
 /// The tags of a feature as a tile has them.
-fn shown_tags<'a>(alloc: Global, tags: &'a [Tag]) -> Result<Vec<(&'a str, TagValue<'a>)>, Memory>
+fn shown_tags<'a>(
+    alloc: Global,
+    tags: &'a [Tag],
+) -> Result<Vec<(&'a str, TagValue<'a>)>, AllocError>
     ensures { IfOk result (λ v. tagged v.items ≡ map shown_tag (map tag_data tags.now)) }
 {
     let mut shown = Vec::with_capacity(alloc, tags.len())?;
@@ -47,8 +50,8 @@ fn has_zoom(feature: &Feature, zoom: u8) -> bool
 
 /// What of a geometry a tile shows.
 #[tactic(auto, unfolding(crate::specs::Cut::geometry_cut))]
-fn cut_geometry(alloc: Global, geometry: &Geometry, at: TileAt) -> Result<Option<Shape>, Memory>
-    requires zoom { at.z ≤ 16 }
+fn cut_geometry(alloc: Global, geometry: &Geometry, at: TileAt) -> Result<Option<Shape>, AllocError>
+    requires zoom { at.z ≤ GREATEST_ZOOM }
     requires limits { GeometryFits (geometry_data geometry.now) }
     ensures shape { IfOk result (λ o. option_map shape_view o ≡ geometry_cut at.z at.x at.y (geometry_data geometry.now)) }
     ensures writable { IfOk result (λ o. IfSome o (λ s. CanSpell (shape_view s))) }
@@ -63,16 +66,16 @@ fn cut_geometry(alloc: Global, geometry: &Geometry, at: TileAt) -> Result<Option
 /// What of a feature a tile shows, without a number; nothing where nothing is left of it, or where it isn't shown at
 /// the tile's zoom.
 ///
-/// Points are shown where they stand in the tile's box, which reaches 64 beyond each edge; lines as the longest chains
+/// Points are shown where they stand in the tile's box, which reaches `MARGIN` beyond each edge; lines as the longest chains
 /// of segments that meet the box, not clipped; polygons whole where their outer ring meets it, outer rings with
-/// positive and inner rings with negative area (Mapbox Vector Tile 2.1, 4.3.4.4). The only error is want of memory.
+/// positive and inner rings with negative area (Mapbox Vector Tile 2.1, 4.3.4.4). The only error is out of memory.
 #[tactic(auto, unfolding(crate::specs::Cut::feature_cut))]
 pub fn cut<'a>(
     alloc: Global,
     feature: &'a Feature,
     at: TileAt,
-) -> Result<Option<TileFeature<'a>>, Memory>
-    requires zoom { at.z ≤ 16 }
+) -> Result<Option<TileFeature<'a>>, AllocError>
+    requires zoom { at.z ≤ GREATEST_ZOOM }
     requires limits { GeometryFits (geometry_data feature.now.geometry) }
     ensures cut { IfOk result (λ o. option_map feature_view o ≡ feature_cut (feature_data feature.now) at.z at.x at.y) }
     // What is shown can be written.

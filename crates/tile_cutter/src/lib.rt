@@ -2,15 +2,16 @@
 #![tactic(auto)]
 
 mod bounds;
+mod coordinates;
 mod cutting;
 mod lines;
-mod place;
 mod points;
 mod reach;
 mod rings;
 
+pub use coordinates::{EXTENT, MARGIN, WORLD_ZOOM};
 pub use cutting::cut;
-pub use reach::{TileRange, check_reach, cover_count, covers};
+pub use reach::{MOST_TILES, TileRange, check_reach, cover_count, covers};
 
 #[cfg(test)]
 mod tests;

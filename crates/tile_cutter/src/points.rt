@@ -1,4 +1,4 @@
-ghost use Rattle.std.specs.Prelude.{◌≡◌, ◌≤◌, option_map, All, IfOk, IfSome, OnOk};
+ghost use Rattle.std.specs.Prelude.{◌≡◌, ◌≤◌, option_map, All, IfOk, IfSome};
 ghost use Rattle.feature_model.specs.Limits.{CountFits};
 ghost use Rattle.geometry_commands.specs.Encodable.{CanSpell};
 ghost use Rattle.geometry_commands.specs.Shapes as shapes;
@@ -8,11 +8,11 @@ ghost use Rattle.tile_cutter.specs.Passes.{is_shown};
 ghost use Rattle.tile_cutter.specs.Range.{IsOfTile};
 
 use crate::bounds::is_in_box;
-use crate::place::{place, repeats};
-use feature_model::{Memory, World};
+use crate::coordinates::{position, repeats};
+use feature_model::{GREATEST_ZOOM, World};
 use geometry_commands::{Pt, Shape};
 use hilbert_id::TileAt;
-use std::alloc::Global;
+use std::alloc::{AllocError, Global};
 
 /// Whether a tile shows a point: it isn't the one before it again, and stands in the box.
 fn is_shown(before: Option<Pt>, here: Pt) -> bool
@@ -22,15 +22,15 @@ fn is_shown(before: Option<Pt>, here: Pt) -> bool
 }
 
 /// The points that a tile shows.
-fn cut_points(alloc: Global, points: &[World], at: TileAt) -> Result<Vec<Pt>, Memory>
-    requires { at.z ≤ 16 }
+fn cut_points(alloc: Global, points: &[World], at: TileAt) -> Result<Vec<Pt>, AllocError>
+    requires { at.z ≤ GREATEST_ZOOM }
     ensures points { IfOk result (λ v. v.items ≡ points_cut at.z at.x at.y points.now) }
-    ensures of_tile { OnOk result (All (IsOfTile at.x at.y) (points_cut at.z at.x at.y points.now)) }
+    ensures of_tile { IfOk result (λ v. All (IsOfTile at.x at.y) v.items) }
 {
     let mut shown = Vec::new(alloc);
     let mut before = None;
     for point in points {
-        let here = place(*point, at);
+        let here = position(*point, at);
         if is_shown(before, here) {
             shown.push(here)?;
         }
@@ -44,8 +44,8 @@ pub(crate) fn points_shape(
     alloc: Global,
     points: &[World],
     at: TileAt,
-) -> Result<Option<Shape>, Memory>
-    requires zoom { at.z ≤ 16 }
+) -> Result<Option<Shape>, AllocError>
+    requires zoom { at.z ≤ GREATEST_ZOOM }
     requires limits { CountFits 1 points.now }
     ensures shape { IfOk result (λ o. option_map shape_view o ≡ unless_empty shapes.points (points_cut at.z at.x at.y points.now)) }
     ensures writable { IfOk result (λ o. IfSome o (λ s. CanSpell (shape_view s))) }

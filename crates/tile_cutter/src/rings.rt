@@ -5,15 +5,14 @@ ghost use Rattle.geometry_commands.specs.Shapes as shapes;
 ghost use Rattle.geometry_commands.specs.Shapes.{shape_view};
 ghost use Rattle.tile_cutter.specs.Cut.{tile_ring, cross, twice_area, turned, inner_rings, polygon_cut, polygons_cut, unless_empty};
 ghost use Rattle.tile_cutter.specs.Passes.{returns_to_start, wound, shown_ring, lists_of};
-ghost use Rattle.feature_model.specs.Types.{IsOfWorld};
-ghost use Rattle.tile_cutter.specs.Range.{IsWithin, IsSmall, IsDrawable};
+ghost use Rattle.tile_cutter.specs.Range.{IsWithin, IsSmall, IsOfTile, IsDrawable};
 
 use crate::bounds::ring_meets_box;
-use crate::place::{place, repeats};
-use feature_model::{Memory, World};
+use crate::coordinates::{position, repeats};
+use feature_model::{GREATEST_ZOOM, World};
 use geometry_commands::{Pt, Shape};
 use hilbert_id::TileAt;
-use std::alloc::Global;
+use std::alloc::{AllocError, Global};
 
 /// What a ring is of a polygon.
 #[derive(Clone, Copy, PartialEq, Eq)]
@@ -35,15 +34,15 @@ fn returns_to_start(ring: &[Pt]) -> bool
 }
 
 /// The points of a ring in a tile, each that equals the one before it left out, and a last one that equals the first.
-fn tile_ring(alloc: Global, points: &[World], at: TileAt) -> Result<Vec<Pt>, Memory>
-    requires { at.z ≤ 16 }
+fn tile_ring(alloc: Global, points: &[World], at: TileAt) -> Result<Vec<Pt>, AllocError>
+    requires { at.z ≤ GREATEST_ZOOM }
     ensures ring { IfOk result (λ v. v.items ≡ tile_ring at.z at.x at.y points.now) }
-    ensures in_world { OnOk result (All IsOfWorld points.now) }
+    ensures of_tile { IfOk result (λ v. All (IsOfTile at.x at.y) v.items) }
 {
     let mut ring = Vec::new(alloc);
     let mut before = None;
     for point in points {
-        let here = place(*point, at);
+        let here = position(*point, at);
         if !repeats(before, here) {
             ring.push(here)?;
         }
@@ -128,11 +127,11 @@ fn shown_ring(
     points: &[World],
     at: TileAt,
     role: Role,
-) -> Result<Option<Vec<Pt>>, Memory>
-    requires zoom { at.z ≤ 16 }
+) -> Result<Option<Vec<Pt>>, AllocError>
+    requires zoom { at.z ≤ GREATEST_ZOOM }
     requires few { length points.now < 2 ^ 29 }
     ensures ring { IfOk result (λ o. option_map (λ v. v.items) o ≡ shown_ring role (tile_ring at.z at.x at.y points.now)) }
-    ensures drawable { OnOk result (All (IsDrawable true at.x at.y) (option_to_list (shown_ring role (tile_ring at.z at.x at.y points.now)))) }
+    ensures drawable { IfOk result (λ o. IfSome o (λ v. IsDrawable true at.x at.y v.items)) }
 {
     let ring = tile_ring(alloc, points, at)?;
     if role == Role::Outer && !ring_meets_box(&ring) {
@@ -142,7 +141,7 @@ fn shown_ring(
 }
 
 /// Appends a ring, where there is one.
-fn put(shown: &mut Vec<Vec<Pt>>, ring: Option<Vec<Pt>>) -> Result<(), Memory>
+fn put(shown: &mut Vec<Vec<Pt>>, ring: Option<Vec<Pt>>) -> Result<(), AllocError>
     ensures { OnOk result (lists_of shown.new.items ≡ lists_of shown.old.items ++ option_to_list (option_map (λ v. v.items) ring)) }
 {
     if let Some(ring) = ring {
@@ -157,11 +156,12 @@ fn cut_inner_rings(
     shown: &mut Vec<Vec<Pt>>,
     inners: &[Vec<World>],
     at: TileAt,
-) -> Result<(), Memory>
-    requires zoom { at.z ≤ 16 }
+) -> Result<(), AllocError>
+    requires zoom { at.z ≤ GREATEST_ZOOM }
     requires limits { All (CountFits 3) (lists_of inners.now) }
     ensures rings { OnOk result (lists_of shown.new.items ≡ lists_of shown.old.items ++ inner_rings at.z at.x at.y (lists_of inners.now)) }
-    ensures drawable { OnOk result (All (IsDrawable true at.x at.y) (inner_rings at.z at.x at.y (lists_of inners.now))) }
+    ensures drawable { OnOk result (All (IsDrawable true at.x at.y) (lists_of shown.old.items)
+        → All (IsDrawable true at.x at.y) (lists_of shown.new.items)) }
 {
     for inner in inners {
         let ring = shown_ring(alloc, inner, at, Role::Inner)?;
@@ -176,11 +176,12 @@ fn cut_polygon(
     shown: &mut Vec<Vec<Pt>>,
     polygon: &[Vec<World>],
     at: TileAt,
-) -> Result<(), Memory>
-    requires zoom { at.z ≤ 16 }
+) -> Result<(), AllocError>
+    requires zoom { at.z ≤ GREATEST_ZOOM }
     requires limits { RingsFit (lists_of polygon.now) }
     ensures rings { OnOk result (lists_of shown.new.items ≡ lists_of shown.old.items ++ polygon_cut at.z at.x at.y (lists_of polygon.now)) }
-    ensures drawable { OnOk result (All (IsDrawable true at.x at.y) (polygon_cut at.z at.x at.y (lists_of polygon.now))) }
+    ensures drawable { OnOk result (All (IsDrawable true at.x at.y) (lists_of shown.old.items)
+        → All (IsDrawable true at.x at.y) (lists_of shown.new.items)) }
 {
     let Some((outer, inners)) = polygon.split_first() else {
         return Ok(());
@@ -197,11 +198,11 @@ fn cut_polygons(
     alloc: Global,
     polygons: &[Vec<Vec<World>>],
     at: TileAt,
-) -> Result<Vec<Vec<Pt>>, Memory>
-    requires zoom { at.z ≤ 16 }
+) -> Result<Vec<Vec<Pt>>, AllocError>
+    requires zoom { at.z ≤ GREATEST_ZOOM }
     requires limits { All RingsFit (map (λ p. lists_of p.items) polygons.now) }
     ensures rings { IfOk result (λ v. lists_of v.items ≡ polygons_cut at.z at.x at.y (map (λ p. lists_of p.items) polygons.now)) }
-    ensures drawable { OnOk result (All (IsDrawable true at.x at.y) (polygons_cut at.z at.x at.y (map (λ p. lists_of p.items) polygons.now))) }
+    ensures drawable { IfOk result (λ v. All (IsDrawable true at.x at.y) (lists_of v.items)) }
 {
     let mut shown = Vec::new(alloc);
     for polygon in polygons {
@@ -215,10 +216,11 @@ pub(crate) fn rings_shape(
     alloc: Global,
     polygons: &[Vec<Vec<World>>],
     at: TileAt,
-) -> Result<Option<Shape>, Memory>
-    requires zoom { at.z ≤ 16 }
+) -> Result<Option<Shape>, AllocError>
+    requires zoom { at.z ≤ GREATEST_ZOOM }
     requires limits { All RingsFit (map (λ p. lists_of p.items) polygons.now) }
-    ensures shape { IfOk result (λ o. option_map shape_view o ≡ unless_empty shapes.rings (polygons_cut at.z at.x at.y (map (λ p. lists_of p.items) polygons.now))) }
+    ensures shape { IfOk result
+        (λ o. option_map shape_view o ≡ unless_empty shapes.rings (polygons_cut at.z at.x at.y (map (λ p. lists_of p.items) polygons.now))) }
     ensures writable { IfOk result (λ o. IfSome o (λ s. CanSpell (shape_view s))) }
 {
     let shown = cut_polygons(alloc, polygons, at)?;

@@ -1,5 +1,5 @@
 use super::{check_reach, cover_count, covers, cut};
-use feature_model::{EditFault, EditValue, Feature, Geometry, Tag, World, check};
+use feature_model::{EditFault, EditValue, Feature, GREATEST_ZOOM, Geometry, Tag, World, check};
 use geometry_commands::{Shape, encode_lines, encode_points, encode_rings};
 use hilbert_id::TileAt;
 use mvt_layer::TagValue;
@@ -66,7 +66,7 @@ fn integers_in(
 ) -> Result<Vec<u32>, Fail> {
     check(7, feature)?;
     let at = TileAt::new(z, x, y).ok_or("no tile")?;
-    if at.z > 16 {
+    if at.z > GREATEST_ZOOM {
         return Err("no zoom")?;
     }
     let Some(shown) = cut(alloc, feature, at)? else {
@@ -187,7 +187,7 @@ fn lines_in_two_tiles(rt: HostRuntime) -> Result<(), Fail> {
 }
 
 #[test]
-fn line_of_one_place(rt: HostRuntime) -> Result<(), Fail> {
+fn line_of_one_point(rt: HostRuntime) -> Result<(), Fail> {
     let alloc = rt.alloc();
     // Up to zoom 5 both ends are one point, from zoom 6 on they are (0,0) and (1,0).
     let line = lines_of(alloc, &[&[(0, 0), (16384, 0)]])?;
@@ -311,11 +311,11 @@ fn zooms_and_tags(rt: HostRuntime) -> Result<(), Fail> {
     check(7, &feature)?;
     for (z, is_shown) in [(0, false), (1, true), (2, true), (3, false)] {
         let at = TileAt::new(z, 0, 0).ok_or("no tile")?;
-        assert!(rt; at.z <= 16);
+        assert!(rt; at.z <= GREATEST_ZOOM);
         assert_eq!(rt; cut(alloc, &feature, at)?.is_some(), is_shown, "at {z}");
     }
     let at = TileAt::new(1, 0, 0).ok_or("no tile")?;
-    assert!(rt; at.z <= 16);
+    assert!(rt; at.z <= GREATEST_ZOOM);
     let shown = cut(alloc, &feature, at)?.ok_or("nothing")?;
     assert_eq!(rt; shown.id, None);
     let wanted = [

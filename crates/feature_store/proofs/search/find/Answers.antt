@@ -1,6 +1,6 @@
 use Rattle.std.proofs.Common.{rules}
 use Rattle.std.proofs.lemmas.List.Sorted.{answers_always}
-use Rattle.feature_store.proofs.Places.{searched}
+use Rattle.feature_store.proofs.Positions.{searched}
 use Rattle.feature_store.proofs.search.find.Goals as goal
 
 -- the closure gives an entry's number

@@ -8,5 +8,7 @@ returns-then-id-ge-TILE_IDS-clause-only c = λ at h. absurd (ids_end at.z at.x a
 
 pub returns-clause-only : goal.returns-clause-only
 returns-clause-only c = λ at h.
-    let there = one_tile_of c.zoom_of-z.result c.column_and_row-x.result.0 c.column_and_row-x.result.1 at.z at.x at.y c.args.id (c.args.id - c.first_of.result, c.column_and_row-x.ensures.stands, omega arith) h in
+    let there =
+    one_tile_of c.zoom_of-z.result c.column_and_row-x.result.0 c.column_and_row-x.result.1 at.z at.x at.y c.args.id
+    (c.args.id - c.first_of.result, c.column_and_row-x.ensures.stands, omega arith) h in
     ap Some (same_tile _ at there.0 there.1 there.2)

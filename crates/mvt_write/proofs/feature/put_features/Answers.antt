@@ -30,10 +30,16 @@ loop-feature-preserved c =
     let more = rw (← c.feature-item.is) at (map_more feature_view features c.loop-feature.feature-index feature c.loop-feature-test.true) in
     record {
       pools = record {
-        keys = features_used (λ t. t.0) (held_keys c.args.pools.now) keys new_keys so_far with_next (feature_view feature) before.pools.keys step.pools.keys more;
-        values = features_used (λ t. value_written t.1) (held_values c.args.pools.now) values new_values so_far with_next (feature_view feature) before.pools.values step.pools.values more;
+        keys =
+            features_used (λ t. t.0) (held_keys c.args.pools.now) keys new_keys so_far with_next (feature_view feature) before.pools.keys step.pools.keys more;
+        values =
+            features_used (λ t. value_written t.1) (held_values c.args.pools.now) values new_values so_far with_next (feature_view feature)
+            before.pools.values step.pools.values more;
       };
-      written = features_more keys new_keys values new_values _ _ c.args.out.now.items c.loop-feature.out.items c.in_ok-bytes.bytes.items c.put_bytes.new.out.items so_far with_next (feature_view feature) before.written step.pools.keys step.pools.values step.written (c.in_ok-put_bytes.ensures ∙ ap (λ (b : List ℕ). c.loop-feature.out.items ++ bytes_field 2 b) c.deref.ensures.value) more;
+      written =
+          features_more keys new_keys values new_values _ _ c.args.out.now.items c.loop-feature.out.items c.in_ok-bytes.bytes.items c.put_bytes.new.out.items
+          so_far with_next (feature_view feature) before.written step.pools.keys step.pools.values step.written
+          (c.in_ok-put_bytes.ensures ∙ ap (λ (b : List ℕ). c.loop-feature.out.items ++ bytes_field 2 b) c.deref.ensures.value) more;
       fits = all_more FitsFeature so_far with_next (feature_view feature) before.fits step.fits more;
     }
 

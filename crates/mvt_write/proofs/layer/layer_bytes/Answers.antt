@@ -16,4 +16,5 @@ returns-clause-written c =
     let by_keys = rw c.deref.ensures.value at (features.pools.keys.pool [] c.new-pools.ensures.keys) in
     let by_values = rw c.deref.ensures.value at (features.pools.values.pool [] c.new-pools.ensures.values) in
     let named = rw (c.new-out.ensures.items, c.as_bytes.ensures.value) at c.in_ok-put_bytes.ensures in
-    layer_joined layer keys values c.put_bytes.new.out.items c.put_features.new.out.items c.put.new.out.items c.put_end.new.out.items by_keys by_values named fields c.in_ok-put.ensures c.in_ok-put_end.ensures
+    layer_joined layer keys values c.put_bytes.new.out.items c.put_features.new.out.items c.put.new.out.items c.put_end.new.out.items by_keys by_values named
+    fields c.in_ok-put.ensures c.in_ok-put_end.ensures

@@ -29,7 +29,9 @@ loop-key-preserved c =
         keys = used_more (λ t. t.0) (held_keys c.args.pools.now) keys new_keys so_far with_next _ before.pools.keys step.keys more;
         values = used_more (λ t. value_written t.1) (held_values c.args.pools.now) values new_values so_far with_next _ before.pools.values step.values more;
       };
-      written = indices_more keys new_keys values new_values so_far with_next _ c.loop-key.out.items c.put_indices.new.out.items before.written step.keys step.values step.written more;
+      written =
+          indices_more keys new_keys values new_values so_far with_next _ c.loop-key.out.items c.put_indices.new.out.items before.written step.keys step.values
+          step.written more;
       fits = all_more FitsTag so_far with_next _ before.fits step.fits more;
     }
 

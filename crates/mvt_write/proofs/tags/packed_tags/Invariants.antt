@@ -11,6 +11,7 @@ use Rattle.mvt_write.proofs.tags.packed_tags.Given as goal
 abbrev pub invariant-loop-key : goal.invariant-loop-key
 invariant-loop-key l = record {
   pools : AddsTags l.fn.pools l.pools (tagged (take l.key-index l.tags));
-  written : (later_keys later_values : List (List ℕ)) → l.out.items ≡ flat_map varint (tag_indices (held_keys l.pools ++ later_keys) (held_values l.pools ++ later_values) (tagged (take l.key-index l.tags)));
+  written : (later_keys later_values : List (List ℕ))
+      → l.out.items ≡ flat_map varint (tag_indices (held_keys l.pools ++ later_keys) (held_values l.pools ++ later_values) (tagged (take l.key-index l.tags)));
   fits : All FitsTag (tagged (take l.key-index l.tags));
 }

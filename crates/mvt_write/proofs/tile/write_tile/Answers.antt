@@ -27,7 +27,9 @@ loop-layer-preserved c =
     let step = c.in_ok-bytes.ensures in
     let more = rw (← c.layer-item.is) at (map_more layer_view layers c.loop-layer.layer-index layer c.loop-layer-test.true) in
     record {
-      written = layers_more c.loop-layer.out.items c.in_ok-bytes.bytes.items c.put_bytes.new.out.items so_far with_next (layer_view layer) before.written step.written (c.in_ok-put_bytes.ensures ∙ ap (λ (b : List ℕ). c.loop-layer.out.items ++ bytes_field 3 b) c.deref.ensures.value) more;
+      written =
+          layers_more c.loop-layer.out.items c.in_ok-bytes.bytes.items c.put_bytes.new.out.items so_far with_next (layer_view layer) before.written step.written
+          (c.in_ok-put_bytes.ensures ∙ ap (λ (b : List ℕ). c.loop-layer.out.items ++ bytes_field 3 b) c.deref.ensures.value) more;
       fits = all_more FitsLayer so_far with_next (layer_view layer) before.fits step.fits more;
     }
 

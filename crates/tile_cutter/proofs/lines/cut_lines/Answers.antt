@@ -1,24 +1,24 @@
-use Rattle.std.proofs.Common.{◌++◌, false, ap, ◌∙◌, subst, arith}
-use Rattle.std.specs.Prelude.{All}
-use Rattle.std.proofs.lemmas.List.{take_all}
-use Rattle.std.proofs.lemmas.List.Elements.{All-more}
+use Rattle.std.proofs.Common.{◌++◌, false, ap, ◌∙◌}
+use Rattle.std.proofs.lemmas.List.Elements.{All-nil}
 use Rattle.feature_model.specs.Limits.{CountFits}
 use Rattle.tile_cutter.specs.Cut.{line_cut, lines_cut}
 use Rattle.tile_cutter.specs.Passes.{lists_of}
 use Rattle.tile_cutter.specs.Range.{IsDrawable}
-use Rattle.tile_cutter.proofs.Each.{each_begins, each_next, each_ends, each_all, item_keeps}
+use Rattle.tile_cutter.proofs.Each.{each_begins, each_next, each_ends, item_keeps}
 use Rattle.tile_cutter.proofs.lines.cut_lines.Goals as goal
 
 pub loop-line-init : goal.loop-line-init
 unfolding lines_cut
 loop-line-init c = record {
   chains = rw c.new-chains.ensures.items (each_begins (λ v. v.items) (line_cut c.args.at.z c.args.at.x c.args.at.y) c.args.lines.now);
-  drawable = λ k d lt. absurd (omega arith);
+  drawable = rw c.new-chains.ensures.items (All-nil (IsDrawable false c.args.at.x c.args.at.y));
 }
 
 pub cut_line-requires-clause-limits : goal.cut_line-requires-clause-limits
 cut_line-requires-clause-limits c =
-    let fits = item_keeps (λ v. v.items) (CountFits 2) c.args.lines.now c.loop-line.line-index c.line-item.result c.loop-line-test.true c.line-item.is c.requires.limits in
+    let fits =
+    item_keeps (λ v. v.items) (CountFits 2)
+    c.args.lines.now c.loop-line.line-index c.line-item.result c.loop-line-test.true c.line-item.is c.requires.limits in
     rw c.deref.ensures.value fits
 
 pub loop-line-preserved : goal.loop-line-preserved
@@ -27,21 +27,14 @@ loop-line-preserved c =
     let done = lists_of c.loop-line.chains.items in
     let more = c.in_ok-cut_line.ensures.chains ∙ ap (λ l. done ++ line_cut at.z at.x at.y l) c.deref.ensures.value in
     record {
-      chains = each_next (λ v. line_cut at.z at.x at.y v.items) c.args.lines.now c.loop-line.line-index c.line-item.result done _ _ c.loop-line-test.true c.line-item.is more c.loop-line.invariant.chains;
-      drawable = All-more (λ v. All (IsDrawable false at.x at.y) (line_cut at.z at.x at.y v.items)) c.args.lines.now c.loop-line.line-index c.line-item.result c.loop-line-test.true c.loop-line.invariant.drawable
-          (subst (λ l. All (IsDrawable false at.x at.y) (line_cut at.z at.x at.y l)) (c.deref.ensures.value ∙ ap (λ v. v.items) c.line-item.is) c.in_ok-cut_line.ensures.drawable);
+      chains =
+          each_next (λ v. line_cut at.z at.x at.y v.items)
+          c.args.lines.now c.loop-line.line-index c.line-item.result done _ _ c.loop-line-test.true c.line-item.is more c.loop-line.invariant.chains;
+      drawable = c.in_ok-cut_line.ensures.drawable c.loop-line.invariant.drawable;
     }
 
 pub returns-clause-chains : goal.returns-clause-chains
 returns-clause-chains c =
     let at = c.args.at in
-    each_ends (λ v. line_cut at.z at.x at.y v.items) c.args.lines.now c.loop-line.line-index (lists_of c.loop-line.chains.items) _ c.loop-line-test.false c.loop-line.invariant.chains
-
-pub returns-clause-drawable : goal.returns-clause-drawable
-unfolding lines_cut
-returns-clause-drawable c =
-    let at = c.args.at in
-    let lines = c.args.lines.now in
-    let all = subst (All (λ v. All (IsDrawable false at.x at.y) (line_cut at.z at.x at.y v.items))) (take_all c.loop-line.line-index lines c.loop-line-test.false) c.loop-line.invariant.drawable in
-    subst (All (IsDrawable false at.x at.y)) (each_begins (λ v. v.items) (line_cut at.z at.x at.y) lines)
-    (each_all (IsDrawable false at.x at.y) (λ v. line_cut at.z at.x at.y v.items) lines all)
+    each_ends (λ v. line_cut at.z at.x at.y v.items) c.args.lines.now c.loop-line.line-index (lists_of c.loop-line.chains.items)
+    _ c.loop-line-test.false c.loop-line.invariant.chains

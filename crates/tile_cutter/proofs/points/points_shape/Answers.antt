@@ -1,7 +1,5 @@
-use Rattle.std.proofs.Common.{◌<◌, ◌^◌, length, refl, sym, ap, ◌∙◌, subst, arith}
-use Rattle.std.specs.Prelude.{All}
+use Rattle.std.proofs.Common.{◌<◌, ◌^◌, length, refl, sym, ap, ◌∙◌, arith}
 use Rattle.geometry_commands.specs.Shapes.{points}
-use Rattle.tile_cutter.specs.Range.{IsOfTile}
 use Rattle.tile_cutter.proofs.Spelled.{none_left, some_length, some_left, spelled_points, length_points_cut}
 use Rattle.tile_cutter.proofs.points.points_shape.Goals as goal
 
@@ -22,4 +20,4 @@ returns-clause-writable c =
     let is = c.in_ok-shown.ensures.points in
     let some = some_length v (sym c.is_empty.ensures ∙ c.if-is_empty.false) in
     let few : length v.items < 2 ^ 29 = omega (arith, ap length is, length_points_cut at.z at.x at.y c.args.points.now, c.requires.limits.1) in
-    spelled_points at.z at.x at.y v.items c.requires.zoom at.column at.row some few (subst (All (IsOfTile at.x at.y)) (sym is) c.in_ok-shown.ensures.of_tile)
+    spelled_points at.z at.x at.y v.items c.requires.zoom at.column at.row some few c.in_ok-shown.ensures.of_tile

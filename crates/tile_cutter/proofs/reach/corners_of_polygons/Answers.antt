@@ -11,8 +11,12 @@ loop-rings-init c = ap (corners_after None) (each_begins (λ p. lists_of p.items
 
 pub loop-rings-preserved : goal.loop-rings-preserved
 loop-rings-preserved c =
-    corners_next (λ p. all_of (lists_of p.items)) c.args.polygons.now c.loop-rings.rings-index c.rings-item.result c.loop-rings.corners c.widened_by_lists-corners.result _ c.loop-rings-test.true c.rings-item.is
+    corners_next (λ p. all_of (lists_of p.items))
+    c.args.polygons.now c.loop-rings.rings-index c.rings-item.result c.loop-rings.corners c.widened_by_lists-corners.result _ c.loop-rings-test.true
+    c.rings-item.is
     (c.widened_by_lists-corners.ensures ∙ ap (λ p. corners_after c.loop-rings.corners (all_of (lists_of p))) c.deref.ensures.value) c.loop-rings.invariant
 
 pub returns : goal.returns
-returns c = corners_end (λ p. all_of (lists_of p.items)) c.args.polygons.now c.loop-rings.rings-index c.loop-rings.corners _ c.loop-rings-test.false c.loop-rings.invariant
+returns c =
+    corners_end (λ p. all_of (lists_of p.items))
+    c.args.polygons.now c.loop-rings.rings-index c.loop-rings.corners _ c.loop-rings-test.false c.loop-rings.invariant

@@ -9,7 +9,8 @@ loop-list-init c = ap (corners_after c.args.corners) (each_begins (λ v. v.items
 
 pub loop-list-preserved : goal.loop-list-preserved
 loop-list-preserved c =
-    corners_next (λ v. v.items) c.args.lists.now c.loop-list.list-index c.list-item.result c.loop-list.corners c.widened_by_list-corners.result _ c.loop-list-test.true c.list-item.is
+    corners_next (λ v. v.items)
+    c.args.lists.now c.loop-list.list-index c.list-item.result c.loop-list.corners c.widened_by_list-corners.result _ c.loop-list-test.true c.list-item.is
     (c.widened_by_list-corners.ensures ∙ ap (corners_after c.loop-list.corners) c.deref.ensures.value) c.loop-list.invariant
 
 pub returns : goal.returns

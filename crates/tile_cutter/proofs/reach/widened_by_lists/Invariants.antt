@@ -7,4 +7,5 @@ use Rattle.tile_cutter.proofs.reach.widened_by_lists.Given as goal
 
 -- the corners so far, and of what is left
 abbrev pub invariant-loop-list : goal.invariant-loop-list
-invariant-loop-list l = corners_after l.corners (flat_map (λ v. v.items) (drop l.list-index l.lists)) ≡ corners_after l.initial.corners (all_of (lists_of l.lists))
+invariant-loop-list l =
+    corners_after l.corners (flat_map (λ v. v.items) (drop l.list-index l.lists)) ≡ corners_after l.initial.corners (all_of (lists_of l.lists))

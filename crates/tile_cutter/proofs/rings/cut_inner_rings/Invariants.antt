@@ -1,4 +1,4 @@
-use Rattle.std.proofs.Common.{◌≡◌, ◌++◌, true, drop, take}
+use Rattle.std.proofs.Common.{◌≡◌, ◌++◌, true, drop}
 use Rattle.std.specs.Prelude.{All, flat_map, option_to_list}
 use Rattle.tile_cutter.specs.declared.rings.Role.TheVariants.{Inner}
 use Rattle.tile_cutter.specs.Cut.{tile_ring, inner_rings}
@@ -11,5 +11,5 @@ abbrev pub invariant-loop-inner : goal.invariant-loop-inner
 invariant-loop-inner l = record {
   rings : lists_of l.shown.items ++ flat_map (λ v. option_to_list (shown_ring Inner (tile_ring l.at.z l.at.x l.at.y v.items))) (drop l.inner-index l.inners)
       ≡ lists_of l.initial.shown.items ++ inner_rings l.at.z l.at.x l.at.y (lists_of l.inners);
-  drawable : All (λ v. All (IsDrawable true l.at.x l.at.y) (option_to_list (shown_ring Inner (tile_ring l.at.z l.at.x l.at.y v.items)))) (take l.inner-index l.inners);
+  drawable : All (IsDrawable true l.at.x l.at.y) (lists_of l.initial.shown.items) → All (IsDrawable true l.at.x l.at.y) (lists_of l.shown.items);
 }

@@ -1,13 +1,13 @@
 use Rattle.std.proofs.Common.{true, length, ap, sym, ◌∙◌, subst, arith}
-use Rattle.std.specs.Prelude.{All, option_map, option_to_list}
+use Rattle.std.specs.Prelude.{All, IfSome, option_map}
 use Rattle.std.proofs.lemmas.List.{map_push}
-use Rattle.std.proofs.lemmas.List.Elements.{All-head, All-tail}
+use Rattle.std.proofs.lemmas.List.Elements.{All-head, All-tail, All-push}
 use Rattle.feature_model.specs.Limits.{CountFits}
 use Rattle.tile_cutter.specs.declared.rings.Role.TheVariants.{Outer}
 use Rattle.tile_cutter.specs.Cut.{tile_ring}
 use Rattle.tile_cutter.specs.Passes.{shown_ring, lists_of}
 use Rattle.tile_cutter.specs.Range.{IsDrawable}
-use Rattle.tile_cutter.proofs.Turned.{rings_appended, rings_drawable, nothing_appended, nothing_drawable}
+use Rattle.tile_cutter.proofs.Turned.{rings_appended, nothing_appended}
 use Rattle.tile_cutter.proofs.rings.cut_polygon.Goals as goal
 
 pub shown_ring-requires-clause-few : goal.shown_ring-requires-clause-few
@@ -28,7 +28,8 @@ returns-in_ok-cut_inner_rings-clause-rings c =
     let at = c.args.at in
     let outer = c.in-Some.outer.now in
     let ring = c.in-Some-2.ring in
-    let shown = ap (λ ps. shown_ring Outer (tile_ring at.z at.x at.y ps)) (sym c.deref.ensures.value) ∙ sym c.in_ok-ring.ensures.ring ∙ ap (option_map (λ v. v.items)) c.in-Some-2.is in
+    let shown = ap (λ ps. shown_ring Outer (tile_ring at.z at.x at.y ps)) (sym c.deref.ensures.value) ∙ sym c.in_ok-ring.ensures.ring
+    ∙ ap (option_map (λ v. v.items)) c.in-Some-2.is in
     let more = ap lists_of c.in_ok-push.ensures.items ∙ map_push (λ v. v.items) c.args.shown.now.items ring in
     rings_appended at.z at.x at.y (lists_of c.args.polygon.now) outer.items (lists_of c.in-Some.inners.now) ring.items (lists_of c.args.shown.now.items) _ _
     (ap lists_of c.in-Some.ensures.cases.0) shown more c.in_ok-cut_inner_rings.ensures.rings
@@ -36,23 +37,18 @@ returns-in_ok-cut_inner_rings-clause-rings c =
 pub returns-in_ok-cut_inner_rings-clause-drawable : goal.returns-in_ok-cut_inner_rings-clause-drawable
 returns-in_ok-cut_inner_rings-clause-drawable c =
     let at = c.args.at in
-    let outer = c.in-Some.outer.now in
     let ring = c.in-Some-2.ring in
-    let shown = ap (λ ps. shown_ring Outer (tile_ring at.z at.x at.y ps)) (sym c.deref.ensures.value) ∙ sym c.in_ok-ring.ensures.ring ∙ ap (option_map (λ v. v.items)) c.in-Some-2.is in
-    let drawable = subst (λ ps. All (IsDrawable true at.x at.y) (option_to_list (shown_ring Outer (tile_ring at.z at.x at.y ps)))) c.deref.ensures.value c.in_ok-ring.ensures.drawable in
-    rings_drawable at.z at.x at.y (lists_of c.args.polygon.now) outer.items (lists_of c.in-Some.inners.now) ring.items
-    (ap lists_of c.in-Some.ensures.cases.0) shown drawable c.in_ok-cut_inner_rings.ensures.drawable
+    let shown = c.args.shown.now.items in
+    let P = IsDrawable true at.x at.y in
+    let some = subst (λ o. IfSome o (λ v. P v.items)) c.in-Some-2.is c.in_ok-ring.ensures.drawable in
+    let more = ap lists_of c.in_ok-push.ensures.items ∙ map_push (λ v. v.items) shown ring in
+    λ before. c.in_ok-cut_inner_rings.ensures.drawable (subst (All P) (sym more) (All-push P (lists_of shown) ring.items before some))
 
 pub returns-in_default-2-clause-rings : goal.returns-in_default-2-clause-rings
 returns-in_default-2-clause-rings c =
     let at = c.args.at in
     let outer = c.in-Some.outer.now in
-    let hidden = ap (λ ps. shown_ring Outer (tile_ring at.z at.x at.y ps)) (sym c.deref.ensures.value) ∙ sym c.in_ok-ring.ensures.ring ∙ ap (option_map (λ v. v.items)) c.in_default-2.is in
-    nothing_appended at.z at.x at.y (lists_of c.args.polygon.now) outer.items (lists_of c.in-Some.inners.now) (lists_of c.args.shown.now.items) (ap lists_of c.in-Some.ensures.cases.0) hidden
-
-pub returns-in_default-2-clause-drawable : goal.returns-in_default-2-clause-drawable
-returns-in_default-2-clause-drawable c =
-    let at = c.args.at in
-    let outer = c.in-Some.outer.now in
-    let hidden = ap (λ ps. shown_ring Outer (tile_ring at.z at.x at.y ps)) (sym c.deref.ensures.value) ∙ sym c.in_ok-ring.ensures.ring ∙ ap (option_map (λ v. v.items)) c.in_default-2.is in
-    nothing_drawable at.z at.x at.y (lists_of c.args.polygon.now) outer.items (lists_of c.in-Some.inners.now) (ap lists_of c.in-Some.ensures.cases.0) hidden
+    let hidden = ap (λ ps. shown_ring Outer (tile_ring at.z at.x at.y ps)) (sym c.deref.ensures.value) ∙ sym c.in_ok-ring.ensures.ring
+    ∙ ap (option_map (λ v. v.items)) c.in_default-2.is in
+    nothing_appended at.z at.x at.y (lists_of c.args.polygon.now) outer.items (lists_of c.in-Some.inners.now) (lists_of c.args.shown.now.items)
+    (ap lists_of c.in-Some.ensures.cases.0) hidden

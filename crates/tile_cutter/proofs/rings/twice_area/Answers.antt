@@ -28,7 +28,9 @@ loop-to-preserved c =
     let keeps = c.loop-to.invariant in
     let sum = sum_is i _ c.cross-sum.result few keeps.low keeps.high c.cross-sum.ensures.within in
     record {
-      area = rw sum (area_next i _ c.cross-sum.result _ c.loop-to.from _ c.in-Some.first.now c.in-Some.others.now _ c.loop-to-test.true refl c.cross-sum.ensures.cross keeps.area);
+      area =
+          rw sum (area_next i _ c.cross-sum.result _ c.loop-to.from _ c.in-Some.first.now c.in-Some.others.now _ c.loop-to-test.true refl
+          c.cross-sum.ensures.cross keeps.area);
       low = rw sum (omega (arith, ints, keeps.low, c.cross-sum.ensures.within.low));
       high = rw sum (omega (arith, ints, keeps.high, c.cross-sum.ensures.within.high));
       small = (small_parts c.args.ring.now c.in-Some.first.now c.in-Some.others.now cases.0 c.requires.small).1 i _ c.loop-to-test.true;

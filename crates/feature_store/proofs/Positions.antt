@@ -8,7 +8,7 @@ use Rattle.std.proofs.lemmas.Map.Keys.{sorted_head, sorted_tail}
 use Rattle.std.proofs.lemmas.Bool.Decides.{nat_tests}
 use Rattle.feature_store.specs.declared.entry.Entry.{Entry}
 use Rattle.feature_store.specs.Inside.{entries_data}
-use Rattle.feature_store.specs.Places.{StandsAt, IsGapFor}
+use Rattle.feature_store.specs.Positions.{StandsAt, IsGapFor}
 
 -- the numbers of entries ascend
 abbrev pub Ascend : List Entry → Type 0
@@ -43,15 +43,22 @@ module _ (id : ℕ) where
       let same = h e in
       (omega arith, stands_at es i (sorted_tail nat_cmp _ _ s) (omega arith) h)
 
-  gap_for : (es : List Entry) (i : ℕ) → i ≤ length es → ((k : ℕ) (d : Entry) → k < i → (get_or es k d).id < id) → ((d : Entry) → i < length es → id < (get_or es i d).id) → IsGapFor (entries_data es) id i
+  gap_for : (es : List Entry) (i : ℕ) → i ≤ length es → ((k : ℕ) (d : Entry) → k < i → (get_or es k d).id < id)
+      → ((d : Entry) → i < length es → id < (get_or es i d).id) → IsGapFor (entries_data es) id i
   gap_for [] zero le below above = tt
   gap_for [] (suc i) le below above = absurd (omega arith)
   gap_for (e ∷ es) zero le below above = above e (omega arith)
-  gap_for (e ∷ es) (suc i) le below above = (below 0 e (omega arith), gap_for es i (omega arith) (λ k d lt. below (suc k) d (omega arith)) (λ d lt. above d (omega arith)))
+  gap_for (e ∷ es) (suc i) le below above =
+      (below 0 e (omega arith), gap_for es i (omega arith) (λ k d lt. below (suc k) d (omega arith)) (λ d lt. above d (omega arith)))
 
   -- a binary search by number ends where the number stands, or in the gap for it
-  pub searched : (es : List Entry) (r : Result ℕ ℕ) → Ascend es → IsSearchInRange r (length es) → IsBinarySearchResult (λ e. nat_cmp e.id id) es r → record { found : IfOk r (StandsAt (entries_data es) id); absent : IfErr r (IsGapFor (entries_data es) id) }
+  pub searched : (es : List Entry) (r : Result ℕ ℕ) → Ascend es → IsSearchInRange r (length es) → IsBinarySearchResult (λ e. nat_cmp e.id id) es r
+      → record { found : IfOk r (StandsAt (entries_data es) id); absent : IfErr r (IsGapFor (entries_data es) id) }
   searched es (Ok i) s in_range same = record { found = stands_at es i s in_range (λ d. ranked _ _ _ (sym (same d))); absent = tt }
   searched es (Err i) s in_range parted =
       let parts = parted (rises es s) in
-      record { found = tt; absent = gap_for es i in_range (λ k d lt. ranked _ _ _ (sym (parts.0 k d (omega arith) lt))) (λ d lt. ranked _ _ _ (sym (parts.1 i d (omega arith) lt))) }
+      record {
+        found = tt;
+        absent =
+            gap_for es i in_range (λ k d lt. ranked _ _ _ (sym (parts.0 k d (omega arith) lt))) (λ d lt. ranked _ _ _ (sym (parts.1 i d (omega arith) lt)));
+      }

@@ -1,24 +1,25 @@
 ghost use Rattle.std.specs.Prelude.{◌≡◌, ◌<◌, ◌≤◌, ◌^◌};
-ghost use Rattle.tile_cutter.specs.Cut.{quantised_axis, quantised, placed};
+ghost use Rattle.tile_cutter.specs.Cut.{quantised_axis, quantised, position_in};
 ghost use Rattle.tile_cutter.specs.Passes.{repeats};
-ghost use Rattle.feature_model.specs.Types.{IsOfWorld};
+ghost use Rattle.tile_cutter.specs.Range.{IsOfTile};
 
-use feature_model::World;
+use feature_model::{GREATEST_ZOOM, World};
 use geometry_commands::Pt;
 use hilbert_id::TileAt;
+use mvt_layer::DEFAULT_EXTENT;
 
 /// How many coordinates a tile has along each side.
-pub(crate) const EXTENT: u32 = 4096;
+pub const EXTENT: u32 = DEFAULT_EXTENT;
 
-/// How far the box of a tile reaches beyond each side.
-pub(crate) const MARGIN: u32 = 64;
+/// How many coordinates the box of a tile reaches beyond each side.
+pub const MARGIN: u32 = 64;
 
 /// The zoom at which the coordinates of tiles are those of the world.
-const WORLD_ZOOM: u8 = 20;
+pub const WORLD_ZOOM: u8 = 20;
 
 /// A coordinate of the world as a zoom sees it, rounded down.
 pub(crate) fn quantise(coordinate: u32, zoom: u8) -> u32
-    requires { zoom ≤ 16 }
+    requires { zoom ≤ GREATEST_ZOOM }
     ensures quantised { result ≡ quantised_axis zoom coordinate }
     ensures bound { result < 2 ^ 31 }
 {
@@ -26,10 +27,10 @@ pub(crate) fn quantise(coordinate: u32, zoom: u8) -> u32
 }
 
 /// Where a point of the world stands in a tile, as the tile's zoom sees it.
-pub(crate) fn place(point: World, at: TileAt) -> Pt
-    requires { at.z ≤ 16 }
-    ensures place { result ≡ placed at.x at.y (quantised at.z point) }
-    ensures in_world { IsOfWorld point }
+pub(crate) fn position(point: World, at: TileAt) -> Pt
+    requires { at.z ≤ GREATEST_ZOOM }
+    ensures position { result ≡ position_in at.x at.y (quantised at.z point) }
+    ensures of_tile { IsOfTile at.x at.y result }
 {
     let extent = i64::from(EXTENT);
     Pt {

@@ -1,26 +1,29 @@
--- A tile stands at one place of its zoom's curve.
-use Rattle.std.proofs.Common.{◌≡◌, ℕ, zero, suc, ◌+◌, ◌-◌, ◌*◌, ◌^◌, ◌<◌, cond, ltb, List, [], ◌∷◌, ◌++◌, length, get_or, map, Some, ◌⊎◌, inl, inr, refl, sym, ap, ◌∙◌, arith}
+-- A tile stands at one position of its zoom's curve.
+use Rattle.std.proofs.Common.{◌≡◌, ℕ, zero, suc, ◌+◌, ◌-◌, ◌*◌, ◌^◌, ◌<◌, cond, ltb, List, [], ◌∷◌, ◌++◌, length, get_or, map, Some, ◌⊎◌, inl, inr, refl, sym}
+use Rattle.std.proofs.Common.{ap, ◌∙◌, arith}
 use Rattle.std.specs.List.{slice_get}
 use Rattle.std.proofs.lemmas.Option.{slice_get_within, slice_get-get_or}
 use Rattle.std.proofs.lemmas.Bool.{cases_lt, lt-ltb, le-ltb}
 use Rattle.std.proofs.Math.Nat.{pow-succ'}
 use Rattle.hilbert_id.specs.Curve.{turned, below, across, flipped, curve, StandsAt}
-use Rattle.hilbert_id.proofs.Stands.{length-curve, len_of, stands_first, stands_turned, stands_below, stands_across, stands_flipped, same_place}
+use Rattle.hilbert_id.proofs.Stands.{length-curve, len_of, stands_first, stands_turned, stands_below, stands_across, stands_flipped, same_position}
 
 -- an element of two lists is one of the first or of the second
-get_split : {X : Type 0} (xs ys : List X) (n : ℕ) (x : X) → slice_get (xs ++ ys) n ≡ Some x → (slice_get xs n ≡ Some x) ⊎ ((m : ℕ) × (n ≡ length xs + m) × (slice_get ys m ≡ Some x))
+get_split : {X : Type 0} (xs ys : List X) (n : ℕ) (x : X) → slice_get (xs ++ ys) n ≡ Some x
+    → (slice_get xs n ≡ Some x) ⊎ ((m : ℕ) × (n ≡ length xs + m) × (slice_get ys m ≡ Some x))
 get_split [] ys n x e = inr (n, omega arith, e)
 get_split (a ∷ xs) ys zero x e = inl e
 get_split (a ∷ xs) ys (suc n) x e =
     elim (get_split xs ys n x e) [ inl h ↦ inl h | inr h ↦ inr (h.0, omega (arith, h.1), h.2) ]
 
 -- an element of a mapped list comes from one of the list
-get_unmapped : (f : ℕ × ℕ → ℕ × ℕ) (ps : List (ℕ × ℕ)) (n : ℕ) (q : ℕ × ℕ) → slice_get (map f ps) n ≡ Some q → (p : ℕ × ℕ) × (slice_get ps n ≡ Some p) × (q ≡ f p)
+get_unmapped : (f : ℕ × ℕ → ℕ × ℕ) (ps : List (ℕ × ℕ)) (n : ℕ) (q : ℕ × ℕ) → slice_get (map f ps) n ≡ Some q
+    → (p : ℕ × ℕ) × (slice_get ps n ≡ Some p) × (q ≡ f p)
 get_unmapped f [] n q e = absurd cc
 get_unmapped f (p ∷ ps) zero q e = (p, refl, cc)
 get_unmapped f (p ∷ ps) (suc n) q e = get_unmapped f ps n q e
 
--- the quarter of the next curve that a place is in
+-- the quarter of the next curve that a position is in
 data Quarter (k x y n : ℕ) : Type 0 where
   first : StandsAt k y x n → Quarter k x y n
   second : (b m : ℕ) → n ≡ 4 ^ k + m → y ≡ b + 2 ^ k → StandsAt k x b m → Quarter k x y n
@@ -93,16 +96,16 @@ in_square (suc k) x y n e =
       | fourth a b m at ex ey h ↦ let s = in_square k a b m h in (omega (arith, next, s.1), omega (arith, next, s.0))
     ]
 
--- the place of a column and a row
-unfoldable place_of : ℕ → ℕ → ℕ → ℕ
-place_of zero x y = 0
-place_of (suc k) x y =
+-- the position of a column and a row
+unfoldable position_of : ℕ → ℕ → ℕ → ℕ
+position_of zero x y = 0
+position_of (suc k) x y =
     cond (ltb x (2 ^ k))
-    (cond (ltb y (2 ^ k)) (place_of k y x) (4 ^ k + place_of k x (y - 2 ^ k)))
-    (cond (ltb y (2 ^ k)) (3 * 4 ^ k + place_of k (2 ^ k - 1 - y) (2 * 2 ^ k - 1 - x)) (2 * 4 ^ k + place_of k (x - 2 ^ k) (y - 2 ^ k)))
+    (cond (ltb y (2 ^ k)) (position_of k y x) (4 ^ k + position_of k x (y - 2 ^ k)))
+    (cond (ltb y (2 ^ k)) (3 * 4 ^ k + position_of k (2 ^ k - 1 - y) (2 * 2 ^ k - 1 - x)) (2 * 4 ^ k + position_of k (x - 2 ^ k) (y - 2 ^ k)))
 
-stands_there : (k x y n : ℕ) → StandsAt k x y n → n ≡ place_of k x y
-unfolding curve place_of
+stands_there : (k x y n : ℕ) → StandsAt k x y n → n ≡ position_of k x y
+unfolding curve position_of
 stands_there zero x y zero e = refl
 stands_there zero x y (suc n) e = absurd cc
 stands_there (suc k) x y n e =
@@ -125,19 +128,19 @@ stands_there (suc k) x y n e =
           rw (le-ltb x (2 ^ k) (omega (arith, s.1)), lt-ltb y (2 ^ k) (omega (arith, s.0)), ea, eb) (omega (arith, stands_there k a b m h))
     ]
 
--- a tile stands at one place
-pub one_place : (k x y n m : ℕ) → StandsAt k x y n → StandsAt k x y m → n ≡ m
-one_place k x y n m h g = stands_there k x y n h ∙ sym (stands_there k x y m g)
+-- a tile stands at one position
+pub one_position : (k x y n m : ℕ) → StandsAt k x y n → StandsAt k x y m → n ≡ m
+one_position k x y n m h g = stands_there k x y n h ∙ sym (stands_there k x y m g)
 
--- one tile stands at a place
+-- one tile stands at a position
 pub one_tile : (k x y a b n : ℕ) → StandsAt k x y n → StandsAt k a b n → (x ≡ a) × (y ≡ b)
 one_tile k x y a b n h g =
     let p : ◌≡◌ {A = ℕ × ℕ} (x, y) (a, b) = cc in
     (ap (λ (q : ℕ × ℕ). q.0) p, ap (λ (q : ℕ × ℕ). q.1) p)
 
--- a place is below the number of tiles
-pub place_below : (k x y n : ℕ) → StandsAt k x y n → n < 4 ^ k
-place_below k x y n h = omega (arith, slice_get_within (curve k) n (x, y) h, length-curve k)
+-- a position is below the number of tiles
+pub position_below : (k x y n : ℕ) → StandsAt k x y n → n < 4 ^ k
+position_below k x y n h = omega (arith, slice_get_within (curve k) n (x, y) h, length-curve k)
 
 -- each tile of a zoom is reached
 pub reached : (k x y : ℕ) → x < 2 ^ k → y < 2 ^ k → (n : ℕ) × (n < 4 ^ k) × StandsAt k x y n
@@ -150,21 +153,33 @@ reached (suc k) x y hx hy =
           elim (cases_lt y (2 ^ k)) [
             | inl upper ↦ let h = reached k y x upper left in (h.0, omega (arith, four, h.1), stands_turned k y x h.0 h.2)
             | inr lower ↦
-                let h = reached k x (y - 2 ^ k) left (omega arith) in
-                (4 ^ k + h.0, omega (arith, four, h.1), same_place (suc k) k x y (4 ^ k + h.0) x (y - 2 ^ k + 2 ^ k) (4 ^ k + h.0) refl refl (omega arith) refl (stands_below k x (y - 2 ^ k) h.0 h.2))
+                let h = reached k x (y - 2 ^ k) left (omega arith) in (
+                  4 ^ k + h.0,
+                  omega (arith, four, h.1),
+                  same_position (suc k) k x y (4 ^ k + h.0) x (y - 2 ^ k + 2 ^ k) (4 ^ k + h.0) refl refl (omega arith) refl
+                      (stands_below k x (y - 2 ^ k) h.0 h.2),
+                )
           ]
       | inr right ↦
           elim (cases_lt y (2 ^ k)) [
             | inl upper ↦
-                let h = reached k (2 ^ k - 1 - y) (2 * 2 ^ k - 1 - x) (omega arith) (omega arith) in
-                (4 ^ k + (4 ^ k + (4 ^ k + h.0)), omega (arith, four, h.1), same_place (suc k) k x y (4 ^ k + (4 ^ k + (4 ^ k + h.0))) (2 * 2 ^ k - 1 - (2 * 2 ^ k - 1 - x)) (2 ^ k - 1 - (2 ^ k - 1 - y)) (4 ^ k + (4 ^ k + (4 ^ k + h.0))) refl (omega arith) (omega arith) refl (stands_flipped k (2 ^ k - 1 - y) (2 * 2 ^ k - 1 - x) h.0 h.2))
+                let h = reached k (2 ^ k - 1 - y) (2 * 2 ^ k - 1 - x) (omega arith) (omega arith) in (
+                  4 ^ k + (4 ^ k + (4 ^ k + h.0)),
+                  omega (arith, four, h.1),
+                  same_position (suc k) k x y (4 ^ k + (4 ^ k + (4 ^ k + h.0))) (2 * 2 ^ k - 1 - (2 * 2 ^ k - 1 - x)) (2 ^ k - 1 - (2 ^ k - 1 - y))
+                      (4 ^ k + (4 ^ k + (4 ^ k + h.0))) refl (omega arith) (omega arith) refl (stands_flipped k (2 ^ k - 1 - y) (2 * 2 ^ k - 1 - x) h.0 h.2),
+                )
             | inr lower ↦
-                let h = reached k (x - 2 ^ k) (y - 2 ^ k) (omega arith) (omega arith) in
-                (4 ^ k + (4 ^ k + h.0), omega (arith, four, h.1), same_place (suc k) k x y (4 ^ k + (4 ^ k + h.0)) (x - 2 ^ k + 2 ^ k) (y - 2 ^ k + 2 ^ k) (4 ^ k + (4 ^ k + h.0)) refl (omega arith) (omega arith) refl (stands_across k (x - 2 ^ k) (y - 2 ^ k) h.0 h.2))
+                let h = reached k (x - 2 ^ k) (y - 2 ^ k) (omega arith) (omega arith) in (
+                  4 ^ k + (4 ^ k + h.0),
+                  omega (arith, four, h.1),
+                  same_position (suc k) k x y (4 ^ k + (4 ^ k + h.0)) (x - 2 ^ k + 2 ^ k) (y - 2 ^ k + 2 ^ k) (4 ^ k + (4 ^ k + h.0)) refl (omega arith)
+                      (omega arith) refl (stands_across k (x - 2 ^ k) (y - 2 ^ k) h.0 h.2),
+                )
           ]
     ]
 
--- at each place stands a tile
+-- at each position stands a tile
 pub filled : (k n : ℕ) → n < 4 ^ k → (x : ℕ) × (y : ℕ) × (x < 2 ^ k) × (y < 2 ^ k) × StandsAt k x y n
 filled k n lt =
     let there = slice_get-get_or (curve k) n (0, 0) (omega (arith, length-curve k)) in

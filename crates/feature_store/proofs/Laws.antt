@@ -1,0 +1,60 @@
+-- Laws of maps, their snapshots and their tiles, for the crates above.
+use Rattle.std.proofs.Common.{◌≡◌, ◌+◌, ◌*◌, ◌<◌, ◌≤◌, ℕ, true, false, List, [], length}
+use Rattle.std.specs.Prelude.{◌↔◌}
+use Rattle.feature_model.specs.Data.{FeatureData, EditData, put}
+use Rattle.feature_model.specs.declared.limits.TheConstants.{MOST_EDIT_BYTES}
+use Rattle.feature_model.specs.Spelled.{spelled}
+use Rattle.feature_model.specs.Types.{IsEdit}
+use Rattle.mvt_layer.specs.Reads.{ReadsAs}
+use Rattle.mvt_layer.specs.Tile.{LayerView}
+use Rattle.mvt_write.specs.Written.{written}
+use Rattle.feature_store.specs.declared.limit.TheConstants.{TEXTS_END}
+use Rattle.feature_store.specs.Layers.{AreLayers, is_tile, layers}
+use Rattle.feature_store.specs.Store.{FeatureMap, IsMap, with_feature, without_feature, changed, snapshot}
+use Rattle.feature_store.proofs.Snapshots.{one_map, map_changed}
+use Rattle.feature_store.proofs.Texts.{with_takes, without_takes, snapshot_short}
+use Rattle.feature_store.proofs.TilesRead.{tile_reads, tile_short}
+use Rattle.feature_store.proofs.Unique.{is_the_list, the_list_is, outside}
+
+-- ---- the layers of a tile
+
+-- The layers of a tile are the one list of which `AreLayers` is true.
+pub layers_are : (m : FeatureMap) (z x y : ℕ) → is_tile z x y ≡ true → (ls : List LayerView) → AreLayers m z x y ls ↔ (ls ≡ layers m z x y)
+layers_are m z x y is ls = (is_the_list m z x y is ls, the_list_is m z x y is ls)
+
+-- Where the map has no such tile, there are none.
+pub layers_outside : (m : FeatureMap) (z x y : ℕ) → is_tile z x y ≡ false → layers m z x y ≡ []
+layers_outside = outside
+
+-- What is written for the layers of a tile of a map reads as these layers.
+pub written_layers_read : (m : FeatureMap) (z x y : ℕ) → IsMap m → ReadsAs (written (layers m z x y)) (layers m z x y)
+written_layers_read = tile_reads
+
+-- It has at most 60 times the bytes of the map's texts.
+pub written_layers_short : (m : FeatureMap) (z x y : ℕ) → length (written (layers m z x y)) ≤ 60 * length (snapshot m)
+written_layers_short = tile_short
+
+-- ---- snapshots
+
+-- A snapshot is that of one map and no other.
+pub snapshot_of_one_map : (m n : FeatureMap) → IsMap m → IsMap n → snapshot m ≡ snapshot n → m ≡ n
+snapshot_of_one_map m n is_m is_n = one_map m n is_m.edits is_n.edits
+
+-- Each text of a map has at most `MOST_EDIT_BYTES`.
+pub snapshot_of_many : (m : FeatureMap) → IsMap m → length (snapshot m) ≤ MOST_EDIT_BYTES * length m
+snapshot_of_many m is_map = snapshot_short m is_map.edits
+
+-- ---- edits
+
+-- A map after an edit is a map, where its texts are short together.
+pub map_after_edit : (m : FeatureMap) (e : EditData) → IsMap m → IsEdit e → length (snapshot (changed m e)) < TEXTS_END → IsMap (changed m e)
+map_after_edit = map_changed
+
+-- The texts grow by the text of the edit at most.
+pub snapshot_after_put : (m : FeatureMap) (id : ℕ) (f : FeatureData)
+    → length (snapshot (with_feature m id f)) ≤ length (snapshot m) + length (spelled (put id f))
+snapshot_after_put = with_takes
+
+-- An edit that takes a feature away makes them no longer.
+pub snapshot_after_delete : (m : FeatureMap) (id : ℕ) → length (snapshot (without_feature m id)) ≤ length (snapshot m)
+snapshot_after_delete = without_takes
