@@ -3,6 +3,7 @@ use Rattle.std.proofs.Common.{◌≡◌, ◌≢◌, ℕ, ◌+◌, ◌-◌, ◌<�
 use Rattle.std.proofs.lemmas.Bool.{cases_lt, le-ltb, lt-ltb}
 use Rattle.std.proofs.lemmas.List.{take-append-drop, length-take}
 use Rattle.std.proofs.Math.Seq.{take-append-add}
+use Rattle.feature_model.specs.declared.limits.TheConstants.{MOST_EDIT_BYTES}
 use Rattle.feature_model.specs.Data.{EditData, put, delete}
 use Rattle.feature_model.specs.Spelled.{spelled}
 use Rattle.feature_model.proofs.TextLengths.{length-eight_bytes, length-spelled}
@@ -20,7 +21,7 @@ length-delete : (id : ℕ) → length (spelled (delete id)) ≡ 9
 unfolding spelled
 length-delete id = omega (arith, length-eight_bytes id)
 
-edit_to : (e : EditData) → IsOfTable e → length (spelled e) ≤ 32768 → IsEdit e
+edit_to : (e : EditData) → IsOfTable e → length (spelled e) ≤ MOST_EDIT_BYTES → IsEdit e
 edit_to (put id f) is short = (
   record { number = is.0; layer = is.1.0.0; zooms = is.1.1; geometry = is.1.2.0; tags = is.1.3.0; values = is.1.3.1; text = short },
   record { layer = is.1.0.1; geometry = is.1.2.1; tags = is.1.3.2 },
@@ -31,7 +32,7 @@ pub table_from : (e : EditData) → IsEdit e → IsOfTable e
 table_from (put id f) is = (is.0.number, ((is.0.layer, is.1.layer), is.0.zooms, (is.0.geometry, is.1.geometry), (is.0.tags, is.0.values, is.1.tags)))
 table_from (delete id) is = is
 
-pub short_from : (e : EditData) → IsEdit e → length (spelled e) ≤ 32768
+pub short_from : (e : EditData) → IsEdit e → length (spelled e) ≤ MOST_EDIT_BYTES
 short_from (put id f) is = is.0.text
 short_from (delete id) is = omega (arith, length-delete id)
 
@@ -41,13 +42,13 @@ long_from (delete id) = omega (arith, length-delete id)
 
 -- ---- short and long bytes
 
-decode_short : (bytes : List ℕ) → length bytes < 32768 → decode_at bytes ≡ edit_at bytes
+decode_short : (bytes : List ℕ) → length bytes < MOST_EDIT_BYTES → decode_at bytes ≡ edit_at bytes
 unfolding decode_at
-decode_short bytes l = ap (λ b. cond b (edit_at bytes) (cut_as_bad (edit_at (take 32768 bytes)))) (lt-ltb (length bytes) 32768 l)
+decode_short bytes l = ap (λ b. cond b (edit_at bytes) (cut_as_bad (edit_at (take MOST_EDIT_BYTES bytes)))) (lt-ltb (length bytes) MOST_EDIT_BYTES l)
 
-decode_long : (bytes : List ℕ) → 32768 ≤ length bytes → decode_at bytes ≡ cut_as_bad (edit_at (take 32768 bytes))
+decode_long : (bytes : List ℕ) → MOST_EDIT_BYTES ≤ length bytes → decode_at bytes ≡ cut_as_bad (edit_at (take MOST_EDIT_BYTES bytes))
 unfolding decode_at
-decode_long bytes l = ap (λ b. cond b (edit_at bytes) (cut_as_bad (edit_at (take 32768 bytes)))) (le-ltb (length bytes) 32768 l)
+decode_long bytes l = ap (λ b. cond b (edit_at bytes) (cut_as_bad (edit_at (take MOST_EDIT_BYTES bytes)))) (le-ltb (length bytes) MOST_EDIT_BYTES l)
 
 ok_from : {A : Type 0} (p : Part A) (x : A × List ℕ) → cut_as_bad p ≡ Ok x → p ≡ Ok x
 ok_from (Ok y) x e = e
@@ -64,56 +65,56 @@ never_cut (Err Memory) e = cc
 -- ---- what is found
 
 abbrev Found : EditData → List ℕ → List ℕ → Type 0
-Found e rest bytes = BeginsWith e bytes × (length (spelled e) + length rest ≡ min (length bytes) 32768)
+Found e rest bytes = BeginsWith e bytes × (length (spelled e) + length rest ≡ min (length bytes) MOST_EDIT_BYTES)
 
-found_short : (bytes : List ℕ) (e : EditData) (rest : List ℕ) → length bytes < 32768 → IsOfTable e × (bytes ≡ spelled e ++ rest) → Found e rest bytes
+found_short : (bytes : List ℕ) (e : EditData) (rest : List ℕ) → length bytes < MOST_EDIT_BYTES → IsOfTable e × (bytes ≡ spelled e ++ rest) → Found e rest bytes
 found_short bytes e rest l f =
     let len : length bytes ≡ length (spelled e) + length rest = ap length f.1 ∙ length-append (spelled e) rest in
     ((edit_to e f.0 (omega arith), (rest, f.1)), omega arith)
 
-found_long : (bytes : List ℕ) (e : EditData) (rest : List ℕ) → 32768 ≤ length bytes → IsOfTable e × (take 32768 bytes ≡ spelled e ++ rest) → Found e rest bytes
+found_long : (bytes : List ℕ) (e : EditData) (rest : List ℕ) → MOST_EDIT_BYTES ≤ length bytes → IsOfTable e × (take MOST_EDIT_BYTES bytes ≡ spelled e ++ rest) → Found e rest bytes
 found_long bytes e rest l f =
-    let len : length (take 32768 bytes) ≡ length (spelled e) + length rest = ap length f.1 ∙ length-append (spelled e) rest in
-    let front : length (take 32768 bytes) ≡ 32768 = omega (arith, length-take 32768 bytes) in
-    let whole = sym (take-append-drop 32768 bytes) ∙ ap (λ r. r ++ drop 32768 bytes) f.1 ∙ append_assoc (spelled e) rest (drop 32768 bytes) in
-    ((edit_to e f.0 (omega arith), (rest ++ drop 32768 bytes, whole)), omega arith)
+    let len : length (take MOST_EDIT_BYTES bytes) ≡ length (spelled e) + length rest = ap length f.1 ∙ length-append (spelled e) rest in
+    let front : length (take MOST_EDIT_BYTES bytes) ≡ MOST_EDIT_BYTES = omega (arith, length-take MOST_EDIT_BYTES bytes) in
+    let whole = sym (take-append-drop MOST_EDIT_BYTES bytes) ∙ ap (λ r. r ++ drop MOST_EDIT_BYTES bytes) f.1 ∙ append_assoc (spelled e) rest (drop MOST_EDIT_BYTES bytes) in
+    ((edit_to e f.0 (omega arith), (rest ++ drop MOST_EDIT_BYTES bytes, whole)), omega arith)
 
-found_by : (bytes : List ℕ) (e : EditData) (rest : List ℕ) → AreBytes bytes → decode_at bytes ≡ Ok (e, rest) → (length bytes < 32768) ⊎ (32768 ≤ length bytes) → Found e rest bytes
+found_by : (bytes : List ℕ) (e : EditData) (rest : List ℕ) → AreBytes bytes → decode_at bytes ≡ Ok (e, rest) → (length bytes < MOST_EDIT_BYTES) ⊎ (MOST_EDIT_BYTES ≤ length bytes) → Found e rest bytes
 found_by bytes e rest h d (inl l) = found_short bytes e rest l (codec_edit.found bytes e rest h (sym (decode_short bytes l) ∙ d))
 found_by bytes e rest h d (inr l) =
-    let front = bytes_before (take 32768 bytes) (drop 32768 bytes) bytes (sym (take-append-drop 32768 bytes)) h in
-    found_long bytes e rest l (codec_edit.found (take 32768 bytes) e rest front (ok_from (edit_at (take 32768 bytes)) (e, rest) (sym (decode_long bytes l) ∙ d)))
+    let front = bytes_before (take MOST_EDIT_BYTES bytes) (drop MOST_EDIT_BYTES bytes) bytes (sym (take-append-drop MOST_EDIT_BYTES bytes)) h in
+    found_long bytes e rest l (codec_edit.found (take MOST_EDIT_BYTES bytes) e rest front (ok_from (edit_at (take MOST_EDIT_BYTES bytes)) (e, rest) (sym (decode_long bytes l) ∙ d)))
 
 pub decoded_found : (bytes : List ℕ) (e : EditData) (rest : List ℕ) → AreBytes bytes → decode_at bytes ≡ Ok (e, rest) → Found e rest bytes
-decoded_found bytes e rest h d = found_by bytes e rest h d (cases_lt (length bytes) 32768)
+decoded_found bytes e rest h d = found_by bytes e rest h d (cases_lt (length bytes) MOST_EDIT_BYTES)
 
 -- ---- what stands there
 
 front_of : (front rest : List ℕ) (n k : ℕ) → n ≡ length front + k → take n (front ++ rest) ≡ front ++ take k rest
 front_of front rest n k e = ap (λ m. take m (front ++ rest)) e ∙ take-append-add front rest k
 
-only_by : (bytes : List ℕ) (e : EditData) (rest : List ℕ) → IsEdit e → bytes ≡ spelled e ++ rest → (length bytes < 32768) ⊎ (32768 ≤ length bytes) → (behind : List ℕ) × (decode_at bytes ≡ Ok (e, behind))
+only_by : (bytes : List ℕ) (e : EditData) (rest : List ℕ) → IsEdit e → bytes ≡ spelled e ++ rest → (length bytes < MOST_EDIT_BYTES) ⊎ (MOST_EDIT_BYTES ≤ length bytes) → (behind : List ℕ) × (decode_at bytes ≡ Ok (e, behind))
 only_by bytes e rest is begins (inl l) = (rest, decode_short bytes l ∙ ap edit_at begins ∙ codec_edit.reads e rest (table_from e is))
 only_by bytes e rest is begins (inr l) =
     let short = short_from e is in
-    let k = 32768 - length (spelled e) in
-    let front : take 32768 bytes ≡ spelled e ++ take k rest = ap (take 32768) begins ∙ front_of (spelled e) rest 32768 k (omega arith) in
+    let k = MOST_EDIT_BYTES - length (spelled e) in
+    let front : take MOST_EDIT_BYTES bytes ≡ spelled e ++ take k rest = ap (take MOST_EDIT_BYTES) begins ∙ front_of (spelled e) rest MOST_EDIT_BYTES k (omega arith) in
     (take k rest, decode_long bytes l ∙ ap (λ b. cut_as_bad (edit_at b)) front ∙ ap cut_as_bad (codec_edit.reads e (take k rest) (table_from e is)))
 
 pub decoded_only : (bytes : List ℕ) (e : EditData) → BeginsWith e bytes → (behind : List ℕ) × (decode_at bytes ≡ Ok (e, behind))
-decoded_only bytes e begins = only_by bytes e begins.1.0 begins.0 begins.1.1 (cases_lt (length bytes) 32768)
+decoded_only bytes e begins = only_by bytes e begins.1.0 begins.0 begins.1.1 (cases_lt (length bytes) MOST_EDIT_BYTES)
 
 -- ---- where bytes are cut
 
 pub decoded_cut : (bytes : List ℕ) → IsCut bytes → decode_at bytes ≡ Err Cut
 decoded_cut bytes cut = decode_short bytes cut.0 ∙ codec_edit.ends bytes cut.1
 
-cut_by : (bytes : List ℕ) → AreBytes bytes → decode_at bytes ≡ Err Cut → (length bytes < 32768) ⊎ (32768 ≤ length bytes) → IsCut bytes
+cut_by : (bytes : List ℕ) → AreBytes bytes → decode_at bytes ≡ Err Cut → (length bytes < MOST_EDIT_BYTES) ⊎ (MOST_EDIT_BYTES ≤ length bytes) → IsCut bytes
 cut_by bytes h d (inl l) = (l, codec_edit.cut bytes h (sym (decode_short bytes l) ∙ d))
-cut_by bytes h d (inr l) = absurd (never_cut (edit_at (take 32768 bytes)) (sym (decode_long bytes l) ∙ d))
+cut_by bytes h d (inr l) = absurd (never_cut (edit_at (take MOST_EDIT_BYTES bytes)) (sym (decode_long bytes l) ∙ d))
 
 pub cut_decoded : (bytes : List ℕ) → AreBytes bytes → decode_at bytes ≡ Err Cut → IsCut bytes
-cut_decoded bytes h d = cut_by bytes h d (cases_lt (length bytes) 32768)
+cut_decoded bytes h d = cut_by bytes h d (cases_lt (length bytes) MOST_EDIT_BYTES)
 
 -- ---- the clauses of an answer
 

@@ -1,9 +1,11 @@
 -- Geometries, tied to what is read.
-use Rattle.std.proofs.Common.{◌≡◌, ℕ, ◌^◌, ◌<◌, ◌≤◌, ◌⊎◌, inl, inr, List, [], ◌∷◌, ◌++◌, length, drop, take, Ok, Err, nat_le, refl, sym, ap, subst, ◌∙◌, All, length-append, length-drop, arith}
+use Rattle.std.proofs.Common.{◌≡◌, ℕ, ◌^◌, ◌<◌, ◌≤◌, ◌⊎◌, inl, inr, true, ◌&&◌, List, [], ◌∷◌, ◌++◌, length, drop, take, Ok, Err, nat_le, refl, sym, ap, subst, ◌∙◌, All, length-append, length-drop, arith}
 use Rattle.std.specs.List.{flat_map}
 use Rattle.std.specs.Int.{w32, from_le_bytes}
-use Rattle.std.proofs.lemmas.Bool.{cases_lt, le-leb, leb-true}
+use Rattle.std.proofs.lemmas.Bool.{cases_lt}
+use Rattle.std.proofs.lemmas.Bool.Decides.{nat_tests}
 use Rattle.std.proofs.lemmas.List.Elements.{All-nil, All-push}
+use Rattle.feature_model.specs.declared.limits.TheConstants.{MOST_ELEMENTS, LEAST_LINE, LEAST_RING}
 use Rattle.feature_model.specs.declared.feature.World.{World}
 use Rattle.feature_model.specs.Data.{GeometryData, world_points, world_lines, world_polygons}
 use Rattle.feature_model.specs.Limits.{CountFits, GeometryFits}
@@ -11,7 +13,7 @@ use Rattle.feature_model.specs.Spelled.{two_bytes, four_bytes, spelled_list, spe
 use Rattle.feature_model.proofs.TextLengths.{length-four_bytes}
 use Rattle.edit_text.specs.declared.fault.TextFault.TheVariants.{Cut, Bad}
 use Rattle.feature_model.specs.Types.{IsOfWorld, LiesInWorld}
-use Rattle.edit_text.specs.Reading.{Part, then_read, read_as, read_if, many_at, two_at, four_at, point_at, list_at, line_at, lines_at, polygons_at, geometry_behind, geometry_at}
+use Rattle.edit_text.specs.Reading.{Part, then_read, read_as, read_if, many_at, two_at, count_at, four_at, point_at, list_at, line_at, lines_at, polygons_at, geometry_behind, geometry_at}
 use Rattle.edit_text.specs.Cut.{EndsWithin, EndsBehind, EndsBehindKind, EndsAmong, EndsInList, EndsInLine, IsLine, EndsInRings, IsPolygon, EndsInGeometry}
 use Rattle.edit_text.proofs.Codecs.{Codec, codec_same, codec_then, codec_as, codec_if}
 use Rattle.edit_text.proofs.FieldCodecs.{front_long, codec_two, codec_four}
@@ -66,20 +68,26 @@ codec_each read spell Is Ends c n = codec_many (λ _. read) spell (All Is) (λ _
     })
     (All-nil Is) n
 
-codec_count : (least : ℕ) → Codec (λ bytes. read_if (nat_le least) (two_at bytes)) two_bytes (λ count. (least ≤ count) × (count ≤ 65535)) (EndsWithin 2)
-codec_count least = codec_if two_at two_bytes (λ n. n < 2 ^ 16) (EndsWithin 2) (nat_le least) (λ count. (least ≤ count) × (count ≤ 65535)) codec_two
-    (λ n l t. (leb-true least n t, omega arith))
-    (λ n is. (omega (arith, is.1), le-leb least n is.0))
+count_passes : (least n : ℕ) → least ≤ n → n ≤ MOST_ELEMENTS → nat_le least n && nat_le n MOST_ELEMENTS ≡ true
+count_passes least n low high = grind (arith, nat_tests)
+
+count_within : (least n : ℕ) → nat_le least n && nat_le n MOST_ELEMENTS ≡ true → (least ≤ n) × (n ≤ MOST_ELEMENTS)
+count_within least n t = grind (arith, nat_tests)
+
+codec_count : (least : ℕ) → Codec (count_at least) two_bytes (λ count. (least ≤ count) × (count ≤ MOST_ELEMENTS)) (EndsWithin 2)
+codec_count least = codec_if two_at two_bytes (λ n. n < 2 ^ 16) (EndsWithin 2) (λ n. nat_le least n && nat_le n MOST_ELEMENTS) (λ count. (least ≤ count) × (count ≤ MOST_ELEMENTS)) codec_two
+    (λ n l t. count_within least n t)
+    (λ n is. (omega (arith, is.1), count_passes least n is.0 is.1))
 
 codec_list : {A : Type 0} (least : ℕ) (read : List ℕ → Part A) (spell : A → List ℕ) (Is : A → Type 0) (Ends : List ℕ → Type 0) → Codec read spell Is Ends
     → Codec (list_at least read) (spelled_list spell) (λ xs. CountFits least xs × All Is xs) (EndsInList least spell Is Ends)
 unfolding spelled_list
-codec_list least read spell Is Ends c = codec_then (λ bytes. read_if (nat_le least) (two_at bytes)) two_bytes (λ count. (least ≤ count) × (count ≤ 65535)) (EndsWithin 2)
+codec_list least read spell Is Ends c = codec_then (count_at least) two_bytes (λ count. (least ≤ count) × (count ≤ MOST_ELEMENTS)) (EndsWithin 2)
     (λ count. many_at (λ _. read) count []) (λ count xs. flat_map spell xs) (λ count xs. (length xs ≡ count) × All Is xs) (EndsAmong spell (All Is) (λ _. Ends))
     (spelled_list spell) (λ xs. CountFits least xs × All Is xs)
     (codec_count least)
     (λ count fits. codec_each read spell Is Ends c count)
-    (λ count xs fits is. ((subst (λ n. (least ≤ n) × (n ≤ 65535)) (sym is.0) fits, is.1), ap (λ n. two_bytes n ++ flat_map spell xs) is.0))
+    (λ count xs fits is. ((subst (λ n. (least ≤ n) × (n ≤ MOST_ELEMENTS)) (sym is.0) fits, is.1), ap (λ n. two_bytes n ++ flat_map spell xs) is.0))
     (λ xs is. (length xs, is.0, (refl, is.1)))
 
 codec_line : (least : ℕ) → Codec (line_at least) spelled_line (IsLine least) (EndsInLine least)
@@ -92,7 +100,7 @@ codec_lines least = codec_list 1 (line_at least) spelled_line (IsLine least) (En
 
 codec_polygons : Codec polygons_at (spelled_list (spelled_list spelled_line)) (λ ps. CountFits 1 ps × All IsPolygon ps) (EndsInList 1 (spelled_list spelled_line) IsPolygon EndsInRings)
 unfolding polygons_at
-codec_polygons = codec_list 1 (lines_at 3) (spelled_list spelled_line) IsPolygon EndsInRings (codec_lines 3)
+codec_polygons = codec_list 1 (lines_at LEAST_RING) (spelled_list spelled_line) IsPolygon EndsInRings (codec_lines LEAST_RING)
 
 -- ---- kinds
 
@@ -109,7 +117,7 @@ ArePoints (world_polygons polygons) = ⊥
 
 abbrev AreLines : GeometryData → Type 0
 AreLines (world_points points) = ⊥
-AreLines (world_lines lines) = CountFits 1 lines × All (IsLine 2) lines
+AreLines (world_lines lines) = CountFits 1 lines × All (IsLine LEAST_LINE) lines
 AreLines (world_polygons polygons) = ⊥
 
 abbrev ArePolygons : GeometryData → Type 0
@@ -122,7 +130,7 @@ split_points (world_points points) is = (points, is, refl, refl)
 split_points (world_lines lines) is = absurd is
 split_points (world_polygons polygons) is = absurd is
 
-split_lines : (g : GeometryData) → AreLines g → (lines : List (List World)) × (CountFits 1 lines × All (IsLine 2) lines) × (g ≡ world_lines lines) × (shape_text g ≡ spelled_list spelled_line lines)
+split_lines : (g : GeometryData) → AreLines g → (lines : List (List World)) × (CountFits 1 lines × All (IsLine LEAST_LINE) lines) × (g ≡ world_lines lines) × (shape_text g ≡ spelled_list spelled_line lines)
 split_lines (world_points points) is = absurd is
 split_lines (world_lines lines) is = (lines, is, refl, refl)
 split_lines (world_polygons polygons) is = absurd is
@@ -190,8 +198,8 @@ three_from (inr (inr (inr s))) = inr (inr (inr (inl s)))
 points_here : Codec (λ bytes. read_as world_points (line_at 1 bytes)) shape_text ArePoints (EndsInLine 1)
 points_here = codec_as (line_at 1) spelled_line (IsLine 1) (EndsInLine 1) world_points shape_text ArePoints (codec_line 1) (λ points h is. (is, refl)) split_points
 
-lines_here : Codec (λ bytes. read_as world_lines (lines_at 2 bytes)) shape_text AreLines (EndsInList 1 spelled_line (IsLine 2) (EndsInLine 2))
-lines_here = codec_as (lines_at 2) (spelled_list spelled_line) (λ ls. CountFits 1 ls × All (IsLine 2) ls) (EndsInList 1 spelled_line (IsLine 2) (EndsInLine 2)) world_lines shape_text AreLines (codec_lines 2) (λ lines h is. (is, refl)) split_lines
+lines_here : Codec (λ bytes. read_as world_lines (lines_at LEAST_LINE bytes)) shape_text AreLines (EndsInList 1 spelled_line (IsLine LEAST_LINE) (EndsInLine LEAST_LINE))
+lines_here = codec_as (lines_at LEAST_LINE) (spelled_list spelled_line) (λ ls. CountFits 1 ls × All (IsLine LEAST_LINE) ls) (EndsInList 1 spelled_line (IsLine LEAST_LINE) (EndsInLine LEAST_LINE)) world_lines shape_text AreLines (codec_lines LEAST_LINE) (λ lines h is. (is, refl)) split_lines
 
 polygons_here : Codec (λ bytes. read_as world_polygons (polygons_at bytes)) shape_text ArePolygons (EndsInList 1 (spelled_list spelled_line) IsPolygon EndsInRings)
 polygons_here = codec_as polygons_at (spelled_list (spelled_list spelled_line)) (λ ps. CountFits 1 ps × All IsPolygon ps) (EndsInList 1 (spelled_list spelled_line) IsPolygon EndsInRings) world_polygons shape_text ArePolygons codec_polygons (λ polygons h is. (is, refl)) split_polygons
@@ -200,7 +208,7 @@ abbrev read_points : List ℕ → Part GeometryData
 read_points bytes = read_as world_points (line_at 1 bytes)
 
 abbrev read_lines : List ℕ → Part GeometryData
-read_lines bytes = read_as world_lines (lines_at 2 bytes)
+read_lines bytes = read_as world_lines (lines_at LEAST_LINE bytes)
 
 abbrev read_polygons : List ℕ → Part GeometryData
 read_polygons bytes = read_as world_polygons (polygons_at bytes)
@@ -212,20 +220,20 @@ kinds_three : KindCodec 3 (pick 3 read_polygons no_kind) spelled_geometry (λ g.
 kinds_three = kind_or 3 read_polygons shape_text ArePolygons (EndsInList 1 (spelled_list spelled_line) IsPolygon EndsInRings) no_kind spelled_geometry (λ g. ⊥) (λ b. ⊥) polygons_here (kind_none 4 spelled_geometry) polygons_text
 
 kinds_two : KindCodec 2 (pick 2 read_lines (pick 3 read_polygons no_kind)) spelled_geometry (λ g. AreLines g ⊎ (ArePolygons g ⊎ ⊥))
-    (λ b. EndsBehindKind 2 (EndsInList 1 spelled_line (IsLine 2) (EndsInLine 2)) b ⊎ (EndsBehindKind 3 (EndsInList 1 (spelled_list spelled_line) IsPolygon EndsInRings) b ⊎ ⊥))
-kinds_two = kind_or 2 read_lines shape_text AreLines (EndsInList 1 spelled_line (IsLine 2) (EndsInLine 2)) (pick 3 read_polygons no_kind) spelled_geometry (λ g. ArePolygons g ⊎ ⊥)
+    (λ b. EndsBehindKind 2 (EndsInList 1 spelled_line (IsLine LEAST_LINE) (EndsInLine LEAST_LINE)) b ⊎ (EndsBehindKind 3 (EndsInList 1 (spelled_list spelled_line) IsPolygon EndsInRings) b ⊎ ⊥))
+kinds_two = kind_or 2 read_lines shape_text AreLines (EndsInList 1 spelled_line (IsLine LEAST_LINE) (EndsInLine LEAST_LINE)) (pick 3 read_polygons no_kind) spelled_geometry (λ g. ArePolygons g ⊎ ⊥)
     (λ b. EndsBehindKind 3 (EndsInList 1 (spelled_list spelled_line) IsPolygon EndsInRings) b ⊎ ⊥) lines_here kinds_three lines_text
 
 kinds_one : KindCodec 1 (pick 1 read_points (pick 2 read_lines (pick 3 read_polygons no_kind))) spelled_geometry (λ g. ArePoints g ⊎ (AreLines g ⊎ (ArePolygons g ⊎ ⊥)))
-    (λ b. EndsBehindKind 1 (EndsInLine 1) b ⊎ (EndsBehindKind 2 (EndsInList 1 spelled_line (IsLine 2) (EndsInLine 2)) b ⊎ (EndsBehindKind 3 (EndsInList 1 (spelled_list spelled_line) IsPolygon EndsInRings) b ⊎ ⊥)))
+    (λ b. EndsBehindKind 1 (EndsInLine 1) b ⊎ (EndsBehindKind 2 (EndsInList 1 spelled_line (IsLine LEAST_LINE) (EndsInLine LEAST_LINE)) b ⊎ (EndsBehindKind 3 (EndsInList 1 (spelled_list spelled_line) IsPolygon EndsInRings) b ⊎ ⊥)))
 kinds_one = kind_or 1 read_points shape_text ArePoints (EndsInLine 1) (pick 2 read_lines (pick 3 read_polygons no_kind)) spelled_geometry (λ g. AreLines g ⊎ (ArePolygons g ⊎ ⊥))
-    (λ b. EndsBehindKind 2 (EndsInList 1 spelled_line (IsLine 2) (EndsInLine 2)) b ⊎ (EndsBehindKind 3 (EndsInList 1 (spelled_list spelled_line) IsPolygon EndsInRings) b ⊎ ⊥)) points_here kinds_two points_text
+    (λ b. EndsBehindKind 2 (EndsInList 1 spelled_line (IsLine LEAST_LINE) (EndsInLine LEAST_LINE)) b ⊎ (EndsBehindKind 3 (EndsInList 1 (spelled_list spelled_line) IsPolygon EndsInRings) b ⊎ ⊥)) points_here kinds_two points_text
 
 pub codec_geometry : Codec geometry_at spelled_geometry IsGeometry EndsInGeometry
 unfolding geometry_at geometry_behind
 codec_geometry = codec_same geometry_at spelled_geometry (λ g. ArePoints g ⊎ (AreLines g ⊎ (ArePolygons g ⊎ ⊥))) IsGeometry
-    (λ b. EndsWithin 1 b ⊎ (EndsBehindKind 1 (EndsInLine 1) b ⊎ (EndsBehindKind 2 (EndsInList 1 spelled_line (IsLine 2) (EndsInLine 2)) b ⊎ (EndsBehindKind 3 (EndsInList 1 (spelled_list spelled_line) IsPolygon EndsInRings) b ⊎ ⊥))))
+    (λ b. EndsWithin 1 b ⊎ (EndsBehindKind 1 (EndsInLine 1) b ⊎ (EndsBehindKind 2 (EndsInList 1 spelled_line (IsLine LEAST_LINE) (EndsInLine LEAST_LINE)) b ⊎ (EndsBehindKind 3 (EndsInList 1 (spelled_list spelled_line) IsPolygon EndsInRings) b ⊎ ⊥))))
     EndsInGeometry
     (codec_kinds (pick 1 read_points (pick 2 read_lines (pick 3 read_polygons no_kind))) spelled_geometry (λ g. ArePoints g ⊎ (AreLines g ⊎ (ArePolygons g ⊎ ⊥)))
-    (λ b. EndsBehindKind 1 (EndsInLine 1) b ⊎ (EndsBehindKind 2 (EndsInList 1 spelled_line (IsLine 2) (EndsInLine 2)) b ⊎ (EndsBehindKind 3 (EndsInList 1 (spelled_list spelled_line) IsPolygon EndsInRings) b ⊎ ⊥))) 1 kinds_one)
+    (λ b. EndsBehindKind 1 (EndsInLine 1) b ⊎ (EndsBehindKind 2 (EndsInList 1 spelled_line (IsLine LEAST_LINE) (EndsInLine LEAST_LINE)) b ⊎ (EndsBehindKind 3 (EndsInList 1 (spelled_list spelled_line) IsPolygon EndsInRings) b ⊎ ⊥))) 1 kinds_one)
     geometry_to geometry_from (λ b e. three_to e) (λ b e. three_from e)

@@ -8,11 +8,11 @@ ghost use Rattle.edit_text.specs.Reading.{Gives, decode_at};
 
 use crate::edits::read_edit;
 use crate::fault::TextFault;
-use feature_model::Edit;
+use feature_model::{Edit, MOST_EDIT_BYTES};
 use std::alloc::Global;
 
 /// The most bytes of the text of an edit.
-const EDIT_LEN: usize = 32_768;
+const MOST_BYTES: usize = MOST_EDIT_BYTES as usize;
 
 /// The edit in front, whose text is no longer than the longest, and the bytes up to there that are behind it.
 #[tactic(auto, unfolding(crate::specs::Reading::decode_at))]
@@ -20,10 +20,10 @@ fn read_short(alloc: Global, bytes: &[u8]) -> Result<(Edit, &[u8]), TextFault>
     ensures edit { Gives (λ r. (edit_data r.0, r.1.now)) result (decode_at bytes.now) }
     ensures memory { result ≡ Err TextFault.Memory → BeginsAsPut bytes.now }
 {
-    if bytes.len() < EDIT_LEN {
+    if bytes.len() < MOST_BYTES {
         return read_edit(alloc, bytes);
     }
-    match read_edit(alloc, &bytes[..EDIT_LEN]) {
+    match read_edit(alloc, &bytes[..MOST_BYTES]) {
         Ok((edit, rest)) => Ok((edit, rest)),
         Err(TextFault::Cut | TextFault::Bad) => Err(TextFault::Bad),
         Err(TextFault::Memory) => Err(TextFault::Memory),
@@ -48,6 +48,6 @@ pub fn decode(alloc: Global, bytes: &[u8]) -> Result<(Edit, usize), TextFault>
     ensures bad { result ≡ Err TextFault.Bad → ¬ IsCut bytes.now × ((e : EditData) → ¬ BeginsWith e bytes.now) }
 {
     let (edit, rest) = read_short(alloc, bytes)?;
-    let len = bytes.len().min(EDIT_LEN) - rest.len();
+    let len = bytes.len().min(MOST_BYTES) - rest.len();
     Ok((edit, len))
 }

@@ -9,7 +9,7 @@ use crate::fault::TextFault;
 use crate::fields::{read_byte, read_name, read_number};
 use crate::shapes::read_geometry;
 use crate::tags::read_tags;
-use feature_model::{Edit, Feature};
+use feature_model::{Edit, Feature, GREATEST_ZOOM};
 use std::alloc::Global;
 
 /// The first and the last zoom.
@@ -18,11 +18,11 @@ fn read_zooms(bytes: &[u8]) -> Result<((u8, u8), &[u8]), TextFault>
     ensures { Reads (λ r. (r.0, r.1.now)) result (zooms_at bytes.now) }
 {
     let (first, rest) = read_byte(bytes)?;
-    if first > 16 {
+    if first > GREATEST_ZOOM {
         return Err(TextFault::Bad);
     }
     let (last, rest) = read_byte(rest)?;
-    if first > last || last > 16 {
+    if first > last || last > GREATEST_ZOOM {
         return Err(TextFault::Bad);
     }
     Ok(((first, last), rest))

@@ -2,6 +2,7 @@
 
 ghost use Rattle.std.specs.Prelude.{◌≡◌, ℕ, ◌<◌, ◌≤◌, ◌^◌, ◌++◌, length, map, All, OnOk, IfOk};
 ghost use Rattle.std.specs.Str.{IsUtf8};
+ghost use Rattle.feature_model.specs.declared.limits.TheConstants.{MOST_ELEMENTS, MOST_TEXT_BYTES};
 ghost use Rattle.feature_model.specs.Data.{put, delete, feature_data, geometry_data, value_data, tag_data, edit_data};
 ghost use Rattle.feature_model.specs.Limits.{IsName, LayerFits, GeometryFits, TagsFit, ValueFits, ValuesFit, IsAllowed, IsAllowedEdit, NumberFits};
 ghost use Rattle.feature_model.specs.Spelled.{two_bytes, eight_bytes, spelled_name, spelled_list, spelled_point, spelled_line, spelled_geometry, spelled_value, spelled_tag, spelled_tags, spelled_feature, spelled};
@@ -13,7 +14,7 @@ use std::alloc::Global;
 
 #[tactic(auto, unfolding(feature_model::specs::Spelled::two_bytes))]
 fn put_count(out: &mut Vec<u8>, count: usize) -> Result<(), Memory>
-    requires { count ≤ 65535 }
+    requires { count ≤ MOST_ELEMENTS }
     ensures { OnOk result (out.new.items ≡ out.old.items ++ two_bytes count) }
 {
     out.extend_from_slice(&(count as u16).to_le_bytes())
@@ -39,7 +40,7 @@ fn put_point(out: &mut Vec<u8>, point: &World) -> Result<(), Memory>
 }
 
 fn put_line(out: &mut Vec<u8>, points: &[World]) -> Result<(), Memory>
-    requires { length points.now ≤ 65535 }
+    requires { length points.now ≤ MOST_ELEMENTS }
     ensures text { OnOk result (out.new.items ≡ out.old.items ++ spelled_line points.now) }
     ensures types { OnOk result (All IsOfWorld points.now) }
 {
@@ -51,8 +52,8 @@ fn put_line(out: &mut Vec<u8>, points: &[World]) -> Result<(), Memory>
 }
 
 fn put_lines(out: &mut Vec<u8>, lines: &[Vec<World>]) -> Result<(), Memory>
-    requires count { length lines.now ≤ 65535 }
-    requires points { All (λ l. length l.items ≤ 65535) lines.now }
+    requires count { length lines.now ≤ MOST_ELEMENTS }
+    requires points { All (λ l. length l.items ≤ MOST_ELEMENTS) lines.now }
     ensures text { OnOk result
         (out.new.items ≡ out.old.items ++ spelled_list spelled_line (map (λ l. l.items) lines.now)) }
     ensures types { OnOk result (All (All IsOfWorld) (map (λ l. l.items) lines.now)) }
@@ -65,9 +66,9 @@ fn put_lines(out: &mut Vec<u8>, lines: &[Vec<World>]) -> Result<(), Memory>
 }
 
 fn put_polygons(out: &mut Vec<u8>, polygons: &[Vec<Vec<World>>]) -> Result<(), Memory>
-    requires count { length polygons.now ≤ 65535 }
-    requires rings { All (λ p. length p.items ≤ 65535) polygons.now }
-    requires points { All (λ p. All (λ r. length r.items ≤ 65535) p.items) polygons.now }
+    requires count { length polygons.now ≤ MOST_ELEMENTS }
+    requires rings { All (λ p. length p.items ≤ MOST_ELEMENTS) polygons.now }
+    requires points { All (λ p. All (λ r. length r.items ≤ MOST_ELEMENTS) p.items) polygons.now }
     ensures text { OnOk result (out.new.items ≡ out.old.items
         ++ spelled_list (spelled_list spelled_line) (map (λ p. map (λ r. r.items) p.items) polygons.now)) }
     ensures types { OnOk result
@@ -111,7 +112,7 @@ fn put_number(out: &mut Vec<u8>, number: u64) -> Result<(), Memory>
 }
 
 fn put_text(out: &mut Vec<u8>, text: &str) -> Result<(), Memory>
-    requires { length text.now ≤ 1024 }
+    requires { length text.now ≤ MOST_TEXT_BYTES }
     ensures text { OnOk result
         (out.new.items ≡ out.old.items ++ (two_bytes (length text.now) ++ text.now)) }
     ensures types { IsUtf8 text.now }
@@ -186,7 +187,7 @@ fn put_feature(out: &mut Vec<u8>, feature: &Feature) -> Result<(), Memory>
     put_tags(out, &feature.tags)
 }
 
-/// The text that takes the number's feature away: nine bytes. The number is below 2^63.
+/// The text that takes the number's feature away: nine bytes. The number is below `NUMBER_END`.
 #[tactic(auto, unfolding(feature_model::specs::Spelled::spelled, feature_model::specs::Spelled::eight_bytes))]
 pub fn delete_text(id: u64) -> [u8; 9]
     requires { NumberFits id }

@@ -1,6 +1,7 @@
 //! Laws of the texts of edits.
 
 ghost use Rattle.std.specs.Prelude.{◌≡◌, ℕ, ◌≤◌, List, ◌++◌, length};
+ghost use Rattle.feature_model.specs.declared.limits.TheConstants.{MOST_EDIT_BYTES};
 ghost use Rattle.feature_model.specs.Data.{EditData};
 ghost use Rattle.feature_model.specs.Spelled.{spelled};
 ghost use Rattle.feature_model.specs.Types.{IsEdit};
@@ -12,7 +13,7 @@ pub fn spelling_law()
         → spelled e ++ behind ≡ spelled f ++ after → (e ≡ f) × (behind ≡ after) }
 {}
 
-/// The text of an edit has 9 to 32,768 bytes.
+/// The text of an edit has 9 to `MOST_EDIT_BYTES` bytes.
 pub fn length_law()
-    ensures { (e : EditData) → IsEdit e → (9 ≤ length (spelled e)) × (length (spelled e) ≤ 32768) }
+    ensures { (e : EditData) → IsEdit e → (9 ≤ length (spelled e)) × (length (spelled e) ≤ MOST_EDIT_BYTES) }
 {}

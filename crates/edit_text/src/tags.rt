@@ -8,7 +8,7 @@ ghost use Rattle.edit_text.specs.Reading.{Reads, Finds, Gives, many_at, negative
 
 use crate::fault::TextFault;
 use crate::fields::{read_byte, read_long_text, read_name, read_u64};
-use feature_model::{EditValue, Tag};
+use feature_model::{EditValue, MOST_TAGS, Tag};
 use std::alloc::Global;
 
 /// The bits of a number below 0: the first of them is set.
@@ -102,18 +102,18 @@ fn read_each_tag(alloc: Global, count: u8, bytes: &[u8]) -> Result<(Vec<Tag>, &[
     Ok((tags, rest))
 }
 
-/// How many tags there are: at most 64.
+/// How many tags there are: at most `MOST_TAGS`.
 fn read_tag_count(bytes: &[u8]) -> Result<(u8, &[u8]), TextFault>
     ensures { Reads (λ r. (r.0, r.1.now)) result (tag_count_at bytes.now) }
 {
     let (count, rest) = read_byte(bytes)?;
-    if count > 64 {
+    if usize::from(count) > MOST_TAGS {
         return Err(TextFault::Bad);
     }
     Ok((count, rest))
 }
 
-/// At most 64 tags, with strictly ascending keys.
+/// At most `MOST_TAGS` tags, with strictly ascending keys.
 #[tactic(auto, unfolding(crate::specs::Reading::tags_at))]
 pub(crate) fn read_tags(alloc: Global, bytes: &[u8]) -> Result<(Vec<Tag>, &[u8]), TextFault>
     ensures { Gives (λ r. (map tag_data r.0.items, r.1.now)) result (tags_at bytes.now) }

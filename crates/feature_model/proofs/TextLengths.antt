@@ -2,6 +2,7 @@
 use Rattle.std.proofs.Common.{◌≡◌, ℕ, ℤ, ◌+◌, ◌*◌, ◌≤◌, Bool, true, false, List, [], ◌∷◌, ◌++◌, length, get_or, map, take, refl, ◌∙◌, length-append, All, arith}
 use Rattle.std.proofs.lemmas.List.{take_all, length-map}
 use Rattle.std.specs.List.{flat_map}
+use Rattle.feature_model.specs.declared.limits.TheConstants.{MOST_ELEMENTS, LEAST_LINE, LEAST_RING}
 use Rattle.feature_model.specs.declared.feature.World.{World}
 use Rattle.feature_model.specs.Data.{world_points, world_lines, world_polygons, text_value, natural_value, negative_value, truth_value, TagData, FeatureData, put}
 use Rattle.feature_model.specs.Limits.{CountFits, RingsFit}
@@ -116,16 +117,16 @@ length-tags_all f xs i len h e = rw (length-spelled_tags (map f xs), ← take_al
 
 -- ---- limits, as the functions on lengths ask for them
 
-pub lines_within : {X : Type 0} (f : X → List World) (xs : List X) → All (CountFits 2) (map f xs) → All (λ x. length (f x) ≤ 65535) xs
-lines_within f xs h = λ k d l. (All-from_map (CountFits 2) f xs h k d l).1
+pub lines_within : {X : Type 0} (f : X → List World) (xs : List X) → All (CountFits LEAST_LINE) (map f xs) → All (λ x. length (f x) ≤ MOST_ELEMENTS) xs
+lines_within f xs h = λ k d l. (All-from_map (CountFits LEAST_LINE) f xs h k d l).1
 
-pub polygons_within : {X Y : Type 0} (f : X → List Y) (g : Y → List World) (xs : List X) → All RingsFit (map (λ x. map g (f x)) xs) → All (λ x. length (f x) ≤ 65535) xs
+pub polygons_within : {X Y : Type 0} (f : X → List Y) (g : Y → List World) (xs : List X) → All RingsFit (map (λ x. map g (f x)) xs) → All (λ x. length (f x) ≤ MOST_ELEMENTS) xs
 polygons_within f g xs h = λ k d l.
     let fit = All-from_map RingsFit (λ x. map g (f x)) xs h k d l in
     let e = length-map (f (get_or xs k d)) g in
     omega (arith, e, fit.0.1)
 
-pub rings_within : {X Y : Type 0} (f : X → List Y) (g : Y → List World) (xs : List X) → All RingsFit (map (λ x. map g (f x)) xs) → All (λ x. All (λ y. length (g y) ≤ 65535) (f x)) xs
+pub rings_within : {X Y : Type 0} (f : X → List Y) (g : Y → List World) (xs : List X) → All RingsFit (map (λ x. map g (f x)) xs) → All (λ x. All (λ y. length (g y) ≤ MOST_ELEMENTS) (f x)) xs
 rings_within f g xs h = λ k d l.
     let fit = All-from_map RingsFit (λ x. map g (f x)) xs h k d l in
-    λ j y m. (All-from_map (CountFits 3) g (f (get_or xs k d)) fit.1 j y m).1
+    λ j y m. (All-from_map (CountFits LEAST_RING) g (f (get_or xs k d)) fit.1 j y m).1

@@ -11,7 +11,10 @@ pub use copies::copy;
 pub use fault::EditFault;
 pub use feature::{Edit, EditValue, Feature, Geometry, Tag, World};
 pub use lengths::put_text_len;
-pub use limits::{GREATEST_ZOOM, check};
+pub use limits::{
+    GREATEST_ZOOM, LEAST_LINE, LEAST_RING, MOST_EDIT_BYTES, MOST_ELEMENTS, MOST_NAME_BYTES,
+    MOST_TAGS, MOST_TEXT_BYTES, NUMBER_END, check, count_fits,
+};
 
 /// A growth that was refused.
 pub type Memory = std::alloc::AllocError;
