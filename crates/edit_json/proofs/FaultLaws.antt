@@ -3,6 +3,7 @@ use Rattle.std.proofs.Common.{◌≡◌, ℕ, ◌≤◌, List, length, All, Some
 use Rattle.std.specs.Cmp.Lexicographic.{slice_cmp}
 use Rattle.std.specs.List.Sorted.{IsStrictlySortedBy}
 use Rattle.serde_json.specs.Data.{Data, Members}
+use Rattle.feature_model.specs.declared.limits.TheConstants.{MOST_TAGS}
 use Rattle.feature_model.specs.declared.fault.EditFault.{EditFault}
 use Rattle.feature_model.specs.declared.fault.EditFault.TheVariants as faults
 use Rattle.feature_model.specs.Data.{GeometryData, TagData, FeatureData}
@@ -62,9 +63,9 @@ feature-one d f g a b =
 outline-one : (d : Data) (f : FeatureData) (P : OutlineData → Type 0) → IsFeature d f → HasOutline d P → P (outline_of f)
 outline-one d f P a h = subst P (outline_json-one h.0 (outline_of f) (sym h.1.is ∙ a.is)) h.2
 
-tags-keys : (ts : List TagData) → TagsFit ts → (length (names_of (tags_json ts)) ≤ 64) × All IsName (names_of (tags_json ts))
-tags-keys ts h = let P : List (List ℕ) → Type 0 = λ ns. (length ns ≤ 64) × All IsName ns in
-    let few : length (keys_of ts) ≤ 64 = rw (length-keys_of ts) h.few in
+tags-keys : (ts : List TagData) → TagsFit ts → (length (names_of (tags_json ts)) ≤ MOST_TAGS) × All IsName (names_of (tags_json ts))
+tags-keys ts h = let P : List (List ℕ) → Type 0 = λ ns. (length ns ≤ MOST_TAGS) × All IsName ns in
+    let few : length (keys_of ts) ≤ MOST_TAGS = rw (length-keys_of ts) h.few in
     subst P (sym (names_of-tags ts)) (few, h.names)
 
 -- the value of a feature has no fault
@@ -82,7 +83,7 @@ feature-faultless d f faults.Memory a h = refl
 
 -- ---- what the reader's steps tell
 
-keys-fit : (ms : Members) (ts : List TagData) → ms ≡ tags_json ts → length (names_of ms) ≤ 64 → All IsName (names_of ms) → IsStrictlySortedBy (slice_cmp nat_cmp) (names_of ms) → TagsFit ts
+keys-fit : (ms : Members) (ts : List TagData) → ms ≡ tags_json ts → length (names_of ms) ≤ MOST_TAGS → All IsName (names_of ms) → IsStrictlySortedBy (slice_cmp nat_cmp) (names_of ms) → TagsFit ts
 keys-fit ms ts e few names ascending =
     let f : names_of ms ≡ keys_of ts = ap names_of e ∙ names_of-tags ts in
     let P : List (List ℕ) → Type 0 = λ ns. All IsName ns in

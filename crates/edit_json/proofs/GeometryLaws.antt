@@ -1,5 +1,5 @@
 -- The lists of a geometry are read as exactly the geometry whose lists they are.
-use Rattle.std.proofs.Common.{◌≡◌, ℕ, suc, ◌^◌, ◌<◌, ◌≤◌, Bool, true, false, List, [], ◌∷◌, length, map, All, Option, Some, None, refl, ap, subst, ◌∙◌, arith}
+use Rattle.std.proofs.Common.{◌≡◌, ℕ, suc, ◌^◌, ◌<◌, Bool, true, false, List, [], ◌∷◌, length, map, All, Option, Some, None, refl, ap, subst, ◌∙◌, arith}
 use Rattle.std.specs.Prelude.{option_map, option_and_then, if◌then◌else◌, nat_lt}
 use Rattle.std.proofs.lemmas.Bool.{ltb-true}
 use Rattle.std.proofs.lemmas.Bool.Decides.{nat_tests}
@@ -8,12 +8,13 @@ use Rattle.serde_json.specs.Data.{Data, null, boolean, number, string, array, ob
 use Rattle.serde_json.specs.Events.{items_len}
 use Rattle.serde_json.specs.Find.{as_array}
 use Rattle.serde_json.specs.View.{items_of}
+use Rattle.feature_model.specs.declared.limits.TheConstants.{LEAST_LINE, LEAST_RING}
 use Rattle.feature_model.specs.declared.feature.World.{World}
 use Rattle.feature_model.specs.Data.{GeometryData, world_points, world_lines, world_polygons}
-use Rattle.feature_model.specs.Limits.{CountFits, GeometryFits}
+use Rattle.feature_model.specs.Limits.{IsCount, is_count, CountFits, GeometryFits}
 use Rattle.edit_json.specs.Json.{ShapeData, point_list, line_list, polygon_list, point_json, points_json, lines_json, shape_of}
 use Rattle.feature_model.specs.Types.{IsOfWorld, LiesInWorld}
-use Rattle.edit_json.specs.Lists.{below, pair_at, point_at, each, has_count, list_of, points_at, lines_at, geometry_at}
+use Rattle.edit_json.specs.Lists.{below, pair_at, point_at, each, list_of, points_at, lines_at, geometry_at}
 
 -- what `one` reads is exactly what has this JSON and keeps to P
 pub record Reads {A : Type 0} (one : Data → Option A) (json : A → Data) (P : A → Type 0) : Type 0 where
@@ -105,11 +106,11 @@ module _ {A : Type 0} (one : Data → Option A) (json : A → Data) (P : A → T
   each-finds [] h = refl
   each-finds (x ∷ xs) h = rw (r.finds x (All-head P x xs h), each-finds xs (All-tail P x xs h)) refl
 
-  count-says : (least n : ℕ) → has_count least n ≡ true → (least ≤ n) × (n ≤ 65535)
+  count-says : (least n : ℕ) → is_count least n ≡ true → IsCount least n
   count-says least n h = (grind (arith, nat_tests), grind (arith, nat_tests))
 
-  count-finds : (least n : ℕ) → least ≤ n → n ≤ 65535 → has_count least n ≡ true
-  count-finds least n g h = grind (arith, nat_tests)
+  count-finds : (least n : ℕ) → IsCount least n → is_count least n ≡ true
+  count-finds least n h = grind (arith, nat_tests)
 
   abbrev Fits : ℕ → List A → Type 0
   Fits least xs = CountFits least xs × All P xs
@@ -117,7 +118,7 @@ module _ {A : Type 0} (one : Data → Option A) (json : A → Data) (P : A → T
   pub list_of-says : (least : ℕ) (ds : Items) (xs : List A) → list_of least one ds ≡ Some xs → (ds ≡ items_of (map json xs)) × Fits least xs
   unfolding list_of
   list_of-says least ds xs e =
-      let h = if-some (has_count least (items_len ds)) (each one ds) xs e in
+      let h = if-some (is_count least (items_len ds)) (each one ds) xs e in
       let f = each-says ds xs h.1 in
       let n = ap items_len f.0 ∙ items_len-of xs in
       let k = count-says least (items_len ds) h.0 in
@@ -125,7 +126,7 @@ module _ {A : Type 0} (one : Data → Option A) (json : A → Data) (P : A → T
 
   pub list_of-finds : (least : ℕ) (xs : List A) → Fits least xs → list_of least one (items_of (map json xs)) ≡ Some xs
   unfolding list_of
-  list_of-finds least xs h = rw (items_len-of xs, count-finds least (length xs) h.0.0 h.0.1) (each-finds xs h.1)
+  list_of-finds least xs h = rw (items_len-of xs, count-finds least (length xs) h.0) (each-finds xs h.1)
 
   array-says : (least : ℕ) (d : Data) (xs : List A) → option_and_then (list_of least one) (as_array d) ≡ Some xs → (d ≡ array (items_of (map json xs))) × Fits least xs
   array-says least null xs e = cc
@@ -167,12 +168,12 @@ geometry_at-says (point_list ds) g e =
     let f = list_of-says point_at point_json IsOfWorld points-read 1 ds h.0 h.1.0 in
     rw h.1.1 (ap point_list f.0, f.1.0, f.1.1)
 geometry_at-says (line_list ds) g e =
-    let h = some-world world_lines (list_of 1 (points_at 2) ds) g e in
-    let f = list_of-says (points_at 2) points_json (ArePoints 2) (line-read 2) 1 ds h.0 h.1.0 in
+    let h = some-world world_lines (list_of 1 (points_at LEAST_LINE) ds) g e in
+    let f = list_of-says (points_at LEAST_LINE) points_json (ArePoints LEAST_LINE) (line-read LEAST_LINE) 1 ds h.0 h.1.0 in
     rw h.1.1 (ap line_list f.0, (f.1.0, λ k d l. (f.1.1 k d l).0), λ k d l. (f.1.1 k d l).1)
 geometry_at-says (polygon_list ds) g e =
-    let h = some-world world_polygons (list_of 1 (lines_at 3) ds) g e in
-    let f = list_of-says (lines_at 3) lines_json (AreLines 3) (polygon-read 3) 1 ds h.0 h.1.0 in
+    let h = some-world world_polygons (list_of 1 (lines_at LEAST_RING) ds) g e in
+    let f = list_of-says (lines_at LEAST_RING) lines_json (AreLines LEAST_RING) (polygon-read LEAST_RING) 1 ds h.0 h.1.0 in
     rw h.1.1 (
       ap polygon_list f.0,
       (f.1.0, λ k d l. ((f.1.1 k d l).0, λ i c j. ((f.1.1 k d l).1 i c j).0)),
@@ -183,7 +184,7 @@ pub geometry_at-finds : (g : GeometryData) → GeometryFits g → LiesInWorld g 
 unfolding geometry_at
 geometry_at-finds (world_points points) h w = ap (option_map world_points) (list_of-finds point_at point_json IsOfWorld points-read 1 points (h, w))
 geometry_at-finds (world_lines lines) h w =
-    ap (option_map world_lines) (list_of-finds (points_at 2) points_json (ArePoints 2) (line-read 2) 1 lines (h.0, λ k d l. (h.1 k d l, w k d l)))
+    ap (option_map world_lines) (list_of-finds (points_at LEAST_LINE) points_json (ArePoints LEAST_LINE) (line-read LEAST_LINE) 1 lines (h.0, λ k d l. (h.1 k d l, w k d l)))
 geometry_at-finds (world_polygons polygons) h w =
-    ap (option_map world_polygons) (list_of-finds (lines_at 3) lines_json (AreLines 3) (polygon-read 3) 1 polygons
+    ap (option_map world_polygons) (list_of-finds (lines_at LEAST_RING) lines_json (AreLines LEAST_RING) (polygon-read LEAST_RING) 1 polygons
     (h.0, λ k d l. ((h.1 k d l).0, λ i c j. ((h.1 k d l).1 i c j, w k d l i c j))))

@@ -5,7 +5,8 @@ use Rattle.serde_json.specs.Data.{Data}
 use Rattle.serde_json.specs.View.{items_view}
 use Rattle.serde_json.specs.declared.value.Value.{Value}
 use Rattle.serde_json.proofs.Views.{items_len-items_view}
-use Rattle.edit_json.specs.Lists.{pair_at, each, has_count, list_of}
+use Rattle.feature_model.specs.Limits.{is_count}
+use Rattle.edit_json.specs.Lists.{pair_at, each, list_of}
 use Rattle.edit_json.proofs.SoFar.{goes_on}
 
 -- a list of another length than two is no point
@@ -23,11 +24,11 @@ pair_at-long (a ∷ b ∷ []) h = absurd (omega arith)
 pair_at-long (a ∷ b ∷ c ∷ vs) h = refl
 
 module _ {A : Type 0} (one : Data → Option A) where
-  pub list_of-refused : (least : ℕ) (vs : List Value) → has_count least (length vs) ≡ false → list_of least one (items_view vs) ≡ None
+  pub list_of-refused : (least : ℕ) (vs : List Value) → is_count least (length vs) ≡ false → list_of least one (items_view vs) ≡ None
   unfolding list_of
   list_of-refused least vs h = rw (items_len-items_view vs, h) refl
 
-  pub list_of-counted : (least : ℕ) (vs : List Value) → has_count least (length vs) ≡ true → list_of least one (items_view vs) ≡ each one (items_view vs)
+  pub list_of-counted : (least : ℕ) (vs : List Value) → is_count least (length vs) ≡ true → list_of least one (items_view vs) ≡ each one (items_view vs)
   unfolding list_of
   list_of-counted least vs h = rw (items_len-items_view vs, h) refl
 

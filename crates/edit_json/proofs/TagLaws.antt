@@ -6,6 +6,7 @@ use Rattle.std.proofs.lemmas.Int.{ints}
 use Rattle.std.proofs.lemmas.Bool.Decides.{nat_tests}
 use Rattle.std.proofs.lemmas.List.Elements.{All-nil, All-cons, All-head, All-tail}
 use Rattle.serde_json.specs.Data.{Data, null, boolean, number, string, array, object, unsigned, negative, float, Members, no_members, member}
+use Rattle.feature_model.specs.declared.limits.TheConstants.{MOST_TEXT_BYTES}
 use Rattle.feature_model.specs.Data.{ValueData, text_value, natural_value, negative_value, truth_value, TagData}
 use Rattle.feature_model.specs.Limits.{ValueFits, ValuesFit, keys_of}
 use Rattle.edit_json.specs.Json.{value_json, tags_json}
@@ -26,9 +27,9 @@ value_at-says (number (negative (pos n))) v e =
 value_at-says (number (negative (negsuc n))) v e = let f : v ≡ negative_value (negsuc n) = cc in rw f (refl, omega (arith, ints))
 value_at-says (number (float x)) v e = cc
 value_at-says (string t) v e =
-    let h = if-some (nat_le (length t) 1024) (Some (text_value t)) v e in
+    let h = if-some (nat_le (length t) MOST_TEXT_BYTES) (Some (text_value t)) v e in
     let f : v ≡ text_value t = let g = h.1 in cc in
-    rw f (refl, leb-true (length t) 1024 h.0)
+    rw f (refl, leb-true (length t) MOST_TEXT_BYTES h.0)
 value_at-says (array ds) v e = cc
 value_at-says (object ms) v e = cc
 

@@ -1,10 +1,12 @@
 -- What the lists of a geometry are read as.
-use Rattle.std.specs.Prelude.{ℕ, ◌^◌, ◌&&◌, nat_lt, nat_le, if◌then◌else◌, Bool, List, [], ◌∷◌, Option, Some, None, option_and_then, option_map}
+use Rattle.std.specs.Prelude.{ℕ, ◌^◌, nat_lt, if◌then◌else◌, List, [], ◌∷◌, Option, Some, None, option_and_then, option_map}
 use Rattle.serde_json.specs.Data.{Data, Items, no_items, item}
 use Rattle.serde_json.specs.Events.{items_len}
 use Rattle.serde_json.specs.Find.{as_u64, as_number, as_array}
+use Rattle.feature_model.specs.declared.limits.TheConstants.{LEAST_LINE, LEAST_RING}
 use Rattle.feature_model.specs.declared.feature.World.{World}
 use Rattle.feature_model.specs.Data.{GeometryData, world_points, world_lines, world_polygons}
+use Rattle.feature_model.specs.Limits.{is_count}
 use Rattle.edit_json.specs.Json.{ShapeData, point_list, line_list, polygon_list}
 
 -- a whole number below the limit
@@ -25,13 +27,9 @@ unfoldable pub each : {A : Type 0} → (Data → Option A) → Items → Option 
 each one no_items = Some []
 each one (item d ds) = option_and_then (λ x. option_map (λ xs. x ∷ xs) (each one ds)) (one d)
 
--- how many a list of a geometry may have
-abbrev pub has_count : ℕ → ℕ → Bool
-has_count least n = nat_le least n && nat_le n 65535
-
 -- a list of so many items, each by `one`
 unfoldable pub list_of : {A : Type 0} → ℕ → (Data → Option A) → Items → Option (List A)
-list_of least one ds = if has_count least (items_len ds) then each one ds else None
+list_of least one ds = if is_count least (items_len ds) then each one ds else None
 
 unfoldable pub points_at : ℕ → Data → Option (List World)
 points_at least d = option_and_then (list_of least point_at) (as_array d)
@@ -41,5 +39,5 @@ lines_at least d = option_and_then (list_of 1 (points_at least)) (as_array d)
 
 unfoldable pub geometry_at : ShapeData → Option GeometryData
 geometry_at (point_list ds) = option_map world_points (list_of 1 point_at ds)
-geometry_at (line_list ds) = option_map world_lines (list_of 1 (points_at 2) ds)
-geometry_at (polygon_list ds) = option_map world_polygons (list_of 1 (lines_at 3) ds)
+geometry_at (line_list ds) = option_map world_lines (list_of 1 (points_at LEAST_LINE) ds)
+geometry_at (polygon_list ds) = option_map world_polygons (list_of 1 (lines_at LEAST_RING) ds)

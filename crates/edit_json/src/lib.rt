@@ -7,7 +7,6 @@
 //! so `-0`, `1.0` and `1e0` are none.
 #![tactic(auto)]
 
-mod limits;
 mod lists;
 mod outline;
 mod reader;

@@ -4,13 +4,14 @@ ghost use Rattle.std.specs.Prelude.{◌≡◌, ◌^◌, map, true, false, OnOk, 
 ghost use Rattle.serde_json.specs.Find.{as_array};
 ghost use Rattle.serde_json.specs.View.{view, items_view};
 ghost use Rattle.edit_json.specs.Gives.{Tells, Gives};
-ghost use Rattle.edit_json.specs.Lists.{below, point_at, has_count, list_of, points_at, lines_at, geometry_at};
+ghost use Rattle.edit_json.specs.Lists.{below, point_at, list_of, points_at, lines_at, geometry_at};
 ghost use Rattle.edit_json.specs.Outline.{shape_data};
+ghost use Rattle.feature_model.specs.declared.limits.TheConstants.{LEAST_RING};
+ghost use Rattle.feature_model.specs.Limits.{is_count};
 ghost use Rattle.feature_model.specs.Data.{geometry_data};
 
-use crate::limits::count_fits;
 use crate::outline::Shape;
-use feature_model::{EditFault, Geometry, World};
+use feature_model::{EditFault, Geometry, LEAST_LINE, LEAST_RING, World, count_fits};
 use serde_json::Value;
 use std::alloc::Global;
 
@@ -55,8 +56,8 @@ fn list_in(value: &Value) -> Result<&[Value], EditFault>
 
 /// A list of so many elements has enough, and not too many.
 fn check_count(count: usize, least: usize) -> Result<(), EditFault>
-    ensures ok { OnOk result (has_count least count ≡ true) }
-    ensures fault { IfErr result (λ e. (e ≡ EditFault.Geometry) × (has_count least count ≡ false)) }
+    ensures ok { OnOk result (is_count least count ≡ true) }
+    ensures fault { IfErr result (λ e. (e ≡ EditFault.Geometry) × (is_count least count ≡ false)) }
 {
     if count_fits(count, least) {
         Ok(())
@@ -110,17 +111,17 @@ fn read_lines(alloc: Global, list: &[Value], least: usize) -> Result<Vec<Vec<Wor
 #[tactic(auto, unfolding(crate::specs::Lists::lines_at))]
 fn read_polygon(alloc: Global, value: &Value) -> Result<Vec<Vec<World>>, EditFault>
     ensures { Gives EditFault.Geometry (λ v. map (λ l. l.items) v.items) result
-        (lines_at 3 (view value.now)) }
+        (lines_at LEAST_RING (view value.now)) }
 {
     let list = list_in(value)?;
-    read_lines(alloc, list, 3)
+    read_lines(alloc, list, LEAST_RING)
 }
 
 /// Polygons.
 #[tactic(auto, unfolding(crate::specs::Lists::list_of, crate::specs::Lists::each))]
 fn read_polygons(alloc: Global, list: &[Value]) -> Result<Vec<Vec<Vec<World>>>, EditFault>
     ensures { Gives EditFault.Geometry (λ v. map (λ p. map (λ r. r.items) p.items) v.items) result
-        (list_of 1 (lines_at 3) (items_view list.now)) }
+        (list_of 1 (lines_at LEAST_RING) (items_view list.now)) }
 {
     if let Err(fault) = check_count(list.len(), 1) {
         return Err(fault);
@@ -139,7 +140,7 @@ pub(crate) fn read_geometry(alloc: Global, shape: Shape<'_>) -> Result<Geometry,
 {
     match shape {
         Shape::Points(list) => Ok(Geometry::Points(read_points(alloc, list, 1)?)),
-        Shape::Lines(list) => Ok(Geometry::Lines(read_lines(alloc, list, 2)?)),
+        Shape::Lines(list) => Ok(Geometry::Lines(read_lines(alloc, list, LEAST_LINE)?)),
         Shape::Polygons(list) => Ok(Geometry::Polygons(read_polygons(alloc, list)?)),
     }
 }

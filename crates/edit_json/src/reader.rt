@@ -7,11 +7,10 @@ ghost use Rattle.feature_model.specs.Types.{FeatureFitsTypes};
 ghost use Rattle.edit_json.specs.Faults.{IsFeature, IsOutline, NameFits, RangeFits, IsFirstJsonFault};
 ghost use Rattle.edit_json.specs.Outline.{outline_data};
 
-use crate::limits::{is_name, zooms_fit};
 use crate::lists::read_geometry;
 use crate::outline::{Outline, read_outline};
 use crate::tags::{check_tags, read_tags};
-use feature_model::{EditFault, Feature};
+use feature_model::{EditFault, Feature, is_name, zooms_fit};
 use serde_json::Value;
 use std::alloc::Global;
 

@@ -1,10 +1,10 @@
 -- A list of points is whole where its bytes are there, and else cut.
-use Rattle.std.proofs.Common.{◌≡◌, ◌≢◌, ℕ, zero, suc, ◌*◌, ◌<◌, ◌≤◌, inl, inr, Bool, true, false, ◌&&◌, cond, List, [], ◌∷◌, ◌++◌, length, take, drop, Ok, Err, refl, sym, ap, subst, ◌∙◌, arith}
-use Rattle.std.specs.Prelude.{IsOk, nat_le}
+use Rattle.std.proofs.Common.{◌≡◌, ◌≢◌, ℕ, zero, suc, ◌*◌, ◌<◌, ◌≤◌, inl, inr, Bool, true, false, cond, List, [], ◌∷◌, ◌++◌, length, take, drop, Ok, Err, refl, sym, ap, subst, ◌∙◌, arith}
+use Rattle.std.specs.Prelude.{IsOk}
 use Rattle.std.specs.Int.{w32, from_le_bytes}
 use Rattle.std.proofs.lemmas.Bool.{cases_lt, le-ltb, lt-ltb}
 use Rattle.std.proofs.lemmas.List.{length-drop}
-use Rattle.feature_model.specs.declared.limits.TheConstants.{MOST_ELEMENTS}
+use Rattle.feature_model.specs.Limits.{is_count}
 use Rattle.feature_model.specs.declared.feature.World.{World}
 use Rattle.edit_text.specs.declared.fault.TextFault.TheVariants.{Cut, Bad, Memory}
 use Rattle.edit_text.specs.Reading.{Part, then_read, read_as, read_if, front_at, two_at, four_at, count_at, point_at, line_at, lines_at, HasFirstLine, many_at}
@@ -110,7 +110,7 @@ if_ok {A} test (Ok x) y is =
     ((λ i. Ok (both.0 i)), subst (λ (z : A × List ℕ). test z.0 ≡ true) both.0 both.1)
 if_ok test (Err fault) y is = absurd (cc)
 
-first_line : (least count : ℕ) (rest : List ℕ) (y : List (List World) × List ℕ) → nat_le 1 count && nat_le count MOST_ELEMENTS ≡ true → many_at (λ _. line_at least) count [] rest ≡ Ok y → IsOk (line_at least rest)
+first_line : (least count : ℕ) (rest : List ℕ) (y : List (List World) × List ℕ) → is_count 1 count ≡ true → many_at (λ _. line_at least) count [] rest ≡ Ok y → IsOk (line_at least rest)
 unfolding many_at
 first_line least zero rest y some is = absurd (cc)
 first_line least (suc count) rest y some is = is_whole _ _ (then_ok (line_at least rest) _ y is).1
@@ -119,7 +119,7 @@ pub lines_start : (least : ℕ) (bytes : List ℕ) (y : List (List World) × Lis
 unfolding lines_at
 lines_start least bytes y is =
     let counted = then_ok (count_at 1 bytes) (λ count. many_at (λ _. line_at least) count []) y is in
-    let some = if_ok (λ count. nat_le 1 count && nat_le count MOST_ELEMENTS) (two_at bytes) counted.0 counted.1 in
+    let some = if_ok (is_count 1) (two_at bytes) counted.0 counted.1 in
     (counted.0, some.0, first_line least counted.0.0 counted.0.1 y some.1 counted.2)
 
 pub count_no_memory : (least : ℕ) (bytes : List ℕ) → count_at least bytes ≢ Err Memory

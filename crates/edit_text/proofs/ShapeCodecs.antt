@@ -1,19 +1,19 @@
 -- Geometries, tied to what is read.
-use Rattle.std.proofs.Common.{◌≡◌, ℕ, ◌^◌, ◌<◌, ◌≤◌, ◌⊎◌, inl, inr, true, ◌&&◌, List, [], ◌∷◌, ◌++◌, length, drop, take, Ok, Err, nat_le, refl, sym, ap, subst, ◌∙◌, All, length-append, length-drop, arith}
+use Rattle.std.proofs.Common.{◌≡◌, ℕ, ◌^◌, ◌<◌, ◌≤◌, ◌⊎◌, inl, inr, true, List, [], ◌∷◌, ◌++◌, length, drop, take, Ok, Err, refl, sym, ap, subst, ◌∙◌, All, length-append, length-drop, arith}
 use Rattle.std.specs.List.{flat_map}
 use Rattle.std.specs.Int.{w32, from_le_bytes}
 use Rattle.std.proofs.lemmas.Bool.{cases_lt}
 use Rattle.std.proofs.lemmas.Bool.Decides.{nat_tests}
 use Rattle.std.proofs.lemmas.List.Elements.{All-nil, All-push}
-use Rattle.feature_model.specs.declared.limits.TheConstants.{MOST_ELEMENTS, LEAST_LINE, LEAST_RING}
+use Rattle.feature_model.specs.declared.limits.TheConstants.{LEAST_LINE, LEAST_RING}
 use Rattle.feature_model.specs.declared.feature.World.{World}
 use Rattle.feature_model.specs.Data.{GeometryData, world_points, world_lines, world_polygons}
-use Rattle.feature_model.specs.Limits.{CountFits, GeometryFits}
+use Rattle.feature_model.specs.Limits.{IsCount, is_count, CountFits, GeometryFits}
 use Rattle.feature_model.specs.Spelled.{two_bytes, four_bytes, spelled_list, spelled_point, spelled_line, spelled_geometry}
 use Rattle.feature_model.proofs.TextLengths.{length-four_bytes}
 use Rattle.edit_text.specs.declared.fault.TextFault.TheVariants.{Cut, Bad}
 use Rattle.feature_model.specs.Types.{IsOfWorld, LiesInWorld}
-use Rattle.edit_text.specs.Reading.{Part, then_read, read_as, read_if, many_at, two_at, count_at, four_at, point_at, list_at, line_at, lines_at, polygons_at, geometry_behind, geometry_at}
+use Rattle.edit_text.specs.Reading.{Part, then_read, read_as, many_at, two_at, count_at, four_at, point_at, list_at, line_at, lines_at, polygons_at, geometry_behind, geometry_at}
 use Rattle.edit_text.specs.Cut.{EndsWithin, EndsBehind, EndsBehindKind, EndsAmong, EndsInList, EndsInLine, IsLine, EndsInRings, IsPolygon, EndsInGeometry}
 use Rattle.edit_text.proofs.Codecs.{Codec, codec_same, codec_then, codec_as, codec_if}
 use Rattle.edit_text.proofs.FieldCodecs.{front_long, codec_two, codec_four}
@@ -68,26 +68,26 @@ codec_each read spell Is Ends c n = codec_many (λ _. read) spell (All Is) (λ _
     })
     (All-nil Is) n
 
-count_passes : (least n : ℕ) → least ≤ n → n ≤ MOST_ELEMENTS → nat_le least n && nat_le n MOST_ELEMENTS ≡ true
-count_passes least n low high = grind (arith, nat_tests)
+count_passes : (least n : ℕ) → IsCount least n → is_count least n ≡ true
+count_passes least n fits = grind (arith, nat_tests)
 
-count_within : (least n : ℕ) → nat_le least n && nat_le n MOST_ELEMENTS ≡ true → (least ≤ n) × (n ≤ MOST_ELEMENTS)
+count_within : (least n : ℕ) → is_count least n ≡ true → IsCount least n
 count_within least n t = grind (arith, nat_tests)
 
-codec_count : (least : ℕ) → Codec (count_at least) two_bytes (λ count. (least ≤ count) × (count ≤ MOST_ELEMENTS)) (EndsWithin 2)
-codec_count least = codec_if two_at two_bytes (λ n. n < 2 ^ 16) (EndsWithin 2) (λ n. nat_le least n && nat_le n MOST_ELEMENTS) (λ count. (least ≤ count) × (count ≤ MOST_ELEMENTS)) codec_two
+codec_count : (least : ℕ) → Codec (count_at least) two_bytes (IsCount least) (EndsWithin 2)
+codec_count least = codec_if two_at two_bytes (λ n. n < 2 ^ 16) (EndsWithin 2) (is_count least) (IsCount least) codec_two
     (λ n l t. count_within least n t)
-    (λ n is. (omega (arith, is.1), count_passes least n is.0 is.1))
+    (λ n is. (omega (arith, is.1), count_passes least n is))
 
 codec_list : {A : Type 0} (least : ℕ) (read : List ℕ → Part A) (spell : A → List ℕ) (Is : A → Type 0) (Ends : List ℕ → Type 0) → Codec read spell Is Ends
     → Codec (list_at least read) (spelled_list spell) (λ xs. CountFits least xs × All Is xs) (EndsInList least spell Is Ends)
 unfolding spelled_list
-codec_list least read spell Is Ends c = codec_then (count_at least) two_bytes (λ count. (least ≤ count) × (count ≤ MOST_ELEMENTS)) (EndsWithin 2)
+codec_list least read spell Is Ends c = codec_then (count_at least) two_bytes (IsCount least) (EndsWithin 2)
     (λ count. many_at (λ _. read) count []) (λ count xs. flat_map spell xs) (λ count xs. (length xs ≡ count) × All Is xs) (EndsAmong spell (All Is) (λ _. Ends))
     (spelled_list spell) (λ xs. CountFits least xs × All Is xs)
     (codec_count least)
     (λ count fits. codec_each read spell Is Ends c count)
-    (λ count xs fits is. ((subst (λ n. (least ≤ n) × (n ≤ MOST_ELEMENTS)) (sym is.0) fits, is.1), ap (λ n. two_bytes n ++ flat_map spell xs) is.0))
+    (λ count xs fits is. ((subst (IsCount least) (sym is.0) fits, is.1), ap (λ n. two_bytes n ++ flat_map spell xs) is.0))
     (λ xs is. (length xs, is.0, (refl, is.1)))
 
 codec_line : (least : ℕ) → Codec (line_at least) spelled_line (IsLine least) (EndsInLine least)

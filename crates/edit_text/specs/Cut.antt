@@ -5,10 +5,10 @@ use Rattle.std.specs.Cmp.Lexicographic.{slice_cmp}
 use Rattle.std.specs.List.{flat_map}
 use Rattle.std.specs.List.Sorted.{IsStrictlySortedBy}
 use Rattle.std.specs.Str.{IsUtf8}
-use Rattle.feature_model.specs.declared.limits.TheConstants.{GREATEST_ZOOM, MOST_NAME_BYTES, MOST_ELEMENTS, LEAST_LINE, LEAST_RING, MOST_TAGS, MOST_TEXT_BYTES}
+use Rattle.feature_model.specs.declared.limits.TheConstants.{GREATEST_ZOOM, MOST_NAME_BYTES, LEAST_LINE, LEAST_RING, MOST_TAGS, MOST_TEXT_BYTES}
 use Rattle.feature_model.specs.declared.feature.World.{World}
 use Rattle.feature_model.specs.Data.{TagData}
-use Rattle.feature_model.specs.Limits.{IsName, CountFits, NumberFits, GeometryFits, ValueFits, HasAscendingKeys, keys_of}
+use Rattle.feature_model.specs.Limits.{IsName, IsCount, AreZooms, CountFits, NumberFits, GeometryFits, ValueFits, HasAscendingKeys, keys_of}
 use Rattle.feature_model.specs.Spelled.{two_bytes, eight_bytes, spelled_list, spelled_point, spelled_line, spelled_geometry, spelled_name, spelled_tag}
 use Rattle.feature_model.specs.Types.{IsOfWorld, LiesInWorld, TagFitsTypes}
 
@@ -47,7 +47,7 @@ EndsInText bytes = EndsWithin 2 bytes ⊎ EndsBehind two_bytes (λ len. len ≤ 
 -- inside a count or one of the things counted
 abbrev pub EndsInList : {A : Type 0} → ℕ → (A → List ℕ) → (A → Type 0) → (List ℕ → Type 0) → List ℕ → Type 0
 EndsInList least spell Is Ends bytes =
-    EndsWithin 2 bytes ⊎ EndsBehind two_bytes (λ count. (least ≤ count) × (count ≤ MOST_ELEMENTS)) (EndsAmong spell (All Is) (λ _. Ends)) bytes
+    EndsWithin 2 bytes ⊎ EndsBehind two_bytes (IsCount least) (EndsAmong spell (All Is) (λ _. Ends)) bytes
 
 -- inside a list of points, which has at least so many
 abbrev pub EndsInLine : ℕ → List ℕ → Type 0
@@ -102,7 +102,7 @@ EndsInShape bytes = EndsInGeometry bytes ⊎ EndsBehind spelled_geometry (λ g. 
 -- behind the layer
 abbrev pub EndsInBody : List ℕ → Type 0
 EndsInBody bytes = EndsInZooms bytes
-    ⊎ EndsBehind (λ zooms. zooms.0 ∷ zooms.1 ∷ []) (λ zooms. (zooms.0 ≤ zooms.1) × (zooms.1 ≤ GREATEST_ZOOM)) (λ (zooms : ℕ × ℕ). EndsInShape) bytes
+    ⊎ EndsBehind (λ zooms. zooms.0 ∷ zooms.1 ∷ []) (λ zooms. AreZooms zooms.0 zooms.1) (λ (zooms : ℕ × ℕ). EndsInShape) bytes
 
 abbrev pub EndsInFeature : List ℕ → Type 0
 EndsInFeature bytes = EndsInName bytes ⊎ EndsBehind spelled_name (λ layer. IsName layer × IsUtf8 layer) (λ _. EndsInBody) bytes

@@ -5,9 +5,10 @@ use Rattle.std.specs.Cmp.Lexicographic.{slice_cmp}
 use Rattle.std.specs.Int.{w16, w32, w64, from_le_bytes, cast_signed}
 use Rattle.std.specs.Str.{is_utf8}
 use Rattle.feature_model.specs.declared.limits.TheConstants.{LEAST_LINE, LEAST_RING, MOST_TAGS, MOST_TEXT_BYTES, MOST_EDIT_BYTES}
-use Rattle.feature_model.specs.declared.limits.TheConstants.{NUMBER_END, GREATEST_ZOOM, MOST_NAME_BYTES, MOST_ELEMENTS}
+use Rattle.feature_model.specs.declared.limits.TheConstants.{NUMBER_END, GREATEST_ZOOM, MOST_NAME_BYTES}
 use Rattle.feature_model.specs.declared.feature.World.{World}
 use Rattle.feature_model.specs.Data.{GeometryData, world_points, world_lines, world_polygons, ValueData, text_value, natural_value, negative_value, truth_value, TagData, FeatureData, EditData, put, delete}
+use Rattle.feature_model.specs.Limits.{is_count}
 use Rattle.edit_text.specs.declared.fault.TextFault.{TextFault}
 use Rattle.edit_text.specs.declared.fault.TextFault.TheVariants.{Cut, Bad, Memory}
 
@@ -86,7 +87,7 @@ point_at bytes = then_read (four_at bytes) (λ x rest. read_as (λ y. record { x
 
 -- a count of at least so many, and not too many
 abbrev pub count_at : ℕ → List ℕ → Part ℕ
-count_at least bytes = read_if (λ count. nat_le least count && nat_le count MOST_ELEMENTS) (two_at bytes)
+count_at least bytes = read_if (is_count least) (two_at bytes)
 
 -- a count of at least so many, and what is counted
 abbrev pub list_at : {A : Type 0} → ℕ → (List ℕ → Part A) → List ℕ → Part (List A)

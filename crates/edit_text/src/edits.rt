@@ -9,7 +9,7 @@ use crate::fault::TextFault;
 use crate::fields::{read_byte, read_name, read_number};
 use crate::shapes::read_geometry;
 use crate::tags::read_tags;
-use feature_model::{Edit, Feature, GREATEST_ZOOM};
+use feature_model::{Edit, Feature, GREATEST_ZOOM, zooms_fit};
 use std::alloc::Global;
 
 /// The first and the last zoom.
@@ -22,7 +22,7 @@ fn read_zooms(bytes: &[u8]) -> Result<((u8, u8), &[u8]), TextFault>
         return Err(TextFault::Bad);
     }
     let (last, rest) = read_byte(rest)?;
-    if first > last || last > GREATEST_ZOOM {
+    if !zooms_fit(first, last) {
         return Err(TextFault::Bad);
     }
     Ok(((first, last), rest))

@@ -8,7 +8,7 @@ ghost use Rattle.edit_text.specs.Reading.{Reads, Finds, Gives, many_at, negative
 
 use crate::fault::TextFault;
 use crate::fields::{read_byte, read_long_text, read_name, read_u64};
-use feature_model::{EditValue, MOST_TAGS, Tag};
+use feature_model::{EditValue, Tag, tag_count_fits};
 use std::alloc::Global;
 
 /// The bits of a number below 0: the first of them is set.
@@ -107,7 +107,7 @@ fn read_tag_count(bytes: &[u8]) -> Result<(u8, &[u8]), TextFault>
     ensures { Reads (λ r. (r.0, r.1.now)) result (tag_count_at bytes.now) }
 {
     let (count, rest) = read_byte(bytes)?;
-    if usize::from(count) > MOST_TAGS {
+    if !tag_count_fits(usize::from(count)) {
         return Err(TextFault::Bad);
     }
     Ok((count, rest))

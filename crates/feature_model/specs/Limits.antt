@@ -1,5 +1,5 @@
 -- The limits of a feature and its number, one for each fault, in the order in which faults are told.
-use Rattle.std.specs.Prelude.{ℕ, pos, ◌<◌, ◌≤◌, ◌<ℤ◌, List, length, map, All}
+use Rattle.std.specs.Prelude.{ℕ, pos, ◌&&◌, Bool, nat_le, ◌<◌, ◌≤◌, ◌<ℤ◌, List, length, map, All}
 use Rattle.std.specs.Ordering.{nat_cmp}
 use Rattle.std.specs.Cmp.Lexicographic.{slice_cmp}
 use Rattle.std.specs.List.Sorted.{IsStrictlySortedBy}
@@ -15,13 +15,29 @@ use Rattle.feature_model.specs.Spelled.{spelled}
 abbrev pub IsName : List ℕ → Type 0
 IsName bytes = (1 ≤ length bytes) × (length bytes ≤ MOST_NAME_BYTES)
 
--- a list has at least so many, and not too many
+-- so many are enough, and not too many
+abbrev pub IsCount : ℕ → ℕ → Type 0
+IsCount least count = (least ≤ count) × (count ≤ MOST_ELEMENTS)
+
+-- the same, as a test
+abbrev pub is_count : ℕ → ℕ → Bool
+is_count least count = nat_le least count && nat_le count MOST_ELEMENTS
+
+-- a list has enough, and not too many
 abbrev pub CountFits : {A : Type 0} → ℕ → List A → Type 0
-CountFits least xs = (least ≤ length xs) × (length xs ≤ MOST_ELEMENTS)
+CountFits least xs = IsCount least (length xs)
 
 -- a polygon has a ring, and each ring enough points
 abbrev pub RingsFit : List (List World) → Type 0
 RingsFit rings = CountFits 1 rings × All (CountFits LEAST_RING) rings
+
+-- the first zoom is not above the last, and this is one of the map
+abbrev pub AreZooms : ℕ → ℕ → Type 0
+AreZooms first last = (first ≤ last) × (last ≤ GREATEST_ZOOM)
+
+-- a tag's text is short
+abbrev pub IsTagText : List ℕ → Type 0
+IsTagText bytes = length bytes ≤ MOST_TEXT_BYTES
 
 -- ---- the limits
 
@@ -32,7 +48,7 @@ abbrev pub LayerFits : FeatureData → Type 0
 LayerFits f = IsName f.layer
 
 abbrev pub ZoomsFit : FeatureData → Type 0
-ZoomsFit f = (f.minzoom ≤ f.maxzoom) × (f.maxzoom ≤ GREATEST_ZOOM)
+ZoomsFit f = AreZooms f.minzoom f.maxzoom
 
 abbrev pub GeometryFits : GeometryData → Type 0
 GeometryFits (world_points points) = CountFits 1 points
@@ -54,7 +70,7 @@ pub record TagsFit (tags : List TagData) : Type 0 where
 
 -- a text is short, and what is said to be negative is below 0
 abbrev pub ValueFits : ValueData → Type 0
-ValueFits (text_value bytes) = length bytes ≤ MOST_TEXT_BYTES
+ValueFits (text_value bytes) = IsTagText bytes
 ValueFits (natural_value n) = Unit {0}
 ValueFits (negative_value z) = z <ℤ pos 0
 ValueFits (truth_value b) = Unit {0}

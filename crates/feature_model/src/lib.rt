@@ -13,7 +13,8 @@ pub use feature::{Edit, EditValue, Feature, Geometry, Tag, World};
 pub use lengths::put_text_len;
 pub use limits::{
     GREATEST_ZOOM, LEAST_LINE, LEAST_RING, MOST_EDIT_BYTES, MOST_ELEMENTS, MOST_NAME_BYTES,
-    MOST_TAGS, MOST_TEXT_BYTES, NUMBER_END, check, count_fits,
+    MOST_TAGS, MOST_TEXT_BYTES, NUMBER_END, check, count_fits, is_name, is_tag_text,
+    tag_count_fits, zooms_fit,
 };
 
 /// A growth that was refused.

@@ -5,9 +5,9 @@ ghost use Rattle.std.specs.Ordering.{nat_cmp, is_lt};
 ghost use Rattle.std.specs.Cmp.Lexicographic.{slice_cmp};
 ghost use Rattle.std.specs.List.Sorted.{IsStrictlySortedBy};
 ghost use Rattle.std.specs.String.{string_bytes};
-ghost use Rattle.feature_model.specs.declared.limits.TheConstants.{MOST_ELEMENTS};
+ghost use Rattle.feature_model.specs.declared.limits.TheConstants.{MOST_TAGS};
 ghost use Rattle.feature_model.specs.Data.{world_polygons, feature_data, geometry_data, value_data, tag_data};
-ghost use Rattle.feature_model.specs.Limits.{IsName, CountFits, RingsFit, GeometryFits, TagsFit, ValueFits, ValuesFit, HasAscendingKeys, keys_of, IsAllowed, IsFirstFault};
+ghost use Rattle.feature_model.specs.Limits.{IsName, AreZooms, IsCount, IsTagText, CountFits, RingsFit, GeometryFits, TagsFit, ValueFits, ValuesFit, HasAscendingKeys, keys_of, IsAllowed, IsFirstFault};
 
 use crate::fault::EditFault;
 use crate::feature::{EditValue, Feature, Geometry, Tag, World};
@@ -32,16 +32,23 @@ pub const MOST_TEXT_BYTES: usize = 1024;
 /// The most bytes of an edit's text.
 pub const MOST_EDIT_BYTES: u64 = 32_768;
 
-/// Whether a name has 1 to `MOST_NAME_BYTES` bytes.
-fn is_name(name: &str) -> bool
+/// Whether a name of a layer or a key of a tag has 1 to `MOST_NAME_BYTES` bytes.
+pub fn is_name(name: &str) -> bool
     ensures { IsTrue result ↔ IsName name.now }
 {
-    name.len() >= 1 && name.len() <= MOST_NAME_BYTES
+    !name.is_empty() && name.len() <= MOST_NAME_BYTES
 }
 
-/// Whether a list of so many elements has enough, and not too many.
+/// Whether a feature may have these zooms: the first is not above the last, and this is at most `GREATEST_ZOOM`.
+pub fn zooms_fit(minzoom: u8, maxzoom: u8) -> bool
+    ensures { IsTrue result ↔ AreZooms minzoom maxzoom }
+{
+    minzoom <= maxzoom && maxzoom <= GREATEST_ZOOM
+}
+
+/// Whether a list of so many elements has enough, and at most `MOST_ELEMENTS`.
 pub fn count_fits(count: usize, least: usize) -> bool
-    ensures { IsTrue result ↔ ((least ≤ count) × (count ≤ MOST_ELEMENTS)) }
+    ensures { IsTrue result ↔ IsCount least count }
 {
     least <= count && count <= MOST_ELEMENTS
 }
@@ -110,17 +117,31 @@ fn keys_ascend(tags: &[Tag]) -> bool
     true
 }
 
+/// Whether a feature may have so many tags: at most `MOST_TAGS`.
+pub fn tag_count_fits(count: usize) -> bool
+    ensures { IsTrue result ↔ (count ≤ MOST_TAGS) }
+{
+    count <= MOST_TAGS
+}
+
 fn tags_fit(tags: &[Tag]) -> bool
     ensures { IsTrue result ↔ TagsFit (map tag_data tags.now) }
 {
-    tags.len() <= MOST_TAGS && keys_are_names(tags) && keys_ascend(tags)
+    tag_count_fits(tags.len()) && keys_are_names(tags) && keys_ascend(tags)
+}
+
+/// Whether a text may be the value of a tag: of at most `MOST_TEXT_BYTES` bytes.
+pub fn is_tag_text(text: &str) -> bool
+    ensures { IsTrue result ↔ IsTagText text.now }
+{
+    text.len() <= MOST_TEXT_BYTES
 }
 
 fn value_fits(value: &EditValue) -> bool
     ensures { IsTrue result ↔ ValueFits (value_data value.now) }
 {
     match value {
-        EditValue::Text(text) => text.len() <= MOST_TEXT_BYTES,
+        EditValue::Text(text) => is_tag_text(text.as_str()),
         EditValue::Negative(number) => *number < 0,
         EditValue::Natural(_) | EditValue::Truth(_) => true,
     }
@@ -144,7 +165,7 @@ pub fn check(id: u64, feature: &Feature) -> Result<(), EditFault>
     if !is_name(feature.layer.as_str()) {
         return Err(EditFault::Layer);
     }
-    if feature.minzoom > feature.maxzoom || feature.maxzoom > GREATEST_ZOOM {
+    if !zooms_fit(feature.minzoom, feature.maxzoom) {
         return Err(EditFault::Zoom);
     }
     if !geometry_fits(&feature.geometry) {
