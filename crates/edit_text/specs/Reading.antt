@@ -1,5 +1,5 @@
 -- Reading from left to right: what stands in front and the bytes behind it, or the first fault that is met.
-use Rattle.std.specs.Prelude.{◌≡◌, ◌≢◌, ◌⊎◌, ℕ, zero, suc, ◌^◌, ◌==◌, ◌&&◌, Bool, true, false, List, [], ◌∷◌, ◌++◌, length, take, drop, Result, Ok, Err, IsOk, nat_lt, nat_le, if◌then◌else◌}
+use Rattle.std.specs.Prelude.{◌≡◌, ℕ, ◌^◌, ◌==◌, ◌&&◌, Bool, true, false, List, [], ◌∷◌, ◌++◌, length, take, drop, Ok, Err, IsOk, nat_lt, nat_le, if◌then◌else◌}
 use Rattle.std.specs.Ordering.{nat_cmp, is_lt}
 use Rattle.std.specs.Cmp.Lexicographic.{slice_cmp}
 use Rattle.std.specs.Int.{w16, w32, w64, from_le_bytes, cast_signed}
@@ -11,47 +11,33 @@ use Rattle.feature_model.specs.Data.{GeometryData, world_points, world_lines, wo
 use Rattle.feature_model.specs.Limits.{is_count}
 use Rattle.edit_text.specs.declared.fault.TextFault.{TextFault}
 use Rattle.edit_text.specs.declared.fault.TextFault.TheVariants.{Cut, Bad, Memory}
+use Rattle.reader.specs.Reading.{Read, ◌>>=◌, repeated}
 
 -- what was read and the bytes behind it, or a fault
 abbrev pub Part : Type 0 → Type 0
-Part A = Result (A × List ℕ) TextFault
-
--- a function answers what reading gives
-abbrev pub Reads : {X A : Type 0} → (X → A × List ℕ) → Result X TextFault → Part A → Type 0
-Reads view (Ok x) part = part ≡ Ok (view x)
-Reads view (Err fault) part = part ≡ Err fault
-
--- the same, but memory may run out where something would be found
-abbrev pub Finds : {X A : Type 0} → (X → A × List ℕ) → Result X TextFault → Part A → Type 0
-Finds view (Ok x) part = part ≡ Ok (view x)
-Finds view (Err fault) part = (part ≡ Err fault) ⊎ ((fault ≡ Memory) × IsOk part)
-
--- the same, but memory may run out before a fault is met
-abbrev pub Gives : {X A : Type 0} → (X → A × List ℕ) → Result X TextFault → Part A → Type 0
-Gives view (Ok x) part = part ≡ Ok (view x)
-Gives view (Err fault) part = fault ≢ Memory → part ≡ Err fault
+Part A = Read TextFault (A × List ℕ)
 
 -- ---- ways to read
 
--- first this, then what it leads to
+-- first this, then what it leads to, from the bytes behind it
 abbrev pub then_read : {A B : Type 0} → Part A → (A → List ℕ → Part B) → Part B
-then_read (Ok x) next = next x.0 x.1
-then_read (Err fault) next = Err fault
+then_read part next = part >>= (λ x. next x.0 x.1)
 
 -- what was read, as something else
 abbrev pub read_as : {A B : Type 0} → (A → B) → Part A → Part B
-read_as make (Ok x) = Ok (make x.0, x.1)
-read_as make (Err fault) = Err fault
+read_as make part = part >>= (λ x. Ok (make x.0, x.1))
 
 -- what was read, where it passes the test
 abbrev pub read_if : {A : Type 0} → (A → Bool) → Part A → Part A
-read_if test (Ok x) = if test x.0 then Ok x else Err Bad
-read_if test (Err fault) = Err fault
+read_if test part = part >>= (λ x. if test x.0 then Ok x else Err Bad)
 
--- so many more behind those that were read; how each is read may depend on those before it
-unfoldable pub many_at : {A : Type 0} → (List A → List ℕ → Part A) → ℕ → List A → List ℕ → Part (List A)
-many_at read zero done bytes = Ok (done, bytes)
-many_at read (suc more) done bytes = then_read (read done bytes) (λ x rest. many_at read more (done ++ x ∷ []) rest)
+-- one more behind those that were read; how it is read may depend on them
+abbrev pub next_at : {A : Type 0} → (List A → List ℕ → Part A) → List A × List ℕ → Part (List A)
+next_at read so_far = then_read (read so_far.0 so_far.1) (λ x rest. Ok (so_far.0 ++ x ∷ [], rest))
+
+-- so many more behind those that were read
+abbrev pub many_at : {A : Type 0} → (List A → List ℕ → Part A) → ℕ → List A → List ℕ → Part (List A)
+many_at read count done bytes = repeated (next_at read) count (done, bytes)
 
 -- ---- numbers and texts
 

@@ -4,7 +4,8 @@ ghost use Rattle.std.specs.Prelude.{◌≡◌, ℕ, ◌<◌, ◌⊎◌, List, le
 ghost use Rattle.feature_model.specs.Data.{EditData, edit_data};
 ghost use Rattle.feature_model.specs.Spelled.{spelled};
 ghost use Rattle.edit_text.specs.Decoding.{BeginsWith, BeginsAsPut, IsCut};
-ghost use Rattle.edit_text.specs.Reading.{Gives, decode_at};
+ghost use Rattle.reader.specs.Reading.{Gives};
+ghost use Rattle.edit_text.specs.Reading.{decode_at};
 
 use crate::edits::read_edit;
 use crate::fault::TextFault;
@@ -17,7 +18,7 @@ const MOST_BYTES: usize = MOST_EDIT_BYTES as usize;
 /// The edit in front, whose text is no longer than the longest, and the bytes up to there that are behind it.
 #[tactic(auto, unfolding(crate::specs::Reading::decode_at))]
 fn read_short(alloc: Global, bytes: &[u8]) -> Result<(Edit, &[u8]), TextFault>
-    ensures edit { Gives (λ r. (edit_data r.0, r.1.now)) result (decode_at bytes.now) }
+    ensures edit { Gives TextFault.Memory (λ r. (edit_data r.0, r.1.now)) result (decode_at bytes.now) }
     ensures memory { result ≡ Err TextFault.Memory → BeginsAsPut bytes.now }
 {
     if bytes.len() < MOST_BYTES {

@@ -1,7 +1,8 @@
 //! Numbers and texts in front of bytes, each with the bytes behind it.
 
 ghost use Rattle.std.specs.Prelude.{◌≡◌, ℕ, ◌≤◌, length, IfOk};
-ghost use Rattle.edit_text.specs.Reading.{Reads, byte_at, front_at, two_at, four_at, eight_at, number_at, text_at, name_at, long_text_at};
+ghost use Rattle.reader.specs.Reading.{Reads};
+ghost use Rattle.edit_text.specs.Reading.{byte_at, front_at, two_at, four_at, eight_at, number_at, text_at, name_at, long_text_at};
 
 use crate::fault::TextFault;
 use feature_model::{MOST_NAME_BYTES, MOST_TEXT_BYTES, NUMBER_END};

@@ -3,7 +3,8 @@
 ghost use Rattle.std.specs.Prelude.{◌≡◌, ℕ, ◌<◌, ◌≤◌, [], map, IsOk};
 ghost use Rattle.feature_model.specs.declared.limits.TheConstants.{LEAST_RING};
 ghost use Rattle.feature_model.specs.Data.{geometry_data};
-ghost use Rattle.edit_text.specs.Reading.{Reads, Finds, Gives, many_at, count_at, point_at, line_at, lines_at, HasFirstLine, polygons_at, geometry_behind, geometry_at};
+ghost use Rattle.reader.specs.Reading.{Reads, Finds, Gives};
+ghost use Rattle.edit_text.specs.Reading.{many_at, count_at, point_at, line_at, lines_at, HasFirstLine, polygons_at, geometry_behind, geometry_at};
 
 use crate::fault::TextFault;
 use crate::fields::{read_byte, read_u16, read_u32};
@@ -35,7 +36,7 @@ fn read_point(bytes: &[u8]) -> Result<(World, &[u8]), TextFault>
 
 /// So many points. Room for them is made once they are known to be there.
 fn read_points(alloc: Global, count: u16, bytes: &[u8]) -> Result<(Vec<World>, &[u8]), TextFault>
-    ensures { Finds (λ r. (r.0.items, r.1.now)) result (many_at (λ _. point_at) count [] bytes.now) }
+    ensures { Finds TextFault.Memory (λ r. (r.0.items, r.1.now)) result (many_at (λ _. point_at) count [] bytes.now) }
 {
     if bytes.len() / POINT_LEN < usize::from(count) {
         return Err(TextFault::Cut);
@@ -52,7 +53,7 @@ fn read_points(alloc: Global, count: u16, bytes: &[u8]) -> Result<(Vec<World>, &
 
 #[tactic(auto, unfolding(crate::specs::Reading::line_at))]
 fn read_line(alloc: Global, bytes: &[u8], least: usize) -> Result<(Vec<World>, &[u8]), TextFault>
-    ensures { Finds (λ r. (r.0.items, r.1.now)) result (line_at least bytes.now) }
+    ensures { Finds TextFault.Memory (λ r. (r.0.items, r.1.now)) result (line_at least bytes.now) }
 {
     let (count, rest) = read_count(bytes, least)?;
     read_points(alloc, count, rest)
@@ -65,7 +66,7 @@ fn read_each_line(
     bytes: &[u8],
     least: usize,
 ) -> Result<(Vec<Vec<World>>, &[u8]), TextFault>
-    ensures lines { Gives (λ r. (map (λ l. l.items) r.0.items, r.1.now)) result
+    ensures lines { Gives TextFault.Memory (λ r. (map (λ l. l.items) r.0.items, r.1.now)) result
         (many_at (λ _. line_at least) count [] bytes.now) }
     // No memory is taken before a first line is there.
     ensures first { result ≡ Err TextFault.Memory → IsOk (line_at least bytes.now) }
@@ -86,7 +87,7 @@ fn read_lines(
     bytes: &[u8],
     least: usize,
 ) -> Result<(Vec<Vec<World>>, &[u8]), TextFault>
-    ensures lines { Gives (λ r. (map (λ l. l.items) r.0.items, r.1.now)) result (lines_at least bytes.now) }
+    ensures lines { Gives TextFault.Memory (λ r. (map (λ l. l.items) r.0.items, r.1.now)) result (lines_at least bytes.now) }
     ensures first { result ≡ Err TextFault.Memory → HasFirstLine least bytes.now }
 {
     let (count, rest) = read_count(bytes, 1)?;
@@ -99,7 +100,7 @@ fn read_each_polygon(
     count: u16,
     bytes: &[u8],
 ) -> Result<(Vec<Vec<Vec<World>>>, &[u8]), TextFault>
-    ensures polygons { Gives (λ r. (map (λ p. map (λ l. l.items) p.items) r.0.items, r.1.now)) result
+    ensures polygons { Gives TextFault.Memory (λ r. (map (λ p. map (λ l. l.items) p.items) r.0.items, r.1.now)) result
         (many_at (λ _. lines_at LEAST_RING) count [] bytes.now) }
     // No memory is taken before a first ring is there.
     ensures first { result ≡ Err TextFault.Memory → HasFirstLine LEAST_RING bytes.now }
@@ -116,7 +117,7 @@ fn read_each_polygon(
 
 #[tactic(auto, unfolding(crate::specs::Reading::polygons_at))]
 fn read_polygons(alloc: Global, bytes: &[u8]) -> Result<(Vec<Vec<Vec<World>>>, &[u8]), TextFault>
-    ensures { Gives (λ r. (map (λ p. map (λ l. l.items) p.items) r.0.items, r.1.now)) result
+    ensures { Gives TextFault.Memory (λ r. (map (λ p. map (λ l. l.items) p.items) r.0.items, r.1.now)) result
         (polygons_at bytes.now) }
 {
     let (count, rest) = read_count(bytes, 1)?;
@@ -126,7 +127,7 @@ fn read_polygons(alloc: Global, bytes: &[u8]) -> Result<(Vec<Vec<Vec<World>>>, &
 /// The lists of a geometry of this kind.
 #[tactic(auto, unfolding(crate::specs::Reading::geometry_behind))]
 fn read_shape(alloc: Global, kind: u8, bytes: &[u8]) -> Result<(Geometry, &[u8]), TextFault>
-    ensures shape { Gives (λ r. (geometry_data r.0, r.1.now)) result (geometry_behind kind bytes.now) }
+    ensures shape { Gives TextFault.Memory (λ r. (geometry_data r.0, r.1.now)) result (geometry_behind kind bytes.now) }
     ensures none { kind ≡ 0 → result ≡ Err TextFault.Bad }
     ensures unknown { 3 < kind → result ≡ Err TextFault.Bad }
 {
@@ -149,7 +150,7 @@ fn read_shape(alloc: Global, kind: u8, bytes: &[u8]) -> Result<(Geometry, &[u8])
 
 #[tactic(auto, unfolding(crate::specs::Reading::geometry_at))]
 pub(crate) fn read_geometry(alloc: Global, bytes: &[u8]) -> Result<(Geometry, &[u8]), TextFault>
-    ensures { Gives (λ r. (geometry_data r.0, r.1.now)) result (geometry_at bytes.now) }
+    ensures { Gives TextFault.Memory (λ r. (geometry_data r.0, r.1.now)) result (geometry_at bytes.now) }
 {
     let (kind, rest) = read_byte(bytes)?;
     read_shape(alloc, kind, rest)
