@@ -4,6 +4,7 @@ use Rattle.std.proofs.lemmas.Bool.{cases_lt, le-ltb, lt-ltb}
 use Rattle.std.proofs.lemmas.List.{take-append-drop, length-take}
 use Rattle.std.proofs.Math.Seq.{take-append-add}
 use Rattle.feature_model.specs.declared.limits.TheConstants.{MOST_EDIT_BYTES}
+use Rattle.reader.proofs.Steps.{failed, not_both, same_fault}
 use Rattle.feature_model.specs.Data.{EditData, put, delete}
 use Rattle.feature_model.specs.Spelled.{spelled}
 use Rattle.feature_model.proofs.TextLengths.{length-eight_bytes, length-spelled}
@@ -13,6 +14,7 @@ use Rattle.feature_model.specs.Types.{IsEdit}
 use Rattle.edit_text.specs.Decoding.{BeginsWith, IsCut}
 use Rattle.edit_text.specs.Reading.{Part, cut_as_bad, edit_at, decode_at}
 use Rattle.edit_text.proofs.Codecs.{AreBytes, bytes_before}
+use Rattle.edit_text.proofs.Faults.{cut_is_not_memory, bad_is_not_memory}
 use Rattle.edit_text.proofs.EditCodecs.{IsOfTable, codec_edit}
 
 -- ---- the table and the limits
@@ -53,14 +55,16 @@ decode_long bytes l = ap (λ b. cond b (edit_at bytes) (cut_as_bad (edit_at (tak
 ok_from : {A : Type 0} (p : Part A) (x : A × List ℕ) → cut_as_bad p ≡ Ok x → p ≡ Ok x
 ok_from (Ok y) x e = e
 ok_from (Err Cut) x e = absurd (cc)
-ok_from (Err Bad) x e = absurd (cc)
-ok_from (Err Memory) x e = absurd (cc)
+ok_from (Err _) x e = absurd (cc)
 
 never_cut : {A : Type 0} (p : Part A) → cut_as_bad p ≡ Err Cut → ⊥
 never_cut (Ok y) e = cc
 never_cut (Err Cut) e = cc
-never_cut (Err Bad) e = cc
-never_cut (Err Memory) e = cc
+never_cut (Err _) e = cc
+
+is_memory : (fault : TextFault) → (fault ≡ Memory) ⊎ (fault ≢ Memory)
+is_memory Memory = inl refl
+is_memory _ = inr (λ e. cc)
 
 -- ---- what is found
 
@@ -128,27 +132,28 @@ ok_only bytes e rest d f begins =
 pub ok_not_cut : (bytes : List ℕ) (e : EditData) (rest : List ℕ) → decode_at bytes ≡ Ok (e, rest) → IsCut bytes → ⊥
 ok_not_cut bytes e rest d cut = let other = decoded_cut bytes cut in cc
 
-pub err_only : (bytes : List ℕ) (fault : TextFault) → (fault ≢ Memory → decode_at bytes ≡ Err fault) → (f : EditData) → BeginsWith f bytes → fault ≡ Memory
-err_only bytes Cut told f begins = let other = (decoded_only bytes f begins).1 in let d = told (λ e. cc) in absurd (cc)
-err_only bytes Bad told f begins = let other = (decoded_only bytes f begins).1 in let d = told (λ e. cc) in absurd (cc)
-err_only bytes Memory told f begins = refl
+pub err_only : (bytes : List ℕ) (fault : TextFault) → (fault ≢ Memory → decode_at bytes ≡ Err fault)
+    → (f : EditData) → BeginsWith f bytes → fault ≡ Memory
+err_only bytes fault told f begins = elim (is_memory fault) [
+  | inl memory ↦ memory
+  | inr other ↦ let found = decoded_only bytes f begins in absurd (not_both (f, found.0) fault (sym found.1 ∙ told other))
+]
 
 pub err_cut : (bytes : List ℕ) (fault : TextFault) → AreBytes bytes → (fault ≢ Memory → decode_at bytes ≡ Err fault) → fault ≡ Cut → IsCut bytes
-err_cut bytes Cut h told e = cut_decoded bytes h (told (λ e. cc))
-err_cut bytes Bad h told e = absurd (cc)
-err_cut bytes Memory h told e = absurd (cc)
+err_cut bytes fault h told e = cut_decoded bytes h (told (λ memory. cut_is_not_memory (sym e ∙ memory)) ∙ ap failed e)
 
-pub err_only_cut : (bytes : List ℕ) (fault : TextFault) → (fault ≢ Memory → decode_at bytes ≡ Err fault) → IsCut bytes → (fault ≡ Cut) ⊎ (fault ≡ Memory)
-err_only_cut bytes Cut told cut = inl refl
-err_only_cut bytes Bad told cut = let other = decoded_cut bytes cut in let d = told (λ e. cc) in absurd (cc)
-err_only_cut bytes Memory told cut = inr refl
+pub err_only_cut : (bytes : List ℕ) (fault : TextFault) → (fault ≢ Memory → decode_at bytes ≡ Err fault)
+    → IsCut bytes → (fault ≡ Cut) ⊎ (fault ≡ Memory)
+err_only_cut bytes fault told cut = elim (is_memory fault) [
+  | inl memory ↦ inr memory
+  | inr other ↦ inl (same_fault fault Cut (sym (told other) ∙ decoded_cut bytes cut))
+]
 
-pub err_bad : (bytes : List ℕ) (fault : TextFault) → (fault ≢ Memory → decode_at bytes ≡ Err fault) → fault ≡ Bad → ¬ IsCut bytes × ((e : EditData) → ¬ BeginsWith e bytes)
-err_bad bytes Cut told e = absurd (cc)
-err_bad bytes Bad told e =
-    let d = told (λ e. cc) in
+pub err_bad : (bytes : List ℕ) (fault : TextFault) → (fault ≢ Memory → decode_at bytes ≡ Err fault)
+    → fault ≡ Bad → ¬ IsCut bytes × ((e : EditData) → ¬ BeginsWith e bytes)
+err_bad bytes fault told e =
+    let bad = told (λ memory. bad_is_not_memory (sym e ∙ memory)) ∙ ap failed e in
     (λ cut. let other = decoded_cut bytes cut in cc, λ f begins. let other = (decoded_only bytes f begins).1 in cc)
-err_bad bytes Memory told e = absurd (cc)
 
 pub told_either : {T : Type 0} (r : Result T TextFault) (fault : TextFault) → r ≡ Err fault → (fault ≡ Cut) ⊎ (fault ≡ Memory) → (r ≡ Err Cut) ⊎ (r ≡ Err Memory)
 told_either r fault e (inl is) = inl (e ∙ ap (λ f. Err f) is)

@@ -12,7 +12,7 @@ use Rattle.edit_text.specs.Reading.{Part, then_read, read_as, read_if, byte_at, 
 pub cut_is_not_memory : Cut ≢ Memory
 cut_is_not_memory is = cc
 
-bad_is_not_memory : Bad ≢ Memory
+pub bad_is_not_memory : Bad ≢ Memory
 bad_is_not_memory is = cc
 
 pub as_no_memory : {A B : Type 0} (make : A → B) (part : Part A) → part ≢ Err Memory → read_as make part ≢ Err Memory

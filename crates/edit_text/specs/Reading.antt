@@ -10,7 +10,7 @@ use Rattle.feature_model.specs.declared.feature.World.{World}
 use Rattle.feature_model.specs.Data.{GeometryData, world_points, world_lines, world_polygons, ValueData, text_value, natural_value, negative_value, truth_value, TagData, FeatureData, EditData, put, delete}
 use Rattle.feature_model.specs.Limits.{is_count}
 use Rattle.edit_text.specs.declared.fault.TextFault.{TextFault}
-use Rattle.edit_text.specs.declared.fault.TextFault.TheVariants.{Cut, Bad, Memory}
+use Rattle.edit_text.specs.declared.fault.TextFault.TheVariants.{Cut, Bad}
 use Rattle.reader.specs.Reading.{Read, ◌>>=◌, repeated}
 
 -- what was read and the bytes behind it, or a fault
@@ -165,10 +165,8 @@ edit_at bytes = then_read (byte_at bytes) edit_behind
 
 -- bytes that end too early are bad where there is no room for more
 abbrev pub cut_as_bad : {A : Type 0} → Part A → Part A
-cut_as_bad (Ok x) = Ok x
 cut_as_bad (Err Cut) = Err Bad
-cut_as_bad (Err Bad) = Err Bad
-cut_as_bad (Err Memory) = Err Memory
+cut_as_bad part = part
 
 -- the edit in front, whose text is no longer than the longest
 unfoldable pub decode_at : List ℕ → Part EditData
