@@ -8,7 +8,8 @@ use Rattle.feature_model.specs.declared.fault.EditFault.{EditFault}
 use Rattle.feature_model.specs.declared.fault.EditFault.TheVariants as faults
 use Rattle.feature_model.specs.Data.{GeometryData, TagData, FeatureData}
 use Rattle.feature_model.specs.Limits.{IsName, keys_of, GeometryFits, TagsFit, ValuesFit}
-use Rattle.edit_json.specs.Json.{points_name, lines_name, polygons_name, ShapeData, point_list, line_list, polygon_list, shape_json, shape_of, tags_json, OutlineData, outline_json, outline_of}
+use Rattle.edit_json.specs.Json.{points_name, lines_name, polygons_name, ShapeData, point_list, line_list, polygon_list}
+use Rattle.edit_json.specs.Json.{shape_json, shape_of, tags_json, OutlineData, outline_json, outline_of}
 use Rattle.feature_model.specs.Types.{LiesInWorld}
 use Rattle.edit_json.specs.Faults.{IsFeature, IsOutline, HasOutline, NameFits, RangeFits, HasGeometry, names_of, HasKeys, HasTags, IsFirstJsonFault}
 use Rattle.edit_json.specs.Lists.{geometry_at}
@@ -74,16 +75,19 @@ feature-faultless d f faults.Member a h = absurd (h (outline_of f) (record { is 
 feature-faultless d f faults.Number a h = absurd h
 feature-faultless d f faults.Layer a h = absurd (outline-one d f (λ o. ¬ NameFits o) a h a.layer)
 feature-faultless d f faults.Zoom a h = absurd ((outline-one d f (λ o. NameFits o × ¬ RangeFits o) a h).1 a.zooms)
-feature-faultless d f faults.Geometry a h = absurd ((outline-one d f (λ o. NameFits o × RangeFits o × ¬ HasGeometry o) a h).2 (f.geometry, refl, a.geometry, a.world))
+feature-faultless d f faults.Geometry a h =
+    absurd ((outline-one d f (λ o. NameFits o × RangeFits o × ¬ HasGeometry o) a h).2 (f.geometry, refl, a.geometry, a.world))
 feature-faultless d f faults.Tags a h = absurd ((outline-one d f (λ o. NameFits o × RangeFits o × HasGeometry o × ¬ HasKeys o) a h).3 (tags-keys f.tags a.tags))
-feature-faultless d f faults.Value a h = absurd ((outline-one d f (λ o. NameFits o × RangeFits o × HasGeometry o × HasKeys o × ¬ HasTags o) a h).4 (f.tags, refl, a.values))
+feature-faultless d f faults.Value a h =
+    absurd ((outline-one d f (λ o. NameFits o × RangeFits o × HasGeometry o × HasKeys o × ¬ HasTags o) a h).4 (f.tags, refl, a.values))
 feature-faultless d f faults.Long a h = absurd h
 feature-faultless d f faults.Reach a h = absurd h
 feature-faultless d f faults.Memory a h = refl
 
 -- ---- what the reader's steps tell
 
-keys-fit : (ms : Members) (ts : List TagData) → ms ≡ tags_json ts → length (names_of ms) ≤ MOST_TAGS → All IsName (names_of ms) → IsStrictlySortedBy (slice_cmp nat_cmp) (names_of ms) → TagsFit ts
+keys-fit : (ms : Members) (ts : List TagData) → ms ≡ tags_json ts → length (names_of ms) ≤ MOST_TAGS → All IsName (names_of ms)
+    → IsStrictlySortedBy (slice_cmp nat_cmp) (names_of ms) → TagsFit ts
 keys-fit ms ts e few names ascending =
     let f : names_of ms ≡ keys_of ts = ap names_of e ∙ names_of-tags ts in
     let P : List (List ℕ) → Type 0 = λ ns. All IsName ns in

@@ -128,7 +128,8 @@ module _ {A : Type 0} (one : Data → Option A) (json : A → Data) (P : A → T
   unfolding list_of
   list_of-finds least xs h = rw (items_len-of xs, count-finds least (length xs) h.0) (each-finds xs h.1)
 
-  array-says : (least : ℕ) (d : Data) (xs : List A) → option_and_then (list_of least one) (as_array d) ≡ Some xs → (d ≡ array (items_of (map json xs))) × Fits least xs
+  array-says : (least : ℕ) (d : Data) (xs : List A) → option_and_then (list_of least one) (as_array d) ≡ Some xs
+      → (d ≡ array (items_of (map json xs))) × Fits least xs
   array-says least null xs e = cc
   array-says least (boolean b) xs e = cc
   array-says least (number n) xs e = cc
@@ -184,7 +185,8 @@ pub geometry_at-finds : (g : GeometryData) → GeometryFits g → LiesInWorld g 
 unfolding geometry_at
 geometry_at-finds (world_points points) h w = ap (option_map world_points) (list_of-finds point_at point_json IsOfWorld points-read 1 points (h, w))
 geometry_at-finds (world_lines lines) h w =
-    ap (option_map world_lines) (list_of-finds (points_at LEAST_LINE) points_json (ArePoints LEAST_LINE) (line-read LEAST_LINE) 1 lines (h.0, λ k d l. (h.1 k d l, w k d l)))
+    ap (option_map world_lines) (list_of-finds (points_at LEAST_LINE) points_json (ArePoints LEAST_LINE) (line-read LEAST_LINE) 1 lines
+    (h.0, λ k d l. (h.1 k d l, w k d l)))
 geometry_at-finds (world_polygons polygons) h w =
     ap (option_map world_polygons) (list_of-finds (lines_at LEAST_RING) lines_json (AreLines LEAST_RING) (polygon-read LEAST_RING) 1 polygons
     (h.0, λ k d l. ((h.1 k d l).0, λ i c j. ((h.1 k d l).1 i c j, w k d l i c j))))

@@ -62,7 +62,10 @@ tags_at-says (member key d ms) ts e =
 pub tags_at-finds : (ts : List TagData) → ValuesFit ts → tags_at (tags_json ts) ≡ Some ts
 unfolding tags_at tag_at
 tags_at-finds [] h = refl
-tags_at-finds (t ∷ ts) h = rw (value_at-finds t.value (All-head (λ t. ValueFits t.value) t ts h), tags_at-finds ts (All-tail (λ t. ValueFits t.value) t ts h)) refl
+tags_at-finds (t ∷ ts) h = rw (
+  value_at-finds t.value (All-head (λ t. ValueFits t.value) t ts h),
+  tags_at-finds ts (All-tail (λ t. ValueFits t.value) t ts h),
+) refl
 
 -- the names of the members are the keys
 pub names_of-tags : (ts : List TagData) → names_of (tags_json ts) ≡ keys_of ts

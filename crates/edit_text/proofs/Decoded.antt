@@ -1,5 +1,6 @@
 -- What is decoded, in terms of what stands in front.
-use Rattle.std.proofs.Common.{◌≡◌, ◌≢◌, ℕ, ◌+◌, ◌-◌, ◌<◌, ◌≤◌, ◌⊎◌, inl, inr, List, ◌++◌, length, take, drop, Result, Ok, Err, cond, min, refl, sym, ap, ◌∙◌, length-append, append_assoc, arith}
+use Rattle.std.proofs.Common.{◌≡◌, ◌≢◌, ℕ, ◌+◌, ◌-◌, ◌<◌, ◌≤◌, ◌⊎◌, inl, inr, List, ◌++◌, length, take}
+use Rattle.std.proofs.Common.{drop, Result, Ok, Err, cond, min, refl, sym, ap, ◌∙◌, length-append, append_assoc, arith}
 use Rattle.std.proofs.lemmas.Bool.{cases_lt, le-ltb, lt-ltb}
 use Rattle.std.proofs.lemmas.List.{take-append-drop, length-take}
 use Rattle.std.proofs.Math.Seq.{take-append-add}
@@ -7,7 +8,6 @@ use Rattle.feature_model.specs.declared.limits.TheConstants.{MOST_EDIT_BYTES}
 use Rattle.reader.proofs.Steps.{failed, not_both, same_fault}
 use Rattle.feature_model.specs.Data.{EditData, put, delete}
 use Rattle.feature_model.specs.Spelled.{spelled}
-use Rattle.feature_model.proofs.TextLengths.{length-eight_bytes, length-spelled}
 use Rattle.edit_text.specs.declared.fault.TextFault.{TextFault}
 use Rattle.edit_text.specs.declared.fault.TextFault.TheVariants.{Cut, Bad, Memory}
 use Rattle.feature_model.specs.Types.{IsEdit}
@@ -16,31 +16,20 @@ use Rattle.edit_text.specs.Reading.{Part, cut_as_bad, edit_at, decode_at}
 use Rattle.edit_text.proofs.Codecs.{AreBytes, bytes_before}
 use Rattle.edit_text.proofs.Faults.{cut_is_not_memory, bad_is_not_memory}
 use Rattle.edit_text.proofs.EditCodecs.{IsOfTable, codec_edit}
+use Rattle.edit_text.proofs.Laws.{table_from, short_from}
 
 -- ---- the table and the limits
 
-length-delete : (id : ℕ) → length (spelled (delete id)) ≡ 9
-unfolding spelled
-length-delete id = omega (arith, length-eight_bytes id)
-
 edit_to : (e : EditData) → IsOfTable e → length (spelled e) ≤ MOST_EDIT_BYTES → IsEdit e
 edit_to (put id f) is short = (
-  record { number = is.0; layer = is.1.0.0; zooms = is.1.1; geometry = is.1.2.0; tags = is.1.3.0; values = is.1.3.1; text = short },
+  record {
+    number = is.0;
+    feature = record { layer = is.1.0.0; zooms = is.1.1; geometry = is.1.2.0; tags = is.1.3.0; values = is.1.3.1 };
+    text = short;
+  },
   record { layer = is.1.0.1; geometry = is.1.2.1; tags = is.1.3.2 },
 )
 edit_to (delete id) is short = is
-
-pub table_from : (e : EditData) → IsEdit e → IsOfTable e
-table_from (put id f) is = (is.0.number, ((is.0.layer, is.1.layer), is.0.zooms, (is.0.geometry, is.1.geometry), (is.0.tags, is.0.values, is.1.tags)))
-table_from (delete id) is = is
-
-pub short_from : (e : EditData) → IsEdit e → length (spelled e) ≤ MOST_EDIT_BYTES
-short_from (put id f) is = is.0.text
-short_from (delete id) is = omega (arith, length-delete id)
-
-pub long_from : (e : EditData) → 9 ≤ length (spelled e)
-long_from (put id f) = omega (arith, length-spelled id f)
-long_from (delete id) = omega (arith, length-delete id)
 
 -- ---- short and long bytes
 
@@ -76,18 +65,22 @@ found_short bytes e rest l f =
     let len : length bytes ≡ length (spelled e) + length rest = ap length f.1 ∙ length-append (spelled e) rest in
     ((edit_to e f.0 (omega arith), (rest, f.1)), omega arith)
 
-found_long : (bytes : List ℕ) (e : EditData) (rest : List ℕ) → MOST_EDIT_BYTES ≤ length bytes → IsOfTable e × (take MOST_EDIT_BYTES bytes ≡ spelled e ++ rest) → Found e rest bytes
+found_long : (bytes : List ℕ) (e : EditData) (rest : List ℕ) → MOST_EDIT_BYTES ≤ length bytes
+    → IsOfTable e × (take MOST_EDIT_BYTES bytes ≡ spelled e ++ rest) → Found e rest bytes
 found_long bytes e rest l f =
     let len : length (take MOST_EDIT_BYTES bytes) ≡ length (spelled e) + length rest = ap length f.1 ∙ length-append (spelled e) rest in
     let front : length (take MOST_EDIT_BYTES bytes) ≡ MOST_EDIT_BYTES = omega (arith, length-take MOST_EDIT_BYTES bytes) in
-    let whole = sym (take-append-drop MOST_EDIT_BYTES bytes) ∙ ap (λ r. r ++ drop MOST_EDIT_BYTES bytes) f.1 ∙ append_assoc (spelled e) rest (drop MOST_EDIT_BYTES bytes) in
+    let whole = sym (take-append-drop MOST_EDIT_BYTES bytes) ∙ ap (λ r. r ++ drop MOST_EDIT_BYTES bytes) f.1
+    ∙ append_assoc (spelled e) rest (drop MOST_EDIT_BYTES bytes) in
     ((edit_to e f.0 (omega arith), (rest ++ drop MOST_EDIT_BYTES bytes, whole)), omega arith)
 
-found_by : (bytes : List ℕ) (e : EditData) (rest : List ℕ) → AreBytes bytes → decode_at bytes ≡ Ok (e, rest) → (length bytes < MOST_EDIT_BYTES) ⊎ (MOST_EDIT_BYTES ≤ length bytes) → Found e rest bytes
+found_by : (bytes : List ℕ) (e : EditData) (rest : List ℕ) → AreBytes bytes → decode_at bytes ≡ Ok (e, rest)
+    → (length bytes < MOST_EDIT_BYTES) ⊎ (MOST_EDIT_BYTES ≤ length bytes) → Found e rest bytes
 found_by bytes e rest h d (inl l) = found_short bytes e rest l (codec_edit.found bytes e rest h (sym (decode_short bytes l) ∙ d))
 found_by bytes e rest h d (inr l) =
     let front = bytes_before (take MOST_EDIT_BYTES bytes) (drop MOST_EDIT_BYTES bytes) bytes (sym (take-append-drop MOST_EDIT_BYTES bytes)) h in
-    found_long bytes e rest l (codec_edit.found (take MOST_EDIT_BYTES bytes) e rest front (ok_from (edit_at (take MOST_EDIT_BYTES bytes)) (e, rest) (sym (decode_long bytes l) ∙ d)))
+    found_long bytes e rest l (codec_edit.found (take MOST_EDIT_BYTES bytes) e rest front
+    (ok_from (edit_at (take MOST_EDIT_BYTES bytes)) (e, rest) (sym (decode_long bytes l) ∙ d)))
 
 pub decoded_found : (bytes : List ℕ) (e : EditData) (rest : List ℕ) → AreBytes bytes → decode_at bytes ≡ Ok (e, rest) → Found e rest bytes
 decoded_found bytes e rest h d = found_by bytes e rest h d (cases_lt (length bytes) MOST_EDIT_BYTES)
@@ -97,12 +90,14 @@ decoded_found bytes e rest h d = found_by bytes e rest h d (cases_lt (length byt
 front_of : (front rest : List ℕ) (n k : ℕ) → n ≡ length front + k → take n (front ++ rest) ≡ front ++ take k rest
 front_of front rest n k e = ap (λ m. take m (front ++ rest)) e ∙ take-append-add front rest k
 
-only_by : (bytes : List ℕ) (e : EditData) (rest : List ℕ) → IsEdit e → bytes ≡ spelled e ++ rest → (length bytes < MOST_EDIT_BYTES) ⊎ (MOST_EDIT_BYTES ≤ length bytes) → (behind : List ℕ) × (decode_at bytes ≡ Ok (e, behind))
+only_by : (bytes : List ℕ) (e : EditData) (rest : List ℕ) → IsEdit e → bytes ≡ spelled e ++ rest
+    → (length bytes < MOST_EDIT_BYTES) ⊎ (MOST_EDIT_BYTES ≤ length bytes) → (behind : List ℕ) × (decode_at bytes ≡ Ok (e, behind))
 only_by bytes e rest is begins (inl l) = (rest, decode_short bytes l ∙ ap edit_at begins ∙ codec_edit.reads e rest (table_from e is))
 only_by bytes e rest is begins (inr l) =
     let short = short_from e is in
     let k = MOST_EDIT_BYTES - length (spelled e) in
-    let front : take MOST_EDIT_BYTES bytes ≡ spelled e ++ take k rest = ap (take MOST_EDIT_BYTES) begins ∙ front_of (spelled e) rest MOST_EDIT_BYTES k (omega arith) in
+    let front : take MOST_EDIT_BYTES bytes ≡ spelled e ++ take k rest = ap (take MOST_EDIT_BYTES) begins
+    ∙ front_of (spelled e) rest MOST_EDIT_BYTES k (omega arith) in
     (take k rest, decode_long bytes l ∙ ap (λ b. cut_as_bad (edit_at b)) front ∙ ap cut_as_bad (codec_edit.reads e (take k rest) (table_from e is)))
 
 pub decoded_only : (bytes : List ℕ) (e : EditData) → BeginsWith e bytes → (behind : List ℕ) × (decode_at bytes ≡ Ok (e, behind))
@@ -155,16 +150,7 @@ err_bad bytes fault told e =
     let bad = told (λ memory. bad_is_not_memory (sym e ∙ memory)) ∙ ap failed e in
     (λ cut. let other = decoded_cut bytes cut in cc, λ f begins. let other = (decoded_only bytes f begins).1 in cc)
 
-pub told_either : {T : Type 0} (r : Result T TextFault) (fault : TextFault) → r ≡ Err fault → (fault ≡ Cut) ⊎ (fault ≡ Memory) → (r ≡ Err Cut) ⊎ (r ≡ Err Memory)
+pub told_either : {T : Type 0} (r : Result T TextFault) (fault : TextFault) → r ≡ Err fault → (fault ≡ Cut) ⊎ (fault ≡ Memory)
+    → (r ≡ Err Cut) ⊎ (r ≡ Err Memory)
 told_either r fault e (inl is) = inl (e ∙ ap (λ f. Err f) is)
 told_either r fault e (inr is) = inr (e ∙ ap (λ f. Err f) is)
-
--- ---- one edit
-
--- where the same bytes begin with the texts of two edits, these are the same edit, and the same bytes follow
-pub one_edit : (e f : EditData) (behind after : List ℕ) → IsEdit e → IsEdit f → spelled e ++ behind ≡ spelled f ++ after → (e ≡ f) × (behind ≡ after)
-one_edit e f behind after is other same =
-    let one = codec_edit.reads e behind (table_from e is) in
-    let two = codec_edit.reads f after (table_from f other) in
-    let pair : ◌≡◌ {A = EditData × List ℕ} (e, behind) (f, after) = cc in
-    (ap (λ q. q.0) pair, ap (λ q. q.1) pair)

@@ -5,7 +5,8 @@ use Rattle.edit_text.specs.declared.fault.TextFault.TheVariants.{Cut, Bad, Memor
 use Rattle.reader.proofs.Steps.{then_never, same_fault, not_both}
 use Rattle.feature_model.specs.Data.{TagData}
 use Rattle.edit_text.specs.Decoding.{BeginsAsPut}
-use Rattle.edit_text.specs.Reading.{Part, then_read, read_as, read_if, byte_at, front_at, two_at, eight_at, number_at, text_at, name_at, long_text_at, negative_at, value_behind, value_at, tag_at}
+use Rattle.edit_text.specs.Reading.{Part, then_read, read_as, read_if, byte_at, front_at, two_at, eight_at}
+use Rattle.edit_text.specs.Reading.{number_at, text_at, name_at, long_text_at, negative_at, value_behind, value_at, tag_at}
 
 -- ---- steps that take no memory
 

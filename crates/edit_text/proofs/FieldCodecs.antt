@@ -1,5 +1,6 @@
 -- Numbers, names and texts, tied to what is read.
-use Rattle.std.proofs.Common.{◌≡◌, ℕ, ◌^◌, ◌<◌, ◌≤◌, ◌⊎◌, inl, inr, true, ◌&&◌, List, [], ◌∷◌, ◌++◌, length, take, drop, Ok, Err, nat_le, nat_lt, refl, sym, ap, subst, ◌∙◌, cond, length-append, arith}
+use Rattle.std.proofs.Common.{◌≡◌, ℕ, ◌^◌, ◌<◌, ◌≤◌, ◌⊎◌, inl, inr, true, ◌&&◌, List, [], ◌∷◌, ◌++◌, length}
+use Rattle.std.proofs.Common.{take, drop, Ok, Err, nat_le, nat_lt, refl, sym, ap, subst, ◌∙◌, cond, length-append, arith}
 use Rattle.std.specs.Int.{w16, w32, w64, from_le_bytes}
 use Rattle.std.specs.Str.{IsUtf8, is_utf8}
 use Rattle.std.proofs.lemmas.Bool.{cases_lt, le-ltb, lt-ltb, ltb-true, le-leb, leb-true}
@@ -55,7 +56,8 @@ pub front_long : (n : ℕ) (bytes : List ℕ) → n ≤ length bytes → front_a
 unfolding front_at
 front_long n bytes l = ap (λ b. cond b (Err Cut) (Ok (take n bytes, drop n bytes))) (le-ltb (length bytes) n l)
 
-front_found : (n : ℕ) (bytes xs rest : List ℕ) → (length bytes < n) ⊎ (n ≤ length bytes) → front_at n bytes ≡ Ok (xs, rest) → (length xs ≡ n) × (bytes ≡ xs ++ rest)
+front_found : (n : ℕ) (bytes xs rest : List ℕ) → (length bytes < n) ⊎ (n ≤ length bytes) → front_at n bytes ≡ Ok (xs, rest)
+    → (length xs ≡ n) × (bytes ≡ xs ++ rest)
 front_found n bytes xs rest (inl l) e = let short = front_short n bytes l in absurd (cc)
 front_found n bytes xs rest (inr l) e =
     let long = front_long n bytes l in
@@ -70,7 +72,8 @@ front_cut n bytes (inr l) e = let long = front_long n bytes l in absurd (cc)
 front_reads : (n : ℕ) (xs rest : List ℕ) → length xs ≡ n → front_at n (xs ++ rest) ≡ Ok (xs, rest)
 front_reads n xs rest e =
     subst (λ k. front_at k (xs ++ rest) ≡ Ok (xs, rest)) e
-    (front_long (length xs) (xs ++ rest) (omega (arith, length-append xs rest)) ∙ ap (λ ys. Ok (ys, drop (length xs) (xs ++ rest))) (take-append_seam xs rest) ∙ ap (λ ys. Ok (xs, ys)) (drop-append_seam xs rest))
+    (front_long (length xs) (xs ++ rest) (omega (arith, length-append xs rest))
+    ∙ ap (λ ys. Ok (ys, drop (length xs) (xs ++ rest))) (take-append_seam xs rest) ∙ ap (λ ys. Ok (xs, ys)) (drop-append_seam xs rest))
 
 pub codec_front : (n : ℕ) → Codec (front_at n) (λ xs. xs) (λ xs. length xs ≡ n) (EndsWithin n)
 codec_front n = record {
@@ -131,10 +134,12 @@ name_len_fits len t = grind (arith, nat_tests)
 
 pub codec_name : Codec name_at spelled_name (λ xs. IsName xs × IsUtf8 xs) EndsInName
 unfolding name_at spelled_name
-codec_name = codec_then (λ bytes. read_if (λ len. nat_le 1 len && nat_le len MOST_NAME_BYTES) (byte_at bytes)) one_byte (λ len. (1 ≤ len) × (len ≤ MOST_NAME_BYTES)) (EndsWithin 1)
+codec_name = codec_then (λ bytes. read_if (λ len. nat_le 1 len && nat_le len MOST_NAME_BYTES) (byte_at bytes)) one_byte
+    (λ len. (1 ≤ len) × (len ≤ MOST_NAME_BYTES)) (EndsWithin 1)
     text_at (λ len xs. xs) (λ len xs. (length xs ≡ len) × IsUtf8 xs) EndsWithin
     spelled_name (λ xs. IsName xs × IsUtf8 xs)
-    (codec_if byte_at one_byte (λ b. b < 256) (EndsWithin 1) (λ len. nat_le 1 len && nat_le len MOST_NAME_BYTES) (λ len. (1 ≤ len) × (len ≤ MOST_NAME_BYTES)) codec_byte
+    (codec_if byte_at one_byte (λ b. b < 256) (EndsWithin 1) (λ len. nat_le 1 len && nat_le len MOST_NAME_BYTES)
+    (λ len. (1 ≤ len) × (len ≤ MOST_NAME_BYTES)) codec_byte
     (λ len l t. name_len_fits len t) (λ len fits. (omega arith, name_len_passes len fits.0 fits.1)))
     (λ len fits. codec_text len)
     (λ len xs fits is. ((subst (λ n. (1 ≤ n) × (n ≤ MOST_NAME_BYTES)) (sym is.0) fits, is.1), ap (λ n. n ∷ xs) is.0))

@@ -1,5 +1,6 @@
 -- A list of points is whole where its bytes are there, and else cut.
-use Rattle.std.proofs.Common.{◌≡◌, ◌≢◌, ℕ, zero, suc, ◌*◌, ◌<◌, ◌≤◌, inl, inr, Bool, true, false, cond, List, [], ◌∷◌, ◌++◌, length, take, drop, Ok, Err, refl, sym, ap, subst, ◌∙◌, arith}
+use Rattle.std.proofs.Common.{◌≡◌, ◌≢◌, ℕ, zero, suc, ◌*◌, ◌<◌, ◌≤◌, inl, inr, Bool, true, false, cond, List}
+use Rattle.std.proofs.Common.{[], ◌∷◌, ◌++◌, length, take, drop, Ok, Err, refl, sym, ap, subst, ◌∙◌, arith}
 use Rattle.std.specs.Prelude.{IsOk}
 use Rattle.std.specs.Int.{w32, from_le_bytes}
 use Rattle.std.proofs.lemmas.Bool.{cases_lt, le-ltb, lt-ltb}
@@ -9,7 +10,8 @@ use Rattle.reader.specs.Reading.{repeated}
 use Rattle.reader.proofs.Steps.{then_ok, same_fault, ok_never}
 use Rattle.feature_model.specs.declared.feature.World.{World}
 use Rattle.edit_text.specs.declared.fault.TextFault.TheVariants.{Cut, Bad, Memory}
-use Rattle.edit_text.specs.Reading.{Part, then_read, read_as, read_if, front_at, two_at, four_at, count_at, point_at, line_at, lines_at, HasFirstLine, next_at, many_at}
+use Rattle.edit_text.specs.Reading.{Part, then_read, read_as, read_if, front_at, two_at, four_at}
+use Rattle.edit_text.specs.Reading.{count_at, point_at, line_at, lines_at, HasFirstLine, next_at, many_at}
 use Rattle.edit_text.proofs.Many.{goes_on, is_whole}
 use Rattle.edit_text.proofs.Faults.{cut_is_not_memory, as_no_memory, if_no_memory, then_no_memory, front_no_memory}
 
@@ -91,7 +93,8 @@ line_no_memory least bytes =
 
 -- ---- the first of lines
 
-if_by : {A : Type 0} (test : A → Bool) (x y : A × List ℕ) (b : Bool) → test x.0 ≡ b → ◌≡◌ {A = Part A} (cond b (Ok x) (Err Bad)) (Ok y) → (x ≡ y) × (test x.0 ≡ true)
+if_by : {A : Type 0} (test : A → Bool) (x y : A × List ℕ) (b : Bool) → test x.0 ≡ b → ◌≡◌ {A = Part A} (cond b (Ok x) (Err Bad)) (Ok y)
+    → (x ≡ y) × (test x.0 ≡ true)
 if_by test x y true passes is = ((cc), passes)
 if_by test x y false passes is = absurd (cc)
 
@@ -101,7 +104,8 @@ if_ok {A} test (Ok x) y is =
     ((λ i. Ok (both.0 i)), subst (λ (z : A × List ℕ). test z.0 ≡ true) both.0 both.1)
 if_ok test (Err fault) y is = absurd (cc)
 
-first_line : (least count : ℕ) (rest : List ℕ) (y : List (List World) × List ℕ) → is_count 1 count ≡ true → many_at (λ _. line_at least) count [] rest ≡ Ok y → IsOk (line_at least rest)
+first_line : (least count : ℕ) (rest : List ℕ) (y : List (List World) × List ℕ) → is_count 1 count ≡ true → many_at (λ _. line_at least) count [] rest ≡ Ok y
+    → IsOk (line_at least rest)
 unfolding repeated
 first_line least zero rest y some is = absurd (cc)
 first_line least (suc count) rest y some is =

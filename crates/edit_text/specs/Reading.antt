@@ -7,7 +7,8 @@ use Rattle.std.specs.Str.{is_utf8}
 use Rattle.feature_model.specs.declared.limits.TheConstants.{LEAST_LINE, LEAST_RING, MOST_TAGS, MOST_TEXT_BYTES, MOST_EDIT_BYTES}
 use Rattle.feature_model.specs.declared.limits.TheConstants.{NUMBER_END, GREATEST_ZOOM, MOST_NAME_BYTES}
 use Rattle.feature_model.specs.declared.feature.World.{World}
-use Rattle.feature_model.specs.Data.{GeometryData, world_points, world_lines, world_polygons, ValueData, text_value, natural_value, negative_value, truth_value, TagData, FeatureData, EditData, put, delete}
+use Rattle.feature_model.specs.Data.{GeometryData, world_points, world_lines, world_polygons, ValueData, text_value, natural_value}
+use Rattle.feature_model.specs.Data.{negative_value, truth_value, TagData, FeatureData, EditData, put, delete}
 use Rattle.feature_model.specs.Limits.{is_count}
 use Rattle.edit_text.specs.declared.fault.TextFault.{TextFault}
 use Rattle.edit_text.specs.declared.fault.TextFault.TheVariants.{Cut, Bad}

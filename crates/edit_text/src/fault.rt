@@ -13,7 +13,7 @@ pub enum TextFault {
     /// Bytes that begin no text of an edit.
     #[error("no text of an edit")]
     Bad,
-    /// A growth was refused.
+    /// Out of memory.
     #[error("out of memory")]
     Memory,
 }

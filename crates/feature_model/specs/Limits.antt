@@ -8,7 +8,8 @@ use Rattle.feature_model.specs.declared.limits.TheConstants.{NUMBER_END, GREATES
 use Rattle.feature_model.specs.declared.limits.TheConstants.{LEAST_LINE, LEAST_RING, MOST_TAGS, MOST_TEXT_BYTES, MOST_EDIT_BYTES}
 use Rattle.feature_model.specs.declared.fault.EditFault.{EditFault}
 use Rattle.feature_model.specs.declared.fault.EditFault.TheVariants as faults
-use Rattle.feature_model.specs.Data.{GeometryData, world_points, world_lines, world_polygons, ValueData, text_value, natural_value, negative_value, truth_value, TagData, FeatureData, EditData, put, delete}
+use Rattle.feature_model.specs.Data.{GeometryData, world_points, world_lines, world_polygons, ValueData, text_value, natural_value}
+use Rattle.feature_model.specs.Data.{negative_value, truth_value, TagData, FeatureData, EditData, put, delete}
 use Rattle.feature_model.specs.Spelled.{spelled}
 
 -- a name has a byte, and not too many
@@ -84,13 +85,18 @@ TextFits id f = length (spelled (put id f)) ≤ MOST_EDIT_BYTES
 
 -- ---- all of them
 
-pub record IsAllowed (id : ℕ) (f : FeatureData) : Type 0 where
-  pub number : NumberFits id
+-- a feature's own limits
+pub record FeatureFits (f : FeatureData) : Type 0 where
   pub layer : LayerFits f
   pub zooms : ZoomsFit f
   pub geometry : GeometryFits f.geometry
   pub tags : TagsFit f.tags
   pub values : ValuesFit f.tags
+
+-- a feature of this number keeps to its own limits, and its text is short
+pub record IsAllowed (id : ℕ) (f : FeatureData) : Type 0 where
+  pub number : NumberFits id
+  pub feature : FeatureFits f
   pub text : TextFits id f
 
 -- an edit within the limits

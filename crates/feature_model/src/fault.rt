@@ -4,7 +4,7 @@ ghost use Rattle.std.specs.Prelude.{◌≡◌};
 use std::alloc::{AllocError, AllocFailed};
 use thiserror::Error;
 
-/// Why a feature is no feature of a map, in the order in which faults are told.
+/// Why a feature is no feature of a map, in the order in which faults are returned.
 #[derive(Clone, Copy, Debug, PartialEq, Eq, Error)]
 pub enum EditFault {
     /// E1: no object; a member missing, unknown or of another JSON kind; a zoom that is no whole number of 0 to 255.
@@ -34,7 +34,7 @@ pub enum EditFault {
     /// E9: a reach over 65,536 places.
     #[error("E9 Reach")]
     Reach,
-    /// A growth was refused.
+    /// Out of memory.
     #[error("out of memory")]
     Memory,
 }

@@ -17,8 +17,5 @@ pub use limits::{
     tag_count_fits, zooms_fit,
 };
 
-/// A growth that was refused.
-pub type Memory = std::alloc::AllocError;
-
 #[cfg(test)]
 mod tests;

@@ -7,7 +7,8 @@ ghost use Rattle.std.specs.List.Sorted.{IsStrictlySortedBy};
 ghost use Rattle.std.specs.String.{string_bytes};
 ghost use Rattle.feature_model.specs.declared.limits.TheConstants.{MOST_TAGS};
 ghost use Rattle.feature_model.specs.Data.{world_polygons, feature_data, geometry_data, value_data, tag_data};
-ghost use Rattle.feature_model.specs.Limits.{IsName, AreZooms, IsCount, IsTagText, CountFits, RingsFit, GeometryFits, TagsFit, ValueFits, ValuesFit, HasAscendingKeys, keys_of, IsAllowed, IsFirstFault};
+ghost use Rattle.feature_model.specs.Limits.{IsName, AreZooms, IsCount, IsTagText, CountFits, RingsFit, GeometryFits};
+ghost use Rattle.feature_model.specs.Limits.{TagsFit, ValueFits, ValuesFit, HasAscendingKeys, keys_of, IsAllowed, IsFirstFault};
 
 use crate::fault::EditFault;
 use crate::feature::{EditValue, Feature, Geometry, Tag, World};

@@ -7,10 +7,9 @@ ghost use Rattle.feature_store.specs.Inside.{entry_data, entries_data};
 ghost use Rattle.feature_store.specs.Layers.{numbered_cut, cuts_of};
 
 use crate::entry::Entry;
-use feature_model::Memory;
 use hilbert_id::TileAt;
 use mvt_layer::TileFeature;
-use std::alloc::Global;
+use std::alloc::{AllocError, Global};
 use std::collections::BTreeMap;
 use tile_cutter::cut;
 
@@ -18,7 +17,7 @@ use tile_cutter::cut;
 pub(crate) type Gathered<'a> = BTreeMap<&'a str, Vec<TileFeature<'a>>>;
 
 /// What the tile shows of an entry, with its number as id.
-fn shown<'a>(alloc: Global, entry: &'a Entry, at: TileAt) -> Result<Option<TileFeature<'a>>, Memory>
+fn shown<'a>(alloc: Global, entry: &'a Entry, at: TileAt) -> Result<Option<TileFeature<'a>>, AllocError>
     requires zoom { at.z ≤ 16 }
     requires allowed { IsAllowed entry.now.id (feature_data entry.now.feature) }
     ensures cut { IfOk result (λ o. option_map feature_view o ≡ numbered_cut at.z at.x at.y (entry_data entry.now)) }
@@ -37,7 +36,7 @@ fn add<'a>(
     gathered: &mut Gathered<'a>,
     layer: &'a str,
     feature: TileFeature<'a>,
-) -> Result<(), Memory>
+) -> Result<(), AllocError>
     ensures added { OnOk result ((name : List ℕ) → gathered_for gathered.new name ≡ more_for (gathered_for gathered.old name) name layer.now (feature_view feature.entry)) }
     ensures no_empty { OnOk result (HasNoEmpty gathered.old → HasNoEmpty gathered.new) }
 {
@@ -51,7 +50,7 @@ fn add_shown<'a>(
     gathered: &mut Gathered<'a>,
     entry: &'a Entry,
     at: TileAt,
-) -> Result<(), Memory>
+) -> Result<(), AllocError>
     requires zoom { at.z ≤ 16 }
     requires allowed { IsAllowed entry.now.id (feature_data entry.now.feature) }
     ensures added { OnOk result ((name : List ℕ) → gathered_for gathered.new name ≡ gathered_for gathered.old name ++ cuts_of (entry_data entry.now ∷ []) name at.z at.x at.y) }
@@ -68,7 +67,7 @@ pub(crate) fn gather<'a>(
     alloc: Global,
     entries: &'a [Entry],
     at: TileAt,
-) -> Result<Gathered<'a>, Memory>
+) -> Result<Gathered<'a>, AllocError>
     requires zoom { at.z ≤ 16 }
     requires allowed { All (λ e. IsAllowed e.id (feature_data e.feature)) entries.now }
     ensures cuts { IfOk result (λ g. (name : List ℕ) → gathered_for g name ≡ cuts_of (entries_data entries.now) name at.z at.x at.y) }

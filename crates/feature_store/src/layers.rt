@@ -6,9 +6,8 @@ ghost use Rattle.mvt_layer.specs.Tile.{layer_views};
 ghost use Rattle.feature_store.specs.Gathered.{layers_of};
 
 use crate::gathered::Gathered;
-use feature_model::Memory;
 use mvt_layer::Layer;
-use std::alloc::Global;
+use std::alloc::{AllocError, Global};
 
 /// The version of the format that the layers say.
 const VERSION: u32 = 2;
@@ -17,7 +16,7 @@ const VERSION: u32 = 2;
 const EXTENT: u32 = 4096;
 
 /// What is gathered as layers, in the order of their names.
-pub(crate) fn listed<'a>(alloc: Global, gathered: Gathered<'a>) -> Result<Vec<Layer<'a>>, Memory>
+pub(crate) fn listed<'a>(alloc: Global, gathered: Gathered<'a>) -> Result<Vec<Layer<'a>>, AllocError>
     ensures layers { IfOk result (λ v. layer_views v.items ≡ layers_of gathered.entry) }
     ensures ordered { IfOk result (λ _. IsOrdered (λ a b. slice_cmp nat_cmp a.now b.now) gathered.entry) }
 {

@@ -12,10 +12,10 @@ use crate::gathered::gather;
 use crate::layers::listed;
 use crate::limit::TEXTS_END;
 use crate::search::find;
-use feature_model::{Feature, GREATEST_ZOOM, Memory};
+use feature_model::{Feature, GREATEST_ZOOM};
 use hilbert_id::TileAt;
 use mvt_layer::Layer;
-use std::alloc::Global;
+use std::alloc::{AllocError, Global};
 use std::marker::Model;
 
 /// A map from numbers to features that keep the limits of a feature. The texts of all of them, as the journal and a
@@ -72,7 +72,7 @@ impl Store {
     }
 
     /// Makes room for a feature of this number, so that `place` needs no memory.
-    pub fn room(&mut self, id: u64) -> Result<(), Memory>
+    pub fn room(&mut self, id: u64) -> Result<(), AllocError>
         ensures map { self.new.features ≡ self.old.features }
         ensures room { OnOk result (HasRoom self.new id) }
         // It fails only where room was missing, and nothing changes then.
@@ -124,7 +124,7 @@ impl Store {
     /// there is none.
     ///
     /// One pass over the features; the layers borrow names, keys and texts from them. The only error is out of memory.
-    pub fn layers(&self, at: TileAt) -> Result<Vec<Layer<'_>>, Memory>
+    pub fn layers(&self, at: TileAt) -> Result<Vec<Layer<'_>>, AllocError>
         ensures layers { IfOk result (λ v. layer_views v.items ≡ layers self.now.features at.z at.x at.y) }
         // They can be written as a tile.
         ensures can_write { IfOk result (λ v. CanWriteAll (layer_views v.items)) }
@@ -138,7 +138,7 @@ impl Store {
     }
 
     /// The same map once more. The only error is out of memory.
-    pub fn copy(&self) -> Result<Store, Memory>
+    pub fn copy(&self) -> Result<Store, AllocError>
         ensures { IfOk result (λ s. s.features ≡ self.now.features) }
     {
         let entries = copy_entries(*self.entries.allocator(), &self.entries)?;

@@ -11,4 +11,5 @@ pub returns : goal.returns
 returns c =
     list_of-counted (lines_at LEAST_RING) 1 c.args.list.now c.in_default.ensures.ok
     ∙ sym c.loop-value.invariant
-    ∙ rest_gives-end (lines_at LEAST_RING) (map (λ p. map (λ r. r.items) p.items) c.loop-value.polygons.items) c.args.list.now c.loop-value.value-index (omega arith)
+    ∙ rest_gives-end (lines_at LEAST_RING) (map (λ p. map (λ r. r.items) p.items) c.loop-value.polygons.items) c.args.list.now c.loop-value.value-index
+    (omega arith)

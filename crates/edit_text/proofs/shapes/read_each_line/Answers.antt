@@ -11,11 +11,13 @@ use Rattle.edit_text.proofs.shapes.read_each_line.Goals as goal
 pub loop-preserved : goal.loop-preserved
 loop-preserved c =
     let before = c.loop.invariant in
-    let lines = many_step (λ _. line_at c.args.least) c.args.count c.loop.counter (map (λ l. l.items) c.loop.lines.items) c.loop.rest.now _ _ _ c.loop-test.true before.lines c.in_ok-line.ensures in
+    let lines = many_step (λ _. line_at c.args.least) c.args.count c.loop.counter
+    (map (λ l. l.items) c.loop.lines.items) c.loop.rest.now _ _ _ c.loop-test.true before.lines c.in_ok-line.ensures in
     record {
       lines = rw (c.in_ok-push.ensures.items, map-append (λ l. l.items) c.loop.lines.items (c.in_ok-line.line ∷ [])) lines;
       start = λ none. absurd (omega arith);
-      first = λ _. first_read (line_at c.args.least) c.loop.counter c.loop.rest.now c.args.bytes.now before.start before.first (is_whole _ _ c.in_ok-line.ensures);
+      first = λ _. first_read (line_at c.args.least) c.loop.counter c.loop.rest.now c.args.bytes.now before.start before.first
+          (is_whole _ _ c.in_ok-line.ensures);
     }
 
 pub returns-in_err-line-clause-lines : goal.returns-in_err-line-clause-lines
@@ -33,8 +35,10 @@ returns-in_err-line-clause-first c = λ out.
 
 pub returns-in_err-push-clause-first : goal.returns-in_err-push-clause-first
 returns-in_err-push-clause-first c = λ _.
-    first_read (line_at c.args.least) c.loop.counter c.loop.rest.now c.args.bytes.now c.loop.invariant.start c.loop.invariant.first (is_whole _ _ c.in_ok-line.ensures)
+    first_read (line_at c.args.least) c.loop.counter c.loop.rest.now c.args.bytes.now c.loop.invariant.start c.loop.invariant.first
+    (is_whole _ _ c.in_ok-line.ensures)
 
 pub returns-clause-lines : goal.returns-clause-lines
 returns-clause-lines c =
-    many_done (λ _. line_at c.args.least) c.args.count c.loop.counter (map (λ l. l.items) c.loop.lines.items) c.loop.rest.now _ c.loop-test.false c.loop.invariant.lines
+    many_done (λ _. line_at c.args.least) c.args.count c.loop.counter
+    (map (λ l. l.items) c.loop.lines.items) c.loop.rest.now _ c.loop-test.false c.loop.invariant.lines

@@ -14,15 +14,18 @@ loop-preserved c =
     let done = map (λ p. map (λ l. l.items) p.items) c.loop.polygons.items in
     record {
       polygons = rw (c.in_ok-push.ensures.items, map-append (λ p. map (λ l. l.items) p.items) c.loop.polygons.items (c.in_ok-rings.rings ∷ []))
-          (many_step (λ _. lines_at LEAST_RING) c.args.count c.loop.counter done c.loop.rest.now _ _ _ c.loop-test.true before.polygons c.in_ok-rings.ensures.lines);
+          (many_step (λ _. lines_at LEAST_RING) c.args.count c.loop.counter done c.loop.rest.now _ _ _ c.loop-test.true before.polygons
+          c.in_ok-rings.ensures.lines);
       start = λ none. absurd (omega arith);
-      first = λ _. first_has (HasFirstLine LEAST_RING) c.loop.counter c.loop.rest.now c.args.bytes.now before.start before.first (lines_start LEAST_RING c.loop.rest.now _ c.in_ok-rings.ensures.lines);
+      first = λ _. first_has (HasFirstLine LEAST_RING) c.loop.counter c.loop.rest.now c.args.bytes.now before.start before.first
+          (lines_start LEAST_RING c.loop.rest.now _ c.in_ok-rings.ensures.lines);
     }
 
 pub returns-in_err-rings-clause-polygons : goal.returns-in_err-rings-clause-polygons
 returns-in_err-rings-clause-polygons c =
     let stops = λ (other : c.in_err-rings.field-0.0 ≢ Memory).
-    many_stop (λ _. lines_at LEAST_RING) c.args.count c.loop.counter (map (λ p. map (λ l. l.items) p.items) c.loop.polygons.items) c.loop.rest.now c.in_err-rings.field-0.0 _
+    many_stop (λ _. lines_at LEAST_RING) c.args.count c.loop.counter
+    (map (λ p. map (λ l. l.items) p.items) c.loop.polygons.items) c.loop.rest.now c.in_err-rings.field-0.0 _
     c.loop-test.true c.loop.invariant.polygons (c.in_err-rings.ensures.lines other) in
     search (rules, stops)
 
@@ -36,7 +39,8 @@ returns-in_err-rings-clause-first c = λ out.
 pub returns-in_err-push-clause-first : goal.returns-in_err-push-clause-first
 returns-in_err-push-clause-first c = λ _.
     let before = c.loop.invariant in
-    first_has (HasFirstLine LEAST_RING) c.loop.counter c.loop.rest.now c.args.bytes.now before.start before.first (lines_start LEAST_RING c.loop.rest.now _ c.in_ok-rings.ensures.lines)
+    first_has (HasFirstLine LEAST_RING) c.loop.counter c.loop.rest.now c.args.bytes.now before.start before.first
+    (lines_start LEAST_RING c.loop.rest.now _ c.in_ok-rings.ensures.lines)
 
 pub returns-clause-polygons : goal.returns-clause-polygons
 returns-clause-polygons c =

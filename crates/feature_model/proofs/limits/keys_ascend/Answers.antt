@@ -9,7 +9,8 @@ loop-i-init c = λ k d h. absurd (omega arith)
 pub returns-then-not-is_before : goal.returns-then-not-is_before
 returns-then-not-is_before c = (
   λ e. absurd (false≢true e),
-  λ h. absurd (not_ascending c.args.tags.now (c.loop-i.i - 1) c.loop-i.i _ _ (omega arith) c.loop-i-test.true c.index-tags-i.is c.index-tags-i-in-loop-i.is (sym c.is_before.ensures ∙ c.if-not-is_before.true) h),
+  λ h. absurd (not_ascending c.args.tags.now (c.loop-i.i - 1) c.loop-i.i _ _ (omega arith) c.loop-i-test.true c.index-tags-i.is c.index-tags-i-in-loop-i.is
+      (sym c.is_before.ensures ∙ c.if-not-is_before.true) h),
 )
 
 pub returns : goal.returns
