@@ -9,11 +9,11 @@
 
 mod lists;
 mod outline;
-mod reader;
+mod reading;
 mod tags;
 mod writer;
 
-pub use reader::feature_from_json;
+pub use reading::feature_from_json;
 pub use writer::feature_to_json;
 
 #[cfg(test)]

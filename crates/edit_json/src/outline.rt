@@ -74,7 +74,7 @@ fn read_shape(value: &Value) -> Option<Shape<'_>>
 }
 
 /// The five members, in the order in which an object has them.
-#[tactic(auto, unfolding(crate::specs::Json::geometry_name, crate::specs::Json::layer_name, crate::specs::Json::maxzoom_name, crate::specs::Json::minzoom_name, crate::specs::Json::tags_name,))]
+#[tactic(auto, unfolding(crate::specs::Json::geometry_name, crate::specs::Json::layer_name, crate::specs::Json::maxzoom_name, crate::specs::Json::minzoom_name, crate::specs::Json::tags_name))]
 pub(crate) fn read_outline(value: &Value) -> Option<Outline<'_>>
     ensures { MatchOption result
         ((o : OutlineData) → ¬ IsOutline (view value.now) o)

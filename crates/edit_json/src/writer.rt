@@ -111,7 +111,7 @@ fn tags_value(alloc: Global, tags: &[Tag]) -> Result<Value, AllocError>
 }
 
 /// The one JSON value of a feature.
-#[tactic(auto, unfolding(crate::specs::Json::geometry_name, crate::specs::Json::layer_name, crate::specs::Json::maxzoom_name, crate::specs::Json::minzoom_name, crate::specs::Json::tags_name,))]
+#[tactic(auto, unfolding(crate::specs::Json::geometry_name, crate::specs::Json::layer_name, crate::specs::Json::maxzoom_name, crate::specs::Json::minzoom_name, crate::specs::Json::tags_name))]
 pub fn feature_to_json(alloc: Global, feature: &Feature) -> Result<Value, AllocError>
     requires tags { TagsFit (feature_data feature.now).tags }
     requires values { ValuesFit (feature_data feature.now).tags }
