@@ -10,7 +10,7 @@ ghost use Rattle.feature_model.specs.Data.{value_data, tag_data};
 ghost use Rattle.feature_model.specs.Limits.{IsName};
 ghost use Rattle.feature_model.specs.Types.{ValueFitsTypes, TagFitsTypes};
 ghost use Rattle.edit_json.specs.Faults.{names_of};
-ghost use Rattle.edit_json.specs.Gives.{Finds, Gives};
+ghost use Rattle.reader.specs.Reading.{Finds, Gives};
 ghost use Rattle.edit_json.specs.Tags.{value_at, tag_at, tags_at};
 
 use feature_model::{EditFault, EditValue, Tag, is_name, is_tag_text, tag_count_fits};
@@ -59,7 +59,7 @@ pub(crate) fn check_tags(tags: &Map<String, Value>) -> Result<(), EditFault>
 /// The value of a tag.
 #[tactic(auto, unfolding(crate::specs::Tags::value_at))]
 fn read_value(alloc: Global, value: &Value) -> Result<EditValue, EditFault>
-    ensures value { Finds EditFault.Value value_data result (value_at (view value.now)) }
+    ensures value { Finds EditFault.Memory value_data result (value_at (view value.now)) }
     ensures types { IfOk result (λ v. ValueFitsTypes (value_data v)) }
 {
     if let Some(text) = value.as_str() {
@@ -83,7 +83,7 @@ fn read_value(alloc: Global, value: &Value) -> Result<EditValue, EditFault>
 /// The tag of a member.
 #[tactic(auto, unfolding(crate::specs::Tags::tag_at))]
 fn read_tag(alloc: Global, key: &str, value: &Value) -> Result<Tag, EditFault>
-    ensures tag { Finds EditFault.Value tag_data result (tag_at key.now (view value.now)) }
+    ensures tag { Finds EditFault.Memory tag_data result (tag_at key.now (view value.now)) }
     ensures types { IfOk result (λ t. TagFitsTypes (tag_data t)) }
 {
     let value = read_value(alloc, value)?;
@@ -96,7 +96,7 @@ fn read_tag(alloc: Global, key: &str, value: &Value) -> Result<Tag, EditFault>
 /// The tags, in the order of their keys.
 #[tactic(auto, unfolding(crate::specs::Tags::tags_at))]
 pub(crate) fn read_tags(alloc: Global, tags: &Map<String, Value>) -> Result<Vec<Tag>, EditFault>
-    ensures tags { Gives EditFault.Value (λ v. map tag_data v.items) result
+    ensures tags { Gives EditFault.Memory (λ v. map tag_data v.items) result
         (tags_at (members_view tags.now.entries)) }
     ensures types { IfOk result (λ v. All TagFitsTypes (map tag_data v.items)) }
 {

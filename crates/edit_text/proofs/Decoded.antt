@@ -129,25 +129,25 @@ ok_not_cut bytes e rest d cut = let other = decoded_cut bytes cut in cc
 
 pub err_only : (bytes : List ℕ) (fault : TextFault) → (fault ≢ Memory → decode_at bytes ≡ Err fault)
     → (f : EditData) → BeginsWith f bytes → fault ≡ Memory
-err_only bytes fault told f begins = elim (is_memory fault) [
+err_only bytes fault met f begins = elim (is_memory fault) [
   | inl memory ↦ memory
-  | inr other ↦ let found = decoded_only bytes f begins in absurd (not_both (f, found.0) fault (sym found.1 ∙ told other))
+  | inr other ↦ let found = decoded_only bytes f begins in absurd (not_both (f, found.0) fault (sym found.1 ∙ met other))
 ]
 
 pub err_cut : (bytes : List ℕ) (fault : TextFault) → AreBytes bytes → (fault ≢ Memory → decode_at bytes ≡ Err fault) → fault ≡ Cut → IsCut bytes
-err_cut bytes fault h told e = cut_decoded bytes h (told (λ memory. cut_is_not_memory (sym e ∙ memory)) ∙ ap failed e)
+err_cut bytes fault h met e = cut_decoded bytes h (met (λ memory. cut_is_not_memory (sym e ∙ memory)) ∙ ap failed e)
 
 pub err_only_cut : (bytes : List ℕ) (fault : TextFault) → (fault ≢ Memory → decode_at bytes ≡ Err fault)
     → IsCut bytes → (fault ≡ Cut) ⊎ (fault ≡ Memory)
-err_only_cut bytes fault told cut = elim (is_memory fault) [
+err_only_cut bytes fault met cut = elim (is_memory fault) [
   | inl memory ↦ inr memory
-  | inr other ↦ inl (same_fault fault Cut (sym (told other) ∙ decoded_cut bytes cut))
+  | inr other ↦ inl (same_fault fault Cut (sym (met other) ∙ decoded_cut bytes cut))
 ]
 
 pub err_bad : (bytes : List ℕ) (fault : TextFault) → (fault ≢ Memory → decode_at bytes ≡ Err fault)
     → fault ≡ Bad → ¬ IsCut bytes × ((e : EditData) → ¬ BeginsWith e bytes)
-err_bad bytes fault told e =
-    let bad = told (λ memory. bad_is_not_memory (sym e ∙ memory)) ∙ ap failed e in
+err_bad bytes fault met e =
+    let bad = met (λ memory. bad_is_not_memory (sym e ∙ memory)) ∙ ap failed e in
     (λ cut. let other = decoded_cut bytes cut in cc, λ f begins. let other = (decoded_only bytes f begins).1 in cc)
 
 pub told_either : {T : Type 0} (r : Result T TextFault) (fault : TextFault) → r ≡ Err fault → (fault ≡ Cut) ⊎ (fault ≡ Memory)

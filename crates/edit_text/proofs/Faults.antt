@@ -8,7 +8,7 @@ use Rattle.edit_text.specs.Decoding.{BeginsAsPut}
 use Rattle.edit_text.specs.Reading.{Part, then_read, read_as, read_if, byte_at, front_at, two_at, eight_at}
 use Rattle.edit_text.specs.Reading.{number_at, text_at, name_at, long_text_at, negative_at, value_behind, value_at, tag_at}
 
--- ---- steps that take no memory
+-- ---- steps that allocate nothing
 
 pub cut_is_not_memory : Cut ≢ Memory
 cut_is_not_memory is = cc

@@ -36,16 +36,16 @@ pub fn decode(alloc: Global, bytes: &[u8]) -> Result<(Edit, usize), TextFault>
     // What is found stands there, and its text has this length.
     ensures found { IfOk result (λ r. BeginsWith (edit_data r.0) bytes.now) }
     ensures len { IfOk result (λ r. r.1 ≡ length (spelled (edit_data r.0))) }
-    // What stands there is found, whatever follows it, memory aside.
+    // What stands there is found, whatever follows it, out of memory aside.
     ensures only { (e : EditData) → BeginsWith e bytes.now
         → MatchResult result (λ r. edit_data r.0 ≡ e) (λ fault. fault ≡ TextFault.Memory) }
-    // Bytes are told to be cut exactly where they are, memory aside.
+    // `Cut` is returned exactly where the bytes are cut, out of memory aside.
     ensures cut { result ≡ Err TextFault.Cut → IsCut bytes.now }
     ensures only_cut { IsCut bytes.now
         → (result ≡ Err TextFault.Cut) ⊎ (result ≡ Err TextFault.Memory) }
-    // All other bytes are bad, memory aside.
-    // Memory runs out only at what begins as a Put.
+    // An allocation fails only at what begins as a Put.
     ensures memory { result ≡ Err TextFault.Memory → BeginsAsPut bytes.now }
+    // All other bytes are bad, out of memory aside.
     ensures bad { result ≡ Err TextFault.Bad → ¬ IsCut bytes.now × ((e : EditData) → ¬ BeginsWith e bytes.now) }
 {
     let (edit, rest) = read_short(alloc, bytes)?;

@@ -61,7 +61,7 @@ fn read_put(alloc: Global, bytes: &[u8]) -> Result<(Edit, &[u8]), TextFault>
 #[tactic(auto, unfolding(crate::specs::Reading::edit_behind))]
 fn read_edit_of(alloc: Global, kind: u8, bytes: &[u8]) -> Result<(Edit, &[u8]), TextFault>
     ensures edit { Gives TextFault.Memory (λ r. (edit_data r.0, r.1.now)) result (edit_behind kind bytes.now) }
-    // Only a Put takes memory.
+    // Only a Put allocates.
     ensures other { kind ≢ 1 → Reads (λ r. (edit_data r.0, r.1.now)) result (edit_behind kind bytes.now) }
     ensures memory { result ≡ Err TextFault.Memory → kind ≡ 1 }
 {

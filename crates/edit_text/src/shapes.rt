@@ -68,7 +68,7 @@ fn read_each_line(
 ) -> Result<(Vec<Vec<World>>, &[u8]), TextFault>
     ensures lines { Gives TextFault.Memory (λ r. (map (λ l. l.items) r.0.items, r.1.now)) result
         (many_at (λ _. line_at least) count [] bytes.now) }
-    // No memory is taken before a first line is there.
+    // An allocation fails only where a first line is there.
     ensures first { result ≡ Err TextFault.Memory → IsOk (line_at least bytes.now) }
 {
     let mut lines = Vec::new(alloc);
@@ -102,7 +102,7 @@ fn read_each_polygon(
 ) -> Result<(Vec<Vec<Vec<World>>>, &[u8]), TextFault>
     ensures polygons { Gives TextFault.Memory (λ r. (map (λ p. map (λ l. l.items) p.items) r.0.items, r.1.now)) result
         (many_at (λ _. lines_at LEAST_RING) count [] bytes.now) }
-    // No memory is taken before a first ring is there.
+    // An allocation fails only where a first ring is there.
     ensures first { result ≡ Err TextFault.Memory → HasFirstLine LEAST_RING bytes.now }
 {
     let mut polygons = Vec::new(alloc);

@@ -90,7 +90,7 @@ fn read_tag<'a>(alloc: Global, tags: &[Tag], bytes: &'a [u8]) -> Result<(Tag, &'
 /// So many tags.
 fn read_each_tag(alloc: Global, count: u8, bytes: &[u8]) -> Result<(Vec<Tag>, &[u8]), TextFault>
     ensures tags { Gives TextFault.Memory (λ r. (map tag_data r.0.items, r.1.now)) result (many_at tag_at count [] bytes.now) }
-    // No memory is taken before a first tag is there.
+    // An allocation fails only where a first tag is there.
     ensures first { result ≡ Err TextFault.Memory → IsOk (tag_at [] bytes.now) }
 {
     let mut tags = Vec::new(alloc);

@@ -129,3 +129,10 @@ module _ {Fault : Type 0} where
   memory_found memory read passed here there never (inl is) told same out =
       absurd (passed_never memory read passed here there never is told same out)
   memory_found memory read passed here there never (inr found) told same out = found.1
+
+  -- each fault of the first is such a one, and each of what it leads to: so is each of both
+  pub then_faults : {A B : Type 0} (Is : Fault → Type 0) (first : Read Fault A) (next : A → Read Fault B)
+      → ((d : Fault) → first ≡ Err d → Is d) → ((x : A) (d : Fault) → next x ≡ Err d → Is d)
+      → (d : Fault) → (first >>= next) ≡ Err d → Is d
+  then_faults Is (Ok x) next here there d is = there x d is
+  then_faults Is (Err c) next here there d is = here d (ap failed (same_fault c d is))

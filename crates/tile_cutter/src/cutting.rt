@@ -9,11 +9,11 @@ ghost use Rattle.tile_cutter.specs.Cut.{shown_value, shown_tag, geometry_cut, ha
 use crate::lines::lines_shape;
 use crate::points::points_shape;
 use crate::rings::rings_shape;
-use feature_model::{EditValue, Feature, Geometry, Memory, Tag};
+use feature_model::{EditValue, Feature, Geometry, Tag};
 use geometry_commands::Shape;
 use hilbert_id::TileAt;
 use mvt_layer::{TagValue, TileFeature};
-use std::alloc::Global;
+use std::alloc::{AllocError, Global};
 
 /// The value of a tag as a tile has it.
 fn shown_value(value: &EditValue) -> TagValue<'_>
@@ -28,7 +28,10 @@ fn shown_value(value: &EditValue) -> TagValue<'_>
 }
 
 /// The tags of a feature as a tile has them.
-fn shown_tags<'a>(alloc: Global, tags: &'a [Tag]) -> Result<Vec<(&'a str, TagValue<'a>)>, Memory>
+fn shown_tags<'a>(
+    alloc: Global,
+    tags: &'a [Tag],
+) -> Result<Vec<(&'a str, TagValue<'a>)>, AllocError>
     ensures { IfOk result (λ v. tagged v.items ≡ map shown_tag (map tag_data tags.now)) }
 {
     let mut shown = Vec::with_capacity(alloc, tags.len())?;
@@ -47,7 +50,7 @@ fn has_zoom(feature: &Feature, zoom: u8) -> bool
 
 /// What of a geometry a tile shows.
 #[tactic(auto, unfolding(crate::specs::Cut::geometry_cut))]
-fn cut_geometry(alloc: Global, geometry: &Geometry, at: TileAt) -> Result<Option<Shape>, Memory>
+fn cut_geometry(alloc: Global, geometry: &Geometry, at: TileAt) -> Result<Option<Shape>, AllocError>
     requires zoom { at.z ≤ 16 }
     requires limits { GeometryFits (geometry_data geometry.now) }
     ensures shape { IfOk result (λ o. option_map shape_view o ≡ geometry_cut at.z at.x at.y (geometry_data geometry.now)) }
@@ -71,7 +74,7 @@ pub fn cut<'a>(
     alloc: Global,
     feature: &'a Feature,
     at: TileAt,
-) -> Result<Option<TileFeature<'a>>, Memory>
+) -> Result<Option<TileFeature<'a>>, AllocError>
     requires zoom { at.z ≤ 16 }
     requires limits { GeometryFits (geometry_data feature.now.geometry) }
     ensures cut { IfOk result (λ o. option_map feature_view o ≡ feature_cut (feature_data feature.now) at.z at.x at.y) }

@@ -9,10 +9,10 @@ ghost use Rattle.tile_cutter.specs.Range.{IsDrawable};
 
 use crate::bounds::segment_meets_box;
 use crate::place::{place, repeats};
-use feature_model::{Memory, World};
+use feature_model::World;
 use geometry_commands::{Pt, Shape};
 use hilbert_id::TileAt;
-use std::alloc::Global;
+use std::alloc::{AllocError, Global};
 use std::mem;
 
 /// The point before, where it is another one.
@@ -23,7 +23,7 @@ fn other_than(before: Option<Pt>, here: Pt) -> Option<Pt>
 }
 
 /// Appends a chain, where there is one.
-fn close(chains: &mut Vec<Vec<Pt>>, chain: Vec<Pt>) -> Result<(), Memory>
+fn close(chains: &mut Vec<Vec<Pt>>, chain: Vec<Pt>) -> Result<(), AllocError>
     ensures { OnOk result (lists_of chains.new.items ≡ lists_of chains.old.items ++ chain_of chain.items) }
 {
     if !chain.is_empty() {
@@ -39,7 +39,7 @@ fn follow(
     chain: &mut Vec<Pt>,
     from: Pt,
     to: Pt,
-) -> Result<(), Memory>
+) -> Result<(), AllocError>
     ensures chain { OnOk result (chain.new.items ≡ chain_after chain.old.items (from, to)) }
     ensures ended { OnOk result (lists_of chains.new.items ≡ lists_of chains.old.items ++ ended_by chain.old.items (from, to)) }
 {
@@ -60,7 +60,7 @@ fn cut_line(
     chains: &mut Vec<Vec<Pt>>,
     line: &[World],
     at: TileAt,
-) -> Result<(), Memory>
+) -> Result<(), AllocError>
     requires zoom { at.z ≤ 16 }
     requires limits { CountFits 2 line.now }
     ensures chains { OnOk result (lists_of chains.new.items ≡ lists_of chains.old.items ++ line_cut at.z at.x at.y line.now) }
@@ -80,7 +80,7 @@ fn cut_line(
 }
 
 /// What a tile shows of lines.
-fn cut_lines(alloc: Global, lines: &[Vec<World>], at: TileAt) -> Result<Vec<Vec<Pt>>, Memory>
+fn cut_lines(alloc: Global, lines: &[Vec<World>], at: TileAt) -> Result<Vec<Vec<Pt>>, AllocError>
     requires zoom { at.z ≤ 16 }
     requires limits { All (CountFits 2) (lists_of lines.now) }
     ensures chains { IfOk result (λ v. lists_of v.items ≡ lines_cut at.z at.x at.y (lists_of lines.now)) }
@@ -98,7 +98,7 @@ pub(crate) fn lines_shape(
     alloc: Global,
     lines: &[Vec<World>],
     at: TileAt,
-) -> Result<Option<Shape>, Memory>
+) -> Result<Option<Shape>, AllocError>
     requires zoom { at.z ≤ 16 }
     requires limits { All (CountFits 2) (lists_of lines.now) }
     ensures shape { IfOk result (λ o. option_map shape_view o ≡ unless_empty shapes.lines (lines_cut at.z at.x at.y (lists_of lines.now))) }

@@ -9,10 +9,10 @@ ghost use Rattle.tile_cutter.specs.Range.{IsOfTile};
 
 use crate::bounds::is_in_box;
 use crate::place::{place, repeats};
-use feature_model::{Memory, World};
+use feature_model::World;
 use geometry_commands::{Pt, Shape};
 use hilbert_id::TileAt;
-use std::alloc::Global;
+use std::alloc::{AllocError, Global};
 
 /// Whether a tile shows a point: it isn't the one before it again, and stands in the box.
 fn is_shown(before: Option<Pt>, here: Pt) -> bool
@@ -22,7 +22,7 @@ fn is_shown(before: Option<Pt>, here: Pt) -> bool
 }
 
 /// The points that a tile shows.
-fn cut_points(alloc: Global, points: &[World], at: TileAt) -> Result<Vec<Pt>, Memory>
+fn cut_points(alloc: Global, points: &[World], at: TileAt) -> Result<Vec<Pt>, AllocError>
     requires { at.z ≤ 16 }
     ensures points { IfOk result (λ v. v.items ≡ points_cut at.z at.x at.y points.now) }
     ensures of_tile { OnOk result (All (IsOfTile at.x at.y) (points_cut at.z at.x at.y points.now)) }
@@ -44,7 +44,7 @@ pub(crate) fn points_shape(
     alloc: Global,
     points: &[World],
     at: TileAt,
-) -> Result<Option<Shape>, Memory>
+) -> Result<Option<Shape>, AllocError>
     requires zoom { at.z ≤ 16 }
     requires limits { CountFits 1 points.now }
     ensures shape { IfOk result (λ o. option_map shape_view o ≡ unless_empty shapes.points (points_cut at.z at.x at.y points.now)) }

@@ -10,10 +10,10 @@ ghost use Rattle.tile_cutter.specs.Range.{IsWithin, IsSmall, IsDrawable};
 
 use crate::bounds::ring_meets_box;
 use crate::place::{place, repeats};
-use feature_model::{Memory, World};
+use feature_model::World;
 use geometry_commands::{Pt, Shape};
 use hilbert_id::TileAt;
-use std::alloc::Global;
+use std::alloc::{AllocError, Global};
 
 /// What a ring is of a polygon.
 #[derive(Clone, Copy, PartialEq, Eq)]
@@ -35,7 +35,7 @@ fn returns_to_start(ring: &[Pt]) -> bool
 }
 
 /// The points of a ring in a tile, each that equals the one before it left out, and a last one that equals the first.
-fn tile_ring(alloc: Global, points: &[World], at: TileAt) -> Result<Vec<Pt>, Memory>
+fn tile_ring(alloc: Global, points: &[World], at: TileAt) -> Result<Vec<Pt>, AllocError>
     requires { at.z ≤ 16 }
     ensures ring { IfOk result (λ v. v.items ≡ tile_ring at.z at.x at.y points.now) }
     ensures in_world { OnOk result (All IsOfWorld points.now) }
@@ -128,7 +128,7 @@ fn shown_ring(
     points: &[World],
     at: TileAt,
     role: Role,
-) -> Result<Option<Vec<Pt>>, Memory>
+) -> Result<Option<Vec<Pt>>, AllocError>
     requires zoom { at.z ≤ 16 }
     requires few { length points.now < 2 ^ 29 }
     ensures ring { IfOk result (λ o. option_map (λ v. v.items) o ≡ shown_ring role (tile_ring at.z at.x at.y points.now)) }
@@ -142,7 +142,7 @@ fn shown_ring(
 }
 
 /// Appends a ring, where there is one.
-fn put(shown: &mut Vec<Vec<Pt>>, ring: Option<Vec<Pt>>) -> Result<(), Memory>
+fn put(shown: &mut Vec<Vec<Pt>>, ring: Option<Vec<Pt>>) -> Result<(), AllocError>
     ensures { OnOk result (lists_of shown.new.items ≡ lists_of shown.old.items ++ option_to_list (option_map (λ v. v.items) ring)) }
 {
     if let Some(ring) = ring {
@@ -157,7 +157,7 @@ fn cut_inner_rings(
     shown: &mut Vec<Vec<Pt>>,
     inners: &[Vec<World>],
     at: TileAt,
-) -> Result<(), Memory>
+) -> Result<(), AllocError>
     requires zoom { at.z ≤ 16 }
     requires limits { All (CountFits 3) (lists_of inners.now) }
     ensures rings { OnOk result (lists_of shown.new.items ≡ lists_of shown.old.items ++ inner_rings at.z at.x at.y (lists_of inners.now)) }
@@ -176,7 +176,7 @@ fn cut_polygon(
     shown: &mut Vec<Vec<Pt>>,
     polygon: &[Vec<World>],
     at: TileAt,
-) -> Result<(), Memory>
+) -> Result<(), AllocError>
     requires zoom { at.z ≤ 16 }
     requires limits { RingsFit (lists_of polygon.now) }
     ensures rings { OnOk result (lists_of shown.new.items ≡ lists_of shown.old.items ++ polygon_cut at.z at.x at.y (lists_of polygon.now)) }
@@ -197,7 +197,7 @@ fn cut_polygons(
     alloc: Global,
     polygons: &[Vec<Vec<World>>],
     at: TileAt,
-) -> Result<Vec<Vec<Pt>>, Memory>
+) -> Result<Vec<Vec<Pt>>, AllocError>
     requires zoom { at.z ≤ 16 }
     requires limits { All RingsFit (map (λ p. lists_of p.items) polygons.now) }
     ensures rings { IfOk result (λ v. lists_of v.items ≡ polygons_cut at.z at.x at.y (map (λ p. lists_of p.items) polygons.now)) }
@@ -215,7 +215,7 @@ pub(crate) fn rings_shape(
     alloc: Global,
     polygons: &[Vec<Vec<World>>],
     at: TileAt,
-) -> Result<Option<Shape>, Memory>
+) -> Result<Option<Shape>, AllocError>
     requires zoom { at.z ≤ 16 }
     requires limits { All RingsFit (map (λ p. lists_of p.items) polygons.now) }
     ensures shape { IfOk result (λ o. option_map shape_view o ≡ unless_empty shapes.rings (polygons_cut at.z at.x at.y (map (λ p. lists_of p.items) polygons.now))) }

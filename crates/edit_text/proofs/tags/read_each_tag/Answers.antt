@@ -33,8 +33,8 @@ returns-in_err-tag-clause-first c = λ out.
     let before = c.loop.invariant in
     let done = map tag_data c.loop.tags.items in
     let p = err_from_is_err_and c.from_residual.result c.from_residual.ensures.1 in
-    let told = rw c.deref.ensures.value at c.in_err-tag.ensures in
-    let here = memory_found Memory _ _ p.0 _ (tag_no_memory done c.loop.rest.now) told p.1 p.2 out in
+    let read = rw c.deref.ensures.value at c.in_err-tag.ensures in
+    let here = memory_found Memory _ _ p.0 _ (tag_no_memory done c.loop.rest.now) read p.1 p.2 out in
     first_of tag_at c.loop.counter done c.loop.rest.now c.args.bytes.now before.start before.first here
 
 pub returns-in_err-push-clause-first : goal.returns-in_err-push-clause-first
