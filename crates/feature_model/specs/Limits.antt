@@ -1,4 +1,4 @@
--- The limits of a feature and its number, one for each fault, in the order in which faults are told.
+-- The limits of a feature and its number, one for each fault, in the order in which faults are returned.
 use Rattle.std.specs.Prelude.{ℕ, pos, ◌&&◌, Bool, nat_le, ◌<◌, ◌≤◌, ◌<ℤ◌, List, length, map, All}
 use Rattle.std.specs.Ordering.{nat_cmp}
 use Rattle.std.specs.Cmp.Lexicographic.{slice_cmp}
@@ -113,5 +113,5 @@ IsFirstFault id f faults.Geometry = NumberFits id × LayerFits f × ZoomsFit f �
 IsFirstFault id f faults.Tags = NumberFits id × LayerFits f × ZoomsFit f × GeometryFits f.geometry × ¬ TagsFit f.tags
 IsFirstFault id f faults.Value = NumberFits id × LayerFits f × ZoomsFit f × GeometryFits f.geometry × TagsFit f.tags × ¬ ValuesFit f.tags
 IsFirstFault id f faults.Long = NumberFits id × LayerFits f × ZoomsFit f × GeometryFits f.geometry × TagsFit f.tags × ValuesFit f.tags × ¬ TextFits id f
--- no other fault is told
+-- no other fault is returned
 IsFirstFault id f _ = ⊥

@@ -154,8 +154,8 @@ fn values_fit(tags: &[Tag]) -> bool
     tags.iter().all(|tag| value_fits(&tag.value))
 }
 
-/// Tests the limits of a feature of this number. The first that is broken is told: `Number`, `Layer`, `Zoom`,
-/// `Geometry`, `Tags`, `Value` or `Long`, in this order. Nothing else is an error, and no memory is taken.
+/// Tests the limits of a feature of this number. The fault of the first that is broken is returned: `Number`, `Layer`, `Zoom`,
+/// `Geometry`, `Tags`, `Value` or `Long`, in this order. Nothing else is an error, and nothing is allocated.
 pub fn check(id: u64, feature: &Feature) -> Result<(), EditFault>
     ensures ok { IsOk result ↔ IsAllowed id (feature_data feature.now) }
     ensures first { IfErr result (IsFirstFault id (feature_data feature.now)) }

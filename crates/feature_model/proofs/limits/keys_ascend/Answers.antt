@@ -1,6 +1,6 @@
 use Rattle.std.proofs.Common.{◌-◌, ◌∙◌, refl, sym, arith}
 use Rattle.std.proofs.lemmas.Bool.{false≢true}
-use Rattle.feature_model.proofs.Ascending.{ascending_from_places, not_ascending}
+use Rattle.feature_model.proofs.Ascending.{ascending_from_neighbours, not_ascending}
 use Rattle.feature_model.proofs.limits.keys_ascend.Goals as goal
 
 pub loop-i-init : goal.loop-i-init
@@ -14,4 +14,4 @@ returns-then-not-is_before c = (
 )
 
 pub returns : goal.returns
-returns c = (λ _. ascending_from_places _ (λ k d h. c.loop-i.invariant k d (omega arith)), λ _. refl)
+returns c = (λ _. ascending_from_neighbours _ (λ k d h. c.loop-i.invariant k d (omega arith)), λ _. refl)
