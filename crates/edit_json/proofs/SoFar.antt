@@ -1,16 +1,16 @@
 -- A loop that reads a list: what is read so far, and what the rest gives.
-use Rattle.std.proofs.Common.{◌≡◌, List, [], ◌∷◌, ◌++◌, Option, Some, None, refl, sym, ap, append_assoc}
-use Rattle.std.specs.Prelude.{option_map}
+use Rattle.std.proofs.Common.{◌≡◌, List, [], ◌∷◌, ◌++◌, Ok, Err, refl, sym, ap, append_assoc}
+use Rattle.reader.specs.Reading.{Read, ◌>>=◌}
 
-module _ {A : Type 0} where
-  abbrev pub goes_on : List A → Option (List A) → Option (List A)
-  goes_on xs None = None
-  goes_on xs (Some ys) = Some (xs ++ ys)
+module _ {Fault A : Type 0} where
+  abbrev pub goes_on : List A → Read Fault (List A) → Read Fault (List A)
+  goes_on xs rest = rest >>= (λ ys. Ok (xs ++ ys))
 
-  pub goes_on-nil : (o : Option (List A)) → goes_on [] o ≡ o
-  goes_on-nil None = refl
-  goes_on-nil (Some ys) = refl
+  pub goes_on-nil : (rest : Read Fault (List A)) → goes_on [] rest ≡ rest
+  goes_on-nil (Err e) = refl
+  goes_on-nil (Ok ys) = refl
 
-  pub goes_on-cons : (xs : List A) (x : A) (o : Option (List A)) → goes_on xs (option_map (λ ys. x ∷ ys) o) ≡ goes_on (xs ++ x ∷ []) o
-  goes_on-cons xs x None = refl
-  goes_on-cons xs x (Some ys) = ap Some (sym (append_assoc xs (x ∷ []) ys))
+  pub goes_on-cons : (xs : List A) (x : A) (rest : Read Fault (List A))
+      → goes_on xs (rest >>= (λ ys. Ok (x ∷ ys))) ≡ goes_on (xs ++ x ∷ []) rest
+  goes_on-cons xs x (Err e) = refl
+  goes_on-cons xs x (Ok ys) = ap (λ zs. Ok zs) (sym (append_assoc xs (x ∷ []) ys))

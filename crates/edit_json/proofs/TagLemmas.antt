@@ -1,5 +1,6 @@
 -- The members of `tags`, as they are read.
-use Rattle.std.proofs.Common.{◌≡◌, ◌↔◌, ℕ, suc, List, [], ◌∷◌, ◌++◌, length, map, All, Option, Some, None, String, Global, Less, nat_cmp, refl, sym, ap, subst, ◌∙◌}
+use Rattle.std.proofs.Common.{◌≡◌, ◌↔◌, ℕ, suc, List, [], ◌∷◌, ◌++◌, length, map, All}
+use Rattle.std.proofs.Common.{Ok, Err, String, Global, Less, nat_cmp, refl, sym, ap, subst, ◌∙◌}
 use Rattle.std.specs.Prelude.{string_bytes}
 use Rattle.std.specs.Cmp.Lexicographic.{slice_cmp}
 use Rattle.std.specs.List.{AllByRecursion}
@@ -8,6 +9,8 @@ use Rattle.std.specs.String.{string_cmp}
 use Rattle.std.proofs.lemmas.List.Elements.{All-nil, All-cons, All-head, All-tail}
 use Rattle.serde_json.specs.View.{view, members_view}
 use Rattle.serde_json.specs.declared.value.Value.{Value}
+use Rattle.reader.specs.Reading.{Read}
+use Rattle.feature_model.specs.declared.fault.EditFault.{EditFault}
 use Rattle.feature_model.specs.Data.{TagData}
 use Rattle.feature_model.specs.Limits.{IsName}
 use Rattle.edit_json.specs.Faults.{names_of}
@@ -53,7 +56,8 @@ keys_end Q s e d = let P : List (String Global) → Type 0 = λ ks. All IsName (
 
 -- ---- the order of keys
 
-texts_below : (k : String Global) (ks : List (String Global)) → AllByRecursion (λ l. string_cmp k l ≡ Less) ks → AllByRecursion (λ t. slice_cmp nat_cmp (string_bytes k) t ≡ Less) (texts_of ks)
+texts_below : (k : String Global) (ks : List (String Global)) → AllByRecursion (λ l. string_cmp k l ≡ Less) ks
+    → AllByRecursion (λ t. slice_cmp nat_cmp (string_bytes k) t ≡ Less) (texts_of ks)
 texts_below k [] h = tt
 texts_below k (l ∷ ks) h = (h.0, texts_below k ks h.1)
 
@@ -62,21 +66,24 @@ unfolding IsStrictlySortedBy
 texts_ascend [] h = tt
 texts_ascend (k ∷ ks) h = (texts_below k ks h.0, texts_ascend ks h.1)
 
-pub names_ascend : (es : List (String Global × Value)) → IsStrictlySortedBy string_cmp (map (λ e. e.0) es) → IsStrictlySortedBy (slice_cmp nat_cmp) (names_of (members_view es))
+pub names_ascend : (es : List (String Global × Value)) → IsStrictlySortedBy string_cmp (map (λ e. e.0) es)
+    → IsStrictlySortedBy (slice_cmp nat_cmp) (names_of (members_view es))
 names_ascend es h = let P : List (List ℕ) → Type 0 = λ ns. IsStrictlySortedBy (slice_cmp nat_cmp) ns in
     subst P (sym (names_of-view es)) (texts_ascend (map (λ e. e.0) es) h)
 
 -- ---- the tags
 
 -- what is read so far with the members that are left
-abbrev pub rest_gives : List TagData → List (String Global × Value) → Option (List TagData)
+abbrev pub rest_gives : List TagData → List (String Global × Value) → Read EditFault (List TagData)
 rest_gives ts es = goes_on ts (tags_at (members_view es))
 
-pub tags_more : (ts : List TagData) (s t : List (String Global × Value)) (k : String Global) (v : Value) (d : TagData) → s ≡ (k, v) ∷ t → tag_at (string_bytes k) (view v) ≡ Some d
+pub tags_more : (ts : List TagData) (s t : List (String Global × Value)) (k : String Global) (v : Value) (d : TagData) → s ≡ (k, v) ∷ t
+    → tag_at (string_bytes k) (view v) ≡ Ok d
     → rest_gives ts s ≡ rest_gives (ts ++ d ∷ []) t
 unfolding tags_at
 tags_more ts s t k v d e f = ap (rest_gives ts) e ∙ rw f (goes_on-cons ts d (tags_at (members_view t)))
 
-pub tags_fault : (ts : List TagData) (s t : List (String Global × Value)) (k : String Global) (v : Value) → s ≡ (k, v) ∷ t → tag_at (string_bytes k) (view v) ≡ None → rest_gives ts s ≡ None
+pub tags_fault : (ts : List TagData) (s t : List (String Global × Value)) (k : String Global) (v : Value) (fault : EditFault)
+    → s ≡ (k, v) ∷ t → tag_at (string_bytes k) (view v) ≡ Err fault → rest_gives ts s ≡ Err fault
 unfolding tags_at
-tags_fault ts s t k v e f = ap (rest_gives ts) e ∙ rw f refl
+tags_fault ts s t k v fault e f = ap (rest_gives ts) e ∙ rw f refl

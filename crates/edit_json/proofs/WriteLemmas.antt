@@ -10,7 +10,8 @@ use Rattle.feature_model.specs.Data.{TagData}
 use Rattle.feature_model.specs.Limits.{keys_of, HasAscendingKeys}
 use Rattle.edit_json.specs.Json.{value_json, tags_json}
 
-key_above : (k : List ℕ) (ts : List TagData) (i : ℕ) (d : TagData) → i < length ts → AllByRecursion (λ y. slice_cmp nat_cmp k y ≡ Less) (keys_of ts) → slice_cmp nat_cmp (get_or ts i d).key k ≡ Greater
+key_above : (k : List ℕ) (ts : List TagData) (i : ℕ) (d : TagData) → i < length ts → AllByRecursion (λ y. slice_cmp nat_cmp k y ≡ Less) (keys_of ts)
+    → slice_cmp nat_cmp (get_or ts i d).key k ≡ Greater
 key_above k [] i d l h = absurd (omega arith)
 key_above k (t ∷ ts) zero d l h = nat_list_cmp_total.antisymm t.key k ∙ ap ordering_reverse h.0
 key_above k (t ∷ ts) (suc i) d l h = key_above k ts i d (omega arith) h.1

@@ -1,10 +1,11 @@
--- What a JSON value tells of a feature: that it is the feature's value, or the first fault that it has.
+-- What a JSON value says of a feature: that it is the feature's value, or the first fault that it has.
 use Rattle.std.specs.Prelude.{◌≡◌, ℕ, ◌<◌, ◌≤◌, List, [], ◌∷◌, length, All, ⊤}
 use Rattle.serde_json.specs.Data.{Data, Members, no_members, member}
+use Rattle.feature_model.specs.declared.limits.TheConstants.{MOST_TAGS}
 use Rattle.feature_model.specs.declared.fault.EditFault.{EditFault}
 use Rattle.feature_model.specs.declared.fault.EditFault.TheVariants as faults
 use Rattle.feature_model.specs.Data.{GeometryData, TagData, FeatureData}
-use Rattle.feature_model.specs.Limits.{IsName, LayerFits, ZoomsFit, GeometryFits, TagsFit, ValuesFit}
+use Rattle.feature_model.specs.Limits.{IsName, AreZooms, LayerFits, ZoomsFit, GeometryFits, TagsFit, ValuesFit}
 use Rattle.feature_model.specs.Types.{LiesInWorld}
 use Rattle.edit_json.specs.Json.{shape_of, tags_json, OutlineData, outline_json, json_of}
 
@@ -35,7 +36,7 @@ abbrev pub NameFits : OutlineData → Type 0
 NameFits o = IsName o.layer
 
 abbrev pub RangeFits : OutlineData → Type 0
-RangeFits o = (o.minzoom ≤ o.maxzoom) × (o.maxzoom ≤ 16)
+RangeFits o = AreZooms o.minzoom o.maxzoom
 
 -- the list is that of a geometry
 abbrev pub HasGeometry : OutlineData → Type 0
@@ -47,13 +48,13 @@ names_of (member name d ms) = name ∷ names_of ms
 
 -- the tags are few, and their keys are names; an object's names ascend
 abbrev pub HasKeys : OutlineData → Type 0
-HasKeys o = (length (names_of o.tags) ≤ 64) × All IsName (names_of o.tags)
+HasKeys o = (length (names_of o.tags) ≤ MOST_TAGS) × All IsName (names_of o.tags)
 
 -- each member is a tag
 abbrev pub HasTags : OutlineData → Type 0
 HasTags o = (tags : List TagData) × (o.tags ≡ tags_json tags) × ValuesFit tags
 
--- the fault is the value's, and none before it is; want of memory tells nothing of the value
+-- the fault is the value's, and none before it is; out of memory says nothing of the value
 abbrev pub IsFirstJsonFault : Data → EditFault → Type 0
 IsFirstJsonFault d faults.Member = (o : OutlineData) → ¬ IsOutline d o
 IsFirstJsonFault d faults.Layer = HasOutline d (λ o. ¬ NameFits o)
@@ -63,5 +64,5 @@ IsFirstJsonFault d faults.Tags = HasOutline d (λ o. NameFits o × RangeFits o �
 IsFirstJsonFault d faults.Value = HasOutline d (λ o.
     NameFits o × RangeFits o × HasGeometry o × HasKeys o × ¬ HasTags o)
 IsFirstJsonFault d faults.Memory = ⊤
--- no other fault is told
+-- no other fault is returned
 IsFirstJsonFault d _ = ⊥

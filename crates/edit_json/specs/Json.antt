@@ -3,7 +3,8 @@ use Rattle.std.specs.Prelude.{ℕ, List, [], ◌∷◌, map, codes}
 use Rattle.serde_json.specs.Data.{unsigned, negative, Data, boolean, number, string, array, object, Items, Members, no_members, member}
 use Rattle.serde_json.specs.View.{items_of}
 use Rattle.feature_model.specs.declared.feature.World.{World}
-use Rattle.feature_model.specs.Data.{GeometryData, world_points, world_lines, world_polygons, ValueData, text_value, natural_value, negative_value, truth_value, TagData, FeatureData}
+use Rattle.feature_model.specs.Data.{GeometryData, world_points, world_lines, world_polygons, ValueData, text_value}
+use Rattle.feature_model.specs.Data.{natural_value, negative_value, truth_value, TagData, FeatureData}
 
 -- ---- the names of the members
 

@@ -1,5 +1,4 @@
 pub mod Faults
-pub mod Gives
 pub mod Json
 pub mod Lists
 pub mod Outline

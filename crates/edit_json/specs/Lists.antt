@@ -1,10 +1,15 @@
 -- What the lists of a geometry are read as.
-use Rattle.std.specs.Prelude.{ℕ, ◌^◌, ◌&&◌, nat_lt, nat_le, if◌then◌else◌, Bool, List, [], ◌∷◌, Option, Some, None, option_and_then, option_map}
+use Rattle.std.specs.Prelude.{ℕ, ◌^◌, nat_lt, if◌then◌else◌, List, [], ◌∷◌, Option, Some, None, option_and_then, option_map, Ok, Err}
+use Rattle.reader.specs.Reading.{Read, ◌>>=◌}
 use Rattle.serde_json.specs.Data.{Data, Items, no_items, item}
 use Rattle.serde_json.specs.Events.{items_len}
 use Rattle.serde_json.specs.Find.{as_u64, as_number, as_array}
+use Rattle.feature_model.specs.declared.limits.TheConstants.{LEAST_LINE, LEAST_RING}
+use Rattle.feature_model.specs.declared.fault.EditFault.{EditFault}
+use Rattle.feature_model.specs.declared.fault.EditFault.TheVariants as faults
 use Rattle.feature_model.specs.declared.feature.World.{World}
 use Rattle.feature_model.specs.Data.{GeometryData, world_points, world_lines, world_polygons}
+use Rattle.feature_model.specs.Limits.{is_count}
 use Rattle.edit_json.specs.Json.{ShapeData, point_list, line_list, polygon_list}
 
 -- a whole number below the limit
@@ -20,26 +25,33 @@ pair_at (item a (item b (item c ds))) = None
 unfoldable pub point_at : Data → Option World
 point_at d = option_and_then pair_at (as_array d)
 
--- each of the items by `one`, or nothing where one of them is none
-unfoldable pub each : {A : Type 0} → (Data → Option A) → Items → Option (List A)
-each one no_items = Some []
-each one (item d ds) = option_and_then (λ x. option_map (λ xs. x ∷ xs) (each one ds)) (one d)
+-- what is found, or the fault of a geometry
+abbrev pub in_geometry : {A : Type 0} → Option A → Read EditFault A
+in_geometry (Some x) = Ok x
+in_geometry None = Err faults.Geometry
 
--- how many a list of a geometry may have
-abbrev pub has_count : ℕ → ℕ → Bool
-has_count least n = nat_le least n && nat_le n 65535
+abbrev pub point_in : Data → Read EditFault World
+point_in d = in_geometry (point_at d)
+
+abbrev pub items_in : Data → Read EditFault Items
+items_in d = in_geometry (as_array d)
+
+-- each of the items by `one`
+unfoldable pub each : {A : Type 0} → (Data → Read EditFault A) → Items → Read EditFault (List A)
+each one no_items = Ok []
+each one (item d ds) = one d >>= (λ x. each one ds >>= (λ xs. Ok (x ∷ xs)))
 
 -- a list of so many items, each by `one`
-unfoldable pub list_of : {A : Type 0} → ℕ → (Data → Option A) → Items → Option (List A)
-list_of least one ds = if has_count least (items_len ds) then each one ds else None
+unfoldable pub list_of : {A : Type 0} → ℕ → (Data → Read EditFault A) → Items → Read EditFault (List A)
+list_of least one ds = if is_count least (items_len ds) then each one ds else Err faults.Geometry
 
-unfoldable pub points_at : ℕ → Data → Option (List World)
-points_at least d = option_and_then (list_of least point_at) (as_array d)
+unfoldable pub points_at : ℕ → Data → Read EditFault (List World)
+points_at least d = items_in d >>= list_of least point_in
 
-unfoldable pub lines_at : ℕ → Data → Option (List (List World))
-lines_at least d = option_and_then (list_of 1 (points_at least)) (as_array d)
+unfoldable pub lines_at : ℕ → Data → Read EditFault (List (List World))
+lines_at least d = items_in d >>= list_of 1 (points_at least)
 
-unfoldable pub geometry_at : ShapeData → Option GeometryData
-geometry_at (point_list ds) = option_map world_points (list_of 1 point_at ds)
-geometry_at (line_list ds) = option_map world_lines (list_of 1 (points_at 2) ds)
-geometry_at (polygon_list ds) = option_map world_polygons (list_of 1 (lines_at 3) ds)
+unfoldable pub geometry_at : ShapeData → Read EditFault GeometryData
+geometry_at (point_list ds) = list_of 1 point_in ds >>= (λ points. Ok (world_points points))
+geometry_at (line_list ds) = list_of 1 (points_at LEAST_LINE) ds >>= (λ lines. Ok (world_lines lines))
+geometry_at (polygon_list ds) = list_of 1 (lines_at LEAST_RING) ds >>= (λ polygons. Ok (world_polygons polygons))

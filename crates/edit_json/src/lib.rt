@@ -7,14 +7,13 @@
 //! so `-0`, `1.0` and `1e0` are none.
 #![tactic(auto)]
 
-mod limits;
 mod lists;
 mod outline;
-mod reader;
+mod reading;
 mod tags;
 mod writer;
 
-pub use reader::feature_from_json;
+pub use reading::feature_from_json;
 pub use writer::feature_to_json;
 
 #[cfg(test)]

@@ -1,16 +1,16 @@
 //! The lists of a geometry.
 
 ghost use Rattle.std.specs.Prelude.{◌≡◌, ◌^◌, map, true, false, OnOk, IfErr};
-ghost use Rattle.serde_json.specs.Find.{as_array};
 ghost use Rattle.serde_json.specs.View.{view, items_view};
-ghost use Rattle.edit_json.specs.Gives.{Tells, Gives};
-ghost use Rattle.edit_json.specs.Lists.{below, point_at, has_count, list_of, points_at, lines_at, geometry_at};
+ghost use Rattle.reader.specs.Reading.{Reads, Gives};
+ghost use Rattle.edit_json.specs.Lists.{below, point_at, point_in, items_in, list_of, points_at, lines_at, geometry_at};
 ghost use Rattle.edit_json.specs.Outline.{shape_data};
+ghost use Rattle.feature_model.specs.declared.limits.TheConstants.{LEAST_RING};
+ghost use Rattle.feature_model.specs.Limits.{is_count};
 ghost use Rattle.feature_model.specs.Data.{geometry_data};
 
-use crate::limits::count_fits;
 use crate::outline::Shape;
-use feature_model::{EditFault, Geometry, World};
+use feature_model::{EditFault, Geometry, LEAST_LINE, LEAST_RING, World, count_fits};
 use serde_json::Value;
 use std::alloc::Global;
 
@@ -38,14 +38,14 @@ fn read_point(value: &Value) -> Option<World>
 
 /// The point of a value.
 fn point_in(value: &Value) -> Result<World, EditFault>
-    ensures { Tells EditFault.Geometry (λ p. p) result (point_at (view value.now)) }
+    ensures { Reads (λ p. p) result (point_in (view value.now)) }
 {
     read_point(value).ok_or(EditFault::Geometry)
 }
 
 /// The elements of a value that is a list.
 fn list_in(value: &Value) -> Result<&[Value], EditFault>
-    ensures { Tells EditFault.Geometry (λ l. items_view l.now) result (as_array (view value.now)) }
+    ensures { Reads (λ l. items_view l.now) result (items_in (view value.now)) }
 {
     match value.as_array() {
         Some(list) => Ok(list.as_slice()),
@@ -55,8 +55,8 @@ fn list_in(value: &Value) -> Result<&[Value], EditFault>
 
 /// A list of so many elements has enough, and not too many.
 fn check_count(count: usize, least: usize) -> Result<(), EditFault>
-    ensures ok { OnOk result (has_count least count ≡ true) }
-    ensures fault { IfErr result (λ e. (e ≡ EditFault.Geometry) × (has_count least count ≡ false)) }
+    ensures ok { OnOk result (is_count least count ≡ true) }
+    ensures fault { IfErr result (λ e. (e ≡ EditFault.Geometry) × (is_count least count ≡ false)) }
 {
     if count_fits(count, least) {
         Ok(())
@@ -68,8 +68,8 @@ fn check_count(count: usize, least: usize) -> Result<(), EditFault>
 /// At least so many points.
 #[tactic(auto, unfolding(crate::specs::Lists::list_of, crate::specs::Lists::each))]
 fn read_points(alloc: Global, list: &[Value], least: usize) -> Result<Vec<World>, EditFault>
-    ensures { Gives EditFault.Geometry (λ v. v.items) result
-        (list_of least point_at (items_view list.now)) }
+    ensures { Gives EditFault.Memory (λ v. v.items) result
+        (list_of least point_in (items_view list.now)) }
 {
     if let Err(fault) = check_count(list.len(), least) {
         return Err(fault);
@@ -84,7 +84,7 @@ fn read_points(alloc: Global, list: &[Value], least: usize) -> Result<Vec<World>
 /// A line or a ring of at least so many points.
 #[tactic(auto, unfolding(crate::specs::Lists::points_at))]
 fn read_line(alloc: Global, value: &Value, least: usize) -> Result<Vec<World>, EditFault>
-    ensures { Gives EditFault.Geometry (λ v. v.items) result (points_at least (view value.now)) }
+    ensures { Gives EditFault.Memory (λ v. v.items) result (points_at least (view value.now)) }
 {
     let list = list_in(value)?;
     read_points(alloc, list, least)
@@ -93,7 +93,7 @@ fn read_line(alloc: Global, value: &Value, least: usize) -> Result<Vec<World>, E
 /// Lines or rings, each of at least so many points.
 #[tactic(auto, unfolding(crate::specs::Lists::list_of, crate::specs::Lists::each))]
 fn read_lines(alloc: Global, list: &[Value], least: usize) -> Result<Vec<Vec<World>>, EditFault>
-    ensures { Gives EditFault.Geometry (λ v. map (λ l. l.items) v.items) result
+    ensures { Gives EditFault.Memory (λ v. map (λ l. l.items) v.items) result
         (list_of 1 (points_at least) (items_view list.now)) }
 {
     if let Err(fault) = check_count(list.len(), 1) {
@@ -109,18 +109,18 @@ fn read_lines(alloc: Global, list: &[Value], least: usize) -> Result<Vec<Vec<Wor
 /// A polygon: its rings.
 #[tactic(auto, unfolding(crate::specs::Lists::lines_at))]
 fn read_polygon(alloc: Global, value: &Value) -> Result<Vec<Vec<World>>, EditFault>
-    ensures { Gives EditFault.Geometry (λ v. map (λ l. l.items) v.items) result
-        (lines_at 3 (view value.now)) }
+    ensures { Gives EditFault.Memory (λ v. map (λ l. l.items) v.items) result
+        (lines_at LEAST_RING (view value.now)) }
 {
     let list = list_in(value)?;
-    read_lines(alloc, list, 3)
+    read_lines(alloc, list, LEAST_RING)
 }
 
 /// Polygons.
 #[tactic(auto, unfolding(crate::specs::Lists::list_of, crate::specs::Lists::each))]
 fn read_polygons(alloc: Global, list: &[Value]) -> Result<Vec<Vec<Vec<World>>>, EditFault>
-    ensures { Gives EditFault.Geometry (λ v. map (λ p. map (λ r. r.items) p.items) v.items) result
-        (list_of 1 (lines_at 3) (items_view list.now)) }
+    ensures { Gives EditFault.Memory (λ v. map (λ p. map (λ r. r.items) p.items) v.items) result
+        (list_of 1 (lines_at LEAST_RING) (items_view list.now)) }
 {
     if let Err(fault) = check_count(list.len(), 1) {
         return Err(fault);
@@ -135,11 +135,11 @@ fn read_polygons(alloc: Global, list: &[Value]) -> Result<Vec<Vec<Vec<World>>>, 
 /// The geometry of a list.
 #[tactic(auto, unfolding(crate::specs::Lists::geometry_at))]
 pub(crate) fn read_geometry(alloc: Global, shape: Shape<'_>) -> Result<Geometry, EditFault>
-    ensures { Gives EditFault.Geometry geometry_data result (geometry_at (shape_data shape.entry)) }
+    ensures { Gives EditFault.Memory geometry_data result (geometry_at (shape_data shape.entry)) }
 {
     match shape {
         Shape::Points(list) => Ok(Geometry::Points(read_points(alloc, list, 1)?)),
-        Shape::Lines(list) => Ok(Geometry::Lines(read_lines(alloc, list, 2)?)),
+        Shape::Lines(list) => Ok(Geometry::Lines(read_lines(alloc, list, LEAST_LINE)?)),
         Shape::Polygons(list) => Ok(Geometry::Polygons(read_polygons(alloc, list)?)),
     }
 }

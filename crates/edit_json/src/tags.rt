@@ -5,23 +5,18 @@ ghost use Rattle.std.specs.Cmp.Lexicographic.{slice_cmp};
 ghost use Rattle.std.specs.List.Sorted.{IsStrictlySortedBy};
 ghost use Rattle.std.specs.Ordering.{nat_cmp};
 ghost use Rattle.serde_json.specs.View.{view, members_view};
+ghost use Rattle.feature_model.specs.declared.limits.TheConstants.{MOST_TAGS};
 ghost use Rattle.feature_model.specs.Data.{value_data, tag_data};
 ghost use Rattle.feature_model.specs.Limits.{IsName};
 ghost use Rattle.feature_model.specs.Types.{ValueFitsTypes, TagFitsTypes};
 ghost use Rattle.edit_json.specs.Faults.{names_of};
-ghost use Rattle.edit_json.specs.Gives.{Finds, Gives};
+ghost use Rattle.reader.specs.Reading.{Finds, Gives};
 ghost use Rattle.edit_json.specs.Tags.{value_at, tag_at, tags_at};
 
-use crate::limits::is_name;
-use feature_model::{EditFault, EditValue, Tag};
+use feature_model::{EditFault, EditValue, Tag, is_name, is_tag_text, tag_count_fits};
 use serde_json::Value;
 use serde_json::value::Map;
 use std::alloc::Global;
-
-/// The most tags of a feature.
-const TAGS: usize = 64;
-/// The most bytes of a tag's text.
-const TEXT_LEN: usize = 1024;
 
 /// Whether each key is a name.
 fn keys_fit(tags: &Map<String, Value>) -> bool
@@ -35,22 +30,22 @@ fn keys_fit(tags: &Map<String, Value>) -> bool
     true
 }
 
-/// Whether the tags are few, and their keys of 1 to 64 bytes.
+/// Whether the tags are few, and their keys are names.
 fn tags_fit(tags: &Map<String, Value>) -> bool
-    ensures fits { IsTrue result ↔ ((length (names_of (members_view tags.now.entries)) ≤ 64)
+    ensures fits { IsTrue result ↔ ((length (names_of (members_view tags.now.entries)) ≤ MOST_TAGS)
         × All IsName (names_of (members_view tags.now.entries))) }
     // An object's names ascend.
     ensures ascending { IsStrictlySortedBy (slice_cmp nat_cmp)
         (names_of (members_view tags.now.entries)) }
 {
-    tags.len() <= TAGS && keys_fit(tags)
+    tag_count_fits(tags.len()) && keys_fit(tags)
 }
 
-/// The tags are few, and their keys of 1 to 64 bytes.
+/// The tags are few, and their keys are names.
 pub(crate) fn check_tags(tags: &Map<String, Value>) -> Result<(), EditFault>
-    ensures ok { OnOk result ((length (names_of (members_view tags.now.entries)) ≤ 64) × All IsName (names_of (members_view tags.now.entries))) }
+    ensures ok { OnOk result ((length (names_of (members_view tags.now.entries)) ≤ MOST_TAGS) × All IsName (names_of (members_view tags.now.entries))) }
     ensures fault { IfErr result (λ e. (e ≡ EditFault.Tags)
-        × ¬ ((length (names_of (members_view tags.now.entries)) ≤ 64) × All IsName (names_of (members_view tags.now.entries)))) }
+        × ¬ ((length (names_of (members_view tags.now.entries)) ≤ MOST_TAGS) × All IsName (names_of (members_view tags.now.entries)))) }
     // An object's names ascend.
     ensures ascending { IsStrictlySortedBy (slice_cmp nat_cmp) (names_of (members_view tags.now.entries)) }
 {
@@ -64,11 +59,11 @@ pub(crate) fn check_tags(tags: &Map<String, Value>) -> Result<(), EditFault>
 /// The value of a tag.
 #[tactic(auto, unfolding(crate::specs::Tags::value_at))]
 fn read_value(alloc: Global, value: &Value) -> Result<EditValue, EditFault>
-    ensures value { Finds EditFault.Value value_data result (value_at (view value.now)) }
+    ensures value { Finds EditFault.Memory value_data result (value_at (view value.now)) }
     ensures types { IfOk result (λ v. ValueFitsTypes (value_data v)) }
 {
     if let Some(text) = value.as_str() {
-        if text.len() > TEXT_LEN {
+        if !is_tag_text(text) {
             return Err(EditFault::Value);
         }
         return Ok(EditValue::Text(String::from_str(alloc, text)?));
@@ -88,7 +83,7 @@ fn read_value(alloc: Global, value: &Value) -> Result<EditValue, EditFault>
 /// The tag of a member.
 #[tactic(auto, unfolding(crate::specs::Tags::tag_at))]
 fn read_tag(alloc: Global, key: &str, value: &Value) -> Result<Tag, EditFault>
-    ensures tag { Finds EditFault.Value tag_data result (tag_at key.now (view value.now)) }
+    ensures tag { Finds EditFault.Memory tag_data result (tag_at key.now (view value.now)) }
     ensures types { IfOk result (λ t. TagFitsTypes (tag_data t)) }
 {
     let value = read_value(alloc, value)?;
@@ -101,7 +96,7 @@ fn read_tag(alloc: Global, key: &str, value: &Value) -> Result<Tag, EditFault>
 /// The tags, in the order of their keys.
 #[tactic(auto, unfolding(crate::specs::Tags::tags_at))]
 pub(crate) fn read_tags(alloc: Global, tags: &Map<String, Value>) -> Result<Vec<Tag>, EditFault>
-    ensures tags { Gives EditFault.Value (λ v. map tag_data v.items) result
+    ensures tags { Gives EditFault.Memory (λ v. map tag_data v.items) result
         (tags_at (members_view tags.now.entries)) }
     ensures types { IfOk result (λ v. All TagFitsTypes (map tag_data v.items)) }
 {

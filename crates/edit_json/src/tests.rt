@@ -266,8 +266,8 @@ fn assert_fault(
     fault: Option<EditFault>,
 ) -> Result<(), Fail> {
     let value = Value::from_str(alloc, text)?;
-    let told = feature_from_json(alloc, &value).err();
-    assert!(rt; told == fault, "{text}");
+    let returned = feature_from_json(alloc, &value).err();
+    assert!(rt; returned == fault, "{text}");
     Ok(())
 }
 

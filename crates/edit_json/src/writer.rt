@@ -7,13 +7,13 @@ ghost use Rattle.feature_model.specs.Data.{geometry_data, value_data, tag_data, 
 ghost use Rattle.feature_model.specs.Limits.{HasAscendingKeys, TagsFit, ValueFits, ValuesFit};
 ghost use Rattle.edit_json.specs.Json.{point_json, points_json, lines_json, polygons_json, shape_of, shape_json, value_json, tags_json, json_of};
 
-use feature_model::{EditValue, Feature, Geometry, Memory, Tag, World};
+use feature_model::{EditValue, Feature, Geometry, Tag, World};
 use serde_json::value::Map;
 use serde_json::{Value, put};
-use std::alloc::Global;
+use std::alloc::{AllocError, Global};
 
 /// A point as `[x,y]`.
-fn point_value(alloc: Global, point: &World) -> Result<Value, Memory>
+fn point_value(alloc: Global, point: &World) -> Result<Value, AllocError>
     ensures { IfOk result (λ v. view v ≡ point_json point.now) }
 {
     let mut pair = Vec::with_capacity(alloc, 2)?;
@@ -23,7 +23,7 @@ fn point_value(alloc: Global, point: &World) -> Result<Value, Memory>
 }
 
 /// A list of points.
-fn points_value(alloc: Global, points: &[World]) -> Result<Value, Memory>
+fn points_value(alloc: Global, points: &[World]) -> Result<Value, AllocError>
     ensures { IfOk result (λ v. view v ≡ points_json points.now) }
 {
     let mut list = Vec::with_capacity(alloc, points.len())?;
@@ -34,7 +34,7 @@ fn points_value(alloc: Global, points: &[World]) -> Result<Value, Memory>
 }
 
 /// A list of lines or rings.
-fn lines_value(alloc: Global, lines: &[Vec<World>]) -> Result<Value, Memory>
+fn lines_value(alloc: Global, lines: &[Vec<World>]) -> Result<Value, AllocError>
     ensures { IfOk result (λ v. view v ≡ lines_json (map (λ l. l.items) lines.now)) }
 {
     let mut list = Vec::with_capacity(alloc, lines.len())?;
@@ -45,7 +45,7 @@ fn lines_value(alloc: Global, lines: &[Vec<World>]) -> Result<Value, Memory>
 }
 
 /// A list of polygons.
-fn polygons_value(alloc: Global, polygons: &[Vec<Vec<World>>]) -> Result<Value, Memory>
+fn polygons_value(alloc: Global, polygons: &[Vec<Vec<World>>]) -> Result<Value, AllocError>
     ensures { IfOk result (λ v. view v
         ≡ polygons_json (map (λ p. map (λ r. r.items) p.items) polygons.now)) }
 {
@@ -57,7 +57,7 @@ fn polygons_value(alloc: Global, polygons: &[Vec<Vec<World>>]) -> Result<Value, 
 }
 
 /// An object with one member.
-fn object_of(alloc: Global, name: &str, value: Value) -> Result<Value, Memory>
+fn object_of(alloc: Global, name: &str, value: Value) -> Result<Value, AllocError>
     ensures { IfOk result (λ v. view v ≡ object (member name.now (view value) no_members)) }
 {
     let mut members = Map::new(alloc);
@@ -67,7 +67,7 @@ fn object_of(alloc: Global, name: &str, value: Value) -> Result<Value, Memory>
 
 /// The list of a geometry under the name of its kind.
 #[tactic(auto, unfolding(crate::specs::Json::points_name, crate::specs::Json::lines_name, crate::specs::Json::polygons_name))]
-fn geometry_value(alloc: Global, geometry: &Geometry) -> Result<Value, Memory>
+fn geometry_value(alloc: Global, geometry: &Geometry) -> Result<Value, AllocError>
     ensures { IfOk result (λ v. view v ≡ shape_json (shape_of (geometry_data geometry.now))) }
 {
     match geometry {
@@ -80,7 +80,7 @@ fn geometry_value(alloc: Global, geometry: &Geometry) -> Result<Value, Memory>
 }
 
 /// The value of a tag.
-fn tag_value(alloc: Global, value: &EditValue) -> Result<Value, Memory>
+fn tag_value(alloc: Global, value: &EditValue) -> Result<Value, AllocError>
     requires { ValueFits (value_data value.now) }
     ensures { IfOk result (λ v. view v ≡ value_json (value_data value.now)) }
 {
@@ -93,7 +93,7 @@ fn tag_value(alloc: Global, value: &EditValue) -> Result<Value, Memory>
 }
 
 /// A member for each tag.
-fn tags_value(alloc: Global, tags: &[Tag]) -> Result<Value, Memory>
+fn tags_value(alloc: Global, tags: &[Tag]) -> Result<Value, AllocError>
     requires ascending { HasAscendingKeys (map tag_data tags.now) }
     requires values { ValuesFit (map tag_data tags.now) }
     ensures { IfOk result (λ v. view v ≡ object (tags_json (map tag_data tags.now))) }
@@ -112,7 +112,7 @@ fn tags_value(alloc: Global, tags: &[Tag]) -> Result<Value, Memory>
 
 /// The one JSON value of a feature.
 #[tactic(auto, unfolding(crate::specs::Json::geometry_name, crate::specs::Json::layer_name, crate::specs::Json::maxzoom_name, crate::specs::Json::minzoom_name, crate::specs::Json::tags_name))]
-pub fn feature_to_json(alloc: Global, feature: &Feature) -> Result<Value, Memory>
+pub fn feature_to_json(alloc: Global, feature: &Feature) -> Result<Value, AllocError>
     requires tags { TagsFit (feature_data feature.now).tags }
     requires values { ValuesFit (feature_data feature.now).tags }
     ensures { IfOk result (λ v. view v ≡ json_of (feature_data feature.now)) }

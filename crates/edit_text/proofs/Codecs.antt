@@ -1,6 +1,7 @@
 -- Ways to read, each tied to what it reads: what is found stands there, what stands there is found, and bytes are cut
 -- exactly where they end inside.
-use Rattle.std.proofs.Common.{◌≡◌, ℕ, ◌+◌, ◌<◌, ◌≤◌, ◌⊎◌, inl, inr, Bool, true, false, List, ◌++◌, length, get_or, Ok, Err, refl, sym, ap, subst, ◌∙◌, append_assoc, cond, lit<}
+use Rattle.std.proofs.Common.{◌≡◌, ℕ, ◌+◌, ◌<◌, ◌≤◌, ◌⊎◌, inl, inr, Bool, true, false, List, ◌++◌}
+use Rattle.std.proofs.Common.{length, get_or, Ok, Err, refl, sym, ap, subst, ◌∙◌, append_assoc, cond, lit<}
 use Rattle.std.proofs.lemmas.List.{get_or-append-add, get_or_append_left, get_or_past}
 use Rattle.std.proofs.lemmas.Bool.{cases_lt}
 use Rattle.edit_text.specs.declared.fault.TextFault.TheVariants.{Cut, Bad}
@@ -18,9 +19,11 @@ pub record Codec {A : Type 0} (read : List ℕ → Part A) (spell : A → List �
   pub ends : (bytes : List ℕ) → Ends bytes → read bytes ≡ Err Cut
 
 pub bytes_behind : (front rest bytes : List ℕ) → bytes ≡ front ++ rest → AreBytes bytes → AreBytes rest
-bytes_behind front rest bytes e h = λ i. subst (λ n. n < 256) (ap (λ b. get_or b (length front + i) 0) e ∙ get_or-append-add front rest i 0) (h (length front + i))
+bytes_behind front rest bytes e h = λ i. subst (λ n. n < 256) (ap (λ b. get_or b (length front + i) 0) e ∙ get_or-append-add front rest i 0)
+    (h (length front + i))
 
-bytes_before_by : (front rest bytes : List ℕ) → bytes ≡ front ++ rest → AreBytes bytes → (i : ℕ) → (i < length front) ⊎ (length front ≤ i) → get_or front i 0 < 256
+bytes_before_by : (front rest bytes : List ℕ) → bytes ≡ front ++ rest → AreBytes bytes → (i : ℕ) → (i < length front) ⊎ (length front ≤ i)
+    → get_or front i 0 < 256
 bytes_before_by front rest bytes e h i (inl l) = subst (λ n. n < 256) (ap (λ b. get_or b i 0) e ∙ get_or_append_left front rest 0 i l) (h i)
 bytes_before_by front rest bytes e h i (inr l) = subst (λ n. n < 256) (sym (get_or_past front i 0 l)) (lit< tt)
 
@@ -29,7 +32,8 @@ bytes_before front rest bytes e h = λ i. bytes_before_by front rest bytes e h i
 
 -- the same, in other words
 pub codec_same : {A : Type 0} (read : List ℕ → Part A) (spell : A → List ℕ) (Is Is' : A → Type 0) (Ends Ends' : List ℕ → Type 0)
-    → Codec read spell Is Ends → ((x : A) → Is x → Is' x) → ((x : A) → Is' x → Is x) → ((b : List ℕ) → Ends b → Ends' b) → ((b : List ℕ) → Ends' b → Ends b) → Codec read spell Is' Ends'
+    → Codec read spell Is Ends → ((x : A) → Is x → Is' x) → ((x : A) → Is' x → Is x) → ((b : List ℕ) → Ends b → Ends' b) → ((b : List ℕ) → Ends' b → Ends b)
+    → Codec read spell Is' Ends'
 codec_same read spell Is Is' Ends Ends' c to from ends_to ends_from = record {
   found = λ bytes x rest h e. let f = c.found bytes x rest h e in (to x f.0, f.1);
   reads = λ x rest is. c.reads x rest (from x is);
@@ -101,7 +105,8 @@ as_cut : {A B : Type 0} (make : A → B) (p : Part A) → read_as make p ≡ Err
 as_cut make (Ok x) e = absurd (cc)
 as_cut make (Err f) e = cc
 
-pub codec_as : {A B : Type 0} (read : List ℕ → Part A) (s1 : A → List ℕ) (Is1 : A → Type 0) (Ends : List ℕ → Type 0) (make : A → B) (spell : B → List ℕ) (Is : B → Type 0)
+pub codec_as : {A B : Type 0} (read : List ℕ → Part A) (s1 : A → List ℕ) (Is1 : A → Type 0) (Ends : List ℕ → Type 0) (make : A → B) (spell : B → List ℕ)
+    (Is : B → Type 0)
     → Codec read s1 Is1 Ends
     → ((x : A) → AreBytes (s1 x) → Is1 x → Is (make x) × (spell (make x) ≡ s1 x))
     → ((y : B) → Is y → (x : A) × Is1 x × (y ≡ make x) × (spell y ≡ s1 x))
@@ -124,7 +129,8 @@ codec_as read s1 Is1 Ends make spell Is c join split = record {
 abbrev passed : {A : Type 0} → Bool → A × List ℕ → Part A
 passed b y = cond b (Ok y) (Err Bad)
 
-if_found_by : {A : Type 0} (test : A → Bool) (y : A × List ℕ) (b : Bool) (x : A) (rest : List ℕ) → test y.0 ≡ b → passed b y ≡ Ok (x, rest) → (y ≡ (x, rest)) × (test x ≡ true)
+if_found_by : {A : Type 0} (test : A → Bool) (y : A × List ℕ) (b : Bool) (x : A) (rest : List ℕ) → test y.0 ≡ b → passed b y ≡ Ok (x, rest)
+    → (y ≡ (x, rest)) × (test x ≡ true)
 if_found_by test y true x rest t e = let pair : y ≡ (x, rest) = cc in (pair, sym (ap (λ q. test q.0) pair) ∙ t)
 if_found_by test y false x rest t e = absurd (cc)
 

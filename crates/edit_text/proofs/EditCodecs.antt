@@ -3,12 +3,15 @@ use Rattle.std.proofs.Common.{◌≡◌, ℕ, ◌<◌, ◌≤◌, ◌⊎◌, inl
 use Rattle.std.specs.Str.{IsUtf8}
 use Rattle.std.proofs.lemmas.Bool.{le-leb, leb-true}
 use Rattle.std.proofs.lemmas.Bool.Decides.{nat_tests}
+use Rattle.feature_model.specs.declared.limits.TheConstants.{GREATEST_ZOOM}
 use Rattle.feature_model.specs.Data.{GeometryData, TagData, FeatureData, EditData, put, delete}
 use Rattle.feature_model.specs.Limits.{IsName, NumberFits}
 use Rattle.feature_model.specs.Spelled.{eight_bytes, spelled_name, spelled_geometry, spelled_tags, spelled_feature, spelled}
 use Rattle.edit_text.specs.declared.fault.TextFault.TheVariants.{Bad}
-use Rattle.edit_text.specs.Reading.{Part, then_read, read_as, read_if, byte_at, name_at, zooms_at, geometry_at, tags_at, feature_at, number_at, put_at, edit_behind, edit_at}
-use Rattle.edit_text.specs.Cut.{EndsWithin, EndsBehindKind, one_byte, EndsInName, EndsInGeometry, EndsInTags, EndsInZooms, EndsInShape, EndsInBody, EndsInFeature, EndsInPut, EndsInEdit}
+use Rattle.edit_text.specs.Reading.{Part, then_read, read_as, read_if, byte_at, name_at, zooms_at}
+use Rattle.edit_text.specs.Reading.{geometry_at, tags_at, feature_at, number_at, put_at, edit_behind, edit_at}
+use Rattle.edit_text.specs.Cut.{EndsWithin, EndsBehindKind, one_byte, EndsInName, EndsInGeometry, EndsInTags}
+use Rattle.edit_text.specs.Cut.{EndsInZooms, EndsInShape, EndsInBody, EndsInFeature, EndsInPut, EndsInEdit}
 use Rattle.edit_text.proofs.Codecs.{Codec, codec_same, codec_then, codec_as, codec_if}
 use Rattle.edit_text.proofs.FieldCodecs.{codec_byte, codec_name, codec_number}
 use Rattle.edit_text.proofs.KindCodecs.{KindCodec, pick, kind_none, kind_or, codec_kinds}
@@ -17,31 +20,35 @@ use Rattle.edit_text.proofs.TagCodecs.{IsTags, codec_tags}
 
 -- ---- zooms
 
-zooms_pass : (first last : ℕ) → first ≤ last → last ≤ 16 → nat_le first last && nat_le last 16 ≡ true
+zooms_pass : (first last : ℕ) → first ≤ last → last ≤ GREATEST_ZOOM → nat_le first last && nat_le last GREATEST_ZOOM ≡ true
 zooms_pass first last low high = grind (arith, nat_tests)
 
-zooms_fit : (first last : ℕ) → nat_le first last && nat_le last 16 ≡ true → (first ≤ last) × (last ≤ 16)
+zooms_fit : (first last : ℕ) → nat_le first last && nat_le last GREATEST_ZOOM ≡ true → (first ≤ last) × (last ≤ GREATEST_ZOOM)
 zooms_fit first last t = grind (arith, nat_tests)
 
 abbrev IsZooms : ℕ × ℕ → Type 0
-IsZooms zooms = (zooms.0 ≤ zooms.1) × (zooms.1 ≤ 16)
+IsZooms zooms = (zooms.0 ≤ zooms.1) × (zooms.1 ≤ GREATEST_ZOOM)
 
 abbrev zooms_text : ℕ × ℕ → List ℕ
 zooms_text zooms = zooms.0 ∷ zooms.1 ∷ []
 
-codec_last_zoom : (first : ℕ) → Codec (λ bytes. read_if (λ last. nat_le first last && nat_le last 16) (byte_at bytes)) one_byte (λ last. (first ≤ last) × (last ≤ 16)) (EndsWithin 1)
-codec_last_zoom first = codec_if byte_at one_byte (λ b. b < 256) (EndsWithin 1) (λ last. nat_le first last && nat_le last 16) (λ last. (first ≤ last) × (last ≤ 16)) codec_byte
+codec_last_zoom : (first : ℕ) → Codec (λ bytes. read_if (λ last. nat_le first last && nat_le last GREATEST_ZOOM) (byte_at bytes)) one_byte
+    (λ last. (first ≤ last) × (last ≤ GREATEST_ZOOM)) (EndsWithin 1)
+codec_last_zoom first = codec_if byte_at one_byte (λ b. b < 256) (EndsWithin 1) (λ last. nat_le first last && nat_le last GREATEST_ZOOM)
+    (λ last. (first ≤ last) × (last ≤ GREATEST_ZOOM)) codec_byte
     (λ last l t. zooms_fit first last t) (λ last is. (omega (arith, is.1), zooms_pass first last is.0 is.1))
 
 codec_zooms : Codec zooms_at zooms_text IsZooms EndsInZooms
 unfolding zooms_at
-codec_zooms = codec_then (λ bytes. read_if (λ zoom. nat_le zoom 16) (byte_at bytes)) one_byte (λ zoom. zoom ≤ 16) (EndsWithin 1)
-    (λ first rest. read_as (λ last. (first, last)) (read_if (λ last. nat_le first last && nat_le last 16) (byte_at rest)))
-    (λ first zooms. one_byte zooms.1) (λ first zooms. (zooms.0 ≡ first) × ((first ≤ zooms.1) × (zooms.1 ≤ 16))) (λ first. EndsWithin 1)
+codec_zooms = codec_then (λ bytes. read_if (λ zoom. nat_le zoom GREATEST_ZOOM) (byte_at bytes)) one_byte (λ zoom. zoom ≤ GREATEST_ZOOM) (EndsWithin 1)
+    (λ first rest. read_as (λ last. (first, last)) (read_if (λ last. nat_le first last && nat_le last GREATEST_ZOOM) (byte_at rest)))
+    (λ first zooms. one_byte zooms.1) (λ first zooms. (zooms.0 ≡ first) × ((first ≤ zooms.1) × (zooms.1 ≤ GREATEST_ZOOM))) (λ first. EndsWithin 1)
     zooms_text IsZooms
-    (codec_if byte_at one_byte (λ b. b < 256) (EndsWithin 1) (λ zoom. nat_le zoom 16) (λ zoom. zoom ≤ 16) codec_byte (λ n l t. leb-true n 16 t) (λ n l. (omega arith, le-leb n 16 l)))
-    (λ first fits. codec_as (λ bytes. read_if (λ last. nat_le first last && nat_le last 16) (byte_at bytes)) one_byte (λ last. (first ≤ last) × (last ≤ 16)) (EndsWithin 1) (λ last. (first, last))
-    (λ zooms. one_byte zooms.1) (λ zooms. (zooms.0 ≡ first) × ((first ≤ zooms.1) × (zooms.1 ≤ 16))) (codec_last_zoom first)
+    (codec_if byte_at one_byte (λ b. b < 256) (EndsWithin 1) (λ zoom. nat_le zoom GREATEST_ZOOM) (λ zoom. zoom ≤ GREATEST_ZOOM) codec_byte
+    (λ n l t. leb-true n GREATEST_ZOOM t) (λ n l. (omega arith, le-leb n GREATEST_ZOOM l)))
+    (λ first fits. codec_as (λ bytes. read_if (λ last. nat_le first last && nat_le last GREATEST_ZOOM) (byte_at bytes)) one_byte
+    (λ last. (first ≤ last) × (last ≤ GREATEST_ZOOM)) (EndsWithin 1) (λ last. (first, last))
+    (λ zooms. one_byte zooms.1) (λ zooms. (zooms.0 ≡ first) × ((first ≤ zooms.1) × (zooms.1 ≤ GREATEST_ZOOM))) (codec_last_zoom first)
     (λ last h is. ((refl, is), refl))
     (λ zooms is. (zooms.1, is.1, ap (λ z. (z, zooms.1)) is.0, refl)))
     (λ first zooms fits is. ((subst (λ z. z ≤ zooms.1) (sym is.0) is.1.0, is.1.1), ap (λ z. z ∷ zooms.1 ∷ []) is.0))
@@ -82,13 +89,16 @@ read_shape layer zooms bytes = then_read (geometry_at bytes) (read_tags layer zo
 abbrev read_body : List ℕ → List ℕ → Part FeatureData
 read_body layer bytes = then_read (zooms_at bytes) (read_shape layer)
 
-codec_made : (layer : List ℕ) (zooms : ℕ × ℕ) (geometry : GeometryData) → Codec (read_tags layer zooms geometry) (λ f. spelled_tags f.tags) (HasTags layer zooms geometry) EndsInTags
-codec_made layer zooms geometry = codec_as tags_at spelled_tags IsTags EndsInTags (λ tags. made layer zooms geometry tags) (λ f. spelled_tags f.tags) (HasTags layer zooms geometry) codec_tags
+codec_made : (layer : List ℕ) (zooms : ℕ × ℕ) (geometry : GeometryData)
+    → Codec (read_tags layer zooms geometry) (λ f. spelled_tags f.tags) (HasTags layer zooms geometry) EndsInTags
+codec_made layer zooms geometry = codec_as tags_at spelled_tags IsTags EndsInTags (λ tags. made layer zooms geometry tags) (λ f. spelled_tags f.tags)
+    (HasTags layer zooms geometry) codec_tags
     (λ tags h is. ((refl, is), refl))
     (λ f is. (f.tags, is.1, is.0, refl))
 
 codec_shape : (layer : List ℕ) (zooms : ℕ × ℕ) → Codec (read_shape layer zooms) shape_text (HasShape layer zooms) EndsInShape
-codec_shape layer zooms = codec_then geometry_at spelled_geometry IsGeometry EndsInGeometry (read_tags layer zooms) (λ geometry f. spelled_tags f.tags) (HasTags layer zooms) (λ geometry. EndsInTags)
+codec_shape layer zooms = codec_then geometry_at spelled_geometry IsGeometry EndsInGeometry (read_tags layer zooms) (λ geometry f. spelled_tags f.tags)
+    (HasTags layer zooms) (λ geometry. EndsInTags)
     shape_text (HasShape layer zooms) codec_geometry (λ geometry fits. codec_made layer zooms geometry)
     (λ geometry f fits is.
     let same : f.geometry ≡ geometry = ap (λ x. x.geometry) is.0 in
@@ -96,7 +106,8 @@ codec_shape layer zooms = codec_then geometry_at spelled_geometry IsGeometry End
     (λ f is. (f.geometry, is.1, (is.0, is.2)))
 
 codec_body : (layer : List ℕ) → Codec (read_body layer) body_text (HasBody layer) EndsInBody
-codec_body layer = codec_then zooms_at zooms_text IsZooms EndsInZooms (read_shape layer) (λ zooms f. shape_text f) (HasShape layer) (λ (zooms : ℕ × ℕ). EndsInShape)
+codec_body layer = codec_then zooms_at zooms_text IsZooms EndsInZooms (read_shape layer) (λ zooms f. shape_text f) (HasShape layer)
+    (λ (zooms : ℕ × ℕ). EndsInShape)
     body_text (HasBody layer) codec_zooms (λ zooms fits. codec_shape layer zooms)
     (λ zooms f fits is.
     let first : f.minzoom ≡ zooms.0 = ap (λ x. x.minzoom) is.0 in
@@ -169,9 +180,11 @@ delete_text (delete id) is = refl
 
 codec_put : Codec put_at edit_body IsPut EndsInPut
 unfolding put_at
-codec_put = codec_then number_at eight_bytes NumberFits (EndsWithin 8) (λ id rest. read_as (put id) (feature_at rest)) (λ id e. feature_text e) IsPutOf (λ id. EndsInFeature)
+codec_put = codec_then number_at eight_bytes NumberFits (EndsWithin 8) (λ id rest. read_as (put id) (feature_at rest)) (λ id e. feature_text e) IsPutOf
+    (λ id. EndsInFeature)
     edit_body IsPut codec_number
-    (λ id fits. codec_as feature_at spelled_feature IsFeature EndsInFeature (put id) feature_text (IsPutOf id) codec_feature (λ f h is. ((refl, is), refl)) (split_put_of id))
+    (λ id fits. codec_as feature_at spelled_feature IsFeature EndsInFeature (put id) feature_text (IsPutOf id) codec_feature (λ f h is. ((refl, is), refl))
+    (split_put_of id))
     (λ id e fits is. join_put id e fits is)
     split_put
 
@@ -187,8 +200,10 @@ codec_delete = codec_as number_at eight_bytes NumberFits (EndsWithin 8) delete e
 kinds_two : KindCodec 2 (pick 2 read_delete no_kind) spelled (λ e. IsDelete e ⊎ ⊥) (λ b. EndsBehindKind 2 (EndsWithin 8) b ⊎ ⊥)
 kinds_two = kind_or 2 read_delete edit_body IsDelete (EndsWithin 8) no_kind spelled (λ e. ⊥) (λ b. ⊥) codec_delete (kind_none 3 spelled) delete_text
 
-kinds_one : KindCodec 1 (pick 1 put_at (pick 2 read_delete no_kind)) spelled (λ e. IsPut e ⊎ (IsDelete e ⊎ ⊥)) (λ b. EndsBehindKind 1 EndsInPut b ⊎ (EndsBehindKind 2 (EndsWithin 8) b ⊎ ⊥))
-kinds_one = kind_or 1 put_at edit_body IsPut EndsInPut (pick 2 read_delete no_kind) spelled (λ e. IsDelete e ⊎ ⊥) (λ b. EndsBehindKind 2 (EndsWithin 8) b ⊎ ⊥) codec_put kinds_two put_text
+kinds_one : KindCodec 1 (pick 1 put_at (pick 2 read_delete no_kind)) spelled (λ e. IsPut e ⊎ (IsDelete e ⊎ ⊥))
+    (λ b. EndsBehindKind 1 EndsInPut b ⊎ (EndsBehindKind 2 (EndsWithin 8) b ⊎ ⊥))
+kinds_one = kind_or 1 put_at edit_body IsPut EndsInPut (pick 2 read_delete no_kind) spelled (λ e. IsDelete e ⊎ ⊥)
+    (λ b. EndsBehindKind 2 (EndsWithin 8) b ⊎ ⊥) codec_put kinds_two put_text
 
 edit_to : (e : EditData) → IsPut e ⊎ (IsDelete e ⊎ ⊥) → IsOfTable e
 edit_to (put id f) (inl is) = is
@@ -217,5 +232,6 @@ pub codec_edit : Codec edit_at spelled IsOfTable EndsInEdit
 unfolding edit_at edit_behind
 codec_edit = codec_same edit_at spelled (λ e. IsPut e ⊎ (IsDelete e ⊎ ⊥)) IsOfTable
     (λ b. EndsWithin 1 b ⊎ (EndsBehindKind 1 EndsInPut b ⊎ (EndsBehindKind 2 (EndsWithin 8) b ⊎ ⊥))) EndsInEdit
-    (codec_kinds (pick 1 put_at (pick 2 read_delete no_kind)) spelled (λ e. IsPut e ⊎ (IsDelete e ⊎ ⊥)) (λ b. EndsBehindKind 1 EndsInPut b ⊎ (EndsBehindKind 2 (EndsWithin 8) b ⊎ ⊥)) 1 kinds_one)
+    (codec_kinds (pick 1 put_at (pick 2 read_delete no_kind)) spelled (λ e. IsPut e ⊎ (IsDelete e ⊎ ⊥))
+    (λ b. EndsBehindKind 1 EndsInPut b ⊎ (EndsBehindKind 2 (EndsWithin 8) b ⊎ ⊥)) 1 kinds_one)
     edit_to edit_from (λ b e. two_to e) (λ b e. two_from e)

@@ -1,35 +1,35 @@
 -- Which faults a step of reading has.
-use Rattle.std.proofs.Common.{◌≡◌, ◌≢◌, ◌⊎◌, inl, inr, ℕ, zero, suc, ◌==◌, Bool, true, false, cond, List, [], ◌∷◌, length, take, drop, get_or, Result, Ok, Err, ap, ◌∙◌}
-use Rattle.std.specs.Prelude.{IsOk, nat_lt}
-use Rattle.edit_text.specs.declared.fault.TextFault.{TextFault}
+use Rattle.std.proofs.Common.{◌≡◌, ◌≢◌, ℕ, zero, suc, ◌==◌, Bool, true, false, cond, List, [], ◌∷◌, length, take, drop, get_or, Ok, Err, ap, ◌∙◌}
+use Rattle.std.specs.Prelude.{nat_lt}
 use Rattle.edit_text.specs.declared.fault.TextFault.TheVariants.{Cut, Bad, Memory}
+use Rattle.reader.proofs.Steps.{then_never, same_fault, not_both}
 use Rattle.feature_model.specs.Data.{TagData}
 use Rattle.edit_text.specs.Decoding.{BeginsAsPut}
-use Rattle.edit_text.specs.Reading.{Part, then_read, read_as, read_if, byte_at, front_at, two_at, eight_at, number_at, text_at, name_at, long_text_at, negative_at, value_behind, value_at, tag_at}
+use Rattle.edit_text.specs.Reading.{Part, then_read, read_as, read_if, byte_at, front_at, two_at, eight_at}
+use Rattle.edit_text.specs.Reading.{number_at, text_at, name_at, long_text_at, negative_at, value_behind, value_at, tag_at}
 
--- memory runs out only where something would be found: any other fault is the one that stands there
-pub fault_found : {A : Type 0} (fault : TextFault) (part : Part A) → (part ≡ Err fault) ⊎ ((fault ≡ Memory) × IsOk part) → fault ≢ Memory → part ≡ Err fault
-fault_found fault part (inl is) other = is
-fault_found fault part (inr out) other = absurd (other out.0)
+-- ---- steps that allocate nothing
 
--- ---- steps that take no memory
+pub cut_is_not_memory : Cut ≢ Memory
+cut_is_not_memory is = cc
+
+pub bad_is_not_memory : Bad ≢ Memory
+bad_is_not_memory is = cc
 
 pub as_no_memory : {A B : Type 0} (make : A → B) (part : Part A) → part ≢ Err Memory → read_as make part ≢ Err Memory
-as_no_memory make (Ok x) never is = cc
-as_no_memory make (Err fault) never is = let same : fault ≡ Memory = cc in absurd (never (λ i. Err (same i)))
+as_no_memory make part never = then_never Memory part (λ x. Ok (make x.0, x.1)) never (λ x is. not_both (make x.0, x.1) Memory is)
 
 pub then_no_memory : {A B : Type 0} (part : Part A) (next : A → List ℕ → Part B)
     → part ≢ Err Memory → ((x : A) (rest : List ℕ) → next x rest ≢ Err Memory) → then_read part next ≢ Err Memory
-then_no_memory (Ok x) next never each is = each x.0 x.1 is
-then_no_memory (Err fault) next never each is = let same : fault ≡ Memory = cc in absurd (never (λ i. Err (same i)))
+then_no_memory part next never each = then_never Memory part (λ x. next x.0 x.1) never (λ x. each x.0 x.1)
+
+tested_no_memory : {A : Type 0} (x : A × List ℕ) (b : Bool) → ◌≢◌ {A = Part A} (cond b (Ok x) (Err Bad)) (Err Memory)
+tested_no_memory x true is = not_both x Memory is
+tested_no_memory {A} x false is = bad_is_not_memory (same_fault {A = A × List ℕ} Bad Memory is)
 
 pub if_no_memory : {A : Type 0} (test : A → Bool) (part : Part A) → part ≢ Err Memory → read_if test part ≢ Err Memory
-if_no_memory test (Ok x) never is = by (test x.0) is
-  where
-    by : (b : Bool) → cond b (Ok x) (Err Bad) ≡ Err Memory → ⊥
-    by true e = cc
-    by false e = cc
-if_no_memory test (Err fault) never is = never is
+if_no_memory test part never =
+    then_never Memory part (λ x. cond (test x.0) (Ok x) (Err Bad)) never (λ x. tested_no_memory x (test x.0))
 
 front_by : (bytes : List ℕ) (front : Part (List ℕ)) (b : Bool) → front ≢ Err Memory → cond b (Err Cut) front ≢ Err Memory
 front_by bytes front true never is = cc
@@ -42,13 +42,6 @@ front_no_memory len bytes = front_by bytes (Ok (take len bytes, drop len bytes))
 pub number_no_memory : (bytes : List ℕ) → number_at bytes ≢ Err Memory
 unfolding number_at eight_at
 number_no_memory bytes = if_no_memory _ _ (as_no_memory _ _ (front_no_memory 8 bytes))
-
--- a fault that is passed on is none of memory where the step has none
-pub passed_no_memory : {A X : Type 0} (part : Part A) (passed : Result X TextFault) (here there : TextFault)
-    → part ≢ Err Memory → part ≡ Err there → passed ≡ Err here → here ≡ there → passed ≢ Err Memory
-passed_no_memory part passed here there never is told same out =
-    let e : there ≡ Memory = cc in
-    never (is ∙ (λ i. Err (e i)))
 
 pub byte_no_memory : (bytes : List ℕ) → byte_at bytes ≢ Err Memory
 unfolding byte_at
@@ -117,9 +110,3 @@ take_front (suc n) [] put = put
 take_front (suc n) (x ∷ bytes) put =
     let first : x ≡ 1 = ap (λ (xs : List ℕ). get_or xs 0 0) put.1 in
     (bytes, λ i. first i ∷ bytes)
-
--- where memory runs out in a step that never has it as its own fault, something would be found
-pub memory_found : {A X : Type 0} (part : Part A) (passed : Result X TextFault) (here there : TextFault)
-    → part ≢ Err Memory → (part ≡ Err there) ⊎ ((there ≡ Memory) × IsOk part) → passed ≡ Err here → here ≡ there → passed ≡ Err Memory → IsOk part
-memory_found part passed here there never (inl is) told same out = absurd (passed_no_memory part passed here there never is told same out)
-memory_found part passed here there never (inr found) told same out = found.1

@@ -1,5 +1,6 @@
 -- Numbers, names and texts, tied to what is read.
-use Rattle.std.proofs.Common.{◌≡◌, ℕ, ◌^◌, ◌<◌, ◌≤◌, ◌⊎◌, inl, inr, true, ◌&&◌, List, [], ◌∷◌, ◌++◌, length, take, drop, Ok, Err, nat_le, nat_lt, refl, sym, ap, subst, ◌∙◌, cond, length-append, arith}
+use Rattle.std.proofs.Common.{◌≡◌, ℕ, ◌^◌, ◌<◌, ◌≤◌, ◌⊎◌, inl, inr, true, ◌&&◌, List, [], ◌∷◌, ◌++◌, length}
+use Rattle.std.proofs.Common.{take, drop, Ok, Err, nat_le, nat_lt, refl, sym, ap, subst, ◌∙◌, cond, length-append, arith}
 use Rattle.std.specs.Int.{w16, w32, w64, from_le_bytes}
 use Rattle.std.specs.Str.{IsUtf8, is_utf8}
 use Rattle.std.proofs.lemmas.Bool.{cases_lt, le-ltb, lt-ltb, ltb-true, le-leb, leb-true}
@@ -8,6 +9,7 @@ use Rattle.std.proofs.lemmas.List.{take-append-drop, length-take}
 use Rattle.std.proofs.lemmas.Nat.{le_bytes_2, le_bytes_4, le_bytes_8, from_le_bytes-to_le_bytes_2, from_le_bytes-to_le_bytes_4, from_le_bytes-to_le_bytes_8}
 use Rattle.std.proofs.lemmas.Str.{IsUtf8-from_is_utf8, is_utf8-from_IsUtf8}
 use Rattle.std.proofs.Math.Seq.{take-append_seam, drop-append_seam}
+use Rattle.feature_model.specs.declared.limits.TheConstants.{NUMBER_END, MOST_NAME_BYTES, MOST_TEXT_BYTES}
 use Rattle.feature_model.specs.Limits.{IsName, NumberFits}
 use Rattle.feature_model.specs.Spelled.{two_bytes, four_bytes, eight_bytes, spelled_name}
 use Rattle.feature_model.proofs.TextLengths.{length-two_bytes, length-four_bytes, length-eight_bytes}
@@ -54,7 +56,8 @@ pub front_long : (n : ℕ) (bytes : List ℕ) → n ≤ length bytes → front_a
 unfolding front_at
 front_long n bytes l = ap (λ b. cond b (Err Cut) (Ok (take n bytes, drop n bytes))) (le-ltb (length bytes) n l)
 
-front_found : (n : ℕ) (bytes xs rest : List ℕ) → (length bytes < n) ⊎ (n ≤ length bytes) → front_at n bytes ≡ Ok (xs, rest) → (length xs ≡ n) × (bytes ≡ xs ++ rest)
+front_found : (n : ℕ) (bytes xs rest : List ℕ) → (length bytes < n) ⊎ (n ≤ length bytes) → front_at n bytes ≡ Ok (xs, rest)
+    → (length xs ≡ n) × (bytes ≡ xs ++ rest)
 front_found n bytes xs rest (inl l) e = let short = front_short n bytes l in absurd (cc)
 front_found n bytes xs rest (inr l) e =
     let long = front_long n bytes l in
@@ -69,7 +72,8 @@ front_cut n bytes (inr l) e = let long = front_long n bytes l in absurd (cc)
 front_reads : (n : ℕ) (xs rest : List ℕ) → length xs ≡ n → front_at n (xs ++ rest) ≡ Ok (xs, rest)
 front_reads n xs rest e =
     subst (λ k. front_at k (xs ++ rest) ≡ Ok (xs, rest)) e
-    (front_long (length xs) (xs ++ rest) (omega (arith, length-append xs rest)) ∙ ap (λ ys. Ok (ys, drop (length xs) (xs ++ rest))) (take-append_seam xs rest) ∙ ap (λ ys. Ok (xs, ys)) (drop-append_seam xs rest))
+    (front_long (length xs) (xs ++ rest) (omega (arith, length-append xs rest))
+    ∙ ap (λ ys. Ok (ys, drop (length xs) (xs ++ rest))) (take-append_seam xs rest) ∙ ap (λ ys. Ok (xs, ys)) (drop-append_seam xs rest))
 
 pub codec_front : (n : ℕ) → Codec (front_at n) (λ xs. xs) (λ xs. length xs ≡ n) (EndsWithin n)
 codec_front n = record {
@@ -110,9 +114,9 @@ codec_eight = codec_as (front_at 8) (λ xs. xs) (λ xs. length xs ≡ 8) (EndsWi
 
 pub codec_number : Codec number_at eight_bytes NumberFits (EndsWithin 8)
 unfolding number_at
-codec_number = codec_if eight_at eight_bytes (λ n. n < 2 ^ 64) (EndsWithin 8) (λ id. nat_lt id (2 ^ 63)) NumberFits codec_eight
-    (λ n l t. ltb-true n (2 ^ 63) t)
-    (λ n l. (omega arith, lt-ltb n (2 ^ 63) l))
+codec_number = codec_if eight_at eight_bytes (λ n. n < 2 ^ 64) (EndsWithin 8) (λ id. nat_lt id NUMBER_END) NumberFits codec_eight
+    (λ n l t. ltb-true n NUMBER_END t)
+    (λ n l. (omega arith, lt-ltb n NUMBER_END l))
 
 -- ---- names and texts
 
@@ -122,30 +126,32 @@ codec_text n = codec_if (front_at n) (λ xs. xs) (λ xs. length xs ≡ n) (EndsW
     (λ xs len t. (len, IsUtf8-from_is_utf8 xs t))
     (λ xs is. (is.0, is_utf8-from_IsUtf8 xs is.1))
 
-name_len_passes : (len : ℕ) → 1 ≤ len → len ≤ 64 → nat_le 1 len && nat_le len 64 ≡ true
+name_len_passes : (len : ℕ) → 1 ≤ len → len ≤ MOST_NAME_BYTES → nat_le 1 len && nat_le len MOST_NAME_BYTES ≡ true
 name_len_passes len low high = grind (arith, nat_tests)
 
-name_len_fits : (len : ℕ) → nat_le 1 len && nat_le len 64 ≡ true → (1 ≤ len) × (len ≤ 64)
+name_len_fits : (len : ℕ) → nat_le 1 len && nat_le len MOST_NAME_BYTES ≡ true → (1 ≤ len) × (len ≤ MOST_NAME_BYTES)
 name_len_fits len t = grind (arith, nat_tests)
 
 pub codec_name : Codec name_at spelled_name (λ xs. IsName xs × IsUtf8 xs) EndsInName
 unfolding name_at spelled_name
-codec_name = codec_then (λ bytes. read_if (λ len. nat_le 1 len && nat_le len 64) (byte_at bytes)) one_byte (λ len. (1 ≤ len) × (len ≤ 64)) (EndsWithin 1)
+codec_name = codec_then (λ bytes. read_if (λ len. nat_le 1 len && nat_le len MOST_NAME_BYTES) (byte_at bytes)) one_byte
+    (λ len. (1 ≤ len) × (len ≤ MOST_NAME_BYTES)) (EndsWithin 1)
     text_at (λ len xs. xs) (λ len xs. (length xs ≡ len) × IsUtf8 xs) EndsWithin
     spelled_name (λ xs. IsName xs × IsUtf8 xs)
-    (codec_if byte_at one_byte (λ b. b < 256) (EndsWithin 1) (λ len. nat_le 1 len && nat_le len 64) (λ len. (1 ≤ len) × (len ≤ 64)) codec_byte
+    (codec_if byte_at one_byte (λ b. b < 256) (EndsWithin 1) (λ len. nat_le 1 len && nat_le len MOST_NAME_BYTES)
+    (λ len. (1 ≤ len) × (len ≤ MOST_NAME_BYTES)) codec_byte
     (λ len l t. name_len_fits len t) (λ len fits. (omega arith, name_len_passes len fits.0 fits.1)))
     (λ len fits. codec_text len)
-    (λ len xs fits is. ((subst (λ n. (1 ≤ n) × (n ≤ 64)) (sym is.0) fits, is.1), ap (λ n. n ∷ xs) is.0))
+    (λ len xs fits is. ((subst (λ n. (1 ≤ n) × (n ≤ MOST_NAME_BYTES)) (sym is.0) fits, is.1), ap (λ n. n ∷ xs) is.0))
     (λ xs is. (length xs, is.0, (refl, is.1)))
 
-pub codec_long_text : Codec long_text_at (λ xs. two_bytes (length xs) ++ xs) (λ xs. (length xs ≤ 1024) × IsUtf8 xs) EndsInText
+pub codec_long_text : Codec long_text_at (λ xs. two_bytes (length xs) ++ xs) (λ xs. (length xs ≤ MOST_TEXT_BYTES) × IsUtf8 xs) EndsInText
 unfolding long_text_at
-codec_long_text = codec_then (λ bytes. read_if (λ len. nat_le len 1024) (two_at bytes)) two_bytes (λ len. len ≤ 1024) (EndsWithin 2)
+codec_long_text = codec_then (λ bytes. read_if (λ len. nat_le len MOST_TEXT_BYTES) (two_at bytes)) two_bytes (λ len. len ≤ MOST_TEXT_BYTES) (EndsWithin 2)
     text_at (λ len xs. xs) (λ len xs. (length xs ≡ len) × IsUtf8 xs) EndsWithin
-    (λ xs. two_bytes (length xs) ++ xs) (λ xs. (length xs ≤ 1024) × IsUtf8 xs)
-    (codec_if two_at two_bytes (λ n. n < 2 ^ 16) (EndsWithin 2) (λ len. nat_le len 1024) (λ len. len ≤ 1024) codec_two
-    (λ len l t. leb-true len 1024 t) (λ len fits. (omega arith, le-leb len 1024 fits)))
+    (λ xs. two_bytes (length xs) ++ xs) (λ xs. (length xs ≤ MOST_TEXT_BYTES) × IsUtf8 xs)
+    (codec_if two_at two_bytes (λ n. n < 2 ^ 16) (EndsWithin 2) (λ len. nat_le len MOST_TEXT_BYTES) (λ len. len ≤ MOST_TEXT_BYTES) codec_two
+    (λ len l t. leb-true len MOST_TEXT_BYTES t) (λ len fits. (omega arith, le-leb len MOST_TEXT_BYTES fits)))
     (λ len fits. codec_text len)
-    (λ len xs fits is. ((subst (λ n. n ≤ 1024) (sym is.0) fits, is.1), ap (λ n. two_bytes n ++ xs) is.0))
+    (λ len xs fits is. ((subst (λ n. n ≤ MOST_TEXT_BYTES) (sym is.0) fits, is.1), ap (λ n. two_bytes n ++ xs) is.0))
     (λ xs is. (length xs, is.0, (refl, is.1)))

@@ -7,15 +7,18 @@ use Rattle.feature_model.specs.Spelled.{spelled_list, spelled_line, spelled_geom
 behind_kind : (front kind text before out : List ℕ) → before ≡ front ++ kind → out ≡ before ++ text → out ≡ front ++ (kind ++ text)
 behind_kind front kind text before out b o = o ∙ ap (λ r. r ++ text) b ∙ append_assoc front kind text
 
-pub points_put : (front before out : List ℕ) (points : List World) → before ≡ front ++ 1 ∷ [] → out ≡ before ++ spelled_line points → out ≡ front ++ spelled_geometry (world_points points)
+pub points_put : (front before out : List ℕ) (points : List World) → before ≡ front ++ 1 ∷ [] → out ≡ before ++ spelled_line points
+    → out ≡ front ++ spelled_geometry (world_points points)
 unfolding spelled_geometry
 points_put front before out points b o = behind_kind front (1 ∷ []) (spelled_line points) before out b o
 
-pub lines_put : (front before out : List ℕ) (lines : List (List World)) → before ≡ front ++ 2 ∷ [] → out ≡ before ++ spelled_list spelled_line lines → out ≡ front ++ spelled_geometry (world_lines lines)
+pub lines_put : (front before out : List ℕ) (lines : List (List World)) → before ≡ front ++ 2 ∷ [] → out ≡ before ++ spelled_list spelled_line lines
+    → out ≡ front ++ spelled_geometry (world_lines lines)
 unfolding spelled_geometry
 lines_put front before out lines b o = behind_kind front (2 ∷ []) (spelled_list spelled_line lines) before out b o
 
-pub polygons_put : (front before out : List ℕ) (polygons : List (List (List World))) → before ≡ front ++ 3 ∷ [] → out ≡ before ++ spelled_list (spelled_list spelled_line) polygons → out ≡ front ++ spelled_geometry (world_polygons polygons)
+pub polygons_put : (front before out : List ℕ) (polygons : List (List (List World))) → before ≡ front ++ 3 ∷ []
+    → out ≡ before ++ spelled_list (spelled_list spelled_line) polygons → out ≡ front ++ spelled_geometry (world_polygons polygons)
 unfolding spelled_geometry
 polygons_put front before out polygons b o = behind_kind front (3 ∷ []) (spelled_list (spelled_list spelled_line) polygons) before out b o
 

@@ -7,6 +7,7 @@ pub mod FieldCodecs
 pub mod GeometryKinds
 pub mod KeyOrder
 pub mod KindCodecs
+pub mod Laws
 pub mod Many
 pub mod ManyCodec
 pub mod NextKey

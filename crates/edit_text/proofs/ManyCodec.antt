@@ -4,8 +4,10 @@ use Rattle.std.specs.List.{flat_map}
 use Rattle.std.proofs.lemmas.List.{append-nil, get_or_append_left}
 use Rattle.std.proofs.Math.Seq.{get_or-append_seam}
 use Rattle.edit_text.specs.declared.fault.TextFault.TheVariants.{Cut}
-use Rattle.edit_text.specs.Reading.{Part, then_read, many_at}
+use Rattle.edit_text.specs.Reading.{Part, many_at}
+use Rattle.reader.specs.Reading.{repeated}
 use Rattle.edit_text.specs.Cut.{EndsAmong}
+use Rattle.edit_text.proofs.Many.{goes_on}
 use Rattle.edit_text.proofs.Codecs.{AreBytes, Codec, bytes_behind}
 
 -- what reading the next needs of those before it
@@ -16,28 +18,28 @@ pub record Steps {A : Type 0} (read : List A → List ℕ → Part A) (spell : A
 one_more : {A : Type 0} (done : List A) (x : A) (more : List A) → (done ++ x ∷ []) ++ more ≡ done ++ x ∷ more
 one_more done x more = append_assoc done (x ∷ []) more
 
--- how reading goes on behind the next
-abbrev goes_on : {A : Type 0} → (List A → List ℕ → Part A) → ℕ → List A → A → List ℕ → Part (List A)
-goes_on read n done x behind = many_at read n (done ++ x ∷ []) behind
-
 -- ---- what is found
 
 abbrev Found : {A : Type 0} → (A → List ℕ) → (List A → Type 0) → ℕ → List A → List ℕ → List A → List ℕ → Type 0
 Found {A} spell Are n done bytes whole rest = (more : List A) × (whole ≡ done ++ more) × (length more ≡ n) × Are whole × (bytes ≡ flat_map spell more ++ rest)
 
-found_next : {A : Type 0} (read : List A → List ℕ → Part A) (spell : A → List ℕ) (Are : List A → Type 0) (Ends : List A → List ℕ → Type 0) → Steps read spell Are Ends
+found_next : {A : Type 0} (read : List A → List ℕ → Part A) (spell : A → List ℕ) (Are : List A → Type 0) (Ends : List A → List ℕ → Type 0)
+    → Steps read spell Are Ends
     → (n : ℕ) (done : List A) (bytes : List ℕ) (whole : List A) (rest : List ℕ) → Are done → AreBytes bytes
-    → ((x : A) (behind : List ℕ) → Are (done ++ x ∷ []) → AreBytes behind → many_at read n (done ++ x ∷ []) behind ≡ Ok (whole, rest) → Found spell Are n (done ++ x ∷ []) behind whole rest)
-    → (p : Part A) → read done bytes ≡ p → then_read p (goes_on read n done) ≡ Ok (whole, rest) → Found spell Are (suc n) done bytes whole rest
+    → ((x : A) (behind : List ℕ) → Are (done ++ x ∷ []) → AreBytes behind → many_at read n (done ++ x ∷ []) behind ≡ Ok (whole, rest)
+    → Found spell Are n (done ++ x ∷ []) behind whole rest)
+    → (p : Part A) → read done bytes ≡ p → goes_on read n done p ≡ Ok (whole, rest) → Found spell Are (suc n) done bytes whole rest
 found_next read spell Are Ends steps n done bytes whole rest are h others (Ok x) one e =
     let f = (steps.next done are).found bytes x.0 x.1 h one in
     let g = others x.0 x.1 f.0 (bytes_behind (spell x.0) x.1 bytes f.1 h) e in
     (x.0 ∷ g.0, g.1 ∙ one_more done x.0 g.0, ap suc g.2, g.3, f.1 ∙ ap (λ r. spell x.0 ++ r) g.4 ∙ sym (append_assoc (spell x.0) (flat_map spell g.0) rest))
 found_next read spell Are Ends steps n done bytes whole rest are h others (Err fault) one e = absurd (cc)
 
-many_found : {A : Type 0} (read : List A → List ℕ → Part A) (spell : A → List ℕ) (Are : List A → Type 0) (Ends : List A → List ℕ → Type 0) → Steps read spell Are Ends
-    → (n : ℕ) (done : List A) (bytes : List ℕ) (whole : List A) (rest : List ℕ) → Are done → AreBytes bytes → many_at read n done bytes ≡ Ok (whole, rest) → Found spell Are n done bytes whole rest
-unfolding many_at
+many_found : {A : Type 0} (read : List A → List ℕ → Part A) (spell : A → List ℕ) (Are : List A → Type 0) (Ends : List A → List ℕ → Type 0)
+    → Steps read spell Are Ends
+    → (n : ℕ) (done : List A) (bytes : List ℕ) (whole : List A) (rest : List ℕ) → Are done → AreBytes bytes → many_at read n done bytes ≡ Ok (whole, rest)
+    → Found spell Are n done bytes whole rest
+unfolding repeated
 many_found {A = A} read spell Are Ends steps zero done bytes whole rest are h e =
     let pair : ◌≡◌ {A = List A × List ℕ} (done, bytes) (whole, rest) = cc in
     let all = ap (λ q. q.0) pair in
@@ -49,61 +51,78 @@ many_found read spell Are Ends steps (suc n) done bytes whole rest are h e =
 
 -- ---- what stands there
 
-many_reads : {A : Type 0} (read : List A → List ℕ → Part A) (spell : A → List ℕ) (Are : List A → Type 0) (Ends : List A → List ℕ → Type 0) → Steps read spell Are Ends
-    → (more : List A) (done : List A) (rest : List ℕ) → Are (done ++ more) → many_at read (length more) done (flat_map spell more ++ rest) ≡ Ok (done ++ more, rest)
-unfolding many_at
+many_reads : {A : Type 0} (read : List A → List ℕ → Part A) (spell : A → List ℕ) (Are : List A → Type 0) (Ends : List A → List ℕ → Type 0)
+    → Steps read spell Are Ends
+    → (more : List A) (done : List A) (rest : List ℕ) → Are (done ++ more)
+    → many_at read (length more) done (flat_map spell more ++ rest) ≡ Ok (done ++ more, rest)
+unfolding repeated
 many_reads read spell Are Ends steps [] done rest are = ap (λ d. Ok (d, rest)) (sym (append-nil done))
 many_reads read spell Are Ends steps (x ∷ more) done rest are =
     let are' = subst Are (sym (one_more done x more)) are in
-    ap (λ b. then_read (read done b) (goes_on read (length more) done)) (append_assoc (spell x) (flat_map spell more) rest)
-    ∙ ap (λ p. then_read p (goes_on read (length more) done)) ((steps.next done (steps.fewer done (x ∷ more) are)).reads x (flat_map spell more ++ rest) (steps.fewer (done ++ x ∷ []) more are'))
+    ap (λ b. goes_on read (length more) done (read done b)) (append_assoc (spell x) (flat_map spell more) rest)
+    ∙ ap (goes_on read (length more) done) ((steps.next done (steps.fewer done (x ∷ more) are)).reads x (flat_map spell more ++ rest)
+    (steps.fewer (done ++ x ∷ []) more are'))
     ∙ many_reads read spell Are Ends steps more (done ++ x ∷ []) rest are'
     ∙ ap (λ d. Ok (d, rest)) (one_more done x more)
 
 -- ---- where bytes are cut
 
 abbrev Cuts : {A : Type 0} → (A → List ℕ) → (List A → Type 0) → (List A → List ℕ → Type 0) → ℕ → List A → List ℕ → Type 0
-Cuts {A} spell Are Ends n done bytes = (more : List A) × (rest : List ℕ) × (length more < n) × Are (done ++ more) × (bytes ≡ flat_map spell more ++ rest) × Ends (done ++ more) rest
+Cuts {A} spell Are Ends n done bytes = (more : List A) × (rest : List ℕ) × (length more < n) × Are (done ++ more) × (bytes ≡ flat_map spell more ++ rest)
+    × Ends (done ++ more) rest
 
-cut_next : {A : Type 0} (read : List A → List ℕ → Part A) (spell : A → List ℕ) (Are : List A → Type 0) (Ends : List A → List ℕ → Type 0) → Steps read spell Are Ends
+cut_next : {A : Type 0} (read : List A → List ℕ → Part A) (spell : A → List ℕ) (Are : List A → Type 0) (Ends : List A → List ℕ → Type 0)
+    → Steps read spell Are Ends
     → (n : ℕ) (done : List A) (bytes : List ℕ) → Are done → AreBytes bytes
-    → ((x : A) (behind : List ℕ) → Are (done ++ x ∷ []) → AreBytes behind → many_at read n (done ++ x ∷ []) behind ≡ Err Cut → Cuts spell Are Ends n (done ++ x ∷ []) behind)
-    → (p : Part A) → read done bytes ≡ p → then_read p (goes_on read n done) ≡ Err Cut → Cuts spell Are Ends (suc n) done bytes
+    → ((x : A) (behind : List ℕ) → Are (done ++ x ∷ []) → AreBytes behind → many_at read n (done ++ x ∷ []) behind ≡ Err Cut
+    → Cuts spell Are Ends n (done ++ x ∷ []) behind)
+    → (p : Part A) → read done bytes ≡ p → goes_on read n done p ≡ Err Cut → Cuts spell Are Ends (suc n) done bytes
 cut_next read spell Are Ends steps n done bytes are h others (Ok x) one e =
     let f = (steps.next done are).found bytes x.0 x.1 h one in
     let g = others x.0 x.1 f.0 (bytes_behind (spell x.0) x.1 bytes f.1 h) e in
-    let all = one_more done x.0 g.0 in
-    (x.0 ∷ g.0, g.1, omega (arith, g.2), subst Are all g.3, f.1 ∙ ap (λ r. spell x.0 ++ r) g.4 ∙ sym (append_assoc (spell x.0) (flat_map spell g.0) g.1), subst (λ d. Ends d g.1) all g.5)
+    let all = one_more done x.0 g.0 in (
+      x.0 ∷ g.0,
+      g.1,
+      omega (arith, g.2),
+      subst Are all g.3,
+      f.1 ∙ ap (λ r. spell x.0 ++ r) g.4 ∙ sym (append_assoc (spell x.0) (flat_map spell g.0) g.1),
+      subst (λ d. Ends d g.1) all g.5,
+    )
 cut_next read spell Are Ends steps n done bytes are h others (Err fault) one e =
     let all = sym (append-nil done) in
     ([], bytes, omega arith, subst Are all are, refl, subst (λ d. Ends d bytes) all ((steps.next done are).cut bytes h (cc)))
 
-many_cut : {A : Type 0} (read : List A → List ℕ → Part A) (spell : A → List ℕ) (Are : List A → Type 0) (Ends : List A → List ℕ → Type 0) → Steps read spell Are Ends
+many_cut : {A : Type 0} (read : List A → List ℕ → Part A) (spell : A → List ℕ) (Are : List A → Type 0) (Ends : List A → List ℕ → Type 0)
+    → Steps read spell Are Ends
     → (n : ℕ) (done : List A) (bytes : List ℕ) → Are done → AreBytes bytes → many_at read n done bytes ≡ Err Cut → Cuts spell Are Ends n done bytes
-unfolding many_at
+unfolding repeated
 many_cut read spell Are Ends steps zero done bytes are h e = absurd (cc)
 many_cut read spell Are Ends steps (suc n) done bytes are h e =
     cut_next read spell Are Ends steps n done bytes are h
     (λ x behind are' h' e'. many_cut read spell Are Ends steps n (done ++ x ∷ []) behind are' h' e')
     (read done bytes) refl e
 
-many_ends : {A : Type 0} (read : List A → List ℕ → Part A) (spell : A → List ℕ) (Are : List A → Type 0) (Ends : List A → List ℕ → Type 0) → Steps read spell Are Ends
-    → (more : List A) (n : ℕ) (done : List A) (rest : List ℕ) → length more < n → Are (done ++ more) → Ends (done ++ more) rest → many_at read n done (flat_map spell more ++ rest) ≡ Err Cut
-unfolding many_at
+many_ends : {A : Type 0} (read : List A → List ℕ → Part A) (spell : A → List ℕ) (Are : List A → Type 0) (Ends : List A → List ℕ → Type 0)
+    → Steps read spell Are Ends
+    → (more : List A) (n : ℕ) (done : List A) (rest : List ℕ) → length more < n → Are (done ++ more) → Ends (done ++ more) rest
+    → many_at read n done (flat_map spell more ++ rest) ≡ Err Cut
+unfolding repeated
 many_ends read spell Are Ends steps more zero done rest l are e = absurd (omega arith)
 many_ends read spell Are Ends steps [] (suc n) done rest l are e =
     let none = append-nil done in
-    ap (λ p. then_read p (goes_on read n done)) ((steps.next done (subst Are none are)).ends rest (subst (λ d. Ends d rest) none e))
+    ap (goes_on read n done) ((steps.next done (subst Are none are)).ends rest (subst (λ d. Ends d rest) none e))
 many_ends read spell Are Ends steps (x ∷ more) (suc n) done rest l are e =
     let all = sym (one_more done x more) in
     let are' = subst Are all are in
-    ap (λ b. then_read (read done b) (goes_on read n done)) (append_assoc (spell x) (flat_map spell more) rest)
-    ∙ ap (λ p. then_read p (goes_on read n done)) ((steps.next done (steps.fewer done (x ∷ more) are)).reads x (flat_map spell more ++ rest) (steps.fewer (done ++ x ∷ []) more are'))
+    ap (λ b. goes_on read n done (read done b)) (append_assoc (spell x) (flat_map spell more) rest)
+    ∙ ap (goes_on read n done) ((steps.next done (steps.fewer done (x ∷ more) are)).reads x (flat_map spell more ++ rest)
+    (steps.fewer (done ++ x ∷ []) more are'))
     ∙ many_ends read spell Are Ends steps more n (done ++ x ∷ []) rest (omega arith) are' (subst (λ d. Ends d rest) all e)
 
 -- ---- together
 
-pub codec_many : {A : Type 0} (read : List A → List ℕ → Part A) (spell : A → List ℕ) (Are : List A → Type 0) (Ends : List A → List ℕ → Type 0) → Steps read spell Are Ends → Are []
+pub codec_many : {A : Type 0} (read : List A → List ℕ → Part A) (spell : A → List ℕ) (Are : List A → Type 0) (Ends : List A → List ℕ → Type 0)
+    → Steps read spell Are Ends → Are []
     → (n : ℕ) → Codec (many_at read n []) (flat_map spell) (λ xs. (length xs ≡ n) × Are xs) (EndsAmong spell Are Ends n)
 codec_many read spell Are Ends steps none n = record {
   found = λ bytes xs rest h e.

@@ -7,7 +7,8 @@ use Rattle.feature_model.specs.declared.feature.Tag.{Tag}
 use Rattle.feature_model.specs.Data.{tag_data}
 use Rattle.edit_text.specs.Reading.{is_next_key}
 
-pub is_next_key-at : (tags : List Tag) (k : ℕ) (t : Tag) (key : List ℕ) → suc k ≡ length tags → t ≡ get_or tags k t → is_lt (slice_cmp nat_cmp (string_bytes t.key) key) ≡ is_next_key (map tag_data tags) key
+pub is_next_key-at : (tags : List Tag) (k : ℕ) (t : Tag) (key : List ℕ) → suc k ≡ length tags → t ≡ get_or tags k t
+    → is_lt (slice_cmp nat_cmp (string_bytes t.key) key) ≡ is_next_key (map tag_data tags) key
 unfolding is_next_key
 is_next_key-at [] k t key last is = absurd (omega arith)
 is_next_key-at (u ∷ []) zero t key last is = ap (λ v. is_lt (slice_cmp nat_cmp (string_bytes v.key) key)) is

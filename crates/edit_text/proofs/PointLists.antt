@@ -1,14 +1,19 @@
 -- A list of points is whole where its bytes are there, and else cut.
-use Rattle.std.proofs.Common.{◌≡◌, ◌≢◌, ℕ, zero, suc, ◌*◌, ◌<◌, ◌≤◌, inl, inr, Bool, true, false, cond, List, [], ◌∷◌, ◌++◌, length, take, drop, Ok, Err, refl, sym, ap, subst, ◌∙◌, arith}
-use Rattle.std.specs.Prelude.{IsOk, nat_le}
+use Rattle.std.proofs.Common.{◌≡◌, ◌≢◌, ℕ, zero, suc, ◌*◌, ◌<◌, ◌≤◌, inl, inr, Bool, true, false, cond, List}
+use Rattle.std.proofs.Common.{[], ◌∷◌, ◌++◌, length, take, drop, Ok, Err, refl, sym, ap, subst, ◌∙◌, arith}
+use Rattle.std.specs.Prelude.{IsOk}
 use Rattle.std.specs.Int.{w32, from_le_bytes}
 use Rattle.std.proofs.lemmas.Bool.{cases_lt, le-ltb, lt-ltb}
 use Rattle.std.proofs.lemmas.List.{length-drop}
+use Rattle.feature_model.specs.Limits.{is_count}
+use Rattle.reader.specs.Reading.{repeated}
+use Rattle.reader.proofs.Steps.{then_ok, same_fault, ok_never}
 use Rattle.feature_model.specs.declared.feature.World.{World}
 use Rattle.edit_text.specs.declared.fault.TextFault.TheVariants.{Cut, Bad, Memory}
-use Rattle.edit_text.specs.Reading.{Part, then_read, read_as, read_if, front_at, two_at, four_at, point_at, line_at, lines_at, HasFirstLine, many_at}
-use Rattle.edit_text.proofs.Many.{is_whole}
-use Rattle.edit_text.proofs.Faults.{as_no_memory, if_no_memory, then_no_memory, front_no_memory}
+use Rattle.edit_text.specs.Reading.{Part, then_read, read_as, read_if, front_at, two_at, four_at}
+use Rattle.edit_text.specs.Reading.{count_at, point_at, line_at, lines_at, HasFirstLine, next_at, many_at}
+use Rattle.edit_text.proofs.Many.{goes_on, is_whole}
+use Rattle.edit_text.proofs.Faults.{cut_is_not_memory, as_no_memory, if_no_memory, then_no_memory, front_no_memory}
 
 -- the number in the first four bytes
 four : List ℕ → ℕ
@@ -48,16 +53,16 @@ point_cut bytes l = elim (cases_lt (length bytes) 4) [
 
 many_more : (count : ℕ) (done : List World) (bytes : List ℕ) → 8 ≤ length bytes
     → many_at (λ _. point_at) (suc count) done bytes ≡ many_at (λ _. point_at) count (done ++ first_point bytes ∷ []) (drop 4 (drop 4 bytes))
-unfolding many_at
-many_more count done bytes l = ap (λ p. then_read p (λ x rest. many_at (λ _. point_at) count (done ++ x ∷ []) rest)) (point_whole bytes l)
+unfolding repeated
+many_more count done bytes l = ap (goes_on (λ _. point_at) count done) (point_whole bytes l)
 
 many_none : (count : ℕ) (done : List World) (bytes : List ℕ) → length bytes < 8 → many_at (λ _. point_at) (suc count) done bytes ≡ Err Cut
-unfolding many_at
-many_none count done bytes l = ap (λ p. then_read p (λ x rest. many_at (λ _. point_at) count (done ++ x ∷ []) rest)) (point_cut bytes l)
+unfolding repeated
+many_none count done bytes l = ap (goes_on (λ _. point_at) count done) (point_cut bytes l)
 
 -- the bytes of so many points are there
 pub points_whole : (count : ℕ) (done : List World) (bytes : List ℕ) → 8 * count ≤ length bytes → IsOk (many_at (λ _. point_at) count done bytes)
-unfolding many_at
+unfolding repeated
 points_whole zero done bytes l = refl
 points_whole (suc count) done bytes l =
     subst IsOk (sym (many_more count done bytes (omega arith)))
@@ -73,19 +78,12 @@ points_cut (suc count) done bytes l = elim (cases_lt (length bytes) 8) [
       ∙ points_cut count (done ++ first_point bytes ∷ []) (drop 4 (drop 4 bytes)) (omega (arith, length-drop 4 bytes, length-drop 4 (drop 4 bytes)))
 ]
 
-cut_is_none : {A : Type 0} → ◌≡◌ {A = Part A} (Err Cut) (Err Memory) → ⊥
-cut_is_none is = cc
-
-whole_is_none : {A : Type 0} (part : Part A) → IsOk part → part ≢ Err Memory
-whole_is_none (Ok x) ok is = cc
-whole_is_none (Err fault) ok is = cc
-
 -- ---- lines take memory only where they are whole
 
 points_no_memory : (count : ℕ) (bytes : List ℕ) → many_at (λ _. point_at) count [] bytes ≢ Err Memory
 points_no_memory count bytes is = elim (cases_lt (length bytes) (8 * count)) [
-  | inl few ↦ cut_is_none (sym (points_cut count [] bytes few) ∙ is)
-  | inr some ↦ whole_is_none _ (points_whole count [] bytes some) is
+  | inl few ↦ cut_is_not_memory (same_fault Cut Memory (sym (points_cut count [] bytes few) ∙ is))
+  | inr some ↦ ok_never Memory _ (points_whole count [] bytes some) is
 ]
 
 pub line_no_memory : (least : ℕ) (bytes : List ℕ) → line_at least bytes ≢ Err Memory
@@ -95,11 +93,8 @@ line_no_memory least bytes =
 
 -- ---- the first of lines
 
-then_ok : {A B : Type 0} (part : Part A) (next : A → List ℕ → Part B) (y : B × List ℕ) → then_read part next ≡ Ok y → (x : A × List ℕ) × (part ≡ Ok x) × (next x.0 x.1 ≡ Ok y)
-then_ok (Ok x) next y is = (x, refl, is)
-then_ok (Err fault) next y is = absurd (cc)
-
-if_by : {A : Type 0} (test : A → Bool) (x y : A × List ℕ) (b : Bool) → test x.0 ≡ b → ◌≡◌ {A = Part A} (cond b (Ok x) (Err Bad)) (Ok y) → (x ≡ y) × (test x.0 ≡ true)
+if_by : {A : Type 0} (test : A → Bool) (x y : A × List ℕ) (b : Bool) → test x.0 ≡ b → ◌≡◌ {A = Part A} (cond b (Ok x) (Err Bad)) (Ok y)
+    → (x ≡ y) × (test x.0 ≡ true)
 if_by test x y true passes is = ((cc), passes)
 if_by test x y false passes is = absurd (cc)
 
@@ -109,18 +104,21 @@ if_ok {A} test (Ok x) y is =
     ((λ i. Ok (both.0 i)), subst (λ (z : A × List ℕ). test z.0 ≡ true) both.0 both.1)
 if_ok test (Err fault) y is = absurd (cc)
 
-first_line : (least count : ℕ) (rest : List ℕ) (y : List (List World) × List ℕ) → nat_le 1 count ≡ true → many_at (λ _. line_at least) count [] rest ≡ Ok y → IsOk (line_at least rest)
-unfolding many_at
+first_line : (least count : ℕ) (rest : List ℕ) (y : List (List World) × List ℕ) → is_count 1 count ≡ true → many_at (λ _. line_at least) count [] rest ≡ Ok y
+    → IsOk (line_at least rest)
+unfolding repeated
 first_line least zero rest y some is = absurd (cc)
-first_line least (suc count) rest y some is = is_whole _ _ (then_ok (line_at least rest) _ y is).1
+first_line least (suc count) rest y some is =
+    let first = then_ok (then_read (line_at least rest) (λ x behind. Ok (x ∷ [], behind))) (repeated (next_at (λ _. line_at least)) count) y is in
+    is_whole _ _ (then_ok (line_at least rest) (λ x. Ok (x.0 ∷ [], x.1)) first.0 first.1).1
 
 pub lines_start : (least : ℕ) (bytes : List ℕ) (y : List (List World) × List ℕ) → lines_at least bytes ≡ Ok y → HasFirstLine least bytes
 unfolding lines_at
 lines_start least bytes y is =
-    let counted = then_ok (read_if (nat_le 1) (two_at bytes)) (λ count. many_at (λ _. line_at least) count []) y is in
-    let some = if_ok (nat_le 1) (two_at bytes) counted.0 counted.1 in
+    let counted = then_ok (count_at 1 bytes) (λ count. many_at (λ _. line_at least) count.0 [] count.1) y is in
+    let some = if_ok (is_count 1) (two_at bytes) counted.0 counted.1 in
     (counted.0, some.0, first_line least counted.0.0 counted.0.1 y some.1 counted.2)
 
-pub count_no_memory : (least : ℕ) (bytes : List ℕ) → read_if (nat_le least) (two_at bytes) ≢ Err Memory
+pub count_no_memory : (least : ℕ) (bytes : List ℕ) → count_at least bytes ≢ Err Memory
 unfolding two_at
 count_no_memory least bytes = if_no_memory _ _ (as_no_memory _ _ (front_no_memory 2 bytes))

@@ -1,17 +1,21 @@
 -- Geometries, tied to what is read.
-use Rattle.std.proofs.Common.{◌≡◌, ℕ, ◌^◌, ◌<◌, ◌≤◌, ◌⊎◌, inl, inr, List, [], ◌∷◌, ◌++◌, length, drop, take, Ok, Err, nat_le, refl, sym, ap, subst, ◌∙◌, All, length-append, length-drop, arith}
+use Rattle.std.proofs.Common.{◌≡◌, ℕ, ◌^◌, ◌<◌, ◌≤◌, ◌⊎◌, inl, inr, true, List, [], ◌∷◌, ◌++◌, length}
+use Rattle.std.proofs.Common.{drop, take, Ok, Err, refl, sym, ap, subst, ◌∙◌, All, length-append, length-drop, arith}
 use Rattle.std.specs.List.{flat_map}
 use Rattle.std.specs.Int.{w32, from_le_bytes}
-use Rattle.std.proofs.lemmas.Bool.{cases_lt, le-leb, leb-true}
+use Rattle.std.proofs.lemmas.Bool.{cases_lt}
+use Rattle.std.proofs.lemmas.Bool.Decides.{nat_tests}
 use Rattle.std.proofs.lemmas.List.Elements.{All-nil, All-push}
+use Rattle.feature_model.specs.declared.limits.TheConstants.{LEAST_LINE, LEAST_RING}
 use Rattle.feature_model.specs.declared.feature.World.{World}
 use Rattle.feature_model.specs.Data.{GeometryData, world_points, world_lines, world_polygons}
-use Rattle.feature_model.specs.Limits.{CountFits, GeometryFits}
+use Rattle.feature_model.specs.Limits.{IsCount, is_count, CountFits, GeometryFits}
 use Rattle.feature_model.specs.Spelled.{two_bytes, four_bytes, spelled_list, spelled_point, spelled_line, spelled_geometry}
 use Rattle.feature_model.proofs.TextLengths.{length-four_bytes}
 use Rattle.edit_text.specs.declared.fault.TextFault.TheVariants.{Cut, Bad}
 use Rattle.feature_model.specs.Types.{IsOfWorld, LiesInWorld}
-use Rattle.edit_text.specs.Reading.{Part, then_read, read_as, read_if, many_at, two_at, four_at, point_at, list_at, line_at, lines_at, polygons_at, geometry_behind, geometry_at}
+use Rattle.edit_text.specs.Reading.{Part, then_read, read_as, many_at, two_at, count_at, four_at}
+use Rattle.edit_text.specs.Reading.{point_at, list_at, line_at, lines_at, polygons_at, geometry_behind, geometry_at}
 use Rattle.edit_text.specs.Cut.{EndsWithin, EndsBehind, EndsBehindKind, EndsAmong, EndsInList, EndsInLine, IsLine, EndsInRings, IsPolygon, EndsInGeometry}
 use Rattle.edit_text.proofs.Codecs.{Codec, codec_same, codec_then, codec_as, codec_if}
 use Rattle.edit_text.proofs.FieldCodecs.{front_long, codec_two, codec_four}
@@ -26,7 +30,8 @@ point_codec_parts = codec_then four_at four_bytes (λ x. x < 2 ^ 32) (EndsWithin
     (λ x rest. read_as (λ y. record { x = x; y = y }) (four_at rest)) (λ x p. four_bytes p.y) (λ x p. (p.x ≡ x) × (p.y < 2 ^ 32)) (λ x. EndsWithin 4)
     spelled_point IsOfWorld
     codec_four
-    (λ x fits. codec_as four_at four_bytes (λ y. y < 2 ^ 32) (EndsWithin 4) (λ y. record { x = x; y = y }) (λ p. four_bytes p.y) (λ p. (p.x ≡ x) × (p.y < 2 ^ 32)) codec_four
+    (λ x fits. codec_as four_at four_bytes (λ y. y < 2 ^ 32) (EndsWithin 4) (λ y. record { x = x; y = y }) (λ p. four_bytes p.y)
+    (λ p. (p.x ≡ x) × (p.y < 2 ^ 32)) codec_four
     (λ y h l. ((refl, l), refl))
     (λ p is. (p.y, is.1, ap (λ a. record { x = a; y = p.y }) is.0, refl)))
     (λ x p fits is. ((subst (λ a. a < 2 ^ 32) (sym is.0) fits, is.1), ap (λ a. four_bytes a ++ four_bytes p.y) is.0))
@@ -61,38 +66,47 @@ codec_each : {A : Type 0} (read : List ℕ → Part A) (spell : A → List ℕ) 
     → (n : ℕ) → Codec (many_at (λ _. read) n []) (flat_map spell) (λ xs. (length xs ≡ n) × All Is xs) (EndsAmong spell (All Is) (λ _. Ends) n)
 codec_each read spell Is Ends c n = codec_many (λ _. read) spell (All Is) (λ _. Ends)
     (record {
-      next = λ done are. codec_same read spell Is (λ x. All Is (done ++ x ∷ [])) Ends Ends c (λ x is. All-push Is done x are is) (λ x a. all_last Is done x a) (λ b e. e) (λ b e. e);
+      next = λ done are. codec_same read spell Is (λ x. All Is (done ++ x ∷ [])) Ends Ends c (λ x is. All-push Is done x are is)
+          (λ x a. all_last Is done x a) (λ b e. e) (λ b e. e);
       fewer = all_front Is;
     })
     (All-nil Is) n
 
-codec_count : (least : ℕ) → Codec (λ bytes. read_if (nat_le least) (two_at bytes)) two_bytes (λ count. (least ≤ count) × (count ≤ 65535)) (EndsWithin 2)
-codec_count least = codec_if two_at two_bytes (λ n. n < 2 ^ 16) (EndsWithin 2) (nat_le least) (λ count. (least ≤ count) × (count ≤ 65535)) codec_two
-    (λ n l t. (leb-true least n t, omega arith))
-    (λ n is. (omega (arith, is.1), le-leb least n is.0))
+count_passes : (least n : ℕ) → IsCount least n → is_count least n ≡ true
+count_passes least n fits = grind (arith, nat_tests)
+
+count_within : (least n : ℕ) → is_count least n ≡ true → IsCount least n
+count_within least n t = grind (arith, nat_tests)
+
+codec_count : (least : ℕ) → Codec (count_at least) two_bytes (IsCount least) (EndsWithin 2)
+codec_count least = codec_if two_at two_bytes (λ n. n < 2 ^ 16) (EndsWithin 2) (is_count least) (IsCount least) codec_two
+    (λ n l t. count_within least n t)
+    (λ n is. (omega (arith, is.1), count_passes least n is))
 
 codec_list : {A : Type 0} (least : ℕ) (read : List ℕ → Part A) (spell : A → List ℕ) (Is : A → Type 0) (Ends : List ℕ → Type 0) → Codec read spell Is Ends
     → Codec (list_at least read) (spelled_list spell) (λ xs. CountFits least xs × All Is xs) (EndsInList least spell Is Ends)
 unfolding spelled_list
-codec_list least read spell Is Ends c = codec_then (λ bytes. read_if (nat_le least) (two_at bytes)) two_bytes (λ count. (least ≤ count) × (count ≤ 65535)) (EndsWithin 2)
+codec_list least read spell Is Ends c = codec_then (count_at least) two_bytes (IsCount least) (EndsWithin 2)
     (λ count. many_at (λ _. read) count []) (λ count xs. flat_map spell xs) (λ count xs. (length xs ≡ count) × All Is xs) (EndsAmong spell (All Is) (λ _. Ends))
     (spelled_list spell) (λ xs. CountFits least xs × All Is xs)
     (codec_count least)
     (λ count fits. codec_each read spell Is Ends c count)
-    (λ count xs fits is. ((subst (λ n. (least ≤ n) × (n ≤ 65535)) (sym is.0) fits, is.1), ap (λ n. two_bytes n ++ flat_map spell xs) is.0))
+    (λ count xs fits is. ((subst (IsCount least) (sym is.0) fits, is.1), ap (λ n. two_bytes n ++ flat_map spell xs) is.0))
     (λ xs is. (length xs, is.0, (refl, is.1)))
 
 codec_line : (least : ℕ) → Codec (line_at least) spelled_line (IsLine least) (EndsInLine least)
 unfolding line_at
 codec_line least = codec_list least point_at spelled_point IsOfWorld (EndsWithin 8) codec_point
 
-codec_lines : (least : ℕ) → Codec (lines_at least) (spelled_list spelled_line) (λ ls. CountFits 1 ls × All (IsLine least) ls) (EndsInList 1 spelled_line (IsLine least) (EndsInLine least))
+codec_lines : (least : ℕ) → Codec (lines_at least) (spelled_list spelled_line) (λ ls. CountFits 1 ls × All (IsLine least) ls)
+    (EndsInList 1 spelled_line (IsLine least) (EndsInLine least))
 unfolding lines_at
 codec_lines least = codec_list 1 (line_at least) spelled_line (IsLine least) (EndsInLine least) (codec_line least)
 
-codec_polygons : Codec polygons_at (spelled_list (spelled_list spelled_line)) (λ ps. CountFits 1 ps × All IsPolygon ps) (EndsInList 1 (spelled_list spelled_line) IsPolygon EndsInRings)
+codec_polygons : Codec polygons_at (spelled_list (spelled_list spelled_line)) (λ ps. CountFits 1 ps × All IsPolygon ps)
+    (EndsInList 1 (spelled_list spelled_line) IsPolygon EndsInRings)
 unfolding polygons_at
-codec_polygons = codec_list 1 (lines_at 3) (spelled_list spelled_line) IsPolygon EndsInRings (codec_lines 3)
+codec_polygons = codec_list 1 (lines_at LEAST_RING) (spelled_list spelled_line) IsPolygon EndsInRings (codec_lines LEAST_RING)
 
 -- ---- kinds
 
@@ -109,7 +123,7 @@ ArePoints (world_polygons polygons) = ⊥
 
 abbrev AreLines : GeometryData → Type 0
 AreLines (world_points points) = ⊥
-AreLines (world_lines lines) = CountFits 1 lines × All (IsLine 2) lines
+AreLines (world_lines lines) = CountFits 1 lines × All (IsLine LEAST_LINE) lines
 AreLines (world_polygons polygons) = ⊥
 
 abbrev ArePolygons : GeometryData → Type 0
@@ -122,12 +136,14 @@ split_points (world_points points) is = (points, is, refl, refl)
 split_points (world_lines lines) is = absurd is
 split_points (world_polygons polygons) is = absurd is
 
-split_lines : (g : GeometryData) → AreLines g → (lines : List (List World)) × (CountFits 1 lines × All (IsLine 2) lines) × (g ≡ world_lines lines) × (shape_text g ≡ spelled_list spelled_line lines)
+split_lines : (g : GeometryData) → AreLines g → (lines : List (List World)) × (CountFits 1 lines × All (IsLine LEAST_LINE) lines) × (g ≡ world_lines lines)
+    × (shape_text g ≡ spelled_list spelled_line lines)
 split_lines (world_points points) is = absurd is
 split_lines (world_lines lines) is = (lines, is, refl, refl)
 split_lines (world_polygons polygons) is = absurd is
 
-split_polygons : (g : GeometryData) → ArePolygons g → (polygons : List (List (List World))) × (CountFits 1 polygons × All IsPolygon polygons) × (g ≡ world_polygons polygons) × (shape_text g ≡ spelled_list (spelled_list spelled_line) polygons)
+split_polygons : (g : GeometryData) → ArePolygons g → (polygons : List (List (List World))) × (CountFits 1 polygons × All IsPolygon polygons)
+    × (g ≡ world_polygons polygons) × (shape_text g ≡ spelled_list (spelled_list spelled_line) polygons)
 split_polygons (world_points points) is = absurd is
 split_polygons (world_lines lines) is = absurd is
 split_polygons (world_polygons polygons) is = (polygons, is, refl, refl)
@@ -188,19 +204,26 @@ three_from (inr (inr (inl r))) = inr (inr (inl r))
 three_from (inr (inr (inr s))) = inr (inr (inr (inl s)))
 
 points_here : Codec (λ bytes. read_as world_points (line_at 1 bytes)) shape_text ArePoints (EndsInLine 1)
-points_here = codec_as (line_at 1) spelled_line (IsLine 1) (EndsInLine 1) world_points shape_text ArePoints (codec_line 1) (λ points h is. (is, refl)) split_points
+points_here = codec_as (line_at 1) spelled_line (IsLine 1) (EndsInLine 1) world_points shape_text ArePoints (codec_line 1)
+    (λ points h is. (is, refl)) split_points
 
-lines_here : Codec (λ bytes. read_as world_lines (lines_at 2 bytes)) shape_text AreLines (EndsInList 1 spelled_line (IsLine 2) (EndsInLine 2))
-lines_here = codec_as (lines_at 2) (spelled_list spelled_line) (λ ls. CountFits 1 ls × All (IsLine 2) ls) (EndsInList 1 spelled_line (IsLine 2) (EndsInLine 2)) world_lines shape_text AreLines (codec_lines 2) (λ lines h is. (is, refl)) split_lines
+lines_here : Codec (λ bytes. read_as world_lines (lines_at LEAST_LINE bytes)) shape_text AreLines
+    (EndsInList 1 spelled_line (IsLine LEAST_LINE) (EndsInLine LEAST_LINE))
+lines_here = codec_as (lines_at LEAST_LINE) (spelled_list spelled_line) (λ ls. CountFits 1 ls × All (IsLine LEAST_LINE) ls)
+    (EndsInList 1 spelled_line (IsLine LEAST_LINE) (EndsInLine LEAST_LINE)) world_lines shape_text AreLines (codec_lines LEAST_LINE)
+    (λ lines h is. (is, refl)) split_lines
 
-polygons_here : Codec (λ bytes. read_as world_polygons (polygons_at bytes)) shape_text ArePolygons (EndsInList 1 (spelled_list spelled_line) IsPolygon EndsInRings)
-polygons_here = codec_as polygons_at (spelled_list (spelled_list spelled_line)) (λ ps. CountFits 1 ps × All IsPolygon ps) (EndsInList 1 (spelled_list spelled_line) IsPolygon EndsInRings) world_polygons shape_text ArePolygons codec_polygons (λ polygons h is. (is, refl)) split_polygons
+polygons_here : Codec (λ bytes. read_as world_polygons (polygons_at bytes)) shape_text ArePolygons
+    (EndsInList 1 (spelled_list spelled_line) IsPolygon EndsInRings)
+polygons_here = codec_as polygons_at (spelled_list (spelled_list spelled_line)) (λ ps. CountFits 1 ps × All IsPolygon ps)
+    (EndsInList 1 (spelled_list spelled_line) IsPolygon EndsInRings) world_polygons shape_text ArePolygons codec_polygons
+    (λ polygons h is. (is, refl)) split_polygons
 
 abbrev read_points : List ℕ → Part GeometryData
 read_points bytes = read_as world_points (line_at 1 bytes)
 
 abbrev read_lines : List ℕ → Part GeometryData
-read_lines bytes = read_as world_lines (lines_at 2 bytes)
+read_lines bytes = read_as world_lines (lines_at LEAST_LINE bytes)
 
 abbrev read_polygons : List ℕ → Part GeometryData
 read_polygons bytes = read_as world_polygons (polygons_at bytes)
@@ -208,24 +231,36 @@ read_polygons bytes = read_as world_polygons (polygons_at bytes)
 abbrev no_kind : ℕ → List ℕ → Part GeometryData
 no_kind k bytes = Err Bad
 
-kinds_three : KindCodec 3 (pick 3 read_polygons no_kind) spelled_geometry (λ g. ArePolygons g ⊎ ⊥) (λ b. EndsBehindKind 3 (EndsInList 1 (spelled_list spelled_line) IsPolygon EndsInRings) b ⊎ ⊥)
-kinds_three = kind_or 3 read_polygons shape_text ArePolygons (EndsInList 1 (spelled_list spelled_line) IsPolygon EndsInRings) no_kind spelled_geometry (λ g. ⊥) (λ b. ⊥) polygons_here (kind_none 4 spelled_geometry) polygons_text
+kinds_three : KindCodec 3 (pick 3 read_polygons no_kind) spelled_geometry (λ g. ArePolygons g ⊎ ⊥)
+    (λ b. EndsBehindKind 3 (EndsInList 1 (spelled_list spelled_line) IsPolygon EndsInRings) b ⊎ ⊥)
+kinds_three = kind_or 3 read_polygons shape_text ArePolygons (EndsInList 1 (spelled_list spelled_line) IsPolygon EndsInRings) no_kind spelled_geometry
+    (λ g. ⊥) (λ b. ⊥) polygons_here (kind_none 4 spelled_geometry) polygons_text
 
 kinds_two : KindCodec 2 (pick 2 read_lines (pick 3 read_polygons no_kind)) spelled_geometry (λ g. AreLines g ⊎ (ArePolygons g ⊎ ⊥))
-    (λ b. EndsBehindKind 2 (EndsInList 1 spelled_line (IsLine 2) (EndsInLine 2)) b ⊎ (EndsBehindKind 3 (EndsInList 1 (spelled_list spelled_line) IsPolygon EndsInRings) b ⊎ ⊥))
-kinds_two = kind_or 2 read_lines shape_text AreLines (EndsInList 1 spelled_line (IsLine 2) (EndsInLine 2)) (pick 3 read_polygons no_kind) spelled_geometry (λ g. ArePolygons g ⊎ ⊥)
+    (λ b. EndsBehindKind 2 (EndsInList 1 spelled_line (IsLine LEAST_LINE) (EndsInLine LEAST_LINE)) b
+    ⊎ (EndsBehindKind 3 (EndsInList 1 (spelled_list spelled_line) IsPolygon EndsInRings) b ⊎ ⊥))
+kinds_two = kind_or 2 read_lines shape_text AreLines (EndsInList 1 spelled_line (IsLine LEAST_LINE) (EndsInLine LEAST_LINE))
+    (pick 3 read_polygons no_kind) spelled_geometry (λ g. ArePolygons g ⊎ ⊥)
     (λ b. EndsBehindKind 3 (EndsInList 1 (spelled_list spelled_line) IsPolygon EndsInRings) b ⊎ ⊥) lines_here kinds_three lines_text
 
-kinds_one : KindCodec 1 (pick 1 read_points (pick 2 read_lines (pick 3 read_polygons no_kind))) spelled_geometry (λ g. ArePoints g ⊎ (AreLines g ⊎ (ArePolygons g ⊎ ⊥)))
-    (λ b. EndsBehindKind 1 (EndsInLine 1) b ⊎ (EndsBehindKind 2 (EndsInList 1 spelled_line (IsLine 2) (EndsInLine 2)) b ⊎ (EndsBehindKind 3 (EndsInList 1 (spelled_list spelled_line) IsPolygon EndsInRings) b ⊎ ⊥)))
-kinds_one = kind_or 1 read_points shape_text ArePoints (EndsInLine 1) (pick 2 read_lines (pick 3 read_polygons no_kind)) spelled_geometry (λ g. AreLines g ⊎ (ArePolygons g ⊎ ⊥))
-    (λ b. EndsBehindKind 2 (EndsInList 1 spelled_line (IsLine 2) (EndsInLine 2)) b ⊎ (EndsBehindKind 3 (EndsInList 1 (spelled_list spelled_line) IsPolygon EndsInRings) b ⊎ ⊥)) points_here kinds_two points_text
+kinds_one : KindCodec 1 (pick 1 read_points (pick 2 read_lines (pick 3 read_polygons no_kind))) spelled_geometry
+    (λ g. ArePoints g ⊎ (AreLines g ⊎ (ArePolygons g ⊎ ⊥)))
+    (λ b. EndsBehindKind 1 (EndsInLine 1) b ⊎ (EndsBehindKind 2 (EndsInList 1 spelled_line (IsLine LEAST_LINE) (EndsInLine LEAST_LINE)) b
+    ⊎ (EndsBehindKind 3 (EndsInList 1 (spelled_list spelled_line) IsPolygon EndsInRings) b ⊎ ⊥)))
+kinds_one = kind_or 1 read_points shape_text ArePoints (EndsInLine 1) (pick 2 read_lines (pick 3 read_polygons no_kind)) spelled_geometry
+    (λ g. AreLines g ⊎ (ArePolygons g ⊎ ⊥))
+    (λ b. EndsBehindKind 2 (EndsInList 1 spelled_line (IsLine LEAST_LINE) (EndsInLine LEAST_LINE)) b
+    ⊎ (EndsBehindKind 3 (EndsInList 1 (spelled_list spelled_line) IsPolygon EndsInRings) b ⊎ ⊥)) points_here kinds_two points_text
 
 pub codec_geometry : Codec geometry_at spelled_geometry IsGeometry EndsInGeometry
 unfolding geometry_at geometry_behind
 codec_geometry = codec_same geometry_at spelled_geometry (λ g. ArePoints g ⊎ (AreLines g ⊎ (ArePolygons g ⊎ ⊥))) IsGeometry
-    (λ b. EndsWithin 1 b ⊎ (EndsBehindKind 1 (EndsInLine 1) b ⊎ (EndsBehindKind 2 (EndsInList 1 spelled_line (IsLine 2) (EndsInLine 2)) b ⊎ (EndsBehindKind 3 (EndsInList 1 (spelled_list spelled_line) IsPolygon EndsInRings) b ⊎ ⊥))))
+    (λ b. EndsWithin 1 b ⊎ (EndsBehindKind 1 (EndsInLine 1) b
+    ⊎ (EndsBehindKind 2 (EndsInList 1 spelled_line (IsLine LEAST_LINE) (EndsInLine LEAST_LINE)) b
+    ⊎ (EndsBehindKind 3 (EndsInList 1 (spelled_list spelled_line) IsPolygon EndsInRings) b ⊎ ⊥))))
     EndsInGeometry
-    (codec_kinds (pick 1 read_points (pick 2 read_lines (pick 3 read_polygons no_kind))) spelled_geometry (λ g. ArePoints g ⊎ (AreLines g ⊎ (ArePolygons g ⊎ ⊥)))
-    (λ b. EndsBehindKind 1 (EndsInLine 1) b ⊎ (EndsBehindKind 2 (EndsInList 1 spelled_line (IsLine 2) (EndsInLine 2)) b ⊎ (EndsBehindKind 3 (EndsInList 1 (spelled_list spelled_line) IsPolygon EndsInRings) b ⊎ ⊥))) 1 kinds_one)
+    (codec_kinds (pick 1 read_points (pick 2 read_lines (pick 3 read_polygons no_kind))) spelled_geometry
+    (λ g. ArePoints g ⊎ (AreLines g ⊎ (ArePolygons g ⊎ ⊥)))
+    (λ b. EndsBehindKind 1 (EndsInLine 1) b ⊎ (EndsBehindKind 2 (EndsInList 1 spelled_line (IsLine LEAST_LINE) (EndsInLine LEAST_LINE)) b
+    ⊎ (EndsBehindKind 3 (EndsInList 1 (spelled_list spelled_line) IsPolygon EndsInRings) b ⊎ ⊥))) 1 kinds_one)
     geometry_to geometry_from (λ b e. three_to e) (λ b e. three_from e)

@@ -33,18 +33,22 @@ text_all spell P f xs i front counted out h count put =
     rw (length-map xs f, flat_map-map spell f xs, ← append_assoc, ← count, ← take_all i xs h) put.text
 
 pub line_all : (P : World → Type 0) (points : List World) (i : ℕ) (front counted out : List ℕ)
-    → length points ≤ i → counted ≡ front ++ two_bytes (length points) → IsPut spelled_point P (λ p. p) points i counted out → out ≡ front ++ spelled_line points
+    → length points ≤ i → counted ≡ front ++ two_bytes (length points) → IsPut spelled_point P (λ p. p) points i counted out
+    → out ≡ front ++ spelled_line points
 line_all P points i front counted out h count put = rw (map-id points) at (text_all spelled_point P (λ p. p) points i front counted out h count put)
 
 pub tags_all : {X : Type 0} (P : TagData → Type 0) (f : X → TagData) (xs : List X) (i : ℕ) (front counted out : List ℕ)
     → length xs ≤ i → counted ≡ front ++ length xs ∷ [] → IsPut spelled_tag P f xs i counted out → out ≡ front ++ spelled_tags (map f xs)
 unfolding spelled_tags
 tags_all P f xs i front counted out h count put =
-    put.text ∙ ap (λ r. r ++ flat_map (λ x. spelled_tag (f x)) (take i xs)) count ∙ append_assoc front (length xs ∷ []) _ ∙ rw (length-map xs f, flat_map-map spelled_tag f xs, take_all i xs h) refl
+    put.text ∙ ap (λ r. r ++ flat_map (λ x. spelled_tag (f x)) (take i xs)) count ∙ append_assoc front (length xs ∷ []) _
+    ∙ rw (length-map xs f, flat_map-map spelled_tag f xs, take_all i xs h) refl
 
 -- the fact holds of all of them
-pub types_all : {X A : Type 0} (spell : A → List ℕ) (P : A → Type 0) (f : X → A) (xs : List X) (i : ℕ) (front out : List ℕ) → length xs ≤ i → IsPut spell P f xs i front out → All P (map f xs)
+pub types_all : {X A : Type 0} (spell : A → List ℕ) (P : A → Type 0) (f : X → A) (xs : List X) (i : ℕ) (front out : List ℕ) → length xs ≤ i
+    → IsPut spell P f xs i front out → All P (map f xs)
 types_all spell P f xs i front out h put = All-map P f xs (rw (take_all i xs h) at put.types)
 
-pub points_types_all : (P : World → Type 0) (points : List World) (i : ℕ) (front out : List ℕ) → length points ≤ i → IsPut spelled_point P (λ p. p) points i front out → All P points
+pub points_types_all : (P : World → Type 0) (points : List World) (i : ℕ) (front out : List ℕ) → length points ≤ i
+    → IsPut spelled_point P (λ p. p) points i front out → All P points
 points_types_all P points i front out h put = rw (take_all i points h) at put.types

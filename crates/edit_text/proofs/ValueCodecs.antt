@@ -1,10 +1,12 @@
 -- Values of tags, tied to what is read.
-use Rattle.std.proofs.Common.{◌≡◌, ℕ, ℤ, pos, negsuc, suc, ◌-◌, ◌^◌, ◌<◌, ◌≤◌, ◌<ℤ◌, FitsSigned, ◌⊎◌, inl, inr, Bool, true, false, List, [], ◌∷◌, ◌++◌, length, Ok, Err, nat_le, refl, sym, ap, subst, arith}
+use Rattle.std.proofs.Common.{◌≡◌, ℕ, ℤ, pos, negsuc, suc, ◌-◌, ◌^◌, ◌<◌, ◌≤◌, ◌<ℤ◌, FitsSigned, ◌⊎◌, inl, inr, Bool}
+use Rattle.std.proofs.Common.{true, false, List, [], ◌∷◌, ◌++◌, length, Ok, Err, nat_le, refl, sym, ap, subst, arith}
 use mir.Val.{sel}
 use Rattle.std.specs.Int.{w64, cast_signed, cast_unsigned}
 use Rattle.std.specs.Str.{IsUtf8}
 use Rattle.std.proofs.lemmas.Bool.{le-ltb, le-leb, leb-true}
 use Rattle.std.proofs.lemmas.Int.{to_z-of_z, of_z-to_z, ints}
+use Rattle.feature_model.specs.declared.limits.TheConstants.{MOST_TEXT_BYTES}
 use Rattle.feature_model.specs.Data.{ValueData, text_value, natural_value, negative_value, truth_value}
 use Rattle.feature_model.specs.Limits.{ValueFits}
 use Rattle.feature_model.specs.Spelled.{two_bytes, eight_bytes, spelled_value}
@@ -48,7 +50,7 @@ value_text (negative_value z) = eight_bytes (cast_unsigned w64 z)
 value_text (truth_value b) = []
 
 abbrev IsText : ValueData → Type 0
-IsText (text_value bytes) = (length bytes ≤ 1024) × IsUtf8 bytes
+IsText (text_value bytes) = (length bytes ≤ MOST_TEXT_BYTES) × IsUtf8 bytes
 IsText (natural_value n) = ⊥
 IsText (negative_value z) = ⊥
 IsText (truth_value b) = ⊥
@@ -65,7 +67,8 @@ IsNegative (natural_value n) = ⊥
 IsNegative (negative_value z) = (z <ℤ pos 0) × FitsSigned w64 z
 IsNegative (truth_value b) = ⊥
 
-split_text : (v : ValueData) → IsText v → (bytes : List ℕ) × ((length bytes ≤ 1024) × IsUtf8 bytes) × (v ≡ text_value bytes) × (value_text v ≡ two_bytes (length bytes) ++ bytes)
+split_text : (v : ValueData) → IsText v → (bytes : List ℕ) × ((length bytes ≤ MOST_TEXT_BYTES) × IsUtf8 bytes) × (v ≡ text_value bytes)
+    × (value_text v ≡ two_bytes (length bytes) ++ bytes)
 split_text (text_value bytes) is = (bytes, is, refl, refl)
 split_text (natural_value n) is = absurd is
 split_text (negative_value z) is = absurd is
@@ -77,7 +80,8 @@ split_natural (natural_value n) is = (n, is, refl, refl)
 split_natural (negative_value z) is = absurd is
 split_natural (truth_value b) is = absurd is
 
-split_negative : (v : ValueData) → IsNegative v → (n : ℕ) × ((2 ^ 63 ≤ n) × (n < 2 ^ 64)) × (v ≡ negative_value (cast_signed w64 n)) × (value_text v ≡ eight_bytes n)
+split_negative : (v : ValueData) → IsNegative v → (n : ℕ) × ((2 ^ 63 ≤ n) × (n < 2 ^ 64)) × (v ≡ negative_value (cast_signed w64 n))
+    × (value_text v ≡ eight_bytes n)
 split_negative (text_value bytes) is = absurd is
 split_negative (natural_value n) is = absurd is
 split_negative (negative_value z) is = (cast_unsigned w64 z, unsigned_is z is.0 is.1, ap negative_value (sym (to_z-of_z w64 z is.1)), refl)
@@ -137,13 +141,16 @@ abbrev no_kind : ℕ → List ℕ → Part ValueData
 no_kind k bytes = Err Bad
 
 text_here : Codec read_text value_text IsText EndsInText
-text_here = codec_as long_text_at (λ t. two_bytes (length t) ++ t) (λ t. (length t ≤ 1024) × IsUtf8 t) EndsInText text_value value_text IsText codec_long_text (λ t h is. (is, refl)) split_text
+text_here = codec_as long_text_at (λ t. two_bytes (length t) ++ t)
+    (λ t. (length t ≤ MOST_TEXT_BYTES) × IsUtf8 t) EndsInText text_value value_text IsText codec_long_text (λ t h is. (is, refl)) split_text
 
 natural_here : Codec read_natural value_text IsNatural (EndsWithin 8)
-natural_here = codec_as eight_at eight_bytes (λ n. n < 2 ^ 64) (EndsWithin 8) natural_value value_text IsNatural codec_eight (λ n h is. (is, refl)) split_natural
+natural_here = codec_as eight_at eight_bytes (λ n. n < 2 ^ 64) (EndsWithin 8) natural_value value_text IsNatural codec_eight
+    (λ n h is. (is, refl)) split_natural
 
 negative_here : Codec read_negative value_text IsNegative (EndsWithin 8)
-negative_here = codec_as negative_at eight_bytes (λ n. (2 ^ 63 ≤ n) × (n < 2 ^ 64)) (EndsWithin 8) (λ n. negative_value (cast_signed w64 n)) value_text IsNegative codec_bits
+negative_here = codec_as negative_at eight_bytes (λ n. (2 ^ 63 ≤ n) × (n < 2 ^ 64)) (EndsWithin 8)
+    (λ n. negative_value (cast_signed w64 n)) value_text IsNegative codec_bits
     (λ n h is. (signed_is n is.0 is.1, ap eight_bytes (of_z-to_z w64 n is.1))) split_negative
 
 abbrev from_five : ℕ → List ℕ → Part ValueData
@@ -189,10 +196,12 @@ abbrev OneEnds : List ℕ → Type 0
 OneEnds b = EndsBehindKind 1 EndsInText b ⊎ TwoEnds b
 
 kinds_five : KindCodec 5 from_five spelled_value FiveIs FiveEnds
-kinds_five = kind_or 5 (read_truth true) (λ v. []) (λ v. v ≡ truth_value true) (λ r. ⊥) no_kind spelled_value (λ v. ⊥) (λ b. ⊥) (codec_only (truth_value true)) (kind_none 6 spelled_value) true_text
+kinds_five = kind_or 5 (read_truth true) (λ v. []) (λ v. v ≡ truth_value true) (λ r. ⊥) no_kind spelled_value (λ v. ⊥) (λ b. ⊥)
+    (codec_only (truth_value true)) (kind_none 6 spelled_value) true_text
 
 kinds_four : KindCodec 4 from_four spelled_value FourIs FourEnds
-kinds_four = kind_or 4 (read_truth false) (λ v. []) (λ v. v ≡ truth_value false) (λ r. ⊥) from_five spelled_value FiveIs FiveEnds (codec_only (truth_value false)) kinds_five false_text
+kinds_four = kind_or 4 (read_truth false) (λ v. []) (λ v. v ≡ truth_value false) (λ r. ⊥) from_five spelled_value FiveIs FiveEnds
+    (codec_only (truth_value false)) kinds_five false_text
 
 kinds_three : KindCodec 3 from_three spelled_value ThreeIs ThreeEnds
 kinds_three = kind_or 3 read_negative value_text IsNegative (EndsWithin 8) from_four spelled_value FourIs FourEnds negative_here kinds_four negative_text

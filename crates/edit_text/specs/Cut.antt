@@ -5,9 +5,10 @@ use Rattle.std.specs.Cmp.Lexicographic.{slice_cmp}
 use Rattle.std.specs.List.{flat_map}
 use Rattle.std.specs.List.Sorted.{IsStrictlySortedBy}
 use Rattle.std.specs.Str.{IsUtf8}
+use Rattle.feature_model.specs.declared.limits.TheConstants.{GREATEST_ZOOM, MOST_NAME_BYTES, LEAST_LINE, LEAST_RING, MOST_TAGS, MOST_TEXT_BYTES}
 use Rattle.feature_model.specs.declared.feature.World.{World}
 use Rattle.feature_model.specs.Data.{TagData}
-use Rattle.feature_model.specs.Limits.{IsName, CountFits, NumberFits, GeometryFits, ValueFits, HasAscendingKeys, keys_of}
+use Rattle.feature_model.specs.Limits.{IsName, IsCount, AreZooms, CountFits, NumberFits, GeometryFits, ValueFits, HasAscendingKeys, keys_of}
 use Rattle.feature_model.specs.Spelled.{two_bytes, eight_bytes, spelled_list, spelled_point, spelled_line, spelled_geometry, spelled_name, spelled_tag}
 use Rattle.feature_model.specs.Types.{IsOfWorld, LiesInWorld, TagFitsTypes}
 
@@ -36,17 +37,17 @@ EndsAmong {A} spell Are Ends count bytes = (xs : List A) × (rest : List ℕ) ×
 -- ---- names and texts
 
 abbrev pub EndsInName : List ℕ → Type 0
-EndsInName bytes = EndsWithin 1 bytes ⊎ EndsBehind one_byte (λ len. (1 ≤ len) × (len ≤ 64)) EndsWithin bytes
+EndsInName bytes = EndsWithin 1 bytes ⊎ EndsBehind one_byte (λ len. (1 ≤ len) × (len ≤ MOST_NAME_BYTES)) EndsWithin bytes
 
 abbrev pub EndsInText : List ℕ → Type 0
-EndsInText bytes = EndsWithin 2 bytes ⊎ EndsBehind two_bytes (λ len. len ≤ 1024) EndsWithin bytes
+EndsInText bytes = EndsWithin 2 bytes ⊎ EndsBehind two_bytes (λ len. len ≤ MOST_TEXT_BYTES) EndsWithin bytes
 
 -- ---- geometry
 
 -- inside a count or one of the things counted
 abbrev pub EndsInList : {A : Type 0} → ℕ → (A → List ℕ) → (A → Type 0) → (List ℕ → Type 0) → List ℕ → Type 0
 EndsInList least spell Is Ends bytes =
-    EndsWithin 2 bytes ⊎ EndsBehind two_bytes (λ count. (least ≤ count) × (count ≤ 65535)) (EndsAmong spell (All Is) (λ _. Ends)) bytes
+    EndsWithin 2 bytes ⊎ EndsBehind two_bytes (IsCount least) (EndsAmong spell (All Is) (λ _. Ends)) bytes
 
 -- inside a list of points, which has at least so many
 abbrev pub EndsInLine : ℕ → List ℕ → Type 0
@@ -56,15 +57,15 @@ abbrev pub IsLine : ℕ → List World → Type 0
 IsLine least points = CountFits least points × All IsOfWorld points
 
 abbrev pub EndsInRings : List ℕ → Type 0
-EndsInRings bytes = EndsInList 1 spelled_line (IsLine 3) (EndsInLine 3) bytes
+EndsInRings bytes = EndsInList 1 spelled_line (IsLine LEAST_RING) (EndsInLine LEAST_RING) bytes
 
 abbrev pub IsPolygon : List (List World) → Type 0
-IsPolygon rings = CountFits 1 rings × All (IsLine 3) rings
+IsPolygon rings = CountFits 1 rings × All (IsLine LEAST_RING) rings
 
 abbrev pub EndsInGeometry : List ℕ → Type 0
 EndsInGeometry bytes = EndsWithin 1 bytes
     ⊎ EndsBehindKind 1 (EndsInLine 1) bytes
-    ⊎ EndsBehindKind 2 (EndsInList 1 spelled_line (IsLine 2) (EndsInLine 2)) bytes
+    ⊎ EndsBehindKind 2 (EndsInList 1 spelled_line (IsLine LEAST_LINE) (EndsInLine LEAST_LINE)) bytes
     ⊎ EndsBehindKind 3 (EndsInList 1 (spelled_list spelled_line) IsPolygon EndsInRings) bytes
 
 -- ---- tags
@@ -87,12 +88,12 @@ abbrev pub AreTags : List TagData → Type 0
 AreTags tags = All (λ t. IsName t.key × ValueFits t.value × TagFitsTypes t) tags × HasAscendingKeys tags
 
 abbrev pub EndsInTags : List ℕ → Type 0
-EndsInTags bytes = EndsWithin 1 bytes ⊎ EndsBehind one_byte (λ count. count ≤ 64) (EndsAmong spelled_tag AreTags EndsInTag) bytes
+EndsInTags bytes = EndsWithin 1 bytes ⊎ EndsBehind one_byte (λ count. count ≤ MOST_TAGS) (EndsAmong spelled_tag AreTags EndsInTag) bytes
 
 -- ---- features and edits
 
 abbrev pub EndsInZooms : List ℕ → Type 0
-EndsInZooms bytes = EndsWithin 1 bytes ⊎ EndsBehind one_byte (λ zoom. zoom ≤ 16) (λ _. EndsWithin 1) bytes
+EndsInZooms bytes = EndsWithin 1 bytes ⊎ EndsBehind one_byte (λ zoom. zoom ≤ GREATEST_ZOOM) (λ _. EndsWithin 1) bytes
 
 -- behind the zooms
 abbrev pub EndsInShape : List ℕ → Type 0
@@ -101,7 +102,7 @@ EndsInShape bytes = EndsInGeometry bytes ⊎ EndsBehind spelled_geometry (λ g. 
 -- behind the layer
 abbrev pub EndsInBody : List ℕ → Type 0
 EndsInBody bytes = EndsInZooms bytes
-    ⊎ EndsBehind (λ zooms. zooms.0 ∷ zooms.1 ∷ []) (λ zooms. (zooms.0 ≤ zooms.1) × (zooms.1 ≤ 16)) (λ (zooms : ℕ × ℕ). EndsInShape) bytes
+    ⊎ EndsBehind (λ zooms. zooms.0 ∷ zooms.1 ∷ []) (λ zooms. AreZooms zooms.0 zooms.1) (λ (zooms : ℕ × ℕ). EndsInShape) bytes
 
 abbrev pub EndsInFeature : List ℕ → Type 0
 EndsInFeature bytes = EndsInName bytes ⊎ EndsBehind spelled_name (λ layer. IsName layer × IsUtf8 layer) (λ _. EndsInBody) bytes

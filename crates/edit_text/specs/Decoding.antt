@@ -1,5 +1,6 @@
 -- What stands in front of bytes.
 use Rattle.std.specs.Prelude.{◌≡◌, ℕ, ◌<◌, List, ◌∷◌, ◌++◌, length}
+use Rattle.feature_model.specs.declared.limits.TheConstants.{MOST_EDIT_BYTES}
 use Rattle.feature_model.specs.Data.{EditData}
 use Rattle.feature_model.specs.Spelled.{spelled}
 use Rattle.feature_model.specs.Types.{IsEdit}
@@ -15,4 +16,4 @@ BeginsAsPut bytes = (rest : List ℕ) × (bytes ≡ 1 ∷ rest)
 
 -- They are shorter than the longest text, and end before the text does, and each whole field is allowed.
 abbrev pub IsCut : List ℕ → Type 0
-IsCut bytes = (length bytes < 32768) × EndsInEdit bytes
+IsCut bytes = (length bytes < MOST_EDIT_BYTES) × EndsInEdit bytes

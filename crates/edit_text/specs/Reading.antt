@@ -1,54 +1,44 @@
 -- Reading from left to right: what stands in front and the bytes behind it, or the first fault that is met.
-use Rattle.std.specs.Prelude.{◌≡◌, ◌≢◌, ◌⊎◌, ℕ, zero, suc, ◌^◌, ◌==◌, ◌&&◌, Bool, true, false, List, [], ◌∷◌, ◌++◌, length, take, drop, Result, Ok, Err, IsOk, nat_lt, nat_le, if◌then◌else◌}
+use Rattle.std.specs.Prelude.{◌≡◌, ℕ, ◌^◌, ◌==◌, ◌&&◌, Bool, true, false, List, [], ◌∷◌, ◌++◌, length, take, drop, Ok, Err, IsOk, nat_lt, nat_le, if◌then◌else◌}
 use Rattle.std.specs.Ordering.{nat_cmp, is_lt}
 use Rattle.std.specs.Cmp.Lexicographic.{slice_cmp}
 use Rattle.std.specs.Int.{w16, w32, w64, from_le_bytes, cast_signed}
 use Rattle.std.specs.Str.{is_utf8}
+use Rattle.feature_model.specs.declared.limits.TheConstants.{LEAST_LINE, LEAST_RING, MOST_TAGS, MOST_TEXT_BYTES, MOST_EDIT_BYTES}
+use Rattle.feature_model.specs.declared.limits.TheConstants.{NUMBER_END, GREATEST_ZOOM, MOST_NAME_BYTES}
 use Rattle.feature_model.specs.declared.feature.World.{World}
-use Rattle.feature_model.specs.Data.{GeometryData, world_points, world_lines, world_polygons, ValueData, text_value, natural_value, negative_value, truth_value, TagData, FeatureData, EditData, put, delete}
+use Rattle.feature_model.specs.Data.{GeometryData, world_points, world_lines, world_polygons, ValueData, text_value, natural_value}
+use Rattle.feature_model.specs.Data.{negative_value, truth_value, TagData, FeatureData, EditData, put, delete}
+use Rattle.feature_model.specs.Limits.{is_count}
 use Rattle.edit_text.specs.declared.fault.TextFault.{TextFault}
-use Rattle.edit_text.specs.declared.fault.TextFault.TheVariants.{Cut, Bad, Memory}
+use Rattle.edit_text.specs.declared.fault.TextFault.TheVariants.{Cut, Bad}
+use Rattle.reader.specs.Reading.{Read, ◌>>=◌, repeated}
 
 -- what was read and the bytes behind it, or a fault
 abbrev pub Part : Type 0 → Type 0
-Part A = Result (A × List ℕ) TextFault
-
--- a function answers what reading gives
-abbrev pub Reads : {X A : Type 0} → (X → A × List ℕ) → Result X TextFault → Part A → Type 0
-Reads view (Ok x) part = part ≡ Ok (view x)
-Reads view (Err fault) part = part ≡ Err fault
-
--- the same, but memory may run out where something would be found
-abbrev pub Finds : {X A : Type 0} → (X → A × List ℕ) → Result X TextFault → Part A → Type 0
-Finds view (Ok x) part = part ≡ Ok (view x)
-Finds view (Err fault) part = (part ≡ Err fault) ⊎ ((fault ≡ Memory) × IsOk part)
-
--- the same, but memory may run out before a fault is met
-abbrev pub Gives : {X A : Type 0} → (X → A × List ℕ) → Result X TextFault → Part A → Type 0
-Gives view (Ok x) part = part ≡ Ok (view x)
-Gives view (Err fault) part = fault ≢ Memory → part ≡ Err fault
+Part A = Read TextFault (A × List ℕ)
 
 -- ---- ways to read
 
--- first this, then what it leads to
+-- first this, then what it leads to, from the bytes behind it
 abbrev pub then_read : {A B : Type 0} → Part A → (A → List ℕ → Part B) → Part B
-then_read (Ok x) next = next x.0 x.1
-then_read (Err fault) next = Err fault
+then_read part next = part >>= (λ x. next x.0 x.1)
 
 -- what was read, as something else
 abbrev pub read_as : {A B : Type 0} → (A → B) → Part A → Part B
-read_as make (Ok x) = Ok (make x.0, x.1)
-read_as make (Err fault) = Err fault
+read_as make part = part >>= (λ x. Ok (make x.0, x.1))
 
 -- what was read, where it passes the test
 abbrev pub read_if : {A : Type 0} → (A → Bool) → Part A → Part A
-read_if test (Ok x) = if test x.0 then Ok x else Err Bad
-read_if test (Err fault) = Err fault
+read_if test part = part >>= (λ x. if test x.0 then Ok x else Err Bad)
 
--- so many more behind those that were read; how each is read may depend on those before it
-unfoldable pub many_at : {A : Type 0} → (List A → List ℕ → Part A) → ℕ → List A → List ℕ → Part (List A)
-many_at read zero done bytes = Ok (done, bytes)
-many_at read (suc more) done bytes = then_read (read done bytes) (λ x rest. many_at read more (done ++ x ∷ []) rest)
+-- one more behind those that were read; how it is read may depend on them
+abbrev pub next_at : {A : Type 0} → (List A → List ℕ → Part A) → List A × List ℕ → Part (List A)
+next_at read so_far = then_read (read so_far.0 so_far.1) (λ x rest. Ok (so_far.0 ++ x ∷ [], rest))
+
+-- so many more behind those that were read
+abbrev pub many_at : {A : Type 0} → (List A → List ℕ → Part A) → ℕ → List A → List ℕ → Part (List A)
+many_at read count done bytes = repeated (next_at read) count (done, bytes)
 
 -- ---- numbers and texts
 
@@ -72,19 +62,23 @@ unfoldable pub text_at : ℕ → List ℕ → Part (List ℕ)
 text_at len bytes = read_if is_utf8 (front_at len bytes)
 
 unfoldable pub name_at : List ℕ → Part (List ℕ)
-name_at bytes = then_read (read_if (λ len. nat_le 1 len && nat_le len 64) (byte_at bytes)) text_at
+name_at bytes = then_read (read_if (λ len. nat_le 1 len && nat_le len MOST_NAME_BYTES) (byte_at bytes)) text_at
 
 unfoldable pub long_text_at : List ℕ → Part (List ℕ)
-long_text_at bytes = then_read (read_if (λ len. nat_le len 1024) (two_at bytes)) text_at
+long_text_at bytes = then_read (read_if (λ len. nat_le len MOST_TEXT_BYTES) (two_at bytes)) text_at
 
 -- ---- geometry
 
 unfoldable pub point_at : List ℕ → Part World
 point_at bytes = then_read (four_at bytes) (λ x rest. read_as (λ y. record { x = x; y = y }) (four_at rest))
 
+-- a count of at least so many, and not too many
+abbrev pub count_at : ℕ → List ℕ → Part ℕ
+count_at least bytes = read_if (is_count least) (two_at bytes)
+
 -- a count of at least so many, and what is counted
 abbrev pub list_at : {A : Type 0} → ℕ → (List ℕ → Part A) → List ℕ → Part (List A)
-list_at least read bytes = then_read (read_if (nat_le least) (two_at bytes)) (λ count. many_at (λ _. read) count [])
+list_at least read bytes = then_read (count_at least bytes) (λ count. many_at (λ _. read) count [])
 
 unfoldable pub line_at : ℕ → List ℕ → Part (List World)
 line_at least bytes = list_at least point_at bytes
@@ -97,12 +91,12 @@ abbrev pub HasFirstLine : ℕ → List ℕ → Type 0
 HasFirstLine least bytes = (x : ℕ × List ℕ) × (two_at bytes ≡ Ok x) × IsOk (line_at least x.1)
 
 unfoldable pub polygons_at : List ℕ → Part (List (List (List World)))
-polygons_at bytes = list_at 1 (lines_at 3) bytes
+polygons_at bytes = list_at 1 (lines_at LEAST_RING) bytes
 
 unfoldable pub geometry_behind : ℕ → List ℕ → Part GeometryData
 geometry_behind kind bytes =
     if kind == 1 then read_as world_points (line_at 1 bytes)
-    else (if kind == 2 then read_as world_lines (lines_at 2 bytes)
+    else (if kind == 2 then read_as world_lines (lines_at LEAST_LINE bytes)
     else (if kind == 3 then read_as world_polygons (polygons_at bytes)
     else Err Bad))
 
@@ -138,7 +132,7 @@ unfoldable pub tag_at : List TagData → List ℕ → Part TagData
 tag_at tags bytes = then_read (read_if (is_next_key tags) (name_at bytes)) (λ key rest. read_as (λ value. record { key = key; value = value }) (value_at rest))
 
 abbrev pub tag_count_at : List ℕ → Part ℕ
-tag_count_at bytes = read_if (λ count. nat_le count 64) (byte_at bytes)
+tag_count_at bytes = read_if (λ count. nat_le count MOST_TAGS) (byte_at bytes)
 
 unfoldable pub tags_at : List ℕ → Part (List TagData)
 tags_at bytes = then_read (tag_count_at bytes) (λ count. many_at tag_at count [])
@@ -146,8 +140,8 @@ tags_at bytes = then_read (tag_count_at bytes) (λ count. many_at tag_at count [
 -- ---- features and edits
 
 unfoldable pub zooms_at : List ℕ → Part (ℕ × ℕ)
-zooms_at bytes = then_read (read_if (λ zoom. nat_le zoom 16) (byte_at bytes))
-    (λ first rest. read_as (λ last. (first, last)) (read_if (λ last. nat_le first last && nat_le last 16) (byte_at rest)))
+zooms_at bytes = then_read (read_if (λ zoom. nat_le zoom GREATEST_ZOOM) (byte_at bytes))
+    (λ first rest. read_as (λ last. (first, last)) (read_if (λ last. nat_le first last && nat_le last GREATEST_ZOOM) (byte_at rest)))
 
 unfoldable pub feature_at : List ℕ → Part FeatureData
 feature_at bytes = then_read (name_at bytes) (λ layer behind_layer.
@@ -156,7 +150,7 @@ feature_at bytes = then_read (name_at bytes) (λ layer behind_layer.
     read_as (λ tags. record { layer = layer; minzoom = zooms.0; maxzoom = zooms.1; geometry = geometry; tags = tags }) (tags_at behind_geometry))))
 
 unfoldable pub number_at : List ℕ → Part ℕ
-number_at bytes = read_if (λ id. nat_lt id (2 ^ 63)) (eight_at bytes)
+number_at bytes = read_if (λ id. nat_lt id NUMBER_END) (eight_at bytes)
 
 unfoldable pub put_at : List ℕ → Part EditData
 put_at bytes = then_read (number_at bytes) (λ id rest. read_as (put id) (feature_at rest))
@@ -172,11 +166,9 @@ edit_at bytes = then_read (byte_at bytes) edit_behind
 
 -- bytes that end too early are bad where there is no room for more
 abbrev pub cut_as_bad : {A : Type 0} → Part A → Part A
-cut_as_bad (Ok x) = Ok x
 cut_as_bad (Err Cut) = Err Bad
-cut_as_bad (Err Bad) = Err Bad
-cut_as_bad (Err Memory) = Err Memory
+cut_as_bad part = part
 
 -- the edit in front, whose text is no longer than the longest
 unfoldable pub decode_at : List ℕ → Part EditData
-decode_at bytes = if nat_lt (length bytes) 32768 then edit_at bytes else cut_as_bad (edit_at (take 32768 bytes))
+decode_at bytes = if nat_lt (length bytes) MOST_EDIT_BYTES then edit_at bytes else cut_as_bad (edit_at (take MOST_EDIT_BYTES bytes))

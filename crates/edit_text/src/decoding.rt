@@ -4,26 +4,27 @@ ghost use Rattle.std.specs.Prelude.{◌≡◌, ℕ, ◌<◌, ◌⊎◌, List, le
 ghost use Rattle.feature_model.specs.Data.{EditData, edit_data};
 ghost use Rattle.feature_model.specs.Spelled.{spelled};
 ghost use Rattle.edit_text.specs.Decoding.{BeginsWith, BeginsAsPut, IsCut};
-ghost use Rattle.edit_text.specs.Reading.{Gives, decode_at};
+ghost use Rattle.reader.specs.Reading.{Gives};
+ghost use Rattle.edit_text.specs.Reading.{decode_at};
 
 use crate::edits::read_edit;
 use crate::fault::TextFault;
-use feature_model::Edit;
+use feature_model::{Edit, MOST_EDIT_BYTES};
 use std::alloc::Global;
 
 /// The most bytes of the text of an edit.
-const EDIT_LEN: usize = 32_768;
+const MOST_BYTES: usize = MOST_EDIT_BYTES as usize;
 
 /// The edit in front, whose text is no longer than the longest, and the bytes up to there that are behind it.
 #[tactic(auto, unfolding(crate::specs::Reading::decode_at))]
 fn read_short(alloc: Global, bytes: &[u8]) -> Result<(Edit, &[u8]), TextFault>
-    ensures edit { Gives (λ r. (edit_data r.0, r.1.now)) result (decode_at bytes.now) }
+    ensures edit { Gives TextFault.Memory (λ r. (edit_data r.0, r.1.now)) result (decode_at bytes.now) }
     ensures memory { result ≡ Err TextFault.Memory → BeginsAsPut bytes.now }
 {
-    if bytes.len() < EDIT_LEN {
+    if bytes.len() < MOST_BYTES {
         return read_edit(alloc, bytes);
     }
-    match read_edit(alloc, &bytes[..EDIT_LEN]) {
+    match read_edit(alloc, &bytes[..MOST_BYTES]) {
         Ok((edit, rest)) => Ok((edit, rest)),
         Err(TextFault::Cut | TextFault::Bad) => Err(TextFault::Bad),
         Err(TextFault::Memory) => Err(TextFault::Memory),
@@ -35,19 +36,19 @@ pub fn decode(alloc: Global, bytes: &[u8]) -> Result<(Edit, usize), TextFault>
     // What is found stands there, and its text has this length.
     ensures found { IfOk result (λ r. BeginsWith (edit_data r.0) bytes.now) }
     ensures len { IfOk result (λ r. r.1 ≡ length (spelled (edit_data r.0))) }
-    // What stands there is found, whatever follows it, memory aside.
+    // What stands there is found, whatever follows it, out of memory aside.
     ensures only { (e : EditData) → BeginsWith e bytes.now
         → MatchResult result (λ r. edit_data r.0 ≡ e) (λ fault. fault ≡ TextFault.Memory) }
-    // Bytes are told to be cut exactly where they are, memory aside.
+    // `Cut` is returned exactly where the bytes are cut, out of memory aside.
     ensures cut { result ≡ Err TextFault.Cut → IsCut bytes.now }
     ensures only_cut { IsCut bytes.now
         → (result ≡ Err TextFault.Cut) ⊎ (result ≡ Err TextFault.Memory) }
-    // All other bytes are bad, memory aside.
-    // Memory runs out only at what begins as a Put.
+    // An allocation fails only at what begins as a Put.
     ensures memory { result ≡ Err TextFault.Memory → BeginsAsPut bytes.now }
+    // All other bytes are bad, out of memory aside.
     ensures bad { result ≡ Err TextFault.Bad → ¬ IsCut bytes.now × ((e : EditData) → ¬ BeginsWith e bytes.now) }
 {
     let (edit, rest) = read_short(alloc, bytes)?;
-    let len = bytes.len().min(EDIT_LEN) - rest.len();
+    let len = bytes.len().min(MOST_BYTES) - rest.len();
     Ok((edit, len))
 }

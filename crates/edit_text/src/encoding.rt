@@ -2,25 +2,26 @@
 
 ghost use Rattle.std.specs.Prelude.{◌≡◌, ℕ, ◌<◌, ◌≤◌, ◌^◌, ◌++◌, length, map, All, OnOk, IfOk};
 ghost use Rattle.std.specs.Str.{IsUtf8};
+ghost use Rattle.feature_model.specs.declared.limits.TheConstants.{MOST_ELEMENTS, MOST_TEXT_BYTES};
 ghost use Rattle.feature_model.specs.Data.{put, delete, feature_data, geometry_data, value_data, tag_data, edit_data};
 ghost use Rattle.feature_model.specs.Limits.{IsName, LayerFits, GeometryFits, TagsFit, ValueFits, ValuesFit, IsAllowed, IsAllowedEdit, NumberFits};
-ghost use Rattle.feature_model.specs.Spelled.{two_bytes, eight_bytes, spelled_name, spelled_list, spelled_point, spelled_line, spelled_geometry, spelled_value, spelled_tag, spelled_tags, spelled_feature, spelled};
+ghost use Rattle.feature_model.specs.Spelled.{two_bytes, eight_bytes, spelled_name, spelled_list, spelled_point, spelled_line};
+ghost use Rattle.feature_model.specs.Spelled.{spelled_geometry, spelled_value, spelled_tag, spelled_tags, spelled_feature, spelled};
 ghost use Rattle.feature_model.specs.Types.{IsOfWorld, LiesInWorld, ValueFitsTypes, TagFitsTypes, FeatureFitsTypes, IsEdit};
 
-use crate::Memory;
 use feature_model::{Edit, EditValue, Feature, Geometry, Tag, World, put_text_len};
-use std::alloc::Global;
+use std::alloc::{AllocError, Global};
 
 #[tactic(auto, unfolding(feature_model::specs::Spelled::two_bytes))]
-fn put_count(out: &mut Vec<u8>, count: usize) -> Result<(), Memory>
-    requires { count ≤ 65535 }
+fn put_count(out: &mut Vec<u8>, count: usize) -> Result<(), AllocError>
+    requires { count ≤ MOST_ELEMENTS }
     ensures { OnOk result (out.new.items ≡ out.old.items ++ two_bytes count) }
 {
     out.extend_from_slice(&(count as u16).to_le_bytes())
 }
 
 #[tactic(auto, unfolding(feature_model::specs::Spelled::spelled_name))]
-fn put_name(out: &mut Vec<u8>, name: &str) -> Result<(), Memory>
+fn put_name(out: &mut Vec<u8>, name: &str) -> Result<(), AllocError>
     requires { IsName name.now }
     ensures text { OnOk result (out.new.items ≡ out.old.items ++ spelled_name name.now) }
     ensures types { IsUtf8 name.now }
@@ -30,7 +31,7 @@ fn put_name(out: &mut Vec<u8>, name: &str) -> Result<(), Memory>
 }
 
 #[tactic(auto, unfolding(feature_model::specs::Spelled::spelled_point, feature_model::specs::Spelled::four_bytes))]
-fn put_point(out: &mut Vec<u8>, point: &World) -> Result<(), Memory>
+fn put_point(out: &mut Vec<u8>, point: &World) -> Result<(), AllocError>
     ensures text { OnOk result (out.new.items ≡ out.old.items ++ spelled_point point.now) }
     ensures types { OnOk result (IsOfWorld point.now) }
 {
@@ -38,8 +39,8 @@ fn put_point(out: &mut Vec<u8>, point: &World) -> Result<(), Memory>
     out.extend_from_slice(&point.y.to_le_bytes())
 }
 
-fn put_line(out: &mut Vec<u8>, points: &[World]) -> Result<(), Memory>
-    requires { length points.now ≤ 65535 }
+fn put_line(out: &mut Vec<u8>, points: &[World]) -> Result<(), AllocError>
+    requires { length points.now ≤ MOST_ELEMENTS }
     ensures text { OnOk result (out.new.items ≡ out.old.items ++ spelled_line points.now) }
     ensures types { OnOk result (All IsOfWorld points.now) }
 {
@@ -50,9 +51,9 @@ fn put_line(out: &mut Vec<u8>, points: &[World]) -> Result<(), Memory>
     Ok(())
 }
 
-fn put_lines(out: &mut Vec<u8>, lines: &[Vec<World>]) -> Result<(), Memory>
-    requires count { length lines.now ≤ 65535 }
-    requires points { All (λ l. length l.items ≤ 65535) lines.now }
+fn put_lines(out: &mut Vec<u8>, lines: &[Vec<World>]) -> Result<(), AllocError>
+    requires count { length lines.now ≤ MOST_ELEMENTS }
+    requires points { All (λ l. length l.items ≤ MOST_ELEMENTS) lines.now }
     ensures text { OnOk result
         (out.new.items ≡ out.old.items ++ spelled_list spelled_line (map (λ l. l.items) lines.now)) }
     ensures types { OnOk result (All (All IsOfWorld) (map (λ l. l.items) lines.now)) }
@@ -64,10 +65,10 @@ fn put_lines(out: &mut Vec<u8>, lines: &[Vec<World>]) -> Result<(), Memory>
     Ok(())
 }
 
-fn put_polygons(out: &mut Vec<u8>, polygons: &[Vec<Vec<World>>]) -> Result<(), Memory>
-    requires count { length polygons.now ≤ 65535 }
-    requires rings { All (λ p. length p.items ≤ 65535) polygons.now }
-    requires points { All (λ p. All (λ r. length r.items ≤ 65535) p.items) polygons.now }
+fn put_polygons(out: &mut Vec<u8>, polygons: &[Vec<Vec<World>>]) -> Result<(), AllocError>
+    requires count { length polygons.now ≤ MOST_ELEMENTS }
+    requires rings { All (λ p. length p.items ≤ MOST_ELEMENTS) polygons.now }
+    requires points { All (λ p. All (λ r. length r.items ≤ MOST_ELEMENTS) p.items) polygons.now }
     ensures text { OnOk result (out.new.items ≡ out.old.items
         ++ spelled_list (spelled_list spelled_line) (map (λ p. map (λ r. r.items) p.items) polygons.now)) }
     ensures types { OnOk result
@@ -81,7 +82,7 @@ fn put_polygons(out: &mut Vec<u8>, polygons: &[Vec<Vec<World>>]) -> Result<(), M
 }
 
 #[tactic(auto, using(crate::proofs::GeometryKinds::geometries))]
-fn put_geometry(out: &mut Vec<u8>, geometry: &Geometry) -> Result<(), Memory>
+fn put_geometry(out: &mut Vec<u8>, geometry: &Geometry) -> Result<(), AllocError>
     requires { GeometryFits (geometry_data geometry.now) }
     ensures text { OnOk result
         (out.new.items ≡ out.old.items ++ spelled_geometry (geometry_data geometry.now)) }
@@ -104,14 +105,14 @@ fn put_geometry(out: &mut Vec<u8>, geometry: &Geometry) -> Result<(), Memory>
 }
 
 #[tactic(auto, unfolding(feature_model::specs::Spelled::eight_bytes))]
-fn put_number(out: &mut Vec<u8>, number: u64) -> Result<(), Memory>
+fn put_number(out: &mut Vec<u8>, number: u64) -> Result<(), AllocError>
     ensures { OnOk result (out.new.items ≡ out.old.items ++ eight_bytes number) }
 {
     out.extend_from_slice(&number.to_le_bytes())
 }
 
-fn put_text(out: &mut Vec<u8>, text: &str) -> Result<(), Memory>
-    requires { length text.now ≤ 1024 }
+fn put_text(out: &mut Vec<u8>, text: &str) -> Result<(), AllocError>
+    requires { length text.now ≤ MOST_TEXT_BYTES }
     ensures text { OnOk result
         (out.new.items ≡ out.old.items ++ (two_bytes (length text.now) ++ text.now)) }
     ensures types { IsUtf8 text.now }
@@ -121,7 +122,7 @@ fn put_text(out: &mut Vec<u8>, text: &str) -> Result<(), Memory>
 }
 
 #[tactic(auto, unfolding(feature_model::specs::Spelled::spelled_value))]
-fn put_value(out: &mut Vec<u8>, value: &EditValue) -> Result<(), Memory>
+fn put_value(out: &mut Vec<u8>, value: &EditValue) -> Result<(), AllocError>
     requires { ValueFits (value_data value.now) }
     ensures text { OnOk result (out.new.items ≡ out.old.items ++ spelled_value (value_data value.now)) }
     ensures types { OnOk result (ValueFitsTypes (value_data value.now)) }
@@ -148,7 +149,7 @@ fn put_value(out: &mut Vec<u8>, value: &EditValue) -> Result<(), Memory>
 
 /// A key and its value.
 #[tactic(auto, unfolding(feature_model::specs::Spelled::spelled_tag))]
-fn put_tag(out: &mut Vec<u8>, tag: &Tag) -> Result<(), Memory>
+fn put_tag(out: &mut Vec<u8>, tag: &Tag) -> Result<(), AllocError>
     requires key { IsName (tag_data tag.now).key }
     requires value { ValueFits (tag_data tag.now).value }
     ensures text { OnOk result (out.new.items ≡ out.old.items ++ spelled_tag (tag_data tag.now)) }
@@ -158,7 +159,7 @@ fn put_tag(out: &mut Vec<u8>, tag: &Tag) -> Result<(), Memory>
     put_value(out, &tag.value)
 }
 
-fn put_tags(out: &mut Vec<u8>, tags: &[Tag]) -> Result<(), Memory>
+fn put_tags(out: &mut Vec<u8>, tags: &[Tag]) -> Result<(), AllocError>
     requires keys { TagsFit (map tag_data tags.now) }
     requires values { ValuesFit (map tag_data tags.now) }
     ensures text { OnOk result (out.new.items ≡ out.old.items ++ spelled_tags (map tag_data tags.now)) }
@@ -172,7 +173,7 @@ fn put_tags(out: &mut Vec<u8>, tags: &[Tag]) -> Result<(), Memory>
 }
 
 #[tactic(auto, using(crate::proofs::FeatureTexts::features))]
-fn put_feature(out: &mut Vec<u8>, feature: &Feature) -> Result<(), Memory>
+fn put_feature(out: &mut Vec<u8>, feature: &Feature) -> Result<(), AllocError>
     requires layer { LayerFits (feature_data feature.now) }
     requires geometry { GeometryFits (geometry_data feature.now.geometry) }
     requires keys { TagsFit (map tag_data feature.now.tags.items) }
@@ -186,7 +187,7 @@ fn put_feature(out: &mut Vec<u8>, feature: &Feature) -> Result<(), Memory>
     put_tags(out, &feature.tags)
 }
 
-/// The text that takes the number's feature away: nine bytes. The number is below 2^63.
+/// The text that takes the number's feature away: nine bytes. The number is below `NUMBER_END`.
 #[tactic(auto, unfolding(feature_model::specs::Spelled::spelled, feature_model::specs::Spelled::eight_bytes))]
 pub fn delete_text(id: u64) -> [u8; 9]
     requires { NumberFits id }
@@ -198,7 +199,7 @@ pub fn delete_text(id: u64) -> [u8; 9]
 
 /// The text that gives a number this feature.
 #[tactic(auto, unfolding(feature_model::specs::Spelled::spelled))]
-fn encode_put(alloc: Global, id: u64, feature: &Feature) -> Result<Vec<u8>, Memory>
+fn encode_put(alloc: Global, id: u64, feature: &Feature) -> Result<Vec<u8>, AllocError>
     requires { IsAllowed id (feature_data feature.now) }
     ensures text { IfOk result (λ v. v.items ≡ spelled (put id (feature_data feature.now))) }
     ensures types { OnOk result (FeatureFitsTypes (feature_data feature.now)) }
@@ -211,7 +212,7 @@ fn encode_put(alloc: Global, id: u64, feature: &Feature) -> Result<Vec<u8>, Memo
 }
 
 /// The text of an edit that is within the limits.
-pub fn encode(alloc: Global, edit: &Edit) -> Result<Vec<u8>, Memory>
+pub fn encode(alloc: Global, edit: &Edit) -> Result<Vec<u8>, AllocError>
     requires { IsAllowedEdit (edit_data edit.now) }
     ensures text { IfOk result (λ v. v.items ≡ spelled (edit_data edit.now)) }
     // It is the text of an edit, so it can be decoded.

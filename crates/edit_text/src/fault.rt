@@ -7,13 +7,13 @@ use thiserror::Error;
 /// Why no text of an edit stands in front of some bytes.
 #[derive(Clone, Copy, Debug, PartialEq, Eq, Error)]
 pub enum TextFault {
-    /// Fewer than 32,768 bytes, which end before the text does, and each field that is whole among them is allowed.
+    /// Fewer than `MOST_EDIT_BYTES` bytes, which end before the text does, and each field that is whole among them is allowed.
     #[error("the text of an edit is cut short")]
     Cut,
     /// Bytes that begin no text of an edit.
     #[error("no text of an edit")]
     Bad,
-    /// A growth was refused.
+    /// Out of memory.
     #[error("out of memory")]
     Memory,
 }

@@ -1,9 +1,11 @@
 //! Numbers and texts in front of bytes, each with the bytes behind it.
 
 ghost use Rattle.std.specs.Prelude.{◌≡◌, ℕ, ◌≤◌, length, IfOk};
-ghost use Rattle.edit_text.specs.Reading.{Reads, byte_at, front_at, two_at, four_at, eight_at, number_at, text_at, name_at, long_text_at};
+ghost use Rattle.reader.specs.Reading.{Reads};
+ghost use Rattle.edit_text.specs.Reading.{byte_at, front_at, two_at, four_at, eight_at, number_at, text_at, name_at, long_text_at};
 
 use crate::fault::TextFault;
+use feature_model::{MOST_NAME_BYTES, MOST_TEXT_BYTES, NUMBER_END};
 
 #[tactic(auto, unfolding(crate::specs::Reading::byte_at))]
 pub(crate) fn read_byte(bytes: &[u8]) -> Result<(u8, &[u8]), TextFault>
@@ -57,13 +59,13 @@ pub(crate) fn read_u64(bytes: &[u8]) -> Result<(u64, &[u8]), TextFault>
     Ok((u64::from_le_bytes(number), rest))
 }
 
-/// The number of a feature, below 2^63.
+/// The number of a feature, below `NUMBER_END`.
 #[tactic(auto, unfolding(crate::specs::Reading::number_at))]
 pub(crate) fn read_number(bytes: &[u8]) -> Result<(u64, &[u8]), TextFault>
     ensures { Reads (λ r. (r.0, r.1.now)) result (number_at bytes.now) }
 {
     let (number, rest) = read_u64(bytes)?;
-    if number >= 1 << 63 {
+    if number >= NUMBER_END {
         return Err(TextFault::Bad);
     }
     Ok((number, rest))
@@ -81,26 +83,28 @@ fn read_text(bytes: &[u8], len: usize) -> Result<(&str, &[u8]), TextFault>
     }
 }
 
-/// The name of a layer or a key: 1 to 64 bytes.
+/// The name of a layer or a key: 1 to `MOST_NAME_BYTES` bytes.
 #[tactic(auto, unfolding(crate::specs::Reading::name_at))]
 pub(crate) fn read_name(bytes: &[u8]) -> Result<(&str, &[u8]), TextFault>
     ensures { Reads (λ r. (r.0.now, r.1.now)) result (name_at bytes.now) }
 {
     let (len, rest) = read_byte(bytes)?;
-    if len < 1 || len > 64 {
+    let len = usize::from(len);
+    if len < 1 || len > MOST_NAME_BYTES {
         return Err(TextFault::Bad);
     }
-    read_text(rest, usize::from(len))
+    read_text(rest, len)
 }
 
-/// The text of a value: at most 1,024 bytes.
+/// The text of a value: at most `MOST_TEXT_BYTES` bytes.
 #[tactic(auto, unfolding(crate::specs::Reading::long_text_at))]
 pub(crate) fn read_long_text(bytes: &[u8]) -> Result<(&str, &[u8]), TextFault>
     ensures { Reads (λ r. (r.0.now, r.1.now)) result (long_text_at bytes.now) }
 {
     let (len, rest) = read_u16(bytes)?;
-    if len > 1024 {
+    let len = usize::from(len);
+    if len > MOST_TEXT_BYTES {
         return Err(TextFault::Bad);
     }
-    read_text(rest, usize::from(len))
+    read_text(rest, len)
 }

@@ -1,23 +1,25 @@
 //! Geometries in front of bytes.
 
-ghost use Rattle.std.specs.Prelude.{◌≡◌, ℕ, ◌<◌, ◌≤◌, [], map, nat_le, IsOk};
+ghost use Rattle.std.specs.Prelude.{◌≡◌, ℕ, ◌<◌, ◌≤◌, [], map, IsOk};
+ghost use Rattle.feature_model.specs.declared.limits.TheConstants.{LEAST_RING};
 ghost use Rattle.feature_model.specs.Data.{geometry_data};
-ghost use Rattle.edit_text.specs.Reading.{Reads, Finds, Gives, read_if, many_at, two_at, point_at, line_at, lines_at, HasFirstLine, polygons_at, geometry_behind, geometry_at};
+ghost use Rattle.reader.specs.Reading.{Reads, Finds, Gives};
+ghost use Rattle.edit_text.specs.Reading.{many_at, count_at, point_at, line_at, lines_at, HasFirstLine, polygons_at, geometry_behind, geometry_at};
 
 use crate::fault::TextFault;
 use crate::fields::{read_byte, read_u16, read_u32};
-use feature_model::{Geometry, World};
+use feature_model::{Geometry, LEAST_LINE, LEAST_RING, World, count_fits};
 use std::alloc::Global;
 
 /// The bytes of a point.
 const POINT_LEN: usize = 8;
 
-/// A count of at least so many.
-fn read_count(bytes: &[u8], least: u16) -> Result<(u16, &[u8]), TextFault>
-    ensures { Reads (λ r. (r.0, r.1.now)) result (read_if (nat_le least) (two_at bytes.now)) }
+/// A count of at least so many, and at most `MOST_ELEMENTS`.
+fn read_count(bytes: &[u8], least: usize) -> Result<(u16, &[u8]), TextFault>
+    ensures { Reads (λ r. (r.0, r.1.now)) result (count_at least bytes.now) }
 {
     let (count, rest) = read_u16(bytes)?;
-    if count < least {
+    if !count_fits(usize::from(count), least) {
         return Err(TextFault::Bad);
     }
     Ok((count, rest))
@@ -34,7 +36,7 @@ fn read_point(bytes: &[u8]) -> Result<(World, &[u8]), TextFault>
 
 /// So many points. Room for them is made once they are known to be there.
 fn read_points(alloc: Global, count: u16, bytes: &[u8]) -> Result<(Vec<World>, &[u8]), TextFault>
-    ensures { Finds (λ r. (r.0.items, r.1.now)) result (many_at (λ _. point_at) count [] bytes.now) }
+    ensures { Finds TextFault.Memory (λ r. (r.0.items, r.1.now)) result (many_at (λ _. point_at) count [] bytes.now) }
 {
     if bytes.len() / POINT_LEN < usize::from(count) {
         return Err(TextFault::Cut);
@@ -50,8 +52,8 @@ fn read_points(alloc: Global, count: u16, bytes: &[u8]) -> Result<(Vec<World>, &
 }
 
 #[tactic(auto, unfolding(crate::specs::Reading::line_at))]
-fn read_line(alloc: Global, bytes: &[u8], least: u16) -> Result<(Vec<World>, &[u8]), TextFault>
-    ensures { Finds (λ r. (r.0.items, r.1.now)) result (line_at least bytes.now) }
+fn read_line(alloc: Global, bytes: &[u8], least: usize) -> Result<(Vec<World>, &[u8]), TextFault>
+    ensures { Finds TextFault.Memory (λ r. (r.0.items, r.1.now)) result (line_at least bytes.now) }
 {
     let (count, rest) = read_count(bytes, least)?;
     read_points(alloc, count, rest)
@@ -62,11 +64,11 @@ fn read_each_line(
     alloc: Global,
     count: u16,
     bytes: &[u8],
-    least: u16,
+    least: usize,
 ) -> Result<(Vec<Vec<World>>, &[u8]), TextFault>
-    ensures lines { Gives (λ r. (map (λ l. l.items) r.0.items, r.1.now)) result
+    ensures lines { Gives TextFault.Memory (λ r. (map (λ l. l.items) r.0.items, r.1.now)) result
         (many_at (λ _. line_at least) count [] bytes.now) }
-    // No memory is taken before a first line is there.
+    // An allocation fails only where a first line is there.
     ensures first { result ≡ Err TextFault.Memory → IsOk (line_at least bytes.now) }
 {
     let mut lines = Vec::new(alloc);
@@ -83,9 +85,9 @@ fn read_each_line(
 fn read_lines(
     alloc: Global,
     bytes: &[u8],
-    least: u16,
+    least: usize,
 ) -> Result<(Vec<Vec<World>>, &[u8]), TextFault>
-    ensures lines { Gives (λ r. (map (λ l. l.items) r.0.items, r.1.now)) result (lines_at least bytes.now) }
+    ensures lines { Gives TextFault.Memory (λ r. (map (λ l. l.items) r.0.items, r.1.now)) result (lines_at least bytes.now) }
     ensures first { result ≡ Err TextFault.Memory → HasFirstLine least bytes.now }
 {
     let (count, rest) = read_count(bytes, 1)?;
@@ -98,15 +100,15 @@ fn read_each_polygon(
     count: u16,
     bytes: &[u8],
 ) -> Result<(Vec<Vec<Vec<World>>>, &[u8]), TextFault>
-    ensures polygons { Gives (λ r. (map (λ p. map (λ l. l.items) p.items) r.0.items, r.1.now)) result
-        (many_at (λ _. lines_at 3) count [] bytes.now) }
-    // No memory is taken before a first ring is there.
-    ensures first { result ≡ Err TextFault.Memory → HasFirstLine 3 bytes.now }
+    ensures polygons { Gives TextFault.Memory (λ r. (map (λ p. map (λ l. l.items) p.items) r.0.items, r.1.now)) result
+        (many_at (λ _. lines_at LEAST_RING) count [] bytes.now) }
+    // An allocation fails only where a first ring is there.
+    ensures first { result ≡ Err TextFault.Memory → HasFirstLine LEAST_RING bytes.now }
 {
     let mut polygons = Vec::new(alloc);
     let mut rest = bytes;
     for _ in 0..count {
-        let (rings, behind) = read_lines(alloc, rest, 3)?;
+        let (rings, behind) = read_lines(alloc, rest, LEAST_RING)?;
         polygons.push(rings)?;
         rest = behind;
     }
@@ -115,7 +117,7 @@ fn read_each_polygon(
 
 #[tactic(auto, unfolding(crate::specs::Reading::polygons_at))]
 fn read_polygons(alloc: Global, bytes: &[u8]) -> Result<(Vec<Vec<Vec<World>>>, &[u8]), TextFault>
-    ensures { Gives (λ r. (map (λ p. map (λ l. l.items) p.items) r.0.items, r.1.now)) result
+    ensures { Gives TextFault.Memory (λ r. (map (λ p. map (λ l. l.items) p.items) r.0.items, r.1.now)) result
         (polygons_at bytes.now) }
 {
     let (count, rest) = read_count(bytes, 1)?;
@@ -125,7 +127,7 @@ fn read_polygons(alloc: Global, bytes: &[u8]) -> Result<(Vec<Vec<Vec<World>>>, &
 /// The lists of a geometry of this kind.
 #[tactic(auto, unfolding(crate::specs::Reading::geometry_behind))]
 fn read_shape(alloc: Global, kind: u8, bytes: &[u8]) -> Result<(Geometry, &[u8]), TextFault>
-    ensures shape { Gives (λ r. (geometry_data r.0, r.1.now)) result (geometry_behind kind bytes.now) }
+    ensures shape { Gives TextFault.Memory (λ r. (geometry_data r.0, r.1.now)) result (geometry_behind kind bytes.now) }
     ensures none { kind ≡ 0 → result ≡ Err TextFault.Bad }
     ensures unknown { 3 < kind → result ≡ Err TextFault.Bad }
 {
@@ -135,7 +137,7 @@ fn read_shape(alloc: Global, kind: u8, bytes: &[u8]) -> Result<(Geometry, &[u8])
             Ok((Geometry::Points(points), rest))
         }
         2 => {
-            let (lines, rest) = read_lines(alloc, bytes, 2)?;
+            let (lines, rest) = read_lines(alloc, bytes, LEAST_LINE)?;
             Ok((Geometry::Lines(lines), rest))
         }
         3 => {
@@ -148,7 +150,7 @@ fn read_shape(alloc: Global, kind: u8, bytes: &[u8]) -> Result<(Geometry, &[u8])
 
 #[tactic(auto, unfolding(crate::specs::Reading::geometry_at))]
 pub(crate) fn read_geometry(alloc: Global, bytes: &[u8]) -> Result<(Geometry, &[u8]), TextFault>
-    ensures { Gives (λ r. (geometry_data r.0, r.1.now)) result (geometry_at bytes.now) }
+    ensures { Gives TextFault.Memory (λ r. (geometry_data r.0, r.1.now)) result (geometry_at bytes.now) }
 {
     let (kind, rest) = read_byte(bytes)?;
     read_shape(alloc, kind, rest)

@@ -4,11 +4,12 @@ ghost use Rattle.std.specs.Prelude.{◌≡◌, ℕ, ◌≤◌, [], map, IsOk};
 ghost use Rattle.std.specs.Ordering.{nat_cmp, is_lt};
 ghost use Rattle.std.specs.Cmp.Lexicographic.{slice_cmp};
 ghost use Rattle.feature_model.specs.Data.{value_data, tag_data};
-ghost use Rattle.edit_text.specs.Reading.{Reads, Finds, Gives, many_at, negative_at, value_behind, value_at, is_next_key, tag_at, tag_count_at, tags_at};
+ghost use Rattle.reader.specs.Reading.{Reads, Finds, Gives};
+ghost use Rattle.edit_text.specs.Reading.{many_at, negative_at, value_behind, value_at, is_next_key, tag_at, tag_count_at, tags_at};
 
 use crate::fault::TextFault;
 use crate::fields::{read_byte, read_long_text, read_name, read_u64};
-use feature_model::{EditValue, Tag};
+use feature_model::{EditValue, Tag, tag_count_fits};
 use std::alloc::Global;
 
 /// The bits of a number below 0: the first of them is set.
@@ -26,7 +27,7 @@ fn read_negative(bytes: &[u8]) -> Result<(u64, &[u8]), TextFault>
 /// The value of this kind.
 #[tactic(auto, unfolding(crate::specs::Reading::value_behind))]
 fn read_value_of(alloc: Global, kind: u8, bytes: &[u8]) -> Result<(EditValue, &[u8]), TextFault>
-    ensures { Finds (λ r. (value_data r.0, r.1.now)) result (value_behind kind bytes.now) }
+    ensures { Finds TextFault.Memory (λ r. (value_data r.0, r.1.now)) result (value_behind kind bytes.now) }
 {
     match kind {
         1 => {
@@ -49,7 +50,7 @@ fn read_value_of(alloc: Global, kind: u8, bytes: &[u8]) -> Result<(EditValue, &[
 
 #[tactic(auto, unfolding(crate::specs::Reading::value_at))]
 fn read_value(alloc: Global, bytes: &[u8]) -> Result<(EditValue, &[u8]), TextFault>
-    ensures { Finds (λ r. (value_data r.0, r.1.now)) result (value_at bytes.now) }
+    ensures { Finds TextFault.Memory (λ r. (value_data r.0, r.1.now)) result (value_at bytes.now) }
 {
     let (kind, rest) = read_byte(bytes)?;
     read_value_of(alloc, kind, rest)
@@ -75,7 +76,7 @@ fn is_next(tags: &[Tag], key: &str) -> bool
 /// The tag behind these.
 #[tactic(auto, unfolding(crate::specs::Reading::tag_at))]
 fn read_tag<'a>(alloc: Global, tags: &[Tag], bytes: &'a [u8]) -> Result<(Tag, &'a [u8]), TextFault>
-    ensures { Finds (λ r. (tag_data r.0, r.1.now)) result (tag_at (map tag_data tags.now) bytes.entry.now) }
+    ensures { Finds TextFault.Memory (λ r. (tag_data r.0, r.1.now)) result (tag_at (map tag_data tags.now) bytes.entry.now) }
 {
     let (key, rest) = read_name(bytes)?;
     if !is_next(tags, key) {
@@ -88,8 +89,8 @@ fn read_tag<'a>(alloc: Global, tags: &[Tag], bytes: &'a [u8]) -> Result<(Tag, &'
 
 /// So many tags.
 fn read_each_tag(alloc: Global, count: u8, bytes: &[u8]) -> Result<(Vec<Tag>, &[u8]), TextFault>
-    ensures tags { Gives (λ r. (map tag_data r.0.items, r.1.now)) result (many_at tag_at count [] bytes.now) }
-    // No memory is taken before a first tag is there.
+    ensures tags { Gives TextFault.Memory (λ r. (map tag_data r.0.items, r.1.now)) result (many_at tag_at count [] bytes.now) }
+    // An allocation fails only where a first tag is there.
     ensures first { result ≡ Err TextFault.Memory → IsOk (tag_at [] bytes.now) }
 {
     let mut tags = Vec::new(alloc);
@@ -102,21 +103,21 @@ fn read_each_tag(alloc: Global, count: u8, bytes: &[u8]) -> Result<(Vec<Tag>, &[
     Ok((tags, rest))
 }
 
-/// How many tags there are: at most 64.
+/// How many tags there are: at most `MOST_TAGS`.
 fn read_tag_count(bytes: &[u8]) -> Result<(u8, &[u8]), TextFault>
     ensures { Reads (λ r. (r.0, r.1.now)) result (tag_count_at bytes.now) }
 {
     let (count, rest) = read_byte(bytes)?;
-    if count > 64 {
+    if !tag_count_fits(usize::from(count)) {
         return Err(TextFault::Bad);
     }
     Ok((count, rest))
 }
 
-/// At most 64 tags, with strictly ascending keys.
+/// At most `MOST_TAGS` tags, with strictly ascending keys.
 #[tactic(auto, unfolding(crate::specs::Reading::tags_at))]
 pub(crate) fn read_tags(alloc: Global, bytes: &[u8]) -> Result<(Vec<Tag>, &[u8]), TextFault>
-    ensures { Gives (λ r. (map tag_data r.0.items, r.1.now)) result (tags_at bytes.now) }
+    ensures { Gives TextFault.Memory (λ r. (map tag_data r.0.items, r.1.now)) result (tags_at bytes.now) }
 {
     let (count, rest) = read_tag_count(bytes)?;
     read_each_tag(alloc, count, rest)

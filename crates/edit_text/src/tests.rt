@@ -199,8 +199,8 @@ fn one_byte_changed(rt: HostRuntime) {
     ];
     for (at, byte, expected) in cases {
         let mut text = POINT;
-        if let Some(place) = text.get_mut(at) {
-            *place = byte;
+        if let Some(slot) = text.get_mut(at) {
+            *slot = byte;
         }
         assert_eq!(rt; fault_of(rt.alloc(), &text), expected, "{byte} at {at}");
     }

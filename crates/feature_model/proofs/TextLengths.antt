@@ -2,11 +2,14 @@
 use Rattle.std.proofs.Common.{◌≡◌, ℕ, ℤ, ◌+◌, ◌*◌, ◌≤◌, Bool, true, false, List, [], ◌∷◌, ◌++◌, length, get_or, map, take, refl, ◌∙◌, length-append, All, arith}
 use Rattle.std.proofs.lemmas.List.{take_all, length-map}
 use Rattle.std.specs.List.{flat_map}
+use Rattle.feature_model.specs.declared.limits.TheConstants.{MOST_ELEMENTS, LEAST_LINE, LEAST_RING}
 use Rattle.feature_model.specs.declared.feature.World.{World}
-use Rattle.feature_model.specs.Data.{world_points, world_lines, world_polygons, text_value, natural_value, negative_value, truth_value, TagData, FeatureData, put}
+use Rattle.feature_model.specs.Data.{world_points, world_lines, world_polygons, text_value, natural_value}
+use Rattle.feature_model.specs.Data.{negative_value, truth_value, TagData, FeatureData, put}
 use Rattle.feature_model.specs.Limits.{CountFits, RingsFit}
 use Rattle.feature_model.proofs.Mapped.{All-from_map}
-use Rattle.feature_model.specs.Spelled.{two_bytes, four_bytes, eight_bytes, spelled_list, spelled_point, spelled_line, spelled_geometry, spelled_name, spelled_value, spelled_tag, spelled_tags, spelled_feature, spelled}
+use Rattle.feature_model.specs.Spelled.{two_bytes, four_bytes, eight_bytes, spelled_list, spelled_point, spelled_line, spelled_geometry}
+use Rattle.feature_model.specs.Spelled.{spelled_name, spelled_value, spelled_tag, spelled_tags, spelled_feature, spelled}
 
 pub length-two_bytes : (n : ℕ) → length (two_bytes n) ≡ 2
 unfolding two_bytes
@@ -49,7 +52,8 @@ pub length-lines_text : (ls : List (List World)) → length (spelled_geometry (w
 unfolding spelled_geometry
 length-lines_text ls = omega arith
 
-pub length-polygons_text : (ps : List (List (List World))) → length (spelled_geometry (world_polygons ps)) ≡ 1 + length (spelled_list (spelled_list spelled_line) ps)
+pub length-polygons_text : (ps : List (List (List World))) → length (spelled_geometry (world_polygons ps))
+    ≡ 1 + length (spelled_list (spelled_list spelled_line) ps)
 unfolding spelled_geometry
 length-polygons_text ps = omega arith
 
@@ -92,7 +96,8 @@ pub ruleset tags = (length-spelled_tag, length-spelled_tags)
 
 -- ---- features
 
-pub length-spelled : (id : ℕ) (f : FeatureData) → length (spelled (put id f)) ≡ 12 + length f.layer + length (spelled_geometry f.geometry) + length (spelled_tags f.tags)
+pub length-spelled : (id : ℕ) (f : FeatureData) → length (spelled (put id f))
+    ≡ 12 + length f.layer + length (spelled_geometry f.geometry) + length (spelled_tags f.tags)
 unfolding spelled spelled_feature
 length-spelled id f =
     omega (
@@ -108,24 +113,28 @@ pub ruleset features = (length-spelled)
 
 -- ---- whole lists
 
-pub length-list_all : {X A : Type 0} (spell : A → List ℕ) (f : X → A) (xs : List X) (i len : ℕ) → length xs ≤ i → len ≡ 2 + length (flat_map spell (map f (take i xs))) → len ≡ length (spelled_list spell (map f xs))
+pub length-list_all : {X A : Type 0} (spell : A → List ℕ) (f : X → A) (xs : List X) (i len : ℕ) → length xs ≤ i
+    → len ≡ 2 + length (flat_map spell (map f (take i xs))) → len ≡ length (spelled_list spell (map f xs))
 length-list_all spell f xs i len h e = rw (length-spelled_list spell (map f xs), ← take_all i xs h) e
 
-pub length-tags_all : {X : Type 0} (f : X → TagData) (xs : List X) (i len : ℕ) → length xs ≤ i → len ≡ 1 + length (flat_map spelled_tag (map f (take i xs))) → len ≡ length (spelled_tags (map f xs))
+pub length-tags_all : {X : Type 0} (f : X → TagData) (xs : List X) (i len : ℕ) → length xs ≤ i → len ≡ 1 + length (flat_map spelled_tag (map f (take i xs)))
+    → len ≡ length (spelled_tags (map f xs))
 length-tags_all f xs i len h e = rw (length-spelled_tags (map f xs), ← take_all i xs h) e
 
 -- ---- limits, as the functions on lengths ask for them
 
-pub lines_within : {X : Type 0} (f : X → List World) (xs : List X) → All (CountFits 2) (map f xs) → All (λ x. length (f x) ≤ 65535) xs
-lines_within f xs h = λ k d l. (All-from_map (CountFits 2) f xs h k d l).1
+pub lines_within : {X : Type 0} (f : X → List World) (xs : List X) → All (CountFits LEAST_LINE) (map f xs) → All (λ x. length (f x) ≤ MOST_ELEMENTS) xs
+lines_within f xs h = λ k d l. (All-from_map (CountFits LEAST_LINE) f xs h k d l).1
 
-pub polygons_within : {X Y : Type 0} (f : X → List Y) (g : Y → List World) (xs : List X) → All RingsFit (map (λ x. map g (f x)) xs) → All (λ x. length (f x) ≤ 65535) xs
+pub polygons_within : {X Y : Type 0} (f : X → List Y) (g : Y → List World) (xs : List X) → All RingsFit (map (λ x. map g (f x)) xs)
+    → All (λ x. length (f x) ≤ MOST_ELEMENTS) xs
 polygons_within f g xs h = λ k d l.
     let fit = All-from_map RingsFit (λ x. map g (f x)) xs h k d l in
     let e = length-map (f (get_or xs k d)) g in
     omega (arith, e, fit.0.1)
 
-pub rings_within : {X Y : Type 0} (f : X → List Y) (g : Y → List World) (xs : List X) → All RingsFit (map (λ x. map g (f x)) xs) → All (λ x. All (λ y. length (g y) ≤ 65535) (f x)) xs
+pub rings_within : {X Y : Type 0} (f : X → List Y) (g : Y → List World) (xs : List X) → All RingsFit (map (λ x. map g (f x)) xs)
+    → All (λ x. All (λ y. length (g y) ≤ MOST_ELEMENTS) (f x)) xs
 rings_within f g xs h = λ k d l.
     let fit = All-from_map RingsFit (λ x. map g (f x)) xs h k d l in
-    λ j y m. (All-from_map (CountFits 3) g (f (get_or xs k d)) fit.1 j y m).1
+    λ j y m. (All-from_map (CountFits LEAST_RING) g (f (get_or xs k d)) fit.1 j y m).1

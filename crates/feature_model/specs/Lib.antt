@@ -1,4 +1,5 @@
 pub mod Data
+pub mod Lengths
 pub mod Limits
 pub mod Spelled
 pub mod Types

@@ -1,40 +1,59 @@
--- The limits of a feature and its number, one for each fault, in the order in which faults are told.
-use Rattle.std.specs.Prelude.{ℕ, pos, ◌<◌, ◌≤◌, ◌^◌, ◌<ℤ◌, List, length, map, All}
+-- The limits of a feature and its number, one for each fault, in the order in which faults are returned.
+use Rattle.std.specs.Prelude.{ℕ, pos, ◌&&◌, Bool, nat_le, ◌<◌, ◌≤◌, ◌<ℤ◌, List, length, map, All}
 use Rattle.std.specs.Ordering.{nat_cmp}
 use Rattle.std.specs.Cmp.Lexicographic.{slice_cmp}
 use Rattle.std.specs.List.Sorted.{IsStrictlySortedBy}
 use Rattle.feature_model.specs.declared.feature.World.{World}
+use Rattle.feature_model.specs.declared.limits.TheConstants.{NUMBER_END, GREATEST_ZOOM, MOST_NAME_BYTES, MOST_ELEMENTS}
+use Rattle.feature_model.specs.declared.limits.TheConstants.{LEAST_LINE, LEAST_RING, MOST_TAGS, MOST_TEXT_BYTES, MOST_EDIT_BYTES}
 use Rattle.feature_model.specs.declared.fault.EditFault.{EditFault}
 use Rattle.feature_model.specs.declared.fault.EditFault.TheVariants as faults
-use Rattle.feature_model.specs.Data.{GeometryData, world_points, world_lines, world_polygons, ValueData, text_value, natural_value, negative_value, truth_value, TagData, FeatureData, EditData, put, delete}
+use Rattle.feature_model.specs.Data.{GeometryData, world_points, world_lines, world_polygons, ValueData, text_value, natural_value}
+use Rattle.feature_model.specs.Data.{negative_value, truth_value, TagData, FeatureData, EditData, put, delete}
 use Rattle.feature_model.specs.Spelled.{spelled}
 
--- a name has 1 to 64 bytes
+-- a name has a byte, and not too many
 abbrev pub IsName : List ℕ → Type 0
-IsName bytes = (1 ≤ length bytes) × (length bytes ≤ 64)
+IsName bytes = (1 ≤ length bytes) × (length bytes ≤ MOST_NAME_BYTES)
 
--- a list has at least so many, and at most as many as two bytes count
+-- so many are enough, and not too many
+abbrev pub IsCount : ℕ → ℕ → Type 0
+IsCount least count = (least ≤ count) × (count ≤ MOST_ELEMENTS)
+
+-- the same, as a test
+abbrev pub is_count : ℕ → ℕ → Bool
+is_count least count = nat_le least count && nat_le count MOST_ELEMENTS
+
+-- a list has enough, and not too many
 abbrev pub CountFits : {A : Type 0} → ℕ → List A → Type 0
-CountFits least xs = (least ≤ length xs) × (length xs ≤ 65535)
+CountFits least xs = IsCount least (length xs)
 
--- a polygon has a ring or more, each of three points or more
+-- a polygon has a ring, and each ring enough points
 abbrev pub RingsFit : List (List World) → Type 0
-RingsFit rings = CountFits 1 rings × All (CountFits 3) rings
+RingsFit rings = CountFits 1 rings × All (CountFits LEAST_RING) rings
+
+-- the first zoom is not above the last, and this is one of the map
+abbrev pub AreZooms : ℕ → ℕ → Type 0
+AreZooms first last = (first ≤ last) × (last ≤ GREATEST_ZOOM)
+
+-- a tag's text is short
+abbrev pub IsTagText : List ℕ → Type 0
+IsTagText bytes = length bytes ≤ MOST_TEXT_BYTES
 
 -- ---- the limits
 
 abbrev pub NumberFits : ℕ → Type 0
-NumberFits id = id < 2 ^ 63
+NumberFits id = id < NUMBER_END
 
 abbrev pub LayerFits : FeatureData → Type 0
 LayerFits f = IsName f.layer
 
 abbrev pub ZoomsFit : FeatureData → Type 0
-ZoomsFit f = (f.minzoom ≤ f.maxzoom) × (f.maxzoom ≤ 16)
+ZoomsFit f = AreZooms f.minzoom f.maxzoom
 
 abbrev pub GeometryFits : GeometryData → Type 0
 GeometryFits (world_points points) = CountFits 1 points
-GeometryFits (world_lines lines) = CountFits 1 lines × All (CountFits 2) lines
+GeometryFits (world_lines lines) = CountFits 1 lines × All (CountFits LEAST_LINE) lines
 GeometryFits (world_polygons polygons) = CountFits 1 polygons × All RingsFit polygons
 
 -- the keys of tags, in their order
@@ -46,13 +65,13 @@ abbrev pub HasAscendingKeys : List TagData → Type 0
 HasAscendingKeys tags = IsStrictlySortedBy (slice_cmp nat_cmp) (keys_of tags)
 
 pub record TagsFit (tags : List TagData) : Type 0 where
-  pub few : length tags ≤ 64
+  pub few : length tags ≤ MOST_TAGS
   pub names : All IsName (keys_of tags)
   pub ascending : HasAscendingKeys tags
 
 -- a text is short, and what is said to be negative is below 0
 abbrev pub ValueFits : ValueData → Type 0
-ValueFits (text_value bytes) = length bytes ≤ 1024
+ValueFits (text_value bytes) = IsTagText bytes
 ValueFits (natural_value n) = Unit {0}
 ValueFits (negative_value z) = z <ℤ pos 0
 ValueFits (truth_value b) = Unit {0}
@@ -62,17 +81,22 @@ ValuesFit tags = All (λ t. ValueFits t.value) tags
 
 -- the text that sets the number's feature is short
 abbrev pub TextFits : ℕ → FeatureData → Type 0
-TextFits id f = length (spelled (put id f)) ≤ 32768
+TextFits id f = length (spelled (put id f)) ≤ MOST_EDIT_BYTES
 
 -- ---- all of them
 
-pub record IsAllowed (id : ℕ) (f : FeatureData) : Type 0 where
-  pub number : NumberFits id
+-- a feature's own limits
+pub record FeatureFits (f : FeatureData) : Type 0 where
   pub layer : LayerFits f
   pub zooms : ZoomsFit f
   pub geometry : GeometryFits f.geometry
   pub tags : TagsFit f.tags
   pub values : ValuesFit f.tags
+
+-- a feature of this number keeps to its own limits, and its text is short
+pub record IsAllowed (id : ℕ) (f : FeatureData) : Type 0 where
+  pub number : NumberFits id
+  pub feature : FeatureFits f
   pub text : TextFits id f
 
 -- an edit within the limits
@@ -89,5 +113,5 @@ IsFirstFault id f faults.Geometry = NumberFits id × LayerFits f × ZoomsFit f �
 IsFirstFault id f faults.Tags = NumberFits id × LayerFits f × ZoomsFit f × GeometryFits f.geometry × ¬ TagsFit f.tags
 IsFirstFault id f faults.Value = NumberFits id × LayerFits f × ZoomsFit f × GeometryFits f.geometry × TagsFit f.tags × ¬ ValuesFit f.tags
 IsFirstFault id f faults.Long = NumberFits id × LayerFits f × ZoomsFit f × GeometryFits f.geometry × TagsFit f.tags × ValuesFit f.tags × ¬ TextFits id f
--- no other fault is told
+-- no other fault is returned
 IsFirstFault id f _ = ⊥

@@ -3,7 +3,8 @@ use Rattle.std.specs.Prelude.{ℕ, true, false, List, [], ◌∷◌, ◌++◌, l
 use Rattle.std.specs.List.{flat_map}
 use Rattle.std.specs.Int.{w16, w32, w64, to_le_bytes, cast_unsigned}
 use Rattle.feature_model.specs.declared.feature.World.{World}
-use Rattle.feature_model.specs.Data.{GeometryData, world_points, world_lines, world_polygons, ValueData, text_value, natural_value, negative_value, truth_value, TagData, FeatureData, EditData, put, delete}
+use Rattle.feature_model.specs.Data.{GeometryData, world_points, world_lines, world_polygons, ValueData, text_value, natural_value}
+use Rattle.feature_model.specs.Data.{negative_value, truth_value, TagData, FeatureData, EditData, put, delete}
 
 -- a number in two, four or eight bytes, the lowest first
 unfoldable pub two_bytes : ℕ → List ℕ

@@ -4,12 +4,11 @@ ghost use Rattle.std.specs.Prelude.{◌≡◌, map, IfOk};
 ghost use Rattle.std.specs.String.{string_bytes};
 ghost use Rattle.feature_model.specs.Data.{feature_data, geometry_data, value_data, tag_data};
 
-use crate::Memory;
 use crate::feature::{EditValue, Feature, Geometry, Tag, World};
-use std::alloc::Global;
+use std::alloc::{AllocError, Global};
 
 /// Equal lists of points.
-fn copy_lines(alloc: Global, lines: &[Vec<World>]) -> Result<Vec<Vec<World>>, Memory>
+fn copy_lines(alloc: Global, lines: &[Vec<World>]) -> Result<Vec<Vec<World>>, AllocError>
     ensures { IfOk result (λ v. map (λ l. l.items) v.items ≡ map (λ l. l.items) lines.now) }
 {
     let mut copies = Vec::with_capacity(alloc, lines.len())?;
@@ -23,7 +22,7 @@ fn copy_lines(alloc: Global, lines: &[Vec<World>]) -> Result<Vec<Vec<World>>, Me
 fn copy_polygons(
     alloc: Global,
     polygons: &[Vec<Vec<World>>],
-) -> Result<Vec<Vec<Vec<World>>>, Memory>
+) -> Result<Vec<Vec<Vec<World>>>, AllocError>
     ensures { IfOk result (λ v. map (λ p. map (λ r. r.items) p.items) v.items
         ≡ map (λ p. map (λ r. r.items) p.items) polygons.now) }
 {
@@ -35,7 +34,7 @@ fn copy_polygons(
 }
 
 /// An equal geometry.
-fn copy_geometry(alloc: Global, geometry: &Geometry) -> Result<Geometry, Memory>
+fn copy_geometry(alloc: Global, geometry: &Geometry) -> Result<Geometry, AllocError>
     ensures { IfOk result (λ g. geometry_data g ≡ geometry_data geometry.now) }
 {
     match geometry {
@@ -46,14 +45,14 @@ fn copy_geometry(alloc: Global, geometry: &Geometry) -> Result<Geometry, Memory>
 }
 
 /// An equal text.
-fn copy_text(alloc: Global, text: &str) -> Result<String, Memory>
+fn copy_text(alloc: Global, text: &str) -> Result<String, AllocError>
     ensures { IfOk result (λ t. string_bytes t ≡ text.now) }
 {
     String::from_str(alloc, text)
 }
 
 /// An equal value.
-fn copy_value(alloc: Global, value: &EditValue) -> Result<EditValue, Memory>
+fn copy_value(alloc: Global, value: &EditValue) -> Result<EditValue, AllocError>
     ensures { IfOk result (λ v. value_data v ≡ value_data value.now) }
 {
     Ok(match value {
@@ -65,7 +64,7 @@ fn copy_value(alloc: Global, value: &EditValue) -> Result<EditValue, Memory>
 }
 
 /// An equal tag.
-fn copy_tag(alloc: Global, tag: &Tag) -> Result<Tag, Memory>
+fn copy_tag(alloc: Global, tag: &Tag) -> Result<Tag, AllocError>
     ensures { IfOk result (λ t. tag_data t ≡ tag_data tag.now) }
 {
     let key = copy_text(alloc, tag.key.as_str())?;
@@ -74,7 +73,7 @@ fn copy_tag(alloc: Global, tag: &Tag) -> Result<Tag, Memory>
 }
 
 /// Equal tags.
-fn copy_tags(alloc: Global, tags: &[Tag]) -> Result<Vec<Tag>, Memory>
+fn copy_tags(alloc: Global, tags: &[Tag]) -> Result<Vec<Tag>, AllocError>
     ensures { IfOk result (λ v. map tag_data v.items ≡ map tag_data tags.now) }
 {
     let mut copies = Vec::with_capacity(alloc, tags.len())?;
@@ -85,7 +84,7 @@ fn copy_tags(alloc: Global, tags: &[Tag]) -> Result<Vec<Tag>, Memory>
 }
 
 /// An equal feature.
-pub fn copy(alloc: Global, feature: &Feature) -> Result<Feature, Memory>
+pub fn copy(alloc: Global, feature: &Feature) -> Result<Feature, AllocError>
     ensures { IfOk result (λ f. feature_data f ≡ feature_data feature.now) }
 {
     let layer = copy_text(alloc, feature.layer.as_str())?;

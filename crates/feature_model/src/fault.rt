@@ -4,37 +4,37 @@ ghost use Rattle.std.specs.Prelude.{◌≡◌};
 use std::alloc::{AllocError, AllocFailed};
 use thiserror::Error;
 
-/// Why a feature is no feature of a map, in the order in which faults are told.
+/// Why a feature is no feature of a map, in the order in which faults are returned.
 #[derive(Clone, Copy, Debug, PartialEq, Eq, Error)]
 pub enum EditFault {
     /// E1: no object; a member missing, unknown or of another JSON kind; a zoom that is no whole number of 0 to 255.
     #[error("E1 Member")]
     Member,
-    /// E2: a number of 2^63 or more.
+    /// E2: a number not below `NUMBER_END`.
     #[error("E2 Number")]
     Number,
-    /// E3: a layer's name not of 1 to 64 bytes.
+    /// E3: a layer's name not of 1 to `MOST_NAME_BYTES` bytes.
     #[error("E3 Layer")]
     Layer,
-    /// E4: `minzoom` above `maxzoom`, or `maxzoom` above 16.
+    /// E4: `minzoom` above `maxzoom`, or `maxzoom` above `GREATEST_ZOOM`.
     #[error("E4 Zoom")]
     Zoom,
-    /// E5: a list too short or above 65,535, or what is no list of points inside one.
+    /// E5: a list too short or of over `MOST_ELEMENTS`, or what is no list of points inside one.
     #[error("E5 Geometry")]
     Geometry,
-    /// E6: over 64 tags, a key not of 1 to 64 bytes, keys not strictly ascending.
+    /// E6: over `MOST_TAGS` tags, a key not of 1 to `MOST_NAME_BYTES` bytes, keys not strictly ascending.
     #[error("E6 Tags")]
     Tags,
     /// E7: a value that no tag has.
     #[error("E7 Value")]
     Value,
-    /// E8: a text of over 32,768 bytes.
+    /// E8: a text of over `MOST_EDIT_BYTES` bytes.
     #[error("E8 Long")]
     Long,
     /// E9: a reach over 65,536 places.
     #[error("E9 Reach")]
     Reach,
-    /// A growth was refused.
+    /// Out of memory.
     #[error("out of memory")]
     Memory,
 }

@@ -1,6 +1,8 @@
 //! The lengths of texts, without building them.
 
 ghost use Rattle.std.specs.Prelude.{◌≡◌, ℕ, ◌+◌, ◌*◌, ◌<◌, ◌≤◌, length, map, All};
+ghost use Rattle.feature_model.specs.declared.limits.TheConstants.{MOST_ELEMENTS};
+ghost use Rattle.feature_model.specs.Lengths.{line_most, lines_most, polygons_most, value_most, tag_most, tags_most};
 ghost use Rattle.feature_model.specs.Data.{feature_data, geometry_data, value_data, tag_data, put};
 ghost use Rattle.feature_model.specs.Limits.{LayerFits, GeometryFits, TagsFit, ValueFits, ValuesFit, IsName};
 ghost use Rattle.feature_model.specs.Spelled.{spelled_list, spelled_line, spelled_geometry, spelled_value, spelled_tag, spelled_tags, spelled};
@@ -10,9 +12,9 @@ use crate::feature::{EditValue, Feature, Geometry, Tag, World};
 /// How many bytes a list of points takes.
 #[tactic(auto, using(crate::proofs::TextLengths::lines))]
 fn line_len(points: &[World]) -> u64
-    requires { length points.now ≤ 65535 }
+    requires { length points.now ≤ MOST_ELEMENTS }
     ensures exact { result ≡ length (spelled_line points.now) }
-    ensures small { result ≤ 524282 }
+    ensures small { result ≤ line_most }
 {
     2 + 8 * points.len() as u64
 }
@@ -20,10 +22,10 @@ fn line_len(points: &[World]) -> u64
 /// How many bytes a list of lines, or the rings of a polygon, take.
 #[tactic(auto, using(crate::proofs::TextLengths::lists))]
 fn lines_len(lines: &[Vec<World>]) -> u64
-    requires count { length lines.now ≤ 65535 }
-    requires points { All (λ l. length l.items ≤ 65535) lines.now }
+    requires count { length lines.now ≤ MOST_ELEMENTS }
+    requires points { All (λ l. length l.items ≤ MOST_ELEMENTS) lines.now }
     ensures exact { result ≡ length (spelled_list spelled_line (map (λ l. l.items) lines.now)) }
-    ensures small { result ≤ 2 + 524282 * 65535 }
+    ensures small { result ≤ lines_most }
 {
     let mut len = 2;
     for line in lines {
@@ -35,12 +37,12 @@ fn lines_len(lines: &[Vec<World>]) -> u64
 /// How many bytes a list of polygons takes.
 #[tactic(auto, using(crate::proofs::TextLengths::lists))]
 fn polygons_len(polygons: &[Vec<Vec<World>>]) -> u64
-    requires count { length polygons.now ≤ 65535 }
-    requires rings { All (λ p. length p.items ≤ 65535) polygons.now }
-    requires points { All (λ p. All (λ r. length r.items ≤ 65535) p.items) polygons.now }
+    requires count { length polygons.now ≤ MOST_ELEMENTS }
+    requires rings { All (λ p. length p.items ≤ MOST_ELEMENTS) polygons.now }
+    requires points { All (λ p. All (λ r. length r.items ≤ MOST_ELEMENTS) p.items) polygons.now }
     ensures exact { result
         ≡ length (spelled_list (spelled_list spelled_line) (map (λ p. map (λ r. r.items) p.items) polygons.now)) }
-    ensures small { result ≤ 2 + 34358820872 * 65535 }
+    ensures small { result ≤ polygons_most }
 {
     let mut len = 2;
     for rings in polygons {
@@ -54,7 +56,7 @@ fn polygons_len(polygons: &[Vec<Vec<World>>]) -> u64
 fn geometry_len(geometry: &Geometry) -> u64
     requires { GeometryFits (geometry_data geometry.now) }
     ensures exact { result ≡ length (spelled_geometry (geometry_data geometry.now)) }
-    ensures small { result ≤ 3 + 34358820872 * 65535 }
+    ensures small { result ≤ 1 + polygons_most }
 {
     match geometry {
         Geometry::Points(points) => 1 + line_len(points),
@@ -68,7 +70,7 @@ fn geometry_len(geometry: &Geometry) -> u64
 fn value_len(value: &EditValue) -> u64
     requires { ValueFits (value_data value.now) }
     ensures exact { result ≡ length (spelled_value (value_data value.now)) }
-    ensures small { result ≤ 1027 }
+    ensures small { result ≤ value_most }
 {
     match value {
         EditValue::Text(text) => 3 + text.len() as u64,
@@ -83,7 +85,7 @@ fn tag_len(tag: &Tag) -> u64
     requires key { IsName (tag_data tag.now).key }
     requires value { ValueFits (tag_data tag.now).value }
     ensures exact { result ≡ length (spelled_tag (tag_data tag.now)) }
-    ensures small { result ≤ 1092 }
+    ensures small { result ≤ tag_most }
 {
     1 + tag.key.len() as u64 + value_len(&tag.value)
 }
@@ -94,7 +96,7 @@ fn tags_len(tags: &[Tag]) -> u64
     requires keys { TagsFit (map tag_data tags.now) }
     requires values { ValuesFit (map tag_data tags.now) }
     ensures exact { result ≡ length (spelled_tags (map tag_data tags.now)) }
-    ensures small { result ≤ 69889 }
+    ensures small { result ≤ tags_most }
 {
     let mut len = 1;
     for tag in tags {

@@ -5,40 +5,53 @@ ghost use Rattle.std.specs.Ordering.{nat_cmp, is_lt};
 ghost use Rattle.std.specs.Cmp.Lexicographic.{slice_cmp};
 ghost use Rattle.std.specs.List.Sorted.{IsStrictlySortedBy};
 ghost use Rattle.std.specs.String.{string_bytes};
+ghost use Rattle.feature_model.specs.declared.limits.TheConstants.{MOST_TAGS};
 ghost use Rattle.feature_model.specs.Data.{world_polygons, feature_data, geometry_data, value_data, tag_data};
-ghost use Rattle.feature_model.specs.Limits.{IsName, CountFits, RingsFit, GeometryFits, TagsFit, ValueFits, ValuesFit, HasAscendingKeys, keys_of, IsAllowed, IsFirstFault};
+ghost use Rattle.feature_model.specs.Limits.{IsName, AreZooms, IsCount, IsTagText, CountFits, RingsFit, GeometryFits};
+ghost use Rattle.feature_model.specs.Limits.{TagsFit, ValueFits, ValuesFit, HasAscendingKeys, keys_of, IsAllowed, IsFirstFault};
 
 use crate::fault::EditFault;
 use crate::feature::{EditValue, Feature, Geometry, Tag, World};
 use crate::lengths::put_text_len;
 
-/// Numbers of features are below 2^63.
-const NUMBERS: u64 = 1 << 63;
+/// Numbers of features are below this.
+pub const NUMBER_END: u64 = 1 << 63;
 /// The greatest zoom of a feature, and of a tile of the map.
 pub const GREATEST_ZOOM: u8 = 16;
-/// The most bytes of a name of a layer or a key of a tag.
-const NAME_LEN: usize = 64;
-/// The most elements of a list of points, lines, rings or polygons.
-const LIST_LEN: usize = 65_535;
-/// The most tags of a feature.
-const TAGS: usize = 64;
-/// The most bytes of a tag's text.
-const TEXT_LEN: usize = 1024;
+/// The most bytes of a name of a layer or a key of a tag, below 256, since one byte counts them in a text.
+pub const MOST_NAME_BYTES: usize = 64;
+/// The most elements of a list of points, lines, rings or polygons, below 65,536, since two bytes count them in a text.
+pub const MOST_ELEMENTS: usize = 65_535;
+/// The least points of a line.
+pub const LEAST_LINE: usize = 2;
+/// The least points of a ring.
+pub const LEAST_RING: usize = 3;
+/// The most tags of a feature, below 256, since one byte counts them in a text.
+pub const MOST_TAGS: usize = 64;
+/// The most bytes of a tag's text, below 65,536, since two bytes count them in a text.
+pub const MOST_TEXT_BYTES: usize = 1024;
 /// The most bytes of an edit's text.
 pub const MOST_EDIT_BYTES: u64 = 32_768;
 
-/// Whether a name has 1 to 64 bytes.
-fn is_name(name: &str) -> bool
+/// Whether a name of a layer or a key of a tag has 1 to `MOST_NAME_BYTES` bytes.
+pub fn is_name(name: &str) -> bool
     ensures { IsTrue result ↔ IsName name.now }
 {
-    name.len() >= 1 && name.len() <= NAME_LEN
+    !name.is_empty() && name.len() <= MOST_NAME_BYTES
 }
 
-/// Whether a list of so many elements has enough, and not too many.
-fn count_fits(count: usize, least: usize) -> bool
-    ensures { IsTrue result ↔ ((least ≤ count) × (count ≤ 65535)) }
+/// Whether a feature may have these zooms: the first is not above the last, and this is at most `GREATEST_ZOOM`.
+pub fn zooms_fit(minzoom: u8, maxzoom: u8) -> bool
+    ensures { IsTrue result ↔ AreZooms minzoom maxzoom }
 {
-    least <= count && count <= LIST_LEN
+    minzoom <= maxzoom && maxzoom <= GREATEST_ZOOM
+}
+
+/// Whether a list of so many elements has enough, and at most `MOST_ELEMENTS`.
+pub fn count_fits(count: usize, least: usize) -> bool
+    ensures { IsTrue result ↔ IsCount least count }
+{
+    least <= count && count <= MOST_ELEMENTS
 }
 
 /// Whether each line or ring has enough points, and not too many.
@@ -52,7 +65,7 @@ fn lines_fit(lines: &[Vec<World>], least: usize) -> bool
 fn rings_fit(rings: &[Vec<World>]) -> bool
     ensures { IsTrue result ↔ RingsFit (map (λ r. r.items) rings.now) }
 {
-    count_fits(rings.len(), 1) && lines_fit(rings, 3)
+    count_fits(rings.len(), 1) && lines_fit(rings, LEAST_RING)
 }
 
 /// Whether each polygon has enough rings and points.
@@ -74,7 +87,7 @@ fn geometry_fits(geometry: &Geometry) -> bool
 {
     match geometry {
         Geometry::Points(points) => count_fits(points.len(), 1),
-        Geometry::Lines(lines) => count_fits(lines.len(), 1) && lines_fit(lines, 2),
+        Geometry::Lines(lines) => count_fits(lines.len(), 1) && lines_fit(lines, LEAST_LINE),
         Geometry::Polygons(polygons) => polygons_fit(polygons),
     }
 }
@@ -105,17 +118,31 @@ fn keys_ascend(tags: &[Tag]) -> bool
     true
 }
 
+/// Whether a feature may have so many tags: at most `MOST_TAGS`.
+pub fn tag_count_fits(count: usize) -> bool
+    ensures { IsTrue result ↔ (count ≤ MOST_TAGS) }
+{
+    count <= MOST_TAGS
+}
+
 fn tags_fit(tags: &[Tag]) -> bool
     ensures { IsTrue result ↔ TagsFit (map tag_data tags.now) }
 {
-    tags.len() <= TAGS && keys_are_names(tags) && keys_ascend(tags)
+    tag_count_fits(tags.len()) && keys_are_names(tags) && keys_ascend(tags)
+}
+
+/// Whether a text may be the value of a tag: of at most `MOST_TEXT_BYTES` bytes.
+pub fn is_tag_text(text: &str) -> bool
+    ensures { IsTrue result ↔ IsTagText text.now }
+{
+    text.len() <= MOST_TEXT_BYTES
 }
 
 fn value_fits(value: &EditValue) -> bool
     ensures { IsTrue result ↔ ValueFits (value_data value.now) }
 {
     match value {
-        EditValue::Text(text) => text.len() <= TEXT_LEN,
+        EditValue::Text(text) => is_tag_text(text.as_str()),
         EditValue::Negative(number) => *number < 0,
         EditValue::Natural(_) | EditValue::Truth(_) => true,
     }
@@ -127,19 +154,19 @@ fn values_fit(tags: &[Tag]) -> bool
     tags.iter().all(|tag| value_fits(&tag.value))
 }
 
-/// Tests the limits of a feature of this number. The first that is broken is told: `Number`, `Layer`, `Zoom`,
-/// `Geometry`, `Tags`, `Value` or `Long`, in this order. Nothing else is an error, and no memory is taken.
+/// Tests the limits of a feature of this number. The fault of the first that is broken is returned: `Number`, `Layer`, `Zoom`,
+/// `Geometry`, `Tags`, `Value` or `Long`, in this order. Nothing else is an error, and nothing is allocated.
 pub fn check(id: u64, feature: &Feature) -> Result<(), EditFault>
     ensures ok { IsOk result ↔ IsAllowed id (feature_data feature.now) }
     ensures first { IfErr result (IsFirstFault id (feature_data feature.now)) }
 {
-    if id >= NUMBERS {
+    if id >= NUMBER_END {
         return Err(EditFault::Number);
     }
     if !is_name(feature.layer.as_str()) {
         return Err(EditFault::Layer);
     }
-    if feature.minzoom > feature.maxzoom || feature.maxzoom > GREATEST_ZOOM {
+    if !zooms_fit(feature.minzoom, feature.maxzoom) {
         return Err(EditFault::Zoom);
     }
     if !geometry_fits(&feature.geometry) {

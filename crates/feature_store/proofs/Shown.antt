@@ -48,8 +48,8 @@ writable id f z x y v allowed cut spelled = record {
   id = refl;
   values = rw (tags_shown f z x y v cut)
       (All-map (λ t. CanWriteValue t.1) shown_tag f.tags
-      (All-weaker (λ t. ValueFits t.value) (λ t. CanWriteValue (shown_value t.value)) (λ t. value_writable t.value) f.tags allowed.values));
-  keys = rw (tags_shown f z x y v cut, keys_shown f.tags) allowed.tags.ascending;
+      (All-weaker (λ t. ValueFits t.value) (λ t. CanWriteValue (shown_value t.value)) (λ t. value_writable t.value) f.tags allowed.feature.values));
+  keys = rw (tags_shown f z x y v cut, keys_shown f.tags) allowed.feature.tags.ascending;
   shape = spelled;
 }
 

@@ -4,7 +4,7 @@ use Rattle.std.specs.List.{All}
 use Rattle.std.proofs.lemmas.List.Elements.{All-head, All-tail}
 use Rattle.feature_model.specs.Data.{FeatureData, EditData, put, delete}
 use Rattle.feature_model.specs.Types.{IsEdit}
-use Rattle.edit_text.proofs.Decoded.{long_from, one_edit}
+use Rattle.edit_text.proofs.Laws.{long_from, one_edit}
 use Rattle.feature_store.specs.declared.limit.TheConstants.{TEXTS_END}
 use Rattle.feature_store.specs.Store.{FeatureMap, IsMap, without_feature, changed, entry_text, snapshot}
 use Rattle.feature_store.proofs.Maps.{IsMap-with_feature, IsMap-without_feature}

@@ -79,7 +79,7 @@ module _ (z x y : ℕ) where
 
   module _ (allowed : z ≤ GREATEST_ZOOM) (across : x < 2 ^ z) (down : y < 2 ^ z) (m : FeatureMap) (is_map : IsMap m) where
     spelled : (e : ℕ × FeatureData) (v : FeatureView) → IsOne e → feature_cut e.1 z x y ≡ Some v → CanSpell v.shape × FitsShape v.shape
-    spelled e v edit cut = feature_shown e.1 z x y v allowed across down edit.0.geometry edit.1.geometry cut
+    spelled e v edit cut = feature_shown e.1 z x y v allowed across down edit.0.feature.geometry edit.1.geometry cut
 
     cuts_can : (name : List ℕ) → All CanWriteFeature (cuts_of m name z x y)
     cuts_can name = all_cuts CanWriteFeature (λ e v edit cut. writable e.0 e.1 z x y v edit.0 cut (spelled e v edit cut).0) name m is_map.edits

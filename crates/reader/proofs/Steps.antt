@@ -1,5 +1,8 @@
 -- Steps that may fail, one after the other.
 use Rattle.std.proofs.Common.{◌≡◌, ℕ, zero, suc, ◌+◌, ◌-◌, ◌<◌, ◌≤◌, List, [], ◌∷◌, Result, Ok, Err, refl, sym, ap, ◌∙◌, arith}
+use Rattle.std.proofs.Common.{◌≢◌, ◌⊎◌, inl, inr}
+use Rattle.std.specs.Prelude.{IsOk}
+use Rattle.std.proofs.lemmas.Bool.{false≢true}
 use Rattle.reader.specs.Reading.{Read, ◌>>=◌, repeated, folded, Reads, Finds, GivesUnless, Gives}
 
 module _ {Fault : Type 0} where
@@ -91,3 +94,45 @@ module _ {Fault : Type 0} where
   pub unless_on : {A B : Type 0} (IsOutside : Fault → Type 0) (fault : Fault) (part : Read Fault A) (whole : Read Fault B)
       → ((d : Fault) → part ≡ Err d → whole ≡ Err d) → (¬ IsOutside fault → part ≡ Err fault) → ¬ IsOutside fault → whole ≡ Err fault
   unless_on IsOutside fault part whole on h inside = on fault (h inside)
+
+-- ---- faults that are never met, and out of memory
+
+module _ {Fault : Type 0} where
+  -- neither the first nor what it leads to meets the fault
+  pub then_never : {A B : Type 0} (d : Fault) (first : Read Fault A) (next : A → Read Fault B)
+      → first ≢ Err d → ((x : A) → next x ≢ Err d) → (first >>= next) ≢ Err d
+  then_never d (Ok x) next never each is = each x is
+  then_never d (Err c) next never each is = never (ap failed (same_fault c d is))
+
+  -- what is read meets no fault
+  pub ok_never : {A : Type 0} (d : Fault) (read : Read Fault A) → IsOk read → read ≢ Err d
+  ok_never d (Ok x) ok is = not_both x d is
+  ok_never d (Err c) ok is = absurd (false≢true ok)
+
+  -- a fault that is passed on is none that is never met
+  pub passed_never : {A X : Type 0} (d : Fault) (read : Read Fault A) (passed : Result X Fault) (here there : Fault)
+      → read ≢ Err d → read ≡ Err there → passed ≡ Err here → here ≡ there → passed ≢ Err d
+  passed_never d read passed here there never is told same out =
+      let e : there ≡ d = sym same ∙ same_fault here d (sym told ∙ out) in
+      never (is ∙ ap failed e)
+
+  -- where an allocation fails only where something is read, any other fault is the one that is met
+  pub found_fault : {A : Type 0} (memory fault : Fault) (read : Read Fault A)
+      → (read ≡ Err fault) ⊎ ((fault ≡ memory) × IsOk read) → fault ≢ memory → read ≡ Err fault
+  found_fault memory fault read (inl is) other = is
+  found_fault memory fault read (inr out) other = absurd (other out.0)
+
+  -- where it fails and reading never meets that fault, something is read
+  pub memory_found : {A X : Type 0} (memory : Fault) (read : Read Fault A) (passed : Result X Fault) (here there : Fault)
+      → read ≢ Err memory → (read ≡ Err there) ⊎ ((there ≡ memory) × IsOk read) → passed ≡ Err here → here ≡ there
+      → passed ≡ Err memory → IsOk read
+  memory_found memory read passed here there never (inl is) told same out =
+      absurd (passed_never memory read passed here there never is told same out)
+  memory_found memory read passed here there never (inr found) told same out = found.1
+
+  -- each fault of the first is such a one, and each of what it leads to: so is each of both
+  pub then_faults : {A B : Type 0} (Is : Fault → Type 0) (first : Read Fault A) (next : A → Read Fault B)
+      → ((d : Fault) → first ≡ Err d → Is d) → ((x : A) (d : Fault) → next x ≡ Err d → Is d)
+      → (d : Fault) → (first >>= next) ≡ Err d → Is d
+  then_faults Is (Ok x) next here there d is = there x d is
+  then_faults Is (Err c) next here there d is = here d (ap failed (same_fault c d is))

@@ -5,4 +5,5 @@ use Rattle.edit_json.proofs.ListLemmas.{rest_gives}
 use Rattle.edit_json.proofs.lists.read_lines.Given as goal
 
 abbrev pub invariant-loop-value : goal.invariant-loop-value
-invariant-loop-value l = rest_gives (points_at l.least) (map (λ l. l.items) l.lines.items) (drop l.value-index l.list) ≡ each (points_at l.least) (items_view l.list)
+invariant-loop-value l = rest_gives (points_at l.least) (map (λ l. l.items) l.lines.items) (drop l.value-index l.list)
+    ≡ each (points_at l.least) (items_view l.list)

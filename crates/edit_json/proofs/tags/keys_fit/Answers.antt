@@ -6,7 +6,8 @@ use Rattle.edit_json.proofs.TagLemmas.{keys_start, keys_more}
 use Rattle.edit_json.proofs.tags.keys_fit.Goals as goal
 
 pub loop-key-init : goal.loop-key-init
-loop-key-init c = keys_start c.into_iter-key-iterator.result c.args.tags.now.entries (c.into_iter-key-iterator.ensures.into_iter_gives ∙ c.keys-key-items.ensures.rest)
+loop-key-init c = keys_start c.into_iter-key-iterator.result c.args.tags.now.entries
+    (c.into_iter-key-iterator.ensures.into_iter_gives ∙ c.keys-key-items.ensures.rest)
 
 pub loop-key-preserved : goal.loop-key-preserved
 loop-key-preserved c =

@@ -10,7 +10,7 @@ returns-in_err-edit-clause-only c = λ e begins.
     rw same (err_only c.args.bytes.now c.in_err-edit.field-0.0 c.in_err-edit.ensures.edit e begins)
 
 pub returns-in_err-edit-clause-cut : goal.returns-in_err-edit-clause-cut
-returns-in_err-edit-clause-cut c = λ told.
+returns-in_err-edit-clause-cut c = λ is.
     let same : c.from_residual.result ≡ Err c.in_err-edit.field-0.0 = search rules in
     let bytes : AreBytes c.args.bytes.now = λ i. omega (arith, c.type_inv.bytes i) in
     err_cut c.args.bytes.now c.in_err-edit.field-0.0 bytes c.in_err-edit.ensures.edit (cc)
@@ -21,7 +21,7 @@ returns-in_err-edit-clause-only_cut c = λ cut.
     told_either c.from_residual.result c.in_err-edit.field-0.0 same (err_only_cut c.args.bytes.now c.in_err-edit.field-0.0 c.in_err-edit.ensures.edit cut)
 
 pub returns-in_err-edit-clause-bad : goal.returns-in_err-edit-clause-bad
-returns-in_err-edit-clause-bad c = λ told.
+returns-in_err-edit-clause-bad c = λ is.
     let same : c.from_residual.result ≡ Err c.in_err-edit.field-0.0 = search rules in
     err_bad c.args.bytes.now c.in_err-edit.field-0.0 c.in_err-edit.ensures.edit (cc)
 

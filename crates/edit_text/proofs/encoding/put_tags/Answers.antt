@@ -17,10 +17,12 @@ put_tag-requires-clause-value c =
     read_from_map (λ t. ValueFits t.value) tag_data c.args.tags.now c.loop-tag.tag-index c.tag-item.result c.requires.values c.loop-tag-test.true c.tag-item.is
 
 pub loop-tag-preserved : goal.loop-tag-preserved
-loop-tag-preserved c = IsPut-more spelled_tag TagFitsTypes tag_data c.args.tags.now c.loop-tag.tag-index c.tag-item.result _ _ _ _ c.loop-tag-test.true c.loop-tag.invariant (ap tag_data c.tag-item.is) c.in_ok-put_tag.ensures.text c.in_ok-put_tag.ensures.types
+loop-tag-preserved c = IsPut-more spelled_tag TagFitsTypes tag_data c.args.tags.now c.loop-tag.tag-index c.tag-item.result _ _ _ _ c.loop-tag-test.true
+    c.loop-tag.invariant (ap tag_data c.tag-item.is) c.in_ok-put_tag.ensures.text c.in_ok-put_tag.ensures.types
 
 pub returns-clause-text : goal.returns-clause-text
-returns-clause-text c = tags_all TagFitsTypes tag_data c.args.tags.now c.loop-tag.tag-index _ _ _ c.loop-tag-test.false c.in_ok-push.ensures.items c.loop-tag.invariant
+returns-clause-text c = tags_all TagFitsTypes tag_data c.args.tags.now c.loop-tag.tag-index _ _ _ c.loop-tag-test.false c.in_ok-push.ensures.items
+    c.loop-tag.invariant
 
 pub returns-clause-types : goal.returns-clause-types
 returns-clause-types c = types_all spelled_tag TagFitsTypes tag_data c.args.tags.now c.loop-tag.tag-index _ _ c.loop-tag-test.false c.loop-tag.invariant

@@ -6,11 +6,14 @@ use Rattle.edit_text.proofs.PointLists.{points_cut, points_whole}
 use Rattle.edit_text.proofs.shapes.read_points.Goals as goal
 
 pub loop-preserved : goal.loop-preserved
-loop-preserved c = rw c.in_ok-push.ensures.items (many_step (λ _. point_at) c.args.count c.loop.counter c.loop.points.items c.loop.rest.now c.in_ok-point.point _ _ c.loop-test.true c.loop.invariant c.in_ok-point.ensures)
+loop-preserved c = rw c.in_ok-push.ensures.items (many_step
+    (λ _. point_at) c.args.count c.loop.counter c.loop.points.items c.loop.rest.now c.in_ok-point.point _ _ c.loop-test.true c.loop.invariant
+    c.in_ok-point.ensures)
 
 pub returns-in_err-point : goal.returns-in_err-point
 returns-in_err-point c =
-    let stops = many_stop (λ _. point_at) c.args.count c.loop.counter c.loop.points.items c.loop.rest.now c.in_err-point.field-0.0 _ c.loop-test.true c.loop.invariant c.in_err-point.ensures in
+    let stops = many_stop (λ _. point_at) c.args.count c.loop.counter c.loop.points.items c.loop.rest.now c.in_err-point.field-0.0 _ c.loop-test.true
+    c.loop.invariant c.in_err-point.ensures in
     search (rules, stops)
 
 pub returns : goal.returns

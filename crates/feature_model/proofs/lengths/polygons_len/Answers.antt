@@ -4,4 +4,5 @@ use Rattle.feature_model.proofs.TextLengths.{length-list_all}
 use Rattle.feature_model.proofs.lengths.polygons_len.Goals as goal
 
 pub returns-clause-exact : goal.returns-clause-exact
-returns-clause-exact c = length-list_all (spelled_list spelled_line) (λ p. map (λ r. r.items) p.items) c.args.polygons.now _ _ c.loop-rings-test.false c.loop-rings.invariant.0
+returns-clause-exact c = length-list_all (spelled_list spelled_line)
+    (λ p. map (λ r. r.items) p.items) c.args.polygons.now _ _ c.loop-rings-test.false c.loop-rings.invariant.0

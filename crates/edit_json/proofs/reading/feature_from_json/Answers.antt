@@ -7,7 +7,7 @@ use Rattle.feature_model.specs.Data.{geometry_data}
 use Rattle.edit_json.specs.Faults.{IsFirstJsonFault}
 use Rattle.edit_json.specs.Outline.{outline_data}
 use Rattle.edit_json.proofs.FaultLaws.{feature-one, feature-faultless, has_geometry, geometry-refused, tags-refused, feature-found}
-use Rattle.edit_json.proofs.reader.feature_from_json.Goals as goal
+use Rattle.edit_json.proofs.reading.feature_from_json.Goals as goal
 
 pub returns-in-Err-clause-refused : goal.returns-in-Err-clause-refused
 returns-in-Err-clause-refused c = c.in-Err.ensures.refused.1

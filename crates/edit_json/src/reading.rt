@@ -7,15 +7,14 @@ ghost use Rattle.feature_model.specs.Types.{FeatureFitsTypes};
 ghost use Rattle.edit_json.specs.Faults.{IsFeature, IsOutline, NameFits, RangeFits, IsFirstJsonFault};
 ghost use Rattle.edit_json.specs.Outline.{outline_data};
 
-use crate::limits::{is_name, zooms_fit};
 use crate::lists::read_geometry;
 use crate::outline::{Outline, read_outline};
 use crate::tags::{check_tags, read_tags};
-use feature_model::{EditFault, Feature};
+use feature_model::{EditFault, Feature, is_name, zooms_fit};
 use serde_json::Value;
 use std::alloc::Global;
 
-/// The members of a feature's object, its name and its zooms within their limits. It takes no memory.
+/// The members of a feature's object, its name and its zooms within their limits. It allocates nothing.
 fn checked_outline(value: &Value) -> Result<Outline<'_>, EditFault>
     ensures is { IfOk result (λ o. IsOutline (view value.now) (outline_data o)) }
     ensures name { IfOk result (λ o. NameFits (outline_data o)) }
@@ -34,9 +33,9 @@ fn checked_outline(value: &Value) -> Result<Outline<'_>, EditFault>
     Ok(outline)
 }
 
-/// The feature that a JSON value tells, or the first fault that the value has, in the order of `EditFault`.
+/// The feature of a JSON value, or the first fault that the value has, in the order of `EditFault`.
 ///
-/// E1 is told of the five members and their kinds, E3 to E7 of what they hold. An object has each key once, in the order
+/// E1 is of the five members and their kinds, E3 to E7 of what they hold. An object has each key once, in the order
 /// of the keys' bytes; of a key that a text repeats the last value counts.
 pub fn feature_from_json(alloc: Global, value: &Value) -> Result<Feature, EditFault>
     ensures found { IfOk result (λ f. IsFeature (view value.now) (feature_data f)) }
