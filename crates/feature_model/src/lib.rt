@@ -11,10 +11,11 @@ pub use copies::copy;
 pub use fault::EditFault;
 pub use feature::{Edit, EditValue, Feature, Geometry, Tag, World};
 pub use lengths::put_text_len;
-pub use limits::{GREATEST_ZOOM, MOST_EDIT_BYTES, check};
-
-/// A growth that was refused.
-pub type Memory = std::alloc::AllocError;
+pub use limits::{
+    GREATEST_ZOOM, LEAST_LINE, LEAST_RING, MOST_EDIT_BYTES, MOST_ELEMENTS, MOST_NAME_BYTES,
+    MOST_TAGS, MOST_TEXT_BYTES, NUMBER_END, check, count_fits, is_name, is_tag_text,
+    tag_count_fits, zooms_fit,
+};
 
 #[cfg(test)]
 mod tests;
