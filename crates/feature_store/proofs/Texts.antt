@@ -11,7 +11,7 @@ use Rattle.feature_model.specs.Data.{ValueData, text_value, natural_value, negat
 use Rattle.feature_model.specs.Limits.{IsName, keys_of}
 use Rattle.feature_model.specs.Spelled.{spelled, spelled_feature, spelled_name, spelled_value, spelled_tag, spelled_tags, eight_bytes, spelled_geometry}
 use Rattle.feature_model.specs.Types.{IsEdit}
-use Rattle.edit_text.proofs.Decoded.{short_from}
+use Rattle.edit_text.proofs.Laws.{short_from}
 use Rattle.feature_model.specs.declared.limits.TheConstants.{MOST_EDIT_BYTES}
 use Rattle.feature_store.specs.declared.limit.TheConstants.{TEXTS_END}
 use Rattle.feature_store.specs.Store.{FeatureMap, IsMap, entry_text, snapshot, with_feature, without_feature}
@@ -72,7 +72,7 @@ tags_in_snapshot (e ∷ m) edits =
       arith,
       length-append e.1.tags (all_tags m),
       snapshot_on e m,
-      feature_takes e.0 e.1 (All-head P e m edits).0.tags.names,
+      feature_takes e.0 e.1 (All-head P e m edits).0.feature.tags.names,
       tags_in_snapshot m (All-tail P e m edits),
     )
 
