@@ -3,52 +3,37 @@ use Rattle.std.proofs.Common.{◌≡◌, ℕ, zero, suc, ◌+◌, ◌*◌, ◌/�
 use Rattle.std.specs.Prelude.{◌||◌}
 use Rattle.std.proofs.lemmas.List.{length-drop, length-take, length-append, take-append-drop, drop_at}
 use Rattle.std.proofs.lemmas.Bool.{ltb-false, ltb-true, lt-ltb, le-ltb, eqb-true, eqb-false}
+use Rattle.reader.specs.Reading.{Read, ◌>>=◌}
+use Rattle.reader.proofs.Steps.{failed, not_both, same_fault as same_kind, then_err}
 use Rattle.pb_wire.specs.declared.fault.FaultKind.{FaultKind}
 use Rattle.pb_wire.specs.declared.fault.WireFault.{WireFault}
 use Rattle.pb_wire.specs.declared.fault.FaultKind.TheVariants.{Cut, Varint, Number, WireType}
 use Rattle.pb_wire.specs.Varint.{IsVarint, IsCut, IsOverlong, behind, read_in, varint_at}
-use Rattle.pb_wire.specs.Message.{Value, varint_value, eight_bytes, some_bytes, four_bytes, Entry, IsField, IsMessage, ◌>>=◌, front_at, value_at, field_at}
+use Rattle.pb_wire.specs.Message.{Value, varint_value, eight_bytes, some_bytes, four_bytes, Entry, IsField, IsMessage, front_at, value_at, field_at}
 use Rattle.pb_wire.specs.Items.{Item, item_then, items_in, items_of}
 use Rattle.pb_wire.specs.Faulty.{IsFieldNumber, ValueHas, FieldHas, IsFaulty, no_type, number_cut, number_overlong, eight_cut, bytes_cut, four_cut, key_cut, key_overlong, no_number, at_value}
 use Rattle.pb_wire.proofs.VarintLaws.{found_is, spelling_is_found, cut_is, is_cut, overlong_is, is_overlong}
 use Rattle.pb_wire.proofs.Message.{items_first, items_fault, field_len}
 use Rattle.pb_wire.proofs.MessageLaws.{chosen, or_false, field_takes, field_again, whole, item, same_first, items_message}
 
-abbrev failed : {A : Type 0} → FaultKind → Result A FaultKind
-failed d = Err d
-
-abbrev done : {A : Type 0} → A → Result A FaultKind
-done x = Ok x
-
-fault_is : {A : Type 0} (a b : FaultKind) → failed {A = A} a ≡ failed b → a ≡ b
-fault_is a b e = cc
-
-never : {A : Type 0} (x : A) (d : FaultKind) → done x ≡ failed d → ⊥
-never x d e = cc
-
--- a step that failed, or the one behind it
-bind_err : {A B : Type 0} (r : Result A FaultKind) (f : A → Result B FaultKind) (d : FaultKind) → (r >>= f) ≡ Err d → (r ≡ Err d) ⊎ ((x : A) × (r ≡ Ok x) × (f x ≡ Err d))
-bind_err (Ok x) f d e = inr (x, refl, e)
-bind_err {A} {B} (Err a) f d e = inl (ap (λ (k : FaultKind). failed {A = A} k) (fault_is {A = B} a d e))
-
 -- ---- numbers
 
 read_faults : (bytes : List ℕ) (more : ℕ) (d : FaultKind) → read_in bytes more ≡ Err d → (d ≡ Cut) ⊎ (d ≡ Varint)
 unfolding read_in behind
-read_faults [] more d e = inl (sym (fault_is {A = ℕ × ℕ} Cut d e))
+read_faults [] more d e = inl (sym (same_kind {A = ℕ × ℕ} Cut d e))
 read_faults (b ∷ bs) zero d e =
     elim (chosen (ltb b 2) _ _ _ e) [
-      | inl h ↦ absurd (never (b, 1) d h.1)
-      | inr h ↦ inr (sym (fault_is {A = ℕ × ℕ} Varint d h.1))
+      | inl h ↦ absurd (not_both (b, 1) d h.1)
+      | inr h ↦ inr (sym (same_kind {A = ℕ × ℕ} Varint d h.1))
     ]
 read_faults (b ∷ bs) (suc more) d e =
     elim (chosen (ltb b 128) _ _ _ e) [
-      | inl h ↦ absurd (never (b, 1) d h.1)
+      | inl h ↦ absurd (not_both (b, 1) d h.1)
       | inr h ↦ read_faults bs more d (high (read_in bs more) h.1)
     ]
   where
     high : (r : Result (ℕ × ℕ) FaultKind) → behind b r ≡ Err d → r ≡ Err d
-    high (Ok x) h = absurd (never (b % 128 + 128 * x.0, x.1 + 1) d h)
+    high (Ok x) h = absurd (not_both (b % 128 + 128 * x.0, x.1 + 1) d h)
     high (Err a) h = h
 
 number_faults : {Q : Type 0} (bytes : List ℕ) (d : FaultKind) → varint_at bytes ≡ Err d → (d ≡ Cut → IsCut bytes → Q) → (d ≡ Varint → IsOverlong bytes → Q) → Q
@@ -68,8 +53,8 @@ number_parts bytes n e = (sym (take-append-drop n.1 bytes), (found_is bytes n.0 
 front_faults : (len : ℕ) (bytes : List ℕ) (d : FaultKind) → front_at len bytes ≡ Err d → (d ≡ Cut) × (length bytes < len)
 front_faults len bytes d e =
     elim (chosen (ltb (length bytes) len) _ _ _ e) [
-      | inl h ↦ (sym (fault_is {A = List ℕ} Cut d h.1), ltb-true (length bytes) len h.0)
-      | inr h ↦ absurd (never (take len bytes) d h.1)
+      | inl h ↦ (sym (same_kind {A = List ℕ} Cut d h.1), ltb-true (length bytes) len h.0)
+      | inr h ↦ absurd (not_both (take len bytes) d h.1)
     ]
 
 abbrev made_number : ℕ × ℕ → Result (Value × ℕ) FaultKind
@@ -86,34 +71,34 @@ made_bytes n part = Ok (some_bytes part, n.1 + n.0)
 
 at_number : (bytes : List ℕ) (d : FaultKind) → (varint_at bytes >>= made_number) ≡ Err d → ValueHas 0 bytes d
 at_number bytes d e =
-    elim (bind_err (varint_at bytes) made_number d e) [
+    elim (then_err (varint_at bytes) made_number d e) [
       | inl h ↦ number_faults bytes d h (λ is cut. number_cut is (inl refl) cut) (λ is long. number_overlong is (inl refl) long)
-      | inr h ↦ absurd (never (varint_value h.0.0, h.0.1) d h.2)
+      | inr h ↦ absurd (not_both (varint_value h.0.0, h.0.1) d h.2)
     ]
 
 at_eight : (bytes : List ℕ) (d : FaultKind) → (front_at 8 bytes >>= made_eight) ≡ Err d → ValueHas 1 bytes d
 at_eight bytes d e =
-    elim (bind_err (front_at 8 bytes) made_eight d e) [
+    elim (then_err (front_at 8 bytes) made_eight d e) [
       | inl h ↦ let f = front_faults 8 bytes d h in eight_cut f.0 refl f.1
-      | inr h ↦ absurd (never (eight_bytes h.0, 8) d h.2)
+      | inr h ↦ absurd (not_both (eight_bytes h.0, 8) d h.2)
     ]
 
 at_four : (bytes : List ℕ) (d : FaultKind) → (front_at 4 bytes >>= made_four) ≡ Err d → ValueHas 5 bytes d
 at_four bytes d e =
-    elim (bind_err (front_at 4 bytes) made_four d e) [
+    elim (then_err (front_at 4 bytes) made_four d e) [
       | inl h ↦ let f = front_faults 4 bytes d h in four_cut f.0 refl f.1
-      | inr h ↦ absurd (never (four_bytes h.0, 4) d h.2)
+      | inr h ↦ absurd (not_both (four_bytes h.0, 4) d h.2)
     ]
 
 at_bytes : (bytes : List ℕ) (d : FaultKind) → (varint_at bytes >>= λ n. front_at n.0 (drop n.1 bytes) >>= made_bytes n) ≡ Err d → ValueHas 2 bytes d
 at_bytes bytes d e =
-    elim (bind_err (varint_at bytes) (λ n. front_at n.0 (drop n.1 bytes) >>= made_bytes n) d e) [
+    elim (then_err (varint_at bytes) (λ n. front_at n.0 (drop n.1 bytes) >>= made_bytes n) d e) [
       | inl h ↦ number_faults bytes d h (λ is cut. number_cut is (inr refl) cut) (λ is long. number_overlong is (inr refl) long)
-      | inr h ↦ elim (bind_err (front_at h.0.0 (drop h.0.1 bytes)) (made_bytes h.0) d h.2) [
+      | inr h ↦ elim (then_err (front_at h.0.0 (drop h.0.1 bytes)) (made_bytes h.0) d h.2) [
         | inl k ↦ let f = front_faults h.0.0 (drop h.0.1 bytes) d k in
             let p = number_parts bytes h.0 h.1 in
             bytes_cut f.0 refl (take h.0.1 bytes) (drop h.0.1 bytes) h.0.0 p.0 p.1 f.1
-        | inr k ↦ absurd (never (some_bytes k.0, h.0.1 + h.0.0) d k.2)
+        | inr k ↦ absurd (not_both (some_bytes k.0, h.0.1 + h.0.0) d k.2)
       ]
     ]
 
@@ -129,7 +114,7 @@ value_faults wire bytes d e =
           | inl h ↦ subst F (sym (eqb-true wire 2 h.0)) (at_bytes bytes d h.1)
           | inr h ↦ elim (chosen (eqb wire 5) _ _ _ h.1) [
             | inl f ↦ subst F (sym (eqb-true wire 5 f.0)) (at_four bytes d f.1)
-            | inr f ↦ no_type (sym (fault_is {A = Value × ℕ} WireType d f.1)) (eqb-false wire 0 a.0) (eqb-false wire 1 b.0) (eqb-false wire 2 h.0) (eqb-false wire 5 f.0)
+            | inr f ↦ no_type (sym (same_kind {A = Value × ℕ} WireType d f.1)) (eqb-false wire 0 a.0) (eqb-false wire 1 b.0) (eqb-false wire 2 h.0) (eqb-false wire 5 f.0)
           ]
         ]
       ]
@@ -175,14 +160,14 @@ behind_key bytes key = cond ((eqb (key.0 / 8) 0) || ltb 536870911 (key.0 / 8)) (
 field_faults : (bytes : List ℕ) (d : FaultKind) → field_at bytes ≡ Err d → FieldHas bytes d
 unfolding field_at
 field_faults bytes d e =
-    elim (bind_err (varint_at bytes) (behind_key bytes) d e) [
+    elim (then_err (varint_at bytes) (behind_key bytes) d e) [
       | inl h ↦ number_faults bytes d h key_cut key_overlong
       | inr h ↦ let p = number_parts bytes h.0 h.1 in
           elim (chosen ((eqb (h.0.0 / 8) 0) || ltb 536870911 (h.0.0 / 8)) _ _ _ h.2) [
-            | inl k ↦ no_number (sym (fault_is {A = Entry × ℕ} Number d k.1)) (take h.0.1 bytes) (drop h.0.1 bytes) h.0.0 p.0 p.1 (not_numbered (h.0.0 / 8) k.0)
-            | inr k ↦ elim (bind_err (value_at (h.0.0 % 8) (drop h.0.1 bytes)) (made_field h.0) d k.1) [
+            | inl k ↦ no_number (sym (same_kind {A = Entry × ℕ} Number d k.1)) (take h.0.1 bytes) (drop h.0.1 bytes) h.0.0 p.0 p.1 (not_numbered (h.0.0 / 8) k.0)
+            | inr k ↦ elim (then_err (value_at (h.0.0 % 8) (drop h.0.1 bytes)) (made_field h.0) d k.1) [
               | inl v ↦ at_value (take h.0.1 bytes) (drop h.0.1 bytes) h.0.0 p.0 p.1 (is_numbered (h.0.0 / 8) k.0) (value_faults (h.0.0 % 8) (drop h.0.1 bytes) d v)
-              | inr v ↦ absurd (never (record { number = h.0.0 / 8; value = v.0.0 }, h.0.1 + v.0.1) d v.2)
+              | inr v ↦ absurd (not_both (record { number = h.0.0 / 8; value = v.0.0 }, h.0.1 + v.0.1) d v.2)
             ]
           ]
     ]

@@ -2,28 +2,14 @@
 use Rattle.std.proofs.Common.{◌≡◌, ℕ, zero, suc, ◌+◌, ◌-◌, ◌/◌, ◌%◌, ◌<◌, ◌≤◌, Bool, true, false, cond, eqb, ltb, List, [], ◌∷◌, length, take, drop, Result, Ok, Err, refl, ap, arith}
 use Rattle.std.specs.Prelude.{◌||◌}
 use Rattle.std.proofs.lemmas.List.{length-drop, take_all}
+use Rattle.reader.specs.Reading.{Read, ◌>>=◌}
+use Rattle.reader.proofs.Steps.{then_ok, guard_ok, same_value}
 use Rattle.pb_wire.specs.declared.fault.FaultKind.{FaultKind}
 use Rattle.pb_wire.specs.declared.fault.FaultKind.TheVariants.{Number}
 use Rattle.pb_wire.specs.Varint.{IsGroups, varint_at}
-use Rattle.pb_wire.specs.Message.{Entry, ◌>>=◌, value_at, field_at}
+use Rattle.pb_wire.specs.Message.{Entry, value_at, field_at}
 use Rattle.pb_wire.specs.Items.{Item, item_then, items_in}
 use Rattle.pb_wire.proofs.VarintLaws.{found_is}
-
--- the value of a step that did not fail
-pub bind_ok : {A B : Type 0} (r : Result A FaultKind) (f : A → Result B FaultKind) (y : B) → (r >>= f) ≡ Ok y → (x : A) × (r ≡ Ok x) × (f x ≡ Ok y)
-bind_ok (Ok x) f y e = (x, refl, e)
-bind_ok (Err d) f y e = absurd cc
-
--- a test that did not fail
-pub guard_ok : {A : Type 0} (b : Bool) (d : FaultKind) (r : Result A FaultKind) (y : A) → cond b (Err d) r ≡ Ok y → (b ≡ false) × (r ≡ Ok y)
-guard_ok true d r y e = absurd cc
-guard_ok false d r y e = (refl, e)
-
-abbrev pub done : {A : Type 0} → A → Result A FaultKind
-done x = Ok x
-
-pub ok_is : {A : Type 0} (x y : A) → done x ≡ done y → x ≡ y
-ok_is x y e = cc
 
 -- a number takes a byte or more
 pub varint_len : (bytes : List ℕ) (n : ℕ × ℕ) → varint_at bytes ≡ Ok n → 0 < n.1
@@ -36,11 +22,11 @@ varint_len bytes n e = let h = found_is bytes n.0 n.1 e in at_least n.1 h.1.grou
 pub field_len : (bytes : List ℕ) (x : Entry × ℕ) → field_at bytes ≡ Ok x → 0 < x.1
 unfolding field_at
 field_len bytes x e =
-    let key = bind_ok (varint_at bytes) (λ key. cond ((eqb (key.0 / 8) 0) || ltb 536870911 (key.0 / 8)) (Err Number) (value_at (key.0 % 8) (drop key.1 bytes) >>= λ value. Ok (record { number = key.0 / 8; value = value.0 }, key.1 + value.1))) x e in
+    let key = then_ok (varint_at bytes) (λ key. cond ((eqb (key.0 / 8) 0) || ltb 536870911 (key.0 / 8)) (Err Number) (value_at (key.0 % 8) (drop key.1 bytes) >>= λ value. Ok (record { number = key.0 / 8; value = value.0 }, key.1 + value.1))) x e in
     let rest = guard_ok ((eqb (key.0.0 / 8) 0) || ltb 536870911 (key.0.0 / 8)) Number (value_at (key.0.0 % 8) (drop key.0.1 bytes) >>= λ value. Ok (record { number = key.0.0 / 8; value = value.0 }, key.0.1 + value.1)) x key.2 in
-    let value = bind_ok (value_at (key.0.0 % 8) (drop key.0.1 bytes)) (λ value. Ok (record { number = key.0.0 / 8; value = value.0 }, key.0.1 + value.1)) x rest.1 in
+    let value = then_ok (value_at (key.0.0 % 8) (drop key.0.1 bytes)) (λ value. Ok (record { number = key.0.0 / 8; value = value.0 }, key.0.1 + value.1)) x rest.1 in
     let made : Entry × ℕ = (record { number = key.0.0 / 8; value = value.0.0 }, key.0.1 + value.0.1) in
-    let is = ap (λ (y : Entry × ℕ). y.1) (ok_is made x value.2) in
+    let is = ap (λ (y : Entry × ℕ). y.1) (same_value {Fault = FaultKind} made x value.2) in
     omega (arith, varint_len bytes key.0 key.1, is)
 
 item_then_same : (at : ℕ) (a b : ℕ → List Item) (r : Result (Entry × ℕ) FaultKind) → ((x : Entry × ℕ) → r ≡ Ok x → a x.1 ≡ b x.1) → item_then at a r ≡ item_then at b r

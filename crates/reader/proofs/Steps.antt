@@ -1,5 +1,7 @@
 -- Steps that may fail, one after the other.
-use Rattle.std.proofs.Common.{◌≡◌, ℕ, zero, suc, ◌+◌, ◌-◌, ◌<◌, ◌≤◌, List, [], ◌∷◌, Result, Ok, Err, refl, sym, ap, ◌∙◌, arith}
+use Rattle.std.proofs.Common.{◌≡◌, ℕ, zero, suc, ◌+◌, ◌-◌, ◌<◌, ◌≤◌, ◌⊎◌, inl, inr, Bool, true, false, cond, List, [], ◌∷◌, Result, Ok, Err}
+use Rattle.std.proofs.Common.{refl, sym, ap, subst, ◌∙◌, arith}
+use Rattle.std.specs.Prelude.{IfOk, IfErr}
 use Rattle.reader.specs.Reading.{Read, ◌>>=◌, repeated, folded, Reads, Finds, GivesUnless, Gives}
 
 module _ {Fault : Type 0} where
@@ -91,3 +93,55 @@ module _ {Fault : Type 0} where
   pub unless_on : {A B : Type 0} (IsOutside : Fault → Type 0) (fault : Fault) (part : Read Fault A) (whole : Read Fault B)
       → ((d : Fault) → part ≡ Err d → whole ≡ Err d) → (¬ IsOutside fault → part ≡ Err fault) → ¬ IsOutside fault → whole ≡ Err fault
   unless_on IsOutside fault part whole on h inside = on fault (h inside)
+
+  -- the same leads on: a fault of a part is one of the whole, an allocation that failed aside
+  pub gives_on : {A B : Type 0} (memory fault : Fault) (part : Read Fault A) (whole : Read Fault B)
+      → ((d : Fault) → part ≡ Err d → whole ≡ Err d) → (¬ (fault ≡ memory) → part ≡ Err fault) → ¬ (fault ≡ memory) → whole ≡ Err fault
+  gives_on memory = unless_on (λ fault. fault ≡ memory)
+
+  -- what is answered has what all that is read has
+  pub gives_found : {X A : Type 0} (Has : A → Type 0) (memory : Fault) (view : X → A) (result : Result X Fault) (read : Read Fault A)
+      → ((x : A) → read ≡ Ok x → Has x) → Gives memory view result read → IfOk result (λ x. Has (view x))
+  gives_found Has memory view (Ok x) read found gives = found (view x) gives
+  gives_found Has memory view (Err fault) read found gives = tt
+
+  -- what is to be read is answered
+  pub gives_only : {X A : Type 0} (memory : Fault) (view : X → A) (result : Result X Fault) (read : Read Fault A) (x : A)
+      → read ≡ Ok x → Gives memory view result read → Gives memory view result (Ok x)
+  gives_only memory view result read x there gives = subst (Gives memory view result) there gives
+
+  -- a fault that is answered is one that there is, an allocation that failed aside
+  pub gives_fault : {X A : Type 0} (Has : Fault → Type 0) (memory : Fault) (view : X → A) (result : Result X Fault) (read : Read Fault A)
+      → ((d : Fault) → read ≡ Err d → Has d) → Gives memory view result read → IfErr result (λ d. ¬ (d ≡ memory) → Has d)
+  gives_fault Has memory view (Ok x) read has gives = tt
+  gives_fault Has memory view (Err fault) read has gives = λ other. has fault (gives other)
+
+  -- ---- steps that met a fault, and steps that are the same
+
+  -- the first met the fault, or what it led to did
+  pub then_err : {A B : Type 0} (first : Read Fault A) (next : A → Read Fault B) (d : Fault)
+      → (first >>= next) ≡ Err d → (first ≡ Err d) ⊎ ((x : A) × (first ≡ Ok x) × (next x ≡ Err d))
+  then_err (Ok x) next d e = inr (x, refl, e)
+  then_err {A} {B} (Err c) next d e = inl (ap (failed {A = A}) (same_fault {A = B} c d e))
+
+  -- both were made, and give this
+  pub then_is : {A B : Type 0} (first : Read Fault A) (next : A → Read Fault B) (x : A) (whole : Read Fault B)
+      → first ≡ Ok x → next x ≡ whole → (first >>= next) ≡ whole
+  then_is first next x whole there on = then_on first next x there ∙ on
+
+  -- what behaves alike on what was read
+  pub then_same : {A B : Type 0} (first : Read Fault A) (f g : A → Read Fault B) → ((x : A) → first ≡ Ok x → f x ≡ g x) → (first >>= f) ≡ (first >>= g)
+  then_same (Ok x) f g alike = alike x refl
+  then_same (Err d) f g alike = refl
+
+  -- ---- tests
+
+  -- what must not be wasn't
+  pub guard_ok : {A : Type 0} (b : Bool) (d : Fault) (read : Read Fault A) (x : A) → cond b (Err d) read ≡ Ok x → (b ≡ false) × (read ≡ Ok x)
+  guard_ok true d read x e = absurd (not_both x d (sym e))
+  guard_ok false d read x e = (refl, e)
+
+  -- what must be was
+  pub pass_ok : {A : Type 0} (b : Bool) (d : Fault) (read : Read Fault A) (x : A) → cond b read (Err d) ≡ Ok x → (b ≡ true) × (read ≡ Ok x)
+  pass_ok true d read x e = (refl, e)
+  pass_ok false d read x e = absurd (not_both x d (sym e))
