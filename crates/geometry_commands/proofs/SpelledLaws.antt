@@ -1,17 +1,18 @@
 -- What is written for a shape spells it, and nothing else.
 use Rattle.std.proofs.Common.{◌≡◌, ℕ, Bool, true, false, List, [], ◌∷◌, refl, sym, ◌∙◌}
 use Rattle.std.specs.List.{AllByRecursion}
+use Rattle.reader.proofs.Steps.{same_value}
 use Rattle.geometry_commands.specs.declared.point.Pt.{Pt}
+use Rattle.geometry_commands.specs.declared.decoding.GeometryFault.{GeometryFault}
 use Rattle.geometry_commands.specs.declared.kinds.ShapeKind.{ShapeKind}
 use Rattle.geometry_commands.specs.Commands.{origin}
 use Rattle.geometry_commands.specs.Ways.{FitsPt}
 use Rattle.geometry_commands.specs.Shapes.{ShapeView, points, lines, rings, raw, IsLine, IsShape, kind_of, shape_spelled, last_of}
 use Rattle.geometry_commands.specs.Encodable.{CanSpellLines, CanSpell, FitsShape}
-use Rattle.geometry_commands.proofs.Spelled.{ok_is}
 use Rattle.geometry_commands.proofs.Shaped.{shape_again}
 
 pub one_shape : (kind : ShapeKind) (ints : List ℕ) (s t : ShapeView) → IsShape kind ints s → IsShape kind ints t → s ≡ t
-one_shape kind ints s t hs ht = ok_is s t (sym (shape_again kind ints s hs) ∙ shape_again kind ints t ht)
+one_shape kind ints s t hs ht = same_value {Fault = GeometryFault} s t (sym (shape_again kind ints s hs) ∙ shape_again kind ints t ht)
 
 lines_whole : (closed : Bool) (from : Pt) (ls : List (List Pt)) → CanSpellLines closed from ls → AllByRecursion (AllByRecursion FitsPt) ls → AllByRecursion (IsLine closed) ls
 lines_whole closed from [] can fits = tt
