@@ -1,9 +1,10 @@
 //! Features.
 
 ghost use Rattle.std.specs.Prelude.{◌≡◌, ℕ, [], slice_get};
+ghost use Rattle.reader.specs.Reading.{Reads, Gives};
 ghost use Rattle.geometry_commands.specs.Shapes.{shape_view};
 ghost use Rattle.mvt_layer.specs.Tile.{bytes_of, tag_view, tag_views, tagged, feature_view};
-ghost use Rattle.mvt_layer.specs.Reading.{Gives, found_tag, kind_of, tags_at, shape_read, feature_at, feature_of_parts};
+ghost use Rattle.mvt_layer.specs.Reading.{found_tag, kind_of, tags_at, shape_read, feature_at, feature_of_parts};
 ghost use Rattle.geometry_commands.specs.Decoding.{shape_at};
 
 use crate::fault::TileFault;
@@ -29,7 +30,7 @@ fn tag_of<'a>(
     key: u32,
     value: u32,
 ) -> Result<(&'a str, TagValue<'a>), TileFault>
-    ensures { Gives (λ t. (t.0.now, tag_view t.1)) result (found_tag (slice_get (bytes_of keys.entry.now) key) (slice_get (tag_views values.entry.now) value)) }
+    ensures { Reads (λ t. (t.0.now, tag_view t.1)) result (found_tag (slice_get (bytes_of keys.entry.now) key) (slice_get (tag_views values.entry.now) value)) }
 {
     let Some(text) = keys.get(key as usize) else {
         return Err(TileFault::Tag);
@@ -47,7 +48,7 @@ fn tags_of<'a>(
     values: &[TagValue<'a>],
     indices: &[u32],
 ) -> Result<Vec<(&'a str, TagValue<'a>)>, TileFault>
-    ensures { Gives (λ v. tagged v.items) result (tags_at (bytes_of keys.entry.now) (tag_views values.entry.now) [] [] indices.now) }
+    ensures { Gives TileFault.Memory (λ v. tagged v.items) result (tags_at (bytes_of keys.entry.now) (tag_views values.entry.now) [] [] indices.now) }
 {
     let mut used = BTreeSet::new(alloc);
     let mut tags = Vec::new(alloc);
@@ -81,7 +82,7 @@ fn kind_said(kind: Option<u64>) -> ShapeKind
 
 /// The shape that a feature's integers spell.
 fn shape_of(alloc: Global, kind: ShapeKind, ints: &[u32]) -> Result<Shape, TileFault>
-    ensures { Gives shape_view result (shape_read (shape_at kind ints.now)) }
+    ensures { Gives TileFault.Memory shape_view result (shape_read (shape_at kind ints.now)) }
 {
     match decode(alloc, kind, ints) {
         Ok(shape) => Ok(shape),
@@ -98,7 +99,7 @@ pub(crate) fn feature_of<'a>(
     values: &[TagValue<'a>],
     bytes: &'a [u8],
 ) -> Result<TileFeature<'a>, TileFault>
-    ensures { Gives feature_view result (feature_at (bytes_of keys.entry.now) (tag_views values.entry.now) bytes.entry.now) }
+    ensures { Gives TileFault.Memory feature_view result (feature_at (bytes_of keys.entry.now) (tag_views values.entry.now) bytes.entry.now) }
 {
     let id = last_number(bytes, ID)?;
     let kind = last_number(bytes, KIND)?;

@@ -1,7 +1,7 @@
 -- Steps that may fail, one after the other.
 use Rattle.std.proofs.Common.{◌≡◌, ℕ, zero, suc, ◌+◌, ◌-◌, ◌<◌, ◌≤◌, ◌⊎◌, inl, inr, Bool, true, false, cond, List, [], ◌∷◌, Result, Ok, Err}
 use Rattle.std.proofs.Common.{refl, sym, ap, subst, ◌∙◌, arith}
-use Rattle.std.specs.Prelude.{IfOk, IfErr}
+use Rattle.std.specs.Prelude.{IfOk, IfErr, IsOk}
 use Rattle.reader.specs.Reading.{Read, ◌>>=◌, repeated, folded, Reads, Finds, GivesUnless, Gives}
 
 module _ {Fault : Type 0} where
@@ -98,6 +98,12 @@ module _ {Fault : Type 0} where
   pub gives_on : {A B : Type 0} (memory fault : Fault) (part : Read Fault A) (whole : Read Fault B)
       → ((d : Fault) → part ≡ Err d → whole ≡ Err d) → (¬ (fault ≡ memory) → part ≡ Err fault) → ¬ (fault ≡ memory) → whole ≡ Err fault
   gives_on memory = unless_on (λ fault. fault ≡ memory)
+
+  -- where an allocation may fail only where something is read, it may fail anywhere
+  pub finds_gives : {A : Type 0} (memory fault : Fault) (read : Read Fault A)
+      → (read ≡ Err fault) ⊎ ((fault ≡ memory) × IsOk read) → ¬ (fault ≡ memory) → read ≡ Err fault
+  finds_gives memory fault read (inl e) other = e
+  finds_gives memory fault read (inr h) other = absurd (other h.0)
 
   -- what is answered has what all that is read has
   pub gives_found : {X A : Type 0} (Has : A → Type 0) (memory : Fault) (view : X → A) (result : Result X Fault) (read : Read Fault A)
