@@ -11,6 +11,7 @@ use Rattle.pb_wire.specs.Items.{Item, items_of}
 use Rattle.pb_wire.proofs.MessageLaws.{message_items}
 use Rattle.mvt_layer.specs.declared.fault.TileFault.{TileFault}
 use Rattle.mvt_layer.specs.declared.fault.TileFault.TheVariants as faults
+use Rattle.mvt_layer.specs.declared.layers.TheConstants.{DEFAULT_EXTENT, DEFAULT_VERSION, CURRENT_VERSION}
 use Rattle.mvt_layer.specs.Tile.{TagView, FeatureView, LayerView, text, natural, truth}
 use Rattle.mvt_layer.specs.Reading.{number_after, bytes_after, parts_after, last_number_in, last_bytes_in, parts_in, text_at, is_known, has_kind, may_follow, value_after, last_value_in, meaning, meant, tag_value_at, plain_tag, zigzag_tag, part_more, each_in, feature_at, name_at, small_at, version_at, extent_at, layer_at, has_name, layer_more, tile_at}
 use Rattle.mvt_layer.specs.Reads.{values_of, LastNumber, LastBytes, AreParts, Each, LastValue, SaysValue, IsText, SaysLayer}
@@ -134,21 +135,21 @@ small_ok otherwise (Some m) n e = go (ltb 4294967295 m) e
     go true h = absurd cc
     go false h = inr (ap (λ (k : ℕ). Some k) (same_value {Fault = TileFault} m n h))
 
-version_err : (last : Option ℕ) (d : TileFault) → version_at last ≡ Err d → ((d ≡ faults.Range) × ((n : ℕ) × (last ≡ Some n) × (4294967295 < n))) ⊎ ((d ≡ faults.Version) × ((n : ℕ) × (last ≡ Some n) × (n ≡ 1 → ⊥) × (n ≡ 2 → ⊥)))
+version_err : (last : Option ℕ) (d : TileFault) → version_at last ≡ Err d → ((d ≡ faults.Range) × ((n : ℕ) × (last ≡ Some n) × (4294967295 < n))) ⊎ ((d ≡ faults.Version) × ((n : ℕ) × (last ≡ Some n) × (n ≡ DEFAULT_VERSION → ⊥) × (n ≡ CURRENT_VERSION → ⊥)))
 unfolding version_at
-version_err last d e = elim (then_err (small_at 1 last) _ d e) [ inl bad ↦ inl (small_err 1 last d bad) | inr n ↦ inr (go n.0 (eqb n.0 1) (eqb n.0 2) refl refl (small_ok 1 last n.0 n.1) n.2) ]
+version_err last d e = elim (then_err (small_at DEFAULT_VERSION last) _ d e) [ inl bad ↦ inl (small_err DEFAULT_VERSION last d bad) | inr n ↦ inr (go n.0 (eqb n.0 DEFAULT_VERSION) (eqb n.0 CURRENT_VERSION) refl refl (small_ok DEFAULT_VERSION last n.0 n.1) n.2) ]
   where
-    go : (n : ℕ) (a b : Bool) → eqb n 1 ≡ a → eqb n 2 ≡ b → ((last ≡ None) × (n ≡ 1)) ⊎ (last ≡ Some n) → ◌≡◌ {A = Read TileFault ℕ} (cond (a || b) (Ok n) (Err faults.Version)) (Err d) → (d ≡ faults.Version) × ((m : ℕ) × (last ≡ Some m) × (m ≡ 1 → ⊥) × (m ≡ 2 → ⊥))
+    go : (n : ℕ) (a b : Bool) → eqb n DEFAULT_VERSION ≡ a → eqb n CURRENT_VERSION ≡ b → ((last ≡ None) × (n ≡ DEFAULT_VERSION)) ⊎ (last ≡ Some n) → ◌≡◌ {A = Read TileFault ℕ} (cond (a || b) (Ok n) (Err faults.Version)) (Err d) → (d ≡ faults.Version) × ((m : ℕ) × (last ≡ Some m) × (m ≡ DEFAULT_VERSION → ⊥) × (m ≡ CURRENT_VERSION → ⊥))
     go n true b ea eb is h = absurd cc
     go n false true ea eb is h = absurd cc
-    go n false false ea eb (inl is) h = absurd (eqb-false n 1 ea is.1)
-    go n false false ea eb (inr is) h = (sym (same_fault {A = ℕ} faults.Version d h), (n, is, eqb-false n 1 ea, eqb-false n 2 eb))
+    go n false false ea eb (inl is) h = absurd (eqb-false n DEFAULT_VERSION ea is.1)
+    go n false false ea eb (inr is) h = (sym (same_fault {A = ℕ} faults.Version d h), (n, is, eqb-false n DEFAULT_VERSION ea, eqb-false n CURRENT_VERSION eb))
 
 extent_err : (last : Option ℕ) (d : TileFault) → extent_at last ≡ Err d → ((d ≡ faults.Range) × ((n : ℕ) × (last ≡ Some n) × (4294967295 < n))) ⊎ ((d ≡ faults.Extent) × (last ≡ Some 0))
 unfolding extent_at
-extent_err last d e = elim (then_err (small_at 4096 last) _ d e) [ inl bad ↦ inl (small_err 4096 last d bad) | inr n ↦ inr (go n.0 (eqb n.0 0) refl (small_ok 4096 last n.0 n.1) n.2) ]
+extent_err last d e = elim (then_err (small_at DEFAULT_EXTENT last) _ d e) [ inl bad ↦ inl (small_err DEFAULT_EXTENT last d bad) | inr n ↦ inr (go n.0 (eqb n.0 0) refl (small_ok DEFAULT_EXTENT last n.0 n.1) n.2) ]
   where
-    go : (n : ℕ) (a : Bool) → eqb n 0 ≡ a → ((last ≡ None) × (n ≡ 4096)) ⊎ (last ≡ Some n) → ◌≡◌ {A = Read TileFault ℕ} (cond a (Err faults.Extent) (Ok n)) (Err d) → (d ≡ faults.Extent) × (last ≡ Some 0)
+    go : (n : ℕ) (a : Bool) → eqb n 0 ≡ a → ((last ≡ None) × (n ≡ DEFAULT_EXTENT)) ⊎ (last ≡ Some n) → ◌≡◌ {A = Read TileFault ℕ} (cond a (Err faults.Extent) (Ok n)) (Err d) → (d ≡ faults.Extent) × (last ≡ Some 0)
     go n false ea is h = absurd cc
     go n true ea (inl is) h = absurd (omega (arith, eqb-true n 0 ea, is.1))
     go n true ea (inr is) h = (sym (same_fault {A = ℕ} faults.Extent d h), is ∙ ap (λ (k : ℕ). Some k) (eqb-true n 0 ea))

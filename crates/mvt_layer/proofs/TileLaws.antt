@@ -17,6 +17,7 @@ use Rattle.geometry_commands.specs.Decoding.{shape_at}
 use Rattle.geometry_commands.proofs.Shaped.{shape_found, shape_again}
 use Rattle.mvt_layer.specs.declared.fault.TileFault.{TileFault}
 use Rattle.mvt_layer.specs.declared.fault.TileFault.TheVariants as faults
+use Rattle.mvt_layer.specs.declared.layers.TheConstants.{DEFAULT_EXTENT, DEFAULT_VERSION, CURRENT_VERSION}
 use Rattle.mvt_layer.specs.Tile.{TagView, Tagged, FeatureView, LayerView}
 use Rattle.mvt_layer.specs.Reading.{after, pass, number_after, bytes_after, parts_after, numbers_after, last_number_in, last_bytes_in, numbers_in, parts_in, text_at, is_known, has_kind, may_follow, value_after, last_value_in, meant, tag_value_at, part_more, each_in, kind_of, shape_read, has_number, found_tag, tag_at, tags_at, feature_of_parts, feature_at, name_at, small_at, version_at, extent_at, layer_at, has_name, layer_more, tile_at}
 use Rattle.mvt_layer.specs.Reads.{values_of, AreParts, Each, AreNumbers, LastValue, SaysValue, AreTags, SaysFeature, IsText, SmallOr, SaysLayer, AreNamed, ReadsAs}
@@ -209,38 +210,38 @@ either_true : (a b : Bool) → (a || b) ≡ true → (a ≡ true) ⊎ (b ≡ tru
 either_true true b e = inl refl
 either_true false b e = inr e
 
-version_says : (last : Option ℕ) (n : ℕ) → version_at last ≡ Ok n → SmallOr 1 last n × ((n ≡ 1) ⊎ (n ≡ 2))
+version_says : (last : Option ℕ) (n : ℕ) → version_at last ≡ Ok n → SmallOr DEFAULT_VERSION last n × ((n ≡ DEFAULT_VERSION) ⊎ (n ≡ CURRENT_VERSION))
 unfolding version_at
 version_says last n e =
-    let m = then_ok (small_at 1 last) _ n e in
-    let p = pass_ok (eqb m.0 1 || eqb m.0 2) faults.Version (Ok m.0) n m.2 in
+    let m = then_ok (small_at DEFAULT_VERSION last) _ n e in
+    let p = pass_ok (eqb m.0 DEFAULT_VERSION || eqb m.0 CURRENT_VERSION) faults.Version (Ok m.0) n m.2 in
     let same = same_value {Fault = TileFault} m.0 n p.1 in
-    let F : ℕ → Type 0 = λ k. SmallOr 1 last k × ((k ≡ 1) ⊎ (k ≡ 2)) in
-    subst F same (small_says 1 last m.0 m.1, elim (either_true (eqb m.0 1) (eqb m.0 2) p.0) [ inl a ↦ inl (eqb-true m.0 1 a) | inr b ↦ inr (eqb-true m.0 2 b) ])
+    let F : ℕ → Type 0 = λ k. SmallOr DEFAULT_VERSION last k × ((k ≡ DEFAULT_VERSION) ⊎ (k ≡ CURRENT_VERSION)) in
+    subst F same (small_says DEFAULT_VERSION last m.0 m.1, elim (either_true (eqb m.0 DEFAULT_VERSION) (eqb m.0 CURRENT_VERSION) p.0) [ inl a ↦ inl (eqb-true m.0 DEFAULT_VERSION a) | inr b ↦ inr (eqb-true m.0 CURRENT_VERSION b) ])
 
-version_reads : (last : Option ℕ) (n : ℕ) → SmallOr 1 last n → (n ≡ 1) ⊎ (n ≡ 2) → version_at last ≡ Ok n
+version_reads : (last : Option ℕ) (n : ℕ) → SmallOr DEFAULT_VERSION last n → (n ≡ DEFAULT_VERSION) ⊎ (n ≡ CURRENT_VERSION) → version_at last ≡ Ok n
 unfolding version_at
-version_reads last n h known = then_is (small_at 1 last) _ n (Ok n) (small_reads 1 last n h) (go n known)
+version_reads last n h known = then_is (small_at DEFAULT_VERSION last) _ n (Ok n) (small_reads DEFAULT_VERSION last n h) (go n known)
   where
-    go : (n : ℕ) → (n ≡ 1) ⊎ (n ≡ 2) → cond (eqb n 1 || eqb n 2) (done n) (Err faults.Version) ≡ Ok n
+    go : (n : ℕ) → (n ≡ DEFAULT_VERSION) ⊎ (n ≡ CURRENT_VERSION) → cond (eqb n DEFAULT_VERSION || eqb n CURRENT_VERSION) (done n) (Err faults.Version) ≡ Ok n
     go n (inl e) = rw e refl
     go n (inr e) = rw e refl
 
-extent_says : (last : Option ℕ) (n : ℕ) → extent_at last ≡ Ok n → SmallOr 4096 last n × (0 < n)
+extent_says : (last : Option ℕ) (n : ℕ) → extent_at last ≡ Ok n → SmallOr DEFAULT_EXTENT last n × (0 < n)
 unfolding extent_at
 extent_says last n e =
-    let m = then_ok (small_at 4096 last) _ n e in
+    let m = then_ok (small_at DEFAULT_EXTENT last) _ n e in
     let p = guard_ok (eqb m.0 0) faults.Extent (Ok m.0) n m.2 in
     let same = same_value {Fault = TileFault} m.0 n p.1 in
-    let F : ℕ → Type 0 = λ k. SmallOr 4096 last k × (0 < k) in
+    let F : ℕ → Type 0 = λ k. SmallOr DEFAULT_EXTENT last k × (0 < k) in
     let ne = eqb-false m.0 0 p.0 in
-    subst F same (small_says 4096 last m.0 m.1, omega arith)
+    subst F same (small_says DEFAULT_EXTENT last m.0 m.1, omega arith)
 
-extent_reads : (last : Option ℕ) (n : ℕ) → SmallOr 4096 last n → 0 < n → extent_at last ≡ Ok n
+extent_reads : (last : Option ℕ) (n : ℕ) → SmallOr DEFAULT_EXTENT last n → 0 < n → extent_at last ≡ Ok n
 unfolding extent_at
 extent_reads last n h some =
     let t : eqb n 0 ≡ false = ne_eqb n 0 (λ z. absurd (omega (arith, z))) in
-    then_is (small_at 4096 last) _ n (Ok n) (small_reads 4096 last n h) (rw t refl)
+    then_is (small_at DEFAULT_EXTENT last) _ n (Ok n) (small_reads DEFAULT_EXTENT last n h) (rw t refl)
 
 pub parts_of : (number : ℕ) (bytes : List ℕ) (fields : List Entry) (raw : List (List ℕ)) → items_of bytes ≡ fine fields → parts_in number bytes ≡ Ok raw → AreParts (values_of number fields) raw
 parts_of number bytes fields raw e h =

@@ -8,6 +8,7 @@ use Rattle.pb_wire.specs.Message.{Value, varint_value, eight_bytes, some_bytes, 
 use Rattle.geometry_commands.specs.Shapes.{ShapeView, IsShape}
 use Rattle.mvt_layer.specs.declared.fault.TileFault.{TileFault}
 use Rattle.mvt_layer.specs.declared.fault.TileFault.TheVariants as faults
+use Rattle.mvt_layer.specs.declared.layers.TheConstants.{DEFAULT_VERSION, CURRENT_VERSION}
 use Rattle.mvt_layer.specs.Tile.{TagView, Tagged, LayerView}
 use Rattle.mvt_layer.specs.Reading.{kind_of, is_known, has_kind, has_name}
 use Rattle.mvt_layer.specs.Reads.{values_of, LastNumber, LastBytes, AreParts, Each, ArePacked, AreNumbers, AreTags, LastValue, IsText, SaysValue, SaysLayer}
@@ -95,7 +96,7 @@ pub data LayerHas (bytes : List ℕ) (d : TileFault) : Type 0 where
   no_name : d ≡ faults.Name → (fields : List Entry) → IsMessage bytes fields → LastBytes None (values_of 1 fields) None → LayerHas bytes d
   name_text : d ≡ faults.Utf8 → (fields : List Entry) → IsMessage bytes fields → (part : List ℕ) → LastBytes None (values_of 1 fields) (Some part) → (IsUtf8 part → ⊥) → LayerHas bytes d
   large_number : d ≡ faults.Range → (fields : List Entry) → IsMessage bytes fields → (number : ℕ) → (number ≡ 15) ⊎ (number ≡ 5) → (n : ℕ) → LastNumber None (values_of number fields) (Some n) → 4294967295 < n → LayerHas bytes d
-  other_version : d ≡ faults.Version → (fields : List Entry) → IsMessage bytes fields → (n : ℕ) → LastNumber None (values_of 15 fields) (Some n) → (n ≡ 1 → ⊥) → (n ≡ 2 → ⊥) → LayerHas bytes d
+  other_version : d ≡ faults.Version → (fields : List Entry) → IsMessage bytes fields → (n : ℕ) → LastNumber None (values_of 15 fields) (Some n) → (n ≡ DEFAULT_VERSION → ⊥) → (n ≡ CURRENT_VERSION → ⊥) → LayerHas bytes d
   no_extent : d ≡ faults.Extent → (fields : List Entry) → IsMessage bytes fields → LastNumber None (values_of 5 fields) (Some 0) → LayerHas bytes d
   key_text : d ≡ faults.Utf8 → (fields : List Entry) → IsMessage bytes fields → (raw : List (List ℕ)) → AreParts (values_of 3 fields) raw → (p : List ℕ) → IsAmong p raw → (IsUtf8 p → ⊥) → LayerHas bytes d
   in_value : (fields : List Entry) → IsMessage bytes fields → (raw : List (List ℕ)) → AreParts (values_of 4 fields) raw → (p : List ℕ) → IsAmong p raw → ValueHas p d → LayerHas bytes d

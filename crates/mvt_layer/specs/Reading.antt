@@ -13,6 +13,7 @@ use Rattle.geometry_commands.specs.Shapes.{ShapeView}
 use Rattle.geometry_commands.specs.Decoding.{shape_at}
 use Rattle.mvt_layer.specs.declared.fault.TileFault.{TileFault}
 use Rattle.mvt_layer.specs.declared.fault.TileFault.TheVariants as faults
+use Rattle.mvt_layer.specs.declared.layers.TheConstants.{DEFAULT_EXTENT, DEFAULT_VERSION, CURRENT_VERSION}
 use Rattle.mvt_layer.specs.Tile.{TagView, text, natural, negative, truth, float, double, Tagged, FeatureView, LayerView}
 
 -- ---- one pass over the fields of a message
@@ -199,10 +200,10 @@ small_at otherwise None = Ok otherwise
 small_at otherwise (Some n) = if nat_lt 4294967295 n then Err faults.Range else Ok n
 
 unfoldable pub version_at : Option ℕ → Read TileFault ℕ
-version_at last = small_at 1 last >>= λ n. if (n == 1) || (n == 2) then Ok n else Err faults.Version
+version_at last = small_at DEFAULT_VERSION last >>= λ n. if (n == DEFAULT_VERSION) || (n == CURRENT_VERSION) then Ok n else Err faults.Version
 
 unfoldable pub extent_at : Option ℕ → Read TileFault ℕ
-extent_at last = small_at 4096 last >>= λ n. if n == 0 then Err faults.Extent else Ok n
+extent_at last = small_at DEFAULT_EXTENT last >>= λ n. if n == 0 then Err faults.Extent else Ok n
 
 abbrev pub layer_made : List ℕ → ℕ → ℕ → List FeatureView → Read TileFault LayerView
 layer_made name version extent features = Ok (record { name = name; version = version; extent = extent; features = features })

@@ -5,6 +5,7 @@ use Rattle.std.specs.Str.{IsUtf8}
 use Rattle.pb_wire.specs.Varint.{IsVarint}
 use Rattle.pb_wire.specs.Message.{Value, varint_value, eight_bytes, some_bytes, four_bytes, Entry, IsMessage}
 use Rattle.geometry_commands.specs.Shapes.{IsShape}
+use Rattle.mvt_layer.specs.declared.layers.TheConstants.{DEFAULT_EXTENT, DEFAULT_VERSION, CURRENT_VERSION}
 use Rattle.mvt_layer.specs.Tile.{TagView, Tagged, FeatureView, LayerView}
 use Rattle.mvt_layer.specs.Reading.{is_known, has_kind, may_follow, meaning, has_number, has_name, kind_of}
 
@@ -101,11 +102,11 @@ pub record SaysLayer (bytes : List ℕ) (l : LayerView) : Type 0 where
   pub name_text : IsUtf8 l.name
   pub raw_version : Option ℕ
   pub raw_version_is : LastNumber None (values_of 15 fields) raw_version
-  pub version : SmallOr 1 raw_version l.version
-  pub version_known : (l.version ≡ 1) ⊎ (l.version ≡ 2)
+  pub version : SmallOr DEFAULT_VERSION raw_version l.version
+  pub version_known : (l.version ≡ DEFAULT_VERSION) ⊎ (l.version ≡ CURRENT_VERSION)
   pub raw_extent : Option ℕ
   pub raw_extent_is : LastNumber None (values_of 5 fields) raw_extent
-  pub extent : SmallOr 4096 raw_extent l.extent
+  pub extent : SmallOr DEFAULT_EXTENT raw_extent l.extent
   pub extent_some : 0 < l.extent
   pub raw_keys : List (List ℕ)
   pub raw_keys_are : AreParts (values_of 3 fields) raw_keys

@@ -16,6 +16,15 @@ use crate::tile::{Layer, TagValue, TileFeature};
 use crate::values::{tag_value_of, text_of};
 use std::alloc::Global;
 
+/// The extent of a layer that tells none, and of every layer that is written (MVT 2.1, 4.1).
+pub const DEFAULT_EXTENT: u32 = 4096;
+
+/// The version of a layer that tells none (MVT 2.1, 4.1).
+pub const DEFAULT_VERSION: u32 = 1;
+
+/// The version of layers by the standard as it stands (MVT 2.1, 4.1).
+pub const CURRENT_VERSION: u32 = 2;
+
 // Field numbers of a layer, and of a tile.
 const NAME: u32 = 1;
 
@@ -97,25 +106,25 @@ fn small(otherwise: u32, last: Option<u64>) -> Result<u32, TileFault>
     }
 }
 
-/// The layer's version, 1 where it tells none.
+/// The layer's version, the default where it tells none.
 #[tactic(auto, unfolding(crate::specs::Reading::version_at))]
 fn version_of(last: Option<u64>) -> Result<u32, TileFault>
     ensures { Reads (λ n. n) result (version_at last) }
 {
-    let n = small(1, last)?;
-    if n == 1 || n == 2 {
+    let n = small(DEFAULT_VERSION, last)?;
+    if n == DEFAULT_VERSION || n == CURRENT_VERSION {
         Ok(n)
     } else {
         Err(TileFault::Version)
     }
 }
 
-/// The layer's extent, 4096 where it tells none.
+/// The layer's extent, the default where it tells none.
 #[tactic(auto, unfolding(crate::specs::Reading::extent_at))]
 fn extent_of(last: Option<u64>) -> Result<u32, TileFault>
     ensures { Reads (λ n. n) result (extent_at last) }
 {
-    let n = small(4096, last)?;
+    let n = small(DEFAULT_EXTENT, last)?;
     if n == 0 {
         Err(TileFault::Extent)
     } else {
