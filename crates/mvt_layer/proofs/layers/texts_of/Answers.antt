@@ -12,7 +12,7 @@ returns-in_err-text c =
     let raw = c.args.raw.now in
     let i = c.loop-part.part-index in
     let stopped = each_stop (λ (t : Bor (List ℕ)). t.now) text_at raw i (bytes_of c.loop-part.texts.items) c.in_err-text.field-0.0 _
-        c.loop-part-test.true c.loop-part.invariant c.in_err-text.ensures in
+    c.loop-part-test.true c.loop-part.invariant c.in_err-text.ensures in
     rw (p.1, p.2) (λ _. stopped)
 
 pub loop-part-preserved : goal.loop-part-preserved

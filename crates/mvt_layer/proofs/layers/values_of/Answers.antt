@@ -10,7 +10,7 @@ returns-in_err-value c =
     let raw = c.args.raw.now in
     let i = c.loop-part.part-index in
     let stopped = each_stop tag_view tag_value_at raw i (tag_views c.loop-part.values.items) c.in_err-value.field-0.0 _
-        c.loop-part-test.true c.loop-part.invariant c.in_err-value.ensures in
+    c.loop-part-test.true c.loop-part.invariant c.in_err-value.ensures in
     rw (p.1, p.2) (λ _. stopped)
 
 pub loop-part-preserved : goal.loop-part-preserved
