@@ -16,7 +16,8 @@ use Rattle.geometry_commands.specs.Shapes.{ShapeView, points, lines, rings, raw,
 use Rattle.geometry_commands.specs.Decoding.{Walk, command_at, walk_at, points_end, points_behind, points_at, lines_at, shape_at}
 use Rattle.geometry_commands.proofs.Spelled.{command_found, command_again, walk_found, walk_again, lines_found, lines_again}
 
-spelled_points : (ints : List ℕ) (ps : List Pt) (n : ℕ) (t rest : List ℕ) → ints ≡ command 1 n ∷ t → t ≡ steps origin ps ++ rest → length ps ≡ n → (n ≡ 0 → ⊥) → length rest ≡ 0 → ints ≡ points_spelled ps
+spelled_points : (ints : List ℕ) (ps : List Pt) (n : ℕ) (t rest : List ℕ) → ints ≡ command 1 n ∷ t → t ≡ steps origin ps ++ rest → length ps ≡ n → (n ≡ 0 → ⊥)
+    → length rest ≡ 0 → ints ≡ points_spelled ps
 spelled_points ints [] n t rest e1 e2 count some none = absurd (some (sym count))
 spelled_points ints (p ∷ ps) n t (r ∷ rest) e1 e2 count some none = absurd (omega arith)
 spelled_points ints (p ∷ ps) n t [] e1 e2 count some none =
@@ -42,7 +43,11 @@ points_found (i ∷ is) ps e =
     let q = walk_found c.0.0 [] origin c.0.1 w.0 w.1 in
     let same : ps ≡ q.points = sym (same_value {Fault = GeometryFault} w.0.0 ps p.1) ∙ q.all in
     let F : List Pt → Type 0 = λ q. (i ∷ is ≡ points_spelled q) × AllByRecursion FitsPt q in
-    subst F (sym same) (spelled_points (i ∷ is) q.points c.0.0 c.0.1 w.0.2 (command_found 1 (i ∷ is) c.0 c.1) q.spelled q.count (eqb-false c.0.0 0 g.0) (eqb-true (length w.0.2) 0 p.0), q.fits)
+    subst F (sym same) (
+      spelled_points (i ∷ is) q.points c.0.0 c.0.1 w.0.2 (command_found 1 (i ∷ is) c.0 c.1) q.spelled q.count (eqb-false c.0.0 0 g.0)
+          (eqb-true (length w.0.2) 0 p.0),
+      q.fits,
+    )
 
 pub points_again : (ps : List Pt) → AllByRecursion FitsPt ps → points_at (points_spelled ps) ≡ Ok ps
 unfolding points_at points_behind points_end
@@ -53,7 +58,8 @@ points_again (p ∷ ps) h =
     let t : eqb (suc (length ways)) 0 ≡ false = ne_eqb (suc (length ways)) 0 (λ z. absurd (omega (arith, z))) in
     let k : eqb (suc (length ps)) 0 ≡ false = ne_eqb (suc (length ps)) 0 (λ z. absurd (omega (arith, z))) in
     let e1 = command_again 1 n ways (omega arith) in
-    let e2 : walk_at n [] origin ways ≡ Ok (p ∷ ps, last_of origin (p ∷ ps), []) = ap (walk_at n [] origin) (sym (append-nil ways)) ∙ walk_again (p ∷ ps) [] origin [] h in
+    let e2 : walk_at n [] origin ways ≡ Ok (p ∷ ps, last_of origin (p ∷ ps), []) =
+    ap (walk_at n [] origin) (sym (append-nil ways)) ∙ walk_again (p ∷ ps) [] origin [] h in
     rw t (ap (λ (r : Read GeometryFault (ℕ × List ℕ)). r >>= points_behind) e1 ∙ rw k (ap (λ (r : Read GeometryFault Walk). r >>= points_end) e2))
 
 -- lines, or rings, that were read are spelled so
@@ -66,7 +72,8 @@ lines_spell closed ints ls e =
 
 pub shape_found : (kind : ShapeKind) (ints : List ℕ) (s : ShapeView) → shape_at kind ints ≡ Ok s → IsShape kind ints s
 unfolding shape_at
-shape_found kinds.Unknown ints s e = let F : ShapeView → Type 0 = λ v. IsShape kinds.Unknown ints v in subst F (same_value {Fault = GeometryFault} (raw ints) s e) refl
+shape_found kinds.Unknown ints s e =
+    let F : ShapeView → Type 0 = λ v. IsShape kinds.Unknown ints v in subst F (same_value {Fault = GeometryFault} (raw ints) s e) refl
 shape_found kinds.Points ints s e =
     let p = then_ok (points_at ints) (λ ps. Ok (points ps)) s e in
     let F : ShapeView → Type 0 = λ v. IsShape kinds.Points ints v in
@@ -80,7 +87,8 @@ shape_found kinds.Polygons ints s e =
     let F : ShapeView → Type 0 = λ v. IsShape kinds.Polygons ints v in
     subst F (same_value {Fault = GeometryFault} (rings p.0) s p.2) (lines_spell true ints p.0 p.1)
 
-lines_read : (closed : Bool) (ints : List ℕ) (ls : List (List Pt)) → ints ≡ lines_spelled closed origin ls → AllByRecursion (IsLine closed) ls → lines_at closed ints ≡ Ok ls
+lines_read : (closed : Bool) (ints : List ℕ) (ls : List (List Pt)) → ints ≡ lines_spelled closed origin ls → AllByRecursion (IsLine closed) ls
+    → lines_at closed ints ≡ Ok ls
 lines_read closed ints ls e h = ap (lines_at closed) e ∙ lines_again ls (length (lines_spelled closed origin ls)) closed [] origin (omega arith) h
 
 pub shape_again : (kind : ShapeKind) (ints : List ℕ) (s : ShapeView) → IsShape kind ints s → shape_at kind ints ≡ Ok s

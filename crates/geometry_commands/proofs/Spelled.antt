@@ -1,5 +1,6 @@
 -- What is read is spelled so, and what is spelled so is read.
-use Rattle.std.proofs.Common.{◌≡◌, ℕ, ℤ, pos, negsuc, zero, suc, ◌+◌, ◌-◌, ◌*◌, ◌/◌, ◌%◌, ◌<◌, ◌≤◌, ◌+ℤ◌, ◌-ℤ◌, Bool, true, false, cond, eqb, ltb, ne_eqb, List, [], ◌∷◌, ◌++◌, length, Ok, Err, refl, sym, ap, subst, ◌∙◌, append_assoc, arith}
+use Rattle.std.proofs.Common.{◌≡◌, ℕ, ℤ, pos, negsuc, zero, suc, ◌+◌, ◌-◌, ◌*◌, ◌/◌, ◌%◌, ◌<◌, ◌≤◌, ◌+ℤ◌, ◌-ℤ◌, Bool, true, false, cond, eqb, ltb, ne_eqb, List}
+use Rattle.std.proofs.Common.{[], ◌∷◌, ◌++◌, length, Ok, Err, refl, sym, ap, subst, ◌∙◌, append_assoc, arith}
 use Rattle.std.specs.List.{AllByRecursion}
 use Rattle.std.proofs.lemmas.Bool.{eq-eqb, eqb-true, eqb-false, ltb-false, le-ltb}
 use Rattle.std.proofs.lemmas.Int.{ints}
@@ -13,7 +14,8 @@ use Rattle.geometry_commands.specs.declared.decoding.GeometryFault.TheVariants.{
 use Rattle.geometry_commands.specs.Commands.{step, steps, command}
 use Rattle.geometry_commands.specs.Ways.{unzigzagged, led_to, fits, FitsPt}
 use Rattle.geometry_commands.specs.Shapes.{last_of, close_spelled, line_spelled, lines_spelled, least, IsLine}
-use Rattle.geometry_commands.specs.Decoding.{Walk, command_at, step_at, walk_step, walk_at, close_at, line_made, line_end, line_others, line_second, line_first, line_at, lines_in}
+use Rattle.geometry_commands.specs.Decoding.{Walk, command_at, step_at, walk_step, walk_at, close_at, line_made, line_end, line_others, line_second, line_first}
+use Rattle.geometry_commands.specs.Decoding.{line_at, lines_in}
 
 zigzag_back : (n : ℕ) → zigzagged (unzigzagged n) ≡ n
 zigzag_back n = go (eqb (n % 2) 0) refl
@@ -82,7 +84,8 @@ step_found from (a ∷ b ∷ is) r e =
     let t : is ≡ r.1 = ap (λ (q : Pt × List ℕ). q.1) same in
     let x : zigzagged ((from.x +ℤ unzigzagged a) -ℤ from.x) ≡ a = ap zigzagged (way_back from.x (unzigzagged a)) ∙ zigzag_back a in
     let y : zigzagged ((from.y +ℤ unzigzagged b) -ℤ from.y) ≡ b = ap zigzagged (way_back from.y (unzigzagged b)) ∙ zigzag_back b in
-    let here : a ∷ b ∷ is ≡ step from (led_to from a b) ++ is = cells a b is (zigzagged ((from.x +ℤ unzigzagged a) -ℤ from.x)) (zigzagged ((from.y +ℤ unzigzagged b) -ℤ from.y)) (sym x) (sym y) in
+    let here : a ∷ b ∷ is ≡ step from (led_to from a b) ++ is =
+    cells a b is (zigzagged ((from.x +ℤ unzigzagged a) -ℤ from.x)) (zigzagged ((from.y +ℤ unzigzagged b) -ℤ from.y)) (sym x) (sym y) in
     let F : Pt × List ℕ → Type 0 = λ q. (a ∷ b ∷ is ≡ step from q.0 ++ q.1) × FitsPt q.0 in
     subst F same (here, p.0)
   where
@@ -97,7 +100,8 @@ unfolding led_to
 step_again from to rest h =
     let x : from.x +ℤ unzigzagged (zigzagged (to.x -ℤ from.x)) ≡ to.x = ap (λ (d : ℤ). from.x +ℤ d) (unzigzag_back (to.x -ℤ from.x)) ∙ way_there from.x to.x in
     let y : from.y +ℤ unzigzagged (zigzagged (to.y -ℤ from.y)) ≡ to.y = ap (λ (d : ℤ). from.y +ℤ d) (unzigzag_back (to.y -ℤ from.y)) ∙ way_there from.y to.y in
-    let there : led_to from (zigzagged (to.x -ℤ from.x)) (zigzagged (to.y -ℤ from.y)) ≡ to = point (from.x +ℤ unzigzagged (zigzagged (to.x -ℤ from.x))) (from.y +ℤ unzigzagged (zigzagged (to.y -ℤ from.y))) to.x to.y x y in
+    let there : led_to from (zigzagged (to.x -ℤ from.x)) (zigzagged (to.y -ℤ from.y)) ≡ to =
+    point (from.x +ℤ unzigzagged (zigzagged (to.x -ℤ from.x))) (from.y +ℤ unzigzagged (zigzagged (to.y -ℤ from.y))) to.x to.y x y in
     let F : Pt → Type 0 = λ p. cond (fits p) (Ok (p, rest)) (Err Cursor) ≡ read_to to rest in
     step_cons from (zigzagged (to.x -ℤ from.x)) (zigzagged (to.y -ℤ from.y)) rest ∙ subst F (sym there) (rw h refl)
   where
@@ -186,10 +190,13 @@ pub record LineRead (closed : Bool) (from : Pt) (ints : List ℕ) (w : Walk) : T
   pub last : w.1 ≡ last_of from w.0
   pub line : IsLine closed w.0
 
-whole : (ints m f c a rest ways close : List ℕ) (u v j k : ℕ) → ints ≡ command 1 1 ∷ m → m ≡ u ∷ v ∷ f → f ≡ j ∷ c → j ≡ k → c ≡ ways ++ a → a ≡ close ++ rest → (ways ++ close) ++ rest ≡ ways ++ (close ++ rest) → ints ≡ command 1 1 ∷ u ∷ v ∷ k ∷ ((ways ++ close) ++ rest)
+whole : (ints m f c a rest ways close : List ℕ) (u v j k : ℕ) → ints ≡ command 1 1 ∷ m → m ≡ u ∷ v ∷ f → f ≡ j ∷ c → j ≡ k → c ≡ ways ++ a → a ≡ close ++ rest
+    → (ways ++ close) ++ rest ≡ ways ++ (close ++ rest) → ints ≡ command 1 1 ∷ u ∷ v ∷ k ∷ ((ways ++ close) ++ rest)
 whole ints m f c a rest ways close u v j k e1 e2 e3 e4 e5 e6 e7 = cc
 
-line_parts : (closed : Bool) (from first to : Pt) (ints m f c a rest : List ℕ) (ps qs l : List Pt) (n : ℕ) → ints ≡ command 1 1 ∷ m → length ps ≡ 1 → m ≡ steps from ps ++ f → first ≡ last_of from ps → f ≡ command 2 n ∷ c → length qs ≡ n → c ≡ steps first qs ++ a → a ≡ close_spelled closed ++ rest → to ≡ last_of first qs → l ≡ ps ++ qs → least closed ≤ n → AllByRecursion FitsPt ps → AllByRecursion FitsPt qs → LineRead closed from ints (l, to, rest)
+line_parts : (closed : Bool) (from first to : Pt) (ints m f c a rest : List ℕ) (ps qs l : List Pt) (n : ℕ) → ints ≡ command 1 1 ∷ m → length ps ≡ 1
+    → m ≡ steps from ps ++ f → first ≡ last_of from ps → f ≡ command 2 n ∷ c → length qs ≡ n → c ≡ steps first qs ++ a → a ≡ close_spelled closed ++ rest
+    → to ≡ last_of first qs → l ≡ ps ++ qs → least closed ≤ n → AllByRecursion FitsPt ps → AllByRecursion FitsPt qs → LineRead closed from ints (l, to, rest)
 unfolding line_spelled
 line_parts closed from first to ints m f c a rest [] qs l n e1 one e2 e3 e4 e5 e6 e7 e8 e9 long fp fq = absurd (omega arith)
 line_parts closed from first to ints m f c a rest (p ∷ q ∷ ps) qs l n e1 one e2 e3 e4 e5 e6 e7 e8 e9 long fp fq = absurd (omega arith)
@@ -197,7 +204,8 @@ line_parts closed from first to ints m f c a rest (p ∷ []) qs l n e1 one e2 e3
     let F : List Pt → Type 0 = λ k. LineRead closed from ints (k, to, rest) in
     let h = append_assoc (steps p qs) (close_spelled closed) rest in
     subst F (sym e9) (record {
-      spelled = whole ints m f c a rest (steps p qs) (close_spelled closed) (zigzagged (p.x -ℤ from.x)) (zigzagged (p.y -ℤ from.y)) (command 2 n) (command 2 (length qs)) e1 e2 e4 (ap (command 2) (sym e5)) (e6 ∙ ap (λ (k : Pt). steps k qs ++ a) e3) e7 h;
+      spelled = whole ints m f c a rest (steps p qs) (close_spelled closed) (zigzagged (p.x -ℤ from.x)) (zigzagged (p.y -ℤ from.y)) (command 2 n)
+          (command 2 (length qs)) e1 e2 e4 (ap (command 2) (sym e5)) (e6 ∙ ap (λ (k : Pt). steps k qs ++ a) e3) e7 h;
       last = cc;
       line = record { long = omega (arith, e5, long); fits = (fp.0, fq) };
     })
@@ -218,14 +226,20 @@ line_found closed from ints w e =
     let F : Walk → Type 0 = λ k. LineRead closed from ints k in
     subst F made (line_parts closed from first.0.1 all.0.1 ints m.0.1 first.0.2 c.0.1 all.0.2 rest.0 p.points q.points all.0.0 c.0.0
     (command_found 1 ints m.0 m.1 ∙ ap (λ (k : ℕ). command 1 k ∷ m.0.1) (eqb-true m.0.0 1 one.0))
-    p.count p.spelled p.last (command_found 2 first.0.2 c.0 c.1) q.count q.spelled (close_found closed all.0.2 rest.0 rest.1) q.last (q.all ∙ ap (λ (k : List Pt). k ++ q.points) p.all) (ltb-false c.0.0 (least closed) long.0) p.fits q.fits)
+    p.count p.spelled p.last (command_found 2 first.0.2 c.0 c.1) q.count q.spelled (close_found closed all.0.2 rest.0 rest.1) q.last
+    (q.all ∙ ap (λ (k : List Pt). k ++ q.points) p.all) (ltb-false c.0.0 (least closed) long.0) p.fits q.fits)
 
 -- a line in front of other integers, with its parts to the right
-line_regrouped : (closed : Bool) (from p : Pt) (ps : List Pt) (rest : List ℕ) → line_spelled closed from (p ∷ ps) ++ rest ≡ command 1 1 ∷ (steps from (p ∷ []) ++ (command 2 (length ps) ∷ (steps p ps ++ (close_spelled closed ++ rest))))
+line_regrouped : (closed : Bool) (from p : Pt) (ps : List Pt) (rest : List ℕ)
+    → line_spelled closed from (p ∷ ps) ++ rest
+    ≡ command 1 1 ∷ (steps from (p ∷ []) ++ (command 2 (length ps) ∷ (steps p ps ++ (close_spelled closed ++ rest))))
 unfolding line_spelled
-line_regrouped closed from p ps rest = ap (λ (t : List ℕ). command 1 1 ∷ zigzagged (p.x -ℤ from.x) ∷ zigzagged (p.y -ℤ from.y) ∷ command 2 (length ps) ∷ t) (append_assoc (steps p ps) (close_spelled closed) rest)
+line_regrouped closed from p ps rest =
+    ap (λ (t : List ℕ). command 1 1 ∷ zigzagged (p.x -ℤ from.x) ∷ zigzagged (p.y -ℤ from.y) ∷ command 2 (length ps) ∷ t)
+    (append_assoc (steps p ps) (close_spelled closed) rest)
 
-pub line_again : (closed : Bool) (from : Pt) (l : List Pt) (rest : List ℕ) → IsLine closed l → line_at closed from (line_spelled closed from l ++ rest) ≡ Ok (l, last_of from l, rest)
+pub line_again : (closed : Bool) (from : Pt) (l : List Pt) (rest : List ℕ) → IsLine closed l
+    → line_at closed from (line_spelled closed from l ++ rest) ≡ Ok (l, last_of from l, rest)
 unfolding line_at line_first line_second line_others line_end
 line_again closed from [] rest h = absurd (omega (arith, h.long))
 line_again closed from (p ∷ ps) rest h =
@@ -257,11 +271,14 @@ pub record LinesRead (closed : Bool) (before : List (List Pt)) (from : Pt) (ints
   pub spelled : ints ≡ lines_spelled closed from lines
   pub each : AllByRecursion (IsLine closed) lines
 
-pub lines_found : (n : ℕ) (closed : Bool) (before : List (List Pt)) (from : Pt) (ints : List ℕ) (all : List (List Pt)) → length ints ≤ n → lines_in n closed before from ints ≡ Ok all → LinesRead closed before from ints all
+pub lines_found : (n : ℕ) (closed : Bool) (before : List (List Pt)) (from : Pt) (ints : List ℕ) (all : List (List Pt)) → length ints ≤ n
+    → lines_in n closed before from ints ≡ Ok all → LinesRead closed before from ints all
 unfolding lines_in lines_spelled
 lines_found zero closed before from (i ∷ is) all le e = absurd (omega arith)
-lines_found zero closed before from [] all le e = record { lines = []; all_is = sym (same_value {Fault = GeometryFault} before all e) ∙ sym (append-nil before); spelled = refl; each = tt }
-lines_found (suc n) closed before from [] all le e = record { lines = []; all_is = sym (same_value {Fault = GeometryFault} before all e) ∙ sym (append-nil before); spelled = refl; each = tt }
+lines_found zero closed before from [] all le e =
+    record { lines = []; all_is = sym (same_value {Fault = GeometryFault} before all e) ∙ sym (append-nil before); spelled = refl; each = tt }
+lines_found (suc n) closed before from [] all le e =
+    record { lines = []; all_is = sym (same_value {Fault = GeometryFault} before all e) ∙ sym (append-nil before); spelled = refl; each = tt }
 lines_found (suc n) closed before from (i ∷ is) all le e =
     let l = then_ok (line_at closed from (i ∷ is)) (λ l. lines_in n closed (before ++ l.0 ∷ []) l.1 l.2) all e in
     let one = line_found closed from (i ∷ is) l.0 l.1 in
@@ -270,16 +287,19 @@ lines_found (suc n) closed before from (i ∷ is) all le e =
     record {
       lines = l.0.0 ∷ more.lines;
       all_is = more.all_is ∙ append_assoc before (l.0.0 ∷ []) more.lines;
-      spelled = one.spelled ∙ ap (λ (t : List ℕ). line_spelled closed from l.0.0 ++ t) (more.spelled ∙ ap (λ (p : Pt). lines_spelled closed p more.lines) one.last);
+      spelled = one.spelled ∙ ap (λ (t : List ℕ). line_spelled closed from l.0.0 ++ t)
+          (more.spelled ∙ ap (λ (p : Pt). lines_spelled closed p more.lines) one.last);
       each = (one.line, more.each);
     }
 
-lines_first : (n : ℕ) (closed : Bool) (before : List (List Pt)) (from : Pt) (ints : List ℕ) (w : Walk) → length w.2 < length ints → line_at closed from ints ≡ Ok w → length ints ≤ suc n → lines_in (suc n) closed before from ints ≡ lines_in n closed (before ++ w.0 ∷ []) w.1 w.2
+lines_first : (n : ℕ) (closed : Bool) (before : List (List Pt)) (from : Pt) (ints : List ℕ) (w : Walk) → length w.2 < length ints
+    → line_at closed from ints ≡ Ok w → length ints ≤ suc n → lines_in (suc n) closed before from ints ≡ lines_in n closed (before ++ w.0 ∷ []) w.1 w.2
 unfolding lines_in
 lines_first n closed before from [] w some e le = absurd (omega arith)
 lines_first n closed before from (i ∷ is) w some e le = rw e refl
 
-pub lines_again : (ls : List (List Pt)) (n : ℕ) (closed : Bool) (before : List (List Pt)) (from : Pt) → length (lines_spelled closed from ls) ≤ n → AllByRecursion (IsLine closed) ls → lines_in n closed before from (lines_spelled closed from ls) ≡ Ok (before ++ ls)
+pub lines_again : (ls : List (List Pt)) (n : ℕ) (closed : Bool) (before : List (List Pt)) (from : Pt) → length (lines_spelled closed from ls) ≤ n
+    → AllByRecursion (IsLine closed) ls → lines_in n closed before from (lines_spelled closed from ls) ≡ Ok (before ++ ls)
 unfolding lines_in lines_spelled
 lines_again [] zero closed before from le h = ap (done {Fault = GeometryFault}) (sym (append-nil before))
 lines_again [] (suc n) closed before from le h = ap (done {Fault = GeometryFault}) (sym (append-nil before))
@@ -289,10 +309,12 @@ lines_again (l ∷ ls) (suc n) closed before from le h =
     let rest : List ℕ = lines_spelled closed (last_of from l) ls in
     let longer = line_longer closed from l rest h.0 in
     let one = lines_first n closed before from (line_spelled closed from l ++ rest) (l, last_of from l, rest) longer (line_again closed from l rest h.0) le in
-    one ∙ (lines_again ls n closed (before ++ l ∷ []) (last_of from l) (omega (arith, longer, le)) h.1 ∙ ap (done {Fault = GeometryFault}) (append_assoc before (l ∷ []) ls))
+    one ∙ (lines_again ls n closed (before ++ l ∷ []) (last_of from l) (omega (arith, longer, le)) h.1
+    ∙ ap (done {Fault = GeometryFault}) (append_assoc before (l ∷ []) ls))
 
 -- so many at most makes no difference where the integers are no more
-pub lines_same : (m n : ℕ) (closed : Bool) (before : List (List Pt)) (from : Pt) (ints : List ℕ) → length ints ≤ m → length ints ≤ n → lines_in m closed before from ints ≡ lines_in n closed before from ints
+pub lines_same : (m n : ℕ) (closed : Bool) (before : List (List Pt)) (from : Pt) (ints : List ℕ) → length ints ≤ m → length ints ≤ n
+    → lines_in m closed before from ints ≡ lines_in n closed before from ints
 unfolding lines_in
 lines_same zero zero closed before from ints hm hn = refl
 lines_same zero (suc n) closed before from [] hm hn = refl
@@ -312,20 +334,25 @@ lines_same (suc m) (suc n) closed before from (i ∷ is) hm hn =
 pub line_shorter : (closed : Bool) (from : Pt) (ints : List ℕ) (w : Walk) → line_at closed from ints ≡ Ok w → length w.2 < length ints
 line_shorter closed from ints w e = let one = line_found closed from ints w e in omega (arith, line_longer closed from w.0 w.2 one.line, ap length one.spelled)
 
-pub lines_on : (closed : Bool) (before : List (List Pt)) (from : Pt) (ints : List ℕ) (w : Walk) (so_far : Read GeometryFault (List (List Pt))) → line_at closed from ints ≡ Ok w → lines_in (length ints) closed before from ints ≡ so_far → lines_in (length w.2) closed (before ++ w.0 ∷ []) w.1 w.2 ≡ so_far
+pub lines_on : (closed : Bool) (before : List (List Pt)) (from : Pt) (ints : List ℕ) (w : Walk) (so_far : Read GeometryFault (List (List Pt)))
+    → line_at closed from ints ≡ Ok w → lines_in (length ints) closed before from ints ≡ so_far
+    → lines_in (length w.2) closed (before ++ w.0 ∷ []) w.1 w.2 ≡ so_far
 lines_on closed before from ints w so_far e so =
     let short = line_shorter closed from ints w e in
     let k : length ints ≡ suc (length ints - 1) = omega arith in
-    let one : lines_in (length ints) closed before from ints ≡ lines_in (length ints - 1) closed (before ++ w.0 ∷ []) w.1 w.2 = ap (λ (n : ℕ). lines_in n closed before from ints) k ∙ lines_first (length ints - 1) closed before from ints w short e (omega arith) in
+    let one : lines_in (length ints) closed before from ints ≡ lines_in (length ints - 1) closed (before ++ w.0 ∷ []) w.1 w.2 =
+    ap (λ (n : ℕ). lines_in n closed before from ints) k ∙ lines_first (length ints - 1) closed before from ints w short e (omega arith) in
     lines_same (length w.2) (length ints - 1) closed (before ++ w.0 ∷ []) w.1 w.2 (omega arith) (omega arith) ∙ (sym one ∙ so)
 
-pub lines_fault : (closed : Bool) (before : List (List Pt)) (from : Pt) (ints : List ℕ) (so_far : Read GeometryFault (List (List Pt))) → 0 < length ints → lines_in (length ints) closed before from ints ≡ so_far
+pub lines_fault : (closed : Bool) (before : List (List Pt)) (from : Pt) (ints : List ℕ) (so_far : Read GeometryFault (List (List Pt))) → 0 < length ints
+    → lines_in (length ints) closed before from ints ≡ so_far
     → (d : GeometryFault) → line_at closed from ints ≡ Err d → so_far ≡ Err d
 unfolding lines_in
 lines_fault closed before from [] so_far some so d e = absurd (omega arith)
 lines_fault closed before from (i ∷ is) so_far some so d e = sym so ∙ rw e refl
 
-pub lines_done : (closed : Bool) (before : List (List Pt)) (from : Pt) (ints : List ℕ) (so_far : Read GeometryFault (List (List Pt))) → length ints ≡ 0 → lines_in (length ints) closed before from ints ≡ so_far → so_far ≡ Ok before
+pub lines_done : (closed : Bool) (before : List (List Pt)) (from : Pt) (ints : List ℕ) (so_far : Read GeometryFault (List (List Pt))) → length ints ≡ 0
+    → lines_in (length ints) closed before from ints ≡ so_far → so_far ≡ Ok before
 unfolding lines_in
 lines_done closed before from [] so_far none so = sym so
 lines_done closed before from (i ∷ is) so_far none so = absurd (omega arith)

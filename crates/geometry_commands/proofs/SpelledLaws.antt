@@ -14,7 +14,8 @@ use Rattle.geometry_commands.proofs.Shaped.{shape_again}
 pub one_shape : (kind : ShapeKind) (ints : List ℕ) (s t : ShapeView) → IsShape kind ints s → IsShape kind ints t → s ≡ t
 one_shape kind ints s t hs ht = same_value {Fault = GeometryFault} s t (sym (shape_again kind ints s hs) ∙ shape_again kind ints t ht)
 
-lines_whole : (closed : Bool) (from : Pt) (ls : List (List Pt)) → CanSpellLines closed from ls → AllByRecursion (AllByRecursion FitsPt) ls → AllByRecursion (IsLine closed) ls
+lines_whole : (closed : Bool) (from : Pt) (ls : List (List Pt)) → CanSpellLines closed from ls → AllByRecursion (AllByRecursion FitsPt) ls
+    → AllByRecursion (IsLine closed) ls
 lines_whole closed from [] can fits = tt
 lines_whole closed from (l ∷ ls) can fits = (record { long = can.0.long; fits = fits.0 }, lines_whole closed (last_of from l) ls can.1 fits.1)
 

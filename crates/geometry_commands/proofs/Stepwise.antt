@@ -6,7 +6,8 @@ use Rattle.geometry_commands.specs.declared.decoding.GeometryFault.{GeometryFaul
 use Rattle.geometry_commands.specs.Ways.{unzigzagged, led_to, fits_axis, fits, along_at, moved_at}
 use Rattle.geometry_commands.specs.Decoding.{step_at, walk_step}
 
-pub moved_is : (from : Pt) (dx dy : ℕ) (x y : ℤ) → Some x ≡ along_at from.x dx → Some y ≡ along_at from.y dy → Some (record { x = x; y = y }) ≡ moved_at from dx dy
+pub moved_is : (from : Pt) (dx dy : ℕ) (x y : ℤ) → Some x ≡ along_at from.x dx → Some y ≡ along_at from.y dy
+    → Some (record { x = x; y = y }) ≡ moved_at from dx dy
 unfolding led_to fits
 moved_is from dx dy x y ex ey =
     let px = take_out (fits_axis (from.x +ℤ unzigzagged dx)) (from.x +ℤ unzigzagged dx) x ex in

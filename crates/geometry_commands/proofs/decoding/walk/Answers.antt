@@ -17,7 +17,7 @@ loop-i-preserved c =
     let stepped = walk_step_on c.loop-i.points.items c.loop-i.at c.in_ok-to.to c.loop-i.rest.now c.in_ok-to.after.now c.in_ok-to.ensures.exact in
     record {
       spelled = rw c.in_ok-push.ensures.items (repeated_on walk_step c.args.count c.loop-i.i (c.loop-i.points.items, c.loop-i.at, c.loop-i.rest.now) _ _
-      c.loop-i-test.true c.loop-i.invariant.spelled stepped);
+          c.loop-i-test.true c.loop-i.invariant.spelled stepped);
       long = search rules;
       room = search rules;
       left = search rules;
