@@ -73,7 +73,7 @@ close_err true ints d e = elim (then_err (command_at 7 ints) _ d e) [
     go c is false t h = (sym (same_fault {A = List ℕ} faults.Count d h), (c.0, c.1, is, eqb-false c.0 1 t))
 
 pub line_has : (closed : Bool) (from : Pt) (ints : List ℕ) (d : GeometryFault) → line_at closed from ints ≡ Err d → LineHas closed from ints d
-unfolding line_at line_first line_second line_others line_end
+unfolding line_at line_second line_others
 line_has closed from ints d e = elim (then_err (command_at 1 ints) (line_first closed from) d e) [
   | inl bad ↦ at_move (command_has 1 ints d bad)
   | inr m ↦ one m.0 (command_found 1 ints m.0 m.1) (eqb m.0.0 1) refl m.2

@@ -211,7 +211,7 @@ line_parts closed from first to ints m f c a rest (p ∷ []) qs l n e1 one e2 e3
     })
 
 pub line_found : (closed : Bool) (from : Pt) (ints : List ℕ) (w : Walk) → line_at closed from ints ≡ Ok w → LineRead closed from ints w
-unfolding line_at line_first line_second line_others line_end
+unfolding line_at line_second line_others
 line_found closed from ints w e =
     let m = then_ok (command_at 1 ints) (line_first closed from) w e in
     let one = pass_ok (eqb m.0.0 1) Count (walk_at 1 [] from m.0.1 >>= line_second closed) w m.2 in
@@ -240,7 +240,7 @@ line_regrouped closed from p ps rest =
 
 pub line_again : (closed : Bool) (from : Pt) (l : List Pt) (rest : List ℕ) → IsLine closed l
     → line_at closed from (line_spelled closed from l ++ rest) ≡ Ok (l, last_of from l, rest)
-unfolding line_at line_first line_second line_others line_end
+unfolding line_at line_second line_others
 line_again closed from [] rest h = absurd (omega (arith, h.long))
 line_again closed from (p ∷ ps) rest h =
     let end : List ℕ = close_spelled closed ++ rest in

@@ -43,7 +43,7 @@ close_at false ints = Ok ints
 abbrev pub line_made : Walk → List ℕ → Read GeometryFault Walk
 line_made all rest = Ok (all.0, all.1, rest)
 
-unfoldable pub line_end : Bool → Walk → Read GeometryFault Walk
+abbrev pub line_end : Bool → Walk → Read GeometryFault Walk
 line_end closed all = close_at closed all.2 >>= line_made all
 
 -- behind the first point and a count
@@ -55,7 +55,7 @@ unfoldable pub line_second : Bool → Walk → Read GeometryFault Walk
 line_second closed first = command_at line_to first.2 >>= line_others closed first
 
 -- behind a command to move so many times
-unfoldable pub line_first : Bool → Pt → ℕ × List ℕ → Read GeometryFault Walk
+abbrev pub line_first : Bool → Pt → ℕ × List ℕ → Read GeometryFault Walk
 line_first closed from m = if m.0 == 1 then (walk_at 1 [] from m.1 >>= line_second closed) else Err Count
 
 unfoldable pub line_at : Bool → Pt → List ℕ → Read GeometryFault Walk

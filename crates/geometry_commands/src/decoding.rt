@@ -145,7 +145,7 @@ fn close_of(closed: bool, ints: &[u32]) -> Result<&[u32], GeometryFault>
 }
 
 /// What stands behind the command to move to the first point of a line, which is done once.
-#[tactic(auto, unfolding(crate::specs::Decoding::line_at, crate::specs::Decoding::line_first))]
+#[tactic(auto, unfolding(crate::specs::Decoding::line_at))]
 fn start_of(ints: &[u32]) -> Result<&[u32], GeometryFault>
     ensures found { IfOk result (λ rest. command_at move_to ints.now ≡ Ok (1, rest.now)) }
     ensures behind { IfOk result (λ rest. length rest.now + 1 ≡ length ints.now) }
@@ -175,7 +175,7 @@ fn count_of(closed: bool, ints: &[u32]) -> Result<(u32, &[u32]), GeometryFault>
 }
 
 /// A line, or a ring, which is closed.
-#[tactic(auto, unfolding(crate::specs::Decoding::line_at, crate::specs::Decoding::line_first, crate::specs::Decoding::line_second, crate::specs::Decoding::line_others, crate::specs::Decoding::line_end))]
+#[tactic(auto, unfolding(crate::specs::Decoding::line_at, crate::specs::Decoding::line_second, crate::specs::Decoding::line_others))]
 fn line_of(
     alloc: Global,
     closed: bool,

@@ -1,5 +1,6 @@
 -- Going over lists, state by state.
-use Rattle.std.proofs.Common.{◌≡◌, ℕ, zero, suc, ◌+◌, ◌<◌, ◌≤◌, List, [], ◌∷◌, ◌++◌, length, map, drop, get_or, add-one, Result, Ok, Err, refl, sym, ap, ◌∙◌, arith}
+use Rattle.std.proofs.Common.{◌≡◌, ℕ, zero, suc, ◌+◌, ◌<◌, ◌≤◌, List, [], ◌∷◌, ◌++◌, length, map, drop, get_or, add-one, Result, Ok, Err, refl, sym, ap, ◌∙◌}
+use Rattle.std.proofs.Common.{arith}
 use Rattle.std.proofs.lemmas.List.{length-drop, drop_all, map-append}
 use Rattle.std.proofs.Math.Seq.{drop-cons}
 use Rattle.std.specs.Borrow.{Bor}
@@ -35,41 +36,49 @@ packed_same (suc m) zero before [] hm hn = refl
 packed_same (suc m) zero before (b ∷ bs) hm hn = absurd (omega arith)
 packed_same (suc m) (suc n) before [] hm hn = refl
 packed_same (suc m) (suc n) before (b ∷ bs) hm hn =
-    packed_alike (varint_at (b ∷ bs)) (λ r. number_more before r.0 >>= λ ns. packed_in m ns (drop r.1 (b ∷ bs))) (λ r. number_more before r.0 >>= λ ns. packed_in n ns (drop r.1 (b ∷ bs)))
+    packed_alike (varint_at (b ∷ bs)) (λ r. number_more before r.0 >>= λ ns. packed_in m ns (drop r.1 (b ∷ bs)))
+    (λ r. number_more before r.0 >>= λ ns. packed_in n ns (drop r.1 (b ∷ bs)))
     (λ r e. let len : 0 < r.1 = varint_len (b ∷ bs) r e in
     let short : length (drop r.1 (b ∷ bs)) ≤ length bs = omega (arith, length-drop r.1 (b ∷ bs)) in
-    then_same (number_more before r.0) (λ ns. packed_in m ns (drop r.1 (b ∷ bs))) (λ ns. packed_in n ns (drop r.1 (b ∷ bs))) (λ ns _. packed_same m n ns (drop r.1 (b ∷ bs)) (omega arith) (omega arith)))
+    then_same (number_more before r.0) (λ ns. packed_in m ns (drop r.1 (b ∷ bs))) (λ ns. packed_in n ns (drop r.1 (b ∷ bs)))
+    (λ ns _. packed_same m n ns (drop r.1 (b ∷ bs)) (omega arith) (omega arith)))
   where
     packed_alike : (r : Result (ℕ × ℕ) FaultKind) (f g : ℕ × ℕ → Read TileFault (List ℕ)) → ((x : ℕ × ℕ) → r ≡ Ok x → f x ≡ g x)
         → packed_then f r ≡ packed_then g r
     packed_alike (Ok x) f g same = same x refl
     packed_alike (Err d) f g same = refl
 
-pub packed_first : (before bytes : List ℕ) (n len : ℕ) → 0 < length bytes → varint_at bytes ≡ Ok (n, len) → packed_in (length bytes) before bytes ≡ (number_more before n >>= λ ns. packed_in (length (drop len bytes)) ns (drop len bytes))
+pub packed_first : (before bytes : List ℕ) (n len : ℕ) → 0 < length bytes → varint_at bytes ≡ Ok (n, len)
+    → packed_in (length bytes) before bytes ≡ (number_more before n >>= λ ns. packed_in (length (drop len bytes)) ns (drop len bytes))
 unfolding packed_in
 packed_first before [] n len some e = absurd (omega arith)
 packed_first before (b ∷ bs) n len some e =
     let long : 0 < len = varint_len (b ∷ bs) (n, len) e in
     let short : length (drop len (b ∷ bs)) ≤ length bs = omega (arith, length-drop len (b ∷ bs)) in
     rw e (then_same (number_more before n) (λ ns. packed_in (length bs) ns (drop len (b ∷ bs)))
-    (λ ns. packed_in (length (drop len (b ∷ bs))) ns (drop len (b ∷ bs))) (λ ns _. packed_same (length bs) (length (drop len (b ∷ bs))) ns (drop len (b ∷ bs)) short (omega arith)))
+    (λ ns. packed_in (length (drop len (b ∷ bs))) ns (drop len (b ∷ bs)))
+    (λ ns _. packed_same (length bs) (length (drop len (b ∷ bs))) ns (drop len (b ∷ bs)) short (omega arith)))
 
-pub packed_on : (before next bytes : List ℕ) (n len : ℕ) (whole : Read TileFault (List ℕ)) → 0 < length bytes → Ok (n, len) ≡ placed 0 (varint_at bytes) → number_more before n ≡ Ok next → packed_in (length bytes) before bytes ≡ whole → packed_in (length (drop len bytes)) next (drop len bytes) ≡ whole
+pub packed_on : (before next bytes : List ℕ) (n len : ℕ) (whole : Read TileFault (List ℕ)) → 0 < length bytes → Ok (n, len) ≡ placed 0 (varint_at bytes)
+    → number_more before n ≡ Ok next → packed_in (length bytes) before bytes ≡ whole → packed_in (length (drop len bytes)) next (drop len bytes) ≡ whole
 packed_on before next bytes n len whole some e more so_far =
     let one = packed_first before bytes n len some (placed_ok (varint_at bytes) (n, len) e) in
     sym (one ∙ then_on (number_more before n) (λ ns. packed_in (length (drop len bytes)) ns (drop len bytes)) next more) ∙ so_far
 
-pub packed_range : (before bytes : List ℕ) (n len : ℕ) (whole : Read TileFault (List ℕ)) → 0 < length bytes → Ok (n, len) ≡ placed 0 (varint_at bytes) → packed_in (length bytes) before bytes ≡ whole → (d : TileFault) → number_more before n ≡ Err d → whole ≡ Err d
+pub packed_range : (before bytes : List ℕ) (n len : ℕ) (whole : Read TileFault (List ℕ)) → 0 < length bytes → Ok (n, len) ≡ placed 0 (varint_at bytes)
+    → packed_in (length bytes) before bytes ≡ whole → (d : TileFault) → number_more before n ≡ Err d → whole ≡ Err d
 packed_range before bytes n len whole some e so_far d more =
     let one = packed_first before bytes n len some (placed_ok (varint_at bytes) (n, len) e) in
     sym so_far ∙ (one ∙ then_stop (number_more before n) (λ ns. packed_in (length (drop len bytes)) ns (drop len bytes)) d more)
 
-pub packed_wire : (before bytes : List ℕ) (w : WireFault) (whole : Read TileFault (List ℕ)) → 0 < length bytes → Err w ≡ placed 0 (varint_at bytes) → packed_in (length bytes) before bytes ≡ whole → whole ≡ Err faults.Wire
+pub packed_wire : (before bytes : List ℕ) (w : WireFault) (whole : Read TileFault (List ℕ)) → 0 < length bytes → Err w ≡ placed 0 (varint_at bytes)
+    → packed_in (length bytes) before bytes ≡ whole → whole ≡ Err faults.Wire
 unfolding packed_in
 packed_wire before [] w whole some e so_far = absurd (omega arith)
 packed_wire before (b ∷ bs) w whole some e so_far = let k = placed_err (varint_at (b ∷ bs)) w e in sym so_far ∙ rw (k.1) refl
 
-pub packed_done : (before bytes : List ℕ) (whole : Read TileFault (List ℕ)) → length bytes ≤ 0 → packed_in (length bytes) before bytes ≡ whole → whole ≡ Ok before
+pub packed_done : (before bytes : List ℕ) (whole : Read TileFault (List ℕ)) → length bytes ≤ 0 → packed_in (length bytes) before bytes ≡ whole
+    → whole ≡ Ok before
 unfolding packed_in
 packed_done before [] whole none so_far = sym so_far
 packed_done before (b ∷ bs) whole none so_far = absurd (omega arith)

@@ -1,5 +1,6 @@
 -- A pass over a message says what the values of its fields say, both ways.
-use Rattle.std.proofs.Common.{◌≡◌, ℕ, zero, suc, ◌<◌, ◌≤◌, Bool, true, false, cond, eqb, ltb, List, [], ◌∷◌, ◌++◌, length, take, drop, map, Option, Some, Result, Ok, Err, refl, sym, ap, subst, ◌∙◌, append_assoc, arith}
+use Rattle.std.proofs.Common.{◌≡◌, ℕ, zero, suc, ◌<◌, ◌≤◌, Bool, true, false, cond, eqb, ltb, List, [], ◌∷◌, ◌++◌, length, take, drop, map, Option, Some}
+use Rattle.std.proofs.Common.{Result, Ok, Err, refl, sym, ap, subst, ◌∙◌, append_assoc, arith}
 use Rattle.std.proofs.lemmas.Bool.{ltb-false, le-ltb}
 use Rattle.std.proofs.lemmas.List.{append-nil, length-append, length-drop, take-append-drop, drop_at}
 use Rattle.reader.specs.Reading.{Read, ◌>>=◌, folded}
@@ -26,7 +27,8 @@ module _ {S : Type 0} (step : S → Item → Read TileFault S) (broken : (s : S)
   pub whole_of : (items : List Item) (s last : S) → folded step s items ≡ Ok last → (fields : List Entry) × (items ≡ fine fields)
   unfolding folded
   whole_of [] s last e = ([], refl)
-  whole_of (Err w ∷ is) s last e = absurd (not_both last faults.Wire (sym e ∙ then_stop (step s (Err w)) (λ next. folded step next is) faults.Wire (broken s w)))
+  whole_of (Err w ∷ is) s last e =
+      absurd (not_both last faults.Wire (sym e ∙ then_stop (step s (Err w)) (λ next. folded step next is) faults.Wire (broken s w)))
   whole_of (Ok f ∷ is) s last e =
       let one = then_ok (step s (Ok f)) (λ next. folded step next is) last e in
       let more = whole_of is one.0 last one.2 in
@@ -38,11 +40,15 @@ module _ {S : Type 0} (number : ℕ) (step : S → Value → Read TileFault S) w
   passes [] s = refl
   passes (f ∷ fs) s = go (passes fs) (eqb f.number number)
     where
-      go : ((s : S) → folded (after number step) s (fine fs) ≡ folded step s (values_of number fs)) → (b : Bool) → (cond b (step s f.value) (Ok s) >>= λ next. folded (after number step) next (fine fs)) ≡ folded step s (cond b (f.value ∷ values_of number fs) (values_of number fs))
-      go more true = then_same (step s f.value) (λ next. folded (after number step) next (fine fs)) (λ next. folded step next (values_of number fs)) (λ s _. more s)
+      go : ((s : S) → folded (after number step) s (fine fs) ≡ folded step s (values_of number fs)) → (b : Bool)
+          → (cond b (step s f.value) (Ok s) >>= λ next. folded (after number step) next (fine fs))
+          ≡ folded step s (cond b (f.value ∷ values_of number fs) (values_of number fs))
+      go more true =
+          then_same (step s f.value) (λ next. folded (after number step) next (fine fs)) (λ next. folded step next (values_of number fs)) (λ s _. more s)
       go more false = more s
 
-  pub pass_at : (bytes : List ℕ) (fields : List Entry) (s : S) → items_of bytes ≡ fine fields → pass number step s bytes ≡ folded step s (values_of number fields)
+  pub pass_at : (bytes : List ℕ) (fields : List Entry) (s : S) → items_of bytes ≡ fine fields
+      → pass number step s bytes ≡ folded step s (values_of number fields)
   pass_at bytes fields s e = ap (folded (after number step) s) e ∙ passes fields s
 
 -- ---- what the values say
@@ -79,7 +85,8 @@ bytes_reads (eight_bytes _ ∷ vs) before last h = absurd h
 bytes_reads (varint_value _ ∷ vs) before last h = absurd h
 bytes_reads (four_bytes _ ∷ vs) before last h = absurd h
 
-pub parts_say : (vs : List Value) (before all : List (List ℕ)) → folded parts_after before vs ≡ Ok all → (parts : List (List ℕ)) × (all ≡ before ++ parts) × AreParts vs parts
+pub parts_say : (vs : List Value) (before all : List (List ℕ)) → folded parts_after before vs ≡ Ok all
+    → (parts : List (List ℕ)) × (all ≡ before ++ parts) × AreParts vs parts
 unfolding folded
 parts_say [] before all e = ([], sym (same_value {Fault = TileFault} before all e) ∙ sym (append-nil before), refl)
 parts_say (some_bytes p ∷ vs) before all e =
@@ -102,11 +109,13 @@ more_says before ns n e =
 more_reads : (before : List ℕ) (n : ℕ) → n < 4294967296 → number_more before n ≡ Ok (before ++ n ∷ [])
 more_reads before n lt = let t : ltb 4294967295 n ≡ false = le-ltb 4294967295 n (omega arith) in rw t refl
 
-number_ok : (next : ℕ × ℕ → Read TileFault (List ℕ)) (r : Result (ℕ × ℕ) FaultKind) (y : List ℕ) → packed_then next r ≡ Ok y → (x : ℕ × ℕ) × (r ≡ Ok x) × (next x ≡ Ok y)
+number_ok : (next : ℕ × ℕ → Read TileFault (List ℕ)) (r : Result (ℕ × ℕ) FaultKind) (y : List ℕ) → packed_then next r ≡ Ok y
+    → (x : ℕ × ℕ) × (r ≡ Ok x) × (next x ≡ Ok y)
 number_ok next (Ok x) y e = (x, refl, e)
 number_ok next (Err kind) y e = absurd cc
 
-pub packed_says : (n : ℕ) (before bytes all : List ℕ) → length bytes ≤ n → packed_in n before bytes ≡ Ok all → (ns : List ℕ) × (all ≡ before ++ ns) × ArePacked bytes ns
+pub packed_says : (n : ℕ) (before bytes all : List ℕ) → length bytes ≤ n → packed_in n before bytes ≡ Ok all
+    → (ns : List ℕ) × (all ≡ before ++ ns) × ArePacked bytes ns
 unfolding packed_in
 packed_says zero before [] all le e = ([], sym (same_value {Fault = TileFault} before all e) ∙ sym (append-nil before), refl)
 packed_says zero before (b ∷ bs) all le e = absurd (omega arith)
@@ -134,7 +143,9 @@ packed_reads (n ∷ ns) before bytes (first, rest, parts, spelled, lt, others) =
     let one = packed_first before (first ++ rest) n (length first) some found in
     let F : List ℕ → Type 0 = λ k. (number_more before n >>= λ q. packed_in (length k) q k) ≡ Ok (before ++ n ∷ ns) in
     let more = packed_reads ns (before ++ n ∷ []) rest others in
-    ap (λ (k : List ℕ). packed_in (length k) before k) parts ∙ (one ∙ subst F (sym behind) (then_is (number_more before n) (λ q. packed_in (length rest) q rest) (before ++ n ∷ []) (Ok (before ++ n ∷ ns)) (more_reads before n lt) (more ∙ ap (done {Fault = TileFault}) (append_assoc before (n ∷ []) ns))))
+    ap (λ (k : List ℕ). packed_in (length k) before k) parts
+    ∙ (one ∙ subst F (sym behind) (then_is (number_more before n) (λ q. packed_in (length rest) q rest) (before ++ n ∷ []) (Ok (before ++ n ∷ ns))
+    (more_reads before n lt) (more ∙ ap (done {Fault = TileFault}) (append_assoc before (n ∷ []) ns))))
 
 pub numbers_say : (vs : List Value) (before all : List ℕ) → folded numbers_after before vs ≡ Ok all → (ns : List ℕ) × (all ≡ before ++ ns) × AreNumbers vs ns
 unfolding folded
@@ -157,9 +168,12 @@ unfolding folded
 numbers_read [] before ns h = ap (done {Fault = TileFault}) (sym (append-nil before) ∙ ap (λ (k : List ℕ). before ++ k) (sym h))
 numbers_read (varint_value n ∷ vs) before ns (rest, is, lt, others) =
     let more = numbers_read vs (before ++ n ∷ []) rest others in
-    then_is (number_more before n) (λ next. folded numbers_after next vs) (before ++ n ∷ []) (Ok (before ++ ns)) (more_reads before n lt) (more ∙ ap (done {Fault = TileFault}) (append_assoc before (n ∷ []) rest ∙ ap (λ (k : List ℕ). before ++ k) (sym is)))
+    then_is (number_more before n) (λ next. folded numbers_after next vs) (before ++ n ∷ []) (Ok (before ++ ns)) (more_reads before n lt)
+    (more ∙ ap (done {Fault = TileFault}) (append_assoc before (n ∷ []) rest ∙ ap (λ (k : List ℕ). before ++ k) (sym is)))
 numbers_read (some_bytes part ∷ vs) before ns (front, rest, is, packed, others) =
     let more = numbers_read vs (before ++ front) rest others in
-    then_is (packed_in (length part) before part) (λ next. folded numbers_after next vs) (before ++ front) (Ok (before ++ ns)) (packed_reads front before part packed) (more ∙ ap (done {Fault = TileFault}) (append_assoc before front rest ∙ ap (λ (k : List ℕ). before ++ k) (sym is)))
+    then_is (packed_in (length part) before part) (λ next. folded numbers_after next vs) (before ++ front) (Ok (before ++ ns))
+    (packed_reads front before part packed) (more
+    ∙ ap (done {Fault = TileFault}) (append_assoc before front rest ∙ ap (λ (k : List ℕ). before ++ k) (sym is)))
 numbers_read (eight_bytes _ ∷ vs) before ns h = absurd h
 numbers_read (four_bytes _ ∷ vs) before ns h = absurd h

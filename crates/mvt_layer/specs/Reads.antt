@@ -71,7 +71,9 @@ pub record SaysValue (bytes : List ℕ) (v : TagView) : Type 0 where
 abbrev pub AreTags : List (List ℕ) → List TagView → List ℕ → List ℕ → List Tagged → Type 0
 AreTags keys values used [] tags = tags ≡ []
 AreTags keys values used (k ∷ []) tags = ⊥
-AreTags keys values used (k ∷ v ∷ ns) tags = (t : Tagged) × (rest : List Tagged) × (tags ≡ t ∷ rest) × (has_number used k ≡ false) × (slice_get keys k ≡ Some t.0) × (slice_get values v ≡ Some t.1) × AreTags keys values (used ++ k ∷ []) ns rest
+AreTags keys values used (k ∷ v ∷ ns) tags =
+    (t : Tagged) × (rest : List Tagged) × (tags ≡ t ∷ rest) × (has_number used k ≡ false) × (slice_get keys k ≡ Some t.0) × (slice_get values v ≡ Some t.1)
+    × AreTags keys values (used ++ k ∷ []) ns rest
 
 -- with these pools, the bytes say a feature
 pub record SaysFeature (keys : List (List ℕ)) (values : List TagView) (bytes : List ℕ) (f : FeatureView) : Type 0 where

@@ -6,7 +6,8 @@ ghost use Rattle.mvt_layer.specs.Faulty.{TileHas};
 ghost use Rattle.mvt_layer.specs.Reads.{ReadsAs};
 ghost use Rattle.std.specs.Option.{option_map};
 ghost use Rattle.mvt_layer.specs.Tile.{bytes_of, tag_view, tag_views, feature_view, layer_view, layer_views, LayerView};
-ghost use Rattle.mvt_layer.specs.Reading.{text_at, tag_value_at, feature_at, each_in, name_at, small_at, version_at, extent_at, layer_at, layer_more, layers_in, tile_at};
+ghost use Rattle.mvt_layer.specs.Reading.{text_at, tag_value_at, feature_at, each_in, name_at, small_at, version_at, extent_at, layer_at, layer_more};
+ghost use Rattle.mvt_layer.specs.Reading.{layers_in, tile_at};
 
 use crate::fault::TileFault;
 use crate::features::feature_of;
@@ -70,7 +71,8 @@ fn features_of<'a>(
     values: &[TagValue<'a>],
     raw: &[&'a [u8]],
 ) -> Result<Vec<TileFeature<'a>>, TileFault>
-    ensures { Gives TileFault.Memory (λ v. map feature_view v.items) result (each_in (feature_at (bytes_of keys.entry.now) (tag_views values.entry.now)) (bytes_of raw.entry.now)) }
+    ensures { Gives TileFault.Memory (λ v. map feature_view v.items) result
+        (each_in (feature_at (bytes_of keys.entry.now) (tag_views values.entry.now)) (bytes_of raw.entry.now)) }
 {
     let mut features = Vec::new(alloc);
     for part in raw {

@@ -5,7 +5,8 @@ ghost use Rattle.reader.specs.Reading.{Reads, Finds, Gives};
 ghost use Rattle.std.specs.Option.{option_map};
 ghost use Rattle.pb_wire.specs.Items.{item_view};
 ghost use Rattle.mvt_layer.specs.Tile.{bytes_of};
-ghost use Rattle.mvt_layer.specs.Reading.{after, number_after, bytes_after, parts_after, numbers_after, number_more, packed_in, last_number_in, last_bytes_in, parts_in, numbers_in};
+ghost use Rattle.mvt_layer.specs.Reading.{after, number_after, bytes_after, parts_after, numbers_after, number_more, packed_in, last_number_in, last_bytes_in};
+ghost use Rattle.mvt_layer.specs.Reading.{parts_in, numbers_in};
 
 use crate::fault::TileFault;
 use pb_wire::{Field, FieldValue, Fields, WireFault, get_varint};

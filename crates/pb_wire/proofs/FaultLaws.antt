@@ -1,5 +1,6 @@
 -- The fault that is met is the one that the bytes have.
-use Rattle.std.proofs.Common.{◌≡◌, ℕ, zero, suc, ◌+◌, ◌*◌, ◌/◌, ◌%◌, ◌<◌, ◌≤◌, Bool, true, false, cond, eqb, ltb, List, [], ◌∷◌, ◌++◌, length, take, drop, map, ne_eqb, Result, Ok, Err, refl, sym, ap, subst, ◌∙◌, append_assoc, arith, ◌⊎◌, inl, inr}
+use Rattle.std.proofs.Common.{◌≡◌, ℕ, zero, suc, ◌+◌, ◌*◌, ◌/◌, ◌%◌, ◌<◌, ◌≤◌, Bool, true, false, cond, eqb, ltb, List, [], ◌∷◌, ◌++◌, length, take, drop, map}
+use Rattle.std.proofs.Common.{ne_eqb, Result, Ok, Err, refl, sym, ap, subst, ◌∙◌, append_assoc, arith, ◌⊎◌, inl, inr}
 use Rattle.std.specs.Prelude.{◌||◌}
 use Rattle.std.proofs.lemmas.List.{length-drop, length-take, length-append, take-append-drop, drop_at}
 use Rattle.std.proofs.lemmas.Bool.{ltb-false, ltb-true, lt-ltb, le-ltb, eqb-true, eqb-false}
@@ -11,7 +12,8 @@ use Rattle.pb_wire.specs.declared.fault.FaultKind.TheVariants.{Cut, Varint, Numb
 use Rattle.pb_wire.specs.Varint.{IsVarint, IsCut, IsOverlong, behind, read_in, varint_at}
 use Rattle.pb_wire.specs.Message.{Value, varint_value, eight_bytes, some_bytes, four_bytes, Entry, IsField, IsMessage, front_at, value_at, field_at}
 use Rattle.pb_wire.specs.Items.{Item, item_then, items_in, items_of}
-use Rattle.pb_wire.specs.Faulty.{IsFieldNumber, ValueHas, FieldHas, IsFaulty, no_type, number_cut, number_overlong, eight_cut, bytes_cut, four_cut, key_cut, key_overlong, no_number, at_value}
+use Rattle.pb_wire.specs.Faulty.{IsFieldNumber, ValueHas, FieldHas, IsFaulty, no_type, number_cut, number_overlong, eight_cut, bytes_cut, four_cut, key_cut}
+use Rattle.pb_wire.specs.Faulty.{key_overlong, no_number, at_value}
 use Rattle.pb_wire.proofs.VarintLaws.{found_is, spelling_is_found, cut_is, is_cut, overlong_is, is_overlong}
 use Rattle.pb_wire.proofs.Message.{items_first, items_fault, field_len}
 use Rattle.pb_wire.proofs.MessageLaws.{chosen, or_false, field_takes, field_again, whole, item, same_first, items_message}
@@ -114,7 +116,8 @@ value_faults wire bytes d e =
           | inl h ↦ subst F (sym (eqb-true wire 2 h.0)) (at_bytes bytes d h.1)
           | inr h ↦ elim (chosen (eqb wire 5) _ _ _ h.1) [
             | inl f ↦ subst F (sym (eqb-true wire 5 f.0)) (at_four bytes d f.1)
-            | inr f ↦ no_type (sym (same_kind {A = Value × ℕ} WireType d f.1)) (eqb-false wire 0 a.0) (eqb-false wire 1 b.0) (eqb-false wire 2 h.0) (eqb-false wire 5 f.0)
+            | inr f ↦ no_type (sym (same_kind {A = Value × ℕ} WireType d f.1)) (eqb-false wire 0 a.0) (eqb-false wire 1 b.0) (eqb-false wire 2 h.0)
+                (eqb-false wire 5 f.0)
           ]
         ]
       ]
@@ -164,9 +167,11 @@ field_faults bytes d e =
       | inl h ↦ number_faults bytes d h key_cut key_overlong
       | inr h ↦ let p = number_parts bytes h.0 h.1 in
           elim (chosen ((eqb (h.0.0 / 8) 0) || ltb 536870911 (h.0.0 / 8)) _ _ _ h.2) [
-            | inl k ↦ no_number (sym (same_kind {A = Entry × ℕ} Number d k.1)) (take h.0.1 bytes) (drop h.0.1 bytes) h.0.0 p.0 p.1 (not_numbered (h.0.0 / 8) k.0)
+            | inl k ↦ no_number (sym (same_kind {A = Entry × ℕ} Number d k.1)) (take h.0.1 bytes) (drop h.0.1 bytes) h.0.0 p.0 p.1
+                (not_numbered (h.0.0 / 8) k.0)
             | inr k ↦ elim (then_err (value_at (h.0.0 % 8) (drop h.0.1 bytes)) (made_field h.0) d k.1) [
-              | inl v ↦ at_value (take h.0.1 bytes) (drop h.0.1 bytes) h.0.0 p.0 p.1 (is_numbered (h.0.0 / 8) k.0) (value_faults (h.0.0 % 8) (drop h.0.1 bytes) d v)
+              | inl v ↦ at_value (take h.0.1 bytes) (drop h.0.1 bytes) h.0.0 p.0 p.1 (is_numbered (h.0.0 / 8) k.0)
+                  (value_faults (h.0.0 % 8) (drop h.0.1 bytes) d v)
               | inr v ↦ absurd (not_both (record { number = h.0.0 / 8; value = v.0.0 }, h.0.1 + v.0.1) d v.2)
             ]
           ]
@@ -217,7 +222,8 @@ same_fault fault at e =
     let F : ℕ → List Item = λ n. ending (record { at = n; kind = fault.kind }) in
     ap F e
 
-faulty_items : (fields : List Entry) (start : ℕ) (bytes : List ℕ) (fault : WireFault) (front rest : List ℕ) → bytes ≡ front ++ rest → IsMessage front fields → 0 < length rest → fault.at ≡ start + length front → FieldHas rest fault.kind → items_in (length bytes) start bytes ≡ faulty fields fault
+faulty_items : (fields : List Entry) (start : ℕ) (bytes : List ℕ) (fault : WireFault) (front rest : List ℕ) → bytes ≡ front ++ rest → IsMessage front fields
+    → 0 < length rest → fault.at ≡ start + length front → FieldHas rest fault.kind → items_in (length bytes) start bytes ≡ faulty fields fault
 unfolding items_in
 faulty_items [] start bytes fault front rest parts message some place has =
     let none : length front ≡ 0 = ap length message in
@@ -232,11 +238,14 @@ faulty_items (f ∷ fs) start bytes fault front rest parts h some place has =
     let long : 0 < length bytes = omega (arith, field_len bytes (f, length first) read, (field_takes bytes (f, length first) read).0) in
     let left : behind_first ≡ drop (length first) bytes = sym (ap (drop (length first)) regrouped ∙ drop_at first behind_first (length first) refl) in
     let place_on : fault.at ≡ (start + length first) + length h.1 = omega (arith, place, ap length h.2, length-append first h.1) in
-    items_first bytes start f (length first) behind_first long read left ∙ ap (λ (r : List Item). item f ∷ r) (faulty_items fs (start + length first) behind_first fault h.1 rest refl h.4 some place_on has)
+    items_first bytes start f (length first) behind_first long read left
+    ∙ ap (λ (r : List Item). item f ∷ r) (faulty_items fs (start + length first) behind_first fault h.1 rest refl h.4 some place_on has)
 
 -- the items from this place on end with the fault behind these fields
 abbrev GoesOn : ℕ → Type 0
-GoesOn more = (start : ℕ) (bytes : List ℕ) (fields : List Entry) (fault : WireFault) → length bytes ≤ more → items_in more start bytes ≡ faulty fields fault → FaultyFrom start bytes fields fault
+GoesOn more =
+    (start : ℕ) (bytes : List ℕ) (fields : List Entry) (fault : WireFault) → length bytes ≤ more → items_in more start bytes ≡ faulty fields fault
+    → FaultyFrom start bytes fields fault
 
 none_left : (fields : List Entry) (fault : WireFault) → [] ≡ faulty fields fault → ⊥
 none_left [] fault e = cc
@@ -251,7 +260,9 @@ no_field w f others e = cc
 fault_there : (w fault : WireFault) → ending w ≡ ending fault → w ≡ fault
 fault_there w fault e = cc
 
-go_faulty : (more start : ℕ) (bytes : List ℕ) (fields : List Entry) (fault : WireFault) → 0 < length bytes → length bytes ≤ suc more → GoesOn more → (r : Result (Entry × ℕ) FaultKind) → field_at bytes ≡ r → item_then start (λ len. items_in more (start + len) (drop len bytes)) r ≡ faulty fields fault → FaultyFrom start bytes fields fault
+go_faulty : (more start : ℕ) (bytes : List ℕ) (fields : List Entry) (fault : WireFault) → 0 < length bytes → length bytes ≤ suc more → GoesOn more
+    → (r : Result (Entry × ℕ) FaultKind) → field_at bytes ≡ r → item_then start (λ len. items_in more (start + len) (drop len bytes)) r ≡ faulty fields fault
+    → FaultyFrom start bytes fields fault
 unfolding item_then
 go_faulty more start bytes [] fault some short next (Ok x) read e = absurd (no_fault x.0 (items_in more (start + x.1) (drop x.1 bytes)) fault e)
 go_faulty more start bytes (f ∷ fs) fault some short next (Ok x) read e =
@@ -285,21 +296,25 @@ go_faulty more start bytes [] fault some short next (Err kind) read e =
     }
 go_faulty more start bytes (f ∷ fs) fault some short next (Err kind) read e = absurd (no_field (record { at = start; kind = kind }) f (faulty fs fault) e)
 
-items_faulty : (more start : ℕ) (bytes : List ℕ) (fields : List Entry) (fault : WireFault) → length bytes ≤ more → items_in more start bytes ≡ faulty fields fault → FaultyFrom start bytes fields fault
+items_faulty : (more start : ℕ) (bytes : List ℕ) (fields : List Entry) (fault : WireFault) → length bytes ≤ more
+    → items_in more start bytes ≡ faulty fields fault → FaultyFrom start bytes fields fault
 unfolding items_in item_then
 items_faulty zero start [] fields fault short e = absurd (none_left fields fault e)
 items_faulty zero start (b ∷ bs) fields fault short e = absurd (omega arith)
 items_faulty (suc more) start [] fields fault short e = absurd (none_left fields fault e)
-items_faulty (suc more) start (b ∷ bs) fields fault short e = go_faulty more start (b ∷ bs) fields fault (omega arith) short (items_faulty more) (field_at (b ∷ bs)) refl e
+items_faulty (suc more) start (b ∷ bs) fields fault short e =
+    go_faulty more start (b ∷ bs) fields fault (omega arith) short (items_faulty more) (field_at (b ∷ bs)) refl e
 
 -- ---- the law's two clauses
 
-pub is_faulty : (bytes : List ℕ) (fields : List Entry) (fault : WireFault) → items_of bytes ≡ map (λ f. Ok f) fields ++ Err fault ∷ [] → IsFaulty bytes fields fault
+pub is_faulty : (bytes : List ℕ) (fields : List Entry) (fault : WireFault) → items_of bytes ≡ map (λ f. Ok f) fields ++ Err fault ∷ []
+    → IsFaulty bytes fields fault
 is_faulty bytes fields fault e =
     let h = items_faulty (length bytes) 0 bytes fields fault (omega arith) e in
     record { front = h.front; rest = h.rest; parts = h.parts; message = h.message; some = h.some; place = omega (arith, h.place); has = h.has }
 
-pub faulty_is : (bytes : List ℕ) (fields : List Entry) (fault : WireFault) → IsFaulty bytes fields fault → items_of bytes ≡ map (λ f. Ok f) fields ++ Err fault ∷ []
+pub faulty_is : (bytes : List ℕ) (fields : List Entry) (fault : WireFault) → IsFaulty bytes fields fault
+    → items_of bytes ≡ map (λ f. Ok f) fields ++ Err fault ∷ []
 faulty_is bytes fields fault h = faulty_items fields 0 bytes fault h.front h.rest h.parts h.message h.some (omega (arith, h.place)) h.has
 
 -- the items are fields, and then perhaps a fault
@@ -316,11 +331,13 @@ items_end zero start bytes = inl ([], refl)
 items_end (suc more) start [] = inl ([], refl)
 items_end (suc more) start (b ∷ bs) = go (λ x. items_end more (start + x.1) (drop x.1 (b ∷ bs))) (field_at (b ∷ bs))
   where
-    go : ((x : Entry × ℕ) → Ends (items_in more (start + x.1) (drop x.1 (b ∷ bs)))) → (r : Result (Entry × ℕ) FaultKind) → Ends (item_then start (λ len. items_in more (start + len) (drop len (b ∷ bs))) r)
+    go : ((x : Entry × ℕ) → Ends (items_in more (start + x.1) (drop x.1 (b ∷ bs)))) → (r : Result (Entry × ℕ) FaultKind)
+        → Ends (item_then start (λ len. items_in more (start + len) (drop len (b ∷ bs))) r)
     go next (Ok x) = one_more x.0 (items_in more (start + x.1) (drop x.1 (b ∷ bs))) (next x)
     go next (Err kind) = inr ([], record { at = start; kind = kind }, refl)
 
-pub one_or_other : (bytes : List ℕ) → ((fields : List Entry) × IsMessage bytes fields) ⊎ ((fields : List Entry) × (fault : WireFault) × IsFaulty bytes fields fault)
+pub one_or_other : (bytes : List ℕ) → ((fields : List Entry) × IsMessage bytes fields)
+    ⊎ ((fields : List Entry) × (fault : WireFault) × IsFaulty bytes fields fault)
 one_or_other bytes =
     elim (items_end (length bytes) 0 bytes) [
       | inl h ↦ inl (h.0, items_message (length bytes) 0 bytes h.0 (omega arith) h.1)

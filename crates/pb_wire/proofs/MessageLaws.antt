@@ -1,5 +1,6 @@
 -- What is read is spelled so, and what is spelled so is read.
-use Rattle.std.proofs.Common.{◌≡◌, ℕ, zero, suc, ◌+◌, ◌*◌, ◌/◌, ◌%◌, ◌<◌, ◌≤◌, Bool, true, false, cond, eqb, ltb, List, [], ◌∷◌, ◌++◌, length, take, drop, map, ne_eqb, Result, Ok, Err, refl, sym, ap, subst, ◌∙◌, append_assoc, arith, ◌⊎◌, inl, inr}
+use Rattle.std.proofs.Common.{◌≡◌, ℕ, zero, suc, ◌+◌, ◌*◌, ◌/◌, ◌%◌, ◌<◌, ◌≤◌, Bool, true, false, cond, eqb, ltb, List, [], ◌∷◌, ◌++◌, length, take, drop, map}
+use Rattle.std.proofs.Common.{ne_eqb, Result, Ok, Err, refl, sym, ap, subst, ◌∙◌, append_assoc, arith, ◌⊎◌, inl, inr}
 use Rattle.std.specs.Prelude.{◌||◌}
 use Rattle.std.proofs.lemmas.List.{length-drop, length-take, length-append, take-append-drop, take_at, drop_at}
 use Rattle.std.proofs.Math.Seq.{take-add}
@@ -10,7 +11,8 @@ use Rattle.pb_wire.specs.declared.fault.FaultKind.{FaultKind}
 use Rattle.pb_wire.specs.declared.fault.WireFault.{WireFault}
 use Rattle.pb_wire.specs.declared.fault.FaultKind.TheVariants.{Cut, Number, WireType}
 use Rattle.pb_wire.specs.Varint.{IsVarint, varint_at}
-use Rattle.pb_wire.specs.Message.{Value, varint_value, eight_bytes, some_bytes, four_bytes, Entry, wire_type, SpellsValue, IsField, IsMessage, front_at, value_at, field_at}
+use Rattle.pb_wire.specs.Message.{Value, varint_value, eight_bytes, some_bytes, four_bytes, Entry, wire_type, SpellsValue, IsField, IsMessage, front_at}
+use Rattle.pb_wire.specs.Message.{value_at, field_at}
 use Rattle.pb_wire.specs.Items.{Item, item_then, items_in}
 use Rattle.pb_wire.proofs.VarintLaws.{found_is, spelling_is_found}
 use Rattle.pb_wire.proofs.Message.{items_first, field_len}
@@ -54,7 +56,8 @@ four_takes bytes x e =
     let len : length part.0 ≡ 4 = rw (← h.1) (omega (arith, length-take 4 bytes, h.0)) in
     subst (TakesValue 5 bytes) (same_value {Fault = FaultKind} made x part.2) record { within = h.0; type_is = refl; spelled = (h.1, len) }
 
-some_takes : (bytes : List ℕ) (x : Value × ℕ) → (varint_at bytes >>= λ n. front_at n.0 (drop n.1 bytes) >>= λ part. Ok (some_bytes part, n.1 + n.0)) ≡ Ok x → TakesValue 2 bytes x
+some_takes : (bytes : List ℕ) (x : Value × ℕ) → (varint_at bytes >>= λ n. front_at n.0 (drop n.1 bytes) >>= λ part. Ok (some_bytes part, n.1 + n.0)) ≡ Ok x
+    → TakesValue 2 bytes x
 some_takes bytes x e =
     let n = then_ok (varint_at bytes) (λ n. front_at n.0 (drop n.1 bytes) >>= λ part. Ok (some_bytes part, n.1 + n.0)) x e in
     let h = found_is bytes n.0.0 n.0.1 n.1 in
@@ -65,7 +68,12 @@ some_takes bytes x e =
     subst (TakesValue 2 bytes) (same_value {Fault = FaultKind} made x part.2) record {
       within = omega (arith, length-drop n.0.1 bytes, p.0, h.0);
       type_is = refl;
-      spelled = (take n.0.1 bytes, subst (IsVarint (take n.0.1 bytes)) (sym len) h.1, take-add n.0.1 n.0.0 bytes ∙ ap (λ (r : List ℕ). take n.0.1 bytes ++ r) p.1);
+      spelled = (
+        take n.0.1 bytes,
+        subst (IsVarint (take n.0.1 bytes)) (sym len) h.1,
+        take-add n.0.1 n.0.0 bytes
+            ∙ ap (λ (r : List ℕ). take n.0.1 bytes ++ r) p.1,
+      );
     }
 
 pub value_takes : (wire : ℕ) (bytes : List ℕ) (x : Value × ℕ) → value_at wire bytes ≡ Ok x → TakesValue wire bytes x
@@ -92,12 +100,17 @@ or_false false b e = (refl, e)
 pub field_takes : (bytes : List ℕ) (x : Entry × ℕ) → field_at bytes ≡ Ok x → (x.1 ≤ length bytes) × IsField (take x.1 bytes) x.0
 unfolding field_at
 field_takes bytes x e =
-    let key = then_ok (varint_at bytes) (λ key. cond ((eqb (key.0 / 8) 0) || ltb 536870911 (key.0 / 8)) (Err Number) (value_at (key.0 % 8) (drop key.1 bytes) >>= λ value. Ok (record { number = key.0 / 8; value = value.0 }, key.1 + value.1))) x e in
-    let rest = guard_ok ((eqb (key.0.0 / 8) 0) || ltb 536870911 (key.0.0 / 8)) Number (value_at (key.0.0 % 8) (drop key.0.1 bytes) >>= λ value. Ok (record { number = key.0.0 / 8; value = value.0 }, key.0.1 + value.1)) x key.2 in
-    let value = then_ok (value_at (key.0.0 % 8) (drop key.0.1 bytes)) (λ value. Ok (record { number = key.0.0 / 8; value = value.0 }, key.0.1 + value.1)) x rest.1 in
-    field_made bytes x key.0.0 key.0.1 value.0 key.1 rest.0 value.1 (same_value {Fault = FaultKind} (record { number = key.0.0 / 8; value = value.0.0 }, key.0.1 + value.0.1) x value.2)
+    let key = then_ok (varint_at bytes) (λ key. cond ((eqb (key.0 / 8) 0) || ltb 536870911 (key.0 / 8)) (Err Number)
+    (value_at (key.0 % 8) (drop key.1 bytes) >>= λ value. Ok (record { number = key.0 / 8; value = value.0 }, key.1 + value.1))) x e in
+    let rest = guard_ok ((eqb (key.0.0 / 8) 0) || ltb 536870911 (key.0.0 / 8)) Number
+    (value_at (key.0.0 % 8) (drop key.0.1 bytes) >>= λ value. Ok (record { number = key.0.0 / 8; value = value.0 }, key.0.1 + value.1)) x key.2 in
+    let value = then_ok (value_at (key.0.0 % 8) (drop key.0.1 bytes)) (λ value. Ok (record { number = key.0.0 / 8; value = value.0 }, key.0.1 + value.1))
+    x rest.1 in
+    field_made bytes x key.0.0 key.0.1 value.0 key.1 rest.0 value.1
+    (same_value {Fault = FaultKind} (record { number = key.0.0 / 8; value = value.0.0 }, key.0.1 + value.0.1) x value.2)
   where
-    field_made : (bytes : List ℕ) (x : Entry × ℕ) (key len : ℕ) (value : Value × ℕ) → varint_at bytes ≡ Ok (key, len) → ((eqb (key / 8) 0) || ltb 536870911 (key / 8)) ≡ false → value_at (key % 8) (drop len bytes) ≡ Ok value
+    field_made : (bytes : List ℕ) (x : Entry × ℕ) (key len : ℕ) (value : Value × ℕ) → varint_at bytes ≡ Ok (key, len)
+        → ((eqb (key / 8) 0) || ltb 536870911 (key / 8)) ≡ false → value_at (key % 8) (drop len bytes) ≡ Ok value
         → (record { number = key / 8; value = value.0 }, len + value.1) ≡ x → (x.1 ≤ length bytes) × IsField (take x.1 bytes) x.0
     field_made bytes x key len value key_read number_read value_read is =
         let k = found_is bytes key len key_read in
@@ -181,7 +194,8 @@ fault_left : (w : WireFault) (fields : List Entry) → Err w ∷ [] ≡ whole fi
 fault_left w [] e = cc
 fault_left w (f ∷ fs) e = cc
 
-go_message : (more at : ℕ) (bytes : List ℕ) (fields : List Entry) → length bytes ≤ suc more → GoesOn more → (r : Result (Entry × ℕ) FaultKind) → field_at bytes ≡ r → item_then at (λ len. items_in more (at + len) (drop len bytes)) r ≡ whole fields → IsMessage bytes fields
+go_message : (more at : ℕ) (bytes : List ℕ) (fields : List Entry) → length bytes ≤ suc more → GoesOn more → (r : Result (Entry × ℕ) FaultKind)
+    → field_at bytes ≡ r → item_then at (λ len. items_in more (at + len) (drop len bytes)) r ≡ whole fields → IsMessage bytes fields
 unfolding item_then
 go_message more at bytes [] short next (Ok x) read e = absurd (some_left x.0 (items_in more (at + x.1) (drop x.1 bytes)) e)
 go_message more at bytes (f ∷ fs) short next (Ok x) read e =

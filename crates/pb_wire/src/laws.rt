@@ -21,6 +21,8 @@ pub fn message_law()
 /// Going over bytes gives fields and then a fault exactly where a message of these fields stands in front, and the
 /// field behind it has the fault; and no bytes are neither.
 pub fn fault_law()
-    ensures faulty { (bytes : List ℕ) (fields : List Entry) (fault : WireFault) → IsFaulty bytes fields fault ↔ (items_of bytes ≡ map (λ f. Ok f) fields ++ Err fault ∷ []) }
-    ensures either { (bytes : List ℕ) → ((fields : List Entry) × IsMessage bytes fields) ⊎ ((fields : List Entry) × (fault : WireFault) × IsFaulty bytes fields fault) }
+    ensures faulty { (bytes : List ℕ) (fields : List Entry) (fault : WireFault) → IsFaulty bytes fields fault
+        ↔ (items_of bytes ≡ map (λ f. Ok f) fields ++ Err fault ∷ []) }
+    ensures either { (bytes : List ℕ) → ((fields : List Entry) × IsMessage bytes fields)
+        ⊎ ((fields : List Entry) × (fault : WireFault) × IsFaulty bytes fields fault) }
 {}

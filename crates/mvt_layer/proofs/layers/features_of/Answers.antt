@@ -22,7 +22,8 @@ pub loop-part-preserved : goal.loop-part-preserved
 loop-part-preserved c =
     let keys = bytes_of c.args.keys.now in
     let values = tag_views c.args.values.now in
-    each_on feature_view (feature_at keys values) c.args.raw.now c.loop-part.part-index c.loop-part.features.items c.push.new.self.items c.in_ok-feature.feature _
+    each_on feature_view (feature_at keys values) c.args.raw.now c.loop-part.part-index c.loop-part.features.items c.push.new.self.items c.in_ok-feature.feature
+    _
     c.loop-part-test.true c.loop-part.invariant c.in_ok-feature.ensures c.in_ok-push.ensures.items
 
 pub returns : goal.returns
