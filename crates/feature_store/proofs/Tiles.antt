@@ -10,7 +10,7 @@ use Rattle.std.proofs.lemmas.Slice.Eq.{bytes_eq-Decides}
 use Rattle.feature_model.specs.Data.{FeatureData, TagData, ValueData, text_value, natural_value, negative_value, truth_value, put}
 use Rattle.feature_model.specs.Types.{IsEdit, ValueFitsTypes, TagFitsTypes}
 use Rattle.geometry_commands.specs.Encodable.{CanSpell, FitsShape}
-use Rattle.geometry_commands.proofs.SpelledLaws.{spelled_is}
+use Rattle.geometry_commands.proofs.Laws.{spelled_is}
 use Rattle.mvt_layer.specs.Tile.{FeatureView, LayerView}
 use Rattle.mvt_write.specs.CanWrite.{CanWriteFeature, CanWriteLayer, CanWriteAll}
 use Rattle.mvt_write.specs.Fits.{FitsValue, FitsTag, FitsFeature, FitsLayer}

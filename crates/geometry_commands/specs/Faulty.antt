@@ -1,4 +1,4 @@
--- The faults that integers have, each at its place.
+-- The faults that integers have, each where it stands.
 use Rattle.std.specs.Prelude.{◌≡◌, ℕ, ◌<◌, ◌%◌, Bool, true, false, List, [], ◌∷◌, ◌++◌, length}
 use Rattle.std.specs.List.{AllByRecursion}
 use Rattle.geometry_commands.specs.declared.point.Pt.{Pt}

@@ -16,7 +16,7 @@ use pb_wire::unzigzag;
 use std::alloc::{AllocError, AllocFailed, Global};
 use thiserror::Error;
 
-/// Why integers are no shape of a kind, or that memory ran out.
+/// Why integers are no shape of a kind, or that an allocation failed.
 #[derive(Clone, Copy, Debug, PartialEq, Eq, Error)]
 pub enum GeometryFault {
     /// Another command stands where one must, or something behind the points.
@@ -58,7 +58,7 @@ fn along(from: i64, way: u32) -> Option<i64>
     from.checked_add(unzigzag(u64::from(way)))
 }
 
-/// The place that two numbers lead to from another.
+/// The point that two numbers lead to from another.
 #[tactic(auto, unfolding(crate::specs::Ways::led_to, crate::specs::Ways::fits))]
 fn moved(from: Pt, dx: u32, dy: u32) -> Option<Pt>
     ensures { result ≡ moved_at from dx dy }
@@ -263,7 +263,7 @@ fn points_of(alloc: Global, ints: &[u32]) -> Result<Vec<Pt>, GeometryFault>
 pub fn decode(alloc: Global, kind: ShapeKind, ints: &[u32]) -> Result<Shape, GeometryFault>
     // What is found is spelled so.
     ensures found { IfOk result (λ s. IsShape kind ints.now (shape_view s)) }
-    // What is spelled so is found, unless memory runs out.
+    // What is spelled so is found, unless an allocation fails.
     ensures only { (s : ShapeView) → IsShape kind ints.now s → Gives GeometryFault.Memory shape_view result (Ok s) }
     // The fault is one that the integers have.
     ensures fault { IfErr result (λ d. d ≢ GeometryFault.Memory → ShapeHas kind ints.now d) }

@@ -10,7 +10,7 @@ use Rattle.reader.proofs.Steps.{done, same_value, then_on, then_stop, then_same,
 use Rattle.pb_wire.specs.declared.fault.FaultKind.{FaultKind}
 use Rattle.pb_wire.specs.declared.fault.WireFault.{WireFault}
 use Rattle.pb_wire.specs.Varint.{varint_at}
-use Rattle.pb_wire.specs.Fault.{placed}
+use Rattle.pb_wire.specs.Fault.{with_offset}
 use Rattle.pb_wire.proofs.Message.{varint_len}
 use Rattle.mvt_layer.specs.declared.fault.TileFault.{TileFault}
 use Rattle.mvt_layer.specs.declared.fault.TileFault.TheVariants as faults
@@ -18,13 +18,13 @@ use Rattle.mvt_layer.specs.Reading.{packed_then, packed_in, number_more, part_mo
 
 -- ---- packed numbers
 
-pub placed_ok : {X : Type 0} (r : Result X FaultKind) (x : X) → Ok x ≡ placed 0 r → r ≡ Ok x
-placed_ok (Ok y) x e = sym (ap (done {Fault = FaultKind}) (same_value {Fault = WireFault} x y e))
-placed_ok (Err kind) x e = absurd cc
+pub offset_ok : {X : Type 0} (r : Result X FaultKind) (x : X) → Ok x ≡ with_offset 0 r → r ≡ Ok x
+offset_ok (Ok y) x e = sym (ap (done {Fault = FaultKind}) (same_value {Fault = WireFault} x y e))
+offset_ok (Err kind) x e = absurd cc
 
-pub placed_err : {X : Type 0} (r : Result X FaultKind) (w : WireFault) → Err w ≡ placed 0 r → (kind : FaultKind) × (r ≡ Err kind)
-placed_err (Ok y) w e = absurd cc
-placed_err (Err kind) w e = (kind, refl)
+pub offset_err : {X : Type 0} (r : Result X FaultKind) (w : WireFault) → Err w ≡ with_offset 0 r → (kind : FaultKind) × (r ≡ Err kind)
+offset_err (Ok y) w e = absurd cc
+offset_err (Err kind) w e = (kind, refl)
 
 -- so many at most makes no difference where the bytes are no more
 pub packed_same : (m n : ℕ) (before bytes : List ℕ) → length bytes ≤ m → length bytes ≤ n → packed_in m before bytes ≡ packed_in n before bytes
@@ -59,23 +59,23 @@ packed_first before (b ∷ bs) n len some e =
     (λ ns. packed_in (length (drop len (b ∷ bs))) ns (drop len (b ∷ bs)))
     (λ ns _. packed_same (length bs) (length (drop len (b ∷ bs))) ns (drop len (b ∷ bs)) short (omega arith)))
 
-pub packed_on : (before next bytes : List ℕ) (n len : ℕ) (whole : Read TileFault (List ℕ)) → 0 < length bytes → Ok (n, len) ≡ placed 0 (varint_at bytes)
+pub packed_on : (before next bytes : List ℕ) (n len : ℕ) (whole : Read TileFault (List ℕ)) → 0 < length bytes → Ok (n, len) ≡ with_offset 0 (varint_at bytes)
     → number_more before n ≡ Ok next → packed_in (length bytes) before bytes ≡ whole → packed_in (length (drop len bytes)) next (drop len bytes) ≡ whole
 packed_on before next bytes n len whole some e more so_far =
-    let one = packed_first before bytes n len some (placed_ok (varint_at bytes) (n, len) e) in
+    let one = packed_first before bytes n len some (offset_ok (varint_at bytes) (n, len) e) in
     sym (one ∙ then_on (number_more before n) (λ ns. packed_in (length (drop len bytes)) ns (drop len bytes)) next more) ∙ so_far
 
-pub packed_range : (before bytes : List ℕ) (n len : ℕ) (whole : Read TileFault (List ℕ)) → 0 < length bytes → Ok (n, len) ≡ placed 0 (varint_at bytes)
+pub packed_range : (before bytes : List ℕ) (n len : ℕ) (whole : Read TileFault (List ℕ)) → 0 < length bytes → Ok (n, len) ≡ with_offset 0 (varint_at bytes)
     → packed_in (length bytes) before bytes ≡ whole → (d : TileFault) → number_more before n ≡ Err d → whole ≡ Err d
 packed_range before bytes n len whole some e so_far d more =
-    let one = packed_first before bytes n len some (placed_ok (varint_at bytes) (n, len) e) in
+    let one = packed_first before bytes n len some (offset_ok (varint_at bytes) (n, len) e) in
     sym so_far ∙ (one ∙ then_stop (number_more before n) (λ ns. packed_in (length (drop len bytes)) ns (drop len bytes)) d more)
 
-pub packed_wire : (before bytes : List ℕ) (w : WireFault) (whole : Read TileFault (List ℕ)) → 0 < length bytes → Err w ≡ placed 0 (varint_at bytes)
+pub packed_wire : (before bytes : List ℕ) (w : WireFault) (whole : Read TileFault (List ℕ)) → 0 < length bytes → Err w ≡ with_offset 0 (varint_at bytes)
     → packed_in (length bytes) before bytes ≡ whole → whole ≡ Err faults.Wire
 unfolding packed_in
 packed_wire before [] w whole some e so_far = absurd (omega arith)
-packed_wire before (b ∷ bs) w whole some e so_far = let k = placed_err (varint_at (b ∷ bs)) w e in sym so_far ∙ rw (k.1) refl
+packed_wire before (b ∷ bs) w whole some e so_far = let k = offset_err (varint_at (b ∷ bs)) w e in sym so_far ∙ rw (k.1) refl
 
 pub packed_done : (before bytes : List ℕ) (whole : Read TileFault (List ℕ)) → length bytes ≤ 0 → packed_in (length bytes) before bytes ≡ whole
     → whole ≡ Ok before

@@ -417,7 +417,3 @@ unfolding tile_at
 tile_reads bytes ls h =
     then_is (parts_in 3 bytes) _ h.parts (Ok ls) (parts_back 3 bytes h.fields h.parts (message_fields bytes h.fields h.message) h.parts_are)
     (layers_read h.parts [] ls h.layers h.named)
-
--- bytes read as at most one list of layers
-pub tile_once : (bytes : List ℕ) (a b : List LayerView) → ReadsAs bytes a → ReadsAs bytes b → a ≡ b
-tile_once bytes a b ha hb = same_value {Fault = TileFault} a b (sym (tile_reads bytes a ha) ∙ tile_reads bytes b hb)

@@ -34,7 +34,7 @@ LastBytes before (four_bytes _ ∷ vs) last = ⊥
 abbrev pub AreParts : List Value → List (List ℕ) → Type 0
 AreParts vs parts = vs ≡ map (λ p. some_bytes p) parts
 
--- what stands at each place belongs together
+-- what stands at each index belongs together
 abbrev pub Each : {X : Type 0} → (List ℕ → X → Type 0) → List (List ℕ) → List X → Type 0
 Each Says [] [] = Unit {0}
 Each Says (p ∷ ps) (x ∷ xs) = Says p x × Each Says ps xs

@@ -68,7 +68,7 @@ fn tags_of<'a>(
     Ok(tags)
 }
 
-/// The kind that a feature tells; unknown where it tells none, or one that the standard doesn't have.
+/// The kind of a feature; unknown where it has none, or one that the standard doesn't have.
 fn kind_said(kind: Option<u64>) -> ShapeKind
     ensures { result ≡ kind_of kind }
 {

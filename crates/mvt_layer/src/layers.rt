@@ -108,7 +108,7 @@ fn small(otherwise: u32, last: Option<u64>) -> Result<u32, TileFault>
     }
 }
 
-/// The layer's version, the default where it tells none.
+/// The layer's version, `DEFAULT_VERSION` where it tells none.
 #[tactic(auto, unfolding(crate::specs::Reading::version_at))]
 fn version_of(last: Option<u64>) -> Result<u32, TileFault>
     ensures { Reads (λ n. n) result (version_at last) }
@@ -121,7 +121,7 @@ fn version_of(last: Option<u64>) -> Result<u32, TileFault>
     }
 }
 
-/// The layer's extent, the default where it tells none.
+/// The layer's extent, `DEFAULT_EXTENT` where it tells none.
 #[tactic(auto, unfolding(crate::specs::Reading::extent_at))]
 fn extent_of(last: Option<u64>) -> Result<u32, TileFault>
     ensures { Reads (λ n. n) result (extent_at last) }
@@ -190,16 +190,16 @@ fn tile_of<'a>(alloc: Global, bytes: &'a [u8]) -> Result<Vec<Layer<'a>>, TileFau
 
 /// The layers of a tile (Mapbox Vector Tile 2.1, 4). Names, keys and texts are parts of the bytes.
 ///
-/// Versions 1 and 2 are read; a layer that tells none is of version 1, one that tells no extent has 4096. Fields that
+/// Versions 1 and 2 are read; a layer that has none is of version 1, one that has no extent has 4096. Fields that
 /// the standard doesn't have are skipped, the last of a field that is to come once counts, and numbers of tags and
 /// geometry may come packed or one by one. A feature of no kind, or of one that the standard doesn't have, keeps its
 /// integers as `Shape::Raw`.
 ///
-/// Where a tile has several faults, the one that is told is one that it has.
+/// Where a tile has several faults, the one that is returned is one that it has.
 pub fn read_tile<'a>(alloc: Global, bytes: &'a [u8]) -> Result<Vec<Layer<'a>>, TileFault>
     // What is read stands there.
     ensures found { IfOk result (λ v. ReadsAs bytes.entry.now (layer_views v.items)) }
-    // What stands there is read, unless memory runs out.
+    // What stands there is read, unless an allocation fails.
     ensures only { (ls : List LayerView) → ReadsAs bytes.entry.now ls → Gives TileFault.Memory (λ v. layer_views v.items) result (Ok ls) }
     // The fault is one that the bytes have.
     ensures fault { IfErr result (λ d. d ≢ TileFault.Memory → TileHas bytes.entry.now d) }

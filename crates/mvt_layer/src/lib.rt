@@ -3,7 +3,6 @@
 
 mod fault;
 mod features;
-mod laws;
 mod layers;
 mod named;
 mod passes;
@@ -11,7 +10,6 @@ mod tile;
 mod values;
 
 pub use fault::TileFault;
-pub use laws::one_reading_law;
 pub use layers::{CURRENT_VERSION, DEFAULT_EXTENT, DEFAULT_VERSION, read_tile};
 pub use tile::{Layer, TagValue, TileFeature};
 

@@ -8,7 +8,7 @@ ghost use Rattle.mvt_write.specs.Values.{value_view};
 
 use crate::field::put_bytes;
 use crate::value::PoolValue;
-use pb_wire::Memory;
+use std::alloc::AllocError as Memory;
 use std::alloc::Global;
 
 /// A key or a value of tags, as a layer holds it.

@@ -15,7 +15,7 @@ use crate::tag_pools::TagPools;
 use crate::tags::put_tags;
 use geometry_commands::{Shape, encode_lines, encode_points, encode_rings};
 use mvt_layer::TileFeature;
-use pb_wire::Memory;
+use std::alloc::AllocError as Memory;
 use std::alloc::Global;
 
 /// Appends the field of a feature's id, where it has one.

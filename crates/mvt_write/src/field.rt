@@ -5,7 +5,8 @@ ghost use Rattle.std.specs.List.{flat_map};
 ghost use Rattle.pb_wire.specs.Varint.{varint};
 ghost use Rattle.mvt_write.specs.Written.{number_field, bytes_field, packed_field};
 
-use pb_wire::{Memory, put_varint};
+use pb_wire::put_varint;
+use std::alloc::AllocError as Memory;
 use std::alloc::Global;
 
 /// Appends a field that is a number.

@@ -10,7 +10,7 @@ use crate::feature::put_features;
 use crate::field::{put_bytes, put_number};
 use crate::tag_pools::TagPools;
 use mvt_layer::Layer;
-use pb_wire::Memory;
+use std::alloc::AllocError as Memory;
 use std::alloc::Global;
 
 /// Appends the fields behind the pools.

@@ -7,7 +7,7 @@ ghost use Rattle.mvt_write.specs.Written.{bytes_field};
 ghost use Rattle.mvt_write.specs.Pools.{index_of, place_in, with_entry};
 
 use crate::entry::Entry;
-use pb_wire::Memory;
+use std::alloc::AllocError as Memory;
 use std::alloc::Global;
 use std::collections::BTreeMap;
 

@@ -2,7 +2,7 @@
 
 use crate::pool::Pool;
 use crate::value::PoolValue;
-use pb_wire::Memory;
+use std::alloc::AllocError as Memory;
 use std::alloc::Global;
 
 /// The keys and the values of a layer's tags.

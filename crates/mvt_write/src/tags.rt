@@ -14,7 +14,8 @@ use crate::field::put_bytes;
 use crate::tag_pools::TagPools;
 use crate::value::PoolValue;
 use mvt_layer::TagValue;
-use pb_wire::{Memory, put_varint};
+use pb_wire::put_varint;
+use std::alloc::AllocError as Memory;
 use std::alloc::Global;
 
 /// Appends the index of a tag's key and the index of its value.

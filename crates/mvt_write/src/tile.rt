@@ -7,7 +7,7 @@ ghost use Rattle.mvt_write.specs.CanWrite.{CanWriteAll};
 use crate::field::put_bytes;
 use crate::layer::layer_bytes;
 use mvt_layer::Layer;
-use pb_wire::Memory;
+use std::alloc::AllocError as Memory;
 use std::alloc::Global;
 
 /// The one spelling of the layers (Mapbox Vector Tile 2.1, 4): fields in ascending number, numbers in their shortest

@@ -7,7 +7,8 @@ ghost use Rattle.mvt_write.specs.Written.{value_written};
 
 use crate::field::{put_bytes, put_number};
 use mvt_layer::TagValue;
-use pb_wire::{Memory, zigzag};
+use pb_wire::zigzag;
+use std::alloc::AllocError as Memory;
 use std::alloc::Global;
 
 /// The value of a tag that can be written: every one but a floating point number.

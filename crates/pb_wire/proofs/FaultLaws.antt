@@ -207,14 +207,14 @@ ending fault = Err fault ∷ []
 abbrev faulty : List Entry → WireFault → List Item
 faulty fields fault = whole fields ++ ending fault
 
--- the bytes from this place on have the fault behind these fields
+-- the bytes from this offset on have the fault behind these fields
 record FaultyFrom (start : ℕ) (bytes : List ℕ) (fields : List Entry) (fault : WireFault) : Type 0 where
   front : List ℕ
   rest : List ℕ
   parts : bytes ≡ front ++ rest
   message : IsMessage front fields
   some : 0 < length rest
-  place : fault.at ≡ start + length front
+  offset : fault.at ≡ start + length front
   has : FieldHas rest fault.kind
 
 same_fault : (fault : WireFault) (at : ℕ) → at ≡ fault.at → ending (record { at = at; kind = fault.kind }) ≡ ending fault
@@ -225,23 +225,23 @@ same_fault fault at e =
 faulty_items : (fields : List Entry) (start : ℕ) (bytes : List ℕ) (fault : WireFault) (front rest : List ℕ) → bytes ≡ front ++ rest → IsMessage front fields
     → 0 < length rest → fault.at ≡ start + length front → FieldHas rest fault.kind → items_in (length bytes) start bytes ≡ faulty fields fault
 unfolding items_in
-faulty_items [] start bytes fault front rest parts message some place has =
+faulty_items [] start bytes fault front rest parts message some offset has =
     let none : length front ≡ 0 = ap length message in
     let here : bytes ≡ rest = parts ∙ ap (λ (f : List ℕ). f ++ rest) message in
-    let at_start : fault.at ≡ start = omega (arith, none, place) in
+    let at_start : fault.at ≡ start = omega (arith, none, offset) in
     rw here (items_fault rest start fault.kind some (field_refused rest fault.kind has) ∙ same_fault fault start (sym at_start))
-faulty_items (f ∷ fs) start bytes fault front rest parts h some place has =
+faulty_items (f ∷ fs) start bytes fault front rest parts h some offset has =
     let first = h.0 in
     let behind_first : List ℕ = h.1 ++ rest in
     let regrouped : bytes ≡ first ++ behind_first = parts ∙ ap (λ (b : List ℕ). b ++ rest) h.2 ∙ append_assoc first h.1 rest in
     let read : field_at bytes ≡ Ok (f, length first) = ap field_at regrouped ∙ field_again first behind_first f h.3 in
     let long : 0 < length bytes = omega (arith, field_len bytes (f, length first) read, (field_takes bytes (f, length first) read).0) in
     let left : behind_first ≡ drop (length first) bytes = sym (ap (drop (length first)) regrouped ∙ drop_at first behind_first (length first) refl) in
-    let place_on : fault.at ≡ (start + length first) + length h.1 = omega (arith, place, ap length h.2, length-append first h.1) in
+    let offset_on : fault.at ≡ (start + length first) + length h.1 = omega (arith, offset, ap length h.2, length-append first h.1) in
     items_first bytes start f (length first) behind_first long read left
-    ∙ ap (λ (r : List Item). item f ∷ r) (faulty_items fs (start + length first) behind_first fault h.1 rest refl h.4 some place_on has)
+    ∙ ap (λ (r : List Item). item f ∷ r) (faulty_items fs (start + length first) behind_first fault h.1 rest refl h.4 some offset_on has)
 
--- the items from this place on end with the fault behind these fields
+-- the items from this offset on end with the fault behind these fields
 abbrev GoesOn : ℕ → Type 0
 GoesOn more =
     (start : ℕ) (bytes : List ℕ) (fields : List Entry) (fault : WireFault) → length bytes ≤ more → items_in more start bytes ≡ faulty fields fault
@@ -277,7 +277,7 @@ go_faulty more start bytes (f ∷ fs) fault some short next (Ok x) read e =
       parts = sym (take-append-drop x.1 bytes) ∙ ap (λ (b : List ℕ). take x.1 bytes ++ b) on.parts ∙ sym (append_assoc (take x.1 bytes) on.front on.rest);
       message = (take x.1 bytes, on.front, refl, subst (IsField (take x.1 bytes)) h.0 t.1, on.message);
       some = on.some;
-      place = omega (arith, on.place, length-append (take x.1 bytes) on.front, length-take x.1 bytes, t.0);
+      offset = omega (arith, on.offset, length-append (take x.1 bytes) on.front, length-take x.1 bytes, t.0);
       has = on.has;
     }
 go_faulty more start bytes [] fault some short next (Err kind) read e =
@@ -291,7 +291,7 @@ go_faulty more start bytes [] fault some short next (Err kind) read e =
       parts = refl;
       message = refl;
       some = some;
-      place = omega (arith, at_is);
+      offset = omega (arith, at_is);
       has = field_faults bytes fault.kind (read ∙ ap (λ (k : FaultKind). failed k) kind_is);
     }
 go_faulty more start bytes (f ∷ fs) fault some short next (Err kind) read e = absurd (no_field (record { at = start; kind = kind }) f (faulty fs fault) e)
@@ -311,11 +311,11 @@ pub is_faulty : (bytes : List ℕ) (fields : List Entry) (fault : WireFault) →
     → IsFaulty bytes fields fault
 is_faulty bytes fields fault e =
     let h = items_faulty (length bytes) 0 bytes fields fault (omega arith) e in
-    record { front = h.front; rest = h.rest; parts = h.parts; message = h.message; some = h.some; place = omega (arith, h.place); has = h.has }
+    record { front = h.front; rest = h.rest; parts = h.parts; message = h.message; some = h.some; offset = omega (arith, h.offset); has = h.has }
 
 pub faulty_is : (bytes : List ℕ) (fields : List Entry) (fault : WireFault) → IsFaulty bytes fields fault
     → items_of bytes ≡ map (λ f. Ok f) fields ++ Err fault ∷ []
-faulty_is bytes fields fault h = faulty_items fields 0 bytes fault h.front h.rest h.parts h.message h.some (omega (arith, h.place)) h.has
+faulty_is bytes fields fault h = faulty_items fields 0 bytes fault h.front h.rest h.parts h.message h.some (omega (arith, h.offset)) h.has
 
 -- the items are fields, and then perhaps a fault
 abbrev Ends : List Item → Type 0

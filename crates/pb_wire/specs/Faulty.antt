@@ -36,5 +36,5 @@ pub record IsFaulty (bytes : List ℕ) (fields : List Entry) (fault : WireFault)
   pub parts : bytes ≡ front ++ rest
   pub message : IsMessage front fields
   pub some : 0 < length rest
-  pub place : fault.at ≡ length front
+  pub offset : fault.at ≡ length front
   pub has : FieldHas rest fault.kind

@@ -100,16 +100,16 @@ module _ {Fault : Type 0} where
   gives_on memory = unless_on (λ fault. fault ≡ memory)
 
   -- where an allocation may fail only where something is read, it may fail anywhere
-  pub finds_gives : {A : Type 0} (memory fault : Fault) (read : Read Fault A)
+  pub found_fault : {A : Type 0} (memory fault : Fault) (read : Read Fault A)
       → (read ≡ Err fault) ⊎ ((fault ≡ memory) × IsOk read) → ¬ (fault ≡ memory) → read ≡ Err fault
-  finds_gives memory fault read (inl e) other = e
-  finds_gives memory fault read (inr h) other = absurd (other h.0)
+  found_fault memory fault read (inl e) other = e
+  found_fault memory fault read (inr h) other = absurd (other h.0)
 
   -- what is answered has what all that is read has
-  pub gives_found : {X A : Type 0} (Has : A → Type 0) (memory : Fault) (view : X → A) (result : Result X Fault) (read : Read Fault A)
+  pub gives_holds : {X A : Type 0} (Has : A → Type 0) (memory : Fault) (view : X → A) (result : Result X Fault) (read : Read Fault A)
       → ((x : A) → read ≡ Ok x → Has x) → Gives memory view result read → IfOk result (λ x. Has (view x))
-  gives_found Has memory view (Ok x) read found gives = found (view x) gives
-  gives_found Has memory view (Err fault) read found gives = tt
+  gives_holds Has memory view (Ok x) read found gives = found (view x) gives
+  gives_holds Has memory view (Err fault) read found gives = tt
 
   -- what is to be read is answered
   pub gives_only : {X A : Type 0} (memory : Fault) (view : X → A) (result : Result X Fault) (read : Read Fault A) (x : A)

@@ -1,5 +1,5 @@
 use Rattle.std.proofs.lemmas.Result.{err_from_is_err_and}
-use Rattle.reader.proofs.Steps.{gives_on, finds_gives}
+use Rattle.reader.proofs.Steps.{gives_on, found_fault}
 use Rattle.pb_wire.proofs.Message.{back}
 use Rattle.mvt_layer.specs.declared.fault.TileFault.TheVariants.{Memory}
 use Rattle.mvt_layer.specs.Reading.{number_more}
@@ -14,7 +14,7 @@ returns-in_err-numbers-in-Ok c =
     let d = c.in_err-numbers-in-Ok.field-0.0 in
     rw (p.1, p.2) (gives_on Memory d (number_more numbers c.in-Ok.n) _
     (packed_range numbers rest c.in-Ok.n c.in-Ok.len _ c.loop-rest-test.true c.in-Ok.ensures.exact c.loop-rest.invariant)
-    (finds_gives Memory d (number_more numbers c.in-Ok.n) c.in_err-numbers-in-Ok.ensures))
+    (found_fault Memory d (number_more numbers c.in-Ok.n) c.in_err-numbers-in-Ok.ensures))
 
 pub loop-rest-preserved : goal.loop-rest-preserved
 loop-rest-preserved c =

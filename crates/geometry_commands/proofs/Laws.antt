@@ -1,4 +1,4 @@
--- What is written for a shape spells it, and nothing else.
+-- Laws of the spellings, for whoever reads the contracts.
 use Rattle.std.proofs.Common.{◌≡◌, ℕ, Bool, true, false, List, [], ◌∷◌, refl, sym, ◌∙◌}
 use Rattle.std.specs.List.{AllByRecursion}
 use Rattle.reader.proofs.Steps.{same_value}
@@ -11,6 +11,7 @@ use Rattle.geometry_commands.specs.Shapes.{ShapeView, points, lines, rings, raw,
 use Rattle.geometry_commands.specs.Encodable.{CanSpellLines, CanSpell, FitsShape}
 use Rattle.geometry_commands.proofs.Shaped.{shape_again}
 
+-- integers spell at most one shape of a kind
 pub one_shape : (kind : ShapeKind) (ints : List ℕ) (s t : ShapeView) → IsShape kind ints s → IsShape kind ints t → s ≡ t
 one_shape kind ints s t hs ht = same_value {Fault = GeometryFault} s t (sym (shape_again kind ints s hs) ∙ shape_again kind ints t ht)
 
@@ -19,6 +20,7 @@ lines_whole : (closed : Bool) (from : Pt) (ls : List (List Pt)) → CanSpellLine
 lines_whole closed from [] can fits = tt
 lines_whole closed from (l ∷ ls) can fits = (record { long = can.0.long; fits = fits.0 }, lines_whole closed (last_of from l) ls can.1 fits.1)
 
+-- what is written for a shape spells it
 pub spelled_is : (s : ShapeView) → CanSpell s → FitsShape s → IsShape (kind_of s) (shape_spelled s) s
 spelled_is (points ps) can fits = (refl, fits)
 spelled_is (lines ls) can fits = (refl, lines_whole false origin ls can fits)
