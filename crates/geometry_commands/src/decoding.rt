@@ -111,7 +111,7 @@ fn walk<'a>(
 ) -> Result<(Vec<Pt>, Pt, &'a [u32]), GeometryFault>
     ensures exact { Gives GeometryFault.Memory (λ x. (x.0.items, x.1, x.2.now)) result (walk_at count before.items from ints.entry.now) }
     ensures behind { IfOk result (λ x. length x.2.now + 2 * count ≡ length ints.entry.now) }
-    // Memory runs out only where the vector has no room for the points that stand there.
+    // An allocation fails only where the vector has no room for the points that stand there.
     ensures full { IfErr result (λ fault. fault ≡ GeometryFault.Memory → vec_capacity before < vec_len before + length ints.entry.now / 2) }
 {
     let mut points = before;
@@ -268,7 +268,7 @@ pub fn decode(alloc: Global, kind: ShapeKind, ints: &[u32]) -> Result<Shape, Geo
     // The fault is one that the integers have.
     ensures fault { IfErr result (λ d. d ≢ GeometryFault.Memory → ShapeHas kind ints.now d) }
     ensures exact { Gives GeometryFault.Memory shape_view result (shape_at kind ints.now) }
-    // Memory runs out only where a command and a point may stand, or all integers are to be kept.
+    // An allocation fails only where a command and a point may stand, or all integers are to be kept.
     ensures memory { IfErr result (λ d. d ≡ GeometryFault.Memory → (kind ≡ ShapeKind.Unknown) ⊎ (3 ≤ length ints.now)) }
 {
     shape_of(alloc, kind, ints)

@@ -33,7 +33,7 @@ fn put_step(out: &mut Vec<u32>, from: Pt, to: Pt) -> Result<(), AllocError>
     Ok(())
 }
 
-/// Appends the way from a point along the others, and tells where it ends.
+/// Appends the way from a point along the others, and returns where it ends.
 fn put_steps(out: &mut Vec<u32>, from: Pt, points: &[Pt]) -> Result<Pt, AllocError>
     requires { AreNear from points.now }
     ensures steps { OnOk result (out.new.items ≡ out.old.items ++ steps from points.now) }
@@ -48,7 +48,7 @@ fn put_steps(out: &mut Vec<u32>, from: Pt, points: &[Pt]) -> Result<Pt, AllocErr
     Ok(at)
 }
 
-/// Appends a line, or a ring, which is closed, and tells where the cursor stands then.
+/// Appends a line, or a ring, which is closed, and returns where the cursor stands then.
 fn put_line(out: &mut Vec<u32>, closed: bool, from: Pt, line: &[Pt]) -> Result<Pt, AllocError>
     requires { CanSpellLine closed from line.now }
     ensures line { OnOk result (out.new.items ≡ out.old.items ++ line_spelled closed from line.now) }
@@ -84,7 +84,7 @@ fn encode_all(alloc: Global, closed: bool, lines: &[Vec<Pt>]) -> Result<Vec<u32>
 /// The integers of points: one command to move, and the way along all of them (Mapbox Vector Tile 2.1, 4.3.4.2).
 ///
 /// There is at least one point, and fewer than 2^29. From point to point, the first counted from (0,0), each
-/// coordinate changes by at most 2^31 - 1. The only error is that memory runs out.
+/// coordinate changes by at most 2^31 - 1. The only error is that an allocation fails.
 pub fn encode_points(alloc: Global, points: &[Pt]) -> Result<Vec<u32>, AllocError>
     requires { CanSpell (shapes.points points.now) }
     ensures spelled { IfOk result (λ v. v.items ≡ points_spelled points.now) }
@@ -102,7 +102,7 @@ pub fn encode_points(alloc: Global, points: &[Pt]) -> Result<Vec<u32>, AllocErro
 ///
 /// A line has at least two points, and fewer than 2^29. From point to point, the first counted from (0,0) and the
 /// first of each further line from the last of the one before it, each coordinate changes by at most 2^31 - 1. There
-/// may be no lines. The only error is that memory runs out.
+/// may be no lines. The only error is that an allocation fails.
 pub fn encode_lines(alloc: Global, lines: &[Vec<Pt>]) -> Result<Vec<u32>, AllocError>
     requires { CanSpell (shapes.lines (map (λ l. l.items) lines.now)) }
     ensures spelled { IfOk result (λ v. v.items ≡ lines_spelled false origin (map (λ l. l.items) lines.now)) }
@@ -117,7 +117,7 @@ pub fn encode_lines(alloc: Global, lines: &[Vec<Pt>]) -> Result<Vec<u32>, AllocE
 ///
 /// A ring has at least three points, the first not repeated at its end, and fewer than 2^29. From point to point, the
 /// first counted from (0,0) and the first of each further ring from the last of the one before it, each coordinate
-/// changes by at most 2^31 - 1. There may be no rings. The only error is that memory runs out.
+/// changes by at most 2^31 - 1. There may be no rings. The only error is that an allocation fails.
 pub fn encode_rings(alloc: Global, rings: &[Vec<Pt>]) -> Result<Vec<u32>, AllocError>
     requires { CanSpell (shapes.rings (map (λ l. l.items) rings.now)) }
     ensures spelled { IfOk result (λ v. v.items ≡ lines_spelled true origin (map (λ l. l.items) rings.now)) }

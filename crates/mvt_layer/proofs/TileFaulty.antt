@@ -197,6 +197,13 @@ extent_err last d e =
     go n true ea (inl is) h = absurd (omega (arith, eqb-true n 0 ea, is.1))
     go n true ea (inr is) h = (sym (same_fault {A = ℕ} faults.Extent d h), is ∙ ap (λ (k : ℕ). Some k) (eqb-true n 0 ea))
 
+-- a version or an extent that 32 bits can't hold
+too_large : (bytes : List ℕ) (d : TileFault) (fields : List Entry) → IsMessage bytes fields → (number : ℕ) → (number ≡ 15) ⊎ (number ≡ 5)
+    → (last : Option ℕ) → LastNumber None (values_of number fields) last
+    → (d ≡ faults.Range) × ((n : ℕ) × (last ≡ Some n) × (4294967295 < n)) → LayerHas bytes d
+too_large bytes d fields m number which last is (range, (n, some, large)) =
+    large_number range fields m number which n (subst (LastNumber None (values_of number fields)) some is) large
+
 layer_has : (bytes : List ℕ) (d : TileFault) → layer_at bytes ≡ Err d → LayerHas bytes d
 unfolding layer_at
 layer_has bytes d e =
@@ -221,8 +228,7 @@ layer_has bytes d e =
                   | inr raw_version ↦
                       elim (then_err (version_at raw_version.0) _ d raw_version.2) [
                         | inl bad ↦ elim (version_err raw_version.0 d bad) [
-                          | inl big ↦ large_number big.0 whole.0 m 15 (inl refl) big.1.0
-                              (subst (LastNumber None (values_of 15 whole.0)) big.1.1 (number 15 raw_version.0 raw_version.1)) big.1.2
+                          | inl big ↦ too_large bytes d whole.0 m 15 (inl refl) raw_version.0 (number 15 raw_version.0 raw_version.1) big
                           | inr other ↦ other_version other.0 whole.0 m other.1.0 (subst (LastNumber None (values_of 15 whole.0)) other.1.1
                               (number 15 raw_version.0 raw_version.1)) other.1.2 other.1.3
                         ]
@@ -232,8 +238,7 @@ layer_has bytes d e =
                               | inr raw_extent ↦
                                   elim (then_err (extent_at raw_extent.0) _ d raw_extent.2) [
                                     | inl bad ↦ elim (extent_err raw_extent.0 d bad) [
-                                      | inl big ↦ large_number big.0 whole.0 m 5 (inr refl) big.1.0
-                                          (subst (LastNumber None (values_of 5 whole.0)) big.1.1 (number 5 raw_extent.0 raw_extent.1)) big.1.2
+                                      | inl big ↦ too_large bytes d whole.0 m 5 (inr refl) raw_extent.0 (number 5 raw_extent.0 raw_extent.1) big
                                       | inr none ↦ no_extent none.0 whole.0 m (subst (LastNumber None (values_of 5 whole.0)) none.1
                                           (number 5 raw_extent.0 raw_extent.1))
                                     ]

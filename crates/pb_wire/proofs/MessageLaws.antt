@@ -40,21 +40,23 @@ varint_takes bytes x e =
     let made : Value × ℕ = (varint_value n.0.0, n.0.1) in
     subst (TakesValue 0 bytes) (same_value {Fault = FaultKind} made x n.2) record { within = h.0; type_is = refl; spelled = h.1 }
 
+-- a value of so many bytes
+fixed_takes : (size wire : ℕ) (made : List ℕ → Value) → ((part : List ℕ) → wire_type (made part) ≡ wire)
+    → ((front part : List ℕ) → front ≡ part → length part ≡ size → SpellsValue front (made part))
+    → (bytes : List ℕ) (x : Value × ℕ) → (front_at size bytes >>= λ part. Ok (made part, size)) ≡ Ok x → TakesValue wire bytes x
+fixed_takes size wire made type_is spells bytes x e =
+    let part = then_ok (front_at size bytes) (λ part. Ok (made part, size)) x e in
+    let h = front_takes size bytes part.0 part.1 in
+    let len : length part.0 ≡ size = rw (← h.1) (omega (arith, length-take size bytes, h.0)) in
+    let takes : TakesValue wire bytes (made part.0, size) =
+    record { within = h.0; type_is = type_is part.0; spelled = spells (take size bytes) part.0 h.1 len } in
+    subst (TakesValue wire bytes) (same_value {Fault = FaultKind} (made part.0, size) x part.2) takes
+
 eight_takes : (bytes : List ℕ) (x : Value × ℕ) → (front_at 8 bytes >>= λ part. Ok (eight_bytes part, 8)) ≡ Ok x → TakesValue 1 bytes x
-eight_takes bytes x e =
-    let part = then_ok (front_at 8 bytes) (λ part. Ok (eight_bytes part, 8)) x e in
-    let h = front_takes 8 bytes part.0 part.1 in
-    let made : Value × ℕ = (eight_bytes part.0, 8) in
-    let len : length part.0 ≡ 8 = rw (← h.1) (omega (arith, length-take 8 bytes, h.0)) in
-    subst (TakesValue 1 bytes) (same_value {Fault = FaultKind} made x part.2) record { within = h.0; type_is = refl; spelled = (h.1, len) }
+eight_takes = fixed_takes 8 1 (λ part. eight_bytes part) (λ part. refl) (λ front part is len. (is, len))
 
 four_takes : (bytes : List ℕ) (x : Value × ℕ) → (front_at 4 bytes >>= λ part. Ok (four_bytes part, 4)) ≡ Ok x → TakesValue 5 bytes x
-four_takes bytes x e =
-    let part = then_ok (front_at 4 bytes) (λ part. Ok (four_bytes part, 4)) x e in
-    let h = front_takes 4 bytes part.0 part.1 in
-    let made : Value × ℕ = (four_bytes part.0, 4) in
-    let len : length part.0 ≡ 4 = rw (← h.1) (omega (arith, length-take 4 bytes, h.0)) in
-    subst (TakesValue 5 bytes) (same_value {Fault = FaultKind} made x part.2) record { within = h.0; type_is = refl; spelled = (h.1, len) }
+four_takes = fixed_takes 4 5 (λ part. four_bytes part) (λ part. refl) (λ front part is len. (is, len))
 
 some_takes : (bytes : List ℕ) (x : Value × ℕ) → (varint_at bytes >>= λ n. front_at n.0 (drop n.1 bytes) >>= λ part. Ok (some_bytes part, n.1 + n.0)) ≡ Ok x
     → TakesValue 2 bytes x
