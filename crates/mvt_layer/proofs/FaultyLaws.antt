@@ -21,7 +21,7 @@ use Rattle.geometry_commands.proofs.Shaped.{shape_again}
 use Rattle.mvt_layer.specs.declared.fault.TileFault.{TileFault}
 use Rattle.mvt_layer.specs.declared.fault.TileFault.TheVariants as faults
 use Rattle.mvt_layer.specs.Tile.{TagView, Tagged, FeatureView}
-use Rattle.mvt_layer.specs.Reading.{after, pass, number_after, bytes_after, parts_after, number_more, packed_then, packed_in, numbers_after, last_number_in}
+use Rattle.mvt_layer.specs.Reading.{after, pass, number_after, bytes_after, parts_after, number_more, or_broken, packed_in, numbers_after, last_number_in}
 use Rattle.mvt_layer.specs.Reading.{numbers_in, tags_at, tag_at, has_number, found_tag, shape_read, kind_of, feature_at, feature_of_parts}
 use Rattle.mvt_layer.specs.Reads.{values_of, AreNumbers}
 use Rattle.mvt_layer.specs.Faulty.{BeginsWith, PackedHas, BadNumber, BadBytes, BadNumbers, PassHas, broken, bad_value, FeatureHas, at_id, at_kind, at_indices}
@@ -149,7 +149,7 @@ packed_bad (suc more) before [] d le e = absurd cc
 packed_bad (suc more) before (b ∷ bs) d le e = go (λ k rest h1 h2. packed_bad more k rest d h1 h2) (varint_at (b ∷ bs)) refl e
   where
     go : ((k rest : List ℕ) → length rest ≤ more → packed_in more k rest ≡ Err d → PackedHas rest d) → (r : Result (ℕ × ℕ) FaultKind) → varint_at (b ∷ bs) ≡ r
-        → packed_then (λ n. number_more before n.0 >>= λ ns. packed_in more ns (drop n.1 (b ∷ bs))) r ≡ Err d → PackedHas (b ∷ bs) d
+        → (or_broken r >>= λ n. number_more before n.0 >>= λ ns. packed_in more ns (drop n.1 (b ∷ bs))) ≡ Err d → PackedHas (b ∷ bs) d
     go next (Err w) read h = record {
       numbers = [];
       front = [];

@@ -6,25 +6,22 @@ use Rattle.std.proofs.Math.Seq.{drop-cons}
 use Rattle.std.specs.Borrow.{Bor}
 use Rattle.mvt_layer.specs.Tile.{bytes_of}
 use Rattle.reader.specs.Reading.{Read, ◌>>=◌, folded}
-use Rattle.reader.proofs.Steps.{done, same_value, then_on, then_stop, then_same, folded_on, folded_stop, folded_done}
+use Rattle.reader.proofs.Steps.{done, same_value, not_both, then_on, then_stop, then_same, folded_on, folded_stop, folded_done}
 use Rattle.pb_wire.specs.declared.fault.FaultKind.{FaultKind}
-use Rattle.pb_wire.specs.declared.fault.WireFault.{WireFault}
 use Rattle.pb_wire.specs.Varint.{varint_at}
-use Rattle.pb_wire.specs.Fault.{with_offset}
 use Rattle.pb_wire.proofs.Message.{varint_len}
 use Rattle.mvt_layer.specs.declared.fault.TileFault.{TileFault}
 use Rattle.mvt_layer.specs.declared.fault.TileFault.TheVariants as faults
-use Rattle.mvt_layer.specs.Reading.{packed_then, packed_in, number_more, part_more}
+use Rattle.mvt_layer.specs.Reading.{or_broken, number_at, packed_in, number_more, part_more}
 
 -- ---- packed numbers
 
-pub offset_ok : {X : Type 0} (r : Result X FaultKind) (x : X) → Ok x ≡ with_offset 0 r → r ≡ Ok x
-offset_ok (Ok y) x e = sym (ap (done {Fault = FaultKind}) (same_value {Fault = WireFault} x y e))
-offset_ok (Err kind) x e = absurd cc
-
-pub offset_err : {X : Type 0} (r : Result X FaultKind) (w : WireFault) → Err w ≡ with_offset 0 r → (kind : FaultKind) × (r ≡ Err kind)
-offset_err (Ok y) w e = absurd cc
-offset_err (Err kind) w e = (kind, refl)
+pub number_found : (bytes : List ℕ) (n : ℕ × ℕ) → number_at bytes ≡ Ok n → varint_at bytes ≡ Ok n
+number_found bytes n = go (varint_at bytes)
+  where
+    go : (read : Result (ℕ × ℕ) FaultKind) → or_broken read ≡ Ok n → read ≡ Ok n
+    go (Ok x) e = ap (done {Fault = FaultKind}) (same_value {Fault = TileFault} x n e)
+    go (Err kind) e = absurd (not_both n faults.Wire (sym e))
 
 -- so many at most makes no difference where the bytes are no more
 pub packed_same : (m n : ℕ) (before bytes : List ℕ) → length bytes ≤ m → length bytes ≤ n → packed_in m before bytes ≡ packed_in n before bytes
@@ -36,17 +33,12 @@ packed_same (suc m) zero before [] hm hn = refl
 packed_same (suc m) zero before (b ∷ bs) hm hn = absurd (omega arith)
 packed_same (suc m) (suc n) before [] hm hn = refl
 packed_same (suc m) (suc n) before (b ∷ bs) hm hn =
-    packed_alike (varint_at (b ∷ bs)) (λ r. number_more before r.0 >>= λ ns. packed_in m ns (drop r.1 (b ∷ bs)))
+    then_same (number_at (b ∷ bs)) (λ r. number_more before r.0 >>= λ ns. packed_in m ns (drop r.1 (b ∷ bs)))
     (λ r. number_more before r.0 >>= λ ns. packed_in n ns (drop r.1 (b ∷ bs)))
-    (λ r e. let len : 0 < r.1 = varint_len (b ∷ bs) r e in
+    (λ r e. let len : 0 < r.1 = varint_len (b ∷ bs) r (number_found (b ∷ bs) r e) in
     let short : length (drop r.1 (b ∷ bs)) ≤ length bs = omega (arith, length-drop r.1 (b ∷ bs)) in
     then_same (number_more before r.0) (λ ns. packed_in m ns (drop r.1 (b ∷ bs))) (λ ns. packed_in n ns (drop r.1 (b ∷ bs)))
     (λ ns _. packed_same m n ns (drop r.1 (b ∷ bs)) (omega arith) (omega arith)))
-  where
-    packed_alike : (r : Result (ℕ × ℕ) FaultKind) (f g : ℕ × ℕ → Read TileFault (List ℕ)) → ((x : ℕ × ℕ) → r ≡ Ok x → f x ≡ g x)
-        → packed_then f r ≡ packed_then g r
-    packed_alike (Ok x) f g same = same x refl
-    packed_alike (Err d) f g same = refl
 
 pub packed_first : (before bytes : List ℕ) (n len : ℕ) → 0 < length bytes → varint_at bytes ≡ Ok (n, len)
     → packed_in (length bytes) before bytes ≡ (number_more before n >>= λ ns. packed_in (length (drop len bytes)) ns (drop len bytes))
@@ -59,23 +51,24 @@ packed_first before (b ∷ bs) n len some e =
     (λ ns. packed_in (length (drop len (b ∷ bs))) ns (drop len (b ∷ bs)))
     (λ ns _. packed_same (length bs) (length (drop len (b ∷ bs))) ns (drop len (b ∷ bs)) short (omega arith)))
 
-pub packed_on : (before next bytes : List ℕ) (n len : ℕ) (whole : Read TileFault (List ℕ)) → 0 < length bytes → Ok (n, len) ≡ with_offset 0 (varint_at bytes)
+pub packed_on : (before next bytes : List ℕ) (n len : ℕ) (whole : Read TileFault (List ℕ)) → 0 < length bytes → number_at bytes ≡ Ok (n, len)
     → number_more before n ≡ Ok next → packed_in (length bytes) before bytes ≡ whole → packed_in (length (drop len bytes)) next (drop len bytes) ≡ whole
 packed_on before next bytes n len whole some e more so_far =
-    let one = packed_first before bytes n len some (offset_ok (varint_at bytes) (n, len) e) in
+    let one = packed_first before bytes n len some (number_found bytes (n, len) e) in
     sym (one ∙ then_on (number_more before n) (λ ns. packed_in (length (drop len bytes)) ns (drop len bytes)) next more) ∙ so_far
 
-pub packed_range : (before bytes : List ℕ) (n len : ℕ) (whole : Read TileFault (List ℕ)) → 0 < length bytes → Ok (n, len) ≡ with_offset 0 (varint_at bytes)
+pub packed_range : (before bytes : List ℕ) (n len : ℕ) (whole : Read TileFault (List ℕ)) → 0 < length bytes → number_at bytes ≡ Ok (n, len)
     → packed_in (length bytes) before bytes ≡ whole → (d : TileFault) → number_more before n ≡ Err d → whole ≡ Err d
 packed_range before bytes n len whole some e so_far d more =
-    let one = packed_first before bytes n len some (offset_ok (varint_at bytes) (n, len) e) in
+    let one = packed_first before bytes n len some (number_found bytes (n, len) e) in
     sym so_far ∙ (one ∙ then_stop (number_more before n) (λ ns. packed_in (length (drop len bytes)) ns (drop len bytes)) d more)
 
-pub packed_wire : (before bytes : List ℕ) (w : WireFault) (whole : Read TileFault (List ℕ)) → 0 < length bytes → Err w ≡ with_offset 0 (varint_at bytes)
-    → packed_in (length bytes) before bytes ≡ whole → whole ≡ Err faults.Wire
+pub packed_broken : (before bytes : List ℕ) (d : TileFault) (whole : Read TileFault (List ℕ)) → 0 < length bytes
+    → packed_in (length bytes) before bytes ≡ whole → number_at bytes ≡ Err d → whole ≡ Err d
 unfolding packed_in
-packed_wire before [] w whole some e so_far = absurd (omega arith)
-packed_wire before (b ∷ bs) w whole some e so_far = let k = offset_err (varint_at (b ∷ bs)) w e in sym so_far ∙ rw (k.1) refl
+packed_broken before [] d whole some so_far e = absurd (omega arith)
+packed_broken before (b ∷ bs) d whole some so_far e =
+    sym so_far ∙ then_stop (number_at (b ∷ bs)) (λ n. number_more before n.0 >>= λ ns. packed_in (length bs) ns (drop n.1 (b ∷ bs))) d e
 
 pub packed_done : (before bytes : List ℕ) (whole : Read TileFault (List ℕ)) → length bytes ≤ 0 → packed_in (length bytes) before bytes ≡ whole
     → whole ≡ Ok before

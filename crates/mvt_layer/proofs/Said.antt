@@ -14,9 +14,9 @@ use Rattle.pb_wire.proofs.Message.{varint_len}
 use Rattle.pb_wire.proofs.VarintLaws.{found_is, spelling_is_found}
 use Rattle.mvt_layer.specs.declared.fault.TileFault.{TileFault}
 use Rattle.mvt_layer.specs.declared.fault.TileFault.TheVariants as faults
-use Rattle.mvt_layer.specs.Reading.{after, pass, number_after, bytes_after, parts_after, number_more, packed_then, packed_in, numbers_after}
+use Rattle.mvt_layer.specs.Reading.{after, pass, number_after, bytes_after, parts_after, number_more, number_at, packed_in, numbers_after}
 use Rattle.mvt_layer.specs.Reads.{values_of, LastNumber, LastBytes, AreParts, ArePacked, AreNumbers}
-use Rattle.mvt_layer.proofs.Folds.{packed_first}
+use Rattle.mvt_layer.proofs.Folds.{number_found, packed_first}
 
 -- ---- fields and items
 
@@ -109,11 +109,6 @@ more_says before ns n e =
 more_reads : (before : List ℕ) (n : ℕ) → n < 4294967296 → number_more before n ≡ Ok (before ++ n ∷ [])
 more_reads before n lt = let t : ltb 4294967295 n ≡ false = le-ltb 4294967295 n (omega arith) in rw t refl
 
-number_ok : (next : ℕ × ℕ → Read TileFault (List ℕ)) (r : Result (ℕ × ℕ) FaultKind) (y : List ℕ) → packed_then next r ≡ Ok y
-    → (x : ℕ × ℕ) × (r ≡ Ok x) × (next x ≡ Ok y)
-number_ok next (Ok x) y e = (x, refl, e)
-number_ok next (Err kind) y e = absurd cc
-
 pub packed_says : (n : ℕ) (before bytes all : List ℕ) → length bytes ≤ n → packed_in n before bytes ≡ Ok all
     → (ns : List ℕ) × (all ≡ before ++ ns) × ArePacked bytes ns
 unfolding packed_in
@@ -121,12 +116,13 @@ packed_says zero before [] all le e = ([], sym (same_value {Fault = TileFault} b
 packed_says zero before (b ∷ bs) all le e = absurd (omega arith)
 packed_says (suc n) before [] all le e = ([], sym (same_value {Fault = TileFault} before all e) ∙ sym (append-nil before), refl)
 packed_says (suc n) before (b ∷ bs) all le e =
-    let r = number_ok (λ k. number_more before k.0 >>= λ ns. packed_in n ns (drop k.1 (b ∷ bs))) (varint_at (b ∷ bs)) all e in
+    let r = then_ok (number_at (b ∷ bs)) (λ k. number_more before k.0 >>= λ ns. packed_in n ns (drop k.1 (b ∷ bs))) all e in
+    let found = number_found (b ∷ bs) r.0 r.1 in
     let m = then_ok (number_more before r.0.0) (λ ns. packed_in n ns (drop r.0.1 (b ∷ bs))) all r.2 in
     let says = more_says before m.0 r.0.0 m.1 in
-    let long : 0 < r.0.1 = varint_len (b ∷ bs) r.0 r.1 in
+    let long : 0 < r.0.1 = varint_len (b ∷ bs) r.0 found in
     let more = packed_says n m.0 (drop r.0.1 (b ∷ bs)) all (omega (arith, length-drop r.0.1 (b ∷ bs))) m.2 in
-    let v = found_is (b ∷ bs) r.0.0 r.0.1 r.1 in (
+    let v = found_is (b ∷ bs) r.0.0 r.0.1 found in (
       r.0.0 ∷ more.0,
       more.1 ∙ (ap (λ (k : List ℕ). k ++ more.0) says.0 ∙ append_assoc before (r.0.0 ∷ []) more.0),
       (take r.0.1 (b ∷ bs), drop r.0.1 (b ∷ bs), sym (take-append-drop r.0.1 (b ∷ bs)), v.1, says.1, more.2),

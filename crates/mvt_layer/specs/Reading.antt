@@ -49,22 +49,38 @@ parts_after before (four_bytes part) = Err faults.Kind
 abbrev pub number_more : List ℕ → ℕ → Read TileFault (List ℕ)
 number_more before n = if nat_lt 4294967295 n then Err faults.Range else Ok (before ++ n ∷ [])
 
--- what a number in front leads to
-abbrev pub packed_then : (ℕ × ℕ → Read TileFault (List ℕ)) → Result (ℕ × ℕ) FaultKind → Read TileFault (List ℕ)
-packed_then next (Ok n) = next n
-packed_then next (Err kind) = Err faults.Wire
+-- what was read, or that it is broken
+abbrev pub or_broken : {X : Type 0} → Result X FaultKind → Read TileFault X
+or_broken (Ok x) = Ok x
+or_broken (Err kind) = Err faults.Wire
+
+-- the number in front, and its length
+abbrev pub number_at : List ℕ → Read TileFault (ℕ × ℕ)
+number_at bytes = or_broken (varint_at bytes)
 
 -- numbers one after the other, so many at most
 unfoldable pub packed_in : ℕ → List ℕ → List ℕ → Read TileFault (List ℕ)
 packed_in zero before bytes = Ok before
 packed_in (suc more) before [] = Ok before
-packed_in (suc more) before (b ∷ bs) = packed_then (λ n. number_more before n.0 >>= λ ns. packed_in more ns (drop n.1 (b ∷ bs))) (varint_at (b ∷ bs))
+packed_in (suc more) before (b ∷ bs) = number_at (b ∷ bs) >>= λ n. number_more before n.0 >>= λ ns. packed_in more ns (drop n.1 (b ∷ bs))
 
 abbrev pub numbers_after : List ℕ → Value → Read TileFault (List ℕ)
 numbers_after before (varint_value n) = number_more before n
 numbers_after before (some_bytes part) = packed_in (length part) before part
 numbers_after before (eight_bytes part) = Err faults.Kind
 numbers_after before (four_bytes part) = Err faults.Kind
+
+-- whether numbers may stand in a value
+abbrev pub may_hold : Value → Bool
+may_hold (varint_value n) = true
+may_hold (some_bytes part) = true
+may_hold (eight_bytes part) = false
+may_hold (four_bytes part) = false
+
+-- whether numbers may stand in an item
+abbrev pub holds_numbers : Item → Bool
+holds_numbers (Err fault) = false
+holds_numbers (Ok f) = may_hold f.value
 
 abbrev pub last_number_in : ℕ → List ℕ → Read TileFault (Option ℕ)
 last_number_in number bytes = pass number number_after None bytes

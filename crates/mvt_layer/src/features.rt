@@ -1,6 +1,6 @@
 //! Features.
 
-ghost use Rattle.std.specs.Prelude.{◌≡◌, ℕ, [], slice_get};
+ghost use Rattle.std.specs.Prelude.{◌≡◌, ℕ, ◌<◌, ◌≤◌, ◌⊎◌, [], true, false, length, slice_get, OnOk, IfErr};
 ghost use Rattle.reader.specs.Reading.{Reads, Gives};
 ghost use Rattle.geometry_commands.specs.Shapes.{shape_view};
 ghost use Rattle.mvt_layer.specs.Tile.{bytes_of, tag_view, tag_views, tagged, feature_view};
@@ -41,6 +41,28 @@ fn tag_of<'a>(
     Ok((*text, *said))
 }
 
+/// Two indices are left, a key's and a value's.
+fn check_two(indices: &[u32]) -> Result<(), TileFault>
+    ensures two { OnOk result (2 ≤ length indices.now) }
+    ensures odd { IfErr result (λ d. (d ≡ TileFault.Tag) × (length indices.now < 2)) }
+{
+    if indices.len() < 2 {
+        return Err(TileFault::Tag);
+    }
+    Ok(())
+}
+
+/// The key index came for the first time.
+fn check_new(is_new: bool) -> Result<(), TileFault>
+    ensures new { OnOk result (is_new ≡ true) }
+    ensures twice { IfErr result (λ d. (d ≡ TileFault.Tag) × (is_new ≡ false)) }
+{
+    if !is_new {
+        return Err(TileFault::Tag);
+    }
+    Ok(())
+}
+
 /// The tags of these indices, a key's and a value's in turn. A key index comes once.
 fn tags_of<'a>(
     alloc: Global,
@@ -54,13 +76,9 @@ fn tags_of<'a>(
     let mut tags = Vec::new(alloc);
     let mut rest = indices;
     while rest.len() > 0 {
-        if rest.len() < 2 {
-            return Err(TileFault::Tag);
-        }
+        check_two(rest)?;
         let is_new = used.insert(rest[0])?;
-        if !is_new {
-            return Err(TileFault::Tag);
-        }
+        check_new(is_new)?;
         let tag = tag_of(keys, values, rest[0], rest[1])?;
         tags.push(tag)?;
         rest = &rest[2..];
@@ -82,7 +100,9 @@ fn kind_said(kind: Option<u64>) -> ShapeKind
 
 /// The shape that a feature's integers spell.
 fn shape_of(alloc: Global, kind: ShapeKind, ints: &[u32]) -> Result<Shape, TileFault>
-    ensures { Gives TileFault.Memory shape_view result (shape_read (shape_at kind ints.now)) }
+    ensures exact { Gives TileFault.Memory shape_view result (shape_read (shape_at kind ints.now)) }
+    // An allocation fails only where decoding may allocate.
+    ensures memory { IfErr result (λ d. d ≡ TileFault.Memory → (kind ≡ ShapeKind.Unknown) ⊎ (3 ≤ length ints.now)) }
 {
     match decode(alloc, kind, ints) {
         Ok(shape) => Ok(shape),

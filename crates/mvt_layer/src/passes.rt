@@ -1,12 +1,12 @@
 //! One pass over the fields of a message, for one field number.
 
-ghost use Rattle.std.specs.Prelude.{◌≡◌, ℕ, length, List, Option};
+ghost use Rattle.std.specs.Prelude.{◌≡◌, ℕ, ◌<◌, ◌≤◌, length, List, Option, IfOk, IfErr, IsTrue};
 ghost use Rattle.reader.specs.Reading.{Reads, Finds, Gives};
 ghost use Rattle.std.specs.Option.{option_map};
 ghost use Rattle.pb_wire.specs.Items.{item_view};
 ghost use Rattle.mvt_layer.specs.Tile.{bytes_of};
 ghost use Rattle.mvt_layer.specs.Reading.{after, number_after, bytes_after, parts_after, numbers_after, number_more, packed_in, last_number_in, last_bytes_in};
-ghost use Rattle.mvt_layer.specs.Reading.{parts_in, numbers_in};
+ghost use Rattle.mvt_layer.specs.Reading.{parts_in, numbers_in, number_at, holds_numbers};
 
 use crate::fault::TileFault;
 use pb_wire::{Field, FieldValue, Fields, WireFault, get_varint};
@@ -119,6 +119,17 @@ fn with_number(before: Vec<u32>, n: u64) -> Result<Vec<u32>, TileFault>
     Ok(numbers)
 }
 
+/// The number in front of packed ones, and how many bytes it takes.
+fn packed_number(bytes: &[u8]) -> Result<(u64, usize), TileFault>
+    ensures within { IfOk result (λ r. (0 < r.1) × (r.1 ≤ length bytes.now)) }
+    ensures exact { Reads (λ r. r) result (number_at bytes.now) }
+{
+    match get_varint(bytes) {
+        Ok(read) => Ok(read),
+        Err(_) => Err(TileFault::Wire),
+    }
+}
+
 /// The numbers that stand one after the other, behind those before.
 fn with_packed(before: Vec<u32>, bytes: &[u8]) -> Result<Vec<u32>, TileFault>
     ensures { Gives TileFault.Memory (λ v. v.items) result (packed_in (length bytes.now) before.items bytes.now) }
@@ -126,19 +137,17 @@ fn with_packed(before: Vec<u32>, bytes: &[u8]) -> Result<Vec<u32>, TileFault>
     let mut numbers = before;
     let mut rest = bytes;
     while rest.len() > 0 {
-        match get_varint(rest) {
-            Ok((n, len)) => {
-                numbers = with_number(numbers, n)?;
-                rest = &rest[len..];
-            }
-            Err(_) => return Err(TileFault::Wire),
-        }
+        let (n, len) = packed_number(rest)?;
+        numbers = with_number(numbers, n)?;
+        rest = &rest[len..];
     }
     Ok(numbers)
 }
 
 fn numbers_behind(number: u32, before: Vec<u32>, item: FieldItem<'_>) -> Result<Vec<u32>, TileFault>
-    ensures { Gives TileFault.Memory (λ v. v.items) result (after number numbers_after before.items (item_view item.entry)) }
+    ensures exact { Gives TileFault.Memory (λ v. v.items) result (after number numbers_after before.items (item_view item.entry)) }
+    // An allocation fails only where numbers may stand.
+    ensures memory { IfErr result (λ d. d ≡ TileFault.Memory → IsTrue (holds_numbers (item_view item.entry))) }
 {
     match item {
         Err(_) => Err(TileFault::Wire),
