@@ -1,6 +1,6 @@
 -- The fault that reading meets is one that the integers have.
 use Rattle.std.proofs.Common.{◌≡◌, ℕ, zero, suc, ◌%◌, ◌/◌, ◌<◌, ◌≤◌, Bool, true, false, cond, eqb, ltb, ne_eqb, ◌⊎◌, inl, inr, List, [], ◌∷◌, ◌++◌, length}
-use Rattle.std.proofs.Common.{Result, Ok, Err, refl, sym, ap, subst, ◌∙◌, append_assoc, arith}
+use Rattle.std.proofs.Common.{Ok, Err, refl, sym, ap, subst, ◌∙◌, append_assoc, arith}
 use Rattle.std.proofs.lemmas.Bool.{eqb-true, eqb-false, ltb-true, false≢true}
 use Rattle.reader.specs.Reading.{Read, ◌>>=◌, repeated}
 use Rattle.reader.proofs.Steps.{not_both, same_fault, then_err}
@@ -11,7 +11,7 @@ use Rattle.geometry_commands.specs.Commands.{step, steps, command, origin}
 use Rattle.geometry_commands.specs.Ways.{led_to, fits}
 use Rattle.geometry_commands.specs.declared.kinds.ShapeKind.{ShapeKind}
 use Rattle.geometry_commands.specs.declared.kinds.ShapeKind.TheVariants as kinds
-use Rattle.geometry_commands.specs.Shapes.{ShapeView, points, lines, rings, last_of, line_spelled, lines_spelled, least}
+use Rattle.geometry_commands.specs.Shapes.{points, lines, rings, last_of, line_spelled, lines_spelled, least}
 use Rattle.geometry_commands.specs.Decoding.{Walk, command_at, step_at, walk_at, close_at, line_made, line_end, line_others, line_second, line_first, line_at}
 use Rattle.geometry_commands.specs.Decoding.{lines_in, lines_at, points_end, points_behind, points_at, shape_at}
 use Rattle.geometry_commands.specs.Faulty.{CommandHas, ends, other, StepHas, few, far, WalkHas, LineHas, at_move, move_count, at_first, at_line, line_count}

@@ -1,13 +1,11 @@
 -- A pass over a message says what the values of its fields say, both ways.
 use Rattle.std.proofs.Common.{◌≡◌, ℕ, zero, suc, ◌<◌, ◌≤◌, Bool, true, false, cond, eqb, ltb, List, [], ◌∷◌, ◌++◌, length, take, drop, map, Option, Some}
-use Rattle.std.proofs.Common.{Result, Ok, Err, refl, sym, ap, subst, ◌∙◌, append_assoc, arith}
+use Rattle.std.proofs.Common.{Ok, Err, refl, sym, ap, subst, ◌∙◌, append_assoc, arith}
 use Rattle.std.proofs.lemmas.Bool.{ltb-false, le-ltb}
 use Rattle.std.proofs.lemmas.List.{append-nil, length-append, length-drop, take-append-drop, drop_at}
 use Rattle.reader.specs.Reading.{Read, ◌>>=◌, folded}
 use Rattle.reader.proofs.Steps.{done, same_value, not_both, then_ok, then_stop, then_is, then_same, guard_ok}
-use Rattle.pb_wire.specs.declared.fault.FaultKind.{FaultKind}
 use Rattle.pb_wire.specs.declared.fault.WireFault.{WireFault}
-use Rattle.pb_wire.specs.Varint.{varint_at}
 use Rattle.pb_wire.specs.Message.{Value, varint_value, eight_bytes, some_bytes, four_bytes, Entry}
 use Rattle.pb_wire.specs.Items.{Item, items_of}
 use Rattle.pb_wire.proofs.Message.{varint_len}

@@ -4,7 +4,7 @@ use Rattle.std.proofs.Common.{ne_eqb, Result, Ok, Err, refl, sym, ap, subst, ◌
 use Rattle.std.specs.Prelude.{◌||◌}
 use Rattle.std.proofs.lemmas.List.{length-drop, length-take, length-append, take-append-drop, drop_at}
 use Rattle.std.proofs.lemmas.Bool.{ltb-false, ltb-true, lt-ltb, le-ltb, eqb-true, eqb-false}
-use Rattle.reader.specs.Reading.{Read, ◌>>=◌}
+use Rattle.reader.specs.Reading.{◌>>=◌}
 use Rattle.reader.proofs.Steps.{failed, not_both, same_fault as same_kind, then_err}
 use Rattle.pb_wire.specs.declared.fault.FaultKind.{FaultKind}
 use Rattle.pb_wire.specs.declared.fault.WireFault.{WireFault}

@@ -1,8 +1,8 @@
 -- Steps that may fail, one after the other.
-use Rattle.std.proofs.Common.{◌≡◌, ℕ, zero, suc, ◌+◌, ◌-◌, ◌<◌, ◌≤◌, ◌⊎◌, inl, inr, Bool, true, false, cond, List, [], ◌∷◌, Result, Ok, Err}
+use Rattle.std.proofs.Common.{◌≡◌, ℕ, suc, ◌+◌, ◌-◌, ◌<◌, ◌≤◌, ◌⊎◌, inl, inr, Bool, true, false, cond, List, [], ◌∷◌, Result, Ok, Err}
 use Rattle.std.proofs.Common.{refl, sym, ap, subst, ◌∙◌, arith}
 use Rattle.std.specs.Prelude.{IfOk, IfErr, IsOk}
-use Rattle.reader.specs.Reading.{Read, ◌>>=◌, repeated, folded, Reads, Finds, GivesUnless, Gives}
+use Rattle.reader.specs.Reading.{Read, ◌>>=◌, repeated, folded, Gives}
 
 module _ {Fault : Type 0} where
   -- ---- what was read
