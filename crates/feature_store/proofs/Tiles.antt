@@ -11,7 +11,7 @@ use Rattle.feature_model.specs.Data.{FeatureData, TagData, ValueData, text_value
 use Rattle.feature_model.specs.Types.{IsEdit, ValueFitsTypes, TagFitsTypes}
 use Rattle.feature_model.specs.declared.limits.TheConstants.{GREATEST_ZOOM}
 use Rattle.geometry_commands.specs.Encodable.{CanSpell, FitsShape}
-use Rattle.geometry_commands.proofs.SpelledLaws.{spelled_is}
+use Rattle.geometry_commands.proofs.Laws.{spelled_is}
 use Rattle.mvt_layer.specs.Tile.{FeatureView, LayerView}
 use Rattle.mvt_write.specs.CanWrite.{CanWriteFeature, CanWriteLayer, CanWriteAll}
 use Rattle.mvt_write.specs.Fits.{FitsValue, FitsTag, FitsFeature, FitsLayer}

@@ -1,6 +1,6 @@
 pub mod FaultyLaws
+pub mod Laws
 pub mod Shaped
 pub mod Spelled
-pub mod SpelledLaws
 pub mod Stepwise
 pub mod Written

@@ -1,4 +1,4 @@
--- The faults that integers have, each at its place.
+-- The faults that integers have, each where it stands.
 use Rattle.std.specs.Prelude.{◌≡◌, ℕ, ◌<◌, ◌%◌, Bool, true, false, List, [], ◌∷◌, ◌++◌, length}
 use Rattle.std.specs.List.{AllByRecursion}
 use Rattle.geometry_commands.specs.declared.point.Pt.{Pt}
@@ -34,11 +34,18 @@ pub data LineHas (closed : Bool) (from : Pt) (ints : List ℕ) (d : GeometryFaul
   at_move : CommandHas move_to ints d → LineHas closed from ints d
   move_count : d ≡ faults.Count → (n : ℕ) → (rest : List ℕ) → ints ≡ command move_to n ∷ rest → (n ≡ 1 → ⊥) → LineHas closed from ints d
   at_first : (rest : List ℕ) → ints ≡ command move_to 1 ∷ rest → WalkHas 1 from rest d → LineHas closed from ints d
-  at_line : (ps : List Pt) → (rest : List ℕ) → length ps ≡ 1 → ints ≡ command move_to 1 ∷ (steps from ps ++ rest) → CommandHas line_to rest d → LineHas closed from ints d
-  line_count : d ≡ faults.Count → (ps : List Pt) → (n : ℕ) → (rest : List ℕ) → length ps ≡ 1 → ints ≡ command move_to 1 ∷ (steps from ps ++ (command line_to n ∷ rest)) → n < least closed → LineHas closed from ints d
-  at_others : (ps : List Pt) → (n : ℕ) → (rest : List ℕ) → length ps ≡ 1 → ints ≡ command move_to 1 ∷ (steps from ps ++ (command line_to n ∷ rest)) → WalkHas n (last_of from ps) rest d → LineHas closed from ints d
-  at_close : closed ≡ true → (ps : List Pt) → (qs : List Pt) → (rest : List ℕ) → length ps ≡ 1 → ints ≡ command move_to 1 ∷ (steps from ps ++ (command line_to (length qs) ∷ (steps (last_of from ps) qs ++ rest))) → CommandHas close_path rest d → LineHas closed from ints d
-  close_count : d ≡ faults.Count → closed ≡ true → (ps : List Pt) → (qs : List Pt) → (n : ℕ) → (rest : List ℕ) → length ps ≡ 1 → ints ≡ command move_to 1 ∷ (steps from ps ++ (command line_to (length qs) ∷ (steps (last_of from ps) qs ++ (command close_path n ∷ rest)))) → (n ≡ 1 → ⊥) → LineHas closed from ints d
+  at_line : (ps : List Pt) → (rest : List ℕ) → length ps ≡ 1 → ints ≡ command move_to 1 ∷ (steps from ps ++ rest) → CommandHas line_to rest d
+      → LineHas closed from ints d
+  line_count : d ≡ faults.Count → (ps : List Pt) → (n : ℕ) → (rest : List ℕ) → length ps ≡ 1
+      → ints ≡ command move_to 1 ∷ (steps from ps ++ (command line_to n ∷ rest)) → n < least closed → LineHas closed from ints d
+  at_others : (ps : List Pt) → (n : ℕ) → (rest : List ℕ) → length ps ≡ 1 → ints ≡ command move_to 1 ∷ (steps from ps ++ (command line_to n ∷ rest))
+      → WalkHas n (last_of from ps) rest d → LineHas closed from ints d
+  at_close : closed ≡ true → (ps : List Pt) → (qs : List Pt) → (rest : List ℕ) → length ps ≡ 1
+      → ints ≡ command move_to 1 ∷ (steps from ps ++ (command line_to (length qs) ∷ (steps (last_of from ps) qs ++ rest))) → CommandHas close_path rest d
+      → LineHas closed from ints d
+  close_count : d ≡ faults.Count → closed ≡ true → (ps : List Pt) → (qs : List Pt) → (n : ℕ) → (rest : List ℕ) → length ps ≡ 1
+      → ints ≡ command move_to 1 ∷ (steps from ps ++ (command line_to (length qs) ∷ (steps (last_of from ps) qs ++ (command close_path n ∷ rest))))
+      → (n ≡ 1 → ⊥) → LineHas closed from ints d
 
 -- where the way along lines ends
 abbrev pub end_of : Pt → List (List Pt) → Pt
@@ -58,7 +65,8 @@ pub data PointsHas (ints : List ℕ) (d : GeometryFault) : Type 0 where
   at_points : 0 < length ints → CommandHas move_to ints d → PointsHas ints d
   no_point : d ≡ faults.Count → (rest : List ℕ) → ints ≡ command move_to 0 ∷ rest → PointsHas ints d
   at_ways : (n : ℕ) → (rest : List ℕ) → ints ≡ command move_to n ∷ rest → WalkHas n origin rest d → PointsHas ints d
-  behind : d ≡ faults.Command → (ps : List Pt) → (rest : List ℕ) → ints ≡ command move_to (length ps) ∷ (steps origin ps ++ rest) → 0 < length rest → PointsHas ints d
+  behind : d ≡ faults.Command → (ps : List Pt) → (rest : List ℕ) → ints ≡ command move_to (length ps) ∷ (steps origin ps ++ rest) → 0 < length rest
+      → PointsHas ints d
 
 -- a fault of integers that are to be a shape of this kind
 abbrev pub ShapeHas : ShapeKind → List ℕ → GeometryFault → Type 0

@@ -1,8 +1,9 @@
 ghost use Rattle.std.specs.Prelude.{◌≡◌, ◌≢◌, ◌+◌, ◌*◌, ◌/◌, ◌<◌, ◌≤◌, ◌⊎◌, Bool, List, length, map, vec_len, vec_capacity, Ok, Err, IfOk, IfErr, OnOk};
+ghost use Rattle.reader.specs.Reading.{Reads, Gives};
 ghost use Rattle.geometry_commands.specs.Faulty.{ShapeHas};
 ghost use Rattle.geometry_commands.specs.Shapes.{shape_view, ShapeView, IsShape, least};
 ghost use Rattle.geometry_commands.specs.Ways.{along_at, moved_at};
-ghost use Rattle.geometry_commands.specs.Decoding.{Fails, Gives, command_at, step_at, walk_at, close_at, line_at, line_second, lines_at, points_at, shape_at};
+ghost use Rattle.geometry_commands.specs.Decoding.{command_at, step_at, walk_at, close_at, line_at, line_second, lines_at, points_at, shape_at};
 ghost use Rattle.geometry_commands.specs.Identifiers.{id_number};
 ghost use Rattle.geometry_commands.specs.Commands.{move_to, line_to};
 ghost use Rattle.geometry_commands.specs.declared.point.Pt.{Pt};
@@ -15,7 +16,7 @@ use pb_wire::unzigzag;
 use std::alloc::{AllocError, AllocFailed, Global};
 use thiserror::Error;
 
-/// Why integers are no shape of a kind, or that memory ran out.
+/// Why integers are no shape of a kind, or that an allocation failed.
 #[derive(Clone, Copy, Debug, PartialEq, Eq, Error)]
 pub enum GeometryFault {
     /// Another command stands where one must, or something behind the points.
@@ -57,7 +58,7 @@ fn along(from: i64, way: u32) -> Option<i64>
     from.checked_add(unzigzag(u64::from(way)))
 }
 
-/// The place that two numbers lead to from another.
+/// The point that two numbers lead to from another.
 #[tactic(auto, unfolding(crate::specs::Ways::led_to, crate::specs::Ways::fits))]
 fn moved(from: Pt, dx: u32, dy: u32) -> Option<Pt>
     ensures { result ≡ moved_at from dx dy }
@@ -70,7 +71,7 @@ fn moved(from: Pt, dx: u32, dy: u32) -> Option<Pt>
 /// How many times this command is done, which must stand in front, and what stands behind it.
 #[tactic(auto, unfolding(crate::specs::Decoding::command_at))]
 fn command_of(id: CommandId, ints: &[u32]) -> Result<(u32, &[u32]), GeometryFault>
-    ensures exact { Gives (λ x. (x.0, x.1.now)) result (command_at (id_number id) ints.now) }
+    ensures exact { Reads (λ x. (x.0, x.1.now)) result (command_at (id_number id) ints.now) }
     ensures behind { IfOk result (λ x. length x.1.now + 1 ≡ length ints.now) }
     ensures memory { result ≢ Err GeometryFault.Memory }
 {
@@ -87,7 +88,7 @@ fn command_of(id: CommandId, ints: &[u32]) -> Result<(u32, &[u32]), GeometryFaul
 /// The point to which the next two integers lead.
 #[tactic(auto, unfolding(crate::specs::Decoding::step_at))]
 fn step_of(from: Pt, ints: &[u32]) -> Result<(Pt, &[u32]), GeometryFault>
-    ensures exact { Gives (λ x. (x.0, x.1.now)) result (step_at from ints.now) }
+    ensures exact { Reads (λ x. (x.0, x.1.now)) result (step_at from ints.now) }
     ensures behind { IfOk result (λ x. length x.1.now + 2 ≡ length ints.now) }
     ensures memory { result ≢ Err GeometryFault.Memory }
 {
@@ -108,9 +109,9 @@ fn walk<'a>(
     count: u32,
     ints: &'a [u32],
 ) -> Result<(Vec<Pt>, Pt, &'a [u32]), GeometryFault>
-    ensures exact { Gives (λ x. (x.0.items, x.1, x.2.now)) result (walk_at count before.items from ints.entry.now) }
+    ensures exact { Gives GeometryFault.Memory (λ x. (x.0.items, x.1, x.2.now)) result (walk_at count before.items from ints.entry.now) }
     ensures behind { IfOk result (λ x. length x.2.now + 2 * count ≡ length ints.entry.now) }
-    // Memory runs out only where the vector has no room for the points that stand there.
+    // An allocation fails only where the vector has no room for the points that stand there.
     ensures full { IfErr result (λ fault. fault ≡ GeometryFault.Memory → vec_capacity before < vec_len before + length ints.entry.now / 2) }
 {
     let mut points = before;
@@ -128,7 +129,7 @@ fn walk<'a>(
 /// What stands behind the command that closes a ring.
 #[tactic(auto, unfolding(crate::specs::Decoding::close_at))]
 fn close_of(closed: bool, ints: &[u32]) -> Result<&[u32], GeometryFault>
-    ensures exact { Gives (λ x. x.now) result (close_at closed ints.now) }
+    ensures exact { Reads (λ x. x.now) result (close_at closed ints.now) }
     ensures memory { result ≢ Err GeometryFault.Memory }
 {
     if closed {
@@ -144,17 +145,14 @@ fn close_of(closed: bool, ints: &[u32]) -> Result<&[u32], GeometryFault>
 }
 
 /// What stands behind the command to move to the first point of a line, which is done once.
-#[tactic(auto, unfolding(crate::specs::Decoding::line_at, crate::specs::Decoding::line_first))]
+#[tactic(auto, unfolding(crate::specs::Decoding::line_at))]
 fn start_of(ints: &[u32]) -> Result<&[u32], GeometryFault>
     ensures found { IfOk result (λ rest. command_at move_to ints.now ≡ Ok (1, rest.now)) }
     ensures behind { IfOk result (λ rest. length rest.now + 1 ≡ length ints.now) }
-    ensures fault { IfErr result (λ fault. (closed : Bool) (from : Pt) → Fails fault (line_at closed from ints.now)) }
+    ensures fault { IfErr result (λ fault. (closed : Bool) (from : Pt) → line_at closed from ints.now ≡ Err fault) }
     ensures memory { result ≢ Err GeometryFault.Memory }
 {
-    let (count, rest) = match command_of(CommandId::MoveTo, ints) {
-        Ok(front) => front,
-        Err(fault) => return Err(fault),
-    };
+    let (count, rest) = command_of(CommandId::MoveTo, ints)?;
     if count != 1 {
         return Err(GeometryFault::Count);
     }
@@ -165,13 +163,10 @@ fn start_of(ints: &[u32]) -> Result<&[u32], GeometryFault>
 #[tactic(auto, unfolding(crate::specs::Decoding::line_second, crate::specs::Decoding::line_others))]
 fn count_of(closed: bool, ints: &[u32]) -> Result<(u32, &[u32]), GeometryFault>
     ensures found { IfOk result (λ x. (command_at line_to ints.now ≡ Ok (x.0, x.1.now)) × (least closed ≤ x.0)) }
-    ensures fault { IfErr result (λ fault. (points : List Pt) (at : Pt) → Fails fault (line_second closed (points, at, ints.now))) }
+    ensures fault { IfErr result (λ fault. (points : List Pt) (at : Pt) → line_second closed (points, at, ints.now) ≡ Err fault) }
     ensures memory { result ≢ Err GeometryFault.Memory }
 {
-    let (count, rest) = match command_of(CommandId::LineTo, ints) {
-        Ok(front) => front,
-        Err(fault) => return Err(fault),
-    };
+    let (count, rest) = command_of(CommandId::LineTo, ints)?;
     let least = if closed { 2 } else { 1 };
     if count < least {
         return Err(GeometryFault::Count);
@@ -180,14 +175,14 @@ fn count_of(closed: bool, ints: &[u32]) -> Result<(u32, &[u32]), GeometryFault>
 }
 
 /// A line, or a ring, which is closed.
-#[tactic(auto, unfolding(crate::specs::Decoding::line_at, crate::specs::Decoding::line_first, crate::specs::Decoding::line_second, crate::specs::Decoding::line_others, crate::specs::Decoding::line_end))]
+#[tactic(auto, unfolding(crate::specs::Decoding::line_at, crate::specs::Decoding::line_second, crate::specs::Decoding::line_others))]
 fn line_of(
     alloc: Global,
     closed: bool,
     from: Pt,
     ints: &[u32],
 ) -> Result<(Vec<Pt>, Pt, &[u32]), GeometryFault>
-    ensures exact { Gives (λ x. (x.0.items, x.1, x.2.now)) result (line_at closed from ints.now) }
+    ensures exact { Gives GeometryFault.Memory (λ x. (x.0.items, x.1, x.2.now)) result (line_at closed from ints.now) }
     ensures long { OnOk result (3 ≤ length ints.now) }
     ensures memory { IfErr result (λ fault. fault ≡ GeometryFault.Memory → 3 ≤ length ints.now) }
 {
@@ -201,7 +196,7 @@ fn line_of(
 
 /// Lines, or rings, each from where the one before it ends.
 fn lines_of(alloc: Global, closed: bool, ints: &[u32]) -> Result<Vec<Vec<Pt>>, GeometryFault>
-    ensures exact { Gives (λ v. map (λ l. l.items) v.items) result (lines_at closed ints.now) }
+    ensures exact { Gives GeometryFault.Memory (λ v. map (λ l. l.items) v.items) result (lines_at closed ints.now) }
     ensures memory { IfErr result (λ fault. fault ≡ GeometryFault.Memory → 3 ≤ length ints.now) }
 {
     let mut lines = Vec::new(alloc);
@@ -222,13 +217,10 @@ fn points_count(ints: &[u32]) -> Result<(u32, &[u32]), GeometryFault>
     requires { 0 < length ints.now }
     ensures found { IfOk result (λ x. (command_at move_to ints.now ≡ Ok (x.0, x.1.now)) × (0 < x.0)) }
     ensures behind { IfOk result (λ x. length x.1.now + 1 ≡ length ints.now) }
-    ensures fault { IfErr result (λ fault. Fails fault (points_at ints.now)) }
+    ensures fault { IfErr result (λ fault. points_at ints.now ≡ Err fault) }
     ensures memory { result ≢ Err GeometryFault.Memory }
 {
-    let (count, rest) = match command_of(CommandId::MoveTo, ints) {
-        Ok(front) => front,
-        Err(fault) => return Err(fault),
-    };
+    let (count, rest) = command_of(CommandId::MoveTo, ints)?;
     if count == 0 {
         return Err(GeometryFault::Count);
     }
@@ -249,7 +241,7 @@ fn check_end(rest: &[u32]) -> Result<(), GeometryFault>
 /// The points of one move.
 #[tactic(auto, unfolding(crate::specs::Decoding::points_at, crate::specs::Decoding::points_behind, crate::specs::Decoding::points_end))]
 fn points_of(alloc: Global, ints: &[u32]) -> Result<Vec<Pt>, GeometryFault>
-    ensures exact { Gives (λ v. v.items) result (points_at ints.now) }
+    ensures exact { Gives GeometryFault.Memory (λ v. v.items) result (points_at ints.now) }
     ensures memory { IfErr result (λ fault. fault ≡ GeometryFault.Memory → 3 ≤ length ints.now) }
 {
     if ints.len() == 0 {
@@ -271,12 +263,12 @@ fn points_of(alloc: Global, ints: &[u32]) -> Result<Vec<Pt>, GeometryFault>
 pub fn decode(alloc: Global, kind: ShapeKind, ints: &[u32]) -> Result<Shape, GeometryFault>
     // What is found is spelled so.
     ensures found { IfOk result (λ s. IsShape kind ints.now (shape_view s)) }
-    // What is spelled so is found, unless memory runs out.
-    ensures only { (s : ShapeView) → IsShape kind ints.now s → Gives shape_view result (Ok s) }
+    // What is spelled so is found, unless an allocation fails.
+    ensures only { (s : ShapeView) → IsShape kind ints.now s → Gives GeometryFault.Memory shape_view result (Ok s) }
     // The fault is one that the integers have.
-    ensures fault { IfErr result (λ d. (d ≡ GeometryFault.Memory → ⊥) → ShapeHas kind ints.now d) }
-    ensures exact { Gives shape_view result (shape_at kind ints.now) }
-    // Memory runs out only where a command and a point may stand, or all integers are to be kept.
+    ensures fault { IfErr result (λ d. d ≢ GeometryFault.Memory → ShapeHas kind ints.now d) }
+    ensures exact { Gives GeometryFault.Memory shape_view result (shape_at kind ints.now) }
+    // An allocation fails only where a command and a point may stand, or all integers are to be kept.
     ensures memory { IfErr result (λ d. d ≡ GeometryFault.Memory → (kind ≡ ShapeKind.Unknown) ⊎ (3 ≤ length ints.now)) }
 {
     shape_of(alloc, kind, ints)
@@ -285,7 +277,7 @@ pub fn decode(alloc: Global, kind: ShapeKind, ints: &[u32]) -> Result<Shape, Geo
 /// The shape, as the definitions read it.
 #[tactic(auto, unfolding(crate::specs::Decoding::shape_at))]
 fn shape_of(alloc: Global, kind: ShapeKind, ints: &[u32]) -> Result<Shape, GeometryFault>
-    ensures exact { Gives shape_view result (shape_at kind ints.now) }
+    ensures exact { Gives GeometryFault.Memory shape_view result (shape_at kind ints.now) }
     ensures memory { IfErr result (λ d. d ≡ GeometryFault.Memory → (kind ≡ ShapeKind.Unknown) ⊎ (3 ≤ length ints.now)) }
 {
     match kind {

@@ -10,8 +10,8 @@ ghost use Rattle.std.specs.List.{AllByRecursion};
 use crate::command::CommandId;
 use crate::kinds::ShapeKind;
 use crate::point::Pt;
-use pb_wire::{Memory, zigzag};
-use std::alloc::Global;
+use pb_wire::zigzag;
+use std::alloc::{AllocError, Global};
 
 /// The way along one axis, zigzag encoded.
 fn way(from: i64, to: i64) -> u32
@@ -23,7 +23,7 @@ fn way(from: i64, to: i64) -> u32
 
 /// Appends the two numbers of the way from one point to the next.
 #[tactic(auto, unfolding(crate::specs::Ways::fits))]
-fn put_step(out: &mut Vec<u32>, from: Pt, to: Pt) -> Result<(), Memory>
+fn put_step(out: &mut Vec<u32>, from: Pt, to: Pt) -> Result<(), AllocError>
     requires { IsNear from to }
     ensures step { OnOk result (out.new.items ≡ out.old.items ++ step from to) }
     ensures fits { FitsPt to }
@@ -33,8 +33,8 @@ fn put_step(out: &mut Vec<u32>, from: Pt, to: Pt) -> Result<(), Memory>
     Ok(())
 }
 
-/// Appends the way from a point along the others, and tells where it ends.
-fn put_steps(out: &mut Vec<u32>, from: Pt, points: &[Pt]) -> Result<Pt, Memory>
+/// Appends the way from a point along the others, and returns where it ends.
+fn put_steps(out: &mut Vec<u32>, from: Pt, points: &[Pt]) -> Result<Pt, AllocError>
     requires { AreNear from points.now }
     ensures steps { OnOk result (out.new.items ≡ out.old.items ++ steps from points.now) }
     ensures last { IfOk result (λ at. at ≡ last_of from points.now) }
@@ -48,8 +48,8 @@ fn put_steps(out: &mut Vec<u32>, from: Pt, points: &[Pt]) -> Result<Pt, Memory>
     Ok(at)
 }
 
-/// Appends a line, or a ring, which is closed, and tells where the cursor stands then.
-fn put_line(out: &mut Vec<u32>, closed: bool, from: Pt, line: &[Pt]) -> Result<Pt, Memory>
+/// Appends a line, or a ring, which is closed, and returns where the cursor stands then.
+fn put_line(out: &mut Vec<u32>, closed: bool, from: Pt, line: &[Pt]) -> Result<Pt, AllocError>
     requires { CanSpellLine closed from line.now }
     ensures line { OnOk result (out.new.items ≡ out.old.items ++ line_spelled closed from line.now) }
     ensures last { IfOk result (λ at. at ≡ last_of from line.now) }
@@ -68,7 +68,7 @@ fn put_line(out: &mut Vec<u32>, closed: bool, from: Pt, line: &[Pt]) -> Result<P
 }
 
 /// Lines, or rings, each from where the one before it ends.
-fn encode_all(alloc: Global, closed: bool, lines: &[Vec<Pt>]) -> Result<Vec<u32>, Memory>
+fn encode_all(alloc: Global, closed: bool, lines: &[Vec<Pt>]) -> Result<Vec<u32>, AllocError>
     requires { CanSpellLines closed origin (map (λ l. l.items) lines.now) }
     ensures spelled { IfOk result (λ v. v.items ≡ lines_spelled closed origin (map (λ l. l.items) lines.now)) }
     ensures whole { OnOk result (AllByRecursion (IsLine closed) (map (λ l. l.items) lines.now)) }
@@ -84,8 +84,8 @@ fn encode_all(alloc: Global, closed: bool, lines: &[Vec<Pt>]) -> Result<Vec<u32>
 /// The integers of points: one command to move, and the way along all of them (Mapbox Vector Tile 2.1, 4.3.4.2).
 ///
 /// There is at least one point, and fewer than 2^29. From point to point, the first counted from (0,0), each
-/// coordinate changes by at most 2^31 - 1. The only error is that memory runs out.
-pub fn encode_points(alloc: Global, points: &[Pt]) -> Result<Vec<u32>, Memory>
+/// coordinate changes by at most 2^31 - 1. The only error is that an allocation fails.
+pub fn encode_points(alloc: Global, points: &[Pt]) -> Result<Vec<u32>, AllocError>
     requires { CanSpell (shapes.points points.now) }
     ensures spelled { IfOk result (λ v. v.items ≡ points_spelled points.now) }
     // The integers are these points.
@@ -102,8 +102,8 @@ pub fn encode_points(alloc: Global, points: &[Pt]) -> Result<Vec<u32>, Memory>
 ///
 /// A line has at least two points, and fewer than 2^29. From point to point, the first counted from (0,0) and the
 /// first of each further line from the last of the one before it, each coordinate changes by at most 2^31 - 1. There
-/// may be no lines. The only error is that memory runs out.
-pub fn encode_lines(alloc: Global, lines: &[Vec<Pt>]) -> Result<Vec<u32>, Memory>
+/// may be no lines. The only error is that an allocation fails.
+pub fn encode_lines(alloc: Global, lines: &[Vec<Pt>]) -> Result<Vec<u32>, AllocError>
     requires { CanSpell (shapes.lines (map (λ l. l.items) lines.now)) }
     ensures spelled { IfOk result (λ v. v.items ≡ lines_spelled false origin (map (λ l. l.items) lines.now)) }
     // The integers are these lines.
@@ -117,8 +117,8 @@ pub fn encode_lines(alloc: Global, lines: &[Vec<Pt>]) -> Result<Vec<u32>, Memory
 ///
 /// A ring has at least three points, the first not repeated at its end, and fewer than 2^29. From point to point, the
 /// first counted from (0,0) and the first of each further ring from the last of the one before it, each coordinate
-/// changes by at most 2^31 - 1. There may be no rings. The only error is that memory runs out.
-pub fn encode_rings(alloc: Global, rings: &[Vec<Pt>]) -> Result<Vec<u32>, Memory>
+/// changes by at most 2^31 - 1. There may be no rings. The only error is that an allocation fails.
+pub fn encode_rings(alloc: Global, rings: &[Vec<Pt>]) -> Result<Vec<u32>, AllocError>
     requires { CanSpell (shapes.rings (map (λ l. l.items) rings.now)) }
     ensures spelled { IfOk result (λ v. v.items ≡ lines_spelled true origin (map (λ l. l.items) rings.now)) }
     // The integers are these rings.

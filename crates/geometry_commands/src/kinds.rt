@@ -3,7 +3,7 @@ use crate::point::Pt;
 /// What a feature's shape is made of, by the feature's own word (Mapbox Vector Tile 2.1, 4.3.4).
 #[derive(Clone, Copy, Debug, PartialEq, Eq)]
 pub enum ShapeKind {
-    /// Nothing is told: the integers may be any.
+    /// No kind is given: the integers may be any.
     Unknown,
     Points,
     Lines,

@@ -5,13 +5,11 @@ mod command;
 mod decoding;
 mod encode;
 mod kinds;
-mod laws;
 mod point;
 
 pub use decoding::{GeometryFault, decode};
 pub use encode::{encode_lines, encode_points, encode_rings};
 pub use kinds::{Shape, ShapeKind};
-pub use laws::{one_shape_law, spelled_law};
 pub use point::Pt;
 
 #[cfg(test)]

@@ -1,7 +1,8 @@
-ghost use Rattle.std.specs.Prelude.{◌≡◌, IfOk};
+ghost use Rattle.std.specs.Prelude.{◌≡◌, map};
+ghost use Rattle.geometry_commands.specs.Encodable.{CanSpell};
+ghost use Rattle.geometry_commands.specs.Shapes as shapes;
 
 use super::*;
-use pb_wire::Memory;
 use std::alloc::Global;
 use std::process::Abort;
 use std::test::Fail;
@@ -24,6 +25,32 @@ fn reads(
     let read = decode(alloc, kind, ints)?;
     assert_eq!(rt; &read, shape);
     Ok(())
+}
+
+/// The integers are written for these lines, and read as them.
+fn spells_lines(
+    rt: &impl Abort,
+    alloc: Global,
+    lines: Vec<Vec<Pt>>,
+    ints: &[u32],
+) -> Result<(), Fail>
+    requires { CanSpell (shapes.lines (map (λ l. l.items) lines.items)) }
+{
+    assert_eq!(rt; encode_lines(alloc, lines.as_slice())?.as_slice(), ints);
+    reads(rt, alloc, ShapeKind::Lines, ints, &Shape::Lines(lines))
+}
+
+/// The integers are written for these rings, and read as them.
+fn spells_rings(
+    rt: &impl Abort,
+    alloc: Global,
+    rings: Vec<Vec<Pt>>,
+    ints: &[u32],
+) -> Result<(), Fail>
+    requires { CanSpell (shapes.rings (map (λ l. l.items) rings.items)) }
+{
+    assert_eq!(rt; encode_rings(alloc, rings.as_slice())?.as_slice(), ints);
+    reads(rt, alloc, ShapeKind::Polygons, ints, &Shape::Rings(rings))
 }
 
 /// "Example Point" of the standard.
@@ -59,12 +86,7 @@ fn two_lines(rt: HostRuntime) -> Result<(), Fail> {
     let second = [pt(1, 1), pt(3, 5)].to_vec(rt.alloc())?;
     let lines = vec![in rt.alloc(); first, second]?;
     let ints = [9, 4, 4, 18, 0, 16, 16, 0, 9, 17, 17, 10, 4, 8];
-    assert_eq!(rt;
-        encode_lines(rt.alloc(), lines.as_slice())?.as_slice(),
-        ints.as_slice()
-    );
-    let shape = Shape::Lines(lines);
-    reads(&rt, rt.alloc(), ShapeKind::Lines, &ints, &shape)
+    spells_lines(&rt, rt.alloc(), lines, &ints)
 }
 
 /// "Example Linestring" of the standard.
@@ -73,12 +95,7 @@ fn one_line(rt: HostRuntime) -> Result<(), Fail> {
     let line = [pt(2, 2), pt(2, 10), pt(10, 10)].to_vec(rt.alloc())?;
     let lines = vec![in rt.alloc(); line]?;
     let ints = [9, 4, 4, 18, 0, 16, 16, 0];
-    assert_eq!(rt;
-        encode_lines(rt.alloc(), lines.as_slice())?.as_slice(),
-        ints.as_slice()
-    );
-    let shape = Shape::Lines(lines);
-    reads(&rt, rt.alloc(), ShapeKind::Lines, &ints, &shape)
+    spells_lines(&rt, rt.alloc(), lines, &ints)
 }
 
 /// "Example Polygon" of the standard.
@@ -87,12 +104,7 @@ fn one_ring(rt: HostRuntime) -> Result<(), Fail> {
     let ring = [pt(3, 6), pt(8, 12), pt(20, 34)].to_vec(rt.alloc())?;
     let rings = vec![in rt.alloc(); ring]?;
     let ints = [9, 6, 12, 18, 10, 12, 24, 44, 15];
-    assert_eq!(rt;
-        encode_rings(rt.alloc(), rings.as_slice())?.as_slice(),
-        ints.as_slice()
-    );
-    let shape = Shape::Rings(rings);
-    reads(&rt, rt.alloc(), ShapeKind::Polygons, &ints, &shape)
+    spells_rings(&rt, rt.alloc(), rings, &ints)
 }
 
 /// "Example Multi Polygon" of the standard.
@@ -106,12 +118,7 @@ fn two_polygons(rt: HostRuntime) -> Result<(), Fail> {
         9, 0, 0, 26, 20, 0, 0, 20, 19, 0, 15, 9, 22, 2, 26, 18, 0, 0, 18, 17, 0, 15, 9, 4, 13, 26,
         0, 8, 8, 0, 0, 7, 15,
     ];
-    assert_eq!(rt;
-        encode_rings(rt.alloc(), rings.as_slice())?.as_slice(),
-        ints.as_slice()
-    );
-    let shape = Shape::Rings(rings);
-    reads(&rt, rt.alloc(), ShapeKind::Polygons, &ints, &shape)
+    spells_rings(&rt, rt.alloc(), rings, &ints)
 }
 
 #[test]

@@ -8,6 +8,7 @@ use Rattle.pb_wire.specs.Message.{Value, varint_value, eight_bytes, some_bytes, 
 use Rattle.geometry_commands.specs.Shapes.{ShapeView, IsShape}
 use Rattle.mvt_layer.specs.declared.fault.TileFault.{TileFault}
 use Rattle.mvt_layer.specs.declared.fault.TileFault.TheVariants as faults
+use Rattle.mvt_layer.specs.declared.layers.TheConstants.{DEFAULT_VERSION, CURRENT_VERSION}
 use Rattle.mvt_layer.specs.Tile.{TagView, Tagged, LayerView}
 use Rattle.mvt_layer.specs.Reading.{kind_of, is_known, has_kind, has_name}
 use Rattle.mvt_layer.specs.Reads.{values_of, LastNumber, LastBytes, AreParts, Each, ArePacked, AreNumbers, AreTags, LastValue, IsText, SaysValue, SaysLayer}
@@ -35,7 +36,8 @@ pub record PackedHas (part : List ℕ) (d : TileFault) : Type 0 where
   pub rest : List ℕ
   pub parts : part ≡ front ++ rest
   pub packed : ArePacked front numbers
-  pub fault : ((d ≡ faults.Wire) × (0 < length rest) × NoVarint rest) ⊎ ((d ≡ faults.Range) × ((first : List ℕ) × (more : List ℕ) × (n : ℕ) × (rest ≡ first ++ more) × IsVarint first n × (4294967295 < n)))
+  pub fault : ((d ≡ faults.Wire) × (0 < length rest) × NoVarint rest)
+      ⊎ ((d ≡ faults.Range) × ((first : List ℕ) × (more : List ℕ) × (n : ℕ) × (rest ≡ first ++ more) × IsVarint first n × (4294967295 < n)))
 
 -- a value that can't be a number of 64 bits, bytes, a list of numbers of 32 bits
 abbrev pub BadNumber : Value → TileFault → Type 0
@@ -68,17 +70,21 @@ pub data FeatureHas (keys : List (List ℕ)) (values : List TagView) (bytes : Li
   at_indices : PassHas BadNumbers 2 bytes d → FeatureHas keys values bytes d
   at_ints : PassHas BadNumbers 4 bytes d → FeatureHas keys values bytes d
   -- the indices name no tags
-  at_tags : d ≡ faults.Tag → (fields : List Entry) → IsMessage bytes fields → (indices : List ℕ) → AreNumbers (values_of 2 fields) indices → ((ts : List Tagged) → AreTags keys values [] indices ts → ⊥) → FeatureHas keys values bytes d
+  at_tags : d ≡ faults.Tag → (fields : List Entry) → IsMessage bytes fields → (indices : List ℕ) → AreNumbers (values_of 2 fields) indices
+      → ((ts : List Tagged) → AreTags keys values [] indices ts → ⊥) → FeatureHas keys values bytes d
   -- the integers spell no shape of the kind
-  at_shape : d ≡ faults.Geometry → (fields : List Entry) → IsMessage bytes fields → (kind : Option ℕ) → LastNumber None (values_of 3 fields) kind → (ints : List ℕ) → AreNumbers (values_of 4 fields) ints → ((s : ShapeView) → IsShape (kind_of kind) ints s → ⊥) → FeatureHas keys values bytes d
+  at_shape : d ≡ faults.Geometry → (fields : List Entry) → IsMessage bytes fields → (kind : Option ℕ) → LastNumber None (values_of 3 fields) kind
+      → (ints : List ℕ) → AreNumbers (values_of 4 fields) ints → ((s : ShapeView) → IsShape (kind_of kind) ints s → ⊥) → FeatureHas keys values bytes d
 
 -- a fault of the value of a tag
 pub data ValueHas (bytes : List ℕ) (d : TileFault) : Type 0 where
   value_broken : d ≡ faults.Wire → IsBroken bytes → ValueHas bytes d
   value_kind : d ≡ faults.Kind → (f : Entry) → HasField bytes f → is_known f.number ≡ true → has_kind f.number f.value ≡ false → ValueHas bytes d
-  two_kinds : d ≡ faults.Value → (f : Entry) → (g : Entry) → HasField bytes f → HasField bytes g → is_known f.number ≡ true → is_known g.number ≡ true → (f.number ≡ g.number → ⊥) → ValueHas bytes d
+  two_kinds : d ≡ faults.Value → (f : Entry) → (g : Entry) → HasField bytes f → HasField bytes g → is_known f.number ≡ true → is_known g.number ≡ true
+      → (f.number ≡ g.number → ⊥) → ValueHas bytes d
   no_kind : d ≡ faults.Value → (fields : List Entry) → IsMessage bytes fields → filter (λ f. is_known f.number) fields ≡ [] → ValueHas bytes d
-  value_text : d ≡ faults.Utf8 → (fields : List Entry) → IsMessage bytes fields → (f : Entry) → LastValue None (filter (λ f. is_known f.number) fields) (Some f) → (part : List ℕ) → f.value ≡ some_bytes part → (IsUtf8 part → ⊥) → ValueHas bytes d
+  value_text : d ≡ faults.Utf8 → (fields : List Entry) → IsMessage bytes fields → (f : Entry) → LastValue None (filter (λ f. is_known f.number) fields) (Some f)
+      → (part : List ℕ) → f.value ≡ some_bytes part → (IsUtf8 part → ⊥) → ValueHas bytes d
 
 -- a part among others
 abbrev pub IsAmong : List ℕ → List (List ℕ) → Type 0
@@ -93,17 +99,28 @@ pub data LayerHas (bytes : List ℕ) (d : TileFault) : Type 0 where
   at_values : PassHas BadBytes 4 bytes d → LayerHas bytes d
   at_features : PassHas BadBytes 2 bytes d → LayerHas bytes d
   no_name : d ≡ faults.Name → (fields : List Entry) → IsMessage bytes fields → LastBytes None (values_of 1 fields) None → LayerHas bytes d
-  name_text : d ≡ faults.Utf8 → (fields : List Entry) → IsMessage bytes fields → (part : List ℕ) → LastBytes None (values_of 1 fields) (Some part) → (IsUtf8 part → ⊥) → LayerHas bytes d
-  large_number : d ≡ faults.Range → (fields : List Entry) → IsMessage bytes fields → (number : ℕ) → (number ≡ 15) ⊎ (number ≡ 5) → (n : ℕ) → LastNumber None (values_of number fields) (Some n) → 4294967295 < n → LayerHas bytes d
-  other_version : d ≡ faults.Version → (fields : List Entry) → IsMessage bytes fields → (n : ℕ) → LastNumber None (values_of 15 fields) (Some n) → (n ≡ 1 → ⊥) → (n ≡ 2 → ⊥) → LayerHas bytes d
+  name_text : d ≡ faults.Utf8 → (fields : List Entry) → IsMessage bytes fields → (part : List ℕ) → LastBytes None (values_of 1 fields) (Some part)
+      → (IsUtf8 part → ⊥) → LayerHas bytes d
+  large_number : d ≡ faults.Range → (fields : List Entry) → IsMessage bytes fields → (number : ℕ) → (number ≡ 15) ⊎ (number ≡ 5) → (n : ℕ)
+      → LastNumber None (values_of number fields) (Some n) → 4294967295 < n → LayerHas bytes d
+  other_version : d ≡ faults.Version → (fields : List Entry) → IsMessage bytes fields → (n : ℕ) → LastNumber None (values_of 15 fields) (Some n)
+      → (n ≡ DEFAULT_VERSION → ⊥) → (n ≡ CURRENT_VERSION → ⊥) → LayerHas bytes d
   no_extent : d ≡ faults.Extent → (fields : List Entry) → IsMessage bytes fields → LastNumber None (values_of 5 fields) (Some 0) → LayerHas bytes d
-  key_text : d ≡ faults.Utf8 → (fields : List Entry) → IsMessage bytes fields → (raw : List (List ℕ)) → AreParts (values_of 3 fields) raw → (p : List ℕ) → IsAmong p raw → (IsUtf8 p → ⊥) → LayerHas bytes d
-  in_value : (fields : List Entry) → IsMessage bytes fields → (raw : List (List ℕ)) → AreParts (values_of 4 fields) raw → (p : List ℕ) → IsAmong p raw → ValueHas p d → LayerHas bytes d
-  in_feature : (fields : List Entry) → IsMessage bytes fields → (raw_keys : List (List ℕ)) → AreParts (values_of 3 fields) raw_keys → (keys : List (List ℕ)) → Each IsText raw_keys keys → (raw_values : List (List ℕ)) → AreParts (values_of 4 fields) raw_values → (values : List TagView) → Each SaysValue raw_values values → (raw : List (List ℕ)) → AreParts (values_of 2 fields) raw → (p : List ℕ) → IsAmong p raw → FeatureHas keys values p d → LayerHas bytes d
+  key_text : d ≡ faults.Utf8 → (fields : List Entry) → IsMessage bytes fields → (raw : List (List ℕ)) → AreParts (values_of 3 fields) raw → (p : List ℕ)
+      → IsAmong p raw → (IsUtf8 p → ⊥) → LayerHas bytes d
+  in_value : (fields : List Entry) → IsMessage bytes fields → (raw : List (List ℕ)) → AreParts (values_of 4 fields) raw → (p : List ℕ) → IsAmong p raw
+      → ValueHas p d → LayerHas bytes d
+  in_feature : (fields : List Entry) → IsMessage bytes fields → (raw_keys : List (List ℕ)) → AreParts (values_of 3 fields) raw_keys → (keys : List (List ℕ))
+      → Each IsText raw_keys keys → (raw_values : List (List ℕ)) → AreParts (values_of 4 fields) raw_values → (values : List TagView)
+      → Each SaysValue raw_values values → (raw : List (List ℕ)) → AreParts (values_of 2 fields) raw → (p : List ℕ) → IsAmong p raw → FeatureHas keys values p d
+      → LayerHas bytes d
 
 -- a fault of a tile
 pub data TileHas (bytes : List ℕ) (d : TileFault) : Type 0 where
   at_layers : PassHas BadBytes 3 bytes d → TileHas bytes d
-  in_layer : (fields : List Entry) → IsMessage bytes fields → (raw : List (List ℕ)) → AreParts (values_of 3 fields) raw → (p : List ℕ) → IsAmong p raw → LayerHas p d → TileHas bytes d
+  in_layer : (fields : List Entry) → IsMessage bytes fields → (raw : List (List ℕ)) → AreParts (values_of 3 fields) raw → (p : List ℕ) → IsAmong p raw
+      → LayerHas p d → TileHas bytes d
   -- two of the layers have one name
-  layer_twice : d ≡ faults.LayerTwice → (fields : List Entry) → IsMessage bytes fields → (front : List (List ℕ)) → (p : List ℕ) → (rest : List (List ℕ)) → AreParts (values_of 3 fields) (front ++ p ∷ rest) → (ls : List LayerView) → Each SaysLayer front ls → (l : LayerView) → SaysLayer p l → has_name ls l.name ≡ true → TileHas bytes d
+  layer_twice : d ≡ faults.LayerTwice → (fields : List Entry) → IsMessage bytes fields → (front : List (List ℕ)) → (p : List ℕ) → (rest : List (List ℕ))
+      → AreParts (values_of 3 fields) (front ++ p ∷ rest) → (ls : List LayerView) → Each SaysLayer front ls → (l : LayerView) → SaysLayer p l
+      → has_name ls l.name ≡ true → TileHas bytes d

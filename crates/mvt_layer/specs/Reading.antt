@@ -1,6 +1,8 @@
 -- Reading a tile, with the first fault that is met.
-use Rattle.std.specs.Prelude.{◌≡◌, ℕ, zero, suc, negsuc, ◌-◌, ◌/◌, ◌^◌, ◌==◌, ◌||◌, ◌&&◌, ◌%◌, not, nat_lt, Bool, true, false, if◌then◌else◌, List, [], ◌∷◌, ◌++◌, length, drop, slice_get, Option, Some, None, Result, Ok, Err}
+use Rattle.std.specs.Prelude.{ℕ, zero, suc, negsuc, ◌-◌, ◌/◌, ◌^◌, ◌==◌, ◌||◌, ◌&&◌, ◌%◌, not, nat_lt, Bool, true, false, if◌then◌else◌, List, [], ◌∷◌}
+use Rattle.std.specs.Prelude.{◌++◌, length, drop, slice_get, Option, Some, None, Result, Ok, Err}
 use Rattle.std.specs.Str.{is_utf8, bytes_eq}
+use Rattle.reader.specs.Reading.{Read, ◌>>=◌, folded}
 use Rattle.pb_wire.specs.Varint.{varint_at}
 use Rattle.pb_wire.specs.declared.fault.FaultKind.{FaultKind}
 use Rattle.pb_wire.specs.Message.{Value, varint_value, eight_bytes, some_bytes, four_bytes, Entry}
@@ -12,104 +14,89 @@ use Rattle.geometry_commands.specs.Shapes.{ShapeView}
 use Rattle.geometry_commands.specs.Decoding.{shape_at}
 use Rattle.mvt_layer.specs.declared.fault.TileFault.{TileFault}
 use Rattle.mvt_layer.specs.declared.fault.TileFault.TheVariants as faults
+use Rattle.mvt_layer.specs.declared.layers.TheConstants.{DEFAULT_EXTENT, DEFAULT_VERSION, CURRENT_VERSION}
 use Rattle.mvt_layer.specs.Tile.{TagView, text, natural, negative, truth, float, double, Tagged, FeatureView, LayerView}
-
-abbrev pub Read : Type 0 → Type 0
-Read X = Result X TileFault
-
-infixl 10 ◌>>=◌
-abbrev pub ◌>>=◌ : {A B : Type 0} → Read A → (A → Read B) → Read B
-(Ok x) >>= f = f x
-(Err fault) >>= f = Err fault
-
--- a function answers what reading gives, unless memory ran out
-abbrev pub Fails : {Y : Type 0} → TileFault → Read Y → Type 0
-Fails faults.Memory read = Unit {0}
-Fails faults.Wire read = read ≡ Err faults.Wire
-Fails faults.Kind read = read ≡ Err faults.Kind
-Fails faults.Range read = read ≡ Err faults.Range
-Fails faults.Utf8 read = read ≡ Err faults.Utf8
-Fails faults.Name read = read ≡ Err faults.Name
-Fails faults.Version read = read ≡ Err faults.Version
-Fails faults.Extent read = read ≡ Err faults.Extent
-Fails faults.LayerTwice read = read ≡ Err faults.LayerTwice
-Fails faults.Value read = read ≡ Err faults.Value
-Fails faults.Tag read = read ≡ Err faults.Tag
-Fails faults.Geometry read = read ≡ Err faults.Geometry
-
-abbrev pub Gives : {X Y : Type 0} → (X → Y) → Result X TileFault → Read Y → Type 0
-Gives view (Ok x) read = read ≡ Ok (view x)
-Gives view (Err e) read = Fails e read
 
 -- ---- one pass over the fields of a message
 
--- a state after all the items, or the first fault
-unfoldable pub folded : {S X : Type 0} → (S → X → Read S) → S → List X → Read S
-folded step s [] = Ok s
-folded step s (i ∷ is) = step s i >>= λ next. folded step next is
-
 -- a state after one item more, where only the fields of this number count
-abbrev pub after : {S : Type 0} → ℕ → (S → Value → Read S) → S → Item → Read S
+abbrev pub after : {S : Type 0} → ℕ → (S → Value → Read TileFault S) → S → Item → Read TileFault S
 after number step s (Err fault) = Err faults.Wire
 after number step s (Ok f) = if f.number == number then step s f.value else Ok s
 
-abbrev pub pass : {S : Type 0} → ℕ → (S → Value → Read S) → S → List ℕ → Read S
+abbrev pub pass : {S : Type 0} → ℕ → (S → Value → Read TileFault S) → S → List ℕ → Read TileFault S
 pass number step s bytes = folded (after number step) s (items_of bytes)
 
-abbrev pub number_after : Option ℕ → Value → Read (Option ℕ)
+abbrev pub number_after : Option ℕ → Value → Read TileFault (Option ℕ)
 number_after last (varint_value n) = Ok (Some n)
 number_after last (eight_bytes part) = Err faults.Kind
 number_after last (some_bytes part) = Err faults.Kind
 number_after last (four_bytes part) = Err faults.Kind
 
-abbrev pub bytes_after : Option (List ℕ) → Value → Read (Option (List ℕ))
+abbrev pub bytes_after : Option (List ℕ) → Value → Read TileFault (Option (List ℕ))
 bytes_after last (some_bytes part) = Ok (Some part)
 bytes_after last (varint_value n) = Err faults.Kind
 bytes_after last (eight_bytes part) = Err faults.Kind
 bytes_after last (four_bytes part) = Err faults.Kind
 
-abbrev pub parts_after : List (List ℕ) → Value → Read (List (List ℕ))
+abbrev pub parts_after : List (List ℕ) → Value → Read TileFault (List (List ℕ))
 parts_after before (some_bytes part) = Ok (before ++ part ∷ [])
 parts_after before (varint_value n) = Err faults.Kind
 parts_after before (eight_bytes part) = Err faults.Kind
 parts_after before (four_bytes part) = Err faults.Kind
 
 -- a number of 32 bits
-abbrev pub number_more : List ℕ → ℕ → Read (List ℕ)
+abbrev pub number_more : List ℕ → ℕ → Read TileFault (List ℕ)
 number_more before n = if nat_lt 4294967295 n then Err faults.Range else Ok (before ++ n ∷ [])
 
--- what a number in front leads to
-abbrev pub packed_then : (ℕ × ℕ → Read (List ℕ)) → Result (ℕ × ℕ) FaultKind → Read (List ℕ)
-packed_then next (Ok n) = next n
-packed_then next (Err kind) = Err faults.Wire
+-- what was read, or that it is broken
+abbrev pub or_broken : {X : Type 0} → Result X FaultKind → Read TileFault X
+or_broken (Ok x) = Ok x
+or_broken (Err kind) = Err faults.Wire
+
+-- the number in front, and its length
+abbrev pub number_at : List ℕ → Read TileFault (ℕ × ℕ)
+number_at bytes = or_broken (varint_at bytes)
 
 -- numbers one after the other, so many at most
-unfoldable pub packed_in : ℕ → List ℕ → List ℕ → Read (List ℕ)
+unfoldable pub packed_in : ℕ → List ℕ → List ℕ → Read TileFault (List ℕ)
 packed_in zero before bytes = Ok before
 packed_in (suc more) before [] = Ok before
-packed_in (suc more) before (b ∷ bs) = packed_then (λ n. number_more before n.0 >>= λ ns. packed_in more ns (drop n.1 (b ∷ bs))) (varint_at (b ∷ bs))
+packed_in (suc more) before (b ∷ bs) = number_at (b ∷ bs) >>= λ n. number_more before n.0 >>= λ ns. packed_in more ns (drop n.1 (b ∷ bs))
 
-abbrev pub numbers_after : List ℕ → Value → Read (List ℕ)
+abbrev pub numbers_after : List ℕ → Value → Read TileFault (List ℕ)
 numbers_after before (varint_value n) = number_more before n
 numbers_after before (some_bytes part) = packed_in (length part) before part
 numbers_after before (eight_bytes part) = Err faults.Kind
 numbers_after before (four_bytes part) = Err faults.Kind
 
-abbrev pub last_number_in : ℕ → List ℕ → Read (Option ℕ)
+-- whether numbers may stand in a value
+abbrev pub may_hold : Value → Bool
+may_hold (varint_value n) = true
+may_hold (some_bytes part) = true
+may_hold (eight_bytes part) = false
+may_hold (four_bytes part) = false
+
+-- whether numbers may stand in an item
+abbrev pub holds_numbers : Item → Bool
+holds_numbers (Err fault) = false
+holds_numbers (Ok f) = may_hold f.value
+
+abbrev pub last_number_in : ℕ → List ℕ → Read TileFault (Option ℕ)
 last_number_in number bytes = pass number number_after None bytes
 
-abbrev pub last_bytes_in : ℕ → List ℕ → Read (Option (List ℕ))
+abbrev pub last_bytes_in : ℕ → List ℕ → Read TileFault (Option (List ℕ))
 last_bytes_in number bytes = pass number bytes_after None bytes
 
-abbrev pub parts_in : ℕ → List ℕ → Read (List (List ℕ))
+abbrev pub parts_in : ℕ → List ℕ → Read TileFault (List (List ℕ))
 parts_in number bytes = pass number parts_after [] bytes
 
-abbrev pub numbers_in : ℕ → List ℕ → Read (List ℕ)
+abbrev pub numbers_in : ℕ → List ℕ → Read TileFault (List ℕ)
 numbers_in number bytes = pass number numbers_after [] bytes
 
 -- ---- values
 
-abbrev pub text_at : List ℕ → Read (List ℕ)
+abbrev pub text_at : List ℕ → Read TileFault (List ℕ)
 text_at bytes = if is_utf8 bytes then Ok bytes else Err faults.Utf8
 
 -- the integer of 64 bits in two's complement
@@ -135,14 +122,14 @@ may_follow None number = true
 may_follow (Some f) number = f.number == number
 
 -- the last field that says a value, where all that do have one number
-abbrev pub value_after : Option Entry → Item → Read (Option Entry)
+abbrev pub value_after : Option Entry → Item → Read TileFault (Option Entry)
 value_after last (Err fault) = Err faults.Wire
 value_after last (Ok f) =
     if is_known f.number then (if has_kind f.number f.value then (if may_follow last f.number then Ok (Some f) else Err faults.Value) else Err faults.Kind)
     else Ok last
 
 -- the meaning of a field
-unfoldable pub meaning : ℕ → Value → Read TagView
+unfoldable pub meaning : ℕ → Value → Read TileFault TagView
 meaning number (some_bytes part) = text_at part >>= λ t. Ok (text t)
 meaning number (four_bytes part) = Ok (float part)
 meaning number (eight_bytes part) = Ok (double part)
@@ -152,23 +139,23 @@ meaning number (varint_value n) =
     else (if number == 6 then Ok (zigzag_tag n)
     else Ok (truth (not (n == 0)))))
 
-abbrev pub meant : Option Entry → Read TagView
+abbrev pub meant : Option Entry → Read TileFault TagView
 meant None = Err faults.Value
 meant (Some f) = meaning f.number f.value
 
-abbrev pub last_value_in : List ℕ → Read (Option Entry)
+abbrev pub last_value_in : List ℕ → Read TileFault (Option Entry)
 last_value_in bytes = folded value_after None (items_of bytes)
 
-unfoldable pub tag_value_at : List ℕ → Read TagView
+unfoldable pub tag_value_at : List ℕ → Read TileFault TagView
 tag_value_at bytes = last_value_in bytes >>= meant
 
 -- ---- lists of parts
 
 -- what was read, and what one part more reads as
-abbrev pub part_more : {X : Type 0} → (List ℕ → Read X) → List X → List ℕ → Read (List X)
+abbrev pub part_more : {X : Type 0} → (List ℕ → Read TileFault X) → List X → List ℕ → Read TileFault (List X)
 part_more read before part = read part >>= λ x. Ok (before ++ x ∷ [])
 
-abbrev pub each_in : {X : Type 0} → (List ℕ → Read X) → List (List ℕ) → Read (List X)
+abbrev pub each_in : {X : Type 0} → (List ℕ → Read TileFault X) → List (List ℕ) → Read TileFault (List X)
 each_in read parts = folded (part_more read) [] parts
 
 -- ---- features
@@ -177,7 +164,7 @@ abbrev pub kind_of : Option ℕ → ShapeKind
 kind_of None = kinds.Unknown
 kind_of (Some n) = if n == 1 then kinds.Points else (if n == 2 then kinds.Lines else (if n == 3 then kinds.Polygons else kinds.Unknown))
 
-abbrev pub shape_read : Result ShapeView GeometryFault → Read ShapeView
+abbrev pub shape_read : Result ShapeView GeometryFault → Read TileFault ShapeView
 shape_read (Ok s) = Ok s
 shape_read (Err fault) = Err faults.Geometry
 
@@ -188,29 +175,29 @@ any_of p (x ∷ xs) = if p x then true else any_of p xs
 abbrev pub has_number : List ℕ → ℕ → Bool
 has_number ms n = any_of (λ m. m == n) ms
 
-abbrev pub found_tag : Option (List ℕ) → Option TagView → Read Tagged
+abbrev pub found_tag : Option (List ℕ) → Option TagView → Read TileFault Tagged
 found_tag (Some key) (Some value) = Ok (key, value)
 found_tag (Some key) None = Err faults.Tag
 found_tag None value = Err faults.Tag
 
 -- the tag of a key index and a value index, where those key indices were used
-unfoldable pub tag_at : List (List ℕ) → List TagView → List ℕ → ℕ → ℕ → Read Tagged
+unfoldable pub tag_at : List (List ℕ) → List TagView → List ℕ → ℕ → ℕ → Read TileFault Tagged
 tag_at keys values used k v = if has_number used k then Err faults.Tag else found_tag (slice_get keys k) (slice_get values v)
 
-unfoldable pub tags_at : List (List ℕ) → List TagView → List ℕ → List Tagged → List ℕ → Read (List Tagged)
+unfoldable pub tags_at : List (List ℕ) → List TagView → List ℕ → List Tagged → List ℕ → Read TileFault (List Tagged)
 tags_at keys values used before [] = Ok before
 tags_at keys values used before (k ∷ []) = Err faults.Tag
 tags_at keys values used before (k ∷ v ∷ ns) = tag_at keys values used k v >>= λ t. tags_at keys values (used ++ k ∷ []) (before ++ t ∷ []) ns
 
-abbrev pub feature_made : Option ℕ → List Tagged → ShapeView → Read FeatureView
+abbrev pub feature_made : Option ℕ → List Tagged → ShapeView → Read TileFault FeatureView
 feature_made id tags shape = Ok (record { id = id; tags = tags; shape = shape })
 
 -- what the raw parts of a feature make
-unfoldable pub feature_of_parts : List (List ℕ) → List TagView → Option ℕ → Option ℕ → List ℕ → List ℕ → Read FeatureView
+unfoldable pub feature_of_parts : List (List ℕ) → List TagView → Option ℕ → Option ℕ → List ℕ → List ℕ → Read TileFault FeatureView
 feature_of_parts keys values id kind indices ints =
     tags_at keys values [] [] indices >>= λ tags. shape_read (shape_at (kind_of kind) ints) >>= λ shape. feature_made id tags shape
 
-unfoldable pub feature_at : List (List ℕ) → List TagView → List ℕ → Read FeatureView
+unfoldable pub feature_at : List (List ℕ) → List TagView → List ℕ → Read TileFault FeatureView
 feature_at keys values bytes =
     last_number_in 1 bytes >>= λ id.
     last_number_in 3 bytes >>= λ kind.
@@ -220,25 +207,25 @@ feature_at keys values bytes =
 
 -- ---- layers
 
-abbrev pub name_at : Option (List ℕ) → Read (List ℕ)
+abbrev pub name_at : Option (List ℕ) → Read TileFault (List ℕ)
 name_at None = Err faults.Name
 name_at (Some part) = text_at part
 
 -- a number of 32 bits, or what it is where there is none
-abbrev pub small_at : ℕ → Option ℕ → Read ℕ
+abbrev pub small_at : ℕ → Option ℕ → Read TileFault ℕ
 small_at otherwise None = Ok otherwise
 small_at otherwise (Some n) = if nat_lt 4294967295 n then Err faults.Range else Ok n
 
-unfoldable pub version_at : Option ℕ → Read ℕ
-version_at last = small_at 1 last >>= λ n. if (n == 1) || (n == 2) then Ok n else Err faults.Version
+unfoldable pub version_at : Option ℕ → Read TileFault ℕ
+version_at last = small_at DEFAULT_VERSION last >>= λ n. if (n == DEFAULT_VERSION) || (n == CURRENT_VERSION) then Ok n else Err faults.Version
 
-unfoldable pub extent_at : Option ℕ → Read ℕ
-extent_at last = small_at 4096 last >>= λ n. if n == 0 then Err faults.Extent else Ok n
+unfoldable pub extent_at : Option ℕ → Read TileFault ℕ
+extent_at last = small_at DEFAULT_EXTENT last >>= λ n. if n == 0 then Err faults.Extent else Ok n
 
-abbrev pub layer_made : List ℕ → ℕ → ℕ → List FeatureView → Read LayerView
+abbrev pub layer_made : List ℕ → ℕ → ℕ → List FeatureView → Read TileFault LayerView
 layer_made name version extent features = Ok (record { name = name; version = version; extent = extent; features = features })
 
-unfoldable pub layer_at : List ℕ → Read LayerView
+unfoldable pub layer_at : List ℕ → Read TileFault LayerView
 layer_at bytes =
     last_bytes_in 1 bytes >>= λ raw_name. name_at raw_name >>= λ name.
     last_number_in 15 bytes >>= λ raw_version. version_at raw_version >>= λ version.
@@ -254,14 +241,14 @@ abbrev pub has_name : List LayerView → List ℕ → Bool
 has_name ls name = any_of (λ l. bytes_eq l.name name) ls
 
 -- the layers with one more, whose name is to be new
-abbrev pub layer_added : List LayerView → LayerView → Read (List LayerView)
+abbrev pub layer_added : List LayerView → LayerView → Read TileFault (List LayerView)
 layer_added before l = if has_name before l.name then Err faults.LayerTwice else Ok (before ++ l ∷ [])
 
-abbrev pub layer_more : List LayerView → List ℕ → Read (List LayerView)
+abbrev pub layer_more : List LayerView → List ℕ → Read TileFault (List LayerView)
 layer_more before part = layer_at part >>= layer_added before
 
-abbrev pub layers_in : List (List ℕ) → Read (List LayerView)
+abbrev pub layers_in : List (List ℕ) → Read TileFault (List LayerView)
 layers_in parts = folded layer_more [] parts
 
-unfoldable pub tile_at : List ℕ → Read (List LayerView)
+unfoldable pub tile_at : List ℕ → Read TileFault (List LayerView)
 tile_at bytes = parts_in 3 bytes >>= λ raw. layers_in raw

@@ -5,6 +5,7 @@ use Rattle.std.specs.Str.{IsUtf8}
 use Rattle.pb_wire.specs.Varint.{IsVarint}
 use Rattle.pb_wire.specs.Message.{Value, varint_value, eight_bytes, some_bytes, four_bytes, Entry, IsMessage}
 use Rattle.geometry_commands.specs.Shapes.{IsShape}
+use Rattle.mvt_layer.specs.declared.layers.TheConstants.{DEFAULT_EXTENT, DEFAULT_VERSION, CURRENT_VERSION}
 use Rattle.mvt_layer.specs.Tile.{TagView, Tagged, FeatureView, LayerView}
 use Rattle.mvt_layer.specs.Reading.{is_known, has_kind, may_follow, meaning, has_number, has_name, kind_of}
 
@@ -33,7 +34,7 @@ LastBytes before (four_bytes _ ∷ vs) last = ⊥
 abbrev pub AreParts : List Value → List (List ℕ) → Type 0
 AreParts vs parts = vs ≡ map (λ p. some_bytes p) parts
 
--- what stands at each place belongs together
+-- what stands at each index belongs together
 abbrev pub Each : {X : Type 0} → (List ℕ → X → Type 0) → List (List ℕ) → List X → Type 0
 Each Says [] [] = Unit {0}
 Each Says (p ∷ ps) (x ∷ xs) = Says p x × Each Says ps xs
@@ -70,7 +71,9 @@ pub record SaysValue (bytes : List ℕ) (v : TagView) : Type 0 where
 abbrev pub AreTags : List (List ℕ) → List TagView → List ℕ → List ℕ → List Tagged → Type 0
 AreTags keys values used [] tags = tags ≡ []
 AreTags keys values used (k ∷ []) tags = ⊥
-AreTags keys values used (k ∷ v ∷ ns) tags = (t : Tagged) × (rest : List Tagged) × (tags ≡ t ∷ rest) × (has_number used k ≡ false) × (slice_get keys k ≡ Some t.0) × (slice_get values v ≡ Some t.1) × AreTags keys values (used ++ k ∷ []) ns rest
+AreTags keys values used (k ∷ v ∷ ns) tags =
+    (t : Tagged) × (rest : List Tagged) × (tags ≡ t ∷ rest) × (has_number used k ≡ false) × (slice_get keys k ≡ Some t.0) × (slice_get values v ≡ Some t.1)
+    × AreTags keys values (used ++ k ∷ []) ns rest
 
 -- with these pools, the bytes say a feature
 pub record SaysFeature (keys : List (List ℕ)) (values : List TagView) (bytes : List ℕ) (f : FeatureView) : Type 0 where
@@ -101,11 +104,11 @@ pub record SaysLayer (bytes : List ℕ) (l : LayerView) : Type 0 where
   pub name_text : IsUtf8 l.name
   pub raw_version : Option ℕ
   pub raw_version_is : LastNumber None (values_of 15 fields) raw_version
-  pub version : SmallOr 1 raw_version l.version
-  pub version_known : (l.version ≡ 1) ⊎ (l.version ≡ 2)
+  pub version : SmallOr DEFAULT_VERSION raw_version l.version
+  pub version_known : (l.version ≡ DEFAULT_VERSION) ⊎ (l.version ≡ CURRENT_VERSION)
   pub raw_extent : Option ℕ
   pub raw_extent_is : LastNumber None (values_of 5 fields) raw_extent
-  pub extent : SmallOr 4096 raw_extent l.extent
+  pub extent : SmallOr DEFAULT_EXTENT raw_extent l.extent
   pub extent_some : 0 < l.extent
   pub raw_keys : List (List ℕ)
   pub raw_keys_are : AreParts (values_of 3 fields) raw_keys

@@ -6,7 +6,7 @@ ghost use Rattle.mvt_layer.specs.declared.fault.TileFault.TheVariants.{Memory};
 use std::alloc::{AllocError, AllocFailed};
 use thiserror::Error;
 
-/// Why bytes are no tile, or that memory ran out.
+/// Why bytes are no tile, or that an allocation failed.
 #[derive(Clone, Copy, Debug, PartialEq, Eq, Error)]
 pub enum TileFault {
     /// M1: bytes that are to be a message are none.

@@ -1,9 +1,10 @@
 //! Features.
 
-ghost use Rattle.std.specs.Prelude.{◌≡◌, ℕ, [], slice_get};
+ghost use Rattle.std.specs.Prelude.{◌≡◌, ℕ, ◌<◌, ◌≤◌, ◌⊎◌, [], true, false, length, slice_get, OnOk, IfErr};
+ghost use Rattle.reader.specs.Reading.{Reads, Gives};
 ghost use Rattle.geometry_commands.specs.Shapes.{shape_view};
 ghost use Rattle.mvt_layer.specs.Tile.{bytes_of, tag_view, tag_views, tagged, feature_view};
-ghost use Rattle.mvt_layer.specs.Reading.{Gives, found_tag, kind_of, tags_at, shape_read, feature_at, feature_of_parts};
+ghost use Rattle.mvt_layer.specs.Reading.{found_tag, kind_of, tags_at, shape_read, feature_at, feature_of_parts};
 ghost use Rattle.geometry_commands.specs.Decoding.{shape_at};
 
 use crate::fault::TileFault;
@@ -29,7 +30,7 @@ fn tag_of<'a>(
     key: u32,
     value: u32,
 ) -> Result<(&'a str, TagValue<'a>), TileFault>
-    ensures { Gives (λ t. (t.0.now, tag_view t.1)) result (found_tag (slice_get (bytes_of keys.entry.now) key) (slice_get (tag_views values.entry.now) value)) }
+    ensures { Reads (λ t. (t.0.now, tag_view t.1)) result (found_tag (slice_get (bytes_of keys.entry.now) key) (slice_get (tag_views values.entry.now) value)) }
 {
     let Some(text) = keys.get(key as usize) else {
         return Err(TileFault::Tag);
@@ -40,6 +41,28 @@ fn tag_of<'a>(
     Ok((*text, *said))
 }
 
+/// Two indices are left, a key's and a value's.
+fn check_two(indices: &[u32]) -> Result<(), TileFault>
+    ensures two { OnOk result (2 ≤ length indices.now) }
+    ensures odd { IfErr result (λ d. (d ≡ TileFault.Tag) × (length indices.now < 2)) }
+{
+    if indices.len() < 2 {
+        return Err(TileFault::Tag);
+    }
+    Ok(())
+}
+
+/// The key index came for the first time.
+fn check_new(is_new: bool) -> Result<(), TileFault>
+    ensures new { OnOk result (is_new ≡ true) }
+    ensures twice { IfErr result (λ d. (d ≡ TileFault.Tag) × (is_new ≡ false)) }
+{
+    if !is_new {
+        return Err(TileFault::Tag);
+    }
+    Ok(())
+}
+
 /// The tags of these indices, a key's and a value's in turn. A key index comes once.
 fn tags_of<'a>(
     alloc: Global,
@@ -47,19 +70,15 @@ fn tags_of<'a>(
     values: &[TagValue<'a>],
     indices: &[u32],
 ) -> Result<Vec<(&'a str, TagValue<'a>)>, TileFault>
-    ensures { Gives (λ v. tagged v.items) result (tags_at (bytes_of keys.entry.now) (tag_views values.entry.now) [] [] indices.now) }
+    ensures { Gives TileFault.Memory (λ v. tagged v.items) result (tags_at (bytes_of keys.entry.now) (tag_views values.entry.now) [] [] indices.now) }
 {
     let mut used = BTreeSet::new(alloc);
     let mut tags = Vec::new(alloc);
     let mut rest = indices;
     while rest.len() > 0 {
-        if rest.len() < 2 {
-            return Err(TileFault::Tag);
-        }
+        check_two(rest)?;
         let is_new = used.insert(rest[0])?;
-        if !is_new {
-            return Err(TileFault::Tag);
-        }
+        check_new(is_new)?;
         let tag = tag_of(keys, values, rest[0], rest[1])?;
         tags.push(tag)?;
         rest = &rest[2..];
@@ -67,7 +86,7 @@ fn tags_of<'a>(
     Ok(tags)
 }
 
-/// The kind that a feature tells; unknown where it tells none, or one that the standard doesn't have.
+/// The kind of a feature; unknown where it has none, or one that the standard doesn't have.
 fn kind_said(kind: Option<u64>) -> ShapeKind
     ensures { result ≡ kind_of kind }
 {
@@ -81,7 +100,9 @@ fn kind_said(kind: Option<u64>) -> ShapeKind
 
 /// The shape that a feature's integers spell.
 fn shape_of(alloc: Global, kind: ShapeKind, ints: &[u32]) -> Result<Shape, TileFault>
-    ensures { Gives shape_view result (shape_read (shape_at kind ints.now)) }
+    ensures exact { Gives TileFault.Memory shape_view result (shape_read (shape_at kind ints.now)) }
+    // An allocation fails only where decoding may allocate.
+    ensures memory { IfErr result (λ d. d ≡ TileFault.Memory → (kind ≡ ShapeKind.Unknown) ⊎ (3 ≤ length ints.now)) }
 {
     match decode(alloc, kind, ints) {
         Ok(shape) => Ok(shape),
@@ -98,7 +119,7 @@ pub(crate) fn feature_of<'a>(
     values: &[TagValue<'a>],
     bytes: &'a [u8],
 ) -> Result<TileFeature<'a>, TileFault>
-    ensures { Gives feature_view result (feature_at (bytes_of keys.entry.now) (tag_views values.entry.now) bytes.entry.now) }
+    ensures { Gives TileFault.Memory feature_view result (feature_at (bytes_of keys.entry.now) (tag_views values.entry.now) bytes.entry.now) }
 {
     let id = last_number(bytes, ID)?;
     let kind = last_number(bytes, KIND)?;

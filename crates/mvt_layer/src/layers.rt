@@ -1,11 +1,13 @@
 //! Layers and tiles.
 
-ghost use Rattle.std.specs.Prelude.{◌≡◌, ℕ, [], List, map, IfOk, IfErr};
+ghost use Rattle.std.specs.Prelude.{◌≡◌, ◌≢◌, ℕ, [], List, map, IfOk, IfErr};
+ghost use Rattle.reader.specs.Reading.{Reads, Gives};
 ghost use Rattle.mvt_layer.specs.Faulty.{TileHas};
 ghost use Rattle.mvt_layer.specs.Reads.{ReadsAs};
 ghost use Rattle.std.specs.Option.{option_map};
 ghost use Rattle.mvt_layer.specs.Tile.{bytes_of, tag_view, tag_views, feature_view, layer_view, layer_views, LayerView};
-ghost use Rattle.mvt_layer.specs.Reading.{Gives, text_at, tag_value_at, feature_at, each_in, name_at, small_at, version_at, extent_at, layer_at, layer_more, layers_in, tile_at};
+ghost use Rattle.mvt_layer.specs.Reading.{text_at, tag_value_at, feature_at, each_in, name_at, small_at, version_at, extent_at, layer_at, layer_more};
+ghost use Rattle.mvt_layer.specs.Reading.{layers_in, tile_at};
 
 use crate::fault::TileFault;
 use crate::features::feature_of;
@@ -35,7 +37,7 @@ const LAYERS: u32 = 3;
 
 /// The keys' texts.
 fn texts_of<'a>(alloc: Global, raw: &[&'a [u8]]) -> Result<Vec<&'a str>, TileFault>
-    ensures { Gives (λ v. bytes_of v.items) result (each_in text_at (bytes_of raw.entry.now)) }
+    ensures { Gives TileFault.Memory (λ v. bytes_of v.items) result (each_in text_at (bytes_of raw.entry.now)) }
 {
     let mut texts = Vec::new(alloc);
     for part in raw {
@@ -46,7 +48,7 @@ fn texts_of<'a>(alloc: Global, raw: &[&'a [u8]]) -> Result<Vec<&'a str>, TileFau
 }
 
 fn values_of<'a>(alloc: Global, raw: &[&'a [u8]]) -> Result<Vec<TagValue<'a>>, TileFault>
-    ensures { Gives (λ v. tag_views v.items) result (each_in tag_value_at (bytes_of raw.entry.now)) }
+    ensures { Gives TileFault.Memory (λ v. tag_views v.items) result (each_in tag_value_at (bytes_of raw.entry.now)) }
 {
     let mut values = Vec::new(alloc);
     for part in raw {
@@ -63,7 +65,8 @@ fn features_of<'a>(
     values: &[TagValue<'a>],
     raw: &[&'a [u8]],
 ) -> Result<Vec<TileFeature<'a>>, TileFault>
-    ensures { Gives (λ v. map feature_view v.items) result (each_in (feature_at (bytes_of keys.entry.now) (tag_views values.entry.now)) (bytes_of raw.entry.now)) }
+    ensures { Gives TileFault.Memory (λ v. map feature_view v.items) result
+        (each_in (feature_at (bytes_of keys.entry.now) (tag_views values.entry.now)) (bytes_of raw.entry.now)) }
 {
     let mut features = Vec::new(alloc);
     for part in raw {
@@ -75,7 +78,7 @@ fn features_of<'a>(
 
 /// The layer's name.
 fn name_of(last: Option<&[u8]>) -> Result<&str, TileFault>
-    ensures { Gives (λ t. t.now) result (name_at (option_map (λ b. b.now) last.entry)) }
+    ensures { Reads (λ t. t.now) result (name_at (option_map (λ b. b.now) last.entry)) }
 {
     match last {
         Some(part) => text_of(part),
@@ -85,7 +88,7 @@ fn name_of(last: Option<&[u8]>) -> Result<&str, TileFault>
 
 /// A number of 32 bits, or what it is where there is none.
 fn small(otherwise: u32, last: Option<u64>) -> Result<u32, TileFault>
-    ensures { Gives (λ n. n) result (small_at otherwise last) }
+    ensures { Reads (λ n. n) result (small_at otherwise last) }
 {
     match last {
         None => Ok(otherwise),
@@ -99,13 +102,13 @@ fn small(otherwise: u32, last: Option<u64>) -> Result<u32, TileFault>
     }
 }
 
-/// The layer's version, 1 where it tells none.
+/// The layer's version, `DEFAULT_VERSION` where it tells none.
 #[tactic(auto, unfolding(crate::specs::Reading::version_at))]
 fn version_of(last: Option<u64>) -> Result<u32, TileFault>
-    ensures { Gives (λ n. n) result (version_at last) }
+    ensures { Reads (λ n. n) result (version_at last) }
 {
-    let n = small(1, last)?;
-    if n == 1 || n == 2 {
+    let n = small(DEFAULT_VERSION, last)?;
+    if n == DEFAULT_VERSION || n == CURRENT_VERSION {
         Ok(n)
     } else {
         Err(TileFault::Version)
@@ -115,7 +118,7 @@ fn version_of(last: Option<u64>) -> Result<u32, TileFault>
 /// The layer's extent, `DEFAULT_EXTENT` where it tells none.
 #[tactic(auto, unfolding(crate::specs::Reading::extent_at))]
 fn extent_of(last: Option<u64>) -> Result<u32, TileFault>
-    ensures { Gives (λ n. n) result (extent_at last) }
+    ensures { Reads (λ n. n) result (extent_at last) }
 {
     let n = small(DEFAULT_EXTENT, last)?;
     if n == 0 {
@@ -128,7 +131,7 @@ fn extent_of(last: Option<u64>) -> Result<u32, TileFault>
 /// A layer: its pools first, wherever they stand, and then its features.
 #[tactic(auto, unfolding(crate::specs::Reading::layer_at))]
 fn layer_of<'a>(alloc: Global, bytes: &'a [u8]) -> Result<Layer<'a>, TileFault>
-    ensures { Gives layer_view result (layer_at bytes.entry.now) }
+    ensures { Gives TileFault.Memory layer_view result (layer_at bytes.entry.now) }
 {
     let name = name_of(last_bytes(bytes, NAME)?)?;
     let version = version_of(last_number(bytes, VERSION)?)?;
@@ -153,7 +156,7 @@ fn layer_behind<'a>(
     before: NamedLayers<'a>,
     part: &'a [u8],
 ) -> Result<NamedLayers<'a>, TileFault>
-    ensures { Gives (λ n. layer_views n.layers.items) result (layer_more (layer_views before.entry.layers.items) part.entry.now) }
+    ensures { Gives TileFault.Memory (λ n. layer_views n.layers.items) result (layer_more (layer_views before.entry.layers.items) part.entry.now) }
 {
     let layer = layer_of(alloc, part)?;
     before.with(layer)
@@ -161,7 +164,7 @@ fn layer_behind<'a>(
 
 /// The layers that these parts say, of different names.
 fn layers_of<'a>(alloc: Global, raw: &[&'a [u8]]) -> Result<Vec<Layer<'a>>, TileFault>
-    ensures { Gives (λ v. layer_views v.items) result (layers_in (bytes_of raw.entry.now)) }
+    ensures { Gives TileFault.Memory (λ v. layer_views v.items) result (layers_in (bytes_of raw.entry.now)) }
 {
     let mut all = NamedLayers::new(alloc);
     for part in raw {
@@ -173,7 +176,7 @@ fn layers_of<'a>(alloc: Global, raw: &[&'a [u8]]) -> Result<Vec<Layer<'a>>, Tile
 /// The tile, as the definitions read it.
 #[tactic(auto, unfolding(crate::specs::Reading::tile_at))]
 fn tile_of<'a>(alloc: Global, bytes: &'a [u8]) -> Result<Vec<Layer<'a>>, TileFault>
-    ensures { Gives (λ v. layer_views v.items) result (tile_at bytes.entry.now) }
+    ensures { Gives TileFault.Memory (λ v. layer_views v.items) result (tile_at bytes.entry.now) }
 {
     let raw = parts(alloc, bytes, LAYERS)?;
     layers_of(alloc, &raw)
@@ -181,20 +184,20 @@ fn tile_of<'a>(alloc: Global, bytes: &'a [u8]) -> Result<Vec<Layer<'a>>, TileFau
 
 /// The layers of a tile (Mapbox Vector Tile 2.1, 4). Names, keys and texts are parts of the bytes.
 ///
-/// Versions 1 and 2 are read; a layer that tells none is of version 1, one that tells no extent has 4096. Fields that
+/// Versions 1 and 2 are read; a layer that has none is of version 1, one that has no extent has 4096. Fields that
 /// the standard doesn't have are skipped, the last of a field that is to come once counts, and numbers of tags and
 /// geometry may come packed or one by one. A feature of no kind, or of one that the standard doesn't have, keeps its
 /// integers as `Shape::Raw`.
 ///
-/// Where a tile has several faults, the one that is told is one that it has.
+/// Where a tile has several faults, the one that is returned is one that it has.
 pub fn read_tile<'a>(alloc: Global, bytes: &'a [u8]) -> Result<Vec<Layer<'a>>, TileFault>
     // What is read stands there.
     ensures found { IfOk result (λ v. ReadsAs bytes.entry.now (layer_views v.items)) }
-    // What stands there is read, unless memory runs out.
-    ensures only { (ls : List LayerView) → ReadsAs bytes.entry.now ls → Gives (λ v. layer_views v.items) result (Ok ls) }
+    // What stands there is read, unless an allocation fails.
+    ensures only { (ls : List LayerView) → ReadsAs bytes.entry.now ls → Gives TileFault.Memory (λ v. layer_views v.items) result (Ok ls) }
     // The fault is one that the bytes have.
-    ensures fault { IfErr result (λ d. (d ≡ TileFault.Memory → ⊥) → TileHas bytes.entry.now d) }
-    ensures exact { Gives (λ v. layer_views v.items) result (tile_at bytes.entry.now) }
+    ensures fault { IfErr result (λ d. d ≢ TileFault.Memory → TileHas bytes.entry.now d) }
+    ensures exact { Gives TileFault.Memory (λ v. layer_views v.items) result (tile_at bytes.entry.now) }
 {
     tile_of(alloc, bytes)
 }

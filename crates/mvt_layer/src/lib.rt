@@ -3,7 +3,6 @@
 
 mod fault;
 mod features;
-mod laws;
 mod layers;
 mod named;
 mod passes;

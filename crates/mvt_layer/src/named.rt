@@ -1,11 +1,12 @@
 //! Layers of different names.
 
 ghost use Rattle.std.specs.Prelude.{◌≡◌, ℕ, List, [], ◌∷◌, ◌++◌};
+ghost use Rattle.reader.specs.Reading.{Finds};
 ghost use Rattle.std.specs.BTreeSet.{contains_by};
 ghost use Rattle.std.specs.Cmp.Lexicographic.{slice_cmp};
 ghost use Rattle.std.specs.Ordering.{nat_cmp};
 ghost use Rattle.mvt_layer.specs.Tile.{layer_view, layer_views};
-ghost use Rattle.mvt_layer.specs.Reading.{Gives, has_name, layer_added};
+ghost use Rattle.mvt_layer.specs.Reading.{has_name, layer_added};
 
 use crate::fault::TileFault;
 use crate::tile::Layer;
@@ -33,7 +34,7 @@ impl<'a> NamedLayers<'a> {
 
     /// One layer more, whose name is to be new.
     pub(crate) fn with(self, layer: Layer<'a>) -> Result<Self, TileFault>
-        ensures { Gives (λ n. layer_views n.layers.items) result (layer_added (layer_views self.entry.layers.items) (layer_view layer.entry)) }
+        ensures { Finds TileFault.Memory (λ n. layer_views n.layers.items) result (layer_added (layer_views self.entry.layers.items) (layer_view layer.entry)) }
     {
         let NamedLayers {
             mut layers,

@@ -1,10 +1,12 @@
 //! One pass over the fields of a message, for one field number.
 
-ghost use Rattle.std.specs.Prelude.{◌≡◌, ℕ, length, List, Option};
+ghost use Rattle.std.specs.Prelude.{◌≡◌, ℕ, ◌<◌, ◌≤◌, length, List, Option, IfOk, IfErr, IsTrue};
+ghost use Rattle.reader.specs.Reading.{Reads, Finds, Gives};
 ghost use Rattle.std.specs.Option.{option_map};
 ghost use Rattle.pb_wire.specs.Items.{item_view};
 ghost use Rattle.mvt_layer.specs.Tile.{bytes_of};
-ghost use Rattle.mvt_layer.specs.Reading.{Gives, after, number_after, bytes_after, parts_after, numbers_after, number_more, packed_in, last_number_in, last_bytes_in, parts_in, numbers_in};
+ghost use Rattle.mvt_layer.specs.Reading.{after, number_after, bytes_after, parts_after, numbers_after, number_more, packed_in, last_number_in, last_bytes_in};
+ghost use Rattle.mvt_layer.specs.Reading.{parts_in, numbers_in, number_at, holds_numbers};
 
 use crate::fault::TileFault;
 use pb_wire::{Field, FieldValue, Fields, WireFault, get_varint};
@@ -18,7 +20,7 @@ fn number_behind(
     last: Option<u64>,
     item: FieldItem<'_>,
 ) -> Result<Option<u64>, TileFault>
-    ensures { Gives (λ n. n) result (after number number_after last (item_view item.entry)) }
+    ensures { Reads (λ n. n) result (after number number_after last (item_view item.entry)) }
 {
     match item {
         Err(_) => Err(TileFault::Wire),
@@ -32,7 +34,7 @@ fn number_behind(
 
 /// The last number of a field.
 pub(crate) fn last_number(bytes: &[u8], number: u32) -> Result<Option<u64>, TileFault>
-    ensures { Gives (λ n. n) result (last_number_in number bytes.now) }
+    ensures { Reads (λ n. n) result (last_number_in number bytes.now) }
 {
     let mut last = None;
     for item in Fields::new(bytes) {
@@ -46,7 +48,7 @@ fn bytes_behind<'a>(
     last: Option<&'a [u8]>,
     item: FieldItem<'a>,
 ) -> Result<Option<&'a [u8]>, TileFault>
-    ensures { Gives (option_map (λ b. b.now)) result (after number bytes_after (option_map (λ b. b.now) last.entry) (item_view item.entry)) }
+    ensures { Reads (option_map (λ b. b.now)) result (after number bytes_after (option_map (λ b. b.now) last.entry) (item_view item.entry)) }
 {
     match item {
         Err(_) => Err(TileFault::Wire),
@@ -60,7 +62,7 @@ fn bytes_behind<'a>(
 
 /// The last bytes of a field.
 pub(crate) fn last_bytes<'a>(bytes: &'a [u8], number: u32) -> Result<Option<&'a [u8]>, TileFault>
-    ensures { Gives (option_map (λ b. b.now)) result (last_bytes_in number bytes.entry.now) }
+    ensures { Reads (option_map (λ b. b.now)) result (last_bytes_in number bytes.entry.now) }
 {
     let mut last = None;
     for item in Fields::new(bytes) {
@@ -74,7 +76,7 @@ fn parts_behind<'a>(
     before: Vec<&'a [u8]>,
     item: FieldItem<'a>,
 ) -> Result<Vec<&'a [u8]>, TileFault>
-    ensures { Gives (λ v. bytes_of v.items) result (after number parts_after (bytes_of before.entry.items) (item_view item.entry)) }
+    ensures { Finds TileFault.Memory (λ v. bytes_of v.items) result (after number parts_after (bytes_of before.entry.items) (item_view item.entry)) }
 {
     let mut parts = before;
     match item {
@@ -96,7 +98,7 @@ pub(crate) fn parts<'a>(
     bytes: &'a [u8],
     number: u32,
 ) -> Result<Vec<&'a [u8]>, TileFault>
-    ensures { Gives (λ v. bytes_of v.items) result (parts_in number bytes.entry.now) }
+    ensures { Gives TileFault.Memory (λ v. bytes_of v.items) result (parts_in number bytes.entry.now) }
 {
     let mut all = Vec::new(alloc);
     for item in Fields::new(bytes) {
@@ -107,7 +109,7 @@ pub(crate) fn parts<'a>(
 
 /// One number of 32 bits more.
 fn with_number(before: Vec<u32>, n: u64) -> Result<Vec<u32>, TileFault>
-    ensures { Gives (λ v. v.items) result (number_more before.items n) }
+    ensures { Finds TileFault.Memory (λ v. v.items) result (number_more before.items n) }
 {
     if n > 4_294_967_295 {
         return Err(TileFault::Range);
@@ -117,26 +119,35 @@ fn with_number(before: Vec<u32>, n: u64) -> Result<Vec<u32>, TileFault>
     Ok(numbers)
 }
 
+/// The number in front of packed ones, and how many bytes it takes.
+fn packed_number(bytes: &[u8]) -> Result<(u64, usize), TileFault>
+    ensures within { IfOk result (λ r. (0 < r.1) × (r.1 ≤ length bytes.now)) }
+    ensures exact { Reads (λ r. r) result (number_at bytes.now) }
+{
+    match get_varint(bytes) {
+        Ok(read) => Ok(read),
+        Err(_) => Err(TileFault::Wire),
+    }
+}
+
 /// The numbers that stand one after the other, behind those before.
 fn with_packed(before: Vec<u32>, bytes: &[u8]) -> Result<Vec<u32>, TileFault>
-    ensures { Gives (λ v. v.items) result (packed_in (length bytes.now) before.items bytes.now) }
+    ensures { Gives TileFault.Memory (λ v. v.items) result (packed_in (length bytes.now) before.items bytes.now) }
 {
     let mut numbers = before;
     let mut rest = bytes;
     while rest.len() > 0 {
-        match get_varint(rest) {
-            Ok((n, len)) => {
-                numbers = with_number(numbers, n)?;
-                rest = &rest[len..];
-            }
-            Err(_) => return Err(TileFault::Wire),
-        }
+        let (n, len) = packed_number(rest)?;
+        numbers = with_number(numbers, n)?;
+        rest = &rest[len..];
     }
     Ok(numbers)
 }
 
 fn numbers_behind(number: u32, before: Vec<u32>, item: FieldItem<'_>) -> Result<Vec<u32>, TileFault>
-    ensures { Gives (λ v. v.items) result (after number numbers_after before.items (item_view item.entry)) }
+    ensures exact { Gives TileFault.Memory (λ v. v.items) result (after number numbers_after before.items (item_view item.entry)) }
+    // An allocation fails only where numbers may stand.
+    ensures memory { IfErr result (λ d. d ≡ TileFault.Memory → IsTrue (holds_numbers (item_view item.entry))) }
 {
     match item {
         Err(_) => Err(TileFault::Wire),
@@ -151,7 +162,7 @@ fn numbers_behind(number: u32, before: Vec<u32>, item: FieldItem<'_>) -> Result<
 
 /// The numbers of a field, packed or not.
 pub(crate) fn numbers(alloc: Global, bytes: &[u8], number: u32) -> Result<Vec<u32>, TileFault>
-    ensures { Gives (λ v. v.items) result (numbers_in number bytes.now) }
+    ensures { Gives TileFault.Memory (λ v. v.items) result (numbers_in number bytes.now) }
 {
     let mut all = Vec::new(alloc);
     for item in Fields::new(bytes) {

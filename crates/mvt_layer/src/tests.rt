@@ -15,6 +15,23 @@ fn shape_of_points(alloc: Global, points: &[Pt]) -> Result<Shape, AllocError> {
     Ok(Shape::Points(points.to_vec(alloc)?))
 }
 
+/// The bytes are read as one layer of one feature.
+fn reads_one<'a>(
+    rt: &impl Abort,
+    alloc: Global,
+    bytes: &[u8],
+    feature: TileFeature<'a>,
+    (name, version, extent): (&'a str, u32, u32),
+) -> Result<(), Fail> {
+    let layer = Layer {
+        name,
+        version,
+        extent,
+        features: vec![in alloc; feature]?,
+    };
+    reads(rt, alloc, bytes, vec![in alloc; layer]?)
+}
+
 #[test]
 fn one_point(rt: HostRuntime) -> Result<(), Fail> {
     let feature = TileFeature {
@@ -22,17 +39,11 @@ fn one_point(rt: HostRuntime) -> Result<(), Fail> {
         tags: Vec::new(rt.alloc()),
         shape: shape_of_points(rt.alloc(), &[Pt::ORIGIN])?,
     };
-    let layer = Layer {
-        name: "p",
-        version: 2,
-        extent: 4096,
-        features: vec![in rt.alloc(); feature]?,
-    };
     let bytes = [
         0x1a, 0x13, 0x0a, 0x01, 0x70, 0x12, 0x09, 0x08, 0x07, 0x18, 0x01, 0x22, 0x03, 0x09, 0x00,
         0x00, 0x28, 0x80, 0x20, 0x78, 0x02,
     ];
-    reads(&rt, rt.alloc(), &bytes, vec![in rt.alloc(); layer]?)
+    reads_one(&rt, rt.alloc(), &bytes, feature, ("p", 2, 4096))
 }
 
 #[test]
@@ -54,19 +65,13 @@ fn four_tags(rt: HostRuntime) -> Result<(), Fail> {
         tags: tags.to_vec(rt.alloc())?,
         shape: shape_of_points(rt.alloc(), &[Pt::ORIGIN])?,
     };
-    let layer = Layer {
-        name: "p",
-        version: 2,
-        extent: 4096,
-        features: vec![in rt.alloc(); feature]?,
-    };
     let bytes = [
         0x1a, 0x3a, 0x0a, 0x01, 0x70, 0x12, 0x13, 0x08, 0x07, 0x12, 0x08, 0x00, 0x00, 0x01, 0x01,
         0x02, 0x02, 0x03, 0x03, 0x18, 0x01, 0x22, 0x03, 0x09, 0x00, 0x00, 0x1a, 0x01, 0x61, 0x1a,
         0x01, 0x62, 0x1a, 0x01, 0x63, 0x1a, 0x01, 0x64, 0x22, 0x03, 0x0a, 0x01, 0x78, 0x22, 0x02,
         0x30, 0x03, 0x22, 0x02, 0x28, 0x03, 0x22, 0x02, 0x38, 0x01, 0x28, 0x80, 0x20, 0x78, 0x02,
     ];
-    reads(&rt, rt.alloc(), &bytes, vec![in rt.alloc(); layer]?)
+    reads_one(&rt, rt.alloc(), &bytes, feature, ("p", 2, 4096))
 }
 
 // The tiles below are made by bench/tiles/foreign_tiles.py.
@@ -80,17 +85,11 @@ fn a_float(rt: HostRuntime) -> Result<(), Fail> {
         tags: tags.to_vec(rt.alloc())?,
         shape: shape_of_points(rt.alloc(), &[Pt::ORIGIN])?,
     };
-    let layer = Layer {
-        name: "p",
-        version: 1,
-        extent: 4096,
-        features: vec![in rt.alloc(); feature]?,
-    };
     let bytes = [
         0x1a, 0x1b, 0x0a, 0x01, 0x70, 0x12, 0x0c, 0x10, 0x00, 0x10, 0x00, 0x18, 0x01, 0x20, 0x09,
         0x20, 0x00, 0x20, 0x00, 0x1a, 0x01, 0x6b, 0x22, 0x05, 0x15, 0x00, 0x00, 0x80, 0x3f,
     ];
-    reads(&rt, rt.alloc(), &bytes, vec![in rt.alloc(); layer]?)
+    reads_one(&rt, rt.alloc(), &bytes, feature, ("p", 1, 4096))
 }
 
 /// Every kind of value, in a layer whose name comes last.
@@ -110,12 +109,6 @@ fn every_kind_of_value(rt: HostRuntime) -> Result<(), Fail> {
         tags: tags.to_vec(rt.alloc())?,
         shape: shape_of_points(rt.alloc(), &[Pt { x: 25, y: 17 }])?,
     };
-    let layer = Layer {
-        name: "v",
-        version: 2,
-        extent: 512,
-        features: vec![in rt.alloc(); feature]?,
-    };
     let bytes = [
         0x1a, 0x6e, 0x78, 0x02, 0x1a, 0x01, 0x61, 0x1a, 0x01, 0x62, 0x1a, 0x01, 0x63, 0x1a, 0x01,
         0x64, 0x1a, 0x01, 0x65, 0x1a, 0x01, 0x66, 0x1a, 0x01, 0x67, 0x22, 0x03, 0x0a, 0x01, 0x78,
@@ -126,7 +119,7 @@ fn every_kind_of_value(rt: HostRuntime) -> Result<(), Fail> {
         0x02, 0x02, 0x03, 0x03, 0x04, 0x04, 0x05, 0x05, 0x06, 0x06, 0x08, 0x07, 0x22, 0x03, 0x09,
         0x32, 0x22, 0x18, 0x01, 0x0a, 0x01, 0x76,
     ];
-    reads(&rt, rt.alloc(), &bytes, vec![in rt.alloc(); layer]?)
+    reads_one(&rt, rt.alloc(), &bytes, feature, ("v", 2, 512))
 }
 
 /// Longer spellings, unknown fields, fields of which the last counts, and a list packed in part.
@@ -138,12 +131,6 @@ fn loose_spellings(rt: HostRuntime) -> Result<(), Fail> {
         tags: Vec::new(rt.alloc()),
         shape: Shape::Lines(vec![in rt.alloc(); line]?),
     };
-    let layer = Layer {
-        name: "new",
-        version: 2,
-        extent: 256,
-        features: vec![in rt.alloc(); feature]?,
-    };
     let bytes = [
         0x48, 0x03, 0x1a, 0xc9, 0x00, 0x0a, 0x03, 0x6f, 0x6c, 0x64, 0x0a, 0x83, 0x80, 0x00, 0x6e,
         0x65, 0x77, 0x28, 0x01, 0x28, 0x80, 0x82, 0x80, 0x00, 0x31, 0x00, 0x00, 0x00, 0x00, 0x00,
@@ -153,7 +140,7 @@ fn loose_spellings(rt: HostRuntime) -> Result<(), Fail> {
         0x00, 0x00, 0x00, 0x0a, 0x0c, 0x6e, 0x6f, 0x6e, 0x65, 0x20, 0x6f, 0x66, 0x20, 0x6f, 0x75,
         0x72, 0x73,
     ];
-    reads(&rt, rt.alloc(), &bytes, vec![in rt.alloc(); layer]?)
+    reads_one(&rt, rt.alloc(), &bytes, feature, ("new", 2, 256))
 }
 
 /// A layer without features, and shapes of kinds that the standard has and has not.

@@ -1,11 +1,12 @@
 //! Texts and values of tags.
 
 ghost use Rattle.std.specs.Prelude.{◌≡◌, ℕ, ◌<◌, ◌^◌, negsuc, length};
+ghost use Rattle.reader.specs.Reading.{Reads};
 ghost use Rattle.std.specs.Option.{option_map};
 ghost use Rattle.pb_wire.specs.Message.{field_view, value_view};
 ghost use Rattle.pb_wire.specs.Items.{item_view};
 ghost use Rattle.mvt_layer.specs.Tile.{tag_view};
-ghost use Rattle.mvt_layer.specs.Reading.{has_kind as has_kind_of, Gives, plain_tag, zigzag_tag, text_at, value_after, meaning, last_value_in, tag_value_at};
+ghost use Rattle.mvt_layer.specs.Reading.{has_kind as has_kind_of, plain_tag, zigzag_tag, text_at, value_after, meaning, last_value_in, tag_value_at};
 
 use crate::fault::TileFault;
 use crate::tile::TagValue;
@@ -13,7 +14,7 @@ use pb_wire::{Field, FieldValue, Fields, WireFault};
 
 /// The text that the bytes are.
 pub(crate) fn text_of(bytes: &[u8]) -> Result<&str, TileFault>
-    ensures { Gives (λ t. t.now) result (text_at bytes.now) }
+    ensures { Reads (λ t. t.now) result (text_at bytes.now) }
 {
     match std::str::from_utf8(bytes) {
         Ok(text) => Ok(text),
@@ -46,7 +47,7 @@ fn value_behind<'a>(
     last: Option<Field<'a>>,
     item: Result<Field<'a>, WireFault>,
 ) -> Result<Option<Field<'a>>, TileFault>
-    ensures { Gives (option_map field_view) result (value_after (option_map field_view last.entry) (item_view item.entry)) }
+    ensures { Reads (option_map field_view) result (value_after (option_map field_view last.entry) (item_view item.entry)) }
 {
     match item {
         Err(_) => Err(TileFault::Wire),
@@ -68,7 +69,7 @@ fn value_behind<'a>(
 
 /// The last field that says a value; all that do have one number.
 fn last_value<'a>(bytes: &'a [u8]) -> Result<Option<Field<'a>>, TileFault>
-    ensures { Gives (option_map field_view) result (last_value_in bytes.entry.now) }
+    ensures { Reads (option_map field_view) result (last_value_in bytes.entry.now) }
 {
     let mut last = None;
     for item in Fields::new(bytes) {
@@ -122,7 +123,7 @@ fn signed(n: u64) -> TagValue<'static>
 /// The value that a field says by its number and its wire type.
 #[tactic(auto, unfolding(crate::specs::Reading::meaning))]
 fn meaning_of<'a>(field: Field<'a>) -> Result<TagValue<'a>, TileFault>
-    ensures { Gives tag_view result (meaning field.entry.number (value_view field.entry.value)) }
+    ensures { Reads tag_view result (meaning field.entry.number (value_view field.entry.value)) }
 {
     match field.value {
         FieldValue::Bytes(part) => Ok(TagValue::Text(text_of(part)?)),
@@ -140,7 +141,7 @@ fn meaning_of<'a>(field: Field<'a>) -> Result<TagValue<'a>, TileFault>
 /// The value that a message of one kind of field says.
 #[tactic(auto, unfolding(crate::specs::Reading::tag_value_at))]
 pub(crate) fn tag_value_of<'a>(bytes: &'a [u8]) -> Result<TagValue<'a>, TileFault>
-    ensures { Gives tag_view result (tag_value_at bytes.entry.now) }
+    ensures { Reads tag_view result (tag_value_at bytes.entry.now) }
 {
     match last_value(bytes)? {
         Some(field) => meaning_of(field),

@@ -1,54 +1,41 @@
 -- The fault that is met is the one that the bytes have.
-use Rattle.std.proofs.Common.{◌≡◌, ℕ, zero, suc, ◌+◌, ◌*◌, ◌/◌, ◌%◌, ◌<◌, ◌≤◌, Bool, true, false, cond, eqb, ltb, List, [], ◌∷◌, ◌++◌, length, take, drop, map, ne_eqb, Result, Ok, Err, refl, sym, ap, subst, ◌∙◌, append_assoc, arith, ◌⊎◌, inl, inr}
+use Rattle.std.proofs.Common.{◌≡◌, ℕ, zero, suc, ◌+◌, ◌*◌, ◌/◌, ◌%◌, ◌<◌, ◌≤◌, Bool, true, false, cond, eqb, ltb, List, [], ◌∷◌, ◌++◌, length, take, drop, map}
+use Rattle.std.proofs.Common.{ne_eqb, Result, Ok, Err, refl, sym, ap, subst, ◌∙◌, append_assoc, arith, ◌⊎◌, inl, inr}
 use Rattle.std.specs.Prelude.{◌||◌}
 use Rattle.std.proofs.lemmas.List.{length-drop, length-take, length-append, take-append-drop, drop_at}
 use Rattle.std.proofs.lemmas.Bool.{ltb-false, ltb-true, lt-ltb, le-ltb, eqb-true, eqb-false}
+use Rattle.reader.specs.Reading.{◌>>=◌}
+use Rattle.reader.proofs.Steps.{failed, not_both, same_fault as same_kind, then_err}
 use Rattle.pb_wire.specs.declared.fault.FaultKind.{FaultKind}
 use Rattle.pb_wire.specs.declared.fault.WireFault.{WireFault}
 use Rattle.pb_wire.specs.declared.fault.FaultKind.TheVariants.{Cut, Varint, Number, WireType}
 use Rattle.pb_wire.specs.Varint.{IsVarint, IsCut, IsOverlong, behind, read_in, varint_at}
-use Rattle.pb_wire.specs.Message.{Value, varint_value, eight_bytes, some_bytes, four_bytes, Entry, IsField, IsMessage, ◌>>=◌, front_at, value_at, field_at}
+use Rattle.pb_wire.specs.Message.{Value, varint_value, eight_bytes, some_bytes, four_bytes, Entry, IsField, IsMessage, front_at, value_at, field_at}
 use Rattle.pb_wire.specs.Items.{Item, item_then, items_in, items_of}
-use Rattle.pb_wire.specs.Faulty.{IsFieldNumber, ValueHas, FieldHas, IsFaulty, no_type, number_cut, number_overlong, eight_cut, bytes_cut, four_cut, key_cut, key_overlong, no_number, at_value}
+use Rattle.pb_wire.specs.Faulty.{IsFieldNumber, ValueHas, FieldHas, IsFaulty, no_type, number_cut, number_overlong, eight_cut, bytes_cut, four_cut, key_cut}
+use Rattle.pb_wire.specs.Faulty.{key_overlong, no_number, at_value}
 use Rattle.pb_wire.proofs.VarintLaws.{found_is, spelling_is_found, cut_is, is_cut, overlong_is, is_overlong}
 use Rattle.pb_wire.proofs.Message.{items_first, items_fault, field_len}
 use Rattle.pb_wire.proofs.MessageLaws.{chosen, or_false, field_takes, field_again, whole, item, same_first, items_message}
-
-abbrev failed : {A : Type 0} → FaultKind → Result A FaultKind
-failed d = Err d
-
-abbrev done : {A : Type 0} → A → Result A FaultKind
-done x = Ok x
-
-fault_is : {A : Type 0} (a b : FaultKind) → failed {A = A} a ≡ failed b → a ≡ b
-fault_is a b e = cc
-
-never : {A : Type 0} (x : A) (d : FaultKind) → done x ≡ failed d → ⊥
-never x d e = cc
-
--- a step that failed, or the one behind it
-bind_err : {A B : Type 0} (r : Result A FaultKind) (f : A → Result B FaultKind) (d : FaultKind) → (r >>= f) ≡ Err d → (r ≡ Err d) ⊎ ((x : A) × (r ≡ Ok x) × (f x ≡ Err d))
-bind_err (Ok x) f d e = inr (x, refl, e)
-bind_err {A} {B} (Err a) f d e = inl (ap (λ (k : FaultKind). failed {A = A} k) (fault_is {A = B} a d e))
 
 -- ---- numbers
 
 read_faults : (bytes : List ℕ) (more : ℕ) (d : FaultKind) → read_in bytes more ≡ Err d → (d ≡ Cut) ⊎ (d ≡ Varint)
 unfolding read_in behind
-read_faults [] more d e = inl (sym (fault_is {A = ℕ × ℕ} Cut d e))
+read_faults [] more d e = inl (sym (same_kind {A = ℕ × ℕ} Cut d e))
 read_faults (b ∷ bs) zero d e =
     elim (chosen (ltb b 2) _ _ _ e) [
-      | inl h ↦ absurd (never (b, 1) d h.1)
-      | inr h ↦ inr (sym (fault_is {A = ℕ × ℕ} Varint d h.1))
+      | inl h ↦ absurd (not_both (b, 1) d h.1)
+      | inr h ↦ inr (sym (same_kind {A = ℕ × ℕ} Varint d h.1))
     ]
 read_faults (b ∷ bs) (suc more) d e =
     elim (chosen (ltb b 128) _ _ _ e) [
-      | inl h ↦ absurd (never (b, 1) d h.1)
+      | inl h ↦ absurd (not_both (b, 1) d h.1)
       | inr h ↦ read_faults bs more d (high (read_in bs more) h.1)
     ]
   where
     high : (r : Result (ℕ × ℕ) FaultKind) → behind b r ≡ Err d → r ≡ Err d
-    high (Ok x) h = absurd (never (b % 128 + 128 * x.0, x.1 + 1) d h)
+    high (Ok x) h = absurd (not_both (b % 128 + 128 * x.0, x.1 + 1) d h)
     high (Err a) h = h
 
 number_faults : {Q : Type 0} (bytes : List ℕ) (d : FaultKind) → varint_at bytes ≡ Err d → (d ≡ Cut → IsCut bytes → Q) → (d ≡ Varint → IsOverlong bytes → Q) → Q
@@ -68,8 +55,8 @@ number_parts bytes n e = (sym (take-append-drop n.1 bytes), (found_is bytes n.0 
 front_faults : (len : ℕ) (bytes : List ℕ) (d : FaultKind) → front_at len bytes ≡ Err d → (d ≡ Cut) × (length bytes < len)
 front_faults len bytes d e =
     elim (chosen (ltb (length bytes) len) _ _ _ e) [
-      | inl h ↦ (sym (fault_is {A = List ℕ} Cut d h.1), ltb-true (length bytes) len h.0)
-      | inr h ↦ absurd (never (take len bytes) d h.1)
+      | inl h ↦ (sym (same_kind {A = List ℕ} Cut d h.1), ltb-true (length bytes) len h.0)
+      | inr h ↦ absurd (not_both (take len bytes) d h.1)
     ]
 
 abbrev made_number : ℕ × ℕ → Result (Value × ℕ) FaultKind
@@ -86,34 +73,34 @@ made_bytes n part = Ok (some_bytes part, n.1 + n.0)
 
 at_number : (bytes : List ℕ) (d : FaultKind) → (varint_at bytes >>= made_number) ≡ Err d → ValueHas 0 bytes d
 at_number bytes d e =
-    elim (bind_err (varint_at bytes) made_number d e) [
+    elim (then_err (varint_at bytes) made_number d e) [
       | inl h ↦ number_faults bytes d h (λ is cut. number_cut is (inl refl) cut) (λ is long. number_overlong is (inl refl) long)
-      | inr h ↦ absurd (never (varint_value h.0.0, h.0.1) d h.2)
+      | inr h ↦ absurd (not_both (varint_value h.0.0, h.0.1) d h.2)
     ]
 
 at_eight : (bytes : List ℕ) (d : FaultKind) → (front_at 8 bytes >>= made_eight) ≡ Err d → ValueHas 1 bytes d
 at_eight bytes d e =
-    elim (bind_err (front_at 8 bytes) made_eight d e) [
+    elim (then_err (front_at 8 bytes) made_eight d e) [
       | inl h ↦ let f = front_faults 8 bytes d h in eight_cut f.0 refl f.1
-      | inr h ↦ absurd (never (eight_bytes h.0, 8) d h.2)
+      | inr h ↦ absurd (not_both (eight_bytes h.0, 8) d h.2)
     ]
 
 at_four : (bytes : List ℕ) (d : FaultKind) → (front_at 4 bytes >>= made_four) ≡ Err d → ValueHas 5 bytes d
 at_four bytes d e =
-    elim (bind_err (front_at 4 bytes) made_four d e) [
+    elim (then_err (front_at 4 bytes) made_four d e) [
       | inl h ↦ let f = front_faults 4 bytes d h in four_cut f.0 refl f.1
-      | inr h ↦ absurd (never (four_bytes h.0, 4) d h.2)
+      | inr h ↦ absurd (not_both (four_bytes h.0, 4) d h.2)
     ]
 
 at_bytes : (bytes : List ℕ) (d : FaultKind) → (varint_at bytes >>= λ n. front_at n.0 (drop n.1 bytes) >>= made_bytes n) ≡ Err d → ValueHas 2 bytes d
 at_bytes bytes d e =
-    elim (bind_err (varint_at bytes) (λ n. front_at n.0 (drop n.1 bytes) >>= made_bytes n) d e) [
+    elim (then_err (varint_at bytes) (λ n. front_at n.0 (drop n.1 bytes) >>= made_bytes n) d e) [
       | inl h ↦ number_faults bytes d h (λ is cut. number_cut is (inr refl) cut) (λ is long. number_overlong is (inr refl) long)
-      | inr h ↦ elim (bind_err (front_at h.0.0 (drop h.0.1 bytes)) (made_bytes h.0) d h.2) [
+      | inr h ↦ elim (then_err (front_at h.0.0 (drop h.0.1 bytes)) (made_bytes h.0) d h.2) [
         | inl k ↦ let f = front_faults h.0.0 (drop h.0.1 bytes) d k in
             let p = number_parts bytes h.0 h.1 in
             bytes_cut f.0 refl (take h.0.1 bytes) (drop h.0.1 bytes) h.0.0 p.0 p.1 f.1
-        | inr k ↦ absurd (never (some_bytes k.0, h.0.1 + h.0.0) d k.2)
+        | inr k ↦ absurd (not_both (some_bytes k.0, h.0.1 + h.0.0) d k.2)
       ]
     ]
 
@@ -129,7 +116,8 @@ value_faults wire bytes d e =
           | inl h ↦ subst F (sym (eqb-true wire 2 h.0)) (at_bytes bytes d h.1)
           | inr h ↦ elim (chosen (eqb wire 5) _ _ _ h.1) [
             | inl f ↦ subst F (sym (eqb-true wire 5 f.0)) (at_four bytes d f.1)
-            | inr f ↦ no_type (sym (fault_is {A = Value × ℕ} WireType d f.1)) (eqb-false wire 0 a.0) (eqb-false wire 1 b.0) (eqb-false wire 2 h.0) (eqb-false wire 5 f.0)
+            | inr f ↦ no_type (sym (same_kind {A = Value × ℕ} WireType d f.1)) (eqb-false wire 0 a.0) (eqb-false wire 1 b.0) (eqb-false wire 2 h.0)
+                (eqb-false wire 5 f.0)
           ]
         ]
       ]
@@ -175,14 +163,16 @@ behind_key bytes key = cond ((eqb (key.0 / 8) 0) || ltb 536870911 (key.0 / 8)) (
 field_faults : (bytes : List ℕ) (d : FaultKind) → field_at bytes ≡ Err d → FieldHas bytes d
 unfolding field_at
 field_faults bytes d e =
-    elim (bind_err (varint_at bytes) (behind_key bytes) d e) [
+    elim (then_err (varint_at bytes) (behind_key bytes) d e) [
       | inl h ↦ number_faults bytes d h key_cut key_overlong
       | inr h ↦ let p = number_parts bytes h.0 h.1 in
           elim (chosen ((eqb (h.0.0 / 8) 0) || ltb 536870911 (h.0.0 / 8)) _ _ _ h.2) [
-            | inl k ↦ no_number (sym (fault_is {A = Entry × ℕ} Number d k.1)) (take h.0.1 bytes) (drop h.0.1 bytes) h.0.0 p.0 p.1 (not_numbered (h.0.0 / 8) k.0)
-            | inr k ↦ elim (bind_err (value_at (h.0.0 % 8) (drop h.0.1 bytes)) (made_field h.0) d k.1) [
-              | inl v ↦ at_value (take h.0.1 bytes) (drop h.0.1 bytes) h.0.0 p.0 p.1 (is_numbered (h.0.0 / 8) k.0) (value_faults (h.0.0 % 8) (drop h.0.1 bytes) d v)
-              | inr v ↦ absurd (never (record { number = h.0.0 / 8; value = v.0.0 }, h.0.1 + v.0.1) d v.2)
+            | inl k ↦ no_number (sym (same_kind {A = Entry × ℕ} Number d k.1)) (take h.0.1 bytes) (drop h.0.1 bytes) h.0.0 p.0 p.1
+                (not_numbered (h.0.0 / 8) k.0)
+            | inr k ↦ elim (then_err (value_at (h.0.0 % 8) (drop h.0.1 bytes)) (made_field h.0) d k.1) [
+              | inl v ↦ at_value (take h.0.1 bytes) (drop h.0.1 bytes) h.0.0 p.0 p.1 (is_numbered (h.0.0 / 8) k.0)
+                  (value_faults (h.0.0 % 8) (drop h.0.1 bytes) d v)
+              | inr v ↦ absurd (not_both (record { number = h.0.0 / 8; value = v.0.0 }, h.0.1 + v.0.1) d v.2)
             ]
           ]
     ]
@@ -217,14 +207,14 @@ ending fault = Err fault ∷ []
 abbrev faulty : List Entry → WireFault → List Item
 faulty fields fault = whole fields ++ ending fault
 
--- the bytes from this place on have the fault behind these fields
+-- the bytes from this offset on have the fault behind these fields
 record FaultyFrom (start : ℕ) (bytes : List ℕ) (fields : List Entry) (fault : WireFault) : Type 0 where
   front : List ℕ
   rest : List ℕ
   parts : bytes ≡ front ++ rest
   message : IsMessage front fields
   some : 0 < length rest
-  place : fault.at ≡ start + length front
+  offset : fault.at ≡ start + length front
   has : FieldHas rest fault.kind
 
 same_fault : (fault : WireFault) (at : ℕ) → at ≡ fault.at → ending (record { at = at; kind = fault.kind }) ≡ ending fault
@@ -232,26 +222,30 @@ same_fault fault at e =
     let F : ℕ → List Item = λ n. ending (record { at = n; kind = fault.kind }) in
     ap F e
 
-faulty_items : (fields : List Entry) (start : ℕ) (bytes : List ℕ) (fault : WireFault) (front rest : List ℕ) → bytes ≡ front ++ rest → IsMessage front fields → 0 < length rest → fault.at ≡ start + length front → FieldHas rest fault.kind → items_in (length bytes) start bytes ≡ faulty fields fault
+faulty_items : (fields : List Entry) (start : ℕ) (bytes : List ℕ) (fault : WireFault) (front rest : List ℕ) → bytes ≡ front ++ rest → IsMessage front fields
+    → 0 < length rest → fault.at ≡ start + length front → FieldHas rest fault.kind → items_in (length bytes) start bytes ≡ faulty fields fault
 unfolding items_in
-faulty_items [] start bytes fault front rest parts message some place has =
+faulty_items [] start bytes fault front rest parts message some offset has =
     let none : length front ≡ 0 = ap length message in
     let here : bytes ≡ rest = parts ∙ ap (λ (f : List ℕ). f ++ rest) message in
-    let at_start : fault.at ≡ start = omega (arith, none, place) in
+    let at_start : fault.at ≡ start = omega (arith, none, offset) in
     rw here (items_fault rest start fault.kind some (field_refused rest fault.kind has) ∙ same_fault fault start (sym at_start))
-faulty_items (f ∷ fs) start bytes fault front rest parts h some place has =
+faulty_items (f ∷ fs) start bytes fault front rest parts h some offset has =
     let first = h.0 in
     let behind_first : List ℕ = h.1 ++ rest in
     let regrouped : bytes ≡ first ++ behind_first = parts ∙ ap (λ (b : List ℕ). b ++ rest) h.2 ∙ append_assoc first h.1 rest in
     let read : field_at bytes ≡ Ok (f, length first) = ap field_at regrouped ∙ field_again first behind_first f h.3 in
     let long : 0 < length bytes = omega (arith, field_len bytes (f, length first) read, (field_takes bytes (f, length first) read).0) in
     let left : behind_first ≡ drop (length first) bytes = sym (ap (drop (length first)) regrouped ∙ drop_at first behind_first (length first) refl) in
-    let place_on : fault.at ≡ (start + length first) + length h.1 = omega (arith, place, ap length h.2, length-append first h.1) in
-    items_first bytes start f (length first) behind_first long read left ∙ ap (λ (r : List Item). item f ∷ r) (faulty_items fs (start + length first) behind_first fault h.1 rest refl h.4 some place_on has)
+    let offset_on : fault.at ≡ (start + length first) + length h.1 = omega (arith, offset, ap length h.2, length-append first h.1) in
+    items_first bytes start f (length first) behind_first long read left
+    ∙ ap (λ (r : List Item). item f ∷ r) (faulty_items fs (start + length first) behind_first fault h.1 rest refl h.4 some offset_on has)
 
--- the items from this place on end with the fault behind these fields
+-- the items from this offset on end with the fault behind these fields
 abbrev GoesOn : ℕ → Type 0
-GoesOn more = (start : ℕ) (bytes : List ℕ) (fields : List Entry) (fault : WireFault) → length bytes ≤ more → items_in more start bytes ≡ faulty fields fault → FaultyFrom start bytes fields fault
+GoesOn more =
+    (start : ℕ) (bytes : List ℕ) (fields : List Entry) (fault : WireFault) → length bytes ≤ more → items_in more start bytes ≡ faulty fields fault
+    → FaultyFrom start bytes fields fault
 
 none_left : (fields : List Entry) (fault : WireFault) → [] ≡ faulty fields fault → ⊥
 none_left [] fault e = cc
@@ -266,7 +260,9 @@ no_field w f others e = cc
 fault_there : (w fault : WireFault) → ending w ≡ ending fault → w ≡ fault
 fault_there w fault e = cc
 
-go_faulty : (more start : ℕ) (bytes : List ℕ) (fields : List Entry) (fault : WireFault) → 0 < length bytes → length bytes ≤ suc more → GoesOn more → (r : Result (Entry × ℕ) FaultKind) → field_at bytes ≡ r → item_then start (λ len. items_in more (start + len) (drop len bytes)) r ≡ faulty fields fault → FaultyFrom start bytes fields fault
+go_faulty : (more start : ℕ) (bytes : List ℕ) (fields : List Entry) (fault : WireFault) → 0 < length bytes → length bytes ≤ suc more → GoesOn more
+    → (r : Result (Entry × ℕ) FaultKind) → field_at bytes ≡ r → item_then start (λ len. items_in more (start + len) (drop len bytes)) r ≡ faulty fields fault
+    → FaultyFrom start bytes fields fault
 unfolding item_then
 go_faulty more start bytes [] fault some short next (Ok x) read e = absurd (no_fault x.0 (items_in more (start + x.1) (drop x.1 bytes)) fault e)
 go_faulty more start bytes (f ∷ fs) fault some short next (Ok x) read e =
@@ -281,7 +277,7 @@ go_faulty more start bytes (f ∷ fs) fault some short next (Ok x) read e =
       parts = sym (take-append-drop x.1 bytes) ∙ ap (λ (b : List ℕ). take x.1 bytes ++ b) on.parts ∙ sym (append_assoc (take x.1 bytes) on.front on.rest);
       message = (take x.1 bytes, on.front, refl, subst (IsField (take x.1 bytes)) h.0 t.1, on.message);
       some = on.some;
-      place = omega (arith, on.place, length-append (take x.1 bytes) on.front, length-take x.1 bytes, t.0);
+      offset = omega (arith, on.offset, length-append (take x.1 bytes) on.front, length-take x.1 bytes, t.0);
       has = on.has;
     }
 go_faulty more start bytes [] fault some short next (Err kind) read e =
@@ -295,27 +291,31 @@ go_faulty more start bytes [] fault some short next (Err kind) read e =
       parts = refl;
       message = refl;
       some = some;
-      place = omega (arith, at_is);
+      offset = omega (arith, at_is);
       has = field_faults bytes fault.kind (read ∙ ap (λ (k : FaultKind). failed k) kind_is);
     }
 go_faulty more start bytes (f ∷ fs) fault some short next (Err kind) read e = absurd (no_field (record { at = start; kind = kind }) f (faulty fs fault) e)
 
-items_faulty : (more start : ℕ) (bytes : List ℕ) (fields : List Entry) (fault : WireFault) → length bytes ≤ more → items_in more start bytes ≡ faulty fields fault → FaultyFrom start bytes fields fault
+items_faulty : (more start : ℕ) (bytes : List ℕ) (fields : List Entry) (fault : WireFault) → length bytes ≤ more
+    → items_in more start bytes ≡ faulty fields fault → FaultyFrom start bytes fields fault
 unfolding items_in item_then
 items_faulty zero start [] fields fault short e = absurd (none_left fields fault e)
 items_faulty zero start (b ∷ bs) fields fault short e = absurd (omega arith)
 items_faulty (suc more) start [] fields fault short e = absurd (none_left fields fault e)
-items_faulty (suc more) start (b ∷ bs) fields fault short e = go_faulty more start (b ∷ bs) fields fault (omega arith) short (items_faulty more) (field_at (b ∷ bs)) refl e
+items_faulty (suc more) start (b ∷ bs) fields fault short e =
+    go_faulty more start (b ∷ bs) fields fault (omega arith) short (items_faulty more) (field_at (b ∷ bs)) refl e
 
 -- ---- the law's two clauses
 
-pub is_faulty : (bytes : List ℕ) (fields : List Entry) (fault : WireFault) → items_of bytes ≡ map (λ f. Ok f) fields ++ Err fault ∷ [] → IsFaulty bytes fields fault
+pub is_faulty : (bytes : List ℕ) (fields : List Entry) (fault : WireFault) → items_of bytes ≡ map (λ f. Ok f) fields ++ Err fault ∷ []
+    → IsFaulty bytes fields fault
 is_faulty bytes fields fault e =
     let h = items_faulty (length bytes) 0 bytes fields fault (omega arith) e in
-    record { front = h.front; rest = h.rest; parts = h.parts; message = h.message; some = h.some; place = omega (arith, h.place); has = h.has }
+    record { front = h.front; rest = h.rest; parts = h.parts; message = h.message; some = h.some; offset = omega (arith, h.offset); has = h.has }
 
-pub faulty_is : (bytes : List ℕ) (fields : List Entry) (fault : WireFault) → IsFaulty bytes fields fault → items_of bytes ≡ map (λ f. Ok f) fields ++ Err fault ∷ []
-faulty_is bytes fields fault h = faulty_items fields 0 bytes fault h.front h.rest h.parts h.message h.some (omega (arith, h.place)) h.has
+pub faulty_is : (bytes : List ℕ) (fields : List Entry) (fault : WireFault) → IsFaulty bytes fields fault
+    → items_of bytes ≡ map (λ f. Ok f) fields ++ Err fault ∷ []
+faulty_is bytes fields fault h = faulty_items fields 0 bytes fault h.front h.rest h.parts h.message h.some (omega (arith, h.offset)) h.has
 
 -- the items are fields, and then perhaps a fault
 abbrev Ends : List Item → Type 0
@@ -331,11 +331,13 @@ items_end zero start bytes = inl ([], refl)
 items_end (suc more) start [] = inl ([], refl)
 items_end (suc more) start (b ∷ bs) = go (λ x. items_end more (start + x.1) (drop x.1 (b ∷ bs))) (field_at (b ∷ bs))
   where
-    go : ((x : Entry × ℕ) → Ends (items_in more (start + x.1) (drop x.1 (b ∷ bs)))) → (r : Result (Entry × ℕ) FaultKind) → Ends (item_then start (λ len. items_in more (start + len) (drop len (b ∷ bs))) r)
+    go : ((x : Entry × ℕ) → Ends (items_in more (start + x.1) (drop x.1 (b ∷ bs)))) → (r : Result (Entry × ℕ) FaultKind)
+        → Ends (item_then start (λ len. items_in more (start + len) (drop len (b ∷ bs))) r)
     go next (Ok x) = one_more x.0 (items_in more (start + x.1) (drop x.1 (b ∷ bs))) (next x)
     go next (Err kind) = inr ([], record { at = start; kind = kind }, refl)
 
-pub one_or_other : (bytes : List ℕ) → ((fields : List Entry) × IsMessage bytes fields) ⊎ ((fields : List Entry) × (fault : WireFault) × IsFaulty bytes fields fault)
+pub one_or_other : (bytes : List ℕ) → ((fields : List Entry) × IsMessage bytes fields)
+    ⊎ ((fields : List Entry) × (fault : WireFault) × IsFaulty bytes fields fault)
 one_or_other bytes =
     elim (items_end (length bytes) 0 bytes) [
       | inl h ↦ inl (h.0, items_message (length bytes) 0 bytes h.0 (omega arith) h.1)

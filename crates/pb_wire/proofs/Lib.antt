@@ -1,7 +1,8 @@
 pub mod FaultLaws
+pub mod Laws
 pub mod Message
 pub mod MessageLaws
-pub mod Placed
+pub mod Offsets
 pub mod ReadVarint
 pub mod VarintLaws
 pub mod Varints

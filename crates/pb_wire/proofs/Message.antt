@@ -1,29 +1,16 @@
 -- Going over a message.
-use Rattle.std.proofs.Common.{◌≡◌, ℕ, zero, suc, ◌+◌, ◌-◌, ◌/◌, ◌%◌, ◌<◌, ◌≤◌, Bool, true, false, cond, eqb, ltb, List, [], ◌∷◌, length, take, drop, Result, Ok, Err, refl, ap, arith}
+use Rattle.std.proofs.Common.{◌≡◌, ℕ, zero, suc, ◌+◌, ◌-◌, ◌/◌, ◌%◌, ◌<◌, ◌≤◌, cond, eqb, ltb, List, [], ◌∷◌, length, take, drop, Result, Ok}
+use Rattle.std.proofs.Common.{Err, refl, ap, arith}
 use Rattle.std.specs.Prelude.{◌||◌}
 use Rattle.std.proofs.lemmas.List.{length-drop, take_all}
+use Rattle.reader.specs.Reading.{◌>>=◌}
+use Rattle.reader.proofs.Steps.{then_ok, guard_ok, same_value}
 use Rattle.pb_wire.specs.declared.fault.FaultKind.{FaultKind}
 use Rattle.pb_wire.specs.declared.fault.FaultKind.TheVariants.{Number}
 use Rattle.pb_wire.specs.Varint.{IsGroups, varint_at}
-use Rattle.pb_wire.specs.Message.{Entry, ◌>>=◌, value_at, field_at}
+use Rattle.pb_wire.specs.Message.{Entry, value_at, field_at}
 use Rattle.pb_wire.specs.Items.{Item, item_then, items_in}
 use Rattle.pb_wire.proofs.VarintLaws.{found_is}
-
--- the value of a step that did not fail
-pub bind_ok : {A B : Type 0} (r : Result A FaultKind) (f : A → Result B FaultKind) (y : B) → (r >>= f) ≡ Ok y → (x : A) × (r ≡ Ok x) × (f x ≡ Ok y)
-bind_ok (Ok x) f y e = (x, refl, e)
-bind_ok (Err d) f y e = absurd cc
-
--- a test that did not fail
-pub guard_ok : {A : Type 0} (b : Bool) (d : FaultKind) (r : Result A FaultKind) (y : A) → cond b (Err d) r ≡ Ok y → (b ≡ false) × (r ≡ Ok y)
-guard_ok true d r y e = absurd cc
-guard_ok false d r y e = (refl, e)
-
-abbrev pub done : {A : Type 0} → A → Result A FaultKind
-done x = Ok x
-
-pub ok_is : {A : Type 0} (x y : A) → done x ≡ done y → x ≡ y
-ok_is x y e = cc
 
 -- a number takes a byte or more
 pub varint_len : (bytes : List ℕ) (n : ℕ × ℕ) → varint_at bytes ≡ Ok n → 0 < n.1
@@ -36,14 +23,18 @@ varint_len bytes n e = let h = found_is bytes n.0 n.1 e in at_least n.1 h.1.grou
 pub field_len : (bytes : List ℕ) (x : Entry × ℕ) → field_at bytes ≡ Ok x → 0 < x.1
 unfolding field_at
 field_len bytes x e =
-    let key = bind_ok (varint_at bytes) (λ key. cond ((eqb (key.0 / 8) 0) || ltb 536870911 (key.0 / 8)) (Err Number) (value_at (key.0 % 8) (drop key.1 bytes) >>= λ value. Ok (record { number = key.0 / 8; value = value.0 }, key.1 + value.1))) x e in
-    let rest = guard_ok ((eqb (key.0.0 / 8) 0) || ltb 536870911 (key.0.0 / 8)) Number (value_at (key.0.0 % 8) (drop key.0.1 bytes) >>= λ value. Ok (record { number = key.0.0 / 8; value = value.0 }, key.0.1 + value.1)) x key.2 in
-    let value = bind_ok (value_at (key.0.0 % 8) (drop key.0.1 bytes)) (λ value. Ok (record { number = key.0.0 / 8; value = value.0 }, key.0.1 + value.1)) x rest.1 in
+    let key = then_ok (varint_at bytes) (λ key. cond ((eqb (key.0 / 8) 0) || ltb 536870911 (key.0 / 8)) (Err Number)
+    (value_at (key.0 % 8) (drop key.1 bytes) >>= λ value. Ok (record { number = key.0 / 8; value = value.0 }, key.1 + value.1))) x e in
+    let rest = guard_ok ((eqb (key.0.0 / 8) 0) || ltb 536870911 (key.0.0 / 8)) Number
+    (value_at (key.0.0 % 8) (drop key.0.1 bytes) >>= λ value. Ok (record { number = key.0.0 / 8; value = value.0 }, key.0.1 + value.1)) x key.2 in
+    let value = then_ok (value_at (key.0.0 % 8) (drop key.0.1 bytes)) (λ value. Ok (record { number = key.0.0 / 8; value = value.0 }, key.0.1 + value.1))
+    x rest.1 in
     let made : Entry × ℕ = (record { number = key.0.0 / 8; value = value.0.0 }, key.0.1 + value.0.1) in
-    let is = ap (λ (y : Entry × ℕ). y.1) (ok_is made x value.2) in
+    let is = ap (λ (y : Entry × ℕ). y.1) (same_value {Fault = FaultKind} made x value.2) in
     omega (arith, varint_len bytes key.0 key.1, is)
 
-item_then_same : (at : ℕ) (a b : ℕ → List Item) (r : Result (Entry × ℕ) FaultKind) → ((x : Entry × ℕ) → r ≡ Ok x → a x.1 ≡ b x.1) → item_then at a r ≡ item_then at b r
+item_then_same : (at : ℕ) (a b : ℕ → List Item) (r : Result (Entry × ℕ) FaultKind) → ((x : Entry × ℕ) → r ≡ Ok x → a x.1 ≡ b x.1)
+    → item_then at a r ≡ item_then at b r
 unfolding item_then
 item_then_same at a b (Ok x) same = ap (λ (others : List Item). Ok x.0 ∷ others) (same x refl)
 item_then_same at a b (Err kind) same = refl
@@ -63,15 +54,18 @@ items_same (suc m) (suc n) at (b ∷ bs) hm hn =
     let short : length (drop x.1 (b ∷ bs)) ≤ length bs = omega (arith, length-drop x.1 (b ∷ bs)) in
     items_same m n (at + x.1) (drop x.1 (b ∷ bs)) (omega arith) (omega arith))
 
-pub items_first : (bytes : List ℕ) (at : ℕ) (f : Entry) (len : ℕ) (rest : List ℕ) → 0 < length bytes → field_at bytes ≡ Ok (f, len) → rest ≡ drop len bytes → items_in (length bytes) at bytes ≡ Ok f ∷ items_in (length rest) (at + len) rest
+pub items_first : (bytes : List ℕ) (at : ℕ) (f : Entry) (len : ℕ) (rest : List ℕ) → 0 < length bytes → field_at bytes ≡ Ok (f, len) → rest ≡ drop len bytes
+    → items_in (length bytes) at bytes ≡ Ok f ∷ items_in (length rest) (at + len) rest
 unfolding items_in item_then
 items_first [] at f len rest some e is = absurd (omega arith)
 items_first (b ∷ bs) at f len rest some e is =
     let long : 0 < len = field_len (b ∷ bs) (f, len) e in
     let short : length (drop len (b ∷ bs)) ≤ length bs = omega (arith, length-drop len (b ∷ bs)) in
-    rw (e, is) (ap (λ (others : List Item). Ok f ∷ others) (items_same (length bs) (length (drop len (b ∷ bs))) (at + len) (drop len (b ∷ bs)) short (omega arith)))
+    rw (e, is) (ap (λ (others : List Item). Ok f ∷ others) (items_same (length bs) (length (drop len (b ∷ bs))) (at + len) (drop len (b ∷ bs)) short
+    (omega arith)))
 
-pub items_fault : (bytes : List ℕ) (at : ℕ) (kind : FaultKind) → 0 < length bytes → field_at bytes ≡ Err kind → items_in (length bytes) at bytes ≡ Err (record { at = at; kind = kind }) ∷ items_in 0 at []
+pub items_fault : (bytes : List ℕ) (at : ℕ) (kind : FaultKind) → 0 < length bytes → field_at bytes ≡ Err kind
+    → items_in (length bytes) at bytes ≡ Err (record { at = at; kind = kind }) ∷ items_in 0 at []
 unfolding items_in item_then
 items_fault [] at kind some e = absurd (omega arith)
 items_fault (b ∷ bs) at kind some e = rw e refl

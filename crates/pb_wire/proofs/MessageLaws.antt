@@ -1,17 +1,21 @@
 -- What is read is spelled so, and what is spelled so is read.
-use Rattle.std.proofs.Common.{◌≡◌, ℕ, zero, suc, ◌+◌, ◌*◌, ◌/◌, ◌%◌, ◌<◌, ◌≤◌, Bool, true, false, cond, eqb, ltb, List, [], ◌∷◌, ◌++◌, length, take, drop, map, ne_eqb, Result, Ok, Err, refl, sym, ap, subst, ◌∙◌, append_assoc, arith, ◌⊎◌, inl, inr}
+use Rattle.std.proofs.Common.{◌≡◌, ℕ, zero, suc, ◌+◌, ◌*◌, ◌/◌, ◌%◌, ◌<◌, ◌≤◌, Bool, true, false, cond, eqb, ltb, List, [], ◌∷◌, ◌++◌, length, take, drop, map}
+use Rattle.std.proofs.Common.{ne_eqb, Result, Ok, Err, refl, sym, ap, subst, ◌∙◌, append_assoc, arith, ◌⊎◌, inl, inr}
 use Rattle.std.specs.Prelude.{◌||◌}
 use Rattle.std.proofs.lemmas.List.{length-drop, length-take, length-append, take-append-drop, take_at, drop_at}
 use Rattle.std.proofs.Math.Seq.{take-add}
 use Rattle.std.proofs.lemmas.Bool.{ltb-false, le-ltb, eqb-true, eqb-false}
+use Rattle.reader.specs.Reading.{◌>>=◌}
+use Rattle.reader.proofs.Steps.{then_ok, guard_ok, same_value, not_both}
 use Rattle.pb_wire.specs.declared.fault.FaultKind.{FaultKind}
 use Rattle.pb_wire.specs.declared.fault.WireFault.{WireFault}
 use Rattle.pb_wire.specs.declared.fault.FaultKind.TheVariants.{Cut, Number, WireType}
 use Rattle.pb_wire.specs.Varint.{IsVarint, varint_at}
-use Rattle.pb_wire.specs.Message.{Value, varint_value, eight_bytes, some_bytes, four_bytes, Entry, wire_type, SpellsValue, IsField, IsMessage, ◌>>=◌, front_at, value_at, field_at}
+use Rattle.pb_wire.specs.Message.{Value, varint_value, eight_bytes, some_bytes, four_bytes, Entry, wire_type, SpellsValue, IsField, IsMessage, front_at}
+use Rattle.pb_wire.specs.Message.{value_at, field_at}
 use Rattle.pb_wire.specs.Items.{Item, item_then, items_in}
 use Rattle.pb_wire.proofs.VarintLaws.{found_is, spelling_is_found}
-use Rattle.pb_wire.proofs.Message.{bind_ok, guard_ok, done, ok_is, items_first, field_len}
+use Rattle.pb_wire.proofs.Message.{items_first, field_len}
 
 pub chosen : {A : Type 0} (b : Bool) (x y z : A) → cond b x y ≡ z → ((b ≡ true) × (x ≡ z)) ⊎ ((b ≡ false) × (y ≡ z))
 chosen true x y z e = inl (refl, e)
@@ -27,43 +31,51 @@ pub record TakesValue (wire : ℕ) (bytes : List ℕ) (x : Value × ℕ) : Type 
 pub front_takes : (len : ℕ) (bytes part : List ℕ) → front_at len bytes ≡ Ok part → (len ≤ length bytes) × (take len bytes ≡ part)
 front_takes len bytes part e =
     let g = guard_ok (ltb (length bytes) len) Cut (Ok (take len bytes)) part e in
-    (ltb-false (length bytes) len g.0, ok_is (take len bytes) part g.1)
+    (ltb-false (length bytes) len g.0, same_value {Fault = FaultKind} (take len bytes) part g.1)
 
 varint_takes : (bytes : List ℕ) (x : Value × ℕ) → (varint_at bytes >>= λ n. Ok (varint_value n.0, n.1)) ≡ Ok x → TakesValue 0 bytes x
 varint_takes bytes x e =
-    let n = bind_ok (varint_at bytes) (λ n. Ok (varint_value n.0, n.1)) x e in
+    let n = then_ok (varint_at bytes) (λ n. Ok (varint_value n.0, n.1)) x e in
     let h = found_is bytes n.0.0 n.0.1 n.1 in
     let made : Value × ℕ = (varint_value n.0.0, n.0.1) in
-    subst (TakesValue 0 bytes) (ok_is made x n.2) record { within = h.0; type_is = refl; spelled = h.1 }
+    subst (TakesValue 0 bytes) (same_value {Fault = FaultKind} made x n.2) record { within = h.0; type_is = refl; spelled = h.1 }
+
+-- a value of so many bytes
+fixed_takes : (size wire : ℕ) (made : List ℕ → Value) → ((part : List ℕ) → wire_type (made part) ≡ wire)
+    → ((front part : List ℕ) → front ≡ part → length part ≡ size → SpellsValue front (made part))
+    → (bytes : List ℕ) (x : Value × ℕ) → (front_at size bytes >>= λ part. Ok (made part, size)) ≡ Ok x → TakesValue wire bytes x
+fixed_takes size wire made type_is spells bytes x e =
+    let part = then_ok (front_at size bytes) (λ part. Ok (made part, size)) x e in
+    let h = front_takes size bytes part.0 part.1 in
+    let len : length part.0 ≡ size = rw (← h.1) (omega (arith, length-take size bytes, h.0)) in
+    let takes : TakesValue wire bytes (made part.0, size) =
+    record { within = h.0; type_is = type_is part.0; spelled = spells (take size bytes) part.0 h.1 len } in
+    subst (TakesValue wire bytes) (same_value {Fault = FaultKind} (made part.0, size) x part.2) takes
 
 eight_takes : (bytes : List ℕ) (x : Value × ℕ) → (front_at 8 bytes >>= λ part. Ok (eight_bytes part, 8)) ≡ Ok x → TakesValue 1 bytes x
-eight_takes bytes x e =
-    let part = bind_ok (front_at 8 bytes) (λ part. Ok (eight_bytes part, 8)) x e in
-    let h = front_takes 8 bytes part.0 part.1 in
-    let made : Value × ℕ = (eight_bytes part.0, 8) in
-    let len : length part.0 ≡ 8 = rw (← h.1) (omega (arith, length-take 8 bytes, h.0)) in
-    subst (TakesValue 1 bytes) (ok_is made x part.2) record { within = h.0; type_is = refl; spelled = (h.1, len) }
+eight_takes = fixed_takes 8 1 (λ part. eight_bytes part) (λ part. refl) (λ front part is len. (is, len))
 
 four_takes : (bytes : List ℕ) (x : Value × ℕ) → (front_at 4 bytes >>= λ part. Ok (four_bytes part, 4)) ≡ Ok x → TakesValue 5 bytes x
-four_takes bytes x e =
-    let part = bind_ok (front_at 4 bytes) (λ part. Ok (four_bytes part, 4)) x e in
-    let h = front_takes 4 bytes part.0 part.1 in
-    let made : Value × ℕ = (four_bytes part.0, 4) in
-    let len : length part.0 ≡ 4 = rw (← h.1) (omega (arith, length-take 4 bytes, h.0)) in
-    subst (TakesValue 5 bytes) (ok_is made x part.2) record { within = h.0; type_is = refl; spelled = (h.1, len) }
+four_takes = fixed_takes 4 5 (λ part. four_bytes part) (λ part. refl) (λ front part is len. (is, len))
 
-some_takes : (bytes : List ℕ) (x : Value × ℕ) → (varint_at bytes >>= λ n. front_at n.0 (drop n.1 bytes) >>= λ part. Ok (some_bytes part, n.1 + n.0)) ≡ Ok x → TakesValue 2 bytes x
+some_takes : (bytes : List ℕ) (x : Value × ℕ) → (varint_at bytes >>= λ n. front_at n.0 (drop n.1 bytes) >>= λ part. Ok (some_bytes part, n.1 + n.0)) ≡ Ok x
+    → TakesValue 2 bytes x
 some_takes bytes x e =
-    let n = bind_ok (varint_at bytes) (λ n. front_at n.0 (drop n.1 bytes) >>= λ part. Ok (some_bytes part, n.1 + n.0)) x e in
+    let n = then_ok (varint_at bytes) (λ n. front_at n.0 (drop n.1 bytes) >>= λ part. Ok (some_bytes part, n.1 + n.0)) x e in
     let h = found_is bytes n.0.0 n.0.1 n.1 in
-    let part = bind_ok (front_at n.0.0 (drop n.0.1 bytes)) (λ part. Ok (some_bytes part, n.0.1 + n.0.0)) x n.2 in
+    let part = then_ok (front_at n.0.0 (drop n.0.1 bytes)) (λ part. Ok (some_bytes part, n.0.1 + n.0.0)) x n.2 in
     let p = front_takes n.0.0 (drop n.0.1 bytes) part.0 part.1 in
     let made : Value × ℕ = (some_bytes part.0, n.0.1 + n.0.0) in
     let len : length part.0 ≡ n.0.0 = rw (← p.1) (omega (arith, length-take n.0.0 (drop n.0.1 bytes), p.0)) in
-    subst (TakesValue 2 bytes) (ok_is made x part.2) record {
+    subst (TakesValue 2 bytes) (same_value {Fault = FaultKind} made x part.2) record {
       within = omega (arith, length-drop n.0.1 bytes, p.0, h.0);
       type_is = refl;
-      spelled = (take n.0.1 bytes, subst (IsVarint (take n.0.1 bytes)) (sym len) h.1, take-add n.0.1 n.0.0 bytes ∙ ap (λ (r : List ℕ). take n.0.1 bytes ++ r) p.1);
+      spelled = (
+        take n.0.1 bytes,
+        subst (IsVarint (take n.0.1 bytes)) (sym len) h.1,
+        take-add n.0.1 n.0.0 bytes
+            ∙ ap (λ (r : List ℕ). take n.0.1 bytes ++ r) p.1,
+      );
     }
 
 pub value_takes : (wire : ℕ) (bytes : List ℕ) (x : Value × ℕ) → value_at wire bytes ≡ Ok x → TakesValue wire bytes x
@@ -77,14 +89,11 @@ value_takes wire bytes x e =
           | inl d ↦ subst (λ (w : ℕ). TakesValue w bytes x) (sym (eqb-true wire 2 d.0)) (some_takes bytes x d.1)
           | inr d ↦ elim (chosen (eqb wire 5) _ _ _ d.1) [
             | inl f ↦ subst (λ (w : ℕ). TakesValue w bytes x) (sym (eqb-true wire 5 f.0)) (four_takes bytes x f.1)
-            | inr f ↦ absurd (never x f.1)
+            | inr f ↦ absurd (not_both x WireType (sym f.1))
           ]
         ]
       ]
     ]
-  where
-    never : (x : Value × ℕ) → Err WireType ≡ done x → ⊥
-    never x h = cc
 
 pub or_false : (a b : Bool) → (a || b) ≡ false → (a ≡ false) × (b ≡ false)
 or_false true b e = absurd cc
@@ -93,12 +102,17 @@ or_false false b e = (refl, e)
 pub field_takes : (bytes : List ℕ) (x : Entry × ℕ) → field_at bytes ≡ Ok x → (x.1 ≤ length bytes) × IsField (take x.1 bytes) x.0
 unfolding field_at
 field_takes bytes x e =
-    let key = bind_ok (varint_at bytes) (λ key. cond ((eqb (key.0 / 8) 0) || ltb 536870911 (key.0 / 8)) (Err Number) (value_at (key.0 % 8) (drop key.1 bytes) >>= λ value. Ok (record { number = key.0 / 8; value = value.0 }, key.1 + value.1))) x e in
-    let rest = guard_ok ((eqb (key.0.0 / 8) 0) || ltb 536870911 (key.0.0 / 8)) Number (value_at (key.0.0 % 8) (drop key.0.1 bytes) >>= λ value. Ok (record { number = key.0.0 / 8; value = value.0 }, key.0.1 + value.1)) x key.2 in
-    let value = bind_ok (value_at (key.0.0 % 8) (drop key.0.1 bytes)) (λ value. Ok (record { number = key.0.0 / 8; value = value.0 }, key.0.1 + value.1)) x rest.1 in
-    field_made bytes x key.0.0 key.0.1 value.0 key.1 rest.0 value.1 (ok_is (record { number = key.0.0 / 8; value = value.0.0 }, key.0.1 + value.0.1) x value.2)
+    let key = then_ok (varint_at bytes) (λ key. cond ((eqb (key.0 / 8) 0) || ltb 536870911 (key.0 / 8)) (Err Number)
+    (value_at (key.0 % 8) (drop key.1 bytes) >>= λ value. Ok (record { number = key.0 / 8; value = value.0 }, key.1 + value.1))) x e in
+    let rest = guard_ok ((eqb (key.0.0 / 8) 0) || ltb 536870911 (key.0.0 / 8)) Number
+    (value_at (key.0.0 % 8) (drop key.0.1 bytes) >>= λ value. Ok (record { number = key.0.0 / 8; value = value.0 }, key.0.1 + value.1)) x key.2 in
+    let value = then_ok (value_at (key.0.0 % 8) (drop key.0.1 bytes)) (λ value. Ok (record { number = key.0.0 / 8; value = value.0 }, key.0.1 + value.1))
+    x rest.1 in
+    field_made bytes x key.0.0 key.0.1 value.0 key.1 rest.0 value.1
+    (same_value {Fault = FaultKind} (record { number = key.0.0 / 8; value = value.0.0 }, key.0.1 + value.0.1) x value.2)
   where
-    field_made : (bytes : List ℕ) (x : Entry × ℕ) (key len : ℕ) (value : Value × ℕ) → varint_at bytes ≡ Ok (key, len) → ((eqb (key / 8) 0) || ltb 536870911 (key / 8)) ≡ false → value_at (key % 8) (drop len bytes) ≡ Ok value
+    field_made : (bytes : List ℕ) (x : Entry × ℕ) (key len : ℕ) (value : Value × ℕ) → varint_at bytes ≡ Ok (key, len)
+        → ((eqb (key / 8) 0) || ltb 536870911 (key / 8)) ≡ false → value_at (key % 8) (drop len bytes) ≡ Ok value
         → (record { number = key / 8; value = value.0 }, len + value.1) ≡ x → (x.1 ≤ length bytes) × IsField (take x.1 bytes) x.0
     field_made bytes x key len value key_read number_read value_read is =
         let k = found_is bytes key len key_read in
@@ -182,7 +196,8 @@ fault_left : (w : WireFault) (fields : List Entry) → Err w ∷ [] ≡ whole fi
 fault_left w [] e = cc
 fault_left w (f ∷ fs) e = cc
 
-go_message : (more at : ℕ) (bytes : List ℕ) (fields : List Entry) → length bytes ≤ suc more → GoesOn more → (r : Result (Entry × ℕ) FaultKind) → field_at bytes ≡ r → item_then at (λ len. items_in more (at + len) (drop len bytes)) r ≡ whole fields → IsMessage bytes fields
+go_message : (more at : ℕ) (bytes : List ℕ) (fields : List Entry) → length bytes ≤ suc more → GoesOn more → (r : Result (Entry × ℕ) FaultKind)
+    → field_at bytes ≡ r → item_then at (λ len. items_in more (at + len) (drop len bytes)) r ≡ whole fields → IsMessage bytes fields
 unfolding item_then
 go_message more at bytes [] short next (Ok x) read e = absurd (some_left x.0 (items_in more (at + x.1) (drop x.1 bytes)) e)
 go_message more at bytes (f ∷ fs) short next (Ok x) read e =

@@ -1,5 +1,6 @@
 -- Reading a number, byte by byte.
-use Rattle.std.proofs.Common.{◌≡◌, ℕ, zero, suc, ◌+◌, ◌-◌, ◌*◌, ◌%◌, ◌^◌, ◌<◌, ◌≤◌, true, false, ltb, List, ◌∷◌, length, get_or, drop, Result, Ok, Err, refl, arith, add-one, ◌⊎◌, inl, inr, lit<}
+use Rattle.std.proofs.Common.{◌≡◌, ℕ, zero, suc, ◌+◌, ◌-◌, ◌*◌, ◌%◌, ◌^◌, ◌<◌, ◌≤◌, true, false, ltb, List, ◌∷◌, length, get_or, drop, Result, Ok, Err, refl}
+use Rattle.std.proofs.Common.{arith, add-one, ◌⊎◌, inl, inr, lit<}
 use Rattle.std.proofs.lemmas.Bool.{le-ltb, lt-ltb}
 use Rattle.std.proofs.lemmas.Nat.{pow-add}
 use Rattle.std.proofs.lemmas.List.{drop_all}
@@ -65,14 +66,16 @@ read_begins bytes = same (read_in bytes 9)
 front : (bytes : List ℕ) (i b : ℕ) → i < length bytes → b ≡ get_or bytes i 0 → drop i bytes ≡ b ∷ drop (i + 1) bytes
 front bytes i b lt is = rw (is, add-one) (drop-cons bytes i 0 lt)
 
-pub read_overlong : (bytes : List ℕ) (v i b : ℕ) → i < length bytes → b ≡ get_or bytes i 0 → i ≡ 9 → 1 < b → with_value v i (read_in (drop i bytes) (9 - i)) ≡ Err Varint
+pub read_overlong : (bytes : List ℕ) (v i b : ℕ) → i < length bytes → b ≡ get_or bytes i 0 → i ≡ 9 → 1 < b
+    → with_value v i (read_in (drop i bytes) (9 - i)) ≡ Err Varint
 unfolding read_in with_value
 read_overlong bytes v i b lt is last high =
     let k : 9 - i ≡ 0 = omega arith in
     let long : ltb b 2 ≡ false = le-ltb b 2 high in
     rw (front bytes i b lt is, k, long) refl
 
-last_byte : (v i b : ℕ) (bs : List ℕ) (more : ℕ) → b < 128 → ((more ≡ 0) × (b ≤ 1)) ⊎ (more ≡ 0 → ⊥) → with_value v i (read_in (b ∷ bs) more) ≡ Ok (v + b % 128 * 2 ^ (7 * i), i + 1)
+last_byte : (v i b : ℕ) (bs : List ℕ) (more : ℕ) → b < 128 → ((more ≡ 0) × (b ≤ 1)) ⊎ (more ≡ 0 → ⊥)
+    → with_value v i (read_in (b ∷ bs) more) ≡ Ok (v + b % 128 * 2 ^ (7 * i), i + 1)
 unfolding read_in with_value
 last_byte v i b bs zero low room =
     let small : b < 2 = elim room [ inl last ↦ omega arith | inr not ↦ absurd (not refl) ] in
@@ -84,7 +87,8 @@ last_byte v i b bs (suc more) low room =
     let e : b % 128 ≡ b = omega arith in
     rw (short, e) (ok_is _ _ _ _ (omega arith) refl)
 
-pub read_last : (bytes : List ℕ) (v i b : ℕ) → i ≤ 9 → i < length bytes → b ≡ get_or bytes i 0 → b < 128 → HasRoom i b → with_value v i (read_in (drop i bytes) (9 - i)) ≡ Ok (v + b % 128 * 2 ^ (7 * i), i + 1)
+pub read_last : (bytes : List ℕ) (v i b : ℕ) → i ≤ 9 → i < length bytes → b ≡ get_or bytes i 0 → b < 128 → HasRoom i b
+    → with_value v i (read_in (drop i bytes) (9 - i)) ≡ Ok (v + b % 128 * 2 ^ (7 * i), i + 1)
 read_last bytes v i b le lt is low room =
     let room' : ((9 - i ≡ 0) × (b ≤ 1)) ⊎ (9 - i ≡ 0 → ⊥) = elim room [ inl last ↦ inl (omega arith, last.1) | inr more ↦ inr (λ e. more (omega arith)) ] in
     rw (front bytes i b lt is) (last_byte v i b (drop (i + 1) bytes) (9 - i) low room')
@@ -97,7 +101,8 @@ one_more v i b (Ok r) =
     rw (value, len) refl
 one_more v i b (Err kind) = refl
 
-pub read_more : (bytes : List ℕ) (v i b : ℕ) → i < 9 → i < length bytes → b ≡ get_or bytes i 0 → 128 ≤ b → with_value v i (read_in (drop i bytes) (9 - i)) ≡ with_value (v + b % 128 * 2 ^ (7 * i)) (i + 1) (read_in (drop (i + 1) bytes) (9 - (i + 1)))
+pub read_more : (bytes : List ℕ) (v i b : ℕ) → i < 9 → i < length bytes → b ≡ get_or bytes i 0 → 128 ≤ b
+    → with_value v i (read_in (drop i bytes) (9 - i)) ≡ with_value (v + b % 128 * 2 ^ (7 * i)) (i + 1) (read_in (drop (i + 1) bytes) (9 - (i + 1)))
 unfolding read_in
 read_more bytes v i b room lt is high =
     let k : 9 - i ≡ suc (9 - (i + 1)) = omega arith in

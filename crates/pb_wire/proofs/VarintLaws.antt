@@ -1,5 +1,6 @@
 -- What is read in front is a spelling, each spelling is read, and each fault says what stands there.
-use Rattle.std.proofs.Common.{◌≡◌, ℕ, zero, suc, ◌+◌, ◌*◌, ◌%◌, ◌<◌, ◌≤◌, Bool, true, false, cond, ltb, List, [], ◌∷◌, ◌++◌, length, get_or, take, Result, Ok, Err, refl, ap, subst, ◌∙◌, arith, ◌⊎◌, inl, inr}
+use Rattle.std.proofs.Common.{◌≡◌, ℕ, zero, suc, ◌+◌, ◌*◌, ◌%◌, ◌<◌, ◌≤◌, Bool, true, false, cond, ltb, List, [], ◌∷◌, ◌++◌, length, get_or, take, Result, Ok}
+use Rattle.std.proofs.Common.{Err, refl, ap, subst, ◌∙◌, arith, ◌⊎◌, inl, inr}
 use Rattle.std.specs.List.{AllByRecursion}
 use Rattle.std.proofs.lemmas.Bool.{ltb-false, ltb-true, le-ltb, lt-ltb}
 use Rattle.std.proofs.lemmas.List.{length-take}
@@ -53,9 +54,17 @@ limit_some zero = omega arith
 limit_some (suc more) = omega (arith, limit_some more)
 
 one_byte : (b : ℕ) (bs : List ℕ) (more n len : ℕ) → b < 128 → b < limit_in more → b ≡ n → 1 ≡ len → Spells (b ∷ bs) more n len
-one_byte b bs more n len low below value size = subst (λ (k : ℕ). Spells (b ∷ bs) more n k) size record { within = omega arith; short = omega arith; groups = low; value = omega arith; below = omega arith }
+one_byte b bs more n len low below value size =
+    subst (λ (k : ℕ). Spells (b ∷ bs) more n k) size record {
+      within = omega arith;
+      short = omega arith;
+      groups = low;
+      value = omega arith;
+      below = omega arith;
+    }
 
-more_bytes : (b : ℕ) (bs : List ℕ) (more n len high size : ℕ) → 128 ≤ b → Spells bs more high size → b % 128 + 128 * high ≡ n → size + 1 ≡ len → Spells (b ∷ bs) (suc more) n len
+more_bytes : (b : ℕ) (bs : List ℕ) (more n len high size : ℕ) → 128 ≤ b → Spells bs more high size → b % 128 + 128 * high ≡ n → size + 1 ≡ len
+    → Spells (b ∷ bs) (suc more) n len
 unfolding limit_in
 more_bytes b bs more n len high size top s value e =
     let below : b % 128 + 128 * high < 128 * limit_in more = omega (arith, s.below) in
@@ -85,7 +94,8 @@ read_spells (b ∷ bs) zero n len e =
     ]
 read_spells (b ∷ bs) (suc more) n len e =
     elim (chosen (ltb b 128) (found b 1) (behind b (read_in bs more)) (found n len) e) [
-      | inl hit ↦ let h = fst_of b n 1 len hit.1 in let low : b < 128 = ltb-true b 128 hit.0 in one_byte b bs (suc more) n len low (omega (arith, limit_some more)) h.0 h.1
+      | inl hit ↦ let h = fst_of b n 1 len hit.1 in let low : b < 128 = ltb-true b 128 hit.0 in
+          one_byte b bs (suc more) n len low (omega (arith, limit_some more)) h.0 h.1
       | inr other ↦
           let r = behind_ok b (read_in bs more) n len other.1 in
           more_bytes b bs more n len r.0.0 r.0.1 (ltb-false b 128 other.0) (read_spells bs more r.0.0 r.0.1 r.1) r.2 r.3
@@ -93,7 +103,8 @@ read_spells (b ∷ bs) (suc more) n len e =
 
 -- ---- each spelling is read
 
-pub spelling_reads : (front rest : List ℕ) (more : ℕ) → IsGroups front → length front ≤ more + 1 → groups_value front < limit_in more → read_in (front ++ rest) more ≡ found (groups_value front) (length front)
+pub spelling_reads : (front rest : List ℕ) (more : ℕ) → IsGroups front → length front ≤ more + 1 → groups_value front < limit_in more
+    → read_in (front ++ rest) more ≡ found (groups_value front) (length front)
 unfolding read_in limit_in
 spelling_reads [] rest more groups short below = absurd groups
 spelling_reads (b ∷ []) rest zero groups short below =
@@ -153,7 +164,8 @@ cut_is_read (b ∷ bs) (suc more) short top =
     let high : ltb b 128 ≡ false = le-ltb b 128 top.0 in
     rw (high, cut_is_read bs more (omega arith) top.1) refl
 
-pub read_overlong_is : (bytes : List ℕ) (more : ℕ) → read_in bytes more ≡ Err Varint → (more < length bytes) × AllByRecursion (λ b. 128 ≤ b) (take more bytes) × (1 < get_or bytes more 0)
+pub read_overlong_is : (bytes : List ℕ) (more : ℕ) → read_in bytes more ≡ Err Varint
+    → (more < length bytes) × AllByRecursion (λ b. 128 ≤ b) (take more bytes) × (1 < get_or bytes more 0)
 unfolding read_in
 read_overlong_is [] more e = absurd (cut_not_varint e)
 read_overlong_is (b ∷ bs) zero e =
@@ -169,7 +181,8 @@ read_overlong_is (b ∷ bs) (suc more) e =
           (omega (arith, h.0), (ltb-false b 128 other.0, h.1), h.2)
     ]
 
-pub overlong_is_read : (bytes : List ℕ) (more : ℕ) → more < length bytes → AllByRecursion (λ b. 128 ≤ b) (take more bytes) → 1 < get_or bytes more 0 → read_in bytes more ≡ Err Varint
+pub overlong_is_read : (bytes : List ℕ) (more : ℕ) → more < length bytes → AllByRecursion (λ b. 128 ≤ b) (take more bytes) → 1 < get_or bytes more 0
+    → read_in bytes more ≡ Err Varint
 unfolding read_in behind
 overlong_is_read [] more long top last = absurd (omega arith)
 overlong_is_read (b ∷ bs) zero long top last =

@@ -1,5 +1,6 @@
 -- Spellings of numbers.
-use Rattle.std.proofs.Common.{◌≡◌, ℕ, zero, suc, ◌+◌, ◌-◌, ◌*◌, ◌/◌, ◌%◌, ◌^◌, ◌<◌, ◌≤◌, true, false, ltb, List, [], ◌∷◌, ◌++◌, length, refl, sym, ap, ◌∙◌, append_assoc, arith}
+use Rattle.std.proofs.Common.{◌≡◌, ℕ, zero, suc, ◌+◌, ◌-◌, ◌*◌, ◌/◌, ◌%◌, ◌^◌, ◌<◌, ◌≤◌, true, false, ltb, List, [], ◌∷◌, ◌++◌, length, refl, sym, ap, ◌∙◌}
+use Rattle.std.proofs.Common.{append_assoc, arith}
 use Rattle.std.proofs.Common.{inl, inr}
 use Rattle.std.proofs.lemmas.Bool.{cases_lt, le-ltb, lt-ltb}
 use Rattle.pb_wire.specs.Varint.{IsGroups, groups_value, IsVarint, shortest_in, varint}
@@ -18,7 +19,8 @@ unfolding limit_in
 limit_begins n h = h
 
 -- one more byte, and the rest of the number
-pub shortest_step : (front : List ℕ) (more next n : ℕ) (whole : List ℕ) → more ≡ suc next → 128 ≤ n → front ++ shortest_in more n ≡ whole → (front ++ (128 + n % 128) ∷ []) ++ shortest_in next (n / 128) ≡ whole
+pub shortest_step : (front : List ℕ) (more next n : ℕ) (whole : List ℕ) → more ≡ suc next → 128 ≤ n → front ++ shortest_in more n ≡ whole
+    → (front ++ (128 + n % 128) ∷ []) ++ shortest_in next (n / 128) ≡ whole
 unfolding shortest_in
 shortest_step front more next n whole k high so_far =
     let long : ltb n 128 ≡ false = le-ltb n 128 high in

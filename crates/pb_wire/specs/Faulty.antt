@@ -16,15 +16,18 @@ pub data ValueHas (wire : ℕ) (bytes : List ℕ) (d : FaultKind) : Type 0 where
   number_cut : d ≡ faults.Cut → (wire ≡ 0) ⊎ (wire ≡ 2) → IsCut bytes → ValueHas wire bytes d
   number_overlong : d ≡ faults.Varint → (wire ≡ 0) ⊎ (wire ≡ 2) → IsOverlong bytes → ValueHas wire bytes d
   eight_cut : d ≡ faults.Cut → wire ≡ 1 → length bytes < 8 → ValueHas wire bytes d
-  bytes_cut : d ≡ faults.Cut → wire ≡ 2 → (len : List ℕ) → (rest : List ℕ) → (n : ℕ) → bytes ≡ len ++ rest → IsVarint len n → length rest < n → ValueHas wire bytes d
+  bytes_cut : d ≡ faults.Cut → wire ≡ 2 → (len : List ℕ) → (rest : List ℕ) → (n : ℕ) → bytes ≡ len ++ rest → IsVarint len n → length rest < n
+      → ValueHas wire bytes d
   four_cut : d ≡ faults.Cut → wire ≡ 5 → length bytes < 4 → ValueHas wire bytes d
 
 -- where a field must stand: its key is cut or overlong; else its number is out of range; else its value has the fault
 pub data FieldHas (bytes : List ℕ) (d : FaultKind) : Type 0 where
   key_cut : d ≡ faults.Cut → IsCut bytes → FieldHas bytes d
   key_overlong : d ≡ faults.Varint → IsOverlong bytes → FieldHas bytes d
-  no_number : d ≡ faults.Number → (key : List ℕ) → (rest : List ℕ) → (k : ℕ) → bytes ≡ key ++ rest → IsVarint key k → (IsFieldNumber (k / 8) → ⊥) → FieldHas bytes d
-  at_value : (key : List ℕ) → (rest : List ℕ) → (k : ℕ) → bytes ≡ key ++ rest → IsVarint key k → IsFieldNumber (k / 8) → ValueHas (k % 8) rest d → FieldHas bytes d
+  no_number : d ≡ faults.Number → (key : List ℕ) → (rest : List ℕ) → (k : ℕ) → bytes ≡ key ++ rest → IsVarint key k → (IsFieldNumber (k / 8) → ⊥)
+      → FieldHas bytes d
+  at_value : (key : List ℕ) → (rest : List ℕ) → (k : ℕ) → bytes ≡ key ++ rest → IsVarint key k → IsFieldNumber (k / 8) → ValueHas (k % 8) rest d
+      → FieldHas bytes d
 
 -- these fields stand in front, and where the next one's key begins, it has the fault
 pub record IsFaulty (bytes : List ℕ) (fields : List Entry) (fault : WireFault) : Type 0 where
@@ -33,5 +36,5 @@ pub record IsFaulty (bytes : List ℕ) (fields : List Entry) (fault : WireFault)
   pub parts : bytes ≡ front ++ rest
   pub message : IsMessage front fields
   pub some : 0 < length rest
-  pub place : fault.at ≡ length front
+  pub offset : fault.at ≡ length front
   pub has : FieldHas rest fault.kind

@@ -1,5 +1,6 @@
 -- Messages: one field after the other, each a key and its value.
-use Rattle.std.specs.Prelude.{◌≡◌, ℕ, ◌+◌, ◌*◌, ◌/◌, ◌%◌, ◌<◌, ◌≤◌, ◌==◌, ◌||◌, List, [], ◌∷◌, ◌++◌, length, take, drop, Result, Ok, Err, nat_lt, if◌then◌else◌}
+use Rattle.std.specs.Prelude.{◌≡◌, ℕ, ◌+◌, ◌*◌, ◌/◌, ◌%◌, ◌<◌, ◌≤◌, ◌==◌, ◌||◌, List, [], ◌∷◌, ◌++◌, length, take, drop, Ok, Err, nat_lt, if◌then◌else◌}
+use Rattle.reader.specs.Reading.{Read, ◌>>=◌}
 use Rattle.pb_wire.specs.declared.fault.FaultKind.{FaultKind}
 use Rattle.pb_wire.specs.declared.fault.FaultKind.TheVariants.{Cut, Number, WireType}
 use Rattle.pb_wire.specs.declared.fields.FieldValue.{FieldValue}
@@ -59,17 +60,12 @@ IsMessage bytes (f ∷ fs) = (front : List ℕ) × (rest : List ℕ) × (bytes �
 
 -- ---- reading from left to right, with the first fault that is met
 
-infixl 10 ◌>>=◌
-abbrev pub ◌>>=◌ : {A B : Type 0} → Result A FaultKind → (A → Result B FaultKind) → Result B FaultKind
-(Ok x) >>= f = f x
-(Err e) >>= f = Err e
-
 -- the front of so many bytes
-abbrev pub front_at : ℕ → List ℕ → Result (List ℕ) FaultKind
+abbrev pub front_at : ℕ → List ℕ → Read FaultKind (List ℕ)
 front_at len bytes = if nat_lt (length bytes) len then Err Cut else Ok (take len bytes)
 
 -- a value of this wire type, and its length
-unfoldable pub value_at : ℕ → List ℕ → Result (Value × ℕ) FaultKind
+unfoldable pub value_at : ℕ → List ℕ → Read FaultKind (Value × ℕ)
 value_at wire bytes =
     if wire == 0 then (varint_at bytes >>= λ n. Ok (varint_value n.0, n.1))
     else (if wire == 1 then (front_at 8 bytes >>= λ part. Ok (eight_bytes part, 8))
@@ -78,12 +74,7 @@ value_at wire bytes =
     else Err WireType)))
 
 -- a field, and its length
-unfoldable pub field_at : List ℕ → Result (Entry × ℕ) FaultKind
+unfoldable pub field_at : List ℕ → Read FaultKind (Entry × ℕ)
 field_at bytes = varint_at bytes >>= λ key.
     if (key.0 / 8 == 0) || nat_lt 536870911 (key.0 / 8) then Err Number
     else (value_at (key.0 % 8) (drop key.1 bytes) >>= λ value. Ok (record { number = key.0 / 8; value = value.0 }, key.1 + value.1))
-
--- a function answers what reading gives
-abbrev pub Reads : {X Y : Type 0} → (X → Y) → Result X FaultKind → Result Y FaultKind → Type 0
-Reads view (Ok x) read = read ≡ Ok (view x)
-Reads view (Err kind) read = read ≡ Err kind

@@ -4,19 +4,14 @@
 
 mod fault;
 mod fields;
-mod laws;
 mod reading;
 mod signed;
 mod varint;
 
 pub use fault::{FaultKind, WireFault};
 pub use fields::{Field, FieldValue, Fields};
-pub use laws::{fault_law, message_law, shortest_law};
 pub use signed::{unzigzag, zigzag};
 pub use varint::{get_varint, put_varint};
-
-/// A growth of a vector that was refused.
-pub type Memory = std::alloc::AllocError;
 
 #[cfg(test)]
 mod tests;

@@ -1,8 +1,9 @@
 //! One field, read from the front of the bytes.
 
 ghost use Rattle.std.specs.Prelude.{◌≡◌, ℕ, ◌+◌, ◌<◌, ◌≤◌, ◌^◌, ◌%◌, length, IfOk, IsTrue};
+ghost use Rattle.reader.specs.Reading.{Reads};
 ghost use Rattle.pb_wire.specs.Lengths.{has_its_length};
-ghost use Rattle.pb_wire.specs.Message.{value_at, field_at, front_at, value_view, field_view, Reads};
+ghost use Rattle.pb_wire.specs.Message.{value_at, field_at, front_at, value_view, field_view};
 
 use crate::fault::FaultKind;
 use crate::fields::{Field, FieldValue};

@@ -183,7 +183,7 @@ fn names_the_first_fault(rt: HostRuntime) {
 }
 
 #[test]
-fn tells_where_the_key_stands(rt: HostRuntime) -> Result<(), Fail> {
+fn gives_the_offset_of_the_key(rt: HostRuntime) -> Result<(), Fail> {
     let mut fields = Fields::new(&[0x08, 0x96, 1, 0x80, 0x01, 0x81]);
     assert_eq!(rt; number_of(next_of(&mut fields)?), Some(150));
     assert_eq!(rt;

@@ -2,15 +2,15 @@
 
 ghost use Rattle.std.specs.Prelude.{◌≡◌, ℕ, ◌+◌, ◌<◌, ◌≤◌, ◌↔◌, ◌++◌, List, length, take, IfOk, IsErrOf, OnOk, OnErr, vec_len, vec_capacity};
 ghost use Rattle.pb_wire.specs.Varint.{varint, varint_at, IsVarint, IsCut, IsOverlong};
-ghost use Rattle.pb_wire.specs.Fault.{placed};
+ghost use Rattle.pb_wire.specs.Fault.{with_offset};
 
-use crate::Memory;
 use crate::fault::{FaultKind, WireFault};
+use std::alloc::AllocError;
 
 /// Appends the shortest spelling of `n`: seven bits a byte, lowest first, the high bit set on each but the last
 /// (Protocol Buffers, "Encoding", "Base 128 Varints"). An `Err` changes nothing, and comes only where the vector had to
 /// grow.
-pub fn put_varint(out: &mut Vec<u8>, n: u64) -> Result<(), Memory>
+pub fn put_varint(out: &mut Vec<u8>, n: u64) -> Result<(), AllocError>
     ensures ok { OnOk result (out.new.items ≡ out.old.items ++ varint n) }
     ensures err { OnErr result (out.new.items ≡ out.old.items) }
     ensures full { OnErr result (vec_capacity out.old < vec_len out.old + length (varint n)) }
@@ -37,12 +37,12 @@ pub fn get_varint(bytes: &[u8]) -> Result<(u64, usize), WireFault>
     ensures only { (front rest : List ℕ) (n : ℕ) → IsVarint front n → bytes.now ≡ front ++ rest → result ≡ Ok (n, length front) }
     ensures cut { IsErrOf result (record { at = 0; kind = FaultKind.Cut }) ↔ IsCut bytes.now }
     ensures overlong { IsErrOf result (record { at = 0; kind = FaultKind.Varint }) ↔ IsOverlong bytes.now }
-    ensures exact { result ≡ placed 0 (varint_at bytes.now) }
+    ensures exact { result ≡ with_offset 0 (varint_at bytes.now) }
 {
     read(bytes).map_err(|kind| WireFault { at: 0, kind })
 }
 
-/// The number in front, and how many bytes it takes; a fault without a place.
+/// The number in front, and how many bytes it takes; a fault without an offset.
 pub(crate) fn read(bytes: &[u8]) -> Result<(u64, usize), FaultKind>
     ensures within { IfOk result (λ r. (0 < r.1) × (r.1 ≤ length bytes.now)) }
     ensures exact { result ≡ varint_at bytes.now }

@@ -11,7 +11,6 @@ use Rattle.std.specs.BTreeMap.{is_at}
 use Rattle.std.specs.BTreeSet.{BTreeSet, contains}
 use Rattle.mvt_layer.specs.declared.fault.TileFault.{TileFault}
 use Rattle.mvt_layer.specs.declared.fault.TileFault.TheVariants as tile_faults
-use Rattle.mvt_layer.specs.Reading.{Fails}
 use Rattle.mvt_layer.specs.Reads.{ReadsAs}
 use Rattle.mvt_layer.specs.Tile.{LayerView}
 use Rattle.pm_header.specs.declared.header.Header.{Header}
@@ -22,27 +21,19 @@ use Rattle.pm_archive.specs.VerifiedPieces.{IsFirstTileFault, place_cmp, AreRead
 
 -- ---- one tile
 
--- where reading says no list of layers, and memory sufficed, there is none
-no_layers : (d : TileFault) → d ≢ tile_faults.Memory → (ls : List LayerView) → ¬ Fails d (Ok ls)
-no_layers tile_faults.Memory other ls f = other refl
-no_layers tile_faults.Wire other ls f = cc
-no_layers tile_faults.Kind other ls f = cc
-no_layers tile_faults.Range other ls f = cc
-no_layers tile_faults.Utf8 other ls f = cc
-no_layers tile_faults.Name other ls f = cc
-no_layers tile_faults.Version other ls f = cc
-no_layers tile_faults.Extent other ls f = cc
-no_layers tile_faults.LayerTwice other ls f = cc
-no_layers tile_faults.Value other ls f = cc
-no_layers tile_faults.Tag other ls f = cc
-no_layers tile_faults.Geometry other ls f = cc
+-- a fault that is met where these layers are read, an allocation that failed aside
+abbrev Meets : TileFault → List LayerView → Type 0
+Meets d ls = ¬ (d ≡ tile_faults.Memory) → ◌≡◌ {A = Result (List LayerView) TileFault} (Ok ls) (Err d)
 
-pub no_tile : (content : List ℕ) (d : TileFault) → d ≢ tile_faults.Memory → ((ls : List LayerView) → ReadsAs content ls → Fails d (Ok ls)) → ¬ IsTile content
-no_tile content d other only t = no_layers d other t.0 (only t.0 t.1)
+pub no_tile : (content : List ℕ) (d : TileFault) → d ≢ tile_faults.Memory → ((ls : List LayerView) → ReadsAs content ls → Meets d ls) → ¬ IsTile content
+no_tile content d other only t = differ t.0 (only t.0 t.1 other)
+  where
+    differ : (ls : List LayerView) → ¬ ◌≡◌ {A = Result (List LayerView) TileFault} (Ok ls) (Err d)
+    differ ls e = cc
 
 -- a fault that says so of the bytes says that they are no tile
 pub refused_tile : (content : List ℕ) (d : TileFault) (r : Result Bool AllocError) → IfOk r (λ is. (is ≡ false) × (d ≢ tile_faults.Memory))
-    → ((ls : List LayerView) → ReadsAs content ls → Fails d (Ok ls)) → IfOk r (λ is. IsTrue is ↔ IsTile content)
+    → ((ls : List LayerView) → ReadsAs content ls → Meets d ls) → IfOk r (λ is. IsTrue is ↔ IsTile content)
 refused_tile content d (Ok is) h only = (λ t. absurd (false≢true (sym h.0 ∙ t)), λ t. absurd (no_tile content d h.1 only t))
 refused_tile content d (Err e) h only = tt
 

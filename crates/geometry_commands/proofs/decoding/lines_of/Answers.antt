@@ -1,8 +1,9 @@
 use Rattle.std.proofs.Common.{◌≡◌, ◌<◌, ◌∷◌, [], length, map, arith}
 use Rattle.std.proofs.lemmas.List.{map-append}
 use Rattle.std.proofs.lemmas.Result.{err_from_is_err_and}
+use Rattle.reader.proofs.Steps.{gives_on}
+use Rattle.geometry_commands.specs.declared.decoding.GeometryFault.TheVariants.{Memory}
 use Rattle.geometry_commands.specs.Decoding.{line_at}
-use Rattle.geometry_commands.proofs.Stepwise.{fails_on}
 use Rattle.geometry_commands.proofs.Spelled.{line_shorter, lines_on, lines_fault, lines_done}
 use Rattle.geometry_commands.proofs.decoding.lines_of.Goals as goal
 
@@ -10,7 +11,7 @@ pub returns-in_err-line-clause-exact : goal.returns-in_err-line-clause-exact
 returns-in_err-line-clause-exact c =
     let p = err_from_is_err_and c.from_residual.result c.from_residual.ensures.1 in
     let some : 0 < length c.loop-rest.rest.now = c.loop-rest-test.true in
-    rw (p.1, p.2) (fails_on c.in_err-line.field-0.0 (line_at c.args.closed c.loop-rest.at c.loop-rest.rest.now) _
+    rw (p.1, p.2) (gives_on Memory c.in_err-line.field-0.0 (line_at c.args.closed c.loop-rest.at c.loop-rest.rest.now) _
     (lines_fault c.args.closed (map (λ p. p.items) c.loop-rest.lines.items) c.loop-rest.at c.loop-rest.rest.now _ some c.loop-rest.invariant.0)
     c.in_err-line.ensures.exact)
 

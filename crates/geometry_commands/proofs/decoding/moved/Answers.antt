@@ -9,4 +9,5 @@ returns c =
     let fy : FitsSigned w64 c.in_ok-y.y = search rules in
     let px : FitsSigned w64 c.args.from.x = search rules in
     let py : FitsSigned w64 c.args.from.y = search rules in
-    simp to_z-of_z (moved_is c.args.from c.args.dx c.args.dy c.in_ok-x.x c.in_ok-y.y (simp to_z-of_z at c.in_ok-x.ensures) (simp to_z-of_z at c.in_ok-y.ensures))
+    simp to_z-of_z (moved_is c.args.from c.args.dx c.args.dy c.in_ok-x.x c.in_ok-y.y (simp to_z-of_z at c.in_ok-x.ensures)
+    (simp to_z-of_z at c.in_ok-y.ensures))

@@ -12,10 +12,12 @@ loop-line-preserved c =
     let same = c.as_slice.ensures.value in
     let to = c.in_ok-at.ensures.last ∙ ap (last_of c.loop-line.at) same in
     record {
-      spelled = lines_on c.args.closed c.loop-line.at c.in_ok-at.at rest next l c.loop-line.out.items c.put_line.new.out.items _ e (c.in_ok-at.ensures.line ∙ ap (λ k. c.loop-line.out.items ++ line_spelled c.args.closed c.loop-line.at k) same) to c.loop-line.invariant.spelled;
+      spelled = lines_on c.args.closed c.loop-line.at c.in_ok-at.at rest next l c.loop-line.out.items c.put_line.new.out.items _ e
+          (c.in_ok-at.ensures.line ∙ ap (λ k. c.loop-line.out.items ++ line_spelled c.args.closed c.loop-line.at k) same) to c.loop-line.invariant.spelled;
       can = can_on c.args.closed c.loop-line.at c.in_ok-at.at rest next l e to c.loop-line.invariant.can;
       whole = whole_on c.args.closed rest next l e (rw same at c.in_ok-at.ensures.whole) c.loop-line.invariant.whole;
     }
 
 pub returns-clause-spelled : goal.returns-clause-spelled
-returns-clause-spelled c = lines_done c.args.closed c.loop-line.at c.args.lines.now c.loop-line.line-index c.loop-line.out.items _ c.loop-line-test.false c.loop-line.invariant.spelled
+returns-clause-spelled c =
+    lines_done c.args.closed c.loop-line.at c.args.lines.now c.loop-line.line-index c.loop-line.out.items _ c.loop-line-test.false c.loop-line.invariant.spelled

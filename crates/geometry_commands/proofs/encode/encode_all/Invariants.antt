@@ -8,7 +8,8 @@ use Rattle.geometry_commands.proofs.encode.encode_all.Given as goal
 -- what is written, and the way along the lines that are left
 abbrev pub invariant-loop-line : goal.invariant-loop-line
 invariant-loop-line l = record {
-  spelled : l.out.items ++ lines_spelled l.closed l.at (map (λ p. p.items) (drop l.line-index l.lines)) ≡ lines_spelled l.closed origin (map (λ p. p.items) l.lines);
+  spelled : l.out.items ++ lines_spelled l.closed l.at (map (λ p. p.items) (drop l.line-index l.lines))
+      ≡ lines_spelled l.closed origin (map (λ p. p.items) l.lines);
   can : CanSpellLines l.closed l.at (map (λ p. p.items) (drop l.line-index l.lines));
   whole : AllByRecursion (IsLine l.closed) (map (λ p. p.items) (drop l.line-index l.lines)) → AllByRecursion (IsLine l.closed) (map (λ p. p.items) l.lines);
 }

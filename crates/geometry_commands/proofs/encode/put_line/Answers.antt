@@ -10,7 +10,10 @@ returns-in_ok-push-3-clause-line c =
     let line = c.args.line.now in
     let others = c.put_steps.new.out.items in
     let close : close_spelled c.args.closed ≡ command 7 1 ∷ [] = rw c.if-closed.true refl in
-    let all = line_written c.args.closed c.args.from (get_or line 0 origin) (take (length line - 1) (drop 1 line)) line c.times.result c.times-2.result c.args.out.now.items c.push.new.self.items c.put_step.new.out.items c.push-2.new.self.items others (split_first line origin (omega arith)) c.times.ensures c.times-2.ensures c.in_ok-push.ensures.items c.in_ok-put_step.ensures.step c.in_ok-push-2.ensures.items c.in_ok-last.ensures.steps in
+    let all = line_written c.args.closed c.args.from (get_or line 0 origin) (take (length line - 1) (drop 1 line))
+    line c.times.result c.times-2.result c.args.out.now.items c.push.new.self.items c.put_step.new.out.items c.push-2.new.self.items others
+    (split_first line origin (omega arith)) c.times.ensures c.times-2.ensures c.in_ok-push.ensures.items c.in_ok-put_step.ensures.step
+    c.in_ok-push-2.ensures.items c.in_ok-last.ensures.steps in
     c.in_ok-push-3.ensures.items ∙ rw c.times-then-closed.ensures (rw close at all)
 
 pub returns-else-closed-clause-line : goal.returns-else-closed-clause-line
@@ -18,5 +21,8 @@ returns-else-closed-clause-line c =
     let line = c.args.line.now in
     let others = c.put_steps.new.out.items in
     let close : close_spelled c.args.closed ≡ [] = rw c.if-closed.false refl in
-    let all = line_written c.args.closed c.args.from (get_or line 0 origin) (take (length line - 1) (drop 1 line)) line c.times.result c.times-2.result c.args.out.now.items c.push.new.self.items c.put_step.new.out.items c.push-2.new.self.items others (split_first line origin (omega arith)) c.times.ensures c.times-2.ensures c.in_ok-push.ensures.items c.in_ok-put_step.ensures.step c.in_ok-push-2.ensures.items c.in_ok-last.ensures.steps in
+    let all = line_written c.args.closed c.args.from (get_or line 0 origin) (take (length line - 1) (drop 1 line))
+    line c.times.result c.times-2.result c.args.out.now.items c.push.new.self.items c.put_step.new.out.items c.push-2.new.self.items others
+    (split_first line origin (omega arith)) c.times.ensures c.times-2.ensures c.in_ok-push.ensures.items c.in_ok-put_step.ensures.step
+    c.in_ok-push-2.ensures.items c.in_ok-last.ensures.steps in
     sym (append-nil others) ∙ rw close at all

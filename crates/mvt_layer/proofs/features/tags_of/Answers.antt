@@ -1,5 +1,5 @@
 use Rattle.std.proofs.Common.{◌≡◌, ◌∷◌, [], List, ℕ, true, false, get_or, sym, ◌∙◌}
-use Rattle.std.specs.Prelude.{not, slice_get}
+use Rattle.std.specs.Prelude.{not}
 use Rattle.std.specs.Ordering.{nat_cmp}
 use Rattle.std.specs.BTreeSet.{contains}
 use Rattle.std.proofs.lemmas.List.{map-append}
@@ -8,30 +8,42 @@ use Rattle.std.specs.Borrow.{Bor}
 use Rattle.pb_wire.proofs.Message.{back}
 use Rattle.mvt_layer.specs.declared.tile.TagValue.{TagValue}
 use Rattle.mvt_layer.specs.Tile.{bytes_of, tag_view, tag_views, Tagged, tagged}
-use Rattle.mvt_layer.specs.Reading.{found_tag}
-use Rattle.mvt_layer.proofs.Folds.{fails_on}
 use Rattle.mvt_layer.proofs.Tags.{tags_on, tags_twice, tags_fault, tags_odd, tags_done}
 use Rattle.mvt_layer.proofs.features.tags_of.Goals as goal
 
-pub returns-then-rest-lt2 : goal.returns-then-rest-lt2
-returns-then-rest-lt2 c = tags_odd (bytes_of c.args.keys.now) (tag_views c.args.values.now) c.loop-rest.used (tagged c.loop-rest.tags.items) c.loop-rest.rest.now _ c.loop-rest-test.true c.if-rest-lt2.true c.loop-rest.invariant
+pub returns-in_err-check_two : goal.returns-in_err-check_two
+returns-in_err-check_two c =
+    let p = err_from_is_err_and c.from_residual.result c.from_residual.ensures.1 in
+    let odd = tags_odd (bytes_of c.args.keys.now) (tag_views c.args.values.now) c.loop-rest.used (tagged c.loop-rest.tags.items) c.loop-rest.rest.now _
+    c.loop-rest-test.true c.in_err-check_two.ensures.odd.1 c.loop-rest.invariant in
+    rw (p.1, p.2, c.in_err-check_two.ensures.odd.0) (λ _. odd)
 
-pub returns-then-not-is_new : goal.returns-then-not-is_new
-returns-then-not-is_new c =
-    let old : false ≡ not (contains nat_cmp c.loop-rest.used (get_or c.loop-rest.rest.now 0 0)) = sym c.if-not-is_new.true ∙ c.in_ok-is_new.ensures.added in
-    tags_twice (bytes_of c.args.keys.now) (tag_views c.args.values.now) c.loop-rest.used (tagged c.loop-rest.tags.items) c.loop-rest.rest.now _ c.if-rest-lt2.false old c.loop-rest.invariant
+pub returns-in_err-check_new : goal.returns-in_err-check_new
+returns-in_err-check_new c =
+    let p = err_from_is_err_and c.from_residual-in_err-check_new.result c.from_residual-in_err-check_new.ensures.1 in
+    let old : false ≡ not (contains nat_cmp c.loop-rest.used (get_or c.loop-rest.rest.now 0 0)) =
+    sym c.in_err-check_new.ensures.twice.1 ∙ c.in_ok-is_new.ensures.added in
+    let twice = tags_twice (bytes_of c.args.keys.now) (tag_views c.args.values.now) c.loop-rest.used (tagged c.loop-rest.tags.items)
+    c.loop-rest.rest.now _ c.in_ok-check_two.ensures.two old c.loop-rest.invariant in
+    rw (p.1, p.2, c.in_err-check_new.ensures.twice.0) (λ _. twice)
 
 pub returns-in_err-tag : goal.returns-in_err-tag
 returns-in_err-tag c =
     let p = err_from_is_err_and c.from_residual-in_err-tag.result c.from_residual-in_err-tag.ensures.1 in
-    let new : true ≡ not (contains nat_cmp c.loop-rest.used (get_or c.loop-rest.rest.now 0 0)) = sym c.if-not-is_new.false ∙ c.in_ok-is_new.ensures.added in
-    rw (p.1, p.2) (fails_on c.in_err-tag.field-0.0 (found_tag (slice_get (bytes_of c.args.keys.now) (get_or c.loop-rest.rest.now 0 0)) (slice_get (tag_views c.args.values.now) (get_or c.loop-rest.rest.now 1 0))) _ (tags_fault (bytes_of c.args.keys.now) (tag_views c.args.values.now) c.loop-rest.used (tagged c.loop-rest.tags.items) c.loop-rest.rest.now _ c.if-rest-lt2.false new c.loop-rest.invariant) c.in_err-tag.ensures)
+    let new : true ≡ not (contains nat_cmp c.loop-rest.used (get_or c.loop-rest.rest.now 0 0)) = sym c.in_ok-check_new.ensures.new ∙ c.in_ok-is_new.ensures.added in
+    rw (p.1, p.2) (λ _. tags_fault (bytes_of c.args.keys.now) (tag_views c.args.values.now) c.loop-rest.used (tagged c.loop-rest.tags.items)
+    c.loop-rest.rest.now _ c.in_ok-check_two.ensures.two new c.loop-rest.invariant c.in_err-tag.field-0.0 c.in_err-tag.ensures)
 
 pub loop-rest-preserved : goal.loop-rest-preserved
 loop-rest-preserved c =
-    let new : true ≡ not (contains nat_cmp c.loop-rest.used (get_or c.loop-rest.rest.now 0 0)) = sym c.if-not-is_new.false ∙ c.in_ok-is_new.ensures.added in
-    rw (c.in_ok-push.ensures.items, back, map-append {B = Tagged} (λ (t : Bor (List ℕ) × TagValue). (t.0.now, tag_view t.1)) c.loop-rest.tags.items (c.in_ok-tag.tag ∷ []))
-    (tags_on (bytes_of c.args.keys.now) (tag_views c.args.values.now) c.loop-rest.used c.insert.new.self (tagged c.loop-rest.tags.items) (c.in_ok-tag.tag.0.now, tag_view c.in_ok-tag.tag.1) c.loop-rest.rest.now _ c.if-rest-lt2.false new c.in_ok-is_new.ensures.updates c.in_ok-tag.ensures c.loop-rest.invariant)
+    let new : true ≡ not (contains nat_cmp c.loop-rest.used (get_or c.loop-rest.rest.now 0 0)) = sym c.in_ok-check_new.ensures.new ∙ c.in_ok-is_new.ensures.added in
+    let viewed = map-append {B = Tagged} (λ (t : Bor (List ℕ) × TagValue). (t.0.now, tag_view t.1)) c.loop-rest.tags.items (c.in_ok-tag.tag ∷ []) in
+    rw (c.in_ok-push.ensures.items, back, viewed)
+    (tags_on (bytes_of c.args.keys.now) (tag_views c.args.values.now) c.loop-rest.used c.insert.new.self (tagged c.loop-rest.tags.items)
+    (c.in_ok-tag.tag.0.now, tag_view c.in_ok-tag.tag.1) c.loop-rest.rest.now _
+    c.in_ok-check_two.ensures.two new c.in_ok-is_new.ensures.updates c.in_ok-tag.ensures c.loop-rest.invariant)
 
 pub returns : goal.returns
-returns c = tags_done (bytes_of c.args.keys.now) (tag_views c.args.values.now) c.loop-rest.used (tagged c.loop-rest.tags.items) c.loop-rest.rest.now _ c.loop-rest-test.false c.loop-rest.invariant
+returns c =
+    tags_done (bytes_of c.args.keys.now) (tag_views c.args.values.now) c.loop-rest.used (tagged c.loop-rest.tags.items) c.loop-rest.rest.now _
+    c.loop-rest-test.false c.loop-rest.invariant

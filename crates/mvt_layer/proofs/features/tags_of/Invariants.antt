@@ -5,7 +5,8 @@ use Rattle.mvt_layer.proofs.Tags.{TagsSoFar}
 use Rattle.mvt_layer.proofs.features.tags_of.Given as goal
 
 abbrev pub invariant-loop-rest : goal.invariant-loop-rest
-invariant-loop-rest l = TagsSoFar (bytes_of l.keys) (tag_views l.values) l.used (tagged l.tags.items) l.rest (tags_at (bytes_of l.keys) (tag_views l.values) [] [] l.indices)
+invariant-loop-rest l =
+    TagsSoFar (bytes_of l.keys) (tag_views l.values) l.used (tagged l.tags.items) l.rest (tags_at (bytes_of l.keys) (tag_views l.values) [] [] l.indices)
 
 abbrev pub decreases-loop-rest : goal.decreases-loop-rest
 decreases-loop-rest l = length l.rest

@@ -1,28 +1,34 @@
-use Rattle.std.proofs.Common.{ℕ, ◌∷◌, List, drop, get_or, [], map, ◌+◌, ap, ◌∙◌}
-use Rattle.std.specs.Borrow.{Bor}
-use Rattle.std.proofs.lemmas.List.{map-append}
 use Rattle.std.proofs.lemmas.Result.{err_from_is_err_and}
+use Rattle.reader.proofs.Steps.{gives_on}
+use Rattle.mvt_layer.specs.declared.fault.TileFault.TheVariants.{Memory}
+use Rattle.std.proofs.Common.{map}
 use Rattle.mvt_layer.specs.Tile.{bytes_of, tag_views, feature_view}
 use Rattle.mvt_layer.specs.Reading.{feature_at, part_more}
-use Rattle.mvt_layer.proofs.Folds.{fails_on, part_on, part_fault, fold_done, parts_first, parts_none}
+use Rattle.mvt_layer.proofs.Folds.{part_at, each_on, each_stop, parts_done}
 use Rattle.mvt_layer.proofs.layers.features_of.Goals as goal
-
-abbrev nowhere : Bor (List ℕ)
-nowhere = record { ref_ptr = (0, 0); now = [] }
 
 pub returns-in_err-feature : goal.returns-in_err-feature
 returns-in_err-feature c =
-    let i = c.loop-part.part-index in
-    let raw = c.args.raw.now in
-    let part = (get_or raw i nowhere).now in
     let p = err_from_is_err_and c.from_residual.result c.from_residual.ensures.1 in
-    rw (p.1, p.2) (fails_on c.in_err-feature.field-0.0 (feature_at (bytes_of c.args.keys.now) (tag_views c.args.values.now) part) _ (part_fault (feature_at (bytes_of c.args.keys.now) (tag_views c.args.values.now)) (map feature_view c.loop-part.features.items) part (bytes_of (drop i raw)) (bytes_of (drop (i + 1) raw)) _ (parts_first raw i nowhere c.loop-part-test.true) c.loop-part.invariant) c.in_err-feature.ensures)
+    let raw = c.args.raw.now in
+    let i = c.loop-part.part-index in
+    let keys = bytes_of c.args.keys.now in
+    let values = tag_views c.args.values.now in
+    rw (p.1, p.2) (gives_on Memory c.in_err-feature.field-0.0 (feature_at keys values (part_at raw i)) _
+    (λ d. each_stop feature_view (feature_at keys values) raw i (map feature_view c.loop-part.features.items) d _ c.loop-part-test.true c.loop-part.invariant)
+    c.in_err-feature.ensures)
 
 pub loop-part-preserved : goal.loop-part-preserved
 loop-part-preserved c =
-    let i = c.loop-part.part-index in
-    let raw = c.args.raw.now in
-    part_on (feature_at (bytes_of c.args.keys.now) (tag_views c.args.values.now)) (map feature_view c.loop-part.features.items) (map feature_view c.push.new.self.items) (get_or raw i nowhere).now (feature_view c.in_ok-feature.feature) (bytes_of (drop i raw)) (bytes_of (drop (i + 1) raw)) _ (parts_first raw i nowhere c.loop-part-test.true) c.in_ok-feature.ensures (ap (map feature_view) c.in_ok-push.ensures.items ∙ map-append (feature_view) c.loop-part.features.items (c.in_ok-feature.feature ∷ [])) c.loop-part.invariant
+    let keys = bytes_of c.args.keys.now in
+    let values = tag_views c.args.values.now in
+    each_on feature_view (feature_at keys values) c.args.raw.now c.loop-part.part-index c.loop-part.features.items c.push.new.self.items c.in_ok-feature.feature
+    _
+    c.loop-part-test.true c.loop-part.invariant c.in_ok-feature.ensures c.in_ok-push.ensures.items
 
 pub returns : goal.returns
-returns c = fold_done (part_more (feature_at (bytes_of c.args.keys.now) (tag_views c.args.values.now))) (map feature_view c.loop-part.features.items) (bytes_of (drop c.loop-part.part-index c.args.raw.now)) _ (parts_none c.args.raw.now c.loop-part.part-index c.loop-part-test.false) c.loop-part.invariant
+returns c =
+    let keys = bytes_of c.args.keys.now in
+    let values = tag_views c.args.values.now in
+    parts_done (part_more (feature_at keys values)) c.args.raw.now c.loop-part.part-index (map feature_view c.loop-part.features.items) _
+    c.loop-part-test.false c.loop-part.invariant

@@ -1,6 +1,7 @@
 use Rattle.std.proofs.Common.{◌≡◌, drop}
+use Rattle.reader.specs.Reading.{folded}
 use Rattle.mvt_layer.specs.Tile.{bytes_of, layer_views}
-use Rattle.mvt_layer.specs.Reading.{folded, layer_more, layers_in}
+use Rattle.mvt_layer.specs.Reading.{layer_more, layers_in}
 use Rattle.mvt_layer.proofs.layers.layers_of.Given as goal
 
 abbrev pub invariant-loop-part : goal.invariant-loop-part

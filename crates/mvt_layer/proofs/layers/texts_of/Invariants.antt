@@ -1,6 +1,7 @@
 use Rattle.std.proofs.Common.{◌≡◌, drop}
+use Rattle.reader.specs.Reading.{folded}
 use Rattle.mvt_layer.specs.Tile.{bytes_of}
-use Rattle.mvt_layer.specs.Reading.{folded, part_more, each_in, text_at}
+use Rattle.mvt_layer.specs.Reading.{part_more, each_in, text_at}
 use Rattle.mvt_layer.proofs.layers.texts_of.Given as goal
 
 abbrev pub invariant-loop-part : goal.invariant-loop-part

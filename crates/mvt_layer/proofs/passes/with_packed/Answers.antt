@@ -1,19 +1,31 @@
 use Rattle.std.proofs.lemmas.Result.{err_from_is_err_and}
+use Rattle.reader.proofs.Steps.{gives_on, found_fault}
 use Rattle.pb_wire.proofs.Message.{back}
+use Rattle.mvt_layer.specs.declared.fault.TileFault.TheVariants.{Memory}
 use Rattle.mvt_layer.specs.Reading.{number_more}
-use Rattle.mvt_layer.proofs.Folds.{fails_on, packed_on, packed_range, packed_wire, packed_done}
+use Rattle.mvt_layer.proofs.Folds.{packed_on, packed_range, packed_broken, packed_done}
 use Rattle.mvt_layer.proofs.passes.with_packed.Goals as goal
 
-pub returns-in_err-numbers-in-Ok : goal.returns-in_err-numbers-in-Ok
-returns-in_err-numbers-in-Ok c =
+pub returns-in_err-n : goal.returns-in_err-n
+returns-in_err-n c =
     let p = err_from_is_err_and c.from_residual.result c.from_residual.ensures.1 in
-    rw (p.1, p.2) (fails_on c.in_err-numbers-in-Ok.field-0.0 (number_more c.loop-rest.numbers.items c.in-Ok.n) _ (packed_range c.loop-rest.numbers.items c.loop-rest.rest.now c.in-Ok.n c.in-Ok.len _ c.loop-rest-test.true c.in-Ok.ensures.exact c.loop-rest.invariant) c.in_err-numbers-in-Ok.ensures)
+    let broken = packed_broken c.loop-rest.numbers.items c.loop-rest.rest.now c.in_err-n.field-0.0 _
+    c.loop-rest-test.true c.loop-rest.invariant c.in_err-n.ensures.exact in
+    rw (p.1, p.2) (λ _. broken)
+
+pub returns-in_err-numbers : goal.returns-in_err-numbers
+returns-in_err-numbers c =
+    let p = err_from_is_err_and c.from_residual-in_err-numbers.result c.from_residual-in_err-numbers.ensures.1 in
+    let numbers = c.loop-rest.numbers.items in
+    let d = c.in_err-numbers.field-0.0 in
+    rw (p.1, p.2) (gives_on Memory d (number_more numbers c.in_ok-n.n) _
+    (packed_range numbers c.loop-rest.rest.now c.in_ok-n.n c.in_ok-n.len _ c.loop-rest-test.true c.in_ok-n.ensures.exact c.loop-rest.invariant)
+    (found_fault Memory d (number_more numbers c.in_ok-n.n) c.in_err-numbers.ensures))
 
 pub loop-rest-preserved : goal.loop-rest-preserved
-loop-rest-preserved c = rw back (packed_on c.loop-rest.numbers.items c.in_ok-numbers-in-Ok.numbers.items c.loop-rest.rest.now c.in-Ok.n c.in-Ok.len _ c.loop-rest-test.true c.in-Ok.ensures.exact c.in_ok-numbers-in-Ok.ensures c.loop-rest.invariant)
-
-pub returns-in-Err : goal.returns-in-Err
-returns-in-Err c = packed_wire c.loop-rest.numbers.items c.loop-rest.rest.now c.in-Err.field-0 _ c.loop-rest-test.true c.in-Err.ensures.exact c.loop-rest.invariant
+loop-rest-preserved c =
+    rw back (packed_on c.loop-rest.numbers.items c.in_ok-numbers.numbers.items c.loop-rest.rest.now c.in_ok-n.n c.in_ok-n.len _
+    c.loop-rest-test.true c.in_ok-n.ensures.exact c.in_ok-numbers.ensures c.loop-rest.invariant)
 
 pub returns : goal.returns
 returns c = packed_done c.loop-rest.numbers.items c.loop-rest.rest.now _ c.loop-rest-test.false c.loop-rest.invariant

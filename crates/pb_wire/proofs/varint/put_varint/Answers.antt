@@ -16,7 +16,8 @@ loop-rest-preserved c =
     let next : 9 - len ≡ suc (9 - (len + 1)) = omega arith in
     let fits : len < length c.loop-rest.spelling = omega arith in
     record {
-      whole = rw (take_more_set c.loop-rest.spelling len (128 + rest % 128) fits) (shortest_step (take len c.loop-rest.spelling) (9 - len) (9 - (len + 1)) rest (varint c.args.n) next c.loop-rest-test.true before.whole);
+      whole = rw (take_more_set c.loop-rest.spelling len (128 + rest % 128) fits)
+          (shortest_step (take len c.loop-rest.spelling) (9 - len) (9 - (len + 1)) rest (varint c.args.n) next c.loop-rest-test.true before.whole);
       below = limit_step (9 - len) (9 - (len + 1)) rest next before.below;
       room = omega arith;
       size = length-set c.loop-rest.spelling len (128 + rest % 128) ∙ before.size;
@@ -26,7 +27,9 @@ loop-rest-preserved c =
 is_written : (c : goal.After-extend_from_slice) → take (c.loop-rest.len + 1) (set c.loop-rest.spelling c.loop-rest.len c.loop-rest.rest) ≡ varint c.args.n
 is_written c =
     let fits : c.loop-rest.len < length c.loop-rest.spelling = omega arith in
-    take_more_set c.loop-rest.spelling c.loop-rest.len c.loop-rest.rest fits ∙ ap (λ (last : List ℕ). take c.loop-rest.len c.loop-rest.spelling ++ last) (sym (shortest_last (9 - c.loop-rest.len) c.loop-rest.rest c.loop-rest-test.false)) ∙ c.loop-rest.invariant.whole
+    take_more_set c.loop-rest.spelling c.loop-rest.len c.loop-rest.rest fits
+    ∙ ap (λ (last : List ℕ). take c.loop-rest.len c.loop-rest.spelling ++ last)
+    (sym (shortest_last (9 - c.loop-rest.len) c.loop-rest.rest c.loop-rest-test.false)) ∙ c.loop-rest.invariant.whole
 
 pub returns-clause-ok : goal.returns-clause-ok
 returns-clause-ok c = let h = rw (is_written c) at c.extend_from_slice.ensures.items in search (rules, h)

@@ -14,7 +14,8 @@ pub returns-in-Ok-clause-steps : goal.returns-in-Ok-clause-steps
 returns-in-Ok-clause-steps c =
     let s = c.args.self.now in
     let some : 0 < length s.rest.now = grind (arith, common_steps) in
-    items_first s.rest.now s.at (field_view c.in-Ok.field) c.in-Ok.len (take (length s.rest.now - c.in-Ok.len) (drop c.in-Ok.len s.rest.now)) some c.in-Ok.ensures.exact (back s.rest.now c.in-Ok.len)
+    items_first s.rest.now s.at (field_view c.in-Ok.field) c.in-Ok.len (take (length s.rest.now - c.in-Ok.len) (drop c.in-Ok.len s.rest.now))
+    some c.in-Ok.ensures.exact (back s.rest.now c.in-Ok.len)
 
 pub returns-in-Ok-clause-goes : goal.returns-in-Ok-clause-goes
 returns-in-Ok-clause-goes c = let h = ap length (returns-in-Ok-clause-steps c) in record { on = λ _. (tt, tt, omega (arith, h)); keeps = tt; rests = λ _. tt }

@@ -4,13 +4,13 @@ use Rattle.std.specs.Prelude.{IfOk}
 use Rattle.pb_wire.specs.declared.fault.FaultKind.{FaultKind}
 use Rattle.pb_wire.specs.declared.fault.WireFault.{WireFault}
 use Rattle.pb_wire.specs.Varint.{IsVarint, varint_at}
-use Rattle.pb_wire.specs.Fault.{placed}
+use Rattle.pb_wire.specs.Fault.{with_offset}
 use Rattle.pb_wire.proofs.VarintLaws.{Read, found_is}
 
-pub placed_found : (bytes : List ℕ) → IfOk (placed 0 (varint_at bytes)) (λ r. (r.1 ≤ length bytes) × IsVarint (take r.1 bytes) r.0)
-placed_found bytes = go (varint_at bytes) refl
+pub offset_found : (bytes : List ℕ) → IfOk (with_offset 0 (varint_at bytes)) (λ r. (r.1 ≤ length bytes) × IsVarint (take r.1 bytes) r.0)
+offset_found bytes = go (varint_at bytes) refl
   where
-    go : (read : Read) → varint_at bytes ≡ read → IfOk (placed 0 read) (λ r. (r.1 ≤ length bytes) × IsVarint (take r.1 bytes) r.0)
+    go : (read : Read) → varint_at bytes ≡ read → IfOk (with_offset 0 read) (λ r. (r.1 ≤ length bytes) × IsVarint (take r.1 bytes) r.0)
     go (Ok r) e = found_is bytes r.0 r.1 e
     go (Err kind) e = tt
 
@@ -23,6 +23,6 @@ refused kind = Err (fault_at kind)
 same_fault : {X : Type 0} (a b : FaultKind) → refused {X = X} a ≡ refused {X = X} b → fault_at a ≡ fault_at b
 same_fault a b e = cc
 
-pub placed_kind : {X : Type 0} (read : Result X FaultKind) (kind : FaultKind) → placed 0 read ≡ refused kind → read ≡ Err kind
-placed_kind (Ok x) kind e = absurd cc
-placed_kind {X} (Err other) kind e = ap (λ (w : WireFault). Err w.kind) (same_fault {X = X} other kind e)
+pub offset_kind : {X : Type 0} (read : Result X FaultKind) (kind : FaultKind) → with_offset 0 read ≡ refused kind → read ≡ Err kind
+offset_kind (Ok x) kind e = absurd cc
+offset_kind {X} (Err other) kind e = ap (λ (w : WireFault). Err w.kind) (same_fault {X = X} other kind e)
