@@ -20,6 +20,12 @@ use std::alloc::Global;
 /// The extent of a layer that tells none, and of every layer that is written (MVT 2.1, 4.1).
 pub const DEFAULT_EXTENT: u32 = 4096;
 
+/// The version of a layer that tells none (MVT 2.1, 4.1).
+pub const DEFAULT_VERSION: u32 = 1;
+
+/// The version of layers by the standard as it stands (MVT 2.1, 4.1).
+pub const CURRENT_VERSION: u32 = 2;
+
 // Field numbers of a layer, and of a tile.
 const NAME: u32 = 1;
 

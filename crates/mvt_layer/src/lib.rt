@@ -10,8 +10,7 @@ mod tile;
 mod values;
 
 pub use fault::TileFault;
-pub use laws::one_reading_law;
-pub use layers::{DEFAULT_EXTENT, read_tile};
+pub use layers::{CURRENT_VERSION, DEFAULT_EXTENT, DEFAULT_VERSION, read_tile};
 pub use tile::{Layer, TagValue, TileFeature};
 
 #[cfg(test)]
