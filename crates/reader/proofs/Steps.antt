@@ -1,9 +1,9 @@
 -- Steps that may fail, one after the other.
-use Rattle.std.proofs.Common.{◌≡◌, ℕ, zero, suc, ◌+◌, ◌-◌, ◌<◌, ◌≤◌, List, [], ◌∷◌, Result, Ok, Err, refl, sym, ap, ◌∙◌, arith}
-use Rattle.std.proofs.Common.{◌≢◌, ◌⊎◌, inl, inr}
-use Rattle.std.specs.Prelude.{IsOk}
+use Rattle.std.proofs.Common.{◌≡◌, ◌≢◌, ℕ, suc, ◌+◌, ◌-◌, ◌<◌, ◌≤◌, ◌⊎◌, inl, inr, Bool, true, false, cond, List, [], ◌∷◌, Result, Ok, Err, MatchResult}
+use Rattle.std.proofs.Common.{refl, sym, ap, subst, ◌∙◌, arith}
 use Rattle.std.proofs.lemmas.Bool.{false≢true}
-use Rattle.reader.specs.Reading.{Read, ◌>>=◌, repeated, folded, Reads, Finds, GivesUnless, Gives}
+use Rattle.std.specs.Prelude.{IfOk, IfErr, IsOk}
+use Rattle.reader.specs.Reading.{Read, ◌>>=◌, repeated, folded, GivesUnless, Gives}
 
 module _ {Fault : Type 0} where
   -- ---- what was read
@@ -95,6 +95,89 @@ module _ {Fault : Type 0} where
       → ((d : Fault) → part ≡ Err d → whole ≡ Err d) → (¬ IsOutside fault → part ≡ Err fault) → ¬ IsOutside fault → whole ≡ Err fault
   unless_on IsOutside fault part whole on h inside = on fault (h inside)
 
+  -- the same leads on: a fault of a part is one of the whole, an allocation that failed aside
+  pub gives_on : {A B : Type 0} (memory fault : Fault) (part : Read Fault A) (whole : Read Fault B)
+      → ((d : Fault) → part ≡ Err d → whole ≡ Err d) → (¬ (fault ≡ memory) → part ≡ Err fault) → ¬ (fault ≡ memory) → whole ≡ Err fault
+  gives_on memory = unless_on (λ fault. fault ≡ memory)
+
+  -- where an allocation may fail only where something is read, it may fail anywhere
+  pub found_fault : {A : Type 0} (memory fault : Fault) (read : Read Fault A)
+      → (read ≡ Err fault) ⊎ ((fault ≡ memory) × IsOk read) → ¬ (fault ≡ memory) → read ≡ Err fault
+  found_fault memory fault read (inl e) other = e
+  found_fault memory fault read (inr h) other = absurd (other h.0)
+
+  -- what is answered has what all that is read has
+  pub gives_holds : {X A : Type 0} (Has : A → Type 0) (memory : Fault) (view : X → A) (result : Result X Fault) (read : Read Fault A)
+      → ((x : A) → read ≡ Ok x → Has x) → Gives memory view result read → IfOk result (λ x. Has (view x))
+  gives_holds Has memory view (Ok x) read found gives = found (view x) gives
+  gives_holds Has memory view (Err fault) read found gives = tt
+
+  -- what is to be read is answered
+  pub gives_only : {X A : Type 0} (memory : Fault) (view : X → A) (result : Result X Fault) (read : Read Fault A) (x : A)
+      → read ≡ Ok x → Gives memory view result read → Gives memory view result (Ok x)
+  gives_only memory view result read x there gives = subst (Gives memory view result) there gives
+
+  -- a fault that is answered is one that there is, an allocation that failed aside
+  pub gives_fault : {X A : Type 0} (Has : Fault → Type 0) (memory : Fault) (view : X → A) (result : Result X Fault) (read : Read Fault A)
+      → ((d : Fault) → read ≡ Err d → Has d) → Gives memory view result read → IfErr result (λ d. ¬ (d ≡ memory) → Has d)
+  gives_fault Has memory view (Ok x) read has gives = tt
+  gives_fault Has memory view (Err fault) read has gives = λ other. has fault (gives other)
+
+  -- what is read is what is found, where it is known of a fault whether it is from outside
+  pub gives_found : {X A : Type 0} (IsOutside : Fault → Type 0) → ((d : Fault) → IsOutside d ⊎ (¬ IsOutside d))
+      → (view : X → A) (r : Result X Fault) (read : Read Fault A) (y : A) → read ≡ Ok y → GivesUnless IsOutside view r read
+      → MatchResult r (λ x. view x ≡ y) IsOutside
+  gives_found IsOutside either view (Ok x) read y found gives = same_value (view x) y (sym gives ∙ found)
+  gives_found IsOutside either view (Err d) read y found gives =
+      elim (either d) [ inl outside ↦ outside | inr inside ↦ absurd (not_both y d (sym found ∙ gives inside)) ]
+
+  -- ---- steps that met a fault, and steps that are the same
+
+  -- the first met the fault, or what it led to did
+  pub then_err : {A B : Type 0} (first : Read Fault A) (next : A → Read Fault B) (d : Fault)
+      → (first >>= next) ≡ Err d → (first ≡ Err d) ⊎ ((x : A) × (first ≡ Ok x) × (next x ≡ Err d))
+  then_err (Ok x) next d e = inr (x, refl, e)
+  then_err {A} {B} (Err c) next d e = inl (ap (failed {A = A}) (same_fault {A = B} c d e))
+
+  -- both were made, and give this
+  pub then_is : {A B : Type 0} (first : Read Fault A) (next : A → Read Fault B) (x : A) (whole : Read Fault B)
+      → first ≡ Ok x → next x ≡ whole → (first >>= next) ≡ whole
+  then_is first next x whole there on = then_on first next x there ∙ on
+
+  -- what behaves alike on what was read
+  pub then_same : {A B : Type 0} (first : Read Fault A) (f g : A → Read Fault B) → ((x : A) → first ≡ Ok x → f x ≡ g x) → (first >>= f) ≡ (first >>= g)
+  then_same (Ok x) f g alike = alike x refl
+  then_same (Err d) f g alike = refl
+
+  -- ---- tests
+
+  -- what must not be wasn't
+  pub guard_ok : {A : Type 0} (b : Bool) (d : Fault) (read : Read Fault A) (x : A) → cond b (Err d) read ≡ Ok x → (b ≡ false) × (read ≡ Ok x)
+  guard_ok true d read x e = absurd (not_both x d (sym e))
+  guard_ok false d read x e = (refl, e)
+
+  -- what must be was
+  pub pass_ok : {A : Type 0} (b : Bool) (d : Fault) (read : Read Fault A) (x : A) → cond b read (Err d) ≡ Ok x → (b ≡ true) × (read ≡ Ok x)
+  pass_ok true d read x e = (refl, e)
+  pass_ok false d read x e = absurd (not_both x d (sym e))
+
+  -- the same of a fault that is met
+  pub guard_err : {A : Type 0} (test : Bool) (c d : Fault) (read : Read Fault A)
+      → cond test (Err c) read ≡ Err d → ((test ≡ true) × (d ≡ c)) ⊎ ((test ≡ false) × (read ≡ Err d))
+  guard_err {A} true c d read e = inl (refl, sym (same_fault {A = A} c d e))
+  guard_err false c d read e = inr (refl, e)
+
+  pub pass_err : {A : Type 0} (test : Bool) (c d : Fault) (read : Read Fault A)
+      → cond test read (Err c) ≡ Err d → ((test ≡ true) × (read ≡ Err d)) ⊎ ((test ≡ false) × (d ≡ c))
+  pass_err true c d read e = inl (refl, e)
+  pass_err {A} false c d read e = inr (refl, sym (same_fault {A = A} c d e))
+
+  -- one of two readings
+  pub either_ok : {A : Type 0} (test : Bool) (read other : Read Fault A) (y : A)
+      → cond test read other ≡ Ok y → ((test ≡ true) × (read ≡ Ok y)) ⊎ ((test ≡ false) × (other ≡ Ok y))
+  either_ok true read other y e = inl (refl, e)
+  either_ok false read other y e = inr (refl, e)
+
 -- ---- faults that are never met, and out of memory
 
 module _ {Fault : Type 0} where
@@ -115,12 +198,6 @@ module _ {Fault : Type 0} where
   passed_never d read passed here there never is told same out =
       let e : there ≡ d = sym same ∙ same_fault here d (sym told ∙ out) in
       never (is ∙ ap failed e)
-
-  -- where an allocation fails only where something is read, any other fault is the one that is met
-  pub found_fault : {A : Type 0} (memory fault : Fault) (read : Read Fault A)
-      → (read ≡ Err fault) ⊎ ((fault ≡ memory) × IsOk read) → fault ≢ memory → read ≡ Err fault
-  found_fault memory fault read (inl is) other = is
-  found_fault memory fault read (inr out) other = absurd (other out.0)
 
   -- where it fails and reading never meets that fault, something is read
   pub memory_found : {A X : Type 0} (memory : Fault) (read : Read Fault A) (passed : Result X Fault) (here there : Fault)
