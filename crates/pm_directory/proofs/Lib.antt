@@ -1,5 +1,4 @@
 pub mod Ascending
-pub mod Chain
 pub mod DirectoryLaws
 pub mod EntryLaws
 pub mod NumberLaws

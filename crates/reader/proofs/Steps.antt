@@ -1,5 +1,5 @@
 -- Steps that may fail, one after the other.
-use Rattle.std.proofs.Common.{◌≡◌, ℕ, zero, suc, ◌+◌, ◌-◌, ◌<◌, ◌≤◌, List, [], ◌∷◌, Result, Ok, Err, refl, sym, ap, ◌∙◌, arith}
+use Rattle.std.proofs.Common.{◌≡◌, ℕ, zero, suc, ◌+◌, ◌-◌, ◌<◌, ◌≤◌, Bool, true, false, cond, List, [], ◌∷◌, Result, Ok, Err, MatchResult, ◌⊎◌, inl, inr, refl, sym, ap, ◌∙◌, arith}
 use Rattle.reader.specs.Reading.{Read, ◌>>=◌, repeated, folded, Reads, Finds, GivesUnless, Gives}
 
 module _ {Fault : Type 0} where
@@ -91,3 +91,46 @@ module _ {Fault : Type 0} where
   pub unless_on : {A B : Type 0} (IsOutside : Fault → Type 0) (fault : Fault) (part : Read Fault A) (whole : Read Fault B)
       → ((d : Fault) → part ≡ Err d → whole ≡ Err d) → (¬ IsOutside fault → part ≡ Err fault) → ¬ IsOutside fault → whole ≡ Err fault
   unless_on IsOutside fault part whole on h inside = on fault (h inside)
+
+  -- what is read is what is found, where it is known of a fault whether it is from outside
+  pub gives_found : {X A : Type 0} (IsOutside : Fault → Type 0) → ((d : Fault) → IsOutside d ⊎ (¬ IsOutside d))
+      → (view : X → A) (r : Result X Fault) (read : Read Fault A) (y : A) → read ≡ Ok y → GivesUnless IsOutside view r read → MatchResult r (λ x. view x ≡ y) IsOutside
+  gives_found IsOutside either view (Ok x) read y found gives = same_value (view x) y (sym gives ∙ found)
+  gives_found IsOutside either view (Err d) read y found gives =
+      elim (either d) [ inl outside ↦ outside | inr inside ↦ absurd (not_both y d (sym found ∙ gives inside)) ]
+
+  -- ---- where the first fault was met
+
+  pub then_err : {A B : Type 0} (first : Read Fault A) (next : A → Read Fault B) (d : Fault)
+      → (first >>= next) ≡ Err d → (first ≡ Err d) ⊎ ((x : A) × (first ≡ Ok x) × (next x ≡ Err d))
+  then_err (Ok x) next d e = inr (x, refl, e)
+  then_err {A} {B} (Err c) next d e = inl (ap (failed {A = A}) (same_fault {A = B} c d e))
+
+  -- ---- behind a test
+
+  module _ {A : Type 0} where
+    -- a fault where it holds
+    pub guard_ok : (test : Bool) (d : Fault) (read : Read Fault A) (y : A) → cond test (Err d) read ≡ Ok y → (test ≡ false) × (read ≡ Ok y)
+    guard_ok true d read y e = absurd (not_both y d (sym e))
+    guard_ok false d read y e = (refl, e)
+
+    pub guard_err : (test : Bool) (c d : Fault) (read : Read Fault A)
+        → cond test (Err c) read ≡ Err d → ((test ≡ true) × (d ≡ c)) ⊎ ((test ≡ false) × (read ≡ Err d))
+    guard_err true c d read e = inl (refl, sym (same_fault {A = A} c d e))
+    guard_err false c d read e = inr (refl, e)
+
+    -- a fault where it doesn't hold
+    pub pass_ok : (test : Bool) (d : Fault) (read : Read Fault A) (y : A) → cond test read (Err d) ≡ Ok y → (test ≡ true) × (read ≡ Ok y)
+    pass_ok true d read y e = (refl, e)
+    pass_ok false d read y e = absurd (not_both y d (sym e))
+
+    pub pass_err : (test : Bool) (c d : Fault) (read : Read Fault A)
+        → cond test read (Err c) ≡ Err d → ((test ≡ true) × (read ≡ Err d)) ⊎ ((test ≡ false) × (d ≡ c))
+    pass_err true c d read e = inl (refl, e)
+    pass_err false c d read e = inr (refl, sym (same_fault {A = A} c d e))
+
+    -- one of two readings
+    pub either_ok : (test : Bool) (read other : Read Fault A) (y : A)
+        → cond test read other ≡ Ok y → ((test ≡ true) × (read ≡ Ok y)) ⊎ ((test ≡ false) × (other ≡ Ok y))
+    either_ok true read other y e = inl (refl, e)
+    either_ok false read other y e = inr (refl, e)
