@@ -207,10 +207,6 @@ directory_err bytes d e =
       | inr c ↦ let h = columns_ok bytes c.0.0 c.0.1 c.1 in refused_directory bytes c.0.0 c.0.1 _ _ _ _ d h.0 (split_columns c.0.0 c.0.1 h.1) c.2
     ]
 
--- bytes are a directory of at most one list of entries
-pub one_directory : (bytes : List ℕ) (es fs : List Entry) → IsDirectory bytes es → IsDirectory bytes fs → es ≡ fs
-one_directory bytes es fs h g = same_value es fs (sym (directory_only bytes es h) ∙ directory_only bytes fs g)
-
 -- ---- the clauses of a function that gives what reading gives
 
 is_memory : (d : DirectoryFault) → (d ≡ faults.Memory) ⊎ (d ≢ faults.Memory)

@@ -86,7 +86,7 @@ pub directory_some : (es : List Entry) → 0 < length (directory_bytes es)
 unfolding directory_bytes
 directory_some es = omega (arith, length-append (varint (length es)) (varints (id_deltas 0 es ++ (runs_of es ++ (lengths_of es ++ offset_numbers None es)))), some_byte (length es))
 
-pub directory_short : (es : List Entry) → length es < 16384 → AllByRecursion IsEntry es → length (directory_bytes es) ≤ 2 + 29 * length es
+pub directory_short : (es : List Entry) → length es < 2 ^ 14 → AllByRecursion IsEntry es → length (directory_bytes es) ≤ 2 + 29 * length es
 unfolding directory_bytes
 directory_short es few h =
     let ds = id_deltas 0 es in

@@ -7,13 +7,10 @@ ghost use Rattle.reader.specs.Reading.{Gives};
 ghost use Rattle.pm_directory.specs.Reading.{id_at, run_at, length_at, offset_of, entry_at, entries_at, number_at, columns_at, directory_at};
 ghost use Rattle.pm_directory.specs.declared.entry.Entry.{Entry};
 
-use crate::entry::Entry;
+use crate::entry::{Entry, IDS_END};
 use crate::fault::DirectoryFault;
 use crate::numbers::{number, numbers};
 use std::alloc::Global;
-
-/// Behind the last tile id of zoom 31.
-pub(crate) const IDS_END: u64 = 6_148_914_691_236_517_205;
 
 // The id so far behind that of the entry before.
 fn id_behind(before: Option<Entry>, delta: u64) -> Result<u64, DirectoryFault>
@@ -115,10 +112,7 @@ fn count_of(bytes: &[u8]) -> Result<(usize, &[u8]), DirectoryFault>
     ensures fault { IfErr result (λ fault. columns_at bytes.now ≡ Err fault) }
     ensures memory { result ≢ Err DirectoryFault.Memory }
 {
-    let (count, rest) = match number(bytes) {
-        Ok(front) => front,
-        Err(fault) => return Err(fault),
-    };
+    let (count, rest) = number(bytes)?;
     if count > rest.len() as u64 / 4 {
         return Err(DirectoryFault::Cut);
     }
@@ -144,18 +138,10 @@ fn columns(alloc: Global, bytes: &[u8]) -> Result<(usize, Vec<u64>), DirectoryFa
     ensures room { IfOk result (λ x. 0 < x.0 → HasRoom bytes.now) }
     ensures memory { IfErr result (λ fault. fault ≡ DirectoryFault.Memory → HasRoom bytes.now) }
 {
-    let (count, rest) = match count_of(bytes) {
-        Ok(front) => front,
-        Err(fault) => return Err(fault),
-    };
-    let (numbers, rest) = match numbers(alloc, 4 * count, rest) {
-        Ok(front) => front,
-        Err(fault) => return Err(fault),
-    };
-    match check_end(rest) {
-        Ok(()) => Ok((count, numbers)),
-        Err(fault) => Err(fault),
-    }
+    let (count, rest) = count_of(bytes)?;
+    let (numbers, rest) = numbers(alloc, 4 * count, rest)?;
+    check_end(rest)?;
+    Ok((count, numbers))
 }
 
 #[tactic(auto, unfolding(crate::specs::Reading::directory_at))]
@@ -163,10 +149,7 @@ fn entries_in(alloc: Global, bytes: &[u8]) -> Result<Vec<Entry>, DirectoryFault>
     ensures exact { Gives DirectoryFault.Memory (λ entries. entries.items) result (directory_at bytes.now) }
     ensures memory { IfErr result (λ fault. fault ≡ DirectoryFault.Memory → HasRoom bytes.now) }
 {
-    let (count, numbers) = match columns(alloc, bytes) {
-        Ok(columns) => columns,
-        Err(fault) => return Err(fault),
-    };
+    let (count, numbers) = columns(alloc, bytes)?;
     let (deltas, others) = numbers.split_at(count);
     let (runs, others) = others.split_at(count);
     let (lengths, offsets) = others.split_at(count);
