@@ -1,5 +1,6 @@
 -- Bytes that are read are a directory, a directory is read, and what is refused has the fault.
-use Rattle.std.proofs.Common.{◌≡◌, ◌≢◌, ℕ, suc, ◌+◌, ◌*◌, ◌^◌, ◌<◌, ◌≤◌, Bool, false, cond, eqb, ltb, List, [], ◌∷◌, ◌++◌, length, take, drop, Option, Some, None, Result, Ok, Err, ◌⊎◌, inl, inr, refl, sym, ap, subst, ◌∙◌, append_assoc, append-nil, arith}
+use Rattle.std.proofs.Common.{◌≡◌, ◌≢◌, ℕ, suc, ◌+◌, ◌*◌, ◌^◌, ◌<◌, ◌≤◌, Bool, false, cond, eqb, ltb, List, [], ◌∷◌, ◌++◌, length, take, drop, Option, Some}
+use Rattle.std.proofs.Common.{None, Result, Ok, Err, ◌⊎◌, inl, inr, refl, sym, ap, subst, ◌∙◌, append_assoc, append-nil, arith}
 use Rattle.std.specs.List.{AllByRecursion}
 use Rattle.std.proofs.lemmas.Bool.{ltb-true, le-ltb, eqb-true, eqb-false}
 use Rattle.std.proofs.lemmas.List.{take-append-drop, take_at, drop_at, length-take-le, length-drop, length-append, length-map}
@@ -62,8 +63,10 @@ columns_ok bytes n xs e =
     let h = numbers_found (4 * c.0.0) c.0.1 x.0.0 x.0.1 x.1 in
     let nothing : x.0.1 ≡ [] = no_bytes x.0.1 (eqb-true (length x.0.1) 0 p.0) in
     let whole : c.0.1 ≡ h.front = h.parts ∙ ap (λ (r : List ℕ). h.front ++ r) nothing ∙ append-nil h.front in
-    subst (λ (q : Pairs). AreVarints bytes (q.0 ∷ q.1) × (length q.1 ≡ 4 * q.0)) (same_value (c.0.0, x.0.0) (n, xs) p.1)
-    ((f.0, c.0.1, f.1, f.2, subst (λ (r : List ℕ). AreVarints r x.0.0) (sym whole) (subst (AreVarints h.front) (sym h.all_is) h.spelled)), ap length h.all_is ∙ h.count_is)
+    subst (λ (q : Pairs). AreVarints bytes (q.0 ∷ q.1) × (length q.1 ≡ 4 * q.0)) (same_value (c.0.0, x.0.0) (n, xs) p.1) (
+      (f.0, c.0.1, f.1, f.2, subst (λ (r : List ℕ). AreVarints r x.0.0) (sym whole) (subst (AreVarints h.front) (sym h.all_is) h.spelled)),
+      ap length h.all_is ∙ h.count_is,
+    )
 
 columns_only : (bytes : List ℕ) (n : ℕ) (xs : List ℕ) → AreVarints bytes (n ∷ xs) → length xs ≡ 4 * n → columns_at bytes ≡ Ok (n, xs)
 unfolding columns_at
@@ -93,8 +96,10 @@ columns_err bytes d e =
                         | inl p ↦ absurd (not_both (c.0.0, x.0.0) d p.1)
                         | inr p ↦
                             let h = numbers_found (4 * c.0.0) c.0.1 x.0.0 x.0.1 x.1 in
-                            bytes_behind p.1 x.0.0 c.0.0 (f.0 ++ h.front) x.0.1 (f.1 ∙ ap (λ (r : List ℕ). f.0 ++ r) h.parts ∙ sym (append_assoc f.0 h.front x.0.1))
-                            (f.0, h.front, refl, f.2, subst (AreVarints h.front) (sym h.all_is) h.spelled) (ap length h.all_is ∙ h.count_is) (omega (arith, eqb-false (length x.0.1) 0 p.0))
+                            bytes_behind p.1 x.0.0 c.0.0 (f.0 ++ h.front) x.0.1
+                            (f.1 ∙ ap (λ (r : List ℕ). f.0 ++ r) h.parts ∙ sym (append_assoc f.0 h.front x.0.1))
+                            (f.0, h.front, refl, f.2, subst (AreVarints h.front) (sym h.all_is) h.spelled) (ap length h.all_is ∙ h.count_is)
+                            (omega (arith, eqb-false (length x.0.1) 0 p.0))
                       ]
                 ]
           ]
@@ -109,13 +114,15 @@ pub record AreColumns (n : ℕ) (xs ds rs ls os : List ℕ) : Type 0 where
   pub lengths : length ls ≡ n
   pub offsets : length os ≡ n
 
-split_columns : (n : ℕ) (xs : List ℕ) → length xs ≡ 4 * n → AreColumns n xs (take n xs) (take n (drop n xs)) (take n (drop n (drop n xs))) (drop n (drop n (drop n xs)))
+split_columns : (n : ℕ) (xs : List ℕ) → length xs ≡ 4 * n
+    → AreColumns n xs (take n xs) (take n (drop n xs)) (take n (drop n (drop n xs))) (drop n (drop n (drop n xs)))
 split_columns n xs len =
     let a = length-drop n xs in
     let b = length-drop n (drop n xs) in
     let c = length-drop n (drop n (drop n xs)) in
     record {
-      whole = sym (take-append-drop n xs) ∙ ap (λ (r : List ℕ). take n xs ++ r) (sym (take-append-drop n (drop n xs)) ∙ ap (λ (r : List ℕ). take n (drop n xs) ++ r) (sym (take-append-drop n (drop n (drop n xs)))));
+      whole = sym (take-append-drop n xs) ∙ ap (λ (r : List ℕ). take n xs ++ r)
+          (sym (take-append-drop n (drop n xs)) ∙ ap (λ (r : List ℕ). take n (drop n xs) ++ r) (sym (take-append-drop n (drop n (drop n xs)))));
       deltas = length-take-le n xs (omega arith);
       runs = length-take-le n (drop n xs) (omega arith);
       lengths = length-take-le n (drop n (drop n xs)) (omega arith);
@@ -151,10 +158,12 @@ offsets_fit : (bytes : List ℕ) (n : ℕ) (xs ds rs ls os : List ℕ) → AreVa
 offsets_fit bytes n xs ds rs ls os v k =
     fit_behind ls os (fit_behind rs (ls ++ os) (fit_behind ds (rs ++ (ls ++ os)) (subst (AllByRecursion Fits) k.whole (all_fit bytes (n ∷ xs) v).1)))
 
-made_directory : (bytes : List ℕ) (n : ℕ) (xs ds rs ls os : List ℕ) (es : List Entry) → AreVarints bytes (n ∷ xs) → AreColumns n xs ds rs ls os → AreSaid None ds rs ls os es → IsDirectory bytes es
+made_directory : (bytes : List ℕ) (n : ℕ) (xs ds rs ls os : List ℕ) (es : List Entry) → AreVarints bytes (n ∷ xs) → AreColumns n xs ds rs ls os
+    → AreSaid None ds rs ls os es → IsDirectory bytes es
 made_directory bytes n xs ds rs ls os es v k said =
     let count : n ≡ length es = sym k.deltas ∙ ap length said.deltas ∙ length-deltas 0 es in
-    let columns : n ∷ (ds ++ (rs ++ (ls ++ os))) ≡ length es ∷ (id_deltas 0 es ++ (runs_of es ++ (lengths_of es ++ os))) = λ i. count i ∷ (said.deltas i ++ (said.runs i ++ (said.lengths i ++ os))) in
+    let columns : n ∷ (ds ++ (rs ++ (ls ++ os))) ≡ length es ∷ (id_deltas 0 es ++ (runs_of es ++ (lengths_of es ++ os))) =
+    λ i. count i ∷ (said.deltas i ++ (said.runs i ++ (said.lengths i ++ os))) in
     record {
       offsets = os;
       spelled = subst (AreVarints bytes) columns (subst (λ (ys : List ℕ). AreVarints bytes (n ∷ ys)) k.whole v);
@@ -163,12 +172,15 @@ made_directory bytes n xs ds rs ls os es v k said =
       each = said.each;
     }
 
-read_directory : (bytes : List ℕ) (n : ℕ) (xs ds rs ls os : List ℕ) (es : List Entry) → AreVarints bytes (n ∷ xs) → AreColumns n xs ds rs ls os → entries_at None [] ds rs ls os ≡ Ok es → IsDirectory bytes es
+read_directory : (bytes : List ℕ) (n : ℕ) (xs ds rs ls os : List ℕ) (es : List Entry) → AreVarints bytes (n ∷ xs) → AreColumns n xs ds rs ls os
+    → entries_at None [] ds rs ls os ≡ Ok es → IsDirectory bytes es
 read_directory bytes n xs ds rs ls os es v k e =
-    let x = entries_ok None [] ds rs ls os es (omega (arith, k.runs, k.deltas)) (omega (arith, k.lengths, k.deltas)) (omega (arith, k.offsets, k.deltas)) (offsets_fit bytes n xs ds rs ls os v k) e in
+    let x = entries_ok None [] ds rs ls os es (omega (arith, k.runs, k.deltas)) (omega (arith, k.lengths, k.deltas)) (omega (arith, k.offsets, k.deltas))
+    (offsets_fit bytes n xs ds rs ls os v k) e in
     subst (IsDirectory bytes) (sym x.1) (made_directory bytes n xs ds rs ls os x.0 v k x.2)
 
-refused_directory : (bytes : List ℕ) (n : ℕ) (xs ds rs ls os : List ℕ) (d : DirectoryFault) → AreVarints bytes (n ∷ xs) → AreColumns n xs ds rs ls os → entries_at None [] ds rs ls os ≡ Err d → DirectoryHas bytes d
+refused_directory : (bytes : List ℕ) (n : ℕ) (xs ds rs ls os : List ℕ) (d : DirectoryFault) → AreVarints bytes (n ∷ xs) → AreColumns n xs ds rs ls os
+    → entries_at None [] ds rs ls os ≡ Err d → DirectoryHas bytes d
 refused_directory bytes n xs ds rs ls os d v k e =
     let er : length rs ≡ length ds = omega (arith, k.runs, k.deltas) in
     let el : length ls ≡ length ds = omega (arith, k.lengths, k.deltas) in
@@ -193,8 +205,18 @@ directory_only bytes es h =
     let ed = length-deltas 0 es in
     let er = length-map es (λ e. e.run) in
     let el = length-map es (λ e. e.length) in
-    let len : length xs ≡ 4 * n = omega (arith, length-append (id_deltas 0 es) (runs_of es ++ (lengths_of es ++ os)), length-append (runs_of es) (lengths_of es ++ os), length-append (lengths_of es) os, ed, er, el, eo) in
-    let columns : AreColumns n xs (id_deltas 0 es) (runs_of es) (lengths_of es) os = record { whole = refl; deltas = ed; runs = er; lengths = el; offsets = eo } in
+    let len : length xs ≡ 4 * n = omega (
+      arith,
+      length-append (id_deltas 0 es) (runs_of es ++ (lengths_of es ++ os)),
+      length-append (runs_of es) (lengths_of es ++ os),
+      length-append (lengths_of es) os,
+      ed,
+      er,
+      el,
+      eo,
+    ) in
+    let columns : AreColumns n xs (id_deltas 0 es) (runs_of es) (lengths_of es) os =
+    record { whole = refl; deltas = ed; runs = er; lengths = el; offsets = eo } in
     ap (λ (r : Read DirectoryFault Pairs). r >>= λ c. entries_of c.0 c.1) (columns_only bytes n xs h.spelled len)
     ∙ entries_of_columns n xs (id_deltas 0 es) (runs_of es) (lengths_of es) os columns
     ∙ entries_only None [] es os h.offsets_are h.ascending h.each

@@ -1,5 +1,6 @@
 -- Entries that are read are what the columns say, and what they say is read.
-use Rattle.std.proofs.Common.{◌≡◌, ℕ, zero, suc, ◌+◌, ◌-◌, ◌^◌, ◌<◌, ◌≤◌, cond, eqb, ltb, leb, max, List, [], ◌∷◌, ◌++◌, length, Option, Some, None, Ok, Err, inl, inr, refl, sym, ap, subst, ◌∙◌, append_assoc, append-nil, arith}
+use Rattle.std.proofs.Common.{◌≡◌, ℕ, zero, suc, ◌+◌, ◌-◌, ◌^◌, ◌<◌, ◌≤◌, cond, eqb, ltb, leb, max, List, [], ◌∷◌, ◌++◌, length, Option, Some, None, Ok, Err}
+use Rattle.std.proofs.Common.{inl, inr, refl, sym, ap, subst, ◌∙◌, append_assoc, append-nil, arith}
 use Rattle.std.specs.List.{AllByRecursion}
 use Rattle.std.proofs.lemmas.Bool.{ltb-true, ltb-false, lt-ltb, le-ltb, eqb-true, eqb-false, ne_eqb, leb-true, leb-false, le-leb}
 use Rattle.pm_directory.specs.declared.entry.Entry.{Entry}
@@ -7,7 +8,8 @@ use Rattle.pm_directory.specs.declared.entry.TheConstants.{IDS_END}
 use Rattle.pm_directory.specs.declared.fault.DirectoryFault.{DirectoryFault}
 use Rattle.pm_directory.specs.declared.fault.DirectoryFault.TheVariants as faults
 use Rattle.pm_directory.specs.Directory.{AscendFrom, IsEntry, id_deltas, offset_at, AreOffsets, runs_of, lengths_of}
-use Rattle.pm_directory.specs.Faulty.{id_from, ids_from, end_from, IsNext, EntryHas, not_behind, id_large, run_large, past_ids, no_length, length_large, no_offset, offset_large, EntriesHave}
+use Rattle.pm_directory.specs.Faulty.{id_from, ids_from, end_from, IsNext, EntryHas, not_behind, id_large, run_large, past_ids, no_length, length_large}
+use Rattle.pm_directory.specs.Faulty.{no_offset, offset_large, EntriesHave}
 use Rattle.reader.specs.Reading.{Read, ◌>>=◌}
 use Rattle.pm_directory.specs.Reading.{id_at, run_at, length_at, offset_of, entry_at, entries_at}
 use Rattle.reader.proofs.Steps.{done, same_value, same_fault, not_both, then_ok, then_err, guard_ok, guard_err, pass_ok, pass_err}
@@ -50,7 +52,8 @@ run_ok id run r e =
 run_only : (id run : ℕ) → run < 2 ^ 32 → id + run ≤ IDS_END → run_at id run ≡ Ok run
 run_only id run small le = rw (lt-ltb run (2 ^ 32) small, le-leb (id + run) IDS_END le) refl
 
-run_err : (before : Option Entry) (delta id run len offset : ℕ) (d : DirectoryFault) → id ≡ id_from before + delta → run_at id run ≡ Err d → EntryHas before delta run len offset d
+run_err : (before : Option Entry) (delta id run len offset : ℕ) (d : DirectoryFault) → id ≡ id_from before + delta → run_at id run ≡ Err d
+    → EntryHas before delta run len offset d
 run_err before delta id run len offset d is e =
     elim (pass_err (ltb run (2 ^ 32)) faults.Range d (cond (leb (id + run) IDS_END) (Ok run) (Err faults.Range)) e) [
       | inl p ↦
@@ -141,7 +144,8 @@ with_length before len offset id run = length_at len >>= λ l. with_offset befor
 abbrev with_run : Option Entry → ℕ → ℕ → ℕ → ℕ → Read DirectoryFault Entry
 with_run before run len offset id = run_at id run >>= λ r. with_length before len offset id r
 
-pub entry_ok : (before : Option Entry) (delta run len offset : ℕ) (e : Entry) → offset < 2 ^ 64 → entry_at before delta run len offset ≡ Ok e → IsNext before delta run len offset e
+pub entry_ok : (before : Option Entry) (delta run len offset : ℕ) (e : Entry) → offset < 2 ^ 64 → entry_at before delta run len offset ≡ Ok e
+    → IsNext before delta run len offset e
 unfolding entry_at
 entry_ok before delta run len offset e small eq =
     let i = then_ok (id_at before delta) (λ id. with_run before run len offset id) e eq in
@@ -158,10 +162,17 @@ entry_ok before delta run len offset e small eq =
       length_is = hl.0;
       offset_is = ho.0;
       behind = hi.1;
-      proper = record { some = omega (arith, hl.0, hl.1); length_fits = omega (arith, hl.0, hl.2); run_fits = omega (arith, hr.0, hr.1); ids_fit = omega (arith, hr.0, hr.2); offset_fits = ho.1 };
+      proper = record {
+        some = omega (arith, hl.0, hl.1);
+        length_fits = omega (arith, hl.0, hl.2);
+        run_fits = omega (arith, hr.0, hr.1);
+        ids_fit = omega (arith, hr.0, hr.2);
+        offset_fits = ho.1;
+      };
     }
 
-pub entry_only : (before : Option Entry) (delta run len offset : ℕ) (e : Entry) → IsNext before delta run len offset e → entry_at before delta run len offset ≡ Ok e
+pub entry_only : (before : Option Entry) (delta run len offset : ℕ) (e : Entry) → IsNext before delta run len offset e
+    → entry_at before delta run len offset ≡ Ok e
 unfolding entry_at
 entry_only before delta run len offset e h =
     let ids = h.proper.ids_fit in
@@ -176,7 +187,8 @@ entry_only before delta run len offset e h =
     ∙ ap (λ (n : ℕ). done (made e.id n len e.offset)) (sym h.run_is)
     ∙ ap (λ (n : ℕ). done (made e.id e.run n e.offset)) (sym h.length_is)
 
-pub entry_err : (before : Option Entry) (delta run len offset : ℕ) (d : DirectoryFault) → entry_at before delta run len offset ≡ Err d → EntryHas before delta run len offset d
+pub entry_err : (before : Option Entry) (delta run len offset : ℕ) (d : DirectoryFault) → entry_at before delta run len offset ≡ Err d
+    → EntryHas before delta run len offset d
 unfolding entry_at
 entry_err before delta run len offset d eq =
     elim (then_err (id_at before delta) (λ id. with_run before run len offset id) d eq) [
@@ -212,7 +224,8 @@ said_none before (r ∷ rs) ls os er el eo = absurd (omega arith)
 said_none before [] (l ∷ ls) os er el eo = absurd (omega arith)
 said_none before [] [] (o ∷ os) er el eo = absurd (omega arith)
 
-said_more : (before : Option Entry) (d r l o : ℕ) (ds rs ls os : List ℕ) (e : Entry) (es : List Entry) → IsNext before d r l o e → AreSaid (Some e) ds rs ls os es → AreSaid before (d ∷ ds) (r ∷ rs) (l ∷ ls) (o ∷ os) (e ∷ es)
+said_more : (before : Option Entry) (d r l o : ℕ) (ds rs ls os : List ℕ) (e : Entry) (es : List Entry) → IsNext before d r l o e
+    → AreSaid (Some e) ds rs ls os es → AreSaid before (d ∷ ds) (r ∷ rs) (l ∷ ls) (o ∷ os) (e ∷ es)
 said_more before d r l o ds rs ls os e es n h = record {
   deltas = let k : d ≡ e.id - id_from before = omega (arith, n.id_is) in rw (k, h.deltas) refl;
   runs = rw (n.run_is, h.runs) refl;
@@ -222,7 +235,8 @@ said_more before d r l o ds rs ls os e es n h = record {
   each = (n.proper, h.each);
 }
 
-pub entries_ok : (before : Option Entry) (front : List Entry) (ds rs ls os : List ℕ) (all : List Entry) → length rs ≡ length ds → length ls ≡ length ds → length os ≡ length ds → AllByRecursion (λ n. n < 2 ^ 64) os
+pub entries_ok : (before : Option Entry) (front : List Entry) (ds rs ls os : List ℕ) (all : List Entry) → length rs ≡ length ds → length ls ≡ length ds
+    → length os ≡ length ds → AllByRecursion (λ n. n < 2 ^ 64) os
     → entries_at before front ds rs ls os ≡ Ok all → (es : List Entry) × (all ≡ front ++ es) × AreSaid before ds rs ls os es
 unfolding entries_at
 entries_ok before front [] rs ls os all er el eo fit e =
@@ -240,7 +254,8 @@ id_below : (before : Option Entry) → id_from before ≤ ids_from before
 id_below None = omega arith
 id_below (Some b) = omega arith
 
-pub entries_only : (before : Option Entry) (front es : List Entry) (os : List ℕ) → AreOffsets (end_from before) os es → AscendFrom (ids_from before) es → AllByRecursion IsEntry es
+pub entries_only : (before : Option Entry) (front es : List Entry) (os : List ℕ) → AreOffsets (end_from before) os es → AscendFrom (ids_from before) es
+    → AllByRecursion IsEntry es
     → entries_at before front (id_deltas (id_from before) es) (runs_of es) (lengths_of es) os ≡ Ok (front ++ es)
 unfolding entries_at
 entries_only before front [] [] offsets ascend each = ap (λ (all : List Entry). done all) (sym (append-nil front))
@@ -255,11 +270,13 @@ entries_only before front (e ∷ es) (o ∷ os) offsets ascend each =
       behind = ascend.0;
       proper = each.0;
     } in
-    ap (λ (x : Read DirectoryFault Entry). x >>= λ y. entries_at (Some y) (front ++ y ∷ []) (id_deltas e.id es) (runs_of es) (lengths_of es) os) (entry_only before (e.id - id_from before) e.run e.length o e next)
+    ap (λ (x : Read DirectoryFault Entry). x >>= λ y. entries_at (Some y) (front ++ y ∷ []) (id_deltas e.id es) (runs_of es) (lengths_of es) os)
+    (entry_only before (e.id - id_from before) e.run e.length o e next)
     ∙ entries_only (Some e) (front ++ e ∷ []) es os offsets.1 ascend.1 each.1
     ∙ ap (λ (all : List Entry). done all) (append_assoc front (e ∷ []) es)
 
-pub entries_err : (before : Option Entry) (front : List Entry) (ds rs ls os : List ℕ) (d : DirectoryFault) → length rs ≡ length ds → length ls ≡ length ds → length os ≡ length ds → AllByRecursion (λ n. n < 2 ^ 64) os
+pub entries_err : (before : Option Entry) (front : List Entry) (ds rs ls os : List ℕ) (d : DirectoryFault) → length rs ≡ length ds → length ls ≡ length ds
+    → length os ≡ length ds → AllByRecursion (λ n. n < 2 ^ 64) os
     → entries_at before front ds rs ls os ≡ Err d → EntriesHave before ds rs ls os d
 unfolding entries_at
 entries_err before front [] rs ls os d er el eo fit e = absurd (not_both front d e)
@@ -269,5 +286,9 @@ entries_err before front (x ∷ ds) (r ∷ rs) (l ∷ ls) [] d er el eo fit e = 
 entries_err before front (x ∷ ds) (r ∷ rs) (l ∷ ls) (o ∷ os) d er el eo fit e =
     elim (then_err (entry_at before x r l o) (λ e. entries_at (Some e) (front ++ e ∷ []) ds rs ls os) d e) [
       | inl here ↦ inl (entry_err before x r l o d here)
-      | inr later ↦ inr (later.0, entry_ok before x r l o later.0 fit.0 later.1, entries_err (Some later.0) (front ++ later.0 ∷ []) ds rs ls os d (omega arith) (omega arith) (omega arith) fit.1 later.2)
+      | inr later ↦ inr (
+        later.0,
+        entry_ok before x r l o later.0 fit.0 later.1,
+        entries_err (Some later.0) (front ++ later.0 ∷ []) ds rs ls os d (omega arith) (omega arith) (omega arith) fit.1 later.2,
+      )
     ]

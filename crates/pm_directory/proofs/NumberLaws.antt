@@ -1,5 +1,6 @@
 -- Numbers that are read are spelled so, and those that are spelled so are read.
-use Rattle.std.proofs.Common.{◌≡◌, ℕ, zero, suc, ◌*◌, ◌<◌, ◌≤◌, Bool, true, false, cond, ltb, List, [], ◌∷◌, ◌++◌, length, take, drop, Result, Ok, Err, ◌⊎◌, inl, inr, refl, sym, ap, subst, ◌∙◌, append_assoc, append-nil, arith}
+use Rattle.std.proofs.Common.{◌≡◌, ℕ, zero, suc, ◌*◌, ◌<◌, ◌≤◌, Bool, true, false, cond, ltb, List, [], ◌∷◌, ◌++◌, length, take, drop, Result, Ok, Err, ◌⊎◌}
+use Rattle.std.proofs.Common.{inl, inr, refl, sym, ap, subst, ◌∙◌, append_assoc, append-nil, arith}
 use Rattle.std.proofs.lemmas.List.{take-append-drop, drop_at}
 use Rattle.pb_wire.specs.declared.fault.FaultKind.{FaultKind}
 use Rattle.pb_wire.specs.declared.fault.FaultKind.TheVariants as kinds
@@ -45,7 +46,10 @@ read_fault : (bytes : List ℕ) (more : ℕ) (kind : FaultKind) → read_in byte
 unfolding read_in
 read_fault [] more kind e = of_fault kinds.Cut kind e tt
 read_fault (b ∷ bs) zero kind e =
-    elim (chosen (ltb b 2) (Ok (b, 1)) (wrong kinds.Varint) (wrong kind) e) [ inl hit ↦ absurd (not_found (b, 1) kind hit) | inr other ↦ of_fault kinds.Varint kind other tt ]
+    elim (chosen (ltb b 2) (Ok (b, 1)) (wrong kinds.Varint) (wrong kind) e) [
+      | inl hit ↦ absurd (not_found (b, 1) kind hit)
+      | inr other ↦ of_fault kinds.Varint kind other tt
+    ]
 read_fault (b ∷ bs) (suc more) kind e =
     elim (chosen (ltb b 128) (Ok (b, 1)) (behind b (read_in bs more)) (wrong kind) e) [
       | inl hit ↦ absurd (not_found (b, 1) kind hit)
@@ -58,7 +62,8 @@ varint_fault bytes kind e = read_fault bytes 9 kind e
 
 -- ---- one number
 
-number_ok : (bytes : List ℕ) (r : Result (ℕ × ℕ) FaultKind) (n : ℕ) (rest : List ℕ) → number_of bytes r ≡ Ok (n, rest) → (len : ℕ) × (r ≡ Ok (n, len)) × (rest ≡ drop len bytes)
+number_ok : (bytes : List ℕ) (r : Result (ℕ × ℕ) FaultKind) (n : ℕ) (rest : List ℕ) → number_of bytes r ≡ Ok (n, rest)
+    → (len : ℕ) × (r ≡ Ok (n, len)) × (rest ≡ drop len bytes)
 unfolding number_of
 number_ok bytes (Ok x) n rest e =
     let p = same_value (x.0, drop x.1 bytes) (n, rest) e in

@@ -1,5 +1,6 @@
 -- Reading a directory from left to right, with the first fault that is met.
-use Rattle.std.specs.Prelude.{ℕ, ◌+◌, ◌-◌, ◌*◌, ◌^◌, ◌==◌, max, List, [], ◌∷◌, ◌++◌, length, take, drop, Option, Some, None, Result, Ok, Err, nat_lt, nat_le, if◌then◌else◌}
+use Rattle.std.specs.Prelude.{ℕ, ◌+◌, ◌-◌, ◌*◌, ◌^◌, ◌==◌, max, List, [], ◌∷◌, ◌++◌, length, take, drop, Option, Some, None, Result, Ok, Err, nat_lt, nat_le}
+use Rattle.std.specs.Prelude.{if◌then◌else◌}
 use Rattle.pb_wire.specs.declared.fault.FaultKind.{FaultKind}
 use Rattle.pb_wire.specs.declared.fault.FaultKind.TheVariants as kinds
 use Rattle.pb_wire.specs.Varint.{varint_at}

@@ -1,5 +1,6 @@
 -- Steps that may fail, one after the other.
-use Rattle.std.proofs.Common.{◌≡◌, ℕ, zero, suc, ◌+◌, ◌-◌, ◌<◌, ◌≤◌, Bool, true, false, cond, List, [], ◌∷◌, Result, Ok, Err, MatchResult, ◌⊎◌, inl, inr, refl, sym, ap, ◌∙◌, arith}
+use Rattle.std.proofs.Common.{◌≡◌, ℕ, zero, suc, ◌+◌, ◌-◌, ◌<◌, ◌≤◌, Bool, true, false, cond, List, [], ◌∷◌, Result, Ok, Err, MatchResult, ◌⊎◌, inl, inr, refl}
+use Rattle.std.proofs.Common.{sym, ap, ◌∙◌, arith}
 use Rattle.reader.specs.Reading.{Read, ◌>>=◌, repeated, folded, Reads, Finds, GivesUnless, Gives}
 
 module _ {Fault : Type 0} where
@@ -94,7 +95,8 @@ module _ {Fault : Type 0} where
 
   -- what is read is what is found, where it is known of a fault whether it is from outside
   pub gives_found : {X A : Type 0} (IsOutside : Fault → Type 0) → ((d : Fault) → IsOutside d ⊎ (¬ IsOutside d))
-      → (view : X → A) (r : Result X Fault) (read : Read Fault A) (y : A) → read ≡ Ok y → GivesUnless IsOutside view r read → MatchResult r (λ x. view x ≡ y) IsOutside
+      → (view : X → A) (r : Result X Fault) (read : Read Fault A) (y : A) → read ≡ Ok y → GivesUnless IsOutside view r read
+      → MatchResult r (λ x. view x ≡ y) IsOutside
   gives_found IsOutside either view (Ok x) read y found gives = same_value (view x) y (sym gives ∙ found)
   gives_found IsOutside either view (Err d) read y found gives =
       elim (either d) [ inl outside ↦ outside | inr inside ↦ absurd (not_both y d (sym found ∙ gives inside)) ]

@@ -9,7 +9,8 @@ use Rattle.pm_directory.proofs.numbers.numbers.Goals as goal
 pub returns-in_err-number-clause-exact : goal.returns-in_err-number-clause-exact
 returns-in_err-number-clause-exact c =
     let p = err_from_is_err_and c.from_residual.result c.from_residual.ensures.1 in
-    rw (p.1, p.2) (λ _. repeated_stop one_more c.args.count c.loop-i.i (c.loop-i.numbers.items, c.loop-i.rest.now) c.in_err-number.field-0.0 _ c.loop-i-test.true
+    rw (p.1, p.2) (λ _. repeated_stop one_more c.args.count c.loop-i.i
+    (c.loop-i.numbers.items, c.loop-i.rest.now) c.in_err-number.field-0.0 _ c.loop-i-test.true
     c.loop-i.invariant.1 (one_stop c.loop-i.numbers.items c.loop-i.rest.now c.in_err-number.field-0.0 c.in_err-number.ensures.exact))
 
 pub loop-i-preserved : goal.loop-i-preserved
