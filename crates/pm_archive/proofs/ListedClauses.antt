@@ -5,17 +5,19 @@ use Rattle.std.specs.Prelude.{IfOk, IfErr, MatchResult}
 use Rattle.pm_header.specs.declared.header.Header.{Header}
 use Rattle.pm_directory.specs.declared.entry.Entry.{Entry}
 use Rattle.pm_directory.specs.Directory.{IsDirectory}
-use Rattle.pm_directory.proofs.DirectoryLaws.{one_directory}
+use Rattle.pm_directory.proofs.Laws.{directory_law}
 use Rattle.pm_archive.specs.declared.report.Report.{Report}
 use Rattle.pm_archive.specs.declared.fault.ArchiveFault.{ArchiveFault}
 use Rattle.pm_archive.specs.declared.fault.Count.{Count}
-use Rattle.pm_archive.specs.Answers.{Answers, IsOutside, UnlessOutside}
+use Rattle.pm_archive.specs.Answers.{IsOutside, UnlessOutside}
 use Rattle.pm_archive.specs.Sections.{HasSections, section_bytes}
 use Rattle.pm_archive.specs.Entries.{HasEntries, EachLists, Lists, ids_end, most_leaves}
 use Rattle.pm_archive.specs.Archive.{HasCounts}
 use Rattle.pm_archive.specs.Reading.{list_at}
 use Rattle.pm_archive.specs.Verified.{HasTile, IsSound, IsVerified, HasOtherCount, VerifyingHas, report_of}
-use Rattle.pm_archive.proofs.ListedSteps.{same_done, not_both, is_outside}
+use Rattle.reader.specs.Reading.{GivesUnless}
+use Rattle.reader.proofs.Steps.{same_value, not_both, gives_found}
+use Rattle.pm_archive.proofs.ListedSteps.{inside_or_outside, is_outside}
 use Rattle.pm_archive.proofs.ListedEntries.{list_ok, list_only}
 use Rattle.pm_archive.proofs.OpenedLaws.{one_header}
 
@@ -24,21 +26,21 @@ use Rattle.pm_archive.proofs.OpenedLaws.{one_header}
 -- the tile entries of an archive with this root directory are those that are read
 listed : (bytes : List ℕ) (h : Header) (root tiles : List Entry) → IsDirectory (section_bytes h.root bytes) root → HasEntries bytes h tiles → list_at bytes h root ≡ Ok tiles
 listed bytes h root tiles dir has =
-    ap (list_at bytes h) (one_directory (section_bytes h.root bytes) root has.0 dir has.1) ∙ list_only bytes h has.0 tiles has.2
+    ap (list_at bytes h) (directory_law (section_bytes h.root bytes) root has.0 dir has.1) ∙ list_only bytes h has.0 tiles has.2
 
 pub has_each : (bytes : List ℕ) (h : Header) (root tiles : List Entry) → IsDirectory (section_bytes h.root bytes) root → HasEntries bytes h tiles → EachLists (Lists bytes h most_leaves) ids_end root tiles
 has_each bytes h root tiles dir has =
-    subst (λ (es : List Entry). EachLists (Lists bytes h most_leaves) ids_end es tiles) (one_directory (section_bytes h.root bytes) has.0 root has.1 dir) has.2
+    subst (λ (es : List Entry). EachLists (Lists bytes h most_leaves) ids_end es tiles) (directory_law (section_bytes h.root bytes) has.0 root has.1 dir) has.2
 
 module _ {X : Type 0} (view : X → List Entry) (bytes : List ℕ) (h : Header) (items root : List Entry) (same : items ≡ root) where
-  pub listed_found : (r : Result X ArchiveFault) → IsDirectory (section_bytes h.root bytes) root → Answers view r (list_at bytes h items) → IfOk r (λ x. HasEntries bytes h (view x))
+  pub listed_found : (r : Result X ArchiveFault) → IsDirectory (section_bytes h.root bytes) root → GivesUnless IsOutside view r (list_at bytes h items) → IfOk r (λ x. HasEntries bytes h (view x))
   listed_found (Ok x) dir e = (root, dir, list_ok bytes h root (view x) (ap (list_at bytes h) (sym same) ∙ e))
   listed_found (Err d) dir e = tt
 
-  pub listed_only : (r : Result X ArchiveFault) → IsDirectory (section_bytes h.root bytes) root → Answers view r (list_at bytes h items) → (tiles : List Entry) → HasEntries bytes h tiles → MatchResult r (λ x. view x ≡ tiles) IsOutside
-  listed_only (Ok x) dir e tiles has = same_done (view x) tiles (sym e ∙ ap (list_at bytes h) same ∙ listed bytes h root tiles dir has)
-  listed_only (Err d) dir e tiles has =
-      is_outside (λ fault. list_at bytes h items ≡ Err fault) d e (λ (bad : list_at bytes h items ≡ Err d). not_both tiles d (sym (listed bytes h root tiles dir has) ∙ ap (list_at bytes h) (sym same) ∙ bad))
+  pub listed_only : (r : Result X ArchiveFault) → IsDirectory (section_bytes h.root bytes) root → GivesUnless IsOutside view r (list_at bytes h items)
+      → (tiles : List Entry) → HasEntries bytes h tiles → MatchResult r (λ x. view x ≡ tiles) IsOutside
+  listed_only r dir gives tiles has =
+      gives_found IsOutside inside_or_outside view r (list_at bytes h items) tiles (ap (list_at bytes h) same ∙ listed bytes h root tiles dir has) gives
 
 -- ---- verifying
 
@@ -66,7 +68,7 @@ verified bytes h root report has dir s =
     subst (λ (g : Header). IsVerified bytes g root report) (sym same) v
 
 same_tiles : (bytes : List ℕ) (h : Header) (root some others : List Entry) → list_at bytes h root ≡ Ok some → list_at bytes h root ≡ Ok others → some ≡ others
-same_tiles bytes h root some others a b = same_done some others (sym a ∙ b)
+same_tiles bytes h root some others a b = same_value some others (sym a ∙ b)
 
 one_report : (bytes : List ℕ) (h : Header) (root : List Entry) (r s : Report) → IsVerified bytes h root r → IsVerified bytes h root s → r ≡ s
 one_report bytes h root r s v w = v.told ∙ ap report_of (same_tiles bytes h root v.tiles w.tiles v.listed w.listed) ∙ sym w.told

@@ -9,7 +9,8 @@ use Rattle.pm_directory.specs.Directory.{ids_behind, AscendFrom, IsAscending}
 use Rattle.pm_directory.specs.Lookup.{up_to}
 use Rattle.pm_directory.proofs.DirectoryLaws.{directory_only}
 use Rattle.pm_archive.specs.Entries.{bound_of, EachLists, LiesIn, ListsTile, IsLeaf, Lists, entry_of, entry_bytes}
-use Rattle.pm_archive.specs.Reading.{Read, directory_of_entry}
+use Rattle.reader.proofs.Steps.{same_value}
+use Rattle.pm_archive.specs.Reading.{directory_of_entry}
 use Rattle.pm_archive.specs.Archive.{content_of_entry, content_of}
 use Rattle.pm_archive.specs.Looked.{last_up_to, where_leads, leading_of, leading_at, reached_at, content_at}
 
@@ -249,7 +250,7 @@ reaches bytes h id (suc more) from bound es tiles rise l =
 
 -- ---- its content
 
-each_lie : (h : Header) (Leads : Leading) → ((e : Entry) (bound : ℕ) (tiles : List Entry) → Leads e bound tiles → AllByRecursion (LiesIn h.tiles) tiles) → (bound : ℕ) (es tiles : List Entry) → EachLists Leads bound es tiles → AllByRecursion (LiesIn h.tiles) tiles
+pub each_lie : (h : Header) (Leads : Leading) → ((e : Entry) (bound : ℕ) (tiles : List Entry) → Leads e bound tiles → AllByRecursion (LiesIn h.tiles) tiles) → (bound : ℕ) (es tiles : List Entry) → EachLists Leads bound es tiles → AllByRecursion (LiesIn h.tiles) tiles
 each_lie h Leads lie bound [] tiles l = rw l tt
 each_lie h Leads lie bound (e ∷ es) tiles l =
     subst (AllByRecursion (LiesIn h.tiles)) (sym l.2) (all_append (LiesIn h.tiles) l.0 l.1 (lie e (bound_of bound es) l.0 l.3) (each_lie h Leads lie bound es l.1 l.4))
@@ -257,7 +258,7 @@ each_lie h Leads lie bound (e ∷ es) tiles l =
 tile_lies : (h : Header) (e : Entry) (tiles : List Entry) → ListsTile h e tiles → AllByRecursion (LiesIn h.tiles) tiles
 tile_lies h e tiles t = subst (AllByRecursion (LiesIn h.tiles)) (sym t.itself) (t.inside, tt)
 
-lists_lie : (bytes : List ℕ) (h : Header) (more : ℕ) (e : Entry) (bound : ℕ) (tiles : List Entry) → Lists bytes h more e bound tiles → AllByRecursion (LiesIn h.tiles) tiles
+pub lists_lie : (bytes : List ℕ) (h : Header) (more : ℕ) (e : Entry) (bound : ℕ) (tiles : List Entry) → Lists bytes h more e bound tiles → AllByRecursion (LiesIn h.tiles) tiles
 lists_lie bytes h zero e bound tiles l = tile_lies h e tiles l
 lists_lie bytes h (suc more) e bound tiles l =
     elim l [ inl t ↦ tile_lies h e tiles t | inr d ↦ each_lie h (Lists bytes h more) (lists_lie bytes h more) bound d.0 tiles d.2 ]
@@ -285,7 +286,5 @@ module _ (bytes : List ℕ) (h : Header) (id more bound : ℕ) (root tiles : Lis
 
   pub content_found : Listed → (found : Option Entry) → reached_at bytes h id more start ≡ Ok found → content_at bytes h found ≡ Ok (content_of bytes h tiles id)
   content_found l found is =
-      let reads : Option Entry → Read (Option Entry) = λ o. Ok o in
-      let both : reads found ≡ reads (entry_of tiles id) = sym is ∙ looked_up l in
-      let same : found ≡ entry_of tiles id = cc in
+      let same = same_value found (entry_of tiles id) (sym is ∙ looked_up l) in
       ap (content_at bytes h) same ∙ found_of bytes h id tiles (each_lie h (Lists bytes h more) (lists_lie bytes h more) bound root tiles l.2)

@@ -10,18 +10,21 @@ use Rattle.pm_directory.specs.declared.entry.Entry.{Entry}
 use Rattle.pm_directory.specs.Directory.{IsDirectory}
 use Rattle.pm_directory.specs.declared.fault.DirectoryFault.{DirectoryFault}
 use Rattle.pm_directory.specs.Reading.{directory_at}
-use Rattle.pm_directory.proofs.DirectoryLaws.{directory_ok, directory_only, one_directory}
+use Rattle.pm_directory.proofs.DirectoryLaws.{directory_ok, directory_only}
+use Rattle.pm_directory.proofs.Laws.{directory_law}
 use Rattle.pm_archive.specs.declared.fault.ArchiveFault.{ArchiveFault}
 use Rattle.pm_archive.specs.declared.fault.ArchiveFault.TheVariants as faults
 use Rattle.pm_archive.specs.Answers.{IsOutside, UnlessOutside}
 use Rattle.pm_archive.specs.declared.fault.Section.{Section}
 use Rattle.pm_archive.specs.Sections.{HasSections, section_bytes}
 use Rattle.pm_archive.specs.Reading.{ArePlaced, IsMisplaced, OpeningHas, directory_or_fault}
-use Rattle.pm_archive.proofs.ListedSteps.{same_failed, not_both, read_ok, is_outside}
+use Rattle.reader.specs.Reading.{Read}
+use Rattle.reader.proofs.Steps.{same_fault, not_both}
+use Rattle.pm_archive.proofs.ListedSteps.{read_ok, is_outside}
 
 -- ---- the bytes of a header
 
--- the bytes in front have the same bytes at their places
+-- the bytes in front have the same bytes at their offsets
 range_of_front : (bytes : List ℕ) (n a b : ℕ) → a ≤ b → b ≤ n → slice_range (take n bytes) a b ≡ slice_range bytes a b
 range_of_front bytes n a b ab bn =
     let whole : a + (n - a) ≡ n = omega arith in
@@ -30,20 +33,20 @@ range_of_front bytes n a b ab bn =
     ∙ ap (take (b - a)) (drop-take a (n - a) bytes)
     ∙ take-take (b - a) (n - a) (drop a bytes) room
 
-number_of_front : (bytes : List ℕ) (place : ℕ) → place + 8 ≤ 127 → number_at place (take 127 bytes) ≡ number_at place bytes
-number_of_front bytes place inside = ap (from_le_bytes w64) (range_of_front bytes 127 place (place + 8) (omega arith) inside)
+number_of_front : (bytes : List ℕ) (offset : ℕ) → offset + 8 ≤ 127 → number_at offset (take 127 bytes) ≡ number_at offset bytes
+number_of_front bytes offset inside = ap (from_le_bytes w64) (range_of_front bytes 127 offset (offset + 8) (omega arith) inside)
 
-position_of_front : (bytes : List ℕ) (place : ℕ) → place + 4 ≤ 127 → position_at place (take 127 bytes) ≡ position_at place bytes
-position_of_front bytes place inside = ap (λ (ns : List ℕ). cast_signed w32 (from_le_bytes w32 ns)) (range_of_front bytes 127 place (place + 4) (omega arith) inside)
+position_of_front : (bytes : List ℕ) (offset : ℕ) → offset + 4 ≤ 127 → position_at offset (take 127 bytes) ≡ position_at offset bytes
+position_of_front bytes offset inside = ap (λ (ns : List ℕ). cast_signed w32 (from_le_bytes w32 ns)) (range_of_front bytes 127 offset (offset + 4) (omega arith) inside)
 
-part_of_front : (bytes : List ℕ) (place : ℕ) → place + 16 ≤ 127 → part_at place (take 127 bytes) ≡ part_at place bytes
-part_of_front bytes place inside =
-    let offset = number_of_front bytes place (omega arith) in
-    let length = number_of_front bytes (place + 8) (omega arith) in
-    λ i. record { offset = offset i; length = length i }
+part_of_front : (bytes : List ℕ) (offset : ℕ) → offset + 16 ≤ 127 → part_at offset (take 127 bytes) ≡ part_at offset bytes
+part_of_front bytes offset inside =
+    let first = number_of_front bytes offset (omega arith) in
+    let second = number_of_front bytes (offset + 8) (omega arith) in
+    λ i. record { offset = first i; length = second i }
 
-pub byte_of_front : (bytes : List ℕ) (place : ℕ) → place < 127 → slice_index (take 127 bytes) place ≡ slice_index bytes place
-byte_of_front bytes place inside = get_or-take 127 bytes place 0 inside
+pub byte_of_front : (bytes : List ℕ) (offset : ℕ) → offset < 127 → slice_index (take 127 bytes) offset ≡ slice_index bytes offset
+byte_of_front bytes offset inside = get_or-take 127 bytes offset 0 inside
 
 pub header_of_front : (bytes : List ℕ) → header_at (take 127 bytes) ≡ header_at bytes
 unfolding header_at
@@ -132,9 +135,9 @@ module _ (bytes : List ℕ) (h : Header) (count : ℕ) (all : count ≡ length b
 pub root_read : (bytes : List ℕ) (h : Header) (root : List Entry) → directory_or_fault h.root.offset (directory_at (section_bytes h.root bytes)) ≡ Ok root → IsDirectory (section_bytes h.root bytes) root
 root_read bytes h root e = directory_ok (section_bytes h.root bytes) root (read_ok h.root.offset (directory_at (section_bytes h.root bytes)) root e)
 
-refused : (place : ℕ) (r : Result (List Entry) DirectoryFault) (d : ArchiveFault) → directory_or_fault place r ≡ Err d → d ≡ faults.Directory place
-refused place (Ok es) d e = absurd (not_both es d e)
-refused place (Err f) d e = sym (same_failed {A = List Entry} (faults.Directory place) d e)
+refused : (offset : ℕ) (r : Read DirectoryFault (List Entry)) (d : ArchiveFault) → directory_or_fault offset r ≡ Err d → d ≡ faults.Directory offset
+refused offset (Ok es) d e = absurd (not_both es d e)
+refused offset (Err f) d e = sym (same_fault {A = List Entry} (faults.Directory offset) d e)
 
 root_fault : (bytes : List ℕ) (h : Header) (d : ArchiveFault) → HasSections bytes h → directory_or_fault h.root.offset (directory_at (section_bytes h.root bytes)) ≡ Err d → OpeningHas bytes d
 root_fault bytes h d has e =
@@ -143,9 +146,7 @@ root_fault bytes h d has e =
 
 pub root_refused : (bytes : List ℕ) (h : Header) (d : ArchiveFault) → HasSections bytes h → UnlessOutside (λ fault. directory_or_fault h.root.offset (directory_at (section_bytes h.root bytes)) ≡ Err fault) d
     → UnlessOutside (OpeningHas bytes) d
-root_refused bytes h faults.Read has e = tt
-root_refused bytes h faults.Memory has e = tt
-root_refused bytes h d has e = root_fault bytes h d has e
+root_refused bytes h d has e inside = root_fault bytes h d has (e inside)
 
 -- bytes with sections and a root directory are opened
 opens : (bytes : List ℕ) (h : Header) (root : List Entry) (d : ArchiveFault) → HasSections bytes h → IsDirectory (section_bytes h.root bytes) root → OpeningHas bytes d → ⊥
@@ -162,7 +163,7 @@ opens bytes h root d has dir (OpeningHas.no_directory g e others none) =
 pub opened_once : (bytes : List ℕ) (g h : Header) (some others : List Entry) → HasSections bytes g → IsDirectory (section_bytes g.root bytes) some → HasSections bytes h → IsDirectory (section_bytes h.root bytes) others → (g ≡ h) × (some ≡ others)
 opened_once bytes g h some others a dir b other =
     let same = one_header bytes g h a.header b.header in
-    (same, one_directory (section_bytes h.root bytes) some others (subst (λ (x : Header). IsDirectory (section_bytes x.root bytes) some) same dir) other)
+    (same, directory_law (section_bytes h.root bytes) some others (subst (λ (x : Header). IsDirectory (section_bytes x.root bytes) some) same dir) other)
 
 pub opened_unless : (bytes : List ℕ) (h : Header) (root : List Entry) (d : ArchiveFault) → UnlessOutside (OpeningHas bytes) d → HasSections bytes h → IsDirectory (section_bytes h.root bytes) root → IsOutside d
 opened_unless bytes h root d fault has dir = is_outside (OpeningHas bytes) d fault (opens bytes h root d has dir)

@@ -25,17 +25,7 @@ use Rattle.pm_archive.specs.VerifiedPieces.{IsFirstTileFault, place_cmp, AreRead
 -- where reading says no list of layers, and memory sufficed, there is none
 no_layers : (d : TileFault) → d ≢ tile_faults.Memory → (ls : List LayerView) → ¬ Fails d (Ok ls)
 no_layers tile_faults.Memory other ls f = other refl
-no_layers tile_faults.Wire other ls f = cc
-no_layers tile_faults.Kind other ls f = cc
-no_layers tile_faults.Range other ls f = cc
-no_layers tile_faults.Utf8 other ls f = cc
-no_layers tile_faults.Name other ls f = cc
-no_layers tile_faults.Version other ls f = cc
-no_layers tile_faults.Extent other ls f = cc
-no_layers tile_faults.LayerTwice other ls f = cc
-no_layers tile_faults.Value other ls f = cc
-no_layers tile_faults.Tag other ls f = cc
-no_layers tile_faults.Geometry other ls f = cc
+no_layers _ other ls f = cc
 
 pub no_tile : (content : List ℕ) (d : TileFault) → d ≢ tile_faults.Memory → ((ls : List LayerView) → ReadsAs content ls → Fails d (Ok ls)) → ¬ IsTile content
 no_tile content d other only t = no_layers d other t.0 (only t.0 t.1)

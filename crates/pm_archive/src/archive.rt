@@ -1,6 +1,7 @@
 //! Archives that are open.
 
 ghost use Rattle.std.specs.Prelude.{◌≡◌, ◌≢◌, ◌↔◌, ℕ, ◌≤◌, List, length, Option, Some, None, IsSome, IfOk, IfErr, MatchResult, option_map};
+ghost use Rattle.reader.specs.Reading.{GivesUnless};
 ghost use Rattle.std.specs.List.{AllByRecursion};
 ghost use Rattle.pm_header.specs.declared.header.Header.{Header};
 ghost use Rattle.pm_directory.specs.declared.entry.Entry.{Entry};
@@ -13,7 +14,7 @@ ghost use Rattle.pm_archive.specs.Archive.{content_of};
 ghost use Rattle.pm_archive.specs.Reading.{ArePlaced, OpeningHas, list_at};
 ghost use Rattle.pm_archive.specs.Looked.{leading_of, looked_at};
 ghost use Rattle.pm_archive.specs.Verified.{IsSound, VerifyingHas};
-ghost use Rattle.pm_archive.specs.Answers.{Answers, IsOutside, UnlessOutside};
+ghost use Rattle.pm_archive.specs.Answers.{IsOutside, UnlessOutside};
 
 use crate::fault::ArchiveFault;
 use crate::listing::entries_below;
@@ -99,7 +100,7 @@ impl<B: Bytes + Drop> Archive<B> {
         ensures found { (bytes : List ℕ) → B.holds self.new.source bytes → IfOk result (λ tiles. HasEntries bytes self.old.header tiles.items) }
         ensures only { (bytes : List ℕ) (tiles : List Entry) → B.holds self.new.source bytes → HasEntries bytes self.old.header tiles
             → MatchResult result (λ listed. listed.items ≡ tiles) IsOutside }
-        ensures first { (bytes : List ℕ) → B.holds self.new.source bytes → Answers (λ tiles. tiles.items) result (list_at bytes self.old.header self.old.root) }
+        ensures first { (bytes : List ℕ) → B.holds self.new.source bytes → GivesUnless IsOutside (λ tiles. tiles.items) result (list_at bytes self.old.header self.old.root) }
         ensures read { result ≡ Err ArchiveFault.Read → B.fails self.old.source }
     {
         entries_below(alloc, &mut self.source, &self.header, &self.root)
@@ -119,7 +120,7 @@ impl<B: Bytes + Drop> Archive<B> {
         ensures content { (bytes : List ℕ) (tiles : List Entry) → B.holds self.new.source bytes → HasEntries bytes self.old.header tiles
             → MatchResult result (λ content. option_map (λ v. v.items) content ≡ content_of bytes self.old.header tiles id) IsOutside }
         ensures first { (bytes : List ℕ) → B.holds self.new.source bytes
-            → Answers (option_map (λ v. v.items)) result (looked_at bytes self.old.header self.old.root id) }
+            → GivesUnless IsOutside (option_map (λ v. v.items)) result (looked_at bytes self.old.header self.old.root id) }
         ensures read { result ≡ Err ArchiveFault.Read → B.fails self.old.source }
         ensures memory { result ≡ Err ArchiveFault.Memory → IsSome (leading_of id self.old.root) }
     {

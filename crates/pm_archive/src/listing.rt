@@ -1,11 +1,12 @@
 //! The tile entries of all directories.
 
 ghost use Rattle.std.specs.Prelude.{◌≡◌, ◌≢◌, ℕ, List, Err, IfOk};
+ghost use Rattle.reader.specs.Reading.{GivesUnless};
 ghost use Rattle.pm_directory.specs.Directory.{IsAscending};
 ghost use Rattle.pm_archive.specs.Source.{Keeps};
 ghost use Rattle.pm_archive.specs.Entries.{LiesIn, bound_of};
 ghost use Rattle.pm_archive.specs.Reading.{ArePlaced, each_at, leaf_at, list_at, lists_at, stray_fault, stray_id, tile_at};
-ghost use Rattle.pm_archive.specs.Answers.{Answers};
+ghost use Rattle.pm_archive.specs.Answers.{IsOutside};
 ghost use Rattle.pm_archive.specs.Listing.{behind, stray_of};
 
 use crate::fault::ArchiveFault;
@@ -76,7 +77,7 @@ fn leaf_of<B: Bytes>(
 ) -> Result<Vec<Entry>, ArchiveFault>
     requires { ArePlaced (B.count source.old) header.now }
     ensures source { Keeps B.count B.holds B.fails B.unchanged source.old source.new }
-    ensures leaf { (bytes : List ℕ) → B.holds source.new bytes → Answers (λ v. v.items) result (leaf_at bytes header.now entry bound) }
+    ensures leaf { (bytes : List ℕ) → B.holds source.new bytes → GivesUnless IsOutside (λ v. v.items) result (leaf_at bytes header.now entry bound) }
     ensures ascending { IfOk result (λ v. IsAscending v.items) }
     ensures read { result ≡ Err ArchiveFault.Read → B.fails source.old }
 {
@@ -93,7 +94,7 @@ fn leaf_of<B: Bytes>(
 // Adds a tile entry.
 #[tactic(auto, unfolding(crate::specs::Reading::tile_at))]
 fn push_tile(header: &Header, entry: Entry, tiles: &mut Vec<Entry>) -> Result<(), ArchiveFault>
-    ensures tile { Answers (λ done. tiles.new.items) result (behind tiles.old.items (tile_at header.now entry)) }
+    ensures tile { GivesUnless IsOutside (λ done. tiles.new.items) result (behind tiles.old.items (tile_at header.now entry)) }
     ensures read { result ≢ Err ArchiveFault.Read }
     ensures memory { result ≡ Err ArchiveFault.Memory → LiesIn header.now.tiles entry }
 {
@@ -119,7 +120,7 @@ fn push_listed<B: Bytes>(
 ) -> Result<(), ArchiveFault>
     requires { ArePlaced (B.count source.old) header.now }
     ensures source { Keeps B.count B.holds B.fails B.unchanged source.old source.new }
-    ensures listed { (bytes : List ℕ) → B.holds source.new bytes → Answers (λ done. tiles.new.items) result (behind tiles.old.items (lists_at bytes header.now more entry bound)) }
+    ensures listed { (bytes : List ℕ) → B.holds source.new bytes → GivesUnless IsOutside (λ done. tiles.new.items) result (behind tiles.old.items (lists_at bytes header.now more entry bound)) }
     ensures read { result ≡ Err ArchiveFault.Read → B.fails source.old }
     ensures memory { entry.run ≡ 0 → more ≡ 0 → result ≢ Err ArchiveFault.Memory }
 {
@@ -148,7 +149,7 @@ fn push_each<B: Bytes>(
 ) -> Result<(), ArchiveFault>
     requires { ArePlaced (B.count source.old) header.now }
     ensures source { Keeps B.count B.holds B.fails B.unchanged source.old source.new }
-    ensures listed { (bytes : List ℕ) → B.holds source.new bytes → Answers (λ done. tiles.new.items) result (behind tiles.old.items (each_at (lists_at bytes header.now more) bound entries.now)) }
+    ensures listed { (bytes : List ℕ) → B.holds source.new bytes → GivesUnless IsOutside (λ done. tiles.new.items) result (behind tiles.old.items (each_at (lists_at bytes header.now more) bound entries.now)) }
     ensures read { result ≡ Err ArchiveFault.Read → B.fails source.old }
 {
     for (i, entry) in entries.iter().enumerate() {
@@ -170,7 +171,7 @@ pub(crate) fn entries_below<B: Bytes>(
 ) -> Result<Vec<Entry>, ArchiveFault>
     requires { ArePlaced (B.count source.old) header.now }
     ensures source { Keeps B.count B.holds B.fails B.unchanged source.old source.new }
-    ensures first { (bytes : List ℕ) → B.holds source.new bytes → Answers (λ v. v.items) result (list_at bytes header.now root.now) }
+    ensures first { (bytes : List ℕ) → B.holds source.new bytes → GivesUnless IsOutside (λ v. v.items) result (list_at bytes header.now root.now) }
     ensures read { result ≡ Err ArchiveFault.Read → B.fails source.old }
 {
     let mut tiles = Vec::new(alloc);

@@ -1,6 +1,7 @@
 //! The content of one tile id.
 
 ghost use Rattle.std.specs.Prelude.{◌≡◌, ℕ, ◌<◌, ◌≤◌, List, Ok, Err, OnOk, MatchResult, Option, Some, None, IsSome, option_map};
+ghost use Rattle.reader.specs.Reading.{GivesUnless};
 ghost use Rattle.pm_directory.specs.declared.entry.Entry.{Entry};
 ghost use Rattle.pm_directory.specs.Directory.{IsAscending};
 ghost use Rattle.pm_archive.specs.Source.{Keeps};
@@ -8,7 +9,7 @@ ghost use Rattle.pm_archive.specs.Sections.{end_of};
 ghost use Rattle.pm_archive.specs.Entries.{EachLists, LiesIn, Lists, ids_end, most_leaves};
 ghost use Rattle.pm_archive.specs.Archive.{content_of};
 ghost use Rattle.pm_archive.specs.Reading.{ArePlaced};
-ghost use Rattle.pm_archive.specs.Answers.{Answers, IsOutside};
+ghost use Rattle.pm_archive.specs.Answers.{IsOutside};
 ghost use Rattle.pm_archive.specs.Looked.{leading_of, leading_at, reached_at, content_at, looked_at};
 
 use crate::fault::ArchiveFault;
@@ -39,7 +40,7 @@ fn leading_in<B: Bytes>(
 ) -> Result<Option<Entry>, ArchiveFault>
     requires { end_of header.now.leaves ≤ B.count source.old }
     ensures source { Keeps B.count B.holds B.fails B.unchanged source.old source.new }
-    ensures first { (bytes : List ℕ) → B.holds source.new bytes → Answers (λ entry. entry) result (leading_at bytes header.now id leaf) }
+    ensures first { (bytes : List ℕ) → B.holds source.new bytes → GivesUnless IsOutside (λ entry. entry) result (leading_at bytes header.now id leaf) }
     ensures read { result ≡ Err ArchiveFault.Read → B.fails source.old }
     ensures memory { result ≡ Err ArchiveFault.Memory → LiesIn header.now.leaves leaf }
     ensures inside { OnOk result (LiesIn header.now.leaves leaf) }
@@ -62,7 +63,7 @@ fn tile_entry<B: Bytes>(
 ) -> Result<Option<Entry>, ArchiveFault>
     requires { end_of header.now.leaves ≤ B.count source.old }
     ensures source { Keeps B.count B.holds B.fails B.unchanged source.old source.new }
-    ensures first { (bytes : List ℕ) → B.holds source.new bytes → Answers (λ e. e) result (reached_at bytes header.now id more entry) }
+    ensures first { (bytes : List ℕ) → B.holds source.new bytes → GivesUnless IsOutside (λ e. e) result (reached_at bytes header.now id more entry) }
     ensures read { result ≡ Err ArchiveFault.Read → B.fails source.old }
     ensures none { entry ≡ None → result ≡ Ok None }
     ensures memory { result ≡ Err ArchiveFault.Memory → (leaf : Entry) × (entry ≡ Some leaf) × (leaf.run ≡ 0) × (0 < more) × LiesIn header.now.leaves leaf }
@@ -93,7 +94,7 @@ fn content_in<B: Bytes>(
 ) -> Result<Option<Vec<u8>>, ArchiveFault>
     requires { end_of header.now.tiles ≤ B.count source.old }
     ensures source { Keeps B.count B.holds B.fails B.unchanged source.old source.new }
-    ensures first { (bytes : List ℕ) → B.holds source.new bytes → Answers (option_map (λ v. v.items)) result (content_at bytes header.now entry) }
+    ensures first { (bytes : List ℕ) → B.holds source.new bytes → GivesUnless IsOutside (option_map (λ v. v.items)) result (content_at bytes header.now entry) }
     ensures read { result ≡ Err ArchiveFault.Read → B.fails source.old }
     ensures memory { result ≡ Err ArchiveFault.Memory → (tile : Entry) × (entry ≡ Some tile) × LiesIn header.now.tiles tile }
 {
@@ -120,7 +121,7 @@ pub(crate) fn content_below<B: Bytes>(
     ensures source { Keeps B.count B.holds B.fails B.unchanged source.old source.new }
     ensures content { (bytes : List ℕ) (tiles : List Entry) → B.holds source.new bytes → EachLists (Lists bytes header.now most_leaves) ids_end root.now tiles
         → MatchResult result (λ content. option_map (λ v. v.items) content ≡ content_of bytes header.now tiles id) IsOutside }
-    ensures first { (bytes : List ℕ) → B.holds source.new bytes → Answers (option_map (λ v. v.items)) result (looked_at bytes header.now root.now id) }
+    ensures first { (bytes : List ℕ) → B.holds source.new bytes → GivesUnless IsOutside (option_map (λ v. v.items)) result (looked_at bytes header.now root.now id) }
     ensures read { result ≡ Err ArchiveFault.Read → B.fails source.old }
     ensures memory { result ≡ Err ArchiveFault.Memory → IsSome (leading_of id root.now) }
 {

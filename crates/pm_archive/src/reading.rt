@@ -1,6 +1,7 @@
 //! Pieces of a source: its bytes and its directories.
 
 ghost use Rattle.std.specs.Prelude.{◌≡◌, ◌↔◌, ℕ, ◌+◌, ◌≤◌, List, Err, length, IfOk, IfErr, OnOk, IsTrue, MatchResult, slice_range};
+ghost use Rattle.reader.specs.Reading.{GivesUnless};
 ghost use Rattle.std.specs.List.{AllByRecursion};
 ghost use Rattle.pm_directory.specs.Directory.{IsAscending, IsEntry};
 ghost use Rattle.pm_directory.specs.Reading.{directory_at};
@@ -8,7 +9,7 @@ ghost use Rattle.pm_archive.specs.Source.{Keeps};
 ghost use Rattle.pm_archive.specs.Sections.{end_of};
 ghost use Rattle.pm_archive.specs.Entries.{LiesIn, entry_bytes};
 ghost use Rattle.pm_archive.specs.Reading.{content_of_tile, directory_of_entry, directory_or_fault, fault_at};
-ghost use Rattle.pm_archive.specs.Answers.{Answers, IsOutside};
+ghost use Rattle.pm_archive.specs.Answers.{IsOutside};
 
 use crate::fault::ArchiveFault;
 use crate::source::Bytes;
@@ -71,7 +72,7 @@ pub(crate) fn directory_from<B: Bytes>(
 ) -> Result<Vec<Entry>, ArchiveFault>
     requires { at + length ≤ B.count source.old }
     ensures source { Keeps B.count B.holds B.fails B.unchanged source.old source.new }
-    ensures directory { (bytes : List ℕ) → B.holds source.new bytes → Answers (λ v. v.items) result (directory_or_fault at (directory_at (slice_range bytes at (at + length)))) }
+    ensures directory { (bytes : List ℕ) → B.holds source.new bytes → GivesUnless IsOutside (λ v. v.items) result (directory_or_fault at (directory_at (slice_range bytes at (at + length)))) }
     ensures ascending { IfOk result (λ v. IsAscending v.items) }
     ensures each { IfOk result (λ v. AllByRecursion IsEntry v.items) }
     ensures read { result ≡ Err ArchiveFault.Read → B.fails source.old }
@@ -103,7 +104,7 @@ pub(crate) fn directory_of<B: Bytes>(
 ) -> Result<Vec<Entry>, ArchiveFault>
     requires { end_of header.now.leaves ≤ B.count source.old }
     ensures source { Keeps B.count B.holds B.fails B.unchanged source.old source.new }
-    ensures directory { (bytes : List ℕ) → B.holds source.new bytes → Answers (λ v. v.items) result (directory_of_entry bytes header.now entry) }
+    ensures directory { (bytes : List ℕ) → B.holds source.new bytes → GivesUnless IsOutside (λ v. v.items) result (directory_of_entry bytes header.now entry) }
     ensures ascending { IfOk result (λ v. IsAscending v.items) }
     ensures each { IfOk result (λ v. AllByRecursion IsEntry v.items) }
     ensures read { result ≡ Err ArchiveFault.Read → B.fails source.old }
@@ -129,7 +130,7 @@ pub(crate) fn content_of<B: Bytes>(
 ) -> Result<Vec<u8>, ArchiveFault>
     requires { end_of header.now.tiles ≤ B.count source.old }
     ensures source { Keeps B.count B.holds B.fails B.unchanged source.old source.new }
-    ensures content { (bytes : List ℕ) → B.holds source.new bytes → Answers (λ v. v.items) result (content_of_tile bytes header.now entry) }
+    ensures content { (bytes : List ℕ) → B.holds source.new bytes → GivesUnless IsOutside (λ v. v.items) result (content_of_tile bytes header.now entry) }
     ensures inside { (bytes : List ℕ) → B.holds source.new bytes → LiesIn header.now.tiles entry
         → MatchResult result (λ v. v.items ≡ entry_bytes header.now.tiles entry bytes) IsOutside }
     ensures read { result ≡ Err ArchiveFault.Read → B.fails source.old }

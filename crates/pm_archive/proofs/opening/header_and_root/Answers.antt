@@ -4,12 +4,12 @@ use Rattle.pm_archive.proofs.OpenedLaws.{misplaced_fault, compressed_fault, has_
 use Rattle.pm_archive.proofs.opening.header_and_root.Goals as goal
 
 pub returns-in-Some-clause-fault : goal.returns-in-Some-clause-fault
-returns-in-Some-clause-fault g c = λ bytes holds.
+returns-in-Some-clause-fault g c = λ bytes holds _.
     let all : c.len.result ≡ length bytes = c.len.ensures ∙ c.header_in.ensures.source.same_count ∙ sym (g.met.B.Bytes.sized c.args.source.now bytes (c.header_in.ensures.source.no_others bytes holds)) in
     misplaced_fault bytes c.in-Ok.header c.len.result all (c.in-Ok.ensures.found bytes holds) c.in-Some.section c.in-Some.ensures.section
 
 pub returns-then-not-is_plain-clause-fault : goal.returns-then-not-is_plain-clause-fault
-returns-then-not-is_plain-clause-fault g c = λ bytes holds.
+returns-then-not-is_plain-clause-fault g c = λ bytes holds _.
     let all : c.len.result ≡ length bytes = c.len.ensures ∙ c.header_in.ensures.source.same_count ∙ sym (g.met.B.Bytes.sized c.args.source.now bytes (c.header_in.ensures.source.no_others bytes holds)) in
     compressed_fault bytes c.in-Ok.header c.len.result all (c.in-Ok.ensures.found bytes holds) c.in_default.ensures.none (λ plain. absurd (false≢true (c.if-not-is_plain.ensures.1 plain)))
 

@@ -11,7 +11,7 @@ returns-in-Ok-clause-found g c = λ bytes holds.
     whole_header bytes c.in-Ok.header long (subst (λ (bs : List ℕ). IsHeader bs c.in-Ok.header) front c.in-Ok.ensures.found)
 
 pub returns-in-Err-Version-clause-fault : goal.returns-in-Err-Version-clause-fault
-returns-in-Err-Version-clause-fault g c = λ bytes holds.
+returns-in-Err-Version-clause-fault g c = λ bytes holds _.
     let front = front_read c.read_at.result c.read_at.new.into bytes c.if-is_err.ensures.negation (c.read_at.ensures.gives bytes holds) in
     let long : 127 ≤ length bytes = omega (arith, g.met.B.Bytes.sized c.args.source.now bytes (c.read_at.ensures.held bytes holds)) in
     let v = (c.in-Err-Version.ensures.version c.in-Err-Version.version).0 (ap (λ (d : HeaderFault). Err d) c.in-Err-Version.field-0-is) in
