@@ -11,7 +11,9 @@ use Rattle.pm_archive.specs.declared.fault.ArchiveFault.{ArchiveFault}
 use Rattle.pm_archive.specs.declared.fault.Count.{Count}
 use Rattle.pm_archive.specs.Answers.{IsOutside, UnlessOutside}
 use Rattle.pm_archive.specs.Sections.{HasSections, section_bytes}
-use Rattle.pm_archive.specs.Entries.{HasEntries, EachLists, Lists, ids_end, most_leaves}
+use Rattle.pm_archive.specs.Entries.{HasEntries, EachLists, Lists}
+use Rattle.pm_archive.specs.declared.limits.TheConstants.{MOST_LEAVES}
+use Rattle.pm_directory.specs.declared.entry.TheConstants.{IDS_END}
 use Rattle.pm_archive.specs.Archive.{HasCounts}
 use Rattle.pm_archive.specs.Reading.{list_at}
 use Rattle.pm_archive.specs.Verified.{HasTile, IsSound, IsVerified, HasOtherCount, VerifyingHas, report_of}
@@ -28,9 +30,9 @@ listed : (bytes : List ℕ) (h : Header) (root tiles : List Entry) → IsDirecto
 listed bytes h root tiles dir has =
     ap (list_at bytes h) (directory_law (section_bytes h.root bytes) root has.0 dir has.1) ∙ list_only bytes h has.0 tiles has.2
 
-pub has_each : (bytes : List ℕ) (h : Header) (root tiles : List Entry) → IsDirectory (section_bytes h.root bytes) root → HasEntries bytes h tiles → EachLists (Lists bytes h most_leaves) ids_end root tiles
+pub has_each : (bytes : List ℕ) (h : Header) (root tiles : List Entry) → IsDirectory (section_bytes h.root bytes) root → HasEntries bytes h tiles → EachLists (Lists bytes h MOST_LEAVES) IDS_END root tiles
 has_each bytes h root tiles dir has =
-    subst (λ (es : List Entry). EachLists (Lists bytes h most_leaves) ids_end es tiles) (directory_law (section_bytes h.root bytes) has.0 root has.1 dir) has.2
+    subst (λ (es : List Entry). EachLists (Lists bytes h MOST_LEAVES) IDS_END es tiles) (directory_law (section_bytes h.root bytes) has.0 root has.1 dir) has.2
 
 module _ {X : Type 0} (view : X → List Entry) (bytes : List ℕ) (h : Header) (items root : List Entry) (same : items ≡ root) where
   pub listed_found : (r : Result X ArchiveFault) → IsDirectory (section_bytes h.root bytes) root → GivesUnless IsOutside view r (list_at bytes h items) → IfOk r (λ x. HasEntries bytes h (view x))

@@ -9,7 +9,9 @@ use Rattle.pm_directory.specs.Reading.{directory_at}
 use Rattle.pm_directory.proofs.DirectoryLaws.{directory_ok, directory_only}
 use Rattle.pm_archive.specs.declared.fault.ArchiveFault.{ArchiveFault}
 use Rattle.pm_archive.specs.declared.fault.ArchiveFault.TheVariants as faults
-use Rattle.pm_archive.specs.Entries.{ids_end, most_leaves, entry_bytes, bound_of, AreBetween, EachLists, ListsTile, IsLeaf, Lists}
+use Rattle.pm_archive.specs.Entries.{entry_bytes, bound_of, AreBetween, EachLists, ListsTile, IsLeaf, Lists}
+use Rattle.pm_archive.specs.declared.limits.TheConstants.{MOST_LEAVES}
+use Rattle.pm_directory.specs.declared.entry.TheConstants.{IDS_END}
 use Rattle.reader.specs.Reading.{Read, ◌>>=◌}
 use Rattle.reader.proofs.Steps.{done, same_value, not_both, then_ok, pass_ok, either_ok}
 use Rattle.pm_archive.specs.Reading.{stray_id, unless_stray, directory_or_fault, directory_of_entry, leaf_at, tile_at, each_at, lists_at, list_at}
@@ -119,8 +121,8 @@ lists_only bytes h (suc more) x bound ts is =
     ]
 
 -- the tile entries that are read below a root directory are those below it
-pub list_ok : (bytes : List ℕ) (h : Header) (root ts : List Entry) → list_at bytes h root ≡ Ok ts → EachLists (Lists bytes h most_leaves) ids_end root ts
-list_ok bytes h root ts e = each_ok (lists_at bytes h most_leaves) (Lists bytes h most_leaves) (lists_ok bytes h most_leaves) ids_end root ts e
+pub list_ok : (bytes : List ℕ) (h : Header) (root ts : List Entry) → list_at bytes h root ≡ Ok ts → EachLists (Lists bytes h MOST_LEAVES) IDS_END root ts
+list_ok bytes h root ts e = each_ok (lists_at bytes h MOST_LEAVES) (Lists bytes h MOST_LEAVES) (lists_ok bytes h MOST_LEAVES) IDS_END root ts e
 
-pub list_only : (bytes : List ℕ) (h : Header) (root ts : List Entry) → EachLists (Lists bytes h most_leaves) ids_end root ts → list_at bytes h root ≡ Ok ts
-list_only bytes h root ts each = each_only (lists_at bytes h most_leaves) (Lists bytes h most_leaves) (lists_only bytes h most_leaves) ids_end root ts each
+pub list_only : (bytes : List ℕ) (h : Header) (root ts : List Entry) → EachLists (Lists bytes h MOST_LEAVES) IDS_END root ts → list_at bytes h root ≡ Ok ts
+list_only bytes h root ts each = each_only (lists_at bytes h MOST_LEAVES) (Lists bytes h MOST_LEAVES) (lists_only bytes h MOST_LEAVES) IDS_END root ts each

@@ -3,6 +3,7 @@ use Rattle.std.proofs.Common.{rules, refl, ◌≡◌, ◌≢◌, true, OnOk, ℕ
 use Rattle.std.specs.Int.{w32, w64, from_le_bytes, cast_signed}
 use Rattle.std.specs.Result.{is_ok}
 use Rattle.std.proofs.lemmas.List.{get_or-take, take-take, drop-take}
+use Rattle.pm_header.specs.declared.header.TheConstants.{HEADER_BYTES}
 use Rattle.pm_header.specs.declared.header.Header.{Header}
 use Rattle.pm_header.specs.Layout.{IsHeader, magic, header_at, part_at, number_at, position_at}
 use Rattle.pm_header.proofs.Fields.{same_header}
@@ -33,24 +34,24 @@ range_of_front bytes n a b ab bn =
     ∙ ap (take (b - a)) (drop-take a (n - a) bytes)
     ∙ take-take (b - a) (n - a) (drop a bytes) room
 
-number_of_front : (bytes : List ℕ) (offset : ℕ) → offset + 8 ≤ 127 → number_at offset (take 127 bytes) ≡ number_at offset bytes
-number_of_front bytes offset inside = ap (from_le_bytes w64) (range_of_front bytes 127 offset (offset + 8) (omega arith) inside)
+number_of_front : (bytes : List ℕ) (offset : ℕ) → offset + 8 ≤ HEADER_BYTES → number_at offset (take HEADER_BYTES bytes) ≡ number_at offset bytes
+number_of_front bytes offset inside = ap (from_le_bytes w64) (range_of_front bytes HEADER_BYTES offset (offset + 8) (omega arith) inside)
 
-position_of_front : (bytes : List ℕ) (offset : ℕ) → offset + 4 ≤ 127 → position_at offset (take 127 bytes) ≡ position_at offset bytes
-position_of_front bytes offset inside = ap (λ (ns : List ℕ). cast_signed w32 (from_le_bytes w32 ns)) (range_of_front bytes 127 offset (offset + 4) (omega arith) inside)
+position_of_front : (bytes : List ℕ) (offset : ℕ) → offset + 4 ≤ HEADER_BYTES → position_at offset (take HEADER_BYTES bytes) ≡ position_at offset bytes
+position_of_front bytes offset inside = ap (λ (ns : List ℕ). cast_signed w32 (from_le_bytes w32 ns)) (range_of_front bytes HEADER_BYTES offset (offset + 4) (omega arith) inside)
 
-part_of_front : (bytes : List ℕ) (offset : ℕ) → offset + 16 ≤ 127 → part_at offset (take 127 bytes) ≡ part_at offset bytes
+part_of_front : (bytes : List ℕ) (offset : ℕ) → offset + 16 ≤ HEADER_BYTES → part_at offset (take HEADER_BYTES bytes) ≡ part_at offset bytes
 part_of_front bytes offset inside =
     let first = number_of_front bytes offset (omega arith) in
     let second = number_of_front bytes (offset + 8) (omega arith) in
     λ i. record { offset = first i; length = second i }
 
-pub byte_of_front : (bytes : List ℕ) (offset : ℕ) → offset < 127 → slice_index (take 127 bytes) offset ≡ slice_index bytes offset
-byte_of_front bytes offset inside = get_or-take 127 bytes offset 0 inside
+pub byte_of_front : (bytes : List ℕ) (offset : ℕ) → offset < HEADER_BYTES → slice_index (take HEADER_BYTES bytes) offset ≡ slice_index bytes offset
+byte_of_front bytes offset inside = get_or-take HEADER_BYTES bytes offset 0 inside
 
-pub header_of_front : (bytes : List ℕ) → header_at (take 127 bytes) ≡ header_at bytes
+pub header_of_front : (bytes : List ℕ) → header_at (take HEADER_BYTES bytes) ≡ header_at bytes
 unfolding header_at
-header_of_front bytes = same_header (header_at (take 127 bytes)) (header_at bytes)
+header_of_front bytes = same_header (header_at (take HEADER_BYTES bytes)) (header_at bytes)
     (part_of_front bytes 8 (lit≤ tt))
     (part_of_front bytes 24 (lit≤ tt))
     (part_of_front bytes 40 (lit≤ tt))
@@ -72,11 +73,11 @@ header_of_front bytes = same_header (header_at (take 127 bytes)) (header_at byte
     (position_of_front bytes 119 (lit≤ tt))
     (position_of_front bytes 123 (lit≤ tt))
 
-pub magic_of_front : (bytes : List ℕ) → take 7 (take 127 bytes) ≡ take 7 bytes
-magic_of_front bytes = take-take 7 127 bytes (lit≤ tt)
+pub magic_of_front : (bytes : List ℕ) → take 7 (take HEADER_BYTES bytes) ≡ take 7 bytes
+magic_of_front bytes = take-take 7 HEADER_BYTES bytes (lit≤ tt)
 
--- the header of the first 127 bytes is that of all
-pub whole_header : (bytes : List ℕ) (h : Header) → 127 ≤ length bytes → IsHeader (take 127 bytes) h → IsHeader bytes h
+-- the header of the first bytes is that of all
+pub whole_header : (bytes : List ℕ) (h : Header) → HEADER_BYTES ≤ length bytes → IsHeader (take HEADER_BYTES bytes) h → IsHeader bytes h
 whole_header bytes h long is = record {
   whole = long;
   magic_is = sym (magic_of_front bytes) ∙ is.magic_is;
@@ -84,12 +85,12 @@ whole_header bytes h long is = record {
   fields_are = is.fields_are ∙ header_of_front bytes;
 }
 
--- what a read gave is the first 127 bytes
-pub front_read : {X E : Type 0} (r : Result X E) (into bytes : List ℕ) → is_ok r ≡ true → OnOk r (into ≡ slice_range bytes 0 127) → into ≡ take 127 bytes
+-- what a read gave is the first bytes
+pub front_read : {X E : Type 0} (r : Result X E) (into bytes : List ℕ) → is_ok r ≡ true → OnOk r (into ≡ slice_range bytes 0 HEADER_BYTES) → into ≡ take HEADER_BYTES bytes
 front_read (Ok x) into bytes e gives = gives
 front_read (Err d) into bytes e gives = absurd (cc)
 
-pub version_of_front : (bytes into : List ℕ) (n : ℕ) → 127 ≤ length bytes → into ≡ take 127 bytes → take 7 into ≡ magic → slice_index into 7 ≡ n → n ≢ 3 → OpeningHas bytes (faults.Version n)
+pub version_of_front : (bytes into : List ℕ) (n : ℕ) → HEADER_BYTES ≤ length bytes → into ≡ take HEADER_BYTES bytes → take 7 into ≡ magic → slice_index into 7 ≡ n → n ≢ 3 → OpeningHas bytes (faults.Version n)
 version_of_front bytes into n long front is at other =
     let byte : slice_index bytes 7 ≡ n = sym (byte_of_front bytes 7 (lit< tt)) ∙ ap (λ (bs : List ℕ). slice_index bs 7) (sym front) ∙ at in
     OpeningHas.other_version (ap (λ (v : ℕ). faults.Version v) (sym byte)) long (sym (magic_of_front bytes) ∙ ap (take 7) (sym front) ∙ is) (λ (e : slice_index bytes 7 ≡ 3). other (sym byte ∙ e))

@@ -4,16 +4,14 @@ use Rattle.std.specs.List.{AllByRecursion}
 use Rattle.pm_header.specs.declared.part.Part.{Part}
 use Rattle.pm_header.specs.declared.header.Header.{Header}
 use Rattle.pm_directory.specs.declared.entry.Entry.{Entry}
+use Rattle.pm_directory.specs.declared.entry.TheConstants.{IDS_END}
 use Rattle.pm_directory.specs.Directory.{IsDirectory, ids_behind}
+use Rattle.pm_archive.specs.declared.limits.TheConstants.{MOST_LEAVES}
 use Rattle.pm_archive.specs.Sections.{section_bytes}
 
 -- the ids of all tiles are below this number
 abbrev pub ids_end : ℕ
-ids_end = 6148914691236517205
-
--- how many leaf directories may stand one below the other
-abbrev pub most_leaves : ℕ
-most_leaves = 3
+ids_end = IDS_END
 
 -- the bytes of an entry, whose offset is counted from the start of its section
 abbrev pub entry_bytes : Part → Entry → List ℕ → List ℕ
@@ -57,7 +55,7 @@ Lists bytes h (suc more) e bound tiles = ListsTile h e tiles ⊎ ((entries : Lis
 
 -- these are the tile entries below the root directory, in ascending order
 abbrev pub HasEntries : List ℕ → Header → List Entry → Type 0
-HasEntries bytes h tiles = (root : List Entry) × IsDirectory (section_bytes h.root bytes) root × EachLists (Lists bytes h most_leaves) ids_end root tiles
+HasEntries bytes h tiles = (root : List Entry) × IsDirectory (section_bytes h.root bytes) root × EachLists (Lists bytes h MOST_LEAVES) IDS_END root tiles
 
 -- the entry whose run has the id
 abbrev pub entry_of : List Entry → ℕ → Option Entry

@@ -6,7 +6,8 @@ use Rattle.pm_directory.specs.declared.entry.Entry.{Entry}
 use Rattle.pm_directory.specs.Lookup.{up_to}
 use Rattle.pm_archive.specs.declared.fault.ArchiveFault.{ArchiveFault}
 use Rattle.pm_archive.specs.declared.fault.ArchiveFault.TheVariants as faults
-use Rattle.pm_archive.specs.Entries.{entry_bytes, most_leaves}
+use Rattle.pm_archive.specs.declared.limits.TheConstants.{MOST_LEAVES}
+use Rattle.pm_archive.specs.Entries.{entry_bytes}
 use Rattle.pm_archive.specs.Reading.{directory_of_entry}
 
 -- the last entry whose id is at most this one
@@ -40,4 +41,4 @@ content_at bytes h (Some e) = if nat_le (e.offset + e.length) h.tiles.length the
 
 -- the content of an id below a root directory of these entries, or the fault that stands on the way
 unfoldable pub looked_at : List ℕ → Header → List Entry → ℕ → Read ArchiveFault (Option (List ℕ))
-looked_at bytes h root id = reached_at bytes h id most_leaves (leading_of id root) >>= content_at bytes h
+looked_at bytes h root id = reached_at bytes h id MOST_LEAVES (leading_of id root) >>= content_at bytes h

@@ -2,8 +2,10 @@
 use Rattle.std.specs.Prelude.{◌≡◌, ◌≢◌, ℕ, zero, suc, ◌+◌, ◌<◌, ◌≤◌, ◌⊎◌, max, List, [], ◌∷◌, ◌++◌, length, take, slice_index, Ok, Err, Option, Some, None, if◌then◌else◌, nat_lt, nat_le}
 use Rattle.reader.specs.Reading.{Read, ◌>>=◌}
 use Rattle.pm_header.specs.declared.header.Header.{Header}
+use Rattle.pm_header.specs.declared.header.TheConstants.{HEADER_BYTES}
 use Rattle.pm_header.specs.Layout.{IsHeader, magic}
 use Rattle.pm_directory.specs.declared.entry.Entry.{Entry}
+use Rattle.pm_directory.specs.declared.entry.TheConstants.{IDS_END}
 use Rattle.pm_directory.specs.declared.fault.DirectoryFault.{DirectoryFault}
 use Rattle.pm_directory.specs.declared.fault.DirectoryFault.TheVariants as directory_faults
 use Rattle.pm_directory.specs.Directory.{IsDirectory, ids_behind}
@@ -12,27 +14,28 @@ use Rattle.pm_archive.specs.declared.fault.ArchiveFault.{ArchiveFault}
 use Rattle.pm_archive.specs.declared.fault.ArchiveFault.TheVariants as faults
 use Rattle.pm_archive.specs.declared.fault.Section.{Section}
 use Rattle.pm_archive.specs.declared.fault.Section.TheVariants as sections
+use Rattle.pm_archive.specs.declared.limits.TheConstants.{OPENING_END, MOST_LEAVES}
 use Rattle.pm_archive.specs.Sections.{end_of, section_bytes, HasSections}
-use Rattle.pm_archive.specs.Entries.{ids_end, most_leaves, entry_bytes, bound_of}
+use Rattle.pm_archive.specs.Entries.{entry_bytes, bound_of}
 
 -- ---- opening
 
 -- the first section that is in the wrong place, of a file of so many bytes
 pub data IsMisplaced (count : ℕ) (h : Header) (s : Section) : Type 0 where
-  root_misplaced : s ≡ sections.Root → (count < end_of h.root) ⊎ (16384 < end_of h.root) → IsMisplaced count h s
-  metadata_misplaced : s ≡ sections.Metadata → end_of h.root ≤ count → end_of h.root ≤ 16384 → count < end_of h.metadata → IsMisplaced count h s
-  leaves_misplaced : s ≡ sections.Leaves → end_of h.root ≤ count → end_of h.root ≤ 16384 → end_of h.metadata ≤ count → count < end_of h.leaves → IsMisplaced count h s
-  tiles_misplaced : s ≡ sections.Tiles → end_of h.root ≤ count → end_of h.root ≤ 16384 → end_of h.metadata ≤ count → end_of h.leaves ≤ count → count < end_of h.tiles → IsMisplaced count h s
+  root_misplaced : s ≡ sections.Root → (count < end_of h.root) ⊎ (OPENING_END < end_of h.root) → IsMisplaced count h s
+  metadata_misplaced : s ≡ sections.Metadata → end_of h.root ≤ count → end_of h.root ≤ OPENING_END → count < end_of h.metadata → IsMisplaced count h s
+  leaves_misplaced : s ≡ sections.Leaves → end_of h.root ≤ count → end_of h.root ≤ OPENING_END → end_of h.metadata ≤ count → count < end_of h.leaves → IsMisplaced count h s
+  tiles_misplaced : s ≡ sections.Tiles → end_of h.root ≤ count → end_of h.root ≤ OPENING_END → end_of h.metadata ≤ count → end_of h.leaves ≤ count → count < end_of h.tiles → IsMisplaced count h s
 
 -- each section is in its place, in a file of so many bytes
 abbrev pub ArePlaced : ℕ → Header → Type 0
-ArePlaced count h = (end_of h.root ≤ count) × (end_of h.root ≤ 16384) × (end_of h.metadata ≤ count) × (end_of h.leaves ≤ count) × (end_of h.tiles ≤ count)
+ArePlaced count h = (end_of h.root ≤ count) × (end_of h.root ≤ OPENING_END) × (end_of h.metadata ≤ count) × (end_of h.leaves ≤ count) × (end_of h.tiles ≤ count)
 
 -- the first fault of bytes that have no sections or no root directory
 pub data OpeningHas (bytes : List ℕ) (d : ArchiveFault) : Type 0 where
-  is_short : d ≡ faults.Short → length bytes < 127 → OpeningHas bytes d
-  other_magic : d ≡ faults.Magic → 127 ≤ length bytes → take 7 bytes ≢ magic → OpeningHas bytes d
-  other_version : d ≡ faults.Version (slice_index bytes 7) → 127 ≤ length bytes → take 7 bytes ≡ magic → slice_index bytes 7 ≢ 3 → OpeningHas bytes d
+  is_short : d ≡ faults.Short → length bytes < HEADER_BYTES → OpeningHas bytes d
+  other_magic : d ≡ faults.Magic → HEADER_BYTES ≤ length bytes → take 7 bytes ≢ magic → OpeningHas bytes d
+  other_version : d ≡ faults.Version (slice_index bytes 7) → HEADER_BYTES ≤ length bytes → take 7 bytes ≡ magic → slice_index bytes 7 ≢ 3 → OpeningHas bytes d
   misplaced : (h : Header) → (s : Section) → d ≡ faults.Section s → IsHeader bytes h → IsMisplaced (length bytes) h s → OpeningHas bytes d
   compressed : (h : Header) → d ≡ faults.Compressed h.internal → IsHeader bytes h → ArePlaced (length bytes) h → 2 ≤ h.internal → OpeningHas bytes d
   no_directory : (h : Header) → d ≡ faults.Directory h.root.offset → HasSections bytes h → ((entries : List Entry) → ¬ IsDirectory (section_bytes h.root bytes) entries) → OpeningHas bytes d
@@ -89,4 +92,4 @@ lists_at bytes h (suc more) e bound = if nat_lt 0 e.run then tile_at h e else (l
 
 -- the tile entries below a root directory of these entries, or the first fault
 abbrev pub list_at : List ℕ → Header → List Entry → Read ArchiveFault (List Entry)
-list_at bytes h root = each_at (lists_at bytes h most_leaves) ids_end root
+list_at bytes h root = each_at (lists_at bytes h MOST_LEAVES) IDS_END root

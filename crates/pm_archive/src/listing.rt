@@ -10,16 +10,12 @@ ghost use Rattle.pm_archive.specs.Answers.{IsOutside};
 ghost use Rattle.pm_archive.specs.Listing.{behind, stray_of};
 
 use crate::fault::ArchiveFault;
+use crate::limits::MOST_LEAVES;
 use crate::reading::{directory_of, lies_in};
 use crate::source::Bytes;
-use pm_directory::Entry;
+use pm_directory::{Entry, IDS_END};
 use pm_header::Header;
 use std::alloc::Global;
-
-/// The ids of all tiles are below this one.
-const IDS_END: u64 = 6_148_914_691_236_517_205;
-/// So many leaf directories may stand one below the other.
-pub(crate) const MOST_LEAVES: u8 = 3;
 
 // An id below which are those to which an entry leads, by the entries behind it.
 fn bound_behind(entries: &[Entry], bound: u64) -> u64

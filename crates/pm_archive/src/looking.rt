@@ -6,17 +6,17 @@ ghost use Rattle.pm_directory.specs.declared.entry.Entry.{Entry};
 ghost use Rattle.pm_directory.specs.Directory.{IsAscending};
 ghost use Rattle.pm_archive.specs.Source.{Keeps};
 ghost use Rattle.pm_archive.specs.Sections.{end_of};
-ghost use Rattle.pm_archive.specs.Entries.{EachLists, LiesIn, Lists, ids_end, most_leaves};
+ghost use Rattle.pm_archive.specs.Entries.{EachLists, LiesIn, Lists};
 ghost use Rattle.pm_archive.specs.Archive.{content_of};
 ghost use Rattle.pm_archive.specs.Reading.{ArePlaced};
 ghost use Rattle.pm_archive.specs.Answers.{IsOutside};
 ghost use Rattle.pm_archive.specs.Looked.{leading_of, leading_at, reached_at, content_at, looked_at};
 
 use crate::fault::ArchiveFault;
-use crate::listing::MOST_LEAVES;
+use crate::limits::MOST_LEAVES;
 use crate::reading::{content_of, directory_of};
 use crate::source::Bytes;
-use pm_directory::{Entry, find};
+use pm_directory::{Entry, IDS_END, find};
 use pm_header::Header;
 use std::alloc::Global;
 
@@ -119,7 +119,7 @@ pub(crate) fn content_below<B: Bytes>(
     requires placed { ArePlaced (B.count source.old) header.now }
     requires ascending { IsAscending root.now }
     ensures source { Keeps B.count B.holds B.fails B.unchanged source.old source.new }
-    ensures content { (bytes : List ℕ) (tiles : List Entry) → B.holds source.new bytes → EachLists (Lists bytes header.now most_leaves) ids_end root.now tiles
+    ensures content { (bytes : List ℕ) (tiles : List Entry) → B.holds source.new bytes → EachLists (Lists bytes header.now MOST_LEAVES) IDS_END root.now tiles
         → MatchResult result (λ content. option_map (λ v. v.items) content ≡ content_of bytes header.now tiles id) IsOutside }
     ensures first { (bytes : List ℕ) → B.holds source.new bytes → GivesUnless IsOutside (option_map (λ v. v.items)) result (looked_at bytes header.now root.now id) }
     ensures read { result ≡ Err ArchiveFault.Read → B.fails source.old }

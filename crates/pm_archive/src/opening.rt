@@ -12,14 +12,12 @@ ghost use Rattle.pm_archive.specs.Reading.{ArePlaced, OpeningHas, IsMisplaced};
 ghost use Rattle.pm_archive.specs.Answers.{IsOutside, UnlessOutside};
 
 use crate::fault::{ArchiveFault, Section};
+use crate::limits::OPENING_END;
 use crate::reading::directory_from;
 use crate::source::Bytes;
 use pm_directory::Entry;
 use pm_header::{HEADER_BYTES, Header, HeaderFault, Part};
 use std::alloc::Global;
-
-/// The header and the root directory end in front of this place.
-const OPENING_END: u64 = 16_384;
 
 // The header with which the bytes begin.
 fn header_in<B: Bytes>(source: &mut B) -> Result<Header, ArchiveFault>

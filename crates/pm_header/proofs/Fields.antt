@@ -1,4 +1,4 @@
--- Fields put one behind the other stand each at its place.
+-- Fields put one behind the other stand each at its offset.
 use Rattle.std.proofs.Common.{◌≡◌, ℕ, ℤ, ◌<◌, ◌^◌, List, ◌++◌, refl, sym, ap, ◌∙◌, append_assoc, lit≤}
 use Rattle.std.specs.Int.{w32, w64, from_le_bytes, cast_signed, cast_unsigned}
 use Rattle.std.proofs.lemmas.Nat.{from_le_bytes-to_le_bytes_8, from_le_bytes-to_le_bytes_4}

@@ -1,5 +1,7 @@
 use Rattle.std.proofs.Common.{Err, option_map}
-use Rattle.pm_archive.specs.Entries.{ids_end, most_leaves, entry_of}
+use Rattle.pm_archive.specs.Entries.{entry_of}
+use Rattle.pm_archive.specs.declared.limits.TheConstants.{MOST_LEAVES}
+use Rattle.pm_directory.specs.declared.entry.TheConstants.{IDS_END}
 use Rattle.pm_archive.specs.Archive.{content_of}
 use Rattle.pm_archive.specs.Looked.{reached_at, content_at}
 use Rattle.reader.proofs.Steps.{gives_found}
@@ -12,14 +14,14 @@ use Rattle.pm_archive.proofs.looking.content_below.Goals as goal
 pub returns-in-Ok-clause-content : goal.returns-in-Ok-clause-content
 returns-in-Ok-clause-content g c bytes tiles holds lists =
     let h = c.args.header.now in
-    let found = content_found bytes h c.args.id most_leaves ids_end c.args.root.now tiles c.leading.result (c.leading.ensures, c.requires.ascending, lists) c.in-Ok.entry (c.in-Ok.ensures.first bytes (c.content_in.ensures.source.no_others bytes holds)) in
+    let found = content_found bytes h c.args.id MOST_LEAVES IDS_END c.args.root.now tiles c.leading.result (c.leading.ensures, c.requires.ascending, lists) c.in-Ok.entry (c.in-Ok.ensures.first bytes (c.content_in.ensures.source.no_others bytes holds)) in
     gives_found IsOutside inside_or_outside (option_map (λ v. v.items)) c.content_in.result (content_at bytes h c.in-Ok.entry) (content_of bytes h tiles c.args.id) found (c.content_in.ensures.first bytes holds)
 
 pub returns-in-Err-clause-content : goal.returns-in-Err-clause-content
 returns-in-Err-clause-content g c bytes tiles holds lists =
     let h = c.args.header.now in
-    let reaches = looked_up bytes h c.args.id most_leaves ids_end c.args.root.now tiles c.leading.result (c.leading.ensures, c.requires.ascending, lists) in
-    gives_found IsOutside inside_or_outside (λ e. e) (Err c.in-Err.fault) (reached_at bytes h c.args.id most_leaves c.leading.result) (entry_of tiles c.args.id) reaches (c.in-Err.ensures.first bytes holds)
+    let reaches = looked_up bytes h c.args.id MOST_LEAVES IDS_END c.args.root.now tiles c.leading.result (c.leading.ensures, c.requires.ascending, lists) in
+    gives_found IsOutside inside_or_outside (λ e. e) (Err c.in-Err.fault) (reached_at bytes h c.args.id MOST_LEAVES c.leading.result) (entry_of tiles c.args.id) reaches (c.in-Err.ensures.first bytes holds)
 
 pub returns-in-Ok-clause-first : goal.returns-in-Ok-clause-first
 returns-in-Ok-clause-first g c bytes holds =
