@@ -64,10 +64,7 @@ fn check_tile<B: Bytes>(
     ensures fault { (bytes : List ℕ) → B.holds source.new bytes → LiesIn header.now.tiles entry → IfErr result (UnlessOutside (IsTileFault bytes header.now entry)) }
     ensures read { result ≡ Err ArchiveFault.Read → B.fails source.old }
 {
-    let content = match content_of(alloc, source, header, entry) {
-        Ok(content) => content,
-        Err(fault) => return Err(fault),
-    };
+    let content = content_of(alloc, source, header, entry)?;
     match is_tile(alloc, &content) {
         Ok(is) => check_is_tile(is, entry.id),
         Err(_) => Err(ArchiveFault::Memory),

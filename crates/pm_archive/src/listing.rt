@@ -77,14 +77,9 @@ fn leaf_of<B: Bytes>(
     ensures ascending { IfOk result (λ v. IsAscending v.items) }
     ensures read { result ≡ Err ArchiveFault.Read → B.fails source.old }
 {
-    let entries = match directory_of(alloc, source, header, entry) {
-        Ok(entries) => entries,
-        Err(fault) => return Err(fault),
-    };
-    match check_between(&entries, entry.id, bound) {
-        Ok(()) => Ok(entries),
-        Err(fault) => Err(fault),
-    }
+    let entries = directory_of(alloc, source, header, entry)?;
+    check_between(&entries, entry.id, bound)?;
+    Ok(entries)
 }
 
 // Adds a tile entry.
@@ -171,7 +166,7 @@ pub(crate) fn entries_below<B: Bytes>(
     ensures read { result ≡ Err ArchiveFault.Read → B.fails source.old }
 {
     let mut tiles = Vec::new(alloc);
-    match push_each(
+    push_each(
         alloc,
         source,
         header,
@@ -179,8 +174,6 @@ pub(crate) fn entries_below<B: Bytes>(
         IDS_END,
         MOST_LEAVES,
         &mut tiles,
-    ) {
-        Ok(()) => Ok(tiles),
-        Err(fault) => Err(fault),
-    }
+    )?;
+    Ok(tiles)
 }

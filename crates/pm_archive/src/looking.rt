@@ -45,10 +45,8 @@ fn leading_in<B: Bytes>(
     ensures memory { result ≡ Err ArchiveFault.Memory → LiesIn header.now.leaves leaf }
     ensures inside { OnOk result (LiesIn header.now.leaves leaf) }
 {
-    match directory_of(alloc, source, header, leaf) {
-        Ok(entries) => Ok(leading(&entries, id)),
-        Err(fault) => Err(fault),
-    }
+    let entries = directory_of(alloc, source, header, leaf)?;
+    Ok(leading(&entries, id))
 }
 
 // The tile entry that an entry is, or to which its leaf directory leads, below which so many more may stand.
@@ -102,10 +100,8 @@ fn content_in<B: Bytes>(
         Some(entry) => entry,
         None => return Ok(None),
     };
-    match content_of(alloc, source, header, entry) {
-        Ok(content) => Ok(Some(content)),
-        Err(fault) => Err(fault),
-    }
+    let content = content_of(alloc, source, header, entry)?;
+    Ok(Some(content))
 }
 
 // The content of an id, by the directories on the way to its entry.
