@@ -93,10 +93,7 @@ fn check_once<B: Bytes>(
     if places.contains(&place) {
         return Ok(());
     }
-    match check_tile(alloc, source, header, entry) {
-        Ok(()) => {}
-        Err(fault) => return Err(fault),
-    }
+    check_tile(alloc, source, header, entry)?;
     match places.insert(place) {
         Ok(_) => Ok(()),
         Err(_) => Err(ArchiveFault::Memory),
@@ -120,10 +117,7 @@ pub(crate) fn check_tiles<B: Bytes>(
 {
     let mut places = BTreeSet::new(alloc);
     for entry in tiles {
-        match check_once(alloc, source, header, &mut places, *entry) {
-            Ok(()) => {}
-            Err(fault) => return Err(fault),
-        }
+        check_once(alloc, source, header, &mut places, *entry)?;
     }
     Ok(())
 }

@@ -121,10 +121,8 @@ fn push_listed<B: Bytes>(
     if more == 0 {
         return Err(ArchiveFault::Depth);
     }
-    match leaf_of(alloc, source, header, entry, bound) {
-        Ok(entries) => push_each(alloc, source, header, &entries, bound, more - 1, tiles),
-        Err(fault) => Err(fault),
-    }
+    let entries = leaf_of(alloc, source, header, entry, bound)?;
+    push_each(alloc, source, header, &entries, bound, more - 1, tiles)
 }
 
 // Adds what the entries list, one after the other.
@@ -145,10 +143,7 @@ fn push_each<B: Bytes>(
 {
     for (i, entry) in entries.iter().enumerate() {
         let bound = bound_behind(&entries[i + 1..], bound);
-        match push_listed(alloc, source, header, *entry, bound, more, tiles) {
-            Ok(()) => {}
-            Err(fault) => return Err(fault),
-        }
+        push_listed(alloc, source, header, *entry, bound, more, tiles)?;
     }
     Ok(())
 }

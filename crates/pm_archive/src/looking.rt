@@ -76,10 +76,8 @@ fn tile_entry<B: Bytes>(
     if more == 0 {
         return Err(ArchiveFault::Depth);
     }
-    match leading_in(alloc, source, header, leaf, id) {
-        Ok(below) => tile_entry(alloc, source, header, below, id, more - 1),
-        Err(fault) => Err(fault),
-    }
+    let below = leading_in(alloc, source, header, leaf, id)?;
+    tile_entry(alloc, source, header, below, id, more - 1)
 }
 
 // The content of a tile entry, if there is one.
@@ -121,8 +119,6 @@ pub(crate) fn content_below<B: Bytes>(
     ensures read { result ≡ Err ArchiveFault.Read → B.fails source.old }
     ensures memory { result ≡ Err ArchiveFault.Memory → IsSome (leading_of id root.now) }
 {
-    match tile_entry(alloc, source, header, leading(root, id), id, MOST_LEAVES) {
-        Ok(entry) => content_in(alloc, source, header, entry),
-        Err(fault) => Err(fault),
-    }
+    let entry = tile_entry(alloc, source, header, leading(root, id), id, MOST_LEAVES)?;
+    content_in(alloc, source, header, entry)
 }

@@ -88,18 +88,13 @@ pub(crate) fn header_and_root<B: Bytes>(
     ensures read { result ≡ Err ArchiveFault.Read → B.fails source.old }
     ensures memory { (bytes : List ℕ) → B.holds source.new bytes → result ≡ Err ArchiveFault.Memory → (h : Header) × HasSections bytes h }
 {
-    let header = match header_in(source) {
-        Ok(header) => header,
-        Err(fault) => return Err(fault),
-    };
+    let header = header_in(source)?;
     if let Some(section) = misplaced(&header, source.len()) {
         return Err(ArchiveFault::Section(section));
     }
     if !is_plain(&header) {
         return Err(ArchiveFault::Compressed(header.internal));
     }
-    match directory_from(alloc, source, header.root.offset, header.root.length) {
-        Ok(root) => Ok((header, root)),
-        Err(fault) => Err(fault),
-    }
+    let root = directory_from(alloc, source, header.root.offset, header.root.length)?;
+    Ok((header, root))
 }

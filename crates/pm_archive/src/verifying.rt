@@ -117,21 +117,10 @@ pub(crate) fn verdict_below<B: Bytes>(
     ensures fault { (bytes : List ℕ) → B.holds source.new bytes → IfErr result (UnlessOutside (VerifyingHas bytes header.now root.now)) }
     ensures read { result ≡ Err ArchiveFault.Read → B.fails source.old }
 {
-    match check_metadata(alloc, source, header) {
-        Ok(()) => {}
-        Err(fault) => return Err(fault),
-    }
-    let listed = match entries_below(alloc, source, header, root) {
-        Ok(listed) => listed,
-        Err(fault) => return Err(fault),
-    };
+    check_metadata(alloc, source, header)?;
+    let listed = entries_below(alloc, source, header, root)?;
     let tiles = listed.as_slice();
-    let report = match report_on(alloc, header, tiles) {
-        Ok(report) => report,
-        Err(fault) => return Err(fault),
-    };
-    match check_vector_tiles(alloc, source, header, tiles) {
-        Ok(()) => Ok(report),
-        Err(fault) => Err(fault),
-    }
+    let report = report_on(alloc, header, tiles)?;
+    check_vector_tiles(alloc, source, header, tiles)?;
+    Ok(report)
 }

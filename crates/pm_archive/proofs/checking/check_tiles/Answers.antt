@@ -10,11 +10,11 @@ loop-entry-preserved g c =
     let was = c.loop-entry.invariant in
     let es = c.args.tiles.now in
     let i = c.loop-entry.entry-index in
-    let t = c.in-Ok.ensures.tile in
-    let before = c.in-Ok.ensures.source.no_others in
+    let t = c.in_ok-check_once.ensures.tile in
+    let before = c.in_ok-check_once.ensures.source.no_others in
     record {
       keeps = search rules;
-      places = λ bytes holds lies. c.in-Ok.ensures.places bytes holds (at_place (LiesIn h.tiles) es i _ c.loop-entry-test.true lies) (was.places bytes (before bytes holds) lies);
+      places = λ bytes holds lies. c.in_ok-check_once.ensures.places bytes holds (at_place (LiesIn h.tiles) es i _ c.loop-entry-test.true lies) (was.places bytes (before bytes holds) lies);
       each = λ bytes holds lies rest. was.each bytes (before bytes holds) lies (each_from (HasTile bytes h) es i _ c.loop-entry-test.true
           (t bytes holds (at_place (LiesIn h.tiles) es i _ c.loop-entry-test.true lies) (was.places bytes (before bytes holds) lies)) rest);
       first = λ bytes holds lies d rest. was.first bytes (before bytes holds) lies d (first_from bytes h es i _ d c.loop-entry-test.true
