@@ -26,16 +26,19 @@ use Rattle.pm_archive.proofs.OpenedLaws.{one_header}
 -- ---- listing
 
 -- the tile entries of an archive with this root directory are those that are read
-listed : (bytes : List ℕ) (h : Header) (root tiles : List Entry) → IsDirectory (section_bytes h.root bytes) root → HasEntries bytes h tiles → list_at bytes h root ≡ Ok tiles
+listed : (bytes : List ℕ) (h : Header) (root tiles : List Entry) → IsDirectory (section_bytes h.root bytes) root → HasEntries bytes h tiles
+    → list_at bytes h root ≡ Ok tiles
 listed bytes h root tiles dir has =
     ap (list_at bytes h) (directory_law (section_bytes h.root bytes) root has.0 dir has.1) ∙ list_only bytes h has.0 tiles has.2
 
-pub has_each : (bytes : List ℕ) (h : Header) (root tiles : List Entry) → IsDirectory (section_bytes h.root bytes) root → HasEntries bytes h tiles → EachLists (Lists bytes h MOST_LEAVES) IDS_END root tiles
+pub has_each : (bytes : List ℕ) (h : Header) (root tiles : List Entry) → IsDirectory (section_bytes h.root bytes) root → HasEntries bytes h tiles
+    → EachLists (Lists bytes h MOST_LEAVES) IDS_END root tiles
 has_each bytes h root tiles dir has =
     subst (λ (es : List Entry). EachLists (Lists bytes h MOST_LEAVES) IDS_END es tiles) (directory_law (section_bytes h.root bytes) has.0 root has.1 dir) has.2
 
 module _ {X : Type 0} (view : X → List Entry) (bytes : List ℕ) (h : Header) (items root : List Entry) (same : items ≡ root) where
-  pub listed_found : (r : Result X ArchiveFault) → IsDirectory (section_bytes h.root bytes) root → GivesUnless IsOutside view r (list_at bytes h items) → IfOk r (λ x. HasEntries bytes h (view x))
+  pub listed_found : (r : Result X ArchiveFault) → IsDirectory (section_bytes h.root bytes) root → GivesUnless IsOutside view r (list_at bytes h items)
+      → IfOk r (λ x. HasEntries bytes h (view x))
   listed_found (Ok x) dir e = (root, dir, list_ok bytes h root (view x) (ap (list_at bytes h) (sym same) ∙ e))
   listed_found (Err d) dir e = tt
 
@@ -46,7 +49,8 @@ module _ {X : Type 0} (view : X → List Entry) (bytes : List ℕ) (h : Header) 
 
 -- ---- verifying
 
-sound : (bytes : List ℕ) (h : Header) (root : List Entry) (report : Report) → HasSections bytes h → IsDirectory (section_bytes h.root bytes) root → IsVerified bytes h root report → IsSound bytes report
+sound : (bytes : List ℕ) (h : Header) (root : List Entry) (report : Report) → HasSections bytes h → IsDirectory (section_bytes h.root bytes) root
+    → IsVerified bytes h root report → IsSound bytes report
 sound bytes h root report has dir v = record {
   header = h;
   tiles = v.tiles;
@@ -55,7 +59,8 @@ sound bytes h root report has dir v = record {
   told = v.told;
 }
 
-pub verified : (bytes : List ℕ) (h : Header) (root : List Entry) (report : Report) → HasSections bytes h → IsDirectory (section_bytes h.root bytes) root → IsSound bytes report → IsVerified bytes h root report
+pub verified : (bytes : List ℕ) (h : Header) (root : List Entry) (report : Report) → HasSections bytes h → IsDirectory (section_bytes h.root bytes) root
+    → IsSound bytes report → IsVerified bytes h root report
 verified bytes h root report has dir s =
     let same = one_header bytes h s.header has.header s.archive.sections.header in
     let there = subst (λ (g : Header). IsDirectory (section_bytes g.root bytes) root) same dir in
@@ -84,22 +89,27 @@ at_middle : (P : Entry → Type 0) (front : List Entry) (x : Entry) (rest : List
 at_middle P [] x rest all = all.0
 at_middle P (y ∷ front) x rest all = at_middle P front x rest all.1
 
-passes : (bytes : List ℕ) (h : Header) (root : List Entry) (report : Report) (d : ArchiveFault) → IsVerified bytes h root report → VerifyingHas bytes h root d → ⊥
+passes : (bytes : List ℕ) (h : Header) (root : List Entry) (report : Report) (d : ArchiveFault) → IsVerified bytes h root report → VerifyingHas bytes h root d
+    → ⊥
 passes bytes h root report d v (VerifyingHas.bad_metadata e other) = other v.metadata
 passes bytes h root report d v (VerifyingHas.bad_entries m e) = not_both v.tiles d (sym v.listed ∙ e)
 passes bytes h root report d v (VerifyingHas.bad_count c tiles e m l other) =
     counts_agree h tiles c (subst (HasCounts h) (same_tiles bytes h root v.tiles tiles v.listed l) v.counts) other
 passes bytes h root report d v (VerifyingHas.bad_tile front x rest e m l counts vector all other) =
-    other (at_middle (HasTile bytes h) front x rest (subst (AllByRecursion (HasTile bytes h)) (same_tiles bytes h root v.tiles (front ++ x ∷ rest) v.listed l) (v.each vector)))
+    other (at_middle (HasTile bytes h) front x rest (subst (AllByRecursion (HasTile bytes h)) (same_tiles bytes h root v.tiles (front ++ x ∷ rest) v.listed l)
+    (v.each vector)))
 
 module _ (bytes : List ℕ) (h : Header) (items root : List Entry) (same : items ≡ root) where
-  pub verified_found : (r : Result Report ArchiveFault) → HasSections bytes h → IsDirectory (section_bytes h.root bytes) root → IfOk r (IsVerified bytes h items) → IfOk r (IsSound bytes)
+  pub verified_found : (r : Result Report ArchiveFault) → HasSections bytes h → IsDirectory (section_bytes h.root bytes) root
+      → IfOk r (IsVerified bytes h items) → IfOk r (IsSound bytes)
   verified_found (Ok report) has dir v = sound bytes h root report has dir (subst (λ (es : List Entry). IsVerified bytes h es report) same v)
   verified_found (Err d) has dir v = tt
 
-  pub verified_only : (r : Result Report ArchiveFault) → HasSections bytes h → IsDirectory (section_bytes h.root bytes) root → IfOk r (IsVerified bytes h items) → IfErr r (UnlessOutside (VerifyingHas bytes h items))
+  pub verified_only : (r : Result Report ArchiveFault) → HasSections bytes h → IsDirectory (section_bytes h.root bytes) root
+      → IfOk r (IsVerified bytes h items) → IfErr r (UnlessOutside (VerifyingHas bytes h items))
       → (report : Report) → IsSound bytes report → MatchResult r (λ told. told ≡ report) IsOutside
   verified_only (Ok told) has dir v fault report s =
       one_report bytes h items told report v (subst (λ (es : List Entry). IsVerified bytes h es report) (sym same) (verified bytes h root report has dir s))
   verified_only (Err d) has dir v fault report s =
-      is_outside (VerifyingHas bytes h items) d fault (passes bytes h items report d (subst (λ (es : List Entry). IsVerified bytes h es report) (sym same) (verified bytes h root report has dir s)))
+      is_outside (VerifyingHas bytes h items) d fault (passes bytes h items report d
+      (subst (λ (es : List Entry). IsVerified bytes h es report) (sym same) (verified bytes h root report has dir s)))

@@ -1,5 +1,6 @@
 -- What is read of the directories is what they list, and nothing else.
-use Rattle.std.proofs.Common.{◌≡◌, ℕ, zero, suc, ◌+◌, ◌<◌, max, Bool, cond, ltb, leb, List, [], ◌∷◌, ◌++◌, Option, Some, None, Ok, Err, inl, inr, refl, sym, ap, ◌∙◌, arith}
+use Rattle.std.proofs.Common.{◌≡◌, ℕ, zero, suc, ◌+◌, ◌<◌, max, Bool, cond, ltb, leb, List, [], ◌∷◌, ◌++◌, Option, Some, None, Ok, Err, inl, inr, refl, sym, ap}
+use Rattle.std.proofs.Common.{◌∙◌, arith}
 use Rattle.std.proofs.lemmas.Bool.{ltb-true, ltb-false, leb-true, le-ltb, le-leb, lt-ltb}
 use Rattle.pm_header.specs.declared.header.Header.{Header}
 use Rattle.pm_directory.specs.declared.entry.Entry.{Entry}
@@ -45,7 +46,8 @@ leaf_ok bytes h x bound es leaf e =
     let offset = h.leaves.offset + x.offset in
     let b = then_ok (directory_of_entry bytes h x) (λ (fs : List Entry). unless_stray fs (stray_id x.id bound fs)) es e in
     let k = kept_ok b.0 es (stray_id x.id bound b.0) b.2 in
-    let p = pass_ok (leb (x.offset + x.length) h.leaves.length) (faults.Place x.id) (directory_or_fault offset (directory_at (entry_bytes h.leaves x bytes))) b.0 b.1 in
+    let p = pass_ok (leb (x.offset + x.length) h.leaves.length) (faults.Place x.id)
+    (directory_or_fault offset (directory_at (entry_bytes h.leaves x bytes))) b.0 b.1 in
     let is : IsLeaf bytes h x bound b.0 = record {
       leaf = leaf;
       inside = leb-true (x.offset + x.length) h.leaves.length p.0;
@@ -59,7 +61,8 @@ unfolding leaf_at directory_of_entry
 leaf_only bytes h x bound es is =
     let offset = h.leaves.offset + x.offset in
     let kept = λ (fs : List Entry). unless_stray fs (stray_id x.id bound fs) in
-    ap (λ (b : Bool). cond b (directory_or_fault offset (directory_at (entry_bytes h.leaves x bytes))) (Err (faults.Place x.id)) >>= kept) (le-leb (x.offset + x.length) h.leaves.length is.inside)
+    ap (λ (b : Bool). cond b (directory_or_fault offset (directory_at (entry_bytes h.leaves x bytes))) (Err (faults.Place x.id)) >>= kept)
+    (le-leb (x.offset + x.length) h.leaves.length is.inside)
     ∙ ap (λ (r : Read DirectoryFault (List Entry)). directory_or_fault offset r >>= kept) (directory_only (entry_bytes h.leaves x bytes) es is.directory)
     ∙ ap (unless_stray es) (all_between x.id bound es is.between)
 
@@ -79,14 +82,16 @@ tile_only h x ts is =
 -- ---- entries one after the other
 
 module _ (lists : Entry → ℕ → Read ArchiveFault (List Entry)) (Leads : Entry → ℕ → List Entry → Type 0) where
-  pub each_ok : ((x : Entry) (bound : ℕ) (ts : List Entry) → lists x bound ≡ Ok ts → Leads x bound ts) → (bound : ℕ) (es ts : List Entry) → each_at lists bound es ≡ Ok ts → EachLists Leads bound es ts
+  pub each_ok : ((x : Entry) (bound : ℕ) (ts : List Entry) → lists x bound ≡ Ok ts → Leads x bound ts) → (bound : ℕ) (es ts : List Entry)
+      → each_at lists bound es ≡ Ok ts → EachLists Leads bound es ts
   each_ok one bound [] ts e = sym (same_value [] ts e)
   each_ok one bound (x ∷ es) ts e =
       let f = then_ok (lists x (bound_of bound es)) (λ (front : List Entry). each_at lists bound es >>= λ rest. Ok (front ++ rest)) ts e in
       let r = then_ok (each_at lists bound es) (λ (rest : List Entry). done (f.0 ++ rest)) ts f.2 in
       (f.0, r.0, sym (same_value (f.0 ++ r.0) ts r.2), one x (bound_of bound es) f.0 f.1, each_ok one bound es r.0 r.1)
 
-  pub each_only : ((x : Entry) (bound : ℕ) (ts : List Entry) → Leads x bound ts → lists x bound ≡ Ok ts) → (bound : ℕ) (es ts : List Entry) → EachLists Leads bound es ts → each_at lists bound es ≡ Ok ts
+  pub each_only : ((x : Entry) (bound : ℕ) (ts : List Entry) → Leads x bound ts → lists x bound ≡ Ok ts) → (bound : ℕ) (es ts : List Entry)
+      → EachLists Leads bound es ts → each_at lists bound es ≡ Ok ts
   each_only one bound [] ts h = ap done (sym h)
   each_only one bound (x ∷ es) ts h =
       ap (λ (r : Read ArchiveFault (List Entry)). r >>= λ front. each_at lists bound es >>= λ rest. done (front ++ rest)) (one x (bound_of bound es) h.0 h.3)
@@ -95,7 +100,8 @@ module _ (lists : Entry → ℕ → Read ArchiveFault (List Entry)) (Leads : Ent
 
 -- ---- entries of all depths
 
-pub lists_ok : (bytes : List ℕ) (h : Header) (more : ℕ) (x : Entry) (bound : ℕ) (ts : List Entry) → lists_at bytes h more x bound ≡ Ok ts → Lists bytes h more x bound ts
+pub lists_ok : (bytes : List ℕ) (h : Header) (more : ℕ) (x : Entry) (bound : ℕ) (ts : List Entry) → lists_at bytes h more x bound ≡ Ok ts
+    → Lists bytes h more x bound ts
 lists_ok bytes h zero x bound ts e =
     let p = pass_ok (ltb 0 x.run) faults.Depth (tile_at h x) ts e in tile_ok h x ts (ltb-true 0 x.run p.0) p.1
 lists_ok bytes h (suc more) x bound ts e =
@@ -107,7 +113,8 @@ lists_ok bytes h (suc more) x bound ts e =
           inr (b.0, leaf_ok bytes h x bound b.0 none b.1, each_ok (lists_at bytes h more) (Lists bytes h more) (lists_ok bytes h more) bound b.0 ts b.2)
     ]
 
-pub lists_only : (bytes : List ℕ) (h : Header) (more : ℕ) (x : Entry) (bound : ℕ) (ts : List Entry) → Lists bytes h more x bound ts → lists_at bytes h more x bound ≡ Ok ts
+pub lists_only : (bytes : List ℕ) (h : Header) (more : ℕ) (x : Entry) (bound : ℕ) (ts : List Entry) → Lists bytes h more x bound ts
+    → lists_at bytes h more x bound ≡ Ok ts
 lists_only bytes h zero x bound ts is =
     ap (λ (b : Bool). cond b (tile_at h x) (Err faults.Depth)) (lt-ltb 0 x.run is.tile) ∙ tile_only h x ts is
 lists_only bytes h (suc more) x bound ts is =

@@ -1,5 +1,6 @@
 -- Listing, one entry after the other.
-use Rattle.std.proofs.Common.{◌≡◌, ◌≢◌, ℕ, zero, suc, ◌+◌, ◌-◌, ◌<◌, ◌≤◌, List, ◌++◌, Ok, Err, length, take, drop, get_or, nat_lt, true, refl, ◌∙◌, append_assoc, arith}
+use Rattle.std.proofs.Common.{◌≡◌, ◌≢◌, ℕ, zero, suc, ◌+◌, ◌-◌, ◌<◌, ◌≤◌, List, ◌++◌, Ok, Err, length, take, drop, get_or, nat_lt, true, refl, ◌∙◌}
+use Rattle.std.proofs.Common.{append_assoc, arith}
 use Rattle.std.proofs.lemmas.Bool.{lt-ltb}
 use Rattle.std.proofs.lemmas.List.{take_all, length-drop, drop_more}
 use Rattle.pm_directory.specs.declared.entry.Entry.{Entry}
@@ -30,29 +31,37 @@ behind_fault before d (Err e) rest listed = listed
 -- ---- the entries in order
 
 -- the bound of the entry at an index
-bound_at : (bound : ℕ) (entries : List Entry) (i : ℕ) (b : ℕ) → b ≡ bound_of bound (take (length entries - i) (drop i entries)) → b ≡ bound_of bound (drop i entries)
-bound_at bound entries i b is = let whole : take (length entries - i) (drop i entries) ≡ drop i entries = take_all (length entries - i) (drop i entries) (omega (arith, length-drop i entries)) in rw (← whole) is
+bound_at : (bound : ℕ) (entries : List Entry) (i : ℕ) (b : ℕ) → b ≡ bound_of bound (take (length entries - i) (drop i entries))
+    → b ≡ bound_of bound (drop i entries)
+bound_at bound entries i b is = let whole : take (length entries - i) (drop i entries) ≡ drop i entries =
+    take_all (length entries - i) (drop i entries) (omega (arith, length-drop i entries)) in rw (← whole) is
 
 module _ (lists : Entry → ℕ → Read ArchiveFault (List Entry)) (bound : ℕ) (entries : List Entry) (i : ℕ) (d : Entry) (before : List Entry) (b : ℕ) where
   -- the entry at an index is listed
-  pub each_on : (after : List Entry) → i < length entries → b ≡ bound_of bound (take (length entries - (i + 1)) (drop (i + 1) entries)) → behind before (lists (get_or entries i d) b) ≡ Ok after
+  pub each_on : (after : List Entry) → i < length entries → b ≡ bound_of bound (take (length entries - (i + 1)) (drop (i + 1) entries))
+      → behind before (lists (get_or entries i d) b) ≡ Ok after
       → behind before (each_at lists bound (drop i entries)) ≡ behind after (each_at lists bound (drop (i + 1) entries))
   each_on after lt is listed =
       let e = bound_at bound entries (i + 1) b is in
       let f = drop_more entries i d lt in
-      rw f (behind_on before after (lists (get_or entries i d) (bound_of bound (drop (i + 1) entries))) (each_at lists bound (drop (i + 1) entries)) (rw (← e) listed))
+      rw f (behind_on before after (lists (get_or entries i d) (bound_of bound (drop (i + 1) entries))) (each_at lists bound (drop (i + 1) entries))
+      (rw (← e) listed))
 
-  fault_at : i < length entries → b ≡ bound_of bound (take (length entries - (i + 1)) (drop (i + 1) entries)) → (fault : ArchiveFault) → behind before (lists (get_or entries i d) b) ≡ Err fault
+  fault_at : i < length entries → b ≡ bound_of bound (take (length entries - (i + 1)) (drop (i + 1) entries)) → (fault : ArchiveFault)
+      → behind before (lists (get_or entries i d) b) ≡ Err fault
       → behind before (each_at lists bound (drop i entries)) ≡ Err fault
   fault_at lt is fault listed =
       let e = bound_at bound entries (i + 1) b is in
       let f = drop_more entries i d lt in
-      rw f (behind_fault before fault (lists (get_or entries i d) (bound_of bound (drop (i + 1) entries))) (each_at lists bound (drop (i + 1) entries)) (rw (← e) listed))
+      rw f (behind_fault before fault (lists (get_or entries i d) (bound_of bound (drop (i + 1) entries))) (each_at lists bound (drop (i + 1) entries))
+      (rw (← e) listed))
 
   -- the entry at an index has the first fault
-  pub each_fault : (whole : Read ArchiveFault (List Entry)) (fault : ArchiveFault) → i < length entries → b ≡ bound_of bound (take (length entries - (i + 1)) (drop (i + 1) entries)) → whole ≡ behind before (each_at lists bound (drop i entries))
+  pub each_fault : (whole : Read ArchiveFault (List Entry)) (fault : ArchiveFault) → i < length entries
+      → b ≡ bound_of bound (take (length entries - (i + 1)) (drop (i + 1) entries)) → whole ≡ behind before (each_at lists bound (drop i entries))
       → UnlessOutside (λ e. behind before (lists (get_or entries i d) b) ≡ Err e) fault → UnlessOutside (λ e. whole ≡ Err e) fault
-  each_fault whole fault lt is so_far listed = unless_on IsOutside fault (behind before (lists (get_or entries i d) b)) whole (λ e h. so_far ∙ fault_at lt is e h) listed
+  each_fault whole fault lt is so_far listed = unless_on IsOutside fault (behind before (lists (get_or entries i d) b)) whole
+      (λ e h. so_far ∙ fault_at lt is e h) listed
 
 -- ---- one entry
 

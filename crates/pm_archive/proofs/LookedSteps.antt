@@ -30,7 +30,8 @@ module _ (bytes : List ℕ) (h : Header) (id : ℕ) (root : List Entry) (start :
 
   -- what is answered for the tile entry to which the way leads
   pub looked_on : {X : Type 0} (view : X → Option (List ℕ)) (r : Result X ArchiveFault) (found : Option Entry)
-      → reached_at bytes h id MOST_LEAVES start ≡ Ok found → GivesUnless IsOutside view r (content_at bytes h found) → GivesUnless IsOutside view r (looked_at bytes h root id)
+      → reached_at bytes h id MOST_LEAVES start ≡ Ok found → GivesUnless IsOutside view r (content_at bytes h found)
+      → GivesUnless IsOutside view r (looked_at bytes h root id)
   looked_on {X} view r found is a =
       let same : looked_at bytes h root id ≡ content_at bytes h found =
       looked_from ∙ then_on (reached_at bytes h id MOST_LEAVES start) (content_at bytes h) found is in

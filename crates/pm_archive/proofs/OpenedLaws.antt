@@ -1,5 +1,6 @@
 -- What archives begin with: their header and their root directory are what their bytes say, and no fault stands beside them.
-use Rattle.std.proofs.Common.{rules, refl, ◌≡◌, ◌≢◌, true, OnOk, ℕ, ◌+◌, ◌-◌, ◌<◌, ◌≤◌, List, length, take, drop, slice_range, slice_index, Result, Ok, Err, inl, inr, sym, ap, subst, ◌∙◌, arith, lit≤, lit<}
+use Rattle.std.proofs.Common.{rules, refl, ◌≡◌, ◌≢◌, true, OnOk, ℕ, ◌+◌, ◌-◌, ◌<◌, ◌≤◌, List, length, take, drop, slice_range, slice_index, Result, Ok, Err}
+use Rattle.std.proofs.Common.{inl, inr, sym, ap, subst, ◌∙◌, arith, lit≤, lit<}
 use Rattle.std.specs.Int.{w32, w64, from_le_bytes, cast_signed}
 use Rattle.std.specs.Result.{is_ok}
 use Rattle.std.proofs.lemmas.List.{get_or-take, take-take, drop-take}
@@ -38,7 +39,8 @@ number_of_front : (bytes : List ℕ) (offset : ℕ) → offset + 8 ≤ HEADER_BY
 number_of_front bytes offset inside = ap (from_le_bytes w64) (range_of_front bytes HEADER_BYTES offset (offset + 8) (omega arith) inside)
 
 position_of_front : (bytes : List ℕ) (offset : ℕ) → offset + 4 ≤ HEADER_BYTES → position_at offset (take HEADER_BYTES bytes) ≡ position_at offset bytes
-position_of_front bytes offset inside = ap (λ (ns : List ℕ). cast_signed w32 (from_le_bytes w32 ns)) (range_of_front bytes HEADER_BYTES offset (offset + 4) (omega arith) inside)
+position_of_front bytes offset inside = ap (λ (ns : List ℕ). cast_signed w32 (from_le_bytes w32 ns))
+    (range_of_front bytes HEADER_BYTES offset (offset + 4) (omega arith) inside)
 
 part_of_front : (bytes : List ℕ) (offset : ℕ) → offset + 16 ≤ HEADER_BYTES → part_at offset (take HEADER_BYTES bytes) ≡ part_at offset bytes
 part_of_front bytes offset inside =
@@ -86,14 +88,17 @@ whole_header bytes h long is = record {
 }
 
 -- what a read gave is the first bytes
-pub front_read : {X E : Type 0} (r : Result X E) (into bytes : List ℕ) → is_ok r ≡ true → OnOk r (into ≡ slice_range bytes 0 HEADER_BYTES) → into ≡ take HEADER_BYTES bytes
+pub front_read : {X E : Type 0} (r : Result X E) (into bytes : List ℕ) → is_ok r ≡ true → OnOk r (into ≡ slice_range bytes 0 HEADER_BYTES)
+    → into ≡ take HEADER_BYTES bytes
 front_read (Ok x) into bytes e gives = gives
 front_read (Err d) into bytes e gives = absurd (cc)
 
-pub version_of_front : (bytes into : List ℕ) (n : ℕ) → HEADER_BYTES ≤ length bytes → into ≡ take HEADER_BYTES bytes → take 7 into ≡ magic → slice_index into 7 ≡ n → n ≢ 3 → OpeningHas bytes (faults.Version n)
+pub version_of_front : (bytes into : List ℕ) (n : ℕ) → HEADER_BYTES ≤ length bytes → into ≡ take HEADER_BYTES bytes → take 7 into ≡ magic
+    → slice_index into 7 ≡ n → n ≢ 3 → OpeningHas bytes (faults.Version n)
 version_of_front bytes into n long front is at other =
     let byte : slice_index bytes 7 ≡ n = sym (byte_of_front bytes 7 (lit< tt)) ∙ ap (λ (bs : List ℕ). slice_index bs 7) (sym front) ∙ at in
-    OpeningHas.other_version (ap (λ (v : ℕ). faults.Version v) (sym byte)) long (sym (magic_of_front bytes) ∙ ap (take 7) (sym front) ∙ is) (λ (e : slice_index bytes 7 ≡ 3). other (sym byte ∙ e))
+    OpeningHas.other_version (ap (λ (v : ℕ). faults.Version v) (sym byte)) long (sym (magic_of_front bytes) ∙ ap (take 7) (sym front) ∙ is)
+    (λ (e : slice_index bytes 7 ≡ 3). other (sym byte ∙ e))
 
 -- ---- what there is once
 
@@ -101,7 +106,8 @@ pub one_header : (bytes : List ℕ) (h g : Header) → IsHeader bytes h → IsHe
 one_header bytes h g a b = a.fields_are ∙ sym b.fields_are
 
 not_misplaced : (count : ℕ) (h : Header) (s : Section) → ArePlaced count h → IsMisplaced count h s → ⊥
-not_misplaced count h s placed (IsMisplaced.root_misplaced e past) = elim past [ inl p ↦ absurd (omega (arith, placed.0, p)) | inr p ↦ absurd (omega (arith, placed.1, p)) ]
+not_misplaced count h s placed (IsMisplaced.root_misplaced e past) =
+    elim past [ inl p ↦ absurd (omega (arith, placed.0, p)) | inr p ↦ absurd (omega (arith, placed.1, p)) ]
 not_misplaced count h s placed (IsMisplaced.metadata_misplaced e r t past) = absurd (omega (arith, placed.2))
 not_misplaced count h s placed (IsMisplaced.leaves_misplaced e r t m past) = absurd (omega (arith, placed.3))
 not_misplaced count h s placed (IsMisplaced.tiles_misplaced e r t m l past) = absurd (omega (arith, placed.4))
@@ -133,24 +139,29 @@ module _ (bytes : List ℕ) (h : Header) (count : ℕ) (all : count ≡ length b
 
 -- ---- the root directory
 
-pub root_read : (bytes : List ℕ) (h : Header) (root : List Entry) → directory_or_fault h.root.offset (directory_at (section_bytes h.root bytes)) ≡ Ok root → IsDirectory (section_bytes h.root bytes) root
+pub root_read : (bytes : List ℕ) (h : Header) (root : List Entry) → directory_or_fault h.root.offset (directory_at (section_bytes h.root bytes)) ≡ Ok root
+    → IsDirectory (section_bytes h.root bytes) root
 root_read bytes h root e = directory_ok (section_bytes h.root bytes) root (read_ok h.root.offset (directory_at (section_bytes h.root bytes)) root e)
 
 refused : (offset : ℕ) (r : Read DirectoryFault (List Entry)) (d : ArchiveFault) → directory_or_fault offset r ≡ Err d → d ≡ faults.Directory offset
 refused offset (Ok es) d e = absurd (not_both es d e)
 refused offset (Err f) d e = sym (same_fault {A = List Entry} (faults.Directory offset) d e)
 
-root_fault : (bytes : List ℕ) (h : Header) (d : ArchiveFault) → HasSections bytes h → directory_or_fault h.root.offset (directory_at (section_bytes h.root bytes)) ≡ Err d → OpeningHas bytes d
+root_fault : (bytes : List ℕ) (h : Header) (d : ArchiveFault) → HasSections bytes h
+    → directory_or_fault h.root.offset (directory_at (section_bytes h.root bytes)) ≡ Err d → OpeningHas bytes d
 root_fault bytes h d has e =
     OpeningHas.no_directory h (refused h.root.offset (directory_at (section_bytes h.root bytes)) d e) has
-    (λ (es : List Entry) (is : IsDirectory (section_bytes h.root bytes) es). not_both es d (sym (ap (directory_or_fault h.root.offset) (directory_only (section_bytes h.root bytes) es is)) ∙ e))
+    (λ (es : List Entry) (is : IsDirectory (section_bytes h.root bytes) es). not_both es d
+    (sym (ap (directory_or_fault h.root.offset) (directory_only (section_bytes h.root bytes) es is)) ∙ e))
 
-pub root_refused : (bytes : List ℕ) (h : Header) (d : ArchiveFault) → HasSections bytes h → UnlessOutside (λ fault. directory_or_fault h.root.offset (directory_at (section_bytes h.root bytes)) ≡ Err fault) d
+pub root_refused : (bytes : List ℕ) (h : Header) (d : ArchiveFault) → HasSections bytes h
+    → UnlessOutside (λ fault. directory_or_fault h.root.offset (directory_at (section_bytes h.root bytes)) ≡ Err fault) d
     → UnlessOutside (OpeningHas bytes) d
 root_refused bytes h d has e inside = root_fault bytes h d has (e inside)
 
 -- bytes with sections and a root directory are opened
-opens : (bytes : List ℕ) (h : Header) (root : List Entry) (d : ArchiveFault) → HasSections bytes h → IsDirectory (section_bytes h.root bytes) root → OpeningHas bytes d → ⊥
+opens : (bytes : List ℕ) (h : Header) (root : List Entry) (d : ArchiveFault) → HasSections bytes h → IsDirectory (section_bytes h.root bytes) root
+    → OpeningHas bytes d → ⊥
 opens bytes h root d has dir (OpeningHas.is_short e short) = absurd (omega (arith, has.header.whole))
 opens bytes h root d has dir (OpeningHas.other_magic e long other) = other has.header.magic_is
 opens bytes h root d has dir (OpeningHas.other_version e long m other) = other has.header.version_is
@@ -161,10 +172,12 @@ opens bytes h root d has dir (OpeningHas.compressed g e is placed much) =
 opens bytes h root d has dir (OpeningHas.no_directory g e others none) =
     none root (subst (λ (x : Header). IsDirectory (section_bytes x.root bytes) root) (one_header bytes h g has.header others.header) dir)
 
-pub opened_once : (bytes : List ℕ) (g h : Header) (some others : List Entry) → HasSections bytes g → IsDirectory (section_bytes g.root bytes) some → HasSections bytes h → IsDirectory (section_bytes h.root bytes) others → (g ≡ h) × (some ≡ others)
+pub opened_once : (bytes : List ℕ) (g h : Header) (some others : List Entry) → HasSections bytes g → IsDirectory (section_bytes g.root bytes) some
+    → HasSections bytes h → IsDirectory (section_bytes h.root bytes) others → (g ≡ h) × (some ≡ others)
 opened_once bytes g h some others a dir b other =
     let same = one_header bytes g h a.header b.header in
     (same, directory_law (section_bytes h.root bytes) some others (subst (λ (x : Header). IsDirectory (section_bytes x.root bytes) some) same dir) other)
 
-pub opened_unless : (bytes : List ℕ) (h : Header) (root : List Entry) (d : ArchiveFault) → UnlessOutside (OpeningHas bytes) d → HasSections bytes h → IsDirectory (section_bytes h.root bytes) root → IsOutside d
+pub opened_unless : (bytes : List ℕ) (h : Header) (root : List Entry) (d : ArchiveFault) → UnlessOutside (OpeningHas bytes) d → HasSections bytes h
+    → IsDirectory (section_bytes h.root bytes) root → IsOutside d
 opened_unless bytes h root d fault has dir = is_outside (OpeningHas bytes) d fault (opens bytes h root d has dir)

@@ -33,7 +33,8 @@ AreBetween from bound entries = AllByRecursion (λ e. (from ≤ e.id) × (ids_be
 -- the entries lead to these tile entries, one after the other
 abbrev pub EachLists : (Entry → ℕ → List Entry → Type 0) → ℕ → List Entry → List Entry → Type 0
 EachLists Leads bound [] tiles = tiles ≡ []
-EachLists Leads bound (e ∷ es) tiles = (front : List Entry) × (rest : List Entry) × (tiles ≡ front ++ rest) × Leads e (bound_of bound es) front × EachLists Leads bound es rest
+EachLists Leads bound (e ∷ es) tiles = (front : List Entry) × (rest : List Entry) × (tiles ≡ front ++ rest) × Leads e (bound_of bound es) front
+    × EachLists Leads bound es rest
 
 -- a tile entry lists itself
 pub record ListsTile (h : Header) (e : Entry) (tiles : List Entry) : Type 0 where
@@ -51,7 +52,8 @@ pub record IsLeaf (bytes : List ℕ) (h : Header) (e : Entry) (bound : ℕ) (ent
 -- an entry lists itself, or what its leaf directory lists, below which so many more leaf directories may stand
 abbrev pub Lists : List ℕ → Header → ℕ → Entry → ℕ → List Entry → Type 0
 Lists bytes h zero e bound tiles = ListsTile h e tiles
-Lists bytes h (suc more) e bound tiles = ListsTile h e tiles ⊎ ((entries : List Entry) × IsLeaf bytes h e bound entries × EachLists (Lists bytes h more) bound entries tiles)
+Lists bytes h (suc more) e bound tiles = ListsTile h e tiles
+    ⊎ ((entries : List Entry) × IsLeaf bytes h e bound entries × EachLists (Lists bytes h more) bound entries tiles)
 
 -- these are the tile entries below the root directory, in ascending order
 abbrev pub HasEntries : List ℕ → Header → List Entry → Type 0

@@ -1,5 +1,6 @@
 -- The faults of an archive's sections and directories, in the order in which they are looked for.
-use Rattle.std.specs.Prelude.{◌≡◌, ◌≢◌, ℕ, zero, suc, ◌+◌, ◌<◌, ◌≤◌, ◌⊎◌, max, List, [], ◌∷◌, ◌++◌, length, take, slice_index, Ok, Err, Option, Some, None, if◌then◌else◌, nat_lt, nat_le}
+use Rattle.std.specs.Prelude.{◌≡◌, ◌≢◌, ℕ, zero, suc, ◌+◌, ◌<◌, ◌≤◌, ◌⊎◌, max, List, [], ◌∷◌, ◌++◌, length, take, slice_index, Ok, Err, Option, Some, None}
+use Rattle.std.specs.Prelude.{if◌then◌else◌, nat_lt, nat_le}
 use Rattle.reader.specs.Reading.{Read, ◌>>=◌}
 use Rattle.pm_header.specs.declared.header.Header.{Header}
 use Rattle.pm_header.specs.declared.header.TheConstants.{HEADER_BYTES}
@@ -20,14 +21,16 @@ use Rattle.pm_archive.specs.Entries.{entry_bytes, bound_of}
 
 -- ---- opening
 
--- the first section that is in the wrong place, of a file of so many bytes
+-- the first section that is misplaced, in a file of so many bytes
 pub data IsMisplaced (count : ℕ) (h : Header) (s : Section) : Type 0 where
   root_misplaced : s ≡ sections.Root → (count < end_of h.root) ⊎ (OPENING_END < end_of h.root) → IsMisplaced count h s
   metadata_misplaced : s ≡ sections.Metadata → end_of h.root ≤ count → end_of h.root ≤ OPENING_END → count < end_of h.metadata → IsMisplaced count h s
-  leaves_misplaced : s ≡ sections.Leaves → end_of h.root ≤ count → end_of h.root ≤ OPENING_END → end_of h.metadata ≤ count → count < end_of h.leaves → IsMisplaced count h s
-  tiles_misplaced : s ≡ sections.Tiles → end_of h.root ≤ count → end_of h.root ≤ OPENING_END → end_of h.metadata ≤ count → end_of h.leaves ≤ count → count < end_of h.tiles → IsMisplaced count h s
+  leaves_misplaced : s ≡ sections.Leaves → end_of h.root ≤ count → end_of h.root ≤ OPENING_END → end_of h.metadata ≤ count → count < end_of h.leaves
+      → IsMisplaced count h s
+  tiles_misplaced : s ≡ sections.Tiles → end_of h.root ≤ count → end_of h.root ≤ OPENING_END → end_of h.metadata ≤ count → end_of h.leaves ≤ count
+      → count < end_of h.tiles → IsMisplaced count h s
 
--- each section is in its place, in a file of so many bytes
+-- no section is misplaced, in a file of so many bytes
 abbrev pub ArePlaced : ℕ → Header → Type 0
 ArePlaced count h = (end_of h.root ≤ count) × (end_of h.root ≤ OPENING_END) × (end_of h.metadata ≤ count) × (end_of h.leaves ≤ count) × (end_of h.tiles ≤ count)
 
@@ -38,7 +41,8 @@ pub data OpeningHas (bytes : List ℕ) (d : ArchiveFault) : Type 0 where
   other_version : d ≡ faults.Version (slice_index bytes 7) → HEADER_BYTES ≤ length bytes → take 7 bytes ≡ magic → slice_index bytes 7 ≢ 3 → OpeningHas bytes d
   misplaced : (h : Header) → (s : Section) → d ≡ faults.Section s → IsHeader bytes h → IsMisplaced (length bytes) h s → OpeningHas bytes d
   compressed : (h : Header) → d ≡ faults.Compressed h.internal → IsHeader bytes h → ArePlaced (length bytes) h → 2 ≤ h.internal → OpeningHas bytes d
-  no_directory : (h : Header) → d ≡ faults.Directory h.root.offset → HasSections bytes h → ((entries : List Entry) → ¬ IsDirectory (section_bytes h.root bytes) entries) → OpeningHas bytes d
+  no_directory : (h : Header) → d ≡ faults.Directory h.root.offset → HasSections bytes h
+      → ((entries : List Entry) → ¬ IsDirectory (section_bytes h.root bytes) entries) → OpeningHas bytes d
 
 -- ---- listing: the root's entries in order, each leaf directory where it is named
 
@@ -67,7 +71,8 @@ directory_or_fault offset (Err _) = Err (faults.Directory offset)
 
 -- the entries of the leaf directory that an entry names, wherever its ids lie
 unfoldable pub directory_of_entry : List ℕ → Header → Entry → Read ArchiveFault (List Entry)
-directory_of_entry bytes h e = if nat_le (e.offset + e.length) h.leaves.length then directory_or_fault (h.leaves.offset + e.offset) (directory_at (entry_bytes h.leaves e bytes)) else Err (faults.Place e.id)
+directory_of_entry bytes h e = if nat_le (e.offset + e.length) h.leaves.length then directory_or_fault (h.leaves.offset + e.offset)
+    (directory_at (entry_bytes h.leaves e bytes)) else Err (faults.Place e.id)
 
 -- the same, where its ids are between that of the entry and the bound
 unfoldable pub leaf_at : List ℕ → Header → Entry → ℕ → Read ArchiveFault (List Entry)

@@ -55,7 +55,8 @@ impl<B: Bytes + Drop> Archive<B> {
     pub fn open(alloc: Global, source: B) -> Result<Archive<B>, (B, ArchiveFault)>
         ensures source { IfOk result (λ a. Keeps B.count B.holds B.fails B.unchanged source a.source) }
         ensures back { IfErr result (λ e. Keeps B.count B.holds B.fails B.unchanged source e.0) }
-        ensures found { IfOk result (λ a. (bytes : List ℕ) → B.holds a.source bytes → HasSections bytes a.header × IsDirectory (section_bytes a.header.root bytes) a.root) }
+        ensures found { IfOk result (λ a. (bytes : List ℕ) → B.holds a.source bytes
+            → HasSections bytes a.header × IsDirectory (section_bytes a.header.root bytes) a.root) }
         ensures only { (bytes : List ℕ) (h : Header) (root : List Entry) → HasSections bytes h → IsDirectory (section_bytes h.root bytes) root
             → MatchResult result (λ a. B.holds a.source bytes → (a.header ≡ h) × (a.root ≡ root)) (λ e. B.holds e.0 bytes → IsOutside e.1) }
         ensures fault { IfErr result (λ e. (bytes : List ℕ) → B.holds e.0 bytes → UnlessOutside (OpeningHas bytes) e.1) }
@@ -100,7 +101,8 @@ impl<B: Bytes + Drop> Archive<B> {
         ensures found { (bytes : List ℕ) → B.holds self.new.source bytes → IfOk result (λ tiles. HasEntries bytes self.old.header tiles.items) }
         ensures only { (bytes : List ℕ) (tiles : List Entry) → B.holds self.new.source bytes → HasEntries bytes self.old.header tiles
             → MatchResult result (λ listed. listed.items ≡ tiles) IsOutside }
-        ensures first { (bytes : List ℕ) → B.holds self.new.source bytes → GivesUnless IsOutside (λ tiles. tiles.items) result (list_at bytes self.old.header self.old.root) }
+        ensures first { (bytes : List ℕ) → B.holds self.new.source bytes
+            → GivesUnless IsOutside (λ tiles. tiles.items) result (list_at bytes self.old.header self.old.root) }
         ensures read { result ≡ Err ArchiveFault.Read → B.fails self.old.source }
     {
         entries_below(alloc, &mut self.source, &self.header, &self.root)
@@ -138,7 +140,8 @@ impl<B: Bytes + Drop> Archive<B> {
         ensures root { self.new.root ≡ self.old.root }
         ensures source { Keeps B.count B.holds B.fails B.unchanged self.old.source self.new.source }
         ensures found { (bytes : List ℕ) → B.holds self.new.source bytes → IfOk result (IsSound bytes) }
-        ensures only { (bytes : List ℕ) (report : Report) → B.holds self.new.source bytes → IsSound bytes report → MatchResult result (λ told. told ≡ report) IsOutside }
+        ensures only { (bytes : List ℕ) (report : Report) → B.holds self.new.source bytes → IsSound bytes report
+            → MatchResult result (λ told. told ≡ report) IsOutside }
         ensures fault { (bytes : List ℕ) → B.holds self.new.source bytes → IfErr result (UnlessOutside (VerifyingHas bytes self.old.header self.old.root)) }
         ensures read { result ≡ Err ArchiveFault.Read → B.fails self.old.source }
     {

@@ -111,7 +111,8 @@ fn push_listed<B: Bytes>(
 ) -> Result<(), ArchiveFault>
     requires { ArePlaced (B.count source.old) header.now }
     ensures source { Keeps B.count B.holds B.fails B.unchanged source.old source.new }
-    ensures listed { (bytes : List ℕ) → B.holds source.new bytes → GivesUnless IsOutside (λ done. tiles.new.items) result (behind tiles.old.items (lists_at bytes header.now more entry bound)) }
+    ensures listed { (bytes : List ℕ) → B.holds source.new bytes
+        → GivesUnless IsOutside (λ done. tiles.new.items) result (behind tiles.old.items (lists_at bytes header.now more entry bound)) }
     ensures read { result ≡ Err ArchiveFault.Read → B.fails source.old }
     ensures memory { entry.run ≡ 0 → more ≡ 0 → result ≢ Err ArchiveFault.Memory }
 {
@@ -138,7 +139,8 @@ fn push_each<B: Bytes>(
 ) -> Result<(), ArchiveFault>
     requires { ArePlaced (B.count source.old) header.now }
     ensures source { Keeps B.count B.holds B.fails B.unchanged source.old source.new }
-    ensures listed { (bytes : List ℕ) → B.holds source.new bytes → GivesUnless IsOutside (λ done. tiles.new.items) result (behind tiles.old.items (each_at (lists_at bytes header.now more) bound entries.now)) }
+    ensures listed { (bytes : List ℕ) → B.holds source.new bytes
+        → GivesUnless IsOutside (λ done. tiles.new.items) result (behind tiles.old.items (each_at (lists_at bytes header.now more) bound entries.now)) }
     ensures read { result ≡ Err ArchiveFault.Read → B.fails source.old }
 {
     for (i, entry) in entries.iter().enumerate() {

@@ -115,7 +115,8 @@ pub(crate) fn content_below<B: Bytes>(
     ensures source { Keeps B.count B.holds B.fails B.unchanged source.old source.new }
     ensures content { (bytes : List ℕ) (tiles : List Entry) → B.holds source.new bytes → EachLists (Lists bytes header.now MOST_LEAVES) IDS_END root.now tiles
         → MatchResult result (λ content. option_map (λ v. v.items) content ≡ content_of bytes header.now tiles id) IsOutside }
-    ensures first { (bytes : List ℕ) → B.holds source.new bytes → GivesUnless IsOutside (option_map (λ v. v.items)) result (looked_at bytes header.now root.now id) }
+    ensures first { (bytes : List ℕ) → B.holds source.new bytes
+        → GivesUnless IsOutside (option_map (λ v. v.items)) result (looked_at bytes header.now root.now id) }
     ensures read { result ≡ Err ArchiveFault.Read → B.fails source.old }
     ensures memory { result ≡ Err ArchiveFault.Memory → IsSome (leading_of id root.now) }
 {

@@ -49,7 +49,7 @@ fn ends_by(section: Part, count: u64) -> bool
     section.offset <= count && section.length <= count - section.offset
 }
 
-// The first section that is in the wrong place, of a file of so many bytes.
+// The first section that is misplaced, in a file of so many bytes.
 fn misplaced(header: &Header, count: u64) -> Option<Section>
     ensures section { IfSome result (IsMisplaced count header.now) }
     ensures none { IfNone result (ArePlaced count header.now) }
@@ -83,7 +83,8 @@ pub(crate) fn header_and_root<B: Bytes>(
     ensures placed { IfOk result (λ x. ArePlaced (B.count source.old) x.0) }
     ensures ascending { IfOk result (λ x. IsAscending x.1.items) }
     ensures each { IfOk result (λ x. AllByRecursion IsEntry x.1.items) }
-    ensures found { (bytes : List ℕ) → B.holds source.new bytes → IfOk result (λ x. HasSections bytes x.0 × IsDirectory (section_bytes x.0.root bytes) x.1.items) }
+    ensures found { (bytes : List ℕ) → B.holds source.new bytes
+        → IfOk result (λ x. HasSections bytes x.0 × IsDirectory (section_bytes x.0.root bytes) x.1.items) }
     ensures fault { (bytes : List ℕ) → B.holds source.new bytes → IfErr result (UnlessOutside (OpeningHas bytes)) }
     ensures read { result ≡ Err ArchiveFault.Read → B.fails source.old }
     ensures memory { (bytes : List ℕ) → B.holds source.new bytes → result ≡ Err ArchiveFault.Memory → (h : Header) × HasSections bytes h }

@@ -70,7 +70,8 @@ pub(crate) fn directory_from<B: Bytes>(
 ) -> Result<Vec<Entry>, ArchiveFault>
     requires { offset + length ≤ B.count source.old }
     ensures source { Keeps B.count B.holds B.fails B.unchanged source.old source.new }
-    ensures directory { (bytes : List ℕ) → B.holds source.new bytes → GivesUnless IsOutside (λ v. v.items) result (directory_or_fault offset (directory_at (slice_range bytes offset (offset + length)))) }
+    ensures directory { (bytes : List ℕ) → B.holds source.new bytes
+        → GivesUnless IsOutside (λ v. v.items) result (directory_or_fault offset (directory_at (slice_range bytes offset (offset + length)))) }
     ensures ascending { IfOk result (λ v. IsAscending v.items) }
     ensures each { IfOk result (λ v. AllByRecursion IsEntry v.items) }
     ensures read { result ≡ Err ArchiveFault.Read → B.fails source.old }

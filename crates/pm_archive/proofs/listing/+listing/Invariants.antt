@@ -15,5 +15,6 @@ abbrev pub invariant-push_each-loop-i : goal.invariant-push_each-loop-i
 invariant-push_each-loop-i g l = record {
   source : Keeps g.B.Bytes.count g.B.Bytes.holds g.B.Bytes.fails g.B.Bytes.unchanged l.initial.source l.source;
   listed : (bytes : List ℕ) → g.B.Bytes.holds l.source bytes
-      → behind l.initial.tiles.items (each_at (lists_at bytes l.header l.more) l.bound l.entries) ≡ behind l.tiles.items (each_at (lists_at bytes l.header l.more) l.bound (drop l.i l.entries));
+      → behind l.initial.tiles.items (each_at (lists_at bytes l.header l.more) l.bound l.entries)
+      ≡ behind l.tiles.items (each_at (lists_at bytes l.header l.more) l.bound (drop l.i l.entries));
 }

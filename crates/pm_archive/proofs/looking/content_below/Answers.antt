@@ -15,8 +15,11 @@ use Rattle.pm_archive.proofs.looking.content_below.Goals as goal
 pub returns-clause-content : goal.returns-clause-content
 returns-clause-content g c bytes tiles holds lists =
     let h = c.args.header.now in
-    let found = content_found bytes h c.args.id MOST_LEAVES IDS_END c.args.root.now tiles c.leading.result (c.leading.ensures, c.requires.ascending, lists) c.in_ok-entry.entry (c.in_ok-entry.ensures.first bytes (c.content_in.ensures.source.no_others bytes holds)) in
-    gives_found IsOutside inside_or_outside (option_map (λ v. v.items)) c.content_in.result (content_at bytes h c.in_ok-entry.entry) (content_of bytes h tiles c.args.id) found (c.content_in.ensures.first bytes holds)
+    let found = content_found bytes h c.args.id MOST_LEAVES IDS_END c.args.root.now tiles c.leading.result
+    (c.leading.ensures, c.requires.ascending, lists) c.in_ok-entry.entry
+    (c.in_ok-entry.ensures.first bytes (c.content_in.ensures.source.no_others bytes holds)) in
+    gives_found IsOutside inside_or_outside (option_map (λ v. v.items)) c.content_in.result (content_at bytes h c.in_ok-entry.entry)
+    (content_of bytes h tiles c.args.id) found (c.content_in.ensures.first bytes holds)
 
 pub returns-in_err-entry-clause-content : goal.returns-in_err-entry-clause-content
 returns-in_err-entry-clause-content g c =
@@ -24,7 +27,8 @@ returns-in_err-entry-clause-content g c =
     rw (p.1, p.2) (λ bytes tiles holds lists.
     let h = c.args.header.now in
     let reaches = looked_up bytes h c.args.id MOST_LEAVES IDS_END c.args.root.now tiles c.leading.result (c.leading.ensures, c.requires.ascending, lists) in
-    gives_found IsOutside inside_or_outside (λ e. e) (Err c.in_err-entry.field-0.0) (reached_at bytes h c.args.id MOST_LEAVES c.leading.result) (entry_of tiles c.args.id) reaches (c.in_err-entry.ensures.first bytes holds))
+    gives_found IsOutside inside_or_outside (λ e. e) (Err c.in_err-entry.field-0.0) (reached_at bytes h c.args.id MOST_LEAVES c.leading.result)
+    (entry_of tiles c.args.id) reaches (c.in_err-entry.ensures.first bytes holds))
 
 pub returns-clause-first : goal.returns-clause-first
 returns-clause-first g c bytes holds =
@@ -35,4 +39,5 @@ returns-clause-first g c bytes holds =
 pub returns-in_err-entry-clause-first : goal.returns-in_err-entry-clause-first
 returns-in_err-entry-clause-first g c =
     let p = err_from_is_err_and c.from_residual.result c.from_residual.ensures.1 in
-    rw (p.1, p.2) (λ bytes holds. looked_fault bytes c.args.header.now c.args.id c.args.root.now c.leading.result c.leading.ensures c.in_err-entry.field-0.0 (c.in_err-entry.ensures.first bytes holds))
+    rw (p.1, p.2) (λ bytes holds. looked_fault bytes c.args.header.now c.args.id c.args.root.now c.leading.result c.leading.ensures c.in_err-entry.field-0.0
+    (c.in_err-entry.ensures.first bytes holds))

@@ -14,7 +14,9 @@ returns-in_err-report-clause-fault g c =
     let listed : list_at bytes c.args.header.now c.args.root.now ≡ Ok tiles =
     rw c.as_slice-tiles.ensures.value (c.in_ok-listed.ensures.first bytes holds) in
     let fits : addressed_by tiles < 2 ^ 64 = listed_fit bytes c.args.header.now c.args.root.now tiles c.requires.ascending c.requires.each listed in
-    other_count bytes c.args.header.now c.args.root.now tiles (c.in_ok-check_metadata.ensures.found bytes (c.in_ok-listed.ensures.source.no_others bytes holds)) listed c.in_err-report.field-0.0 (c.in_err-report.ensures.fault fits))
+    other_count bytes c.args.header.now c.args.root.now tiles
+    (c.in_ok-check_metadata.ensures.found bytes (c.in_ok-listed.ensures.source.no_others bytes holds)) listed c.in_err-report.field-0.0
+    (c.in_err-report.ensures.fault fits))
 
 pub returns-clause-found : goal.returns-clause-found
 returns-clause-found g c bytes holds =
@@ -41,5 +43,6 @@ returns-in_err-check_vector_tiles-clause-fault g c =
     let metadata = c.in_ok-listed.ensures.source.no_others bytes listing in
     let listed : list_at bytes c.args.header.now c.args.root.now ≡ Ok tiles = rw c.as_slice-tiles.ensures.value (c.in_ok-listed.ensures.first bytes listing) in
     let fits : addressed_by tiles < 2 ^ 64 = listed_fit bytes c.args.header.now c.args.root.now tiles c.requires.ascending c.requires.each listed in
-    other_tile bytes c.args.header.now c.args.root.now tiles (c.in_ok-check_metadata.ensures.found bytes metadata) listed (c.in_ok-report.ensures.counts fits) c.in_err-check_vector_tiles.field-0.0
+    other_tile bytes c.args.header.now c.args.root.now tiles (c.in_ok-check_metadata.ensures.found bytes metadata) listed
+    (c.in_ok-report.ensures.counts fits) c.in_err-check_vector_tiles.field-0.0
     (c.in_err-check_vector_tiles.ensures.fault bytes holds (listed_inside bytes c.args.header.now c.args.root.now tiles listed)))
