@@ -1,11 +1,11 @@
 -- Listing, one entry after the other.
-use Rattle.std.proofs.Common.{◌≡◌, ◌≢◌, ℕ, zero, suc, ◌+◌, ◌-◌, ◌<◌, ◌≤◌, List, ◌++◌, Ok, Err, length, take, drop, get_or, nat_lt, true, refl, ◌∙◌}
+use Rattle.std.proofs.Common.{◌≡◌, ◌≢◌, ℕ, zero, suc, ◌+◌, ◌-◌, ◌<◌, ◌≤◌, List, [], ◌∷◌, ◌++◌, Ok, Err, Some, slice_get, length, take, drop, get_or, nat_lt, true, refl, ◌∙◌}
 use Rattle.std.proofs.Common.{append_assoc, arith}
 use Rattle.std.proofs.lemmas.Bool.{lt-ltb}
 use Rattle.std.proofs.lemmas.List.{take_all, length-drop, drop_more}
 use Rattle.pm_directory.specs.declared.entry.Entry.{Entry}
 use Rattle.pm_header.specs.declared.header.Header.{Header}
-use Rattle.pm_archive.specs.Entries.{bound_of}
+use Rattle.pm_archive.specs.Entries.{LiesInside, bound_of}
 use Rattle.reader.specs.Reading.{Read, ◌>>=◌}
 use Rattle.reader.proofs.Steps.{unless_on}
 use Rattle.pm_archive.specs.Reading.{each_at, leaf_at, lists_at, tile_at}
@@ -62,6 +62,13 @@ module _ (lists : Entry → ℕ → Read ArchiveFault (List Entry)) (bound : ℕ
       → UnlessOutside (λ e. behind before (lists (get_or entries i d) b) ≡ Err e) fault → UnlessOutside (λ e. whole ≡ Err e) fault
   each_fault whole fault lt is so_far listed = unless_on IsOutside fault (behind before (lists (get_or entries i d) b)) whole
       (λ e h. so_far ∙ fault_at lt is e h) listed
+
+-- the first entry lies inside its section, by those that were listed
+pub first_lies : (h : Header) (es : List Entry) (j : ℕ) (e : Entry) → j < length es → (0 < j → LiesInside h (slice_get es 0))
+    → LiesInside h (Some (get_or es j e)) → LiesInside h (slice_get es 0)
+first_lies h [] j e lt before here = absurd (omega arith)
+first_lies h (x ∷ es) zero e lt before here = here
+first_lies h (x ∷ es) (suc j) e lt before here = before (omega arith)
 
 -- ---- one entry
 

@@ -1,5 +1,5 @@
 -- The tile entries of an archive, which its root directory and its leaf directories list.
-use Rattle.std.specs.Prelude.{◌≡◌, ℕ, zero, suc, ◌+◌, ◌<◌, ◌≤◌, ◌⊎◌, List, [], ◌∷◌, ◌++◌, slice_range, Option, Some, None, if◌then◌else◌, nat_le, nat_lt, ◌&&◌}
+use Rattle.std.specs.Prelude.{◌≡◌, ℕ, zero, suc, ◌+◌, ◌<◌, ◌≤◌, ◌⊎◌, List, [], ◌∷◌, ◌++◌, slice_range, Option, Some, None, if◌then◌else◌, nat_le, nat_lt, ◌&&◌, ◌==◌}
 use Rattle.std.specs.List.{AllByRecursion}
 use Rattle.pm_header.specs.declared.part.Part.{Part}
 use Rattle.pm_header.specs.declared.header.Header.{Header}
@@ -20,6 +20,11 @@ entry_bytes s e bytes = slice_range bytes (s.offset + e.offset) (s.offset + e.of
 -- the entry lies inside the section
 abbrev pub LiesIn : Part → Entry → Type 0
 LiesIn s e = e.offset + e.length ≤ s.length
+
+-- there is an entry, and its bytes, a leaf directory or a content, lie inside their section
+abbrev pub LiesInside : Header → Option Entry → Type 0
+LiesInside h None = ⊥
+LiesInside h (Some e) = LiesIn (if e.run == 0 then h.leaves else h.tiles) e
 
 -- an entry leads to ids below that of the next one, the last one to ids below the bound of its directory
 abbrev pub bound_of : ℕ → List Entry → ℕ

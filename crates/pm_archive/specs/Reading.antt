@@ -71,8 +71,9 @@ directory_or_fault offset (Err _) = Err (faults.Directory offset)
 
 -- the entries of the leaf directory that an entry names, wherever its ids lie
 unfoldable pub directory_of_entry : List ℕ → Header → Entry → Read ArchiveFault (List Entry)
-directory_of_entry bytes h e = if nat_le (e.offset + e.length) h.leaves.length then directory_or_fault (h.leaves.offset + e.offset)
-    (directory_at (entry_bytes h.leaves e bytes)) else Err (faults.Place e.id)
+directory_of_entry bytes h e =
+    if nat_le (e.offset + e.length) h.leaves.length then directory_or_fault (h.leaves.offset + e.offset) (directory_at (entry_bytes h.leaves e bytes))
+    else Err (faults.Place e.id)
 
 -- the same, where its ids are between that of the entry and the bound
 unfoldable pub leaf_at : List ℕ → Header → Entry → ℕ → Read ArchiveFault (List Entry)

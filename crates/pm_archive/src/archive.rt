@@ -1,6 +1,6 @@
 //! Archives that are open.
 
-ghost use Rattle.std.specs.Prelude.{◌≡◌, ◌≢◌, ◌↔◌, ℕ, ◌≤◌, List, length, Option, Some, None, IsSome, IfOk, IfErr, MatchResult, option_map};
+ghost use Rattle.std.specs.Prelude.{◌≡◌, ◌≢◌, ◌↔◌, ℕ, ◌≤◌, List, length, Option, Some, None, slice_get, IfOk, IfErr, MatchResult, option_map};
 ghost use Rattle.reader.specs.Reading.{GivesUnless};
 ghost use Rattle.std.specs.List.{AllByRecursion};
 ghost use Rattle.pm_header.specs.declared.header.Header.{Header};
@@ -9,7 +9,7 @@ ghost use Rattle.pm_directory.specs.Directory.{IsAscending, IsDirectory, IsEntry
 ghost use Rattle.pm_archive.specs.declared.report.Report.{Report};
 ghost use Rattle.pm_archive.specs.Source.{ArchiveView, Keeps};
 ghost use Rattle.pm_archive.specs.Sections.{HasSections, section_bytes};
-ghost use Rattle.pm_archive.specs.Entries.{HasEntries};
+ghost use Rattle.pm_archive.specs.Entries.{HasEntries, LiesInside};
 ghost use Rattle.pm_archive.specs.Archive.{content_of};
 ghost use Rattle.pm_archive.specs.Reading.{ArePlaced, OpeningHas, list_at};
 ghost use Rattle.pm_archive.specs.Looked.{leading_of, looked_at};
@@ -93,7 +93,7 @@ impl<B: Bytes + Drop> Archive<B> {
     /// # Errors
     ///
     /// `Directory`, `Order`, `Depth`, `Place`, the first that is met going through the directories in order, each leaf
-    /// directory where it is named.
+    /// directory where it is named. `Memory` only where there is a first entry, and its bytes lie inside their section.
     pub fn list(&mut self, alloc: Global) -> Result<Vec<Entry>, ArchiveFault>
         ensures header { self.new.header ≡ self.old.header }
         ensures root { self.new.root ≡ self.old.root }
@@ -104,6 +104,7 @@ impl<B: Bytes + Drop> Archive<B> {
         ensures first { (bytes : List ℕ) → B.holds self.new.source bytes
             → GivesUnless IsOutside (λ tiles. tiles.items) result (list_at bytes self.old.header self.old.root) }
         ensures read { result ≡ Err ArchiveFault.Read → B.fails self.old.source }
+        ensures memory { result ≡ Err ArchiveFault.Memory → LiesInside self.old.header (slice_get self.old.root 0) }
     {
         entries_below(alloc, &mut self.source, &self.header, &self.root)
     }
@@ -114,7 +115,7 @@ impl<B: Bytes + Drop> Archive<B> {
     /// # Errors
     ///
     /// `Directory`, `Depth`, `Place`, the first on the way; where `list` has no fault there is none. `Memory` only where an
-    /// entry of the root directory leads to the id.
+    /// entry of the root directory leads to the id, and its bytes lie inside their section.
     pub fn tile(&mut self, alloc: Global, id: u64) -> Result<Option<Vec<u8>>, ArchiveFault>
         ensures header { self.new.header ≡ self.old.header }
         ensures root { self.new.root ≡ self.old.root }
@@ -124,7 +125,7 @@ impl<B: Bytes + Drop> Archive<B> {
         ensures first { (bytes : List ℕ) → B.holds self.new.source bytes
             → GivesUnless IsOutside (option_map (λ v. v.items)) result (looked_at bytes self.old.header self.old.root id) }
         ensures read { result ≡ Err ArchiveFault.Read → B.fails self.old.source }
-        ensures memory { result ≡ Err ArchiveFault.Memory → IsSome (leading_of id self.old.root) }
+        ensures memory { result ≡ Err ArchiveFault.Memory → LiesInside self.old.header (leading_of id self.old.root) }
     {
         content_below(alloc, &mut self.source, &self.header, &self.root, id)
     }

@@ -1,10 +1,10 @@
 //! The tile entries of all directories.
 
-ghost use Rattle.std.specs.Prelude.{◌≡◌, ◌≢◌, ℕ, List, Err, IfOk};
+ghost use Rattle.std.specs.Prelude.{◌≡◌, ◌≢◌, ℕ, List, Err, IfOk, OnOk, Some, slice_get};
 ghost use Rattle.reader.specs.Reading.{GivesUnless};
 ghost use Rattle.pm_directory.specs.Directory.{IsAscending};
 ghost use Rattle.pm_archive.specs.Source.{Keeps};
-ghost use Rattle.pm_archive.specs.Entries.{LiesIn, bound_of};
+ghost use Rattle.pm_archive.specs.Entries.{LiesIn, LiesInside, bound_of};
 ghost use Rattle.pm_archive.specs.Reading.{ArePlaced, each_at, leaf_at, list_at, lists_at, stray_fault, stray_id, tile_at};
 ghost use Rattle.pm_archive.specs.Answers.{IsOutside};
 ghost use Rattle.pm_archive.specs.Listing.{behind, stray_of};
@@ -76,6 +76,8 @@ fn leaf_of<B: Bytes>(
     ensures leaf { (bytes : List ℕ) → B.holds source.new bytes → GivesUnless IsOutside (λ v. v.items) result (leaf_at bytes header.now entry bound) }
     ensures ascending { IfOk result (λ v. IsAscending v.items) }
     ensures read { result ≡ Err ArchiveFault.Read → B.fails source.old }
+    ensures memory { result ≡ Err ArchiveFault.Memory → LiesIn header.now.leaves entry }
+    ensures inside { OnOk result (LiesIn header.now.leaves entry) }
 {
     let entries = directory_of(alloc, source, header, entry)?;
     check_between(&entries, entry.id, bound)?;
@@ -88,6 +90,7 @@ fn push_tile(header: &Header, entry: Entry, tiles: &mut Vec<Entry>) -> Result<()
     ensures tile { GivesUnless IsOutside (λ done. tiles.new.items) result (behind tiles.old.items (tile_at header.now entry)) }
     ensures read { result ≢ Err ArchiveFault.Read }
     ensures memory { result ≡ Err ArchiveFault.Memory → LiesIn header.now.tiles entry }
+    ensures inside { OnOk result (LiesIn header.now.tiles entry) }
 {
     if !lies_in(header.tiles, entry) {
         return Err(ArchiveFault::Place(entry.id));
@@ -114,7 +117,9 @@ fn push_listed<B: Bytes>(
     ensures listed { (bytes : List ℕ) → B.holds source.new bytes
         → GivesUnless IsOutside (λ done. tiles.new.items) result (behind tiles.old.items (lists_at bytes header.now more entry bound)) }
     ensures read { result ≡ Err ArchiveFault.Read → B.fails source.old }
-    ensures memory { entry.run ≡ 0 → more ≡ 0 → result ≢ Err ArchiveFault.Memory }
+    ensures depth { entry.run ≡ 0 → more ≡ 0 → result ≡ Err ArchiveFault.Depth }
+    ensures memory { result ≡ Err ArchiveFault.Memory → LiesInside header.now (Some entry) }
+    ensures inside { OnOk result (LiesInside header.now (Some entry)) }
 {
     if entry.run > 0 {
         return push_tile(header, entry, tiles);
@@ -142,6 +147,7 @@ fn push_each<B: Bytes>(
     ensures listed { (bytes : List ℕ) → B.holds source.new bytes
         → GivesUnless IsOutside (λ done. tiles.new.items) result (behind tiles.old.items (each_at (lists_at bytes header.now more) bound entries.now)) }
     ensures read { result ≡ Err ArchiveFault.Read → B.fails source.old }
+    ensures memory { result ≡ Err ArchiveFault.Memory → LiesInside header.now (slice_get entries.now 0) }
 {
     for (i, entry) in entries.iter().enumerate() {
         let bound = bound_behind(&entries[i + 1..], bound);
@@ -161,6 +167,7 @@ pub(crate) fn entries_below<B: Bytes>(
     ensures source { Keeps B.count B.holds B.fails B.unchanged source.old source.new }
     ensures first { (bytes : List ℕ) → B.holds source.new bytes → GivesUnless IsOutside (λ v. v.items) result (list_at bytes header.now root.now) }
     ensures read { result ≡ Err ArchiveFault.Read → B.fails source.old }
+    ensures memory { result ≡ Err ArchiveFault.Memory → LiesInside header.now (slice_get root.now 0) }
 {
     let mut tiles = Vec::new(alloc);
     push_each(

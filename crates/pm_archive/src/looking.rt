@@ -1,12 +1,12 @@
 //! The content of one tile id.
 
-ghost use Rattle.std.specs.Prelude.{◌≡◌, ℕ, ◌<◌, ◌≤◌, List, Ok, Err, OnOk, MatchResult, Option, Some, None, IsSome, option_map};
+ghost use Rattle.std.specs.Prelude.{◌≡◌, ℕ, ◌<◌, ◌≤◌, List, Ok, Err, OnOk, MatchResult, Option, Some, None, option_map};
 ghost use Rattle.reader.specs.Reading.{GivesUnless};
 ghost use Rattle.pm_directory.specs.declared.entry.Entry.{Entry};
 ghost use Rattle.pm_directory.specs.Directory.{IsAscending};
 ghost use Rattle.pm_archive.specs.Source.{Keeps};
 ghost use Rattle.pm_archive.specs.Sections.{end_of};
-ghost use Rattle.pm_archive.specs.Entries.{EachLists, LiesIn, Lists};
+ghost use Rattle.pm_archive.specs.Entries.{EachLists, LiesIn, LiesInside, Lists};
 ghost use Rattle.pm_archive.specs.Archive.{content_of};
 ghost use Rattle.pm_archive.specs.Reading.{ArePlaced};
 ghost use Rattle.pm_archive.specs.Answers.{IsOutside};
@@ -64,6 +64,8 @@ fn tile_entry<B: Bytes>(
     ensures first { (bytes : List ℕ) → B.holds source.new bytes → GivesUnless IsOutside (λ e. e) result (reached_at bytes header.now id more entry) }
     ensures read { result ≡ Err ArchiveFault.Read → B.fails source.old }
     ensures none { entry ≡ None → result ≡ Ok None }
+    ensures tile { (tile : Entry) → entry ≡ Some tile → 0 < tile.run → result ≡ Ok (Some tile) }
+    ensures inside { (leaf : Entry) → entry ≡ Some leaf → leaf.run ≡ 0 → OnOk result (LiesIn header.now.leaves leaf) }
     ensures memory { result ≡ Err ArchiveFault.Memory → (leaf : Entry) × (entry ≡ Some leaf) × (leaf.run ≡ 0) × (0 < more) × LiesIn header.now.leaves leaf }
 {
     let leaf = match entry {
@@ -118,7 +120,7 @@ pub(crate) fn content_below<B: Bytes>(
     ensures first { (bytes : List ℕ) → B.holds source.new bytes
         → GivesUnless IsOutside (option_map (λ v. v.items)) result (looked_at bytes header.now root.now id) }
     ensures read { result ≡ Err ArchiveFault.Read → B.fails source.old }
-    ensures memory { result ≡ Err ArchiveFault.Memory → IsSome (leading_of id root.now) }
+    ensures memory { result ≡ Err ArchiveFault.Memory → LiesInside header.now (leading_of id root.now) }
 {
     let entry = tile_entry(alloc, source, header, leading(root, id), id, MOST_LEAVES)?;
     content_in(alloc, source, header, entry)

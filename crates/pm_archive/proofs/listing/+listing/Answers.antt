@@ -2,7 +2,7 @@ use Rattle.std.proofs.Common.{◌≡◌, ◌∙◌}
 use Rattle.std.proofs.lemmas.Result.{err_from_is_err_and}
 use Rattle.pm_archive.specs.Reading.{lists_at, tile_at}
 use Rattle.pm_archive.proofs.KeepsLaws.{keeps_on}
-use Rattle.pm_archive.proofs.ListedLaws.{each_on, each_fault, lists_tile, lists_leaf, leaf_fault}
+use Rattle.pm_archive.proofs.ListedLaws.{each_on, each_fault, first_lies, lists_tile, lists_leaf, leaf_fault}
 use Rattle.pm_archive.proofs.listing.+listing.Goals as goal
 
 pub push_each-returns-in_err-push_listed-clause-listed : goal.push_each-returns-in_err-push_listed-clause-listed
@@ -14,12 +14,19 @@ push_each-returns-in_err-push_listed-clause-listed g t c =
     (c.loop-i.invariant.listed bytes (c.in_err-push_listed.ensures.source.no_others bytes held))
     (c.in_err-push_listed.ensures.listed bytes held))
 
+pub push_each-returns-in_err-push_listed-clause-memory : goal.push_each-returns-in_err-push_listed-clause-memory
+push_each-returns-in_err-push_listed-clause-memory g t c =
+    let p = err_from_is_err_and c.from_residual.result c.from_residual.ensures.1 in
+    rw (p.1, p.2) (λ e. first_lies c.args.header.now c.args.entries.now c.loop-i.i _ c.loop-i-test.true c.loop-i.invariant.lies
+    (c.in_err-push_listed.ensures.memory e))
+
 pub push_each-loop-i-preserved : goal.push_each-loop-i-preserved
 push_each-loop-i-preserved g t c = record {
   source = keeps_on g.met.B.Bytes.unchanged_on c.loop-i.invariant.source c.in_ok-push_listed.ensures.source;
   listed = λ bytes held. c.loop-i.invariant.listed bytes (c.in_ok-push_listed.ensures.source.no_others bytes held)
       ∙ each_on (lists_at bytes c.args.header.now c.args.more) c.args.bound c.args.entries.now c.loop-i.i _ c.loop-i.tiles.items
       c.bound_behind-bound.result _ c.loop-i-test.true c.bound_behind-bound.ensures (c.in_ok-push_listed.ensures.listed bytes held);
+  lies = λ _. first_lies c.args.header.now c.args.entries.now c.loop-i.i _ c.loop-i-test.true c.loop-i.invariant.lies c.in_ok-push_listed.ensures.inside;
 }
 
 pub push_listed-returns-then-entry-gt0-clause-listed :
