@@ -1,5 +1,5 @@
 -- From the contracts of an archive over a slice, which can't fail to be read.
-use Rattle.std.proofs.Common.{◌≡◌, ℕ, List, Result, Ok, Err, MatchResult, IfErr, refl, ap}
+use Rattle.std.proofs.Common.{◌≡◌, ℕ, List, Result, Ok, Err, MatchResult, IfErr, inl, inr, ap}
 use Rattle.pm_header.specs.declared.header.Header.{Header}
 use Rattle.pm_directory.specs.declared.entry.Entry.{Entry}
 use Rattle.pm_directory.specs.Directory.{IsDirectory}
@@ -20,14 +20,10 @@ same_fault c d e = cc
 
 -- a fault outside of the bytes that is no failed read is that memory ran out
 pub memory_from_outside : (d : ArchiveFault) → IsOutside d → (d ≡ Read → ⊥) → d ≡ Memory
-memory_from_outside Read h unread = absurd (unread refl)
-memory_from_outside Memory h unread = refl
-memory_from_outside _ h unread = absurd h
+memory_from_outside d h unread = elim h [ inl read ↦ absurd (unread read) | inr memory ↦ memory ]
 
 pub UnlessOutside-weaker : (P Q : ArchiveFault → Type 0) (d : ArchiveFault) → ((e : ArchiveFault) → P e → Q e) → UnlessOutside P d → UnlessOutside Q d
-UnlessOutside-weaker P Q Read f h = tt
-UnlessOutside-weaker P Q Memory f h = tt
-UnlessOutside-weaker P Q d f h = f d h
+UnlessOutside-weaker P Q d f h = λ inside. f d (h inside)
 
 -- the opening of a sound archive fails only where memory runs out
 pub only_at_opening : (bytes : List ℕ) (d : ArchiveFault) → ((h : Header) (root : List Entry) → HasSections bytes h → IsDirectory (section_bytes h.root bytes) root → IsOutside d)

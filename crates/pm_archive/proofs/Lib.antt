@@ -10,4 +10,3 @@ pub mod LookedSteps
 pub mod OpenedLaws
 pub mod VerifiedFaults
 pub mod VerifiedLaws
-pub mod VerifiedListed

@@ -1,34 +1,29 @@
 -- Listing, one entry after the other.
-use Rattle.std.proofs.Common.{◌≡◌, ◌≢◌, ℕ, zero, suc, ◌+◌, ◌-◌, ◌<◌, ◌≤◌, List, ◌++◌, Ok, Err, length, take, drop, get_or, nat_lt, true, refl, ◌∙◌, append_assoc, arith}
+use Rattle.std.proofs.Common.{◌≡◌, ◌≢◌, ℕ, zero, suc, ◌+◌, ◌-◌, ◌<◌, ◌≤◌, List, [], ◌∷◌, ◌++◌, Ok, Err, Some, slice_get, length, take, drop, get_or, nat_lt, true, refl, ◌∙◌}
+use Rattle.std.proofs.Common.{append_assoc, arith}
 use Rattle.std.proofs.lemmas.Bool.{lt-ltb}
 use Rattle.std.proofs.lemmas.List.{take_all, length-drop, drop_more}
 use Rattle.pm_directory.specs.declared.entry.Entry.{Entry}
 use Rattle.pm_header.specs.declared.header.Header.{Header}
-use Rattle.pm_archive.specs.Entries.{bound_of}
-use Rattle.pm_archive.specs.Reading.{Read, ◌>>=◌, each_at, leaf_at, lists_at, tile_at}
+use Rattle.pm_archive.specs.Entries.{LiesInside, bound_of}
+use Rattle.reader.specs.Reading.{Read, ◌>>=◌}
+use Rattle.reader.proofs.Steps.{unless_on}
+use Rattle.pm_archive.specs.Reading.{each_at, leaf_at, lists_at, tile_at}
 use Rattle.pm_archive.specs.Listing.{behind}
-use Rattle.pm_archive.specs.Answers.{UnlessOutside}
+use Rattle.pm_archive.specs.Answers.{IsOutside, UnlessOutside}
 use Rattle.pm_archive.specs.declared.fault.ArchiveFault.{ArchiveFault}
-use Rattle.pm_archive.specs.declared.fault.ArchiveFault.TheVariants as faults
-
--- a fault of a part is one of the whole
-pub fault_on : {A B : Type 0} (d : ArchiveFault) (part : Read A) (whole : Read B) → ((e : ArchiveFault) → part ≡ Err e → whole ≡ Err e)
-    → UnlessOutside (λ e. part ≡ Err e) d → UnlessOutside (λ e. whole ≡ Err e) d
-fault_on faults.Read part whole on h = tt
-fault_on faults.Memory part whole on h = tt
-fault_on d part whole on h = on d h
 
 -- ---- behind what there was
 
 -- what was listed stands in front of what is listed on
-pub behind_on : (before after : List Entry) (front rest : Read (List Entry)) → behind before front ≡ Ok after
+pub behind_on : (before after : List Entry) (front rest : Read ArchiveFault (List Entry)) → behind before front ≡ Ok after
     → behind before (front >>= λ xs. rest >>= λ ys. Ok (xs ++ ys)) ≡ behind after rest
 behind_on before after (Ok xs) (Ok ys) listed = let e : before ++ xs ≡ after = (cc) in rw (← e) (rw append_assoc refl)
 behind_on before after (Ok xs) (Err d) listed = refl
 behind_on before after (Err d) rest listed = cc
 
 -- the first fault ends it
-pub behind_fault : (before : List Entry) (d : ArchiveFault) (front rest : Read (List Entry)) → behind before front ≡ Err d
+pub behind_fault : (before : List Entry) (d : ArchiveFault) (front rest : Read ArchiveFault (List Entry)) → behind before front ≡ Err d
     → behind before (front >>= λ xs. rest >>= λ ys. Ok (xs ++ ys)) ≡ Err d
 behind_fault before d (Ok xs) rest listed = cc
 behind_fault before d (Err e) rest listed = listed
@@ -36,29 +31,44 @@ behind_fault before d (Err e) rest listed = listed
 -- ---- the entries in order
 
 -- the bound of the entry at an index
-bound_at : (bound : ℕ) (entries : List Entry) (i : ℕ) (b : ℕ) → b ≡ bound_of bound (take (length entries - i) (drop i entries)) → b ≡ bound_of bound (drop i entries)
-bound_at bound entries i b is = let whole : take (length entries - i) (drop i entries) ≡ drop i entries = take_all (length entries - i) (drop i entries) (omega (arith, length-drop i entries)) in rw (← whole) is
+bound_at : (bound : ℕ) (entries : List Entry) (i : ℕ) (b : ℕ) → b ≡ bound_of bound (take (length entries - i) (drop i entries))
+    → b ≡ bound_of bound (drop i entries)
+bound_at bound entries i b is = let whole : take (length entries - i) (drop i entries) ≡ drop i entries =
+    take_all (length entries - i) (drop i entries) (omega (arith, length-drop i entries)) in rw (← whole) is
 
-module _ (lists : Entry → ℕ → Read (List Entry)) (bound : ℕ) (entries : List Entry) (i : ℕ) (d : Entry) (before : List Entry) (b : ℕ) where
+module _ (lists : Entry → ℕ → Read ArchiveFault (List Entry)) (bound : ℕ) (entries : List Entry) (i : ℕ) (d : Entry) (before : List Entry) (b : ℕ) where
   -- the entry at an index is listed
-  pub each_on : (after : List Entry) → i < length entries → b ≡ bound_of bound (take (length entries - (i + 1)) (drop (i + 1) entries)) → behind before (lists (get_or entries i d) b) ≡ Ok after
+  pub each_on : (after : List Entry) → i < length entries → b ≡ bound_of bound (take (length entries - (i + 1)) (drop (i + 1) entries))
+      → behind before (lists (get_or entries i d) b) ≡ Ok after
       → behind before (each_at lists bound (drop i entries)) ≡ behind after (each_at lists bound (drop (i + 1) entries))
   each_on after lt is listed =
       let e = bound_at bound entries (i + 1) b is in
       let f = drop_more entries i d lt in
-      rw f (behind_on before after (lists (get_or entries i d) (bound_of bound (drop (i + 1) entries))) (each_at lists bound (drop (i + 1) entries)) (rw (← e) listed))
+      rw f (behind_on before after (lists (get_or entries i d) (bound_of bound (drop (i + 1) entries))) (each_at lists bound (drop (i + 1) entries))
+      (rw (← e) listed))
 
-  fault_at : i < length entries → b ≡ bound_of bound (take (length entries - (i + 1)) (drop (i + 1) entries)) → (fault : ArchiveFault) → behind before (lists (get_or entries i d) b) ≡ Err fault
+  fault_at : i < length entries → b ≡ bound_of bound (take (length entries - (i + 1)) (drop (i + 1) entries)) → (fault : ArchiveFault)
+      → behind before (lists (get_or entries i d) b) ≡ Err fault
       → behind before (each_at lists bound (drop i entries)) ≡ Err fault
   fault_at lt is fault listed =
       let e = bound_at bound entries (i + 1) b is in
       let f = drop_more entries i d lt in
-      rw f (behind_fault before fault (lists (get_or entries i d) (bound_of bound (drop (i + 1) entries))) (each_at lists bound (drop (i + 1) entries)) (rw (← e) listed))
+      rw f (behind_fault before fault (lists (get_or entries i d) (bound_of bound (drop (i + 1) entries))) (each_at lists bound (drop (i + 1) entries))
+      (rw (← e) listed))
 
   -- the entry at an index has the first fault
-  pub each_fault : (whole : Read (List Entry)) (fault : ArchiveFault) → i < length entries → b ≡ bound_of bound (take (length entries - (i + 1)) (drop (i + 1) entries)) → whole ≡ behind before (each_at lists bound (drop i entries))
+  pub each_fault : (whole : Read ArchiveFault (List Entry)) (fault : ArchiveFault) → i < length entries
+      → b ≡ bound_of bound (take (length entries - (i + 1)) (drop (i + 1) entries)) → whole ≡ behind before (each_at lists bound (drop i entries))
       → UnlessOutside (λ e. behind before (lists (get_or entries i d) b) ≡ Err e) fault → UnlessOutside (λ e. whole ≡ Err e) fault
-  each_fault whole fault lt is so_far listed = fault_on fault (behind before (lists (get_or entries i d) b)) whole (λ e h. so_far ∙ fault_at lt is e h) listed
+  each_fault whole fault lt is so_far listed = unless_on IsOutside fault (behind before (lists (get_or entries i d) b)) whole
+      (λ e h. so_far ∙ fault_at lt is e h) listed
+
+-- the first entry lies inside its section, by those that were listed
+pub first_lies : (h : Header) (es : List Entry) (j : ℕ) (e : Entry) → j < length es → (0 < j → LiesInside h (slice_get es 0))
+    → LiesInside h (Some (get_or es j e)) → LiesInside h (slice_get es 0)
+first_lies h [] j e lt before here = absurd (omega arith)
+first_lies h (x ∷ es) zero e lt before here = here
+first_lies h (x ∷ es) (suc j) e lt before here = before (omega arith)
 
 -- ---- one entry
 
@@ -81,4 +91,4 @@ pub leaf_fault : (bytes : List ℕ) (h : Header) (more : ℕ) (e : Entry) (bound
     → UnlessOutside (λ d. leaf_at bytes h e bound ≡ Err d) fault → UnlessOutside (λ d. behind before (lists_at bytes h more e bound) ≡ Err d) fault
 leaf_fault bytes h more e bound before fault some leaf failed =
     let same = lists_leaf bytes h more e bound some leaf in
-    fault_on fault (leaf_at bytes h e bound) (behind before (lists_at bytes h more e bound)) (λ d at. rw (same, at) refl) failed
+    unless_on IsOutside fault (leaf_at bytes h e bound) (behind before (lists_at bytes h more e bound)) (λ d at. rw (same, at) refl) failed

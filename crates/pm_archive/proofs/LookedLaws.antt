@@ -1,5 +1,6 @@
 -- What is looked up is what the entries list.
-use Rattle.std.proofs.Common.{◌≡◌, ℕ, zero, suc, ◌+◌, ◌-◌, ◌<◌, ◌≤◌, Bool, true, false, cond, eqb, ltb, leb, List, [], ◌∷◌, ◌++◌, length, Option, Some, None, Ok, inl, inr, refl, sym, ap, ◌∙◌, subst, arith}
+use Rattle.std.proofs.Common.{◌≡◌, ℕ, zero, suc, ◌+◌, ◌-◌, ◌<◌, ◌≤◌, Bool, true, false, cond, eqb, ltb, leb, List, [], ◌∷◌, ◌++◌, length, Option, Some, None}
+use Rattle.std.proofs.Common.{Ok, inl, inr, refl, sym, ap, ◌∙◌, subst, arith}
 use Rattle.std.specs.Prelude.{◌&&◌}
 use Rattle.std.specs.List.{AllByRecursion, slice_get}
 use Rattle.std.proofs.lemmas.Bool.{cases_lt, ne_eqb, eq-eqb, lt-ltb, le-ltb, le-leb, lt-leb}
@@ -9,7 +10,8 @@ use Rattle.pm_directory.specs.Directory.{ids_behind, AscendFrom, IsAscending}
 use Rattle.pm_directory.specs.Lookup.{up_to}
 use Rattle.pm_directory.proofs.DirectoryLaws.{directory_only}
 use Rattle.pm_archive.specs.Entries.{bound_of, EachLists, LiesIn, ListsTile, IsLeaf, Lists, entry_of, entry_bytes}
-use Rattle.pm_archive.specs.Reading.{Read, directory_of_entry}
+use Rattle.reader.proofs.Steps.{same_value}
+use Rattle.pm_archive.specs.Reading.{directory_of_entry}
 use Rattle.pm_archive.specs.Archive.{content_of_entry, content_of}
 use Rattle.pm_archive.specs.Looked.{last_up_to, where_leads, leading_of, leading_at, reached_at, content_at}
 
@@ -42,23 +44,29 @@ GoesFrom Leads = (e : Entry) (bound : ℕ) (tiles : List Entry) → Leads e boun
 abbrev GoesBelow : Leading → Type 0
 GoesBelow Leads = (e : Entry) (bound : ℕ) (tiles : List Entry) → Leads e bound tiles → ids_behind e ≤ bound → AreBelow bound tiles
 
-each_from : (Leads : Leading) → GoesFrom Leads → (from bound : ℕ) (es tiles : List Entry) → AllByRecursion (λ e. from ≤ e.id) es → EachLists Leads bound es tiles → AreFrom from tiles
+each_from : (Leads : Leading) → GoesFrom Leads → (from bound : ℕ) (es tiles : List Entry) → AllByRecursion (λ e. from ≤ e.id) es
+    → EachLists Leads bound es tiles → AreFrom from tiles
 each_from Leads goes from bound [] tiles past h = rw h tt
 each_from Leads goes from bound (e ∷ es) tiles past h =
-    let front : AreFrom from h.0 = all_weaken (λ t. e.id ≤ t.id) (λ t. from ≤ t.id) h.0 (λ t low. omega (arith, low, past.0)) (goes e (bound_of bound es) h.0 h.3) in
+    let front : AreFrom from h.0 = all_weaken (λ t. e.id ≤ t.id) (λ t. from ≤ t.id) h.0 (λ t low. omega (arith, low, past.0))
+    (goes e (bound_of bound es) h.0 h.3) in
     subst (AreFrom from) (sym h.2) (all_append (λ t. from ≤ t.id) h.0 h.1 front (each_from Leads goes from bound es h.1 past.1 h.4))
 
 -- where the next entry begins, or the directory's bound
-bound_behind : (bound : ℕ) (e : Entry) (es : List Entry) → AscendFrom (ids_behind e) es → AllByRecursion (λ t. ids_behind t ≤ bound) (e ∷ es) → (ids_behind e ≤ bound_of bound es) × (bound_of bound es ≤ bound)
+bound_behind : (bound : ℕ) (e : Entry) (es : List Entry) → AscendFrom (ids_behind e) es → AllByRecursion (λ t. ids_behind t ≤ bound) (e ∷ es)
+    → (ids_behind e ≤ bound_of bound es) × (bound_of bound es ≤ bound)
 bound_behind bound e [] rise ends = (ends.0, omega arith)
 bound_behind bound e (n ∷ es) rise ends = (rise.0, omega (arith, ends.1.0))
 
-each_below : (Leads : Leading) → GoesBelow Leads → (from bound : ℕ) (es tiles : List Entry) → AscendFrom from es → AllByRecursion (λ e. ids_behind e ≤ bound) es → EachLists Leads bound es tiles → AreBelow bound tiles
+each_below : (Leads : Leading) → GoesBelow Leads → (from bound : ℕ) (es tiles : List Entry) → AscendFrom from es
+    → AllByRecursion (λ e. ids_behind e ≤ bound) es → EachLists Leads bound es tiles → AreBelow bound tiles
 each_below Leads goes from bound [] tiles rise ends h = rw h tt
 each_below Leads goes from bound (e ∷ es) tiles rise ends h =
     let next = bound_behind bound e es rise.1 ends in
-    let front : AreBelow bound h.0 = all_weaken (λ t. t.id + t.run ≤ bound_of bound es) (λ t. t.id + t.run ≤ bound) h.0 (λ t low. omega (arith, low, next.1)) (goes e (bound_of bound es) h.0 h.3 next.0) in
-    subst (AreBelow bound) (sym h.2) (all_append (λ t. t.id + t.run ≤ bound) h.0 h.1 front (each_below Leads goes (ids_behind e) bound es h.1 rise.1 ends.1 h.4))
+    let front : AreBelow bound h.0 = all_weaken (λ t. t.id + t.run ≤ bound_of bound es) (λ t. t.id + t.run ≤ bound) h.0 (λ t low. omega (arith, low, next.1))
+    (goes e (bound_of bound es) h.0 h.3 next.0) in
+    subst (AreBelow bound) (sym h.2) (all_append (λ t. t.id + t.run ≤ bound) h.0 h.1 front
+    (each_below Leads goes (ids_behind e) bound es h.1 rise.1 ends.1 h.4))
 
 tile_from : (h : Header) (e : Entry) (tiles : List Entry) → ListsTile h e tiles → AreFrom e.id tiles
 tile_from h e tiles t = subst (AreFrom e.id) (sym t.itself) (omega arith, tt)
@@ -71,7 +79,8 @@ lists_from bytes h zero e bound tiles l = tile_from h e tiles l
 lists_from bytes h (suc more) e bound tiles l =
     elim l [
       | inl t ↦ tile_from h e tiles t
-      | inr d ↦ each_from (Lists bytes h more) (lists_from bytes h more) e.id bound d.0 tiles (all_weaken (λ x. (e.id ≤ x.id) × (ids_behind x ≤ bound)) (λ x. e.id ≤ x.id) d.0 (λ x p. p.0) d.1.between) d.2
+      | inr d ↦ each_from (Lists bytes h more) (lists_from bytes h more) e.id bound d.0 tiles
+          (all_weaken (λ x. (e.id ≤ x.id) × (ids_behind x ≤ bound)) (λ x. e.id ≤ x.id) d.0 (λ x p. p.0) d.1.between) d.2
     ]
 
 pub lists_below : (bytes : List ℕ) (h : Header) (more : ℕ) → GoesBelow (Lists bytes h more)
@@ -79,7 +88,8 @@ lists_below bytes h zero e bound tiles l ends = tile_below h e bound tiles l end
 lists_below bytes h (suc more) e bound tiles l ends =
     elim l [
       | inl t ↦ tile_below h e bound tiles t ends
-      | inr d ↦ each_below (Lists bytes h more) (lists_below bytes h more) 0 bound d.0 tiles d.1.directory.ascending (all_weaken (λ x. (e.id ≤ x.id) × (ids_behind x ≤ bound)) (λ x. ids_behind x ≤ bound) d.0 (λ x p. p.1) d.1.between) d.2
+      | inr d ↦ each_below (Lists bytes h more) (lists_below bytes h more) 0 bound d.0 tiles d.1.directory.ascending
+          (all_weaken (λ x. (e.id ≤ x.id) × (ids_behind x ≤ bound)) (λ x. ids_behind x ≤ bound) d.0 (λ x p. p.1) d.1.between) d.2
     ]
 
 -- ---- the tile that has an id
@@ -135,7 +145,8 @@ abbrev Below : Leading → ℕ → List Entry → Option Entry → Type 0
 Below Leads id tiles None = entry_of tiles id ≡ None
 Below Leads id tiles (Some e) = (bound : ℕ) × (front : List Entry) × (e.id ≤ id) × Leads e bound front × (entry_of tiles id ≡ entry_of front id)
 
-below_same : (Leads : Leading) (id : ℕ) (tiles others : List Entry) (o : Option Entry) → entry_of tiles id ≡ entry_of others id → Below Leads id others o → Below Leads id tiles o
+below_same : (Leads : Leading) (id : ℕ) (tiles others : List Entry) (o : Option Entry) → entry_of tiles id ≡ entry_of others id → Below Leads id others o
+    → Below Leads id tiles o
 below_same Leads id tiles others None same b = same ∙ b
 below_same Leads id tiles others (Some e) same b = (b.0, b.1, b.2, b.3, same ∙ b.4)
 
@@ -149,20 +160,23 @@ last_next id e n es le next =
     ∙ ap last_entry (sym (one_up_to id n es next))
 
 -- no entry behind the first is up to the id
-below_first : (Leads : Leading) → GoesFrom Leads → (id bound : ℕ) (e : Entry) (es tiles : List Entry) → e.id ≤ id → AllByRecursion (λ x. suc id ≤ x.id) es → EachLists Leads bound (e ∷ es) tiles → Below Leads id tiles (last_up_to id (e ∷ es))
+below_first : (Leads : Leading) → GoesFrom Leads → (id bound : ℕ) (e : Entry) (es tiles : List Entry) → e.id ≤ id → AllByRecursion (λ x. suc id ≤ x.id) es
+    → EachLists Leads bound (e ∷ es) tiles → Below Leads id tiles (last_up_to id (e ∷ es))
 below_first Leads goes id bound e es tiles le past h =
     let rest : AreFrom (suc id) h.1 = each_from Leads goes (suc id) bound es h.1 past h.4 in
     let same : entry_of tiles id ≡ entry_of h.0 id = ap (λ (r : List Entry). entry_of r id) h.2 ∙ entry_before id (suc id) h.0 h.1 (omega arith) rest in
     subst (Below Leads id tiles) (sym (last_here id e es le past)) (bound_of bound es, h.0, le, h.3, same)
 
 -- no entry at all
-below_none : (Leads : Leading) → GoesFrom Leads → (id bound : ℕ) (es tiles : List Entry) → AllByRecursion (λ x. suc id ≤ x.id) es → EachLists Leads bound es tiles → Below Leads id tiles (last_up_to id es)
+below_none : (Leads : Leading) → GoesFrom Leads → (id bound : ℕ) (es tiles : List Entry) → AllByRecursion (λ x. suc id ≤ x.id) es
+    → EachLists Leads bound es tiles → Below Leads id tiles (last_up_to id es)
 below_none Leads goes id bound es tiles past h =
     let none : last_up_to id es ≡ None = ap last_entry (none_up_to id es past) in
     let miss : Below Leads id tiles None = miss_above id tiles (suc id) (omega arith) (each_from Leads goes (suc id) bound es tiles past h) in
     subst (Below Leads id tiles) (sym none) miss
 
-below_last : (Leads : Leading) → GoesFrom Leads → GoesBelow Leads → (id from bound : ℕ) (es tiles : List Entry) → AscendFrom from es → EachLists Leads bound es tiles → Below Leads id tiles (last_up_to id es)
+below_last : (Leads : Leading) → GoesFrom Leads → GoesBelow Leads → (id from bound : ℕ) (es tiles : List Entry) → AscendFrom from es
+    → EachLists Leads bound es tiles → Below Leads id tiles (last_up_to id es)
 below_last Leads goes ends id from bound [] tiles rise h = below_none Leads goes id bound [] tiles tt h
 below_last Leads goes ends id from bound (e ∷ []) tiles rise h =
     elim (cases_lt id e.id) [
@@ -174,7 +188,8 @@ below_last Leads goes ends id from bound (e ∷ n ∷ es) tiles rise h =
       | inr next ↦
           let le : e.id ≤ id = omega (arith, rise.1.0) in
           let behind = below_last Leads goes ends id (ids_behind e) bound (n ∷ es) h.1 rise.1 h.4 in
-          let same : entry_of tiles id ≡ entry_of h.1 id = ap (λ (r : List Entry). entry_of r id) h.2 ∙ entry_behind id n.id h.0 h.1 next (ends e n.id h.0 h.3 rise.1.0) in
+          let same : entry_of tiles id ≡ entry_of h.1 id = ap (λ (r : List Entry). entry_of r id) h.2
+          ∙ entry_behind id n.id h.0 h.1 next (ends e n.id h.0 h.3 rise.1.0) in
           subst (Below Leads id tiles) (sym (last_next id e n es le next)) (below_same Leads id tiles h.1 (last_up_to id (n ∷ es)) same behind)
       | inl lt ↦
           let past : AllByRecursion (λ x. suc id ≤ x.id) (n ∷ es) = (omega arith, ids_from (ids_behind n) (suc id) es (omega arith) rise.1.1) in
@@ -196,11 +211,13 @@ unfolding reached_at
 reached_tile bytes h id zero e some = rw (lt-ltb 0 e.run some) refl
 reached_tile bytes h id (suc more) e some = rw (lt-ltb 0 e.run some) refl
 
-reached_either : (bytes : List ℕ) (h : Header) (id more : ℕ) (e : Entry) (b : Bool) → 0 < e.run → reached_at bytes h id more (cond b (Some e) None) ≡ Ok (cond b (Some e) None)
+reached_either : (bytes : List ℕ) (h : Header) (id more : ℕ) (e : Entry) (b : Bool) → 0 < e.run
+    → reached_at bytes h id more (cond b (Some e) None) ≡ Ok (cond b (Some e) None)
 reached_either bytes h id more e true some = reached_tile bytes h id more e some
 reached_either bytes h id more e false some = reached_none bytes h id more
 
-reached_itself : (bytes : List ℕ) (h : Header) (id more : ℕ) (e : Entry) (front : List Entry) → ListsTile h e front → e.id ≤ id → reached_at bytes h id more (where_leads id (Some e)) ≡ Ok (entry_of front id)
+reached_itself : (bytes : List ℕ) (h : Header) (id more : ℕ) (e : Entry) (front : List Entry) → ListsTile h e front → e.id ≤ id
+    → reached_at bytes h id more (where_leads id (Some e)) ≡ Ok (entry_of front id)
 reached_itself bytes h id more e front t le =
     let some = t.tile in
     let tile : eqb e.run 0 ≡ false = ne_eqb e.run 0 (omega arith) in
@@ -215,7 +232,8 @@ leaf_read bytes h e bound es leaf =
     let lies : leb (e.offset + e.length) h.leaves.length ≡ true = le-leb (e.offset + e.length) h.leaves.length leaf.inside in
     rw (lies, directory_only (entry_bytes h.leaves e bytes) es leaf.directory) refl
 
-reached_leaf : (bytes : List ℕ) (h : Header) (id more : ℕ) (e : Entry) (bound : ℕ) (es : List Entry) → IsLeaf bytes h e bound es → reached_at bytes h id (suc more) (where_leads id (Some e)) ≡ reached_at bytes h id more (leading_of id es)
+reached_leaf : (bytes : List ℕ) (h : Header) (id more : ℕ) (e : Entry) (bound : ℕ) (es : List Entry) → IsLeaf bytes h e bound es
+    → reached_at bytes h id (suc more) (where_leads id (Some e)) ≡ reached_at bytes h id more (leading_of id es)
 unfolding reached_at leading_at
 reached_leaf bytes h id more e bound es leaf =
     let names : e.run ≡ 0 = leaf.leaf in
@@ -225,13 +243,16 @@ reached_leaf bytes h id more e bound es leaf =
 
 -- what is reached from an entry below which the id's tile lies
 abbrev Reaches : List ℕ → Header → ℕ → ℕ → Type 0
-Reaches bytes h id more = (from bound : ℕ) (es tiles : List Entry) → AscendFrom from es → EachLists (Lists bytes h more) bound es tiles → reached_at bytes h id more (leading_of id es) ≡ Ok (entry_of tiles id)
+Reaches bytes h id more = (from bound : ℕ) (es tiles : List Entry) → AscendFrom from es → EachLists (Lists bytes h more) bound es tiles
+    → reached_at bytes h id more (leading_of id es) ≡ Ok (entry_of tiles id)
 
-from_last : (bytes : List ℕ) (h : Header) (id : ℕ) (tiles : List Entry) (o : Option Entry) → Below (Lists bytes h zero) id tiles o → reached_at bytes h id zero (where_leads id o) ≡ Ok (entry_of tiles id)
+from_last : (bytes : List ℕ) (h : Header) (id : ℕ) (tiles : List Entry) (o : Option Entry) → Below (Lists bytes h zero) id tiles o
+    → reached_at bytes h id zero (where_leads id o) ≡ Ok (entry_of tiles id)
 from_last bytes h id tiles None b = rw b (reached_none bytes h id zero)
 from_last bytes h id tiles (Some e) b = rw b.4 (reached_itself bytes h id zero e b.1 b.3 b.2)
 
-from_more : (bytes : List ℕ) (h : Header) (id more : ℕ) → Reaches bytes h id more → (tiles : List Entry) (o : Option Entry) → Below (Lists bytes h (suc more)) id tiles o → reached_at bytes h id (suc more) (where_leads id o) ≡ Ok (entry_of tiles id)
+from_more : (bytes : List ℕ) (h : Header) (id more : ℕ) → Reaches bytes h id more → (tiles : List Entry) (o : Option Entry)
+    → Below (Lists bytes h (suc more)) id tiles o → reached_at bytes h id (suc more) (where_leads id o) ≡ Ok (entry_of tiles id)
 from_more bytes h id more deeper tiles None b = rw b (reached_none bytes h id (suc more))
 from_more bytes h id more deeper tiles (Some e) b =
     elim b.3 [
@@ -243,21 +264,26 @@ from_more bytes h id more deeper tiles (Some e) b =
 pub reaches : (bytes : List ℕ) (h : Header) (id more : ℕ) → Reaches bytes h id more
 unfolding leading_of
 reaches bytes h id zero from bound es tiles rise l =
-    from_last bytes h id tiles (last_up_to id es) (below_last (Lists bytes h zero) (lists_from bytes h zero) (lists_below bytes h zero) id from bound es tiles rise l)
+    from_last bytes h id tiles (last_up_to id es) (below_last (Lists bytes h zero) (lists_from bytes h zero)
+    (lists_below bytes h zero) id from bound es tiles rise l)
 reaches bytes h id (suc more) from bound es tiles rise l =
-    from_more bytes h id more (reaches bytes h id more) tiles (last_up_to id es) (below_last (Lists bytes h (suc more)) (lists_from bytes h (suc more)) (lists_below bytes h (suc more)) id from bound es tiles rise l)
+    from_more bytes h id more (reaches bytes h id more) tiles (last_up_to id es)
+    (below_last (Lists bytes h (suc more)) (lists_from bytes h (suc more)) (lists_below bytes h (suc more)) id from bound es tiles rise l)
 
 -- ---- its content
 
-each_lie : (h : Header) (Leads : Leading) → ((e : Entry) (bound : ℕ) (tiles : List Entry) → Leads e bound tiles → AllByRecursion (LiesIn h.tiles) tiles) → (bound : ℕ) (es tiles : List Entry) → EachLists Leads bound es tiles → AllByRecursion (LiesIn h.tiles) tiles
+pub each_lie : (h : Header) (Leads : Leading) → ((e : Entry) (bound : ℕ) (tiles : List Entry) → Leads e bound tiles → AllByRecursion (LiesIn h.tiles) tiles)
+    → (bound : ℕ) (es tiles : List Entry) → EachLists Leads bound es tiles → AllByRecursion (LiesIn h.tiles) tiles
 each_lie h Leads lie bound [] tiles l = rw l tt
 each_lie h Leads lie bound (e ∷ es) tiles l =
-    subst (AllByRecursion (LiesIn h.tiles)) (sym l.2) (all_append (LiesIn h.tiles) l.0 l.1 (lie e (bound_of bound es) l.0 l.3) (each_lie h Leads lie bound es l.1 l.4))
+    subst (AllByRecursion (LiesIn h.tiles)) (sym l.2)
+    (all_append (LiesIn h.tiles) l.0 l.1 (lie e (bound_of bound es) l.0 l.3) (each_lie h Leads lie bound es l.1 l.4))
 
 tile_lies : (h : Header) (e : Entry) (tiles : List Entry) → ListsTile h e tiles → AllByRecursion (LiesIn h.tiles) tiles
 tile_lies h e tiles t = subst (AllByRecursion (LiesIn h.tiles)) (sym t.itself) (t.inside, tt)
 
-lists_lie : (bytes : List ℕ) (h : Header) (more : ℕ) (e : Entry) (bound : ℕ) (tiles : List Entry) → Lists bytes h more e bound tiles → AllByRecursion (LiesIn h.tiles) tiles
+pub lists_lie : (bytes : List ℕ) (h : Header) (more : ℕ) (e : Entry) (bound : ℕ) (tiles : List Entry) → Lists bytes h more e bound tiles
+    → AllByRecursion (LiesIn h.tiles) tiles
 lists_lie bytes h zero e bound tiles l = tile_lies h e tiles l
 lists_lie bytes h (suc more) e bound tiles l =
     elim l [ inl t ↦ tile_lies h e tiles t | inr d ↦ each_lie h (Lists bytes h more) (lists_lie bytes h more) bound d.0 tiles d.2 ]
@@ -265,7 +291,8 @@ lists_lie bytes h (suc more) e bound tiles l =
 abbrev IsFound : List ℕ → Header → Option Entry → Type 0
 IsFound bytes h o = content_at bytes h o ≡ Ok (content_of_entry bytes h o)
 
-found_either : (bytes : List ℕ) (h : Header) (b : Bool) (t : Entry) (o : Option Entry) → LiesIn h.tiles t → IsFound bytes h o → IsFound bytes h (cond b (Some t) o)
+found_either : (bytes : List ℕ) (h : Header) (b : Bool) (t : Entry) (o : Option Entry) → LiesIn h.tiles t → IsFound bytes h o
+    → IsFound bytes h (cond b (Some t) o)
 unfolding content_at
 found_either bytes h true t o lies f = rw (le-leb (t.offset + t.length) h.tiles.length lies) refl
 found_either bytes h false t o lies f = f
@@ -283,9 +310,8 @@ module _ (bytes : List ℕ) (h : Header) (id more bound : ℕ) (root tiles : Lis
   pub looked_up : Listed → reached_at bytes h id more start ≡ Ok (entry_of tiles id)
   looked_up l = ap (reached_at bytes h id more) l.0 ∙ reaches bytes h id more 0 bound root tiles l.1 l.2
 
-  pub content_found : Listed → (found : Option Entry) → reached_at bytes h id more start ≡ Ok found → content_at bytes h found ≡ Ok (content_of bytes h tiles id)
+  pub content_found : Listed → (found : Option Entry) → reached_at bytes h id more start ≡ Ok found
+      → content_at bytes h found ≡ Ok (content_of bytes h tiles id)
   content_found l found is =
-      let reads : Option Entry → Read (Option Entry) = λ o. Ok o in
-      let both : reads found ≡ reads (entry_of tiles id) = sym is ∙ looked_up l in
-      let same : found ≡ entry_of tiles id = cc in
+      let same = same_value found (entry_of tiles id) (sym is ∙ looked_up l) in
       ap (content_at bytes h) same ∙ found_of bytes h id tiles (each_lie h (Lists bytes h more) (lists_lie bytes h more) bound root tiles l.2)

@@ -1,8 +1,10 @@
 -- What archives begin with: their header and their root directory are what their bytes say, and no fault stands beside them.
-use Rattle.std.proofs.Common.{rules, refl, ◌≡◌, ◌≢◌, true, OnOk, ℕ, ◌+◌, ◌-◌, ◌<◌, ◌≤◌, List, length, take, drop, slice_range, slice_index, Result, Ok, Err, inl, inr, sym, ap, subst, ◌∙◌, arith, lit≤, lit<}
+use Rattle.std.proofs.Common.{rules, refl, ◌≡◌, ◌≢◌, true, OnOk, ℕ, ◌+◌, ◌-◌, ◌<◌, ◌≤◌, List, length, take, drop, slice_range, slice_index, Result, Ok, Err}
+use Rattle.std.proofs.Common.{inl, inr, sym, ap, subst, ◌∙◌, arith, lit≤, lit<}
 use Rattle.std.specs.Int.{w32, w64, from_le_bytes, cast_signed}
 use Rattle.std.specs.Result.{is_ok}
 use Rattle.std.proofs.lemmas.List.{get_or-take, take-take, drop-take}
+use Rattle.pm_header.specs.declared.header.TheConstants.{HEADER_BYTES}
 use Rattle.pm_header.specs.declared.header.Header.{Header}
 use Rattle.pm_header.specs.Layout.{IsHeader, magic, header_at, part_at, number_at, position_at}
 use Rattle.pm_header.proofs.Fields.{same_header}
@@ -10,18 +12,21 @@ use Rattle.pm_directory.specs.declared.entry.Entry.{Entry}
 use Rattle.pm_directory.specs.Directory.{IsDirectory}
 use Rattle.pm_directory.specs.declared.fault.DirectoryFault.{DirectoryFault}
 use Rattle.pm_directory.specs.Reading.{directory_at}
-use Rattle.pm_directory.proofs.DirectoryLaws.{directory_ok, directory_only, one_directory}
+use Rattle.pm_directory.proofs.DirectoryLaws.{directory_ok, directory_only}
+use Rattle.pm_directory.proofs.Laws.{directory_law}
 use Rattle.pm_archive.specs.declared.fault.ArchiveFault.{ArchiveFault}
 use Rattle.pm_archive.specs.declared.fault.ArchiveFault.TheVariants as faults
 use Rattle.pm_archive.specs.Answers.{IsOutside, UnlessOutside}
 use Rattle.pm_archive.specs.declared.fault.Section.{Section}
 use Rattle.pm_archive.specs.Sections.{HasSections, section_bytes}
 use Rattle.pm_archive.specs.Reading.{ArePlaced, IsMisplaced, OpeningHas, directory_or_fault}
-use Rattle.pm_archive.proofs.ListedSteps.{same_failed, not_both, read_ok, is_outside}
+use Rattle.reader.specs.Reading.{Read}
+use Rattle.reader.proofs.Steps.{same_fault, not_both}
+use Rattle.pm_archive.proofs.ListedSteps.{read_ok, is_outside}
 
 -- ---- the bytes of a header
 
--- the bytes in front have the same bytes at their places
+-- the bytes in front have the same bytes at their offsets
 range_of_front : (bytes : List ℕ) (n a b : ℕ) → a ≤ b → b ≤ n → slice_range (take n bytes) a b ≡ slice_range bytes a b
 range_of_front bytes n a b ab bn =
     let whole : a + (n - a) ≡ n = omega arith in
@@ -30,24 +35,25 @@ range_of_front bytes n a b ab bn =
     ∙ ap (take (b - a)) (drop-take a (n - a) bytes)
     ∙ take-take (b - a) (n - a) (drop a bytes) room
 
-number_of_front : (bytes : List ℕ) (place : ℕ) → place + 8 ≤ 127 → number_at place (take 127 bytes) ≡ number_at place bytes
-number_of_front bytes place inside = ap (from_le_bytes w64) (range_of_front bytes 127 place (place + 8) (omega arith) inside)
+number_of_front : (bytes : List ℕ) (offset : ℕ) → offset + 8 ≤ HEADER_BYTES → number_at offset (take HEADER_BYTES bytes) ≡ number_at offset bytes
+number_of_front bytes offset inside = ap (from_le_bytes w64) (range_of_front bytes HEADER_BYTES offset (offset + 8) (omega arith) inside)
 
-position_of_front : (bytes : List ℕ) (place : ℕ) → place + 4 ≤ 127 → position_at place (take 127 bytes) ≡ position_at place bytes
-position_of_front bytes place inside = ap (λ (ns : List ℕ). cast_signed w32 (from_le_bytes w32 ns)) (range_of_front bytes 127 place (place + 4) (omega arith) inside)
+position_of_front : (bytes : List ℕ) (offset : ℕ) → offset + 4 ≤ HEADER_BYTES → position_at offset (take HEADER_BYTES bytes) ≡ position_at offset bytes
+position_of_front bytes offset inside = ap (λ (ns : List ℕ). cast_signed w32 (from_le_bytes w32 ns))
+    (range_of_front bytes HEADER_BYTES offset (offset + 4) (omega arith) inside)
 
-part_of_front : (bytes : List ℕ) (place : ℕ) → place + 16 ≤ 127 → part_at place (take 127 bytes) ≡ part_at place bytes
-part_of_front bytes place inside =
-    let offset = number_of_front bytes place (omega arith) in
-    let length = number_of_front bytes (place + 8) (omega arith) in
-    λ i. record { offset = offset i; length = length i }
+part_of_front : (bytes : List ℕ) (offset : ℕ) → offset + 16 ≤ HEADER_BYTES → part_at offset (take HEADER_BYTES bytes) ≡ part_at offset bytes
+part_of_front bytes offset inside =
+    let first = number_of_front bytes offset (omega arith) in
+    let second = number_of_front bytes (offset + 8) (omega arith) in
+    λ i. record { offset = first i; length = second i }
 
-pub byte_of_front : (bytes : List ℕ) (place : ℕ) → place < 127 → slice_index (take 127 bytes) place ≡ slice_index bytes place
-byte_of_front bytes place inside = get_or-take 127 bytes place 0 inside
+pub byte_of_front : (bytes : List ℕ) (offset : ℕ) → offset < HEADER_BYTES → slice_index (take HEADER_BYTES bytes) offset ≡ slice_index bytes offset
+byte_of_front bytes offset inside = get_or-take HEADER_BYTES bytes offset 0 inside
 
-pub header_of_front : (bytes : List ℕ) → header_at (take 127 bytes) ≡ header_at bytes
+pub header_of_front : (bytes : List ℕ) → header_at (take HEADER_BYTES bytes) ≡ header_at bytes
 unfolding header_at
-header_of_front bytes = same_header (header_at (take 127 bytes)) (header_at bytes)
+header_of_front bytes = same_header (header_at (take HEADER_BYTES bytes)) (header_at bytes)
     (part_of_front bytes 8 (lit≤ tt))
     (part_of_front bytes 24 (lit≤ tt))
     (part_of_front bytes 40 (lit≤ tt))
@@ -69,11 +75,11 @@ header_of_front bytes = same_header (header_at (take 127 bytes)) (header_at byte
     (position_of_front bytes 119 (lit≤ tt))
     (position_of_front bytes 123 (lit≤ tt))
 
-pub magic_of_front : (bytes : List ℕ) → take 7 (take 127 bytes) ≡ take 7 bytes
-magic_of_front bytes = take-take 7 127 bytes (lit≤ tt)
+pub magic_of_front : (bytes : List ℕ) → take 7 (take HEADER_BYTES bytes) ≡ take 7 bytes
+magic_of_front bytes = take-take 7 HEADER_BYTES bytes (lit≤ tt)
 
--- the header of the first 127 bytes is that of all
-pub whole_header : (bytes : List ℕ) (h : Header) → 127 ≤ length bytes → IsHeader (take 127 bytes) h → IsHeader bytes h
+-- the header of the first bytes is that of all
+pub whole_header : (bytes : List ℕ) (h : Header) → HEADER_BYTES ≤ length bytes → IsHeader (take HEADER_BYTES bytes) h → IsHeader bytes h
 whole_header bytes h long is = record {
   whole = long;
   magic_is = sym (magic_of_front bytes) ∙ is.magic_is;
@@ -81,15 +87,18 @@ whole_header bytes h long is = record {
   fields_are = is.fields_are ∙ header_of_front bytes;
 }
 
--- what a read gave is the first 127 bytes
-pub front_read : {X E : Type 0} (r : Result X E) (into bytes : List ℕ) → is_ok r ≡ true → OnOk r (into ≡ slice_range bytes 0 127) → into ≡ take 127 bytes
+-- what a read gave is the first bytes
+pub front_read : {X E : Type 0} (r : Result X E) (into bytes : List ℕ) → is_ok r ≡ true → OnOk r (into ≡ slice_range bytes 0 HEADER_BYTES)
+    → into ≡ take HEADER_BYTES bytes
 front_read (Ok x) into bytes e gives = gives
 front_read (Err d) into bytes e gives = absurd (cc)
 
-pub version_of_front : (bytes into : List ℕ) (n : ℕ) → 127 ≤ length bytes → into ≡ take 127 bytes → take 7 into ≡ magic → slice_index into 7 ≡ n → n ≢ 3 → OpeningHas bytes (faults.Version n)
+pub version_of_front : (bytes into : List ℕ) (n : ℕ) → HEADER_BYTES ≤ length bytes → into ≡ take HEADER_BYTES bytes → take 7 into ≡ magic
+    → slice_index into 7 ≡ n → n ≢ 3 → OpeningHas bytes (faults.Version n)
 version_of_front bytes into n long front is at other =
     let byte : slice_index bytes 7 ≡ n = sym (byte_of_front bytes 7 (lit< tt)) ∙ ap (λ (bs : List ℕ). slice_index bs 7) (sym front) ∙ at in
-    OpeningHas.other_version (ap (λ (v : ℕ). faults.Version v) (sym byte)) long (sym (magic_of_front bytes) ∙ ap (take 7) (sym front) ∙ is) (λ (e : slice_index bytes 7 ≡ 3). other (sym byte ∙ e))
+    OpeningHas.other_version (ap (λ (v : ℕ). faults.Version v) (sym byte)) long (sym (magic_of_front bytes) ∙ ap (take 7) (sym front) ∙ is)
+    (λ (e : slice_index bytes 7 ≡ 3). other (sym byte ∙ e))
 
 -- ---- what there is once
 
@@ -97,7 +106,8 @@ pub one_header : (bytes : List ℕ) (h g : Header) → IsHeader bytes h → IsHe
 one_header bytes h g a b = a.fields_are ∙ sym b.fields_are
 
 not_misplaced : (count : ℕ) (h : Header) (s : Section) → ArePlaced count h → IsMisplaced count h s → ⊥
-not_misplaced count h s placed (IsMisplaced.root_misplaced e past) = elim past [ inl p ↦ absurd (omega (arith, placed.0, p)) | inr p ↦ absurd (omega (arith, placed.1, p)) ]
+not_misplaced count h s placed (IsMisplaced.root_misplaced e past) =
+    elim past [ inl p ↦ absurd (omega (arith, placed.0, p)) | inr p ↦ absurd (omega (arith, placed.1, p)) ]
 not_misplaced count h s placed (IsMisplaced.metadata_misplaced e r t past) = absurd (omega (arith, placed.2))
 not_misplaced count h s placed (IsMisplaced.leaves_misplaced e r t m past) = absurd (omega (arith, placed.3))
 not_misplaced count h s placed (IsMisplaced.tiles_misplaced e r t m l past) = absurd (omega (arith, placed.4))
@@ -129,26 +139,29 @@ module _ (bytes : List ℕ) (h : Header) (count : ℕ) (all : count ≡ length b
 
 -- ---- the root directory
 
-pub root_read : (bytes : List ℕ) (h : Header) (root : List Entry) → directory_or_fault h.root.offset (directory_at (section_bytes h.root bytes)) ≡ Ok root → IsDirectory (section_bytes h.root bytes) root
+pub root_read : (bytes : List ℕ) (h : Header) (root : List Entry) → directory_or_fault h.root.offset (directory_at (section_bytes h.root bytes)) ≡ Ok root
+    → IsDirectory (section_bytes h.root bytes) root
 root_read bytes h root e = directory_ok (section_bytes h.root bytes) root (read_ok h.root.offset (directory_at (section_bytes h.root bytes)) root e)
 
-refused : (place : ℕ) (r : Result (List Entry) DirectoryFault) (d : ArchiveFault) → directory_or_fault place r ≡ Err d → d ≡ faults.Directory place
-refused place (Ok es) d e = absurd (not_both es d e)
-refused place (Err f) d e = sym (same_failed {A = List Entry} (faults.Directory place) d e)
+refused : (offset : ℕ) (r : Read DirectoryFault (List Entry)) (d : ArchiveFault) → directory_or_fault offset r ≡ Err d → d ≡ faults.Directory offset
+refused offset (Ok es) d e = absurd (not_both es d e)
+refused offset (Err f) d e = sym (same_fault {A = List Entry} (faults.Directory offset) d e)
 
-root_fault : (bytes : List ℕ) (h : Header) (d : ArchiveFault) → HasSections bytes h → directory_or_fault h.root.offset (directory_at (section_bytes h.root bytes)) ≡ Err d → OpeningHas bytes d
+root_fault : (bytes : List ℕ) (h : Header) (d : ArchiveFault) → HasSections bytes h
+    → directory_or_fault h.root.offset (directory_at (section_bytes h.root bytes)) ≡ Err d → OpeningHas bytes d
 root_fault bytes h d has e =
     OpeningHas.no_directory h (refused h.root.offset (directory_at (section_bytes h.root bytes)) d e) has
-    (λ (es : List Entry) (is : IsDirectory (section_bytes h.root bytes) es). not_both es d (sym (ap (directory_or_fault h.root.offset) (directory_only (section_bytes h.root bytes) es is)) ∙ e))
+    (λ (es : List Entry) (is : IsDirectory (section_bytes h.root bytes) es). not_both es d
+    (sym (ap (directory_or_fault h.root.offset) (directory_only (section_bytes h.root bytes) es is)) ∙ e))
 
-pub root_refused : (bytes : List ℕ) (h : Header) (d : ArchiveFault) → HasSections bytes h → UnlessOutside (λ fault. directory_or_fault h.root.offset (directory_at (section_bytes h.root bytes)) ≡ Err fault) d
+pub root_refused : (bytes : List ℕ) (h : Header) (d : ArchiveFault) → HasSections bytes h
+    → UnlessOutside (λ fault. directory_or_fault h.root.offset (directory_at (section_bytes h.root bytes)) ≡ Err fault) d
     → UnlessOutside (OpeningHas bytes) d
-root_refused bytes h faults.Read has e = tt
-root_refused bytes h faults.Memory has e = tt
-root_refused bytes h d has e = root_fault bytes h d has e
+root_refused bytes h d has e inside = root_fault bytes h d has (e inside)
 
 -- bytes with sections and a root directory are opened
-opens : (bytes : List ℕ) (h : Header) (root : List Entry) (d : ArchiveFault) → HasSections bytes h → IsDirectory (section_bytes h.root bytes) root → OpeningHas bytes d → ⊥
+opens : (bytes : List ℕ) (h : Header) (root : List Entry) (d : ArchiveFault) → HasSections bytes h → IsDirectory (section_bytes h.root bytes) root
+    → OpeningHas bytes d → ⊥
 opens bytes h root d has dir (OpeningHas.is_short e short) = absurd (omega (arith, has.header.whole))
 opens bytes h root d has dir (OpeningHas.other_magic e long other) = other has.header.magic_is
 opens bytes h root d has dir (OpeningHas.other_version e long m other) = other has.header.version_is
@@ -159,10 +172,12 @@ opens bytes h root d has dir (OpeningHas.compressed g e is placed much) =
 opens bytes h root d has dir (OpeningHas.no_directory g e others none) =
     none root (subst (λ (x : Header). IsDirectory (section_bytes x.root bytes) root) (one_header bytes h g has.header others.header) dir)
 
-pub opened_once : (bytes : List ℕ) (g h : Header) (some others : List Entry) → HasSections bytes g → IsDirectory (section_bytes g.root bytes) some → HasSections bytes h → IsDirectory (section_bytes h.root bytes) others → (g ≡ h) × (some ≡ others)
+pub opened_once : (bytes : List ℕ) (g h : Header) (some others : List Entry) → HasSections bytes g → IsDirectory (section_bytes g.root bytes) some
+    → HasSections bytes h → IsDirectory (section_bytes h.root bytes) others → (g ≡ h) × (some ≡ others)
 opened_once bytes g h some others a dir b other =
     let same = one_header bytes g h a.header b.header in
-    (same, one_directory (section_bytes h.root bytes) some others (subst (λ (x : Header). IsDirectory (section_bytes x.root bytes) some) same dir) other)
+    (same, directory_law (section_bytes h.root bytes) some others (subst (λ (x : Header). IsDirectory (section_bytes x.root bytes) some) same dir) other)
 
-pub opened_unless : (bytes : List ℕ) (h : Header) (root : List Entry) (d : ArchiveFault) → UnlessOutside (OpeningHas bytes) d → HasSections bytes h → IsDirectory (section_bytes h.root bytes) root → IsOutside d
+pub opened_unless : (bytes : List ℕ) (h : Header) (root : List Entry) (d : ArchiveFault) → UnlessOutside (OpeningHas bytes) d → HasSections bytes h
+    → IsDirectory (section_bytes h.root bytes) root → IsOutside d
 opened_unless bytes h root d fault has dir = is_outside (OpeningHas bytes) d fault (opens bytes h root d has dir)

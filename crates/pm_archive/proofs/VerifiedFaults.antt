@@ -4,7 +4,6 @@ use Rattle.std.specs.List.{AllByRecursion}
 use Rattle.pm_header.specs.declared.header.Header.{Header}
 use Rattle.pm_directory.specs.declared.entry.Entry.{Entry}
 use Rattle.pm_archive.specs.declared.fault.ArchiveFault.{ArchiveFault}
-use Rattle.pm_archive.specs.declared.fault.ArchiveFault.TheVariants as faults
 use Rattle.pm_archive.specs.Answers.{UnlessOutside}
 use Rattle.pm_archive.specs.Sections.{section_bytes}
 use Rattle.pm_archive.specs.Archive.{IsMetadata, HasCounts}
@@ -12,39 +11,28 @@ use Rattle.pm_archive.specs.Reading.{list_at}
 use Rattle.pm_archive.specs.Verified.{AreVector, HasTile, VerifyingHas}
 use Rattle.pm_archive.specs.Verified.VerifyingHas.{bad_count, bad_tile}
 use Rattle.pm_archive.specs.VerifiedPieces.{IsFirstTileFault, IsCountFault}
-
--- a fault of the bytes of one kind is one of another
-unless_outside : (P Q : ArchiveFault → Type 0) → ((d : ArchiveFault) → P d → Q d) → (d : ArchiveFault) → UnlessOutside P d → UnlessOutside Q d
-unless_outside P Q to faults.Read h = tt
-unless_outside P Q to faults.Memory h = tt
-unless_outside P Q to faults.Short h = to faults.Short h
-unless_outside P Q to faults.Magic h = to faults.Magic h
-unless_outside P Q to (faults.Version n) h = to (faults.Version n) h
-unless_outside P Q to (faults.Section s) h = to (faults.Section s) h
-unless_outside P Q to (faults.Compressed n) h = to (faults.Compressed n) h
-unless_outside P Q to (faults.Directory n) h = to (faults.Directory n) h
-unless_outside P Q to (faults.Order n) h = to (faults.Order n) h
-unless_outside P Q to faults.Depth h = to faults.Depth h
-unless_outside P Q to (faults.Place n) h = to (faults.Place n) h
-unless_outside P Q to (faults.Count c) h = to (faults.Count c) h
-unless_outside P Q to (faults.Tile n) h = to (faults.Tile n) h
-unless_outside P Q to faults.Metadata h = to faults.Metadata h
+use Rattle.pm_archive.proofs.ListedSteps.{unless_weaker}
 
 all_more : (P : Entry → Type 0) (es : List Entry) (e : Entry) → AllByRecursion P es → P e → AllByRecursion P (es ++ e ∷ [])
 all_more P [] e all here = (here, tt)
 all_more P (x ∷ es) e all here = (all.0, all_more P es e all.1 here)
 
-module _ (bytes : List ℕ) (h : Header) (root : List Entry) (tiles : List Entry) (metadata : IsMetadata (section_bytes h.metadata bytes)) (listed : list_at bytes h root ≡ Ok tiles) where
+module _ (bytes : List ℕ) (h : Header) (root : List Entry) (tiles : List Entry) (metadata : IsMetadata (section_bytes h.metadata bytes))
+    (listed : list_at bytes h root ≡ Ok tiles) where
   pub other_count : (d : ArchiveFault) → UnlessOutside (IsCountFault h tiles) d → UnlessOutside (VerifyingHas bytes h root) d
-  other_count = unless_outside (IsCountFault h tiles) (VerifyingHas bytes h root) (λ d f. bad_count f.0 tiles f.1 metadata listed f.2)
+  other_count = unless_weaker (IsCountFault h tiles) (VerifyingHas bytes h root) (λ d f. bad_count f.0 tiles f.1 metadata listed f.2)
 
   -- behind the tiles that can be read, the first that can't be
-  first_unread : HasCounts h tiles → AreVector h → (d : ArchiveFault) (front es : List Entry) → tiles ≡ front ++ es → AllByRecursion (HasTile bytes h) front → IsFirstTileFault bytes h es d → VerifyingHas bytes h root d
+  first_unread : HasCounts h tiles → AreVector h → (d : ArchiveFault) (front es : List Entry) → tiles ≡ front ++ es → AllByRecursion (HasTile bytes h) front
+      → IsFirstTileFault bytes h es d → VerifyingHas bytes h root d
   first_unread counts vector d front [] parts read f = absurd f
   first_unread counts vector d front (e ∷ es) parts read (inl f) =
-      bad_tile front e es f.0 metadata (subst (λ (ts : List Entry). list_at bytes h root ≡ Ok ts) parts listed) (subst (HasCounts h) parts counts) vector read f.1
+      bad_tile front e es f.0 metadata (subst (λ (ts : List Entry). list_at bytes h root ≡ Ok ts) parts listed)
+      (subst (HasCounts h) parts counts) vector read f.1
   first_unread counts vector d front (e ∷ es) parts read (inr f) =
       first_unread counts vector d (front ++ e ∷ []) es (rw append_assoc parts) (all_more (HasTile bytes h) front e read f.0) f.1
 
-  pub other_tile : HasCounts h tiles → (d : ArchiveFault) → UnlessOutside (λ f. AreVector h × IsFirstTileFault bytes h tiles f) d → UnlessOutside (VerifyingHas bytes h root) d
-  other_tile counts = unless_outside (λ f. AreVector h × IsFirstTileFault bytes h tiles f) (VerifyingHas bytes h root) (λ d f. first_unread counts f.0 d [] tiles refl tt f.1)
+  pub other_tile : HasCounts h tiles → (d : ArchiveFault) → UnlessOutside (λ f. AreVector h × IsFirstTileFault bytes h tiles f) d
+      → UnlessOutside (VerifyingHas bytes h root) d
+  other_tile counts = unless_weaker (λ f. AreVector h × IsFirstTileFault bytes h tiles f) (VerifyingHas bytes h root)
+      (λ d f. first_unread counts f.0 d [] tiles refl tt f.1)

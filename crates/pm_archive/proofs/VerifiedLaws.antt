@@ -1,5 +1,6 @@
 -- Tiles that were read, and those that can't be.
-use Rattle.std.proofs.Common.{◌≡◌, ◌≢◌, ℕ, zero, suc, ◌+◌, ◌<◌, inr, Bool, true, false, cond, ◌&&◌, List, [], ◌∷◌, length, get_or, drop, refl, sym, subst, ◌∙◌, add-one, arith, slice_range, Ok, Err, Result, ◌↔◌}
+use Rattle.std.proofs.Common.{◌≡◌, ◌≢◌, ℕ, zero, suc, ◌+◌, ◌<◌, inr, Bool, true, false, cond, ◌&&◌, List, [], ◌∷◌, length, get_or, drop, refl, sym, subst, ◌∙◌}
+use Rattle.std.proofs.Common.{add-one, arith, slice_range, Ok, Err, Result, ◌↔◌}
 use Rattle.std.specs.Prelude.{IfOk, IsTrue}
 use Rattle.std.specs.declared.alloc.AllocError.{AllocError}
 use Rattle.std.proofs.lemmas.Bool.{false≢true}
@@ -17,7 +18,7 @@ use Rattle.pm_header.specs.declared.header.Header.{Header}
 use Rattle.pm_directory.specs.declared.entry.Entry.{Entry}
 use Rattle.pm_archive.specs.declared.fault.ArchiveFault.{ArchiveFault}
 use Rattle.pm_archive.specs.Verified.{IsTile, HasTile}
-use Rattle.pm_archive.specs.VerifiedPieces.{IsFirstTileFault, place_cmp, AreRead}
+use Rattle.pm_archive.specs.VerifiedPieces.{IsFirstTileFault, span_cmp, AreRead}
 
 -- ---- one tile
 
@@ -37,7 +38,7 @@ pub refused_tile : (content : List ℕ) (d : TileFault) (r : Result Bool AllocEr
 refused_tile content d (Ok is) h only = (λ t. absurd (false≢true (sym h.0 ∙ t)), λ t. absurd (no_tile content d h.1 only t))
 refused_tile content d (Err e) h only = tt
 
--- ---- places
+-- ---- spans
 
 equal_numbers : (m n : ℕ) → is_eq (nat_cmp m n) ≡ true → m ≡ n
 equal_numbers m n e = (unsigned_Decides m n).0 (sym (unsigned_tied m n) ∙ e)
@@ -46,38 +47,43 @@ both : (a b : Bool) → (a && b) ≡ true → (a ≡ true) × (b ≡ true)
 both true b e = (refl, e)
 both false b e = cc
 
-equal_places : (p q : ℕ × ℕ) → is_at (place_cmp p) q ≡ true → p ≡ q
-equal_places p q e =
+equal_spans : (p q : ℕ × ℕ) → is_at (span_cmp p) q ≡ true → p ≡ q
+equal_spans p q e =
     let h = both (is_eq (nat_cmp p.0 q.0)) (is_eq (nat_cmp p.1 q.1)) (tied_then (nat_cmp p.0 q.0) (nat_cmp p.1 q.1) ∙ e) in
     λ i. (equal_numbers p.0 q.0 h.0 i, equal_numbers p.1 q.1 h.1 i)
 
--- one more place
-pub more_read : (bytes : List ℕ) (h : Header) (p : ℕ × ℕ) (s n : BTreeSet (ℕ × ℕ)) → ((q : ℕ × ℕ) → contains place_cmp n q ≡ cond (is_at (place_cmp p) q) true (contains place_cmp s q))
+-- one more span
+pub more_read : (bytes : List ℕ) (h : Header) (p : ℕ × ℕ) (s n : BTreeSet (ℕ × ℕ))
+    → ((q : ℕ × ℕ) → contains span_cmp n q ≡ cond (is_at (span_cmp p) q) true (contains span_cmp s q))
     → AreRead bytes h s → IsTile (slice_range bytes (h.tiles.offset + p.0) (h.tiles.offset + p.0 + p.1)) → AreRead bytes h n
-more_read bytes h p s n more before here q m = by (is_at (place_cmp p) q) refl (sym (more q) ∙ m)
+more_read bytes h p s n more before here q m = by (is_at (span_cmp p) q) refl (sym (more q) ∙ m)
   where
     At : ℕ × ℕ → Type 0
     At r = IsTile (slice_range bytes (h.tiles.offset + r.0) (h.tiles.offset + r.0 + r.1))
 
-    by : (b : Bool) → is_at (place_cmp p) q ≡ b → cond b true (contains place_cmp s q) ≡ true → IsTile (slice_range bytes (h.tiles.offset + q.0) (h.tiles.offset + q.0 + q.1))
-    by true e _ = let P : ℕ × ℕ → Type 0 = λ r. IsTile (slice_range bytes (h.tiles.offset + r.0) (h.tiles.offset + r.0 + r.1)) in subst P (equal_places p q e) here
+    by : (b : Bool) → is_at (span_cmp p) q ≡ b → cond b true (contains span_cmp s q) ≡ true
+        → IsTile (slice_range bytes (h.tiles.offset + q.0) (h.tiles.offset + q.0 + q.1))
+    by true e _ = let P : ℕ × ℕ → Type 0 = λ r. IsTile (slice_range bytes (h.tiles.offset + r.0) (h.tiles.offset + r.0 + r.1)) in subst P
+        (equal_spans p q e) here
     by false _ k = before q k
 
 -- ---- each of some entries
 
-pub at_place : (P : Entry → Type 0) (es : List Entry) (i : ℕ) (d : Entry) → i < length es → AllByRecursion P es → P (get_or es i d)
-at_place P [] i d below all = absurd (omega arith)
-at_place P (e ∷ es) zero d below all = all.0
-at_place P (e ∷ es) (suc i) d below all = at_place P es i d (omega arith) all.1
+pub at_index : (P : Entry → Type 0) (es : List Entry) (i : ℕ) (d : Entry) → i < length es → AllByRecursion P es → P (get_or es i d)
+at_index P [] i d below all = absurd (omega arith)
+at_index P (e ∷ es) zero d below all = all.0
+at_index P (e ∷ es) (suc i) d below all = at_index P es i d (omega arith) all.1
 
--- the entries from a place on
-from_place : (es : List Entry) (i : ℕ) (d : Entry) → i < length es → drop i es ≡ get_or es i d ∷ drop (i + 1) es
-from_place es i d below = rw add-one (drop-cons es i d below)
+-- the entries from an index on
+from_index : (es : List Entry) (i : ℕ) (d : Entry) → i < length es → drop i es ≡ get_or es i d ∷ drop (i + 1) es
+from_index es i d below = rw add-one (drop-cons es i d below)
 
-pub each_from : (P : Entry → Type 0) (es : List Entry) (i : ℕ) (d : Entry) → i < length es → P (get_or es i d) → AllByRecursion P (drop (i + 1) es) → AllByRecursion P (drop i es)
-each_from P es i d below here rest = subst (AllByRecursion P) (sym (from_place es i d below)) (here, rest)
+pub each_from : (P : Entry → Type 0) (es : List Entry) (i : ℕ) (d : Entry) → i < length es → P (get_or es i d) → AllByRecursion P (drop (i + 1) es)
+    → AllByRecursion P (drop i es)
+each_from P es i d below here rest = subst (AllByRecursion P) (sym (from_index es i d below)) (here, rest)
 
-pub first_from : (bytes : List ℕ) (h : Header) (es : List Entry) (i : ℕ) (d : Entry) (f : ArchiveFault) → i < length es → HasTile bytes h (get_or es i d) → IsFirstTileFault bytes h (drop (i + 1) es) f → IsFirstTileFault bytes h (drop i es) f
+pub first_from : (bytes : List ℕ) (h : Header) (es : List Entry) (i : ℕ) (d : Entry) (f : ArchiveFault) → i < length es → HasTile bytes h (get_or es i d)
+    → IsFirstTileFault bytes h (drop (i + 1) es) f → IsFirstTileFault bytes h (drop i es) f
 first_from bytes h es i d f below here rest =
     let P : List Entry → Type 0 = λ xs. IsFirstTileFault bytes h xs f in
-    subst P (sym (from_place es i d below)) (inr (here, rest))
+    subst P (sym (from_index es i d below)) (inr (here, rest))

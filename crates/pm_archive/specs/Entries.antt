@@ -1,19 +1,17 @@
 -- The tile entries of an archive, which its root directory and its leaf directories list.
-use Rattle.std.specs.Prelude.{◌≡◌, ℕ, zero, suc, ◌+◌, ◌<◌, ◌≤◌, ◌⊎◌, List, [], ◌∷◌, ◌++◌, slice_range, Option, Some, None, if◌then◌else◌, nat_le, nat_lt, ◌&&◌}
+use Rattle.std.specs.Prelude.{◌≡◌, ℕ, zero, suc, ◌+◌, ◌<◌, ◌≤◌, ◌⊎◌, List, [], ◌∷◌, ◌++◌, slice_range, Option, Some, None, if◌then◌else◌, nat_le, nat_lt, ◌&&◌, ◌==◌}
 use Rattle.std.specs.List.{AllByRecursion}
 use Rattle.pm_header.specs.declared.part.Part.{Part}
 use Rattle.pm_header.specs.declared.header.Header.{Header}
 use Rattle.pm_directory.specs.declared.entry.Entry.{Entry}
+use Rattle.pm_directory.specs.declared.entry.TheConstants.{IDS_END}
 use Rattle.pm_directory.specs.Directory.{IsDirectory, ids_behind}
+use Rattle.pm_archive.specs.declared.limits.TheConstants.{MOST_LEAVES}
 use Rattle.pm_archive.specs.Sections.{section_bytes}
 
 -- the ids of all tiles are below this number
 abbrev pub ids_end : ℕ
-ids_end = 6148914691236517205
-
--- how many leaf directories may stand one below the other
-abbrev pub most_leaves : ℕ
-most_leaves = 3
+ids_end = IDS_END
 
 -- the bytes of an entry, whose offset is counted from the start of its section
 abbrev pub entry_bytes : Part → Entry → List ℕ → List ℕ
@@ -22,6 +20,11 @@ entry_bytes s e bytes = slice_range bytes (s.offset + e.offset) (s.offset + e.of
 -- the entry lies inside the section
 abbrev pub LiesIn : Part → Entry → Type 0
 LiesIn s e = e.offset + e.length ≤ s.length
+
+-- there is an entry, and its bytes, a leaf directory or a content, lie inside their section
+abbrev pub LiesInside : Header → Option Entry → Type 0
+LiesInside h None = ⊥
+LiesInside h (Some e) = LiesIn (if e.run == 0 then h.leaves else h.tiles) e
 
 -- an entry leads to ids below that of the next one, the last one to ids below the bound of its directory
 abbrev pub bound_of : ℕ → List Entry → ℕ
@@ -35,7 +38,8 @@ AreBetween from bound entries = AllByRecursion (λ e. (from ≤ e.id) × (ids_be
 -- the entries lead to these tile entries, one after the other
 abbrev pub EachLists : (Entry → ℕ → List Entry → Type 0) → ℕ → List Entry → List Entry → Type 0
 EachLists Leads bound [] tiles = tiles ≡ []
-EachLists Leads bound (e ∷ es) tiles = (front : List Entry) × (rest : List Entry) × (tiles ≡ front ++ rest) × Leads e (bound_of bound es) front × EachLists Leads bound es rest
+EachLists Leads bound (e ∷ es) tiles = (front : List Entry) × (rest : List Entry) × (tiles ≡ front ++ rest) × Leads e (bound_of bound es) front
+    × EachLists Leads bound es rest
 
 -- a tile entry lists itself
 pub record ListsTile (h : Header) (e : Entry) (tiles : List Entry) : Type 0 where
@@ -53,11 +57,12 @@ pub record IsLeaf (bytes : List ℕ) (h : Header) (e : Entry) (bound : ℕ) (ent
 -- an entry lists itself, or what its leaf directory lists, below which so many more leaf directories may stand
 abbrev pub Lists : List ℕ → Header → ℕ → Entry → ℕ → List Entry → Type 0
 Lists bytes h zero e bound tiles = ListsTile h e tiles
-Lists bytes h (suc more) e bound tiles = ListsTile h e tiles ⊎ ((entries : List Entry) × IsLeaf bytes h e bound entries × EachLists (Lists bytes h more) bound entries tiles)
+Lists bytes h (suc more) e bound tiles = ListsTile h e tiles
+    ⊎ ((entries : List Entry) × IsLeaf bytes h e bound entries × EachLists (Lists bytes h more) bound entries tiles)
 
 -- these are the tile entries below the root directory, in ascending order
 abbrev pub HasEntries : List ℕ → Header → List Entry → Type 0
-HasEntries bytes h tiles = (root : List Entry) × IsDirectory (section_bytes h.root bytes) root × EachLists (Lists bytes h most_leaves) ids_end root tiles
+HasEntries bytes h tiles = (root : List Entry) × IsDirectory (section_bytes h.root bytes) root × EachLists (Lists bytes h MOST_LEAVES) IDS_END root tiles
 
 -- the entry whose run has the id
 abbrev pub entry_of : List Entry → ℕ → Option Entry

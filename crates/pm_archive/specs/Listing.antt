@@ -1,11 +1,12 @@
 -- Listing, one entry after the other.
 use Rattle.std.specs.Prelude.{ℕ, List, ◌++◌, max, Ok, Option, Some, None, if◌then◌else◌, nat_lt}
+use Rattle.reader.specs.Reading.{Read, ◌>>=◌}
+use Rattle.pm_archive.specs.declared.fault.ArchiveFault.{ArchiveFault}
 use Rattle.pm_directory.specs.declared.entry.Entry.{Entry}
 use Rattle.pm_directory.specs.Directory.{ids_behind}
-use Rattle.pm_archive.specs.Reading.{Read, ◌>>=◌}
 
 -- what a reading lists, behind the tile entries that there were before
-abbrev pub behind : List Entry → Read (List Entry) → Read (List Entry)
+abbrev pub behind : List Entry → Read ArchiveFault (List Entry) → Read ArchiveFault (List Entry)
 behind before reading = reading >>= λ listed. Ok (before ++ listed)
 
 -- an id of the entry that isn't between these

@@ -1,8 +1,12 @@
 -- The faults of an archive's sections and directories, in the order in which they are looked for.
-use Rattle.std.specs.Prelude.{◌≡◌, ◌≢◌, ℕ, zero, suc, ◌+◌, ◌<◌, ◌≤◌, ◌⊎◌, max, List, [], ◌∷◌, ◌++◌, length, take, slice_index, Result, Ok, Err, Option, Some, None, if◌then◌else◌, nat_lt, nat_le}
+use Rattle.std.specs.Prelude.{◌≡◌, ◌≢◌, ℕ, zero, suc, ◌+◌, ◌<◌, ◌≤◌, ◌⊎◌, max, List, [], ◌∷◌, ◌++◌, length, take, slice_index, Ok, Err, Option, Some, None}
+use Rattle.std.specs.Prelude.{if◌then◌else◌, nat_lt, nat_le}
+use Rattle.reader.specs.Reading.{Read, ◌>>=◌}
 use Rattle.pm_header.specs.declared.header.Header.{Header}
+use Rattle.pm_header.specs.declared.header.TheConstants.{HEADER_BYTES}
 use Rattle.pm_header.specs.Layout.{IsHeader, magic}
 use Rattle.pm_directory.specs.declared.entry.Entry.{Entry}
+use Rattle.pm_directory.specs.declared.entry.TheConstants.{IDS_END}
 use Rattle.pm_directory.specs.declared.fault.DirectoryFault.{DirectoryFault}
 use Rattle.pm_directory.specs.declared.fault.DirectoryFault.TheVariants as directory_faults
 use Rattle.pm_directory.specs.Directory.{IsDirectory, ids_behind}
@@ -11,40 +15,36 @@ use Rattle.pm_archive.specs.declared.fault.ArchiveFault.{ArchiveFault}
 use Rattle.pm_archive.specs.declared.fault.ArchiveFault.TheVariants as faults
 use Rattle.pm_archive.specs.declared.fault.Section.{Section}
 use Rattle.pm_archive.specs.declared.fault.Section.TheVariants as sections
+use Rattle.pm_archive.specs.declared.limits.TheConstants.{OPENING_END, MOST_LEAVES}
 use Rattle.pm_archive.specs.Sections.{end_of, section_bytes, HasSections}
-use Rattle.pm_archive.specs.Entries.{ids_end, most_leaves, entry_bytes, bound_of}
+use Rattle.pm_archive.specs.Entries.{entry_bytes, bound_of}
 
 -- ---- opening
 
--- the first section that is in the wrong place, of a file of so many bytes
+-- the first section that is misplaced, in a file of so many bytes
 pub data IsMisplaced (count : ℕ) (h : Header) (s : Section) : Type 0 where
-  root_misplaced : s ≡ sections.Root → (count < end_of h.root) ⊎ (16384 < end_of h.root) → IsMisplaced count h s
-  metadata_misplaced : s ≡ sections.Metadata → end_of h.root ≤ count → end_of h.root ≤ 16384 → count < end_of h.metadata → IsMisplaced count h s
-  leaves_misplaced : s ≡ sections.Leaves → end_of h.root ≤ count → end_of h.root ≤ 16384 → end_of h.metadata ≤ count → count < end_of h.leaves → IsMisplaced count h s
-  tiles_misplaced : s ≡ sections.Tiles → end_of h.root ≤ count → end_of h.root ≤ 16384 → end_of h.metadata ≤ count → end_of h.leaves ≤ count → count < end_of h.tiles → IsMisplaced count h s
+  root_misplaced : s ≡ sections.Root → (count < end_of h.root) ⊎ (OPENING_END < end_of h.root) → IsMisplaced count h s
+  metadata_misplaced : s ≡ sections.Metadata → end_of h.root ≤ count → end_of h.root ≤ OPENING_END → count < end_of h.metadata → IsMisplaced count h s
+  leaves_misplaced : s ≡ sections.Leaves → end_of h.root ≤ count → end_of h.root ≤ OPENING_END → end_of h.metadata ≤ count → count < end_of h.leaves
+      → IsMisplaced count h s
+  tiles_misplaced : s ≡ sections.Tiles → end_of h.root ≤ count → end_of h.root ≤ OPENING_END → end_of h.metadata ≤ count → end_of h.leaves ≤ count
+      → count < end_of h.tiles → IsMisplaced count h s
 
--- each section is in its place, in a file of so many bytes
+-- no section is misplaced, in a file of so many bytes
 abbrev pub ArePlaced : ℕ → Header → Type 0
-ArePlaced count h = (end_of h.root ≤ count) × (end_of h.root ≤ 16384) × (end_of h.metadata ≤ count) × (end_of h.leaves ≤ count) × (end_of h.tiles ≤ count)
+ArePlaced count h = (end_of h.root ≤ count) × (end_of h.root ≤ OPENING_END) × (end_of h.metadata ≤ count) × (end_of h.leaves ≤ count) × (end_of h.tiles ≤ count)
 
 -- the first fault of bytes that have no sections or no root directory
 pub data OpeningHas (bytes : List ℕ) (d : ArchiveFault) : Type 0 where
-  is_short : d ≡ faults.Short → length bytes < 127 → OpeningHas bytes d
-  other_magic : d ≡ faults.Magic → 127 ≤ length bytes → take 7 bytes ≢ magic → OpeningHas bytes d
-  other_version : d ≡ faults.Version (slice_index bytes 7) → 127 ≤ length bytes → take 7 bytes ≡ magic → slice_index bytes 7 ≢ 3 → OpeningHas bytes d
+  is_short : d ≡ faults.Short → length bytes < HEADER_BYTES → OpeningHas bytes d
+  other_magic : d ≡ faults.Magic → HEADER_BYTES ≤ length bytes → take 7 bytes ≢ magic → OpeningHas bytes d
+  other_version : d ≡ faults.Version (slice_index bytes 7) → HEADER_BYTES ≤ length bytes → take 7 bytes ≡ magic → slice_index bytes 7 ≢ 3 → OpeningHas bytes d
   misplaced : (h : Header) → (s : Section) → d ≡ faults.Section s → IsHeader bytes h → IsMisplaced (length bytes) h s → OpeningHas bytes d
   compressed : (h : Header) → d ≡ faults.Compressed h.internal → IsHeader bytes h → ArePlaced (length bytes) h → 2 ≤ h.internal → OpeningHas bytes d
-  no_directory : (h : Header) → d ≡ faults.Directory h.root.offset → HasSections bytes h → ((entries : List Entry) → ¬ IsDirectory (section_bytes h.root bytes) entries) → OpeningHas bytes d
+  no_directory : (h : Header) → d ≡ faults.Directory h.root.offset → HasSections bytes h
+      → ((entries : List Entry) → ¬ IsDirectory (section_bytes h.root bytes) entries) → OpeningHas bytes d
 
 -- ---- listing: the root's entries in order, each leaf directory where it is named
-
-abbrev pub Read : Type 0 → Type 0
-Read X = Result X ArchiveFault
-
-infixl 10 ◌>>=◌
-abbrev pub ◌>>=◌ : {A B : Type 0} → Read A → (A → Read B) → Read B
-(Ok x) >>= f = f x
-(Err e) >>= f = Err e
 
 -- the least id of the entries that isn't between these
 abbrev pub stray_id : ℕ → ℕ → List Entry → Option ℕ
@@ -52,48 +52,50 @@ stray_id from bound [] = None
 stray_id from bound (e ∷ es) = if nat_lt e.id from then Some e.id else (if nat_lt bound (ids_behind e) then Some (max e.id bound) else stray_id from bound es)
 
 -- that an id isn't between these is a fault
-abbrev pub stray_fault : Option ℕ → Read (Unit {0})
+abbrev pub stray_fault : Option ℕ → Read ArchiveFault (Unit {0})
 stray_fault None = Ok tt
 stray_fault (Some id) = Err (faults.Order id)
 
-abbrev pub unless_stray : List Entry → Option ℕ → Read (List Entry)
+abbrev pub unless_stray : List Entry → Option ℕ → Read ArchiveFault (List Entry)
 unless_stray entries None = Ok entries
 unless_stray entries (Some id) = Err (faults.Order id)
 
--- what a fault of the directory at a place is to the archive
+-- what a fault of the directory at an offset is to the archive
 abbrev pub fault_at : ℕ → DirectoryFault → ArchiveFault
-fault_at place directory_faults.Memory = faults.Memory
-fault_at place _ = faults.Directory place
+fault_at offset directory_faults.Memory = faults.Memory
+fault_at offset _ = faults.Directory offset
 
-abbrev pub directory_or_fault : ℕ → Result (List Entry) DirectoryFault → Read (List Entry)
-directory_or_fault place (Ok entries) = Ok entries
-directory_or_fault place (Err _) = Err (faults.Directory place)
+abbrev pub directory_or_fault : ℕ → Read DirectoryFault (List Entry) → Read ArchiveFault (List Entry)
+directory_or_fault offset (Ok entries) = Ok entries
+directory_or_fault offset (Err _) = Err (faults.Directory offset)
 
 -- the entries of the leaf directory that an entry names, wherever its ids lie
-unfoldable pub directory_of_entry : List ℕ → Header → Entry → Read (List Entry)
-directory_of_entry bytes h e = if nat_le (e.offset + e.length) h.leaves.length then directory_or_fault (h.leaves.offset + e.offset) (directory_at (entry_bytes h.leaves e bytes)) else Err (faults.Place e.id)
+unfoldable pub directory_of_entry : List ℕ → Header → Entry → Read ArchiveFault (List Entry)
+directory_of_entry bytes h e =
+    if nat_le (e.offset + e.length) h.leaves.length then directory_or_fault (h.leaves.offset + e.offset) (directory_at (entry_bytes h.leaves e bytes))
+    else Err (faults.Place e.id)
 
 -- the same, where its ids are between that of the entry and the bound
-unfoldable pub leaf_at : List ℕ → Header → Entry → ℕ → Read (List Entry)
+unfoldable pub leaf_at : List ℕ → Header → Entry → ℕ → Read ArchiveFault (List Entry)
 leaf_at bytes h e bound = directory_of_entry bytes h e >>= λ entries. unless_stray entries (stray_id e.id bound entries)
 
 -- the content of a tile entry
-unfoldable pub content_of_tile : List ℕ → Header → Entry → Read (List ℕ)
+unfoldable pub content_of_tile : List ℕ → Header → Entry → Read ArchiveFault (List ℕ)
 content_of_tile bytes h e = if nat_le (e.offset + e.length) h.tiles.length then Ok (entry_bytes h.tiles e bytes) else Err (faults.Place e.id)
 
-unfoldable pub tile_at : Header → Entry → Read (List Entry)
+unfoldable pub tile_at : Header → Entry → Read ArchiveFault (List Entry)
 tile_at h e = if nat_le (e.offset + e.length) h.tiles.length then Ok (e ∷ []) else Err (faults.Place e.id)
 
 -- what the entries list, one after the other
-abbrev pub each_at : (Entry → ℕ → Read (List Entry)) → ℕ → List Entry → Read (List Entry)
+abbrev pub each_at : (Entry → ℕ → Read ArchiveFault (List Entry)) → ℕ → List Entry → Read ArchiveFault (List Entry)
 each_at lists bound [] = Ok []
 each_at lists bound (e ∷ es) = lists e (bound_of bound es) >>= λ front. each_at lists bound es >>= λ rest. Ok (front ++ rest)
 
 -- what an entry lists, below which so many more leaf directories may stand
-abbrev pub lists_at : List ℕ → Header → ℕ → Entry → ℕ → Read (List Entry)
+abbrev pub lists_at : List ℕ → Header → ℕ → Entry → ℕ → Read ArchiveFault (List Entry)
 lists_at bytes h zero e bound = if nat_lt 0 e.run then tile_at h e else Err faults.Depth
 lists_at bytes h (suc more) e bound = if nat_lt 0 e.run then tile_at h e else (leaf_at bytes h e bound >>= each_at (lists_at bytes h more) bound)
 
 -- the tile entries below a root directory of these entries, or the first fault
-abbrev pub list_at : List ℕ → Header → List Entry → Read (List Entry)
-list_at bytes h root = each_at (lists_at bytes h most_leaves) ids_end root
+abbrev pub list_at : List ℕ → Header → List Entry → Read ArchiveFault (List Entry)
+list_at bytes h root = each_at (lists_at bytes h MOST_LEAVES) IDS_END root

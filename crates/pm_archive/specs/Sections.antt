@@ -3,6 +3,7 @@ use Rattle.std.specs.Prelude.{ℕ, ◌+◌, ◌<◌, ◌≤◌, List, length, sl
 use Rattle.pm_header.specs.declared.part.Part.{Part}
 use Rattle.pm_header.specs.declared.header.Header.{Header}
 use Rattle.pm_header.specs.Layout.{IsHeader}
+use Rattle.pm_archive.specs.declared.limits.TheConstants.{OPENING_END}
 
 -- behind the last byte of a section
 abbrev pub end_of : Part → ℕ
@@ -13,11 +14,11 @@ abbrev pub section_bytes : Part → List ℕ → List ℕ
 section_bytes p bytes = slice_range bytes p.offset (end_of p)
 
 -- The bytes begin with a header, and each section that it names lies inside them, the root directory also inside the
--- first 16,384 bytes. The directories aren't compressed.
+-- opening. The directories aren't compressed.
 pub record HasSections (bytes : List ℕ) (h : Header) : Type 0 where
   pub header : IsHeader bytes h
   pub root_inside : end_of h.root ≤ length bytes
-  pub root_early : end_of h.root ≤ 16384
+  pub root_early : end_of h.root ≤ OPENING_END
   pub metadata_inside : end_of h.metadata ≤ length bytes
   pub leaves_inside : end_of h.leaves ≤ length bytes
   pub tiles_inside : end_of h.tiles ≤ length bytes

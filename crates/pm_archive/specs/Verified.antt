@@ -52,12 +52,15 @@ pub record IsVerified (bytes : List ℕ) (h : Header) (root : List Entry) (repor
 pub data HasOtherCount (h : Header) (tiles : List Entry) (c : Count) : Type 0 where
   other_addressed : c ≡ counts.Addressed → ¬ Says h.addressed (addressed_by tiles) → HasOtherCount h tiles c
   other_entries : c ≡ counts.Entries → Says h.addressed (addressed_by tiles) → ¬ Says h.entries (length tiles) → HasOtherCount h tiles c
-  other_contents : c ≡ counts.Contents → Says h.addressed (addressed_by tiles) → Says h.entries (length tiles) → ¬ Says h.contents (contents_of tiles) → HasOtherCount h tiles c
+  other_contents : c ≡ counts.Contents → Says h.addressed (addressed_by tiles) → Says h.entries (length tiles) → ¬ Says h.contents (contents_of tiles)
+      → HasOtherCount h tiles c
 
 -- the first fault of an archive that was opened with this header and these entries of its root directory
 pub data VerifyingHas (bytes : List ℕ) (h : Header) (root : List Entry) (d : ArchiveFault) : Type 0 where
   bad_metadata : d ≡ faults.Metadata → ¬ IsMetadata (section_bytes h.metadata bytes) → VerifyingHas bytes h root d
   bad_entries : IsMetadata (section_bytes h.metadata bytes) → list_at bytes h root ≡ Err d → VerifyingHas bytes h root d
-  bad_count : (c : Count) → (tiles : List Entry) → d ≡ faults.Count c → IsMetadata (section_bytes h.metadata bytes) → list_at bytes h root ≡ Ok tiles → HasOtherCount h tiles c → VerifyingHas bytes h root d
-  bad_tile : (front : List Entry) → (e : Entry) → (rest : List Entry) → d ≡ faults.Tile e.id → IsMetadata (section_bytes h.metadata bytes) → list_at bytes h root ≡ Ok (front ++ e ∷ rest) → HasCounts h (front ++ e ∷ rest)
+  bad_count : (c : Count) → (tiles : List Entry) → d ≡ faults.Count c → IsMetadata (section_bytes h.metadata bytes) → list_at bytes h root ≡ Ok tiles
+      → HasOtherCount h tiles c → VerifyingHas bytes h root d
+  bad_tile : (front : List Entry) → (e : Entry) → (rest : List Entry) → d ≡ faults.Tile e.id → IsMetadata (section_bytes h.metadata bytes)
+      → list_at bytes h root ≡ Ok (front ++ e ∷ rest) → HasCounts h (front ++ e ∷ rest)
       → AreVector h → AllByRecursion (HasTile bytes h) front → ¬ HasTile bytes h e → VerifyingHas bytes h root d

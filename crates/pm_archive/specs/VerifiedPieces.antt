@@ -29,10 +29,10 @@ abbrev pub IsFirstTileFault : List ℕ → Header → List Entry → ArchiveFaul
 IsFirstTileFault bytes h [] d = ⊥
 IsFirstTileFault bytes h (e ∷ es) d = IsTileFault bytes h e d ⊎ (HasTile bytes h e × IsFirstTileFault bytes h es d)
 
--- the order of places: an offset and a length
-abbrev pub place_cmp : ℕ × ℕ → ℕ × ℕ → Ordering
-place_cmp p q = ordering_then (nat_cmp p.0 q.0) (nat_cmp p.1 q.1)
+-- the order of spans: an offset and a length
+abbrev pub span_cmp : ℕ × ℕ → ℕ × ℕ → Ordering
+span_cmp p q = ordering_then (nat_cmp p.0 q.0) (nat_cmp p.1 q.1)
 
--- at each of the places is a tile that can be read
+-- in each of the spans is a tile that can be read
 abbrev pub AreRead : List ℕ → Header → BTreeSet (ℕ × ℕ) → Type 0
-AreRead bytes h places = (q : ℕ × ℕ) → contains place_cmp places q ≡ true → IsTile (slice_range bytes (h.tiles.offset + q.0) (h.tiles.offset + q.0 + q.1))
+AreRead bytes h spans = (q : ℕ × ℕ) → contains span_cmp spans q ≡ true → IsTile (slice_range bytes (h.tiles.offset + q.0) (h.tiles.offset + q.0 + q.1))

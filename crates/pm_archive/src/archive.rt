@@ -1,6 +1,7 @@
 //! Archives that are open.
 
-ghost use Rattle.std.specs.Prelude.{◌≡◌, ◌≢◌, ◌↔◌, ℕ, ◌≤◌, List, length, Option, Some, None, IsSome, IfOk, IfErr, MatchResult, option_map};
+ghost use Rattle.std.specs.Prelude.{◌≡◌, ◌≢◌, ◌↔◌, ℕ, ◌≤◌, List, length, Option, Some, None, slice_get, IfOk, IfErr, MatchResult, option_map};
+ghost use Rattle.reader.specs.Reading.{GivesUnless};
 ghost use Rattle.std.specs.List.{AllByRecursion};
 ghost use Rattle.pm_header.specs.declared.header.Header.{Header};
 ghost use Rattle.pm_directory.specs.declared.entry.Entry.{Entry};
@@ -8,12 +9,12 @@ ghost use Rattle.pm_directory.specs.Directory.{IsAscending, IsDirectory, IsEntry
 ghost use Rattle.pm_archive.specs.declared.report.Report.{Report};
 ghost use Rattle.pm_archive.specs.Source.{ArchiveView, Keeps};
 ghost use Rattle.pm_archive.specs.Sections.{HasSections, section_bytes};
-ghost use Rattle.pm_archive.specs.Entries.{HasEntries};
+ghost use Rattle.pm_archive.specs.Entries.{HasEntries, LiesInside};
 ghost use Rattle.pm_archive.specs.Archive.{content_of};
 ghost use Rattle.pm_archive.specs.Reading.{ArePlaced, OpeningHas, list_at};
 ghost use Rattle.pm_archive.specs.Looked.{leading_of, looked_at};
 ghost use Rattle.pm_archive.specs.Verified.{IsSound, VerifyingHas};
-ghost use Rattle.pm_archive.specs.Answers.{Answers, IsOutside, UnlessOutside};
+ghost use Rattle.pm_archive.specs.Answers.{IsOutside, UnlessOutside};
 
 use crate::fault::ArchiveFault;
 use crate::listing::entries_below;
@@ -54,7 +55,8 @@ impl<B: Bytes + Drop> Archive<B> {
     pub fn open(alloc: Global, source: B) -> Result<Archive<B>, (B, ArchiveFault)>
         ensures source { IfOk result (λ a. Keeps B.count B.holds B.fails B.unchanged source a.source) }
         ensures back { IfErr result (λ e. Keeps B.count B.holds B.fails B.unchanged source e.0) }
-        ensures found { IfOk result (λ a. (bytes : List ℕ) → B.holds a.source bytes → HasSections bytes a.header × IsDirectory (section_bytes a.header.root bytes) a.root) }
+        ensures found { IfOk result (λ a. (bytes : List ℕ) → B.holds a.source bytes
+            → HasSections bytes a.header × IsDirectory (section_bytes a.header.root bytes) a.root) }
         ensures only { (bytes : List ℕ) (h : Header) (root : List Entry) → HasSections bytes h → IsDirectory (section_bytes h.root bytes) root
             → MatchResult result (λ a. B.holds a.source bytes → (a.header ≡ h) × (a.root ≡ root)) (λ e. B.holds e.0 bytes → IsOutside e.1) }
         ensures fault { IfErr result (λ e. (bytes : List ℕ) → B.holds e.0 bytes → UnlessOutside (OpeningHas bytes) e.1) }
@@ -91,7 +93,7 @@ impl<B: Bytes + Drop> Archive<B> {
     /// # Errors
     ///
     /// `Directory`, `Order`, `Depth`, `Place`, the first that is met going through the directories in order, each leaf
-    /// directory where it is named.
+    /// directory where it is named. `Memory` only where there is a first entry, and its bytes lie inside their section.
     pub fn list(&mut self, alloc: Global) -> Result<Vec<Entry>, ArchiveFault>
         ensures header { self.new.header ≡ self.old.header }
         ensures root { self.new.root ≡ self.old.root }
@@ -99,8 +101,10 @@ impl<B: Bytes + Drop> Archive<B> {
         ensures found { (bytes : List ℕ) → B.holds self.new.source bytes → IfOk result (λ tiles. HasEntries bytes self.old.header tiles.items) }
         ensures only { (bytes : List ℕ) (tiles : List Entry) → B.holds self.new.source bytes → HasEntries bytes self.old.header tiles
             → MatchResult result (λ listed. listed.items ≡ tiles) IsOutside }
-        ensures first { (bytes : List ℕ) → B.holds self.new.source bytes → Answers (λ tiles. tiles.items) result (list_at bytes self.old.header self.old.root) }
+        ensures first { (bytes : List ℕ) → B.holds self.new.source bytes
+            → GivesUnless IsOutside (λ tiles. tiles.items) result (list_at bytes self.old.header self.old.root) }
         ensures read { result ≡ Err ArchiveFault.Read → B.fails self.old.source }
+        ensures memory { result ≡ Err ArchiveFault.Memory → LiesInside self.old.header (slice_get self.old.root 0) }
     {
         entries_below(alloc, &mut self.source, &self.header, &self.root)
     }
@@ -111,7 +115,7 @@ impl<B: Bytes + Drop> Archive<B> {
     /// # Errors
     ///
     /// `Directory`, `Depth`, `Place`, the first on the way; where `list` has no fault there is none. `Memory` only where an
-    /// entry of the root directory leads to the id.
+    /// entry of the root directory leads to the id, and its bytes lie inside their section.
     pub fn tile(&mut self, alloc: Global, id: u64) -> Result<Option<Vec<u8>>, ArchiveFault>
         ensures header { self.new.header ≡ self.old.header }
         ensures root { self.new.root ≡ self.old.root }
@@ -119,9 +123,9 @@ impl<B: Bytes + Drop> Archive<B> {
         ensures content { (bytes : List ℕ) (tiles : List Entry) → B.holds self.new.source bytes → HasEntries bytes self.old.header tiles
             → MatchResult result (λ content. option_map (λ v. v.items) content ≡ content_of bytes self.old.header tiles id) IsOutside }
         ensures first { (bytes : List ℕ) → B.holds self.new.source bytes
-            → Answers (option_map (λ v. v.items)) result (looked_at bytes self.old.header self.old.root id) }
+            → GivesUnless IsOutside (option_map (λ v. v.items)) result (looked_at bytes self.old.header self.old.root id) }
         ensures read { result ≡ Err ArchiveFault.Read → B.fails self.old.source }
-        ensures memory { result ≡ Err ArchiveFault.Memory → IsSome (leading_of id self.old.root) }
+        ensures memory { result ≡ Err ArchiveFault.Memory → LiesInside self.old.header (leading_of id self.old.root) }
     {
         content_below(alloc, &mut self.source, &self.header, &self.root, id)
     }
@@ -137,7 +141,8 @@ impl<B: Bytes + Drop> Archive<B> {
         ensures root { self.new.root ≡ self.old.root }
         ensures source { Keeps B.count B.holds B.fails B.unchanged self.old.source self.new.source }
         ensures found { (bytes : List ℕ) → B.holds self.new.source bytes → IfOk result (IsSound bytes) }
-        ensures only { (bytes : List ℕ) (report : Report) → B.holds self.new.source bytes → IsSound bytes report → MatchResult result (λ told. told ≡ report) IsOutside }
+        ensures only { (bytes : List ℕ) (report : Report) → B.holds self.new.source bytes → IsSound bytes report
+            → MatchResult result (λ told. told ≡ report) IsOutside }
         ensures fault { (bytes : List ℕ) → B.holds self.new.source bytes → IfErr result (UnlessOutside (VerifyingHas bytes self.old.header self.old.root)) }
         ensures read { result ≡ Err ArchiveFault.Read → B.fails self.old.source }
     {

@@ -61,52 +61,47 @@ fn check_tile<B: Bytes>(
     requires { end_of header.now.tiles ≤ B.count source.old }
     ensures source { Keeps B.count B.holds B.fails B.unchanged source.old source.new }
     ensures tile { (bytes : List ℕ) → B.holds source.new bytes → LiesIn header.now.tiles entry → OnOk result (HasTile bytes header.now entry) }
-    ensures fault { (bytes : List ℕ) → B.holds source.new bytes → LiesIn header.now.tiles entry → IfErr result (UnlessOutside (IsTileFault bytes header.now entry)) }
+    ensures fault { (bytes : List ℕ) → B.holds source.new bytes → LiesIn header.now.tiles entry
+        → IfErr result (UnlessOutside (IsTileFault bytes header.now entry)) }
     ensures read { result ≡ Err ArchiveFault.Read → B.fails source.old }
 {
-    let content = match content_of(alloc, source, header, entry) {
-        Ok(content) => content,
-        Err(fault) => return Err(fault),
-    };
+    let content = content_of(alloc, source, header, entry)?;
     match is_tile(alloc, &content) {
         Ok(is) => check_is_tile(is, entry.id),
         Err(_) => Err(ArchiveFault::Memory),
     }
 }
 
-// Reads the tile of an entry, unless its place is one of those that were read. Then it is one of them.
+// Reads the tile of an entry, unless its bytes are among those that were read. Then they are.
 fn check_once<B: Bytes>(
     alloc: Global,
     source: &mut B,
     header: &Header,
-    places: &mut BTreeSet<(u64, u32)>,
+    spans: &mut BTreeSet<(u64, u32)>,
     entry: Entry,
 ) -> Result<(), ArchiveFault>
     requires { end_of header.now.tiles ≤ B.count source.old }
     ensures source { Keeps B.count B.holds B.fails B.unchanged source.old source.new }
-    ensures tile { (bytes : List ℕ) → B.holds source.new bytes → LiesIn header.now.tiles entry → AreRead bytes header.now places.old
+    ensures tile { (bytes : List ℕ) → B.holds source.new bytes → LiesIn header.now.tiles entry → AreRead bytes header.now spans.old
         → OnOk result (HasTile bytes header.now entry) }
-    ensures places { (bytes : List ℕ) → B.holds source.new bytes → LiesIn header.now.tiles entry → AreRead bytes header.now places.old
-        → OnOk result (AreRead bytes header.now places.new) }
-    ensures fault { (bytes : List ℕ) → B.holds source.new bytes → LiesIn header.now.tiles entry → AreRead bytes header.now places.old
+    ensures spans { (bytes : List ℕ) → B.holds source.new bytes → LiesIn header.now.tiles entry → AreRead bytes header.now spans.old
+        → OnOk result (AreRead bytes header.now spans.new) }
+    ensures fault { (bytes : List ℕ) → B.holds source.new bytes → LiesIn header.now.tiles entry → AreRead bytes header.now spans.old
         → IfErr result (UnlessOutside (IsTileFault bytes header.now entry)) }
     ensures read { result ≡ Err ArchiveFault.Read → B.fails source.old }
 {
-    let place = (entry.offset, entry.length);
-    if places.contains(&place) {
+    let span = (entry.offset, entry.length);
+    if spans.contains(&span) {
         return Ok(());
     }
-    match check_tile(alloc, source, header, entry) {
-        Ok(()) => {}
-        Err(fault) => return Err(fault),
-    }
-    match places.insert(place) {
+    check_tile(alloc, source, header, entry)?;
+    match spans.insert(span) {
         Ok(_) => Ok(()),
         Err(_) => Err(ArchiveFault::Memory),
     }
 }
 
-// Reads the tile of each entry, each place once.
+// Reads the tile of each entry, the same bytes once.
 pub(crate) fn check_tiles<B: Bytes>(
     alloc: Global,
     source: &mut B,
@@ -121,12 +116,9 @@ pub(crate) fn check_tiles<B: Bytes>(
         → IfErr result (UnlessOutside (IsFirstTileFault bytes header.now tiles.now)) }
     ensures read { result ≡ Err ArchiveFault.Read → B.fails source.old }
 {
-    let mut places = BTreeSet::new(alloc);
+    let mut spans = BTreeSet::new(alloc);
     for entry in tiles {
-        match check_once(alloc, source, header, &mut places, *entry) {
-            Ok(()) => {}
-            Err(fault) => return Err(fault),
-        }
+        check_once(alloc, source, header, &mut spans, *entry)?;
     }
     Ok(())
 }

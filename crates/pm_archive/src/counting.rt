@@ -7,7 +7,7 @@ ghost use Rattle.pm_directory.specs.Counts.{addressed_by, contents_of, place_of}
 ghost use Rattle.pm_archive.specs.declared.fault.Count.{Count};
 ghost use Rattle.pm_archive.specs.Archive.{Says, HasCounts};
 ghost use Rattle.pm_archive.specs.Verified.{report_of};
-ghost use Rattle.pm_archive.specs.VerifiedPieces.{IsCountFault, place_cmp};
+ghost use Rattle.pm_archive.specs.VerifiedPieces.{IsCountFault, span_cmp};
 
 use crate::fault::{ArchiveFault, Count};
 use crate::report::Report;
@@ -28,8 +28,8 @@ fn addressed(tiles: &[Entry]) -> u64
 }
 
 // Where the contents of the entries lie.
-fn places(alloc: Global, tiles: &[Entry]) -> Result<BTreeSet<(u64, u32)>, AllocError>
-    ensures { IfOk result (λ places. IsFromIterResult place_cmp (map place_of tiles.now) places) }
+fn spans(alloc: Global, tiles: &[Entry]) -> Result<BTreeSet<(u64, u32)>, AllocError>
+    ensures { IfOk result (λ spans. IsFromIterResult span_cmp (map place_of tiles.now) spans) }
 {
     tiles
         .iter()
@@ -37,12 +37,12 @@ fn places(alloc: Global, tiles: &[Entry]) -> Result<BTreeSet<(u64, u32)>, AllocE
         .collect(alloc)
 }
 
-// How many different contents the entries have, by place.
+// How many different contents the entries have, by where these lie.
 fn contents(alloc: Global, tiles: &[Entry]) -> Result<u64, AllocError>
     ensures { IfOk result (λ n. n ≡ contents_of tiles.now) }
 {
-    let places = places(alloc, tiles)?;
-    Ok(places.len() as u64)
+    let spans = spans(alloc, tiles)?;
+    Ok(spans.len() as u64)
 }
 
 // What is told of the entries.

@@ -64,7 +64,7 @@ pub enum ArchiveFault {
     /// The directories are compressed, by this number of the header.
     #[error("compressed directories: {0}")]
     Compressed(u8),
-    /// At this place of the file stands no directory.
+    /// At this offset of the file stands no directory.
     #[error("bad directory at: {0}")]
     Directory(u64),
     /// This id of a leaf directory isn't among those to which the leaf's entry may lead.

@@ -9,6 +9,7 @@ mod archive;
 mod checking;
 mod counting;
 mod fault;
+mod limits;
 mod listing;
 mod looking;
 mod metadata;
@@ -20,6 +21,7 @@ mod verifying;
 
 pub use archive::Archive;
 pub use fault::{ArchiveFault, Count, Section};
+pub use limits::{MOST_LEAVES, OPENING_END};
 pub use metadata::is_metadata;
 pub use report::Report;
 pub use source::{Bytes, ReadFault};

@@ -1,24 +1,21 @@
 //! The tile entries of all directories.
 
-ghost use Rattle.std.specs.Prelude.{◌≡◌, ◌≢◌, ℕ, List, Err, IfOk};
+ghost use Rattle.std.specs.Prelude.{◌≡◌, ◌≢◌, ℕ, List, Err, IfOk, OnOk, Some, slice_get};
+ghost use Rattle.reader.specs.Reading.{GivesUnless};
 ghost use Rattle.pm_directory.specs.Directory.{IsAscending};
 ghost use Rattle.pm_archive.specs.Source.{Keeps};
-ghost use Rattle.pm_archive.specs.Entries.{LiesIn, bound_of};
+ghost use Rattle.pm_archive.specs.Entries.{LiesIn, LiesInside, bound_of};
 ghost use Rattle.pm_archive.specs.Reading.{ArePlaced, each_at, leaf_at, list_at, lists_at, stray_fault, stray_id, tile_at};
-ghost use Rattle.pm_archive.specs.Answers.{Answers};
+ghost use Rattle.pm_archive.specs.Answers.{IsOutside};
 ghost use Rattle.pm_archive.specs.Listing.{behind, stray_of};
 
 use crate::fault::ArchiveFault;
+use crate::limits::MOST_LEAVES;
 use crate::reading::{directory_of, lies_in};
 use crate::source::Bytes;
-use pm_directory::Entry;
+use pm_directory::{Entry, IDS_END};
 use pm_header::Header;
 use std::alloc::Global;
-
-/// The ids of all tiles are below this one.
-const IDS_END: u64 = 6_148_914_691_236_517_205;
-/// So many leaf directories may stand one below the other.
-pub(crate) const MOST_LEAVES: u8 = 3;
 
 // An id below which are those to which an entry leads, by the entries behind it.
 fn bound_behind(entries: &[Entry], bound: u64) -> u64
@@ -76,26 +73,24 @@ fn leaf_of<B: Bytes>(
 ) -> Result<Vec<Entry>, ArchiveFault>
     requires { ArePlaced (B.count source.old) header.now }
     ensures source { Keeps B.count B.holds B.fails B.unchanged source.old source.new }
-    ensures leaf { (bytes : List ℕ) → B.holds source.new bytes → Answers (λ v. v.items) result (leaf_at bytes header.now entry bound) }
+    ensures leaf { (bytes : List ℕ) → B.holds source.new bytes → GivesUnless IsOutside (λ v. v.items) result (leaf_at bytes header.now entry bound) }
     ensures ascending { IfOk result (λ v. IsAscending v.items) }
     ensures read { result ≡ Err ArchiveFault.Read → B.fails source.old }
+    ensures memory { result ≡ Err ArchiveFault.Memory → LiesIn header.now.leaves entry }
+    ensures inside { OnOk result (LiesIn header.now.leaves entry) }
 {
-    let entries = match directory_of(alloc, source, header, entry) {
-        Ok(entries) => entries,
-        Err(fault) => return Err(fault),
-    };
-    match check_between(&entries, entry.id, bound) {
-        Ok(()) => Ok(entries),
-        Err(fault) => Err(fault),
-    }
+    let entries = directory_of(alloc, source, header, entry)?;
+    check_between(&entries, entry.id, bound)?;
+    Ok(entries)
 }
 
 // Adds a tile entry.
 #[tactic(auto, unfolding(crate::specs::Reading::tile_at))]
 fn push_tile(header: &Header, entry: Entry, tiles: &mut Vec<Entry>) -> Result<(), ArchiveFault>
-    ensures tile { Answers (λ done. tiles.new.items) result (behind tiles.old.items (tile_at header.now entry)) }
+    ensures tile { GivesUnless IsOutside (λ done. tiles.new.items) result (behind tiles.old.items (tile_at header.now entry)) }
     ensures read { result ≢ Err ArchiveFault.Read }
     ensures memory { result ≡ Err ArchiveFault.Memory → LiesIn header.now.tiles entry }
+    ensures inside { OnOk result (LiesIn header.now.tiles entry) }
 {
     if !lies_in(header.tiles, entry) {
         return Err(ArchiveFault::Place(entry.id));
@@ -119,9 +114,12 @@ fn push_listed<B: Bytes>(
 ) -> Result<(), ArchiveFault>
     requires { ArePlaced (B.count source.old) header.now }
     ensures source { Keeps B.count B.holds B.fails B.unchanged source.old source.new }
-    ensures listed { (bytes : List ℕ) → B.holds source.new bytes → Answers (λ done. tiles.new.items) result (behind tiles.old.items (lists_at bytes header.now more entry bound)) }
+    ensures listed { (bytes : List ℕ) → B.holds source.new bytes
+        → GivesUnless IsOutside (λ done. tiles.new.items) result (behind tiles.old.items (lists_at bytes header.now more entry bound)) }
     ensures read { result ≡ Err ArchiveFault.Read → B.fails source.old }
-    ensures memory { entry.run ≡ 0 → more ≡ 0 → result ≢ Err ArchiveFault.Memory }
+    ensures depth { entry.run ≡ 0 → more ≡ 0 → result ≡ Err ArchiveFault.Depth }
+    ensures memory { result ≡ Err ArchiveFault.Memory → LiesInside header.now (Some entry) }
+    ensures inside { OnOk result (LiesInside header.now (Some entry)) }
 {
     if entry.run > 0 {
         return push_tile(header, entry, tiles);
@@ -129,10 +127,8 @@ fn push_listed<B: Bytes>(
     if more == 0 {
         return Err(ArchiveFault::Depth);
     }
-    match leaf_of(alloc, source, header, entry, bound) {
-        Ok(entries) => push_each(alloc, source, header, &entries, bound, more - 1, tiles),
-        Err(fault) => Err(fault),
-    }
+    let entries = leaf_of(alloc, source, header, entry, bound)?;
+    push_each(alloc, source, header, &entries, bound, more - 1, tiles)
 }
 
 // Adds what the entries list, one after the other.
@@ -148,15 +144,14 @@ fn push_each<B: Bytes>(
 ) -> Result<(), ArchiveFault>
     requires { ArePlaced (B.count source.old) header.now }
     ensures source { Keeps B.count B.holds B.fails B.unchanged source.old source.new }
-    ensures listed { (bytes : List ℕ) → B.holds source.new bytes → Answers (λ done. tiles.new.items) result (behind tiles.old.items (each_at (lists_at bytes header.now more) bound entries.now)) }
+    ensures listed { (bytes : List ℕ) → B.holds source.new bytes
+        → GivesUnless IsOutside (λ done. tiles.new.items) result (behind tiles.old.items (each_at (lists_at bytes header.now more) bound entries.now)) }
     ensures read { result ≡ Err ArchiveFault.Read → B.fails source.old }
+    ensures memory { result ≡ Err ArchiveFault.Memory → LiesInside header.now (slice_get entries.now 0) }
 {
     for (i, entry) in entries.iter().enumerate() {
         let bound = bound_behind(&entries[i + 1..], bound);
-        match push_listed(alloc, source, header, *entry, bound, more, tiles) {
-            Ok(()) => {}
-            Err(fault) => return Err(fault),
-        }
+        push_listed(alloc, source, header, *entry, bound, more, tiles)?;
     }
     Ok(())
 }
@@ -170,11 +165,12 @@ pub(crate) fn entries_below<B: Bytes>(
 ) -> Result<Vec<Entry>, ArchiveFault>
     requires { ArePlaced (B.count source.old) header.now }
     ensures source { Keeps B.count B.holds B.fails B.unchanged source.old source.new }
-    ensures first { (bytes : List ℕ) → B.holds source.new bytes → Answers (λ v. v.items) result (list_at bytes header.now root.now) }
+    ensures first { (bytes : List ℕ) → B.holds source.new bytes → GivesUnless IsOutside (λ v. v.items) result (list_at bytes header.now root.now) }
     ensures read { result ≡ Err ArchiveFault.Read → B.fails source.old }
+    ensures memory { result ≡ Err ArchiveFault.Memory → LiesInside header.now (slice_get root.now 0) }
 {
     let mut tiles = Vec::new(alloc);
-    match push_each(
+    push_each(
         alloc,
         source,
         header,
@@ -182,8 +178,6 @@ pub(crate) fn entries_below<B: Bytes>(
         IDS_END,
         MOST_LEAVES,
         &mut tiles,
-    ) {
-        Ok(()) => Ok(tiles),
-        Err(fault) => Err(fault),
-    }
+    )?;
+    Ok(tiles)
 }

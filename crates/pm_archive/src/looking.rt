@@ -1,21 +1,22 @@
 //! The content of one tile id.
 
-ghost use Rattle.std.specs.Prelude.{◌≡◌, ℕ, ◌<◌, ◌≤◌, List, Ok, Err, OnOk, MatchResult, Option, Some, None, IsSome, option_map};
+ghost use Rattle.std.specs.Prelude.{◌≡◌, ℕ, ◌<◌, ◌≤◌, List, Ok, Err, OnOk, MatchResult, Option, Some, None, option_map};
+ghost use Rattle.reader.specs.Reading.{GivesUnless};
 ghost use Rattle.pm_directory.specs.declared.entry.Entry.{Entry};
 ghost use Rattle.pm_directory.specs.Directory.{IsAscending};
 ghost use Rattle.pm_archive.specs.Source.{Keeps};
 ghost use Rattle.pm_archive.specs.Sections.{end_of};
-ghost use Rattle.pm_archive.specs.Entries.{EachLists, LiesIn, Lists, ids_end, most_leaves};
+ghost use Rattle.pm_archive.specs.Entries.{EachLists, LiesIn, LiesInside, Lists};
 ghost use Rattle.pm_archive.specs.Archive.{content_of};
 ghost use Rattle.pm_archive.specs.Reading.{ArePlaced};
-ghost use Rattle.pm_archive.specs.Answers.{Answers, IsOutside};
+ghost use Rattle.pm_archive.specs.Answers.{IsOutside};
 ghost use Rattle.pm_archive.specs.Looked.{leading_of, leading_at, reached_at, content_at, looked_at};
 
 use crate::fault::ArchiveFault;
-use crate::listing::MOST_LEAVES;
+use crate::limits::MOST_LEAVES;
 use crate::reading::{content_of, directory_of};
 use crate::source::Bytes;
-use pm_directory::{Entry, find};
+use pm_directory::{Entry, IDS_END, find};
 use pm_header::Header;
 use std::alloc::Global;
 
@@ -39,15 +40,13 @@ fn leading_in<B: Bytes>(
 ) -> Result<Option<Entry>, ArchiveFault>
     requires { end_of header.now.leaves ≤ B.count source.old }
     ensures source { Keeps B.count B.holds B.fails B.unchanged source.old source.new }
-    ensures first { (bytes : List ℕ) → B.holds source.new bytes → Answers (λ entry. entry) result (leading_at bytes header.now id leaf) }
+    ensures first { (bytes : List ℕ) → B.holds source.new bytes → GivesUnless IsOutside (λ entry. entry) result (leading_at bytes header.now id leaf) }
     ensures read { result ≡ Err ArchiveFault.Read → B.fails source.old }
     ensures memory { result ≡ Err ArchiveFault.Memory → LiesIn header.now.leaves leaf }
     ensures inside { OnOk result (LiesIn header.now.leaves leaf) }
 {
-    match directory_of(alloc, source, header, leaf) {
-        Ok(entries) => Ok(leading(&entries, id)),
-        Err(fault) => Err(fault),
-    }
+    let entries = directory_of(alloc, source, header, leaf)?;
+    Ok(leading(&entries, id))
 }
 
 // The tile entry that an entry is, or to which its leaf directory leads, below which so many more may stand.
@@ -62,9 +61,11 @@ fn tile_entry<B: Bytes>(
 ) -> Result<Option<Entry>, ArchiveFault>
     requires { end_of header.now.leaves ≤ B.count source.old }
     ensures source { Keeps B.count B.holds B.fails B.unchanged source.old source.new }
-    ensures first { (bytes : List ℕ) → B.holds source.new bytes → Answers (λ e. e) result (reached_at bytes header.now id more entry) }
+    ensures first { (bytes : List ℕ) → B.holds source.new bytes → GivesUnless IsOutside (λ e. e) result (reached_at bytes header.now id more entry) }
     ensures read { result ≡ Err ArchiveFault.Read → B.fails source.old }
     ensures none { entry ≡ None → result ≡ Ok None }
+    ensures tile { (tile : Entry) → entry ≡ Some tile → 0 < tile.run → result ≡ Ok (Some tile) }
+    ensures inside { (leaf : Entry) → entry ≡ Some leaf → leaf.run ≡ 0 → OnOk result (LiesIn header.now.leaves leaf) }
     ensures memory { result ≡ Err ArchiveFault.Memory → (leaf : Entry) × (entry ≡ Some leaf) × (leaf.run ≡ 0) × (0 < more) × LiesIn header.now.leaves leaf }
 {
     let leaf = match entry {
@@ -77,10 +78,8 @@ fn tile_entry<B: Bytes>(
     if more == 0 {
         return Err(ArchiveFault::Depth);
     }
-    match leading_in(alloc, source, header, leaf, id) {
-        Ok(below) => tile_entry(alloc, source, header, below, id, more - 1),
-        Err(fault) => Err(fault),
-    }
+    let below = leading_in(alloc, source, header, leaf, id)?;
+    tile_entry(alloc, source, header, below, id, more - 1)
 }
 
 // The content of a tile entry, if there is one.
@@ -93,7 +92,7 @@ fn content_in<B: Bytes>(
 ) -> Result<Option<Vec<u8>>, ArchiveFault>
     requires { end_of header.now.tiles ≤ B.count source.old }
     ensures source { Keeps B.count B.holds B.fails B.unchanged source.old source.new }
-    ensures first { (bytes : List ℕ) → B.holds source.new bytes → Answers (option_map (λ v. v.items)) result (content_at bytes header.now entry) }
+    ensures first { (bytes : List ℕ) → B.holds source.new bytes → GivesUnless IsOutside (option_map (λ v. v.items)) result (content_at bytes header.now entry) }
     ensures read { result ≡ Err ArchiveFault.Read → B.fails source.old }
     ensures memory { result ≡ Err ArchiveFault.Memory → (tile : Entry) × (entry ≡ Some tile) × LiesIn header.now.tiles tile }
 {
@@ -101,10 +100,8 @@ fn content_in<B: Bytes>(
         Some(entry) => entry,
         None => return Ok(None),
     };
-    match content_of(alloc, source, header, entry) {
-        Ok(content) => Ok(Some(content)),
-        Err(fault) => Err(fault),
-    }
+    let content = content_of(alloc, source, header, entry)?;
+    Ok(Some(content))
 }
 
 // The content of an id, by the directories on the way to its entry.
@@ -118,14 +115,13 @@ pub(crate) fn content_below<B: Bytes>(
     requires placed { ArePlaced (B.count source.old) header.now }
     requires ascending { IsAscending root.now }
     ensures source { Keeps B.count B.holds B.fails B.unchanged source.old source.new }
-    ensures content { (bytes : List ℕ) (tiles : List Entry) → B.holds source.new bytes → EachLists (Lists bytes header.now most_leaves) ids_end root.now tiles
+    ensures content { (bytes : List ℕ) (tiles : List Entry) → B.holds source.new bytes → EachLists (Lists bytes header.now MOST_LEAVES) IDS_END root.now tiles
         → MatchResult result (λ content. option_map (λ v. v.items) content ≡ content_of bytes header.now tiles id) IsOutside }
-    ensures first { (bytes : List ℕ) → B.holds source.new bytes → Answers (option_map (λ v. v.items)) result (looked_at bytes header.now root.now id) }
+    ensures first { (bytes : List ℕ) → B.holds source.new bytes
+        → GivesUnless IsOutside (option_map (λ v. v.items)) result (looked_at bytes header.now root.now id) }
     ensures read { result ≡ Err ArchiveFault.Read → B.fails source.old }
-    ensures memory { result ≡ Err ArchiveFault.Memory → IsSome (leading_of id root.now) }
+    ensures memory { result ≡ Err ArchiveFault.Memory → LiesInside header.now (leading_of id root.now) }
 {
-    match tile_entry(alloc, source, header, leading(root, id), id, MOST_LEAVES) {
-        Ok(entry) => content_in(alloc, source, header, entry),
-        Err(fault) => Err(fault),
-    }
+    let entry = tile_entry(alloc, source, header, leading(root, id), id, MOST_LEAVES)?;
+    content_in(alloc, source, header, entry)
 }

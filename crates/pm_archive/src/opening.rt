@@ -12,14 +12,12 @@ ghost use Rattle.pm_archive.specs.Reading.{ArePlaced, OpeningHas, IsMisplaced};
 ghost use Rattle.pm_archive.specs.Answers.{IsOutside, UnlessOutside};
 
 use crate::fault::{ArchiveFault, Section};
+use crate::limits::OPENING_END;
 use crate::reading::directory_from;
 use crate::source::Bytes;
 use pm_directory::Entry;
 use pm_header::{HEADER_BYTES, Header, HeaderFault, Part};
 use std::alloc::Global;
-
-/// The header and the root directory end in front of this place.
-const OPENING_END: u64 = 16_384;
 
 // The header with which the bytes begin.
 fn header_in<B: Bytes>(source: &mut B) -> Result<Header, ArchiveFault>
@@ -51,7 +49,7 @@ fn ends_by(section: Part, count: u64) -> bool
     section.offset <= count && section.length <= count - section.offset
 }
 
-// The first section that is in the wrong place, of a file of so many bytes.
+// The first section that is misplaced, in a file of so many bytes.
 fn misplaced(header: &Header, count: u64) -> Option<Section>
     ensures section { IfSome result (IsMisplaced count header.now) }
     ensures none { IfNone result (ArePlaced count header.now) }
@@ -85,23 +83,19 @@ pub(crate) fn header_and_root<B: Bytes>(
     ensures placed { IfOk result (λ x. ArePlaced (B.count source.old) x.0) }
     ensures ascending { IfOk result (λ x. IsAscending x.1.items) }
     ensures each { IfOk result (λ x. AllByRecursion IsEntry x.1.items) }
-    ensures found { (bytes : List ℕ) → B.holds source.new bytes → IfOk result (λ x. HasSections bytes x.0 × IsDirectory (section_bytes x.0.root bytes) x.1.items) }
+    ensures found { (bytes : List ℕ) → B.holds source.new bytes
+        → IfOk result (λ x. HasSections bytes x.0 × IsDirectory (section_bytes x.0.root bytes) x.1.items) }
     ensures fault { (bytes : List ℕ) → B.holds source.new bytes → IfErr result (UnlessOutside (OpeningHas bytes)) }
     ensures read { result ≡ Err ArchiveFault.Read → B.fails source.old }
     ensures memory { (bytes : List ℕ) → B.holds source.new bytes → result ≡ Err ArchiveFault.Memory → (h : Header) × HasSections bytes h }
 {
-    let header = match header_in(source) {
-        Ok(header) => header,
-        Err(fault) => return Err(fault),
-    };
+    let header = header_in(source)?;
     if let Some(section) = misplaced(&header, source.len()) {
         return Err(ArchiveFault::Section(section));
     }
     if !is_plain(&header) {
         return Err(ArchiveFault::Compressed(header.internal));
     }
-    match directory_from(alloc, source, header.root.offset, header.root.length) {
-        Ok(root) => Ok((header, root)),
-        Err(fault) => Err(fault),
-    }
+    let root = directory_from(alloc, source, header.root.offset, header.root.length)?;
+    Ok((header, root))
 }

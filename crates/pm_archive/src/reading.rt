@@ -1,6 +1,7 @@
 //! Pieces of a source: its bytes and its directories.
 
 ghost use Rattle.std.specs.Prelude.{◌≡◌, ◌↔◌, ℕ, ◌+◌, ◌≤◌, List, Err, length, IfOk, IfErr, OnOk, IsTrue, MatchResult, slice_range};
+ghost use Rattle.reader.specs.Reading.{GivesUnless};
 ghost use Rattle.std.specs.List.{AllByRecursion};
 ghost use Rattle.pm_directory.specs.Directory.{IsAscending, IsEntry};
 ghost use Rattle.pm_directory.specs.Reading.{directory_at};
@@ -8,7 +9,7 @@ ghost use Rattle.pm_archive.specs.Source.{Keeps};
 ghost use Rattle.pm_archive.specs.Sections.{end_of};
 ghost use Rattle.pm_archive.specs.Entries.{LiesIn, entry_bytes};
 ghost use Rattle.pm_archive.specs.Reading.{content_of_tile, directory_of_entry, directory_or_fault, fault_at};
-ghost use Rattle.pm_archive.specs.Answers.{Answers, IsOutside};
+ghost use Rattle.pm_archive.specs.Answers.{IsOutside};
 
 use crate::fault::ArchiveFault;
 use crate::source::Bytes;
@@ -16,29 +17,29 @@ use pm_directory::{DirectoryFault, Entry, read_directory};
 use pm_header::{Header, Part};
 use std::alloc::Global;
 
-// Reads the bytes from a place on, as many as `into` has room for.
-fn read_into<B: Bytes>(source: &mut B, at: u64, into: &mut [u8]) -> Result<(), ArchiveFault>
-    requires { at + length into.old ≤ B.count source.old }
+// Reads the bytes from an offset on, as many as `into` has room for.
+fn read_into<B: Bytes>(source: &mut B, offset: u64, into: &mut [u8]) -> Result<(), ArchiveFault>
+    requires { offset + length into.old ≤ B.count source.old }
     ensures source { Keeps B.count B.holds B.fails B.unchanged source.old source.new }
-    ensures bytes { (bytes : List ℕ) → B.holds source.new bytes → OnOk result (into.new ≡ slice_range bytes at (at + length into.old)) }
+    ensures bytes { (bytes : List ℕ) → B.holds source.new bytes → OnOk result (into.new ≡ slice_range bytes offset (offset + length into.old)) }
     ensures fault { IfErr result (λ fault. (fault ≡ ArchiveFault.Read) × B.fails source.old) }
 {
-    match source.read_at(at, into) {
+    match source.read_at(offset, into) {
         Ok(()) => Ok(()),
         Err(_) => Err(ArchiveFault::Read),
     }
 }
 
-// The bytes from a place on.
+// The bytes from an offset on.
 pub(crate) fn bytes_at<B: Bytes>(
     alloc: Global,
     source: &mut B,
-    at: u64,
+    offset: u64,
     length: u64,
 ) -> Result<Vec<u8>, ArchiveFault>
-    requires { at + length ≤ B.count source.old }
+    requires { offset + length ≤ B.count source.old }
     ensures source { Keeps B.count B.holds B.fails B.unchanged source.old source.new }
-    ensures bytes { (bytes : List ℕ) → B.holds source.new bytes → IfOk result (λ v. v.items ≡ slice_range bytes at (at + length)) }
+    ensures bytes { (bytes : List ℕ) → B.holds source.new bytes → IfOk result (λ v. v.items ≡ slice_range bytes offset (offset + length)) }
     ensures fault { IfErr result IsOutside }
     ensures read { result ≡ Err ArchiveFault.Read → B.fails source.old }
 {
@@ -46,43 +47,39 @@ pub(crate) fn bytes_at<B: Bytes>(
         Ok(bytes) => bytes,
         Err(_) => return Err(ArchiveFault::Memory),
     };
-    match read_into(source, at, &mut bytes) {
-        Ok(()) => Ok(bytes),
-        Err(fault) => Err(fault),
-    }
+    read_into(source, offset, &mut bytes)?;
+    Ok(bytes)
 }
 
-// What a fault of the directory at a place is to the archive.
-fn directory_fault(at: u64, fault: DirectoryFault) -> ArchiveFault
-    ensures { result ≡ fault_at at fault }
+// What a fault of the directory at an offset is to the archive.
+fn directory_fault(offset: u64, fault: DirectoryFault) -> ArchiveFault
+    ensures { result ≡ fault_at offset fault }
 {
     match fault {
         DirectoryFault::Memory => ArchiveFault::Memory,
-        _ => ArchiveFault::Directory(at),
+        _ => ArchiveFault::Directory(offset),
     }
 }
 
-// The entries of the directory that stands at a place.
+// The entries of the directory that stands at an offset.
 pub(crate) fn directory_from<B: Bytes>(
     alloc: Global,
     source: &mut B,
-    at: u64,
+    offset: u64,
     length: u64,
 ) -> Result<Vec<Entry>, ArchiveFault>
-    requires { at + length ≤ B.count source.old }
+    requires { offset + length ≤ B.count source.old }
     ensures source { Keeps B.count B.holds B.fails B.unchanged source.old source.new }
-    ensures directory { (bytes : List ℕ) → B.holds source.new bytes → Answers (λ v. v.items) result (directory_or_fault at (directory_at (slice_range bytes at (at + length)))) }
+    ensures directory { (bytes : List ℕ) → B.holds source.new bytes
+        → GivesUnless IsOutside (λ v. v.items) result (directory_or_fault offset (directory_at (slice_range bytes offset (offset + length)))) }
     ensures ascending { IfOk result (λ v. IsAscending v.items) }
     ensures each { IfOk result (λ v. AllByRecursion IsEntry v.items) }
     ensures read { result ≡ Err ArchiveFault.Read → B.fails source.old }
 {
-    let bytes = match bytes_at(alloc, source, at, length) {
-        Ok(bytes) => bytes,
-        Err(fault) => return Err(fault),
-    };
+    let bytes = bytes_at(alloc, source, offset, length)?;
     match read_directory(alloc, &bytes) {
         Ok(entries) => Ok(entries),
-        Err(fault) => Err(directory_fault(at, fault)),
+        Err(fault) => Err(directory_fault(offset, fault)),
     }
 }
 
@@ -91,6 +88,20 @@ pub(crate) fn lies_in(section: Part, entry: Entry) -> bool
     ensures { IsTrue result ↔ LiesIn section entry }
 {
     entry.offset <= section.length && u64::from(entry.length) <= section.length - entry.offset
+}
+
+// Where the bytes of an entry of a section begin in the source.
+fn offset_of<B: Bytes>(source: &B, section: Part, entry: Entry) -> Result<u64, ArchiveFault>
+    requires { end_of section ≤ B.count source.now }
+    ensures inside { IfOk result (λ offset. (offset ≡ section.offset + entry.offset) × LiesIn section entry) }
+    ensures outside { IfErr result (λ fault. (fault ≡ ArchiveFault.Place entry.id) × ¬ LiesIn section entry) }
+{
+    // The section ends where the source does, so that no offset is past 64 bits.
+    let _count = source.len();
+    if !lies_in(section, entry) {
+        return Err(ArchiveFault::Place(entry.id));
+    }
+    Ok(section.offset + entry.offset)
 }
 
 // The entries of the leaf directory that an entry names, wherever its ids lie.
@@ -103,20 +114,15 @@ pub(crate) fn directory_of<B: Bytes>(
 ) -> Result<Vec<Entry>, ArchiveFault>
     requires { end_of header.now.leaves ≤ B.count source.old }
     ensures source { Keeps B.count B.holds B.fails B.unchanged source.old source.new }
-    ensures directory { (bytes : List ℕ) → B.holds source.new bytes → Answers (λ v. v.items) result (directory_of_entry bytes header.now entry) }
+    ensures directory { (bytes : List ℕ) → B.holds source.new bytes → GivesUnless IsOutside (λ v. v.items) result (directory_of_entry bytes header.now entry) }
     ensures ascending { IfOk result (λ v. IsAscending v.items) }
     ensures each { IfOk result (λ v. AllByRecursion IsEntry v.items) }
     ensures read { result ≡ Err ArchiveFault.Read → B.fails source.old }
     ensures memory { result ≡ Err ArchiveFault.Memory → LiesIn header.now.leaves entry }
     ensures inside { OnOk result (LiesIn header.now.leaves entry) }
 {
-    // The sections end where the source does, so that no place is past 64 bits.
-    let _count = source.len();
-    if !lies_in(header.leaves, entry) {
-        return Err(ArchiveFault::Place(entry.id));
-    }
-    let at = header.leaves.offset + entry.offset;
-    directory_from(alloc, source, at, u64::from(entry.length))
+    let offset = offset_of(source, header.leaves, entry)?;
+    directory_from(alloc, source, offset, u64::from(entry.length))
 }
 
 // The content of a tile entry.
@@ -129,16 +135,12 @@ pub(crate) fn content_of<B: Bytes>(
 ) -> Result<Vec<u8>, ArchiveFault>
     requires { end_of header.now.tiles ≤ B.count source.old }
     ensures source { Keeps B.count B.holds B.fails B.unchanged source.old source.new }
-    ensures content { (bytes : List ℕ) → B.holds source.new bytes → Answers (λ v. v.items) result (content_of_tile bytes header.now entry) }
+    ensures content { (bytes : List ℕ) → B.holds source.new bytes → GivesUnless IsOutside (λ v. v.items) result (content_of_tile bytes header.now entry) }
     ensures inside { (bytes : List ℕ) → B.holds source.new bytes → LiesIn header.now.tiles entry
         → MatchResult result (λ v. v.items ≡ entry_bytes header.now.tiles entry bytes) IsOutside }
     ensures read { result ≡ Err ArchiveFault.Read → B.fails source.old }
     ensures memory { result ≡ Err ArchiveFault.Memory → LiesIn header.now.tiles entry }
 {
-    let _count = source.len();
-    if !lies_in(header.tiles, entry) {
-        return Err(ArchiveFault::Place(entry.id));
-    }
-    let at = header.tiles.offset + entry.offset;
-    bytes_at(alloc, source, at, u64::from(entry.length))
+    let offset = offset_of(source, header.tiles, entry)?;
+    bytes_at(alloc, source, offset, u64::from(entry.length))
 }

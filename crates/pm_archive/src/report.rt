@@ -7,7 +7,7 @@ pub struct Report {
     pub tiles: u64,
     /// How many tile entries there are.
     pub entries: u64,
-    /// How many different contents there are, by their places in the file.
+    /// How many different contents there are, by where they lie in the file.
     pub contents: u64,
 }
 

@@ -8,7 +8,7 @@ use thiserror::Error;
 #[error("the bytes could not be read")]
 pub struct ReadFault;
 
-/// Bytes that can be read at any place, as those of a file.
+/// Bytes that can be read at any offset, as those of a file.
 pub trait Bytes {
     /// How many bytes there are.
     ghost count: { Self → ℕ };
@@ -27,7 +27,7 @@ pub trait Bytes {
     fn len(&self) -> u64
         ensures { result ≡ count self.now };
 
-    /// Reads the bytes from a place on, as many as `into` has room for. After a fault `into` has any bytes.
+    /// Reads the bytes from an offset on, as many as `into` has room for. After a fault `into` has any bytes.
     fn read_at(&mut self, at: u64, into: &mut [u8]) -> Result<(), ReadFault>
         requires { at + length into.old ≤ count self.old }
         ensures count { count self.new ≡ count self.old }

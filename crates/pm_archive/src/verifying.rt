@@ -54,15 +54,12 @@ fn check_metadata<B: Bytes>(
     ensures fault { (bytes : List ℕ) → B.holds source.new bytes → IfErr result (UnlessOutside (IsMetadataFault bytes header.now)) }
     ensures read { result ≡ Err ArchiveFault.Read → B.fails source.old }
 {
-    let metadata = match bytes_at(
+    let metadata = bytes_at(
         alloc,
         source,
         header.metadata.offset,
         header.metadata.length,
-    ) {
-        Ok(metadata) => metadata,
-        Err(fault) => return Err(fault),
-    };
+    )?;
     match is_metadata(alloc, &metadata) {
         Ok(is) => check_is_metadata(is),
         Err(_) => Err(ArchiveFault::Memory),
@@ -80,10 +77,8 @@ fn report_on(alloc: Global, header: &Header, tiles: &[Entry]) -> Result<Report, 
         Ok(report) => report,
         Err(_) => return Err(ArchiveFault::Memory),
     };
-    match check_counts(header, report) {
-        Ok(()) => Ok(report),
-        Err(fault) => Err(fault),
-    }
+    check_counts(header, report)?;
+    Ok(report)
 }
 
 // Reads the tile of each entry, where the tiles are vector tiles that aren't compressed.
@@ -122,21 +117,10 @@ pub(crate) fn verdict_below<B: Bytes>(
     ensures fault { (bytes : List ℕ) → B.holds source.new bytes → IfErr result (UnlessOutside (VerifyingHas bytes header.now root.now)) }
     ensures read { result ≡ Err ArchiveFault.Read → B.fails source.old }
 {
-    match check_metadata(alloc, source, header) {
-        Ok(()) => {}
-        Err(fault) => return Err(fault),
-    }
-    let listed = match entries_below(alloc, source, header, root) {
-        Ok(listed) => listed,
-        Err(fault) => return Err(fault),
-    };
+    check_metadata(alloc, source, header)?;
+    let listed = entries_below(alloc, source, header, root)?;
     let tiles = listed.as_slice();
-    let report = match report_on(alloc, header, tiles) {
-        Ok(report) => report,
-        Err(fault) => return Err(fault),
-    };
-    match check_vector_tiles(alloc, source, header, tiles) {
-        Ok(()) => Ok(report),
-        Err(fault) => Err(fault),
-    }
+    let report = report_on(alloc, header, tiles)?;
+    check_vector_tiles(alloc, source, header, tiles)?;
+    Ok(report)
 }

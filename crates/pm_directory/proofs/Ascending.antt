@@ -1,5 +1,6 @@
 -- Entries that ascend.
-use Rattle.std.proofs.Common.{◌≡◌, ℕ, zero, suc, ◌<◌, ◌≤◌, Bool, true, false, cond, leb, List, [], ◌∷◌, length, take, get_or, filter, Some, ◌⊎◌, inl, inr, refl, sym, ap, ◌∙◌, arith}
+use Rattle.std.proofs.Common.{◌≡◌, ℕ, zero, suc, ◌<◌, ◌≤◌, Bool, true, false, cond, leb, List, [], ◌∷◌, length, take, get_or, filter, Some, ◌⊎◌, inl, inr, refl}
+use Rattle.std.proofs.Common.{sym, ap, ◌∙◌, arith}
 use Rattle.std.specs.List.{slice_get}
 use Rattle.std.specs.List.Sorted.{IsNonDecreasingBy, IsPartitionPoint}
 use Rattle.std.proofs.lemmas.Bool.{leb-true}
@@ -29,9 +30,11 @@ front_passes p [] zero h = refl
 front_passes p [] (suc n) h = refl
 front_passes p (x ∷ xs) zero h = nothing_passes p (x ∷ xs) (λ k d lt. h.1 k d (omega arith) lt)
 front_passes p (x ∷ xs) (suc n) h =
-    rw (h.0 0 x (omega arith) (omega arith)) (ap (λ (r : List _). x ∷ r) (front_passes p xs n (λ k d low lt. h.0 (suc k) d (omega arith) (omega arith), λ k d low lt. h.1 (suc k) d (omega arith) (omega arith))))
+    rw (h.0 0 x (omega arith) (omega arith)) (ap (λ (r : List _). x ∷ r)
+    (front_passes p xs n (λ k d low lt. h.0 (suc k) d (omega arith) (omega arith), λ k d low lt. h.1 (suc k) d (omega arith) (omega arith))))
 
-first_get : {X : Type 0} (b : Bool) (y : X) (rest : List X) (k : ℕ) (x : X) → slice_get (cond b (y ∷ rest) rest) k ≡ Some x → ((b ≡ true) × (y ≡ x)) ⊎ ((j : ℕ) × (slice_get rest j ≡ Some x))
+first_get : {X : Type 0} (b : Bool) (y : X) (rest : List X) (k : ℕ) (x : X) → slice_get (cond b (y ∷ rest) rest) k ≡ Some x
+    → ((b ≡ true) × (y ≡ x)) ⊎ ((j : ℕ) × (slice_get rest j ≡ Some x))
 first_get true y rest zero x e = inl (refl, cc)
 first_get true y rest (suc k) x e = inr (k, e)
 first_get false y rest k x e = inr (k, e)

@@ -1,7 +1,7 @@
 pub mod Ascending
-pub mod Chain
 pub mod DirectoryLaws
 pub mod EntryLaws
+pub mod Laws
 pub mod NumberLaws
 pub mod Sizes
 pub mod Steps

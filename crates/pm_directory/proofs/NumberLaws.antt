@@ -1,5 +1,6 @@
 -- Numbers that are read are spelled so, and those that are spelled so are read.
-use Rattle.std.proofs.Common.{◌≡◌, ℕ, zero, suc, ◌*◌, ◌<◌, ◌≤◌, Bool, true, false, cond, ltb, List, [], ◌∷◌, ◌++◌, length, take, drop, Result, Ok, Err, ◌⊎◌, inl, inr, refl, sym, ap, subst, ◌∙◌, append_assoc, append-nil, arith}
+use Rattle.std.proofs.Common.{◌≡◌, ℕ, zero, suc, ◌*◌, ◌<◌, ◌≤◌, Bool, true, false, cond, ltb, List, [], ◌∷◌, ◌++◌, length, take, drop, Result, Ok, Err, ◌⊎◌}
+use Rattle.std.proofs.Common.{inl, inr, refl, sym, ap, subst, ◌∙◌, append_assoc, append-nil, arith}
 use Rattle.std.proofs.lemmas.List.{take-append-drop, drop_at}
 use Rattle.pb_wire.specs.declared.fault.FaultKind.{FaultKind}
 use Rattle.pb_wire.specs.declared.fault.FaultKind.TheVariants as kinds
@@ -9,8 +10,10 @@ use Rattle.pm_directory.specs.declared.fault.DirectoryFault.{DirectoryFault}
 use Rattle.pm_directory.specs.declared.fault.DirectoryFault.TheVariants as faults
 use Rattle.pm_directory.specs.Directory.{AreVarints}
 use Rattle.pm_directory.specs.Faulty.{NumberHas, cut, overlong, NumbersHave, HasRoom}
-use Rattle.pm_directory.specs.Reading.{Read, ◌>>=◌, number_of, number_at, numbers_at}
-use Rattle.pm_directory.proofs.Chain.{done, same_done, same_failed, not_both, bind_ok, bind_err}
+use Rattle.pm_directory.specs.Reading.{number_of, number_at, one_more, numbers_at}
+use Rattle.reader.specs.Reading.{Read, ◌>>=◌, repeated}
+use Rattle.reader.proofs.Steps.{done, same_value, same_fault, not_both, then_ok, then_err}
+use Rattle.pm_directory.proofs.Steps.{one_on}
 
 -- ---- a number alone has no fault of a field
 
@@ -43,7 +46,10 @@ read_fault : (bytes : List ℕ) (more : ℕ) (kind : FaultKind) → read_in byte
 unfolding read_in
 read_fault [] more kind e = of_fault kinds.Cut kind e tt
 read_fault (b ∷ bs) zero kind e =
-    elim (chosen (ltb b 2) (Ok (b, 1)) (wrong kinds.Varint) (wrong kind) e) [ inl hit ↦ absurd (not_found (b, 1) kind hit) | inr other ↦ of_fault kinds.Varint kind other tt ]
+    elim (chosen (ltb b 2) (Ok (b, 1)) (wrong kinds.Varint) (wrong kind) e) [
+      | inl hit ↦ absurd (not_found (b, 1) kind hit)
+      | inr other ↦ of_fault kinds.Varint kind other tt
+    ]
 read_fault (b ∷ bs) (suc more) kind e =
     elim (chosen (ltb b 128) (Ok (b, 1)) (behind b (read_in bs more)) (wrong kind) e) [
       | inl hit ↦ absurd (not_found (b, 1) kind hit)
@@ -56,10 +62,11 @@ varint_fault bytes kind e = read_fault bytes 9 kind e
 
 -- ---- one number
 
-number_ok : (bytes : List ℕ) (r : Result (ℕ × ℕ) FaultKind) (n : ℕ) (rest : List ℕ) → number_of bytes r ≡ Ok (n, rest) → (len : ℕ) × (r ≡ Ok (n, len)) × (rest ≡ drop len bytes)
+number_ok : (bytes : List ℕ) (r : Result (ℕ × ℕ) FaultKind) (n : ℕ) (rest : List ℕ) → number_of bytes r ≡ Ok (n, rest)
+    → (len : ℕ) × (r ≡ Ok (n, len)) × (rest ≡ drop len bytes)
 unfolding number_of
 number_ok bytes (Ok x) n rest e =
-    let p = same_done (x.0, drop x.1 bytes) (n, rest) e in
+    let p = same_value (x.0, drop x.1 bytes) (n, rest) e in
     let first : x.0 ≡ n = ap (λ (q : ℕ × List ℕ). q.0) p in
     let second : drop x.1 bytes ≡ rest = ap (λ (q : ℕ × List ℕ). q.1) p in
     (x.1, ap (λ (k : ℕ). found k x.1) first, sym second)
@@ -87,8 +94,8 @@ number_only front rest n h =
 number_has : (bytes : List ℕ) (r : Result (ℕ × ℕ) FaultKind) (d : DirectoryFault) → varint_at bytes ≡ r → number_of bytes r ≡ Err d → NumberHas bytes d
 unfolding number_of
 number_has bytes (Ok x) d is e = absurd (not_both (x.0, drop x.1 bytes) d e)
-number_has bytes (Err kinds.Cut) d is e = cut (sym (same_failed {A = ℕ × List ℕ} faults.Cut d e)) (cut_is bytes is)
-number_has bytes (Err kinds.Varint) d is e = overlong (sym (same_failed {A = ℕ × List ℕ} faults.Varint d e)) (overlong_is bytes is)
+number_has bytes (Err kinds.Cut) d is e = cut (sym (same_fault {A = ℕ × List ℕ} faults.Cut d e)) (cut_is bytes is)
+number_has bytes (Err kinds.Varint) d is e = overlong (sym (same_fault {A = ℕ × List ℕ} faults.Varint d e)) (overlong_is bytes is)
 number_has bytes (Err kinds.Number) d is e = absurd (varint_fault bytes kinds.Number is)
 number_has bytes (Err kinds.WireType) d is e = absurd (varint_fault bytes kinds.WireType is)
 
@@ -98,6 +105,25 @@ number_err bytes d e = number_has bytes (varint_at bytes) d refl e
 
 -- ---- numbers one after the other
 
+-- a number was read behind others, and then this stands in front
+one_found : (before bytes all rest : List ℕ) → one_more (before, bytes) ≡ Ok (all, rest)
+    → (n : ℕ) × (front : List ℕ) × (all ≡ before ++ n ∷ []) × (bytes ≡ front ++ rest) × IsVarint front n
+unfolding one_more
+one_found before bytes all rest e =
+    let x = then_ok (number_at bytes) (λ x. done (before ++ x.0 ∷ [], x.1)) (all, rest) e in
+    let both = same_value (before ++ x.0.0 ∷ [], x.0.1) (all, rest) x.2 in
+    let behind : x.0.1 ≡ rest = ap (λ (q : List ℕ × List ℕ). q.1) both in
+    let n = number_found bytes x.0.0 x.0.1 x.1 in
+    (x.0.0, n.0, sym (ap (λ (q : List ℕ × List ℕ). q.0) both), n.1 ∙ ap (λ (r : List ℕ). n.0 ++ r) behind, n.2)
+
+one_err : (before bytes : List ℕ) (d : DirectoryFault) → one_more (before, bytes) ≡ Err d → NumberHas bytes d
+unfolding one_more
+one_err before bytes d e =
+    elim (then_err (number_at bytes) (λ x. done (before ++ x.0 ∷ [], x.1)) d e) [
+      | inl here ↦ number_err bytes d here
+      | inr x ↦ absurd (not_both (before ++ x.0.0 ∷ [], x.0.1) d x.2)
+    ]
+
 pub record AreRead (count : ℕ) (before bytes all rest : List ℕ) : Type 0 where
   pub numbers : List ℕ
   pub front : List ℕ
@@ -106,10 +132,10 @@ pub record AreRead (count : ℕ) (before bytes all rest : List ℕ) : Type 0 whe
   pub parts : bytes ≡ front ++ rest
   pub spelled : AreVarints front numbers
 
-pub numbers_found : (count : ℕ) (before bytes all rest : List ℕ) → numbers_at count before bytes ≡ Ok (all, rest) → AreRead count before bytes all rest
-unfolding numbers_at
-numbers_found zero before bytes all rest e =
-    let p = same_done (before, bytes) (all, rest) e in
+found_behind : (count : ℕ) (before bytes all rest : List ℕ) → repeated one_more count (before, bytes) ≡ Ok (all, rest) → AreRead count before bytes all rest
+unfolding repeated
+found_behind zero before bytes all rest e =
+    let p = same_value (before, bytes) (all, rest) e in
     record {
       numbers = [];
       front = [];
@@ -118,45 +144,55 @@ numbers_found zero before bytes all rest e =
       parts = ap (λ (q : List ℕ × List ℕ). q.1) p;
       spelled = refl;
     }
-numbers_found (suc more) before bytes all rest e =
-    let x = bind_ok (number_at bytes) (λ x. numbers_at more (before ++ x.0 ∷ []) x.1) (all, rest) e in
-    let n = number_found bytes x.0.0 x.0.1 x.1 in
-    let h = numbers_found more (before ++ x.0.0 ∷ []) x.0.1 all rest x.2 in
+found_behind (suc more) before bytes all rest e =
+    let x = then_ok (one_more (before, bytes)) (repeated one_more more) (all, rest) e in
+    let n = one_found before bytes x.0.0 x.0.1 x.1 in
+    let h = found_behind more x.0.0 x.0.1 all rest x.2 in
     record {
-      numbers = x.0.0 ∷ h.numbers;
-      front = n.0 ++ h.front;
-      all_is = h.all_is ∙ append_assoc before (x.0.0 ∷ []) h.numbers;
+      numbers = n.0 ∷ h.numbers;
+      front = n.1 ++ h.front;
+      all_is = h.all_is ∙ ap (λ (r : List ℕ). r ++ h.numbers) n.2 ∙ append_assoc before (n.0 ∷ []) h.numbers;
       count_is = omega (arith, h.count_is);
-      parts = n.1 ∙ ap (λ (r : List ℕ). n.0 ++ r) h.parts ∙ sym (append_assoc n.0 h.front rest);
-      spelled = (n.0, h.front, refl, n.2, h.spelled);
+      parts = n.3 ∙ ap (λ (r : List ℕ). n.1 ++ r) h.parts ∙ sym (append_assoc n.1 h.front rest);
+      spelled = (n.1, h.front, refl, n.4, h.spelled);
     }
 
-pub numbers_only : (numbers before front rest : List ℕ) → AreVarints front numbers → numbers_at (length numbers) before (front ++ rest) ≡ Ok (before ++ numbers, rest)
-unfolding numbers_at
-numbers_only [] before front rest h = rw (h, append-nil before) refl
-numbers_only (n ∷ ns) before front rest h =
+pub numbers_found : (count : ℕ) (bytes all rest : List ℕ) → numbers_at count bytes ≡ Ok (all, rest) → AreRead count [] bytes all rest
+numbers_found count bytes all rest e = found_behind count [] bytes all rest e
+
+only_behind : (numbers before front rest : List ℕ) → AreVarints front numbers
+    → repeated one_more (length numbers) (before, front ++ rest) ≡ Ok (before ++ numbers, rest)
+unfolding repeated
+only_behind [] before front rest h = rw (h, append-nil before) refl
+only_behind (n ∷ ns) before front rest h =
     let shape : front ++ rest ≡ h.0 ++ (h.1 ++ rest) = ap (λ (r : List ℕ). r ++ rest) h.2 ∙ append_assoc h.0 h.1 rest in
     let one : number_at (front ++ rest) ≡ Ok (n, h.1 ++ rest) = ap number_at shape ∙ number_only h.0 (h.1 ++ rest) n h.3 in
-    ap (λ (r : Read (ℕ × List ℕ)). r >>= λ x. numbers_at (length ns) (before ++ x.0 ∷ []) x.1) one
-    ∙ numbers_only ns (before ++ n ∷ []) h.1 rest h.4
+    ap (λ (r : Read DirectoryFault (List ℕ × List ℕ)). r >>= repeated one_more (length ns)) (one_on before (front ++ rest) (h.1 ++ rest) n one)
+    ∙ only_behind ns (before ++ n ∷ []) h.1 rest h.4
     ∙ ap (λ (all : List ℕ). done (all, rest)) (append_assoc before (n ∷ []) ns)
 
-pub numbers_err : (count : ℕ) (before bytes : List ℕ) (d : DirectoryFault) → numbers_at count before bytes ≡ Err d → NumbersHave count bytes d
-unfolding numbers_at
-numbers_err zero before bytes d e = absurd (not_both (before, bytes) d e)
-numbers_err (suc more) before bytes d e =
-    elim (bind_err (number_at bytes) (λ x. numbers_at more (before ++ x.0 ∷ []) x.1) d e) [
-      | inl here ↦ record { numbers = []; front = []; rest = bytes; fewer = omega arith; parts = refl; spelled = refl; fault = number_err bytes d here }
+pub numbers_only : (numbers front rest : List ℕ) → AreVarints front numbers → numbers_at (length numbers) (front ++ rest) ≡ Ok (numbers, rest)
+numbers_only numbers front rest h = only_behind numbers [] front rest h
+
+err_behind : (count : ℕ) (before bytes : List ℕ) (d : DirectoryFault) → repeated one_more count (before, bytes) ≡ Err d → NumbersHave count bytes d
+unfolding repeated
+err_behind zero before bytes d e = absurd (not_both (before, bytes) d e)
+err_behind (suc more) before bytes d e =
+    elim (then_err (one_more (before, bytes)) (repeated one_more more) d e) [
+      | inl here ↦ record { numbers = []; front = []; rest = bytes; fewer = omega arith; parts = refl; spelled = refl; fault = one_err before bytes d here }
       | inr later ↦
-          let n = number_found bytes later.0.0 later.0.1 later.1 in
-          let h = numbers_err more (before ++ later.0.0 ∷ []) later.0.1 d later.2 in
+          let n = one_found before bytes later.0.0 later.0.1 later.1 in
+          let h = err_behind more later.0.0 later.0.1 d later.2 in
           record {
-            numbers = later.0.0 ∷ h.numbers;
-            front = n.0 ++ h.front;
+            numbers = n.0 ∷ h.numbers;
+            front = n.1 ++ h.front;
             rest = h.rest;
             fewer = omega (arith, h.fewer);
-            parts = n.1 ∙ ap (λ (r : List ℕ). n.0 ++ r) h.parts ∙ sym (append_assoc n.0 h.front h.rest);
-            spelled = (n.0, h.front, refl, n.2, h.spelled);
+            parts = n.3 ∙ ap (λ (r : List ℕ). n.1 ++ r) h.parts ∙ sym (append_assoc n.1 h.front h.rest);
+            spelled = (n.1, h.front, refl, n.4, h.spelled);
             fault = h.fault;
           }
     ]
+
+pub numbers_err : (count : ℕ) (bytes : List ℕ) (d : DirectoryFault) → numbers_at count bytes ≡ Err d → NumbersHave count bytes d
+numbers_err count bytes d e = err_behind count [] bytes d e

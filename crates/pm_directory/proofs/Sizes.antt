@@ -1,5 +1,6 @@
 -- How long directories are.
-use Rattle.std.proofs.Common.{◌≡◌, ℕ, zero, suc, ◌+◌, ◌*◌, ◌/◌, ◌^◌, ◌<◌, ◌≤◌, Bool, true, false, cond, eqb, ltb, List, [], ◌∷◌, ◌++◌, length, Option, Some, None, inl, inr, refl, ap, arith}
+use Rattle.std.proofs.Common.{◌≡◌, ℕ, zero, suc, ◌+◌, ◌*◌, ◌/◌, ◌^◌, ◌<◌, ◌≤◌, Bool, true, false, cond, eqb, ltb, List, [], ◌∷◌, ◌++◌, length, Option, Some}
+use Rattle.std.proofs.Common.{None, inl, inr, refl, ap, arith}
 use Rattle.std.specs.List.{AllByRecursion}
 use Rattle.std.proofs.lemmas.Bool.{cases_lt, lt-ltb, le-ltb}
 use Rattle.std.proofs.lemmas.List.{length-append, length-map}
@@ -84,9 +85,13 @@ length-offsets end (e ∷ es) = ap (λ (n : ℕ). suc n) (length-offsets (Some (
 
 pub directory_some : (es : List Entry) → 0 < length (directory_bytes es)
 unfolding directory_bytes
-directory_some es = omega (arith, length-append (varint (length es)) (varints (id_deltas 0 es ++ (runs_of es ++ (lengths_of es ++ offset_numbers None es)))), some_byte (length es))
+directory_some es = omega (
+  arith,
+  length-append (varint (length es)) (varints (id_deltas 0 es ++ (runs_of es ++ (lengths_of es ++ offset_numbers None es)))),
+  some_byte (length es),
+)
 
-pub directory_short : (es : List Entry) → length es < 16384 → AllByRecursion IsEntry es → length (directory_bytes es) ≤ 2 + 29 * length es
+pub directory_short : (es : List Entry) → length es < 2 ^ 14 → AllByRecursion IsEntry es → length (directory_bytes es) ≤ 2 + 29 * length es
 unfolding directory_bytes
 directory_short es few h =
     let ds = id_deltas 0 es in

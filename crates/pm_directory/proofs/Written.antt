@@ -1,11 +1,13 @@
 -- What is written is the directory.
-use Rattle.std.proofs.Common.{◌≡◌, ℕ, suc, ◌+◌, ◌^◌, ◌<◌, Bool, true, false, cond, eqb, List, [], ◌∷◌, ◌++◌, length, Option, Some, None, refl, sym, ap, ◌∙◌, append_assoc, arith}
+use Rattle.std.proofs.Common.{◌≡◌, ℕ, suc, ◌+◌, ◌^◌, ◌<◌, Bool, true, false, cond, eqb, List, [], ◌∷◌, ◌++◌, length, Option, Some, None, refl, sym, ap, ◌∙◌}
+use Rattle.std.proofs.Common.{append_assoc, arith}
 use Rattle.std.specs.List.{AllByRecursion}
 use Rattle.std.proofs.lemmas.Bool.{eqb-true}
 use Rattle.pb_wire.specs.Varint.{varint}
 use Rattle.pb_wire.proofs.Varints.{varint_spells}
 use Rattle.pm_directory.specs.declared.entry.Entry.{Entry}
-use Rattle.pm_directory.specs.Directory.{AreVarints, IsAscending, IsEntry, HasEnd, id_deltas, offset_at, AreOffsets, runs_of, lengths_of, IsDirectory, varints, offset_number, offset_numbers, directory_bytes}
+use Rattle.pm_directory.specs.Directory.{AreVarints, IsAscending, IsEntry, HasEnd, id_deltas, offset_at, AreOffsets, runs_of, lengths_of, IsDirectory, varints}
+use Rattle.pm_directory.specs.Directory.{offset_number, offset_numbers, directory_bytes}
 
 abbrev Fits : ℕ → Type 0
 Fits n = n < 2 ^ 64
@@ -15,14 +17,17 @@ varints-append [] ys = refl
 varints-append (x ∷ xs) ys = ap (λ (r : List ℕ). varint x ++ r) (varints-append xs ys) ∙ sym (append_assoc (varint x) (varints xs) (varints ys))
 
 -- the parts one behind the other
-pub parts_are : (es : List Entry) → varint (length es) ++ varints (id_deltas 0 es) ++ varints (runs_of es) ++ varints (lengths_of es) ++ varints (offset_numbers None es) ≡ directory_bytes es
+pub parts_are : (es : List Entry) → varint (length es) ++ varints (id_deltas 0 es) ++ varints (runs_of es) ++ varints (lengths_of es)
+    ++ varints (offset_numbers None es) ≡ directory_bytes es
 unfolding directory_bytes
 parts_are es =
     let ds = id_deltas 0 es in
     let rs = runs_of es in
     let ls = lengths_of es in
     let os = offset_numbers None es in
-    simp append_assoc (ap (λ (r : List ℕ). varint (length es) ++ r) (sym (varints-append ds (rs ++ (ls ++ os)) ∙ ap (λ (r : List ℕ). varints ds ++ r) (varints-append rs (ls ++ os) ∙ ap (λ (r : List ℕ). varints rs ++ r) (varints-append ls os)))))
+    simp append_assoc (ap (λ (r : List ℕ). varint (length es) ++ r)
+    (sym (varints-append ds (rs ++ (ls ++ os)) ∙ ap (λ (r : List ℕ). varints ds ++ r)
+    (varints-append rs (ls ++ os) ∙ ap (λ (r : List ℕ). varints rs ++ r) (varints-append ls os)))))
 
 -- ---- each number fits
 
@@ -72,7 +77,8 @@ offsets_are : (end : Option ℕ) (es : List Entry) → AreOffsets end (offset_nu
 offsets_are end [] = tt
 offsets_are end (e ∷ es) = (offset_is end e.offset, offsets_are (Some (e.offset + e.length)) es)
 
-pub is_directory : (es : List Entry) → length es < 2 ^ 64 → IsAscending es → AllByRecursion IsEntry es → AllByRecursion HasEnd es → IsDirectory (directory_bytes es) es
+pub is_directory : (es : List Entry) → length es < 2 ^ 64 → IsAscending es → AllByRecursion IsEntry es → AllByRecursion HasEnd es
+    → IsDirectory (directory_bytes es) es
 unfolding directory_bytes
 is_directory es count ascending each ends =
     let ds = id_deltas 0 es in
@@ -81,7 +87,11 @@ is_directory es count ascending each ends =
     let os = offset_numbers None es in
     record {
       offsets = os;
-      spelled = varints_are (length es ∷ (ds ++ (rs ++ (ls ++ os)))) (count, fit_append ds (rs ++ (ls ++ os)) (deltas_fit 0 es each) (fit_append rs (ls ++ os) (runs_fit es each) (fit_append ls os (lengths_fit es each) (offsets_fit None es ends))));
+      spelled = varints_are (length es ∷ (ds ++ (rs ++ (ls ++ os)))) (
+        count,
+        fit_append ds (rs ++ (ls ++ os)) (deltas_fit 0 es each)
+            (fit_append rs (ls ++ os) (runs_fit es each) (fit_append ls os (lengths_fit es each) (offsets_fit None es ends))),
+      );
       offsets_are = offsets_are None es;
       ascending = ascending;
       each = each;

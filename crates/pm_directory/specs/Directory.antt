@@ -3,6 +3,7 @@ use Rattle.std.specs.Prelude.{◌≡◌, ℕ, zero, suc, ◌+◌, ◌-◌, ◌^�
 use Rattle.std.specs.List.{AllByRecursion}
 use Rattle.pb_wire.specs.Varint.{IsVarint, varint}
 use Rattle.pm_directory.specs.declared.entry.Entry.{Entry}
+use Rattle.pm_directory.specs.declared.entry.TheConstants.{IDS_END}
 
 -- the bytes spell these numbers, one after the other, and nothing else
 abbrev pub AreVarints : List ℕ → List ℕ → Type 0
@@ -27,10 +28,10 @@ pub record IsEntry (e : Entry) : Type 0 where
   pub some : 0 < e.length
   pub length_fits : e.length < 2 ^ 32
   pub run_fits : e.run < 2 ^ 32
-  pub ids_fit : e.id + e.run ≤ 6148914691236517205
+  pub ids_fit : e.id + e.run ≤ IDS_END
   pub offset_fits : e.offset < 2 ^ 64
 
--- the bytes that it names end before place 2 ^ 64
+-- the bytes that it names end before offset 2 ^ 64
 abbrev pub HasEnd : Entry → Type 0
 HasEnd e = (0 < e.length) × (e.offset + e.length < 2 ^ 64)
 

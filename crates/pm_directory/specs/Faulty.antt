@@ -2,6 +2,7 @@
 use Rattle.std.specs.Prelude.{◌≡◌, ℕ, ◌+◌, ◌*◌, ◌^◌, ◌<◌, ◌≤◌, ◌⊎◌, List, ◌∷◌, ◌++◌, length, Option, Some, None}
 use Rattle.pb_wire.specs.Varint.{IsVarint, IsCut, IsOverlong}
 use Rattle.pm_directory.specs.declared.entry.Entry.{Entry}
+use Rattle.pm_directory.specs.declared.entry.TheConstants.{IDS_END}
 use Rattle.pm_directory.specs.declared.fault.DirectoryFault.{DirectoryFault}
 use Rattle.pm_directory.specs.declared.fault.DirectoryFault.TheVariants as faults
 use Rattle.pm_directory.specs.Directory.{AreVarints, ids_behind, offset_at, IsEntry}
@@ -48,7 +49,7 @@ pub data EntryHas (before : Option Entry) (delta run len offset : ℕ) (d : Dire
   not_behind : d ≡ faults.Order → id_from before + delta < ids_from before → EntryHas before delta run len offset d
   id_large : d ≡ faults.Range → 2 ^ 64 ≤ id_from before + delta → EntryHas before delta run len offset d
   run_large : d ≡ faults.Range → 2 ^ 32 ≤ run → EntryHas before delta run len offset d
-  past_ids : d ≡ faults.Range → 6148914691236517205 < id_from before + delta + run → EntryHas before delta run len offset d
+  past_ids : d ≡ faults.Range → IDS_END < id_from before + delta + run → EntryHas before delta run len offset d
   no_length : d ≡ faults.Length → len ≡ 0 → EntryHas before delta run len offset d
   length_large : d ≡ faults.Range → 2 ^ 32 ≤ len → EntryHas before delta run len offset d
   no_offset : d ≡ faults.Offset → before ≡ None → offset ≡ 0 → EntryHas before delta run len offset d
@@ -56,7 +57,8 @@ pub data EntryHas (before : Option Entry) (delta run len offset : ℕ) (d : Dire
 
 -- behind entries that the columns say, one has a fault
 abbrev pub EntriesHave : Option Entry → List ℕ → List ℕ → List ℕ → List ℕ → DirectoryFault → Type 0
-EntriesHave before (delta ∷ ds) (run ∷ rs) (len ∷ ls) (offset ∷ os) d = EntryHas before delta run len offset d ⊎ ((e : Entry) × IsNext before delta run len offset e × EntriesHave (Some e) ds rs ls os d)
+EntriesHave before (delta ∷ ds) (run ∷ rs) (len ∷ ls) (offset ∷ os) d = EntryHas before delta run len offset d
+    ⊎ ((e : Entry) × IsNext before delta run len offset e × EntriesHave (Some e) ds rs ls os d)
 EntriesHave before _ _ _ _ d = ⊥
 
 -- a fault of bytes that are to be a directory
@@ -65,8 +67,10 @@ pub data DirectoryHas (bytes : List ℕ) (d : DirectoryFault) : Type 0 where
   -- fewer bytes than numbers
   few : d ≡ faults.Cut → (n : ℕ) → (front : List ℕ) → (rest : List ℕ) → bytes ≡ front ++ rest → IsVarint front n → length rest < 4 * n → DirectoryHas bytes d
   at_number : (n : ℕ) → (front : List ℕ) → (rest : List ℕ) → bytes ≡ front ++ rest → IsVarint front n → NumbersHave (4 * n) rest d → DirectoryHas bytes d
-  bytes_behind : d ≡ faults.Rest → (numbers : List ℕ) → (n : ℕ) → (front : List ℕ) → (rest : List ℕ) → bytes ≡ front ++ rest → AreVarints front (n ∷ numbers) → length numbers ≡ 4 * n → 0 < length rest → DirectoryHas bytes d
-  at_entry : (ds : List ℕ) → (rs : List ℕ) → (ls : List ℕ) → (os : List ℕ) → length rs ≡ length ds → length ls ≡ length ds → length os ≡ length ds → AreVarints bytes (length ds ∷ (ds ++ (rs ++ (ls ++ os)))) → EntriesHave None ds rs ls os d → DirectoryHas bytes d
+  bytes_behind : d ≡ faults.Rest → (numbers : List ℕ) → (n : ℕ) → (front : List ℕ) → (rest : List ℕ) → bytes ≡ front ++ rest → AreVarints front (n ∷ numbers)
+      → length numbers ≡ 4 * n → 0 < length rest → DirectoryHas bytes d
+  at_entry : (ds : List ℕ) → (rs : List ℕ) → (ls : List ℕ) → (os : List ℕ) → length rs ≡ length ds → length ls ≡ length ds → length os ≡ length ds
+      → AreVarints bytes (length ds ∷ (ds ++ (rs ++ (ls ++ os)))) → EntriesHave None ds rs ls os d → DirectoryHas bytes d
 
 -- the bytes begin with a count of entries, and behind it stands a byte or more for each of their four numbers
 abbrev pub HasRoom : List ℕ → Type 0

@@ -1,7 +1,8 @@
 //! The numbers of which a directory consists.
 
-ghost use Rattle.std.specs.Prelude.{◌≡◌, ◌≢◌, ◌<◌, [], length, Err, IfOk, IfErr};
-ghost use Rattle.pm_directory.specs.Reading.{Gives, number_at, numbers_at};
+ghost use Rattle.std.specs.Prelude.{◌≡◌, ◌≢◌, ◌<◌, length, Err, IfOk, IfErr};
+ghost use Rattle.reader.specs.Reading.{Gives, Reads};
+ghost use Rattle.pm_directory.specs.Reading.{number_at, numbers_at};
 
 use crate::fault::DirectoryFault;
 use pb_wire::{FaultKind, get_varint};
@@ -10,7 +11,7 @@ use std::alloc::Global;
 // The number in front, and the bytes behind it.
 #[tactic(auto, unfolding(crate::specs::Reading::number_at, crate::specs::Reading::number_of))]
 pub(crate) fn number(bytes: &[u8]) -> Result<(u64, &[u8]), DirectoryFault>
-    ensures exact { Gives (λ x. (x.0, x.1.now)) result (number_at bytes.now) }
+    ensures exact { Reads (λ x. (x.0, x.1.now)) result (number_at bytes.now) }
     ensures memory { result ≢ Err DirectoryFault.Memory }
 {
     match get_varint(bytes) {
@@ -29,7 +30,7 @@ pub(crate) fn numbers(
     bytes: &[u8],
 ) -> Result<(Vec<u64>, &[u8]), DirectoryFault>
     ensures count { IfOk result (λ x. length x.0.items ≡ count) }
-    ensures exact { Gives (λ x. (x.0.items, x.1.now)) result (numbers_at count [] bytes.now) }
+    ensures exact { Gives DirectoryFault.Memory (λ x. (x.0.items, x.1.now)) result (numbers_at count bytes.now) }
     ensures memory { IfErr result (λ fault. fault ≡ DirectoryFault.Memory → 0 < count) }
 {
     let mut numbers = Vec::new(alloc);

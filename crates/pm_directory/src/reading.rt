@@ -3,16 +3,14 @@
 ghost use Rattle.std.specs.Prelude.{◌≡◌, ◌≢◌, ◌*◌, ◌<◌, ◌≤◌, [], List, length, Ok, Err, IfOk, IfErr, OnOk, MatchResult};
 ghost use Rattle.pm_directory.specs.Directory.{IsDirectory};
 ghost use Rattle.pm_directory.specs.Faulty.{DirectoryHas, HasRoom};
-ghost use Rattle.pm_directory.specs.Reading.{Gives, id_at, run_at, length_at, place_at, entry_at, entries_at, number_at, columns_at, directory_at};
+ghost use Rattle.reader.specs.Reading.{Gives};
+ghost use Rattle.pm_directory.specs.Reading.{id_at, run_at, length_at, offset_of, entry_at, entries_at, number_at, columns_at, directory_at};
 ghost use Rattle.pm_directory.specs.declared.entry.Entry.{Entry};
 
-use crate::entry::Entry;
+use crate::entry::{Entry, IDS_END};
 use crate::fault::DirectoryFault;
 use crate::numbers::{number, numbers};
 use std::alloc::Global;
-
-/// Behind the last tile id of zoom 31.
-pub(crate) const IDS_END: u64 = 6_148_914_691_236_517_205;
 
 // The id so far behind that of the entry before.
 fn id_behind(before: Option<Entry>, delta: u64) -> Result<u64, DirectoryFault>
@@ -46,7 +44,7 @@ fn length_of(length: u64) -> Result<u32, DirectoryFault>
 
 // The offset that a number says: 0 where the entry before ends, else the number less 1.
 fn offset_behind(before: Option<Entry>, number: u64) -> Result<u64, DirectoryFault>
-    ensures { result ≡ place_at before number }
+    ensures { result ≡ offset_of before number }
 {
     if number > 0 {
         return Ok(number - 1);
@@ -94,7 +92,7 @@ fn entries_of(
     requires runs { length runs.now ≡ length deltas.now }
     requires lengths { length lengths.now ≡ length deltas.now }
     requires offsets { length offsets.now ≡ length deltas.now }
-    ensures exact { Gives (λ v. v.items) result (entries_at None [] deltas.now runs.now lengths.now offsets.now) }
+    ensures exact { Gives DirectoryFault.Memory (λ v. v.items) result (entries_at None [] deltas.now runs.now lengths.now offsets.now) }
     ensures memory { IfErr result (λ fault. fault ≡ DirectoryFault.Memory → 0 < length deltas.now) }
 {
     let mut entries = Vec::new(alloc);
@@ -114,10 +112,7 @@ fn count_of(bytes: &[u8]) -> Result<(usize, &[u8]), DirectoryFault>
     ensures fault { IfErr result (λ fault. columns_at bytes.now ≡ Err fault) }
     ensures memory { result ≢ Err DirectoryFault.Memory }
 {
-    let (count, rest) = match number(bytes) {
-        Ok(front) => front,
-        Err(fault) => return Err(fault),
-    };
+    let (count, rest) = number(bytes)?;
     if count > rest.len() as u64 / 4 {
         return Err(DirectoryFault::Cut);
     }
@@ -139,33 +134,22 @@ fn check_end(rest: &[u8]) -> Result<(), DirectoryFault>
 #[tactic(auto, unfolding(crate::specs::Reading::columns_at))]
 fn columns(alloc: Global, bytes: &[u8]) -> Result<(usize, Vec<u64>), DirectoryFault>
     ensures four { IfOk result (λ x. length x.1.items ≡ 4 * x.0) }
-    ensures exact { Gives (λ x. (x.0, x.1.items)) result (columns_at bytes.now) }
+    ensures exact { Gives DirectoryFault.Memory (λ x. (x.0, x.1.items)) result (columns_at bytes.now) }
     ensures room { IfOk result (λ x. 0 < x.0 → HasRoom bytes.now) }
     ensures memory { IfErr result (λ fault. fault ≡ DirectoryFault.Memory → HasRoom bytes.now) }
 {
-    let (count, rest) = match count_of(bytes) {
-        Ok(front) => front,
-        Err(fault) => return Err(fault),
-    };
-    let (numbers, rest) = match numbers(alloc, 4 * count, rest) {
-        Ok(front) => front,
-        Err(fault) => return Err(fault),
-    };
-    match check_end(rest) {
-        Ok(()) => Ok((count, numbers)),
-        Err(fault) => Err(fault),
-    }
+    let (count, rest) = count_of(bytes)?;
+    let (numbers, rest) = numbers(alloc, 4 * count, rest)?;
+    check_end(rest)?;
+    Ok((count, numbers))
 }
 
 #[tactic(auto, unfolding(crate::specs::Reading::directory_at))]
 fn entries_in(alloc: Global, bytes: &[u8]) -> Result<Vec<Entry>, DirectoryFault>
-    ensures exact { Gives (λ entries. entries.items) result (directory_at bytes.now) }
+    ensures exact { Gives DirectoryFault.Memory (λ entries. entries.items) result (directory_at bytes.now) }
     ensures memory { IfErr result (λ fault. fault ≡ DirectoryFault.Memory → HasRoom bytes.now) }
 {
-    let (count, numbers) = match columns(alloc, bytes) {
-        Ok(columns) => columns,
-        Err(fault) => return Err(fault),
-    };
+    let (count, numbers) = columns(alloc, bytes)?;
     let (deltas, others) = numbers.split_at(count);
     let (runs, others) = others.split_at(count);
     let (lengths, offsets) = others.split_at(count);
@@ -185,7 +169,7 @@ pub fn read_directory(alloc: Global, bytes: &[u8]) -> Result<Vec<Entry>, Directo
 
     // Another fault is one that the bytes have, and of several the first that is met.
     ensures fault { IfErr result (λ fault. fault ≢ DirectoryFault.Memory → DirectoryHas bytes.now fault) }
-    ensures first { Gives (λ entries. entries.items) result (directory_at bytes.now) }
+    ensures first { Gives DirectoryFault.Memory (λ entries. entries.items) result (directory_at bytes.now) }
 
     // Memory runs out only where the bytes have room for as many entries as they claim.
     ensures memory { IfErr result (λ fault. fault ≡ DirectoryFault.Memory → HasRoom bytes.now) }

@@ -2,14 +2,14 @@
 
 ghost use Rattle.std.specs.Prelude.{◌≡◌, ◌+◌, ◌*◌, ◌<◌, ◌≤◌, ◌^◌, ◌++◌, length, OnOk, IfOk};
 ghost use Rattle.std.specs.List.{AllByRecursion};
-ghost use Rattle.pm_directory.specs.Directory.{IsAscending, IsEntry, HasEnd, IsDirectory, id_deltas, runs_of, lengths_of, offset_number, offset_numbers, varints, directory_bytes};
+ghost use Rattle.pm_directory.specs.Directory.{IsAscending, IsEntry, HasEnd, IsDirectory, id_deltas, runs_of, lengths_of, offset_number, offset_numbers};
+ghost use Rattle.pm_directory.specs.Directory.{varints, directory_bytes};
 
-use crate::Memory;
 use crate::entry::Entry;
 use pb_wire::put_varint;
-use std::alloc::Global;
+use std::alloc::{AllocError, Global};
 
-fn put_deltas(out: &mut Vec<u8>, entries: &[Entry]) -> Result<(), Memory>
+fn put_deltas(out: &mut Vec<u8>, entries: &[Entry]) -> Result<(), AllocError>
     requires { IsAscending entries.now }
     ensures { OnOk result (out.new.items ≡ out.old.items ++ varints (id_deltas 0 entries.now)) }
 {
@@ -21,7 +21,7 @@ fn put_deltas(out: &mut Vec<u8>, entries: &[Entry]) -> Result<(), Memory>
     Ok(())
 }
 
-fn put_runs(out: &mut Vec<u8>, entries: &[Entry]) -> Result<(), Memory>
+fn put_runs(out: &mut Vec<u8>, entries: &[Entry]) -> Result<(), AllocError>
     ensures { OnOk result (out.new.items ≡ out.old.items ++ varints (runs_of entries.now)) }
 {
     for entry in entries {
@@ -30,7 +30,7 @@ fn put_runs(out: &mut Vec<u8>, entries: &[Entry]) -> Result<(), Memory>
     Ok(())
 }
 
-fn put_lengths(out: &mut Vec<u8>, entries: &[Entry]) -> Result<(), Memory>
+fn put_lengths(out: &mut Vec<u8>, entries: &[Entry]) -> Result<(), AllocError>
     ensures { OnOk result (out.new.items ≡ out.old.items ++ varints (lengths_of entries.now)) }
 {
     for entry in entries {
@@ -50,7 +50,7 @@ fn number_of_offset(end: Option<u64>, offset: u64) -> u64
     }
 }
 
-fn put_offsets(out: &mut Vec<u8>, entries: &[Entry]) -> Result<(), Memory>
+fn put_offsets(out: &mut Vec<u8>, entries: &[Entry]) -> Result<(), AllocError>
     requires { AllByRecursion HasEnd entries.now }
     ensures { OnOk result (out.new.items ≡ out.old.items ++ varints (offset_numbers None entries.now)) }
 {
@@ -64,13 +64,13 @@ fn put_offsets(out: &mut Vec<u8>, entries: &[Entry]) -> Result<(), Memory>
 
 /// The directory of these entries (PMTiles 3, 4.2), each number spelled as short as can be, and an offset as 0
 /// wherever its content follows that of the entry before.
-pub fn write_directory(alloc: Global, entries: &[Entry]) -> Result<Vec<u8>, Memory>
+pub fn write_directory(alloc: Global, entries: &[Entry]) -> Result<Vec<u8>, AllocError>
     requires ascending { IsAscending entries.now }
     requires each { AllByRecursion IsEntry entries.now }
     requires ends { AllByRecursion HasEnd entries.now }
     ensures directory { IfOk result (λ bytes. IsDirectory bytes.items entries.now) }
     ensures spelling { IfOk result (λ bytes. bytes.items ≡ directory_bytes entries.now) }
-    ensures size { length entries.now < 16384 → IfOk result (λ bytes. length bytes.items ≤ 2 + 29 * length entries.now) }
+    ensures size { length entries.now < 2 ^ 14 → IfOk result (λ bytes. length bytes.items ≤ 2 + 29 * length entries.now) }
 {
     let mut bytes = Vec::new(alloc);
     put_varint(&mut bytes, entries.len() as u64)?;

@@ -1,4 +1,4 @@
--- Fields put one behind the other stand each at its place.
+-- Fields put one behind the other stand each at its offset.
 use Rattle.std.proofs.Common.{◌≡◌, ℕ, ℤ, ◌<◌, ◌^◌, List, ◌++◌, refl, sym, ap, ◌∙◌, append_assoc, lit≤}
 use Rattle.std.specs.Int.{w32, w64, from_le_bytes, cast_signed, cast_unsigned}
 use Rattle.std.proofs.lemmas.Nat.{from_le_bytes-to_le_bytes_8, from_le_bytes-to_le_bytes_4}
@@ -15,29 +15,33 @@ pub nine_behind : (t a b c d e f g h i : List ℕ) → t ++ a ++ b ++ c ++ d ++ 
 nine_behind t a b c d e f g h i = simp append_assoc
 
 -- headers with the same fields are one
-pub same_header : (h g : Header) → h.root ≡ g.root → h.metadata ≡ g.metadata → h.leaves ≡ g.leaves → h.tiles ≡ g.tiles → h.addressed ≡ g.addressed → h.entries ≡ g.entries → h.contents ≡ g.contents → h.clustered ≡ g.clustered → h.internal ≡ g.internal → h.compression ≡ g.compression → h.kind ≡ g.kind → h.min_zoom ≡ g.min_zoom → h.max_zoom ≡ g.max_zoom → h.min_lon ≡ g.min_lon → h.min_lat ≡ g.min_lat → h.max_lon ≡ g.max_lon → h.max_lat ≡ g.max_lat → h.centre_zoom ≡ g.centre_zoom → h.centre_lon ≡ g.centre_lon → h.centre_lat ≡ g.centre_lat → h ≡ g
-same_header h g e_root e_metadata e_leaves e_tiles e_addressed e_entries e_contents e_clustered e_internal e_compression e_kind e_min_zoom e_max_zoom e_min_lon e_min_lat e_max_lon e_max_lat e_centre_zoom e_centre_lon e_centre_lat = λ i. record {
-  root = e_root i;
-  metadata = e_metadata i;
-  leaves = e_leaves i;
-  tiles = e_tiles i;
-  addressed = e_addressed i;
-  entries = e_entries i;
-  contents = e_contents i;
-  clustered = e_clustered i;
-  internal = e_internal i;
-  compression = e_compression i;
-  kind = e_kind i;
-  min_zoom = e_min_zoom i;
-  max_zoom = e_max_zoom i;
-  min_lon = e_min_lon i;
-  min_lat = e_min_lat i;
-  max_lon = e_max_lon i;
-  max_lat = e_max_lat i;
-  centre_zoom = e_centre_zoom i;
-  centre_lon = e_centre_lon i;
-  centre_lat = e_centre_lat i;
-}
+pub same_header : (h g : Header) → h.root ≡ g.root → h.metadata ≡ g.metadata → h.leaves ≡ g.leaves → h.tiles ≡ g.tiles → h.addressed ≡ g.addressed
+    → h.entries ≡ g.entries → h.contents ≡ g.contents → h.clustered ≡ g.clustered → h.internal ≡ g.internal → h.compression ≡ g.compression → h.kind ≡ g.kind
+    → h.min_zoom ≡ g.min_zoom → h.max_zoom ≡ g.max_zoom → h.min_lon ≡ g.min_lon → h.min_lat ≡ g.min_lat → h.max_lon ≡ g.max_lon → h.max_lat ≡ g.max_lat
+    → h.centre_zoom ≡ g.centre_zoom → h.centre_lon ≡ g.centre_lon → h.centre_lat ≡ g.centre_lat → h ≡ g
+same_header h g e_root e_metadata e_leaves e_tiles e_addressed e_entries e_contents e_clustered e_internal
+    e_compression e_kind e_min_zoom e_max_zoom e_min_lon e_min_lat e_max_lon e_max_lat e_centre_zoom e_centre_lon e_centre_lat = λ i. record {
+      root = e_root i;
+      metadata = e_metadata i;
+      leaves = e_leaves i;
+      tiles = e_tiles i;
+      addressed = e_addressed i;
+      entries = e_entries i;
+      contents = e_contents i;
+      clustered = e_clustered i;
+      internal = e_internal i;
+      compression = e_compression i;
+      kind = e_kind i;
+      min_zoom = e_min_zoom i;
+      max_zoom = e_max_zoom i;
+      min_lon = e_min_lon i;
+      min_lat = e_min_lat i;
+      max_lon = e_max_lon i;
+      max_lat = e_max_lat i;
+      centre_zoom = e_centre_zoom i;
+      centre_lon = e_centre_lon i;
+      centre_lat = e_centre_lat i;
+    }
 
 same_part : (p q : Part) → p.offset ≡ q.offset → p.length ≡ q.length → p ≡ q
 same_part p q e_offset e_length = λ i. record { offset = e_offset i; length = e_length i }

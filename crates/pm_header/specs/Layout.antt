@@ -3,24 +3,25 @@ use Rattle.std.specs.Prelude.{◌≡◌, ℕ, ℤ, ◌+◌, ◌≤◌, List, [],
 use Rattle.std.specs.Int.{w32, w64, from_le_bytes, to_le_bytes, cast_signed, cast_unsigned}
 use Rattle.pm_header.specs.declared.part.Part.{Part}
 use Rattle.pm_header.specs.declared.header.Header.{Header}
+use Rattle.pm_header.specs.declared.header.TheConstants.{HEADER_BYTES}
 
 -- the first bytes of each archive
 abbrev pub magic : List ℕ
 magic = codes "PMTiles"
 
--- the number in the eight bytes from a place on
+-- the number in the eight bytes from an offset on
 abbrev pub number_at : ℕ → List ℕ → ℕ
-number_at place bytes = from_le_bytes w64 (slice_range bytes place (place + 8))
+number_at offset bytes = from_le_bytes w64 (slice_range bytes offset (offset + 8))
 
--- the signed number in the four bytes from a place on
+-- the signed number in the four bytes from an offset on
 abbrev pub position_at : ℕ → List ℕ → ℤ
-position_at place bytes = cast_signed w32 (from_le_bytes w32 (slice_range bytes place (place + 4)))
+position_at offset bytes = cast_signed w32 (from_le_bytes w32 (slice_range bytes offset (offset + 4)))
 
 -- an offset, and the length behind it
 abbrev pub part_at : ℕ → List ℕ → Part
-part_at place bytes = record { offset = number_at place bytes; length = number_at (place + 8) bytes }
+part_at start bytes = record { offset = number_at start bytes; length = number_at (start + 8) bytes }
 
--- each field at its place
+-- each field at its offset
 unfoldable pub header_at : List ℕ → Header
 header_at bytes = record {
   root = part_at 8 bytes;
@@ -47,7 +48,7 @@ header_at bytes = record {
 
 -- the bytes begin with this header
 pub record IsHeader (bytes : List ℕ) (header : Header) : Type 0 where
-  pub whole : 127 ≤ length bytes
+  pub whole : HEADER_BYTES ≤ length bytes
   pub magic_is : take 7 bytes ≡ magic
   pub version_is : slice_index bytes 7 ≡ 3
   pub fields_are : header ≡ header_at bytes

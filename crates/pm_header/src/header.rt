@@ -1,8 +1,10 @@
-use crate::HEADER_BYTES;
 use crate::fault::HeaderFault;
 use crate::part::Part;
 use crate::reading::fields;
 use crate::writing::{MAGIC, VERSION, header_bytes};
+
+/// How many bytes a header has.
+pub const HEADER_BYTES: usize = 127;
 
 /// What the header of an archive says (PMTiles 3, 3.2).
 ///
@@ -56,7 +58,7 @@ impl Header {
     ghost use Rattle.pm_header.specs.Layout.{IsHeader, magic};
 
     /// The header as it stands in an archive.
-    pub fn to_bytes(&self) -> [u8; 127]
+    pub fn to_bytes(&self) -> [u8; HEADER_BYTES]
         ensures { IsHeader result self.now }
     {
         header_bytes(*self)
@@ -66,10 +68,10 @@ impl Header {
     pub fn from_bytes(bytes: &[u8]) -> Result<Header, HeaderFault>
         ensures found { IfOk result (λ header. IsHeader bytes.now header) }
         ensures only { (header : Header) → IsHeader bytes.now header → result ≡ Ok header }
-        ensures short { (result ≡ Err HeaderFault.Short) ↔ (length bytes.now < 127) }
-        ensures magic { (result ≡ Err HeaderFault.Magic) ↔ ((127 ≤ length bytes.now) × (take 7 bytes.now ≢ magic)) }
+        ensures short { (result ≡ Err HeaderFault.Short) ↔ (length bytes.now < HEADER_BYTES) }
+        ensures magic { (result ≡ Err HeaderFault.Magic) ↔ ((HEADER_BYTES ≤ length bytes.now) × (take 7 bytes.now ≢ magic)) }
         ensures version { (n : ℕ) → (result ≡ Err (HeaderFault.Version n))
-            ↔ ((127 ≤ length bytes.now) × (take 7 bytes.now ≡ magic) × (slice_index bytes.now 7 ≡ n) × (n ≢ 3)) }
+            ↔ ((HEADER_BYTES ≤ length bytes.now) × (take 7 bytes.now ≡ magic) × (slice_index bytes.now 7 ≡ n) × (n ≢ 3)) }
     {
         if bytes.len() < HEADER_BYTES {
             return Err(HeaderFault::Short);

@@ -8,11 +8,8 @@ mod reading;
 mod writing;
 
 pub use fault::HeaderFault;
-pub use header::Header;
+pub use header::{HEADER_BYTES, Header};
 pub use part::Part;
-
-/// How many bytes a header has.
-pub const HEADER_BYTES: usize = 127;
 
 #[cfg(test)]
 mod tests;

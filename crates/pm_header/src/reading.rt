@@ -1,19 +1,27 @@
-//! The fields of a header, each at its place.
+//! The fields of a header, each at its offset.
 
-ghost use Rattle.std.specs.Prelude.{◌≡◌, ◌+◌, ◌≤◌, length};
+ghost use Rattle.std.specs.Prelude.{◌≡◌, ◌+◌, ◌≤◌, length, slice_range};
 ghost use Rattle.pm_header.specs.Layout.{number_at, position_at, part_at, header_at};
 
-use crate::header::Header;
+use crate::header::{HEADER_BYTES, Header};
 use crate::part::Part;
+
+// The bytes from an offset on.
+fn array<const N: usize>(bytes: &[u8], at: usize) -> [u8; N]
+    requires { at + N ≤ length bytes.now }
+    ensures { result ≡ slice_range bytes.now at (at + N) }
+{
+    let mut array = [0; N];
+    array.copy_from_slice(&bytes[at..at + N]);
+    array
+}
 
 // The number in eight bytes, lowest first.
 fn number(bytes: &[u8], at: usize) -> u64
     requires { at + 8 ≤ length bytes.now }
     ensures { result ≡ number_at at bytes.now }
 {
-    let mut number = [0; 8];
-    number.copy_from_slice(&bytes[at..at + 8]);
-    u64::from_le_bytes(number)
+    u64::from_le_bytes(array(bytes, at))
 }
 
 // The signed number in four bytes, lowest first.
@@ -21,9 +29,7 @@ fn position(bytes: &[u8], at: usize) -> i32
     requires { at + 4 ≤ length bytes.now }
     ensures { result ≡ position_at at bytes.now }
 {
-    let mut position = [0; 4];
-    position.copy_from_slice(&bytes[at..at + 4]);
-    i32::from_le_bytes(position)
+    i32::from_le_bytes(array(bytes, at))
 }
 
 fn part(bytes: &[u8], at: usize) -> Part
@@ -37,7 +43,7 @@ fn part(bytes: &[u8], at: usize) -> Part
 }
 
 pub(crate) fn fields(bytes: &[u8]) -> Header
-    requires { 127 ≤ length bytes.now }
+    requires { HEADER_BYTES ≤ length bytes.now }
     ensures { result ≡ header_at bytes.now }
 {
     Header {

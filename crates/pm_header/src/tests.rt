@@ -45,7 +45,7 @@ fn header() -> Header {
 }
 
 #[test]
-fn fields_stand_at_their_places(rt: HostRuntime) {
+fn fields_stand_at_their_offsets(rt: HostRuntime) {
     assert_eq!(rt; header().to_bytes().as_slice(), BYTES.as_slice());
     assert_eq!(rt; Header::from_bytes(&BYTES), Ok(header()));
 }

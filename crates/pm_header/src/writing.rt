@@ -3,7 +3,7 @@
 ghost use Rattle.std.specs.Prelude.{◌≡◌, ◌+◌, ◌≤◌, ◌<◌, ◌++◌, [], ◌∷◌, length, take};
 ghost use Rattle.pm_header.specs.Layout.{little_8, little_4, IsHeader, section_bytes, count_bytes, position_bytes};
 
-use crate::header::Header;
+use crate::header::{HEADER_BYTES, Header};
 use crate::part::Part;
 
 /// The first bytes of each archive.
@@ -42,7 +42,7 @@ fn put_part(bytes: &mut [u8], at: usize, part: Part)
 
 // The magic, the version and the sections.
 fn put_sections(bytes: &mut [u8], header: &Header)
-    requires { 127 ≤ length bytes.old }
+    requires { HEADER_BYTES ≤ length bytes.old }
     ensures { take 72 bytes.new ≡ section_bytes header.now }
 {
     bytes[..7].copy_from_slice(&MAGIC);
@@ -55,7 +55,7 @@ fn put_sections(bytes: &mut [u8], header: &Header)
 
 // The counts, and what the archive and its tiles are.
 fn put_counts(bytes: &mut [u8], header: &Header)
-    requires { 127 ≤ length bytes.old }
+    requires { HEADER_BYTES ≤ length bytes.old }
     ensures { take 102 bytes.new ≡ take 72 bytes.old ++ count_bytes header.now }
 {
     put_number(bytes, 72, header.addressed);
@@ -71,8 +71,8 @@ fn put_counts(bytes: &mut [u8], header: &Header)
 
 // Where the tiles lie, and where a viewer may begin.
 fn put_positions(bytes: &mut [u8], header: &Header)
-    requires { 127 ≤ length bytes.old }
-    ensures { take 127 bytes.new ≡ take 102 bytes.old ++ position_bytes header.now }
+    requires { HEADER_BYTES ≤ length bytes.old }
+    ensures { take HEADER_BYTES bytes.new ≡ take 102 bytes.old ++ position_bytes header.now }
 {
     put_position(bytes, 102, header.min_lon);
     put_position(bytes, 106, header.min_lat);
@@ -83,10 +83,10 @@ fn put_positions(bytes: &mut [u8], header: &Header)
     put_position(bytes, 123, header.centre_lat);
 }
 
-pub(crate) fn header_bytes(header: Header) -> [u8; 127]
+pub(crate) fn header_bytes(header: Header) -> [u8; HEADER_BYTES]
     ensures { IsHeader result header }
 {
-    let mut bytes = [0; 127];
+    let mut bytes = [0; HEADER_BYTES];
     put_sections(&mut bytes, &header);
     put_counts(&mut bytes, &header);
     put_positions(&mut bytes, &header);

@@ -5,6 +5,7 @@ use Rattle.pm_archive.proofs.checking.check_once.Goals as goal
 pub returns-then-contains-clause-tile : goal.returns-then-contains-clause-tile
 returns-then-contains-clause-tile g c bytes holds lies read = read (c.args.entry.offset, c.args.entry.length) (sym c.contains.ensures ∙ c.if-contains.true)
 
-pub returns-in-Ok-insert-clause-places : goal.returns-in-Ok-insert-clause-places
-returns-in-Ok-insert-clause-places g c bytes holds lies read =
-    more_read bytes c.args.header.now (c.args.entry.offset, c.args.entry.length) c.args.places.now c.insert.new.self c.in-Ok-insert.ensures.updates.0 read (c.in-Ok.ensures.tile bytes holds lies)
+pub returns-in-Ok-clause-spans : goal.returns-in-Ok-clause-spans
+returns-in-Ok-clause-spans g c bytes holds lies read =
+    more_read bytes c.args.header.now (c.args.entry.offset, c.args.entry.length) c.args.spans.now c.insert.new.self c.in-Ok.ensures.updates.0 read
+    (c.in_ok-check_tile.ensures.tile bytes holds lies)

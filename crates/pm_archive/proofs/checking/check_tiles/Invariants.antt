@@ -10,7 +10,7 @@ use Rattle.pm_archive.proofs.checking.check_tiles.Given as goal
 abbrev pub invariant-loop-entry : goal.invariant-loop-entry
 invariant-loop-entry g l = record {
   keeps : Keeps g.B.Bytes.count g.B.Bytes.holds g.B.Bytes.fails g.B.Bytes.unchanged l.fn.source l.source;
-  places : (bytes : List ℕ) → g.B.Bytes.holds l.source bytes → AllByRecursion (LiesIn l.header.tiles) l.tiles → AreRead bytes l.header l.places;
+  spans : (bytes : List ℕ) → g.B.Bytes.holds l.source bytes → AllByRecursion (LiesIn l.header.tiles) l.tiles → AreRead bytes l.header l.spans;
   each : (bytes : List ℕ) → g.B.Bytes.holds l.source bytes → AllByRecursion (LiesIn l.header.tiles) l.tiles
       → AllByRecursion (HasTile bytes l.header) (drop l.entry-index l.tiles) → AllByRecursion (HasTile bytes l.header) l.tiles;
   first : (bytes : List ℕ) → g.B.Bytes.holds l.source bytes → AllByRecursion (LiesIn l.header.tiles) l.tiles

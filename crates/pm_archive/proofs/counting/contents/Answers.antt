@@ -3,4 +3,4 @@ use Rattle.pm_archive.proofs.CountedLaws.{contents_counted}
 use Rattle.pm_archive.proofs.counting.contents.Goals as goal
 
 pub returns : goal.returns
-returns c = c.len.ensures.len ∙ contents_counted c.args.tiles.now c.in_ok-places.places c.in_ok-places.ensures
+returns c = c.len.ensures.len ∙ contents_counted c.args.tiles.now c.in_ok-spans.spans c.in_ok-spans.ensures

@@ -1,34 +1,51 @@
 use Rattle.std.proofs.Common.{◌≡◌, ◌∙◌}
+use Rattle.std.proofs.lemmas.Result.{err_from_is_err_and}
 use Rattle.pm_archive.specs.Reading.{lists_at, tile_at}
 use Rattle.pm_archive.proofs.KeepsLaws.{keeps_on}
-use Rattle.pm_archive.proofs.ListedLaws.{each_on, each_fault, lists_tile, lists_leaf, leaf_fault}
+use Rattle.pm_archive.proofs.ListedLaws.{each_on, each_fault, first_lies, lists_tile, lists_leaf, leaf_fault}
 use Rattle.pm_archive.proofs.listing.+listing.Goals as goal
 
-pub push_each-returns-in-Err-clause-listed : goal.push_each-returns-in-Err-clause-listed
-push_each-returns-in-Err-clause-listed g t c = λ bytes held.
-    each_fault (lists_at bytes c.args.header.now c.args.more) c.args.bound c.args.entries.now c.loop-i.i _ c.loop-i.tiles.items c.bound_behind-bound.result _ c.in-Err.fault c.loop-i-test.true c.bound_behind-bound.ensures (c.loop-i.invariant.listed bytes (c.in-Err.ensures.source.no_others bytes held))
-    (c.in-Err.ensures.listed bytes held)
+pub push_each-returns-in_err-push_listed-clause-listed : goal.push_each-returns-in_err-push_listed-clause-listed
+push_each-returns-in_err-push_listed-clause-listed g t c =
+    let p = err_from_is_err_and c.from_residual.result c.from_residual.ensures.1 in
+    rw (p.1, p.2) (λ bytes held.
+    each_fault (lists_at bytes c.args.header.now c.args.more) c.args.bound c.args.entries.now c.loop-i.i _ c.loop-i.tiles.items
+    c.bound_behind-bound.result _ c.in_err-push_listed.field-0.0 c.loop-i-test.true c.bound_behind-bound.ensures
+    (c.loop-i.invariant.listed bytes (c.in_err-push_listed.ensures.source.no_others bytes held))
+    (c.in_err-push_listed.ensures.listed bytes held))
+
+pub push_each-returns-in_err-push_listed-clause-memory : goal.push_each-returns-in_err-push_listed-clause-memory
+push_each-returns-in_err-push_listed-clause-memory g t c =
+    let p = err_from_is_err_and c.from_residual.result c.from_residual.ensures.1 in
+    rw (p.1, p.2) (λ e. first_lies c.args.header.now c.args.entries.now c.loop-i.i _ c.loop-i-test.true c.loop-i.invariant.lies
+    (c.in_err-push_listed.ensures.memory e))
 
 pub push_each-loop-i-preserved : goal.push_each-loop-i-preserved
 push_each-loop-i-preserved g t c = record {
-  source = keeps_on g.met.B.Bytes.unchanged_on c.loop-i.invariant.source c.in-Ok.ensures.source;
-  listed = λ bytes held. c.loop-i.invariant.listed bytes (c.in-Ok.ensures.source.no_others bytes held)
-      ∙ each_on (lists_at bytes c.args.header.now c.args.more) c.args.bound c.args.entries.now c.loop-i.i _ c.loop-i.tiles.items c.bound_behind-bound.result _ c.loop-i-test.true c.bound_behind-bound.ensures (c.in-Ok.ensures.listed bytes held);
+  source = keeps_on g.met.B.Bytes.unchanged_on c.loop-i.invariant.source c.in_ok-push_listed.ensures.source;
+  listed = λ bytes held. c.loop-i.invariant.listed bytes (c.in_ok-push_listed.ensures.source.no_others bytes held)
+      ∙ each_on (lists_at bytes c.args.header.now c.args.more) c.args.bound c.args.entries.now c.loop-i.i _ c.loop-i.tiles.items
+      c.bound_behind-bound.result _ c.loop-i-test.true c.bound_behind-bound.ensures (c.in_ok-push_listed.ensures.listed bytes held);
+  lies = λ _. first_lies c.args.header.now c.args.entries.now c.loop-i.i _ c.loop-i-test.true c.loop-i.invariant.lies c.in_ok-push_listed.ensures.inside;
 }
 
 pub push_listed-returns-then-entry-gt0-clause-listed :
     goal.push_listed-returns-then-entry-gt0-clause-listed
 push_listed-returns-then-entry-gt0-clause-listed g t c = λ bytes held.
-    let same : lists_at bytes c.args.header.now c.args.more c.args.entry c.args.bound ≡ tile_at c.args.header.now c.args.entry = lists_tile bytes c.args.header.now c.args.more c.args.entry c.args.bound c.if-entry-gt0.true in
+    let same : lists_at bytes c.args.header.now c.args.more c.args.entry c.args.bound ≡ tile_at c.args.header.now c.args.entry =
+    lists_tile bytes c.args.header.now c.args.more c.args.entry c.args.bound c.if-entry-gt0.true in
     rw same c.push_tile.ensures.tile
 
-pub push_listed-returns-in-Ok-clause-listed : goal.push_listed-returns-in-Ok-clause-listed
-push_listed-returns-in-Ok-clause-listed g t c = λ bytes held.
-    let leaf = c.in-Ok.ensures.leaf bytes (c.push_each.ensures.source.no_others bytes held) in
+pub push_listed-returns-clause-listed : goal.push_listed-returns-clause-listed
+push_listed-returns-clause-listed g t c = λ bytes held.
+    let leaf = c.in_ok-entries.ensures.leaf bytes (c.push_each.ensures.source.no_others bytes held) in
     let same = lists_leaf bytes c.args.header.now c.args.more c.args.entry c.args.bound c.if-more-eq0.false c.if-entry-gt0.false in
     let value = c.deref.ensures.value in
     rw (same, leaf, ← value) (c.push_each.ensures.listed bytes held)
 
-pub push_listed-returns-in-Err-clause-listed : goal.push_listed-returns-in-Err-clause-listed
-push_listed-returns-in-Err-clause-listed g t c = λ bytes held.
-    leaf_fault bytes c.args.header.now c.args.more c.args.entry c.args.bound c.args.tiles.now.items c.in-Err.fault c.if-more-eq0.false c.if-entry-gt0.false (c.in-Err.ensures.leaf bytes held)
+pub push_listed-returns-in_err-entries-clause-listed : goal.push_listed-returns-in_err-entries-clause-listed
+push_listed-returns-in_err-entries-clause-listed g t c =
+    let p = err_from_is_err_and c.from_residual.result c.from_residual.ensures.1 in
+    rw (p.1, p.2) (λ bytes held.
+    leaf_fault bytes c.args.header.now c.args.more c.args.entry c.args.bound c.args.tiles.now.items c.in_err-entries.field-0.0
+    c.if-more-eq0.false c.if-entry-gt0.false (c.in_err-entries.ensures.leaf bytes held))

@@ -1,5 +1,6 @@
 use Rattle.std.proofs.Common.{◌≡◌, take, sym, ◌∙◌, rules, arith}
 use Rattle.std.proofs.lemmas.List.{take_all}
+use Rattle.pm_header.specs.declared.header.TheConstants.{HEADER_BYTES}
 use Rattle.pm_header.proofs.Fields.{HeaderFits, is_laid_out}
 use Rattle.pm_header.proofs.writing.header_bytes.Goals as goal
 
@@ -21,5 +22,5 @@ returns c =
       centre_lon = search rules;
       centre_lat = search rules;
     } in
-    let whole : take 127 bytes ≡ bytes = take_all 127 bytes (omega arith) in
+    let whole : take HEADER_BYTES bytes ≡ bytes = take_all HEADER_BYTES bytes (omega arith) in
     is_laid_out c.args.header bytes fits (sym whole ∙ rw (c.put_counts.ensures, c.put_sections.ensures) at c.put_positions.ensures)

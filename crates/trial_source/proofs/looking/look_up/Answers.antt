@@ -19,5 +19,6 @@ returns-clause-content g c h tiles honest has lists =
     let opened = c.tile-content.ensures.source.no_others (g.D.Device.contents last) (truthful, refl) in
     let same = sym (c.in-Ok.ensures.source.no_others (g.D.Device.contents last) opened).1 in
     let alike = c.in-Ok.ensures.only bytes h lists.0 has lists.1 (c.tile-content.ensures.source.no_others bytes (truthful, same)) in
-    subst (λ (of : Header). MatchResult c.tile-content.result (λ content. option_map (λ v. v.items) content ≡ content_of bytes of tiles c.args.id) IsOutside) alike.0
+    subst (λ (of : Header). MatchResult c.tile-content.result
+    (λ content. option_map (λ v. v.items) content ≡ content_of bytes of tiles c.args.id) IsOutside) alike.0
     (c.tile-content.ensures.content bytes tiles (truthful, same) (subst (λ (of : Header). HasEntries bytes of tiles) (sym alike.0) lists))

@@ -1,0 +1,5 @@
+/// The root directory ends by this offset (PMTiles 3, 4).
+pub const OPENING_END: u64 = 16_384;
+
+/// So many leaf directories may stand one below the other.
+pub const MOST_LEAVES: u8 = 3;
