@@ -10,8 +10,8 @@ use Rattle.pm_header.specs.Layout.{IsHeader}
 use Rattle.pm_directory.specs.declared.entry.Entry.{Entry}
 use Rattle.pm_archive.specs.Sections.{section_bytes, HasSections}
 use Rattle.pm_archive.specs.Archive.{IsMetadata, HasCounts, IsArchive, IsArchiveOf}
-use Rattle.pm_runs.specs.Tiles.{Tile}
-use Rattle.pm_runs.specs.Placed.{ArePlaced}
+use Rattle.pm_build.specs.Tiles.{Tile}
+use Rattle.pm_build.specs.Placed.{ArePlaced}
 use Rattle.pm_build.specs.declared.header.Counts.{Counts}
 use Rattle.pm_build.specs.declared.header.Lengths.{Lengths}
 use Rattle.pm_build.specs.Built.{tile_content}

@@ -12,9 +12,9 @@ use Rattle.pm_directory.specs.Counts.{addressed_by, place_of, same_place}
 use Rattle.pm_archive.specs.Sections.{section_bytes}
 use Rattle.pm_archive.specs.Entries.{entry_bytes, LiesIn, entry_of}
 use Rattle.pm_archive.specs.Archive.{content_of_entry, content_of}
-use Rattle.pm_runs.specs.Tiles.{Tile, IsTile, tile_views}
-use Rattle.pm_runs.specs.Runs.{TileRun, repeated, tiles_in}
-use Rattle.pm_runs.specs.Placed.{EachNames, ArePlaced}
+use Rattle.pm_build.specs.Tiles.{Tile, IsTile, tile_views}
+use Rattle.pm_build.specs.Runs.{TileRun, repeated, tiles_in}
+use Rattle.pm_build.specs.Placed.{EachNames, ArePlaced}
 use Rattle.pm_build.specs.Built.{tile_content}
 use Rattle.pm_build.proofs.Pieces.{part_of_part}
 

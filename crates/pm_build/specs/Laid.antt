@@ -3,7 +3,7 @@ use Rattle.std.specs.Prelude.{◌≡◌, ℕ, ◌+◌, ◌-◌, pos, negsuc, Lis
 use Rattle.hilbert_id.specs.Curve.{IsTileId}
 use Rattle.pm_header.specs.declared.header.Header.{Header}
 use Rattle.pm_header.specs.Layout.{IsHeader}
-use Rattle.pm_runs.specs.Tiles.{Tile}
+use Rattle.pm_build.specs.Tiles.{Tile}
 use Rattle.pm_build.specs.declared.header.Lengths.{Lengths}
 use Rattle.pm_build.specs.declared.header.Counts.{Counts}
 

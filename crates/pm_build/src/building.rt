@@ -1,18 +1,20 @@
 ghost use Rattle.std.specs.Prelude.{◌≡◌, ◌≢◌, ℕ, ◌+◌, ◌*◌, ◌^◌, ◌<◌, ◌≤◌, List, [], length, Err, IfOk, map, Contains};
 ghost use Rattle.std.specs.List.{AllByRecursion, concat};
-ghost use Rattle.pm_runs.specs.Tiles.{tile_views, AreTiles};
-ghost use Rattle.pm_runs.specs.Runs.{TileRun, AreLongestRuns};
-ghost use Rattle.pm_runs.specs.Placed.{AreDifferent, ArePlaced};
+ghost use Rattle.pm_build.specs.Tiles.{tile_views, AreTiles};
+ghost use Rattle.pm_build.specs.Runs.{TileRun, AreLongestRuns};
+ghost use Rattle.pm_build.specs.Placed.{AreDifferent, ArePlaced};
 ghost use Rattle.pm_archive.specs.Archive.{IsArchiveOf, IsMetadata};
 ghost use Rattle.pm_build.specs.Built.{tile_content};
 ghost use Rattle.pm_build.specs.Laid.{AreJoined, AreZooms, BeginFor, header_for, lengths_of};
 
-use crate::Memory;
 use crate::directories::{Directories, write_directories};
+use crate::fault::BuildFault;
 use crate::header::{Counts, Lengths, header_of, zoom_of};
+use crate::limit::MAX_ENTRIES;
+use crate::placed::Placed;
+use crate::placing::place_runs;
 use pm_header::{HEADER_BYTES, Header};
-use pm_runs::{BuildFault, Placed, place_runs};
-use std::alloc::Global;
+use std::alloc::{AllocError, Global};
 
 // How many bytes the contents have together.
 fn total(contents: &[&[u8]]) -> usize
@@ -33,7 +35,7 @@ fn joined(
     directories: &Directories,
     metadata: &[u8],
     contents: &[&[u8]],
-) -> Result<Vec<u8>, Memory>
+) -> Result<Vec<u8>, AllocError>
     requires { 127 + length directories.now.root.items + length metadata.now + length directories.now.leaves.items + length (concat (map (λ c. c.now) contents.now)) < 2 ^ 64 }
     ensures { IfOk result (λ bytes. AreJoined bytes.items header.now directories.now.root.items metadata.now directories.now.leaves.items (concat (map (λ c. c.now) contents.now))) }
 {
@@ -94,11 +96,11 @@ fn archive_of(
     tiles: &[(u64, Vec<u8>)],
     placed: &Placed,
     metadata: &[u8],
-) -> Result<Vec<u8>, Memory>
+) -> Result<Vec<u8>, AllocError>
     requires some { tile_views tiles.now ≢ [] }
     requires tiles { AreTiles (tile_views tiles.now) }
     requires placed { ArePlaced (tile_views tiles.now) placed.now.entries.items (map (λ c. c.now) placed.now.contents.items) }
-    requires few { length placed.now.entries.items ≤ 131072 }
+    requires few { length placed.now.entries.items ≤ MAX_ENTRIES }
     requires metadata { IsMetadata metadata.now }
     ensures archive { IfOk result (λ bytes. IsArchiveOf bytes.items (tile_content (tile_views tiles.now))) }
     ensures header { IfOk result (λ bytes. BeginFor bytes.items (tile_views tiles.now)) }
@@ -127,8 +129,8 @@ pub fn build(
     requires metadata { IsMetadata metadata.now }
     ensures archive { IfOk result (λ bytes. IsArchiveOf bytes.items (tile_content (tile_views tiles.now))) }
     ensures header { IfOk result (λ bytes. BeginFor bytes.items (tile_views tiles.now)) }
-    ensures few { (runs : List TileRun) → AreLongestRuns (tile_views tiles.now) runs → 131072 < length runs → IfOk result (λ bytes. ⊥) }
-    ensures many { result ≡ Err BuildFault.TooManyEntries → (runs : List TileRun) × AreLongestRuns (tile_views tiles.now) runs × (131072 < length runs) }
+    ensures few { (runs : List TileRun) → AreLongestRuns (tile_views tiles.now) runs → MAX_ENTRIES < length runs → IfOk result (λ bytes. ⊥) }
+    ensures many { result ≡ Err BuildFault.TooManyEntries → (runs : List TileRun) × AreLongestRuns (tile_views tiles.now) runs × (MAX_ENTRIES < length runs) }
     ensures size { IfOk result (λ bytes. (runs : List TileRun) × (contents : List (List ℕ)) × AreLongestRuns (tile_views tiles.now) runs
         × AreDifferent contents × AllByRecursion (λ c. Contains (map (λ r. r.content) runs) c) contents
         × (length bytes.items ≤ 127 + length metadata.now + 64 * length runs + length (concat contents))) }

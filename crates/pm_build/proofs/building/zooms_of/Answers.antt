@@ -1,7 +1,7 @@
 use Rattle.std.proofs.Common.{◌≡◌, ℕ, ◌-◌, length, ap, ◌∙◌, arith}
 use Rattle.std.specs.List.{slice_get}
 use Rattle.std.proofs.lemmas.List.{length-map}
-use Rattle.pm_runs.specs.Tiles.{tile_views}
+use Rattle.pm_build.specs.Tiles.{tile_views}
 use Rattle.pm_build.proofs.Contents.{id_low, tile_there}
 use Rattle.pm_build.proofs.building.zooms_of.Goals as goal
 
