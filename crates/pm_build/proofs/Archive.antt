@@ -17,7 +17,7 @@ use Rattle.pm_build.specs.declared.header.Lengths.{Lengths}
 use Rattle.pm_build.specs.Built.{tile_content}
 use Rattle.pm_build.specs.Leaves.{AreDirectories}
 use Rattle.pm_build.specs.Laid.{AreJoined, AreZooms, BeginFor, SaysTiles, header_for, lengths_of}
-use Rattle.pm_build.proofs.Contents.{have_tiles, lie_in, addressed_all, content_named}
+use Rattle.pm_build.proofs.Tiles.{have_tiles, lie_in, addressed_all, content_named}
 use Rattle.pm_build.proofs.Headers.{header_there}
 use Rattle.pm_build.proofs.Listed.{has_entries}
 use Rattle.pm_build.proofs.Pieces.{part_middle}

@@ -1,5 +1,4 @@
 mod Archive
-mod Contents
 mod Counting
 mod Entries
 mod Growing
@@ -9,3 +8,4 @@ mod Leaves
 mod Listed
 mod Offsets
 mod Pieces
+mod Tiles

@@ -3,7 +3,7 @@ use Rattle.std.specs.List.{concat}
 use Rattle.std.proofs.lemmas.List.{length-map}
 use Rattle.pm_build.specs.Tiles.{tile_views}
 use Rattle.pm_build.proofs.Archive.{archive_joined, header_joined, size_joined}
-use Rattle.pm_build.proofs.Contents.{some_entries, have_ends, contents_fit}
+use Rattle.pm_build.proofs.Tiles.{some_entries, have_ends, contents_fit}
 use Rattle.pm_build.proofs.building.archive_of.Goals as goal
 
 pub write_directories-requires-clause-some : goal.write_directories-requires-clause-some

@@ -1,6 +1,6 @@
 use Rattle.std.proofs.Common.{map, arith}
 use Rattle.std.specs.List.{concat}
-use Rattle.pm_build.proofs.Contents.{as_many}
+use Rattle.pm_build.proofs.Tiles.{as_many}
 use Rattle.pm_build.proofs.building.build.Goals as goal
 
 pub returns-in-Ok-archive_of-clause-size : goal.returns-in-Ok-archive_of-clause-size
