@@ -30,7 +30,8 @@ UnlessOutside-weaker P Q Memory f h = tt
 UnlessOutside-weaker P Q d f h = f d h
 
 -- the opening of a sound archive fails only where memory runs out
-pub only_at_opening : (bytes : List ℕ) (d : ArchiveFault) → ((h : Header) (root : List Entry) → HasSections bytes h → IsDirectory (section_bytes h.root bytes) root → IsOutside d)
+pub only_at_opening : (bytes : List ℕ) (d : ArchiveFault)
+    → ((h : Header) (root : List Entry) → HasSections bytes h → IsDirectory (section_bytes h.root bytes) root → IsOutside d)
     → (d ≡ Read → ⊥) → (report : Report) → IsSound bytes report → d ≡ Memory
 only_at_opening bytes d only unread report sound =
     let root = sound.archive.entries in memory_from_outside d (only sound.header root.0 sound.archive.sections root.1) unread

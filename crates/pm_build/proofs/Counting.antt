@@ -1,5 +1,6 @@
 -- Places of contents: as many as there are contents.
-use Rattle.std.proofs.Common.{◌≡◌, ℕ, suc, ◌+◌, ◌<◌, Bool, true, false, cond, eqb, List, [], ◌∷◌, ◌++◌, length, map, Some, Decides, refl, sym, ap, subst, ◌∙◌, arith}
+use Rattle.std.proofs.Common.{◌≡◌, ℕ, suc, ◌+◌, ◌<◌, Bool, true, false, cond, eqb, List, [], ◌∷◌, ◌++◌, length, map, Some, Decides, refl, sym, ap, subst, ◌∙◌}
+use Rattle.std.proofs.Common.{arith}
 use Rattle.std.specs.Cmp.{IsEquivalence, decided}
 use Rattle.std.specs.List.{AllByRecursion, Contains, IsDistinct, concat}
 use Rattle.std.specs.Set.{is_member}
@@ -48,7 +49,8 @@ unfolding offset_from
 stands from [] q k h = cc
 stands from (c ∷ cs) q k h = by (bytes_eq q c) refl (stands (from + length c) cs q k) h
   where
-    by : (b : Bool) → bytes_eq q c ≡ b → (offset_from (from + length c) cs q ≡ Some k → Stands (from + length c) cs q k) → cond b (Some from) (offset_from (from + length c) cs q) ≡ Some k → Stands from (c ∷ cs) q k
+    by : (b : Bool) → bytes_eq q c ≡ b → (offset_from (from + length c) cs q ≡ Some k → Stands (from + length c) cs q k)
+        → cond b (Some from) (offset_from (from + length c) cs q) ≡ Some k → Stands from (c ∷ cs) q k
     by true e on g = here from c cs q k ((bytes_eq-Decides q c).0 e) cc
     by false e on g = behind from c cs q k (on g)
 
@@ -56,8 +58,10 @@ stands from (c ∷ cs) q k h = by (bytes_eq q c) refl (stands (from + length c) 
 
 place_Decides : (p q : ℕ × ℕ) → Decides (same_place p q) (p ≡ q)
 place_Decides p q =
-    let both = Decides-and (eqb p.0 q.0) (eqb p.1 q.1) (Decides-eqb p.0 q.0) (Decides-eqb p.1 q.1) in
-    (λ h. let e = both.0 h in ap (λ (n : ℕ). let x : ℕ × ℕ = (n, p.1) in x) e.0 ∙ ap (λ (n : ℕ). let x : ℕ × ℕ = (q.0, n) in x) e.1, λ h. both.1 (ap (λ (x : ℕ × ℕ). x.0) h, ap (λ (x : ℕ × ℕ). x.1) h))
+    let both = Decides-and (eqb p.0 q.0) (eqb p.1 q.1) (Decides-eqb p.0 q.0) (Decides-eqb p.1 q.1) in (
+      λ h. let e = both.0 h in ap (λ (n : ℕ). let x : ℕ × ℕ = (n, p.1) in x) e.0 ∙ ap (λ (n : ℕ). let x : ℕ × ℕ = (q.0, n) in x) e.1,
+      λ h. both.1 (ap (λ (x : ℕ × ℕ). x.0) h, ap (λ (x : ℕ × ℕ). x.1) h),
+    )
 
 place_laws : IsEquivalence same_place
 place_laws = decided same_place place_Decides
@@ -66,8 +70,11 @@ place_laws = decided same_place place_Decides
 
 apart_behind : (x : ℕ × ℕ) (from : ℕ) (cs : List (List ℕ)) → x.0 < from → AllByRecursion (λ y. same_place x y ≡ false) (places_from from cs)
 apart_behind x from [] lt = tt
-apart_behind x from (c ∷ cs) lt =
-    (false_from_ne_true (same_place x (from, length c)) (λ h. let e : x.0 ≡ from = ap (λ (p : ℕ × ℕ). p.0) ((place_Decides x (from, length c)).0 h) in omega arith), apart_behind x (from + length c) cs (omega arith))
+apart_behind x from (c ∷ cs) lt = (
+  false_from_ne_true (same_place x (from, length c))
+      (λ h. let e : x.0 ≡ from = ap (λ (p : ℕ × ℕ). p.0) ((place_Decides x (from, length c)).0 h) in omega arith),
+  apart_behind x (from + length c) cs (omega arith),
+)
 
 distinct_places : (from : ℕ) (cs : List (List ℕ)) → AllByRecursion (λ c. 0 < length c) cs → IsDistinct same_place (places_from from cs)
 unfolding IsDistinct
@@ -80,7 +87,8 @@ length_places from (c ∷ cs) = ap suc (length_places (from + length c) cs)
 
 -- ---- the places of the entries are those of the contents
 
-listed_places : (cs : List (List ℕ)) (rs : List TileRun) (es : List Entry) → EachPlaced cs rs es → AllByRecursion (Contains (places_from 0 cs)) (map place_of es)
+listed_places : (cs : List (List ℕ)) (rs : List TileRun) (es : List Entry) → EachPlaced cs rs es
+    → AllByRecursion (Contains (places_from 0 cs)) (map place_of es)
 listed_places cs [] [] h = tt
 listed_places cs [] (e ∷ es) h = absurd h
 listed_places cs (r ∷ rs) [] h = absurd h
@@ -89,13 +97,18 @@ listed_places cs (r ∷ rs) (e ∷ es) h =
     (subst (λ (p : ℕ × ℕ). Contains (places_from 0 cs) p) place (stands 0 cs r.content e.offset h.0.offset_is).listed, listed_places cs rs es h.1)
 
 -- two lists of places have the same places
-same_members : (xs ys : List (ℕ × ℕ)) → AllByRecursion (Contains ys) xs → AllByRecursion (Contains xs) ys → (q : ℕ × ℕ) → is_member same_place xs q ≡ is_member same_place ys q
+same_members : (xs ys : List (ℕ × ℕ)) → AllByRecursion (Contains ys) xs → AllByRecursion (Contains xs) ys → (q : ℕ × ℕ)
+    → is_member same_place xs q ≡ is_member same_place ys q
 same_members xs ys in_ys in_xs q =
     let one = is_member-Decides place_Decides xs q in
     let other = is_member-Decides place_Decides ys q in
-    same_from_decides (is_member same_place xs q) (is_member same_place ys q) one
-    (λ h. All-contains (Contains xs) ys q (All-from_recursion (Contains xs) ys in_xs) (other.0 h), λ h. other.1 (All-contains (Contains ys) xs q (All-from_recursion (Contains ys) xs in_ys) h))
+    same_from_decides (is_member same_place xs q) (is_member same_place ys q) one (
+      λ h. All-contains (Contains xs) ys q (All-from_recursion (Contains xs) ys in_xs) (other.0 h),
+      λ h. other.1 (All-contains (Contains ys) xs q (All-from_recursion (Contains ys) xs in_ys) h),
+    )
 
-pub as_many_places : (rs : List TileRun) (es : List Entry) (cs : List (List ℕ)) → ArePlacedRuns rs es cs → AllByRecursion (λ c. 0 < length c) cs → contents_of es ≡ length cs
+pub as_many_places : (rs : List TileRun) (es : List Entry) (cs : List (List ℕ)) → ArePlacedRuns rs es cs → AllByRecursion (λ c. 0 < length c) cs
+    → contents_of es ≡ length cs
 as_many_places rs es cs h some =
-    sym (length-from_keys place_laws (places_from 0 cs) (map place_of es) (distinct_places 0 cs some) (same_members (places_from 0 cs) (map place_of es) h.reached (listed_places cs rs es h.each))) ∙ length_places 0 cs
+    sym (length-from_keys place_laws (places_from 0 cs) (map place_of es) (distinct_places 0 cs some)
+    (same_members (places_from 0 cs) (map place_of es) h.reached (listed_places cs rs es h.each))) ∙ length_places 0 cs

@@ -1,5 +1,6 @@
 -- The entries of runs: what an archive wants of them.
-use Rattle.std.proofs.Common.{◌≡◌, ℕ, zero, suc, ◌+◌, ◌-◌, ◌<◌, ◌≤◌, ◌^◌, max, List, [], ◌∷◌, ◌++◌, length, map, take, drop, All, refl, sym, ap, subst, ◌∙◌, arith}
+use Rattle.std.proofs.Common.{◌≡◌, ℕ, zero, suc, ◌+◌, ◌-◌, ◌<◌, ◌≤◌, ◌^◌, max, List, [], ◌∷◌, ◌++◌, length, map, take, drop, All, refl, sym, ap, subst, ◌∙◌}
+use Rattle.std.proofs.Common.{arith}
 use Rattle.std.specs.List.{AllByRecursion, Contains, concat, slice_range}
 use Rattle.std.proofs.lemmas.List.{length-append, take_at, drop_at}
 use Rattle.std.proofs.lemmas.List.Elements.{All-contains, All-from_recursion}
@@ -20,7 +21,8 @@ use Rattle.pm_build.proofs.Counting.{stands, as_many_places}
 at_place : (bytes front q rest : List ℕ) (k : ℕ) → bytes ≡ front ++ (q ++ rest) → length front ≡ k → slice_range bytes k (k + length q) ≡ q
 at_place bytes front q rest k is begins =
     let n : length q ≡ k + length q - k = omega arith in
-    ap (λ (x : List ℕ). take (k + length q - k) (drop k x)) is ∙ ap (λ (x : List ℕ). take (k + length q - k) x) (drop_at front (q ++ rest) k begins) ∙ take_at q rest (k + length q - k) n
+    ap (λ (x : List ℕ). take (k + length q - k) (drop k x)) is ∙ ap (λ (x : List ℕ). take (k + length q - k) x) (drop_at front (q ++ rest) k begins)
+    ∙ take_at q rest (k + length q - k) n
 
 names : (cs : List (List ℕ)) (r : TileRun) (e : Entry) → IsPlaced cs r e → Names (concat cs) r e
 names cs r e p =
@@ -32,7 +34,8 @@ names cs r e p =
       run_is = p.run_is;
       length_is = p.length_is;
       inside = (let l = p.length_is in omega (arith, long, length-append s.front (r.content ++ s.rest), length-append r.content s.rest));
-      content_is = ap (λ (n : ℕ). slice_range (concat cs) e.offset (e.offset + n)) p.length_is ∙ at_place (concat cs) s.front r.content s.rest e.offset s.bytes begins;
+      content_is =
+          ap (λ (n : ℕ). slice_range (concat cs) e.offset (e.offset + n)) p.length_is ∙ at_place (concat cs) s.front r.content s.rest e.offset s.bytes begins;
     }
 
 each_names : (cs : List (List ℕ)) (rs : List TileRun) (es : List Entry) → EachPlaced cs rs es → EachNames (concat cs) rs es
@@ -43,21 +46,24 @@ each_names cs (r ∷ rs) (e ∷ es) h = (names cs r e h.0, each_names cs rs es h
 
 -- ---- the runs ascend
 
-past_run : (from first count : ℕ) (content : List ℕ) (ts : List Tile) → IdsAscend from (repeated first (suc count) content ++ ts) → (from ≤ first) × IdsAscend (first + suc count) ts
+past_run : (from first count : ℕ) (content : List ℕ) (ts : List Tile) → IdsAscend from (repeated first (suc count) content ++ ts)
+    → (from ≤ first) × IdsAscend (first + suc count) ts
 past_run from first zero content ts h = let e : suc first ≡ first + 1 = omega arith in (h.0, subst (λ (n : ℕ). IdsAscend n ts) e h.1)
 past_run from first (suc count) content ts h =
     let on = past_run (suc first) (suc first) count content ts h.1 in
     let e : suc first + suc count ≡ first + suc (suc count) = omega arith in
     (h.0, subst (λ (n : ℕ). IdsAscend n ts) e on.1)
 
-past : (from : ℕ) (r : TileRun) (ts : List Tile) → 0 < r.count → IdsAscend from (repeated r.first r.count r.content ++ ts) → (from ≤ r.first) × IdsAscend (r.first + r.count) ts
+past : (from : ℕ) (r : TileRun) (ts : List Tile) → 0 < r.count → IdsAscend from (repeated r.first r.count r.content ++ ts)
+    → (from ≤ r.first) × IdsAscend (r.first + r.count) ts
 past from r ts some h = by r.count refl some h
   where
     by : (n : ℕ) → r.count ≡ n → 0 < n → IdsAscend from (repeated r.first n r.content ++ ts) → (from ≤ r.first) × IdsAscend (r.first + r.count) ts
     by zero e some g = absurd (omega arith)
     by (suc n) e some g = let p = past_run from r.first n r.content ts g in (p.0, subst (λ (k : ℕ). IdsAscend (r.first + k) ts) (sym e) p.1)
 
-ascend : (from : ℕ) (cs : List (List ℕ)) (rs : List TileRun) (es : List Entry) → AllByRecursion HasCount rs → EachPlaced cs rs es → IdsAscend from (tiles_in rs) → AscendFrom from es
+ascend : (from : ℕ) (cs : List (List ℕ)) (rs : List TileRun) (es : List Entry) → AllByRecursion HasCount rs → EachPlaced cs rs es → IdsAscend from (tiles_in rs)
+    → AscendFrom from es
 ascend from cs [] [] counts h t = tt
 ascend from cs [] (e ∷ es) counts h t = absurd h
 ascend from cs (r ∷ rs) [] counts h t = tt
@@ -76,7 +82,8 @@ record IsRun (r : TileRun) : Type 0 where
   some : 0 < length r.content
   length_fits : length r.content < 2 ^ 32
 
-inside_run : (first count : ℕ) (content : List ℕ) (ts : List Tile) → AllByRecursion IsTile (repeated first (suc count) content ++ ts) → (first + suc count ≤ 6148914691236517205) × (0 < length content) × (length content < 2 ^ 32) × AllByRecursion IsTile ts
+inside_run : (first count : ℕ) (content : List ℕ) (ts : List Tile) → AllByRecursion IsTile (repeated first (suc count) content ++ ts)
+    → (first + suc count ≤ 6148914691236517205) × (0 < length content) × (length content < 2 ^ 32) × AllByRecursion IsTile ts
 inside_run first zero content ts h = ((let low = h.0.0 in omega arith), h.0.1, h.0.2, h.1)
 inside_run first (suc count) content ts h = let on = inside_run (suc first) count content ts h.1 in ((let low = on.0 in omega arith), h.0.1, h.0.2, on.3)
 
@@ -85,13 +92,15 @@ inside r ts some h = by r.count refl some h
   where
     by : (n : ℕ) → r.count ≡ n → 0 < n → AllByRecursion IsTile (repeated r.first n r.content ++ ts) → IsRun r × AllByRecursion IsTile ts
     by zero e some g = absurd (omega arith)
-    by (suc n) e some g = let p = inside_run r.first n r.content ts g in (record { ids_fit = (let low = p.0 in omega arith); some = p.1; length_fits = p.2 }, p.3)
+    by (suc n) e some g =
+        let p = inside_run r.first n r.content ts g in (record { ids_fit = (let low = p.0 in omega arith); some = p.1; length_fits = p.2 }, p.3)
 
 are_runs : (rs : List TileRun) → AllByRecursion HasCount rs → AllByRecursion IsTile (tiles_in rs) → AllByRecursion IsRun rs
 are_runs [] counts h = tt
 are_runs (r ∷ rs) counts h = let p = inside r (tiles_in rs) counts.0.0 h in (p.0, are_runs rs counts.1 p.1)
 
-are_entries : (cs : List (List ℕ)) (rs : List TileRun) (es : List Entry) → AllByRecursion HasCount rs → AllByRecursion IsRun rs → EachPlaced cs rs es → AllByRecursion IsEntry es
+are_entries : (cs : List (List ℕ)) (rs : List TileRun) (es : List Entry) → AllByRecursion HasCount rs → AllByRecursion IsRun rs → EachPlaced cs rs es
+    → AllByRecursion IsEntry es
 are_entries cs [] [] counts runs h = tt
 are_entries cs [] (e ∷ es) counts runs h = absurd h
 are_entries cs (r ∷ rs) [] counts runs h = tt
@@ -118,11 +127,13 @@ some_of : (rs : List TileRun) → AllByRecursion IsRun rs → AllByRecursion (λ
 some_of [] h = tt
 some_of (r ∷ rs) h = (h.0.some, some_of rs h.1)
 
-pub are_placed : (tiles : List Tile) (rs : List TileRun) (es : List Entry) (cs : List (List ℕ)) → AreTiles tiles → AreLongestRuns tiles rs → ArePlacedRuns rs es cs → ArePlaced tiles es cs
+pub are_placed : (tiles : List Tile) (rs : List TileRun) (es : List Entry) (cs : List (List ℕ)) → AreTiles tiles → AreLongestRuns tiles rs
+    → ArePlacedRuns rs es cs → ArePlaced tiles es cs
 are_placed tiles rs es cs t l h =
     let runs = runs_in tiles rs t l in
     let P : List ℕ → Type 0 = λ c. 0 < length c in
-    let some = each_weaker (λ c. Contains (map (λ r. r.content) rs) c) P (λ c k. All-contains P (map (λ r. r.content) rs) c (All-from_recursion P (map (λ r. r.content) rs) (some_of rs runs)) k) cs h.used in
+    let some = each_weaker (λ c. Contains (map (λ r. r.content) rs) c) P
+    (λ c k. All-contains P (map (λ r. r.content) rs) c (All-from_recursion P (map (λ r. r.content) rs) (some_of rs runs)) k) cs h.used in
     record {
       runs = rs;
       longest = l;

@@ -22,14 +22,16 @@ module _ (front rest : List ℕ) (whole : length front ≡ 127) where
   byte_there place lt = sym (get_or_append_left front rest 0 place (omega (arith, whole)))
 
   part_there : (place : ℕ) → place + 16 ≤ 127 → part_at place front ≡ part_at place (front ++ rest)
-  part_there place le = same_part (part_at place front) (part_at place (front ++ rest)) (number_there place (omega arith)) (number_there (place + 8) (omega arith))
+  part_there place le =
+      same_part (part_at place front) (part_at place (front ++ rest)) (number_there place (omega arith)) (number_there (place + 8) (omega arith))
 
   fields_there : header_at front ≡ header_at (front ++ rest)
   unfolding header_at
   fields_there = same_header (header_at front) (header_at (front ++ rest))
       (part_there 8 (lit≤ tt)) (part_there 24 (lit≤ tt)) (part_there 40 (lit≤ tt)) (part_there 56 (lit≤ tt))
       (number_there 72 (lit≤ tt)) (number_there 80 (lit≤ tt)) (number_there 88 (lit≤ tt))
-      (byte_there 96 (lit< tt)) (byte_there 97 (lit< tt)) (byte_there 98 (lit< tt)) (byte_there 99 (lit< tt)) (byte_there 100 (lit< tt)) (byte_there 101 (lit< tt))
+      (byte_there 96 (lit< tt)) (byte_there 97 (lit< tt)) (byte_there 98 (lit< tt)) (byte_there 99 (lit< tt)) (byte_there 100 (lit< tt))
+      (byte_there 101 (lit< tt))
       (position_there 102 (lit≤ tt)) (position_there 106 (lit≤ tt)) (position_there 110 (lit≤ tt)) (position_there 114 (lit≤ tt))
       (byte_there 118 (lit< tt)) (position_there 119 (lit≤ tt)) (position_there 123 (lit≤ tt))
 

@@ -35,7 +35,8 @@ none_parts from c cs q h = by (bytes_eq q c) refl h
 
 -- ---- where they begin, with one more
 
-pub push_same : (from : ℕ) (cs : List (List ℕ)) (d : List ℕ) → offset_from from cs d ≡ None → offset_from from (cs ++ d ∷ []) d ≡ Some (from + length (concat cs))
+pub push_same : (from : ℕ) (cs : List (List ℕ)) (d : List ℕ) → offset_from from cs d ≡ None
+    → offset_from from (cs ++ d ∷ []) d ≡ Some (from + length (concat cs))
 unfolding offset_from
 push_same from [] d h = cond-true (bytes_eq d d) _ _ (same_bytes d) ∙ ap (λ (n : ℕ). Some n) (let e : from ≡ from + 0 = omega arith in e)
 push_same from (c ∷ cs) d h =
@@ -53,13 +54,15 @@ unfolding offset_from
 push_kept from [] d q k h = cc
 push_kept from (c ∷ cs) d q k h = by (bytes_eq q c) (push_kept (from + length c) cs d q k) h
   where
-    by : (b : Bool) → (offset_from (from + length c) cs q ≡ Some k → offset_from (from + length c) (cs ++ d ∷ []) q ≡ Some k) → cond b (Some from) (offset_from (from + length c) cs q) ≡ Some k
+    by : (b : Bool) → (offset_from (from + length c) cs q ≡ Some k → offset_from (from + length c) (cs ++ d ∷ []) q ≡ Some k)
+        → cond b (Some from) (offset_from (from + length c) cs q) ≡ Some k
         → cond b (Some from) (offset_from (from + length c) (cs ++ d ∷ []) q) ≡ Some k
     by true on g = g
     by false on g = on g
 
 -- a new content is found at the end, and the others where they were
-push_update : (cs : List (List ℕ)) (d q : List ℕ) → offset_from 0 cs d ≡ None → offset_from 0 (cs ++ d ∷ []) q ≡ cond (bytes_eq d q) (Some (length (concat cs))) (offset_from 0 cs q)
+push_update : (cs : List (List ℕ)) (d q : List ℕ) → offset_from 0 cs d ≡ None
+    → offset_from 0 (cs ++ d ∷ []) q ≡ cond (bytes_eq d q) (Some (length (concat cs))) (offset_from 0 cs q)
 push_update cs d q h = by (bytes_eq d q) refl
   where
     by : (b : Bool) → bytes_eq d q ≡ b → offset_from 0 (cs ++ d ∷ []) q ≡ cond b (Some (length (concat cs))) (offset_from 0 cs q)
@@ -90,15 +93,19 @@ with_new cs d h = cond-false (is_some (offset_from 0 cs d)) _ _ (ap (λ (o : Opt
 pub none_there : (s : Contents) (d : List ℕ) → IsKept s → get_by (λ k. slice_cmp nat_cmp d k.now) s.offsets ≡ None → offset_from 0 (contents_view s) d ≡ None
 none_there s d kept h = sym (kept.offsets d) ∙ h
 
-pub new_offset : (old new : Contents) (d : List ℕ) → IsKept old → contents_view new ≡ contents_view old ++ d ∷ [] → offset_from 0 (contents_view old) d ≡ None → offset_from 0 (contents_view new) d ≡ Some old.end
+pub new_offset : (old new : Contents) (d : List ℕ) → IsKept old → contents_view new ≡ contents_view old ++ d ∷ [] → offset_from 0 (contents_view old) d ≡ None
+    → offset_from 0 (contents_view new) d ≡ Some old.end
 new_offset old new d kept grown none =
     let e : 0 + length (concat (contents_view old)) ≡ old.end = omega (arith, kept.ends) in
     ap (λ cs. offset_from 0 cs d) grown ∙ push_same 0 (contents_view old) d none ∙ ap (λ (n : ℕ). Some n) e
 
-pub kept_more : (old new : Contents) (d : List ℕ) → IsKept old → contents_view new ≡ contents_view old ++ d ∷ [] → offset_from 0 (contents_view old) d ≡ None → new.end ≡ old.end + length d
-    → ((q : List ℕ) → get_by (λ k. slice_cmp nat_cmp q k.now) new.offsets ≡ update bytes_eq (λ x. get_by (λ k. slice_cmp nat_cmp x k.now) old.offsets) d (Some old.end) q) → IsKept new
+pub kept_more : (old new : Contents) (d : List ℕ) → IsKept old → contents_view new ≡ contents_view old ++ d ∷ [] → offset_from 0 (contents_view old) d ≡ None
+    → new.end ≡ old.end + length d
+    → ((q : List ℕ) → get_by (λ k. slice_cmp nat_cmp q k.now) new.offsets
+    ≡ update bytes_eq (λ x. get_by (λ k. slice_cmp nat_cmp x k.now) old.offsets) d (Some old.end) q) → IsKept new
 kept_more old new d kept grown none ends map_is = record {
-  offsets = λ q. map_is q ∙ ap (λ o. cond (bytes_eq d q) (Some old.end) o) (kept.offsets q) ∙ ap (λ (n : ℕ). cond (bytes_eq d q) (Some n) (offset_from 0 (contents_view old) q)) kept.ends
+  offsets = λ q. map_is q ∙ ap (λ o. cond (bytes_eq d q) (Some old.end) o) (kept.offsets q)
+      ∙ ap (λ (n : ℕ). cond (bytes_eq d q) (Some n) (offset_from 0 (contents_view old) q)) kept.ends
       ∙ sym (ap (λ cs. offset_from 0 cs q) grown ∙ push_update (contents_view old) d q none);
   ends = ends ∙ ap (λ (n : ℕ). n + length d) kept.ends ∙ sym (ap (λ cs. length (concat cs)) grown ∙ concat_push (contents_view old) d);
 }

@@ -1,5 +1,6 @@
 -- The contents of runs, by the entries that name them.
-use Rattle.std.proofs.Common.{◌≡◌, ◌≢◌, ℕ, zero, suc, ◌+◌, ◌*◌, ◌^◌, ◌<◌, ◌≤◌, ◌&&◌, Bool, true, false, cond, eqb, leb, ltb, List, [], ◌∷◌, ◌++◌, length, map, get_or, slice_range, Vec, Global, Some, ◌⊎◌, inl, inr, refl, sym, ap, ◌∙◌, arith}
+use Rattle.std.proofs.Common.{◌≡◌, ◌≢◌, ℕ, zero, suc, ◌+◌, ◌*◌, ◌^◌, ◌<◌, ◌≤◌, ◌&&◌, Bool, true, false, cond, eqb, leb, ltb, List, [], ◌∷◌, ◌++◌, length, map}
+use Rattle.std.proofs.Common.{get_or, slice_range, Vec, Global, Some, ◌⊎◌, inl, inr, refl, sym, ap, ◌∙◌, arith}
 use Rattle.std.specs.List.{AllByRecursion, concat, Contains, slice_get}
 use Rattle.std.proofs.lemmas.Bool.{cases_Bool, and_parts, and_cases, eqb-false, ne_eqb, leb-true, leb-false, ltb-true, ltb-false}
 use Rattle.std.proofs.lemmas.List.{length-append, length-map}
@@ -25,13 +26,15 @@ abbrev IsShort : List ℕ → Type 0
 IsShort c = length c < 2 ^ 32
 
 -- each tile has an id of the pyramid
-pub id_low : (tiles : List (ℕ × Vec ℕ Global)) (i : ℕ) (d : ℕ × Vec ℕ Global) → i < length tiles → AllByRecursion IsTile (tile_views tiles) → (get_or tiles i d).0 < 6148914691236517205
+pub id_low : (tiles : List (ℕ × Vec ℕ Global)) (i : ℕ) (d : ℕ × Vec ℕ Global) → i < length tiles → AllByRecursion IsTile (tile_views tiles)
+    → (get_or tiles i d).0 < 6148914691236517205
 id_low [] i d lt each = absurd (omega arith)
 id_low (t ∷ ts) zero d lt each = each.0.0
 id_low (t ∷ ts) (suc i) d lt each = id_low ts i d (omega arith) each.1
 
 -- a tile in memory is one of the tiles
-pub tile_there : (tiles : List (ℕ × Vec ℕ Global)) (i : ℕ) (d : ℕ × Vec ℕ Global) → i < length tiles → slice_get (tile_views tiles) i ≡ Some ((get_or tiles i d).0, (get_or tiles i d).1.items)
+pub tile_there : (tiles : List (ℕ × Vec ℕ Global)) (i : ℕ) (d : ℕ × Vec ℕ Global) → i < length tiles
+    → slice_get (tile_views tiles) i ≡ Some ((get_or tiles i d).0, (get_or tiles i d).1.items)
 tile_there [] i d lt = absurd (omega arith)
 tile_there (t ∷ ts) zero d lt = refl
 tile_there (t ∷ ts) (suc i) d lt = tile_there ts i d (omega arith)
@@ -44,7 +47,8 @@ as_many bytes [] (e ∷ es) named = absurd named
 as_many bytes (r ∷ rs) [] named = absurd named
 as_many bytes (r ∷ rs) (e ∷ es) named = ap (λ (n : ℕ). suc n) (as_many bytes rs es named.1)
 
-pub have_tiles : (bytes : List ℕ) (rs : List TileRun) (es : List Entry) → EachNames bytes rs es → AllByRecursion HasTiles rs → AllByRecursion (λ e. 0 < e.run) es
+pub have_tiles : (bytes : List ℕ) (rs : List TileRun) (es : List Entry) → EachNames bytes rs es → AllByRecursion HasTiles rs
+    → AllByRecursion (λ e. 0 < e.run) es
 have_tiles bytes [] [] named some = tt
 have_tiles bytes [] (e ∷ es) named some = absurd named
 have_tiles bytes (r ∷ rs) [] named some = absurd named
@@ -53,7 +57,8 @@ have_tiles bytes (r ∷ rs) (e ∷ es) named some =
     let count = some.0.0 in
     (omega arith, have_tiles bytes rs es named.1 some.1)
 
-pub lie_in : (bytes : List ℕ) (h : Header) (rs : List TileRun) (es : List Entry) → h.tiles.length ≡ length bytes → EachNames bytes rs es → AllByRecursion (LiesIn h.tiles) es
+pub lie_in : (bytes : List ℕ) (h : Header) (rs : List TileRun) (es : List Entry) → h.tiles.length ≡ length bytes → EachNames bytes rs es
+    → AllByRecursion (LiesIn h.tiles) es
 lie_in bytes h [] [] size named = tt
 lie_in bytes h [] (e ∷ es) size named = absurd named
 lie_in bytes h (r ∷ rs) [] size named = absurd named
@@ -61,7 +66,8 @@ lie_in bytes h (r ∷ rs) (e ∷ es) size named =
     let inside = named.0.inside in
     (omega arith, lie_in bytes h rs es size named.1)
 
-pub have_ends : (bytes : List ℕ) (rs : List TileRun) (es : List Entry) → length bytes < 2 ^ 64 → EachNames bytes rs es → AllByRecursion IsEntry es → AllByRecursion HasEnd es
+pub have_ends : (bytes : List ℕ) (rs : List TileRun) (es : List Entry) → length bytes < 2 ^ 64 → EachNames bytes rs es → AllByRecursion IsEntry es
+    → AllByRecursion HasEnd es
 have_ends bytes [] [] fits named each = tt
 have_ends bytes [] (e ∷ es) fits named each = absurd named
 have_ends bytes (r ∷ rs) [] fits named each = absurd named
@@ -71,7 +77,8 @@ have_ends bytes (r ∷ rs) (e ∷ es) fits named each =
 
 -- ---- how many bytes the contents have
 
-short_contents : (bytes : List ℕ) (rs : List TileRun) (es : List Entry) → EachNames bytes rs es → AllByRecursion IsEntry es → AllByRecursion IsShort (map (λ r. r.content) rs)
+short_contents : (bytes : List ℕ) (rs : List TileRun) (es : List Entry) → EachNames bytes rs es → AllByRecursion IsEntry es
+    → AllByRecursion IsShort (map (λ r. r.content) rs)
 short_contents bytes [] [] named each = tt
 short_contents bytes [] (e ∷ es) named each = absurd named
 short_contents bytes (r ∷ rs) [] named each = absurd named
@@ -106,9 +113,15 @@ addressed_all bytes [] (e ∷ es) named = absurd named
 addressed_all bytes (r ∷ rs) [] named = absurd named
 addressed_all bytes (r ∷ rs) (e ∷ es) named =
     let same = named.0.run_is in
-    omega (arith, length-append (repeated r.first r.count r.content) (tiles_in rs), length-repeated r.first r.count r.content, addressed_all bytes rs es named.1)
+    omega (
+      arith,
+      length-append (repeated r.first r.count r.content) (tiles_in rs),
+      length-repeated r.first r.count r.content,
+      addressed_all bytes rs es named.1,
+    )
 
-pub some_entries : (bytes : List ℕ) (rs : List TileRun) (es : List Entry) (tiles : List Tile) → EachNames bytes rs es → tiles_in rs ≡ tiles → tiles ≢ [] → 0 < length es
+pub some_entries : (bytes : List ℕ) (rs : List TileRun) (es : List Entry) (tiles : List Tile) → EachNames bytes rs es → tiles_in rs ≡ tiles → tiles ≢ []
+    → 0 < length es
 some_entries bytes [] [] tiles named together some = absurd (some (sym together))
 some_entries bytes [] (e ∷ es) tiles named together some = absurd named
 some_entries bytes (r ∷ rs) [] tiles named together some = absurd named
@@ -116,23 +129,27 @@ some_entries bytes (r ∷ rs) (e ∷ es) tiles named together some = omega arith
 
 -- ---- the content of an id
 
-inside_run : (id first count : ℕ) (content : List ℕ) (behind : List Tile) → first ≤ id → id < first + count → tile_content (repeated first count content ++ behind) id ≡ Some content
+inside_run : (id first count : ℕ) (content : List ℕ) (behind : List Tile) → first ≤ id → id < first + count
+    → tile_content (repeated first count content ++ behind) id ≡ Some content
 inside_run id first zero content behind low high = absurd (omega arith)
 inside_run id first (suc more) content behind low high =
     chosen (eqb first id) refl (λ later. inside_run id (suc first) more content behind later (omega arith))
   where
-    chosen : (b : Bool) → eqb first id ≡ b → (suc first ≤ id → tile_content (repeated (suc first) more content ++ behind) id ≡ Some content) → cond b (Some content) (tile_content (repeated (suc first) more content ++ behind) id) ≡ Some content
+    chosen : (b : Bool) → eqb first id ≡ b → (suc first ≤ id → tile_content (repeated (suc first) more content ++ behind) id ≡ Some content)
+        → cond b (Some content) (tile_content (repeated (suc first) more content ++ behind) id) ≡ Some content
     chosen true e next = refl
     chosen false e next = let other = eqb-false first id e in next (omega arith)
 
-outside_run : (id first count : ℕ) (content : List ℕ) (behind : List Tile) → (id < first) ⊎ (first + count ≤ id) → tile_content (repeated first count content ++ behind) id ≡ tile_content behind id
+outside_run : (id first count : ℕ) (content : List ℕ) (behind : List Tile) → (id < first) ⊎ (first + count ≤ id)
+    → tile_content (repeated first count content ++ behind) id ≡ tile_content behind id
 outside_run id first zero content behind out = refl
 outside_run id first (suc more) content behind (inl low) =
     rw (ne_eqb first id (λ same. omega arith)) (outside_run id (suc first) more content behind (inl (omega arith)))
 outside_run id first (suc more) content behind (inr high) =
     rw (ne_eqb first id (λ same. omega arith)) (outside_run id (suc first) more content behind (inr (omega arith)))
 
-pub content_named : (bytes contents : List ℕ) (h : Header) (rs : List TileRun) (es : List Entry) (id : ℕ) → section_bytes h.tiles bytes ≡ contents → h.tiles.length ≡ length contents → EachNames contents rs es → tile_content (tiles_in rs) id ≡ content_of bytes h es id
+pub content_named : (bytes contents : List ℕ) (h : Header) (rs : List TileRun) (es : List Entry) (id : ℕ) → section_bytes h.tiles bytes ≡ contents
+    → h.tiles.length ≡ length contents → EachNames contents rs es → tile_content (tiles_in rs) id ≡ content_of bytes h es id
 content_named bytes contents h [] [] id at size named = refl
 content_named bytes contents h [] (e ∷ es) id at size named = absurd named
 content_named bytes contents h (r ∷ rs) [] id at size named = absurd named
@@ -143,10 +160,13 @@ content_named bytes contents h (r ∷ rs) (e ∷ es) id at size named =
     let low = leb e.id id in
     let high = ltb id (e.id + e.run) in
     let looked = λ (b : Bool). content_of_entry bytes h (cond b (Some e) (entry_of es id)) in
-    let place : slice_range (section_bytes h.tiles bytes) e.offset (e.offset + e.length) ≡ slice_range bytes (h.tiles.offset + e.offset) (h.tiles.offset + (e.offset + e.length)) = part_of_part bytes h.tiles.offset (h.tiles.offset + h.tiles.length) e.offset (e.offset + e.length) (omega arith) in
+    let place : slice_range (section_bytes h.tiles bytes) e.offset (e.offset + e.length)
+    ≡ slice_range bytes (h.tiles.offset + e.offset) (h.tiles.offset + (e.offset + e.length)) = part_of_part bytes h.tiles.offset
+    (h.tiles.offset + h.tiles.length) e.offset (e.offset + e.length) (omega arith) in
     let sums : h.tiles.offset + (e.offset + e.length) ≡ h.tiles.offset + e.offset + e.length = omega arith in
     let there : r.content ≡ entry_bytes h.tiles e bytes =
-    sym named.0.content_is ∙ ap (λ (xs : List ℕ). slice_range xs e.offset (e.offset + e.length)) (sym at) ∙ place ∙ ap (λ (j : ℕ). slice_range bytes (h.tiles.offset + e.offset) j) sums in
+    sym named.0.content_is ∙ ap (λ (xs : List ℕ). slice_range xs e.offset (e.offset + e.length)) (sym at) ∙ place
+    ∙ ap (λ (j : ℕ). slice_range bytes (h.tiles.offset + e.offset) j) sums in
     elim (cases_Bool (low && high)) [
       | inl hit ↦
           let tests = and_parts low high hit in

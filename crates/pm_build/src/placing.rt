@@ -1,13 +1,11 @@
-ghost use Rattle.std.specs.Prelude.{◌≡◌, ◌<◌, ◌≤◌, ◌^◌, List, length, map, All, Err, IfOk};
+ghost use Rattle.std.specs.Prelude.{◌≡◌, ◌<◌, ◌≤◌, ◌^◌, length, map, All, IfOk};
 ghost use Rattle.pm_build.specs.Tiles.{tile_views, AreTiles};
-ghost use Rattle.pm_build.specs.Runs.{TileRun, AreLongestRuns};
-ghost use Rattle.pm_build.specs.Joined.{run_views};
+ghost use Rattle.pm_build.specs.Joined.{run_views, runs_of};
 ghost use Rattle.pm_build.specs.Offsets.{ArePlacedRuns};
 ghost use Rattle.pm_build.specs.Placed.{ArePlaced};
 ghost use Rattle.pm_build.specs.Clustered.{IsClustered};
 
 use crate::contents::Contents;
-use crate::fault::BuildFault;
 use crate::limit::MAX_ENTRIES;
 use crate::placed::Placed;
 use crate::run::Run;
@@ -43,26 +41,17 @@ fn place_all<'a>(alloc: Global, runs: &[Run<'a>]) -> Result<Placed<'a>, AllocErr
 ///
 /// Two tiles' bytes are compared only where one id follows the other. Equal contents of different runs are found by a
 /// map from contents to offsets.
-///
-/// # Errors
-///
-/// `TooManyEntries` where the runs number over 131,072, and `Memory`.
-pub(crate) fn place_runs<'a>(alloc: Global, tiles: &'a [(u64, Vec<u8>)]) -> Result<Placed<'a>, BuildFault>
-    requires { AreTiles (tile_views tiles.now) }
+pub(crate) fn place_runs<'a>(
+    alloc: Global,
+    tiles: &'a [(u64, Vec<u8>)],
+) -> Result<Placed<'a>, AllocError>
+    requires tiles { AreTiles (tile_views tiles.now) }
+    requires few { length (runs_of (tile_views tiles.now)) ≤ MAX_ENTRIES }
     ensures placed { IfOk result (λ p. ArePlaced (tile_views tiles.entry.now) p.entries.items (map (λ c. c.now) p.contents.items)) }
     // The contents stand in the order of their first use.
     ensures clustered { IfOk result (λ p. IsClustered 0 p.entries.items) }
     ensures few { IfOk result (λ p. length p.entries.items ≤ MAX_ENTRIES) }
-    ensures many { result ≡ Err BuildFault.TooManyEntries → (runs : List TileRun) × AreLongestRuns (tile_views tiles.entry.now) runs × (MAX_ENTRIES < length runs) }
-    // Where there are more, they are refused: no other runs are the longest.
-    ensures exact { (runs : List TileRun) → AreLongestRuns (tile_views tiles.entry.now) runs → MAX_ENTRIES < length runs → IfOk result (λ p. ⊥) }
 {
-    let runs = match longest_runs(alloc, tiles) {
-        Ok(runs) => runs,
-        Err(fault) => return Err(fault),
-    };
-    match place_all(alloc, &runs) {
-        Ok(placed) => Ok(placed),
-        Err(_) => Err(BuildFault::Memory),
-    }
+    let runs = longest_runs(alloc, tiles)?;
+    place_all(alloc, &runs)
 }

@@ -64,10 +64,7 @@ fn joins_equal_contents(rt: HostRuntime) -> Result<(), Fail> {
         tile(alloc, 5, &[7; 21])?,
     ]?;
     let placed = placed(alloc, &tiles)?;
-    assert_eq!(rt;
-        placed.entries.as_slice(),
-        JOINED.as_slice()
-    );
+    assert_eq!(rt; placed.entries.as_slice(), JOINED.as_slice());
     assert_eq!(rt; placed.contents.as_slice(), [[7; 21].as_slice()].as_slice());
     Ok(())
 }
@@ -81,10 +78,7 @@ fn breaks_runs_at_other_contents(rt: HostRuntime) -> Result<(), Fail> {
         tile(alloc, 5, &[7; 2])?,
     ]?;
     let placed = placed(alloc, &tiles)?;
-    assert_eq!(rt;
-        placed.entries.as_slice(),
-        BROKEN.as_slice()
-    );
+    assert_eq!(rt; placed.entries.as_slice(), BROKEN.as_slice());
     assert_eq!(rt;
         placed.contents.as_slice(),
         [[7, 7].as_slice(), [8, 8].as_slice()].as_slice()

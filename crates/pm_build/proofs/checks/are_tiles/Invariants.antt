@@ -5,6 +5,8 @@ use Rattle.pm_build.proofs.checks.are_tiles.Given as goal
 
 abbrev pub invariant-loop-tile : goal.invariant-loop-tile
 invariant-loop-tile l = record {
-  all : IdsAscend l.from (tile_views (drop l.tile-index l.tiles)) × AllByRecursion IsTile (tile_views (drop l.tile-index l.tiles)) → AreTiles (tile_views l.tiles);
-  left : AreTiles (tile_views l.tiles) → IdsAscend l.from (tile_views (drop l.tile-index l.tiles)) × AllByRecursion IsTile (tile_views (drop l.tile-index l.tiles));
+  all : IdsAscend l.from (tile_views (drop l.tile-index l.tiles)) × AllByRecursion IsTile (tile_views (drop l.tile-index l.tiles))
+      → AreTiles (tile_views l.tiles);
+  left : AreTiles (tile_views l.tiles) → IdsAscend l.from (tile_views (drop l.tile-index l.tiles))
+      × AllByRecursion IsTile (tile_views (drop l.tile-index l.tiles));
 }
