@@ -84,7 +84,7 @@ fn write_header<W: Write>(header: &Header, out: &mut W) -> io::Result<()>
     put_pieces(out, &pieces)
 }
 
-/// What is told of the metadata.
+/// What is shown of the metadata.
 #[derive(Clone, Copy)]
 enum Metadata<'a> {
     /// They are compressed, by this number of the header.
@@ -94,7 +94,7 @@ enum Metadata<'a> {
     Unreadable,
 }
 
-/// What is to be told of the metadata.
+/// What is to be shown of the metadata.
 fn metadata_of<'a>(archive: &'a [u8], header: &Header) -> Metadata<'a>
     ensures { IsMetadataLine archive.now header.now (metadata_line result) }
 {

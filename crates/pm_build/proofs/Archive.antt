@@ -128,7 +128,7 @@ counts_there h tiles es cs root metadata leaves is placed =
     record {
       addressed = inr (is.addressed_is ∙ sym together ∙ all);
       entries = inr is.entries_is;
-      contents = inr (is.contents_is ∙ sym placed.places);
+      contents = inr (is.contents_is ∙ sym placed.counted);
     }
 
 is_laid_archive : (bytes root metadata leaves : List ℕ) (tiles : List Tile) (es : List Entry) (cs : List (List ℕ)) (h : Header)

@@ -14,7 +14,7 @@ use Rattle.pm_build.specs.Placed.{Names, EachNames, ArePlaced}
 use Rattle.pm_build.specs.Offsets.{IsPlaced, EachPlaced, ArePlacedRuns}
 use Rattle.pm_build.proofs.Joining.{HasCount}
 use Rattle.pm_build.proofs.Growing.{each_weaker}
-use Rattle.pm_build.proofs.Counting.{stands, as_many_places}
+use Rattle.pm_build.proofs.Counting.{stands, as_many_spans}
 
 -- ---- an entry names its run
 
@@ -142,7 +142,7 @@ are_placed tiles rs es cs t l h =
       each = are_entries cs rs es l.each runs h.each;
       different = h.different;
       used = h.used;
-      places = as_many_places rs es cs h some;
+      counted = as_many_spans rs es cs h some;
     }
 
 lengths_of : (runs : List Run) → AllByRecursion IsRun (run_views runs) → AllByRecursion (λ (r : Run). length r.content.now < 2 ^ 32) runs

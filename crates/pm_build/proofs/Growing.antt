@@ -13,7 +13,7 @@ use Rattle.pm_build.specs.Runs.{TileRun}
 use Rattle.pm_build.specs.Joined.{run_view, run_views}
 use Rattle.pm_build.specs.Placed.{AreDifferent}
 use Rattle.pm_build.specs.Clustered.{end_of, IsClustered}
-use Rattle.pm_build.specs.Offsets.{offset_from, with_content, places_from, IsPlaced, EachPlaced, ArePlacedRuns}
+use Rattle.pm_build.specs.Offsets.{offset_from, with_content, spans_from, IsPlaced, EachPlaced, ArePlacedRuns}
 use Rattle.pm_build.proofs.Offsets.{push_kept, push_same, none_parts, same_bytes, concat_push, with_there, with_new}
 use Rattle.pm_build.proofs.Counting.{stands}
 
@@ -52,14 +52,14 @@ different_push from (c ∷ cs) d h none =
     let other : d ≢ c = λ same. true≢false (sym (same_bytes d) ∙ ap (λ x. bytes_eq d x) same ∙ n.test) in
     (each_push (λ x. x ≢ c) cs d h.0 other, different_push (from + length c) cs d h.1 n.rest)
 
-places_push : (from : ℕ) (cs : List (List ℕ)) (d : List ℕ) → places_from from (cs ++ d ∷ []) ≡ places_from from cs ++ (from + length (concat cs), length d) ∷ []
-places_push from [] d = let e : from ≡ from + 0 = omega arith in ap (λ (n : ℕ). let p : ℕ × ℕ = (n, length d) in p ∷ []) e
-places_push from (c ∷ cs) d =
+spans_push : (from : ℕ) (cs : List (List ℕ)) (d : List ℕ) → spans_from from (cs ++ d ∷ []) ≡ spans_from from cs ++ (from + length (concat cs), length d) ∷ []
+spans_push from [] d = let e : from ≡ from + 0 = omega arith in ap (λ (n : ℕ). let p : ℕ × ℕ = (n, length d) in p ∷ []) e
+spans_push from (c ∷ cs) d =
     let e : from + length c + length (concat cs) ≡ from + length (c ++ concat cs) = omega (arith, length-append c (concat cs)) in
     ap (λ (x : List (ℕ × ℕ)). let p : ℕ × ℕ = (from, length c) in p ∷ x)
-    (places_push (from + length c) cs d ∙ ap (λ (n : ℕ). let p : ℕ × ℕ = (n, length d) in places_from (from + length c) cs ++ p ∷ []) e)
+    (spans_push (from + length c) cs d ∙ ap (λ (n : ℕ). let p : ℕ × ℕ = (n, length d) in spans_from (from + length c) cs ++ p ∷ []) e)
 
--- what stays of a run's content and of an entry's place among more
+-- what stays of a run's content and of an entry's span among more
 used_more : (rs : List TileRun) (r : TileRun) (cs : List (List ℕ)) → AllByRecursion (λ c. Contains (map (λ x. x.content) rs) c) cs
     → AllByRecursion (λ c. Contains (map (λ x. x.content) (rs ++ r ∷ [])) c) cs
 used_more rs r cs h =
@@ -114,7 +114,7 @@ more_there rs r es e cs h p =
       used = used_more rs r cs h.used;
       clustered = clustered_push 0 es e h.clustered (inr (omega arith));
       ends = (let grown = end_push 0 es e in omega arith);
-      reached = reached_more es e (places_from 0 cs) h.reached;
+      reached = reached_more es e (spans_from 0 cs) h.reached;
     }
 
 more_new : (rs : List TileRun) (r : TileRun) (es : List Entry) (e : Entry) (cs : List (List ℕ)) → ArePlacedRuns rs es cs → offset_from 0 cs r.content ≡ None
@@ -124,16 +124,16 @@ more_new rs r es e cs h none p =
     let offset_is : e.offset ≡ 0 + length (concat cs) = cc in
     let length_is : e.length ≡ length r.content = p.length_is in
     let ends : end_of 0 es ≡ length (concat cs) = h.ends in
-    let place : place_of e ≡ (0 + length (concat cs), length r.content) = cc in
+    let span : place_of e ≡ (0 + length (concat cs), length r.content) = cc in
     record {
       each = placed_push (cs ++ r.content ∷ []) rs es r e (placed_grown cs r.content rs es h.each) p;
       different = different_push 0 cs r.content h.different none;
       used = each_push (λ c. Contains (map (λ x. x.content) (rs ++ r ∷ [])) c) cs r.content (used_more rs r cs h.used) (used_here rs r);
       clustered = clustered_push 0 es e h.clustered (inl (omega arith));
       ends = (let grown = end_push 0 es e in let more = concat_push cs r.content in omega arith);
-      reached = subst (λ (ps : List (ℕ × ℕ)). AllByRecursion (λ p. Contains (map place_of (es ++ e ∷ [])) p) ps) (sym (places_push 0 cs r.content))
-          (each_push (λ p. Contains (map place_of (es ++ e ∷ [])) p) (places_from 0 cs) (0 + length (concat cs), length r.content)
-          (reached_more es e (places_from 0 cs) h.reached) (reached_here es e _ place));
+      reached = subst (λ (ps : List (ℕ × ℕ)). AllByRecursion (λ p. Contains (map place_of (es ++ e ∷ [])) p) ps) (sym (spans_push 0 cs r.content))
+          (each_push (λ p. Contains (map place_of (es ++ e ∷ [])) p) (spans_from 0 cs) (0 + length (concat cs), length r.content)
+          (reached_more es e (spans_from 0 cs) h.reached) (reached_here es e _ span));
     }
 
 more_placed : (rs : List TileRun) (r : TileRun) (es : List Entry) (e : Entry) (old new : List (List ℕ)) → ArePlacedRuns rs es old

@@ -100,10 +100,10 @@ leaf_pushed bytes piece names es leaf name h is directory each some short few fi
     let e_off = is.offset_is in
     let e_run = is.run_is in
     let id_fits = first_id name.id leaf is.first each in
-    let place : slice_range (bytes ++ (piece ++ [])) name.offset (name.offset + name.length) ≡ piece =
+    let section : slice_range (bytes ++ (piece ++ [])) name.offset (name.offset + name.length) ≡ piece =
     part_middle bytes piece [] name.offset (name.offset + name.length) (sym e_off) (ap (λ (n : ℕ). name.offset + n) (sym e_len)) in
     let there : slice_range (bytes ++ piece) name.offset (name.offset + name.length) ≡ piece =
-    ap (λ (xs : List ℕ). slice_range (bytes ++ xs) name.offset (name.offset + name.length)) (sym (append-nil piece)) ∙ place in
+    ap (λ (xs : List ℕ). slice_range (bytes ++ xs) name.offset (name.offset + name.length)) (sym (append-nil piece)) ∙ section in
     let names_leaf : NamesLeaf (bytes ++ piece) name leaf = record {
       leaf = is.run_is;
       first = is.first;

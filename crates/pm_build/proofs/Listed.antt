@@ -72,12 +72,12 @@ leaves_listed bytes leaves h from (n ∷ ns) es at size (front, rest, parts, lea
     let inside' : AllByRecursion (LiesIn h.tiles) (front ++ rest) = subst (λ (xs : List Entry). AllByRecursion (LiesIn h.tiles) xs) parts inside in
     let each_front = all_front IsEntry front rest each' in
     let tiles_front = all_front HasTiles front rest tiles' in
-    let place : slice_range (section_bytes h.leaves bytes) n.offset (n.offset + n.length)
+    let section : slice_range (section_bytes h.leaves bytes) n.offset (n.offset + n.length)
     ≡ slice_range bytes (h.leaves.offset + n.offset) (h.leaves.offset + (n.offset + n.length)) = part_of_part bytes h.leaves.offset
     (h.leaves.offset + h.leaves.length) n.offset (n.offset + n.length) (omega arith) in
     let sums : h.leaves.offset + (n.offset + n.length) ≡ h.leaves.offset + n.offset + n.length = omega arith in
     let there : slice_range leaves n.offset (n.offset + n.length) ≡ entry_bytes h.leaves n bytes =
-    ap (λ (xs : List ℕ). slice_range xs n.offset (n.offset + n.length)) (sym at) ∙ place
+    ap (λ (xs : List ℕ). slice_range xs n.offset (n.offset + n.length)) (sym at) ∙ section
     ∙ ap (λ (j : ℕ). slice_range bytes (h.leaves.offset + n.offset) j) sums in
     let is_leaf : IsLeaf bytes h n (bound_of ids_end ns) front = record {
       leaf = leaf.leaf;

@@ -97,7 +97,7 @@ short_used all (c ∷ cs) short used =
 pub contents_fit : (tiles : List Tile) (es : List Entry) (cs : List (List ℕ)) → ArePlaced tiles es cs → length es ≤ 131072 → length (concat cs) ≤ 2 ^ 49
 contents_fit tiles es cs placed few =
     let different = distinct_count-le same_place (map place_of es) in
-    let places = placed.places in
+    let counted = placed.counted in
     let short = short_used (map (λ r. r.content) placed.runs) cs (short_contents (concat cs) placed.runs es placed.named placed.each) placed.used in
     omega (arith, length-map es place_of)
 
@@ -160,12 +160,12 @@ content_named bytes contents h (r ∷ rs) (e ∷ es) id at size named =
     let low = leb e.id id in
     let high = ltb id (e.id + e.run) in
     let looked = λ (b : Bool). content_of_entry bytes h (cond b (Some e) (entry_of es id)) in
-    let place : slice_range (section_bytes h.tiles bytes) e.offset (e.offset + e.length)
+    let section : slice_range (section_bytes h.tiles bytes) e.offset (e.offset + e.length)
     ≡ slice_range bytes (h.tiles.offset + e.offset) (h.tiles.offset + (e.offset + e.length)) = part_of_part bytes h.tiles.offset
     (h.tiles.offset + h.tiles.length) e.offset (e.offset + e.length) (omega arith) in
     let sums : h.tiles.offset + (e.offset + e.length) ≡ h.tiles.offset + e.offset + e.length = omega arith in
     let there : r.content ≡ entry_bytes h.tiles e bytes =
-    sym named.0.content_is ∙ ap (λ (xs : List ℕ). slice_range xs e.offset (e.offset + e.length)) (sym at) ∙ place
+    sym named.0.content_is ∙ ap (λ (xs : List ℕ). slice_range xs e.offset (e.offset + e.length)) (sym at) ∙ section
     ∙ ap (λ (j : ℕ). slice_range bytes (h.tiles.offset + e.offset) j) sums in
     elim (cases_Bool (low && high)) [
       | inl hit ↦

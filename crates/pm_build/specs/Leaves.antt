@@ -9,7 +9,7 @@ abbrev pub StartWith : ℕ → List Entry → Type 0
 StartWith id [] = ⊥
 StartWith id (e ∷ es) = e.id ≡ id
 
--- the name is of a leaf directory of these entries, which stands at its place of the bytes
+-- the name is of a leaf directory of these entries, which stands where it says
 pub record NamesLeaf (bytes : List ℕ) (name : Entry) (entries : List Entry) : Type 0 where
   pub leaf : name.run ≡ 0
   pub first : StartWith name.id entries

@@ -22,9 +22,9 @@ unfoldable pub with_content : List (List ℕ) → List ℕ → List (List ℕ)
 with_content contents content = cond (is_some (offset_from 0 contents content)) contents (contents ++ content ∷ [])
 
 -- where each begins and how long it is
-abbrev pub places_from : ℕ → List (List ℕ) → List (ℕ × ℕ)
-places_from from [] = []
-places_from from (c ∷ cs) = (from, length c) ∷ places_from (from + length c) cs
+abbrev pub spans_from : ℕ → List (List ℕ) → List (ℕ × ℕ)
+spans_from from [] = []
+spans_from from (c ∷ cs) = (from, length c) ∷ spans_from (from + length c) cs
 
 -- the contents that were placed
 abbrev pub contents_view : Contents → List (List ℕ)
@@ -56,4 +56,4 @@ pub record ArePlacedRuns (runs : List TileRun) (entries : List Entry) (contents 
   pub used : AllByRecursion (λ c. Contains (map (λ r. r.content) runs) c) contents
   pub clustered : IsClustered 0 entries
   pub ends : end_of 0 entries ≡ length (concat contents)
-  pub reached : AllByRecursion (λ p. Contains (map place_of entries) p) (places_from 0 contents)
+  pub reached : AllByRecursion (λ p. Contains (map place_of entries) p) (spans_from 0 contents)

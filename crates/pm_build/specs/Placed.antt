@@ -8,7 +8,7 @@ use Rattle.pm_directory.specs.Directory.{IsAscending, IsEntry}
 use Rattle.pm_build.specs.Tiles.{Tile}
 use Rattle.pm_build.specs.Runs.{TileRun, AreLongestRuns}
 
--- the entry names this run, whose content lies at its place of the bytes
+-- the entry names this run, whose content lies where it says
 pub record Names (bytes : List ℕ) (r : TileRun) (e : Entry) : Type 0 where
   pub id_is : e.id ≡ r.first
   pub run_is : e.run ≡ r.count
@@ -36,4 +36,4 @@ pub record ArePlaced (tiles : List Tile) (entries : List Entry) (contents : List
   pub each : AllByRecursion IsEntry entries
   pub different : AreDifferent contents
   pub used : AllByRecursion (λ c. Contains (map (λ r. r.content) runs) c) contents
-  pub places : contents_of entries ≡ length contents
+  pub counted : contents_of entries ≡ length contents

@@ -32,7 +32,7 @@ struct Leaves {
 // Puts a leaf directory of these entries behind the others.
 fn push_leaf(alloc: Global, leaves: &mut Leaves, entries: &[Entry]) -> Result<(), AllocError>
     requires some { 0 < length entries.now }
-    requires few { length entries.now ≤ 512 }
+    requires few { length entries.now ≤ DIRECTORY_ENTRIES }
     requires ascending { IsAscending entries.now }
     requires each { AllByRecursion IsEntry entries.now }
     requires ends { AllByRecursion HasEnd entries.now }
@@ -58,7 +58,7 @@ fn write_leaves(alloc: Global, entries: &[Entry]) -> Result<Leaves, AllocError>
     requires each { AllByRecursion IsEntry entries.now }
     requires ends { AllByRecursion HasEnd entries.now }
     ensures leaves { IfOk result (λ leaves. AreLeaves leaves.bytes.items leaves.names.items entries.now) }
-    ensures few { IfOk result (λ leaves. 512 * length leaves.names.items ≤ length entries.now + 511) }
+    ensures few { IfOk result (λ leaves. DIRECTORY_ENTRIES * length leaves.names.items < length entries.now + DIRECTORY_ENTRIES) }
 {
     let mut leaves = Leaves {
         names: Vec::new(alloc),
@@ -81,7 +81,7 @@ pub(crate) fn write_directories(alloc: Global, entries: &[Entry]) -> Result<Dire
     requires each { AllByRecursion IsEntry entries.now }
     requires ends { AllByRecursion HasEnd entries.now }
     ensures directories { IfOk result (λ d. AreDirectories d.root.items d.leaves.items entries.now) }
-    ensures root { IfOk result (λ d. length d.root.items ≤ 2 + 29 * 512) }
+    ensures root { IfOk result (λ d. length d.root.items ≤ 2 + 29 * DIRECTORY_ENTRIES) }
     ensures size { IfOk result (λ d. length d.root.items + length d.leaves.items ≤ 64 * length entries.now) }
 {
     if entries.len() <= DIRECTORY_ENTRIES {

@@ -42,7 +42,7 @@ pub struct SystemFile<F> {
 }
 
 impl<F> SystemFile<F> {
-    ghost use Rattle.sector_disk.specs.Told.{system_calls};
+    ghost use Rattle.sector_disk.specs.Views.{system_calls};
 
     /// An open file, of which no call is noted yet.
     pub fn new(file: F) -> SystemFile<F>
@@ -57,7 +57,7 @@ impl<F> SystemFile<F> {
 
 /// Each method makes the call that it notes, which no clause can see to.
 impl<F: FileExt + OpenFile> SectorFile for SystemFile<F> {
-    ghost use Rattle.sector_disk.specs.Told.{system_calls};
+    ghost use Rattle.sector_disk.specs.Views.{system_calls};
 
     ghost calls = { system_calls };
 
@@ -112,7 +112,7 @@ pub(crate) fn fill<F: OpenFile>(file: &F, size: u64) -> io::Result<()> {
 }
 
 impl<F: SectorFile + Drop, S: Start> FileDisk<F, S> {
-    ghost use Rattle.sector_disk.specs.Told.{file_calls};
+    ghost use Rattle.sector_disk.specs.Views.{file_calls};
 
     /// A disk over an open file of so many bytes, to read and to write, of which no call is noted yet. It has the whole
     /// sectors among them. The start is used up, so that code over any `S` opens one disk for each that it is given.
@@ -134,7 +134,7 @@ impl<F: SectorFile + Drop, S: Start> FileDisk<F, S> {
 }
 
 impl<F: FileExt + OpenFile + Read + Write + Seek + Drop, S: Start> FileDisk<SystemFile<F>, S> {
-    ghost use Rattle.sector_disk.specs.Told.{file_calls, system_calls};
+    ghost use Rattle.sector_disk.specs.Views.{file_calls, system_calls};
 
     /// Opens the file at a path, to read and to write it. The disk has the whole sectors that the file now holds,
     /// which may be none. No call of the file is noted yet. The error is `Open`.
@@ -197,7 +197,7 @@ impl<F: FileExt + OpenFile + Read + Write + Seek + Drop, S: Start> FileDisk<Syst
 }
 
 impl<F: SectorFile + Drop, S: Start> Sectors for FileDisk<F, S> {
-    ghost use Rattle.sector_disk.specs.Told.{file_sectors, file_faults, file_calls, file_history, FileIsHonest, FileIsUsable};
+    ghost use Rattle.sector_disk.specs.Views.{file_sectors, file_faults, file_calls, file_history, FileIsHonest, FileIsUsable};
 
     ghost honest = { FileIsHonest F.calls S.found S.fate };
 

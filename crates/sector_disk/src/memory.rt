@@ -3,7 +3,7 @@ ghost use Rattle.std.specs.Prelude.{◌≡◌, ◌<◌, IfOk, IsOk, OnOk};
 ghost use Rattle.sector_disk.specs.Crash.{chosen};
 ghost use Rattle.sector_disk.specs.Disk.{all_zeros, seen, Writes, Syncs, CountsFault};
 ghost use Rattle.sector_disk.specs.Disk.History.{begun};
-ghost use Rattle.sector_disk.specs.Told.{memory_history, memory_sectors, memory_faults};
+ghost use Rattle.sector_disk.specs.Views.{memory_history, memory_sectors, memory_faults};
 
 use crate::faults::Faults;
 use crate::kept::Kept;

@@ -1,4 +1,4 @@
--- What the disks of this crate tell by the words of the trait.
+-- What the words of the trait say of the disks of this crate.
 use Rattle.std.specs.Prelude.{ℕ, List, [], ◌∷◌}
 use Rattle.sector_disk.specs.Calls.{Call, Fate, replayed, IsUsable, IsHonest}
 use Rattle.sector_disk.specs.Calls.Call.{gave, gave_none, took, refused, flushed, not_flushed}
