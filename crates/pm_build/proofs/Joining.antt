@@ -108,7 +108,7 @@ unfolding runs_of
 run_last runs tiles run none in_run =
     let e = nil_from_length tiles none in
     sym in_run.so_far ∙ ap (λ (x : List (ℕ × Vec ℕ Global)). runs_from (run_view run) (tile_views x)) e ∙ step_done (run_view run)
-        ∙ sym (ap (λ (x : List (ℕ × Vec ℕ Global)). run_view run ∷ runs_of (tile_views x)) e)
+    ∙ sym (ap (λ (x : List (ℕ × Vec ℕ Global)). run_view run ∷ runs_of (tile_views x)) e)
 
 -- ---- the loops over the runs
 

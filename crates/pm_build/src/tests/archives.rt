@@ -1,7 +1,7 @@
 //! Archives, byte for byte.
 
 use super::{even_tiles, tile};
-use crate::{are_tiles, build};
+use crate::{BuildFault, are_tiles, build};
 use pm_archive::is_metadata;
 use std::alloc::{AllocError, Global};
 use std::test::Fail;
@@ -28,12 +28,12 @@ const BEFORE_METADATA: [u8; 136] = [
     2, 0, 5, 2, 1, 0x15, 0x15, 1, 1, // root directory
 ];
 
-// The archive of these tiles.
-fn archive(alloc: Global, tiles: &[(u64, Vec<u8>)]) -> Result<Vec<u8>, Fail> {
+// What `build` gives for these tiles.
+fn archive(alloc: Global, tiles: &[(u64, Vec<u8>)]) -> Result<Result<Vec<u8>, BuildFault>, Fail> {
     if tiles.is_empty() || !are_tiles(tiles) || !is_metadata(alloc, METADATA)? {
         return Err(Fail::from("no tiles"));
     }
-    Ok(build(alloc, tiles, METADATA)?)
+    Ok(build(alloc, tiles, METADATA))
 }
 
 #[test]
@@ -44,7 +44,7 @@ fn joins_runs_and_contents(rt: HostRuntime) -> Result<(), Fail> {
         tile(alloc, 1, &CONTENT)?,
         tile(alloc, 5, &CONTENT)?,
     ];
-    let bytes = archive(alloc, &tiles)?;
+    let bytes = archive(alloc, &tiles)??;
     let mut expected = Vec::from_slice(alloc, &BEFORE_METADATA)?;
     expected.extend_from_slice(METADATA)?;
     expected.extend_from_slice(&CONTENT)?;
@@ -68,7 +68,7 @@ const SECTIONS: [u64; 8] = [127, 11, 138, 66, 204, 2056, 2260, 1];
 #[test]
 fn many_entries_stand_in_leaves(rt: HostRuntime) -> Result<(), Fail> {
     let alloc = rt.alloc();
-    let bytes = archive(alloc, &even_tiles(alloc, 513)?)?;
+    let bytes = archive(alloc, &even_tiles(alloc, 513)?)??;
     for (i, number) in SECTIONS.iter().enumerate() {
         let at = 8 + 8 * i;
         assert_eq!(rt;
@@ -86,5 +86,13 @@ fn many_entries_stand_in_leaves(rt: HostRuntime) -> Result<(), Fail> {
         bytes.get(2254..),
         Some([1, 0x80, 8, 1, 1, 1, 7].as_slice())
     );
+    Ok(())
+}
+
+#[test]
+fn refuses_more_entries(rt: HostRuntime) -> Result<(), Fail> {
+    let tiles = even_tiles(rt.alloc(), 131_073)?;
+    let refused = archive(rt.alloc(), &tiles)?;
+    assert_eq!(rt; refused.err(), Some(BuildFault::TooManyEntries));
     Ok(())
 }

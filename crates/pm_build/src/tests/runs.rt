@@ -3,18 +3,18 @@
 use super::{even_tiles, tile};
 use crate::placed::Placed;
 use crate::placing::place_runs;
-use crate::{BuildFault, are_tiles};
+use crate::runs::count_runs;
+use crate::{MAX_ENTRIES, are_tiles};
 use pm_directory::Entry;
 use std::alloc::Global;
 use std::test::Fail;
 
 /// What `place_runs` gives for what it takes.
-fn placed<'a>(alloc: Global, tiles: &'a [(u64, Vec<u8>)]) -> Result<Placed<'a>, BuildFault> {
-    if are_tiles(tiles) {
-        place_runs(alloc, tiles)
-    } else {
-        Err(BuildFault::Memory)
+fn placed<'a>(alloc: Global, tiles: &'a [(u64, Vec<u8>)]) -> Result<Placed<'a>, Fail> {
+    if !are_tiles(tiles) || count_runs(tiles) > MAX_ENTRIES {
+        return Err(Fail::from("no tiles, or too many runs"));
     }
+    Ok(place_runs(alloc, tiles)?)
 }
 
 /// The entries of the tiles 0, 1 and 5 of one content of 21 bytes.
@@ -92,16 +92,6 @@ fn takes_as_many_entries_as_there_may_be(rt: HostRuntime) -> Result<(), Fail> {
     let placed = placed(rt.alloc(), &tiles)?;
     assert_eq!(rt; placed.entries.len(), 131_072);
     assert_eq!(rt; placed.contents.len(), 1);
-    Ok(())
-}
-
-#[test]
-fn refuses_more_entries(rt: HostRuntime) -> Result<(), Fail> {
-    let tiles = even_tiles(rt.alloc(), 131_073)?;
-    assert_eq!(rt;
-        placed(rt.alloc(), &tiles).err(),
-        Some(BuildFault::TooManyEntries)
-    );
     Ok(())
 }
 

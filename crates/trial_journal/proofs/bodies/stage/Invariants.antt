@@ -2,7 +2,7 @@ use Rattle.std.proofs.Common.{◌≡◌, ◌<◌, ◌+◌, ℕ}
 use Rattle.sector_disk.specs.Disk.{seen}
 use Rattle.sector_disk.specs.Moments.{Within, LeavesOnly}
 use Rattle.trial_journal.specs.Records.{OldOrBody, record_sector}
-use Rattle.trial_journal.proofs.bodies.write_bodies.Given as goal
+use Rattle.trial_journal.proofs.bodies.stage.Given as goal
 
 abbrev pub invariant-loop-part : goal.invariant-loop-part
 invariant-loop-part g l = record {
