@@ -30,4 +30,5 @@ pub reported_of_header : (bytes : List ℕ) (d : HeaderFault)
     → (fault : HeaderFault) → (reported d ≡ reported fault) ↔ HeaderHas bytes fault
 reported_of_header bytes d short other version Short = (λ e. short.0 (let f : read d ≡ read Short = cc in f), λ h. let e = short.1 h in cc)
 reported_of_header bytes d short other version Magic = (λ e. other.0 (let f : read d ≡ read Magic = cc in f), λ h. let e = other.1 h in cc)
-reported_of_header bytes d short other version (Version n) = (λ e. (version n).0 (let f : read d ≡ read (Version n) = cc in f), λ h. let e = (version n).1 h in cc)
+reported_of_header bytes d short other version (Version n) =
+    (λ e. (version n).0 (let f : read d ≡ read (Version n) = cc in f), λ h. let e = (version n).1 h in cc)

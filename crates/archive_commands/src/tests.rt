@@ -60,7 +60,12 @@ fn verdicts(rt: HostRuntime) -> Result<(), Fail> {
             "ok: 3 tiles, 2 entries, 1 contents",
             0,
         ),
-        (&[(98, 2)], SOUND_BYTES, "ok: 3 tiles, 2 entries, 1 contents", 0),
+        (
+            &[(98, 2)],
+            SOUND_BYTES,
+            "ok: 3 tiles, 2 entries, 1 contents",
+            0,
+        ),
         (&[(72, 4)], SOUND_BYTES, "count: addressed", 1),
         (&[(222, 3)], SOUND_BYTES, "bad tile: 0", 1),
         (&[], 222, "section: tiles", 1),

@@ -9,7 +9,9 @@ use Rattle.pm_build.proofs.Entries.{are_placed, lengths_fit}
 use Rattle.pm_build.proofs.placing.place_runs.Goals as goal
 
 pub place_all-requires-clause-lengths : goal.place_all-requires-clause-lengths
-place_all-requires-clause-lengths c = lengths_fit (tile_views c.args.tiles.now) c.deref.result.now c.requires.tiles (are_longest _ c.deref.result.now _ c.deref.ensures.value c.in_ok-runs.ensures)
+place_all-requires-clause-lengths c =
+    lengths_fit (tile_views c.args.tiles.now) c.deref.result.now c.requires.tiles
+    (are_longest _ c.deref.result.now _ c.deref.ensures.value c.in_ok-runs.ensures)
 
 pub returns-clause-placed : goal.returns-clause-placed
 returns-clause-placed c =
