@@ -18,22 +18,23 @@ judged d = Err d
 pub same_fault : (c d : ArchiveFault) → judged c ≡ judged d → c ≡ d
 same_fault c d e = cc
 
--- a fault outside of the bytes that is no failed read is that memory ran out
+-- a fault outside of the bytes that is no failed read is out of memory
 pub memory_from_outside : (d : ArchiveFault) → IsOutside d → (d ≡ Read → ⊥) → d ≡ Memory
 memory_from_outside d h unread = elim h [ inl read ↦ absurd (unread read) | inr memory ↦ memory ]
 
 pub UnlessOutside-weaker : (P Q : ArchiveFault → Type 0) (d : ArchiveFault) → ((e : ArchiveFault) → P e → Q e) → UnlessOutside P d → UnlessOutside Q d
 UnlessOutside-weaker P Q d f h = λ inside. f d (h inside)
 
--- the opening of a sound archive fails only where memory runs out
-pub only_at_opening : (bytes : List ℕ) (d : ArchiveFault) → ((h : Header) (root : List Entry) → HasSections bytes h → IsDirectory (section_bytes h.root bytes) root → IsOutside d)
+-- the opening of a sound archive fails only out of memory
+pub only_at_opening : (bytes : List ℕ) (d : ArchiveFault)
+    → ((h : Header) (root : List Entry) → HasSections bytes h → IsDirectory (section_bytes h.root bytes) root → IsOutside d)
     → (d ≡ Read → ⊥) → (report : Report) → IsSound bytes report → d ≡ Memory
 only_at_opening bytes d only unread report sound =
     let root = sound.archive.entries in memory_from_outside d (only sound.header root.0 sound.archive.sections root.1) unread
 
-pub only_at_judging : (report : Report) (r : Result Report ArchiveFault) → (r ≡ Err Read → ⊥) → MatchResult r (λ told. told ≡ report) IsOutside
-    → MatchResult r (λ told. told ≡ report) (λ d. d ≡ Memory)
-only_at_judging report (Ok told) unread h = h
+pub only_at_judging : (report : Report) (r : Result Report ArchiveFault) → (r ≡ Err Read → ⊥) → MatchResult r (λ found. found ≡ report) IsOutside
+    → MatchResult r (λ found. found ≡ report) (λ d. d ≡ Memory)
+only_at_judging report (Ok found) unread h = h
 only_at_judging report (Err d) unread h = memory_from_outside d h (λ e. unread (ap Err e))
 
 pub fault_at_opening : (bytes : List ℕ) (d : ArchiveFault) → UnlessOutside (OpeningHas bytes) d → UnlessOutside (FirstFault bytes) d
@@ -41,6 +42,6 @@ fault_at_opening bytes d h = UnlessOutside-weaker (OpeningHas bytes) (FirstFault
 
 pub fault_at_judging : (bytes : List ℕ) (h : Header) (root : List Entry) → HasSections bytes h → IsDirectory (section_bytes h.root bytes) root
     → (r : Result Report ArchiveFault) → IfErr r (UnlessOutside (VerifyingHas bytes h root)) → IfErr r (UnlessOutside (FirstFault bytes))
-fault_at_judging bytes h root sections directory (Ok told) has = has
+fault_at_judging bytes h root sections directory (Ok found) has = has
 fault_at_judging bytes h root sections directory (Err d) has =
     UnlessOutside-weaker (VerifyingHas bytes h root) (FirstFault bytes) d (λ e v. of_archive h root sections directory v) has

@@ -16,18 +16,19 @@ Appends-both (Some o) None new xs ys h k = absurd h
 Appends-both (Some o) (Some m) None xs ys h k = absurd k
 Appends-both (Some o) (Some m) (Some n) xs ys h k = k ∙ (ap (λ s. s ++ ys) h ∙ append_assoc o xs ys)
 
--- the fault of the header is the one that is told
+-- the fault of the header is the one that is reported
 abbrev read : HeaderFault → Result Header HeaderFault
 read d = Err d
 
-abbrev told : HeaderFault → Result (Unit {0}) ShowFault
-told d = Err (faults.Header d)
+abbrev reported : HeaderFault → Result (Unit {0}) ShowFault
+reported d = Err (faults.Header d)
 
-pub told_of_header : (bytes : List ℕ) (d : HeaderFault)
+pub reported_of_header : (bytes : List ℕ) (d : HeaderFault)
     → ((read d ≡ read Short) ↔ (length bytes < 127))
     → ((read d ≡ read Magic) ↔ ((127 ≤ length bytes) × (take 7 bytes ≢ magic)))
     → ((n : ℕ) → (read d ≡ read (Version n)) ↔ ((127 ≤ length bytes) × (take 7 bytes ≡ magic) × (slice_index bytes 7 ≡ n) × (n ≢ 3)))
-    → (fault : HeaderFault) → (told d ≡ told fault) ↔ HeaderHas bytes fault
-told_of_header bytes d short other version Short = (λ e. short.0 (let f : read d ≡ read Short = cc in f), λ h. let e = short.1 h in cc)
-told_of_header bytes d short other version Magic = (λ e. other.0 (let f : read d ≡ read Magic = cc in f), λ h. let e = other.1 h in cc)
-told_of_header bytes d short other version (Version n) = (λ e. (version n).0 (let f : read d ≡ read (Version n) = cc in f), λ h. let e = (version n).1 h in cc)
+    → (fault : HeaderFault) → (reported d ≡ reported fault) ↔ HeaderHas bytes fault
+reported_of_header bytes d short other version Short = (λ e. short.0 (let f : read d ≡ read Short = cc in f), λ h. let e = short.1 h in cc)
+reported_of_header bytes d short other version Magic = (λ e. other.0 (let f : read d ≡ read Magic = cc in f), λ h. let e = other.1 h in cc)
+reported_of_header bytes d short other version (Version n) =
+    (λ e. (version n).0 (let f : read d ≡ read (Version n) = cc in f), λ h. let e = (version n).1 h in cc)

@@ -11,4 +11,5 @@ use Rattle.pm_archive.specs.Verified.{VerifyingHas}
 -- the first fault of the bytes: one of their opening, or one of the archive that they open as
 pub data FirstFault (bytes : List ℕ) (d : ArchiveFault) : Type 0 where
   of_opening : OpeningHas bytes d → FirstFault bytes d
-  of_archive : (h : Header) → (root : List Entry) → HasSections bytes h → IsDirectory (section_bytes h.root bytes) root → VerifyingHas bytes h root d → FirstFault bytes d
+  of_archive : (h : Header) → (root : List Entry) → HasSections bytes h → IsDirectory (section_bytes h.root bytes) root → VerifyingHas bytes h root d
+      → FirstFault bytes d

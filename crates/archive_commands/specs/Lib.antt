@@ -1,4 +1,4 @@
 pub mod Faults
 pub mod Put
 pub mod Shown
-pub mod Told
+pub mod Verdicts

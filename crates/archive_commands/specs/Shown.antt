@@ -1,4 +1,4 @@
--- What is told of an archive's header and metadata.
+-- What is shown of an archive's header and metadata.
 use Rattle.std.specs.Prelude.{◌≡◌, ◌≢◌, ℕ, ◌<◌, ◌≤◌, List, ◌++◌, length, take, slice_index, codes, decimal, IsUtf8}
 use Rattle.pm_header.specs.declared.header.Header.{Header}
 use Rattle.pm_header.specs.declared.fault.HeaderFault.{HeaderFault}
@@ -46,7 +46,7 @@ text_line text = codes "metadata: " ++ (text ++ codes "\n")
 unfoldable pub unreadable_line : List ℕ
 unreadable_line = codes "metadata: unreadable\n"
 
--- the line for what is to be told of them
+-- the line for what is to be shown of them
 abbrev pub metadata_line : Metadata → List ℕ
 metadata_line (Compressed n) = compressed_line n
 metadata_line (Text text) = text_line text.now

@@ -14,7 +14,7 @@ pub(crate) enum Piece<'a> {
     Number(u64),
 }
 
-/// Writes a first part of the bytes, of which there are some, and tells what is left of them: all where the write was
+/// Writes a first part of the bytes, of which there are some, and returns what is left of them: all where the write was
 /// interrupted.
 fn put_some<'a, W: Write>(out: &mut W, bytes: &'a [u8]) -> io::Result<&'a [u8]>
     requires { 0 < length bytes.now }
@@ -43,10 +43,8 @@ fn put<W: Write>(out: &mut W, bytes: &[u8]) -> io::Result<()>
         if rest.len() == 0 {
             return Ok(());
         }
-        match put_some(out, rest) {
-            Ok(left) => rest = left,
-            Err(error) => return Err(error),
-        }
+        let left = put_some(out, rest)?;
+        rest = left;
     }
     if rest.len() == 0 {
         Ok(())

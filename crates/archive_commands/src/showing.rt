@@ -36,7 +36,8 @@ impl std::error::Error for ShowFault {}
 
 /// The bytes of a section, if it lies inside the file.
 fn section(archive: &[u8], part: Part) -> Option<&[u8]>
-    ensures { MatchOption result (length archive.now < end_of part) (λ bytes. (end_of part ≤ length archive.now) × (bytes.now ≡ section_bytes part archive.now)) }
+    ensures { MatchOption result (length archive.now < end_of part)
+        (λ bytes. (end_of part ≤ length archive.now) × (bytes.now ≡ section_bytes part archive.now)) }
 {
     let end = part.offset.checked_add(part.length)?;
     if end > archive.len() as u64 {
@@ -47,7 +48,8 @@ fn section(archive: &[u8], part: Part) -> Option<&[u8]>
 
 /// The metadata, if they are a text inside the file.
 fn metadata_text<'a>(archive: &'a [u8], header: &Header) -> Option<&'a str>
-    ensures { MatchOption result (¬ HasText archive.now header.now) (λ text. HasText archive.now header.now × (text.now ≡ section_bytes header.now.metadata archive.now)) }
+    ensures { MatchOption result (¬ HasText archive.now header.now)
+        (λ text. HasText archive.now header.now × (text.now ≡ section_bytes header.now.metadata archive.now)) }
 {
     let bytes = section(archive, header.metadata)?;
     str::from_utf8(bytes).ok()
@@ -82,7 +84,7 @@ fn write_header<W: Write>(header: &Header, out: &mut W) -> io::Result<()>
     put_pieces(out, &pieces)
 }
 
-/// What is told of the metadata.
+/// What is shown of the metadata.
 #[derive(Clone, Copy)]
 enum Metadata<'a> {
     /// They are compressed, by this number of the header.
@@ -92,7 +94,7 @@ enum Metadata<'a> {
     Unreadable,
 }
 
-/// What is to be told of the metadata.
+/// What is to be shown of the metadata.
 fn metadata_of<'a>(archive: &'a [u8], header: &Header) -> Metadata<'a>
     ensures { IsMetadataLine archive.now header.now (metadata_line result) }
 {

@@ -5,8 +5,11 @@ use std::alloc::Global;
 use std::io::{self, ErrorKind, Write};
 use std::test::Fail;
 
+/// How many bytes the sound archive has.
+const SOUND_BYTES: usize = 223;
+
 /// An archive of three tiles with one content, which is a vector tile with one point.
-const SOUND: [u8; 223] = *b"PMTiles\x03\
+const SOUND: [u8; SOUND_BYTES] = *b"PMTiles\x03\
     \x7f\0\0\0\0\0\0\0\x09\0\0\0\0\0\0\0\x88\0\0\0\0\0\0\0\x42\0\0\0\0\0\0\0\
     \xca\0\0\0\0\0\0\0\0\0\0\0\0\0\0\0\xca\0\0\0\0\0\0\0\x15\0\0\0\0\0\0\0\
     \x03\0\0\0\0\0\0\0\x02\0\0\0\0\0\0\0\x01\0\0\0\0\0\0\0\
@@ -30,18 +33,18 @@ const LINES: &str =
     "version: 3\ntile type: 1\ntile compression: 1\ninternal compression: 1\nclustered: 1\nzooms: 0 to 2\naddressed tiles: 3\ntile entries: 2\ntile contents: 1\n";
 
 /// The sound archive with some bytes changed.
-fn changed(changes: &[(usize, u8)]) -> [u8; 223] {
+fn changed(changes: &[(usize, u8)]) -> [u8; SOUND_BYTES] {
     let mut archive = SOUND;
     for (at, byte) in changes {
-        if let Some(place) = archive.get_mut(*at) {
-            *place = *byte;
+        if let Some(old) = archive.get_mut(*at) {
+            *old = *byte;
         }
     }
     archive
 }
 
-/// What is told of an archive: a line, and the exit status.
-fn told(alloc: Global, archive: &[u8]) -> Result<(String, u8), Fail> {
+/// What is printed of an archive: a line, and the exit status.
+fn printed(alloc: Global, archive: &[u8]) -> Result<(String, u8), Fail> {
     let verdict = Verdict::of(verify(alloc, archive));
     Ok((verdict.to_string(alloc)?, verdict.status()))
 }
@@ -50,31 +53,36 @@ fn told(alloc: Global, archive: &[u8]) -> Result<(String, u8), Fail> {
 fn verdicts(rt: HostRuntime) -> Result<(), Fail> {
     let alloc = rt.alloc();
     let cases: [(&[(usize, u8)], usize, &str, u8); 11] = [
-        (&[], 223, "ok: 3 tiles, 2 entries, 1 contents", 0),
+        (&[], SOUND_BYTES, "ok: 3 tiles, 2 entries, 1 contents", 0),
         (
             &[(72, 0), (80, 0), (88, 0)],
-            223,
+            SOUND_BYTES,
             "ok: 3 tiles, 2 entries, 1 contents",
             0,
         ),
-        (&[(98, 2)], 223, "ok: 3 tiles, 2 entries, 1 contents", 0),
-        (&[(72, 4)], 223, "count: addressed", 1),
-        (&[(222, 3)], 223, "bad tile: 0", 1),
+        (
+            &[(98, 2)],
+            SOUND_BYTES,
+            "ok: 3 tiles, 2 entries, 1 contents",
+            0,
+        ),
+        (&[(72, 4)], SOUND_BYTES, "count: addressed", 1),
+        (&[(222, 3)], SOUND_BYTES, "bad tile: 0", 1),
         (&[], 222, "section: tiles", 1),
         (&[], 126, "short header", 1),
-        (&[(97, 2)], 223, "compressed directories: 2", 1),
-        (&[(0, 0)], 223, "bad magic", 1),
-        (&[(7, 2)], 223, "version: 2", 1),
-        (&[(136, 0)], 223, "bad metadata", 1),
+        (&[(97, 2)], SOUND_BYTES, "compressed directories: 2", 1),
+        (&[(0, 0)], SOUND_BYTES, "bad magic", 1),
+        (&[(7, 2)], SOUND_BYTES, "version: 2", 1),
+        (&[(136, 0)], SOUND_BYTES, "bad metadata", 1),
     ];
     for (changes, length, line, code) in cases {
         let archive = changed(changes);
         let archive = archive.get(..length).ok_or("a length")?;
-        let (said, status) = told(alloc, archive)?;
+        let (said, status) = printed(alloc, archive)?;
         assert_eq!(rt; said.as_str(), line);
         assert_eq!(rt; status, code);
     }
-    let (said, _) = told(alloc, &LEAF_IN_ITSELF)?;
+    let (said, _) = printed(alloc, &LEAF_IN_ITSELF)?;
     assert_eq!(rt; said.as_str(), "leaf depth");
     Ok(())
 }
@@ -123,9 +131,9 @@ fn archives_that_are_not_shown(rt: HostRuntime) -> Result<(), Fail> {
         assert_eq!(rt; said.as_str(), name);
     }
     assert_eq!(rt; out.len(), 0);
-    // a writer that has no place for the last line feed
-    let mut place = [0; 223];
-    let mut writer = place.as_mut_slice();
+    // a writer that has no room for the last line feed
+    let mut room = [0; SOUND_BYTES];
+    let mut writer = room.as_mut_slice();
     let fault = show(&SOUND, &mut writer).err().ok_or("a fault")?;
     let said = fault.to_string(alloc)?;
     assert_eq!(rt; said.as_str(), "Write");
@@ -244,7 +252,7 @@ fn even(alloc: Global, count: u32) -> Result<Vec<u64>, Fail> {
 fn as_many_entries_as_there_may_be(rt: HostRuntime) -> Result<(), Fail> {
     let alloc = rt.alloc();
     let archive = built(alloc, &even(alloc, 131_072)?)??;
-    let (said, _) = told(alloc, &archive)?;
+    let (said, _) = printed(alloc, &archive)?;
     assert_eq!(rt;
         said.as_str(),
         "ok: 131072 tiles, 131072 entries, 1 contents"

@@ -1,19 +1,19 @@
-//! What is told of an archive that was judged.
+//! The verdict on an archive.
 
 ghost use Rattle.std.specs.Prelude.{◌≡◌};
-ghost use Rattle.archive_commands.specs.Told.{status_of, verdict_of};
+ghost use Rattle.archive_commands.specs.Verdicts.{status_of, verdict_of};
 
 use pm_archive::{ArchiveFault, Report};
 use std::fmt;
 
-/// What is told of an archive that was judged.
+/// What is printed of an archive that was judged.
 #[derive(Clone, Copy, Debug, PartialEq, Eq)]
 pub enum Verdict {
     /// It is sound.
     Sound(Report),
     /// It has a fault.
     Faulty(ArchiveFault),
-    /// It couldn't be judged: memory ran out, or it couldn't be read.
+    /// It couldn't be judged: out of memory, or it couldn't be read.
     Unjudged(ArchiveFault),
 }
 
@@ -29,7 +29,7 @@ impl Verdict {
         }
     }
 
-    /// The exit status of a program that tells it: 0 where the archive is sound, else 1.
+    /// The exit status of a program that prints it: 0 where the archive is sound, else 1.
     pub fn status(self) -> u8
         ensures { result ≡ status_of self }
     {

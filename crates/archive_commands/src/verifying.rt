@@ -15,10 +15,10 @@ use std::alloc::Global;
 ///
 /// # Errors
 ///
-/// The first fault of the bytes, or `Memory`: that only where the bytes have sections.
+/// The first fault of the bytes. `Memory` where an allocation fails, and only of bytes that have sections.
 pub fn verify(alloc: Global, archive: &[u8]) -> Result<Report, ArchiveFault>
     ensures found { IfOk result (IsSound archive.now) }
-    ensures only { (report : Report) → IsSound archive.now report → MatchResult result (λ told. told ≡ report) (λ fault. fault ≡ ArchiveFault.Memory) }
+    ensures only { (report : Report) → IsSound archive.now report → MatchResult result (λ found. found ≡ report) (λ fault. fault ≡ ArchiveFault.Memory) }
     ensures fault { IfErr result (UnlessOutside (FirstFault archive.now)) }
     ensures read { result ≢ Err ArchiveFault.Read }
     ensures memory { result ≡ Err ArchiveFault.Memory → (h : Header) × HasSections archive.now h }

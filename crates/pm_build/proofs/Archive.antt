@@ -10,14 +10,14 @@ use Rattle.pm_header.specs.Layout.{IsHeader}
 use Rattle.pm_directory.specs.declared.entry.Entry.{Entry}
 use Rattle.pm_archive.specs.Sections.{section_bytes, HasSections}
 use Rattle.pm_archive.specs.Archive.{IsMetadata, HasCounts, IsArchive, IsArchiveOf}
-use Rattle.pm_runs.specs.Tiles.{Tile}
-use Rattle.pm_runs.specs.Placed.{ArePlaced}
+use Rattle.pm_build.specs.Tiles.{Tile}
+use Rattle.pm_build.specs.Placed.{ArePlaced}
 use Rattle.pm_build.specs.declared.header.Counts.{Counts}
 use Rattle.pm_build.specs.declared.header.Lengths.{Lengths}
 use Rattle.pm_build.specs.Built.{tile_content}
 use Rattle.pm_build.specs.Leaves.{AreDirectories}
 use Rattle.pm_build.specs.Laid.{AreJoined, AreZooms, BeginFor, SaysTiles, header_for, lengths_of}
-use Rattle.pm_build.proofs.Contents.{have_tiles, lie_in, addressed_all, content_named}
+use Rattle.pm_build.proofs.Tiles.{have_tiles, lie_in, addressed_all, content_named}
 use Rattle.pm_build.proofs.Headers.{header_there}
 use Rattle.pm_build.proofs.Listed.{has_entries}
 use Rattle.pm_build.proofs.Pieces.{part_middle}
@@ -37,7 +37,8 @@ record IsLaid (h : Header) (root : List ℕ) (metadata : List ℕ) (leaves : Lis
   entries_is : h.entries ≡ n.entries
   contents_is : h.contents ≡ n.contents
 
-laid : (root metadata leaves contents : List ℕ) (n : Counts) (low high : ℕ) → IsLaid (header_for (lengths_of root metadata leaves contents) n low high) root metadata leaves contents n
+laid : (root metadata leaves contents : List ℕ) (n : Counts) (low high : ℕ)
+    → IsLaid (header_for (lengths_of root metadata leaves contents) n low high) root metadata leaves contents n
 unfolding header_for
 laid root metadata leaves contents n low high = record {
   root_at = refl;
@@ -66,7 +67,8 @@ record HasParts (bytes : List ℕ) (h : Header) (root : List ℕ) (metadata : Li
   leaves_there : section_bytes h.leaves bytes ≡ leaves
   tiles_there : section_bytes h.tiles bytes ≡ contents
 
-parts_there : (bytes root metadata leaves contents : List ℕ) (h : Header) (n : Counts) → IsLaid h root metadata leaves contents n → AreJoined bytes h root metadata leaves contents → HasParts bytes h root metadata leaves contents
+parts_there : (bytes root metadata leaves contents : List ℕ) (h : Header) (n : Counts) → IsLaid h root metadata leaves contents n
+    → AreJoined bytes h root metadata leaves contents → HasParts bytes h root metadata leaves contents
 parts_there bytes root metadata leaves contents h n is (front, header, whole, parts) =
     let behind = root ++ (metadata ++ (leaves ++ contents)) in
     let second = front ++ root in
@@ -83,13 +85,20 @@ parts_there bytes root metadata leaves contents h n is (front, header, whole, pa
     record {
       size = ap (λ (bs : List ℕ). length bs) at_fourth ∙ omega arith;
       header_there = subst (λ (bs : List ℕ). IsHeader bs h) (sym parts) (header_there front behind whole h header);
-      root_there = ap (λ (bs : List ℕ). section_bytes h.root bs) parts ∙ section_at h.root front root (metadata ++ (leaves ++ contents)) (is.root_at ∙ sym whole) is.root_is;
-      metadata_there = ap (λ (bs : List ℕ). section_bytes h.metadata bs) at_second ∙ section_at h.metadata second metadata (leaves ++ contents) (is.metadata_at ∙ omega arith) is.metadata_is;
-      leaves_there = ap (λ (bs : List ℕ). section_bytes h.leaves bs) at_third ∙ section_at h.leaves third leaves contents (is.leaves_at ∙ omega arith) is.leaves_is;
-      tiles_there = ap (λ (bs : List ℕ). section_bytes h.tiles bs) (at_fourth ∙ to_end) ∙ section_at h.tiles fourth contents [] (is.tiles_at ∙ omega arith) is.tiles_is;
+      root_there =
+          ap (λ (bs : List ℕ). section_bytes h.root bs) parts
+          ∙ section_at h.root front root (metadata ++ (leaves ++ contents)) (is.root_at ∙ sym whole) is.root_is;
+      metadata_there =
+          ap (λ (bs : List ℕ). section_bytes h.metadata bs) at_second
+          ∙ section_at h.metadata second metadata (leaves ++ contents) (is.metadata_at ∙ omega arith) is.metadata_is;
+      leaves_there =
+          ap (λ (bs : List ℕ). section_bytes h.leaves bs) at_third ∙ section_at h.leaves third leaves contents (is.leaves_at ∙ omega arith) is.leaves_is;
+      tiles_there =
+          ap (λ (bs : List ℕ). section_bytes h.tiles bs) (at_fourth ∙ to_end) ∙ section_at h.tiles fourth contents [] (is.tiles_at ∙ omega arith) is.tiles_is;
     }
 
-sections_there : (bytes root metadata leaves contents : List ℕ) (h : Header) (n : Counts) → IsLaid h root metadata leaves contents n → HasParts bytes h root metadata leaves contents → length root ≤ 14850 → HasSections bytes h
+sections_there : (bytes root metadata leaves contents : List ℕ) (h : Header) (n : Counts) → IsLaid h root metadata leaves contents n
+    → HasParts bytes h root metadata leaves contents → length root ≤ 14850 → HasSections bytes h
 sections_there bytes root metadata leaves contents h n is has low =
     let size = has.size in
     let root_at = is.root_at in let root_is = is.root_is in
@@ -111,58 +120,86 @@ sections_there bytes root metadata leaves contents h n is has low =
 abbrev pub counts_of : List Tile → List Entry → List (List ℕ) → Counts
 counts_of tiles es cs = record { addressed = length tiles; entries = length es; contents = length cs }
 
-counts_there : (h : Header) (tiles : List Tile) (es : List Entry) (cs : List (List ℕ)) (root metadata leaves : List ℕ) → IsLaid h root metadata leaves (concat cs) (counts_of tiles es cs) → ArePlaced tiles es cs → HasCounts h es
+counts_there : (h : Header) (tiles : List Tile) (es : List Entry) (cs : List (List ℕ)) (root metadata leaves : List ℕ)
+    → IsLaid h root metadata leaves (concat cs) (counts_of tiles es cs) → ArePlaced tiles es cs → HasCounts h es
 counts_there h tiles es cs root metadata leaves is placed =
     let all = addressed_all (concat cs) placed.runs es placed.named in
     let together = ap (λ (ts : List Tile). length ts) placed.longest.together in
     record {
       addressed = inr (is.addressed_is ∙ sym together ∙ all);
       entries = inr is.entries_is;
-      contents = inr (is.contents_is ∙ sym placed.places);
+      contents = inr (is.contents_is ∙ sym placed.counted);
     }
 
-is_laid_archive : (bytes root metadata leaves : List ℕ) (tiles : List Tile) (es : List Entry) (cs : List (List ℕ)) (h : Header) → IsLaid h root metadata leaves (concat cs) (counts_of tiles es cs) → AreJoined bytes h root metadata leaves (concat cs)
+is_laid_archive : (bytes root metadata leaves : List ℕ) (tiles : List Tile) (es : List Entry) (cs : List (List ℕ)) (h : Header)
+    → IsLaid h root metadata leaves (concat cs) (counts_of tiles es cs) → AreJoined bytes h root metadata leaves (concat cs)
     → ArePlaced tiles es cs → AreDirectories root leaves es → length root ≤ 14850 → IsMetadata metadata → IsArchiveOf bytes (tile_content tiles)
 is_laid_archive bytes root metadata leaves tiles es cs h is joined placed directories low meta =
     let has = parts_there bytes root metadata leaves (concat cs) h (counts_of tiles es cs) is joined in
     let some = have_tiles (concat cs) placed.runs es placed.named placed.longest.each in
     let archive : IsArchive bytes h es = record {
       sections = sections_there bytes root metadata leaves (concat cs) h (counts_of tiles es cs) is has low;
-      entries = has_entries bytes root leaves h es has.root_there has.leaves_there is.leaves_is directories placed.ascending placed.each some (lie_in (concat cs) h placed.runs es is.tiles_is placed.named);
+      entries = has_entries bytes root leaves h es has.root_there has.leaves_there is.leaves_is directories placed.ascending placed.each some
+          (lie_in (concat cs) h placed.runs es is.tiles_is placed.named);
       counts = counts_there h tiles es cs root metadata leaves is placed;
       metadata = subst (λ (bs : List ℕ). IsMetadata bs) (sym has.metadata_there) meta;
-    } in
-    (h, es, archive, λ id. ap (λ (ts : List Tile). tile_content ts id) (sym placed.longest.together) ∙ content_named bytes (concat cs) h placed.runs es id has.tiles_there is.tiles_is placed.named)
+    } in (
+      h,
+      es,
+      archive,
+      λ id. ap (λ (ts : List Tile). tile_content ts id) (sym placed.longest.together)
+          ∙ content_named bytes (concat cs) h placed.runs es id has.tiles_there is.tiles_is placed.named,
+    )
 
-is_archive : (bytes root metadata leaves : List ℕ) (tiles : List Tile) (es : List Entry) (cs : List (List ℕ)) (h : Header) (low high : ℕ) → h ≡ header_for (lengths_of root metadata leaves (concat cs)) (counts_of tiles es cs) low high → AreJoined bytes h root metadata leaves (concat cs)
+is_archive : (bytes root metadata leaves : List ℕ) (tiles : List Tile) (es : List Entry) (cs : List (List ℕ)) (h : Header) (low high : ℕ)
+    → h ≡ header_for (lengths_of root metadata leaves (concat cs)) (counts_of tiles es cs) low high → AreJoined bytes h root metadata leaves (concat cs)
     → ArePlaced tiles es cs → AreDirectories root leaves es → length root ≤ 14850 → IsMetadata metadata → IsArchiveOf bytes (tile_content tiles)
 is_archive bytes root metadata leaves tiles es cs h low high e joined placed directories early meta =
-    let is : IsLaid h root metadata leaves (concat cs) (counts_of tiles es cs) = subst (λ (g : Header). IsLaid g root metadata leaves (concat cs) (counts_of tiles es cs)) (sym e) (laid root metadata leaves (concat cs) (counts_of tiles es cs) low high) in
+    let is : IsLaid h root metadata leaves (concat cs) (counts_of tiles es cs) =
+    subst (λ (g : Header). IsLaid g root metadata leaves (concat cs) (counts_of tiles es cs)) (sym e)
+    (laid root metadata leaves (concat cs) (counts_of tiles es cs) low high) in
     is_laid_archive bytes root metadata leaves tiles es cs h is joined placed directories early meta
 
-pub archive_joined : {E : Type 0} (r : Result (Vec ℕ Global) E) (root metadata leaves : List ℕ) (tiles : List Tile) (es : List Entry) (cs : List (List ℕ)) (h : Header) (low high : ℕ) → h ≡ header_for (lengths_of root metadata leaves (concat cs)) (counts_of tiles es cs) low high
-    → ArePlaced tiles es cs → AreDirectories root leaves es → length root ≤ 14850 → IsMetadata metadata → IfOk r (λ v. AreJoined v.items h root metadata leaves (concat cs)) → IfOk r (λ v. IsArchiveOf v.items (tile_content tiles))
+pub archive_joined : {E : Type 0} (r : Result (Vec ℕ Global) E) (root metadata leaves : List ℕ) (tiles : List Tile) (es : List Entry) (cs : List (List ℕ))
+    (h : Header) (low high : ℕ) → h ≡ header_for (lengths_of root metadata leaves (concat cs)) (counts_of tiles es cs) low high
+    → ArePlaced tiles es cs → AreDirectories root leaves es → length root ≤ 14850 → IsMetadata metadata
+    → IfOk r (λ v. AreJoined v.items h root metadata leaves (concat cs)) → IfOk r (λ v. IsArchiveOf v.items (tile_content tiles))
 archive_joined r root metadata leaves tiles es cs h low high e placed directories early meta =
-    IfOk-weaker r (λ v. AreJoined v.items h root metadata leaves (concat cs)) (λ v. IsArchiveOf v.items (tile_content tiles)) (λ v joined. is_archive v.items root metadata leaves tiles es cs h low high e joined placed directories early meta)
+    IfOk-weaker r (λ v. AreJoined v.items h root metadata leaves (concat cs)) (λ v. IsArchiveOf v.items (tile_content tiles))
+    (λ v joined. is_archive v.items root metadata leaves tiles es cs h low high e joined placed directories early meta)
 
-joined_size : (bytes root metadata leaves contents : List ℕ) (h : Header) (n : ℕ) → length root + length leaves ≤ n → AreJoined bytes h root metadata leaves contents → length bytes ≤ 127 + length metadata + n + length contents
+joined_size : (bytes root metadata leaves contents : List ℕ) (h : Header) (n : ℕ) → length root + length leaves ≤ n
+    → AreJoined bytes h root metadata leaves contents → length bytes ≤ 127 + length metadata + n + length contents
 joined_size bytes root metadata leaves contents h n size (front, header, whole, parts) =
-    omega (arith, ap (λ (bs : List ℕ). length bs) parts, length-append front (root ++ (metadata ++ (leaves ++ contents))), length-append root (metadata ++ (leaves ++ contents)), length-append metadata (leaves ++ contents), length-append leaves contents)
+    omega (
+      arith,
+      ap (λ (bs : List ℕ). length bs) parts,
+      length-append front (root ++ (metadata ++ (leaves ++ contents))),
+      length-append root (metadata ++ (leaves ++ contents)),
+      length-append metadata (leaves ++ contents),
+      length-append leaves contents,
+    )
 
-pub size_joined : {E : Type 0} (r : Result (Vec ℕ Global) E) (root metadata leaves contents : List ℕ) (h : Header) (n : ℕ) → length root + length leaves ≤ n → IfOk r (λ v. AreJoined v.items h root metadata leaves contents) → IfOk r (λ v. length v.items ≤ 127 + length metadata + n + length contents)
+pub size_joined : {E : Type 0} (r : Result (Vec ℕ Global) E) (root metadata leaves contents : List ℕ) (h : Header) (n : ℕ) → length root + length leaves ≤ n
+    → IfOk r (λ v. AreJoined v.items h root metadata leaves contents) → IfOk r (λ v. length v.items ≤ 127 + length metadata + n + length contents)
 size_joined r root metadata leaves contents h n size =
-    IfOk-weaker r (λ v. AreJoined v.items h root metadata leaves contents) (λ v. length v.items ≤ 127 + length metadata + n + length contents) (λ v joined. joined_size v.items root metadata leaves contents h n size joined)
+    IfOk-weaker r (λ v. AreJoined v.items h root metadata leaves contents) (λ v. length v.items ≤ 127 + length metadata + n + length contents)
+    (λ v joined. joined_size v.items root metadata leaves contents h n size joined)
 
 says_tiles : (l : Lengths) (n : Counts) (low high : ℕ) (tiles : List Tile) → AreZooms tiles low high → SaysTiles tiles (header_for l n low high)
 unfolding header_for
 says_tiles l n low high tiles zooms = record { clustered = refl; plain_directories = refl; plain_tiles = refl; vector_tiles = refl; zooms = zooms }
 
-begin_for : (bytes root metadata leaves contents : List ℕ) (h : Header) (tiles : List Tile) → SaysTiles tiles h → AreJoined bytes h root metadata leaves contents → BeginFor bytes tiles
+begin_for : (bytes root metadata leaves contents : List ℕ) (h : Header) (tiles : List Tile) → SaysTiles tiles h
+    → AreJoined bytes h root metadata leaves contents → BeginFor bytes tiles
 begin_for bytes root metadata leaves contents h tiles says (front, header, whole, parts) =
     (h, subst (λ (bs : List ℕ). IsHeader bs h) (sym parts) (header_there front (root ++ (metadata ++ (leaves ++ contents))) whole h header), says)
 
-pub header_joined : {E : Type 0} (r : Result (Vec ℕ Global) E) (root metadata leaves contents : List ℕ) (tiles : List Tile) (n : Counts) (h : Header) (low high : ℕ) → h ≡ header_for (lengths_of root metadata leaves contents) n low high → AreZooms tiles low high
+pub header_joined : {E : Type 0} (r : Result (Vec ℕ Global) E) (root metadata leaves contents : List ℕ) (tiles : List Tile) (n : Counts) (h : Header)
+    (low high : ℕ) → h ≡ header_for (lengths_of root metadata leaves contents) n low high → AreZooms tiles low high
     → IfOk r (λ v. AreJoined v.items h root metadata leaves contents) → IfOk r (λ v. BeginFor v.items tiles)
 header_joined r root metadata leaves contents tiles n h low high e zooms =
-    let says : SaysTiles tiles h = subst (λ (g : Header). SaysTiles tiles g) (sym e) (says_tiles (lengths_of root metadata leaves contents) n low high tiles zooms) in
-    IfOk-weaker r (λ v. AreJoined v.items h root metadata leaves contents) (λ v. BeginFor v.items tiles) (λ v joined. begin_for v.items root metadata leaves contents h tiles says joined)
+    let says : SaysTiles tiles h = subst (λ (g : Header). SaysTiles tiles g) (sym e)
+    (says_tiles (lengths_of root metadata leaves contents) n low high tiles zooms) in
+    IfOk-weaker r (λ v. AreJoined v.items h root metadata leaves contents) (λ v. BeginFor v.items tiles)
+    (λ v joined. begin_for v.items root metadata leaves contents h tiles says joined)

@@ -12,24 +12,26 @@ same_part : (p q : Part) → p.offset ≡ q.offset → p.length ≡ q.length →
 same_part p q e_offset e_length = λ i. record { offset = e_offset i; length = e_length i }
 
 module _ (front rest : List ℕ) (whole : length front ≡ 127) where
-  number_there : (place : ℕ) → place + 8 ≤ 127 → number_at place front ≡ number_at place (front ++ rest)
-  number_there place le = ap (λ (bs : List ℕ). from_le_bytes w64 bs) (sym (part_front front rest place (place + 8) (omega (arith, whole))))
+  number_there : (start : ℕ) → start + 8 ≤ 127 → number_at start front ≡ number_at start (front ++ rest)
+  number_there start le = ap (λ (bs : List ℕ). from_le_bytes w64 bs) (sym (part_front front rest start (start + 8) (omega (arith, whole))))
 
-  position_there : (place : ℕ) → place + 4 ≤ 127 → position_at place front ≡ position_at place (front ++ rest)
-  position_there place le = ap (λ (bs : List ℕ). cast_signed w32 (from_le_bytes w32 bs)) (sym (part_front front rest place (place + 4) (omega (arith, whole))))
+  position_there : (start : ℕ) → start + 4 ≤ 127 → position_at start front ≡ position_at start (front ++ rest)
+  position_there start le = ap (λ (bs : List ℕ). cast_signed w32 (from_le_bytes w32 bs)) (sym (part_front front rest start (start + 4) (omega (arith, whole))))
 
-  byte_there : (place : ℕ) → place < 127 → get_or front place 0 ≡ get_or (front ++ rest) place 0
-  byte_there place lt = sym (get_or_append_left front rest 0 place (omega (arith, whole)))
+  byte_there : (start : ℕ) → start < 127 → get_or front start 0 ≡ get_or (front ++ rest) start 0
+  byte_there start lt = sym (get_or_append_left front rest 0 start (omega (arith, whole)))
 
-  part_there : (place : ℕ) → place + 16 ≤ 127 → part_at place front ≡ part_at place (front ++ rest)
-  part_there place le = same_part (part_at place front) (part_at place (front ++ rest)) (number_there place (omega arith)) (number_there (place + 8) (omega arith))
+  part_there : (start : ℕ) → start + 16 ≤ 127 → part_at start front ≡ part_at start (front ++ rest)
+  part_there start le =
+      same_part (part_at start front) (part_at start (front ++ rest)) (number_there start (omega arith)) (number_there (start + 8) (omega arith))
 
   fields_there : header_at front ≡ header_at (front ++ rest)
   unfolding header_at
   fields_there = same_header (header_at front) (header_at (front ++ rest))
       (part_there 8 (lit≤ tt)) (part_there 24 (lit≤ tt)) (part_there 40 (lit≤ tt)) (part_there 56 (lit≤ tt))
       (number_there 72 (lit≤ tt)) (number_there 80 (lit≤ tt)) (number_there 88 (lit≤ tt))
-      (byte_there 96 (lit< tt)) (byte_there 97 (lit< tt)) (byte_there 98 (lit< tt)) (byte_there 99 (lit< tt)) (byte_there 100 (lit< tt)) (byte_there 101 (lit< tt))
+      (byte_there 96 (lit< tt)) (byte_there 97 (lit< tt)) (byte_there 98 (lit< tt)) (byte_there 99 (lit< tt)) (byte_there 100 (lit< tt))
+      (byte_there 101 (lit< tt))
       (position_there 102 (lit≤ tt)) (position_there 106 (lit≤ tt)) (position_there 110 (lit≤ tt)) (position_there 114 (lit≤ tt))
       (byte_there 118 (lit< tt)) (position_there 119 (lit≤ tt)) (position_there 123 (lit≤ tt))
 

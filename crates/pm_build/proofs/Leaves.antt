@@ -1,5 +1,6 @@
 -- Leaf directories that are put one behind the other.
-use Rattle.std.proofs.Common.{◌≡◌, ℕ, zero, suc, ◌+◌, ◌*◌, ◌^◌, ◌<◌, ◌≤◌, List, [], ◌∷◌, ◌++◌, length, take, drop, get_or, slice_range, refl, sym, ap, subst, ◌∙◌, append_assoc, arith}
+use Rattle.std.proofs.Common.{◌≡◌, ℕ, zero, suc, ◌+◌, ◌*◌, ◌^◌, ◌<◌, ◌≤◌, List, [], ◌∷◌, ◌++◌, length, take, drop, get_or, slice_range, refl, sym, ap, subst}
+use Rattle.std.proofs.Common.{◌∙◌, append_assoc, arith}
 use Rattle.std.specs.List.{AllByRecursion}
 use Rattle.std.proofs.lemmas.List.{length-append, append-nil}
 use Rattle.pm_directory.specs.declared.entry.Entry.{Entry}
@@ -45,7 +46,8 @@ names_ascend from bytes [] es named h = tt
 names_ascend from bytes (n ∷ ns) es (front, rest, parts, leaf, named) h =
     split front leaf.first (subst (λ (xs : List Entry). AscendFrom from xs) parts h) (names_ascend (ids_behind n) bytes ns rest named)
   where
-    split : (front : List Entry) → StartWith n.id front → AscendFrom from (front ++ rest) → (AscendFrom (ids_behind n) rest → AscendFrom (ids_behind n) ns) → AscendFrom from (n ∷ ns)
+    split : (front : List Entry) → StartWith n.id front → AscendFrom from (front ++ rest) → (AscendFrom (ids_behind n) rest → AscendFrom (ids_behind n) ns)
+        → AscendFrom from (n ∷ ns)
     split [] first h next = absurd first
     split (f ∷ fs) first h next =
         let at = h.0 in
@@ -66,10 +68,16 @@ leaf_longer bytes more n es h =
       directory = subst (λ (xs : List ℕ). IsDirectory xs es) (sym (part_front bytes more n.offset (n.offset + n.length) inside)) h.directory;
     }
 
-named_more : (bytes more : List ℕ) (names es : List Entry) (name : Entry) (leaf : List Entry) → NameLeaves bytes names es → NamesLeaf (bytes ++ more) name leaf → NameLeaves (bytes ++ more) (names ++ name ∷ []) (es ++ leaf)
+named_more : (bytes more : List ℕ) (names es : List Entry) (name : Entry) (leaf : List Entry) → NameLeaves bytes names es → NamesLeaf (bytes ++ more) name leaf
+    → NameLeaves (bytes ++ more) (names ++ name ∷ []) (es ++ leaf)
 named_more bytes more [] es name leaf none h = (leaf, [], ap (λ (xs : List Entry). xs ++ leaf) none ∙ sym (append-nil leaf), h, refl)
-named_more bytes more (n ∷ ns) es name leaf (front, rest, parts, first, named) h =
-    (front, rest ++ leaf, ap (λ (xs : List Entry). xs ++ leaf) parts ∙ append_assoc front rest leaf, leaf_longer bytes more n front first, named_more bytes more ns rest name leaf named h)
+named_more bytes more (n ∷ ns) es name leaf (front, rest, parts, first, named) h = (
+  front,
+  rest ++ leaf,
+  ap (λ (xs : List Entry). xs ++ leaf) parts ∙ append_assoc front rest leaf,
+  leaf_longer bytes more n front first,
+  named_more bytes more ns rest name leaf named h,
+)
 
 -- a name of a leaf directory that stands behind these bytes
 pub record IsNameOf (bytes piece : List ℕ) (leaf : List Entry) (name : Entry) : Type 0 where
@@ -82,16 +90,20 @@ first_id : (id : ℕ) (leaf : List Entry) → StartWith id leaf → AllByRecursi
 first_id id [] first each = absurd first
 first_id id (e ∷ es) first each = let fits = each.0.ids_fit in omega (arith, first)
 
-pub leaf_pushed : (bytes piece : List ℕ) (names es leaf : List Entry) (name : Entry) → AreLeaves bytes names es → IsNameOf bytes piece leaf name → IsDirectory piece leaf → AllByRecursion IsEntry leaf
-    → 0 < length piece → length piece ≤ 2 + 29 * length leaf → length leaf ≤ 512 → length (bytes ++ piece) < 2 ^ 64 → AreLeaves (bytes ++ piece) (names ++ name ∷ []) (es ++ leaf)
+pub leaf_pushed : (bytes piece : List ℕ) (names es leaf : List Entry) (name : Entry) → AreLeaves bytes names es → IsNameOf bytes piece leaf name
+    → IsDirectory piece leaf → AllByRecursion IsEntry leaf
+    → 0 < length piece → length piece ≤ 2 + 29 * length leaf → length leaf ≤ 512 → length (bytes ++ piece) < 2 ^ 64
+    → AreLeaves (bytes ++ piece) (names ++ name ∷ []) (es ++ leaf)
 leaf_pushed bytes piece names es leaf name h is directory each some short few fits =
     let long = length-append bytes piece in
     let e_len = is.length_is in
     let e_off = is.offset_is in
     let e_run = is.run_is in
     let id_fits = first_id name.id leaf is.first each in
-    let place : slice_range (bytes ++ (piece ++ [])) name.offset (name.offset + name.length) ≡ piece = part_middle bytes piece [] name.offset (name.offset + name.length) (sym e_off) (ap (λ (n : ℕ). name.offset + n) (sym e_len)) in
-    let there : slice_range (bytes ++ piece) name.offset (name.offset + name.length) ≡ piece = ap (λ (xs : List ℕ). slice_range (bytes ++ xs) name.offset (name.offset + name.length)) (sym (append-nil piece)) ∙ place in
+    let section : slice_range (bytes ++ (piece ++ [])) name.offset (name.offset + name.length) ≡ piece =
+    part_middle bytes piece [] name.offset (name.offset + name.length) (sym e_off) (ap (λ (n : ℕ). name.offset + n) (sym e_len)) in
+    let there : slice_range (bytes ++ piece) name.offset (name.offset + name.length) ≡ piece =
+    ap (λ (xs : List ℕ). slice_range (bytes ++ xs) name.offset (name.offset + name.length)) (sym (append-nil piece)) ∙ section in
     let names_leaf : NamesLeaf (bytes ++ piece) name leaf = record {
       leaf = is.run_is;
       first = is.first;

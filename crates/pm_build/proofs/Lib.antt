@@ -1,6 +1,11 @@
-pub mod Archive
-pub mod Contents
-pub mod Headers
-pub mod Leaves
-pub mod Listed
-pub mod Pieces
+mod Archive
+mod Counting
+mod Entries
+mod Growing
+mod Headers
+mod Joining
+mod Leaves
+mod Listed
+mod Offsets
+mod Pieces
+mod Tiles

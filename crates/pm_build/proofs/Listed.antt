@@ -14,7 +14,8 @@ abbrev HasTiles : Entry → Type 0
 HasTiles e = 0 < e.run
 
 -- tile entries list themselves
-tiles_listed : (bytes : List ℕ) (h : Header) (more bound : ℕ) (es : List Entry) → AllByRecursion HasTiles es → AllByRecursion (LiesIn h.tiles) es → EachLists (Lists bytes h (suc more)) bound es es
+tiles_listed : (bytes : List ℕ) (h : Header) (more bound : ℕ) (es : List Entry) → AllByRecursion HasTiles es → AllByRecursion (LiesIn h.tiles) es
+    → EachLists (Lists bytes h (suc more)) bound es es
 tiles_listed bytes h more bound [] tiles inside = refl
 tiles_listed bytes h more bound (e ∷ es) tiles inside =
     (e ∷ [], es, refl, inl record { tile = tiles.0; inside = inside.0; itself = refl }, tiles_listed bytes h more bound es tiles.1 inside.1)
@@ -42,7 +43,8 @@ both P Q [] p q = tt
 both P Q (e ∷ es) p q = ((p.0, q.0), both P Q es p.1 q.1)
 
 -- the ids of a leaf directory's entries are below those of the next
-below_next : (bytes : List ℕ) (from : ℕ) (front rest names : List Entry) → NameLeaves bytes names rest → AscendFrom from (front ++ rest) → AllByRecursion IsEntry front → AllByRecursion HasTiles front → AllByRecursion (λ e. ids_behind e ≤ bound_of ids_end names) front
+below_next : (bytes : List ℕ) (from : ℕ) (front rest names : List Entry) → NameLeaves bytes names rest → AscendFrom from (front ++ rest)
+    → AllByRecursion IsEntry front → AllByRecursion HasTiles front → AllByRecursion (λ e. ids_behind e ≤ bound_of ids_end names) front
 below_next bytes from front rest [] named h each tiles = ids_last front each tiles
 below_next bytes from front rest (n ∷ ns) (next, others, parts, leaf, named) h each tiles =
     split next leaf.first (subst (λ (xs : List Entry). AscendFrom from (front ++ xs)) parts h)
@@ -53,11 +55,14 @@ below_next bytes from front rest (n ∷ ns) (next, others, parts, leaf, named) h
 
 from_first : (id from : ℕ) (front rest : List Entry) → StartWith id front → AscendFrom from (front ++ rest) → AllByRecursion (λ e. id ≤ e.id) front
 from_first id from [] rest first h = tt
-from_first id from (f ∷ fs) rest first h = (omega (arith, first), ids_from id (ids_behind f) fs (omega (arith, first)) (ascend_front (ids_behind f) fs rest h.1))
+from_first id from (f ∷ fs) rest first h =
+    (omega (arith, first), ids_from id (ids_behind f) fs (omega (arith, first)) (ascend_front (ids_behind f) fs rest h.1))
 
 -- ---- what names list
 
-leaves_listed : (bytes leaves : List ℕ) (h : Header) (from : ℕ) (names es : List Entry) → section_bytes h.leaves bytes ≡ leaves → h.leaves.length ≡ length leaves → NameLeaves leaves names es → AscendFrom from es → AllByRecursion IsEntry es → AllByRecursion HasTiles es → AllByRecursion (LiesIn h.tiles) es → EachLists (Lists bytes h 3) ids_end names es
+leaves_listed : (bytes leaves : List ℕ) (h : Header) (from : ℕ) (names es : List Entry) → section_bytes h.leaves bytes ≡ leaves
+    → h.leaves.length ≡ length leaves → NameLeaves leaves names es → AscendFrom from es → AllByRecursion IsEntry es → AllByRecursion HasTiles es
+    → AllByRecursion (LiesIn h.tiles) es → EachLists (Lists bytes h 3) ids_end names es
 leaves_listed bytes leaves h from [] es at size named ascend each tiles inside = named
 leaves_listed bytes leaves h from (n ∷ ns) es at size (front, rest, parts, leaf, named) ascend each tiles inside =
     let within = leaf.inside in
@@ -67,25 +72,32 @@ leaves_listed bytes leaves h from (n ∷ ns) es at size (front, rest, parts, lea
     let inside' : AllByRecursion (LiesIn h.tiles) (front ++ rest) = subst (λ (xs : List Entry). AllByRecursion (LiesIn h.tiles) xs) parts inside in
     let each_front = all_front IsEntry front rest each' in
     let tiles_front = all_front HasTiles front rest tiles' in
-    let place : slice_range (section_bytes h.leaves bytes) n.offset (n.offset + n.length) ≡ slice_range bytes (h.leaves.offset + n.offset) (h.leaves.offset + (n.offset + n.length)) = part_of_part bytes h.leaves.offset (h.leaves.offset + h.leaves.length) n.offset (n.offset + n.length) (omega arith) in
+    let section : slice_range (section_bytes h.leaves bytes) n.offset (n.offset + n.length)
+    ≡ slice_range bytes (h.leaves.offset + n.offset) (h.leaves.offset + (n.offset + n.length)) = part_of_part bytes h.leaves.offset
+    (h.leaves.offset + h.leaves.length) n.offset (n.offset + n.length) (omega arith) in
     let sums : h.leaves.offset + (n.offset + n.length) ≡ h.leaves.offset + n.offset + n.length = omega arith in
     let there : slice_range leaves n.offset (n.offset + n.length) ≡ entry_bytes h.leaves n bytes =
-    ap (λ (xs : List ℕ). slice_range xs n.offset (n.offset + n.length)) (sym at) ∙ place ∙ ap (λ (j : ℕ). slice_range bytes (h.leaves.offset + n.offset) j) sums in
+    ap (λ (xs : List ℕ). slice_range xs n.offset (n.offset + n.length)) (sym at) ∙ section
+    ∙ ap (λ (j : ℕ). slice_range bytes (h.leaves.offset + n.offset) j) sums in
     let is_leaf : IsLeaf bytes h n (bound_of ids_end ns) front = record {
       leaf = leaf.leaf;
       inside = omega arith;
       directory = subst (λ (xs : List ℕ). IsDirectory xs front) there leaf.directory;
-      between = both (λ e. n.id ≤ e.id) (λ e. ids_behind e ≤ bound_of ids_end ns) front (from_first n.id from front rest leaf.first ascend') (below_next leaves from front rest ns named ascend' each_front tiles_front);
+      between = both (λ e. n.id ≤ e.id) (λ e. ids_behind e ≤ bound_of ids_end ns) front (from_first n.id from front rest leaf.first ascend')
+          (below_next leaves from front rest ns named ascend' each_front tiles_front);
     } in (
       front,
       rest,
       parts,
       inr (front, is_leaf, tiles_listed bytes h 1 (bound_of ids_end ns) front tiles_front (all_front (LiesIn h.tiles) front rest inside')),
-      leaves_listed bytes leaves h from ns rest at size named (ascend_back from front rest ascend') (all_back IsEntry front rest each') (all_back HasTiles front rest tiles') (all_back (LiesIn h.tiles) front rest inside'),
+      leaves_listed bytes leaves h from ns rest at size named (ascend_back from front rest ascend') (all_back IsEntry front rest each')
+          (all_back HasTiles front rest tiles') (all_back (LiesIn h.tiles) front rest inside'),
     )
 
 -- directories of tile entries list these
-pub has_entries : (bytes root leaves : List ℕ) (h : Header) (es : List Entry) → section_bytes h.root bytes ≡ root → section_bytes h.leaves bytes ≡ leaves → h.leaves.length ≡ length leaves → AreDirectories root leaves es → AscendFrom 0 es → AllByRecursion IsEntry es → AllByRecursion (λ e. 0 < e.run) es → AllByRecursion (LiesIn h.tiles) es → HasEntries bytes h es
+pub has_entries : (bytes root leaves : List ℕ) (h : Header) (es : List Entry) → section_bytes h.root bytes ≡ root → section_bytes h.leaves bytes ≡ leaves
+    → h.leaves.length ≡ length leaves → AreDirectories root leaves es → AscendFrom 0 es → AllByRecursion IsEntry es → AllByRecursion (λ e. 0 < e.run) es
+    → AllByRecursion (LiesIn h.tiles) es → HasEntries bytes h es
 has_entries bytes root leaves h es at_root at_leaves size (inl d) ascend each tiles inside =
     (es, subst (λ (xs : List ℕ). IsDirectory xs es) (sym at_root) d.0, tiles_listed bytes h 2 ids_end es tiles inside)
 has_entries bytes root leaves h es at_root at_leaves size (inr d) ascend each tiles inside =

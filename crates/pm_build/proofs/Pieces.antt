@@ -26,7 +26,8 @@ pub part_middle : {X : Type 0} (xs ys zs : List X) (i j : ℕ) → length xs ≡
 part_middle xs ys zs i j e f =
     let start : slice_range (xs ++ (ys ++ zs)) (i + 0) (i + length ys) ≡ slice_range (ys ++ zs) 0 (length ys) = part_behind xs (ys ++ zs) i 0 (length ys) e in
     let low : i + 0 ≡ i = omega arith in
-    ap (λ (n : ℕ). slice_range (xs ++ (ys ++ zs)) i n) (sym f) ∙ ap (λ (n : ℕ). slice_range (xs ++ (ys ++ zs)) n (i + length ys)) (sym low) ∙ start ∙ part_first ys zs (length ys) refl
+    ap (λ (n : ℕ). slice_range (xs ++ (ys ++ zs)) i n) (sym f) ∙ ap (λ (n : ℕ). slice_range (xs ++ (ys ++ zs)) n (i + length ys)) (sym low) ∙ start
+    ∙ part_first ys zs (length ys) refl
 
 -- a part of a part
 pub part_of_part : {X : Type 0} (xs : List X) (a b i j : ℕ) → a + j ≤ b → slice_range (slice_range xs a b) i j ≡ slice_range xs (a + i) (a + j)

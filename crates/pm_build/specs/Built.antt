@@ -1,6 +1,6 @@
 -- What an archive is built from.
 use Rattle.std.specs.Prelude.{ℕ, List, [], ◌∷◌, Option, Some, None, if◌then◌else◌, nat_eq}
-use Rattle.pm_runs.specs.Tiles.{Tile}
+use Rattle.pm_build.specs.Tiles.{Tile}
 
 -- the content of an id among the tiles
 abbrev pub tile_content : List Tile → ℕ → Option (List ℕ)

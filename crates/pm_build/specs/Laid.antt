@@ -1,9 +1,11 @@
 -- The header of an archive whose sections stand without gaps.
-use Rattle.std.specs.Prelude.{◌≡◌, ℕ, ◌+◌, ◌-◌, pos, negsuc, List, ◌++◌, length, Some, slice_get}
+use Rattle.std.specs.Prelude.{◌≡◌, ℕ, ◌+◌, ◌-◌, pos, negsuc, List, ◌++◌, length, map, Some, slice_get}
+use Rattle.std.specs.Borrow.{Bor}
+use Rattle.std.specs.List.{concat}
 use Rattle.hilbert_id.specs.Curve.{IsTileId}
 use Rattle.pm_header.specs.declared.header.Header.{Header}
 use Rattle.pm_header.specs.Layout.{IsHeader}
-use Rattle.pm_runs.specs.Tiles.{Tile}
+use Rattle.pm_build.specs.Tiles.{Tile}
 use Rattle.pm_build.specs.declared.header.Lengths.{Lengths}
 use Rattle.pm_build.specs.declared.header.Counts.{Counts}
 
@@ -13,7 +15,9 @@ IsZoomOf id zoom = (x : ℕ) × (y : ℕ) × IsTileId zoom x y id
 
 -- the zooms of the first and of the last of these tiles
 abbrev pub AreZooms : List Tile → ℕ → ℕ → Type 0
-AreZooms tiles low high = (first : Tile) × (last : Tile) × (slice_get tiles 0 ≡ Some first) × (slice_get tiles (length tiles - 1) ≡ Some last) × IsZoomOf first.0 low × IsZoomOf last.0 high
+AreZooms tiles low high =
+    (first : Tile) × (last : Tile) × (slice_get tiles 0 ≡ Some first) × (slice_get tiles (length tiles - 1) ≡ Some last) × IsZoomOf first.0 low
+    × IsZoomOf last.0 high
 
 -- the header says that contents lie in the order of their ids, that nothing is compressed, and that the tiles are Mapbox
 -- vector tiles of these zooms
@@ -54,10 +58,15 @@ header_for l n min_zoom max_zoom = record {
   centre_lat = pos 0;
 }
 
+-- contents in memory one behind the other
+abbrev pub joined_contents : List (Bor (List ℕ)) → List ℕ
+joined_contents contents = concat (map (λ c. c.now) contents)
+
 -- the lengths of these sections
 abbrev pub lengths_of : List ℕ → List ℕ → List ℕ → List ℕ → Lengths
 lengths_of root metadata leaves contents = record { root = length root; metadata = length metadata; leaves = length leaves; tiles = length contents }
 
 -- the header and these sections stand one behind the other
 abbrev pub AreJoined : List ℕ → Header → List ℕ → List ℕ → List ℕ → List ℕ → Type 0
-AreJoined bytes h root metadata leaves contents = (front : List ℕ) × IsHeader front h × (length front ≡ 127) × (bytes ≡ front ++ (root ++ (metadata ++ (leaves ++ contents))))
+AreJoined bytes h root metadata leaves contents =
+    (front : List ℕ) × IsHeader front h × (length front ≡ 127) × (bytes ≡ front ++ (root ++ (metadata ++ (leaves ++ contents))))

@@ -9,7 +9,7 @@ abbrev pub StartWith : ℕ → List Entry → Type 0
 StartWith id [] = ⊥
 StartWith id (e ∷ es) = e.id ≡ id
 
--- the name is of a leaf directory of these entries, which stands at its place of the bytes
+-- the name is of a leaf directory of these entries, which stands where it says
 pub record NamesLeaf (bytes : List ℕ) (name : Entry) (entries : List Entry) : Type 0 where
   pub leaf : name.run ≡ 0
   pub first : StartWith name.id entries
@@ -19,7 +19,8 @@ pub record NamesLeaf (bytes : List ℕ) (name : Entry) (entries : List Entry) : 
 -- the names are of leaf directories that have these entries, one after the other
 abbrev pub NameLeaves : List ℕ → List Entry → List Entry → Type 0
 NameLeaves bytes [] entries = entries ≡ []
-NameLeaves bytes (name ∷ names) entries = (front : List Entry) × (rest : List Entry) × (entries ≡ front ++ rest) × NamesLeaf bytes name front × NameLeaves bytes names rest
+NameLeaves bytes (name ∷ names) entries =
+    (front : List Entry) × (rest : List Entry) × (entries ≡ front ++ rest) × NamesLeaf bytes name front × NameLeaves bytes names rest
 
 -- leaf directories of these entries, with names that can be entries of a directory
 pub record AreLeaves (bytes : List ℕ) (names : List Entry) (entries : List Entry) : Type 0 where
@@ -30,4 +31,5 @@ pub record AreLeaves (bytes : List ℕ) (names : List Entry) (entries : List Ent
 
 -- the root directory has these tile entries itself, or leaf directories have them
 abbrev pub AreDirectories : List ℕ → List ℕ → List Entry → Type 0
-AreDirectories root leaves entries = (IsDirectory root entries × (leaves ≡ [])) ⊎ ((names : List Entry) × IsDirectory root names × NameLeaves leaves names entries)
+AreDirectories root leaves entries =
+    (IsDirectory root entries × (leaves ≡ [])) ⊎ ((names : List Entry) × IsDirectory root names × NameLeaves leaves names entries)

@@ -1,3 +1,9 @@
 pub mod Built
+pub mod Clustered
+pub mod Joined
 pub mod Laid
 pub mod Leaves
+pub mod Offsets
+pub mod Placed
+pub mod Runs
+pub mod Tiles

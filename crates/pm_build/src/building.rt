@@ -1,23 +1,27 @@
 ghost use Rattle.std.specs.Prelude.{◌≡◌, ◌≢◌, ℕ, ◌+◌, ◌*◌, ◌^◌, ◌<◌, ◌≤◌, List, [], length, Err, IfOk, map, Contains};
 ghost use Rattle.std.specs.List.{AllByRecursion, concat};
-ghost use Rattle.pm_runs.specs.Tiles.{tile_views, AreTiles};
-ghost use Rattle.pm_runs.specs.Runs.{TileRun, AreLongestRuns};
-ghost use Rattle.pm_runs.specs.Placed.{AreDifferent, ArePlaced};
+ghost use Rattle.pm_build.specs.Tiles.{tile_views, AreTiles};
+ghost use Rattle.pm_build.specs.Runs.{TileRun, AreLongestRuns};
+ghost use Rattle.pm_build.specs.Joined.{runs_of};
+ghost use Rattle.pm_build.specs.Placed.{AreDifferent, ArePlaced};
 ghost use Rattle.pm_archive.specs.Archive.{IsArchiveOf, IsMetadata};
 ghost use Rattle.pm_build.specs.Built.{tile_content};
-ghost use Rattle.pm_build.specs.Laid.{AreJoined, AreZooms, BeginFor, header_for, lengths_of};
+ghost use Rattle.pm_build.specs.Laid.{AreJoined, AreZooms, BeginFor, header_for, joined_contents, lengths_of};
 
-use crate::Memory;
 use crate::directories::{Directories, write_directories};
+use crate::fault::BuildFault;
 use crate::header::{Counts, Lengths, header_of, zoom_of};
+use crate::limit::MAX_ENTRIES;
+use crate::placed::Placed;
+use crate::placing::place_runs;
+use crate::runs::count_runs;
 use pm_header::{HEADER_BYTES, Header};
-use pm_runs::{BuildFault, Placed, place_runs};
-use std::alloc::Global;
+use std::alloc::{AllocError, Global};
 
 // How many bytes the contents have together.
 fn total(contents: &[&[u8]]) -> usize
-    requires { length (concat (map (λ c. c.now) contents.now)) < 2 ^ 64 }
-    ensures { result ≡ length (concat (map (λ c. c.now) contents.now)) }
+    requires { length (joined_contents contents.now) < 2 ^ 64 }
+    ensures { result ≡ length (joined_contents contents.now) }
 {
     let mut total = 0;
     for content in contents {
@@ -33,9 +37,11 @@ fn joined(
     directories: &Directories,
     metadata: &[u8],
     contents: &[&[u8]],
-) -> Result<Vec<u8>, Memory>
-    requires { 127 + length directories.now.root.items + length metadata.now + length directories.now.leaves.items + length (concat (map (λ c. c.now) contents.now)) < 2 ^ 64 }
-    ensures { IfOk result (λ bytes. AreJoined bytes.items header.now directories.now.root.items metadata.now directories.now.leaves.items (concat (map (λ c. c.now) contents.now))) }
+) -> Result<Vec<u8>, AllocError>
+    requires { 127 + length directories.now.root.items + length metadata.now + length directories.now.leaves.items
+        + length (joined_contents contents.now) < 2 ^ 64 }
+    ensures { IfOk result
+        (λ bytes. AreJoined bytes.items header.now directories.now.root.items metadata.now directories.now.leaves.items (joined_contents contents.now)) }
 {
     let sections = directories.root.len() + metadata.len() + directories.leaves.len();
     let mut bytes = Vec::with_capacity(alloc, HEADER_BYTES + sections + total(contents))?;
@@ -69,8 +75,11 @@ fn header_for_tiles(
 ) -> Header
     requires some { 0 < length tiles.now }
     requires tiles { AreTiles (tile_views tiles.now) }
-    requires fits { 127 + length directories.now.root.items + length metadata.now + length directories.now.leaves.items + length (concat (map (λ c. c.now) placed.now.contents.items)) < 2 ^ 64 }
-    ensures { (min_zoom max_zoom : ℕ) × AreZooms (tile_views tiles.now) min_zoom max_zoom × (result ≡ header_for (lengths_of directories.now.root.items metadata.now directories.now.leaves.items (concat (map (λ c. c.now) placed.now.contents.items)))
+    requires fits { 127 + length directories.now.root.items + length metadata.now + length directories.now.leaves.items
+        + length (joined_contents placed.now.contents.items) < 2 ^ 64 }
+    ensures { (min_zoom max_zoom : ℕ) × AreZooms (tile_views tiles.now) min_zoom max_zoom
+        × (result ≡ header_for
+        (lengths_of directories.now.root.items metadata.now directories.now.leaves.items (joined_contents placed.now.contents.items))
         record { addressed = length tiles.now; entries = length placed.now.entries.items; contents = length placed.now.contents.items } min_zoom max_zoom) }
 {
     let lengths = Lengths {
@@ -94,19 +103,40 @@ fn archive_of(
     tiles: &[(u64, Vec<u8>)],
     placed: &Placed,
     metadata: &[u8],
-) -> Result<Vec<u8>, Memory>
+) -> Result<Vec<u8>, AllocError>
     requires some { tile_views tiles.now ≢ [] }
     requires tiles { AreTiles (tile_views tiles.now) }
     requires placed { ArePlaced (tile_views tiles.now) placed.now.entries.items (map (λ c. c.now) placed.now.contents.items) }
-    requires few { length placed.now.entries.items ≤ 131072 }
+    requires few { length placed.now.entries.items ≤ MAX_ENTRIES }
     requires metadata { IsMetadata metadata.now }
     ensures archive { IfOk result (λ bytes. IsArchiveOf bytes.items (tile_content (tile_views tiles.now))) }
     ensures header { IfOk result (λ bytes. BeginFor bytes.items (tile_views tiles.now)) }
-    ensures size { IfOk result (λ bytes. length bytes.items ≤ 127 + length metadata.now + 64 * length placed.now.entries.items + length (concat (map (λ c. c.now) placed.now.contents.items))) }
+    ensures size { IfOk result
+        (λ bytes. length bytes.items ≤ 127 + length metadata.now + 64 * length placed.now.entries.items + length (joined_contents placed.now.contents.items)) }
 {
     let directories = write_directories(alloc, &placed.entries)?;
     let header = header_for_tiles(tiles, placed, &directories, metadata);
     joined(alloc, &header, &directories, metadata, &placed.contents)
+}
+
+// The archive of these tiles, whose runs aren't too many.
+fn archive_of_tiles(
+    alloc: Global,
+    tiles: &[(u64, Vec<u8>)],
+    metadata: &[u8],
+) -> Result<Vec<u8>, AllocError>
+    requires some { tile_views tiles.now ≢ [] }
+    requires tiles { AreTiles (tile_views tiles.now) }
+    requires few { length (runs_of (tile_views tiles.now)) ≤ MAX_ENTRIES }
+    requires metadata { IsMetadata metadata.now }
+    ensures archive { IfOk result (λ bytes. IsArchiveOf bytes.items (tile_content (tile_views tiles.now))) }
+    ensures header { IfOk result (λ bytes. BeginFor bytes.items (tile_views tiles.now)) }
+    ensures size { IfOk result (λ bytes. (runs : List TileRun) × (contents : List (List ℕ)) × AreLongestRuns (tile_views tiles.now) runs
+        × AreDifferent contents × AllByRecursion (λ c. Contains (map (λ r. r.content) runs) c) contents
+        × (length bytes.items ≤ 127 + length metadata.now + 64 * length runs + length (concat contents))) }
+{
+    let placed = place_runs(alloc, tiles)?;
+    archive_of(alloc, tiles, &placed, metadata)
 }
 
 /// The archive of these tiles, given by their ids and contents, with this metadata, a JSON object.
@@ -116,7 +146,7 @@ fn archive_of(
 ///
 /// # Errors
 ///
-/// `TooManyEntries` where the runs number over 131,072, and `Memory`.
+/// `TooManyEntries` where the runs number over `MAX_ENTRIES`, and then no other. `Memory` where an allocation fails.
 pub fn build(
     alloc: Global,
     tiles: &[(u64, Vec<u8>)],
@@ -127,17 +157,17 @@ pub fn build(
     requires metadata { IsMetadata metadata.now }
     ensures archive { IfOk result (λ bytes. IsArchiveOf bytes.items (tile_content (tile_views tiles.now))) }
     ensures header { IfOk result (λ bytes. BeginFor bytes.items (tile_views tiles.now)) }
-    ensures few { (runs : List TileRun) → AreLongestRuns (tile_views tiles.now) runs → 131072 < length runs → IfOk result (λ bytes. ⊥) }
-    ensures many { result ≡ Err BuildFault.TooManyEntries → (runs : List TileRun) × AreLongestRuns (tile_views tiles.now) runs × (131072 < length runs) }
+    ensures few { (runs : List TileRun) → AreLongestRuns (tile_views tiles.now) runs → MAX_ENTRIES < length runs → result ≡ Err BuildFault.TooManyEntries }
+    ensures many { result ≡ Err BuildFault.TooManyEntries
+        → (runs : List TileRun) × AreLongestRuns (tile_views tiles.now) runs × (MAX_ENTRIES < length runs) }
     ensures size { IfOk result (λ bytes. (runs : List TileRun) × (contents : List (List ℕ)) × AreLongestRuns (tile_views tiles.now) runs
         × AreDifferent contents × AllByRecursion (λ c. Contains (map (λ r. r.content) runs) c) contents
         × (length bytes.items ≤ 127 + length metadata.now + 64 * length runs + length (concat contents))) }
 {
-    let placed = match place_runs(alloc, tiles) {
-        Ok(placed) => placed,
-        Err(fault) => return Err(fault),
-    };
-    match archive_of(alloc, tiles, &placed, metadata) {
+    if count_runs(tiles) > MAX_ENTRIES {
+        return Err(BuildFault::TooManyEntries);
+    }
+    match archive_of_tiles(alloc, tiles, metadata) {
         Ok(bytes) => Ok(bytes),
         Err(_) => Err(BuildFault::Memory),
     }

@@ -6,9 +6,9 @@ ghost use Rattle.pm_directory.specs.declared.entry.Entry.{Entry};
 ghost use Rattle.pm_directory.specs.Directory.{IsAscending, IsEntry, HasEnd};
 ghost use Rattle.pm_build.specs.Leaves.{AreLeaves, AreDirectories};
 
-use crate::Memory;
+use crate::limit::MAX_ENTRIES;
 use pm_directory::{Entry, write_directory};
-use std::alloc::Global;
+use std::alloc::{AllocError, Global};
 
 // How many entries a root directory of tile entries has at most, and a leaf directory.
 const DIRECTORY_ENTRIES: usize = 512;
@@ -30,9 +30,9 @@ struct Leaves {
 }
 
 // Puts a leaf directory of these entries behind the others.
-fn push_leaf(alloc: Global, leaves: &mut Leaves, entries: &[Entry]) -> Result<(), Memory>
+fn push_leaf(alloc: Global, leaves: &mut Leaves, entries: &[Entry]) -> Result<(), AllocError>
     requires some { 0 < length entries.now }
-    requires few { length entries.now ≤ 512 }
+    requires few { length entries.now ≤ DIRECTORY_ENTRIES }
     requires ascending { IsAscending entries.now }
     requires each { AllByRecursion IsEntry entries.now }
     requires ends { AllByRecursion HasEnd entries.now }
@@ -53,12 +53,12 @@ fn push_leaf(alloc: Global, leaves: &mut Leaves, entries: &[Entry]) -> Result<()
 }
 
 // Leaf directories of these entries, of 512 each, the last of the rest.
-fn write_leaves(alloc: Global, entries: &[Entry]) -> Result<Leaves, Memory>
+fn write_leaves(alloc: Global, entries: &[Entry]) -> Result<Leaves, AllocError>
     requires ascending { IsAscending entries.now }
     requires each { AllByRecursion IsEntry entries.now }
     requires ends { AllByRecursion HasEnd entries.now }
     ensures leaves { IfOk result (λ leaves. AreLeaves leaves.bytes.items leaves.names.items entries.now) }
-    ensures few { IfOk result (λ leaves. 512 * length leaves.names.items ≤ length entries.now + 511) }
+    ensures few { IfOk result (λ leaves. DIRECTORY_ENTRIES * length leaves.names.items < length entries.now + DIRECTORY_ENTRIES) }
 {
     let mut leaves = Leaves {
         names: Vec::new(alloc),
@@ -74,14 +74,14 @@ fn write_leaves(alloc: Global, entries: &[Entry]) -> Result<Leaves, Memory>
 }
 
 /// The directories of these tile entries: up to 512 in the root, more in leaf directories of 512 each.
-pub(crate) fn write_directories(alloc: Global, entries: &[Entry]) -> Result<Directories, Memory>
+pub(crate) fn write_directories(alloc: Global, entries: &[Entry]) -> Result<Directories, AllocError>
     requires some { 0 < length entries.now }
-    requires few { length entries.now ≤ 131072 }
+    requires few { length entries.now ≤ MAX_ENTRIES }
     requires ascending { IsAscending entries.now }
     requires each { AllByRecursion IsEntry entries.now }
     requires ends { AllByRecursion HasEnd entries.now }
     ensures directories { IfOk result (λ d. AreDirectories d.root.items d.leaves.items entries.now) }
-    ensures root { IfOk result (λ d. length d.root.items ≤ 2 + 29 * 512) }
+    ensures root { IfOk result (λ d. length d.root.items ≤ 2 + 29 * DIRECTORY_ENTRIES) }
     ensures size { IfOk result (λ d. length d.root.items + length d.leaves.items ≤ 64 * length entries.now) }
 {
     if entries.len() <= DIRECTORY_ENTRIES {

@@ -1,15 +1,23 @@
-//! Archives made of tiles (PMTiles 3): header, root directory, metadata, leaf directories, contents, without gaps.
+//! Archives made of tiles (PMTiles 3): header, root directory, metadata, leaf directories, contents, without gaps. Runs
+//! of equal contents are joined, and each content is placed once (4.2).
 #![tactic(auto)]
 
 mod building;
+mod checks;
+mod contents;
 mod directories;
+mod fault;
 mod header;
+mod limit;
+mod placed;
+mod placing;
+mod run;
+mod runs;
 
 pub use building::build;
-pub use pm_runs::{BuildFault, are_tiles};
-
-/// A growth that was refused.
-type Memory = std::alloc::AllocError;
+pub use checks::are_tiles;
+pub use fault::BuildFault;
+pub use limit::MAX_ENTRIES;
 
 #[cfg(test)]
 mod tests;

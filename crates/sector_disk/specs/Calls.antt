@@ -1,5 +1,6 @@
 -- What a file was asked, what it answered, and what these calls make of a disk in it.
 use Rattle.std.specs.Prelude.{◌≡◌, ◌/◌, ℕ, List, [], ◌∷◌, Result, MatchResult, ⊤}
+use Rattle.sector_disk.specs.declared.disk.TheConstants.{SECTOR_BYTES}
 use Rattle.sector_disk.specs.Disk.{History, seen}
 use Rattle.sector_disk.specs.Disk.History.{wrote, tried, synced}
 
@@ -39,17 +40,17 @@ pub data Fate : Type 0 where
 
 -- the history after a write that failed
 abbrev pub failed_write : Fate → ℕ → List ℕ → History → History
-failed_write old_bytes place bytes before = tried place bytes before
-failed_write new_bytes place bytes before = wrote place bytes before
+failed_write old_bytes sector bytes before = tried sector bytes before
+failed_write new_bytes sector bytes before = wrote sector bytes before
 
--- The history of a disk in a file that had this one as it was opened, after these calls. Sector n lies from byte 512 n on.
+-- The history of a disk in a file that had this one as it was opened, after these calls. Sector n lies from byte n * SECTOR_BYTES on.
 -- A sync that failed did nothing: so a crash may leave what it would have settled, and what was there before.
 abbrev pub replayed : History → Fate → List Call → History
 replayed found fate [] = found
 replayed found fate (gave offset bytes ∷ before) = replayed found fate before
 replayed found fate (gave_none offset ∷ before) = replayed found fate before
-replayed found fate (took offset bytes ∷ before) = wrote (offset / 512) bytes (replayed found fate before)
-replayed found fate (refused offset bytes ∷ before) = failed_write fate (offset / 512) bytes (replayed found fate before)
+replayed found fate (took offset bytes ∷ before) = wrote (offset / SECTOR_BYTES) bytes (replayed found fate before)
+replayed found fate (refused offset bytes ∷ before) = failed_write fate (offset / SECTOR_BYTES) bytes (replayed found fate before)
 replayed found fate (flushed ∷ before) = synced (replayed found fate before)
 replayed found fate (not_flushed ∷ before) = replayed found fate before
 
@@ -66,7 +67,7 @@ IsUsable (not_flushed ∷ before) = ⊥
 -- The call goes with this history of the calls before it: a read that succeeded gave what it says, and a write or a sync
 -- was asked for of a file that is usable.
 abbrev pub GoesWith : History → List Call → Call → Type 0
-GoesWith history before (gave offset bytes) = bytes ≡ seen history (offset / 512)
+GoesWith history before (gave offset bytes) = bytes ≡ seen history (offset / SECTOR_BYTES)
 GoesWith history before (gave_none offset) = ⊤
 GoesWith history before (took offset bytes) = IsUsable before
 GoesWith history before (refused offset bytes) = IsUsable before

@@ -1,14 +1,14 @@
 //! A disk in memory, which can be asked what a crash leaves of it.
-ghost use Rattle.std.specs.Prelude.{◌≡◌, ◌<◌, IfOk, IsOk, OnOk, replicate};
+ghost use Rattle.std.specs.Prelude.{◌≡◌, ◌<◌, IfOk, IsOk, OnOk};
 ghost use Rattle.sector_disk.specs.Crash.{chosen};
-ghost use Rattle.sector_disk.specs.Disk.{seen, Writes, Syncs, CountsFault};
+ghost use Rattle.sector_disk.specs.Disk.{all_zeros, seen, Writes, Syncs, CountsFault};
 ghost use Rattle.sector_disk.specs.Disk.History.{begun};
-ghost use Rattle.sector_disk.specs.Told.{memory_history, memory_sectors, memory_faults};
+ghost use Rattle.sector_disk.specs.Views.{memory_history, memory_sectors, memory_faults};
 
 use crate::faults::Faults;
 use crate::kept::Kept;
-use crate::{DiskFault, Memory, Sectors};
-use std::alloc::Global;
+use crate::{DiskFault, SECTOR_BYTES, Sectors};
+use std::alloc::{AllocError, Global};
 use std::collections::HashMap;
 
 /// A disk in memory. It takes memory only for the sectors that were written, and for each write since the last
@@ -24,12 +24,12 @@ pub struct MemoryDisk {
 
 impl MemoryDisk {
     /// A disk of so many sectors of zeros. It takes no memory for them, so none is refused.
-    pub fn new(alloc: Global, count: u64) -> Result<MemoryDisk, Memory>
+    pub fn new(alloc: Global, count: u64) -> Result<MemoryDisk, AllocError>
         ensures made { IsOk result }
         ensures count { IfOk result (λ disk. ⟦<MemoryDisk as Sectors>⟧.sectors disk ≡ count) }
         ensures faults { IfOk result (λ disk. ⟦<MemoryDisk as Sectors>⟧.faults disk ≡ 0) }
         ensures honest { IfOk result ⟦<MemoryDisk as Sectors>⟧.honest }
-        ensures zeros { IfOk result (λ disk. ⟦<MemoryDisk as Sectors>⟧.history disk ≡ begun (λ _. replicate 512 0)) }
+        ensures zeros { IfOk result (λ disk. ⟦<MemoryDisk as Sectors>⟧.history disk ≡ begun all_zeros) }
     {
         Ok(MemoryDisk {
             alloc,
@@ -42,7 +42,7 @@ impl MemoryDisk {
     /// The disk that a crash now leaves. The sectors that were written since the last sync take a number each, in
     /// ascending order: for 0, or where there is none, they have the bytes of that sync, and for j those of the
     /// j-th write since, or of the last one if there are fewer. It takes time by the sectors that were written.
-    pub fn crash(&self, choice: &[u32]) -> Result<MemoryDisk, Memory>
+    pub fn crash(&self, choice: &[u32]) -> Result<MemoryDisk, AllocError>
         ensures count { IfOk result (λ disk. ⟦<MemoryDisk as Sectors>⟧.sectors disk ≡ ⟦<MemoryDisk as Sectors>⟧.sectors self.now) }
         ensures faults { IfOk result (λ disk. ⟦<MemoryDisk as Sectors>⟧.faults disk ≡ 0) }
         ensures honest { IfOk result ⟦<MemoryDisk as Sectors>⟧.honest }
@@ -72,7 +72,7 @@ impl Sectors for MemoryDisk {
         self.count
     }
 
-    fn read(&mut self, at: u64, into: &mut [u8; 512]) -> Result<(), DiskFault>
+    fn read(&mut self, at: u64, into: &mut [u8; SECTOR_BYTES]) -> Result<(), DiskFault>
         requires { at < memory_sectors self.old }
         ensures count { memory_sectors self.new ≡ memory_sectors self.old }
         ensures faults { CountsFault result (memory_faults self.old) (memory_faults self.new) }
@@ -86,7 +86,7 @@ impl Sectors for MemoryDisk {
         Ok(())
     }
 
-    fn write(&mut self, at: u64, from: &[u8; 512]) -> Result<(), DiskFault>
+    fn write(&mut self, at: u64, from: &[u8; SECTOR_BYTES]) -> Result<(), DiskFault>
         requires { at < memory_sectors self.old }
         ensures count { memory_sectors self.new ≡ memory_sectors self.old }
         ensures faults { CountsFault result (memory_faults self.old) (memory_faults self.new) }

@@ -1,8 +1,8 @@
 //! What a file is supposed to have as it is opened.
-ghost use Rattle.std.specs.Prelude.{[], replicate};
+ghost use Rattle.std.specs.Prelude.{[]};
 ghost use Rattle.sector_disk.specs.Calls.{Fate};
 ghost use Rattle.sector_disk.specs.Calls.Fate.{old_bytes};
-ghost use Rattle.sector_disk.specs.Disk.{History};
+ghost use Rattle.sector_disk.specs.Disk.{History, all_zeros};
 ghost use Rattle.sector_disk.specs.Disk.History.{begun};
 
 /// What a file had as it was opened, and what becomes of a write that fails. No code can read either, and a function over
@@ -34,7 +34,7 @@ impl Start for Unknown {
 pub struct Zeros;
 
 impl Start for Zeros {
-    ghost found = { begun (λ _. replicate 512 0) };
+    ghost found = { begun all_zeros };
 
     ghost fate = { old_bytes };
 }

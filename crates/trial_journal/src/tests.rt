@@ -2,7 +2,7 @@
 ghost use Rattle.std.specs.Prelude.{◌≡◌, ◌<◌, ◌≤◌};
 
 use crate::Journal;
-use sector_disk::{FileDisk, FusedDisk, MemoryDisk, Sectors, Unknown, Zeros};
+use sector_disk::{FailingCalls, FaultyDisk, FileDisk, MemoryDisk, Sectors, Unknown, Zeros};
 use std::env::temp_dir;
 use std::fs;
 use std::hash::{BuildHasher, RandomState};
@@ -64,11 +64,12 @@ fn standing<D: Sectors>(disk: &mut D) -> u8
 fn crashes_after_each_call(rt: HostRuntime) -> Result<(), Fail> {
     // The append of three parts makes five calls: two bodies, a sync, the head, a sync.
     for passes in 0..6 {
+        let failing = FailingCalls::AllFrom(passes + 1);
         let mut disk = MemoryDisk::new(rt.alloc(), 8)?;
         let mut journal = Journal::new();
         let first = journal.append(&mut disk, &[[10; 510]])?;
         assert_eq!(rt; first, 1);
-        let mut disk = FusedDisk::new(disk, passes);
+        let mut disk = FaultyDisk::new(disk, failing);
         let outcome = journal.append(&mut disk, &[[20; 510], [21; 510], [22; 510]]);
         assert_eq!(rt; outcome.is_ok(), passes == 5);
         assert_eq!(rt; disk.calls(), 5.min(passes + 1));

@@ -30,30 +30,30 @@ struct NotedFile {
     asked: Cell<Asks>,
     bytes: Cell<[u8; 512]>,
     /// The call that fails, by its number from 1 on.
-    fails: usize,
+    failing_call: usize,
 }
 
 impl NotedFile {
-    fn new(fails: usize, bytes: [u8; 512]) -> NotedFile {
+    fn new(failing_call: usize, bytes: [u8; 512]) -> NotedFile {
         NotedFile {
             asked: Cell::new([None; 7]),
             bytes: Cell::new(bytes),
-            fails,
+            failing_call,
         }
     }
 
     fn note(&self, asked: Asked) -> io::Result<()> {
         let mut all = self.asked.get();
         let mut number: usize = 1;
-        for place in &mut all {
-            if place.is_none() {
-                *place = Some(asked);
+        for slot in &mut all {
+            if slot.is_none() {
+                *slot = Some(asked);
                 break;
             }
             number = number.saturating_add(1);
         }
         self.asked.set(all);
-        if number == self.fails {
+        if number == self.failing_call {
             return Err(io::ErrorKind::Other.into());
         }
         Ok(())
@@ -101,8 +101,8 @@ impl OpenFile for &NotedFile {
 fn sector_from(start: u8) -> [u8; 512] {
     let mut bytes = [0; 512];
     let mut byte = start;
-    for place in &mut bytes {
-        *place = byte;
+    for slot in &mut bytes {
+        *slot = byte;
         byte = byte.wrapping_add(3);
     }
     bytes
@@ -146,7 +146,7 @@ fn done<D: Sectors>(disk: &mut D) -> [bool; 3]
 }
 
 #[test]
-fn tells_a_fault_once(rt: HostRuntime) -> Result<(), Fail> {
+fn reports_a_fault_once(rt: HostRuntime) -> Result<(), Fail> {
     let rows = [
         [false, true, true],
         [true, false, true],
@@ -156,8 +156,8 @@ fn tells_a_fault_once(rt: HostRuntime) -> Result<(), Fail> {
     let write = Some(Asked::Write(0, 1));
     let sync = Some(Asked::Sync);
     let asked = [read, write, sync, read, write, sync, None];
-    for (fails, row) in (1..=3).zip(rows) {
-        let file = NotedFile::new(fails, [0; 512]);
+    for (failing_call, row) in (1..=3).zip(rows) {
+        let file = NotedFile::new(failing_call, [0; 512]);
         let mut disk = FileDisk::new(SystemFile::new(&file), 512, Unknown);
         assert_eq!(rt; done(&mut disk), row);
         assert_eq!(rt; disk.count(), 1);

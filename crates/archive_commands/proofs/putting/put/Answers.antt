@@ -7,4 +7,4 @@ returns-then-rest-eq0 g c = put_done (g.W.Write.contents c.args.out.now) (g.W.Wr
 
 pub loop-preserved : goal.loop-preserved
 loop-preserved g c = put_on (g.W.Write.contents c.args.out.now) (g.W.Write.contents c.loop.out) (g.W.Write.contents c.put_some.new.out) c.args.bytes.now
-    c.loop.rest.now c.in-Ok.left.now c.loop.invariant c.in-Ok.ensures
+    c.loop.rest.now c.in_ok-left.left.now c.loop.invariant c.in_ok-left.ensures

@@ -29,4 +29,5 @@ returns-clause-fault c = let bytes = c.args.archive.now in
     fault_at_judging bytes c.in-Ok.archive.header c.in-Ok.archive.root found.0 found.1 c.verify.result (c.verify.ensures.fault bytes judged)
 
 pub returns-in-Err-clause-memory : goal.returns-in-Err-clause-memory
-returns-in-Err-clause-memory c e = c.in-Err.ensures.memory c.args.archive.now (ap (λ s. s.now) c.in-Err.ensures.back.same_behind) (same_fault c.in-Err.fault Memory e)
+returns-in-Err-clause-memory c e =
+    c.in-Err.ensures.memory c.args.archive.now (ap (λ s. s.now) c.in-Err.ensures.back.same_behind) (same_fault c.in-Err.fault Memory e)

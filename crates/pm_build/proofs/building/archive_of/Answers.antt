@@ -1,16 +1,17 @@
 use Rattle.std.proofs.Common.{◌*◌, length, map, arith}
 use Rattle.std.specs.List.{concat}
 use Rattle.std.proofs.lemmas.List.{length-map}
-use Rattle.pm_runs.specs.Tiles.{tile_views}
+use Rattle.pm_build.specs.Tiles.{tile_views}
 use Rattle.pm_build.proofs.Archive.{archive_joined, header_joined, size_joined}
-use Rattle.pm_build.proofs.Contents.{some_entries, have_ends, contents_fit}
+use Rattle.pm_build.proofs.Tiles.{some_entries, have_ends, contents_fit}
 use Rattle.pm_build.proofs.building.archive_of.Goals as goal
 
 pub write_directories-requires-clause-some : goal.write_directories-requires-clause-some
 write_directories-requires-clause-some c =
     let placed = c.requires.placed in
     let contents = concat (map (λ c. c.now) c.args.placed.now.contents.items) in
-    rw c.deref.ensures.value (some_entries contents placed.runs c.args.placed.now.entries.items (tile_views c.args.tiles.now) placed.named placed.longest.together c.requires.some)
+    rw c.deref.ensures.value
+    (some_entries contents placed.runs c.args.placed.now.entries.items (tile_views c.args.tiles.now) placed.named placed.longest.together c.requires.some)
 
 pub write_directories-requires-clause-ends : goal.write_directories-requires-clause-ends
 write_directories-requires-clause-ends c =
@@ -41,14 +42,16 @@ returns-clause-archive c =
     let contents = map (λ c. c.now) placed.contents.items in
     let (low, high, _, header) = c.header_for_tiles-header.ensures in
     let directories = rw c.deref.ensures.value at c.in_ok-directories.ensures.directories in
-    archive_joined c.joined.result d.root.items c.args.metadata.now d.leaves.items (tile_views c.args.tiles.now) placed.entries.items contents c.header_for_tiles-header.result low high (simp length-map header) c.requires.placed
+    archive_joined c.joined.result d.root.items c.args.metadata.now d.leaves.items
+    (tile_views c.args.tiles.now) placed.entries.items contents c.header_for_tiles-header.result low high (simp length-map header) c.requires.placed
     directories c.in_ok-directories.ensures.root c.requires.metadata (rw c.deref-2.ensures.value at c.joined.ensures)
 
 pub returns-clause-size : goal.returns-clause-size
 returns-clause-size c =
     let d = c.in_ok-directories.directories in
     let placed = c.args.placed.now in
-    size_joined c.joined.result d.root.items c.args.metadata.now d.leaves.items (concat (map (λ c. c.now) placed.contents.items)) c.header_for_tiles-header.result (64 * length placed.entries.items)
+    size_joined c.joined.result d.root.items c.args.metadata.now d.leaves.items
+    (concat (map (λ c. c.now) placed.contents.items)) c.header_for_tiles-header.result (64 * length placed.entries.items)
     (rw c.deref.ensures.value at c.in_ok-directories.ensures.size) (rw c.deref-2.ensures.value at c.joined.ensures)
 
 pub returns-clause-header : goal.returns-clause-header
@@ -57,5 +60,11 @@ returns-clause-header c =
     let placed = c.args.placed.now in
     let contents = map (λ c. c.now) placed.contents.items in
     let (low, high, zooms, header) = c.header_for_tiles-header.ensures in
-    header_joined c.joined.result d.root.items c.args.metadata.now d.leaves.items (concat contents) (tile_views c.args.tiles.now) record { addressed = length (tile_views c.args.tiles.now); entries = length placed.entries.items; contents = length contents }
+    header_joined c.joined.result d.root.items c.args.metadata.now d.leaves.items (concat contents)
+    (tile_views c.args.tiles.now) record {
+      addressed = length
+          (tile_views c.args.tiles.now);
+      entries = length placed.entries.items;
+      contents = length contents;
+    }
     c.header_for_tiles-header.result low high (simp length-map header) zooms (rw c.deref-2.ensures.value at c.joined.ensures)

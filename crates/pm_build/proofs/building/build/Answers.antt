@@ -1,11 +1,18 @@
-use Rattle.std.proofs.Common.{map, arith}
-use Rattle.std.specs.List.{concat}
-use Rattle.pm_build.proofs.Contents.{as_many}
+use Rattle.std.proofs.Common.{length, ap, arith}
+use Rattle.pm_build.specs.Tiles.{tile_views}
+use Rattle.pm_build.specs.Joined.{runs_of}
+use Rattle.pm_build.proofs.Joining.{longest_from_runs_of, runs_of_from_longest}
 use Rattle.pm_build.proofs.building.build.Goals as goal
 
-pub returns-in-Ok-archive_of-clause-size : goal.returns-in-Ok-archive_of-clause-size
-returns-in-Ok-archive_of-clause-size c =
-    let placed = c.in-Ok.ensures.placed in
-    let contents = map (λ c. c.now) c.in-Ok.placed.contents.items in
-    let many = as_many (concat contents) placed.runs c.in-Ok.placed.entries.items placed.named in
-    (placed.runs, contents, placed.longest, placed.different, placed.used, omega (arith, c.in-Ok-archive_of.ensures.size))
+pub returns-then-count_runs-gt-MAX_ENTRIES-clause-many : goal.returns-then-count_runs-gt-MAX_ENTRIES-clause-many
+returns-then-count_runs-gt-MAX_ENTRIES-clause-many c e =
+    let tiles = tile_views c.args.tiles.now in
+    (runs_of tiles, longest_from_runs_of tiles, omega (arith, c.count_runs.ensures))
+
+pub returns-in-Ok-clause-few : goal.returns-in-Ok-clause-few
+returns-in-Ok-clause-few c runs longest more =
+    absurd (omega (arith, more, c.count_runs.ensures, ap length (runs_of_from_longest (tile_views c.args.tiles.now) runs longest)))
+
+pub returns-in-Err-clause-few : goal.returns-in-Err-clause-few
+returns-in-Err-clause-few c runs longest more =
+    absurd (omega (arith, more, c.count_runs.ensures, ap length (runs_of_from_longest (tile_views c.args.tiles.now) runs longest)))

@@ -1,8 +1,8 @@
 use Rattle.std.proofs.Common.{◌≡◌, ℕ, ◌-◌, length, ap, ◌∙◌, arith}
 use Rattle.std.specs.List.{slice_get}
 use Rattle.std.proofs.lemmas.List.{length-map}
-use Rattle.pm_runs.specs.Tiles.{tile_views}
-use Rattle.pm_build.proofs.Contents.{id_low, tile_there}
+use Rattle.pm_build.specs.Tiles.{tile_views}
+use Rattle.pm_build.proofs.Tiles.{id_low, tile_there}
 use Rattle.pm_build.proofs.building.zooms_of.Goals as goal
 
 pub zoom_of-last-requires : goal.zoom_of-last-requires

@@ -13,4 +13,5 @@ returns-clause-leaves c = λ before h.
     (leaf_pushed bytes piece c.args.leaves.now.names.items before es _ h
     record { first = starts es _ c.requires.some; run_is = refl; length_is = omega arith; offset_is = omega arith }
     c.in_ok-bytes.ensures.directory c.requires.each
-    (rw c.in_ok-bytes.ensures.spelling (directory_some es)) (c.in_ok-bytes.ensures.size (omega arith)) c.requires.few (omega (arith, length-append bytes piece)))
+    (rw c.in_ok-bytes.ensures.spelling (directory_some es)) (c.in_ok-bytes.ensures.size (omega arith)) c.requires.few
+    (omega (arith, length-append bytes piece)))

@@ -1,0 +1,173 @@
+-- Runs as entries: one run more.
+use Rattle.std.proofs.Common.{◌≡◌, ◌≢◌, ℕ, ◌+◌, ◌<◌, ◌≤◌, List, [], ◌∷◌, ◌++◌, length, map, take, get_or, max, ◌⊎◌, inl, inr, Option, Some, None, refl, sym, ap}
+use Rattle.std.proofs.Common.{subst, ◌∙◌, arith}
+use Rattle.std.specs.List.{AllByRecursion, Contains, concat}
+use Rattle.std.specs.Str.{bytes_eq}
+use Rattle.std.proofs.lemmas.Bool.{true≢false}
+use Rattle.std.proofs.lemmas.List.{length-append, map_push, take_more, take_all}
+use Rattle.std.proofs.lemmas.List.Elements.{Contains-append_left, Contains-push}
+use Rattle.pm_directory.specs.Counts.{place_of}
+use Rattle.pm_directory.specs.declared.entry.Entry.{Entry}
+use Rattle.pm_build.specs.declared.run.Run.{Run}
+use Rattle.pm_build.specs.Runs.{TileRun}
+use Rattle.pm_build.specs.Joined.{run_view, run_views}
+use Rattle.pm_build.specs.Placed.{AreDifferent}
+use Rattle.pm_build.specs.Clustered.{end_of, IsClustered}
+use Rattle.pm_build.specs.Offsets.{offset_from, with_content, spans_from, IsPlaced, EachPlaced, ArePlacedRuns}
+use Rattle.pm_build.proofs.Offsets.{push_kept, push_same, none_parts, same_bytes, concat_push, with_there, with_new}
+use Rattle.pm_build.proofs.Counting.{stands}
+
+-- ---- facts of each element
+
+pub each_weaker : {X : Type 0} (P Q : X → Type 0) → ((x : X) → P x → Q x) → (xs : List X) → AllByRecursion P xs → AllByRecursion Q xs
+each_weaker P Q f [] h = tt
+each_weaker P Q f (x ∷ xs) h = (f x h.0, each_weaker P Q f xs h.1)
+
+each_push : {X : Type 0} (P : X → Type 0) (xs : List X) (y : X) → AllByRecursion P xs → P y → AllByRecursion P (xs ++ y ∷ [])
+each_push P [] y h p = (p, tt)
+each_push P (x ∷ xs) y h p = (h.0, each_push P xs y h.1 p)
+
+-- ---- what one run more changes
+
+placed_grown : (cs : List (List ℕ)) (d : List ℕ) (rs : List TileRun) (es : List Entry) → EachPlaced cs rs es → EachPlaced (cs ++ d ∷ []) rs es
+placed_grown cs d [] [] h = tt
+placed_grown cs d [] (e ∷ es) h = h
+placed_grown cs d (r ∷ rs) [] h = h
+placed_grown cs d (r ∷ rs) (e ∷ es) h =
+    let p = h.0 in
+    let there = push_kept 0 cs d r.content e.offset p.offset_is in
+    (record { id_is = p.id_is; run_is = p.run_is; length_is = p.length_is; offset_is = there; offset_fits = p.offset_fits }, placed_grown cs d rs es h.1)
+
+placed_push : (cs : List (List ℕ)) (rs : List TileRun) (es : List Entry) (r : TileRun) (e : Entry) → EachPlaced cs rs es → IsPlaced cs r e
+    → EachPlaced cs (rs ++ r ∷ []) (es ++ e ∷ [])
+placed_push cs [] [] r e h p = (p, tt)
+placed_push cs [] (x ∷ es) r e h p = absurd h
+placed_push cs (x ∷ rs) [] r e h p = absurd h
+placed_push cs (x ∷ rs) (y ∷ es) r e h p = (h.0, placed_push cs rs es r e h.1 p)
+
+different_push : (from : ℕ) (cs : List (List ℕ)) (d : List ℕ) → AreDifferent cs → offset_from from cs d ≡ None → AreDifferent (cs ++ d ∷ [])
+different_push from [] d h none = (tt, tt)
+different_push from (c ∷ cs) d h none =
+    let n = none_parts from c cs d none in
+    let other : d ≢ c = λ same. true≢false (sym (same_bytes d) ∙ ap (λ x. bytes_eq d x) same ∙ n.test) in
+    (each_push (λ x. x ≢ c) cs d h.0 other, different_push (from + length c) cs d h.1 n.rest)
+
+spans_push : (from : ℕ) (cs : List (List ℕ)) (d : List ℕ) → spans_from from (cs ++ d ∷ []) ≡ spans_from from cs ++ (from + length (concat cs), length d) ∷ []
+spans_push from [] d = let e : from ≡ from + 0 = omega arith in ap (λ (n : ℕ). let p : ℕ × ℕ = (n, length d) in p ∷ []) e
+spans_push from (c ∷ cs) d =
+    let e : from + length c + length (concat cs) ≡ from + length (c ++ concat cs) = omega (arith, length-append c (concat cs)) in
+    ap (λ (x : List (ℕ × ℕ)). let p : ℕ × ℕ = (from, length c) in p ∷ x)
+    (spans_push (from + length c) cs d ∙ ap (λ (n : ℕ). let p : ℕ × ℕ = (n, length d) in spans_from (from + length c) cs ++ p ∷ []) e)
+
+-- what stays of a run's content and of an entry's span among more
+used_more : (rs : List TileRun) (r : TileRun) (cs : List (List ℕ)) → AllByRecursion (λ c. Contains (map (λ x. x.content) rs) c) cs
+    → AllByRecursion (λ c. Contains (map (λ x. x.content) (rs ++ r ∷ [])) c) cs
+used_more rs r cs h =
+    each_weaker (λ c. Contains (map (λ x. x.content) rs) c) (λ c. Contains (map (λ x. x.content) (rs ++ r ∷ [])) c)
+    (λ c k. subst (λ (x : List (List ℕ)). Contains x c) (sym (map_push (λ (x : TileRun). x.content) rs r))
+    (Contains-append_left (map (λ x. x.content) rs) (r.content ∷ []) c k)) cs h
+
+used_here : (rs : List TileRun) (r : TileRun) → Contains (map (λ x. x.content) (rs ++ r ∷ [])) r.content
+used_here rs r =
+    subst (λ (x : List (List ℕ)). Contains x r.content) (sym (map_push (λ (x : TileRun). x.content) rs r)) (Contains-push (map (λ x. x.content) rs) r.content)
+
+reached_more : (es : List Entry) (e : Entry) (ps : List (ℕ × ℕ)) → AllByRecursion (λ p. Contains (map place_of es) p) ps
+    → AllByRecursion (λ p. Contains (map place_of (es ++ e ∷ [])) p) ps
+reached_more es e ps h =
+    each_weaker (λ p. Contains (map place_of es) p) (λ p. Contains (map place_of (es ++ e ∷ [])) p)
+    (λ p k. subst (λ (x : List (ℕ × ℕ)). Contains x p) (sym (map_push place_of es e)) (Contains-append_left (map place_of es) (place_of e ∷ []) p k)) ps h
+
+reached_here : (es : List Entry) (e : Entry) (p : ℕ × ℕ) → place_of e ≡ p → Contains (map place_of (es ++ e ∷ [])) p
+reached_here es e p is =
+    subst (λ (q : ℕ × ℕ). Contains (map place_of (es ++ e ∷ [])) q) is
+    (subst (λ (x : List (ℕ × ℕ)). Contains x (place_of e)) (sym (map_push place_of es e)) (Contains-push (map place_of es) (place_of e)))
+
+-- ---- the order of the contents
+
+end_push : (end : ℕ) (es : List Entry) (e : Entry) → end_of end (es ++ e ∷ []) ≡ max (end_of end es) (e.offset + e.length)
+end_push end [] e = refl
+end_push end (x ∷ es) e = end_push (max end (x.offset + x.length)) es e
+
+clustered_push : (end : ℕ) (es : List Entry) (e : Entry) → IsClustered end es → (e.offset ≡ end_of end es) ⊎ (e.offset + e.length ≤ end_of end es)
+    → IsClustered end (es ++ e ∷ [])
+clustered_push end [] e h p = (p, tt)
+clustered_push end (x ∷ es) e h p = (h.0, clustered_push (max end (x.offset + x.length)) es e h.1 p)
+
+within : (cs : List (List ℕ)) (r : TileRun) (e : Entry) → IsPlaced cs r e → e.offset + e.length ≤ length (concat cs)
+within cs r e p =
+    let s = stands 0 cs r.content e.offset p.offset_is in
+    let begins : 0 + length s.front ≡ e.offset = s.begins in
+    let long = ap length s.bytes in
+    let size : e.length ≡ length r.content = p.length_is in
+    omega (arith, long, length-append s.front (r.content ++ s.rest), length-append r.content s.rest)
+
+-- ---- one run more
+
+more_there : (rs : List TileRun) (r : TileRun) (es : List Entry) (e : Entry) (cs : List (List ℕ)) → ArePlacedRuns rs es cs → IsPlaced cs r e
+    → ArePlacedRuns (rs ++ r ∷ []) (es ++ e ∷ []) cs
+more_there rs r es e cs h p =
+    let inside = within cs r e p in
+    let ends : end_of 0 es ≡ length (concat cs) = h.ends in
+    record {
+      each = placed_push cs rs es r e h.each p;
+      different = h.different;
+      used = used_more rs r cs h.used;
+      clustered = clustered_push 0 es e h.clustered (inr (omega arith));
+      ends = (let grown = end_push 0 es e in omega arith);
+      reached = reached_more es e (spans_from 0 cs) h.reached;
+    }
+
+more_new : (rs : List TileRun) (r : TileRun) (es : List Entry) (e : Entry) (cs : List (List ℕ)) → ArePlacedRuns rs es cs → offset_from 0 cs r.content ≡ None
+    → IsPlaced (cs ++ r.content ∷ []) r e → ArePlacedRuns (rs ++ r ∷ []) (es ++ e ∷ []) (cs ++ r.content ∷ [])
+more_new rs r es e cs h none p =
+    let offset : Some e.offset ≡ Some (0 + length (concat cs)) = sym p.offset_is ∙ push_same 0 cs r.content none in
+    let offset_is : e.offset ≡ 0 + length (concat cs) = cc in
+    let length_is : e.length ≡ length r.content = p.length_is in
+    let ends : end_of 0 es ≡ length (concat cs) = h.ends in
+    let span : place_of e ≡ (0 + length (concat cs), length r.content) = cc in
+    record {
+      each = placed_push (cs ++ r.content ∷ []) rs es r e (placed_grown cs r.content rs es h.each) p;
+      different = different_push 0 cs r.content h.different none;
+      used = each_push (λ c. Contains (map (λ x. x.content) (rs ++ r ∷ [])) c) cs r.content (used_more rs r cs h.used) (used_here rs r);
+      clustered = clustered_push 0 es e h.clustered (inl (omega arith));
+      ends = (let grown = end_push 0 es e in let more = concat_push cs r.content in omega arith);
+      reached = subst (λ (ps : List (ℕ × ℕ)). AllByRecursion (λ p. Contains (map place_of (es ++ e ∷ [])) p) ps) (sym (spans_push 0 cs r.content))
+          (each_push (λ p. Contains (map place_of (es ++ e ∷ [])) p) (spans_from 0 cs) (0 + length (concat cs), length r.content)
+          (reached_more es e (spans_from 0 cs) h.reached) (reached_here es e _ span));
+    }
+
+more_placed : (rs : List TileRun) (r : TileRun) (es : List Entry) (e : Entry) (old new : List (List ℕ)) → ArePlacedRuns rs es old
+    → new ≡ with_content old r.content → IsPlaced new r e → ArePlacedRuns (rs ++ r ∷ []) (es ++ e ∷ []) new
+more_placed rs r es e old new h grown p = by (offset_from 0 old r.content) refl
+  where
+    by : (o : Option ℕ) → offset_from 0 old r.content ≡ o → ArePlacedRuns (rs ++ r ∷ []) (es ++ e ∷ []) new
+    by None none =
+        let is : new ≡ old ++ r.content ∷ [] = grown ∙ with_new old r.content none in
+        subst (λ (cs : List (List ℕ)). ArePlacedRuns (rs ++ r ∷ []) (es ++ e ∷ []) cs) (sym is)
+        (more_new rs r es e old h none (subst (λ (cs : List (List ℕ)). IsPlaced cs r e) is p))
+    by (Some k) there =
+        let is : new ≡ old = grown ∙ sym (with_there old r.content k there) in
+        subst (λ (cs : List (List ℕ)). ArePlacedRuns (rs ++ r ∷ []) (es ++ e ∷ []) cs) (sym is)
+        (more_there rs r es e old h (subst (λ (cs : List (List ℕ)). IsPlaced cs r e) is p))
+
+-- ---- the loop over the runs
+
+pub placed_none : (runs : List Run) (contents : List (List ℕ)) (es : List Entry) → contents ≡ [] → es ≡ [] → ArePlacedRuns (run_views (take 0 runs)) es contents
+placed_none runs contents es no_contents no_entries =
+    let empty : ArePlacedRuns [] [] [] = record { each = tt; different = tt; used = tt; clustered = tt; ends = refl; reached = tt } in
+    subst (λ (x : List Entry). ArePlacedRuns [] x contents) (sym no_entries) (subst (λ (x : List (List ℕ)). ArePlacedRuns [] [] x) (sym no_contents) empty)
+
+pub placed_more : (runs : List Run) (i : ℕ) (d : Run) (es more : List Entry) (e : Entry) (old new : List (List ℕ)) → i < length runs → more ≡ es ++ e ∷ []
+    → ArePlacedRuns (run_views (take i runs)) es old
+    → new ≡ with_content old (get_or runs i d).content.now → IsPlaced new (run_view (get_or runs i d)) e
+    → ArePlacedRuns (run_views (take (i + 1) runs)) more new
+placed_more runs i d es more e old new lt pushed h grown p =
+    let views : run_views (take (i + 1) runs) ≡ run_views (take i runs) ++ run_view (get_or runs i d) ∷ [] =
+    ap run_views (take_more runs i d lt) ∙ map_push run_view (take i runs) (get_or runs i d) in
+    subst (λ (x : List TileRun). ArePlacedRuns x more new) (sym views)
+    (subst (λ (x : List Entry). ArePlacedRuns (run_views (take i runs) ++ run_view (get_or runs i d) ∷ []) x new) (sym pushed)
+    (more_placed (run_views (take i runs)) (run_view (get_or runs i d)) es e old new h grown p))
+
+pub placed_all : (runs : List Run) (i : ℕ) (es : List Entry) (contents : List (List ℕ)) → length runs ≤ i → ArePlacedRuns (run_views (take i runs)) es contents
+    → ArePlacedRuns (run_views runs) es contents
+placed_all runs i es contents le h = subst (λ (x : List Run). ArePlacedRuns (run_views x) es contents) (take_all i runs le) h

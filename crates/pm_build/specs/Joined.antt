@@ -1,0 +1,35 @@
+-- The longest runs as a function of the tiles.
+use Rattle.std.specs.Prelude.{◌+◌, ◌&&◌, Bool, cond, List, [], ◌∷◌, map, nat_eq, nat_lt}
+use Rattle.std.specs.Str.{bytes_eq}
+use Rattle.pm_build.specs.declared.run.Run.{Run}
+use Rattle.pm_build.specs.Tiles.{Tile}
+use Rattle.pm_build.specs.Runs.{TileRun}
+
+-- a run without where it lies in memory
+abbrev pub run_view : Run → TileRun
+run_view r = record { first = r.first; count = r.count; content = r.content.now }
+
+abbrev pub run_views : List Run → List TileRun
+run_views rs = map run_view rs
+
+-- whether the tile goes on with the run
+abbrev pub goes_on : TileRun → Tile → Bool
+goes_on r t = nat_eq t.0 (r.first + r.count) && (nat_lt r.count 4294967295 && bytes_eq t.1 r.content)
+
+-- the run of one tile
+abbrev pub run_of : Tile → TileRun
+run_of t = record { first = t.0; count = 1; content = t.1 }
+
+-- the run with one tile more
+abbrev pub one_more : TileRun → TileRun
+one_more r = record { first = r.first; count = r.count + 1; content = r.content }
+
+-- the runs of tiles that stand behind this run
+unfoldable pub runs_from : TileRun → List Tile → List TileRun
+runs_from r [] = r ∷ []
+runs_from r (t ∷ ts) = cond (goes_on r t) (runs_from (one_more r) ts) (r ∷ runs_from (run_of t) ts)
+
+-- the longest runs of the tiles
+unfoldable pub runs_of : List Tile → List TileRun
+runs_of [] = []
+runs_of (t ∷ ts) = runs_from (run_of t) ts

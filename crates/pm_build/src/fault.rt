@@ -1,0 +1,12 @@
+use thiserror::Error;
+
+/// Why no archive was built.
+#[derive(Clone, Copy, Debug, PartialEq, Eq, Error)]
+pub enum BuildFault {
+    /// The tiles need more than `MAX_ENTRIES` entries.
+    #[error("the tiles need more than 131,072 entries")]
+    TooManyEntries,
+    /// An allocation failed.
+    #[error("out of memory")]
+    Memory,
+}

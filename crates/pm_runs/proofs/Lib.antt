@@ -1,5 +1,0 @@
-pub mod Counting
-pub mod Entries
-pub mod Growing
-pub mod Joining
-pub mod Offsets

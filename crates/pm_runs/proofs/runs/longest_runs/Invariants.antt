@@ -1,7 +1,0 @@
-use Rattle.std.proofs.Common.{drop}
-use Rattle.pm_runs.specs.Tiles.{tile_views}
-use Rattle.pm_runs.proofs.Joining.{Joins}
-use Rattle.pm_runs.proofs.runs.longest_runs.Given as goal
-
-abbrev pub invariant-loop-tile : goal.invariant-loop-tile
-invariant-loop-tile l = Joins (tile_views l.tiles) l.runs.items l.run (tile_views (drop l.tile-index l.rest))
