@@ -4,6 +4,7 @@ pub mod HeadLemmas
 pub mod InputLemmas
 pub mod KnownLemmas
 pub mod LineLemmas
+pub mod PartLemmas
 pub mod ReplyLemmas
 pub mod ServeLemmas
 pub mod ReadingLemmas

@@ -11,15 +11,18 @@ use Rattle.http_serve.specs.declared.connection.End.{End}
 use Rattle.http_serve.specs.declared.connection.End.TheVariants.{Closed, Asked, Refused, Turns}
 use Rattle.http_serve.specs.declared.connection.Served.{Served}
 use Rattle.http_serve.specs.declared.connection.ServeFault.{ServeFault}
-use Rattle.http_serve.specs.declared.connection.ServeFault.TheVariants.{Memory, Read, Write}
+use Rattle.http_serve.specs.declared.connection.ServeFault.TheVariants.{Memory, Read, Write, Content}
+use Rattle.http_serve.specs.declared.contents.SendFault.{SendFault}
+use Rattle.http_serve.specs.declared.contents.SendFault.TheVariants as cuts
 use Rattle.http_serve.specs.Input.{buffer_size}
+use Rattle.http_serve.specs.Parts.{cut_after}
 use Rattle.http_serve.specs.Message.{Message, Ending, going, closed, asked, refused, EndsAs, IsRefused, Requests}
 use Rattle.http_serve.specs.Question.{Question}
 use Rattle.http_serve.specs.Reply.{ReplyView, refusal_bytes}
 use Rattle.http_serve.specs.Served.{RisesBy, reply_count, Answers, AnswersEnd, AnswersAll, AnswersNext, RefusesNext, Carries, Ends, Breaks, Anything, MayFollow}
 use Rattle.http_serve.specs.Steps.{HasPlainEnd, IsFinished, IsUnfinished, IsBroken}
 use Rattle.http_serve.specs.Told.{end_of, IfTurns, IsServed, IsServedTo, IsServedSoFar, IsServedInPart, IsServedUpTo, IsAnswered, LosesAtLeast, LosesAtMost}
-use Rattle.http_serve.specs.Told.{MeetsTurns, KeepsTurns, AnswersInput}
+use Rattle.http_serve.specs.Told.{HasContent, MeetsTurns, KeepsTurns, AnswersInput}
 use Rattle.http_serve.proofs.HeadLemmas.{empty_no_head, refused_none}
 use Rattle.http_serve.proofs.KnownLemmas.{Appends-then, Consumes-then, Consumes_none}
 use Rattle.http_serve.proofs.CarryLemmas.{Begins-append, Begins-then, Answers-then, Carries_start, Ends_push, Breaks_refused, rises_then, reply_count-append}
@@ -60,6 +63,12 @@ pub record IsSoFar {S : Type 0} (replies : S → Question → ReplyView → S �
   pub refused : IsRefused waiting head reason
 
 module _ {S : Type 0} (replies : S → Question → ReplyView → S → Type 0) where
+  -- what a cut reply leaves
+  pub cut_breaks : (old : S) (bytes : List ℕ) (held : Option (List ℕ)) (before : ℕ) (new : S) (holds : Option (List ℕ)) (requests : ℕ) (fault : SendFault)
+      → Breaks replies old bytes Anything held before new holds requests → IsBroken replies old bytes held before (cut_after requests fault) new holds
+  cut_breaks old bytes held before new holds requests cuts.Write breaks = breaks
+  cut_breaks old bytes held before new holds requests cuts.Content breaks = breaks
+
   pub SoFar_start : (old : S) (left held : Option (List ℕ)) (waiting : List ℕ) → waiting ≡ []
       → IsSoFar replies old left held old left held 0 waiting Head
   SoFar_start old left held waiting empty =
@@ -242,6 +251,7 @@ module _ {S : Type 0} (replies : S → Question → ReplyView → S → Type 0) 
       SoFar_broken Memory y = absurd y
       SoFar_broken (Read n) y = absurd y
       SoFar_broken (Write n) y = SoFar_breaks n y
+      SoFar_broken (Content n) y = SoFar_breaks n y
 
     -- the input ended
     SoFar_finish : (served : Served) (last : Option (List ℕ)) (now : Option (List ℕ)) → Consumes leaves last [] → IsAtEnd last
@@ -373,6 +383,12 @@ finished_reads turns input left waiting head reason held before (Ok served) hold
 finished_reads turns input left waiting head reason held before (Err Memory) holds so x = let told = x.told in absurd (cc)
 finished_reads turns input left waiting head reason held before (Err (Read n)) holds so x = let told = x.told in absurd (cc)
 finished_reads turns input left waiting head reason held before (Err (Write n)) holds so x = so
+finished_reads turns input left waiting head reason held before (Err (Content n)) holds so x = so
+
+-- what the input's end is answered with isn't read in parts
+pub unfinished_content : (parts : List ℕ) (waiting : List ℕ) (head : Option RequestHead) (reason : Refusal) (held : Option (List ℕ)) (before : ℕ)
+    (fault : ServeFault) (holds : Option (List ℕ)) → IsUnfinished waiting head reason held before fault holds → HasContent parts fault
+unfinished_content parts waiting head reason held before fault holds x = subst (λ (f : ServeFault). HasContent parts f) (sym x.told) tt
 
 -- an end of another kind
 pub other_turns : (turns : ℕ) (input left : Option (List ℕ)) (end : End) → end ≢ Turns → MeetsTurns turns input left end

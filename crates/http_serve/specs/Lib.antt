@@ -3,6 +3,7 @@ pub mod Frame
 pub mod Input
 pub mod Lines
 pub mod Message
+pub mod Parts
 pub mod Question
 pub mod Reply
 pub mod Search

@@ -81,7 +81,7 @@ module _ {S : Type 0} (replies : S → Question → ReplyView → S → Type 0) 
     pub same : new ≡ old
     pub out_is : out ≡ refusal_bytes head refusal
 
-  -- a write failed: the replies to some whole requests are written, and the first bytes of the next reply
+  -- a reply was cut: the replies to some whole requests are written, and the first bytes of the next reply
   pub record Breaks (old : S) (bytes : List ℕ) (follow : List ℕ → Type 0) (held : Option (List ℕ)) (before : ℕ)
       (new : S) (holds : Option (List ℕ)) (after : ℕ) : Type 0 where
     pub middle : S

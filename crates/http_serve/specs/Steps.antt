@@ -6,7 +6,7 @@ use Rattle.http_serve.specs.declared.connection.End.TheVariants.{Turns}
 use Rattle.http_serve.specs.declared.connection.Pause.{Pause}
 use Rattle.http_serve.specs.declared.connection.Pause.TheVariants.{Ended, More}
 use Rattle.http_serve.specs.declared.connection.ServeFault.{ServeFault}
-use Rattle.http_serve.specs.declared.connection.ServeFault.TheVariants.{Memory, Read, Write}
+use Rattle.http_serve.specs.declared.connection.ServeFault.TheVariants.{Memory, Read, Write, Content}
 use Rattle.http_serve.specs.declared.connection.Served.{Served}
 use Rattle.http_serve.specs.declared.refusals.Refusal.{Refusal}
 use Rattle.http_serve.specs.Message.{IsRefused, EndsAs, Ending, going, closed, asked, refused}
@@ -52,8 +52,9 @@ module _ {S : Type 0} (replies : S → Question → ReplyView → S → Type 0) 
       Carries replies old waiting held before new rest holds requests × (length rest < 73728)
       × (head : Option RequestHead) × IsRefused rest head refusal
 
-  -- a write failed
+  -- a reply was cut
   abbrev pub IsBroken : S → List ℕ → Option (List ℕ) → ℕ → ServeFault → S → Option (List ℕ) → Type 0
   IsBroken old waiting held before Memory new holds = ⊥
   IsBroken old waiting held before (Read requests) new holds = ⊥
   IsBroken old waiting held before (Write requests) new holds = Breaks replies old waiting Anything held before new holds requests
+  IsBroken old waiting held before (Content requests) new holds = Breaks replies old waiting Anything held before new holds requests

@@ -1,10 +1,10 @@
 -- What a connection came to.
-use Rattle.std.specs.Prelude.{◌≡◌, ◌≤◌, ◌+◌, ◌-◌, ◌*◌, ℕ, List, length, Some, None, Option, Ok, Err, Result, ⊤}
+use Rattle.std.specs.Prelude.{◌≡◌, ◌<◌, ◌≤◌, ◌+◌, ◌-◌, ◌*◌, ℕ, List, length, Some, None, Option, Ok, Err, Result, ⊤}
 use Rattle.std.specs.Io.KnownBytes.{Consumes, Appends}
 use Rattle.http_serve.specs.declared.connection.End.{End}
 use Rattle.http_serve.specs.declared.connection.End.TheVariants.{Closed, Asked, Refused, Turns}
 use Rattle.http_serve.specs.declared.connection.ServeFault.{ServeFault}
-use Rattle.http_serve.specs.declared.connection.ServeFault.TheVariants.{Memory, Read, Write}
+use Rattle.http_serve.specs.declared.connection.ServeFault.TheVariants.{Memory, Read, Write, Content}
 use Rattle.http_serve.specs.declared.connection.Served.{Served}
 use Rattle.http_serve.specs.Input.{buffer_size}
 use Rattle.http_serve.specs.Message.{Message, IsMessage, Requests, Ending, going, closed, asked, refused}
@@ -52,10 +52,16 @@ giving_reads turns (Ok served) = turns
 giving_reads turns (Err Memory) = 0
 giving_reads turns (Err (Read requests)) = turns - 1
 giving_reads turns (Err (Write requests)) = turns
+giving_reads turns (Err (Content requests)) = turns
 
 -- no more than so many reads were made, each of at most the bytes that a buffer has
 abbrev pub KeepsTurns : ℕ → Result Served ServeFault → Option (List ℕ) → Option (List ℕ) → Type 0
 KeepsTurns turns result input left = LosesAtMost (giving_reads turns result * buffer_size) input left
+
+-- the fault is the handler's only where a content is read in parts
+abbrev pub HasContent : List ℕ → ServeFault → Type 0
+HasContent parts (Content requests) = 0 < length parts
+HasContent parts fault = ⊤
 
 module _ {S : Type 0} (replies : S → Question → ReplyView → S → Type 0) where
   -- The bytes that were read are these requests up to an ending, whatever may follow, and the replies were
@@ -94,6 +100,7 @@ module _ {S : Type 0} (replies : S → Question → ReplyView → S → Type 0) 
   IsServedUpTo old left held Memory new leaves holds = (new ≡ old) × (leaves ≡ left) × (holds ≡ held)
   IsServedUpTo old left held (Read requests) new leaves holds = IsServedSoFar old left held requests new leaves holds
   IsServedUpTo old left held (Write requests) new leaves holds = IsServedInPart old left held requests new leaves holds
+  IsServedUpTo old left held (Content requests) new leaves holds = IsServedInPart old left held requests new leaves holds
 
   -- all bytes of the input are these requests up to an ending, and their replies, in order, are what was written
   pub record IsAnswered (old : S) (input : List ℕ) (held : Option (List ℕ)) (served : Served) (new : S) (holds : Option (List ℕ)) : Type 0 where

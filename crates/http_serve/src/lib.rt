@@ -2,6 +2,7 @@
 #![tactic(auto)]
 
 mod connection;
+mod contents;
 mod fields;
 mod frames;
 mod handlers;
@@ -15,7 +16,7 @@ mod searches;
 mod writes;
 
 pub use connection::{End, MOST_READS, ServeFault, Served, serve, serve_turns};
-pub use handlers::{Handler, Request};
+pub use handlers::{ContentFault, Handler, PART_SIZE, Request};
 pub use laws::one_reading;
 pub use refusals::Refusal;
 pub use replies::{Content, ContentRange, Reply};
