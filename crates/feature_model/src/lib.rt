@@ -11,7 +11,7 @@ pub use copies::copy;
 pub use fault::EditFault;
 pub use feature::{Edit, EditValue, Feature, Geometry, Tag, World};
 pub use lengths::put_text_len;
-pub use limits::{GREATEST_ZOOM, check};
+pub use limits::{GREATEST_ZOOM, NUMBER_END, check};
 
 /// A growth that was refused.
 pub type Memory = std::alloc::AllocError;

@@ -12,8 +12,8 @@ use crate::fault::EditFault;
 use crate::feature::{EditValue, Feature, Geometry, Tag, World};
 use crate::lengths::put_text_len;
 
-/// Numbers of features are below 2^63.
-const NUMBERS: u64 = 1 << 63;
+/// One above the greatest number of a feature.
+pub const NUMBER_END: u64 = 1 << 63;
 /// The greatest zoom of a feature, and of a tile of the map.
 pub const GREATEST_ZOOM: u8 = 16;
 /// The most bytes of a name of a layer or a key of a tag.
@@ -133,7 +133,7 @@ pub fn check(id: u64, feature: &Feature) -> Result<(), EditFault>
     ensures ok { IsOk result ↔ IsAllowed id (feature_data feature.now) }
     ensures first { IfErr result (IsFirstFault id (feature_data feature.now)) }
 {
-    if id >= NUMBERS {
+    if id >= NUMBER_END {
         return Err(EditFault::Number);
     }
     if !is_name(feature.layer.as_str()) {
