@@ -5,10 +5,11 @@ use Rattle.http.specs.StatusCode.{code_digits, reason_phrase}
 use Rattle.std.specs.Cmp.Lexicographic.{pointwise}
 use Rattle.httparse.specs.Grammar.{RequestHead}
 use Rattle.httparse.specs.Spans.{span_bytes}
-use Rattle.http_serve.specs.Message.{Message, asks_to_close}
+use Rattle.http_serve.specs.Requests.{Request, asks_to_close}
 use Rattle.http_serve.specs.declared.frames.Frame.{Frame}
 use Rattle.http_serve.specs.declared.refusals.Refusal.{Refusal}
 use Rattle.http_serve.specs.declared.refusals.Refusal.TheVariants.{Head}
+use Rattle.http_serve.specs.declared.replies.TheConstants.{MOST_WORD}
 use Rattle.http_serve.specs.declared.replies.Content.{Content}
 use Rattle.http_serve.specs.declared.replies.Content.TheVariants.{Empty, Fixed, Whole, Parts}
 use Rattle.http_serve.specs.declared.replies.ContentRange.{ContentRange}
@@ -23,7 +24,7 @@ pub record ReplyView : Type 0 where
   pub allow : Option (List ℕ)
   pub content : List ℕ
 
--- what the head of a reply says: the same, with the length of the content in its place
+-- what the head of a reply says: the same, but of the content its length
 pub record HeadView : Type 0 where
   pub status : ℕ
   pub kind : Option (List ℕ)
@@ -81,9 +82,9 @@ head_view reply = record {
   size = content_size reply.content;
 }
 
--- the name of the type and the list of methods have at most 64 bytes, so that the head of a reply has a bound
+-- the name of the type and the list of methods have at most so many bytes, so that the head of a reply has a bound
 abbrev pub HasShortWords : HeadView → Type 0
-HasShortWords head = IfSome head.kind (λ kind. length kind ≤ 64) × IfSome head.allow (λ allow. length allow ≤ 64)
+HasShortWords head = IfSome head.kind (λ kind. length kind ≤ MOST_WORD) × IfSome head.allow (λ allow. length allow ≤ MOST_WORD)
 
 -- a reply that can be written, where its content is read in parts as these bytes
 abbrev pub IsWritable : List ℕ → Reply → Type 0
@@ -161,8 +162,8 @@ abbrev pub is_head : List ℕ → Bool
 is_head method = pointwise nat_eq method (codes "HEAD")
 
 -- the reply to a request
-abbrev pub reply_to : Message → ReplyView → List ℕ
-reply_to message reply = reply_bytes (asks_to_close message.head) (is_head message.head.method) reply
+abbrev pub reply_to : Request → ReplyView → List ℕ
+reply_to request reply = reply_bytes (asks_to_close request.head) (is_head request.head.method) reply
 
 -- the reply to the request in a frame of the bytes
 abbrev pub reply_at : List ℕ → Frame → ReplyView → List ℕ

@@ -3,12 +3,13 @@ ghost use Rattle.std.specs.Prelude.{◌≡◌, ◌≤◌, ◌<◌, ◌^◌, ℕ,
 ghost use Rattle.httparse.specs.Grammar.{RequestHead};
 ghost use Rattle.httparse.specs.Spans.{IsWithin, span_bytes};
 ghost use Rattle.std.specs.Option.{option_map};
-ghost use Rattle.http_serve.specs.Question.{path_of, question_at};
+ghost use Rattle.http_serve.specs.Requests.{path_of, request_view_at};
 ghost use Rattle.http_serve.specs.Reply.{ReplyView, is_head, reply_at, refusal_bytes};
 ghost use Rattle.http_serve.specs.Search.{IsKnown};
 ghost use Rattle.http_serve.specs.Sent.{Sends};
 ghost use Rattle.http_serve.specs.Steps.{IsPaused, IsBroken, IsFinished, IsUnfinished};
-ghost use Rattle.http_serve.specs.Told.{IsServed, IsServedUpTo, HasContent, most_reads, MeetsTurns, KeepsTurns, AnswersInput};
+ghost use Rattle.http_serve.specs.declared.connection.TheConstants.{MOST_READS};
+ghost use Rattle.http_serve.specs.Told.{IsServed, IsServedUpTo, HasContent, MeetsTurns, KeepsTurns, AnswersInput};
 ghost use Rattle.http_serve.specs.Parts.{IsCutIn};
 
 use crate::contents::{SendFault, send_reply};
@@ -111,7 +112,7 @@ fn answer_one<H: Handler, W: Write>(
     requires range { IfSome frame.now.range (IsWithin (length bytes.now)) }
     requires room { 16384 ≤ vec_capacity out.old }
     ensures room { 16384 ≤ vec_capacity out.new }
-    ensures reply { (reply : ReplyView) × H.replies handler.old (question_at bytes.now frame.now) reply handler.new
+    ensures reply { (reply : ReplyView) × H.replies handler.old (request_view_at bytes.now frame.now) reply handler.new
         × Sends result (W.contents writer.old) (W.contents writer.new) (reply_at bytes.now frame.now reply) }
     ensures cut { IfErr result (IsCutIn (H.content handler.new)) }
 {
@@ -293,8 +294,8 @@ pub fn serve<R: Read, W: Write, H: Handler>(
     ensures fault { IfErr result (λ fault. IsServedUpTo H.replies handler.old (R.remaining reader.old) (W.contents writer.old) fault
         handler.new (R.remaining reader.new) (W.contents writer.new)) }
     ensures content { IfErr result (HasContent (H.content handler.new)) }
-    ensures turns { IfOk result (λ served. MeetsTurns most_reads (R.remaining reader.old) (R.remaining reader.new) served.end) }
-    ensures reads { KeepsTurns most_reads result (R.remaining reader.old) (R.remaining reader.new) }
+    ensures turns { IfOk result (λ served. MeetsTurns MOST_READS (R.remaining reader.old) (R.remaining reader.new) served.end) }
+    ensures reads { KeepsTurns MOST_READS result (R.remaining reader.old) (R.remaining reader.new) }
 {
     serve_turns(alloc, reader, writer, handler, MOST_READS)
 }

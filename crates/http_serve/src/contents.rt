@@ -1,7 +1,8 @@
 //! Replies whose content is read from the handler in parts.
 ghost use Rattle.std.specs.Prelude.{◌≡◌, ◌≢◌, ◌≤◌, ◌<◌, ◌+◌, ◌^◌, length, take, drop, vec_capacity, ℕ, IfErr};
 ghost use Rattle.http_serve.specs.Parts.{rest_bytes, IsCutIn, cut_after};
-ghost use Rattle.http_serve.specs.Question.{Question};
+ghost use Rattle.http_serve.specs.declared.handlers.TheConstants.{PART_SIZE};
+ghost use Rattle.http_serve.specs.Requests.{RequestView};
 ghost use Rattle.http_serve.specs.Reply.{ReplyView, IsWritable, FitsParts, reply_view, reply_bytes};
 ghost use Rattle.http_serve.specs.Sent.{Sends};
 
@@ -41,11 +42,11 @@ fn send_part<H: Handler, W: Write>(
 ) -> Result<(), SendFault>
     requires within { offset + length part.old ≤ length (H.content handler.old) }
     requires some { 0 < length part.old }
-    requires few { length part.old ≤ 512 }
+    requires few { length part.old ≤ PART_SIZE }
     ensures sent { Sends result (W.contents writer.old) (W.contents writer.new) (take (length part.old) (drop offset (H.content handler.old))) }
     ensures cut { IfErr result (IsCutIn (H.content handler.new)) }
     ensures content { H.content handler.new ≡ H.content handler.old }
-    ensures same { (old : H) (question : Question) (reply : ReplyView) → H.replies old question reply handler.old → H.replies old question reply handler.new }
+    ensures same { (old : H) (request : RequestView) (reply : ReplyView) → H.replies old request reply handler.old → H.replies old request reply handler.new }
     ensures length { length part.new ≡ length part.old }
 {
     match handler.read_content(offset, part) {
@@ -70,7 +71,7 @@ fn send_parts<H: Handler, W: Write>(
     ensures sent { Sends result (W.contents writer.old) (W.contents writer.new) (drop offset (H.content handler.old)) }
     ensures cut { IfErr result (IsCutIn (H.content handler.new)) }
     ensures content { H.content handler.new ≡ H.content handler.old }
-    ensures same { (old : H) (question : Question) (reply : ReplyView) → H.replies old question reply handler.old → H.replies old question reply handler.new }
+    ensures same { (old : H) (request : RequestView) (reply : ReplyView) → H.replies old request reply handler.old → H.replies old request reply handler.new }
 {
     let mut buffer = [0; PART_SIZE];
     let mut at = offset;
@@ -95,7 +96,7 @@ fn send_rest<H: Handler, W: Write>(
     ensures sent { Sends result (W.contents writer.old) (W.contents writer.new) (rest_bytes bare (H.content handler.old) reply.now) }
     ensures cut { IfErr result (IsCutIn (H.content handler.new)) }
     ensures content { H.content handler.new ≡ H.content handler.old }
-    ensures same { (old : H) (question : Question) (reply : ReplyView) → H.replies old question reply handler.old → H.replies old question reply handler.new }
+    ensures same { (old : H) (request : RequestView) (reply : ReplyView) → H.replies old request reply handler.old → H.replies old request reply handler.new }
 {
     if !reply.sends_content(bare) {
         return Ok(());
@@ -123,7 +124,7 @@ pub(crate) fn send_reply<H: Handler, W: Write>(
     ensures sent { Sends result (W.contents writer.old) (W.contents writer.new) (reply_bytes close bare (reply_view (H.content handler.old) reply.now)) }
     ensures cut { IfErr result (IsCutIn (H.content handler.new)) }
     ensures content { H.content handler.new ≡ H.content handler.old }
-    ensures same { (old : H) (question : Question) (reply : ReplyView) → H.replies old question reply handler.old → H.replies old question reply handler.new }
+    ensures same { (old : H) (request : RequestView) (reply : ReplyView) → H.replies old request reply handler.old → H.replies old request reply handler.new }
 {
     match send_front(writer, out, reply, close, bare) {
         Ok(()) => send_rest(handler, writer, reply, bare),

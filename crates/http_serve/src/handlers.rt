@@ -1,7 +1,8 @@
 //! What answers the requests of a connection.
 ghost use Rattle.std.specs.Prelude.{◌≡◌, ◌≤◌, ◌+◌, ℕ, List, length, take, drop, OnOk};
 ghost use Rattle.std.specs.Option.{option_map};
-ghost use Rattle.http_serve.specs.Question.{Question};
+ghost use Rattle.http_serve.specs.declared.handlers.TheConstants.{PART_SIZE};
+ghost use Rattle.http_serve.specs.Requests.{RequestView};
 ghost use Rattle.http_serve.specs.Reply.{ReplyView, IsWritable, reply_view};
 
 use crate::Reply;
@@ -24,7 +25,7 @@ pub struct Request<'a> {
     pub path: &'a [u8],
     /// The value of the one field called range, without white space around it. None where there is no such field, or more.
     pub range: Option<&'a [u8]>,
-    /// The body, of at most 65,536 bytes.
+    /// The body, of at most `MOST_BODY` bytes.
     pub body: &'a [u8],
     /// Whether the connection ends after the reply.
     pub close: bool,
@@ -32,13 +33,13 @@ pub struct Request<'a> {
 
 /// What answers the requests of a connection.
 pub trait Handler {
-    // In the first state the question may get the reply, and the second state follows.
-    ghost replies: { Self → Question → ReplyView → Self → Type 0 };
+    // In the first state the request may get the reply, and the second state follows.
+    ghost replies: { Self → RequestView → ReplyView → Self → Type 0 };
 
     // The content of the last reply, where it is read in parts.
     ghost content: { Self → List ℕ };
 
-    /// Answers a request. The type of the content and the list of methods have at most 64 bytes.
+    /// Answers a request. The type of the content and the list of methods have at most `MOST_WORD` bytes.
     /// To a request whose method is HEAD the reply is written without its content.
     /// A content in parts whose first bytes can't be read gets another reply: behind the head that is too late.
     fn answer(&mut self, request: &Request<'_>) -> Reply
@@ -55,8 +56,8 @@ pub trait Handler {
     /// is in parts. After a fault `part` has any bytes. Whatever reply led to the state before leads to the state behind.
     fn read_content(&mut self, offset: u64, part: &mut [u8]) -> Result<(), ContentFault>
         requires within { offset + length part.old ≤ length (content self.old) }
-        requires few { length part.old ≤ 512 }
+        requires few { length part.old ≤ PART_SIZE }
         ensures bytes { OnOk result (part.new ≡ take (length part.old) (drop offset (content self.old))) }
         ensures content { content self.new ≡ content self.old }
-        ensures same { (old : Self) (question : Question) (reply : ReplyView) → replies old question reply self.old → replies old question reply self.new };
+        ensures same { (old : Self) (request : RequestView) (reply : ReplyView) → replies old request reply self.old → replies old request reply self.new };
 }

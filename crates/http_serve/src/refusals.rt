@@ -8,7 +8,7 @@ use http::StatusCode;
 /// Why bytes begin with no request.
 #[derive(Clone, Copy, Debug, PartialEq, Eq)]
 pub enum Refusal {
-    /// No head is there, its content-length is no single number up to 65,536, or its body is cut short.
+    /// No head is there, its content-length is no single number up to `MOST_BODY`, or its body is cut short.
     Head,
 }
 

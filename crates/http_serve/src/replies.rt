@@ -10,6 +10,9 @@ use http::StatusCode;
 use itoa::Buffer;
 use std::io::Write;
 
+/// The most bytes of the type of a content, and of the list of methods.
+pub const MOST_WORD: usize = 64;
+
 /// The content of a reply.
 #[derive(Drop)]
 pub enum Content {
@@ -60,11 +63,11 @@ pub enum ContentRange {
 #[derive(Drop)]
 pub struct Reply {
     pub status: StatusCode,
-    /// The type of the content, as in `text/plain`: at most 64 bytes.
+    /// The type of the content, as in `text/plain`: at most `MOST_WORD` bytes.
     pub kind: Option<&'static str>,
     /// Which part of a whole the content is.
     pub range: Option<ContentRange>,
-    /// The methods that are allowed, as in `GET, HEAD`: at most 64 bytes.
+    /// The methods that are allowed, as in `GET, HEAD`: at most `MOST_WORD` bytes.
     pub allow: Option<&'static str>,
     pub content: Content,
 }

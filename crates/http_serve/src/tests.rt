@@ -456,7 +456,7 @@ fn refusals_wait_for_no_more(rt: HostRuntime) -> Result<(), Fail> {
     Ok(())
 }
 
-/// Heads at fault, at each place of a head.
+/// Heads at fault, at each position of a head.
 const FAULTS: [&[u8]; 34] = [
     b"\r\rGET /a HTTP/1.1\r\n",
     b"\n\rGET /a HTTP/1.1\r\n",

@@ -1,5 +1,6 @@
 ghost use Rattle.std.specs.Prelude.{◌≡◌, ◌≤◌, ◌<◌, ◌+◌, ◌-◌, ◌^◌, ◌⊎◌, [], IfOk, IfErr, OnOk};
-ghost use Rattle.http_serve.specs.Told.{IsServed, IsServedUpTo, HasContent, most_reads, MeetsTurns, KeepsTurns, AnswersInput};
+ghost use Rattle.http_serve.specs.declared.connection.TheConstants.{MOST_READS};
+ghost use Rattle.http_serve.specs.Told.{IsServed, IsServedUpTo, HasContent, MeetsTurns, KeepsTurns, AnswersInput};
 ghost use Rattle.http_serve.specs.Reply.{reply_view, IsWritable};
 ghost use Rattle.thin_service.specs.Requests.{MakesPut, RefusesPut, AnswersTile, Replies};
 ghost use Rattle.thin_service.specs.State.{ServiceReplies};
@@ -92,7 +93,7 @@ impl ThinService {
 impl Handler for ThinService {
     ghost use Rattle.thin_service.specs.State.{state_of};
 
-    ghost replies = { λ old question reply new. Replies (state_of old) question reply (state_of new) };
+    ghost replies = { λ old request reply new. Replies (state_of old) request reply (state_of new) };
 
     // No content is read in parts.
     ghost content = { λ _. [] };
@@ -134,8 +135,8 @@ pub fn thin_serve<R: Read, W: Write>(
     ensures fault { IfErr result (λ fault. IsServedUpTo ServiceReplies service.old (R.remaining reader.old) (W.contents writer.old) fault
         service.new (R.remaining reader.new) (W.contents writer.new)) }
     ensures whole { IfErr result (HasContent []) }
-    ensures turns { IfOk result (λ served. MeetsTurns most_reads (R.remaining reader.old) (R.remaining reader.new) served.end) }
-    ensures reads { KeepsTurns most_reads result (R.remaining reader.old) (R.remaining reader.new) }
+    ensures turns { IfOk result (λ served. MeetsTurns MOST_READS (R.remaining reader.old) (R.remaining reader.new) served.end) }
+    ensures reads { KeepsTurns MOST_READS result (R.remaining reader.old) (R.remaining reader.new) }
 {
     serve(alloc, reader, writer, service)
 }

@@ -5,8 +5,8 @@ use Rattle.http_serve.specs.declared.connection.ServeFault.{ServeFault}
 use Rattle.http_serve.specs.Frame.{IsNext}
 use Rattle.http_serve.specs.Steps.{IsBroken}
 use Rattle.http_serve.specs.Told.{HasContent}
-use Rattle.http_serve.specs.Message.{asked, refused}
-use Rattle.http_serve.specs.Question.{question_at}
+use Rattle.http_serve.specs.Requests.{asked, refused}
+use Rattle.http_serve.specs.Requests.{request_view_at}
 use Rattle.http_serve.specs.Reply.{ReplyView, refusal_bytes, reply_at}
 use Rattle.http_serve.specs.Served.{Anything, Carries}
 use Rattle.http_serve.proofs.HeadLemmas.{missing_now}
@@ -52,7 +52,7 @@ returns-in-Err-answer_one-clause-err g c =
     let input = c.requests.session.input.waiting in
     let found = subst (λ (t : List ℕ). IsNext t (Whole frame)) c.waiting.ensures c.in-Whole.ensures.next in
     let told = subst (λ (t : List ℕ). (reply : ReplyView)
-    × g.H.Handler.replies c.requests.handler (question_at t frame) reply c.answer_one.new.handler
+    × g.H.Handler.replies c.requests.handler (request_view_at t frame) reply c.answer_one.new.handler
     × ((n : ℕ) × (n < length (reply_at t frame reply))
     × Appends (g.W.Write.contents c.requests.writer) (g.W.Write.contents c.answer_one.new.writer) (take n (reply_at t frame reply))))
     c.waiting-waiting.ensures c.in-Err-answer_one.ensures.reply in
@@ -73,7 +73,7 @@ returns-then-frame-clause-ok g c =
     let input = c.requests.session.input.waiting in
     let found = subst (λ (t : List ℕ). IsNext t (Whole frame)) c.waiting.ensures c.in-Whole.ensures.next in
     let told = subst (λ (t : List ℕ). (reply : ReplyView)
-    × g.H.Handler.replies c.requests.handler (question_at t frame) reply c.answer_one.new.handler
+    × g.H.Handler.replies c.requests.handler (request_view_at t frame) reply c.answer_one.new.handler
     × Appends (g.W.Write.contents c.requests.writer) (g.W.Write.contents c.answer_one.new.writer) (reply_at t frame reply))
     c.waiting-waiting.ensures c.in-Ok-answer_one.ensures.reply in (
       asked found.0,
@@ -89,7 +89,7 @@ requests-preserved g c =
     let input = c.requests.session.input.waiting in
     let found = subst (λ (t : List ℕ). IsNext t (Whole frame)) c.waiting.ensures c.in-Whole.ensures.next in
     let told = subst (λ (t : List ℕ). (reply : ReplyView)
-    × g.H.Handler.replies c.requests.handler (question_at t frame) reply c.answer_one.new.handler
+    × g.H.Handler.replies c.requests.handler (request_view_at t frame) reply c.answer_one.new.handler
     × Appends (g.W.Write.contents c.requests.writer) (g.W.Write.contents c.answer_one.new.writer) (reply_at t frame reply))
     c.waiting-waiting.ensures c.in-Ok-answer_one.ensures.reply in
     record {

@@ -27,7 +27,7 @@ loop-at-preserved g c =
         c.loop-at.invariant.length,
       );
       content = c.send_part.ensures.content ∙ c.loop-at.invariant.content;
-      same = λ old question reply led. c.send_part.ensures.same old question reply (c.loop-at.invariant.same old question reply led);
+      same = λ old request reply led. c.send_part.ensures.same old request reply (c.loop-at.invariant.same old request reply led);
       written = part_sent content c.args.offset at count _ _ _ c.loop-at.invariant.behind c.loop-at.invariant.written sent;
     }
 

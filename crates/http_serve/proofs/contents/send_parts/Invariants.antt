@@ -1,6 +1,6 @@
 use Rattle.std.proofs.Common.{◌-◌, ◌≡◌, ◌≤◌, length, take, drop}
 use Rattle.std.specs.Io.KnownBytes.{Appends}
-use Rattle.http_serve.specs.Question.{Question}
+use Rattle.http_serve.specs.Requests.{RequestView}
 use Rattle.http_serve.specs.Reply.{ReplyView}
 use Rattle.http_serve.proofs.contents.send_parts.Given as goal
 
@@ -10,8 +10,8 @@ invariant-loop-at g l = record {
   within : l.at ≤ l.size;
   length : length l.buffer ≡ 512;
   content : g.H.Handler.content l.handler ≡ g.H.Handler.content l.fn.handler;
-  same : (old : g.row.H.Denot) (question : Question) (reply : ReplyView) → g.H.Handler.replies old question reply l.fn.handler
-      → g.H.Handler.replies old question reply l.handler;
+  same : (old : g.row.H.Denot) (request : RequestView) (reply : ReplyView) → g.H.Handler.replies old request reply l.fn.handler
+      → g.H.Handler.replies old request reply l.handler;
   written : Appends (g.W.Write.contents l.fn.writer) (g.W.Write.contents l.writer)
       (take (l.at - l.offset) (drop l.offset (g.H.Handler.content l.fn.handler)));
 }
