@@ -14,7 +14,7 @@ use crate::fault::EditFault;
 use crate::feature::{EditValue, Feature, Geometry, Tag, World};
 use crate::lengths::put_text_len;
 
-/// Numbers of features are below this.
+/// One above the greatest number of a feature.
 pub const NUMBER_END: u64 = 1 << 63;
 /// The greatest zoom of a feature, and of a tile of the map.
 pub const GREATEST_ZOOM: u8 = 16;

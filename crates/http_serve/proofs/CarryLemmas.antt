@@ -5,8 +5,8 @@ use Rattle.std.proofs.lemmas.List.{append-nil}
 use Rattle.std.specs.Io.KnownBytes.{Appends}
 use Rattle.httparse.specs.Grammar.{RequestHead}
 use Rattle.http_serve.specs.declared.refusals.Refusal.{Refusal}
-use Rattle.http_serve.specs.Message.{Message, IsHead, IsMessage, Begins, Ending, going, closed, asked, refused, EndsAs, IsRefused, asks_to_close}
-use Rattle.http_serve.specs.Question.{Question, question_of, question_at, path_of}
+use Rattle.http_serve.specs.Requests.{Request, IsHead, IsRequest, Begins, Ending, going, closed, asked, refused, EndsAs, IsRefused, asks_to_close}
+use Rattle.http_serve.specs.Requests.{RequestView, request_view, request_view_at, path_of}
 use Rattle.http_serve.specs.declared.frames.Frame.{Frame}
 use Rattle.http_serve.specs.Frame.{IsFrameOf}
 use Rattle.http_serve.specs.Reply.{ReplyView, is_head, reply_bytes, reply_to, reply_at, refusal_bytes}
@@ -14,25 +14,25 @@ use Rattle.http_serve.specs.Served.{RisesBy, reply_count, Answers, AnswersEnd, C
 use Rattle.http_serve.proofs.HeadLemmas.{IsHead-append}
 use Rattle.http_serve.proofs.KnownLemmas.{Appends-then, Appends_none}
 
-pub IsMessage-append : (bytes more : List ℕ) (message : Message) (rest : List ℕ) → IsMessage bytes message rest
-    → IsMessage (bytes ++ more) message (rest ++ more)
-IsMessage-append bytes more message rest is = record {
+pub IsRequest-append : (bytes more : List ℕ) (request : Request) (rest : List ℕ) → IsRequest bytes request rest
+    → IsRequest (bytes ++ more) request (rest ++ more)
+IsRequest-append bytes more request rest is = record {
   head =
-      subst (λ (t : List ℕ). IsHead (bytes ++ more) message.head t) (append_assoc message.body rest more)
-      (IsHead-append bytes more message.head (message.body ++ rest) is.head);
+      subst (λ (t : List ℕ). IsHead (bytes ++ more) request.head t) (append_assoc request.body rest more)
+      (IsHead-append bytes more request.head (request.body ++ rest) is.head);
   body = is.body;
 }
 
-pub Begins-append : (more : List ℕ) (bytes : List ℕ) (messages : List Message) (rest : List ℕ) → Begins bytes messages rest
-    → Begins (bytes ++ more) messages (rest ++ more)
+pub Begins-append : (more : List ℕ) (bytes : List ℕ) (requests : List Request) (rest : List ℕ) → Begins bytes requests rest
+    → Begins (bytes ++ more) requests (rest ++ more)
 Begins-append more bytes [] rest is = ap (λ (t : List ℕ). t ++ more) is
-Begins-append more bytes (message ∷ messages) rest is =
-    (is.0 ++ more, IsMessage-append bytes more message is.0 is.1, is.2, Begins-append more is.0 messages rest is.3)
+Begins-append more bytes (request ∷ requests) rest is =
+    (is.0 ++ more, IsRequest-append bytes more request is.0 is.1, is.2, Begins-append more is.0 requests rest is.3)
 
-pub Begins-then : (bytes : List ℕ) (messages others : List Message) (middle rest : List ℕ) → Begins bytes messages middle
-    → Begins middle others rest → Begins bytes (messages ++ others) rest
+pub Begins-then : (bytes : List ℕ) (requests others : List Request) (middle rest : List ℕ) → Begins bytes requests middle
+    → Begins middle others rest → Begins bytes (requests ++ others) rest
 Begins-then bytes [] others middle rest x y = subst (λ (t : List ℕ). Begins t others rest) (sym x) y
-Begins-then bytes (message ∷ messages) others middle rest x y = (x.0, x.1, x.2, Begins-then x.0 messages others middle rest x.3 y)
+Begins-then bytes (request ∷ requests) others middle rest x y = (x.0, x.1, x.2, Begins-then x.0 requests others middle rest x.3 y)
 
 -- ---- counts
 
@@ -45,38 +45,38 @@ capped_twice most a m n = omega arith
 pub rises_then : (a m b n c : ℕ) → RisesBy a m b → RisesBy b n c → RisesBy a (m + n) c
 rises_then a m b n c x y = y ∙ ap (λ (k : ℕ). min (k + n) (2 ^ 64 - 1)) x ∙ capped_twice (2 ^ 64 - 1) a m n
 
-pub reply_count_split : (messages : List Message) (ending : Ending) → reply_count messages ending ≡ length messages + reply_count [] ending
-reply_count_split messages going = omega arith
-reply_count_split messages closed = omega arith
-reply_count_split messages (asked message) = refl
-reply_count_split messages (refused head refusal) = refl
+pub reply_count_split : (requests : List Request) (ending : Ending) → reply_count requests ending ≡ length requests + reply_count [] ending
+reply_count_split requests going = omega arith
+reply_count_split requests closed = omega arith
+reply_count_split requests (asked request) = refl
+reply_count_split requests (refused head refusal) = refl
 
-pub reply_count-append : (messages others : List Message) (ending : Ending)
-    → reply_count (messages ++ others) ending ≡ length messages + reply_count others ending
-reply_count-append messages others ending =
-    omega (arith, reply_count_split (messages ++ others) ending, reply_count_split others ending, length-append messages others)
+pub reply_count-append : (requests others : List Request) (ending : Ending)
+    → reply_count (requests ++ others) ending ≡ length requests + reply_count others ending
+reply_count-append requests others ending =
+    omega (arith, reply_count_split (requests ++ others) ending, reply_count_split others ending, length-append requests others)
 
 -- ---- replies
 
-module _ {S : Type 0} (replies : S → Question → ReplyView → S → Type 0) where
-  pub Answers-then : (old : S) (messages others : List Message) (a b : List ℕ) (middle new : S)
-      → Answers replies old messages a middle → Answers replies middle others b new → Answers replies old (messages ++ others) (a ++ b) new
+module _ {S : Type 0} (replies : S → RequestView → ReplyView → S → Type 0) where
+  pub Answers-then : (old : S) (requests others : List Request) (a b : List ℕ) (middle new : S)
+      → Answers replies old requests a middle → Answers replies middle others b new → Answers replies old (requests ++ others) (a ++ b) new
   Answers-then old [] others a b middle new x y =
       let start : Answers replies old others b new = subst (λ (s : S). Answers replies s others b new) x.1 y in
       subst (λ (t : List ℕ). Answers replies old others (t ++ b) new) (sym x.0) start
-  Answers-then old (message ∷ messages) others a b middle new x y = (
+  Answers-then old (request ∷ requests) others a b middle new x y = (
     x.0,
     x.1,
     x.2 ++ b,
     x.3,
-    ap (λ (t : List ℕ). t ++ b) x.4 ∙ append_assoc (reply_to message x.0) x.2 b,
-    Answers-then x.1 messages others x.2 b middle new x.5 y,
+    ap (λ (t : List ℕ). t ++ b) x.4 ∙ append_assoc (reply_to request x.0) x.2 b,
+    Answers-then x.1 requests others x.2 b middle new x.5 y,
   )
 
   pub Carries_start : (old : S) (bytes : List ℕ) (held : Option (List ℕ)) (before : ℕ) → before < 2 ^ 64
       → Carries replies old bytes held before old bytes held before
   Carries_start old bytes held before fits = record {
-    messages = [];
+    requests = [];
     out = [];
     begins = refl;
     answers = (refl, refl);
@@ -86,21 +86,21 @@ module _ {S : Type 0} (replies : S → Question → ReplyView → S → Type 0) 
 
   -- one more request is answered
   pub Carries_push : (old : S) (bytes : List ℕ) (held : Option (List ℕ)) (before : ℕ) (middle : S) (input : List ℕ) (holds : Option (List ℕ)) (so_far : ℕ)
-      (message : Message) (reply : ReplyView) (new : S) (rest : List ℕ) (now : Option (List ℕ)) (after : ℕ)
-      → Carries replies old bytes held before middle input holds so_far → IsMessage input message rest → asks_to_close message.head ≡ false
-      → replies middle (question_of message) reply new → Appends holds now (reply_to message reply) → RisesBy so_far 1 after
+      (request : Request) (reply : ReplyView) (new : S) (rest : List ℕ) (now : Option (List ℕ)) (after : ℕ)
+      → Carries replies old bytes held before middle input holds so_far → IsRequest input request rest → asks_to_close request.head ≡ false
+      → replies middle (request_view request) reply new → Appends holds now (reply_to request reply) → RisesBy so_far 1 after
       → Carries replies old bytes held before new rest now after
-  Carries_push old bytes held before middle input holds so_far message reply new rest now after so is goes_on given sent one = record {
-    messages = so.messages ++ message ∷ [];
-    out = so.out ++ reply_to message reply;
-    begins = Begins-then bytes so.messages (message ∷ []) input rest so.begins (rest, is, goes_on, refl);
+  Carries_push old bytes held before middle input holds so_far request reply new rest now after so is goes_on given sent one = record {
+    requests = so.requests ++ request ∷ [];
+    out = so.out ++ reply_to request reply;
+    begins = Begins-then bytes so.requests (request ∷ []) input rest so.begins (rest, is, goes_on, refl);
     answers =
-        Answers-then old so.messages (message ∷ []) so.out (reply_to message reply) middle new so.answers
-        (reply, new, [], given, sym (append-nil (reply_to message reply)), (refl, refl));
-    written = Appends-then held holds now so.out (reply_to message reply) so.written sent;
+        Answers-then old so.requests (request ∷ []) so.out (reply_to request reply) middle new so.answers
+        (reply, new, [], given, sym (append-nil (reply_to request reply)), (refl, refl));
+    written = Appends-then held holds now so.out (reply_to request reply) so.written sent;
     counted =
-        subst (λ (n : ℕ). RisesBy before n after) (sym (length-append so.messages (message ∷ [])))
-        (rises_then before (length so.messages) so_far 1 after so.counted one);
+        subst (λ (n : ℕ). RisesBy before n after) (sym (length-append so.requests (request ∷ [])))
+        (rises_then before (length so.requests) so_far 1 after so.counted one);
   }
 
   -- what comes next ends the connection
@@ -110,14 +110,14 @@ module _ {S : Type 0} (replies : S → Question → ReplyView → S → Type 0) 
       → AnswersEnd replies middle ending last new → Appends holds now last → RisesBy so_far (reply_count [] ending) after
       → Ends replies old bytes follow held before ending new now after
   Ends_push old bytes held before middle input holds so_far follow ending last new now after so ends given sent count = record {
-    messages = so.messages;
+    requests = so.requests;
     out = so.out ++ last;
-    requests = λ more h. (input ++ more, Begins-append more bytes so.messages input so.begins, ends more h);
+    reads = λ more h. (input ++ more, Begins-append more bytes so.requests input so.begins, ends more h);
     answers = record { middle = middle; front = so.out; last = last; each = so.answers; end = given; is = refl };
     written = Appends-then held holds now so.out last so.written sent;
     counted =
-        subst (λ (n : ℕ). RisesBy before n after) (sym (reply_count_split so.messages ending))
-        (rises_then before (length so.messages) so_far (reply_count [] ending) after so.counted count);
+        subst (λ (n : ℕ). RisesBy before n after) (sym (reply_count_split so.requests ending))
+        (rises_then before (length so.requests) so_far (reply_count [] ending) after so.counted count);
   }
 
   -- a write failed in a refusal
@@ -142,36 +142,36 @@ module _ {S : Type 0} (replies : S → Question → ReplyView → S → Type 0) 
   -- ---- a request in a frame
 
   module _ (old : S) (bytes : List ℕ) (held : Option (List ℕ)) (before : ℕ) (middle : S) (input : List ℕ) (holds : Option (List ℕ)) (so_far : ℕ)
-      (frame : Frame) (message : Message) (reply : ReplyView) (new : S) (now : Option (List ℕ))
-      (so : Carries replies old bytes held before middle input holds so_far) (is : IsFrameOf input frame message)
-      (given : replies middle (question_at input frame) reply new) where
-    asked_so : replies middle (question_of message) reply new
+      (frame : Frame) (request : Request) (reply : ReplyView) (new : S) (now : Option (List ℕ))
+      (so : Carries replies old bytes held before middle input holds so_far) (is : IsFrameOf input frame request)
+      (given : replies middle (request_view_at input frame) reply new) where
+    asked_so : replies middle (request_view request) reply new
     asked_so =
-        let same : question_at input frame ≡ question_of message = λ i. record {
+        let same : request_view_at input frame ≡ request_view request = λ i. record {
           method = is.method i;
           path = path_of (is.target i);
           range = is.range i;
           body = is.body i;
           close = is.close i;
         } in
-        subst (λ (q : Question). replies middle q reply new) same given
+        subst (λ (q : RequestView). replies middle q reply new) same given
 
-    -- the reply of the frame is the reply to its message
-    same_reply : reply_at input frame reply ≡ reply_to message reply
+    -- the reply of the frame is the reply to its request
+    same_reply : reply_at input frame reply ≡ reply_to request reply
     same_reply = λ i. reply_bytes (is.close i) (is_head (is.method i)) reply
 
     pub Frame_push : (after : ℕ) → frame.close ≡ false → Appends holds now (reply_at input frame reply) → RisesBy so_far 1 after
         → Carries replies old bytes held before new (drop frame.body.end input) now after
     Frame_push after goes_on sent one =
-        Carries_push old bytes held before middle input holds so_far message reply new (drop frame.body.end input) now after so is.is
+        Carries_push old bytes held before middle input holds so_far request reply new (drop frame.body.end input) now after so is.is
         (sym is.close ∙ goes_on) asked_so
         (subst (λ (t : List ℕ). Appends holds now t) same_reply sent) one
 
     pub Frame_ends : (after : ℕ) → frame.close ≡ true → Appends holds now (reply_at input frame reply) → RisesBy so_far 1 after
-        → Ends replies old bytes Anything held before (asked message) new now after
+        → Ends replies old bytes Anything held before (asked request) new now after
     Frame_ends after closes sent one =
-        Ends_push old bytes held before middle input holds so_far Anything (asked message) (reply_to message reply) new now after so
-        (λ more _. (drop frame.body.end input ++ more, IsMessage-append input more message (drop frame.body.end input) is.is, sym is.close ∙ closes))
+        Ends_push old bytes held before middle input holds so_far Anything (asked request) (reply_to request reply) new now after so
+        (λ more _. (drop frame.body.end input ++ more, IsRequest-append input more request (drop frame.body.end input) is.is, sym is.close ∙ closes))
         (reply, asked_so, refl)
         (subst (λ (t : List ℕ). Appends holds now t) same_reply sent) one
 
@@ -186,7 +186,7 @@ module _ {S : Type 0} (replies : S → Question → ReplyView → S → Type 0) 
       count = n;
       replied =
           inl (record {
-            message = message;
+            request = request;
             rest = drop frame.body.end input;
             reply = reply;
             is = is.is;

@@ -2,13 +2,11 @@
 use Rattle.std.proofs.Common.{◌≡◌, ℕ, ◌+◌, ◌-◌, ◌*◌, ◌<◌, ◌≤◌, List, [], ◌∷◌, ◌++◌, Bool, true, false, ◌&&◌, cond, length, take, drop, map, min, refl, sym}
 use Rattle.std.proofs.Common.{ap, ◌∙◌, arith, get_or, Ok, Err, Result, nat_le}
 use Rattle.std.specs.List.{filter, list_all}
-use Rattle.std.specs.Char.{digit_value, is_ascii_digit}
+use Rattle.std.specs.Char.{is_ascii_digit}
 use Rattle.std.specs.Str.Parse.{digits_value}
 use Rattle.std.proofs.lemmas.List.{take_more, map-append, take-append-drop}
 use Rattle.std.proofs.lemmas.List.Elements.{filter-append}
-use Rattle.std.proofs.lemmas.List.Sums.{AllPass-from_list_all}
 use Rattle.std.proofs.lemmas.Bool.Decides.{nat_tests}
-use Rattle.std.proofs.lemmas.Int.Digits.{digits_value_more}
 use Rattle.httparse.specs.declared.spans.HeaderSpan.{HeaderSpan}
 use Rattle.httparse.specs.Spans.{header_bytes, span_bytes}
 use Rattle.std.specs.List.{list_any, position, position_or_len}
@@ -24,25 +22,6 @@ use Rattle.httparse.specs.Grammar.{trim_ows}
 use Rattle.http_serve.specs.declared.refusals.Refusal.{Refusal}
 use Rattle.http_serve.specs.declared.refusals.Refusal.TheVariants.{Head}
 use Rattle.http_serve.specs.Fields.{NamedValue, values_of, stated_length, only_value, is_numeral, is_word, lists_close, is_close, says_close}
-
--- one more digit, capped
-capped_more : (x d : ℕ) → min (min x 65537 * 10 + d) 65537 ≡ min (x * 10 + d) 65537
-capped_more x d = omega arith
-
-digit_is : (b : ℕ) → is_ascii_digit b ≡ true → digit_value b ≡ b - 48
-digit_is b is = grind (arith, nat_tests)
-
-pub capped_step : (ds : List ℕ) (i n d r : ℕ) → list_all is_ascii_digit ds ≡ true → i < length ds
-    → n ≡ min (digits_value 10 (take i ds)) 65537 → d ≡ get_or ds i 0 - 48 → r ≡ min (n * 10 + d) 65537
-    → r ≡ min (digits_value 10 (take (i + 1) ds)) 65537
-capped_step ds i n d r all at so digit now =
-    let here : is_ascii_digit (get_or ds i 0) ≡ true = AllPass-from_list_all is_ascii_digit ds all i 0 at in
-    let value = digit_is (get_or ds i 0) here in
-    let more = digits_value_more 10 ds i at in
-    let capped = capped_more (digits_value 10 (take i ds)) (digit_value (get_or ds i 0)) in
-    now ∙ ap (λ (k : ℕ). min (k * 10 + d) 65537) so
-    ∙ ap (λ (k : ℕ). min (min (digits_value 10 (take i ds)) 65537 * 10 + k) 65537) (digit ∙ sym value)
-    ∙ capped ∙ ap (λ (k : ℕ). min k 65537) (sym more)
 
 -- more fields
 values-append : (word : List ℕ) (xs ys : List NamedValue) → values_of word (xs ++ ys) ≡ values_of word xs ++ values_of word ys
@@ -124,16 +103,16 @@ lists_close_last value n at last =
     ap (λ (parts : List (List ℕ)). list_any closes parts) one
     ∙ ap (λ (option : List ℕ). closes option || false) (sym (take_all n value (omega arith)))
 
--- where no byte passes, the place is the length
-pub no_place : (p : ℕ → Bool) (xs : List ℕ) → position p xs ≡ None → length xs ≡ position_or_len p xs
-no_place p xs none = by (nat_lt (position_or_len p xs) (length xs)) refl none
+-- where no byte passes, the index is the length
+pub no_index : (p : ℕ → Bool) (xs : List ℕ) → position p xs ≡ None → length xs ≡ position_or_len p xs
+no_index p xs none = by (nat_lt (position_or_len p xs) (length xs)) refl none
   where
     by : (b : Bool) → b ≡ nat_lt (position_or_len p xs) (length xs) → cond b (Some (position_or_len p xs)) None ≡ None
         → length xs ≡ position_or_len p xs
     by true is e = cc
     by false is e = let most = prefix_len-le-length (λ (x : ℕ). not (p x)) xs in grind (arith, nat_tests)
 
--- a slice from a place to the end
+-- a slice from an index to the end
 pub rest_is : (k : ℕ) (xs : List ℕ) → take (length xs - k) (drop k xs) ≡ drop k xs
 rest_is k xs = take_all (length xs - k) (drop k xs) (omega (arith, length-drop k xs))
 

@@ -16,7 +16,8 @@ use Rattle.http_serve.specs.declared.refusals.Refusal.{Refusal}
 use Rattle.http_serve.specs.declared.refusals.Refusal.TheVariants.{Head}
 use Rattle.http_serve.specs.Fields.{NamedValue, body_length, range_of, says_close}
 use Rattle.http_serve.specs.Frame.{IsFrameOf}
-use Rattle.http_serve.specs.Message.{Message, IsHead, IsMessage, HasNoHead, HasFault, IsFault, IsRefused, fields_of}
+use Rattle.http_serve.specs.declared.frames.TheConstants.{MOST_REQUEST}
+use Rattle.http_serve.specs.Requests.{Request, IsHead, IsRequest, HasNoHead, HasFault, IsFault, IsRefused, fields_of}
 
 pub IsHead-append : (bytes more : List ℕ) (head : RequestHead) (rest : List ℕ) → IsHead bytes head rest
     → IsHead (bytes ++ more) head (rest ++ more)
@@ -128,7 +129,7 @@ module _ (bytes : List ℕ) (fields : List HeaderSpan) (spans : RequestSpans) (h
   pub spans_message : spans.len ≤ 8192 → length fields ≤ 32 → (n : ℕ)
       → body_length (map (header_bytes bytes) (take spans.headers fields)) ≡ Ok n
       → spans.len + n ≤ length bytes
-      → IsMessage bytes (record { head = h; body = take n (drop spans.len bytes) }) (drop (spans.len + n) bytes)
+      → IsRequest bytes (record { head = h; body = take n (drop spans.len bytes) }) (drop (spans.len + n) bytes)
   spans_message size room n e fits = record {
     head =
         let seam : take n (drop spans.len bytes) ++ drop (spans.len + n) bytes ≡ drop spans.len bytes =
@@ -147,13 +148,13 @@ module _ (bytes : List ℕ) (fields : List HeaderSpan) (spans : RequestSpans) (h
       → close ≡ spans.version == 0 || says_close (map (header_bytes bytes) (take spans.headers fields))
       → (range : Option Span) → IfSome range (IsWithin (length bytes))
       → option_map (span_bytes bytes) range ≡ range_of (map (header_bytes bytes) (take spans.headers fields))
-      → (message : Message) × IsFrameOf bytes (record {
+      → (request : Request) × IsFrameOf bytes (record {
         method = spans.method;
         target = spans.path;
         body = record { start = spans.len; end = spans.len + n };
         range = range;
         close = close;
-      }) message
+      }) request
   spans_frame within size room n e fits close closes range range_within range_is =
       let limit = within.section.len_fits in
       let method = within.method in
@@ -214,9 +215,9 @@ overflows_missing bytes over few = record {
   refused = λ more below. (refl, overflows_no_head bytes over more);
 }
 
--- bytes that are refused begin with no message
-pub refused_none : (bytes : List ℕ) (head : Option RequestHead) (refusal : Refusal) (m : Message) (r : List ℕ)
-    → IsRefused bytes head refusal → IsMessage bytes m r → ⊥
+-- bytes that are refused begin with no request
+pub refused_none : (bytes : List ℕ) (head : Option RequestHead) (refusal : Refusal) (m : Request) (r : List ℕ)
+    → IsRefused bytes head refusal → IsRequest bytes m r → ⊥
 refused_none bytes None refusal m r none x = none.1 m.head (m.body ++ r) x.head
 refused_none bytes (Some head) refusal m r fault x =
     let same = request_unique bytes head m.head fault.rest (m.body ++ r) fault.is.reads x.head.reads in
@@ -227,7 +228,7 @@ refused_none bytes (Some head) refusal m r fault x =
 
 -- where no whole request is there
 pub missing_now : (bytes : List ℕ) (refusal : Refusal) (until : ℕ) → IsMissing bytes refusal until
-    → (length bytes < 73728) × (head : Option RequestHead) × IsRefused bytes head refusal
+    → (length bytes < MOST_REQUEST) × (head : Option RequestHead) × IsRefused bytes head refusal
 missing_now bytes refusal until is =
     let few = is.few in
     let bound = is.bound in

@@ -1,9 +1,12 @@
 pub mod CarryLemmas
+pub mod Digits
 pub mod FieldLemmas
 pub mod HeadLemmas
 pub mod InputLemmas
 pub mod KnownLemmas
+pub mod Laws
 pub mod LineLemmas
+pub mod PartLemmas
 pub mod ReplyLemmas
 pub mod ServeLemmas
 pub mod ReadingLemmas

@@ -16,7 +16,7 @@ use Rattle.http_serve.specs.declared.searches.Search.TheVariants.{Until}
 use Rattle.http_serve.specs.declared.searches.Search.TheVariants.{Head as AtHead}
 use Rattle.http_serve.specs.Frame.{IsMissing}
 use Rattle.http_serve.specs.Search.{IsKnown}
-use Rattle.http_serve.specs.Message.{HasNoHead, IsRefused}
+use Rattle.http_serve.specs.Requests.{HasNoHead, IsRefused}
 use Rattle.http_serve.proofs.HeadLemmas.{headless_missing}
 
 pub after_bytes-append : (s : Lines) (a b : List ℕ) → after_bytes s (a ++ b) ≡ after_bytes (after_bytes s a) b
@@ -178,7 +178,7 @@ module _ (bytes : List ℕ) (n : ℕ) (old new : Lines) (so : after_bytes Blank 
 
 -- more bytes leave what is known
 pub IsKnown-append : (bytes more : List ℕ) (search : Search) → IsKnown bytes search → IsKnown (bytes ++ more) search
-IsKnown-append bytes more (AtHead scanned lines place) is =
+IsKnown-append bytes more (AtHead scanned lines position) is =
     let within = is.0 in (
       omega (arith, length-append bytes more),
       ap (λ (t : List ℕ). after_bytes Blank t) (take-append-le scanned bytes more within) ∙ is.1,

@@ -1,4 +1,4 @@
--- There is one message at the front of bytes, and so one list of requests.
+-- There is one request at the front of bytes, and so one list of requests.
 use Rattle.std.proofs.Common.{◌≡◌, ◌≢◌, ℕ, List, [], ◌∷◌, ◌++◌, true, false, length, take, drop, refl, sym, ap, ◌∙◌, subst, arith, Ok, Err, Result, Option}
 use Rattle.std.proofs.Common.{None, Some}
 use Rattle.std.proofs.Math.Seq.{take-append_seam, drop-append_seam}
@@ -6,8 +6,8 @@ use Rattle.httparse.specs.Grammar.{RequestHead}
 use Rattle.httparse.proofs.GrammarLemmas.{request_unique}
 use Rattle.http_serve.specs.declared.refusals.Refusal.{Refusal}
 use Rattle.http_serve.specs.Fields.{body_length}
-use Rattle.http_serve.specs.Message.{Message, IsHead, IsMessage, IsRefused, IsFault, Begins, Ending, going, closed, asked, refused, EndsAs, Requests}
-use Rattle.http_serve.specs.Message.{asks_to_close, fields_of}
+use Rattle.http_serve.specs.Requests.{Request, IsHead, IsRequest, IsRefused, IsFault, Begins, Ending, going, closed, asked, refused, EndsAs, Requests}
+use Rattle.http_serve.specs.Requests.{asks_to_close, fields_of}
 use Rattle.http_serve.proofs.HeadLemmas.{empty_no_head, refused_none}
 
 head_unique : (bytes : List ℕ) (h k : RequestHead) (r q : List ℕ) → IsHead bytes h r → IsHead bytes k q → (h ≡ k) × (r ≡ q)
@@ -19,7 +19,7 @@ seam a b c d e same = (
   sym (drop-append_seam a b) ∙ ap (λ (t : List ℕ). drop (length a) t) e ∙ ap (λ (n : ℕ). drop n (c ++ d)) same ∙ drop-append_seam c d,
 )
 
-message_unique : (bytes : List ℕ) (m n : Message) (r q : List ℕ) → IsMessage bytes m r → IsMessage bytes n q → (m ≡ n) × (r ≡ q)
+message_unique : (bytes : List ℕ) (m n : Request) (r q : List ℕ) → IsRequest bytes m r → IsRequest bytes n q → (m ≡ n) × (r ≡ q)
 message_unique bytes m n r q x y =
     let same = head_unique bytes m.head n.head (m.body ++ r) (n.body ++ q) x.head y.head in
     let stated : ◌≡◌ {A = Result ℕ Refusal} (Ok (length m.body)) (Ok (length n.body)) =
@@ -46,13 +46,13 @@ refusal_unique bytes (Some h) (Some k) a b x y =
     let some : RequestHead → Option RequestHead = λ head. Some head in
     (ap some same.0, fault_unique (length y.rest) (body_length (fields_of k)) a b moved y.fault)
 
--- no message is where the bytes end, but for one that ends them
-end_none : (bytes : List ℕ) (ending : Ending) (m : Message) (r : List ℕ) → (ending ≢ going) → EndsAs bytes ending → IsMessage bytes m r
+-- no request is where the bytes end, but for one that ends them
+end_none : (bytes : List ℕ) (ending : Ending) (m : Request) (r : List ℕ) → (ending ≢ going) → EndsAs bytes ending → IsRequest bytes m r
     → asks_to_close m.head ≡ false → ⊥
 end_none bytes going m r other x is goes_on = other refl
 end_none bytes closed m r other x is goes_on = empty_no_head bytes (ap length x) m.head (m.body ++ r) is.head
-end_none bytes (asked message) m r other x is goes_on =
-    let same = ap (λ (k : Message). asks_to_close k.head) (message_unique bytes message m x.0 r x.1 is).0 in
+end_none bytes (asked request) m r other x is goes_on =
+    let same = ap (λ (k : Request). asks_to_close k.head) (message_unique bytes request m x.0 r x.1 is).0 in
     let bad : true ≡ false = sym x.2 ∙ same ∙ goes_on in
     absurd (cc)
 end_none bytes (refused head refusal) m r other x is goes_on = refused_none bytes head refusal m r x.1 is
@@ -72,17 +72,17 @@ end_unique bytes (refused h d) (refused k e) f g x y =
     let same = refusal_unique bytes h k d e x.1 y.1 in
     λ i. refused (same.0 i) (same.1 i)
 
-pub requests_unique : (bytes : List ℕ) (messages others : List Message) (ending other : Ending)
-    → (ending ≢ going) → (other ≢ going) → Requests bytes messages ending → Requests bytes others other
-    → (messages ≡ others) × (ending ≡ other)
+pub requests_unique : (bytes : List ℕ) (requests others : List Request) (ending other : Ending)
+    → (ending ≢ going) → (other ≢ going) → Requests bytes requests ending → Requests bytes others other
+    → (requests ≡ others) × (ending ≡ other)
 requests_unique bytes [] [] a b f g x y =
     (refl, end_unique y.0 a b f g (subst (λ (t : List ℕ). EndsAs t a) (sym x.1 ∙ y.1) x.2) y.2)
 requests_unique bytes [] (n ∷ others) a b f g x y =
     absurd (end_none bytes a n y.1.0 f (subst (λ (t : List ℕ). EndsAs t a) (sym x.1) x.2) y.1.1 y.1.2)
-requests_unique bytes (m ∷ messages) [] a b f g x y =
+requests_unique bytes (m ∷ requests) [] a b f g x y =
     absurd (end_none bytes b m x.1.0 g (subst (λ (t : List ℕ). EndsAs t b) (sym y.1) y.2) x.1.1 x.1.2)
-requests_unique bytes (m ∷ messages) (n ∷ others) a b f g x y =
+requests_unique bytes (m ∷ requests) (n ∷ others) a b f g x y =
     let same = message_unique bytes m n x.1.0 y.1.0 x.1.1 y.1.1 in
-    let rest = requests_unique y.1.0 messages others a b f g
-    (x.0, subst (λ (t : List ℕ). Begins t messages x.0) same.1 x.1.3, x.2) (y.0, y.1.3, y.2) in
+    let rest = requests_unique y.1.0 requests others a b f g
+    (x.0, subst (λ (t : List ℕ). Begins t requests x.0) same.1 x.1.3, x.2) (y.0, y.1.3, y.2) in
     (λ i. same.0 i ∷ rest.0 i, rest.1)

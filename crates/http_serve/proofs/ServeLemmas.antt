@@ -11,15 +11,19 @@ use Rattle.http_serve.specs.declared.connection.End.{End}
 use Rattle.http_serve.specs.declared.connection.End.TheVariants.{Closed, Asked, Refused, Turns}
 use Rattle.http_serve.specs.declared.connection.Served.{Served}
 use Rattle.http_serve.specs.declared.connection.ServeFault.{ServeFault}
-use Rattle.http_serve.specs.declared.connection.ServeFault.TheVariants.{Memory, Read, Write}
+use Rattle.http_serve.specs.declared.connection.ServeFault.TheVariants.{Memory, Read, Write, Content}
+use Rattle.http_serve.specs.declared.contents.SendFault.{SendFault}
+use Rattle.http_serve.specs.declared.contents.SendFault.TheVariants as cuts
+use Rattle.http_serve.specs.declared.frames.TheConstants.{MOST_REQUEST}
 use Rattle.http_serve.specs.Input.{buffer_size}
-use Rattle.http_serve.specs.Message.{Message, Ending, going, closed, asked, refused, EndsAs, IsRefused, Requests}
-use Rattle.http_serve.specs.Question.{Question}
+use Rattle.http_serve.specs.Parts.{cut_after}
+use Rattle.http_serve.specs.Requests.{Request, Ending, going, closed, asked, refused, EndsAs, IsRefused, Requests}
+use Rattle.http_serve.specs.Requests.{RequestView}
 use Rattle.http_serve.specs.Reply.{ReplyView, refusal_bytes}
 use Rattle.http_serve.specs.Served.{RisesBy, reply_count, Answers, AnswersEnd, AnswersAll, AnswersNext, RefusesNext, Carries, Ends, Breaks, Anything, MayFollow}
 use Rattle.http_serve.specs.Steps.{HasPlainEnd, IsFinished, IsUnfinished, IsBroken}
 use Rattle.http_serve.specs.Told.{end_of, IfTurns, IsServed, IsServedTo, IsServedSoFar, IsServedInPart, IsServedUpTo, IsAnswered, LosesAtLeast, LosesAtMost}
-use Rattle.http_serve.specs.Told.{MeetsTurns, KeepsTurns, AnswersInput}
+use Rattle.http_serve.specs.Told.{HasContent, MeetsTurns, KeepsTurns, AnswersInput}
 use Rattle.http_serve.proofs.HeadLemmas.{empty_no_head, refused_none}
 use Rattle.http_serve.proofs.KnownLemmas.{Appends-then, Consumes-then, Consumes_none}
 use Rattle.http_serve.proofs.CarryLemmas.{Begins-append, Begins-then, Answers-then, Carries_start, Ends_push, Breaks_refused, rises_then, reply_count-append}
@@ -27,7 +31,7 @@ use Rattle.http_serve.proofs.CarryLemmas.{Begins-append, Begins-then, Answers-th
 pub finished_other : (end : End) (ending : Ending) (last : List ℕ) → end ≡ end_of ending → HasPlainEnd ending last → end ≢ Turns
 finished_other end going last told plain e = absurd plain
 finished_other end closed last told plain e = cc
-finished_other end (asked message) last told plain e = cc
+finished_other end (asked request) last told plain e = cc
 finished_other end (refused head refusal) last told plain e = cc
 
 -- a fact for the value of a result, from another
@@ -50,16 +54,22 @@ not_turns Refused stopped ended other x = x
 not_turns Turns stopped ended other x = absurd (other refl)
 
 -- the replies to the whole requests of the bytes so far are written, and what is left begins with none
-pub record IsSoFar {S : Type 0} (replies : S → Question → ReplyView → S → Type 0) (old : S) (left held : Option (List ℕ))
+pub record IsSoFar {S : Type 0} (replies : S → RequestView → ReplyView → S → Type 0) (old : S) (left held : Option (List ℕ))
     (new : S) (leaves holds : Option (List ℕ)) (requests : ℕ) (waiting : List ℕ) (reason : Refusal) : Type 0 where
   pub bytes : List ℕ
   pub read : Consumes left leaves bytes
   pub carries : Carries replies old bytes held 0 new waiting holds requests
-  pub few : length waiting < 73728
+  pub few : length waiting < MOST_REQUEST
   pub head : Option RequestHead
   pub refused : IsRefused waiting head reason
 
-module _ {S : Type 0} (replies : S → Question → ReplyView → S → Type 0) where
+module _ {S : Type 0} (replies : S → RequestView → ReplyView → S → Type 0) where
+  -- what a cut reply leaves
+  pub cut_breaks : (old : S) (bytes : List ℕ) (held : Option (List ℕ)) (before : ℕ) (new : S) (holds : Option (List ℕ)) (requests : ℕ) (fault : SendFault)
+      → Breaks replies old bytes Anything held before new holds requests → IsBroken replies old bytes held before (cut_after requests fault) new holds
+  cut_breaks old bytes held before new holds requests cuts.Write breaks = breaks
+  cut_breaks old bytes held before new holds requests cuts.Content breaks = breaks
+
   pub SoFar_start : (old : S) (left held : Option (List ℕ)) (waiting : List ℕ) → waiting ≡ []
       → IsSoFar replies old left held old left held 0 waiting Head
   SoFar_start old left held waiting empty =
@@ -79,9 +89,9 @@ module _ {S : Type 0} (replies : S → Question → ReplyView → S → Type 0) 
       (holds : Option (List ℕ)) (after : ℕ) (more : List ℕ)
       → Carries replies old bytes held before new rest holds after → Carries replies old (bytes ++ more) held before new (rest ++ more) holds after
   Carries-more old bytes held before new rest holds after more so = record {
-    messages = so.messages;
+    requests = so.requests;
     out = so.out;
-    begins = Begins-append more bytes so.messages rest so.begins;
+    begins = Begins-append more bytes so.requests rest so.begins;
     answers = so.answers;
     written = so.written;
     counted = so.counted;
@@ -92,24 +102,24 @@ module _ {S : Type 0} (replies : S → Question → ReplyView → S → Type 0) 
       → Carries replies old bytes held before middle input holds so_far → Carries replies middle input holds so_far new rest now after
       → Carries replies old bytes held before new rest now after
   Carries-then old bytes held before middle input holds so_far new rest now after x y = record {
-    messages = x.messages ++ y.messages;
+    requests = x.requests ++ y.requests;
     out = x.out ++ y.out;
-    begins = Begins-then bytes x.messages y.messages input rest x.begins y.begins;
-    answers = Answers-then replies old x.messages y.messages x.out y.out middle new x.answers y.answers;
+    begins = Begins-then bytes x.requests y.requests input rest x.begins y.begins;
+    answers = Answers-then replies old x.requests y.requests x.out y.out middle new x.answers y.answers;
     written = Appends-then held holds now x.out y.out x.written y.written;
     counted =
-        subst (λ (n : ℕ). RisesBy before n after) (sym (length-append x.messages y.messages))
-        (rises_then before (length x.messages) so_far (length y.messages) after x.counted y.counted);
+        subst (λ (n : ℕ). RisesBy before n after) (sym (length-append x.requests y.requests))
+        (rises_then before (length x.requests) so_far (length y.requests) after x.counted y.counted);
   }
 
-  All-then : (old : S) (messages others : List Message) (a b : List ℕ) (middle new : S) (ending : Ending)
-      → Answers replies old messages a middle → AnswersAll replies middle others ending b new
-      → AnswersAll replies old (messages ++ others) ending (a ++ b) new
-  All-then old messages others a b middle new ending x y = record {
+  All-then : (old : S) (requests others : List Request) (a b : List ℕ) (middle new : S) (ending : Ending)
+      → Answers replies old requests a middle → AnswersAll replies middle others ending b new
+      → AnswersAll replies old (requests ++ others) ending (a ++ b) new
+  All-then old requests others a b middle new ending x y = record {
     middle = y.middle;
     front = a ++ y.front;
     last = y.last;
-    each = Answers-then replies old messages others a y.front middle y.middle x y.each;
+    each = Answers-then replies old requests others a y.front middle y.middle x y.each;
     end = y.end;
     is = ap (λ (t : List ℕ). a ++ t) y.is ∙ sym (append_assoc a y.front y.last);
   }
@@ -119,16 +129,16 @@ module _ {S : Type 0} (replies : S → Question → ReplyView → S → Type 0) 
       → Carries replies old bytes held before middle input holds so_far → Ends replies middle input follow holds so_far ending new now after
       → Ends replies old bytes follow held before ending new now after
   Ends-then old bytes held before middle input holds so_far follow ending new now after x y = record {
-    messages = x.messages ++ y.messages;
+    requests = x.requests ++ y.requests;
     out = x.out ++ y.out;
-    requests = λ more h.
-        let r = y.requests more h in
-        (r.0, Begins-then (bytes ++ more) x.messages y.messages (input ++ more) r.0 (Begins-append more bytes x.messages input x.begins) r.1, r.2);
-    answers = All-then old x.messages y.messages x.out y.out middle new ending x.answers y.answers;
+    reads = λ more h.
+        let r = y.reads more h in
+        (r.0, Begins-then (bytes ++ more) x.requests y.requests (input ++ more) r.0 (Begins-append more bytes x.requests input x.begins) r.1, r.2);
+    answers = All-then old x.requests y.requests x.out y.out middle new ending x.answers y.answers;
     written = Appends-then held holds now x.out y.out x.written y.written;
     counted =
-        subst (λ (n : ℕ). RisesBy before n after) (sym (reply_count-append x.messages y.messages ending))
-        (rises_then before (length x.messages) so_far (reply_count y.messages ending) after x.counted y.counted);
+        subst (λ (n : ℕ). RisesBy before n after) (sym (reply_count-append x.requests y.requests ending))
+        (rises_then before (length x.requests) so_far (reply_count y.requests ending) after x.counted y.counted);
   }
 
   -- what is refused whatever follows is refused with what may follow
@@ -170,7 +180,7 @@ module _ {S : Type 0} (replies : S → Question → ReplyView → S → Type 0) 
       rest = waiting;
       read = so.read;
       carries = so.carries;
-      none = λ message behind. refused_none waiting so.head reason message behind so.refused;
+      none = λ request behind. refused_none waiting so.head reason request behind so.refused;
     }
 
     -- a read that failed gave nothing
@@ -182,14 +192,14 @@ module _ {S : Type 0} (replies : S → Question → ReplyView → S → Type 0) 
           let P : List ℕ → Type 0 = λ t. Consumes left last t in
           subst P (append-nil so.bytes) (Consumes-then left leaves last so.bytes [] so.read came);
       carries = so.carries;
-      none = λ message behind. refused_none waiting so.head reason message behind so.refused;
+      none = λ request behind. refused_none waiting so.head reason request behind so.refused;
     }
 
     module _ (more : List ℕ) (last : Option (List ℕ)) (came : Consumes leaves last more) (new : S) (now : Option (List ℕ))
         (full : List ℕ) (joined : full ≡ waiting ++ more) where
       -- more came, and the whole requests in it are answered
       pub SoFar_goes : (rest : List ℕ) (after : ℕ) (head : Option RequestHead) (next : Refusal) → Carries replies middle full holds requests new rest now after
-          → length rest < 73728 → IsRefused rest head next → IsSoFar replies old left held new last now after rest next
+          → length rest < MOST_REQUEST → IsRefused rest head next → IsSoFar replies old left held new last now after rest next
       SoFar_goes rest after head next y few none = record {
         bytes = so.bytes ++ more;
         read = Consumes-then left leaves last so.bytes more so.read came;
@@ -213,9 +223,9 @@ module _ {S : Type 0} (replies : S → Question → ReplyView → S → Type 0) 
             Ends-then old (so.bytes ++ more) held 0 middle (waiting ++ more) holds requests (MayFollow last) ending new now served.requests
             (Carries-more old so.bytes held 0 middle waiting holds requests more so.carries)
             (record {
-              messages = y.messages;
+              requests = y.requests;
               out = y.out;
-              requests = λ m _. subst (λ (t : List ℕ). Requests (t ++ m) y.messages ending) joined (y.requests m tt);
+              reads = λ m _. subst (λ (t : List ℕ). Requests (t ++ m) y.requests ending) joined (y.reads m tt);
               answers = y.answers;
               written = y.written;
               counted = y.counted;
@@ -242,6 +252,7 @@ module _ {S : Type 0} (replies : S → Question → ReplyView → S → Type 0) 
       SoFar_broken Memory y = absurd y
       SoFar_broken (Read n) y = absurd y
       SoFar_broken (Write n) y = SoFar_breaks n y
+      SoFar_broken (Content n) y = SoFar_breaks n y
 
     -- the input ended
     SoFar_finish : (served : Served) (last : Option (List ℕ)) (now : Option (List ℕ)) → Consumes leaves last [] → IsAtEnd last
@@ -263,7 +274,7 @@ module _ {S : Type 0} (replies : S → Question → ReplyView → S → Type 0) 
         plain : (ending : Ending) (text : List ℕ) → HasPlainEnd ending text → AnswersEnd replies middle ending text middle
         plain going text h = absurd h
         plain closed text h = (h, refl)
-        plain (asked message) text h = absurd h
+        plain (asked request) text h = absurd h
         plain (refused head refusal) text h = (h, refl)
 
     SoFar_unfinished : (last : Option (List ℕ)) (count : ℕ) (now : Option (List ℕ)) → Consumes leaves last [] → IsAtEnd last
@@ -307,11 +318,11 @@ module _ {S : Type 0} (replies : S → Question → ReplyView → S → Type 0) 
       → IsServedTo replies old (Some input) held served new leaves holds → IsAnswered replies old input held served new holds
   served_whole old input held served new None holds x = absurd x.read
   served_whole old input held served new (Some behind) holds x = record {
-    messages = x.ends.messages;
+    requests = x.ends.requests;
     ending = x.ending;
     told = x.told;
-    requests =
-        subst (λ (t : List ℕ). Requests t x.ends.messages x.ending) (sym x.read) (x.ends.requests behind (λ nothing. nothing));
+    reads =
+        subst (λ (t : List ℕ). Requests t x.ends.requests x.ending) (sym x.read) (x.ends.reads behind (λ nothing. nothing));
     out = x.ends.out;
     answers = x.ends.answers;
     written = x.ends.written;
@@ -373,6 +384,12 @@ finished_reads turns input left waiting head reason held before (Ok served) hold
 finished_reads turns input left waiting head reason held before (Err Memory) holds so x = let told = x.told in absurd (cc)
 finished_reads turns input left waiting head reason held before (Err (Read n)) holds so x = let told = x.told in absurd (cc)
 finished_reads turns input left waiting head reason held before (Err (Write n)) holds so x = so
+finished_reads turns input left waiting head reason held before (Err (Content n)) holds so x = so
+
+-- what the input's end is answered with isn't read in parts
+pub unfinished_content : (parts : List ℕ) (waiting : List ℕ) (head : Option RequestHead) (reason : Refusal) (held : Option (List ℕ)) (before : ℕ)
+    (fault : ServeFault) (holds : Option (List ℕ)) → IsUnfinished waiting head reason held before fault holds → HasContent parts fault
+unfinished_content parts waiting head reason held before fault holds x = subst (λ (f : ServeFault). HasContent parts f) (sym x.told) tt
 
 -- an end of another kind
 pub other_turns : (turns : ℕ) (input left : Option (List ℕ)) (end : End) → end ≢ Turns → MeetsTurns turns input left end

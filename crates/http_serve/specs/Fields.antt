@@ -8,6 +8,7 @@ use Rattle.std.specs.Str.Parse.{digits_value}
 use Rattle.httparse.specs.Ascii.{comma}
 use Rattle.httparse.specs.Grammar.{trim_ows}
 use Rattle.httparse.specs.Spans.{IsWithin, span_bytes}
+use Rattle.http_serve.specs.declared.fields.TheConstants.{MOST_BODY}
 use Rattle.http_serve.specs.declared.fields.Stated.{Stated}
 use Rattle.http_serve.specs.declared.fields.Stated.TheVariants.{Never, Once, Often}
 use Rattle.http_serve.specs.declared.refusals.Refusal.{Refusal}
@@ -37,10 +38,10 @@ IsStated bytes Often values = 1 < length values
 abbrev pub is_numeral : List ℕ → Bool
 is_numeral value = nat_lt 0 (length value) && list_all is_ascii_digit value
 
--- the number that a content-length writes, up to 65,536
+-- the number that a content-length writes, up to the most bytes of a body
 abbrev pub numeral_length : List ℕ → Result ℕ Refusal
 numeral_length value =
-    cond (is_numeral value && nat_le (digits_value 10 value) 65536) (Ok (digits_value 10 value)) (Err Head)
+    cond (is_numeral value && nat_le (digits_value 10 value) MOST_BODY) (Ok (digits_value 10 value)) (Err Head)
 
 -- the length by all values: none is 0, and more than one is refused
 abbrev pub stated_length : List (List ℕ) → Result ℕ Refusal

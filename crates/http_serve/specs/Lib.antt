@@ -2,9 +2,9 @@ pub mod Fields
 pub mod Frame
 pub mod Input
 pub mod Lines
-pub mod Message
-pub mod Question
+pub mod Parts
 pub mod Reply
+pub mod Requests
 pub mod Search
 pub mod Sent
 pub mod Served

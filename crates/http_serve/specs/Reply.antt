@@ -1,16 +1,17 @@
 -- Replies, and their bytes.
 use Rattle.std.specs.Prelude.{ℕ, List, [], ◌∷◌, ◌++◌, ◌==◌, ◌||◌, Bool, true, false, nat_eq, cond, length, codes, decimal, Option, Some, None, option_map}
-use Rattle.std.specs.Prelude.{unwrap_or, IfSome, ◌≤◌}
+use Rattle.std.specs.Prelude.{unwrap_or, IfSome, ◌≤◌, ◌≡◌, take, ⊤}
 use Rattle.http.specs.StatusCode.{code_digits, reason_phrase}
 use Rattle.std.specs.Cmp.Lexicographic.{pointwise}
 use Rattle.httparse.specs.Grammar.{RequestHead}
 use Rattle.httparse.specs.Spans.{span_bytes}
-use Rattle.http_serve.specs.Message.{Message, asks_to_close}
+use Rattle.http_serve.specs.Requests.{Request, asks_to_close}
 use Rattle.http_serve.specs.declared.frames.Frame.{Frame}
 use Rattle.http_serve.specs.declared.refusals.Refusal.{Refusal}
 use Rattle.http_serve.specs.declared.refusals.Refusal.TheVariants.{Head}
+use Rattle.http_serve.specs.declared.replies.TheConstants.{MOST_WORD}
 use Rattle.http_serve.specs.declared.replies.Content.{Content}
-use Rattle.http_serve.specs.declared.replies.Content.TheVariants.{Empty, Fixed, Whole}
+use Rattle.http_serve.specs.declared.replies.Content.TheVariants.{Empty, Fixed, Whole, Parts}
 use Rattle.http_serve.specs.declared.replies.ContentRange.{ContentRange}
 use Rattle.http_serve.specs.declared.replies.ContentRange.TheVariants.{Part, Unsatisfied}
 use Rattle.http_serve.specs.declared.replies.Reply.{Reply}
@@ -23,27 +24,71 @@ pub record ReplyView : Type 0 where
   pub allow : Option (List ℕ)
   pub content : List ℕ
 
+-- what the head of a reply says: the same, but of the content its length
+pub record HeadView : Type 0 where
+  pub status : ℕ
+  pub kind : Option (List ℕ)
+  pub range : Option ContentRange
+  pub allow : Option (List ℕ)
+  pub size : ℕ
+
+abbrev pub head_of : ReplyView → HeadView
+head_of reply = record { status = reply.status; kind = reply.kind; range = reply.range; allow = reply.allow; size = length reply.content }
+
 -- a reply of a status, a type and a content, which says nothing else
 abbrev pub plain_reply : ℕ → Option (List ℕ) → List ℕ → ReplyView
 plain_reply status kind content = record { status = status; kind = kind; range = None; allow = None; content = content }
 
-abbrev pub content_bytes : Content → List ℕ
-content_bytes Empty = []
-content_bytes (Fixed text) = text.now
-content_bytes (Whole bytes) = bytes.items
+-- ---- replies of a program
 
-abbrev pub reply_view : Reply → ReplyView
-reply_view reply = record {
+-- the bytes of a content, of which these are read in parts
+abbrev pub content_bytes : List ℕ → Content → List ℕ
+content_bytes parts Empty = []
+content_bytes parts (Fixed text) = text.now
+content_bytes parts (Whole bytes) = bytes.items
+content_bytes parts (Parts first size) = parts
+
+-- how many bytes a content says that it has
+abbrev pub content_size : Content → ℕ
+content_size Empty = 0
+content_size (Fixed text) = length text.now
+content_size (Whole bytes) = length bytes.items
+content_size (Parts first size) = size
+
+-- a content that is read in parts is as long as it says, and begins as it says
+abbrev pub FitsParts : List ℕ → Content → Type 0
+FitsParts parts Empty = ⊤
+FitsParts parts (Fixed text) = ⊤
+FitsParts parts (Whole bytes) = ⊤
+FitsParts parts (Parts first size) = (length parts ≡ size) × (take (length first.items) parts ≡ first.items)
+
+-- what a reply says, where its content is read in parts as these bytes
+abbrev pub reply_view : List ℕ → Reply → ReplyView
+reply_view parts reply = record {
   status = reply.status;
   kind = option_map (λ kind. kind.now) reply.kind;
   range = reply.range;
   allow = option_map (λ allow. allow.now) reply.allow;
-  content = content_bytes reply.content;
+  content = content_bytes parts reply.content;
 }
 
--- the name of the type and the list of methods have at most 64 bytes, so that the head of a reply has a bound
-abbrev pub HasShortWords : ReplyView → Type 0
-HasShortWords reply = IfSome reply.kind (λ kind. length kind ≤ 64) × IfSome reply.allow (λ allow. length allow ≤ 64)
+-- what its head says
+abbrev pub head_view : Reply → HeadView
+head_view reply = record {
+  status = reply.status;
+  kind = option_map (λ kind. kind.now) reply.kind;
+  range = reply.range;
+  allow = option_map (λ allow. allow.now) reply.allow;
+  size = content_size reply.content;
+}
+
+-- the name of the type and the list of methods have at most so many bytes, so that the head of a reply has a bound
+abbrev pub HasShortWords : HeadView → Type 0
+HasShortWords head = IfSome head.kind (λ kind. length kind ≤ MOST_WORD) × IfSome head.allow (λ allow. length allow ≤ MOST_WORD)
+
+-- a reply that can be written, where its content is read in parts as these bytes
+abbrev pub IsWritable : List ℕ → Reply → Type 0
+IsWritable parts reply = HasShortWords (head_view reply) × FitsParts parts reply.content
 
 -- ---- bytes
 
@@ -89,36 +134,36 @@ closing_line true = codes "connection: close\r\n"
 closing_line false = []
 
 -- 204 No Content
-abbrev pub has_no_content : ReplyView → Bool
-has_no_content reply = reply.status == 204
+abbrev pub has_no_content : ℕ → Bool
+has_no_content status = status == 204
 
 -- the lines of the fields; those that speak of a content are left out where there is none
-abbrev pub field_lines : ReplyView → List ℕ
-field_lines reply =
-    cond (has_no_content reply) (allow_line reply.allow)
-    (type_line reply.kind ++ range_line reply.range ++ allow_line reply.allow ++ length_line (length reply.content))
+abbrev pub field_lines : HeadView → List ℕ
+field_lines head =
+    cond (has_no_content head.status) (allow_line head.allow)
+    (type_line head.kind ++ range_line head.range ++ allow_line head.allow ++ length_line head.size)
 
 -- the head of a reply, with an empty line, which says whether it is the last one
-unfoldable pub reply_head : Bool → ReplyView → List ℕ
-reply_head close reply =
-    codes "HTTP/1.1 " ++ code_digits reply.status ++ codes " " ++ phrase_of reply.status ++ line_end
-    ++ field_lines reply ++ closing_line close ++ line_end
+unfoldable pub reply_head : Bool → HeadView → List ℕ
+reply_head close head =
+    codes "HTTP/1.1 " ++ code_digits head.status ++ codes " " ++ phrase_of head.status ++ line_end
+    ++ field_lines head ++ closing_line close ++ line_end
 
 -- the content that is sent: none in a reply that is only a head
 abbrev pub sent_content : Bool → ReplyView → List ℕ
-sent_content bare reply = cond (bare || has_no_content reply) [] reply.content
+sent_content bare reply = cond (bare || has_no_content reply.status) [] reply.content
 
 -- a reply, which says whether it is the last one, and is whole or only its head
 abbrev pub reply_bytes : Bool → Bool → ReplyView → List ℕ
-reply_bytes close bare reply = reply_head close reply ++ sent_content bare reply
+reply_bytes close bare reply = reply_head close (head_of reply) ++ sent_content bare reply
 
 -- the method is HEAD, whose replies are only heads (RFC 9110, 9.3.2)
 abbrev pub is_head : List ℕ → Bool
 is_head method = pointwise nat_eq method (codes "HEAD")
 
 -- the reply to a request
-abbrev pub reply_to : Message → ReplyView → List ℕ
-reply_to message reply = reply_bytes (asks_to_close message.head) (is_head message.head.method) reply
+abbrev pub reply_to : Request → ReplyView → List ℕ
+reply_to request reply = reply_bytes (asks_to_close request.head) (is_head request.head.method) reply
 
 -- the reply to the request in a frame of the bytes
 abbrev pub reply_at : List ℕ → Frame → ReplyView → List ℕ

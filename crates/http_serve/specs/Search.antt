@@ -4,14 +4,15 @@ use Rattle.httparse.specs.Grammar.{RequestHead}
 use Rattle.http_serve.specs.declared.lines.Lines.TheVariants.{Blank}
 use Rattle.http_serve.specs.declared.searches.Search.{Search}
 use Rattle.http_serve.specs.declared.searches.Search.TheVariants.{Head, Until}
+use Rattle.http_serve.specs.declared.frames.TheConstants.{MOST_REQUEST}
 use Rattle.http_serve.specs.Lines.{after_bytes}
-use Rattle.http_serve.specs.Message.{IsRefused}
+use Rattle.http_serve.specs.Requests.{IsRefused}
 
 -- how far the first bytes are to an empty line, or up to which length no request is whole. Where a head may be at fault only says when it is parsed
 abbrev pub IsKnown : List ℕ → Search → Type 0
-IsKnown bytes (Head scanned lines place) =
+IsKnown bytes (Head scanned lines position) =
     (scanned ≤ length bytes) × (after_bytes Blank (take scanned bytes) ≡ lines)
 IsKnown bytes (Until missing) =
-    (missing.until ≤ 73728)
+    (missing.until ≤ MOST_REQUEST)
     × (head : Option RequestHead)
     × ((more : List ℕ) → length (bytes ++ more) < missing.until → IsRefused (bytes ++ more) head missing.refusal)

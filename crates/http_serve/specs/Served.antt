@@ -3,8 +3,8 @@ use Rattle.std.specs.Prelude.{◌≡◌, ℕ, ◌+◌, ◌-◌, ◌^◌, ◌<◌
 use Rattle.std.specs.Io.KnownBytes.{Appends, IsAtEnd}
 use Rattle.httparse.specs.Grammar.{RequestHead}
 use Rattle.http_serve.specs.declared.refusals.Refusal.{Refusal}
-use Rattle.http_serve.specs.Message.{Message, IsMessage, IsRefused, Begins, Ending, going, closed, asked, refused, Requests}
-use Rattle.http_serve.specs.Question.{Question, question_of}
+use Rattle.http_serve.specs.Requests.{Request, IsRequest, IsRefused, Begins, Ending, going, closed, asked, refused, Requests}
+use Rattle.http_serve.specs.Requests.{RequestView, request_view}
 use Rattle.http_serve.specs.Reply.{ReplyView, reply_to, refusal_bytes}
 
 -- a count rises by n, and stops at the greatest u64
@@ -12,65 +12,65 @@ abbrev pub RisesBy : ℕ → ℕ → ℕ → Type 0
 RisesBy old n new = new ≡ min (old + n) (2 ^ 64 - 1)
 
 -- how many replies these requests and this ending have
-abbrev pub reply_count : List Message → Ending → ℕ
-reply_count messages going = length messages
-reply_count messages closed = length messages
-reply_count messages (asked message) = length messages + 1
-reply_count messages (refused head refusal) = length messages + 1
+abbrev pub reply_count : List Request → Ending → ℕ
+reply_count requests going = length requests
+reply_count requests closed = length requests
+reply_count requests (asked request) = length requests + 1
+reply_count requests (refused head refusal) = length requests + 1
 
-module _ {S : Type 0} (replies : S → Question → ReplyView → S → Type 0) where
+module _ {S : Type 0} (replies : S → RequestView → ReplyView → S → Type 0) where
   -- one reply for each request, in order
-  abbrev pub Answers : S → List Message → List ℕ → S → Type 0
+  abbrev pub Answers : S → List Request → List ℕ → S → Type 0
   Answers old [] out new = (out ≡ []) × (new ≡ old)
-  Answers old (message ∷ messages) out new =
-      (reply : ReplyView) × (middle : S) × (more : List ℕ) × replies old (question_of message) reply middle
-      × (out ≡ reply_to message reply ++ more) × Answers middle messages more new
+  Answers old (request ∷ requests) out new =
+      (reply : ReplyView) × (middle : S) × (more : List ℕ) × replies old (request_view request) reply middle
+      × (out ≡ reply_to request reply ++ more) × Answers middle requests more new
 
   -- what the end is answered with
   abbrev pub AnswersEnd : S → Ending → List ℕ → S → Type 0
   AnswersEnd old going out new = (out ≡ []) × (new ≡ old)
   AnswersEnd old closed out new = (out ≡ []) × (new ≡ old)
-  AnswersEnd old (asked message) out new =
-      (reply : ReplyView) × replies old (question_of message) reply new × (out ≡ reply_to message reply)
+  AnswersEnd old (asked request) out new =
+      (reply : ReplyView) × replies old (request_view request) reply new × (out ≡ reply_to request reply)
   AnswersEnd old (refused head refusal) out new = (out ≡ refusal_bytes head refusal) × (new ≡ old)
 
   -- the replies to all requests and to the end
-  pub record AnswersAll (old : S) (messages : List Message) (ending : Ending) (out : List ℕ) (new : S) : Type 0 where
+  pub record AnswersAll (old : S) (requests : List Request) (ending : Ending) (out : List ℕ) (new : S) : Type 0 where
     pub middle : S
     pub front : List ℕ
     pub last : List ℕ
-    pub each : Answers old messages front middle
+    pub each : Answers old requests front middle
     pub end : AnswersEnd middle ending last new
     pub is : out ≡ front ++ last
 
   -- bytes are some whole requests, whose replies are written and counted, and then rest
   pub record Carries (old : S) (bytes : List ℕ) (held : Option (List ℕ)) (before : ℕ)
       (new : S) (rest : List ℕ) (holds : Option (List ℕ)) (after : ℕ) : Type 0 where
-    pub messages : List Message
+    pub requests : List Request
     pub out : List ℕ
-    pub begins : Begins bytes messages rest
-    pub answers : Answers old messages out new
+    pub begins : Begins bytes requests rest
+    pub answers : Answers old requests out new
     pub written : Appends held holds out
-    pub counted : RisesBy before (length messages) after
+    pub counted : RisesBy before (length requests) after
 
   -- bytes, with what may follow, are requests up to an ending, and the replies are written and counted
   pub record Ends (old : S) (bytes : List ℕ) (follow : List ℕ → Type 0) (held : Option (List ℕ)) (before : ℕ) (ending : Ending)
       (new : S) (holds : Option (List ℕ)) (after : ℕ) : Type 0 where
-    pub messages : List Message
+    pub requests : List Request
     pub out : List ℕ
-    pub requests : (more : List ℕ) → follow more → Requests (bytes ++ more) messages ending
-    pub answers : AnswersAll old messages ending out new
+    pub reads : (more : List ℕ) → follow more → Requests (bytes ++ more) requests ending
+    pub answers : AnswersAll old requests ending out new
     pub written : Appends held holds out
-    pub counted : RisesBy before (reply_count messages ending) after
+    pub counted : RisesBy before (reply_count requests ending) after
 
   -- out is the reply to the request that bytes begin with
   pub record AnswersNext (old : S) (bytes out : List ℕ) (new : S) : Type 0 where
-    pub message : Message
+    pub request : Request
     pub rest : List ℕ
     pub reply : ReplyView
-    pub is : IsMessage bytes message rest
-    pub replied : replies old (question_of message) reply new
-    pub out_is : out ≡ reply_to message reply
+    pub is : IsRequest bytes request rest
+    pub replied : replies old (request_view request) reply new
+    pub out_is : out ≡ reply_to request reply
 
   -- out is the reply to bytes that begin with no request, with what may follow
   pub record RefusesNext (old : S) (bytes : List ℕ) (follow : List ℕ → Type 0) (out : List ℕ) (new : S) : Type 0 where
@@ -81,7 +81,7 @@ module _ {S : Type 0} (replies : S → Question → ReplyView → S → Type 0) 
     pub same : new ≡ old
     pub out_is : out ≡ refusal_bytes head refusal
 
-  -- a write failed: the replies to some whole requests are written, and the first bytes of the next reply
+  -- a reply was cut: the replies to some whole requests are written, and the first bytes of the next reply
   pub record Breaks (old : S) (bytes : List ℕ) (follow : List ℕ → Type 0) (held : Option (List ℕ)) (before : ℕ)
       (new : S) (holds : Option (List ℕ)) (after : ℕ) : Type 0 where
     pub middle : S

@@ -6,11 +6,12 @@ use Rattle.http_serve.specs.declared.connection.End.TheVariants.{Turns}
 use Rattle.http_serve.specs.declared.connection.Pause.{Pause}
 use Rattle.http_serve.specs.declared.connection.Pause.TheVariants.{Ended, More}
 use Rattle.http_serve.specs.declared.connection.ServeFault.{ServeFault}
-use Rattle.http_serve.specs.declared.connection.ServeFault.TheVariants.{Memory, Read, Write}
+use Rattle.http_serve.specs.declared.connection.ServeFault.TheVariants.{Memory, Read, Write, Content}
 use Rattle.http_serve.specs.declared.connection.Served.{Served}
+use Rattle.http_serve.specs.declared.frames.TheConstants.{MOST_REQUEST}
 use Rattle.http_serve.specs.declared.refusals.Refusal.{Refusal}
-use Rattle.http_serve.specs.Message.{IsRefused, EndsAs, Ending, going, closed, asked, refused}
-use Rattle.http_serve.specs.Question.{Question}
+use Rattle.http_serve.specs.Requests.{IsRefused, EndsAs, Ending, going, closed, asked, refused}
+use Rattle.http_serve.specs.Requests.{RequestView}
 use Rattle.http_serve.specs.Reply.{ReplyView, refusal_bytes}
 use Rattle.http_serve.specs.Served.{RisesBy, reply_count, Carries, Ends, Breaks, Anything}
 use Rattle.http_serve.specs.Told.{end_of}
@@ -19,7 +20,7 @@ use Rattle.http_serve.specs.Told.{end_of}
 abbrev pub HasPlainEnd : Ending → List ℕ → Type 0
 HasPlainEnd going last = ⊥
 HasPlainEnd closed last = last ≡ []
-HasPlainEnd (asked message) last = ⊥
+HasPlainEnd (asked request) last = ⊥
 HasPlainEnd (refused head refusal) last = last ≡ refusal_bytes head refusal
 
 -- the input ended: with nothing, or it is refused
@@ -42,18 +43,19 @@ pub record IsUnfinished (waiting : List ℕ) (head : Option RequestHead) (reason
   pub told : fault ≡ Write before
   pub written : Appends held holds (take count (refusal_bytes head reason))
 
-module _ {S : Type 0} (replies : S → Question → ReplyView → S → Type 0) where
+module _ {S : Type 0} (replies : S → RequestView → ReplyView → S → Type 0) where
   -- the whole requests of the bytes that waited are answered, and the connection ended or needs more bytes
   abbrev pub IsPaused : S → List ℕ → Option (List ℕ) → ℕ → Pause → S → List ℕ → Option (List ℕ) → Type 0
   IsPaused old waiting held before (Ended served) new rest holds =
       (ending : Ending) × Ends replies old waiting Anything held before ending new holds served.requests
       × (served.end ≡ end_of ending) × (served.end ≢ Turns)
   IsPaused old waiting held before (More requests refusal) new rest holds =
-      Carries replies old waiting held before new rest holds requests × (length rest < 73728)
+      Carries replies old waiting held before new rest holds requests × (length rest < MOST_REQUEST)
       × (head : Option RequestHead) × IsRefused rest head refusal
 
-  -- a write failed
+  -- a reply was cut
   abbrev pub IsBroken : S → List ℕ → Option (List ℕ) → ℕ → ServeFault → S → Option (List ℕ) → Type 0
   IsBroken old waiting held before Memory new holds = ⊥
   IsBroken old waiting held before (Read requests) new holds = ⊥
   IsBroken old waiting held before (Write requests) new holds = Breaks replies old waiting Anything held before new holds requests
+  IsBroken old waiting held before (Content requests) new holds = Breaks replies old waiting Anything held before new holds requests

@@ -1,14 +1,14 @@
 -- What a connection came to.
-use Rattle.std.specs.Prelude.{◌≡◌, ◌≤◌, ◌+◌, ◌-◌, ◌*◌, ℕ, List, length, Some, None, Option, Ok, Err, Result, ⊤}
+use Rattle.std.specs.Prelude.{◌≡◌, ◌<◌, ◌≤◌, ◌+◌, ◌-◌, ◌*◌, ℕ, List, length, Some, None, Option, Ok, Err, Result, ⊤}
 use Rattle.std.specs.Io.KnownBytes.{Consumes, Appends}
 use Rattle.http_serve.specs.declared.connection.End.{End}
 use Rattle.http_serve.specs.declared.connection.End.TheVariants.{Closed, Asked, Refused, Turns}
 use Rattle.http_serve.specs.declared.connection.ServeFault.{ServeFault}
-use Rattle.http_serve.specs.declared.connection.ServeFault.TheVariants.{Memory, Read, Write}
+use Rattle.http_serve.specs.declared.connection.ServeFault.TheVariants.{Memory, Read, Write, Content}
 use Rattle.http_serve.specs.declared.connection.Served.{Served}
 use Rattle.http_serve.specs.Input.{buffer_size}
-use Rattle.http_serve.specs.Message.{Message, IsMessage, Requests, Ending, going, closed, asked, refused}
-use Rattle.http_serve.specs.Question.{Question}
+use Rattle.http_serve.specs.Requests.{Request, IsRequest, Requests, Ending, going, closed, asked, refused}
+use Rattle.http_serve.specs.Requests.{RequestView}
 use Rattle.http_serve.specs.Reply.{ReplyView}
 use Rattle.http_serve.specs.Served.{RisesBy, reply_count, AnswersAll, Carries, Ends, Breaks, MayFollow}
 
@@ -16,7 +16,7 @@ use Rattle.http_serve.specs.Served.{RisesBy, reply_count, AnswersAll, Carries, E
 abbrev pub end_of : Ending → End
 end_of going = Turns
 end_of closed = Closed
-end_of (asked message) = Asked
+end_of (asked request) = Asked
 end_of (refused head refusal) = Refused
 
 -- the first fact where the bound on reads was met, and else the second
@@ -25,10 +25,6 @@ IfTurns Turns stopped ended = stopped
 IfTurns Closed stopped ended = ended
 IfTurns Asked stopped ended = ended
 IfTurns Refused stopped ended = ended
-
--- how many reads a connection makes at most
-abbrev pub most_reads : ℕ
-most_reads = 4294967296
 
 -- so many bytes at least were read of an input that is known
 abbrev pub LosesAtLeast : ℕ → Option (List ℕ) → Option (List ℕ) → Type 0
@@ -52,12 +48,18 @@ giving_reads turns (Ok served) = turns
 giving_reads turns (Err Memory) = 0
 giving_reads turns (Err (Read requests)) = turns - 1
 giving_reads turns (Err (Write requests)) = turns
+giving_reads turns (Err (Content requests)) = turns
 
 -- no more than so many reads were made, each of at most the bytes that a buffer has
 abbrev pub KeepsTurns : ℕ → Result Served ServeFault → Option (List ℕ) → Option (List ℕ) → Type 0
 KeepsTurns turns result input left = LosesAtMost (giving_reads turns result * buffer_size) input left
 
-module _ {S : Type 0} (replies : S → Question → ReplyView → S → Type 0) where
+-- the fault is the handler's only where a content is read in parts
+abbrev pub HasContent : List ℕ → ServeFault → Type 0
+HasContent parts (Content requests) = 0 < length parts
+HasContent parts fault = ⊤
+
+module _ {S : Type 0} (replies : S → RequestView → ReplyView → S → Type 0) where
   -- The bytes that were read are these requests up to an ending, whatever may follow, and the replies were
   -- written and counted. Nothing may follow where the input's end was read.
   pub record IsServedTo (old : S) (left : Option (List ℕ)) (held : Option (List ℕ)) (served : Served)
@@ -75,7 +77,7 @@ module _ {S : Type 0} (replies : S → Question → ReplyView → S → Type 0) 
     pub rest : List ℕ
     pub read : Consumes left leaves bytes
     pub carries : Carries replies old bytes held 0 new rest holds requests
-    pub none : (message : Message) (behind : List ℕ) → ¬ (IsMessage rest message behind)
+    pub none : (request : Request) (behind : List ℕ) → ¬ (IsRequest rest request behind)
 
   -- the same, but of the last reply only the first bytes were written, and it isn't counted
   pub record IsServedInPart (old : S) (left : Option (List ℕ)) (held : Option (List ℕ)) (requests : ℕ)
@@ -94,17 +96,18 @@ module _ {S : Type 0} (replies : S → Question → ReplyView → S → Type 0) 
   IsServedUpTo old left held Memory new leaves holds = (new ≡ old) × (leaves ≡ left) × (holds ≡ held)
   IsServedUpTo old left held (Read requests) new leaves holds = IsServedSoFar old left held requests new leaves holds
   IsServedUpTo old left held (Write requests) new leaves holds = IsServedInPart old left held requests new leaves holds
+  IsServedUpTo old left held (Content requests) new leaves holds = IsServedInPart old left held requests new leaves holds
 
   -- all bytes of the input are these requests up to an ending, and their replies, in order, are what was written
   pub record IsAnswered (old : S) (input : List ℕ) (held : Option (List ℕ)) (served : Served) (new : S) (holds : Option (List ℕ)) : Type 0 where
-    pub messages : List Message
+    pub requests : List Request
     pub ending : Ending
     pub told : served.end ≡ end_of ending
-    pub requests : Requests input messages ending
+    pub reads : Requests input requests ending
     pub out : List ℕ
-    pub answers : AnswersAll replies old messages ending out new
+    pub answers : AnswersAll replies old requests ending out new
     pub written : Appends held holds out
-    pub counted : RisesBy 0 (reply_count messages ending) served.requests
+    pub counted : RisesBy 0 (reply_count requests ending) served.requests
 
   -- the same, where the input is known and the bound on reads wasn't met
   abbrev pub AnswersInput : S → Option (List ℕ) → Option (List ℕ) → Served → S → Option (List ℕ) → Type 0

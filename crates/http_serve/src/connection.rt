@@ -3,17 +3,20 @@ ghost use Rattle.std.specs.Prelude.{◌≡◌, ◌≤◌, ◌<◌, ◌^◌, ℕ,
 ghost use Rattle.httparse.specs.Grammar.{RequestHead};
 ghost use Rattle.httparse.specs.Spans.{IsWithin, span_bytes};
 ghost use Rattle.std.specs.Option.{option_map};
-ghost use Rattle.http_serve.specs.Question.{path_of, question_at};
+ghost use Rattle.http_serve.specs.Requests.{path_of, request_view_at};
 ghost use Rattle.http_serve.specs.Reply.{ReplyView, is_head, reply_at, refusal_bytes};
 ghost use Rattle.http_serve.specs.Search.{IsKnown};
 ghost use Rattle.http_serve.specs.Sent.{Sends};
 ghost use Rattle.http_serve.specs.Steps.{IsPaused, IsBroken, IsFinished, IsUnfinished};
-ghost use Rattle.http_serve.specs.Told.{IsServed, IsServedUpTo, most_reads, MeetsTurns, KeepsTurns, AnswersInput};
+ghost use Rattle.http_serve.specs.declared.connection.TheConstants.{MOST_READS};
+ghost use Rattle.http_serve.specs.Told.{IsServed, IsServedUpTo, HasContent, MeetsTurns, KeepsTurns, AnswersInput};
+ghost use Rattle.http_serve.specs.Parts.{IsCutIn};
 
+use crate::contents::{SendFault, send_reply};
 use crate::fields::position_or_len;
 use crate::frames::{Frame, Next};
 use crate::inputs::Input;
-use crate::replies::{REPLY_SPACE, send_reply};
+use crate::replies::{REPLY_SPACE, send_front};
 use crate::searches::{START, Search, find_next};
 use crate::writes::WriteFault;
 use crate::{Handler, Refusal, Request};
@@ -56,6 +59,9 @@ pub enum ServeFault {
     /// A write failed, or took nothing.
     #[error("a write failed after {requests} replies")]
     Write { requests: u64 },
+    /// A content couldn't be read from the handler behind its first bytes.
+    #[error("a content could not be read after {requests} replies")]
+    Content { requests: u64 },
 }
 
 /// Why the answering of requests stops.
@@ -99,15 +105,16 @@ fn answer_one<H: Handler, W: Write>(
     out: &mut Vec<u8>,
     bytes: &[u8],
     frame: &Frame,
-) -> Result<(), WriteFault>
+) -> Result<(), SendFault>
     requires method { IsWithin (length bytes.now) frame.now.method }
     requires target { IsWithin (length bytes.now) frame.now.target }
     requires body { IsWithin (length bytes.now) frame.now.body }
     requires range { IfSome frame.now.range (IsWithin (length bytes.now)) }
     requires room { 16384 ≤ vec_capacity out.old }
     ensures room { 16384 ≤ vec_capacity out.new }
-    ensures reply { (reply : ReplyView) × H.replies handler.old (question_at bytes.now frame.now) reply handler.new
+    ensures reply { (reply : ReplyView) × H.replies handler.old (request_view_at bytes.now frame.now) reply handler.new
         × Sends result (W.contents writer.old) (W.contents writer.new) (reply_at bytes.now frame.now reply) }
+    ensures cut { IfErr result (IsCutIn (H.content handler.new)) }
 {
     let method = frame.method.of(bytes);
     let request = Request {
@@ -118,7 +125,7 @@ fn answer_one<H: Handler, W: Write>(
         close: frame.close,
     };
     let reply = handler.answer(&request);
-    send_reply(writer, out, &reply, frame.close, is_head(method))
+    send_reply(handler, writer, out, &reply, frame.close, is_head(method))
 }
 
 /// Tells that the bytes are no request.
@@ -127,7 +134,7 @@ fn refuse<W: Write>(writer: &mut W, out: &mut Vec<u8>, refusal: Refusal) -> Resu
     ensures room { 16384 ≤ vec_capacity out.new }
     ensures sent { (head : Option RequestHead) → Sends result (W.contents writer.old) (W.contents writer.new) (refusal_bytes head refusal) }
 {
-    send_reply(writer, out, &refusal.reply(), true, false)
+    send_front(writer, out, &refusal.reply(), true, false)
 }
 
 /// The bytes that wait, what is known of them, and room for replies.
@@ -153,6 +160,7 @@ fn answer_whole<H: Handler, W: Write>(
         handler.new session.new.input.waiting (W.contents writer.new)) }
     ensures err { IfErr result (λ fault. IsBroken H.replies handler.old session.old.input.waiting (W.contents writer.old) requests fault
         handler.new (W.contents writer.new)) }
+    ensures content { IfErr result (HasContent (H.content handler.new)) }
 {
     'requests: loop {
         let frame = match find_next(session.input.waiting(), &mut session.search) {
@@ -176,7 +184,7 @@ fn answer_whole<H: Handler, W: Write>(
         let waiting = session.input.waiting();
         match answer_one(handler, writer, &mut session.out, waiting, &frame) {
             Ok(()) => requests = requests.saturating_add(1),
-            Err(_) => return Err(ServeFault::Write { requests }),
+            Err(fault) => return Err(fault.after(requests)),
         }
         if frame.close {
             let end = End::Asked;
@@ -227,6 +235,7 @@ pub fn serve_turns<R: Read, W: Write, H: Handler>(
         handler.new (R.remaining reader.new) (W.contents writer.new)) }
     ensures fault { IfErr result (λ fault. IsServedUpTo H.replies handler.old (R.remaining reader.old) (W.contents writer.old) fault
         handler.new (R.remaining reader.new) (W.contents writer.new)) }
+    ensures content { IfErr result (HasContent (H.content handler.new)) }
     ensures turns { IfOk result (λ served. MeetsTurns turns (R.remaining reader.old) (R.remaining reader.new) served.end) }
     ensures reads { KeepsTurns turns result (R.remaining reader.old) (R.remaining reader.new) }
 {
@@ -284,8 +293,9 @@ pub fn serve<R: Read, W: Write, H: Handler>(
         handler.new (R.remaining reader.new) (W.contents writer.new)) }
     ensures fault { IfErr result (λ fault. IsServedUpTo H.replies handler.old (R.remaining reader.old) (W.contents writer.old) fault
         handler.new (R.remaining reader.new) (W.contents writer.new)) }
-    ensures turns { IfOk result (λ served. MeetsTurns most_reads (R.remaining reader.old) (R.remaining reader.new) served.end) }
-    ensures reads { KeepsTurns most_reads result (R.remaining reader.old) (R.remaining reader.new) }
+    ensures content { IfErr result (HasContent (H.content handler.new)) }
+    ensures turns { IfOk result (λ served. MeetsTurns MOST_READS (R.remaining reader.old) (R.remaining reader.new) served.end) }
+    ensures reads { KeepsTurns MOST_READS result (R.remaining reader.old) (R.remaining reader.new) }
 {
     serve_turns(alloc, reader, writer, handler, MOST_READS)
 }

@@ -1,5 +1,5 @@
 //! What the fields of a head say of its body and of the connection (RFC 9110, 8.6 and 7.6.1).
-ghost use Rattle.std.specs.Prelude.{◌≡◌, ◌≤◌, ◌<◌, ◌&&◌, ◌==◌, ◌^◌, true, min, ℕ, nat_lt, length, take, map, reverse, codes, All, IfSome};
+ghost use Rattle.std.specs.Prelude.{◌≡◌, ◌≤◌, ◌<◌, ◌&&◌, ◌==◌, ◌^◌, true, ℕ, nat_lt, length, take, map, reverse, codes, All, IfSome, MatchOption};
 ghost use Rattle.std.specs.List.{list_all, position, position_or_len};
 ghost use Rattle.std.specs.Char.{is_ascii_digit, to_ascii_lowercase};
 ghost use Rattle.std.specs.Str.Parse.{digits_value};
@@ -12,7 +12,7 @@ use crate::Refusal;
 use httparse::spans::{HeaderSpan, Span};
 
 /// The most bytes that a body may have.
-pub(crate) const MOST_BODY: u64 = 65_536;
+pub const MOST_BODY: u64 = 65_536;
 
 /// What the fields of a name state.
 #[derive(Clone, Copy, Debug)]
@@ -54,23 +54,23 @@ fn find_stated(bytes: &[u8], fields: &[HeaderSpan], word: &[u8]) -> Stated
     }
 }
 
-/// The number that the digits write, or one above the limit where it is above.
-fn capped_number(digits: &[u8]) -> u64
-    requires { list_all is_ascii_digit digits.now ≡ true }
-    ensures { result ≡ min (digits_value 10 digits.now) 65537 }
-{
-    let mut number = 0u64;
-    for digit in digits {
-        number = (number * 10 + u64::from(*digit - b'0')).min(MOST_BODY + 1);
-    }
-    number
-}
-
 /// Whether each byte is a digit.
 fn are_digits(bytes: &[u8]) -> bool
     ensures { result ≡ list_all is_ascii_digit bytes.now }
 {
     bytes.iter().all(|byte| byte.is_ascii_digit())
+}
+
+/// The number that one digit or more write, where it is below 2^64.
+fn digits_number(digits: &[u8]) -> Option<u64>
+    requires some { 0 < length digits.now }
+    requires digits { list_all is_ascii_digit digits.now ≡ true }
+    ensures { MatchOption result (2 ^ 64 ≤ digits_value 10 digits.now) (λ number. number ≡ digits_value 10 digits.now) }
+{
+    match str::from_utf8(digits) {
+        Ok(text) => text.parse::<u64>().ok(),
+        Err(_) => None,
+    }
 }
 
 /// The length that a value of content-length writes.
@@ -80,11 +80,10 @@ fn numeral_length(value: &[u8]) -> Result<u64, Refusal>
     if value.is_empty() || !are_digits(value) {
         return Err(Refusal::Head);
     }
-    let number = capped_number(value);
-    if number > MOST_BODY {
-        return Err(Refusal::Head);
+    match digits_number(value) {
+        Some(size) if size <= MOST_BODY => Ok(size),
+        _ => Err(Refusal::Head),
     }
-    Ok(number)
 }
 
 /// How long the body of a request is, by the fields of its head.
@@ -125,16 +124,16 @@ fn is_ows(byte: u8) -> bool
     byte == b' ' || byte == b'\t'
 }
 
-/// The first place of a byte.
+/// The index of the first byte of a value.
 fn position_of(bytes: &[u8], wanted: u8) -> Option<usize>
     ensures { result ≡ position (λ byte. byte == wanted) bytes.now }
 {
     bytes.iter().position(|byte| *byte == wanted)
 }
 
-/// The first place of a byte, or the length where it isn't there.
+/// The same, or the length where there is no such byte.
 pub(crate) fn position_or_len(bytes: &[u8], wanted: u8) -> usize
-    ensures place { result ≡ position_or_len (λ byte. byte == wanted) bytes.now }
+    ensures index { result ≡ position_or_len (λ byte. byte == wanted) bytes.now }
     ensures within { result ≤ length bytes.now }
 {
     match position_of(bytes, wanted) {

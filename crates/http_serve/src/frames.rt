@@ -2,6 +2,7 @@
 ghost use Rattle.std.specs.Prelude.{◌≡◌, ◌≤◌, ◌<◌, ◌^◌, ◌==◌, ◌||◌, length, map, All};
 ghost use Rattle.httparse.specs.Spans.{IsRequestWithin, IsRequestOf, IsHeaderWithin, header_bytes};
 ghost use Rattle.http_serve.specs.Fields.{says_close};
+ghost use Rattle.http_serve.specs.declared.frames.TheConstants.{MOST_HEAD, MOST_FIELDS};
 ghost use Rattle.http_serve.specs.Frame.{IsNext};
 
 use crate::Refusal;
@@ -10,9 +11,9 @@ use httparse::spans::{EMPTY_HEADER_SPAN, HeaderSpan, RequestSpans, Span, parse_r
 use httparse::{Error, Status};
 
 /// The most bytes that a head may have.
-pub(crate) const MOST_HEAD: usize = 8_192;
+pub const MOST_HEAD: usize = 8_192;
 /// The most fields that a head may have.
-const MOST_FIELDS: usize = 32;
+pub const MOST_FIELDS: usize = 32;
 /// The most bytes that a request may have.
 pub(crate) const MOST_REQUEST: usize = MOST_HEAD + MOST_BODY as usize;
 
@@ -87,8 +88,8 @@ fn framed(bytes: &[u8], head: &RequestSpans, fields: &[HeaderSpan]) -> Next
     requires within { IsRequestWithin bytes.now fields.now head.now }
     requires is { IsRequestOf bytes.now fields.now head.now }
     requires some { 0 < length bytes.now }
-    requires size { head.now.len ≤ 8192 }
-    requires room { length fields.now ≤ 32 }
+    requires size { head.now.len ≤ MOST_HEAD }
+    requires room { length fields.now ≤ MOST_FIELDS }
     ensures { IsNext bytes.now result }
 {
     let fields = &fields[..head.headers];

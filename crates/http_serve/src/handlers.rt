@@ -1,10 +1,20 @@
 //! What answers the requests of a connection.
-ghost use Rattle.std.specs.Prelude.{ℕ};
+ghost use Rattle.std.specs.Prelude.{◌≡◌, ◌≤◌, ◌+◌, ℕ, List, length, take, drop, OnOk};
 ghost use Rattle.std.specs.Option.{option_map};
-ghost use Rattle.http_serve.specs.Question.{Question};
-ghost use Rattle.http_serve.specs.Reply.{ReplyView, HasShortWords, reply_view};
+ghost use Rattle.http_serve.specs.declared.handlers.TheConstants.{PART_SIZE};
+ghost use Rattle.http_serve.specs.Requests.{RequestView};
+ghost use Rattle.http_serve.specs.Reply.{ReplyView, IsWritable, reply_view};
 
 use crate::Reply;
+use thiserror::Error;
+
+/// The most bytes of a content that are read at once.
+pub const PART_SIZE: usize = 512;
+
+/// Bytes of a content couldn't be read.
+#[derive(Clone, Copy, Debug, PartialEq, Eq, Error)]
+#[error("a content could not be read")]
+pub struct ContentFault;
 
 /// A request, as a handler sees it.
 #[derive(Clone, Copy)]
@@ -15,7 +25,7 @@ pub struct Request<'a> {
     pub path: &'a [u8],
     /// The value of the one field called range, without white space around it. None where there is no such field, or more.
     pub range: Option<&'a [u8]>,
-    /// The body, of at most 65,536 bytes.
+    /// The body, of at most `MOST_BODY` bytes.
     pub body: &'a [u8],
     /// Whether the connection ends after the reply.
     pub close: bool,
@@ -23,11 +33,15 @@ pub struct Request<'a> {
 
 /// What answers the requests of a connection.
 pub trait Handler {
-    // In the first state the question may get the reply, and the second state follows.
-    ghost replies: { Self → Question → ReplyView → Self → Type 0 };
+    // In the first state the request may get the reply, and the second state follows.
+    ghost replies: { Self → RequestView → ReplyView → Self → Type 0 };
 
-    /// Answers a request. The type of the content and the list of methods have at most 64 bytes.
+    // The content of the last reply, where it is read in parts.
+    ghost content: { Self → List ℕ };
+
+    /// Answers a request. The type of the content and the list of methods have at most `MOST_WORD` bytes.
     /// To a request whose method is HEAD the reply is written without its content.
+    /// A content in parts whose first bytes can't be read gets another reply: behind the head that is too late.
     fn answer(&mut self, request: &Request<'_>) -> Reply
         ensures replied { replies self.old (record {
           method = request.now.method.now;
@@ -35,6 +49,15 @@ pub trait Handler {
           range = option_map (λ range. range.now) request.now.range;
           body = request.now.body.now;
           close = request.now.close;
-        }) (reply_view result) self.new }
-        ensures words { HasShortWords (reply_view result) };
+        }) (reply_view (content self.new) result) self.new }
+        ensures writable { IsWritable (content self.new) result };
+
+    /// Reads as many bytes as `part` has, and `PART_SIZE` at most, from an offset of the content of the last reply, which
+    /// is in parts. After a fault `part` has any bytes. Whatever reply led to the state before leads to the state behind.
+    fn read_content(&mut self, offset: u64, part: &mut [u8]) -> Result<(), ContentFault>
+        requires within { offset + length part.old ≤ length (content self.old) }
+        requires few { length part.old ≤ PART_SIZE }
+        ensures bytes { OnOk result (part.new ≡ take (length part.old) (drop offset (content self.old))) }
+        ensures content { content self.new ≡ content self.old }
+        ensures same { (old : Self) (request : RequestView) (reply : ReplyView) → replies old request reply self.old → replies old request reply self.new };
 }

@@ -1,5 +1,6 @@
 //! The bytes that were read and wait.
 ghost use Rattle.std.specs.Prelude.{◌≡◌, ◌≤◌, ◌<◌, ◌+◌, ◌-◌, ◌++◌, ◌^◌, ℕ, List, [], length, take, drop, slice_range, vec_len, IfOk, OnOk, OnErr};
+ghost use Rattle.http_serve.specs.declared.frames.TheConstants.{MOST_REQUEST};
 ghost use Rattle.http_serve.specs.Input.{InputView, buffer_size};
 ghost use Rattle.std.specs.Io.KnownBytes.{Consumes, IsAtEnd};
 
@@ -16,7 +17,7 @@ pub(crate) struct ReadFault;
 /// answered than wait, so that moving those that wait to its front costs less than reading the others did.
 const SPACE: usize = 2 * MOST_REQUEST;
 
-/// Makes one read behind a place of the buffer.
+/// Makes one read into the buffer, from an offset on.
 fn read_behind<R: Read>(reader: &mut R, buffer: &mut [u8], end: usize) -> Result<usize, ReadFault>
     requires { end < length buffer.old }
     ensures ok { IfOk result (λ n. (more : List ℕ) × Consumes (R.remaining reader.old) (R.remaining reader.new) more
@@ -78,7 +79,7 @@ impl Input {
 
     /// Moves the bytes that wait to the front of the buffer, where it is used up. Returns how many bytes it moved.
     pub(crate) fn make_room(&mut self) -> usize
-        requires { length self.old.waiting < 73728 }
+        requires { length self.old.waiting < MOST_REQUEST }
         ensures same { self.new.waiting ≡ self.old.waiting }
         ensures room { 0 < self.new.room }
         ensures moved { result ≤ length self.old.waiting }
@@ -94,7 +95,7 @@ impl Input {
 
     /// Makes one read, and adds what it gave.
     pub(crate) fn read_from<R: Read>(&mut self, reader: &mut R) -> Result<usize, ReadFault>
-        requires { length self.old.waiting < 73728 }
+        requires { length self.old.waiting < MOST_REQUEST }
         ensures ok { IfOk result (λ n. (more : List ℕ) × Consumes (R.remaining reader.old) (R.remaining reader.new) more
             × (self.new.waiting ≡ self.old.waiting ++ more) × (n ≡ length more) × (n ≡ 0 → IsAtEnd (R.remaining reader.new))) }
         ensures few { IfOk result (λ n. n ≤ buffer_size) }

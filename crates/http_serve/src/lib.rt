@@ -2,23 +2,24 @@
 #![tactic(auto)]
 
 mod connection;
+mod contents;
 mod fields;
 mod frames;
 mod handlers;
 mod inputs;
-mod laws;
 mod lines;
-mod places;
+mod positions;
 mod refusals;
 mod replies;
 mod searches;
 mod writes;
 
 pub use connection::{End, MOST_READS, ServeFault, Served, serve, serve_turns};
-pub use handlers::{Handler, Request};
-pub use laws::one_reading;
+pub use fields::MOST_BODY;
+pub use frames::{MOST_FIELDS, MOST_HEAD};
+pub use handlers::{ContentFault, Handler, PART_SIZE, Request};
 pub use refusals::Refusal;
-pub use replies::{Content, ContentRange, Reply};
+pub use replies::{Content, ContentRange, MOST_WORD, Reply};
 
 #[cfg(test)]
 mod tests;

@@ -1,6 +1,6 @@
 //! What is answered to bytes that are no request.
-ghost use Rattle.std.specs.Prelude.{◌≡◌};
-ghost use Rattle.http_serve.specs.Reply.{HasShortWords, reply_view, refusal_view};
+ghost use Rattle.std.specs.Prelude.{◌≡◌, []};
+ghost use Rattle.http_serve.specs.Reply.{IsWritable, reply_view, refusal_view};
 
 use crate::{Content, Reply};
 use http::StatusCode;
@@ -8,7 +8,7 @@ use http::StatusCode;
 /// Why bytes begin with no request.
 #[derive(Clone, Copy, Debug, PartialEq, Eq)]
 pub enum Refusal {
-    /// No head is there, its content-length is no single number up to 65,536, or its body is cut short.
+    /// No head is there, its content-length is no single number up to `MOST_BODY`, or its body is cut short.
     Head,
 }
 
@@ -16,8 +16,8 @@ impl Refusal {
     /// The reply that tells it.
     #[tactic(auto, unfolding(crate::specs::Reply::refusal_view))]
     pub(crate) fn reply(self) -> Reply
-        ensures reply { reply_view result ≡ refusal_view self }
-        ensures words { HasShortWords (reply_view result) }
+        ensures reply { reply_view [] result ≡ refusal_view self }
+        ensures writable { IsWritable [] result }
     {
         match self {
             Refusal::Head => Reply::plain(

@@ -1,15 +1,17 @@
 //! Replies and their bytes.
-ghost use Rattle.std.specs.Prelude.{◌≡◌, ◌≤◌, ◌<◌, ◌+◌, ◌++◌, ◌^◌, [], length, decimal, vec_len, vec_capacity, true, false, ◌==◌};
-ghost use Rattle.std.specs.Option.{option_map};
-ghost use Rattle.http_serve.specs.Reply.{ReplyView, HasShortWords, reply_view, plain_reply, content_bytes, phrase_of, type_line, part_line, unsatisfied_line};
-ghost use Rattle.http_serve.specs.Reply.{range_line, allow_line, length_line, closing_line, field_lines, reply_head, sent_content, has_no_content};
-ghost use Rattle.http_serve.specs.Reply.{reply_bytes};
+ghost use Rattle.std.specs.Prelude.{◌≡◌, ◌≤◌, ◌<◌, ◌+◌, ◌++◌, ◌^◌, [], length, decimal, vec_len, vec_capacity, None, not, true, false, ◌==◌, ◌||◌};
+ghost use Rattle.http_serve.specs.Parts.{front_content, front_bytes};
+ghost use Rattle.http_serve.specs.Reply.{HasShortWords, head_view, content_size, phrase_of, type_line, part_line, unsatisfied_line};
+ghost use Rattle.http_serve.specs.Reply.{range_line, allow_line, length_line, closing_line, field_lines, reply_head, has_no_content};
 ghost use Rattle.http_serve.specs.Sent.{Sends};
 
 use crate::writes::{WriteFault, send_all, send_both};
 use http::StatusCode;
 use itoa::Buffer;
 use std::io::Write;
+
+/// The most bytes of the type of a content, and of the list of methods.
+pub const MOST_WORD: usize = 64;
 
 /// The content of a reply.
 #[derive(Drop)]
@@ -20,17 +22,30 @@ pub enum Content {
     Fixed(&'static [u8]),
     /// Bytes that were made.
     Whole(Vec<u8>),
+    /// So many bytes, of which these are the first. Those behind them are read by `Handler::read_content`.
+    Parts { first: Vec<u8>, length: u64 },
 }
 
 impl Content {
-    /// The bytes of the content.
-    fn as_bytes(&self) -> &[u8]
-        ensures { result.now ≡ content_bytes self.now }
+    /// The bytes that the reply has.
+    fn front(&self) -> &[u8]
+        ensures { result.now ≡ front_content self.now }
     {
         match self {
             Content::Empty => b"",
             Content::Fixed(text) => text,
             Content::Whole(bytes) => bytes.as_slice(),
+            Content::Parts { first, .. } => first.as_slice(),
+        }
+    }
+
+    /// How many bytes it says that it has.
+    fn size(&self) -> u64
+        ensures { result ≡ content_size self.now }
+    {
+        match self {
+            Content::Parts { length, .. } => *length,
+            whole => whole.front().len() as u64,
         }
     }
 }
@@ -48,11 +63,11 @@ pub enum ContentRange {
 #[derive(Drop)]
 pub struct Reply {
     pub status: StatusCode,
-    /// The type of the content, as in `text/plain`: at most 64 bytes.
+    /// The type of the content, as in `text/plain`: at most `MOST_WORD` bytes.
     pub kind: Option<&'static str>,
     /// Which part of a whole the content is.
     pub range: Option<ContentRange>,
-    /// The methods that are allowed, as in `GET, HEAD`: at most 64 bytes.
+    /// The methods that are allowed, as in `GET, HEAD`: at most `MOST_WORD` bytes.
     pub allow: Option<&'static str>,
     pub content: Content,
 }
@@ -60,7 +75,7 @@ pub struct Reply {
 impl Reply {
     /// A reply of a status, a type and a content, which says nothing else.
     pub fn plain(status: StatusCode, kind: Option<&'static str>, content: Content) -> Reply
-        ensures { reply_view result ≡ plain_reply status (option_map (λ kind. kind.now) kind.entry) (content_bytes content) }
+        ensures { result ≡ record { status = status; kind = kind.entry; range = None; allow = None; content = content } }
     {
         Reply {
             status,
@@ -73,19 +88,16 @@ impl Reply {
 
     /// Whether it is of 204 No Content.
     fn has_no_content(&self) -> bool
-        ensures { result ≡ has_no_content (reply_view self.now) }
+        ensures { result ≡ has_no_content self.now.status }
     {
         self.status == StatusCode::NO_CONTENT
     }
 
-    /// The content that is sent: none in a reply that is only a head.
-    pub(crate) fn sent_content(&self, bare: bool) -> &[u8]
-        ensures { result.now ≡ sent_content bare (reply_view self.now) }
+    /// Whether its content is sent. It isn't in a reply that is only a head.
+    pub(crate) fn sends_content(&self, bare: bool) -> bool
+        ensures { result ≡ not (bare || has_no_content self.now.status) }
     {
-        if bare || self.has_no_content() {
-            return b"";
-        }
-        self.content.as_bytes()
+        !(bare || self.has_no_content())
     }
 }
 
@@ -172,9 +184,9 @@ fn put_range_line(out: &mut Vec<u8>, range: Option<ContentRange>)
 /// Adds the line of the methods that are allowed, where there is one.
 #[tactic(auto, unfolding(crate::specs::Reply::allow_line))]
 fn put_allow_line(out: &mut Vec<u8>, reply: &Reply)
-    requires words { HasShortWords (reply_view reply.now) }
+    requires words { HasShortWords (head_view reply.now) }
     requires room { vec_len out.old + 73 ≤ vec_capacity out.old }
-    ensures items { out.new.items ≡ out.old.items ++ allow_line (reply_view reply.now).allow }
+    ensures items { out.new.items ≡ out.old.items ++ allow_line (head_view reply.now).allow }
     ensures len { vec_len out.new ≤ vec_len out.old + 73 }
     ensures capacity { vec_capacity out.old ≤ vec_capacity out.new }
 {
@@ -189,9 +201,9 @@ fn put_allow_line(out: &mut Vec<u8>, reply: &Reply)
 /// Adds the line of the type, where there is one.
 #[tactic(auto, unfolding(crate::specs::Reply::type_line))]
 fn put_type_line(out: &mut Vec<u8>, reply: &Reply)
-    requires words { HasShortWords (reply_view reply.now) }
+    requires words { HasShortWords (head_view reply.now) }
     requires room { vec_len out.old + 80 ≤ vec_capacity out.old }
-    ensures items { out.new.items ≡ out.old.items ++ type_line (reply_view reply.now).kind }
+    ensures items { out.new.items ≡ out.old.items ++ type_line (head_view reply.now).kind }
     ensures len { vec_len out.new ≤ vec_len out.old + 80 }
     ensures capacity { vec_capacity out.old ≤ vec_capacity out.new }
 {
@@ -205,7 +217,7 @@ fn put_type_line(out: &mut Vec<u8>, reply: &Reply)
 
 /// Adds the line of the length.
 #[tactic(auto, unfolding(crate::specs::Reply::length_line))]
-fn put_length_line(out: &mut Vec<u8>, size: usize)
+fn put_length_line(out: &mut Vec<u8>, size: u64)
     requires { vec_len out.old + 58 ≤ vec_capacity out.old }
     ensures items { out.new.items ≡ out.old.items ++ length_line size }
     ensures len { vec_len out.new ≤ vec_len out.old + 58 }
@@ -218,9 +230,9 @@ fn put_length_line(out: &mut Vec<u8>, size: usize)
 
 /// Adds the lines of the fields.
 fn put_field_lines(out: &mut Vec<u8>, reply: &Reply)
-    requires words { HasShortWords (reply_view reply.now) }
+    requires words { HasShortWords (head_view reply.now) }
     requires room { vec_len out.old + 356 ≤ vec_capacity out.old }
-    ensures items { out.new.items ≡ out.old.items ++ field_lines (reply_view reply.now) }
+    ensures items { out.new.items ≡ out.old.items ++ field_lines (head_view reply.now) }
     ensures len { vec_len out.new ≤ vec_len out.old + 356 }
     ensures capacity { vec_capacity out.old ≤ vec_capacity out.new }
 {
@@ -231,15 +243,15 @@ fn put_field_lines(out: &mut Vec<u8>, reply: &Reply)
     put_type_line(out, reply);
     put_range_line(out, reply.range);
     put_allow_line(out, reply);
-    put_length_line(out, reply.content.as_bytes().len());
+    put_length_line(out, reply.content.size());
 }
 
 /// Makes the head of a reply, which has at most 512 bytes.
 #[tactic(auto, unfolding(crate::specs::Reply::reply_head))]
 fn put_reply_head(out: &mut Vec<u8>, reply: &Reply, close: bool)
-    requires words { HasShortWords (reply_view reply.now) }
+    requires words { HasShortWords (head_view reply.now) }
     requires room { 512 ≤ vec_capacity out.old }
-    ensures items { out.new.items ≡ reply_head close (reply_view reply.now) }
+    ensures items { out.new.items ≡ reply_head close (head_view reply.now) }
     ensures short { vec_len out.new ≤ 512 }
     ensures capacity { vec_capacity out.old ≤ vec_capacity out.new }
 {
@@ -257,22 +269,26 @@ fn put_reply_head(out: &mut Vec<u8>, reply: &Reply, close: bool)
 /// How many bytes of replies are gathered for one write.
 pub(crate) const REPLY_SPACE: usize = 16_384;
 
-/// Writes a reply, which says whether it is the last one, and is whole or only its head: in one write, if all its bytes
-/// fit into the buffer.
-pub(crate) fn send_reply<W: Write>(
+/// Writes the front of a reply: its head, which says whether it is the last one, and the content that the reply has, if it
+/// is more than a head. In one write, if all these bytes fit into the buffer.
+pub(crate) fn send_front<W: Write>(
     writer: &mut W,
     out: &mut Vec<u8>,
     reply: &Reply,
     close: bool,
     bare: bool,
 ) -> Result<(), WriteFault>
-    requires words { HasShortWords (reply_view reply.now) }
+    requires words { HasShortWords (head_view reply.now) }
     requires room { 16384 ≤ vec_capacity out.old }
     ensures room { 16384 ≤ vec_capacity out.new }
-    ensures sent { Sends result (W.contents writer.old) (W.contents writer.new) (reply_bytes close bare (reply_view reply.now)) }
+    ensures sent { Sends result (W.contents writer.old) (W.contents writer.new) (front_bytes close bare reply.now) }
 {
     put_reply_head(out, reply, close);
-    let content = reply.sent_content(bare);
+    let content = if reply.sends_content(bare) {
+        reply.content.front()
+    } else {
+        b""
+    };
     if content.len() <= REPLY_SPACE - out.len() {
         put(out, content);
         return send_all(writer, out.as_slice());

@@ -8,7 +8,7 @@ ghost use Rattle.http_serve.specs.Search.{IsKnown};
 use crate::Refusal;
 use crate::frames::{MOST_HEAD, Missing, Next, find_request};
 use crate::lines::Lines;
-use crate::places::Place;
+use crate::positions::Position;
 
 /// What is known of the bytes that wait, so that they aren't looked through again for each piece.
 #[derive(Clone, Copy, Debug)]
@@ -17,7 +17,7 @@ pub(crate) enum Search {
     Head {
         scanned: usize,
         lines: Lines,
-        place: Place,
+        position: Position,
     },
     /// Below a length there is no whole request.
     Until(Missing),
@@ -27,7 +27,7 @@ pub(crate) enum Search {
 pub(crate) const START: Search = Search::Head {
     scanned: 0,
     lines: Lines::Blank,
-    place: Place::Front,
+    position: Position::Front,
 };
 
 /// Goes on behind the bytes of a head that were scanned.
@@ -35,7 +35,7 @@ fn scan_head(
     bytes: &[u8],
     scanned: usize,
     lines: Lines,
-    place: Place,
+    position: Position,
     search: &mut Search,
 ) -> Option<Missing>
     requires within { scanned ≤ length bytes.now }
@@ -44,12 +44,12 @@ fn scan_head(
     ensures known { IsKnown bytes.now search.new }
 {
     let lines = lines.after_bytes(&bytes[scanned..]);
-    let (place, doubtful) = place.after_bytes(&bytes[scanned..]);
+    let (position, doubtful) = position.after_bytes(&bytes[scanned..]);
     let scanned = bytes.len();
     *search = Search::Head {
         scanned,
         lines,
-        place,
+        position,
     };
     if lines.has_empty() {
         return None;
@@ -76,8 +76,8 @@ pub(crate) fn known_missing(bytes: &[u8], search: &mut Search) -> Option<Missing
         Search::Head {
             scanned,
             lines,
-            place,
-        } => scan_head(bytes, scanned, lines, place, search),
+            position,
+        } => scan_head(bytes, scanned, lines, position, search),
     }
 }
 

@@ -1,7 +1,7 @@
 -- Requests to the service, and their replies.
 use Rattle.std.specs.Prelude.{◌≡◌, ℕ, ◌+◌, ◌-◌, ◌^◌, ◌<◌, ◌≤◌, ◌⊎◌, Bool, nat_eq, List, [], length, codes, None, if◌then◌else◌}
 use Rattle.std.specs.Cmp.Lexicographic.{pointwise}
-use Rattle.http_serve.specs.Question.{Question}
+use Rattle.http_serve.specs.Requests.{RequestView}
 use Rattle.http_serve.specs.Reply.{ReplyView}
 use Rattle.tile_routes.specs.declared.target.TileFormat.{TileFormat}
 use Rattle.tile_routes.specs.Paths.{Asked, asked_feature, asked_tile, asked_nothing, asked_by}
@@ -40,9 +40,9 @@ wanted_by name (asked_feature id) = if is_method (codes "PUT") name then put id 
 wanted_by name (asked_tile z x y format) = if is_method (codes "GET") name then tile z x y format else nothing
 wanted_by name asked_nothing = nothing
 
--- what a question wants: its path is one of the router's, and its method one of the path's
-abbrev pub wanted_of : Question → Wanted
-wanted_of question = wanted_by question.method (asked_by question.path)
+-- what a request wants: its path is one of the router's, and its method one of the path's
+abbrev pub wanted_of : RequestView → Wanted
+wanted_of request = wanted_by request.method (asked_by request.path)
 
 -- ---- how it is answered
 
@@ -94,6 +94,6 @@ Answers old (put id) body reply new = AnswersPut old id body reply new ⊎ Lacks
 Answers old (tile z x y format) body reply new = (AnswersTile old z x y format reply × (new ≡ old)) ⊎ LacksMemory old reply new
 Answers old nothing body reply new = (reply ≡ refusal_of NotFound) × (new ≡ old)
 
--- one reply to one question
-abbrev pub Replies : ServiceState → Question → ReplyView → ServiceState → Type 0
-Replies old question reply new = Answers old (wanted_of question) question.body reply new
+-- one reply to one request
+abbrev pub Replies : ServiceState → RequestView → ReplyView → ServiceState → Type 0
+Replies old request reply new = Answers old (wanted_of request) request.body reply new

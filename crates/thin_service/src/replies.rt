@@ -1,6 +1,6 @@
 //! The replies of the service.
-ghost use Rattle.std.specs.Prelude.{◌≡◌, ◌≤◌, length, IfOk};
-ghost use Rattle.http_serve.specs.Reply.{reply_view, HasShortWords};
+ghost use Rattle.std.specs.Prelude.{◌≡◌, ◌≤◌, [], length, IfOk};
+ghost use Rattle.http_serve.specs.Reply.{reply_view, IsWritable};
 ghost use Rattle.thin_service.specs.Words.{fault_word, edit_word, fault_status, edit_status, edit_body, edit_reply, no_tile, format_type, format_content};
 ghost use Rattle.thin_service.specs.Words.{tile_reply, refusal_of, text_type, json_type, tile_type};
 
@@ -73,8 +73,8 @@ fn fault_status(fault: RequestFault) -> StatusCode
 /// The reply that names a fault.
 #[tactic(auto, unfolding(crate::specs::Words::text_type))]
 pub(crate) fn refusal(fault: RequestFault) -> Reply
-    ensures reply { reply_view result ≡ refusal_of fault }
-    ensures words { HasShortWords (reply_view result) }
+    ensures reply { reply_view [] result ≡ refusal_of fault }
+    ensures writable { IsWritable [] result }
 {
     Reply::plain(
         fault_status(fault),
@@ -99,8 +99,8 @@ pub(crate) fn edit_body(alloc: Global, number: u64) -> Result<Vec<u8>, AllocErro
 #[tactic(auto, unfolding(crate::specs::Words::json_type))]
 pub(crate) fn made(number: u64, text: Vec<u8>) -> Reply
     requires { text.items ≡ edit_body number }
-    ensures reply { reply_view result ≡ edit_reply number }
-    ensures words { HasShortWords (reply_view result) }
+    ensures reply { reply_view [] result ≡ edit_reply number }
+    ensures writable { IsWritable [] result }
 {
     let _ = number;
     Reply::plain(
@@ -112,8 +112,8 @@ pub(crate) fn made(number: u64, text: Vec<u8>) -> Reply
 
 /// The reply where a tile shows nothing.
 pub(crate) fn no_tile() -> Reply
-    ensures reply { reply_view result ≡ no_tile }
-    ensures words { HasShortWords (reply_view result) }
+    ensures reply { reply_view [] result ≡ no_tile }
+    ensures writable { IsWritable [] result }
 {
     Reply::plain(StatusCode::NO_CONTENT, None, Content::Empty)
 }
@@ -142,8 +142,8 @@ fn format_content(alloc: Global, format: TileFormat, bytes: Vec<u8>) -> Result<V
 
 /// The reply with a tile.
 pub(crate) fn tile(alloc: Global, format: TileFormat, bytes: Vec<u8>) -> Result<Reply, AllocError>
-    ensures reply { IfOk result (λ reply. reply_view reply ≡ tile_reply format bytes.items) }
-    ensures words { IfOk result (λ reply. HasShortWords (reply_view reply)) }
+    ensures reply { IfOk result (λ reply. reply_view [] reply ≡ tile_reply format bytes.items) }
+    ensures writable { IfOk result (IsWritable []) }
 {
     let kind = format_type(format);
     let content = format_content(alloc, format, bytes)?;

@@ -1,6 +1,7 @@
 ghost use Rattle.std.specs.Prelude.{◌≡◌, ◌≤◌, ◌<◌, ◌+◌, ◌-◌, ◌^◌, ◌⊎◌, [], IfOk, IfErr, OnOk};
-ghost use Rattle.http_serve.specs.Told.{IsServed, IsServedUpTo, most_reads, MeetsTurns, KeepsTurns, AnswersInput};
-ghost use Rattle.http_serve.specs.Reply.{reply_view, HasShortWords};
+ghost use Rattle.http_serve.specs.declared.connection.TheConstants.{MOST_READS};
+ghost use Rattle.http_serve.specs.Told.{IsServed, IsServedUpTo, HasContent, MeetsTurns, KeepsTurns, AnswersInput};
+ghost use Rattle.http_serve.specs.Reply.{reply_view, IsWritable};
 ghost use Rattle.thin_service.specs.Requests.{MakesPut, RefusesPut, AnswersTile, Replies};
 ghost use Rattle.thin_service.specs.State.{ServiceReplies};
 
@@ -9,7 +10,7 @@ use crate::fault::RequestFault;
 use crate::kept::Kept;
 use crate::replies;
 use hilbert_id::TileAt;
-use http_serve::{Handler, Reply, Request, ServeFault, Served, serve};
+use http_serve::{ContentFault, Handler, Reply, Request, ServeFault, Served, serve};
 use mvt_write::write_tile;
 use std::alloc::{AllocError, Global};
 use std::io::{Read, Write};
@@ -49,8 +50,8 @@ impl ThinService {
 
     /// Sets the feature of a number to the one in the body of a request.
     fn put(&mut self, id: u64, body: &[u8]) -> Result<Reply, RequestFault>
-        ensures made { IfOk result (λ reply. MakesPut (state_of self.old) id body.now (reply_view reply) (state_of self.new)) }
-        ensures words { IfOk result (λ reply. HasShortWords (reply_view reply)) }
+        ensures made { IfOk result (λ reply. MakesPut (state_of self.old) id body.now (reply_view [] reply) (state_of self.new)) }
+        ensures writable { IfOk result (IsWritable []) }
         ensures refused { IfErr result (λ fault. (state_of self.new ≡ state_of self.old)
             × ((fault ≡ RequestFault.Memory) ⊎ RefusesPut (state_of self.old) id body.now fault)) }
     {
@@ -77,8 +78,8 @@ impl ThinService {
 
     /// The tile, as it is asked for.
     fn tile(&self, at: TileAt, format: TileFormat) -> Result<Reply, AllocError>
-        ensures answers { IfOk result (λ reply. AnswersTile (state_of self.now) at.z at.x at.y format (reply_view reply)) }
-        ensures words { IfOk result (λ reply. HasShortWords (reply_view reply)) }
+        ensures answers { IfOk result (λ reply. AnswersTile (state_of self.now) at.z at.x at.y format (reply_view [] reply)) }
+        ensures writable { IfOk result (IsWritable []) }
     {
         let layers = self.kept.store.layers(at)?;
         if layers.len() == 0 {
@@ -92,7 +93,10 @@ impl ThinService {
 impl Handler for ThinService {
     ghost use Rattle.thin_service.specs.State.{state_of};
 
-    ghost replies = { λ old question reply new. Replies (state_of old) question reply (state_of new) };
+    ghost replies = { λ old request reply new. Replies (state_of old) request reply (state_of new) };
+
+    // No content is read in parts.
+    ghost content = { λ _. [] };
 
     fn answer(&mut self, request: &Request<'_>) -> Reply {
         let result = match self.routes.target(request.path) {
@@ -110,6 +114,10 @@ impl Handler for ThinService {
             Err(fault) => replies::refusal(fault),
         }
     }
+
+    fn read_content(&mut self, _offset: u64, _part: &mut [u8]) -> Result<(), ContentFault> {
+        Err(ContentFault)
+    }
 }
 
 /// Serves a connection by at most `http_serve::MOST_READS` reads: one reply to each request, in order, and one to what is
@@ -126,8 +134,9 @@ pub fn thin_serve<R: Read, W: Write>(
         service.new (R.remaining reader.new) (W.contents writer.new)) }
     ensures fault { IfErr result (λ fault. IsServedUpTo ServiceReplies service.old (R.remaining reader.old) (W.contents writer.old) fault
         service.new (R.remaining reader.new) (W.contents writer.new)) }
-    ensures turns { IfOk result (λ served. MeetsTurns most_reads (R.remaining reader.old) (R.remaining reader.new) served.end) }
-    ensures reads { KeepsTurns most_reads result (R.remaining reader.old) (R.remaining reader.new) }
+    ensures whole { IfErr result (HasContent []) }
+    ensures turns { IfOk result (λ served. MeetsTurns MOST_READS (R.remaining reader.old) (R.remaining reader.new) served.end) }
+    ensures reads { KeepsTurns MOST_READS result (R.remaining reader.old) (R.remaining reader.new) }
 {
     serve(alloc, reader, writer, service)
 }

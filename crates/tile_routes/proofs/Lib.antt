@@ -1,3 +1,3 @@
-mod Capped
+mod Digits
 mod Keys
 mod Texts

@@ -1,8 +1,9 @@
 -- Numbers in a path.
-use Rattle.std.specs.Prelude.{ℕ, ◌^◌, ◌==◌, ◌&&◌, ◌||◌, Bool, not, nat_lt, List, length, slice_index, Option, Some, None, if◌then◌else◌}
+use Rattle.std.specs.Prelude.{ℕ, ◌==◌, ◌&&◌, ◌||◌, Bool, not, nat_lt, List, length, slice_index, Option, Some, None, if◌then◌else◌}
 use Rattle.std.specs.List.{list_all}
 use Rattle.std.specs.Char.{is_ascii_digit}
 use Rattle.std.specs.Str.Parse.{digits_value}
+use Rattle.feature_model.specs.declared.limits.TheConstants.{NUMBER_END}
 
 -- a first digit that says nothing: 0 (48) with another digit behind it
 abbrev pub has_leading_zero : List ℕ → Bool
@@ -12,6 +13,6 @@ has_leading_zero text = nat_lt 1 (length text) && (slice_index text 0 == 48)
 abbrev pub is_plain_number : List ℕ → Bool
 is_plain_number text = not ((length text == 0) || has_leading_zero text) && list_all is_ascii_digit text
 
--- the number below 2 ^ 63 that a text writes in decimal
+-- the number of a feature that a text writes in decimal
 abbrev pub number_of : List ℕ → Option ℕ
-number_of text = if is_plain_number text && nat_lt (digits_value 10 text) (2 ^ 63) then Some (digits_value 10 text) else None
+number_of text = if is_plain_number text && nat_lt (digits_value 10 text) NUMBER_END then Some (digits_value 10 text) else None

@@ -1,8 +1,9 @@
 -- Targets without where they lie in memory.
-use Rattle.std.specs.Prelude.{ℕ, ◌<◌, ◌≤◌, ◌^◌, List}
+use Rattle.std.specs.Prelude.{ℕ, ◌<◌, ◌≤◌, List}
 use Rattle.std.specs.Borrow.{Bor}
 use Rattle.matchit.specs.Params.{walk}
 use Rattle.matchit.specs.declared.params.Params.{Params}
+use Rattle.feature_model.specs.declared.limits.TheConstants.{GREATEST_ZOOM, NUMBER_END}
 use Rattle.tile_routes.specs.declared.target.Target.{Target}
 use Rattle.tile_routes.specs.declared.target.Target.TheVariants.{Feature, Tile, Nothing}
 use Rattle.tile_routes.specs.declared.target.TileFormat.{TileFormat}
@@ -14,10 +15,10 @@ asked_of (Feature id) = asked_feature id
 asked_of (Tile at format) = asked_tile at.z at.x at.y format
 asked_of Nothing = asked_nothing
 
--- a number below 2 ^ 63, and a tile of a zoom up to 16
+-- a number of a feature, and a tile up to the greatest zoom
 abbrev pub IsInRange : Target → Type 0
-IsInRange (Feature id) = id < 2 ^ 63
-IsInRange (Tile at format) = at.z ≤ 16
+IsInRange (Feature id) = id < NUMBER_END
+IsInRange (Tile at format) = at.z ≤ GREATEST_ZOOM
 IsInRange Nothing = Unit {0}
 
 abbrev pub row_view : Bor (List ℕ) × TileFormat → List ℕ × TileFormat

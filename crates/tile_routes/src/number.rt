@@ -1,38 +1,18 @@
-ghost use Rattle.std.specs.Prelude.{◌≡◌, ◌+◌, ◌-◌, ◌*◌, ◌^◌, ◌<◌, ◌≤◌, true, min, IfSome};
+//! Numbers in a path.
+ghost use Rattle.std.specs.Prelude.{◌≡◌, ◌^◌, ◌<◌, ◌≤◌, true, length, IfSome, MatchOption};
 ghost use Rattle.std.specs.List.{list_all};
 ghost use Rattle.std.specs.Char.{is_ascii_digit};
 ghost use Rattle.std.specs.Str.Parse.{digits_value};
+ghost use Rattle.feature_model.specs.declared.limits.TheConstants.{NUMBER_END};
 ghost use Rattle.tile_routes.specs.Number.{is_plain_number, number_of};
 
-/// One above the numbers that a path may write.
-const NUMBER_END: u64 = 1 << 63;
+use feature_model::NUMBER_END;
 
 /// Whether each byte is a digit.
 fn are_digits(bytes: &[u8]) -> bool
     ensures { result ≡ list_all is_ascii_digit bytes.now }
 {
     bytes.iter().all(|byte| byte.is_ascii_digit())
-}
-
-/// The number with one digit more, or the end of numbers where it is there or above.
-fn with_digit(number: u64, digit: u8) -> u64
-    requires { 48 ≤ digit }
-    ensures { result ≡ min (number * 10 + (digit - 48)) (2 ^ 63) }
-{
-    let more = u128::from(number) * 10 + u128::from(digit - b'0');
-    more.min(u128::from(NUMBER_END)) as u64
-}
-
-/// The number that the digits write, or the end of numbers where it is there or above.
-fn capped_number(digits: &[u8]) -> u64
-    requires { list_all is_ascii_digit digits.now ≡ true }
-    ensures { result ≡ min (digits_value 10 digits.now) (2 ^ 63) }
-{
-    let mut number = 0u64;
-    for digit in digits {
-        number = with_digit(number, *digit);
-    }
-    number
 }
 
 /// Whether the text is one digit or more, with no needless 0 in front.
@@ -45,18 +25,28 @@ fn is_plain(text: &[u8]) -> bool
     are_digits(text)
 }
 
-/// The number below 2^63 that the text writes in decimal, without leading zeros.
+/// The number that one digit or more write, where it is below 2^64.
+fn digits_number(digits: &[u8]) -> Option<u64>
+    requires some { 0 < length digits.now }
+    requires digits { list_all is_ascii_digit digits.now ≡ true }
+    ensures { MatchOption result (2 ^ 64 ≤ digits_value 10 digits.now) (λ number. number ≡ digits_value 10 digits.now) }
+{
+    match str::from_utf8(digits) {
+        Ok(text) => text.parse::<u64>().ok(),
+        Err(_) => None,
+    }
+}
+
+/// The number of a feature that the text writes in decimal, without leading zeros.
 pub(crate) fn path_number(text: &[u8]) -> Option<u64>
     ensures number { result ≡ number_of text.now }
-    ensures small { IfSome result (λ n. n < 2 ^ 63) }
+    ensures small { IfSome result (λ number. number < NUMBER_END) }
 {
     if !is_plain(text) {
         return None;
     }
-    let number = capped_number(text);
-    if number < NUMBER_END {
-        Some(number)
-    } else {
-        None
+    match digits_number(text) {
+        Some(number) if number < NUMBER_END => Some(number),
+        _ => None,
     }
 }

@@ -61,6 +61,7 @@ fn fault_name(fault: ServeFault) -> &'static str {
         ServeFault::Memory => "Memory",
         ServeFault::Read { .. } => "Read",
         ServeFault::Write { .. } => "Write",
+        ServeFault::Content { .. } => "Content",
     }
 }
 

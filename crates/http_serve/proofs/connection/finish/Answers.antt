@@ -1,5 +1,5 @@
 use Rattle.std.proofs.Common.{refl, arith, ap, length}
-use Rattle.http_serve.specs.Message.{refused}
+use Rattle.http_serve.specs.Requests.{refused}
 use Rattle.http_serve.specs.Reply.{refusal_bytes}
 use Rattle.http_serve.proofs.HeadLemmas.{some_bytes}
 use Rattle.http_serve.proofs.connection.finish.Goals as goal

@@ -3,7 +3,7 @@ use Rattle.http_serve.specs.Input.{buffer_size}
 use Rattle.http_serve.specs.Search.{IsKnown}
 use Rattle.http_serve.proofs.LineLemmas.{IsKnown-append}
 use Rattle.http_serve.proofs.ServeLemmas.{SoFar_start, SoFar_stops, SoFar_failed_read, SoFar_goes, SoFar_told, SoFar_broken, SoFar_done, SoFar_failed, if_ok}
-use Rattle.http_serve.proofs.ServeLemmas.{if_err, least_start, least_more, least_over, most_start, most_more, other_turns, finished_turns, finished_reads}
+use Rattle.http_serve.proofs.ServeLemmas.{if_err, least_start, least_more, least_over, most_start, most_more, other_turns, finished_turns, finished_reads, unfinished_content}
 use Rattle.http_serve.proofs.connection.serve_turns.Goals as goal
 
 pub loop-turn-init : goal.loop-turn-init
@@ -95,3 +95,7 @@ returns-then-count-eq0-clause-reads g c =
     (most_more (g.R.Read.remaining c.args.reader.now) _ _ (c.loop-turn._turn * buffer_size) (c.args.turns * buffer_size)
     c.in-Ok-read_from.count came.0 c.loop-turn.invariant.most came.1 came.3 (omega arith))
     (c.finish.ensures.fault c.loop-turn.invariant.so_far.head)
+
+pub returns-then-count-eq0-clause-content : goal.returns-then-count-eq0-clause-content
+returns-then-count-eq0-clause-content g c =
+    if_err c.finish.result _ _ (λ fault. unfinished_content _ _ _ _ _ _ fault _) (c.finish.ensures.fault c.loop-turn.invariant.so_far.head)

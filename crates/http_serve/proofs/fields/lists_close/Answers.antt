@@ -5,13 +5,13 @@ use Rattle.http_serve.proofs.fields.lists_close.Goals as goal
 pub returns-then-is_close_option : goal.returns-then-is_close_option
 returns-then-is_close_option c =
     let found = c.position_or_len-at in
-    close_found c.args.value.now c.loop-rest.rest.now found.result found.ensures.place found.ensures.within c.loop-rest.invariant.same
+    close_found c.args.value.now c.loop-rest.rest.now found.result found.ensures.index found.ensures.within c.loop-rest.invariant.same
     (sym c.is_close_option.ensures ∙ c.if-is_close_option.true)
 
 pub returns-then-at-rest : goal.returns-then-at-rest
 returns-then-at-rest c =
     let found = c.position_or_len-at in
-    close_none c.args.value.now c.loop-rest.rest.now found.result found.ensures.place found.ensures.within c.loop-rest.invariant.same
+    close_none c.args.value.now c.loop-rest.rest.now found.result found.ensures.index found.ensures.within c.loop-rest.invariant.same
     (sym c.is_close_option.ensures ∙ c.if-is_close_option.false) c.if-at-rest.true
 
 pub loop-rest-preserved : goal.loop-rest-preserved
@@ -19,7 +19,7 @@ loop-rest-preserved c =
     let found = c.position_or_len-at in
     record {
       same =
-          close_goes c.args.value.now c.loop-rest.rest.now found.result found.ensures.place found.ensures.within c.loop-rest.invariant.same
+          close_goes c.args.value.now c.loop-rest.rest.now found.result found.ensures.index found.ensures.within c.loop-rest.invariant.same
           (sym c.is_close_option.ensures ∙ c.if-is_close_option.false) (omega arith);
       within =
           let bound = c.loop-rest.invariant.within in

@@ -1,13 +1,16 @@
 -- The requests that the bytes of a connection are.
-use Rattle.std.specs.Prelude.{◌≡◌, ℕ, ◌<◌, ◌≤◌, List, [], ◌∷◌, ◌++◌, Bool, true, false, ◌==◌, ◌||◌, length, map, Option, None, Some, Result, Ok, Err, ⊤}
+use Rattle.std.specs.Prelude.{◌≡◌, ℕ, ◌<◌, ◌≤◌, List, [], ◌∷◌, ◌++◌, Bool, true, false, ◌==◌, ◌||◌, length, map, Option, None, Some, option_map, Result, Ok, Err, ⊤}
+use Rattle.std.specs.List.{before_first}
 use Rattle.httparse.specs.Grammar.{RequestHead, ReadsRequest, print_request}
-use Rattle.httparse.specs.Spans.{name_and_value}
+use Rattle.httparse.specs.Spans.{name_and_value, span_bytes}
+use Rattle.http_serve.specs.declared.frames.Frame.{Frame}
+use Rattle.http_serve.specs.declared.frames.TheConstants.{MOST_HEAD, MOST_FIELDS}
 use Rattle.http_serve.specs.declared.refusals.Refusal.{Refusal}
 use Rattle.http_serve.specs.declared.refusals.Refusal.TheVariants.{Head}
-use Rattle.http_serve.specs.Fields.{NamedValue, body_length, says_close}
+use Rattle.http_serve.specs.Fields.{NamedValue, body_length, range_of, says_close}
 
 -- a request: its head and its body
-pub record Message : Type 0 where
+pub record Request : Type 0 where
   pub head : RequestHead
   pub body : List ℕ
 
@@ -17,17 +20,54 @@ fields_of head = map name_and_value head.fields
 -- bytes are this head and then rest, within the limits of a head; the empty lines before a head are of it
 pub record IsHead (bytes : List ℕ) (head : RequestHead) (rest : List ℕ) : Type 0 where
   pub reads : ReadsRequest bytes head rest
-  pub size : length (print_request head) ≤ 8192
-  pub fields : length head.fields ≤ 32
+  pub size : length (print_request head) ≤ MOST_HEAD
+  pub fields : length head.fields ≤ MOST_FIELDS
 
 -- bytes are this request and then rest
-pub record IsMessage (bytes : List ℕ) (message : Message) (rest : List ℕ) : Type 0 where
-  pub head : IsHead bytes message.head (message.body ++ rest)
-  pub body : body_length (fields_of message.head) ≡ Ok (length message.body)
+pub record IsRequest (bytes : List ℕ) (request : Request) (rest : List ℕ) : Type 0 where
+  pub head : IsHead bytes request.head (request.body ++ rest)
+  pub body : body_length (fields_of request.head) ≡ Ok (length request.body)
 
 -- the connection ends after this request: it is of HTTP/1.0, or says so
 abbrev pub asks_to_close : RequestHead → Bool
 asks_to_close head = head.minor == 0 || says_close (fields_of head)
+
+-- what a handler sees of a request
+pub record RequestView : Type 0 where
+  pub method : List ℕ
+  pub path : List ℕ
+  -- the value of the one field called range
+  pub range : Option (List ℕ)
+  pub body : List ℕ
+  -- whether the connection ends after the reply
+  pub close : Bool
+
+-- b'?'
+abbrev pub question_mark : ℕ
+question_mark = 63
+
+-- a request's path: its target up to the first question mark
+abbrev pub path_of : List ℕ → List ℕ
+path_of target = before_first (λ byte. byte == question_mark) target
+
+abbrev pub request_view : Request → RequestView
+request_view request = record {
+  method = request.head.method;
+  path = path_of request.head.target;
+  range = range_of (fields_of request.head);
+  body = request.body;
+  close = asks_to_close request.head;
+}
+
+-- the request in a frame of the bytes
+abbrev pub request_view_at : List ℕ → Frame → RequestView
+request_view_at bytes frame = record {
+  method = span_bytes bytes frame.method;
+  path = path_of (span_bytes bytes frame.target);
+  range = option_map (span_bytes bytes) frame.range;
+  body = span_bytes bytes frame.body;
+  close = frame.close;
+}
 
 -- no prefix of bytes is a head within the limits
 abbrev pub HasNoHead : List ℕ → Type 0
@@ -50,10 +90,10 @@ IsRefused bytes None refusal = (refusal ≡ Head) × HasNoHead bytes
 IsRefused bytes (Some head) refusal = HasFault bytes head refusal
 
 -- bytes are these requests, none of which ends the connection, and then rest
-abbrev pub Begins : List ℕ → List Message → List ℕ → Type 0
+abbrev pub Begins : List ℕ → List Request → List ℕ → Type 0
 Begins bytes [] rest = bytes ≡ rest
-Begins bytes (message ∷ messages) rest =
-    (middle : List ℕ) × IsMessage bytes message middle × (asks_to_close message.head ≡ false) × Begins middle messages rest
+Begins bytes (request ∷ requests) rest =
+    (middle : List ℕ) × IsRequest bytes request middle × (asks_to_close request.head ≡ false) × Begins middle requests rest
 
 -- how the bytes of a connection end
 pub data Ending : Type 0 where
@@ -62,7 +102,7 @@ pub data Ending : Type 0 where
   -- behind a request, or with nothing
   closed : Ending
   -- with a request that ends the connection
-  asked : Message → Ending
+  asked : Request → Ending
   -- with what is no request: its head, where it has one, and the reason
   refused : Option RequestHead → Refusal → Ending
 
@@ -70,9 +110,9 @@ pub data Ending : Type 0 where
 abbrev pub EndsAs : List ℕ → Ending → Type 0
 EndsAs bytes going = ⊤
 EndsAs bytes closed = bytes ≡ []
-EndsAs bytes (asked message) = (rest : List ℕ) × IsMessage bytes message rest × (asks_to_close message.head ≡ true)
+EndsAs bytes (asked request) = (rest : List ℕ) × IsRequest bytes request rest × (asks_to_close request.head ≡ true)
 EndsAs bytes (refused head refusal) = (0 < length bytes) × IsRefused bytes head refusal
 
 -- all the bytes of a connection are these requests, and then end so
-abbrev pub Requests : List ℕ → List Message → Ending → Type 0
-Requests bytes messages ending = (rest : List ℕ) × Begins bytes messages rest × EndsAs rest ending
+abbrev pub Requests : List ℕ → List Request → Ending → Type 0
+Requests bytes requests ending = (rest : List ℕ) × Begins bytes requests rest × EndsAs rest ending

@@ -1,0 +1,133 @@
+//! Replies whose content is read from the handler in parts.
+ghost use Rattle.std.specs.Prelude.{◌≡◌, ◌≢◌, ◌≤◌, ◌<◌, ◌+◌, ◌^◌, length, take, drop, vec_capacity, ℕ, IfErr};
+ghost use Rattle.http_serve.specs.Parts.{rest_bytes, IsCutIn, cut_after};
+ghost use Rattle.http_serve.specs.declared.handlers.TheConstants.{PART_SIZE};
+ghost use Rattle.http_serve.specs.Requests.{RequestView};
+ghost use Rattle.http_serve.specs.Reply.{ReplyView, IsWritable, FitsParts, reply_view, reply_bytes};
+ghost use Rattle.http_serve.specs.Sent.{Sends};
+
+use crate::handlers::PART_SIZE;
+use crate::replies::send_front;
+use crate::writes::send_all;
+use crate::{Content, Handler, Reply, ServeFault};
+use std::io::Write;
+
+/// Why a reply was cut.
+#[derive(Clone, Copy, Debug, PartialEq, Eq)]
+pub(crate) enum SendFault {
+    /// A write failed or took nothing.
+    Write,
+    /// The handler couldn't read the content.
+    Content,
+}
+
+impl SendFault {
+    /// How a connection ends on which so many replies were written whole.
+    pub(crate) fn after(self, requests: u64) -> ServeFault
+        ensures { result ≡ cut_after requests self }
+    {
+        match self {
+            SendFault::Write => ServeFault::Write { requests },
+            SendFault::Content => ServeFault::Content { requests },
+        }
+    }
+}
+
+/// Reads the part of a content at an offset, and writes it.
+fn send_part<H: Handler, W: Write>(
+    handler: &mut H,
+    writer: &mut W,
+    offset: u64,
+    part: &mut [u8],
+) -> Result<(), SendFault>
+    requires within { offset + length part.old ≤ length (H.content handler.old) }
+    requires some { 0 < length part.old }
+    requires few { length part.old ≤ PART_SIZE }
+    ensures sent { Sends result (W.contents writer.old) (W.contents writer.new) (take (length part.old) (drop offset (H.content handler.old))) }
+    ensures cut { IfErr result (IsCutIn (H.content handler.new)) }
+    ensures content { H.content handler.new ≡ H.content handler.old }
+    ensures same { (old : H) (request : RequestView) (reply : ReplyView) → H.replies old request reply handler.old → H.replies old request reply handler.new }
+    ensures length { length part.new ≡ length part.old }
+{
+    match handler.read_content(offset, part) {
+        Ok(()) => {}
+        Err(_) => return Err(SendFault::Content),
+    }
+    match send_all(writer, part) {
+        Ok(()) => Ok(()),
+        Err(_) => Err(SendFault::Write),
+    }
+}
+
+/// Reads a content of so many bytes from an offset to its end, part by part, and writes each part.
+fn send_parts<H: Handler, W: Write>(
+    handler: &mut H,
+    writer: &mut W,
+    offset: u64,
+    size: u64,
+) -> Result<(), SendFault>
+    requires size { length (H.content handler.old) ≡ size }
+    requires within { offset ≤ size }
+    ensures sent { Sends result (W.contents writer.old) (W.contents writer.new) (drop offset (H.content handler.old)) }
+    ensures cut { IfErr result (IsCutIn (H.content handler.new)) }
+    ensures content { H.content handler.new ≡ H.content handler.old }
+    ensures same { (old : H) (request : RequestView) (reply : ReplyView) → H.replies old request reply handler.old → H.replies old request reply handler.new }
+{
+    let mut buffer = [0; PART_SIZE];
+    let mut at = offset;
+    while at < size {
+        let count = (size - at).min(PART_SIZE as u64);
+        match send_part(handler, writer, at, &mut buffer[..count as usize]) {
+            Ok(()) => at += count,
+            Err(fault) => return Err(fault),
+        }
+    }
+    Ok(())
+}
+
+/// Writes the rest of the content of a reply, where it is read in parts and sent.
+fn send_rest<H: Handler, W: Write>(
+    handler: &mut H,
+    writer: &mut W,
+    reply: &Reply,
+    bare: bool,
+) -> Result<(), SendFault>
+    requires fits { FitsParts (H.content handler.old) reply.now.content }
+    ensures sent { Sends result (W.contents writer.old) (W.contents writer.new) (rest_bytes bare (H.content handler.old) reply.now) }
+    ensures cut { IfErr result (IsCutIn (H.content handler.new)) }
+    ensures content { H.content handler.new ≡ H.content handler.old }
+    ensures same { (old : H) (request : RequestView) (reply : ReplyView) → H.replies old request reply handler.old → H.replies old request reply handler.new }
+{
+    if !reply.sends_content(bare) {
+        return Ok(());
+    }
+    match &reply.content {
+        Content::Parts { first, length } => {
+            send_parts(handler, writer, first.len() as u64, *length)
+        }
+        _ => Ok(()),
+    }
+}
+
+/// Writes a reply, which says whether it is the last one, and is whole or only its head.
+pub(crate) fn send_reply<H: Handler, W: Write>(
+    handler: &mut H,
+    writer: &mut W,
+    out: &mut Vec<u8>,
+    reply: &Reply,
+    close: bool,
+    bare: bool,
+) -> Result<(), SendFault>
+    requires writable { IsWritable (H.content handler.old) reply.now }
+    requires room { 16384 ≤ vec_capacity out.old }
+    ensures room { 16384 ≤ vec_capacity out.new }
+    ensures sent { Sends result (W.contents writer.old) (W.contents writer.new) (reply_bytes close bare (reply_view (H.content handler.old) reply.now)) }
+    ensures cut { IfErr result (IsCutIn (H.content handler.new)) }
+    ensures content { H.content handler.new ≡ H.content handler.old }
+    ensures same { (old : H) (request : RequestView) (reply : ReplyView) → H.replies old request reply handler.old → H.replies old request reply handler.new }
+{
+    match send_front(writer, out, reply, close, bare) {
+        Ok(()) => send_rest(handler, writer, reply, bare),
+        Err(_) => Err(SendFault::Write),
+    }
+}
