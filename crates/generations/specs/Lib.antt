@@ -1,0 +1,4 @@
+pub mod Areas
+pub mod Disks
+pub mod Faults
+pub mod Sectors
