@@ -1,6 +1,6 @@
 -- The bytes of the format's sector and of a root's. Numbers stand lowest byte first.
-use Rattle.std.specs.Prelude.{◌≡◌, ◌≢◌, ◌<◌, ◌≤◌, ◌+◌, ◌^◌, ◌%◌, ℕ, List, ◌++◌, codes, replicate, take}
-use Rattle.std.specs.Int.{w32, w64, to_le_bytes}
+use Rattle.std.specs.Prelude.{◌≡◌, ◌≢◌, ◌<◌, ◌≤◌, ◌+◌, ◌^◌, ◌%◌, ℕ, List, ◌++◌, codes, replicate, take, slice_range}
+use Rattle.std.specs.Int.{w32, w64, to_le_bytes, from_le_bytes}
 use Rattle.generations.specs.Areas.{journal_sectors, area_sectors, sectors_of}
 use Rattle.generations.specs.declared.root.Root.{Root}
 
@@ -25,6 +25,20 @@ unfoldable pub root_sector : Root → List ℕ
 root_sector root =
     root_mark ++ to_le_bytes w64 root.generation ++ to_le_bytes w64 root.edits ++ to_le_bytes w64 root.journal_at
     ++ to_le_bytes w64 root.snapshot_len ++ to_le_bytes w64 root.archive_len ++ replicate 464 0
+
+-- the number in the eight bytes from an offset on
+abbrev pub number_from : ℕ → List ℕ → ℕ
+number_from at sector = from_le_bytes w64 (slice_range sector at (at + 8))
+
+-- the five numbers of a root, each at its offset
+unfoldable pub root_from : List ℕ → Root
+root_from sector = record {
+  generation = number_from 8 sector;
+  edits = number_from 16 sector;
+  journal_at = number_from 24 sector;
+  snapshot_len = number_from 32 sector;
+  archive_len = number_from 40 sector;
+}
 
 -- each number of a root fits its eight bytes
 pub record AreNumbers (root : Root) : Type 0 where

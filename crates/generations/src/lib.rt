@@ -2,6 +2,7 @@
 //! The root of greater generation says what counts on the disk. No call takes memory.
 #![tactic(auto)]
 
+mod encoding;
 mod fault;
 mod layout;
 mod root;
