@@ -1,1 +1,2 @@
+mod Formats
 mod Roots

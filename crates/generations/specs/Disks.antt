@@ -1,23 +1,17 @@
 -- What the first sectors of a disk say.
 use Rattle.std.specs.Prelude.{◌≡◌, ◌≢◌, ◌⊎◌, ◌<◌, ◌≤◌, ◌+◌, ◌%◌, ℕ, take}
 use Rattle.sector_disk.specs.Disk.{Image}
-use Rattle.generations.specs.Areas.{IsSize, journal_sectors}
-use Rattle.generations.specs.Sectors.{disk_mark, format_sector, root_sector, zeros, IsRootOf, IsNoRoot, IsBad}
+use Rattle.generations.specs.Areas.{journal_sectors}
+use Rattle.generations.specs.Sectors.{format_sector, root_sector, zeros, HasMark, IsFormat, IsRootOf, IsNoRoot, IsBad}
 use Rattle.generations.specs.declared.root.Root.{Root}
 use Rattle.generations.specs.declared.fault.StoreFault.{StoreFault}
 use Rattle.generations.specs.declared.fault.StoreFault.TheVariants.{NotFormatted, TooSmall, Damaged, Device, Memory}
 use Rattle.generations.specs.declared.fault.What.{What}
 use Rattle.generations.specs.declared.fault.What.TheVariants.{Size, RootSector, Snapshot, Journal, Text}
 
--- the disk doesn't begin with the mark
+-- the disk doesn't begin with the mark of a format
 abbrev pub HasNoMark : Image → Type 0
-HasNoMark image = take 8 (image 0) ≢ disk_mark
-
--- a disk of this count of sectors was formatted with n of them
-pub record HasFormat (count : ℕ) (image : Image) (n : ℕ) : Type 0 where
-  pub bytes : image 0 ≡ format_sector n
-  pub size : IsSize n
-  pub within : n ≤ count
+HasNoMark image = HasMark (image 0) → ⊥
 
 -- one of the two sectors has this root
 abbrev pub HasRoot : ℕ → Image → Root → Type 0
@@ -29,7 +23,7 @@ IsSound n parity image at = IsNoRoot (image at) ⊎ ((root : Root) × IsRootOf n
 
 -- The disk has a format and no bad sector of a root, and of its roots this one has the greatest generation.
 pub record LiveRoot (count : ℕ) (image : Image) (n : ℕ) (root : Root) : Type 0 where
-  pub format : HasFormat count image n
+  pub format : IsFormat count (image 0) n
   pub even : IsSound n 0 image 1
   pub odd : IsSound n 1 image 2
   pub stands : HasRoot n image root
@@ -38,9 +32,9 @@ pub record LiveRoot (count : ℕ) (image : Image) (n : ℕ) (root : Root) : Type
 -- Why a disk of this count of sectors has no live root: there is no mark, or no format behind it, or a bad sector or no root.
 abbrev pub IsFaultOf : ℕ → Image → StoreFault → Type 0
 IsFaultOf count image NotFormatted = (count ≡ 0) ⊎ HasNoMark image
-IsFaultOf count image (Damaged Size) = (0 < count) × (take 8 (image 0) ≡ disk_mark) × ((n : ℕ) → HasFormat count image n → ⊥)
+IsFaultOf count image (Damaged Size) = (0 < count) × HasMark (image 0) × ((n : ℕ) → IsFormat count (image 0) n → ⊥)
 IsFaultOf count image (Damaged RootSector) =
-    (n : ℕ) × HasFormat count image n × (IsBad n 0 (image 1) ⊎ IsBad n 1 (image 2) ⊎ (IsNoRoot (image 1) × IsNoRoot (image 2)))
+    (n : ℕ) × IsFormat count (image 0) n × (IsBad n 0 (image 1) ⊎ IsBad n 1 (image 2) ⊎ (IsNoRoot (image 1) × IsNoRoot (image 2)))
 IsFaultOf count image (Damaged Snapshot) = ⊥
 IsFaultOf count image (Damaged Journal) = ⊥
 IsFaultOf count image (Damaged Text) = ⊥

@@ -1,7 +1,7 @@
 -- The bytes of the format's sector and of a root's. Numbers stand lowest byte first.
-use Rattle.std.specs.Prelude.{◌≡◌, ◌≢◌, ◌<◌, ◌≤◌, ◌+◌, ◌^◌, ◌%◌, ℕ, List, ◌++◌, codes, replicate, take, slice_range}
+use Rattle.std.specs.Prelude.{◌≡◌, ◌⊎◌, Option, Some, None, ◌≢◌, ◌<◌, ◌≤◌, ◌+◌, ◌^◌, ◌%◌, ℕ, List, ◌++◌, codes, replicate, take, slice_range}
 use Rattle.std.specs.Int.{w32, w64, to_le_bytes, from_le_bytes}
-use Rattle.generations.specs.Areas.{journal_sectors, area_sectors, sectors_of}
+use Rattle.generations.specs.Areas.{IsSize, journal_sectors, area_sectors, sectors_of}
 use Rattle.generations.specs.declared.root.Root.{Root}
 
 -- the first bytes of a formatted disk
@@ -19,6 +19,16 @@ zeros = replicate 512 0
 -- the sector of the format with n sectors: the mark, the version, n
 unfoldable pub format_sector : ℕ → List ℕ
 format_sector n = disk_mark ++ to_le_bytes w32 1 ++ to_le_bytes w64 n ++ replicate 492 0
+
+-- the sector begins with the mark of a format
+abbrev pub HasMark : List ℕ → Type 0
+HasMark sector = take 8 sector ≡ disk_mark
+
+-- the sector is that of a format with n sectors, which a disk of this count has
+pub record IsFormat (count : ℕ) (sector : List ℕ) (n : ℕ) : Type 0 where
+  pub bytes : sector ≡ format_sector n
+  pub size : IsSize n
+  pub within : n ≤ count
 
 -- the sector of a root: the mark and five numbers
 unfoldable pub root_sector : Root → List ℕ
@@ -71,3 +81,14 @@ IsNoRoot sector = sector ≡ zeros
 -- it has neither zeros nor a root
 abbrev pub IsBad : ℕ → ℕ → List ℕ → Type 0
 IsBad n parity sector = (sector ≢ zeros) × ((root : Root) → IsRootOf n parity sector root → ⊥)
+
+-- what the sector has: zeros, or this root
+abbrev pub IsSlot : ℕ → ℕ → List ℕ → Option Root → Type 0
+IsSlot n parity sector None = IsNoRoot sector
+IsSlot n parity sector (Some root) = IsRootOf n parity sector root
+
+-- of two roots, or fewer, this is the one of greater generation
+abbrev pub IsNewest : Option Root → Option Root → Option Root → Type 0
+IsNewest first second None = (first ≡ None) × (second ≡ None)
+IsNewest first second (Some root) = ((first ≡ Some root) ⊎ (second ≡ Some root))
+    × ((other : Root) → (first ≡ Some other) ⊎ (second ≡ Some other) → other.generation ≤ root.generation)

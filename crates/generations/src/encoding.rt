@@ -1,5 +1,5 @@
 //! The sector of the format and the sector of a root, as bytes.
-ghost use Rattle.std.specs.Prelude.{◌≡◌, ◌+◌, ◌≤◌, ◌↔◌, ◌++◌, Some, take, drop};
+ghost use Rattle.std.specs.Prelude.{◌≡◌, ◌+◌, ◌^◌, ◌<◌, ◌≤◌, ◌↔◌, ◌++◌, Some, ℕ, take, drop};
 ghost use Rattle.std.specs.Int.{w64, to_le_bytes};
 ghost use Rattle.generations.specs.Sectors.{format_sector, root_sector, root_from, number_from, AreNumbers, IsRootSector};
 
@@ -7,7 +7,9 @@ use crate::root::Root;
 
 /// The first bytes of a formatted disk.
 pub(crate) const DISK_MARK: [u8; 8] = *b"VTILEDSK";
+
 const ROOT_MARK: [u8; 8] = *b"VTROOT01";
+
 const VERSION: u32 = 1;
 
 fn put_number(sector: &mut [u8; 512], at: usize, number: u64)
@@ -75,4 +77,17 @@ pub(crate) fn root_of(sector: &[u8; 512]) -> Option<Root>
     let root = numbers_of(sector);
     let bytes = root_bytes(root);
     if bytes == *sector { Some(root) } else { None }
+}
+
+/// The count of sectors that the sector of a format names.
+pub(crate) fn size_of(sector: &[u8; 512]) -> Option<u64>
+    ensures { (n : ℕ) → (result ≡ Some n) ↔ ((sector.now ≡ format_sector n) × (n < 2 ^ 64)) }
+{
+    let sectors = number_at(sector, 12);
+    let bytes = format_bytes(sectors);
+    if bytes == *sector {
+        Some(sectors)
+    } else {
+        None
+    }
 }

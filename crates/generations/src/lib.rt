@@ -2,9 +2,11 @@
 //! The root of greater generation says what counts on the disk. No call takes memory.
 #![tactic(auto)]
 
+mod checks;
 mod encoding;
 mod fault;
 mod layout;
+mod reading;
 mod root;
 mod sizes;
 
