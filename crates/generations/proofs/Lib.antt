@@ -1,2 +1,4 @@
 mod Formats
+mod Live
+mod Parts
 mod Roots

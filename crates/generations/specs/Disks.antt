@@ -42,8 +42,12 @@ IsFaultOf count image TooSmall = ⊥
 IsFaultOf count image Device = ⊥
 IsFaultOf count image Memory = ⊥
 
--- The disk was just formatted with n sectors: the root of zeros stands, and the other sector of a root and the journal are empty.
+-- the root of a disk that nothing was written to since its format
+abbrev pub first_root : Root
+first_root = record { generation = 0; edits = 0; journal_at = 0; snapshot_len = 0; archive_len = 0 }
+
+-- The disk was just formatted with n sectors: the first root stands, and the other sector of a root and the journal are empty.
 pub record IsFresh (n : ℕ) (image : Image) : Type 0 where
   pub format : image 0 ≡ format_sector n
-  pub root : image 1 ≡ root_sector (record { generation = 0; edits = 0; journal_at = 0; snapshot_len = 0; archive_len = 0 })
+  pub root : image 1 ≡ root_sector first_root
   pub empty : (at : ℕ) → 2 ≤ at → at < 3 + journal_sectors n → image at ≡ zeros

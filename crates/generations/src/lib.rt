@@ -5,12 +5,15 @@
 mod checks;
 mod encoding;
 mod fault;
+mod formatting;
 mod layout;
 mod reading;
 mod root;
 mod sizes;
 
 pub use fault::{StoreFault, What};
+pub use formatting::format;
 pub use layout::Layout;
+pub use reading::read_root;
 pub use root::Root;
 pub use sizes::{LEAST_SECTORS, MOST_SECTORS};

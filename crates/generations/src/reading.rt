@@ -76,3 +76,26 @@ fn read_slot<D: Sectors>(
     let sector = read_sector(disk, 1 + parity)?;
     slot_in(&sector, layout, parity)
 }
+
+/// The layout of a disk and the root that counts on it: of the one or two that it has, the one of greater generation. Only
+/// reads. At a fault other than `Device` it is the first that the disk has: of sector 0, and then of the sectors of roots.
+pub fn read_root<D: Sectors>(disk: &mut D) -> Result<(Layout, Root), StoreFault>
+    ensures count { D.sectors disk.new ≡ D.sectors disk.old }
+    ensures faults { OnOk result (D.faults disk.new ≡ D.faults disk.old) }
+    ensures failed { IfErr result (λ fault. CountsDevice fault (D.faults disk.old) (D.faults disk.new)) }
+    ensures honest { D.honest disk.new → D.honest disk.old }
+    ensures history { D.honest disk.new → D.history disk.new ≡ D.history disk.old }
+    ensures within { IfOk result (λ found. found.0.sectors ≤ D.sectors disk.new) }
+    ensures can { IfOk result (λ found. CanStand found.0.sectors found.1) }
+    ensures root { D.honest disk.new → IfOk result (λ found. LiveRoot (D.sectors disk.old) (seen (D.history disk.old)) found.0.sectors found.1) }
+    ensures fault { D.honest disk.new
+        → IfErr result (λ fault. (fault ≡ Device) ⊎ IsFaultOf (D.sectors disk.old) (seen (D.history disk.old)) fault) }
+{
+    let layout = read_layout(disk)?;
+    let even = read_slot(disk, layout, 0)?;
+    let odd = read_slot(disk, layout, 1)?;
+    match newest(even, odd) {
+        Some(root) => Ok((layout, root)),
+        None => Err(StoreFault::Damaged(What::RootSector)),
+    }
+}
