@@ -1,5 +1,5 @@
 -- A format's sector has the count of sectors at its offset.
-use Rattle.std.proofs.Common.{◌≡◌, ◌↔◌, ℕ, ◌<◌, ◌^◌, List, Option, Some, None, take, sym, ap, subst, ◌∙◌}
+use Rattle.std.proofs.Common.{◌≡◌, ◌↔◌, ℕ, ◌<◌, ◌^◌, List, Some, None, take, sym, ap, subst, ◌∙◌}
 use Rattle.std.proofs.lemmas.Nat.{from_le_bytes-to_le_bytes_8}
 use Rattle.generations.specs.Sectors.{disk_mark, format_sector, number_from, HasMark}
 

@@ -1,18 +1,22 @@
 -- Laws of what stands on a disk, for the crates above.
-use Rattle.std.proofs.Common.{◌≡◌, ◌⊎◌, inl, inr, ⊎_elim, ℕ, ◌≤◌, ◌<◌, ◌+◌, ◌^◌, ◌%◌, ◌==◌, List, Bool, true, refl, sym, ◌∙◌, ap, subst, arith, lit<, lit≤, if◌then◌else◌}
+use Rattle.std.proofs.Common.{◌≡◌, ◌⊎◌, inl, inr, ⊎_elim, ℕ, ◌≤◌, ◌<◌, ◌+◌, ◌^◌, ◌%◌, ◌==◌, if◌then◌else◌, List, take, Option, Some, None, true, false}
+use Rattle.std.proofs.Common.{refl, sym, ◌∙◌, ap, subst, arith, lit<, lit≤}
 use Rattle.std.proofs.lemmas.Bool.{cases_eq, cases_lt, cases_Bool, both_ways}
-use Rattle.std.proofs.lemmas.Bool.Decides.{Decides-eqb, nat_tests}
-use Rattle.std.proofs.lemmas.Slice.Eq.{slice_eq-Decides}
+use Rattle.std.proofs.lemmas.Bool.Decides.{nat_tests}
+use Rattle.std.proofs.lemmas.Slice.Eq.{bytes_eq-Decides}
+use Rattle.std.specs.Str.{bytes_eq}
 use Rattle.sector_disk.specs.Disk.{Image}
 use Rattle.generations.specs.Areas.{IsSize, journal_sectors, area_sectors, sectors_of}
 use Rattle.generations.specs.Disks.{HasNoMark, HasRoot, IsSound, LiveRoot, IsFaultOf, IsFresh, first_root}
-use Rattle.generations.specs.Sectors.{disk_mark, format_sector, root_sector, root_from, number_from, zeros, HasMark, AreNumbers, CanStand, IsFormat, IsRootOf, IsRootSector, IsNoRoot, IsBad}
+use Rattle.generations.specs.Sectors.{disk_mark, format_sector, root_sector, root_from, number_from, zeros, HasMark, AreNumbers, CanStand}
+use Rattle.generations.specs.Sectors.{IsFormat, IsRootOf, IsRootSector, IsNoRoot, IsBad, IsSlot, IsNewest}
+use Rattle.generations.specs.declared.sizes.TheConstants.{LEAST_SECTORS, MOST_SECTORS}
 use Rattle.generations.specs.declared.root.Root.{Root}
 use Rattle.generations.specs.declared.fault.StoreFault.{StoreFault}
 use Rattle.generations.specs.declared.fault.StoreFault.TheVariants.{NotFormatted, TooSmall, Damaged, Device, Memory}
 use Rattle.generations.specs.declared.fault.What.TheVariants.{Size, RootSector, Snapshot, Journal, Text}
 use Rattle.generations.proofs.Formats.{marked}
-use Rattle.generations.proofs.Live.{zeros_no_root}
+use Rattle.generations.proofs.Live.{zeros_no_root, newest_lives, none_lives, bad_even, bad_odd}
 use Rattle.generations.proofs.Formats as formats
 use Rattle.generations.proofs.Roots as roots
 
@@ -146,3 +150,173 @@ fresh_live count n image size within fresh =
 -- a disk without the mark isn't formatted
 pub unmarked_fault : (count : ℕ) (image : Image) → HasNoMark image → IsFaultOf count image NotFormatted
 unmarked_fault count image none = inr none
+
+-- ---- at least one
+
+abbrev Decided : Type 0 → Type 0
+Decided P = P ⊎ (P → ⊥)
+
+both : {P Q : Type 0} → Decided P → Decided Q → Decided (P × Q)
+both (inl p) (inl q) = inl (p, q)
+both (inl p) (inr isnt) = inr (λ w. isnt w.1)
+both (inr isnt) q = inr (λ w. isnt w.0)
+
+moved : {P Q : Type 0} → (P → Q) → (Q → P) → Decided P → Decided Q
+moved there back (inl p) = inl (there p)
+moved there back (inr isnt) = inr (λ q. isnt (back q))
+
+same_list : (xs ys : List ℕ) → Decided (xs ≡ ys)
+same_list xs ys = ⊎_elim (λ (yes : bytes_eq xs ys ≡ true). inl ((bytes_eq-Decides xs ys).0 yes))
+    (λ (no : bytes_eq xs ys ≡ false). inr (λ is. both_ways (bytes_eq xs ys) no ((bytes_eq-Decides xs ys).1 is)))
+    (cases_Bool (bytes_eq xs ys))
+
+below : (a b : ℕ) → Decided (a < b)
+below a b = ⊎_elim (λ (lt : a < b). inl lt) (λ (ge : b ≤ a). inr (λ lt. omega (arith, lt, ge))) (cases_lt a b)
+
+at_most : (a b : ℕ) → Decided (a ≤ b)
+at_most a b = ⊎_elim (λ (lt : b < a). inr (λ le. omega (arith, lt, le))) (λ (le : a ≤ b). inl le) (cases_lt b a)
+
+format_decided : (count n : ℕ) (sector : List ℕ) → Decided (IsFormat count sector n)
+format_decided count n sector =
+    moved (λ (w : (sector ≡ format_sector n) × (IsSize n × (n ≤ count))). record { bytes = w.0; size = w.1.0; within = w.1.1 })
+    (λ is. (is.bytes, (is.size, is.within)))
+    (both (same_list sector (format_sector n)) (both (both (at_most LEAST_SECTORS n) (at_most n MOST_SECTORS)) (at_most n count)))
+
+numbers_decided : (root : Root) → Decided (AreNumbers root)
+numbers_decided root =
+    moved (λ (w : ((root.generation < 2 ^ 64) × (root.edits < 2 ^ 64)) × ((root.journal_at < 2 ^ 64) × ((root.snapshot_len < 2 ^ 64) × (root.archive_len < 2 ^ 64)))).
+    record { generation = w.0.0; edits = w.0.1; journal_at = w.1.0; snapshot_len = w.1.1.0; archive_len = w.1.1.1 })
+    (λ are. ((are.generation, are.edits), (are.journal_at, (are.snapshot_len, are.archive_len))))
+    (both (both (below root.generation (2 ^ 64)) (below root.edits (2 ^ 64)))
+    (both (below root.journal_at (2 ^ 64)) (both (below root.snapshot_len (2 ^ 64)) (below root.archive_len (2 ^ 64)))))
+
+can_decided : (n : ℕ) (root : Root) → Decided (CanStand n root)
+can_decided n root =
+    moved (λ (w : (root.journal_at < journal_sectors n) × (sectors_of root.snapshot_len + sectors_of root.archive_len ≤ area_sectors n)).
+    record { journal = w.0; area = w.1 })
+    (λ can. (can.journal, can.area))
+    (both (below root.journal_at (journal_sectors n)) (at_most (sectors_of root.snapshot_len + sectors_of root.archive_len) (area_sectors n)))
+
+root_decided : (n parity : ℕ) (sector : List ℕ) (root : Root) → Decided (IsRootOf n parity sector root)
+root_decided n parity sector root =
+    moved (λ (w : ((sector ≡ root_sector root) × AreNumbers root) × ((root.generation % 2 ≡ parity) × CanStand n root)).
+    record { stands = record { bytes = w.0.0; numbers = w.0.1 }; parity_is = w.1.0; can = w.1.1 })
+    (λ is. ((is.stands.bytes, is.stands.numbers), (is.parity_is, is.can)))
+    (both (both (same_list sector (root_sector root)) (numbers_decided root)) (both (cases_eq (root.generation % 2) parity) (can_decided n root)))
+
+-- what a sector of a root has: zeros or a root, or it is bad
+slot_or_bad : (n parity : ℕ) (sector : List ℕ) → ((slot : Option Root) × IsSlot n parity sector slot) ⊎ IsBad n parity sector
+slot_or_bad n parity sector = ⊎_elim
+    (λ (none : sector ≡ zeros). inl (None, none))
+    (λ (some : sector ≡ zeros → ⊥). ⊎_elim
+    (λ (is : IsRootOf n parity sector (root_from sector)). inl (Some (root_from sector), is))
+    (λ (no : IsRootOf n parity sector (root_from sector) → ⊥). inr (
+      some,
+      λ root is.
+          no (subst (λ (r : Root). IsRootOf n parity sector r) (roots.is_read sector root is.stands) is),
+    ))
+    (root_decided n parity sector (root_from sector)))
+    (same_list sector zeros)
+
+some_same : (a b : Root) → Some a ≡ Some b → b.generation ≤ a.generation
+some_same a b is = let same : a ≡ b = cc in omega (arith, ap (λ (r : Root). r.generation) same)
+
+none_some : (a : Root) → None ≡ Some a → ⊥
+none_some a is = cc
+
+-- of two slots there is a newest root, or none
+newest_or_none : (even odd : Option Root) → ((root : Root) × IsNewest even odd (Some root)) ⊎ ((even ≡ None) × (odd ≡ None))
+newest_or_none None None = inr (refl, refl)
+newest_or_none (Some a) None = inl (
+  a,
+  (
+    inl refl,
+    λ other has. ⊎_elim
+        (λ (is : Some a ≡ Some other). some_same a other is) (λ (is : None ≡ Some other). absurd (none_some other is)) has,
+  ),
+)
+newest_or_none None (Some b) = inl (
+  b,
+  (
+    inr refl,
+    λ other has. ⊎_elim
+        (λ (is : None ≡ Some other). absurd (none_some other is)) (λ (is : Some b ≡ Some other). some_same b other is) has,
+  ),
+)
+newest_or_none (Some a) (Some b) = ⊎_elim
+    (λ (lt : a.generation < b.generation). inl (
+      b,
+      (
+        inr refl,
+        λ other has. ⊎_elim
+            (λ (is : Some a ≡ Some other). omega (arith, lt, some_same a other is)) (λ (is : Some b ≡ Some other). some_same b other is) has,
+      ),
+    ))
+    (λ (ge : b.generation ≤ a.generation). inl (
+      a,
+      (
+        inl refl,
+        λ other has. ⊎_elim
+            (λ (is : Some a ≡ Some other). some_same a other is) (λ (is : Some b ≡ Some other). omega (arith, ge, some_same b other is)) has,
+      ),
+    ))
+    (cases_lt a.generation b.generation)
+
+-- a disk has a live root
+abbrev pub HasLive : ℕ → Image → Type 0
+HasLive count image = (n : ℕ) × (root : Root) × LiveRoot count image n root
+
+-- or it has a fault
+abbrev pub HasFault : ℕ → Image → Type 0
+HasFault count image = (fault : StoreFault) × IsFaultOf count image fault
+
+formatted : (count : ℕ) (image : Image) (n : ℕ) → IsFormat count (image 0) n → HasLive count image ⊎ HasFault count image
+formatted count image n format = ⊎_elim
+    (λ (even : (slot : Option Root) × IsSlot n 0 (image 1) slot). ⊎_elim
+    (λ (odd : (slot : Option Root) × IsSlot n 1 (image 2) slot). ⊎_elim
+    (λ (live : (root : Root) × IsNewest even.0 odd.0 (Some root)). inl (n, live.0, newest_lives count image n format even.0 odd.0 even.1 odd.1 live.0 live.1))
+    (λ (none : (even.0 ≡ None) × (odd.0 ≡ None)). inr (Damaged RootSector, none_lives count image n format even.0 odd.0 even.1 odd.1 none))
+    (newest_or_none even.0 odd.0))
+    (λ (bad : IsBad n 1 (image 2)). inr (Damaged RootSector, bad_odd count image n format bad))
+    (slot_or_bad n 1 (image 2)))
+    (λ (bad : IsBad n 0 (image 1)). inr (Damaged RootSector, bad_even count image n format bad))
+    (slot_or_bad n 0 (image 1))
+
+marked_or_not : (count : ℕ) (image : Image) → 0 < count → HasMark (image 0) → HasLive count image ⊎ HasFault count image
+marked_or_not count image pos mark = ⊎_elim
+    (λ (is : IsFormat count (image 0) (number_from 12 (image 0))). formatted count image (number_from 12 (image 0)) is)
+    (λ (no : IsFormat count (image 0) (number_from 12 (image 0)) → ⊥). inr (
+      Damaged Size,
+      (
+        pos,
+        mark,
+        λ n is.
+            no (subst (λ (k : ℕ). IsFormat count (image 0) k) (formats.is_read (image 0) n (is.bytes, omega (arith, is.size.1))) is),
+      ),
+    ))
+    (format_decided count (number_from 12 (image 0)) (image 0))
+
+-- a disk has a live root or a fault
+pub live_or_fault : (count : ℕ) (image : Image) → HasLive count image ⊎ HasFault count image
+live_or_fault count image = ⊎_elim
+    (λ (none : count ≡ 0). inr (NotFormatted, inl none))
+    (λ (some : count ≡ 0 → ⊥). ⊎_elim
+    (λ (mark : take 8 (image 0) ≡ disk_mark). marked_or_not count image (omega arith) mark)
+    (λ (no : take 8 (image 0) ≡ disk_mark → ⊥). inr (NotFormatted, inr no))
+    (same_list (take 8 (image 0)) disk_mark))
+    (cases_eq count 0)
+
+-- ---- the definitions aren't empty
+
+-- a disk that was just formatted with n sectors
+abbrev pub fresh_image : ℕ → Image
+fresh_image n at = if at == 0 then format_sector n else if at == 1 then root_sector first_root else zeros
+
+pub some_fresh : (n : ℕ) → IsFresh n (fresh_image n)
+some_fresh n = record { format = refl; root = refl; empty = λ at le lt. grind (arith, nat_tests) }
+
+pub some_live : LiveRoot 64 (fresh_image 64) 64 first_root
+some_live = fresh_live 64 64 (fresh_image 64) (lit≤ tt, lit≤ tt) (lit≤ tt) (some_fresh 64)
+
+pub some_parts : (journal_sectors 64 ≡ 16) × (area_sectors 64 ≡ 22)
+some_parts = (refl, refl)

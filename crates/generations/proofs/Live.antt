@@ -1,8 +1,8 @@
 -- The root that counts, by what the two sectors of roots have.
-use Rattle.std.proofs.Common.{◌≡◌, ◌⊎◌, inl, inr, ⊎_elim, ℕ, ◌≤◌, List, Option, Some, None, slice_index, refl, sym, ap, subst, arith, ◌∙◌}
+use Rattle.std.proofs.Common.{◌≡◌, inl, inr, ⊎_elim, ℕ, List, Option, Some, None, slice_index, refl, sym, ap, subst, arith, ◌∙◌}
 use Rattle.sector_disk.specs.Disk.{Image}
-use Rattle.generations.specs.Disks.{HasRoot, IsSound, LiveRoot, IsFaultOf}
-use Rattle.generations.specs.Sectors.{root_mark, root_sector, zeros, IsFormat, IsRootOf, IsNoRoot, IsBad, IsSlot, IsNewest}
+use Rattle.generations.specs.Disks.{IsSound, LiveRoot, IsFaultOf}
+use Rattle.generations.specs.Sectors.{root_mark, root_sector, zeros, IsFormat, IsRootOf, IsBad, IsSlot, IsNewest}
 use Rattle.generations.specs.declared.root.Root.{Root}
 use Rattle.generations.specs.declared.fault.StoreFault.TheVariants.{Damaged}
 use Rattle.generations.specs.declared.fault.What.TheVariants.{RootSector}
@@ -25,12 +25,14 @@ sound n parity image at None is = inl is
 sound n parity image at (Some root) is = inr (root, is)
 
 -- a slot has the root that its sector has
-pub has_it : (n parity : ℕ) (sector : List ℕ) (slot : Option Root) (root : Root) → IsSlot n parity sector slot → IsRootOf n parity sector root → slot ≡ Some root
+pub has_it : (n parity : ℕ) (sector : List ℕ) (slot : Option Root) (root : Root) → IsSlot n parity sector slot → IsRootOf n parity sector root
+    → slot ≡ Some root
 has_it n parity sector None root slot is = absurd (zeros_no_root root (sym slot ∙ is.stands.bytes))
 has_it n parity sector (Some other) root slot is = ap Some (is_read sector other slot.stands ∙ sym (is_read sector root is.stands))
 
 -- and its sector has the root that it has
-pub it_has : (n parity : ℕ) (sector : List ℕ) (slot : Option Root) (root : Root) → IsSlot n parity sector slot → slot ≡ Some root → IsRootOf n parity sector root
+pub it_has : (n parity : ℕ) (sector : List ℕ) (slot : Option Root) (root : Root) → IsSlot n parity sector slot → slot ≡ Some root
+    → IsRootOf n parity sector root
 it_has n parity sector None root slot is = absurd (let apart : None ≡ Some root = is in cc)
 it_has n parity sector (Some other) root slot is = let same : other ≡ root = cc in subst (λ (r : Root). IsRootOf n parity sector r) same slot
 

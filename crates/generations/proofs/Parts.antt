@@ -1,11 +1,12 @@
 -- A disk is formatted in four parts, each of which outlives a crash before the next begins.
-use Rattle.std.proofs.Common.{◌≡◌, ◌⊎◌, inl, inr, ⊎_elim, ℕ, suc, ◌≤◌, ◌<◌, ◌+◌, List, slice_index, take, refl, sym, ◌∙◌, ap, subst, arith, Result}
+use Rattle.std.proofs.Common.{◌≡◌, ◌⊎◌, inl, inr, ⊎_elim, ℕ, ◌≤◌, ◌<◌, ◌+◌, List, slice_index, take, refl, sym, ◌∙◌, ap, subst, arith, Result}
 use Rattle.std.proofs.lemmas.Bool.{cases_eq}
-use Rattle.sector_disk.specs.Disk.{History, Image, seen, MayHold, MayLeave, FailedWrite, Writes, Syncs}
+use Rattle.sector_disk.specs.Disk.{History, Image, seen, MayHold, MayLeave, Writes, Syncs}
 use Rattle.sector_disk.specs.Disk.History.{wrote, synced}
 use Rattle.sector_disk.specs.Moments.{Within, LeavesOnly}
 use Rattle.sector_disk.specs.declared.disk.DiskFault.{DiskFault}
-use Rattle.sector_disk.proofs.History.{started, seen_may, seen_same, seen_other, any_write, write_within, write_leaves, any_sync, sync_within, sync_leaves, fits_image, weaken, then_leaves}
+use Rattle.sector_disk.proofs.History.{started, seen_may, seen_same, seen_other, any_write, write_within, write_leaves, any_sync, sync_within, sync_leaves}
+use Rattle.sector_disk.proofs.History.{fits_image, weaken, then_leaves}
 use Rattle.generations.specs.Areas.{journal_sectors}
 use Rattle.generations.specs.Disks.{HasNoMark, IsFresh, first_root}
 use Rattle.generations.specs.Written.{IsOldOr, IsOldOrEmpty}
@@ -13,17 +14,18 @@ use Rattle.generations.specs.Sectors.{disk_mark, format_sector, root_sector, zer
 
 -- ---- a write and a sync
 
-module _ (start : History) (at : ℕ) (bytes : List ℕ) (result : Result (Unit {0}) DiskFault) (written : History) (writes : Writes result at bytes start written) where
+module _ (start : History) (at : ℕ) (bytes : List ℕ) (result : Result (Unit {0}) DiskFault) (written : History)
+    (writes : Writes result at bytes start written) where
   abbrev OldOr : Image → Type 0
-  OldOr image = (place : ℕ) → IsOldOr start at bytes place (image place)
+  OldOr image = (index : ℕ) → IsOldOr start at bytes index (image index)
 
   wrote_within : Within written (IsOldOr start at bytes)
   wrote_within = write_within at bytes start written (IsOldOr start at bytes) (any_write result at bytes start written writes)
-      (λ place left may. inl may) (inr (refl, refl))
+      (λ index left may. inl may) (inr (refl, refl))
 
   pub wrote_leaves : LeavesOnly start written OldOr
   wrote_leaves = write_leaves start start written at bytes OldOr (any_write result at bytes start written writes)
-      (started start OldOr (λ image may place. inl (may place)))
+      (started start OldOr (λ image may index. inl (may index)))
       (fits_image written (IsOldOr start at bytes) OldOr wrote_within (λ image fits. fits))
 
   pub stood_leaves : (told : Result (Unit {0}) DiskFault) (new : History) → Syncs told written new → LeavesOnly start new OldOr
@@ -36,10 +38,10 @@ module _ (start : History) (at : ℕ) (bytes : List ℕ) (result : Result (Unit 
 module _ (start : History) where
   -- each sector has what it might have had at the start, or zeros
   abbrev pub Emptied : Image → Type 0
-  Emptied image = (place : ℕ) → IsOldOrEmpty start place (image place)
+  Emptied image = (index : ℕ) → IsOldOrEmpty start index (image index)
 
   pub emptied_start : LeavesOnly start start Emptied
-  emptied_start = started start Emptied (λ image may place. inl (may place))
+  emptied_start = started start Emptied (λ image may index. inl (may index))
 
   module _ (at : ℕ) (pos : 0 < at) (result : Result (Unit {0}) DiskFault) (old new : History) (writes : Writes result at zeros old new)
       (was : Within old (IsOldOrEmpty start)) where
@@ -96,10 +98,10 @@ stands_now at bytes old new is left may =
 
 -- and what stood in another sector stands still
 stands_still : (at : ℕ) (bytes : List ℕ) (old new : History) → new ≡ synced (wrote at bytes old)
-    → (place : ℕ) (there : List ℕ) → (place ≡ at → ⊥) → Stands old place there → Stands new place there
-stands_still at bytes old new is place there apart stood left may =
-    let holds : MayHold (synced (wrote at bytes old)) place left = subst (λ (h : History). MayHold h place left) is may in
-    holds ∙ seen_other at bytes old place apart ∙ stood (seen old place) (seen_may old place)
+    → (index : ℕ) (there : List ℕ) → (index ≡ at → ⊥) → Stands old index there → Stands new index there
+stands_still at bytes old new is index there apart stood left may =
+    let holds : MayHold (synced (wrote at bytes old)) index left = subst (λ (h : History). MayHold h index left) is may in
+    holds ∙ seen_other at bytes old index apart ∙ stood (seen old index) (seen_may old index)
 
 module _ (n : ℕ) (start : History) where
   -- an image of a format: one of before, or without the mark, or fresh
@@ -107,13 +109,13 @@ module _ (n : ℕ) (start : History) where
   Formats image = MayLeave start image ⊎ HasNoMark image ⊎ IsFresh n image
 
   -- the mark is overwritten
-  module _ (one : History) (leaves : LeavesOnly start one (λ image. (place : ℕ) → IsOldOr start 0 zeros place (image place))) where
-    first_image : (image : Image) → ((place : ℕ) → IsOldOr start 0 zeros place (image place)) → Formats image
+  module _ (one : History) (leaves : LeavesOnly start one (λ image. (index : ℕ) → IsOldOr start 0 zeros index (image index))) where
+    first_image : (image : Image) → ((index : ℕ) → IsOldOr start 0 zeros index (image index)) → Formats image
     first_image image fits = ⊎_elim
-        (λ (may : MayHold start 0 (image 0)). inl (λ place. ⊎_elim
-        (λ (m : MayHold start place (image place)). m)
-        (λ (w : (place ≡ 0) × (image place ≡ zeros)). subst (λ (p : ℕ). MayHold start p (image p)) (sym w.0) may)
-        (fits place)))
+        (λ (may : MayHold start 0 (image 0)). inl (λ index. ⊎_elim
+        (λ (m : MayHold start index (image index)). m)
+        (λ (w : (index ≡ 0) × (image index ≡ zeros)). subst (λ (p : ℕ). MayHold start p (image p)) (sym w.0) may)
+        (fits index)))
         (λ (w : (0 ≡ 0) × (image 0 ≡ zeros)). inr (inl (no_mark image w.1)))
         (fits 0)
 
@@ -125,8 +127,8 @@ module _ (n : ℕ) (start : History) where
       one_stands = stands_now 0 zeros start one one_is
 
       -- the roots and the journal are emptied
-      module _ (two : History) (cleared : LeavesOnly one two (λ image. (place : ℕ) → IsOldOrEmpty one place (image place))) where
-        second_image : (image : Image) → ((place : ℕ) → IsOldOrEmpty one place (image place)) → Formats image
+      module _ (two : History) (cleared : LeavesOnly one two (λ image. (index : ℕ) → IsOldOrEmpty one index (image index))) where
+        second_image : (image : Image) → ((index : ℕ) → IsOldOrEmpty one index (image index)) → Formats image
         second_image image fits = ⊎_elim
             (λ (may : MayHold one 0 (image 0)). inr (inl (no_mark image (one_stands (image 0) may))))
             (λ (w : (0 < 0) × (image 0 ≡ zeros)). absurd (omega (arith, w.0)))
@@ -145,8 +147,8 @@ module _ (n : ℕ) (start : History) where
 
           -- the first root is written
           module _ (root : List ℕ) (root_is : root ≡ root_sector first_root) (three : History)
-              (rooted : LeavesOnly two three (λ image. (place : ℕ) → IsOldOr two 1 root place (image place))) where
-            third_image : (image : Image) → ((place : ℕ) → IsOldOr two 1 root place (image place)) → Formats image
+              (rooted : LeavesOnly two three (λ image. (index : ℕ) → IsOldOr two 1 root index (image index))) where
+            third_image : (image : Image) → ((index : ℕ) → IsOldOr two 1 root index (image index)) → Formats image
             third_image image fits = ⊎_elim
                 (λ (may : MayHold two 0 (image 0)). inr (inl (no_mark image (two_stands (image 0) may))))
                 (λ (w : (0 ≡ 1) × (image 0 ≡ root)). absurd (omega (arith, w.0)))
@@ -166,7 +168,7 @@ module _ (n : ℕ) (start : History) where
               three_empty at le lt = stands_still 1 root two three three_is at zeros (λ e. omega (arith, e)) (empty at (omega arith) lt)
 
               -- with the sector of the format the image is fresh
-              made_fresh : (image : Image) → ((place : ℕ) → IsOldOr three 0 format place (image place)) → image 0 ≡ format → IsFresh n image
+              made_fresh : (image : Image) → ((index : ℕ) → IsOldOr three 0 format index (image index)) → image 0 ≡ format → IsFresh n image
               made_fresh image fits is = record {
                 format = is ∙ format_is;
                 root = ⊎_elim (λ (may : MayHold three 1 (image 1)). three_root (image 1) may ∙ root_is)
@@ -176,8 +178,8 @@ module _ (n : ℕ) (start : History) where
               }
 
               -- the sector of the format is written
-              module _ (four : History) (formatted : LeavesOnly three four (λ image. (place : ℕ) → IsOldOr three 0 format place (image place))) where
-                fourth_image : (image : Image) → ((place : ℕ) → IsOldOr three 0 format place (image place)) → Formats image
+              module _ (four : History) (formatted : LeavesOnly three four (λ image. (index : ℕ) → IsOldOr three 0 format index (image index))) where
+                fourth_image : (image : Image) → ((index : ℕ) → IsOldOr three 0 format index (image index)) → Formats image
                 fourth_image image fits = ⊎_elim
                     (λ (may : MayHold three 0 (image 0)). inr (inl (no_mark image (three_stands (image 0) may))))
                     (λ (w : (0 ≡ 0) × (image 0 ≡ format)). inr (inr (made_fresh image fits w.1)))

@@ -1,5 +1,5 @@
 -- A root's sector has its numbers, each at its offset.
-use Rattle.std.proofs.Common.{◌≡◌, ◌↔◌, ℕ, ◌<◌, ◌^◌, List, Option, Some, None, sym, ap, subst, ◌∙◌}
+use Rattle.std.proofs.Common.{◌≡◌, ◌↔◌, ℕ, ◌<◌, ◌^◌, List, Some, None, sym, ap, subst, ◌∙◌}
 use Rattle.std.specs.Int.{w64, from_le_bytes, to_le_bytes}
 use Rattle.std.proofs.lemmas.Nat.{from_le_bytes-to_le_bytes_8}
 use Rattle.generations.specs.Sectors.{root_mark, root_sector, root_from, AreNumbers, IsRootSector}

@@ -1,12 +1,11 @@
 -- What the first sectors of a disk say.
-use Rattle.std.specs.Prelude.{◌≡◌, ◌≢◌, ◌⊎◌, ◌<◌, ◌≤◌, ◌+◌, ◌%◌, ℕ, take}
+use Rattle.std.specs.Prelude.{◌≡◌, ◌⊎◌, ◌<◌, ◌≤◌, ◌+◌, ℕ}
 use Rattle.sector_disk.specs.Disk.{Image}
 use Rattle.generations.specs.Areas.{journal_sectors}
 use Rattle.generations.specs.Sectors.{format_sector, root_sector, zeros, HasMark, IsFormat, IsRootOf, IsNoRoot, IsBad}
 use Rattle.generations.specs.declared.root.Root.{Root}
 use Rattle.generations.specs.declared.fault.StoreFault.{StoreFault}
 use Rattle.generations.specs.declared.fault.StoreFault.TheVariants.{NotFormatted, TooSmall, Damaged, Device, Memory}
-use Rattle.generations.specs.declared.fault.What.{What}
 use Rattle.generations.specs.declared.fault.What.TheVariants.{Size, RootSector, Snapshot, Journal, Text}
 
 -- the disk doesn't begin with the mark of a format

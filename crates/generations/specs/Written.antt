@@ -5,8 +5,8 @@ use Rattle.generations.specs.Sectors.{zeros}
 
 -- in the sector stands what might have stood there, or what was written to it
 abbrev pub IsOldOr : History → ℕ → List ℕ → ℕ → List ℕ → Type 0
-IsOldOr old at bytes place left = MayHold old place left ⊎ ((place ≡ at) × (left ≡ bytes))
+IsOldOr old at bytes index left = MayHold old index left ⊎ ((index ≡ at) × (left ≡ bytes))
 
 -- in the sector stands what might have stood there, or zeros, which no one writes to the first sector
 abbrev pub IsOldOrEmpty : History → ℕ → List ℕ → Type 0
-IsOldOrEmpty old place left = MayHold old place left ⊎ ((0 < place) × (left ≡ zeros))
+IsOldOrEmpty old index left = MayHold old index left ⊎ ((0 < index) × (left ≡ zeros))

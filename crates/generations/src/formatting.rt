@@ -36,7 +36,7 @@ fn write_and_sync<D: Sectors>(disk: &mut D, at: u64, sector: &[u8; 512]) -> Resu
     ensures faults { OnOk result (D.faults disk.new ≡ D.faults disk.old) }
     ensures failed { OnErr result (HasFailed (D.faults disk.old) (D.faults disk.new)) }
     ensures leaves { D.honest disk.new → LeavesOnly (D.history disk.old) (D.history disk.new)
-        (λ image. (place : ℕ) → IsOldOr (D.history disk.old) at sector.now place (image place)) }
+        (λ image. (index : ℕ) → IsOldOr (D.history disk.old) at sector.now index (image index)) }
     ensures stands { D.honest disk.new → OnOk result (D.history disk.new ≡ synced (wrote at sector.now (D.history disk.old))) }
 {
     disk.write(at, sector)?;
@@ -52,7 +52,7 @@ fn write_zeros<D: Sectors>(disk: &mut D, end: u64) -> Result<(), DiskFault>
     ensures faults { OnOk result (D.faults disk.new ≡ D.faults disk.old) }
     ensures failed { OnErr result (HasFailed (D.faults disk.old) (D.faults disk.new)) }
     ensures leaves { D.honest disk.new → LeavesOnly (D.history disk.old) (D.history disk.new)
-        (λ image. (place : ℕ) → IsOldOrEmpty (D.history disk.old) place (image place)) }
+        (λ image. (index : ℕ) → IsOldOrEmpty (D.history disk.old) index (image index)) }
     ensures within { D.honest disk.new → Within (D.history disk.new) (IsOldOrEmpty (D.history disk.old)) }
     ensures empty { D.honest disk.new → OnOk result ((at : ℕ) → 0 < at → at < end → seen (D.history disk.new) at ≡ zeros) }
 {
@@ -89,7 +89,7 @@ fn clear<D: Sectors>(disk: &mut D, end: u64) -> Result<(), DiskFault>
     ensures faults { OnOk result (D.faults disk.new ≡ D.faults disk.old) }
     ensures failed { OnErr result (HasFailed (D.faults disk.old) (D.faults disk.new)) }
     ensures leaves { D.honest disk.new → LeavesOnly (D.history disk.old) (D.history disk.new)
-        (λ image. (place : ℕ) → IsOldOrEmpty (D.history disk.old) place (image place)) }
+        (λ image. (index : ℕ) → IsOldOrEmpty (D.history disk.old) index (image index)) }
     ensures within { D.honest disk.new → Within (D.history disk.new) (IsOldOrEmpty (D.history disk.old)) }
     ensures empty { D.honest disk.new
         → OnOk result ((at : ℕ) → 0 < at → at < end → (left : List ℕ) → MayHold (D.history disk.new) at left → left ≡ zeros) }

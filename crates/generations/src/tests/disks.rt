@@ -116,8 +116,9 @@ fn roots_that_can_not(rt: HostRuntime) -> Result<(), Fail> {
 #[test]
 fn greater_generation_counts(rt: HostRuntime) -> Result<(), Fail> {
     for (even, odd, live) in GENERATIONS {
-        let roots = (root([even, 0, 0, 0, 0]), root([odd, 0, 0, 0, 0]));
-        let mut disk = disk_with(rt.alloc(), 64, [begins(&FORMAT_64), roots.0, roots.1])?;
+        let first = root([even, 0, 0, 0, 0]);
+        let second = root([odd, 0, 0, 0, 0]);
+        let mut disk = disk_with(rt.alloc(), 64, [begins(&FORMAT_64), first, second])?;
         let (_, found) = read_root(&mut disk)?;
         assert_eq!(rt; found.generation, live);
     }

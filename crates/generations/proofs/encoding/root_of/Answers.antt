@@ -2,7 +2,6 @@ use Rattle.std.proofs.Common.{◌≡◌, ◌↔◌, true, sym, ◌∙◌}
 use Rattle.std.proofs.lemmas.Bool.{iff_false}
 use Rattle.std.proofs.lemmas.Bool.Decides.{Decides-eqb}
 use Rattle.std.proofs.lemmas.Slice.Eq.{slice_eq-Decides}
-use Rattle.generations.specs.Sectors.{root_sector}
 use Rattle.generations.proofs.Roots.{root_there, no_root}
 use Rattle.generations.proofs.encoding.root_of.Goals as goal
 

@@ -1,5 +1,5 @@
-use Rattle.std.proofs.Common.{◌≡◌, ◌⊎◌, inl, ℕ, subst, sym, ◌∙◌}
-use Rattle.sector_disk.specs.Disk.{Image, seen, MayLeave}
+use Rattle.std.proofs.Common.{◌≡◌, ◌⊎◌, inl, ℕ, subst, ◌∙◌}
+use Rattle.sector_disk.specs.Disk.{seen, MayLeave}
 use Rattle.sector_disk.specs.Moments.{LeavesOnly}
 use Rattle.sector_disk.proofs.History.{started, seen_may}
 use Rattle.generations.specs.Disks.{HasNoMark, IsFresh}

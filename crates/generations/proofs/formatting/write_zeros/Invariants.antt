@@ -11,7 +11,7 @@ invariant-loop-at g l = record {
   honest : g.D.Sectors.honest l.disk → g.D.Sectors.honest l.initial.disk;
   faults : g.D.Sectors.faults l.disk ≡ g.D.Sectors.faults l.initial.disk;
   leaves : g.D.Sectors.honest l.disk → LeavesOnly (g.D.Sectors.history l.initial.disk) (g.D.Sectors.history l.disk)
-      (λ image. (place : ℕ) → IsOldOrEmpty (g.D.Sectors.history l.initial.disk) place (image place));
+      (λ image. (index : ℕ) → IsOldOrEmpty (g.D.Sectors.history l.initial.disk) index (image index));
   within : g.D.Sectors.honest l.disk → Within (g.D.Sectors.history l.disk) (IsOldOrEmpty (g.D.Sectors.history l.initial.disk));
   empty : g.D.Sectors.honest l.disk → (at : ℕ) → 0 < at → at < l.at → seen (g.D.Sectors.history l.disk) at ≡ zeros;
 }

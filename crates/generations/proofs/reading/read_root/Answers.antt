@@ -1,4 +1,4 @@
-use Rattle.std.proofs.Common.{◌≡◌, sym, ◌∙◌, ap, subst}
+use Rattle.std.proofs.Common.{◌∙◌, subst}
 use Rattle.sector_disk.specs.Disk.{History, seen}
 use Rattle.generations.specs.Sectors.{IsSlot}
 use Rattle.generations.proofs.Live.{newest_lives}
