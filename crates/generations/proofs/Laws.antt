@@ -182,10 +182,14 @@ format_decided count n sector =
     (λ is. (is.bytes, (is.size, is.within)))
     (both (same_list sector (format_sector n)) (both (both (at_most LEAST_SECTORS n) (at_most n MOST_SECTORS)) (at_most n count)))
 
+-- the five numbers of a root, taken by two
+abbrev TwoAndThree : Root → Type 0
+TwoAndThree root = ((root.generation < 2 ^ 64) × (root.edits < 2 ^ 64))
+    × ((root.journal_at < 2 ^ 64) × ((root.snapshot_len < 2 ^ 64) × (root.archive_len < 2 ^ 64)))
+
 numbers_decided : (root : Root) → Decided (AreNumbers root)
 numbers_decided root =
-    moved (λ (w : ((root.generation < 2 ^ 64) × (root.edits < 2 ^ 64)) × ((root.journal_at < 2 ^ 64) × ((root.snapshot_len < 2 ^ 64) × (root.archive_len < 2 ^ 64)))).
-    record { generation = w.0.0; edits = w.0.1; journal_at = w.1.0; snapshot_len = w.1.1.0; archive_len = w.1.1.1 })
+    moved (λ (w : TwoAndThree root). record { generation = w.0.0; edits = w.0.1; journal_at = w.1.0; snapshot_len = w.1.1.0; archive_len = w.1.1.1 })
     (λ are. ((are.generation, are.edits), (are.journal_at, (are.snapshot_len, are.archive_len))))
     (both (both (below root.generation (2 ^ 64)) (below root.edits (2 ^ 64)))
     (both (below root.journal_at (2 ^ 64)) (both (below root.snapshot_len (2 ^ 64)) (below root.archive_len (2 ^ 64)))))

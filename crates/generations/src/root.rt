@@ -5,7 +5,7 @@ pub struct Root {
     pub generation: u64,
     /// How many edits the snapshot has.
     pub edits: u64,
-    /// The sector that the journal goes on in behind the snapshot, from the journal's first one on.
+    /// Where the journal goes on behind the snapshot: the index of its sector among the journal's, from 0 on.
     pub journal_at: u64,
     /// The length of the snapshot in the area, in bytes.
     pub snapshot_len: u64,
