@@ -1,0 +1,5 @@
+mod Formats
+pub mod Laws
+mod Live
+mod Parts
+mod Roots

@@ -1,0 +1,19 @@
+-- How the sectors of a disk are divided.
+use Rattle.std.specs.Prelude.{◌≤◌, ◌+◌, ◌-◌, ◌/◌, ℕ}
+use Rattle.generations.specs.declared.sizes.TheConstants.{LEAST_SECTORS, MOST_SECTORS}
+
+-- a disk can be formatted with so many sectors
+abbrev pub IsSize : ℕ → Type 0
+IsSize n = (LEAST_SECTORS ≤ n) × (n ≤ MOST_SECTORS)
+
+-- how many of n sectors are the journal's
+abbrev pub journal_sectors : ℕ → ℕ
+journal_sectors n = n / 4
+
+-- how many of them each of the two areas has
+abbrev pub area_sectors : ℕ → ℕ
+area_sectors n = (n - 3 - journal_sectors n) / 2
+
+-- how many sectors so many bytes take
+abbrev pub sectors_of : ℕ → ℕ
+sectors_of bytes = (bytes + 511) / 512

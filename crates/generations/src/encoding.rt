@@ -1,0 +1,93 @@
+//! The sector of the format and the sector of a root, as bytes.
+ghost use Rattle.std.specs.Prelude.{◌≡◌, ◌+◌, ◌^◌, ◌<◌, ◌≤◌, ◌↔◌, ◌++◌, Some, ℕ, take, drop};
+ghost use Rattle.std.specs.Int.{w64, to_le_bytes};
+ghost use Rattle.generations.specs.Sectors.{format_sector, root_sector, root_from, number_from, AreNumbers, IsRootSector};
+
+use crate::root::Root;
+
+/// The first bytes of a formatted disk.
+pub(crate) const DISK_MARK: [u8; 8] = *b"VTILEDSK";
+
+const ROOT_MARK: [u8; 8] = *b"VTROOT01";
+
+const VERSION: u32 = 1;
+
+fn put_number(sector: &mut [u8; 512], at: usize, number: u64)
+    requires { at + 8 ≤ 512 }
+    ensures { sector.new ≡ take at sector.old ++ to_le_bytes w64 number ++ drop (at + 8) sector.old }
+{
+    sector[at..at + 8].copy_from_slice(&number.to_le_bytes());
+}
+
+pub(crate) fn number_at(sector: &[u8; 512], at: usize) -> u64
+    requires { at + 8 ≤ 512 }
+    ensures { result ≡ number_from at sector.now }
+{
+    let mut number = [0; 8];
+    number.copy_from_slice(&sector[at..at + 8]);
+    u64::from_le_bytes(number)
+}
+
+/// The sector of the format with so many sectors.
+#[tactic(auto, unfolding(crate::specs::Sectors::disk_mark, crate::specs::Sectors::format_sector))]
+pub(crate) fn format_bytes(sectors: u64) -> [u8; 512]
+    ensures { result ≡ format_sector sectors }
+{
+    let mut sector = [0; 512];
+    sector[..8].copy_from_slice(&DISK_MARK);
+    sector[8..12].copy_from_slice(&VERSION.to_le_bytes());
+    put_number(&mut sector, 12, sectors);
+    sector
+}
+
+/// The sector of a root.
+#[tactic(auto, unfolding(crate::specs::Sectors::root_mark, crate::specs::Sectors::root_sector))]
+pub(crate) fn root_bytes(root: Root) -> [u8; 512]
+    ensures { result ≡ root_sector root }
+{
+    let mut sector = [0; 512];
+    sector[..8].copy_from_slice(&ROOT_MARK);
+    put_number(&mut sector, 8, root.generation);
+    put_number(&mut sector, 16, root.edits);
+    put_number(&mut sector, 24, root.journal_at);
+    put_number(&mut sector, 32, root.snapshot_len);
+    put_number(&mut sector, 40, root.archive_len);
+    sector
+}
+
+/// The numbers of a root, whatever stands there.
+#[tactic(auto, unfolding(crate::specs::Sectors::root_from))]
+fn numbers_of(sector: &[u8; 512]) -> Root
+    ensures numbers { result ≡ root_from sector.now }
+    ensures fit { AreNumbers result }
+{
+    Root {
+        generation: number_at(sector, 8),
+        edits: number_at(sector, 16),
+        journal_at: number_at(sector, 24),
+        snapshot_len: number_at(sector, 32),
+        archive_len: number_at(sector, 40),
+    }
+}
+
+/// The root that a sector has.
+pub(crate) fn root_of(sector: &[u8; 512]) -> Option<Root>
+    ensures { (root : Root) → (result ≡ Some root) ↔ IsRootSector sector.now root }
+{
+    let root = numbers_of(sector);
+    let bytes = root_bytes(root);
+    if bytes == *sector { Some(root) } else { None }
+}
+
+/// The count of sectors that the sector of a format names.
+pub(crate) fn size_of(sector: &[u8; 512]) -> Option<u64>
+    ensures { (n : ℕ) → (result ≡ Some n) ↔ ((sector.now ≡ format_sector n) × (n < 2 ^ 64)) }
+{
+    let sectors = number_at(sector, 12);
+    let bytes = format_bytes(sectors);
+    if bytes == *sector {
+        Some(sectors)
+    } else {
+        None
+    }
+}

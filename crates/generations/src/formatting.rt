@@ -1,0 +1,132 @@
+//! The format of a disk.
+ghost use Rattle.std.specs.Prelude.{◌≡◌, ◌⊎◌, ◌≤◌, ◌<◌, ◌+◌, ◌↔◌, ℕ, List, Err, IfErr, OnOk, OnErr};
+ghost use Rattle.sector_disk.specs.Disk.{Image, seen, MayHold, MayLeave};
+ghost use Rattle.sector_disk.specs.Disk.History.{wrote, synced};
+ghost use Rattle.sector_disk.specs.Moments.{Within, LeavesOnly};
+ghost use Rattle.generations.specs.Areas.{IsSize};
+ghost use Rattle.generations.specs.Disks.{HasNoMark, IsFresh};
+ghost use Rattle.generations.specs.Faults.{HasFailed, CountsDevice};
+ghost use Rattle.generations.specs.Written.{IsOldOr, IsOldOrEmpty};
+ghost use Rattle.generations.specs.Sectors.{zeros};
+ghost use Rattle.generations.specs.declared.fault.StoreFault.TheVariants.{TooSmall, Device, Damaged};
+ghost use Rattle.generations.specs.declared.fault.What.TheVariants.{Size};
+ghost use Rattle.generations.specs.declared.sizes.TheConstants.{LEAST_SECTORS, MOST_SECTORS};
+
+use crate::encoding::{format_bytes, root_bytes};
+use crate::fault::{StoreFault, What};
+use crate::layout::Layout;
+use crate::root::Root;
+use crate::sizes::LEAST_SECTORS;
+use sector_disk::{DiskFault, Sectors};
+
+const EMPTY: [u8; 512] = [0; 512];
+
+const FIRST_ROOT: Root = Root {
+    generation: 0,
+    edits: 0,
+    journal_at: 0,
+    snapshot_len: 0,
+    archive_len: 0,
+};
+
+fn write_and_sync<D: Sectors>(disk: &mut D, at: u64, sector: &[u8; 512]) -> Result<(), DiskFault>
+    requires { at < D.sectors disk.old }
+    ensures count { D.sectors disk.new ≡ D.sectors disk.old }
+    ensures honest { D.honest disk.new → D.honest disk.old }
+    ensures faults { OnOk result (D.faults disk.new ≡ D.faults disk.old) }
+    ensures failed { OnErr result (HasFailed (D.faults disk.old) (D.faults disk.new)) }
+    ensures leaves { D.honest disk.new → LeavesOnly (D.history disk.old) (D.history disk.new)
+        (λ image. (index : ℕ) → IsOldOr (D.history disk.old) at sector.now index (image index)) }
+    ensures stands { D.honest disk.new → OnOk result (D.history disk.new ≡ synced (wrote at sector.now (D.history disk.old))) }
+{
+    disk.write(at, sector)?;
+    disk.sync()?;
+    Ok(())
+}
+
+// Zeros in each sector from the second one to the one before the end.
+fn write_zeros<D: Sectors>(disk: &mut D, end: u64) -> Result<(), DiskFault>
+    requires { end ≤ D.sectors disk.old }
+    ensures count { D.sectors disk.new ≡ D.sectors disk.old }
+    ensures honest { D.honest disk.new → D.honest disk.old }
+    ensures faults { OnOk result (D.faults disk.new ≡ D.faults disk.old) }
+    ensures failed { OnErr result (HasFailed (D.faults disk.old) (D.faults disk.new)) }
+    ensures leaves { D.honest disk.new → LeavesOnly (D.history disk.old) (D.history disk.new)
+        (λ image. (index : ℕ) → IsOldOrEmpty (D.history disk.old) index (image index)) }
+    ensures within { D.honest disk.new → Within (D.history disk.new) (IsOldOrEmpty (D.history disk.old)) }
+    ensures empty { D.honest disk.new → OnOk result ((at : ℕ) → 0 < at → at < end → seen (D.history disk.new) at ≡ zeros) }
+{
+    for at in 1..end {
+        disk.write(at, &EMPTY)?;
+    }
+    Ok(())
+}
+
+fn write_parts<D: Sectors>(disk: &mut D, layout: Layout) -> Result<(), DiskFault>
+    requires { layout.sectors ≡ D.sectors disk.old }
+    ensures count { D.sectors disk.new ≡ D.sectors disk.old }
+    ensures honest { D.honest disk.new → D.honest disk.old }
+    ensures faults { OnOk result (D.faults disk.new ≡ D.faults disk.old) }
+    ensures failed { OnErr result (HasFailed (D.faults disk.old) (D.faults disk.new)) }
+    ensures any_moment { D.honest disk.new → LeavesOnly (D.history disk.old) (D.history disk.new)
+        (λ image. MayLeave (D.history disk.old) image ⊎ HasNoMark image ⊎ IsFresh layout.sectors image) }
+    ensures fresh { D.honest disk.new → OnOk result ((image : Image) → MayLeave (D.history disk.new) image → IsFresh layout.sectors image) }
+{
+    write_and_sync(disk, 0, &EMPTY)?;
+    clear(disk, 3 + layout.journal)?;
+    let first = root_bytes(FIRST_ROOT);
+    write_and_sync(disk, 1, &first)?;
+    let format = format_bytes(layout.sectors);
+    write_and_sync(disk, 0, &format)?;
+    Ok(())
+}
+
+// Zeros in each sector from the second one to the one before the end, which outlive a crash.
+fn clear<D: Sectors>(disk: &mut D, end: u64) -> Result<(), DiskFault>
+    requires { end ≤ D.sectors disk.old }
+    ensures count { D.sectors disk.new ≡ D.sectors disk.old }
+    ensures honest { D.honest disk.new → D.honest disk.old }
+    ensures faults { OnOk result (D.faults disk.new ≡ D.faults disk.old) }
+    ensures failed { OnErr result (HasFailed (D.faults disk.old) (D.faults disk.new)) }
+    ensures leaves { D.honest disk.new → LeavesOnly (D.history disk.old) (D.history disk.new)
+        (λ image. (index : ℕ) → IsOldOrEmpty (D.history disk.old) index (image index)) }
+    ensures within { D.honest disk.new → Within (D.history disk.new) (IsOldOrEmpty (D.history disk.old)) }
+    ensures empty { D.honest disk.new
+        → OnOk result ((at : ℕ) → 0 < at → at < end → (left : List ℕ) → MayHold (D.history disk.new) at left → left ≡ zeros) }
+{
+    write_zeros(disk, end)?;
+    disk.sync()?;
+    Ok(())
+}
+
+/// Formats a disk of `LEAST_SECTORS` to `MOST_SECTORS` sectors, and else leaves it untouched. What stood on it is lost:
+/// after a fault of the disk or a crash it holds what it held before, or has no format, or is formatted.
+pub fn format<D: Sectors>(disk: &mut D) -> Result<(), StoreFault>
+    ensures small { (result ≡ Err TooSmall) ↔ (D.sectors disk.old < LEAST_SECTORS) }
+    ensures large { (result ≡ Err (Damaged Size)) ↔ (MOST_SECTORS < D.sectors disk.old) }
+    ensures only { IfErr result (λ fault. (fault ≡ TooSmall) ⊎ (fault ≡ Damaged Size) ⊎ (fault ≡ Device)) }
+    ensures untouched { (IsSize (D.sectors disk.old) → ⊥) → disk.new ≡ disk.old }
+    ensures count { D.sectors disk.new ≡ D.sectors disk.old }
+    ensures faults { OnOk result (D.faults disk.new ≡ D.faults disk.old) }
+    ensures failed { IfErr result (λ fault. CountsDevice fault (D.faults disk.old) (D.faults disk.new)) }
+    ensures honest { D.honest disk.new → D.honest disk.old }
+
+    // A crash at any moment leaves an image from before, or one without the mark, or a fresh one.
+    ensures any_moment { D.honest disk.new → LeavesOnly (D.history disk.old) (D.history disk.new)
+        (λ image. MayLeave (D.history disk.old) image ⊎ HasNoMark image ⊎ IsFresh (D.sectors disk.old) image) }
+    ensures fresh { D.honest disk.new
+        → OnOk result ((image : Image) → MayLeave (D.history disk.new) image → IsFresh (D.sectors disk.old) image) }
+    ensures seen { D.honest disk.new → OnOk result (IsFresh (D.sectors disk.old) (seen (D.history disk.new))) }
+{
+    let sectors = disk.count();
+    if sectors < LEAST_SECTORS {
+        return Err(StoreFault::TooSmall);
+    }
+    let Some(layout) = Layout::of(sectors) else {
+        return Err(StoreFault::Damaged(What::Size));
+    };
+    match write_parts(disk, layout) {
+        Ok(()) => Ok(()),
+        Err(DiskFault) => Err(StoreFault::Device),
+    }
+}

@@ -1,0 +1,39 @@
+//! How the sectors of a disk are divided.
+ghost use Rattle.std.specs.Prelude.{◌≡◌, ◌≤◌, ◌+◌, ◌*◌, ◌↔◌, MatchOption};
+ghost use Rattle.generations.specs.Areas.{IsSize, journal_sectors, area_sectors};
+
+use crate::sizes::{LEAST_SECTORS, MOST_SECTORS};
+
+/// How many sectors each part of a disk has. Behind the format's sector and two sectors of roots lies the journal, and
+/// behind the journal lie the areas of the even and of the odd generations, one as long as the other.
+#[derive(Clone, Copy, Debug, PartialEq, Eq)]
+pub struct Layout {
+    /// How many sectors the disk was formatted with, from `LEAST_SECTORS` to `MOST_SECTORS`.
+    pub sectors: u64,
+    /// How many of them are the journal's.
+    pub journal: u64,
+    /// How many of them each area has.
+    pub area: u64,
+    ghost size: { IsSize sectors },
+    ghost journal_is: { journal ≡ journal_sectors sectors },
+    ghost area_is: { area ≡ area_sectors sectors },
+    ghost fits: { 3 + journal + 2 * area ≤ sectors },
+}
+
+impl Layout {
+    /// The layout of a disk of so many sectors, which has none outside `LEAST_SECTORS` to `MOST_SECTORS`.
+    pub fn of(sectors: u64) -> Option<Layout>
+        ensures size { MatchOption result (IsSize sectors → ⊥) (λ layout. layout.sectors ≡ sectors) }
+    {
+        if sectors < LEAST_SECTORS || sectors > MOST_SECTORS {
+            return None;
+        }
+        let journal = sectors / 4;
+        let area = (sectors - 3 - journal) / 2;
+        Some(Layout {
+            sectors,
+            journal,
+            area,
+        })
+    }
+}

@@ -1,0 +1,22 @@
+//! How a disk of sectors is laid out: the sector of its format, the sectors of its two roots, the journal, and two areas.
+//! The root of greater generation says what counts on the disk. No call takes memory.
+#![tactic(auto)]
+
+mod checks;
+mod encoding;
+mod fault;
+mod formatting;
+mod layout;
+mod reading;
+mod root;
+mod sizes;
+
+pub use fault::{StoreFault, What};
+pub use formatting::format;
+pub use layout::Layout;
+pub use reading::read_root;
+pub use root::Root;
+pub use sizes::{LEAST_SECTORS, MOST_SECTORS};
+
+#[cfg(test)]
+mod tests;

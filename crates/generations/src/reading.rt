@@ -1,0 +1,101 @@
+//! The root that counts on a disk.
+ghost use Rattle.std.specs.Prelude.{◌≡◌, ◌⊎◌, ◌≤◌, ◌<◌, ◌+◌, IfOk, IfErr, IfSome, OnOk};
+ghost use Rattle.sector_disk.specs.Disk.{seen};
+ghost use Rattle.generations.specs.Disks.{LiveRoot, IsFaultOf};
+ghost use Rattle.generations.specs.Faults.{CountsDevice};
+ghost use Rattle.generations.specs.Sectors.{IsFormat, HasMark, IsSlot, IsBad, CanStand};
+ghost use Rattle.generations.specs.declared.fault.StoreFault.TheVariants.{Device, Damaged};
+ghost use Rattle.generations.specs.declared.fault.What.TheVariants.{RootSector};
+
+use crate::checks::{has_mark, layout_in, newest, slot_in};
+use crate::fault::{StoreFault, What};
+use crate::layout::Layout;
+use crate::root::Root;
+use sector_disk::{DiskFault, Sectors};
+
+fn read_sector<D: Sectors>(disk: &mut D, at: u64) -> Result<[u8; 512], StoreFault>
+    requires { at < D.sectors disk.old }
+    ensures count { D.sectors disk.new ≡ D.sectors disk.old }
+    ensures faults { OnOk result (D.faults disk.new ≡ D.faults disk.old) }
+    ensures failed { IfErr result (λ fault. CountsDevice fault (D.faults disk.old) (D.faults disk.new)) }
+    ensures honest { D.honest disk.new → D.honest disk.old }
+    ensures history { D.honest disk.new → D.history disk.new ≡ D.history disk.old }
+    ensures gives { D.honest disk.new → IfOk result (λ sector. sector ≡ seen (D.history disk.old) at) }
+    ensures device { IfErr result (λ fault. fault ≡ Device) }
+{
+    let mut sector = [0; 512];
+    match disk.read(at, &mut sector) {
+        Ok(()) => Ok(sector),
+        Err(DiskFault) => Err(StoreFault::Device),
+    }
+}
+
+fn read_layout<D: Sectors>(disk: &mut D) -> Result<Layout, StoreFault>
+    ensures count { D.sectors disk.new ≡ D.sectors disk.old }
+    ensures faults { OnOk result (D.faults disk.new ≡ D.faults disk.old) }
+    ensures failed { IfErr result (λ fault. CountsDevice fault (D.faults disk.old) (D.faults disk.new)) }
+    ensures honest { D.honest disk.new → D.honest disk.old }
+    ensures history { D.honest disk.new → D.history disk.new ≡ D.history disk.old }
+    ensures within { IfOk result (λ layout. layout.sectors ≤ D.sectors disk.old) }
+    ensures format { D.honest disk.new → IfOk result (λ layout. IsFormat (D.sectors disk.old) (seen (D.history disk.old) 0) layout.sectors) }
+    ensures fault { D.honest disk.new
+        → IfErr result (λ fault. (fault ≡ Device) ⊎ IsFaultOf (D.sectors disk.old) (seen (D.history disk.old)) fault) }
+{
+    let count = disk.count();
+    if count == 0 {
+        return Err(StoreFault::NotFormatted);
+    }
+    let sector = read_sector(disk, 0)?;
+    if !has_mark(&sector) {
+        return Err(StoreFault::NotFormatted);
+    }
+    match layout_in(&sector, count) {
+        Some(layout) => Ok(layout),
+        None => Err(StoreFault::Damaged(What::Size)),
+    }
+}
+
+fn read_slot<D: Sectors>(
+    disk: &mut D,
+    layout: Layout,
+    parity: u64,
+) -> Result<Option<Root>, StoreFault>
+    requires parity { parity < 2 }
+    requires within { layout.sectors ≤ D.sectors disk.old }
+    ensures count { D.sectors disk.new ≡ D.sectors disk.old }
+    ensures faults { OnOk result (D.faults disk.new ≡ D.faults disk.old) }
+    ensures failed { IfErr result (λ fault. CountsDevice fault (D.faults disk.old) (D.faults disk.new)) }
+    ensures honest { D.honest disk.new → D.honest disk.old }
+    ensures history { D.honest disk.new → D.history disk.new ≡ D.history disk.old }
+    ensures can { IfOk result (λ slot. IfSome slot (λ root. CanStand layout.sectors root)) }
+    ensures slot { D.honest disk.new → IfOk result (IsSlot layout.sectors parity (seen (D.history disk.old) (1 + parity))) }
+    ensures fault { IfErr result (λ fault. (fault ≡ Device) ⊎ (fault ≡ Damaged RootSector)) }
+    ensures bad { D.honest disk.new
+        → IfErr result (λ fault. (fault ≡ Device) ⊎ IsBad layout.sectors parity (seen (D.history disk.old) (1 + parity))) }
+{
+    let sector = read_sector(disk, 1 + parity)?;
+    slot_in(&sector, layout, parity)
+}
+
+/// The layout of a disk and the root that counts on it: of the one or two that it has, the one of greater generation. Only
+/// reads. At a fault other than `Device` it is the first that the disk has: of sector 0, and then of the sectors of roots.
+pub fn read_root<D: Sectors>(disk: &mut D) -> Result<(Layout, Root), StoreFault>
+    ensures count { D.sectors disk.new ≡ D.sectors disk.old }
+    ensures faults { OnOk result (D.faults disk.new ≡ D.faults disk.old) }
+    ensures failed { IfErr result (λ fault. CountsDevice fault (D.faults disk.old) (D.faults disk.new)) }
+    ensures honest { D.honest disk.new → D.honest disk.old }
+    ensures history { D.honest disk.new → D.history disk.new ≡ D.history disk.old }
+    ensures within { IfOk result (λ found. found.0.sectors ≤ D.sectors disk.new) }
+    ensures can { IfOk result (λ found. CanStand found.0.sectors found.1) }
+    ensures root { D.honest disk.new → IfOk result (λ found. LiveRoot (D.sectors disk.old) (seen (D.history disk.old)) found.0.sectors found.1) }
+    ensures fault { D.honest disk.new
+        → IfErr result (λ fault. (fault ≡ Device) ⊎ IsFaultOf (D.sectors disk.old) (seen (D.history disk.old)) fault) }
+{
+    let layout = read_layout(disk)?;
+    let even = read_slot(disk, layout, 0)?;
+    let odd = read_slot(disk, layout, 1)?;
+    match newest(even, odd) {
+        Some(root) => Ok((layout, root)),
+        None => Err(StoreFault::Damaged(What::RootSector)),
+    }
+}

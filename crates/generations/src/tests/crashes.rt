@@ -1,0 +1,142 @@
+//! A format that ends after each of its calls, and then a crash.
+ghost use Rattle.std.specs.Prelude.{◌≡◌, ◌<◌, IfOk};
+
+use super::{FORMAT_64, begins, disk_with, root};
+use crate::{StoreFault, What, format, read_root};
+use sector_disk::{FusedDisk, MemoryDisk, Sectors};
+use std::alloc::{AllocError, Global};
+use std::test::Fail;
+
+/// For each unsynced sector, of which there are up to 18, whether a crash leaves its last write.
+const CHOICES: [[u32; 18]; 6] = [
+    [0; 18],
+    [1; 18],
+    [1, 0, 1, 0, 1, 0, 1, 0, 1, 0, 1, 0, 1, 0, 1, 0, 1, 0],
+    [0, 1, 0, 1, 0, 1, 0, 1, 0, 1, 0, 1, 0, 1, 0, 1, 0, 1],
+    [1, 0, 0, 0, 0, 0, 0, 0, 0, 0, 0, 0, 0, 0, 0, 0, 0, 0],
+    [0, 1, 1, 1, 1, 1, 1, 1, 1, 1, 1, 1, 1, 1, 1, 1, 1, 1],
+];
+
+/// What a crash left: the old disk, one without the mark, or a fresh one.
+#[derive(Clone, Copy, Debug, PartialEq, Eq)]
+enum Left {
+    Old,
+    NoMark,
+    Fresh,
+    Else,
+}
+
+/// A disk of 64 sectors with roots of generations 4 and 5, and with sevens in the first and the last sector of the journal
+/// and in the first one of an area.
+fn old_disk(alloc: Global) -> Result<MemoryDisk, AllocError>
+    ensures { IfOk result (λ disk. ⟦<MemoryDisk as Sectors>⟧.sectors disk ≡ 64) }
+{
+    let mut disk = disk_with(
+        alloc,
+        64,
+        [
+            begins(&FORMAT_64),
+            root([4, 0, 0, 0, 0]),
+            root([5, 0, 0, 0, 0]),
+        ],
+    )?;
+    let _ = disk.write(3, &[7; 512]);
+    let _ = disk.write(18, &[7; 512]);
+    let _ = disk.write(19, &[7; 512]);
+    let _ = disk.sync();
+    Ok(disk)
+}
+
+fn first_byte(disk: &mut MemoryDisk, at: u64) -> u8
+    requires { at < ⟦<MemoryDisk as Sectors>⟧.sectors disk.old }
+    ensures { ⟦<MemoryDisk as Sectors>⟧.sectors disk.new ≡ ⟦<MemoryDisk as Sectors>⟧.sectors disk.old }
+{
+    let mut sector = [99; 512];
+    let _ = disk.read(at, &mut sector);
+    sector[0]
+}
+
+fn left_by(mut disk: MemoryDisk) -> Left
+    requires { ⟦<MemoryDisk as Sectors>⟧.sectors disk ≡ 64 }
+{
+    let sevens = [
+        first_byte(&mut disk, 3),
+        first_byte(&mut disk, 18),
+        first_byte(&mut disk, 19),
+    ];
+    let generation = read_root(&mut disk).map(|(_, root)| root.generation);
+    match (generation, sevens) {
+        (Ok(5), [7, 7, 7]) => Left::Old,
+        (Ok(0), [0, 0, 7]) => Left::Fresh,
+        (Err(StoreFault::NotFormatted), [_, _, 7]) => Left::NoMark,
+        _ => Left::Else,
+    }
+}
+
+/// What a crash leaves after so many calls. Of the calls 1 and 2 are zeros in sector 0 and a sync, 3 to 21 zeros in sectors 1
+/// to 18 and a sync, 22 and 23 the root and a sync, 24 and 25 the format and a sync.
+fn wanted(calls: u64, first_choice: u32) -> Left {
+    match (calls, first_choice) {
+        (0, _) | (1, 0) => Left::Old,
+        (24, 1) | (25, _) => Left::Fresh,
+        _ => Left::NoMark,
+    }
+}
+
+#[test]
+fn crashes_after_each_call(rt: HostRuntime) -> Result<(), Fail> {
+    for passes in 0..26 {
+        let mut disk = FusedDisk::new(old_disk(rt.alloc())?, passes);
+        let outcome = format(&mut disk);
+        let fault = if passes == 25 {
+            None
+        } else {
+            Some(StoreFault::Device)
+        };
+        assert_eq!(rt; (outcome.err(), disk.calls()), (fault, 25.min(passes + 1)));
+        let disk = disk.into_disk();
+        for choice in CHOICES {
+            let left = left_by(disk.crash(&choice)?);
+            assert_eq!(rt;
+                left,
+                wanted(passes, choice[0]),
+                "{passes} calls, {choice:?}"
+            );
+        }
+    }
+    Ok(())
+}
+
+#[test]
+fn formats_and_reads(rt: HostRuntime) -> Result<(), Fail> {
+    let mut disk = MemoryDisk::new(rt.alloc(), 256)?;
+    format(&mut disk)?;
+    let (layout, root) = read_root(&mut disk)?;
+    let numbers = [
+        root.generation,
+        root.edits,
+        root.journal_at,
+        root.snapshot_len,
+        root.archive_len,
+    ];
+    assert_eq!(rt;
+        (layout.sectors, layout.journal, layout.area, numbers),
+        (256, 64, 94, [0; 5])
+    );
+    Ok(())
+}
+
+#[test]
+fn other_sizes_are_left(rt: HostRuntime) -> Result<(), Fail> {
+    let rows = [
+        (0, StoreFault::TooSmall),
+        (63, StoreFault::TooSmall),
+        (16_777_217, StoreFault::Damaged(What::Size)),
+    ];
+    for (count, fault) in rows {
+        let mut disk = FusedDisk::new(MemoryDisk::new(rt.alloc(), count)?, 100);
+        let outcome = format(&mut disk);
+        assert_eq!(rt; (outcome.err(), disk.calls()), (Some(fault), 0));
+    }
+    Ok(())
+}
