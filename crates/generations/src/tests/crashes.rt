@@ -3,7 +3,7 @@ ghost use Rattle.std.specs.Prelude.{◌≡◌, ◌<◌, IfOk};
 
 use super::{FORMAT_64, begins, disk_with, root};
 use crate::{StoreFault, What, format, read_root};
-use sector_disk::{FusedDisk, MemoryDisk, Sectors};
+use sector_disk::{FailingCalls, FaultyDisk, MemoryDisk, Sectors};
 use std::alloc::{AllocError, Global};
 use std::test::Fail;
 
@@ -86,7 +86,7 @@ fn wanted(calls: u64, first_choice: u32) -> Left {
 #[test]
 fn crashes_after_each_call(rt: HostRuntime) -> Result<(), Fail> {
     for passes in 0..26 {
-        let mut disk = FusedDisk::new(old_disk(rt.alloc())?, passes);
+        let mut disk = FaultyDisk::new(old_disk(rt.alloc())?, FailingCalls::AllFrom(passes + 1));
         let outcome = format(&mut disk);
         let fault = if passes == 25 {
             None
@@ -134,7 +134,7 @@ fn other_sizes_are_left(rt: HostRuntime) -> Result<(), Fail> {
         (16_777_217, StoreFault::Damaged(What::Size)),
     ];
     for (count, fault) in rows {
-        let mut disk = FusedDisk::new(MemoryDisk::new(rt.alloc(), count)?, 100);
+        let mut disk = FaultyDisk::new(MemoryDisk::new(rt.alloc(), count)?, FailingCalls::AllFrom(101));
         let outcome = format(&mut disk);
         assert_eq!(rt; (outcome.err(), disk.calls()), (Some(fault), 0));
     }
