@@ -5,7 +5,7 @@ use Rattle.std.specs.Prelude.{IfOk, IfErr, MatchResult}
 use Rattle.pm_header.specs.declared.header.Header.{Header}
 use Rattle.pm_directory.specs.declared.entry.Entry.{Entry}
 use Rattle.pm_directory.specs.Directory.{IsDirectory}
-use Rattle.pm_directory.proofs.Laws.{directory_law}
+use Rattle.pm_directory.proofs.Laws.{one_directory}
 use Rattle.pm_archive.specs.declared.report.Report.{Report}
 use Rattle.pm_archive.specs.declared.fault.ArchiveFault.{ArchiveFault}
 use Rattle.pm_archive.specs.declared.fault.Count.{Count}
@@ -29,12 +29,12 @@ use Rattle.pm_archive.proofs.OpenedLaws.{one_header}
 listed : (bytes : List ℕ) (h : Header) (root tiles : List Entry) → IsDirectory (section_bytes h.root bytes) root → HasEntries bytes h tiles
     → list_at bytes h root ≡ Ok tiles
 listed bytes h root tiles dir has =
-    ap (list_at bytes h) (directory_law (section_bytes h.root bytes) root has.0 dir has.1) ∙ list_only bytes h has.0 tiles has.2
+    ap (list_at bytes h) (one_directory (section_bytes h.root bytes) root has.0 dir has.1) ∙ list_only bytes h has.0 tiles has.2
 
 pub has_each : (bytes : List ℕ) (h : Header) (root tiles : List Entry) → IsDirectory (section_bytes h.root bytes) root → HasEntries bytes h tiles
     → EachLists (Lists bytes h MOST_LEAVES) IDS_END root tiles
 has_each bytes h root tiles dir has =
-    subst (λ (es : List Entry). EachLists (Lists bytes h MOST_LEAVES) IDS_END es tiles) (directory_law (section_bytes h.root bytes) has.0 root has.1 dir) has.2
+    subst (λ (es : List Entry). EachLists (Lists bytes h MOST_LEAVES) IDS_END es tiles) (one_directory (section_bytes h.root bytes) has.0 root has.1 dir) has.2
 
 module _ {X : Type 0} (view : X → List Entry) (bytes : List ℕ) (h : Header) (items root : List Entry) (same : items ≡ root) where
   pub listed_found : (r : Result X ArchiveFault) → IsDirectory (section_bytes h.root bytes) root → GivesUnless IsOutside view r (list_at bytes h items)

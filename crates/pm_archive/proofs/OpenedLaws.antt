@@ -13,7 +13,7 @@ use Rattle.pm_directory.specs.Directory.{IsDirectory}
 use Rattle.pm_directory.specs.declared.fault.DirectoryFault.{DirectoryFault}
 use Rattle.pm_directory.specs.Reading.{directory_at}
 use Rattle.pm_directory.proofs.DirectoryLaws.{directory_ok, directory_only}
-use Rattle.pm_directory.proofs.Laws.{directory_law}
+use Rattle.pm_directory.proofs.Laws.{one_directory}
 use Rattle.pm_archive.specs.declared.fault.ArchiveFault.{ArchiveFault}
 use Rattle.pm_archive.specs.declared.fault.ArchiveFault.TheVariants as faults
 use Rattle.pm_archive.specs.Answers.{IsOutside, UnlessOutside}
@@ -176,7 +176,7 @@ pub opened_once : (bytes : List ℕ) (g h : Header) (some others : List Entry) �
     → HasSections bytes h → IsDirectory (section_bytes h.root bytes) others → (g ≡ h) × (some ≡ others)
 opened_once bytes g h some others a dir b other =
     let same = one_header bytes g h a.header b.header in
-    (same, directory_law (section_bytes h.root bytes) some others (subst (λ (x : Header). IsDirectory (section_bytes x.root bytes) some) same dir) other)
+    (same, one_directory (section_bytes h.root bytes) some others (subst (λ (x : Header). IsDirectory (section_bytes x.root bytes) some) same dir) other)
 
 pub opened_unless : (bytes : List ℕ) (h : Header) (root : List Entry) (d : ArchiveFault) → UnlessOutside (OpeningHas bytes) d → HasSections bytes h
     → IsDirectory (section_bytes h.root bytes) root → IsOutside d

@@ -6,5 +6,5 @@ use Rattle.pm_directory.specs.Directory.{IsDirectory}
 use Rattle.pm_directory.proofs.DirectoryLaws.{directory_only}
 
 -- bytes are a directory of at most one list of entries
-pub directory_law : (bytes : List ℕ) (some others : List Entry) → IsDirectory bytes some → IsDirectory bytes others → some ≡ others
-directory_law bytes some others h g = same_value some others (sym (directory_only bytes some h) ∙ directory_only bytes others g)
+pub one_directory : (bytes : List ℕ) (some others : List Entry) → IsDirectory bytes some → IsDirectory bytes others → some ≡ others
+one_directory bytes some others h g = same_value some others (sym (directory_only bytes some h) ∙ directory_only bytes others g)
