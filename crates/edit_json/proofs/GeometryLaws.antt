@@ -1,5 +1,6 @@
 -- The lists of a geometry are read as exactly the geometry whose lists they are.
-use Rattle.std.proofs.Common.{◌≡◌, ℕ, suc, ◌^◌, ◌<◌, Bool, true, false, List, [], ◌∷◌, length, map, All, Option, Some, None, Ok, Err, refl, sym, ap, subst, ◌∙◌, arith}
+use Rattle.std.proofs.Common.{◌≡◌, ℕ, suc, ◌^◌, ◌<◌, Bool, true, false, List, [], ◌∷◌, length, map}
+use Rattle.std.proofs.Common.{All, Option, Some, None, Ok, Err, refl, sym, ap, subst, ◌∙◌, arith}
 use Rattle.std.specs.Prelude.{option_map, option_and_then, if◌then◌else◌, nat_lt}
 use Rattle.std.proofs.lemmas.Bool.{ltb-true}
 use Rattle.std.proofs.lemmas.Bool.Decides.{nat_tests}
@@ -227,12 +228,14 @@ geometry_at-says (polygon_list ds) g e =
 
 pub geometry_at-finds : (g : GeometryData) → GeometryFits g → LiesInWorld g → geometry_at (shape_of g) ≡ Ok g
 unfolding geometry_at
-geometry_at-finds (world_points points) h w = ap (λ read. read >>= (λ xs. Ok (world_points xs))) (list_of-finds point_in point_json IsOfWorld points-read 1 points (h, w))
+geometry_at-finds (world_points points) h w = ap (λ read. read >>= (λ xs. Ok (world_points xs)))
+    (list_of-finds point_in point_json IsOfWorld points-read 1 points (h, w))
 geometry_at-finds (world_lines lines) h w =
     ap (λ read. read >>= (λ xs. Ok (world_lines xs))) (list_of-finds (points_at LEAST_LINE) points_json (ArePoints LEAST_LINE) (line-read LEAST_LINE) 1 lines
     (h.0, λ k d l. (h.1 k d l, w k d l)))
 geometry_at-finds (world_polygons polygons) h w =
-    ap (λ read. read >>= (λ xs. Ok (world_polygons xs))) (list_of-finds (lines_at LEAST_RING) lines_json (AreLines LEAST_RING) (polygon-read LEAST_RING) 1 polygons
+    ap (λ read. read >>= (λ xs. Ok (world_polygons xs)))
+    (list_of-finds (lines_at LEAST_RING) lines_json (AreLines LEAST_RING) (polygon-read LEAST_RING) 1 polygons
     (h.0, λ k d l. ((h.1 k d l).0, λ i c j. ((h.1 k d l).1 i c j, w k d l i c j))))
 
 world-fault : {A : Type 0} (to : A → GeometryData) (o : Read EditFault A) (e : EditFault)

@@ -20,6 +20,7 @@ pub returns-in_err-read_polygon : goal.returns-in_err-read_polygon
 returns-in_err-read_polygon c =
     let stops = λ (other : c.in_err-read_polygon.field-0.0 ≢ Memory).
     list_of-counted (lines_at LEAST_RING) 1 c.args.list.now c.in_default.ensures.ok
-    ∙ rest_gives-fault (lines_at LEAST_RING) (map (λ p. map (λ r. r.items) p.items) c.loop-value.polygons.items) c.args.list.now c.loop-value.value-index c.value-item.result
+    ∙ rest_gives-fault (lines_at LEAST_RING) (map (λ p. map (λ r. r.items) p.items) c.loop-value.polygons.items) c.args.list.now c.loop-value.value-index
+    c.value-item.result
     c.in_err-read_polygon.field-0.0 _ c.loop-value-test.true c.value-item.is (c.in_err-read_polygon.ensures other) c.loop-value.invariant in
     search (rules, stops)
