@@ -24,28 +24,32 @@ abbrev pub after : {S : Type 0} → ℕ → (S → Value → Read TileFault S) �
 after number step s (Err fault) = Err faults.Wire
 after number step s (Ok f) = if f.number == number then step s f.value else Ok s
 
+-- a pass over all fields, for those of this number
 abbrev pub pass : {S : Type 0} → ℕ → (S → Value → Read TileFault S) → S → List ℕ → Read TileFault S
 pass number step s bytes = folded (after number step) s (items_of bytes)
 
+-- a number in place of the one before it
 abbrev pub number_after : Option ℕ → Value → Read TileFault (Option ℕ)
 number_after last (varint_value n) = Ok (Some n)
 number_after last (eight_bytes part) = Err faults.Kind
 number_after last (some_bytes part) = Err faults.Kind
 number_after last (four_bytes part) = Err faults.Kind
 
+-- bytes in place of those before them
 abbrev pub bytes_after : Option (List ℕ) → Value → Read TileFault (Option (List ℕ))
 bytes_after last (some_bytes part) = Ok (Some part)
 bytes_after last (varint_value n) = Err faults.Kind
 bytes_after last (eight_bytes part) = Err faults.Kind
 bytes_after last (four_bytes part) = Err faults.Kind
 
+-- one part of bytes more
 abbrev pub parts_after : List (List ℕ) → Value → Read TileFault (List (List ℕ))
 parts_after before (some_bytes part) = Ok (before ++ part ∷ [])
 parts_after before (varint_value n) = Err faults.Kind
 parts_after before (eight_bytes part) = Err faults.Kind
 parts_after before (four_bytes part) = Err faults.Kind
 
--- a number of 32 bits
+-- one number of 32 bits more
 abbrev pub number_more : List ℕ → ℕ → Read TileFault (List ℕ)
 number_more before n = if nat_lt 4294967295 n then Err faults.Range else Ok (before ++ n ∷ [])
 
@@ -64,6 +68,7 @@ packed_in zero before bytes = Ok before
 packed_in (suc more) before [] = Ok before
 packed_in (suc more) before (b ∷ bs) = number_at (b ∷ bs) >>= λ n. number_more before n.0 >>= λ ns. packed_in more ns (drop n.1 (b ∷ bs))
 
+-- one number more, or packed ones
 abbrev pub numbers_after : List ℕ → Value → Read TileFault (List ℕ)
 numbers_after before (varint_value n) = number_more before n
 numbers_after before (some_bytes part) = packed_in (length part) before part
@@ -82,15 +87,19 @@ abbrev pub holds_numbers : Item → Bool
 holds_numbers (Err fault) = false
 holds_numbers (Ok f) = may_hold f.value
 
+-- the last number of the fields of this number
 abbrev pub last_number_in : ℕ → List ℕ → Read TileFault (Option ℕ)
 last_number_in number bytes = pass number number_after None bytes
 
+-- the last bytes of the fields of this number
 abbrev pub last_bytes_in : ℕ → List ℕ → Read TileFault (Option (List ℕ))
 last_bytes_in number bytes = pass number bytes_after None bytes
 
+-- the bytes of each field of this number
 abbrev pub parts_in : ℕ → List ℕ → Read TileFault (List (List ℕ))
 parts_in number bytes = pass number parts_after [] bytes
 
+-- the numbers of the fields of this number, packed or one by one
 abbrev pub numbers_in : ℕ → List ℕ → Read TileFault (List ℕ)
 numbers_in number bytes = pass number numbers_after [] bytes
 

@@ -30,13 +30,15 @@ returns-in_err-check_new c =
 pub returns-in_err-tag : goal.returns-in_err-tag
 returns-in_err-tag c =
     let p = err_from_is_err_and c.from_residual-in_err-tag.result c.from_residual-in_err-tag.ensures.1 in
-    let new : true ≡ not (contains nat_cmp c.loop-rest.used (get_or c.loop-rest.rest.now 0 0)) = sym c.in_ok-check_new.ensures.new ∙ c.in_ok-is_new.ensures.added in
+    let new : true ≡ not (contains nat_cmp c.loop-rest.used (get_or c.loop-rest.rest.now 0 0)) =
+    sym c.in_ok-check_new.ensures.new ∙ c.in_ok-is_new.ensures.added in
     rw (p.1, p.2) (λ _. tags_fault (bytes_of c.args.keys.now) (tag_views c.args.values.now) c.loop-rest.used (tagged c.loop-rest.tags.items)
     c.loop-rest.rest.now _ c.in_ok-check_two.ensures.two new c.loop-rest.invariant c.in_err-tag.field-0.0 c.in_err-tag.ensures)
 
 pub loop-rest-preserved : goal.loop-rest-preserved
 loop-rest-preserved c =
-    let new : true ≡ not (contains nat_cmp c.loop-rest.used (get_or c.loop-rest.rest.now 0 0)) = sym c.in_ok-check_new.ensures.new ∙ c.in_ok-is_new.ensures.added in
+    let new : true ≡ not (contains nat_cmp c.loop-rest.used (get_or c.loop-rest.rest.now 0 0)) =
+    sym c.in_ok-check_new.ensures.new ∙ c.in_ok-is_new.ensures.added in
     let viewed = map-append {B = Tagged} (λ (t : Bor (List ℕ) × TagValue). (t.0.now, tag_view t.1)) c.loop-rest.tags.items (c.in_ok-tag.tag ∷ []) in
     rw (c.in_ok-push.ensures.items, back, viewed)
     (tags_on (bytes_of c.args.keys.now) (tag_views c.args.values.now) c.loop-rest.used c.insert.new.self (tagged c.loop-rest.tags.items)
