@@ -85,10 +85,10 @@ pub enum ArchiveFault {
     /// The metadata is no JSON object.
     #[error("bad metadata")]
     Metadata,
-    /// The source of the bytes failed.
+    /// A read of the source failed. This says nothing of the bytes.
     #[error("Read")]
     Read,
-    /// There was no memory.
+    /// An allocation failed. This says nothing of the bytes.
     #[error("Memory")]
     Memory,
 }
