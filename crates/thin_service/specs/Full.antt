@@ -1,11 +1,8 @@
--- When a service has no place for a further feature.
+-- When a service takes no further feature.
 use Rattle.std.specs.Prelude.{◌≡◌, ℕ, ◌≤◌, length, None}
+use Rattle.thin_service.specs.declared.kept.TheConstants.{MOST_KEPT}
 use Rattle.feature_store.specs.Store.{FeatureMap, feature_at}
 
--- so many features are kept at most
-abbrev pub most_kept : ℕ
-most_kept = 65536
-
--- the map has no place for a further number
+-- the map has as many features as are kept, and this number isn't one of theirs
 abbrev pub IsFull : FeatureMap → ℕ → Type 0
-IsFull m id = (most_kept ≤ length m) × (feature_at m id ≡ None)
+IsFull m id = (MOST_KEPT ≤ length m) × (feature_at m id ≡ None)

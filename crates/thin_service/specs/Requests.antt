@@ -46,7 +46,7 @@ wanted_of request = wanted_by request.method (asked_by request.path)
 
 -- ---- how it is answered
 
--- the map has no place for a further number
+-- the map takes no further number
 abbrev pub IsFullFor : ServiceState → ℕ → Type 0
 IsFullFor s id = IsFull s.features id
 
@@ -65,7 +65,7 @@ pub record MakesPut (old : ServiceState) (id : ℕ) (body : List ℕ) (reply : R
   pub feature : FeatureData
   pub says : SaysFeature id body feature
   pub numbers : old.edits < 2 ^ 64 - 1
-  pub place : ¬ IsFullFor old id
+  pub free : ¬ IsFullFor old id
   pub made : new ≡ after_put old id feature
   pub told : reply ≡ edit_reply (old.edits + 1)
 

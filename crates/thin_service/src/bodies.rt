@@ -55,10 +55,7 @@ fn within_limits(id: u64, feature: &Feature) -> Result<(), RequestFault>
     ensures ok { OnOk result (KeepsLimits id (feature_data feature.now)) }
     ensures refused { IfErr result (IsEditFault (BreaksLimit id (feature_data feature.now))) }
 {
-    match within_bounds(id, feature) {
-        Ok(()) => {}
-        Err(fault) => return Err(fault),
-    }
+    within_bounds(id, feature)?;
     match check_reach(feature) {
         Ok(()) => Ok(()),
         Err(_) => Err(RequestFault::Edit(EditFault::Reach)),

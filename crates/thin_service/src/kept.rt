@@ -3,6 +3,7 @@ ghost use Rattle.std.specs.Prelude.{◌≡◌, ◌≤◌, ◌⊎◌, [], length,
 ghost use Rattle.feature_model.specs.Data.{feature_data, put};
 ghost use Rattle.feature_model.specs.Types.{IsEdit};
 ghost use Rattle.feature_store.specs.Store.{IsMap, HasRoom, with_feature};
+ghost use Rattle.thin_service.specs.declared.kept.TheConstants.{MOST_KEPT};
 ghost use Rattle.thin_service.specs.Full.{IsFull};
 
 use crate::fault::RequestFault;
@@ -17,7 +18,7 @@ pub const MOST_KEPT: usize = 65_536;
 #[derive(Drop)]
 pub(crate) struct Kept {
     pub(crate) store: Store,
-    ghost few: { length store.features ≤ 65536 },
+    ghost few: { length store.features ≤ MOST_KEPT },
 }
 
 impl Kept {
@@ -35,7 +36,7 @@ impl Kept {
         ensures same { self.new.store.features ≡ self.old.store.features }
         ensures map { OnOk result (IsMap self.new.store.features) }
         ensures room { OnOk result (HasRoom self.new.store id) }
-        ensures place { OnOk result (¬ IsFull self.new.store.features id) }
+        ensures free { OnOk result (¬ IsFull self.new.store.features id) }
         ensures full { IfErr result (λ fault. (fault ≡ RequestFault.Memory) ⊎ ((fault ≡ RequestFault.JournalFull) × IsFull self.old.store.features id)) }
     {
         if self.store.len() >= MOST_KEPT && self.store.get(id).is_none() {
@@ -52,7 +53,7 @@ impl Kept {
         requires map { IsMap self.old.store.features }
         requires edit { IsEdit (put id (feature_data feature)) }
         requires room { HasRoom self.old.store id }
-        requires place { ¬ IsFull self.old.store.features id }
+        requires free { ¬ IsFull self.old.store.features id }
         ensures { self.new.store.features ≡ with_feature self.old.store.features id (feature_data feature) }
     {
         self.store.place(id, feature);

@@ -3,7 +3,8 @@ use Rattle.http_serve.specs.Input.{buffer_size}
 use Rattle.http_serve.specs.Search.{IsKnown}
 use Rattle.http_serve.proofs.LineLemmas.{IsKnown-append}
 use Rattle.http_serve.proofs.ServeLemmas.{SoFar_start, SoFar_stops, SoFar_failed_read, SoFar_goes, SoFar_told, SoFar_broken, SoFar_done, SoFar_failed, if_ok}
-use Rattle.http_serve.proofs.ServeLemmas.{if_err, least_start, least_more, least_over, most_start, most_more, other_turns, finished_turns, finished_reads, unfinished_content}
+use Rattle.http_serve.proofs.ServeLemmas.{if_err, least_start, least_more, least_over, most_start, most_more, other_turns}
+use Rattle.http_serve.proofs.ServeLemmas.{finished_turns, finished_reads, unfinished_content}
 use Rattle.http_serve.proofs.connection.serve_turns.Goals as goal
 
 pub loop-turn-init : goal.loop-turn-init
