@@ -31,7 +31,7 @@ pub enum EditFault {
     /// E8: a text of over `MOST_EDIT_BYTES` bytes.
     #[error("E8 Long")]
     Long,
-    /// E9: a reach over 65,536 places.
+    /// E9: a reach over the most tiles that a feature may cover.
     #[error("E9 Reach")]
     Reach,
     /// Out of memory.

@@ -19,6 +19,7 @@ use Rattle.std.proofs.lemmas.List.Splits.{slice_split_first, slice_split_none}
 use Rattle.std.proofs.lemmas.List.Sums.{fails_before_first, prefix_len-le-length}
 use Rattle.httparse.specs.Ascii.{comma}
 use Rattle.httparse.specs.Grammar.{trim_ows}
+use Rattle.http_serve.specs.declared.fields.TheConstants.{MOST_BODY}
 use Rattle.http_serve.specs.declared.refusals.Refusal.{Refusal}
 use Rattle.http_serve.specs.declared.refusals.Refusal.TheVariants.{Head}
 use Rattle.http_serve.specs.Fields.{NamedValue, values_of, stated_length, only_value, is_numeral, is_word, lists_close, is_close, says_close}
@@ -68,17 +69,17 @@ often_none [] h = absurd (omega arith)
 often_none (v ∷ []) h = absurd (omega arith)
 often_none (v ∷ w ∷ more) h = refl
 
-numeral_bound : (v : List ℕ) (a b : Bool) (n k : ℕ) → b ≡ nat_le k 65536
-    → ◌≡◌ {A = Result ℕ Refusal} (cond (a && b) (Ok k) (Err Head)) (Ok n) → n ≤ 65536
+numeral_bound : (v : List ℕ) (a b : Bool) (n k : ℕ) → b ≡ nat_le k MOST_BODY
+    → ◌≡◌ {A = Result ℕ Refusal} (cond (a && b) (Ok k) (Err Head)) (Ok n) → n ≤ MOST_BODY
 numeral_bound v true true n k is e = let same : k ≡ n = cc in grind (arith, nat_tests)
 numeral_bound v true false n k is e = cc
 numeral_bound v false b n k is e = cc
 
 -- no length above the limit is stated
-pub stated_bound : (values : List (List ℕ)) (n : ℕ) → stated_length values ≡ Ok n → n ≤ 65536
+pub stated_bound : (values : List (List ℕ)) (n : ℕ) → stated_length values ≡ Ok n → n ≤ MOST_BODY
 stated_bound [] n e = let same : 0 ≡ n = cc in omega arith
 stated_bound (v ∷ []) n e =
-    numeral_bound v (is_numeral v) (nat_le (digits_value 10 v) 65536) n (digits_value 10 v) refl e
+    numeral_bound v (is_numeral v) (nat_le (digits_value 10 v) MOST_BODY) n (digits_value 10 v) refl e
 stated_bound (v ∷ w ∷ more) n e = cc
 
 -- ---- the options of a connection

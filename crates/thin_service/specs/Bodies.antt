@@ -7,6 +7,7 @@ use Rattle.feature_model.specs.Limits.{IsAllowed, IsFirstFault}
 use Rattle.feature_model.specs.declared.fault.EditFault.{EditFault}
 use Rattle.feature_model.specs.declared.fault.EditFault.TheVariants as edits
 use Rattle.tile_cutter.specs.Covered.{reach_of}
+use Rattle.tile_cutter.specs.declared.reach.TheConstants.{MOST_TILES}
 use Rattle.edit_json.specs.Faults.{IsFeature, IsFirstJsonFault}
 use Rattle.thin_service.specs.declared.fault.RequestFault.{RequestFault}
 use Rattle.thin_service.specs.declared.fault.RequestFault.TheVariants.{Json, Edit, Memory}
@@ -15,14 +16,10 @@ use Rattle.thin_service.specs.declared.fault.RequestFault.TheVariants.{Json, Edi
 abbrev pub IsJson : List ℕ → Data → Type 0
 IsJson body d = IsUtf8 body × (read body ≡ Some d)
 
--- a feature covers at most so many tiles
-abbrev pub most_reach : ℕ
-most_reach = 65536
-
 -- the feature is within the limits for its number, its reach too
 pub record KeepsLimits (id : ℕ) (f : FeatureData) : Type 0 where
   pub allowed : IsAllowed id f
-  pub near : reach_of f ≤ most_reach
+  pub near : reach_of f ≤ MOST_TILES
 
 -- the body is the feature, within the limits for its number
 pub record SaysFeature (id : ℕ) (body : List ℕ) (f : FeatureData) : Type 0 where
@@ -33,7 +30,7 @@ pub record SaysFeature (id : ℕ) (body : List ℕ) (f : FeatureData) : Type 0 w
 
 -- the first limit that the feature breaks; its reach is the last one
 abbrev pub BreaksLimit : ℕ → FeatureData → EditFault → Type 0
-BreaksLimit id f fault = IsFirstFault id f fault ⊎ ((fault ≡ edits.Reach) × IsAllowed id f × (most_reach < reach_of f))
+BreaksLimit id f fault = IsFirstFault id f fault ⊎ ((fault ≡ edits.Reach) × IsAllowed id f × (MOST_TILES < reach_of f))
 
 -- the first fault of a value that is to be the feature of a number
 pub data HasEditFault (id : ℕ) (d : Data) (fault : EditFault) : Type 0 where
