@@ -5,7 +5,7 @@ here="$(cd "$(dirname "$0")" && pwd)"
 top="$(cd "$here/../.." && pwd)"
 work="$(mktemp -d)"
 mkdir -p "$work/crates/codec_bench/src"
-for crate in pb_wire hilbert_id geometry_commands mvt_layer mvt_write feature_model edit_text tile_cutter feature_store; do
+for crate in reader pb_wire hilbert_id geometry_commands mvt_layer mvt_write feature_model edit_text tile_cutter feature_store; do
     cp -a "$top/crates/$crate" "$work/crates/$crate"
     grep "^$crate:" "$top/crates.txt"
 done > "$work/crates.txt"
