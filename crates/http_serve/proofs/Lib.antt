@@ -1,5 +1,4 @@
 pub mod CarryLemmas
-pub mod Digits
 pub mod FieldLemmas
 pub mod HeadLemmas
 pub mod InputLemmas

@@ -1,14 +1,14 @@
 //! What the fields of a head say of its body and of the connection (RFC 9110, 8.6 and 7.6.1).
-ghost use Rattle.std.specs.Prelude.{◌≡◌, ◌≤◌, ◌<◌, ◌&&◌, ◌==◌, ◌^◌, true, ℕ, nat_lt, length, take, map, reverse, codes, All, IfSome, MatchOption};
-ghost use Rattle.std.specs.List.{list_all, position, position_or_len};
-ghost use Rattle.std.specs.Char.{is_ascii_digit, to_ascii_lowercase};
-ghost use Rattle.std.specs.Str.Parse.{digits_value};
+ghost use Rattle.std.specs.Prelude.{◌≡◌, ◌≤◌, ◌<◌, ◌&&◌, ◌==◌, ◌^◌, true, ℕ, nat_lt, length, take, map, reverse, codes, All, IfSome};
+ghost use Rattle.std.specs.List.{position, position_or_len};
+ghost use Rattle.std.specs.Char.{to_ascii_lowercase};
 ghost use Rattle.std.specs.Option.{option_map};
 ghost use Rattle.httparse.specs.Spans.{IsHeaderWithin, IsWithin, header_bytes, span_bytes};
 ghost use Rattle.httparse.specs.Grammar.{is_ows, skip_ows, trim_ows};
 ghost use Rattle.http_serve.specs.Fields.{is_word, IsStated, values_of, numeral_length, body_length, range_of, lists_close, is_close, says_close};
 
 use crate::Refusal;
+use decimal_number::{are_digits, digits_number};
 use httparse::spans::{HeaderSpan, Span};
 
 /// The most bytes that a body may have.
@@ -51,25 +51,6 @@ fn find_stated(bytes: &[u8], fields: &[HeaderSpan], word: &[u8]) -> Stated
     match found {
         None => Stated::Never,
         Some(value) => Stated::Once(value),
-    }
-}
-
-/// Whether each byte is a digit.
-fn are_digits(bytes: &[u8]) -> bool
-    ensures { result ≡ list_all is_ascii_digit bytes.now }
-{
-    bytes.iter().all(|byte| byte.is_ascii_digit())
-}
-
-/// The number that one digit or more write, where it is below 2^64.
-fn digits_number(digits: &[u8]) -> Option<u64>
-    requires some { 0 < length digits.now }
-    requires digits { list_all is_ascii_digit digits.now ≡ true }
-    ensures { MatchOption result (2 ^ 64 ≤ digits_value 10 digits.now) (λ number. number ≡ digits_value 10 digits.now) }
-{
-    match str::from_utf8(digits) {
-        Ok(text) => text.parse::<u64>().ok(),
-        Err(_) => None,
     }
 }
 

@@ -1,3 +1,2 @@
-mod Digits
 mod Keys
 mod Texts

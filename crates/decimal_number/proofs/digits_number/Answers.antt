@@ -1,8 +1,8 @@
 use Rattle.std.proofs.Common.{◌≡◌, ◌^◌, ◌≤◌, List, ℕ, Option, subst, sym}
 use Rattle.std.specs.Prelude.{MatchOption}
 use Rattle.std.specs.Str.Parse.{ParsesUnsigned, digits_value}
-use Rattle.tile_routes.proofs.Digits.{digits-text, digits_read}
-use Rattle.tile_routes.proofs.number.digits_number.Goals as goal
+use Rattle.decimal_number.proofs.Digits.{digits-text, digits_read}
+use Rattle.decimal_number.proofs.digits_number.Goals as goal
 
 pub returns-in-Ok : goal.returns-in-Ok
 returns-in-Ok c =

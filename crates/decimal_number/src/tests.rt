@@ -1,0 +1,23 @@
+use super::*;
+use std::test::Fail;
+
+#[test]
+fn numbers(rt: HostRuntime) -> Result<(), Fail> {
+    for (digits, number) in [
+        ("0", Some(0)),
+        ("7", Some(7)),
+        ("007", Some(7)),
+        ("65536", Some(65_536)),
+        ("18446744073709551615", Some(u64::MAX)),
+        ("18446744073709551616", None),
+        ("99999999999999999999999999", None),
+    ] {
+        let digits = digits.as_bytes();
+        assert!(rt; digits.len() > 0 && are_digits(digits));
+        assert_eq!(rt; digits_number(digits), number);
+    }
+    for other in ["-1", "+1", " 1", "1 ", "0x1", "1e3", "1_000"] {
+        assert!(rt; !are_digits(other.as_bytes()));
+    }
+    Ok(())
+}
