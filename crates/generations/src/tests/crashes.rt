@@ -134,7 +134,10 @@ fn other_sizes_are_left(rt: HostRuntime) -> Result<(), Fail> {
         (16_777_217, StoreFault::Damaged(What::Size)),
     ];
     for (count, fault) in rows {
-        let mut disk = FaultyDisk::new(MemoryDisk::new(rt.alloc(), count)?, FailingCalls::AllFrom(101));
+        let mut disk = FaultyDisk::new(
+            MemoryDisk::new(rt.alloc(), count)?,
+            FailingCalls::AllFrom(101),
+        );
         let outcome = format(&mut disk);
         assert_eq!(rt; (outcome.err(), disk.calls()), (Some(fault), 0));
     }
