@@ -1,0 +1,51 @@
+-- The sectors of a record. Numbers stand lowest byte first.
+use Rattle.std.specs.Prelude.{◌≡◌, ◌≤◌, ◌+◌, ◌-◌, ◌*◌, ◌/◌, ◌==◌, if◌then◌else◌, ℕ, List, ◌∷◌, ◌++◌, length, replicate, take, drop, slice_index, slice_range}
+use Rattle.std.specs.Int.{w16, w32, w64, to_le_bytes, from_le_bytes}
+use Rattle.feature_model.specs.declared.limits.TheConstants.{MOST_EDIT_BYTES}
+use Rattle.edit_journal.specs.declared.sizes.TheConstants.{PART_BYTES}
+
+-- an edit may have a text of so many bytes
+abbrev pub IsEditLength : ℕ → Type 0
+IsEditLength bytes = (1 ≤ bytes) × (bytes ≤ MOST_EDIT_BYTES)
+
+-- how many parts a text of so many bytes has
+abbrev pub parts_of : ℕ → ℕ
+parts_of bytes = (bytes + (PART_BYTES - 1)) / PART_BYTES
+
+-- the bytes of the text in one part
+abbrev pub piece : List ℕ → ℕ → List ℕ
+piece text part = take PART_BYTES (drop (PART_BYTES * part) text)
+
+-- the first 16 bytes of a part's sector: 1 in the head or 2 in a body, the version, how many parts there are or which one this is,
+-- the edit's number, the length of its text
+unfoldable pub part_front : (version number bytes part : ℕ) → List ℕ
+part_front version number bytes part = (if part == 0 then 1 else 2) ∷ (version
+    ∷ (to_le_bytes w16 (if part == 0 then parts_of bytes else part) ++ (to_le_bytes w64 number ++ to_le_bytes w32 bytes)))
+
+-- the sector of a part as it is written: the front, the bytes of the text, zeros
+unfoldable pub record_sector : (version number : ℕ) (text : List ℕ) (part : ℕ) → List ℕ
+record_sector version number text part =
+    part_front version number (length text) part ++ (piece text part ++ replicate (PART_BYTES - length (piece text part)) 0)
+
+-- the sector begins with the front of this part
+abbrev pub HasFront : (version number bytes part : ℕ) → List ℕ → Type 0
+HasFront version number bytes part sector = take 16 sector ≡ part_front version number bytes part
+
+-- the sector is that of a part: its front and its bytes of the text stand there, and behind them anything
+pub record IsPart (version number : ℕ) (text : List ℕ) (part : ℕ) (sector : List ℕ) : Type 0 where
+  pub front : HasFront version number (length text) part sector
+  pub bytes : take (length (piece text part)) (drop 16 sector) ≡ piece text part
+
+-- the edit's number in a sector
+abbrev pub number_from : List ℕ → ℕ
+number_from sector = from_le_bytes w64 (slice_range sector 4 12)
+
+-- the length of a text in a sector
+abbrev pub length_from : List ℕ → ℕ
+length_from sector = from_le_bytes w32 (slice_range sector 12 16)
+
+-- the sector is the head of the record with this number
+pub record IsHeadOf (version number : ℕ) (sector : List ℕ) : Type 0 where
+  pub kind_is : slice_index sector 0 ≡ 1
+  pub version_is : slice_index sector 1 ≡ version
+  pub number_is : number_from sector ≡ number

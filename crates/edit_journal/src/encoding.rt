@@ -1,0 +1,72 @@
+//! The sectors of a record, as bytes.
+ghost use Rattle.std.specs.Prelude.{◌≡◌, ◌≤◌, ◌<◌, ◌+◌, ◌++◌, length, take, drop};
+ghost use Rattle.sector_disk.specs.declared.disk.TheConstants.{SECTOR_BYTES};
+ghost use Rattle.edit_journal.specs.Records.{IsEditLength, parts_of, piece, part_front, record_sector};
+
+use crate::sizes::{PART_BYTES, RECORD_VERSION};
+use sector_disk::SECTOR_BYTES;
+
+/// How many parts a text of so many bytes has.
+pub(crate) fn count_parts(length: u32) -> u16
+    requires { IsEditLength length }
+    ensures { result ≡ parts_of length }
+{
+    length.div_ceil(PART_BYTES as u32) as u16
+}
+
+/// The first 16 bytes of a part's sector.
+#[tactic(auto, unfolding(crate::specs::Records::part_front))]
+pub(crate) fn front_bytes(number: u64, length: u32, part: u16) -> [u8; 16]
+    requires { IsEditLength length }
+    ensures { result ≡ part_front RECORD_VERSION number length part }
+{
+    let (kind, count) = if part == 0 {
+        (1, count_parts(length))
+    } else {
+        (2, part)
+    };
+    let mut front = [0; 16];
+    front[0] = kind;
+    front[1] = RECORD_VERSION;
+    front[2..4].copy_from_slice(&count.to_le_bytes());
+    front[4..12].copy_from_slice(&number.to_le_bytes());
+    front[12..].copy_from_slice(&length.to_le_bytes());
+    front
+}
+
+/// The first bytes of what is left of a text, as many as a sector has.
+fn first_piece(rest: &[u8]) -> &[u8]
+    ensures { result.now ≡ take PART_BYTES rest.now }
+{
+    &rest[..PART_BYTES.min(rest.len())]
+}
+
+fn piece_of(text: &[u8], part: u16) -> &[u8]
+    requires { part < parts_of (length text.now) }
+    ensures { result.now ≡ piece text.now part }
+{
+    first_piece(&text[PART_BYTES * usize::from(part)..])
+}
+
+fn put_bytes(sector: &mut [u8; SECTOR_BYTES], at: usize, bytes: &[u8])
+    requires { at + length bytes.now ≤ SECTOR_BYTES }
+    ensures { sector.new ≡ take at sector.old ++ (bytes.now ++ drop (at + length bytes.now) sector.old) }
+{
+    sector[at..at + bytes.len()].copy_from_slice(bytes);
+}
+
+/// The sector of a part of the record with this number and text, as the journal writes it. Behind the text's end it has zeros.
+pub fn part_sector(number: u64, text: &[u8], part: u16) -> [u8; SECTOR_BYTES]
+    requires text { IsEditLength (length text.now) }
+    requires part { part < parts_of (length text.now) }
+    ensures { result ≡ record_sector RECORD_VERSION number text.now part }
+{
+    let mut sector = [0; SECTOR_BYTES];
+    put_bytes(
+        &mut sector,
+        0,
+        &front_bytes(number, text.len() as u32, part),
+    );
+    put_bytes(&mut sector, 16, piece_of(text, part));
+    sector
+}

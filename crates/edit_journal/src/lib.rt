@@ -1,0 +1,13 @@
+//! A journal of edits in a ring of sectors: each edit is a record, of a head and as many bodies as its text needs.
+#![tactic(auto)]
+
+mod encoding;
+mod head;
+mod sizes;
+
+pub use encoding::part_sector;
+pub use head::{Head, head_in, is_head};
+pub use sizes::{PART_BYTES, RECORD_VERSION};
+
+#[cfg(test)]
+mod tests;
