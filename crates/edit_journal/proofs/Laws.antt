@@ -2,7 +2,6 @@
 use Rattle.std.proofs.Common.{◌≡◌, ℕ, zero, suc, ◌<◌, ◌≤◌, ◌+◌, ◌*◌, ◌-◌, ◌^◌, ◌==◌, if◌then◌else◌, List, [], ◌∷◌, ◌++◌, length, take, drop, replicate, min}
 use Rattle.std.proofs.Common.{⊎_elim, refl, sym, ◌∙◌, ap, subst, arith}
 use Rattle.std.proofs.lemmas.List.{take_at, drop_at, take_all}
-use Rattle.std.proofs.lemmas.Nat.{mod_below}
 use Rattle.std.proofs.Math.Seq.{take-add, take-append_seam}
 use Rattle.std.proofs.lemmas.Bool.{cases_eq}
 use Rattle.std.proofs.lemmas.Bool.Decides.{nat_tests}
@@ -12,6 +11,7 @@ use Rattle.sector_disk.proofs.History.{seen_same, seen_other}
 use Rattle.edit_journal.specs.declared.sizes.TheConstants.{PART_BYTES}
 use Rattle.edit_journal.specs.Records.{IsEditLength, parts_of, piece, part_front, record_sector, IsPart, IsHeadOf}
 use Rattle.edit_journal.specs.Ring.{Ring, Start, sector_at, IsInRing, start_behind, NoLaterHead, HoldsTexts}
+use Rattle.edit_journal.proofs.Places.{in_ring}
 use Rattle.edit_journal.proofs.Fronts.{front_length, kind_there, version_there, number_there, length_there, piece_length}
 
 -- ---- parts and heads
@@ -100,16 +100,12 @@ module _ (version : ℕ) (ring : Ring) (image : Image) where
       → (part : ℕ) → part < parts_of (length text) → IsPart version start.number text part (image (sector_at ring (start.place + part)))
   first_stands start text texts holds part lt = (holds.records.stand (sector_at ring (start.place + part))).0 part lt refl
 
-  -- the sector of a place is one of the ring's
-  in_ring : (place : ℕ) → 0 < ring.places → IsInRing ring (sector_at ring place)
-  in_ring place pos = (omega arith, omega (arith, mod_below place ring.places pos))
-
   -- an image without a head of this number has no first text
   not_both : (start : Start) (text : List ℕ) (texts : List (List ℕ)) → HoldsTexts version ring start (text ∷ texts) image
       → HoldsTexts version ring start [] image → ⊥
   not_both start text texts holds none =
       let some : 1 ≤ parts_of (length text) = omega (arith, holds.records.edits.0.0) in
-      none.last (sector_at ring (start.place + 0)) start.number (in_ring (start.place + 0) (omega (arith, some, holds.records.room))) (omega arith)
+      none.last (sector_at ring (start.place + 0)) start.number (in_ring ring (start.place + 0) (omega (arith, some, holds.records.room))) (omega arith)
       (first_is_head version start.number text (image (sector_at ring (start.place + 0))) (omega (arith, holds.records.numbers))
       (first_stands start text texts holds 0 (omega (arith, some))))
 

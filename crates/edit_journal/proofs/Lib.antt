@@ -1,2 +1,6 @@
+mod Bodies
+mod Frames
 mod Fronts
+mod Heads
 pub mod Laws
+mod Places

@@ -1,12 +1,17 @@
 //! A journal of edits in a ring of sectors: each edit is a record, of a head and as many bodies as its text needs.
 #![tactic(auto)]
 
+mod appending;
 mod encoding;
+mod fault;
 mod head;
+mod journal;
 mod sizes;
 
 pub use encoding::part_sector;
+pub use fault::JournalFault;
 pub use head::{Head, head_in, is_head};
+pub use journal::{Journal, Start};
 pub use sizes::{PART_BYTES, RECORD_VERSION};
 
 #[cfg(test)]

@@ -2,6 +2,8 @@
 ghost use Rattle.std.specs.Prelude.{◌≤◌, ◌<◌};
 ghost use Rattle.edit_journal.specs.Records.{parts_of};
 
+mod appends;
+
 use crate::{head_in, is_head, part_sector};
 
 /// A number whose bytes are all different.

@@ -1,0 +1,24 @@
+use Rattle.std.proofs.Common.{◌≡◌, ◌<◌, ◌+◌, ℕ}
+use Rattle.sector_disk.specs.Disk.{seen}
+use Rattle.sector_disk.specs.Moments.{Within, LeavesOnly}
+use Rattle.edit_journal.specs.declared.sizes.TheConstants.{RECORD_VERSION}
+use Rattle.edit_journal.specs.Records.{record_sector}
+use Rattle.edit_journal.specs.Ring.{sector_at}
+use Rattle.edit_journal.specs.Appends.{ring_of, OldOrBody, ReadsAsBefore}
+use Rattle.edit_journal.proofs.appending.stage.Given as goal
+
+abbrev pub invariant-loop-part : goal.invariant-loop-part
+invariant-loop-part g l = record {
+  count : g.D.Sectors.sectors l.disk ≡ g.D.Sectors.sectors l.initial.disk;
+  honest : g.D.Sectors.honest l.disk → g.D.Sectors.honest l.initial.disk;
+  faults : g.D.Sectors.faults l.disk ≡ g.D.Sectors.faults l.initial.disk;
+  reads : g.D.Sectors.honest l.disk → ReadsAsBefore (ring_of l.journal) l.journal.place l.journal.used
+      (seen (g.D.Sectors.history l.initial.disk)) (seen (g.D.Sectors.history l.disk));
+  leaves : g.D.Sectors.honest l.disk → LeavesOnly (g.D.Sectors.history l.initial.disk) (g.D.Sectors.history l.disk) (λ image. (at : ℕ)
+      → OldOrBody (g.D.Sectors.history l.initial.disk) (ring_of l.journal) l.journal.place l.journal.used l.number l.text at (image at));
+  within : g.D.Sectors.honest l.disk → Within (g.D.Sectors.history l.disk)
+      (OldOrBody (g.D.Sectors.history l.initial.disk) (ring_of l.journal) l.journal.place l.journal.used l.number l.text);
+  bodies : g.D.Sectors.honest l.disk → (part : ℕ) → 0 < part → part < l.part
+      → seen (g.D.Sectors.history l.disk) (sector_at (ring_of l.journal) (l.journal.place + (l.journal.used + part)))
+      ≡ record_sector RECORD_VERSION l.number l.text part;
+}

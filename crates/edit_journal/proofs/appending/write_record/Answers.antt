@@ -1,0 +1,65 @@
+use Rattle.std.proofs.Common.{◌+◌, arith}
+use Rattle.edit_journal.specs.Appends.{ring_of}
+use Rattle.edit_journal.proofs.Frames.{frame_end}
+use Rattle.edit_journal.proofs.Heads.{stage_leaves, head_leaves, end_leaves, end_keeps}
+use Rattle.edit_journal.proofs.appending.write_record.Goals as goal
+
+pub returns-in_err-stage-clause-any_moment : goal.returns-in_err-stage-clause-any_moment
+returns-in_err-stage-clause-any_moment g c texts honest before =
+    stage_leaves _ (ring_of c.args.journal.now) c.args.journal.now.place c.args.journal.now.edits c.args.journal.now.used c.args.journal.now.last texts
+    c.args.text.now (omega arith) c.requires.room (omega (arith, c.requires.next)) c.requires.text before
+    _ (c.stage.ensures.leaves honest)
+
+pub returns-in_err-write-clause-any_moment : goal.returns-in_err-write-clause-any_moment
+returns-in_err-write-clause-any_moment g c texts honest before =
+    let staged = c.write.ensures.honest honest in
+    head_leaves _ (ring_of c.args.journal.now) c.args.journal.now.place c.args.journal.now.edits c.args.journal.now.used c.args.journal.now.last texts
+    c.args.text.now (omega arith) c.requires.room (omega (arith, c.requires.next)) c.requires.text before
+    _ (c.stage.ensures.within staged) (c.in_ok-stage.ensures.bodies staged)
+    _ c.sector_of-at.ensures.is _ c.part_sector-head.ensures _ _ (c.write.ensures.writes honest) (c.stage.ensures.leaves staged)
+
+pub returns-in_err-sync-clause-frame : goal.returns-in_err-sync-clause-frame
+returns-in_err-sync-clause-frame g c honest =
+    let written = c.sync.ensures.honest honest in
+    let staged = c.write.ensures.honest written in
+    frame_end _ (ring_of c.args.journal.now) c.args.journal.now.place c.args.journal.now.used (c.args.journal.now.last + 1) c.args.text.now
+    (omega (arith, c.requires.text.0)) c.requires.room _ (c.stage.ensures.within staged) (c.stage.ensures.leaves staged)
+    _ c.sector_of-at.ensures.is _ _ _ (c.write.ensures.writes written) _ _ (c.sync.ensures.syncs honest)
+
+pub returns-in_err-sync-clause-any_moment : goal.returns-in_err-sync-clause-any_moment
+returns-in_err-sync-clause-any_moment g c texts honest before =
+    let written = c.sync.ensures.honest honest in
+    let staged = c.write.ensures.honest written in
+    end_leaves _ (ring_of c.args.journal.now) c.args.journal.now.place c.args.journal.now.edits c.args.journal.now.used c.args.journal.now.last texts
+    c.args.text.now (omega arith) c.requires.room (omega (arith, c.requires.next)) c.requires.text before
+    _ (c.stage.ensures.within staged) (c.in_ok-stage.ensures.bodies staged)
+    _ c.sector_of-at.ensures.is _ c.part_sector-head.ensures _ _ (c.write.ensures.writes written) (c.stage.ensures.leaves staged)
+    _ _ (c.sync.ensures.syncs honest)
+
+pub returns-clause-frame : goal.returns-clause-frame
+returns-clause-frame g c honest =
+    let written = c.sync.ensures.honest honest in
+    let staged = c.write.ensures.honest written in
+    frame_end _ (ring_of c.args.journal.now) c.args.journal.now.place c.args.journal.now.used (c.args.journal.now.last + 1) c.args.text.now
+    (omega (arith, c.requires.text.0)) c.requires.room _ (c.stage.ensures.within staged) (c.stage.ensures.leaves staged)
+    _ c.sector_of-at.ensures.is _ _ _ (c.write.ensures.writes written) _ _ (c.sync.ensures.syncs honest)
+
+pub returns-clause-any_moment : goal.returns-clause-any_moment
+returns-clause-any_moment g c texts honest before =
+    let written = c.sync.ensures.honest honest in
+    let staged = c.write.ensures.honest written in
+    end_leaves _ (ring_of c.args.journal.now) c.args.journal.now.place c.args.journal.now.edits c.args.journal.now.used c.args.journal.now.last texts
+    c.args.text.now (omega arith) c.requires.room (omega (arith, c.requires.next)) c.requires.text before
+    _ (c.stage.ensures.within staged) (c.in_ok-stage.ensures.bodies staged)
+    _ c.sector_of-at.ensures.is _ c.part_sector-head.ensures _ _ (c.write.ensures.writes written) (c.stage.ensures.leaves staged)
+    _ _ (c.sync.ensures.syncs honest)
+
+pub returns-clause-acknowledged : goal.returns-clause-acknowledged
+returns-clause-acknowledged g c texts honest before =
+    let written = c.sync.ensures.honest honest in
+    let staged = c.write.ensures.honest written in
+    end_keeps _ (ring_of c.args.journal.now) c.args.journal.now.place c.args.journal.now.edits c.args.journal.now.used c.args.journal.now.last texts
+    c.args.text.now (omega arith) c.requires.room (omega (arith, c.requires.next)) c.requires.text before
+    _ (c.stage.ensures.within staged) (c.in_ok-stage.ensures.bodies staged)
+    _ c.sector_of-at.ensures.is _ c.part_sector-head.ensures _ _ (c.write.ensures.writes written) (c.stage.ensures.leaves staged)
+    _ _ (c.sync.ensures.syncs honest) (c.in_ok-write.ensures.writes written) (c.in_ok-sync.ensures.syncs honest)

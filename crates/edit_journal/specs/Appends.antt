@@ -1,0 +1,66 @@
+-- What an append leaves of a journal, at each moment.
+use Rattle.std.specs.Prelude.{◌≡◌, ◌⊎◌, ◌<◌, ◌≤◌, ◌+◌, ◌-◌, ◌^◌, ℕ, List, [], ◌∷◌, ◌++◌, length}
+use Rattle.std.proofs.Common.{suc}
+use Rattle.sector_disk.specs.Disk.{History, Image, MayHold, MayLeave}
+use Rattle.edit_journal.specs.Records.{parts_of, record_sector}
+use Rattle.edit_journal.specs.Ring.{Ring, Start, sector_at, places_of, HoldsTexts}
+use Rattle.edit_journal.specs.declared.sizes.TheConstants.{RECORD_VERSION}
+use Rattle.edit_journal.specs.declared.journal.Journal.{Journal}
+use Rattle.edit_journal.specs.declared.fault.JournalFault.{JournalFault}
+use Rattle.edit_journal.specs.declared.fault.JournalFault.TheVariants.{NumbersSpent, Full, Device}
+
+-- the ring that a journal is in
+abbrev pub ring_of : Journal → Ring
+ring_of journal = record { first = journal.first; places = journal.places }
+
+-- where the records in use begin
+abbrev pub start_of : (place edits : ℕ) → Start
+start_of place edits = record { place = place; number = suc edits }
+
+-- Each image that a crash now may leave holds these texts, which take the places in use and have the numbers up to the last.
+pub record Keeps (ring : Ring) (place edits used last : ℕ) (texts : List (List ℕ)) (history : History) : Type 0 where
+  pub keeps : (image : Image) → MayLeave history image → HoldsTexts RECORD_VERSION ring (start_of place edits) texts image
+  pub uses : used ≡ places_of texts
+  pub counts : last ≡ edits + length texts
+
+-- the journal has these texts on the disk
+abbrev pub IsAt : List (List ℕ) → Journal → History → Type 0
+IsAt texts journal history = Keeps (ring_of journal) journal.place journal.edits journal.used journal.last texts history
+
+-- the sector is one of the ring's that no record in use has
+abbrev pub IsFree : Ring → (place used at : ℕ) → Type 0
+IsFree ring place used at = (offset : ℕ) × (used ≤ offset) × (offset < ring.places) × (at ≡ sector_at ring (place + offset))
+
+-- each other sector has what might have stood there
+abbrev pub AsBefore : Ring → (place used : ℕ) → History → Image → Type 0
+AsBefore ring place used old image = (at : ℕ) → (IsFree ring place used at → ⊥) → MayHold old at (image at)
+
+-- a read gives of each other sector what it gave
+abbrev pub ReadsAsBefore : Ring → (place used : ℕ) → (old new : Image) → Type 0
+ReadsAsBefore ring place used old new = (at : ℕ) → (IsFree ring place used at → ⊥) → new at ≡ old at
+
+-- the image holds the texts, or the texts with this one
+abbrev pub HoldsOneMore : Ring → Start → List (List ℕ) → List ℕ → Image → Type 0
+HoldsOneMore ring start texts text image =
+    HoldsTexts RECORD_VERSION ring start texts image ⊎ HoldsTexts RECORD_VERSION ring start (texts ++ text ∷ []) image
+
+-- in the sector stands what might have stood there, or a body of the record
+abbrev pub OldOrBody : History → Ring → (place used number : ℕ) → List ℕ → (at : ℕ) → List ℕ → Type 0
+OldOrBody old ring place used number text at sector = MayHold old at sector ⊎ ((part : ℕ) × (0 < part) × (part < parts_of (length text))
+    × (at ≡ sector_at ring (place + (used + part))) × (sector ≡ record_sector RECORD_VERSION number text part))
+
+-- whatever a crash leaves, the bodies stand
+abbrev pub BodiesStand : History → Ring → (place used number : ℕ) → List ℕ → Type 0
+BodiesStand history ring place used number text = (part : ℕ) (sector : List ℕ) → 0 < part → part < parts_of (length text)
+    → MayHold history (sector_at ring (place + (used + part))) sector → sector ≡ record_sector RECORD_VERSION number text part
+
+-- The count of faults has risen, or is the last u64.
+abbrev pub HasFailed : ℕ → ℕ → Type 0
+HasFailed old new = (old < new) ⊎ (new ≡ 2 ^ 64 - 1)
+
+-- why an append of so many parts comes to nothing, and what it makes of the count of faults
+abbrev pub IsAppendFault : Journal → (parts old new : ℕ) → JournalFault → Type 0
+IsAppendFault journal parts old new NumbersSpent = (journal.last ≡ 2 ^ 64 - 1) × (new ≡ old)
+IsAppendFault journal parts old new (Full need free) = (journal.last < 2 ^ 64 - 1) × (need ≡ parts) × (free ≡ journal.places - journal.used)
+    × (free < need) × (new ≡ old)
+IsAppendFault journal parts old new Device = (journal.last < 2 ^ 64 - 1) × (parts ≤ journal.places - journal.used) × HasFailed old new

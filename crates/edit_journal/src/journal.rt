@@ -1,0 +1,59 @@
+//! The records in use in a ring of sectors.
+ghost use Rattle.std.specs.Prelude.{◌≡◌, ◌≤◌, ◌<◌, ◌+◌, ◌-◌, ◌%◌, ◌^◌};
+
+/// Where the records in use begin.
+#[derive(Clone, Copy, Debug, PartialEq, Eq)]
+pub struct Start {
+    /// The place of the first of them, or of the next one where there is none.
+    pub place: u64,
+    /// How many edits came before it: its number is one more.
+    pub edits: u64,
+}
+
+/// The records in use in a ring of sectors, and the places behind them that are free.
+#[derive(Clone, Copy, Debug, PartialEq, Eq)]
+pub struct Journal {
+    /// The sector that is place 0.
+    pub first: u64,
+    /// How many places the ring has.
+    pub places: u64,
+    /// The place of the first record in use.
+    pub place: u64,
+    /// How many edits came before it: its number is one more.
+    pub edits: u64,
+    /// How many places the records in use have.
+    pub used: u64,
+    /// The number of the last record, from 1 on, or 0 where there was none yet.
+    pub last: u64,
+    ghost begins: { place < places },
+    ghost room: { used ≤ places },
+    ghost counts: { edits ≤ last },
+    ghost small: { first + places < 2 ^ 64 },
+}
+
+impl Journal {
+    /// How many places are free.
+    pub fn free(&self) -> u64
+        ensures { result ≡ self.now.places - self.now.used }
+    {
+        self.places - self.used
+    }
+
+    /// Where the next record begins.
+    pub fn next(&self) -> Start
+        ensures { (result.place ≡ (self.now.place + self.now.used) % self.now.places) × (result.edits ≡ self.now.last) }
+    {
+        let behind = self.places - self.place;
+        if self.used < behind {
+            Start {
+                place: self.place + self.used,
+                edits: self.last,
+            }
+        } else {
+            Start {
+                place: self.used - behind,
+                edits: self.last,
+            }
+        }
+    }
+}
