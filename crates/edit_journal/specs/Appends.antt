@@ -1,7 +1,7 @@
 -- What an append leaves of a journal, at each moment.
 use Rattle.std.specs.Prelude.{◌≡◌, ◌⊎◌, ◌<◌, ◌≤◌, ◌+◌, ◌-◌, ◌^◌, ℕ, List, [], ◌∷◌, ◌++◌, length}
 use Rattle.std.proofs.Common.{suc}
-use Rattle.sector_disk.specs.Disk.{History, Image, MayHold, MayLeave}
+use Rattle.sector_disk.specs.Disk.{History, Image, MayHold, MayLeave, HasFailed}
 use Rattle.edit_journal.specs.Records.{parts_of, record_sector}
 use Rattle.edit_journal.specs.Ring.{Ring, Start, sector_at, places_of, HoldsTexts}
 use Rattle.edit_journal.specs.declared.sizes.TheConstants.{RECORD_VERSION}
@@ -53,10 +53,6 @@ OldOrBody old ring place used number text at sector = MayHold old at sector ⊎ 
 abbrev pub BodiesStand : History → Ring → (place used number : ℕ) → List ℕ → Type 0
 BodiesStand history ring place used number text = (part : ℕ) (sector : List ℕ) → 0 < part → part < parts_of (length text)
     → MayHold history (sector_at ring (place + (used + part))) sector → sector ≡ record_sector RECORD_VERSION number text part
-
--- The count of faults has risen, or is the last u64.
-abbrev pub HasFailed : ℕ → ℕ → Type 0
-HasFailed old new = (old < new) ⊎ (new ≡ 2 ^ 64 - 1)
 
 -- why an append of so many parts comes to nothing, and what it makes of the count of faults
 abbrev pub IsAppendFault : Journal → (parts old new : ℕ) → JournalFault → Type 0

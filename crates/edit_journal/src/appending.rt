@@ -1,11 +1,11 @@
 //! A record on the disk: its bodies, a sync, its head, a sync.
 ghost use Rattle.std.specs.Prelude.{◌≡◌, ◌⊎◌, ◌≤◌, ◌<◌, ◌+◌, ◌-◌, ◌^◌, ◌++◌, ◌∷◌, [], ℕ, List, length, IfOk, IfErr, OnOk, OnErr};
-ghost use Rattle.sector_disk.specs.Disk.{seen};
+ghost use Rattle.sector_disk.specs.Disk.{seen, HasFailed};
 ghost use Rattle.sector_disk.specs.Moments.{Within, LeavesOnly};
 ghost use Rattle.edit_journal.specs.Records.{IsEditLength, parts_of};
 ghost use Rattle.edit_journal.specs.Ring.{sector_at};
 ghost use Rattle.edit_journal.specs.Appends.{ring_of, start_of, Keeps, IsAt, AsBefore, ReadsAsBefore, HoldsOneMore, OldOrBody, BodiesStand};
-ghost use Rattle.edit_journal.specs.Appends.{HasFailed, IsAppendFault};
+ghost use Rattle.edit_journal.specs.Appends.{IsAppendFault};
 ghost use Rattle.edit_journal.specs.declared.fault.JournalFault.TheVariants.{Device};
 
 use crate::encoding::{count_parts, part_sector};

@@ -1,11 +1,11 @@
 //! The format of a disk.
 ghost use Rattle.std.specs.Prelude.{◌≡◌, ◌⊎◌, ◌≤◌, ◌<◌, ◌+◌, ◌↔◌, ℕ, List, Err, IfErr, OnOk, OnErr};
-ghost use Rattle.sector_disk.specs.Disk.{Image, seen, MayHold, MayLeave};
+ghost use Rattle.sector_disk.specs.Disk.{Image, seen, MayHold, MayLeave, HasFailed};
 ghost use Rattle.sector_disk.specs.Disk.History.{wrote, synced};
 ghost use Rattle.sector_disk.specs.Moments.{Within, LeavesOnly};
 ghost use Rattle.generations.specs.Areas.{IsSize};
 ghost use Rattle.generations.specs.Disks.{HasNoMark, IsFresh};
-ghost use Rattle.generations.specs.Faults.{HasFailed, CountsDevice};
+ghost use Rattle.generations.specs.Faults.{CountsDevice};
 ghost use Rattle.generations.specs.Written.{IsOldOr, IsOldOrEmpty};
 ghost use Rattle.generations.specs.Sectors.{zeros};
 ghost use Rattle.generations.specs.declared.fault.StoreFault.TheVariants.{TooSmall, Device, Damaged};
