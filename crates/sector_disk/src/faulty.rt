@@ -1,7 +1,7 @@
 //! A disk of which some calls fail.
 ghost use Rattle.std.specs.Prelude.{◌≡◌, ◌<◌, ◌+◌, ◌↔◌, OnOk, IsErr};
 ghost use Rattle.sector_disk.specs.Disk.{seen, Writes, Syncs, CountsFault};
-ghost use Rattle.sector_disk.specs.Faulty.{IsMade, Fails, NextFails, BecomesOf, CountsCall, SomeOutcome};
+ghost use Rattle.sector_disk.specs.Faulty.{IsMade, Fails, NextFails, BecomesOf, CountsCall, Reports, SomeOutcome};
 
 use crate::faults::Faults;
 use crate::{DiskFault, SECTOR_BYTES, Sectors};
@@ -116,6 +116,21 @@ impl<D: Sectors> FaultyDisk<D> {
         self.calls = self.calls.saturating_add(1);
         turn
     }
+
+    /// Says what is reported of a call with this outcome, and counts its fault.
+    fn report(&mut self, turn: Turn, outcome: Result<(), DiskFault>) -> Result<(), DiskFault>
+        ensures reports { Reports turn outcome result }
+        ensures disk { self.new.disk ≡ self.old.disk }
+        ensures failing_calls { self.new.failing_calls ≡ self.old.failing_calls }
+        ensures calls { self.new.calls ≡ self.old.calls }
+        ensures faults { CountsFault result self.old.faults self.new.faults }
+    {
+        let reported = match turn {
+            Turn::Passed => outcome,
+            Turn::Made | Turn::NotMade => Err(DiskFault),
+        };
+        self.faults.record(reported)
+    }
 }
 
 impl<D: Sectors> Sectors for FaultyDisk<D> {
@@ -147,15 +162,12 @@ impl<D: Sectors> Sectors for FaultyDisk<D> {
             → SomeOutcome (λ outcome. CountsFault outcome (D.faults self.old.disk) (D.faults self.new.disk)
             × (D.honest self.new.disk → OnOk outcome (into.new ≡ seen (D.history self.old.disk) at))) }
     {
-        let outcome = match self.count_call() {
-            Turn::Passed => self.disk.read(at, into),
-            Turn::Made => {
-                let _ = self.disk.read(at, into);
-                Err(DiskFault)
-            }
+        let turn = self.count_call();
+        let outcome = match turn {
+            Turn::Passed | Turn::Made => self.disk.read(at, into),
             Turn::NotMade => Err(DiskFault),
         };
-        self.faults.record(outcome)
+        self.report(turn, outcome)
     }
 
     fn write(&mut self, at: u64, from: &[u8; SECTOR_BYTES]) -> Result<(), DiskFault>
@@ -173,15 +185,12 @@ impl<D: Sectors> Sectors for FaultyDisk<D> {
             → SomeOutcome (λ outcome. CountsFault outcome (D.faults self.old.disk) (D.faults self.new.disk)
             × (D.honest self.new.disk → Writes outcome at from.now (D.history self.old.disk) (D.history self.new.disk))) }
     {
-        let outcome = match self.count_call() {
-            Turn::Passed => self.disk.write(at, from),
-            Turn::Made => {
-                let _ = self.disk.write(at, from);
-                Err(DiskFault)
-            }
+        let turn = self.count_call();
+        let outcome = match turn {
+            Turn::Passed | Turn::Made => self.disk.write(at, from),
             Turn::NotMade => Err(DiskFault),
         };
-        self.faults.record(outcome)
+        self.report(turn, outcome)
     }
 
     fn sync(&mut self) -> Result<(), DiskFault>
@@ -198,14 +207,11 @@ impl<D: Sectors> Sectors for FaultyDisk<D> {
             → SomeOutcome (λ outcome. CountsFault outcome (D.faults self.old.disk) (D.faults self.new.disk)
             × (D.honest self.new.disk → Syncs outcome (D.history self.old.disk) (D.history self.new.disk))) }
     {
-        let outcome = match self.count_call() {
-            Turn::Passed => self.disk.sync(),
-            Turn::Made => {
-                let _ = self.disk.sync();
-                Err(DiskFault)
-            }
+        let turn = self.count_call();
+        let outcome = match turn {
+            Turn::Passed | Turn::Made => self.disk.sync(),
             Turn::NotMade => Err(DiskFault),
         };
-        self.faults.record(outcome)
+        self.report(turn, outcome)
     }
 }

@@ -14,7 +14,6 @@ pub use disk::{DiskFault, SECTOR_BYTES, Sectors};
 pub use faulty::{FailingCalls, FaultyDisk};
 pub use file::{FileDisk, FileFault, SectorFile, SystemFile};
 pub use memory::MemoryDisk;
-pub use record::Record;
 pub use start::{Start, Unknown, Zeros};
 
 #[cfg(test)]

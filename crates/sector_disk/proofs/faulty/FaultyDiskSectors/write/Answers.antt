@@ -1,10 +1,11 @@
 -- Where the call is made, the outcome that is asked for is the one that the disk gave.
 use Rattle.sector_disk.proofs.faulty.FaultyDiskSectors.write.Goals as goal
-use Rattle.sector_disk.proofs.faulty.FaultyDiskSectors.write.Goals.{in-Passed, in-Made, in-NotMade}
+use Rattle.sector_disk.proofs.faulty.FaultyDiskSectors.write.Goals.{in-Passed, in-NotMade}
 
 pub returns-clause-made : goal.returns-clause-made
-returns-clause-made g c fails made = elim c.match-count_call.branch [
-  | in-Passed w ↦ absurd (w.in-Passed.ensures.turn fails)
-  | in-Made w ↦ (w.write.result, rw (w.self-inside-is, ← c.count_call.ensures.disk, ← c.self.view_is) (w.write.ensures.faults, w.write.ensures.writes))
+returns-clause-made g c fails made = elim c.match-turn.branch [
+  | in-Passed w ↦
+      let call = w.write-outcome in
+      (call.result, rw (c.report.ensures.disk, w.self-is, ← c.count_call-turn.ensures.disk, ← c.self.view_is) (call.ensures.faults, call.ensures.writes))
   | in-NotMade w ↦ absurd (w.in-NotMade.ensures.turn.1 made)
 ]
