@@ -1,6 +1,6 @@
 -- A record counts once its head stands, and its bodies stand before that.
 use Rattle.std.proofs.Common.{◌≡◌, ◌⊎◌, inl, inr, ⊎_elim, ℕ, suc, ◌≤◌, ◌<◌, ◌+◌, ◌^◌, List, [], ◌∷◌, ◌++◌, length, length-append}
-use Rattle.std.proofs.Common.{sym, ◌∙◌, ap, subst, arith, Result}
+use Rattle.std.proofs.Common.{sym, ◌∙◌, ap, subst, arith, Result, Ok, Err, OnOk}
 use Rattle.std.proofs.lemmas.Bool.{cases_eq}
 use Rattle.sector_disk.specs.Disk.{History, Image, seen, MayHold, Writes, Syncs}
 use Rattle.sector_disk.specs.Disk.History.{wrote, synced}
@@ -59,6 +59,11 @@ places_push (first ∷ texts) text = omega (arith, places_push texts text)
 edits_push : (texts : List (List ℕ)) (text : List ℕ) → AreEdits texts → IsEditLength (length text) → AreEdits (texts ++ text ∷ [])
 edits_push [] text are is = (is, tt)
 edits_push (first ∷ texts) text are is = (are.0, edits_push texts text are.1 is)
+
+-- what follows from a sync that is done
+on_ok : {P : Type 0} (result : Result (Unit {0}) DiskFault) (old new : History) → Syncs result old new → (new ≡ synced old → P) → OnOk result P
+on_ok (Ok done) old new syncs then = then syncs
+on_ok (Err fault) old new syncs then = tt
 
 -- what the journal says of one sector
 record Holds (ring : Ring) (start : Start) (texts : List (List ℕ)) (at : ℕ) (sector : List ℕ) : Type 0 where
@@ -209,9 +214,9 @@ module _ (start : History) (ring : Ring) (place edits used last : ℕ) (texts : 
             (fits_image after StagedOrHead OneMore end_within head_decides)
 
         -- it is done: the head stands in each image
-        pub end_keeps : written ≡ wrote at head staged → after ≡ synced written
+        settled_keeps : written ≡ wrote at head staged → after ≡ synced written
             → Keeps ring place edits (used + parts_of (length text)) (last + 1) (texts ++ text ∷ []) after
-        end_keeps written_is after_is = record {
+        settled_keeps written_is after_is = record {
           keeps = λ image may. with_head image (λ other. end_within other (image other) (may other))
               (at_place (image (sector_at ring (place + used))) (may (sector_at ring (place + used))) ∙ is);
           uses = omega (arith, before.uses, places_push texts text);
@@ -221,6 +226,10 @@ module _ (start : History) (ring : Ring) (place edits used last : ℕ) (texts : 
             at_place : (sector : List ℕ) → MayHold after (sector_at ring (place + used)) sector → sector ≡ head
             at_place sector may = subst (λ (h : History). MayHold h (sector_at ring (place + used)) sector) after_is may
                 ∙ ap (λ (h : History). seen h (sector_at ring (place + used))) written_is ∙ seen_same at head staged (sector_at ring (place + used)) (sym at_is)
+
+        pub end_keeps : written ≡ wrote at head staged
+            → OnOk result (Keeps ring place edits (used + parts_of (length text)) (last + 1) (texts ++ text ∷ []) after)
+        end_keeps written_is = on_ok result written after syncs (settled_keeps written_is)
 
 -- a call that does nothing
 pub same_leaves : (start : History) (ring : Ring) (place edits used last : ℕ) (texts : List (List ℕ)) (text : List ℕ)

@@ -4,3 +4,4 @@ mod Fronts
 mod Heads
 pub mod Laws
 mod Places
+pub mod Releases

@@ -90,8 +90,7 @@ fn write_record<D: Sectors>(journal: &Journal, disk: &mut D, text: &[u8]) -> Res
     let head = part_sector(number, text, 0);
     let at = journal.sector_of(journal.used);
     disk.write(at, &head)?;
-    disk.sync()?;
-    Ok(())
+    disk.sync()
 }
 
 impl Journal {

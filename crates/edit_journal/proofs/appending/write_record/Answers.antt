@@ -18,24 +18,6 @@ returns-in_err-write-clause-any_moment g c texts honest before =
     _ (c.stage.ensures.within staged) (c.in_ok-stage.ensures.bodies staged)
     _ c.sector_of-at.ensures.is _ c.part_sector-head.ensures _ _ (c.write.ensures.writes honest) (c.stage.ensures.leaves staged)
 
-pub returns-in_err-sync-clause-frame : goal.returns-in_err-sync-clause-frame
-returns-in_err-sync-clause-frame g c honest =
-    let written = c.sync.ensures.honest honest in
-    let staged = c.write.ensures.honest written in
-    frame_end _ (ring_of c.args.journal.now) c.args.journal.now.place c.args.journal.now.used (c.args.journal.now.last + 1) c.args.text.now
-    (omega (arith, c.requires.text.0)) c.requires.room _ (c.stage.ensures.within staged) (c.stage.ensures.leaves staged)
-    _ c.sector_of-at.ensures.is _ _ _ (c.write.ensures.writes written) _ _ (c.sync.ensures.syncs honest)
-
-pub returns-in_err-sync-clause-any_moment : goal.returns-in_err-sync-clause-any_moment
-returns-in_err-sync-clause-any_moment g c texts honest before =
-    let written = c.sync.ensures.honest honest in
-    let staged = c.write.ensures.honest written in
-    end_leaves _ (ring_of c.args.journal.now) c.args.journal.now.place c.args.journal.now.edits c.args.journal.now.used c.args.journal.now.last texts
-    c.args.text.now (omega arith) c.requires.room (omega (arith, c.requires.next)) c.requires.text before
-    _ (c.stage.ensures.within staged) (c.in_ok-stage.ensures.bodies staged)
-    _ c.sector_of-at.ensures.is _ c.part_sector-head.ensures _ _ (c.write.ensures.writes written) (c.stage.ensures.leaves staged)
-    _ _ (c.sync.ensures.syncs honest)
-
 pub returns-clause-frame : goal.returns-clause-frame
 returns-clause-frame g c honest =
     let written = c.sync.ensures.honest honest in
@@ -62,4 +44,4 @@ returns-clause-acknowledged g c texts honest before =
     c.args.text.now (omega arith) c.requires.room (omega (arith, c.requires.next)) c.requires.text before
     _ (c.stage.ensures.within staged) (c.in_ok-stage.ensures.bodies staged)
     _ c.sector_of-at.ensures.is _ c.part_sector-head.ensures _ _ (c.write.ensures.writes written) (c.stage.ensures.leaves staged)
-    _ _ (c.sync.ensures.syncs honest) (c.in_ok-write.ensures.writes written) (c.in_ok-sync.ensures.syncs honest)
+    _ _ (c.sync.ensures.syncs honest) (c.in_ok-write.ensures.writes written)

@@ -1,0 +1,22 @@
+-- Records that are no longer wanted, and the start of those behind them.
+use Rattle.std.specs.Prelude.{◌≡◌, ◌≤◌, ◌+◌, ◌-◌, ◌*◌, ◌%◌, ℕ}
+use Rattle.feature_model.specs.declared.limits.TheConstants.{MOST_EDIT_BYTES}
+use Rattle.edit_journal.specs.Records.{parts_of}
+use Rattle.edit_journal.specs.declared.journal.Journal.{Journal}
+use Rattle.edit_journal.specs.declared.journal.Start.{Start}
+
+-- So many records may have so many places: each has one at least, and none has more than that of the longest text.
+abbrev pub MayTake : (records places : ℕ) → Type 0
+MayTake records places = (records ≤ places) × (places ≤ parts_of MOST_EDIT_BYTES * records)
+
+-- the records in use may have the places in use
+abbrev pub IsCounted : Journal → Type 0
+IsCounted journal = MayTake (journal.last - journal.edits) journal.used
+
+-- The start lies so many of the places in use behind that of the journal, and parts the records in use accordingly.
+pub record IsBehind (journal : Journal) (start : Start) (behind : ℕ) : Type 0 where
+  pub place : start.place ≡ (journal.place + behind) % journal.places
+  pub in_use : behind ≤ journal.used
+  pub numbers : (journal.edits ≤ start.edits) × (start.edits ≤ journal.last)
+  pub before : MayTake (start.edits - journal.edits) behind
+  pub after : MayTake (journal.last - start.edits) (journal.used - behind)

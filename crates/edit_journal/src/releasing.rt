@@ -1,0 +1,44 @@
+//! Records that are no longer wanted.
+ghost use Rattle.std.specs.Prelude.{◌≡◌, ◌≤◌, ◌+◌, ◌%◌, ℕ, List, length, take, drop};
+ghost use Rattle.sector_disk.specs.Disk.{History};
+ghost use Rattle.edit_journal.specs.Ring.{places_of};
+ghost use Rattle.edit_journal.specs.Appends.{ring_of, IsAt};
+ghost use Rattle.edit_journal.specs.Releases.{IsBehind, IsCounted};
+
+use crate::journal::{Journal, Start};
+
+impl Journal {
+    /// How many places lie between the first record in use and a start.
+    fn places_before(&self, start: Start) -> u64
+        requires { (behind : ℕ) × IsBehind self.now start behind }
+        ensures { (behind : ℕ) → IsBehind self.now start behind → result ≡ behind }
+    {
+        if start.edits == self.edits {
+            0
+        } else if self.place < start.place {
+            start.place - self.place
+        } else {
+            self.places - (self.place - start.place)
+        }
+    }
+
+    /// Frees the places of the first records in use: of all that come before a start that `next` gave since the first of them was
+    /// written. Nothing is written: until they are written over, the records stand there.
+    pub fn release(&mut self, start: Start)
+        requires { (behind : ℕ) × IsBehind self.old start behind }
+        ensures same { (ring_of self.new ≡ ring_of self.old) × (self.new.last ≡ self.old.last) }
+        ensures start { (self.new.place ≡ start.place) × (self.new.edits ≡ start.edits) }
+        ensures freed { (behind : ℕ) → IsBehind self.old start behind → self.new.used + behind ≡ self.old.used }
+        ensures counted { IsCounted self.new }
+
+        // Of the texts in use those behind the start are left.
+        ensures kept { (texts : List (List ℕ)) (count : ℕ) (history : History) → IsAt texts self.old history → count ≤ length texts
+            → start.edits ≡ self.old.edits + count → start.place ≡ (self.old.place + places_of (take count texts)) % self.old.places
+            → IsAt (drop count texts) self.new history }
+    {
+        let behind = self.places_before(start);
+        self.used -= behind;
+        self.place = start.place;
+        self.edits = start.edits;
+    }
+}
