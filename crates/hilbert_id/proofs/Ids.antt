@@ -2,6 +2,7 @@
 use Rattle.std.proofs.Common.{◌≡◌, ℕ, zero, suc, ◌+◌, ◌-◌, ◌*◌, ◌/◌, ◌^◌, ◌<◌, ◌≤◌, inl, inr, refl, sym, ap, ◌∙◌, arith}
 use Rattle.std.proofs.Math.Nat.{pow-succ'}
 use Rattle.std.proofs.lemmas.Bool.{cases_lt}
+use Rattle.hilbert_id.specs.declared.number.TheConstants.{TILE_IDS}
 use Rattle.hilbert_id.specs.Curve.{StandsAt, first_id, IsTileId}
 use Rattle.hilbert_id.proofs.Powers.{two_below, four_is}
 use Rattle.hilbert_id.proofs.Positions.{one_position, one_tile, position_below}
@@ -28,7 +29,7 @@ zoom_before z w n m small lt e =
     absurd (omega arith)
 
 -- the ids of zooms 0 to 31 end there
-pub below_end : (z : ℕ) → z ≤ 31 → first_id z + 4 ^ z ≤ 6148914691236517205
+pub below_end : (z : ℕ) → z ≤ 31 → first_id z + 4 ^ z ≤ TILE_IDS
 below_end z le =
     let k : suc (31 - z + z) ≡ 32 = omega arith in
     let e : first_id (suc (31 - z + z)) ≡ first_id 32 = ap first_id k in
@@ -73,5 +74,5 @@ zoom_bits z bits id half low high =
     (omega (arith, four_is z, thirds z), omega (arith, four_is z, thirds z))
 
 -- no tile has an id behind them
-pub ids_end : (z x y id : ℕ) → z ≤ 31 → IsTileId z x y id → 6148914691236517205 ≤ id → ⊥
-ids_end z x y id le h past = absurd (omega (arith, below_end z le, position_below z x y h.0 h.1, h.2))
+pub no_tile_behind : (z x y id : ℕ) → z ≤ 31 → IsTileId z x y id → TILE_IDS ≤ id → ⊥
+no_tile_behind z x y id le h past = absurd (omega (arith, below_end z le, position_below z x y h.0 h.1, h.2))

@@ -1,18 +1,12 @@
 -- Fields put one behind the other stand each at its offset.
-use Rattle.std.proofs.Common.{◌≡◌, ℕ, ℤ, ◌<◌, ◌^◌, List, ◌++◌, refl, sym, ap, ◌∙◌, append_assoc, lit≤}
-use Rattle.std.specs.Int.{w32, w64, from_le_bytes, cast_signed, cast_unsigned}
+use Rattle.std.proofs.Common.{◌≡◌, ℕ, ℤ, ◌<◌, ◌^◌, List, [], ◌∷◌, ◌++◌, refl, sym, ap, ◌∙◌, lit≤}
+use Rattle.std.specs.Int.{w32, w64, from_le_bytes, to_le_bytes, cast_signed, cast_unsigned}
 use Rattle.std.proofs.lemmas.Nat.{from_le_bytes-to_le_bytes_8, from_le_bytes-to_le_bytes_4}
 use Rattle.std.specs.Int.RustNames.{FitsSigned}
 use Rattle.std.proofs.Math.Facts.{to_z-of_z, Fits-of_z, Fits-lt-pow}
 use Rattle.pm_header.specs.declared.part.Part.{Part}
 use Rattle.pm_header.specs.declared.header.Header.{Header}
-use Rattle.pm_header.specs.Layout.{IsHeader, part_at, header_at, little_8, little_4, section_bytes, count_bytes, position_bytes}
-
-pub seven_behind : (t a b c d e f g : List ℕ) → t ++ a ++ b ++ c ++ d ++ e ++ f ++ g ≡ t ++ (a ++ b ++ c ++ d ++ e ++ f ++ g)
-seven_behind t a b c d e f g = simp append_assoc
-
-pub nine_behind : (t a b c d e f g h i : List ℕ) → t ++ a ++ b ++ c ++ d ++ e ++ f ++ g ++ h ++ i ≡ t ++ (a ++ b ++ c ++ d ++ e ++ f ++ g ++ h ++ i)
-nine_behind t a b c d e f g h i = simp append_assoc
+use Rattle.pm_header.specs.Layout.{IsHeader, magic, part_at, header_at, little_8}
 
 -- headers with the same fields are one
 pub same_header : (h g : Header) → h.root ≡ g.root → h.metadata ≡ g.metadata → h.leaves ≡ g.leaves → h.tiles ≡ g.tiles → h.addressed ≡ g.addressed
@@ -46,6 +40,9 @@ same_header h g e_root e_metadata e_leaves e_tiles e_addressed e_entries e_conte
 same_part : (p q : Part) → p.offset ≡ q.offset → p.length ≡ q.length → p ≡ q
 same_part p q e_offset e_length = λ i. record { offset = e_offset i; length = e_length i }
 
+abbrev pub little_4 : ℤ → List ℕ
+little_4 z = to_le_bytes w32 (cast_unsigned w32 z)
+
 back_8 : (n : ℕ) → n < 2 ^ 64 → n ≡ from_le_bytes w64 (little_8 n)
 back_8 n fits = sym (from_le_bytes-to_le_bytes_8 n fits)
 
@@ -72,11 +69,17 @@ pub record HeaderFits (h : Header) : Type 0 where
   pub centre_lon : FitsSigned w32 h.centre_lon
   pub centre_lat : FitsSigned w32 h.centre_lat
 
+-- the fields one behind the other
 abbrev pub header_bytes : Header → List ℕ
-header_bytes h = section_bytes h ++ count_bytes h ++ position_bytes h
+header_bytes h =
+    magic ++ 3 ∷ [] ++ little_8 h.root.offset ++ little_8 h.root.length ++ little_8 h.metadata.offset ++ little_8 h.metadata.length
+    ++ little_8 h.leaves.offset ++ little_8 h.leaves.length ++ little_8 h.tiles.offset ++ little_8 h.tiles.length
+    ++ little_8 h.addressed ++ little_8 h.entries ++ little_8 h.contents ++ h.clustered ∷ h.internal ∷ h.compression ∷ h.kind ∷ []
+    ++ h.min_zoom ∷ h.max_zoom ∷ [] ++ little_4 h.min_lon ++ little_4 h.min_lat ++ little_4 h.max_lon ++ little_4 h.max_lat
+    ++ h.centre_zoom ∷ [] ++ little_4 h.centre_lon ++ little_4 h.centre_lat
 
 laid_at : (h : Header) → HeaderFits h → h ≡ header_at (header_bytes h)
-unfolding section_bytes count_bytes position_bytes header_at
+unfolding header_at
 laid_at h fits = same_header h (header_at (header_bytes h))
     (same_part h.root (part_at 8 (header_bytes h)) (back_8 h.root.offset fits.root.0) (back_8 h.root.length fits.root.1))
     (same_part h.metadata (part_at 24 (header_bytes h)) (back_8 h.metadata.offset fits.metadata.0) (back_8 h.metadata.length fits.metadata.1))
@@ -100,7 +103,6 @@ laid_at h fits = same_header h (header_at (header_bytes h))
     (back_4 h.centre_lat fits.centre_lat)
 
 laid_out : (h : Header) → HeaderFits h → IsHeader (header_bytes h) h
-unfolding section_bytes count_bytes position_bytes
 laid_out h fits = record { whole = lit≤ tt; magic_is = refl; version_is = refl; fields_are = laid_at h fits }
 
 pub is_laid_out : (h : Header) (bytes : List ℕ) → HeaderFits h → bytes ≡ header_bytes h → IsHeader bytes h

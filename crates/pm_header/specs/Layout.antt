@@ -1,6 +1,6 @@
 -- Where each field of a header stands. Numbers stand lowest byte first.
-use Rattle.std.specs.Prelude.{◌≡◌, ℕ, ℤ, ◌+◌, ◌≤◌, List, [], ◌∷◌, ◌++◌, length, take, codes, slice_index, slice_range}
-use Rattle.std.specs.Int.{w32, w64, from_le_bytes, to_le_bytes, cast_signed, cast_unsigned}
+use Rattle.std.specs.Prelude.{◌≡◌, ℕ, ℤ, ◌+◌, ◌≤◌, List, length, take, codes, slice_index, slice_range}
+use Rattle.std.specs.Int.{w32, w64, from_le_bytes, to_le_bytes, cast_signed}
 use Rattle.pm_header.specs.declared.part.Part.{Part}
 use Rattle.pm_header.specs.declared.header.Header.{Header}
 use Rattle.pm_header.specs.declared.header.TheConstants.{HEADER_BYTES}
@@ -53,27 +53,6 @@ pub record IsHeader (bytes : List ℕ) (header : Header) : Type 0 where
   pub version_is : slice_index bytes 7 ≡ 3
   pub fields_are : header ≡ header_at bytes
 
--- ---- the bytes of the fields one after the other
-
+-- the eight bytes of a number, lowest first
 abbrev pub little_8 : ℕ → List ℕ
 little_8 n = to_le_bytes w64 n
-
-abbrev pub little_4 : ℤ → List ℕ
-little_4 z = to_le_bytes w32 (cast_unsigned w32 z)
-
--- the magic, the version and the sections
-unfoldable pub section_bytes : Header → List ℕ
-section_bytes h =
-    magic ++ 3 ∷ [] ++ little_8 h.root.offset ++ little_8 h.root.length ++ little_8 h.metadata.offset ++ little_8 h.metadata.length
-    ++ little_8 h.leaves.offset ++ little_8 h.leaves.length ++ little_8 h.tiles.offset ++ little_8 h.tiles.length
-
--- the counts, and what the archive and its tiles are
-unfoldable pub count_bytes : Header → List ℕ
-count_bytes h =
-    little_8 h.addressed ++ little_8 h.entries ++ little_8 h.contents ++ h.clustered ∷ [] ++ h.internal ∷ [] ++ h.compression ∷ [] ++ h.kind ∷ []
-    ++ h.min_zoom ∷ [] ++ h.max_zoom ∷ []
-
--- where the tiles lie, and where a viewer may begin
-unfoldable pub position_bytes : Header → List ℕ
-position_bytes h =
-    little_4 h.min_lon ++ little_4 h.min_lat ++ little_4 h.max_lon ++ little_4 h.max_lat ++ h.centre_zoom ∷ [] ++ little_4 h.centre_lon ++ little_4 h.centre_lat

@@ -1,10 +1,10 @@
 use Rattle.std.proofs.Common.{◌-◌, Some, ap, arith}
-use Rattle.hilbert_id.proofs.Ids.{one_tile_of, ids_end}
+use Rattle.hilbert_id.proofs.Ids.{one_tile_of, no_tile_behind}
 use Rattle.hilbert_id.proofs.SameTile.{same_tile}
 use Rattle.hilbert_id.proofs.number.tile_of.Goals as goal
 
 pub returns-then-id-ge-TILE_IDS-clause-only : goal.returns-then-id-ge-TILE_IDS-clause-only
-returns-then-id-ge-TILE_IDS-clause-only c = λ at h. absurd (ids_end at.z at.x at.y c.args.id at.zoom h c.if-id-ge-TILE_IDS.true)
+returns-then-id-ge-TILE_IDS-clause-only c = λ at h. absurd (no_tile_behind at.z at.x at.y c.args.id at.zoom h c.if-id-ge-TILE_IDS.true)
 
 pub returns-clause-only : goal.returns-clause-only
 returns-clause-only c = λ at h.
