@@ -11,4 +11,5 @@ pub mod Sizes
 pub mod Spelled
 pub mod Turned
 pub mod Ways
+pub mod WorldBox
 pub mod Zooms

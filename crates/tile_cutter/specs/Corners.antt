@@ -30,6 +30,9 @@ abbrev pub greatest_corner_of : Option Corners → World
 greatest_corner_of None = record { x = 0; y = 0 }
 greatest_corner_of (Some c) = c.greatest
 
+abbrev pub corners_or_origin : Option Corners → Corners
+corners_or_origin c = record { least = least_corner_of c; greatest = greatest_corner_of c }
+
 -- the tiles of a zoom that the box of these corners meets
 abbrev pub range_of : Option Corners → ℕ → TileRange
 range_of c zoom = record {

@@ -3,3 +3,4 @@ pub mod Covered
 pub mod Cut
 pub mod Passes
 pub mod Range
+pub mod WorldBox

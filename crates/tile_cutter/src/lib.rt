@@ -8,10 +8,12 @@ mod lines;
 mod points;
 mod reach;
 mod rings;
+mod world_box;
 
 pub use coordinates::{EXTENT, MARGIN, WORLD_ZOOM};
 pub use cutting::cut;
-pub use reach::{MOST_TILES, TileRange, check_reach, cover_count, covers};
+pub use reach::{Corners, MOST_TILES, TileRange, check_reach, cover_count, covers};
+pub use world_box::{bounding_box, tile_box};
 
 #[cfg(test)]
 mod tests;

@@ -24,11 +24,13 @@ pub struct TileRange {
     pub y1: u32,
 }
 
-/// The corners of the bounding box of points of the world.
-#[derive(Clone, Copy)]
-struct Corners {
-    least: World,
-    greatest: World,
+/// The corners of a box of the world, ends included.
+#[derive(Clone, Copy, Debug, PartialEq, Eq)]
+pub struct Corners {
+    /// The upper left one.
+    pub least: World,
+    /// The lower right one.
+    pub greatest: World,
 }
 
 /// The corners with one point more.
@@ -87,7 +89,7 @@ fn corners_of_polygons(polygons: &[Vec<Vec<World>>]) -> Option<Corners>
 }
 
 /// The corners of the bounding box of a geometry.
-fn corners_of(geometry: &Geometry) -> Option<Corners>
+pub(crate) fn corners_of(geometry: &Geometry) -> Option<Corners>
     ensures { result ≡ corners_after None (all_points (geometry_data geometry.now)) }
 {
     match geometry {

@@ -1,0 +1,139 @@
+-- What a tile shows of a feature stands in its box of the world.
+use Rattle.std.proofs.Common.{◌≡◌, ℕ, ◌+◌, ◌-◌, ◌*◌, ◌^◌, ◌<◌, ◌≤◌, List, [], ◌∷◌, None, map, min, refl, sym, ap, subst, ◌∙◌, arith}
+use Rattle.std.specs.Prelude.{All, flat_map}
+use Rattle.std.proofs.Math.Nat.{one-le-pow, div-one, div-mul-le_self, lt-div-mul-add, mul-le-mul_right}
+use Rattle.std.proofs.lemmas.Grind.{div_ceil_times}
+use Rattle.std.proofs.lemmas.List.Elements.{All-nil, All-append, All-head, All-tail, All-weaker}
+use Rattle.feature_model.specs.declared.feature.World.{World}
+use Rattle.feature_model.specs.Data.{FeatureData, GeometryData, world_points, world_lines, world_polygons}
+use Rattle.feature_model.specs.Types.{IsOfWorld, LiesInWorld}
+use Rattle.tile_cutter.specs.declared.reach.Corners.{Corners}
+use Rattle.tile_cutter.specs.declared.coordinates.TheConstants.{EXTENT, MARGIN, WORLD_ZOOM}
+use Rattle.tile_cutter.specs.Cut.{quantised_axis, feature_cut}
+use Rattle.tile_cutter.specs.Covered.{all_of, all_points, least_of, greatest_of, first_met, last_met, covered, IsInRange}
+use Rattle.tile_cutter.specs.Corners.{corners_after, least_corner_of, greatest_corner_of, corners_or_origin}
+use Rattle.tile_cutter.specs.WorldBox.{bounding_box, first_shown, last_shown, tile_box, Meets}
+use Rattle.tile_cutter.proofs.Boxes.{least_x_is, least_y_is, greatest_x_is, greatest_y_is}
+use Rattle.tile_cutter.proofs.Outside.{outside}
+
+-- ---- the least and the greatest coordinates are the corners
+
+-- at the zoom of the world nothing is rounded
+unrounded : (w : ℕ) → w ≡ quantised_axis WORLD_ZOOM w
+unrounded w = sym (div-one w)
+
+module _ (ps : List World) where
+  pub least_x_corner : least_of (map (λ p. p.x) ps) ≡ (least_corner_of (corners_after None ps)).x
+  least_x_corner = (λ i. least_of (map (λ p. unrounded p.x i) ps)) ∙ least_x_is WORLD_ZOOM ps ∙ sym (unrounded (least_corner_of (corners_after None ps)).x)
+
+  pub least_y_corner : least_of (map (λ p. p.y) ps) ≡ (least_corner_of (corners_after None ps)).y
+  least_y_corner = (λ i. least_of (map (λ p. unrounded p.y i) ps)) ∙ least_y_is WORLD_ZOOM ps ∙ sym (unrounded (least_corner_of (corners_after None ps)).y)
+
+  pub greatest_x_corner : greatest_of (map (λ p. p.x) ps) ≡ (greatest_corner_of (corners_after None ps)).x
+  greatest_x_corner =
+      (λ i. greatest_of (map (λ p. unrounded p.x i) ps)) ∙ greatest_x_is WORLD_ZOOM ps ∙ sym (unrounded (greatest_corner_of (corners_after None ps)).x)
+
+  pub greatest_y_corner : greatest_of (map (λ p. p.y) ps) ≡ (greatest_corner_of (corners_after None ps)).y
+  greatest_y_corner =
+      (λ i. greatest_of (map (λ p. unrounded p.y i) ps)) ∙ greatest_y_is WORLD_ZOOM ps ∙ sym (unrounded (greatest_corner_of (corners_after None ps)).y)
+
+pub bounding_box_is : (g : GeometryData) → corners_or_origin (corners_after None (all_points g)) ≡ bounding_box g
+unfolding bounding_box
+bounding_box_is g =
+    let ps = all_points g in
+    rw (least_x_corner ps, greatest_x_corner ps, least_y_corner ps, greatest_y_corner ps) refl
+
+-- ---- points of the world
+
+all_joined : {X Y : Type 0} (P : Y → Type 0) (f : X → List Y) (xs : List X) → All (λ x. All P (f x)) xs → All P (flat_map f xs)
+all_joined P f [] all = All-nil P
+all_joined P f (x ∷ xs) all =
+    All-append P (f x) (flat_map f xs) (All-head (λ y. All P (f y)) x xs all) (all_joined P f xs (All-tail (λ y. All P (f y)) x xs all))
+
+points_in_world : (g : GeometryData) → LiesInWorld g → All IsOfWorld (all_points g)
+points_in_world (world_points ps) all = all
+points_in_world (world_lines ls) all = all_joined IsOfWorld (λ l. l) ls all
+points_in_world (world_polygons ps) all =
+    all_joined IsOfWorld all_of ps (All-weaker (All (All IsOfWorld)) (λ p. All IsOfWorld (all_of p)) (λ p h. all_joined IsOfWorld (λ l. l) p h) ps all)
+
+-- the corners of points of the world are of the world
+below_first : (m : ℕ) (ns : List ℕ) → least_of (m ∷ ns) ≤ m
+below_first m [] = omega arith
+below_first m (n ∷ ns) = omega (arith, below_first (min m n) ns)
+
+least_in_world : (along : World → ℕ) (ps : List World) → All (λ p. along p < 2 ^ 32) ps → least_of (map along ps) < 2 ^ 32
+least_in_world along [] all = omega arith
+least_in_world along (p ∷ ps) all = omega (arith, below_first (along p) (map along ps), All-head (λ q. along q < 2 ^ 32) p ps all)
+
+-- ---- a column, or a row, whose box is met
+
+module _ (zoom at w : ℕ) where
+  some_unit : 0 < 2 ^ (WORLD_ZOOM - zoom)
+  some_unit = one-le-pow (WORLD_ZOOM - zoom) 2 (omega arith)
+
+  before_last : first_met (quantised_axis zoom w) ≤ at → w < 2 ^ 32 → w ≤ last_shown zoom at
+  before_last met within =
+      let q = quantised_axis zoom w in
+      let ceil = div_ceil_times (q - (EXTENT + MARGIN)) EXTENT (omega arith) in
+      let near : q + 1 ≤ EXTENT * at + (EXTENT + MARGIN + 1) = omega (arith, ceil.0, met) in
+      let far : w < q * 2 ^ (WORLD_ZOOM - zoom) + 2 ^ (WORLD_ZOOM - zoom) = lt-div-mul-add some_unit in
+      let scaled = mul-le-mul_right (2 ^ (WORLD_ZOOM - zoom)) near in
+      omega (arith, far, scaled, within)
+
+  behind_first : at ≤ last_met zoom (quantised_axis zoom w) → first_shown zoom at ≤ w
+  behind_first met =
+      let q = quantised_axis zoom w in
+      let near : EXTENT * at - MARGIN ≤ q = omega (arith, met) in
+      let scaled = mul-le-mul_right (2 ^ (WORLD_ZOOM - zoom)) near in
+      omega (arith, scaled, div-mul-le_self w (2 ^ (WORLD_ZOOM - zoom)))
+
+-- ---- the law
+
+-- the box of a feature meets the box of each tile that it covers
+pub meets_covered : (g : GeometryData) (zoom column row : ℕ) → LiesInWorld g → IsInRange (covered g zoom) column row
+    → Meets (bounding_box g) (tile_box zoom column row)
+unfolding covered bounding_box tile_box
+meets_covered g zoom column row lies is =
+    let ps = all_points g in
+    let all = points_in_world g lies in
+    let round = quantised_axis zoom in
+    let left_is : least_of (map (λ p. round p.x) ps) ≡ round (least_of (map (λ p. p.x) ps)) =
+    least_x_is zoom ps ∙ ap round (sym (least_x_corner ps)) in
+    let right_is : greatest_of (map (λ p. round p.x) ps) ≡ round (greatest_of (map (λ p. p.x) ps)) =
+    greatest_x_is zoom ps ∙ ap round (sym (greatest_x_corner ps)) in
+    let top_is : least_of (map (λ p. round p.y) ps) ≡ round (least_of (map (λ p. p.y) ps)) =
+    least_y_is zoom ps ∙ ap round (sym (least_y_corner ps)) in
+    let bottom_is : greatest_of (map (λ p. round p.y) ps) ≡ round (greatest_of (map (λ p. p.y) ps)) =
+    greatest_y_is zoom ps ∙ ap round (sym (greatest_y_corner ps)) in
+    record {
+      left = before_last zoom column _ (subst (λ n. first_met n ≤ column) left_is is.left)
+          (least_in_world (λ p. p.x) ps (All-weaker IsOfWorld (λ p. p.x < 2 ^ 32) (λ p h. h.0) ps all));
+      right = behind_first zoom column _ (subst (λ n. column ≤ last_met zoom n) right_is is.right);
+      top = before_last zoom row _ (subst (λ n. first_met n ≤ row) top_is is.top)
+          (least_in_world (λ p. p.y) ps (All-weaker IsOfWorld (λ p. p.y < 2 ^ 32) (λ p h. h.1) ps all));
+      bottom = behind_first zoom row _ (subst (λ n. row ≤ last_met zoom n) bottom_is is.bottom);
+    }
+
+-- a tile shows nothing of a feature whose box doesn't meet its own
+pub apart : (f : FeatureData) (zoom column row : ℕ) (box : Corners) → box ≡ tile_box zoom column row → column < 2 ^ zoom → row < 2 ^ zoom
+    → LiesInWorld f.geometry → ¬ Meets (bounding_box f.geometry) box → feature_cut f zoom column row ≡ None
+apart f zoom column row box is across down lies none =
+    outside f zoom column row (covered f.geometry zoom) refl across down
+    (λ covers. none (subst (λ b. Meets (bounding_box f.geometry) b) (sym is) (meets_covered f.geometry zoom column row lies covers)))
+
+-- ---- coordinates in the code
+
+-- the most of 64 bits is beyond the world
+pub capped : (n scaled result : ℕ) → scaled ≡ min n (2 ^ 64 - 1) → result ≡ min (2 ^ 32 - 1) scaled → result ≡ min (2 ^ 32 - 1) n
+capped n scaled result scaled_is is = omega arith
+
+pub capped_before : (n scaled last result : ℕ) → scaled ≡ min n (2 ^ 64 - 1) → last ≡ scaled - 1 → result ≡ min (2 ^ 32 - 1) last
+    → result ≡ min (2 ^ 32 - 1) (n - 1)
+capped_before n scaled last result scaled_is last_is is = omega arith
+
+pub tile_box_is : (zoom column row left top right bottom : ℕ) → left ≡ first_shown zoom column → top ≡ first_shown zoom row
+    → right ≡ last_shown zoom column → bottom ≡ last_shown zoom row
+    → record { least = record { x = left; y = top }; greatest = record { x = right; y = bottom } } ≡ tile_box zoom column row
+unfolding tile_box
+tile_box_is zoom column row left top right bottom left_is top_is right_is bottom_is =
+    λ i. record { least = record { x = left_is i; y = top_is i }; greatest = record { x = right_is i; y = bottom_is i } }
