@@ -1,4 +1,4 @@
-ghost use Rattle.std.specs.Prelude.{◌≡◌, ◌-◌, ◌*◌, ◌<◌, ◌≤◌, ◌^◌, None, min};
+ghost use Rattle.std.specs.Prelude.{◌≡◌, ◌-◌, ◌*◌, ◌≤◌, ◌^◌, None, min};
 ghost use Rattle.feature_model.specs.Data.{FeatureData, geometry_data};
 ghost use Rattle.feature_model.specs.Types.{LiesInWorld};
 ghost use Rattle.tile_cutter.specs.Corners.{corners_or_origin};
