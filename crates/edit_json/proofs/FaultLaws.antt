@@ -9,7 +9,7 @@ use Rattle.feature_model.specs.declared.fault.EditFault.{EditFault}
 use Rattle.feature_model.specs.declared.fault.EditFault.TheVariants as faults
 use Rattle.feature_model.specs.Data.{GeometryData, TagData, FeatureData}
 use Rattle.feature_model.specs.Limits.{IsName, keys_of, GeometryFits, TagsFit, ValuesFit}
-use Rattle.edit_json.specs.Json.{points_name, lines_name, polygons_name, ShapeData, point_list, line_list, polygon_list}
+use Rattle.edit_json.specs.Json.{name_bytes, ShapeData, point_list, line_list, polygon_list}
 use Rattle.edit_json.specs.Json.{shape_json, shape_of, tags_json, OutlineData, outline_json, outline_of}
 use Rattle.feature_model.specs.Types.{LiesInWorld}
 use Rattle.edit_json.specs.Faults.{IsFeature, IsOutline, HasOutline, NameFits, RangeFits, HasGeometry, names_of, HasKeys, HasTags, IsFirstJsonFault}
@@ -20,7 +20,7 @@ use Rattle.edit_json.proofs.TagLaws.{tags_at-says, tags_at-finds, tags_at-fault,
 
 -- a geometry's object has one list
 shape_json-one : (s t : ShapeData) → shape_json s ≡ shape_json t → s ≡ t
-unfolding points_name lines_name polygons_name
+unfolding name_bytes
 shape_json-one (point_list ds) (point_list es) e = cc
 shape_json-one (point_list ds) (line_list es) e = cc
 shape_json-one (point_list ds) (polygon_list es) e = cc

@@ -28,9 +28,10 @@ pair_at-long (a ∷ b ∷ []) h = absurd (omega arith)
 pair_at-long (a ∷ b ∷ c ∷ vs) h = refl
 
 module _ {A : Type 0} (one : Data → Read EditFault A) where
-  pub list_of-refused : (least : ℕ) (vs : List Value) → is_count least (length vs) ≡ false → list_of least one (items_view vs) ≡ Err faults.Geometry
+  pub list_of-refused : (least : ℕ) (vs : List Value) (fault : EditFault) → (fault ≡ faults.Geometry) × (is_count least (length vs) ≡ false)
+      → list_of least one (items_view vs) ≡ Err fault
   unfolding list_of
-  list_of-refused least vs h = rw (items_len-items_view vs, h) refl
+  list_of-refused least vs fault h = rw (items_len-items_view vs, h.1, h.0) refl
 
   pub list_of-counted : (least : ℕ) (vs : List Value) → is_count least (length vs) ≡ true → list_of least one (items_view vs) ≡ each one (items_view vs)
   unfolding list_of

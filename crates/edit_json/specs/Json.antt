@@ -1,4 +1,5 @@
 -- The one JSON value of a feature. `Data` keeps the members of an object in the order of their names' bytes.
+use Prim.Native.String.{String}
 use Rattle.std.specs.Prelude.{ℕ, List, [], ◌∷◌, map, codes}
 use Rattle.serde_json.specs.Data.{unsigned, negative, Data, boolean, number, string, array, object, Items, Members, no_members, member}
 use Rattle.serde_json.specs.View.{items_of}
@@ -8,29 +9,9 @@ use Rattle.feature_model.specs.Data.{natural_value, negative_value, truth_value,
 
 -- ---- the names of the members
 
-unfoldable pub geometry_name : List ℕ
-geometry_name = codes "geometry"
-
-unfoldable pub layer_name : List ℕ
-layer_name = codes "layer"
-
-unfoldable pub maxzoom_name : List ℕ
-maxzoom_name = codes "maxzoom"
-
-unfoldable pub minzoom_name : List ℕ
-minzoom_name = codes "minzoom"
-
-unfoldable pub tags_name : List ℕ
-tags_name = codes "tags"
-
-unfoldable pub points_name : List ℕ
-points_name = codes "points"
-
-unfoldable pub lines_name : List ℕ
-lines_name = codes "lines"
-
-unfoldable pub polygons_name : List ℕ
-polygons_name = codes "polygons"
+-- the bytes of a name
+unfoldable pub name_bytes : String → List ℕ
+name_bytes name = codes name
 
 -- ---- geometry
 
@@ -62,9 +43,9 @@ shape_of (world_polygons polygons) = polygon_list (items_of (map lines_json poly
 
 -- the list under the name of its kind
 abbrev pub shape_json : ShapeData → Data
-shape_json (point_list ds) = object (member points_name (array ds) no_members)
-shape_json (line_list ds) = object (member lines_name (array ds) no_members)
-shape_json (polygon_list ds) = object (member polygons_name (array ds) no_members)
+shape_json (point_list ds) = object (member (name_bytes "points") (array ds) no_members)
+shape_json (line_list ds) = object (member (name_bytes "lines") (array ds) no_members)
+shape_json (polygon_list ds) = object (member (name_bytes "polygons") (array ds) no_members)
 
 -- ---- tags
 
@@ -91,11 +72,11 @@ pub record OutlineData : Type 0 where
 
 abbrev pub outline_json : OutlineData → Data
 outline_json o = object
-    (member geometry_name (shape_json o.shape)
-    (member layer_name (string o.layer)
-    (member maxzoom_name (number (unsigned o.maxzoom))
-    (member minzoom_name (number (unsigned o.minzoom))
-    (member tags_name (object o.tags)
+    (member (name_bytes "geometry") (shape_json o.shape)
+    (member (name_bytes "layer") (string o.layer)
+    (member (name_bytes "maxzoom") (number (unsigned o.maxzoom))
+    (member (name_bytes "minzoom") (number (unsigned o.minzoom))
+    (member (name_bytes "tags") (object o.tags)
     no_members)))))
 
 abbrev pub outline_of : FeatureData → OutlineData

@@ -71,9 +71,7 @@ fn read_points(alloc: Global, list: &[Value], least: usize) -> Result<Vec<World>
     ensures { Gives EditFault.Memory (λ v. v.items) result
         (list_of least point_in (items_view list.now)) }
 {
-    if let Err(fault) = check_count(list.len(), least) {
-        return Err(fault);
-    }
+    check_count(list.len(), least)?;
     let mut points = Vec::with_capacity(alloc, list.len())?;
     for value in list {
         points.push(point_in(value)?)?;
@@ -96,9 +94,7 @@ fn read_lines(alloc: Global, list: &[Value], least: usize) -> Result<Vec<Vec<Wor
     ensures { Gives EditFault.Memory (λ v. map (λ l. l.items) v.items) result
         (list_of 1 (points_at least) (items_view list.now)) }
 {
-    if let Err(fault) = check_count(list.len(), 1) {
-        return Err(fault);
-    }
+    check_count(list.len(), 1)?;
     let mut lines = Vec::with_capacity(alloc, list.len())?;
     for value in list {
         lines.push(read_line(alloc, value, least)?)?;
@@ -122,9 +118,7 @@ fn read_polygons(alloc: Global, list: &[Value]) -> Result<Vec<Vec<Vec<World>>>, 
     ensures { Gives EditFault.Memory (λ v. map (λ p. map (λ r. r.items) p.items) v.items) result
         (list_of 1 (lines_at LEAST_RING) (items_view list.now)) }
 {
-    if let Err(fault) = check_count(list.len(), 1) {
-        return Err(fault);
-    }
+    check_count(list.len(), 1)?;
     let mut polygons = Vec::with_capacity(alloc, list.len())?;
     for value in list {
         polygons.push(read_polygon(alloc, value)?)?;

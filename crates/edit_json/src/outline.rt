@@ -53,7 +53,7 @@ fn read_zoom(value: &Value) -> Option<u8>
 }
 
 /// The one list of a geometry's object.
-#[tactic(auto, unfolding(crate::specs::Json::points_name, crate::specs::Json::lines_name, crate::specs::Json::polygons_name))]
+#[tactic(auto, unfolding(crate::specs::Json::name_bytes))]
 fn read_shape(value: &Value) -> Option<Shape<'_>>
     ensures { MatchOption result
         ((s : ShapeData) → view value.now ≢ shape_json s)
@@ -74,7 +74,7 @@ fn read_shape(value: &Value) -> Option<Shape<'_>>
 }
 
 /// The five members, in the order in which an object has them.
-#[tactic(auto, unfolding(crate::specs::Json::geometry_name, crate::specs::Json::layer_name, crate::specs::Json::maxzoom_name, crate::specs::Json::minzoom_name, crate::specs::Json::tags_name))]
+#[tactic(auto, unfolding(crate::specs::Json::name_bytes))]
 pub(crate) fn read_outline(value: &Value) -> Option<Outline<'_>>
     ensures { MatchOption result
         ((o : OutlineData) → ¬ IsOutline (view value.now) o)

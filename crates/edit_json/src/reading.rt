@@ -44,14 +44,9 @@ pub fn feature_from_json(alloc: Global, value: &Value) -> Result<Feature, EditFa
     ensures reads_back { (f : FeatureData) → IsFeature (view value.now) f
         → MatchResult result (λ g. feature_data g ≡ f) (λ e. e ≡ EditFault.Memory) }
 {
-    let outline = match checked_outline(value) {
-        Ok(outline) => outline,
-        Err(fault) => return Err(fault),
-    };
+    let outline = checked_outline(value)?;
     let geometry = read_geometry(alloc, outline.shape)?;
-    if let Err(fault) = check_tags(outline.tags) {
-        return Err(fault);
-    }
+    check_tags(outline.tags)?;
     let tags = read_tags(alloc, outline.tags)?;
     Ok(Feature {
         layer: String::from_str(alloc, outline.layer)?,

@@ -66,7 +66,7 @@ fn object_of(alloc: Global, name: &str, value: Value) -> Result<Value, AllocErro
 }
 
 /// The list of a geometry under the name of its kind.
-#[tactic(auto, unfolding(crate::specs::Json::points_name, crate::specs::Json::lines_name, crate::specs::Json::polygons_name))]
+#[tactic(auto, unfolding(crate::specs::Json::name_bytes))]
 fn geometry_value(alloc: Global, geometry: &Geometry) -> Result<Value, AllocError>
     ensures { IfOk result (λ v. view v ≡ shape_json (shape_of (geometry_data geometry.now))) }
 {
@@ -111,7 +111,7 @@ fn tags_value(alloc: Global, tags: &[Tag]) -> Result<Value, AllocError>
 }
 
 /// The one JSON value of a feature.
-#[tactic(auto, unfolding(crate::specs::Json::geometry_name, crate::specs::Json::layer_name, crate::specs::Json::maxzoom_name, crate::specs::Json::minzoom_name, crate::specs::Json::tags_name))]
+#[tactic(auto, unfolding(crate::specs::Json::name_bytes))]
 pub fn feature_to_json(alloc: Global, feature: &Feature) -> Result<Value, AllocError>
     requires tags { TagsFit (feature_data feature.now).tags }
     requires values { ValuesFit (feature_data feature.now).tags }

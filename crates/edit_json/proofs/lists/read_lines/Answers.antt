@@ -1,23 +1,25 @@
 use Rattle.feature_model.specs.declared.fault.EditFault.TheVariants.{Memory}
 use Rattle.std.proofs.Common.{◌≢◌, rules, sym, ap, ◌∙◌, map, arith}
-use Rattle.reader.proofs.Steps.{failed}
+use Rattle.std.proofs.lemmas.Result.{err_from_is_err_and}
 use Rattle.edit_json.specs.Lists.{points_at}
 use Rattle.edit_json.proofs.ListLemmas.{list_of-refused, list_of-counted, rest_gives-end, rest_gives-fault}
 use Rattle.edit_json.proofs.lists.read_lines.Goals as goal
 
-pub returns-in-Err : goal.returns-in-Err
-returns-in-Err c = λ _. list_of-refused (points_at c.args.least) 1 c.args.list.now c.in-Err.ensures.fault.1 ∙ ap failed (sym c.in-Err.ensures.fault.0)
+pub returns-in_err-check_count : goal.returns-in_err-check_count
+returns-in_err-check_count c =
+    let p = err_from_is_err_and c.from_residual.result c.from_residual.ensures.1 in
+    rw (p.1, p.2) (λ _. list_of-refused (points_at c.args.least) 1 c.args.list.now c.in_err-check_count.field-0.0 c.in_err-check_count.ensures.fault)
 
 pub returns : goal.returns
 returns c =
-    list_of-counted (points_at c.args.least) 1 c.args.list.now c.in_default.ensures.ok
+    list_of-counted (points_at c.args.least) 1 c.args.list.now c.in_ok-check_count.ensures.ok
     ∙ sym c.loop-value.invariant
     ∙ rest_gives-end (points_at c.args.least) (map (λ l. l.items) c.loop-value.lines.items) c.args.list.now c.loop-value.value-index (omega arith)
 
 pub returns-in_err-read_line : goal.returns-in_err-read_line
 returns-in_err-read_line c =
     let stops = λ (other : c.in_err-read_line.field-0.0 ≢ Memory).
-    list_of-counted (points_at c.args.least) 1 c.args.list.now c.in_default.ensures.ok
+    list_of-counted (points_at c.args.least) 1 c.args.list.now c.in_ok-check_count.ensures.ok
     ∙ rest_gives-fault (points_at c.args.least) (map (λ l. l.items) c.loop-value.lines.items) c.args.list.now c.loop-value.value-index c.value-item.result
     c.in_err-read_line.field-0.0 _ c.loop-value-test.true c.value-item.is (c.in_err-read_line.ensures other) c.loop-value.invariant in
     search (rules, stops)
