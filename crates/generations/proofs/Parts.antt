@@ -185,13 +185,17 @@ module _ (n : ℕ) (start : History) where
                     (λ (w : (0 ≡ 0) × (image 0 ≡ format)). inr (inr (made_fresh image fits w.1)))
                     (fits 0)
 
-                pub fourth_leaves : LeavesOnly start four Formats
+                fourth_leaves : LeavesOnly start four Formats
                 fourth_leaves = then_leaves start three four Formats third_leaves (weaken three four _ Formats formatted fourth_image)
 
-                pub all_fresh : four ≡ synced (wrote 0 format three) → (image : Image) → MayLeave four image → IsFresh n image
+                all_fresh : four ≡ synced (wrote 0 format three) → (image : Image) → MayLeave four image → IsFresh n image
                 all_fresh four_is image may = record {
                   format = stands_now 0 format three four four_is (image 0) (may 0) ∙ format_is;
                   root = stands_still 0 format three four four_is 1 root (λ e. omega (arith, e)) three_root (image 1) (may 1) ∙ root_is;
                   empty = λ at le lt. stands_still 0 format three four four_is at zeros (λ e. omega (arith, e, le))
                       (three_empty at le lt) (image at) (may at);
                 }
+
+                -- what a crash may leave at any moment, and what it leaves once the format stands
+                pub fourth : LeavesOnly start four Formats × (four ≡ synced (wrote 0 format three) → (image : Image) → MayLeave four image → IsFresh n image)
+                fourth = (fourth_leaves, all_fresh)

@@ -1,6 +1,12 @@
-use Rattle.std.proofs.Common.{arith}
-use Rattle.generations.proofs.Parts.{first_leaves, second_leaves, third_leaves, fourth_leaves, all_fresh}
+use Rattle.std.proofs.Common.{◌≡◌, arith}
+use Rattle.sector_disk.specs.Disk.{Image, MayLeave}
+use Rattle.sector_disk.specs.Disk.History.{wrote, synced}
+use Rattle.sector_disk.specs.Moments.{LeavesOnly}
+use Rattle.generations.specs.Disks.{IsFresh}
+use Rattle.generations.proofs.Parts.{Formats, first_leaves, second_leaves, third_leaves, fourth}
+use Rattle.generations.proofs.formatting.write_parts.Given as given
 use Rattle.generations.proofs.formatting.write_parts.Goals as goal
+use Rattle.generations.proofs.formatting.write_parts.Goals.{After-write_and_sync-3}
 
 pub returns-in_err-write_and_sync-clause-any_moment : goal.returns-in_err-write_and_sync-clause-any_moment
 returns-in_err-write_and_sync-clause-any_moment g c honest = first_leaves _ _ _ (c.write_and_sync.ensures.leaves honest)
@@ -18,32 +24,28 @@ returns-in_err-write_and_sync-2-clause-any_moment g c honest =
     (c.clear.ensures.within two) (λ at pos lt. c.in_ok-clear.ensures.empty two at pos (omega (arith, lt, c.args.layout.journal_is)))
     _ c.root_bytes-first.ensures _ (c.write_and_sync-2.ensures.leaves honest)
 
-pub returns-in_err-write_and_sync-3-clause-any_moment : goal.returns-in_err-write_and_sync-3-clause-any_moment
-returns-in_err-write_and_sync-3-clause-any_moment g c honest =
+-- after the last write: what a crash may leave at any moment, and what it leaves once the format stands
+written : (g : given.Over) (c : After-write_and_sync-3 g) → g.D.Sectors.honest c.write_and_sync-3.new.disk
+    → LeavesOnly (g.D.Sectors.history c.args.disk.now) (g.D.Sectors.history c.write_and_sync-3.new.disk)
+    (Formats c.args.layout.sectors (g.D.Sectors.history c.args.disk.now))
+    × (g.D.Sectors.history c.write_and_sync-3.new.disk ≡ synced (wrote 0 c.format_bytes-format.result (g.D.Sectors.history c.write_and_sync-2.new.disk))
+    → (image : Image) → MayLeave (g.D.Sectors.history c.write_and_sync-3.new.disk) image → IsFresh c.args.layout.sectors image)
+written g c honest =
     let three = c.write_and_sync-3.ensures.honest honest in
     let two = c.write_and_sync-2.ensures.honest three in
     let one = c.clear.ensures.honest two in
-    fourth_leaves _ _ _ (c.write_and_sync.ensures.leaves one) (c.in_ok-write_and_sync.ensures.stands one) _ (c.clear.ensures.leaves two)
+    fourth _ _ _ (c.write_and_sync.ensures.leaves one) (c.in_ok-write_and_sync.ensures.stands one) _ (c.clear.ensures.leaves two)
     (c.clear.ensures.within two) (λ at pos lt. c.in_ok-clear.ensures.empty two at pos (omega (arith, lt, c.args.layout.journal_is)))
     _ c.root_bytes-first.ensures _ (c.write_and_sync-2.ensures.leaves three) (c.in_ok-write_and_sync-2.ensures.stands three)
     _ c.format_bytes-format.ensures _ (c.write_and_sync-3.ensures.leaves honest)
 
+pub returns-in_err-write_and_sync-3-clause-any_moment : goal.returns-in_err-write_and_sync-3-clause-any_moment
+returns-in_err-write_and_sync-3-clause-any_moment g c honest =
+    (written g (goal.at.returns-in_err-write_and_sync-3-clause-any_moment g c).After-write_and_sync-3 honest).0
+
 pub returns-clause-any_moment : goal.returns-clause-any_moment
-returns-clause-any_moment g c honest =
-    let three = c.write_and_sync-3.ensures.honest honest in
-    let two = c.write_and_sync-2.ensures.honest three in
-    let one = c.clear.ensures.honest two in
-    fourth_leaves _ _ _ (c.write_and_sync.ensures.leaves one) (c.in_ok-write_and_sync.ensures.stands one) _ (c.clear.ensures.leaves two)
-    (c.clear.ensures.within two) (λ at pos lt. c.in_ok-clear.ensures.empty two at pos (omega (arith, lt, c.args.layout.journal_is)))
-    _ c.root_bytes-first.ensures _ (c.write_and_sync-2.ensures.leaves three) (c.in_ok-write_and_sync-2.ensures.stands three)
-    _ c.format_bytes-format.ensures _ (c.write_and_sync-3.ensures.leaves honest)
+returns-clause-any_moment g c honest = (written g (goal.at.returns-clause-any_moment g c).After-write_and_sync-3 honest).0
 
 pub returns-clause-fresh : goal.returns-clause-fresh
 returns-clause-fresh g c honest =
-    let three = c.write_and_sync-3.ensures.honest honest in
-    let two = c.write_and_sync-2.ensures.honest three in
-    let one = c.clear.ensures.honest two in
-    all_fresh _ _ _ (c.write_and_sync.ensures.leaves one) (c.in_ok-write_and_sync.ensures.stands one) _ (c.clear.ensures.leaves two)
-    (c.clear.ensures.within two) (λ at pos lt. c.in_ok-clear.ensures.empty two at pos (omega (arith, lt, c.args.layout.journal_is)))
-    _ c.root_bytes-first.ensures _ (c.write_and_sync-2.ensures.leaves three) (c.in_ok-write_and_sync-2.ensures.stands three)
-    _ c.format_bytes-format.ensures _ (c.write_and_sync-3.ensures.leaves honest) (c.in_ok-write_and_sync-3.ensures.stands honest)
+    (written g (goal.at.returns-clause-fresh g c).After-write_and_sync-3 honest).1 (c.in_ok-write_and_sync-3.ensures.stands honest)
