@@ -8,7 +8,7 @@ use Rattle.std.specs.Cmp.Lexicographic.{slice_cmp}
 use Rattle.std.specs.BTreeMap.{BTreeMap, get_by}
 use Rattle.std.specs.declared.alloc.Global.{Global}
 use Rattle.mvt_layer.specs.declared.tile.TileFeature.{TileFeature}
-use Rattle.mvt_layer.specs.declared.layers.TheConstants.{DEFAULT_EXTENT}
+use Rattle.mvt_layer.specs.declared.layers.TheConstants.{CURRENT_VERSION, DEFAULT_EXTENT}
 use Rattle.mvt_layer.specs.Tile.{FeatureView, LayerView, feature_view}
 
 -- the features of each name
@@ -33,7 +33,7 @@ more_for fs name layer f = if bytes_eq name layer then fs ++ f ∷ [] else fs
 
 -- a name and its features as a layer
 abbrev pub layer_of : Bor (List ℕ) × Vec TileFeature Global → LayerView
-layer_of e = record { name = e.0.now; version = 2; extent = DEFAULT_EXTENT; features = features_of e.1 }
+layer_of e = record { name = e.0.now; version = CURRENT_VERSION; extent = DEFAULT_EXTENT; features = features_of e.1 }
 
 -- the layers of what is gathered
 abbrev pub layers_of : Gathered → List LayerView

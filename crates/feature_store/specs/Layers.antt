@@ -7,7 +7,7 @@ use Rattle.std.specs.Cmp.Lexicographic.{slice_cmp}
 use Rattle.std.specs.List.Sorted.{IsStrictlySortedBy}
 use Rattle.feature_model.specs.Data.{FeatureData}
 use Rattle.feature_model.specs.declared.limits.TheConstants.{GREATEST_ZOOM}
-use Rattle.mvt_layer.specs.declared.layers.TheConstants.{DEFAULT_EXTENT}
+use Rattle.mvt_layer.specs.declared.layers.TheConstants.{CURRENT_VERSION, DEFAULT_EXTENT}
 use Rattle.mvt_layer.specs.Tile.{FeatureView, LayerView}
 use Rattle.tile_cutter.specs.Cut.{feature_cut}
 use Rattle.feature_store.specs.Store.{FeatureMap}
@@ -39,7 +39,7 @@ layer_names (e ∷ m) = with_name e.1.layer (layer_names m)
 -- a layer of these features, and none where there is no feature
 abbrev pub layer_with : List ℕ → List FeatureView → Option LayerView
 layer_with name [] = None
-layer_with name (f ∷ fs) = Some (record { name = name; version = 2; extent = DEFAULT_EXTENT; features = f ∷ fs })
+layer_with name (f ∷ fs) = Some (record { name = name; version = CURRENT_VERSION; extent = DEFAULT_EXTENT; features = f ∷ fs })
 
 -- a tile of a zoom that a map has
 abbrev pub is_tile : ℕ → ℕ → ℕ → Bool
@@ -58,7 +58,7 @@ names_of ls = map (λ l. l.name) ls
 
 -- a layer of which the tile shows something: all that it shows of it
 pub record IsLayer (m : FeatureMap) (z x y : ℕ) (l : LayerView) : Type 0 where
-  pub version : l.version ≡ 2
+  pub version : l.version ≡ CURRENT_VERSION
   pub extent : l.extent ≡ DEFAULT_EXTENT
   pub some : 0 < length l.features
   pub cuts : l.features ≡ cuts_of m l.name z x y

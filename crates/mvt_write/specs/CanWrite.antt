@@ -4,7 +4,7 @@ use Rattle.std.specs.Ordering.{nat_cmp}
 use Rattle.std.specs.Cmp.Lexicographic.{slice_cmp}
 use Rattle.std.specs.List.Sorted.{IsStrictlySortedBy}
 use Rattle.geometry_commands.specs.Encodable.{CanSpell}
-use Rattle.mvt_layer.specs.declared.layers.TheConstants.{DEFAULT_EXTENT}
+use Rattle.mvt_layer.specs.declared.layers.TheConstants.{CURRENT_VERSION, DEFAULT_EXTENT}
 use Rattle.mvt_layer.specs.Tile.{TagView, text, natural, negative, truth, Tagged, FeatureView, LayerView}
 use Rattle.mvt_layer.specs.Reads.{AreNamed}
 use Rattle.mvt_write.specs.Written.{tags_of}
@@ -29,7 +29,7 @@ pub record CanWriteFeature (f : FeatureView) : Type 0 where
 
 pub record CanWriteLayer (l : LayerView) : Type 0 where
   pub extent : l.extent ≡ DEFAULT_EXTENT
-  pub version : l.version ≡ 2
+  pub version : l.version ≡ CURRENT_VERSION
   pub features : All CanWriteFeature l.features
   pub few : length (tags_of l.features) < 2 ^ 32
 

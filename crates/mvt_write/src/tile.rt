@@ -12,9 +12,9 @@ use std::alloc::{AllocError, Global};
 /// The one spelling of the layers (Mapbox Vector Tile 2.1, 4): fields in ascending number, numbers in their shortest
 /// spelling, the keys and values of tags in the order of their first use.
 ///
-/// The names of the layers differ, each has version 2 and extent `DEFAULT_EXTENT`, and fewer than 2^32 tags. Each feature has an
-/// id and a shape that can be spelled; its tags stand in ascending order of their keys, without floating point numbers,
-/// and a `Negative` is below 0. There may be no layers. The only error is out of memory.
+/// The names of the layers differ, each has version `CURRENT_VERSION` and extent `DEFAULT_EXTENT`, and fewer than 2^32 tags.
+/// Each feature has an id and a shape that can be spelled; its tags stand in ascending order of their keys, without floating
+/// point numbers, and a `Negative` is below 0. There may be no layers. The only error is out of memory.
 #[tactic(auto, unfolding(crate::specs::Written::written))]
 pub fn write_tile(alloc: Global, layers: &[Layer<'_>]) -> Result<Vec<u8>, AllocError>
     requires { CanWriteAll (layer_views layers.now) }

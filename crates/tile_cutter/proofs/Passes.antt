@@ -1,11 +1,12 @@
 -- One pass over a list of points: each is looked at once, with the one before it.
 use Rattle.std.proofs.Common.{◌≡◌, ℕ, ◌*◌, ◌==◌, Bool, true, false, cond, not, ◌&&◌, List, [], ◌∷◌, ◌++◌, Option, Some, None, map, drop, get_or, length, ◌+◌}
 use Rattle.std.proofs.Common.{◌<◌, ◌≤◌, pos, ◌-ℤ◌, add-one, refl, sym, ap, ◌∙◌, append_assoc, arith}
-use Rattle.std.specs.Prelude.{filter}
+use Rattle.std.specs.Prelude.{All, filter}
 use Rattle.std.specs.List.{dedup_from}
 use Rattle.std.specs.Ordering.{int_eq}
 use Rattle.std.proofs.Math.Seq.{drop-cons}
 use Rattle.std.proofs.lemmas.List.{append-nil, drop_all}
+use Rattle.std.proofs.lemmas.List.Elements.{All-nil, All-push}
 use Rattle.std.proofs.lemmas.Int.{ints}
 use Rattle.std.proofs.lemmas.Bool.Decides.{Decides-int_eq, Decides-eqb, Decides-and, Decides-like, same_from_decides}
 use Rattle.feature_model.specs.declared.feature.World.{World}
@@ -13,6 +14,7 @@ use Rattle.geometry_commands.specs.declared.point.Pt.{Pt}
 use Rattle.tile_cutter.specs.declared.coordinates.TheConstants.{EXTENT}
 use Rattle.tile_cutter.specs.Cut.{quantised, is_same, position_in, tile_points, in_box, points_cut}
 use Rattle.tile_cutter.specs.Passes.{is_same_position, repeats, is_shown}
+use Rattle.tile_cutter.specs.Range.{IsOfTile}
 
 -- the points of a tile that are left, behind one that is there or not
 unfoldable pub left_after : Option Pt → List Pt → List Pt
@@ -83,52 +85,98 @@ pub stands_end : {X : Type 0} (F : List Pt → X) (zoom column row : ℕ) (ps : 
     → F (map (stands_at zoom column row) (drop i ps)) ≡ whole → F [] ≡ whole
 stands_end F zoom column row ps i whole past so_far = ap (λ r. F (map (stands_at zoom column row) r)) (sym (drop_all i ps past)) ∙ so_far
 
+-- ---- a pass that keeps points
+
+-- what such a pass leaves of a list, behind a point that is there or not: each point, where the test says so
+pub record IsPass (keeps : Option Pt → Pt → Bool) (left : Option Pt → List Pt → List Pt) : Type 0 where
+  pub none : (before : Option Pt) → left before [] ≡ []
+  pub more : (before : Option Pt) (p : Pt) (ps : List Pt) → left before (p ∷ ps) ≡ cond (keeps before p) (p ∷ left (Some p) ps) (left (Some p) ps)
+
+-- what was kept of the first points, all of them points of the tile, is the whole with what the others leave
+pub record HasKept (left : Option Pt → List Pt → List Pt) (zoom column row : ℕ) (ps : List World) (whole kept : List Pt) (before : Option Pt) (i : ℕ) : Type 0
+  where
+    pub joined : kept ++ left before (map (stands_at zoom column row) (drop i ps)) ≡ whole
+    pub of_tile : All (IsOfTile column row) kept
+
+pub pass_begins : (left : Option Pt → List Pt → List Pt) (zoom column row : ℕ) (ps : List World) (whole : List Pt)
+    → left None (map (stands_at zoom column row) ps) ≡ whole → HasKept left zoom column row ps whole [] None 0
+pass_begins left zoom column row ps whole is = record { joined = is; of_tile = All-nil (IsOfTile column row) }
+
+module _ (keeps : Option Pt → Pt → Bool) (left : Option Pt → List Pt → List Pt) (pass : IsPass keeps left) where
+  -- one point more
+  one_more : (before : Option Pt) (here : Pt) (rest kept whole : List Pt) (b : Bool) → keeps before here ≡ b → kept ++ left before (here ∷ rest) ≡ whole
+      → cond b (kept ++ here ∷ []) kept ++ left (Some here) rest ≡ whole
+  one_more before here rest kept whole true is so_far =
+      append_assoc kept (here ∷ []) (left (Some here) rest) ∙ ap (λ r. kept ++ r) (sym (rw is at (pass.more before here rest))) ∙ so_far
+  one_more before here rest kept whole false is so_far = ap (λ r. kept ++ r) (sym (rw is at (pass.more before here rest))) ∙ so_far
+
+  all_more : (column row : ℕ) (here : Pt) (kept : List Pt) (b : Bool) → All (IsOfTile column row) kept → IsOfTile column row here
+      → All (IsOfTile column row) (cond b (kept ++ here ∷ []) kept)
+  all_more column row here kept true all is = All-push (IsOfTile column row) kept here all is
+  all_more column row here kept false all is = all
+
+  pub pass_next : (zoom column row : ℕ) (ps : List World) (whole kept kept' : List Pt) (before : Option Pt) (i : ℕ) (here : Pt) (d : World)
+      → HasKept left zoom column row ps whole kept before i → i < length ps → here ≡ stands_at zoom column row (get_or ps i d) → IsOfTile column row here
+      → kept' ≡ cond (keeps before here) (kept ++ here ∷ []) kept → HasKept left zoom column row ps whole kept' (Some here) (i + 1)
+  pass_next zoom column row ps whole kept kept' before i here d so_far lt at of_tile is =
+      let rest = map (stands_at zoom column row) (drop (i + 1) ps) in
+      let here_left = stands_next (λ (r : List Pt). kept ++ left before r) zoom column row ps i here d whole lt at so_far.joined in
+      record {
+        joined = rw is (one_more before here rest kept whole (keeps before here) refl here_left);
+        of_tile = rw is (all_more column row here kept (keeps before here) so_far.of_tile of_tile);
+      }
+
+  pub pass_ends : (zoom column row : ℕ) (ps : List World) (whole kept : List Pt) (before : Option Pt) (i : ℕ)
+      → HasKept left zoom column row ps whole kept before i → length ps ≤ i → kept ≡ whole
+  pass_ends zoom column row ps whole kept before i so_far past =
+      sym (append-nil kept) ∙ ap (λ r. kept ++ r) (sym (pass.none before))
+      ∙ stands_end (λ (r : List Pt). kept ++ left before r) zoom column row ps i whole past so_far.joined
+
 -- ---- points
 
-shown_step : (before : Option Pt) (p : Pt) (ps : List Pt)
-    → filter in_box (left_after before (p ∷ ps))
-    ≡ cond (is_shown before p) (p ∷ filter in_box (left_after (Some p) ps)) (filter in_box (left_after (Some p) ps))
+abbrev pub shown_after : Option Pt → List Pt → List Pt
+shown_after before ps = filter in_box (left_after before ps)
+
+shown_more : (before : Option Pt) (p : Pt) (ps : List Pt)
+    → shown_after before (p ∷ ps) ≡ cond (is_shown before p) (p ∷ shown_after (Some p) ps) (shown_after (Some p) ps)
 unfolding left_after
-shown_step before p ps = go (repeats before p)
+shown_more before p ps = go (repeats before p)
   where
     go : (b : Bool)
         → filter in_box (cond b (left_after (Some p) ps) (p ∷ left_after (Some p) ps))
-        ≡ cond (not b && in_box p) (p ∷ filter in_box (left_after (Some p) ps)) (filter in_box (left_after (Some p) ps))
+        ≡ cond (not b && in_box p) (p ∷ shown_after (Some p) ps) (shown_after (Some p) ps)
     go true = refl
     go false = refl
 
-pub points_begin : (zoom column row : ℕ) (ps : List World)
-    → filter in_box (left_after None (map (stands_at zoom column row) ps)) ≡ points_cut zoom column row ps
+shown_none : (before : Option Pt) → shown_after before [] ≡ []
+unfolding left_after
+shown_none before = refl
+
+pub shown_pass : IsPass is_shown shown_after
+shown_pass = record { none = shown_none; more = shown_more }
+
+pub points_begin : (zoom column row : ℕ) (ps : List World) → shown_after None (map (stands_at zoom column row) ps) ≡ points_cut zoom column row ps
 unfolding points_cut
 points_begin zoom column row ps = ap (filter in_box) (tile_points_are zoom column row ps)
 
-pub points_next : (before : Option Pt) (here : Pt) (rest out out' whole : List Pt) → out' ≡ cond (is_shown before here) (out ++ here ∷ []) out
-    → out ++ filter in_box (left_after before (here ∷ rest)) ≡ whole → out' ++ filter in_box (left_after (Some here) rest) ≡ whole
-points_next before here rest out out' whole e so_far = rw e (go (is_shown before here) (shown_step before here rest))
-  where
-    go : (b : Bool)
-        → filter in_box (left_after before (here ∷ rest))
-        ≡ cond b (here ∷ filter in_box (left_after (Some here) rest)) (filter in_box (left_after (Some here) rest))
-        → cond b (out ++ here ∷ []) out ++ filter in_box (left_after (Some here) rest) ≡ whole
-    go true step = append_assoc out (here ∷ []) (filter in_box (left_after (Some here) rest)) ∙ ap (λ r. out ++ r) (sym step) ∙ so_far
-    go false step = ap (λ r. out ++ r) (sym step) ∙ so_far
-
-pub points_end : (before : Option Pt) (out whole : List Pt) → out ++ filter in_box (left_after before []) ≡ whole → out ≡ whole
-unfolding left_after
-points_end before out whole so_far = sym (append-nil out) ∙ so_far
-
 -- ---- rings
 
-pub ring_next : (before : Option Pt) (here : Pt) (rest out out' whole : List Pt) → out' ≡ cond (repeats before here) out (out ++ here ∷ [])
-    → out ++ left_after before (here ∷ rest) ≡ whole → out' ++ left_after (Some here) rest ≡ whole
-unfolding left_after
-ring_next before here rest out out' whole e so_far = rw e (go (repeats before here) so_far)
-  where
-    go : (b : Bool) → out ++ cond b (left_after (Some here) rest) (here ∷ left_after (Some here) rest) ≡ whole
-        → cond b out (out ++ here ∷ []) ++ left_after (Some here) rest ≡ whole
-    go true so_far = so_far
-    go false so_far = append_assoc out (here ∷ []) (left_after (Some here) rest) ∙ so_far
+abbrev pub is_new : Option Pt → Pt → Bool
+is_new before p = not (repeats before p)
 
-pub ring_ends : (before : Option Pt) (out whole : List Pt) → out ++ left_after before [] ≡ whole → out ≡ whole
+left_more : (before : Option Pt) (p : Pt) (ps : List Pt)
+    → left_after before (p ∷ ps) ≡ cond (is_new before p) (p ∷ left_after (Some p) ps) (left_after (Some p) ps)
 unfolding left_after
-ring_ends before out whole so_far = sym (append-nil out) ∙ so_far
+left_more before p ps = go (repeats before p)
+  where
+    go : (b : Bool)
+        → cond b (left_after (Some p) ps) (p ∷ left_after (Some p) ps) ≡ cond (not b) (p ∷ left_after (Some p) ps) (left_after (Some p) ps)
+    go true = refl
+    go false = refl
+
+left_none : (before : Option Pt) → left_after before [] ≡ []
+unfolding left_after
+left_none before = refl
+
+pub ring_pass : IsPass is_new left_after
+ring_pass = record { none = left_none; more = left_more }

@@ -1,53 +1,42 @@
-use Rattle.std.proofs.Common.{◌+◌, ◌++◌, List, length, true, false, map, drop, refl, subst, ap, sym, ◌∙◌}
+use Rattle.std.proofs.Common.{List, length, true, false, refl, subst, ap, sym, ◌∙◌}
 use Rattle.std.specs.Prelude.{All}
-use Rattle.std.proofs.lemmas.List.Elements.{All-nil, All-push, All-take}
+use Rattle.std.proofs.lemmas.List.Elements.{All-take}
 use Rattle.geometry_commands.specs.declared.point.Pt.{Pt}
 use Rattle.tile_cutter.specs.Passes.{returns_to_start}
 use Rattle.tile_cutter.specs.Range.{IsOfTile}
-use Rattle.tile_cutter.proofs.Passes.{left_after, stands_at, stands_next, stands_end, tile_points_are, ring_next, ring_ends}
+use Rattle.tile_cutter.proofs.Passes.{left_after, is_new, tile_points_are, ring_pass, pass_begins, pass_next, pass_ends}
 use Rattle.tile_cutter.proofs.Ways.{ring_opened}
 use Rattle.tile_cutter.proofs.rings.tile_ring.Goals as goal
 use Rattle.tile_cutter.proofs.rings.tile_ring.Goals.{then-not-repeats+in_ok-push, else-not-repeats, then-returns_to_start, else-returns_to_start}
 
 pub loop-point-init : goal.loop-point-init
-loop-point-init c = record {
-  ring = rw c.new-ring.ensures.items (tile_points_are c.args.at.z c.args.at.x c.args.at.y c.args.points.now);
-  of_tile = rw c.new-ring.ensures.items (All-nil (IsOfTile c.args.at.x c.args.at.y));
-}
+loop-point-init c =
+    let at = c.args.at in
+    rw c.new-ring.ensures.items (pass_begins left_after at.z at.x at.y c.args.points.now _ (tile_points_are at.z at.x at.y c.args.points.now))
 
 pub loop-point-preserved : goal.loop-point-preserved
 loop-point-preserved c =
     let at = c.args.at in
-    let here = c.position-here.result in
-    let before = c.loop-point.before in
-    let out = c.loop-point.ring.items in
-    let keeps = c.loop-point.invariant in
-    let i = c.loop-point.point-index in
-    let rest = map (stands_at at.z at.x at.y) (drop (i + 1) c.args.points.now) in
-    let so_far = stands_next (λ (r : List Pt). out ++ left_after before r)
-    at.z at.x at.y c.args.points.now i here _ _ c.loop-point-test.true c.position-here.ensures.position keeps.ring in
+    let ring = c.loop-point.ring.items in
+    let so_far = c.loop-point.invariant in
+    let next = λ (kept : List Pt).
+    pass_next is_new left_after ring_pass at.z at.x at.y c.args.points.now _ ring kept c.loop-point.before c.loop-point.point-index c.position-here.result _
+    so_far c.loop-point-test.true c.position-here.ensures.position c.position-here.ensures.of_tile
+    in
     let test = sym c.repeats.ensures in
     elim c.if-not-repeats.branch [
-      | then-not-repeats+in_ok-push w ↦
-          record {
-            ring = rw (w.ring-is, w.before-is)
-                (ring_next before here rest out w.push.new.self.items _ (rw (test, w.if-not-repeats.true) w.in_ok-push.ensures.items) so_far);
-            of_tile = rw (w.ring-is, w.in_ok-push.ensures.items) (All-push (IsOfTile at.x at.y) out here keeps.of_tile c.position-here.ensures.of_tile);
-          }
-      | else-not-repeats w ↦
-          record {
-            ring = rw (w.ring-is, w.before-is) (ring_next before here rest out out _ (rw (test, w.if-not-repeats.false) refl) so_far);
-            of_tile = rw w.ring-is keeps.of_tile;
-          }
+      | then-not-repeats+in_ok-push w ↦ rw (w.ring-is, w.before-is) (next w.push.new.self.items (rw (test, w.if-not-repeats.true) w.in_ok-push.ensures.items))
+      | else-not-repeats w ↦ rw (w.ring-is, w.before-is) (next ring (rw (test, w.if-not-repeats.false) refl))
     ]
 
 pub returns-clause-ring : goal.returns-clause-ring
 returns-clause-ring c =
     let at = c.args.at in
     let ring = c.loop-point.ring.items in
-    let whole = ring_ends c.loop-point.before ring _
-    (stands_end (λ (r : List Pt). ring ++ left_after c.loop-point.before r)
-    at.z at.x at.y c.args.points.now c.loop-point.point-index _ c.loop-point-test.false c.loop-point.invariant.ring) in
+    let whole =
+    pass_ends is_new left_after ring_pass at.z at.x at.y c.args.points.now _ ring c.loop-point.before c.loop-point.point-index c.loop-point.invariant
+    c.loop-point-test.false
+    in
     let test = c.returns_to_start.ensures ∙ ap returns_to_start c.deref.ensures.value in
     let long = sym c.deref.ensures.len ∙ ap length c.deref.ensures.value in
     elim c.if-returns_to_start.branch [
