@@ -1,8 +1,7 @@
 -- Values of content-length.
-use Rattle.std.proofs.Common.{◌≡◌, ℕ, ◌+◌, ◌-◌, ◌*◌, ◌<◌, ◌≤◌, List, [], ◌∷◌, ◌++◌, Bool, true, false, ◌&&◌, cond, length, take, drop, map, min, refl, sym}
+use Rattle.std.proofs.Common.{◌≡◌, ℕ, ◌+◌, ◌-◌, ◌<◌, ◌≤◌, List, [], ◌∷◌, ◌++◌, Bool, true, false, ◌&&◌, cond, length, take, drop, map, refl, sym}
 use Rattle.std.proofs.Common.{ap, ◌∙◌, arith, get_or, Ok, Err, Result, nat_le}
-use Rattle.std.specs.List.{filter, list_all}
-use Rattle.std.specs.Char.{is_ascii_digit}
+use Rattle.std.specs.List.{filter}
 use Rattle.std.specs.Str.Parse.{digits_value}
 use Rattle.std.proofs.lemmas.List.{take_more, map-append, take-append-drop}
 use Rattle.std.proofs.lemmas.List.Elements.{filter-append}

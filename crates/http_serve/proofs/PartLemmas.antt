@@ -15,6 +15,12 @@ use Rattle.http_serve.specs.declared.contents.SendFault.TheVariants as cuts
 use Rattle.http_serve.specs.Told.{HasContent}
 use Rattle.http_serve.proofs.KnownLemmas.{Appends-then}
 
+-- what a part has that is read into the first bytes of a buffer
+pub part_read : (now content buffer : List ℕ) (at count : ℕ) → count ≤ length buffer → now ≡ content
+    → take (length (take count buffer)) (drop at now) ≡ take count (drop at content)
+part_read now content buffer at count fits same =
+    ap (λ (n : ℕ). take n (drop at now)) (length-take-le count buffer fits) ∙ ap (λ (xs : List ℕ). take count (drop at xs)) same
+
 -- one more part behind those so far
 next_part : (xs : List ℕ) (offset at count : ℕ) → offset ≤ at
     → take (at - offset) (drop offset xs) ++ take count (drop at xs) ≡ take (at + count - offset) (drop offset xs)

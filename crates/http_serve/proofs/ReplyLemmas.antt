@@ -1,5 +1,5 @@
 -- How long the head of a reply may be.
-use Rattle.std.proofs.Common.{◌≡◌, ◌++◌, ◌∙◌, ap, append_assoc, ◌≤◌, ℕ, List, [], Option, Bool, true, false, ◌==◌, length, unwrap_or, if◌then◌else◌, lit≤}
+use Rattle.std.proofs.Common.{◌≡◌, ◌++◌, ◌∙◌, ap, append_assoc, sym, ◌≤◌, ℕ, List, [], Option, Bool, true, false, cond, ◌==◌, length, unwrap_or, if◌then◌else◌, lit≤}
 use Rattle.http.specs.StatusCode.{reason_phrase}
 
 -- a phrase of at most 31 bytes, or none
@@ -81,3 +81,12 @@ reason_short n =
 pub three_added : (front a b c x y z : List ℕ) → x ≡ front ++ a → y ≡ x ++ b → z ≡ y ++ c → z ≡ front ++ (a ++ b ++ c)
 three_added front a b c x y z first second third =
     third ∙ ap (λ (t : List ℕ). t ++ c) (second ∙ ap (λ (t : List ℕ). t ++ b) first) ∙ simp append_assoc
+
+-- four texts are added one after the other
+pub four_added : (front a b c d w x y z : List ℕ) → w ≡ front ++ a → x ≡ w ++ b → y ≡ x ++ c → z ≡ y ++ d → z ≡ front ++ (a ++ b ++ c ++ d)
+four_added front a b c d w x y z first second third fourth =
+    fourth ∙ ap (λ (t : List ℕ). t ++ d) (three_added front a b c w x y first second third) ∙ simp append_assoc
+
+-- the second of two texts is added where a test fails
+pub others_added : (b : Bool) (front x y z : List ℕ) → b ≡ false → z ≡ front ++ y → z ≡ front ++ cond b x y
+others_added b front x y z fails is = is ∙ ap (λ (t : Bool). front ++ cond t x y) (sym fails)

@@ -99,10 +99,18 @@ line_end = 13 ∷ 10 ∷ []
 unfoldable pub phrase_of : ℕ → List ℕ
 phrase_of status = unwrap_or (reason_phrase status) []
 
--- the line of the type, where there is one
-unfoldable pub type_line : Option (List ℕ) → List ℕ
-type_line None = []
-type_line (Some kind) = codes "content-type: " ++ kind ++ line_end
+-- the line of a field whose value is a word, where there is one; its name has a colon and a space behind it
+unfoldable pub word_line : List ℕ → Option (List ℕ) → List ℕ
+word_line name None = []
+word_line name (Some word) = name ++ word ++ line_end
+
+-- the name of the field of the type
+unfoldable pub type_name : List ℕ
+type_name = codes "content-type: "
+
+-- the name of the field of the methods that are allowed
+unfoldable pub allow_name : List ℕ
+allow_name = codes "allow: "
 
 -- the line of a part: its first byte, its last byte, and how many there are in all (RFC 9110, 14.4)
 unfoldable pub part_line : ℕ → ℕ → ℕ → List ℕ
@@ -118,11 +126,6 @@ abbrev pub range_line : Option ContentRange → List ℕ
 range_line None = []
 range_line (Some (Part first last total)) = part_line first last total
 range_line (Some (Unsatisfied total)) = unsatisfied_line total
-
--- the line of the methods that are allowed, where there is one
-unfoldable pub allow_line : Option (List ℕ) → List ℕ
-allow_line None = []
-allow_line (Some methods) = codes "allow: " ++ methods ++ line_end
 
 -- the line of the length
 unfoldable pub length_line : ℕ → List ℕ
@@ -140,8 +143,8 @@ has_no_content status = status == 204
 -- the lines of the fields; those that speak of a content are left out where there is none
 abbrev pub field_lines : HeadView → List ℕ
 field_lines head =
-    cond (has_no_content head.status) (allow_line head.allow)
-    (type_line head.kind ++ range_line head.range ++ allow_line head.allow ++ length_line head.size)
+    cond (has_no_content head.status) (word_line allow_name head.allow)
+    (word_line type_name head.kind ++ range_line head.range ++ word_line allow_name head.allow ++ length_line head.size)
 
 -- the head of a reply, with an empty line, which says whether it is the last one
 unfoldable pub reply_head : Bool → HeadView → List ℕ

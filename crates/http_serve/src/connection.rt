@@ -1,5 +1,5 @@
 //! A connection: each request gets a reply.
-ghost use Rattle.std.specs.Prelude.{◌≡◌, ◌≤◌, ◌<◌, ◌^◌, ℕ, List, length, Option, IfSome, IfOk, IfErr, OnOk, vec_capacity};
+ghost use Rattle.std.specs.Prelude.{◌≡◌, ◌≤◌, ◌<◌, length, Option, IfSome, IfOk, IfErr, OnOk, vec_capacity};
 ghost use Rattle.httparse.specs.Grammar.{RequestHead};
 ghost use Rattle.httparse.specs.Spans.{IsWithin, span_bytes};
 ghost use Rattle.std.specs.Option.{option_map};
@@ -259,18 +259,15 @@ pub fn serve_turns<R: Read, W: Write, H: Handler>(
         if count == 0 {
             return finish(writer, &mut session, requests, reason);
         }
-        match answer_whole(handler, writer, &mut session, requests) {
-            Ok(Pause::Ended(served)) => return Ok(served),
-            Ok(
-                Pause::More {
-                    requests: answered,
-                    refusal,
-                },
-            ) => {
+        match answer_whole(handler, writer, &mut session, requests)? {
+            Pause::Ended(served) => return Ok(served),
+            Pause::More {
+                requests: answered,
+                refusal,
+            } => {
                 requests = answered;
                 reason = refusal;
             }
-            Err(fault) => return Err(fault),
         }
     }
     let end = End::Turns;

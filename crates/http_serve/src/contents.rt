@@ -1,5 +1,5 @@
 //! Replies whose content is read from the handler in parts.
-ghost use Rattle.std.specs.Prelude.{◌≡◌, ◌≢◌, ◌≤◌, ◌<◌, ◌+◌, ◌^◌, length, take, drop, vec_capacity, ℕ, IfErr};
+ghost use Rattle.std.specs.Prelude.{◌≡◌, ◌≤◌, ◌<◌, ◌+◌, length, take, drop, vec_capacity, IfErr};
 ghost use Rattle.http_serve.specs.Parts.{rest_bytes, IsCutIn, cut_after};
 ghost use Rattle.http_serve.specs.declared.handlers.TheConstants.{PART_SIZE};
 ghost use Rattle.http_serve.specs.Requests.{RequestView};
@@ -77,10 +77,8 @@ fn send_parts<H: Handler, W: Write>(
     let mut at = offset;
     while at < size {
         let count = (size - at).min(PART_SIZE as u64);
-        match send_part(handler, writer, at, &mut buffer[..count as usize]) {
-            Ok(()) => at += count,
-            Err(fault) => return Err(fault),
-        }
+        send_part(handler, writer, at, &mut buffer[..count as usize])?;
+        at += count;
     }
     Ok(())
 }

@@ -1,11 +1,11 @@
 //! What the fields of a head say of its body and of the connection (RFC 9110, 8.6 and 7.6.1).
-ghost use Rattle.std.specs.Prelude.{◌≡◌, ◌≤◌, ◌<◌, ◌&&◌, ◌==◌, ◌^◌, true, ℕ, nat_lt, length, take, map, reverse, codes, All, IfSome};
+ghost use Rattle.std.specs.Prelude.{◌≡◌, ◌≤◌, ◌<◌, ◌&&◌, ◌==◌, true, length, map, reverse, codes, All, IfSome};
 ghost use Rattle.std.specs.List.{position, position_or_len};
 ghost use Rattle.std.specs.Char.{to_ascii_lowercase};
 ghost use Rattle.std.specs.Option.{option_map};
 ghost use Rattle.httparse.specs.Spans.{IsHeaderWithin, IsWithin, header_bytes, span_bytes};
 ghost use Rattle.httparse.specs.Grammar.{is_ows, skip_ows, trim_ows};
-ghost use Rattle.http_serve.specs.Fields.{is_word, IsStated, values_of, numeral_length, body_length, range_of, lists_close, is_close, says_close};
+ghost use Rattle.http_serve.specs.Fields.{is_word, IsStated, values_of, numeral_length, body_length, range_of, lists_close, says_close};
 
 use crate::Refusal;
 use decimal_number::{are_digits, digits_number};

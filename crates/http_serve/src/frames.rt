@@ -1,5 +1,5 @@
 //! The request that bytes begin with (RFC 9112, 2 to 6).
-ghost use Rattle.std.specs.Prelude.{◌≡◌, ◌≤◌, ◌<◌, ◌^◌, ◌==◌, ◌||◌, length, map, All};
+ghost use Rattle.std.specs.Prelude.{◌≡◌, ◌≤◌, ◌<◌, ◌==◌, ◌||◌, length, map, All};
 ghost use Rattle.httparse.specs.Spans.{IsRequestWithin, IsRequestOf, IsHeaderWithin, header_bytes};
 ghost use Rattle.http_serve.specs.Fields.{says_close};
 ghost use Rattle.http_serve.specs.declared.frames.TheConstants.{MOST_HEAD, MOST_FIELDS};

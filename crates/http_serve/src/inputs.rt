@@ -1,5 +1,5 @@
 //! The bytes that were read and wait.
-ghost use Rattle.std.specs.Prelude.{◌≡◌, ◌≤◌, ◌<◌, ◌+◌, ◌-◌, ◌++◌, ◌^◌, ℕ, List, [], length, take, drop, slice_range, vec_len, IfOk, OnOk, OnErr};
+ghost use Rattle.std.specs.Prelude.{◌≡◌, ◌≤◌, ◌<◌, ◌+◌, ◌-◌, ◌++◌, ℕ, List, [], length, take, drop, slice_range, vec_len, IfOk, OnErr};
 ghost use Rattle.http_serve.specs.declared.frames.TheConstants.{MOST_REQUEST};
 ghost use Rattle.http_serve.specs.Input.{InputView, buffer_size};
 ghost use Rattle.std.specs.Io.KnownBytes.{Consumes, IsAtEnd};

@@ -1,9 +1,11 @@
 //! Replies and their bytes.
-ghost use Rattle.std.specs.Prelude.{◌≡◌, ◌≤◌, ◌<◌, ◌+◌, ◌++◌, ◌^◌, [], length, decimal, vec_len, vec_capacity, None, not, true, false, ◌==◌, ◌||◌};
+ghost use Rattle.std.specs.Prelude.{◌≡◌, ◌≤◌, ◌<◌, ◌+◌, ◌++◌, length, decimal, vec_len, vec_capacity, IfSome, None, not, ◌||◌};
+ghost use Rattle.std.specs.Option.{option_map};
 ghost use Rattle.http_serve.specs.Parts.{front_content, front_bytes};
-ghost use Rattle.http_serve.specs.Reply.{HasShortWords, head_view, content_size, phrase_of, type_line, part_line, unsatisfied_line};
-ghost use Rattle.http_serve.specs.Reply.{range_line, allow_line, length_line, closing_line, field_lines, reply_head, has_no_content};
+ghost use Rattle.http_serve.specs.Reply.{HasShortWords, head_view, content_size, phrase_of, part_line, unsatisfied_line};
+ghost use Rattle.http_serve.specs.Reply.{range_line, word_line, length_line, closing_line, field_lines, reply_head, has_no_content};
 ghost use Rattle.http_serve.specs.Sent.{Sends};
+ghost use Rattle.http_serve.specs.declared.replies.TheConstants.{MOST_WORD};
 
 use crate::writes::{WriteFault, send_all, send_both};
 use http::StatusCode;
@@ -181,37 +183,20 @@ fn put_range_line(out: &mut Vec<u8>, range: Option<ContentRange>)
     }
 }
 
-/// Adds the line of the methods that are allowed, where there is one.
-#[tactic(auto, unfolding(crate::specs::Reply::allow_line))]
-fn put_allow_line(out: &mut Vec<u8>, reply: &Reply)
-    requires words { HasShortWords (head_view reply.now) }
-    requires room { vec_len out.old + 73 ≤ vec_capacity out.old }
-    ensures items { out.new.items ≡ out.old.items ++ allow_line (head_view reply.now).allow }
-    ensures len { vec_len out.new ≤ vec_len out.old + 73 }
+/// Adds the line of a field whose value is a word, where there is one. The name has a colon and a space behind it.
+#[tactic(auto, unfolding(crate::specs::Reply::word_line))]
+fn put_word_line(out: &mut Vec<u8>, name: &[u8], word: Option<&str>)
+    requires short { IfSome (option_map (λ word. word.now) word) (λ word. length word ≤ MOST_WORD) }
+    requires room { vec_len out.old + 66 + length name.now ≤ vec_capacity out.old }
+    ensures items { out.new.items ≡ out.old.items ++ word_line name.now (option_map (λ word. word.now) word.entry) }
+    ensures len { vec_len out.new ≤ vec_len out.old + 66 + length name.now }
     ensures capacity { vec_capacity out.old ≤ vec_capacity out.new }
 {
-    let Some(methods) = reply.allow else {
+    let Some(word) = word else {
         return;
     };
-    put(out, b"allow: ");
-    put(out, methods.as_bytes());
-    put(out, b"\r\n");
-}
-
-/// Adds the line of the type, where there is one.
-#[tactic(auto, unfolding(crate::specs::Reply::type_line))]
-fn put_type_line(out: &mut Vec<u8>, reply: &Reply)
-    requires words { HasShortWords (head_view reply.now) }
-    requires room { vec_len out.old + 80 ≤ vec_capacity out.old }
-    ensures items { out.new.items ≡ out.old.items ++ type_line (head_view reply.now).kind }
-    ensures len { vec_len out.new ≤ vec_len out.old + 80 }
-    ensures capacity { vec_capacity out.old ≤ vec_capacity out.new }
-{
-    let Some(kind) = reply.kind else {
-        return;
-    };
-    put(out, b"content-type: ");
-    put(out, kind.as_bytes());
+    put(out, name);
+    put(out, word.as_bytes());
     put(out, b"\r\n");
 }
 
@@ -224,11 +209,11 @@ fn put_length_line(out: &mut Vec<u8>, size: u64)
     ensures capacity { vec_capacity out.old ≤ vec_capacity out.new }
 {
     put(out, b"content-length: ");
-    put(out, Buffer::new().format(size).as_bytes());
-    put(out, b"\r\n");
+    put_number(out, size, b"\r\n");
 }
 
 /// Adds the lines of the fields.
+#[tactic(auto, unfolding(crate::specs::Reply::type_name, crate::specs::Reply::allow_name))]
 fn put_field_lines(out: &mut Vec<u8>, reply: &Reply)
     requires words { HasShortWords (head_view reply.now) }
     requires room { vec_len out.old + 356 ≤ vec_capacity out.old }
@@ -237,12 +222,12 @@ fn put_field_lines(out: &mut Vec<u8>, reply: &Reply)
     ensures capacity { vec_capacity out.old ≤ vec_capacity out.new }
 {
     if reply.has_no_content() {
-        put_allow_line(out, reply);
+        put_word_line(out, b"allow: ", reply.allow);
         return;
     }
-    put_type_line(out, reply);
+    put_word_line(out, b"content-type: ", reply.kind);
     put_range_line(out, reply.range);
-    put_allow_line(out, reply);
+    put_word_line(out, b"allow: ", reply.allow);
     put_length_line(out, reply.content.size());
 }
 

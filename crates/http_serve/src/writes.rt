@@ -30,8 +30,6 @@ pub(crate) fn send_both<W: Write>(
 ) -> Result<(), WriteFault>
     ensures { Sends result (W.contents writer.old) (W.contents writer.new) (first.now ++ second.now) }
 {
-    match send_all(writer, first) {
-        Ok(()) => send_all(writer, second),
-        Err(fault) => Err(fault),
-    }
+    send_all(writer, first)?;
+    send_all(writer, second)
 }

@@ -1,7 +1,7 @@
 ghost use Rattle.std.specs.Prelude.{◌≡◌, IsTrue};
 ghost use Rattle.std.specs.Option.{option_map};
 ghost use Rattle.tile_routes.specs.Number.{number_of};
-ghost use Rattle.tile_routes.specs.Paths.{Asked, asked_tile, is_served, feature_asked, named_tile, row_and_format};
+ghost use Rattle.tile_routes.specs.Paths.{asked_tile, is_served, feature_asked, named_tile, row_and_format};
 ghost use Rattle.tile_routes.specs.Targets.{asked_of, IsInRange, row_view};
 
 use crate::number::path_number;

@@ -1,4 +1,4 @@
-use Rattle.std.proofs.Common.{arith, refl, sym, subst, List, ℕ, ◌+◌, ◌*◌}
+use Rattle.std.proofs.Common.{◌≡◌, Err, rules, arith, refl, sym, subst, List, ℕ, ◌+◌, ◌*◌}
 use Rattle.http_serve.specs.Input.{buffer_size}
 use Rattle.http_serve.specs.Search.{IsKnown}
 use Rattle.http_serve.proofs.LineLemmas.{IsKnown-append}
@@ -16,18 +16,20 @@ loop-turn-init g c = record {
   so_far = SoFar_start g.H.Handler.replies _ _ _ c.in-Ok.input.waiting c.in-Ok.ensures;
 }
 
-pub returns-in-Ok-Ended-clause-served : goal.returns-in-Ok-Ended-clause-served
-returns-in-Ok-Ended-clause-served g c =
+pub returns-in-Ended-clause-served : goal.returns-in-Ended-clause-served
+returns-in-Ended-clause-served g c =
     let came = c.in-Ok-read_from.ensures.ok in
-    let pause = rw c.in-Ok-Ended.field-0-is at c.in-Ok-Ended.ensures.ok in
+    let pause = rw c.in-Ended.is at c.in_ok-served.ensures.ok in
     SoFar_told g.H.Handler.replies _ _ _ _ _ _ c.loop-turn.requests _ _ c.loop-turn.invariant.so_far came.0 _ came.1 _ _ _ came.2
-    c.in-Ok-Ended.served pause.0 pause.1 pause.2 pause.3
+    c.in-Ended.served pause.0 pause.1 pause.2 pause.3
 
-pub returns-in-Err-clause-fault : goal.returns-in-Err-clause-fault
-returns-in-Err-clause-fault g c =
+pub returns-in_err-served-clause-fault : goal.returns-in_err-served-clause-fault
+returns-in_err-served-clause-fault g c =
     let came = c.in-Ok-read_from.ensures.ok in
-    SoFar_broken g.H.Handler.replies _ _ _ _ _ _ c.loop-turn.requests _ _ c.loop-turn.invariant.so_far came.0 _ came.1 _ _ _ came.2
-    c.in-Err.fault c.in-Err.ensures.err
+    let fault = c.in_err-served.field-0.0 in
+    let same : c.from_residual.result ≡ Err fault = search rules in
+    rw same (SoFar_broken g.H.Handler.replies _ _ _ _ _ _ c.loop-turn.requests _ _ c.loop-turn.invariant.so_far came.0 _ came.1 _ _ _ came.2
+    fault c.in_err-served.ensures.err)
 
 pub returns-in_default-read_from-clause-fault : goal.returns-in_default-read_from-clause-fault
 returns-in_default-read_from-clause-fault g c =
@@ -39,10 +41,10 @@ returns-clause-served g c = SoFar_stops g.H.Handler.replies _ _ _ _ _ _ c.loop-t
 pub loop-turn-preserved : goal.loop-turn-preserved
 loop-turn-preserved g c =
     let came = c.in-Ok-read_from.ensures.ok in
-    let pause = rw c.in-Ok-More.field-0-is at c.in-Ok-More.ensures.ok in
+    let pause = rw c.in-More.is at c.in_ok-served.ensures.ok in
     record {
-      room = c.in-Ok-More.ensures.room;
-      known = c.in-Ok-More.ensures.known;
+      room = c.in_ok-served.ensures.room;
+      known = c.in_ok-served.ensures.known;
       least =
           least_more (g.R.Read.remaining c.args.reader.now) _ _ c.loop-turn._turn c.in-Ok-read_from.count came.0 c.loop-turn.invariant.least
           came.1 came.3 c.if-count-eq0.false;
@@ -52,7 +54,7 @@ loop-turn-preserved g c =
           c.in-Ok-read_from.count came.0 c.loop-turn.invariant.most came.1 came.3 (omega arith);
       so_far =
           SoFar_goes g.H.Handler.replies _ _ _ _ _ _ c.loop-turn.requests _ _ c.loop-turn.invariant.so_far came.0 _ came.1 _ _ _ came.2
-          _ c.in-Ok-More.answered pause.2 c.in-Ok-More.refusal pause.0 pause.1 pause.3;
+          _ c.in-More.answered pause.2 c.in-More.refusal pause.0 pause.1 pause.3;
     }
 
 pub returns-then-count-eq0-clause-served : goal.returns-then-count-eq0-clause-served
@@ -77,10 +79,10 @@ returns-then-count-eq0-clause-turns g c =
 pub returns-clause-turns : goal.returns-clause-turns
 returns-clause-turns g c = least_over _ _ c.loop-turn._turn c.args.turns c.loop-turn.invariant.least c.loop-turn-test.false
 
-pub returns-in-Ok-Ended-clause-turns : goal.returns-in-Ok-Ended-clause-turns
-returns-in-Ok-Ended-clause-turns g c =
-    let pause = rw c.in-Ok-Ended.field-0-is at c.in-Ok-Ended.ensures.ok in
-    other_turns c.args.turns _ _ c.in-Ok-Ended.served.end pause.3
+pub returns-in-Ended-clause-turns : goal.returns-in-Ended-clause-turns
+returns-in-Ended-clause-turns g c =
+    let pause = rw c.in-Ended.is at c.in_ok-served.ensures.ok in
+    other_turns c.args.turns _ _ c.in-Ended.served.end pause.3
 
 pub answer_whole-requires-clause-known : goal.answer_whole-requires-clause-known
 answer_whole-requires-clause-known g c =
