@@ -2,7 +2,7 @@ use Rattle.std.proofs.Common.{[], ◌∷◌, List, ℕ, get_or, take, sym, subst
 use Rattle.std.proofs.lemmas.List.{take_more}
 use Rattle.http_serve.specs.Search.{IsKnown}
 use Rattle.http_serve.proofs.LineLemmas.{IsKnown-append}
-use Rattle.http_serve.proofs.tests.count_parses.Goals as goal
+use Rattle.http_serve.proofs.tests.heads.count_parses.Goals as goal
 
 pub known_missing-requires : goal.known_missing-requires
 known_missing-requires c =

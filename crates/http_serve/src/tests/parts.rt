@@ -1,0 +1,193 @@
+//! Contents that are read in parts.
+ghost use Rattle.std.specs.Prelude.{◌≡◌, ◌≤◌, ◌+◌, length, take, drop, OnOk, ⊤};
+ghost use Rattle.http_serve.specs.Reply.{IsWritable};
+
+use super::Narrow;
+use crate::{
+    Content, ContentFault, End, Handler, PART_SIZE, Reply, Request, ServeFault, Served, serve,
+};
+use http::StatusCode;
+use std::alloc::{AllocError, Global};
+use std::test::Fail;
+
+/// Answers each request with the same content, in parts. One read fails: the first one, or the one behind so many.
+#[derive(Drop)]
+struct Download {
+    alloc: Global,
+    content: Vec<u8>,
+    reads: usize,
+    fails: Option<usize>,
+}
+
+impl Download {
+    /// Makes one read.
+    fn read(&mut self, offset: u64, part: &mut [u8]) -> Result<(), ContentFault>
+        requires { offset + length part.old ≤ length self.old.content.items }
+        ensures bytes { OnOk result (part.new ≡ take (length part.old) (drop offset self.old.content.items)) }
+        ensures content { self.new.content ≡ self.old.content }
+        ensures length { length part.new ≡ length part.old }
+    {
+        let read = self.reads;
+        self.reads = read.saturating_add(1);
+        if self.fails == Some(read) {
+            return Err(ContentFault);
+        }
+        let offset = offset as usize;
+        part.copy_from_slice(&self.content[offset..offset + part.len()]);
+        Ok(())
+    }
+
+    /// The reply, whose first part is read now. A head is answered with no read.
+    fn reply(&mut self, bare: bool) -> Reply
+        ensures content { self.new.content ≡ self.old.content }
+        ensures writable { IsWritable self.new.content.items result }
+    {
+        let kind = Some("text/plain");
+        let length = self.content.len();
+        let size = if bare { 0 } else { length.min(PART_SIZE) };
+        let Ok(mut first) = vec![in self.alloc; 0; size] else {
+            return Reply::plain(StatusCode::SERVICE_UNAVAILABLE, None, Content::Empty);
+        };
+        if !bare && self.read(0, first.as_mut_slice()).is_err() {
+            return Reply::plain(StatusCode::INTERNAL_SERVER_ERROR, None, Content::Empty);
+        }
+        let length = length as u64;
+        Reply::plain(StatusCode::OK, kind, Content::Parts { first, length })
+    }
+}
+
+impl Handler for Download {
+    ghost replies = { λ _ _ _ _. ⊤ };
+
+    ghost content = { λ download. download.content.items };
+
+    fn answer(&mut self, request: &Request<'_>) -> Reply {
+        self.reply(request.method == b"HEAD".as_slice())
+    }
+
+    fn read_content(&mut self, offset: u64, part: &mut [u8]) -> Result<(), ContentFault> {
+        self.read(offset, part)
+    }
+}
+
+const GETS: &str = "GET /a HTTP/1.1\r\n\r\nGET /a HTTP/1.1\r\n\r\n";
+
+const LONG_HEAD: &str =
+    "HTTP/1.1 200 OK\r\ncontent-type: text/plain\r\ncontent-length: 1300\r\n\r\n";
+
+const FAILED: &str = "HTTP/1.1 500 Internal Server Error\r\ncontent-length: 0\r\n\r\n";
+
+/// 1,300 bytes.
+fn long_content(alloc: Global) -> Result<Vec<u8>, AllocError> {
+    let mut content = Vec::new(alloc);
+    for i in 0..1_300u32 {
+        content.push((i % 251) as u8)?;
+    }
+    Ok(content)
+}
+
+/// The replies with so many of these bytes, and where a first part couldn't be read another one.
+fn long_replies(alloc: Global, sizes: &[Option<usize>]) -> Result<Vec<u8>, AllocError> {
+    let content = long_content(alloc)?;
+    let mut replies = Vec::new(alloc);
+    for size in sizes {
+        match size {
+            Some(size) => {
+                replies.extend_from_slice(LONG_HEAD.as_bytes())?;
+                replies.extend_from_slice(&content[..content.len().min(*size)])?;
+            }
+            None => replies.extend_from_slice(FAILED.as_bytes())?,
+        }
+    }
+    Ok(replies)
+}
+
+/// Serves these requests with contents in parts to a writer that takes so many bytes.
+fn serve_download(
+    alloc: Global,
+    input: &str,
+    fails: Option<usize>,
+    room: usize,
+) -> Result<(Vec<u8>, usize, Result<Served, ServeFault>), AllocError> {
+    let mut handler = Download {
+        alloc,
+        content: long_content(alloc)?,
+        reads: 0,
+        fails,
+    };
+    let mut writer = Narrow {
+        size: usize::MAX,
+        room,
+        fails: true,
+        failed: 0,
+        taken: Vec::new(alloc),
+    };
+    let mut reader = input.as_bytes();
+    let result = serve(alloc, &mut reader, &mut writer, &mut handler);
+    Ok((writer.taken, handler.reads, result))
+}
+
+const CLOSED: Result<Served, ServeFault> = Ok(Served {
+    requests: 2,
+    end: End::Closed,
+});
+
+/// The read that fails, how many bytes of each content are written, how many reads are made, and how it ends.
+const DOWNLOADS: [(
+    Option<usize>,
+    [Option<usize>; 2],
+    usize,
+    Result<Served, ServeFault>,
+); 4] = [
+    (None, [Some(1_300), Some(1_300)], 6, CLOSED),
+    (Some(0), [None, Some(1_300)], 4, CLOSED),
+    (Some(3), [Some(1_300), None], 4, CLOSED),
+    (
+        Some(5),
+        [Some(1_300), Some(1_024)],
+        6,
+        Err(ServeFault::Content { requests: 1 }),
+    ),
+];
+
+/// Parts have 512 bytes, 512 and 276: three reads for each of two requests.
+#[test]
+fn contents_in_parts(rt: HostRuntime) -> Result<(), Fail> {
+    for (fails, sizes, reads, result) in DOWNLOADS {
+        let (out, made, end) = serve_download(rt.alloc(), GETS, fails, usize::MAX)?;
+        let want = long_replies(rt.alloc(), &sizes)?;
+        assert_eq!(rt; end, result, "{fails:?}");
+        assert_eq!(rt; made, reads, "{fails:?}");
+        assert_eq!(rt; out.as_slice(), want.as_slice(), "{fails:?}");
+    }
+    Ok(())
+}
+
+/// A part that can't be read ends the connection, and so does one that can't be written.
+#[test]
+fn contents_that_are_cut(rt: HostRuntime) -> Result<(), Fail> {
+    for (fails, room, size, result) in [
+        (Some(1), 9_999, 512, ServeFault::Content { requests: 0 }),
+        (Some(2), 9_999, 1_024, ServeFault::Content { requests: 0 }),
+        (None, 1_000, 1_000, ServeFault::Write { requests: 0 }),
+    ] {
+        let room = LONG_HEAD.len().saturating_add(room);
+        let (out, _, end) = serve_download(rt.alloc(), GETS, fails, room)?;
+        let want = long_replies(rt.alloc(), &[Some(size)])?;
+        assert_eq!(rt; end, Err(result), "{fails:?}");
+        assert_eq!(rt; out.as_slice(), want.as_slice(), "{fails:?}");
+    }
+    Ok(())
+}
+
+/// For a head no part is read.
+#[test]
+fn a_head_has_no_parts(rt: HostRuntime) -> Result<(), Fail> {
+    let input = "HEAD /a HTTP/1.1\r\n\r\nHEAD /a HTTP/1.1\r\n\r\n";
+    let (out, reads, end) = serve_download(rt.alloc(), input, Some(0), usize::MAX)?;
+    let want = long_replies(rt.alloc(), &[Some(0), Some(0)])?;
+    assert_eq!(rt; end, CLOSED);
+    assert_eq!(rt; reads, 0);
+    assert_eq!(rt; out.as_slice(), want.as_slice());
+    Ok(())
+}

@@ -1,0 +1,212 @@
+//! What is written for what is read, however it is cut into pieces.
+use super::{A, B, Echo, HEAD, Narrow, TWO, talk};
+use crate::{End, ServeFault, Served, serve};
+use std::alloc::Global;
+use std::test::Fail;
+
+const A_LAST: &str =
+    "HTTP/1.1 200 OK\r\ncontent-type: text/plain\r\ncontent-length: 7\r\nconnection: close\r\n\r\nGET /a\n";
+
+const A_HEAD: &str = "HTTP/1.1 200 OK\r\ncontent-type: text/plain\r\ncontent-length: 8\r\n\r\n";
+
+const PART: &str =
+    "HTTP/1.1 206 Partial Content\r\ncontent-range: bytes 42-43/1234\r\ncontent-length: 2\r\n\r\n42";
+
+const OUTSIDE: &str =
+    "HTTP/1.1 416 Range Not Satisfiable\r\ncontent-type: text/plain\r\ncontent-range: bytes */1234\r\nallow: GET, HEAD\r\ncontent-length: 0\r\n\r\n";
+
+const NONE: &str = "HTTP/1.1 204 No Content\r\n\r\n";
+
+/// What is read, the one or two replies, and how it ends.
+const TALKS: [(&str, &str, &str, End); 30] = [
+    ("", "", "", End::Closed),
+    (TWO, A, B, End::Closed),
+    ("\r\n\nGET /a HTTP/1.1\n\n", A, "", End::Closed),
+    (
+        "GET /a HTTP/1.0\r\n\r\nGET /b HTTP/1.1\r\n\r\n",
+        A_LAST,
+        "",
+        End::Asked,
+    ),
+    (
+        "GET /a HTTP/1.1\r\nConnection: Close, x\r\n\r\n!",
+        A_LAST,
+        "",
+        End::Asked,
+    ),
+    (
+        "GET /a HTTP/1.1\r\nconnection: y\r\nCONNECTION: x ,\t close\r\n\r\n",
+        A_LAST,
+        "",
+        End::Asked,
+    ),
+    (
+        "GET /a HTTP/1.1\r\nconnection: closed, clos\r\nx: close\r\n\r\n",
+        A,
+        "",
+        End::Closed,
+    ),
+    (
+        "GET /none HTTP/1.1\r\n\r\nGET /a HTTP/1.1\r\n\r\n",
+        NONE,
+        A,
+        End::Closed,
+    ),
+    ("GET /a HTTP/1.1\r\n\r\n\r\n", A, HEAD, End::Refused),
+    (
+        "GET /a HTTP/1.1\r\n\r\nGET /a HTTP/1.1\r\n",
+        A,
+        HEAD,
+        End::Refused,
+    ),
+    (
+        "GET /a HTTP/1.1\r\n\r\nGET /a HTTP/1.1 \r\n\r\n",
+        A,
+        HEAD,
+        End::Refused,
+    ),
+    ("GET /a HTTP/1.1\r\nx y: z\r\n\r\n", HEAD, "", End::Refused),
+    (
+        "PUT /b HTTP/1.1\r\ncontent-length: 3\r\n\r\nhi",
+        HEAD,
+        "",
+        End::Refused,
+    ),
+    (
+        "PUT /b HTTP/1.1\r\ncontent-length: x\r\n\r\n",
+        HEAD,
+        "",
+        End::Refused,
+    ),
+    (
+        "PUT /b HTTP/1.1\r\ncontent-length: +5\r\n\r\nhello",
+        HEAD,
+        "",
+        End::Refused,
+    ),
+    (
+        "PUT /b HTTP/1.1\r\ncontent-length: -0\r\n\r\n",
+        HEAD,
+        "",
+        End::Refused,
+    ),
+    (
+        "PUT /b HTTP/1.1\r\ncontent-length:\r\n\r\n",
+        HEAD,
+        "",
+        End::Refused,
+    ),
+    (
+        "PUT /b HTTP/1.1\r\ncontent-length: 65537\r\n\r\n",
+        HEAD,
+        "",
+        End::Refused,
+    ),
+    (
+        "PUT /b HTTP/1.1\r\ncontent-length: 18446744073709551618\r\n\r\nhi",
+        HEAD,
+        "",
+        End::Refused,
+    ),
+    (
+        "PUT /b HTTP/1.1\r\ncontent-length: 2, 2\r\n\r\nhi",
+        HEAD,
+        "",
+        End::Refused,
+    ),
+    (
+        "PUT /b HTTP/1.1\r\ncontent-length: 2\r\nCONTENT-LENGTH: 2\r\n\r\nhi",
+        HEAD,
+        "",
+        End::Refused,
+    ),
+    (
+        "PUT /b HTTP/1.1\r\ncontent-length: \t2 \r\n\r\nhiGET /a HTTP/1.1\r\n\r\n",
+        B,
+        A,
+        End::Closed,
+    ),
+    (
+        "PUT /b HTTP/1.1\r\ncontent-length: 2\r\nconnection: keep-alive\r\n\r\nhi",
+        B,
+        "",
+        End::Closed,
+    ),
+    ("GET /a?b?c HTTP/1.1\r\n\r\n", A, "", End::Closed),
+    (
+        "HEAD /a HTTP/1.1\r\n\r\nGET /a HTTP/1.1\r\n\r\n",
+        A_HEAD,
+        A,
+        End::Closed,
+    ),
+    ("HEAD /none HTTP/1.1\r\n\r\n\r\n", NONE, HEAD, End::Refused),
+    (
+        "GET /a HTTP/1.1\r\nRange: \tbytes=42- \r\n\r\nGET /a HTTP/1.1\r\nrange: bytes=1234-\r\n\r\n",
+        PART,
+        OUTSIDE,
+        End::Closed,
+    ),
+    (
+        "GET /a HTTP/1.1\r\nrange: bytes=42-\r\nrange: bytes=42-\r\n\r\n",
+        A,
+        "",
+        End::Closed,
+    ),
+    (
+        "GET /a HTTP/1.1\r\nrange-x: bytes=42-\r\n\r\n",
+        A,
+        "",
+        End::Closed,
+    ),
+    (
+        "HEAD /a HTTP/1.1\r\ncontent-length: x\r\n\r\n",
+        HEAD,
+        "",
+        End::Refused,
+    ),
+];
+
+/// Serves these bytes to a writer that takes at most so many bytes a call.
+fn talk_slowly(alloc: Global, input: &[u8], size: usize) -> Result<(Vec<u8>, Served), ServeFault> {
+    let mut writer = Narrow {
+        size,
+        room: usize::MAX,
+        fails: true,
+        failed: 0,
+        taken: Vec::new(alloc),
+    };
+    let mut reader = input;
+    let served = serve(alloc, &mut reader, &mut writer, &mut Echo { alloc })?;
+    Ok((writer.taken, served))
+}
+
+#[test]
+fn replies_do_not_depend_on_the_pieces(rt: HostRuntime) -> Result<(), Fail> {
+    for (input, first, second, end) in TALKS {
+        let mut want = Vec::from_slice(rt.alloc(), first.as_bytes())?;
+        want.extend_from_slice(second.as_bytes())?;
+        let requests = u64::from(!first.is_empty()) + u64::from(!second.is_empty());
+        for size in [1, 2, 7, 64, 4_096] {
+            let (out, served) = talk(rt.alloc(), input.as_bytes(), size)?;
+            assert_eq!(rt; out.as_slice(), want.as_slice(), "of {input} by {size}");
+            assert_eq!(rt; served, Served { requests, end }, "of {input} by {size}");
+        }
+    }
+    Ok(())
+}
+
+/// A write that takes only a part is no fault.
+#[test]
+fn replies_do_not_depend_on_the_writes(rt: HostRuntime) -> Result<(), Fail> {
+    for (input, first, second, end) in TALKS {
+        let mut want = Vec::from_slice(rt.alloc(), first.as_bytes())?;
+        want.extend_from_slice(second.as_bytes())?;
+        let requests = u64::from(!first.is_empty()) + u64::from(!second.is_empty());
+        for size in [1, 3, 64] {
+            let (out, served) = talk_slowly(rt.alloc(), input.as_bytes(), size)?;
+            assert_eq!(rt; out.as_slice(), want.as_slice(), "of {input} by {size}");
+            assert_eq!(rt; served, Served { requests, end }, "of {input} by {size}");
+        }
+    }
+    Ok(())
+}
