@@ -60,10 +60,8 @@ fn put_number<W: Write>(out: &mut W, number: u64) -> io::Result<()>
     if number < 10 {
         return put(out, &[b'0' + number as u8]);
     }
-    match put_number(out, number / 10) {
-        Ok(()) => put(out, &[b'0' + (number % 10) as u8]),
-        Err(error) => Err(error),
-    }
+    put_number(out, number / 10)?;
+    put(out, &[b'0' + (number % 10) as u8])
 }
 
 fn put_piece<W: Write>(out: &mut W, piece: Piece<'_>) -> io::Result<()>
@@ -80,10 +78,7 @@ pub(crate) fn put_pieces<W: Write>(out: &mut W, pieces: &[Piece<'_>]) -> io::Res
     ensures { Puts (W.contents out.old) (W.contents out.new) result (pieces_text pieces.now) }
 {
     for piece in pieces {
-        match put_piece(out, *piece) {
-            Ok(()) => {}
-            Err(error) => return Err(error),
-        }
+        put_piece(out, *piece)?;
     }
     Ok(())
 }

@@ -137,10 +137,8 @@ fn write_metadata<W: Write>(metadata: Metadata<'_>, out: &mut W) -> io::Result<(
 fn write_shown<W: Write>(header: &Header, metadata: Metadata<'_>, out: &mut W) -> io::Result<()>
     ensures { Puts (W.contents out.old) (W.contents out.new) result (header_lines header.now ++ metadata_line metadata.entry) }
 {
-    match write_header(header, out) {
-        Ok(()) => write_metadata(metadata, out),
-        Err(error) => Err(error),
-    }
+    write_header(header, out)?;
+    write_metadata(metadata, out)
 }
 
 /// Writes what the header of an archive says, and the metadata that it names.

@@ -1,12 +1,15 @@
 -- The lengths of texts.
-use Rattle.std.proofs.Common.{◌≡◌, ℕ, ℤ, ◌+◌, ◌*◌, ◌≤◌, Bool, true, false, List, [], ◌∷◌, ◌++◌, length, get_or, map, take, refl, ◌∙◌, length-append, All, arith}
+use Rattle.std.proofs.Common.{◌≡◌, ℕ, ℤ, ◌+◌, ◌*◌, ◌≤◌, Bool, true, false, List, [], ◌∷◌, ◌++◌, length, get_or, map, take, refl, ◌∙◌, length-append}
+use Rattle.std.proofs.Common.{Vec, Global, All, arith}
 use Rattle.std.proofs.lemmas.List.{take_all, length-map}
 use Rattle.std.specs.List.{flat_map}
 use Rattle.feature_model.specs.declared.limits.TheConstants.{MOST_ELEMENTS, LEAST_LINE, LEAST_RING}
 use Rattle.feature_model.specs.declared.feature.World.{World}
-use Rattle.feature_model.specs.Data.{world_points, world_lines, world_polygons, text_value, natural_value}
+use Rattle.feature_model.specs.declared.feature.Geometry.{Geometry}
+use Rattle.feature_model.specs.declared.feature.Geometry.TheVariants as kinds
+use Rattle.feature_model.specs.Data.{world_points, world_lines, world_polygons, geometry_data, text_value, natural_value}
 use Rattle.feature_model.specs.Data.{negative_value, truth_value, TagData, FeatureData, put}
-use Rattle.feature_model.specs.Limits.{CountFits, RingsFit}
+use Rattle.feature_model.specs.Limits.{CountFits, RingsFit, GeometryFits}
 use Rattle.feature_model.proofs.Mapped.{All-from_map}
 use Rattle.feature_model.specs.Spelled.{two_bytes, four_bytes, eight_bytes, spelled_list, spelled_point, spelled_line, spelled_geometry}
 use Rattle.feature_model.specs.Spelled.{spelled_name, spelled_value, spelled_tag, spelled_tags, spelled_feature, spelled}
@@ -121,20 +124,39 @@ pub length-tags_all : {X : Type 0} (f : X → TagData) (xs : List X) (i len : �
     → len ≡ length (spelled_tags (map f xs))
 length-tags_all f xs i len h e = rw (length-spelled_tags (map f xs), ← take_all i xs h) e
 
--- ---- limits, as the functions on lengths ask for them
+-- ---- limits, as the functions on the lists of a geometry ask for them
 
-pub lines_within : {X : Type 0} (f : X → List World) (xs : List X) → All (CountFits LEAST_LINE) (map f xs) → All (λ x. length (f x) ≤ MOST_ELEMENTS) xs
+lines_within : {X : Type 0} (f : X → List World) (xs : List X) → All (CountFits LEAST_LINE) (map f xs) → All (λ x. length (f x) ≤ MOST_ELEMENTS) xs
 lines_within f xs h = λ k d l. (All-from_map (CountFits LEAST_LINE) f xs h k d l).1
 
-pub polygons_within : {X Y : Type 0} (f : X → List Y) (g : Y → List World) (xs : List X) → All RingsFit (map (λ x. map g (f x)) xs)
+polygons_within : {X Y : Type 0} (f : X → List Y) (g : Y → List World) (xs : List X) → All RingsFit (map (λ x. map g (f x)) xs)
     → All (λ x. length (f x) ≤ MOST_ELEMENTS) xs
 polygons_within f g xs h = λ k d l.
     let fit = All-from_map RingsFit (λ x. map g (f x)) xs h k d l in
     let e = length-map (f (get_or xs k d)) g in
     omega (arith, e, fit.0.1)
 
-pub rings_within : {X Y : Type 0} (f : X → List Y) (g : Y → List World) (xs : List X) → All RingsFit (map (λ x. map g (f x)) xs)
+rings_within : {X Y : Type 0} (f : X → List Y) (g : Y → List World) (xs : List X) → All RingsFit (map (λ x. map g (f x)) xs)
     → All (λ x. All (λ y. length (g y) ≤ MOST_ELEMENTS) (f x)) xs
 rings_within f g xs h = λ k d l.
     let fit = All-from_map RingsFit (λ x. map g (f x)) xs h k d l in
     λ j y m. (All-from_map (CountFits LEAST_RING) g (f (get_or xs k d)) fit.1 j y m).1
+
+module _ {geometry : Geometry} where
+  pub lines_short : {lines : Vec (Vec World Global) Global} {xs : List (Vec World Global)} → geometry ≡ kinds.Lines lines → xs ≡ lines.items
+      → GeometryFits (geometry_data geometry) → All (λ l. length l.items ≤ MOST_ELEMENTS) xs
+  lines_short {lines} is whole fits =
+      let fit = rw is at fits in
+      rw whole (lines_within (λ l. l.items) lines.items fit.1)
+
+  module _ {polygons : Vec (Vec (Vec World Global) Global) Global} {xs : List (Vec (Vec World Global) Global)} (is : geometry ≡ kinds.Polygons polygons)
+      (whole : xs ≡ polygons.items) (fits : GeometryFits (geometry_data geometry)) where
+    pub polygons_short : All (λ p. length p.items ≤ MOST_ELEMENTS) xs
+    polygons_short =
+        let fit = rw is at fits in
+        rw whole (polygons_within (λ p. p.items) (λ r. r.items) polygons.items fit.1)
+
+    pub rings_short : All (λ p. All (λ r. length r.items ≤ MOST_ELEMENTS) p.items) xs
+    rings_short =
+        let fit = rw is at fits in
+        rw whole (rings_within (λ p. p.items) (λ r. r.items) polygons.items fit.1)
