@@ -1,20 +1,20 @@
 -- Tile entries that were listed lie inside the section of the tiles, and have no more ids than there are.
 use Rattle.std.proofs.Common.{◌≡◌, ℕ, zero, suc, ◌+◌, ◌^◌, ◌<◌, ◌≤◌, List, [], ◌∷◌, ◌++◌, inl, inr, sym, subst, Ok, arith}
 use Rattle.std.specs.List.{AllByRecursion}
+use Rattle.hilbert_id.specs.declared.number.TheConstants.{TILE_IDS}
 use Rattle.pm_header.specs.declared.header.Header.{Header}
 use Rattle.pm_directory.specs.declared.entry.Entry.{Entry}
 use Rattle.pm_directory.specs.Counts.{addressed_by}
 use Rattle.pm_directory.specs.Directory.{IsAscending, AscendFrom, IsEntry, ids_behind}
 use Rattle.pm_archive.specs.Entries.{LiesIn, AreBetween, bound_of, EachLists, ListsTile, Lists}
 use Rattle.pm_archive.specs.declared.limits.TheConstants.{MOST_LEAVES}
-use Rattle.pm_directory.specs.declared.entry.TheConstants.{IDS_END}
 use Rattle.pm_archive.specs.Reading.{list_at}
 use Rattle.pm_archive.proofs.ListedEntries.{list_ok}
 use Rattle.pm_archive.proofs.LookedLaws.{each_lie, lists_lie}
 
 pub listed_inside : (bytes : List ℕ) (h : Header) (root tiles : List Entry) → list_at bytes h root ≡ Ok tiles → AllByRecursion (LiesIn h.tiles) tiles
 listed_inside bytes h root tiles r =
-    each_lie h (Lists bytes h MOST_LEAVES) (lists_lie bytes h MOST_LEAVES) IDS_END root tiles (list_ok bytes h root tiles r)
+    each_lie h (Lists bytes h MOST_LEAVES) (lists_lie bytes h MOST_LEAVES) TILE_IDS root tiles (list_ok bytes h root tiles r)
 
 -- ---- how many ids they have
 
@@ -79,14 +79,14 @@ module _ (bytes : List ℕ) (h : Header) where
             (starts e.id 0 d.0 d.1.directory.ascending (between_start e.id bound d.0 between)) (between_end e.id bound d.0 between) d.2
       ]
 
-  fitting : (es : List Entry) → AllByRecursion IsEntry es → AllByRecursion (λ e. e.id + e.run ≤ IDS_END) es
+  fitting : (es : List Entry) → AllByRecursion IsEntry es → AllByRecursion (λ e. e.id + e.run ≤ TILE_IDS) es
   fitting [] all = tt
   fitting (e ∷ es) all = (all.0.ids_fit, fitting es all.1)
 
   -- what they address has 64 bits
   pub listed_fit : (root tiles : List Entry) → IsAscending root → AllByRecursion IsEntry root → list_at bytes h root ≡ Ok tiles → addressed_by tiles < 2 ^ 64
   listed_fit root tiles ascending each r =
-      let all : AreFew 0 IDS_END tiles =
-      each_counted (Lists bytes h MOST_LEAVES) (lists_counted MOST_LEAVES) 0 IDS_END root tiles (omega arith) ascending (fitting root each)
+      let all : AreFew 0 TILE_IDS tiles =
+      each_counted (Lists bytes h MOST_LEAVES) (lists_counted MOST_LEAVES) 0 TILE_IDS root tiles (omega arith) ascending (fitting root each)
       (list_ok bytes h root tiles r) in
       omega arith

@@ -2,6 +2,7 @@
 use Rattle.std.proofs.Common.{◌≡◌, ℕ, List, [], ◌∷◌, ◌++◌, Result, Ok, Err, sym, ap, subst, ◌∙◌}
 use Rattle.std.specs.List.{AllByRecursion}
 use Rattle.std.specs.Prelude.{IfOk, IfErr, MatchResult}
+use Rattle.hilbert_id.specs.declared.number.TheConstants.{TILE_IDS}
 use Rattle.pm_header.specs.declared.header.Header.{Header}
 use Rattle.pm_directory.specs.declared.entry.Entry.{Entry}
 use Rattle.pm_directory.specs.Directory.{IsDirectory}
@@ -13,7 +14,6 @@ use Rattle.pm_archive.specs.Answers.{IsOutside, UnlessOutside}
 use Rattle.pm_archive.specs.Sections.{HasSections, section_bytes}
 use Rattle.pm_archive.specs.Entries.{HasEntries, EachLists, Lists}
 use Rattle.pm_archive.specs.declared.limits.TheConstants.{MOST_LEAVES}
-use Rattle.pm_directory.specs.declared.entry.TheConstants.{IDS_END}
 use Rattle.pm_archive.specs.Archive.{HasCounts}
 use Rattle.pm_archive.specs.Reading.{list_at}
 use Rattle.pm_archive.specs.Verified.{HasTile, IsSound, IsVerified, HasOtherCount, VerifyingHas, report_of}
@@ -32,9 +32,9 @@ listed bytes h root tiles dir has =
     ap (list_at bytes h) (one_directory (section_bytes h.root bytes) root has.0 dir has.1) ∙ list_only bytes h has.0 tiles has.2
 
 pub has_each : (bytes : List ℕ) (h : Header) (root tiles : List Entry) → IsDirectory (section_bytes h.root bytes) root → HasEntries bytes h tiles
-    → EachLists (Lists bytes h MOST_LEAVES) IDS_END root tiles
+    → EachLists (Lists bytes h MOST_LEAVES) TILE_IDS root tiles
 has_each bytes h root tiles dir has =
-    subst (λ (es : List Entry). EachLists (Lists bytes h MOST_LEAVES) IDS_END es tiles) (one_directory (section_bytes h.root bytes) has.0 root has.1 dir) has.2
+    subst (λ (es : List Entry). EachLists (Lists bytes h MOST_LEAVES) TILE_IDS es tiles) (one_directory (section_bytes h.root bytes) has.0 root has.1 dir) has.2
 
 module _ {X : Type 0} (view : X → List Entry) (bytes : List ℕ) (h : Header) (items root : List Entry) (same : items ≡ root) where
   pub listed_found : (r : Result X ArchiveFault) → IsDirectory (section_bytes h.root bytes) root → GivesUnless IsOutside view r (list_at bytes h items)

@@ -2,6 +2,7 @@
 use Rattle.std.proofs.Common.{◌≡◌, ℕ, zero, suc, ◌+◌, ◌<◌, max, Bool, cond, ltb, leb, List, [], ◌∷◌, ◌++◌, Option, Some, None, Ok, Err, inl, inr, refl, sym, ap}
 use Rattle.std.proofs.Common.{◌∙◌, arith}
 use Rattle.std.proofs.lemmas.Bool.{ltb-true, ltb-false, leb-true, le-ltb, le-leb, lt-ltb}
+use Rattle.hilbert_id.specs.declared.number.TheConstants.{TILE_IDS}
 use Rattle.pm_header.specs.declared.header.Header.{Header}
 use Rattle.pm_directory.specs.declared.entry.Entry.{Entry}
 use Rattle.pm_directory.specs.declared.fault.DirectoryFault.{DirectoryFault}
@@ -12,7 +13,6 @@ use Rattle.pm_archive.specs.declared.fault.ArchiveFault.{ArchiveFault}
 use Rattle.pm_archive.specs.declared.fault.ArchiveFault.TheVariants as faults
 use Rattle.pm_archive.specs.Entries.{entry_bytes, bound_of, AreBetween, EachLists, ListsTile, IsLeaf, Lists}
 use Rattle.pm_archive.specs.declared.limits.TheConstants.{MOST_LEAVES}
-use Rattle.pm_directory.specs.declared.entry.TheConstants.{IDS_END}
 use Rattle.reader.specs.Reading.{Read, ◌>>=◌}
 use Rattle.reader.proofs.Steps.{done, same_value, not_both, then_ok, pass_ok, either_ok}
 use Rattle.pm_archive.specs.Reading.{stray_id, unless_stray, directory_or_fault, directory_of_entry, leaf_at, tile_at, each_at, lists_at, list_at}
@@ -128,8 +128,8 @@ lists_only bytes h (suc more) x bound ts is =
     ]
 
 -- the tile entries that are read below a root directory are those below it
-pub list_ok : (bytes : List ℕ) (h : Header) (root ts : List Entry) → list_at bytes h root ≡ Ok ts → EachLists (Lists bytes h MOST_LEAVES) IDS_END root ts
-list_ok bytes h root ts e = each_ok (lists_at bytes h MOST_LEAVES) (Lists bytes h MOST_LEAVES) (lists_ok bytes h MOST_LEAVES) IDS_END root ts e
+pub list_ok : (bytes : List ℕ) (h : Header) (root ts : List Entry) → list_at bytes h root ≡ Ok ts → EachLists (Lists bytes h MOST_LEAVES) TILE_IDS root ts
+list_ok bytes h root ts e = each_ok (lists_at bytes h MOST_LEAVES) (Lists bytes h MOST_LEAVES) (lists_ok bytes h MOST_LEAVES) TILE_IDS root ts e
 
-pub list_only : (bytes : List ℕ) (h : Header) (root ts : List Entry) → EachLists (Lists bytes h MOST_LEAVES) IDS_END root ts → list_at bytes h root ≡ Ok ts
-list_only bytes h root ts each = each_only (lists_at bytes h MOST_LEAVES) (Lists bytes h MOST_LEAVES) (lists_only bytes h MOST_LEAVES) IDS_END root ts each
+pub list_only : (bytes : List ℕ) (h : Header) (root ts : List Entry) → EachLists (Lists bytes h MOST_LEAVES) TILE_IDS root ts → list_at bytes h root ≡ Ok ts
+list_only bytes h root ts each = each_only (lists_at bytes h MOST_LEAVES) (Lists bytes h MOST_LEAVES) (lists_only bytes h MOST_LEAVES) TILE_IDS root ts each

@@ -2,17 +2,13 @@
 use Rattle.std.specs.Prelude.{◌≡◌, ℕ, zero, suc, ◌+◌, ◌<◌, ◌≤◌, ◌⊎◌, List, [], ◌∷◌, ◌++◌, slice_range, Option, Some, None, if◌then◌else◌, nat_le, nat_lt, ◌&&◌}
 use Rattle.std.specs.Prelude.{◌==◌}
 use Rattle.std.specs.List.{AllByRecursion}
+use Rattle.hilbert_id.specs.declared.number.TheConstants.{TILE_IDS}
 use Rattle.pm_header.specs.declared.part.Part.{Part}
 use Rattle.pm_header.specs.declared.header.Header.{Header}
 use Rattle.pm_directory.specs.declared.entry.Entry.{Entry}
-use Rattle.pm_directory.specs.declared.entry.TheConstants.{IDS_END}
 use Rattle.pm_directory.specs.Directory.{IsDirectory, ids_behind}
 use Rattle.pm_archive.specs.declared.limits.TheConstants.{MOST_LEAVES}
 use Rattle.pm_archive.specs.Sections.{section_bytes}
-
--- the ids of all tiles are below this number
-abbrev pub ids_end : ℕ
-ids_end = IDS_END
 
 -- the bytes of an entry, whose offset is counted from the start of its section
 abbrev pub entry_bytes : Part → Entry → List ℕ → List ℕ
@@ -63,7 +59,7 @@ Lists bytes h (suc more) e bound tiles = ListsTile h e tiles
 
 -- these are the tile entries below the root directory, in ascending order
 abbrev pub HasEntries : List ℕ → Header → List Entry → Type 0
-HasEntries bytes h tiles = (root : List Entry) × IsDirectory (section_bytes h.root bytes) root × EachLists (Lists bytes h MOST_LEAVES) IDS_END root tiles
+HasEntries bytes h tiles = (root : List Entry) × IsDirectory (section_bytes h.root bytes) root × EachLists (Lists bytes h MOST_LEAVES) TILE_IDS root tiles
 
 -- the entry whose run has the id
 abbrev pub entry_of : List Entry → ℕ → Option Entry

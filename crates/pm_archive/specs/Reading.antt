@@ -2,11 +2,11 @@
 use Rattle.std.specs.Prelude.{◌≡◌, ◌≢◌, ℕ, zero, suc, ◌+◌, ◌<◌, ◌≤◌, ◌⊎◌, max, List, [], ◌∷◌, ◌++◌, length, take, slice_index, Ok, Err, Option, Some, None}
 use Rattle.std.specs.Prelude.{if◌then◌else◌, nat_lt, nat_le}
 use Rattle.reader.specs.Reading.{Read, ◌>>=◌}
+use Rattle.hilbert_id.specs.declared.number.TheConstants.{TILE_IDS}
 use Rattle.pm_header.specs.declared.header.Header.{Header}
 use Rattle.pm_header.specs.declared.header.TheConstants.{HEADER_BYTES}
 use Rattle.pm_header.specs.Layout.{IsHeader, magic}
 use Rattle.pm_directory.specs.declared.entry.Entry.{Entry}
-use Rattle.pm_directory.specs.declared.entry.TheConstants.{IDS_END}
 use Rattle.pm_directory.specs.declared.fault.DirectoryFault.{DirectoryFault}
 use Rattle.pm_directory.specs.declared.fault.DirectoryFault.TheVariants as directory_faults
 use Rattle.pm_directory.specs.Directory.{IsDirectory, ids_behind}
@@ -98,4 +98,4 @@ lists_at bytes h (suc more) e bound = if nat_lt 0 e.run then tile_at h e else (l
 
 -- the tile entries below a root directory of these entries, or the first fault
 abbrev pub list_at : List ℕ → Header → List Entry → Read ArchiveFault (List Entry)
-list_at bytes h root = each_at (lists_at bytes h MOST_LEAVES) IDS_END root
+list_at bytes h root = each_at (lists_at bytes h MOST_LEAVES) TILE_IDS root

@@ -3,7 +3,7 @@
 ghost use Rattle.std.specs.Prelude.{◌≡◌, ◌-◌, ◌^◌, ◌<◌, ◌↔◌, List, map, min, IfOk, IfErr, OnOk, IsTrue};
 ghost use Rattle.std.specs.BTreeSet.{IsFromIterResult};
 ghost use Rattle.pm_directory.specs.declared.entry.Entry.{Entry};
-ghost use Rattle.pm_directory.specs.Counts.{addressed_by, contents_of, place_of};
+ghost use Rattle.pm_directory.specs.Counts.{addressed_by, contents_of, span_of};
 ghost use Rattle.pm_archive.specs.declared.fault.Count.{Count};
 ghost use Rattle.pm_archive.specs.Archive.{Says, HasCounts};
 ghost use Rattle.pm_archive.specs.Verified.{report_of};
@@ -29,7 +29,7 @@ fn addressed(tiles: &[Entry]) -> u64
 
 // Where the contents of the entries lie.
 fn spans(alloc: Global, tiles: &[Entry]) -> Result<BTreeSet<(u64, u32)>, AllocError>
-    ensures { IfOk result (λ spans. IsFromIterResult span_cmp (map place_of tiles.now) spans) }
+    ensures { IfOk result (λ spans. IsFromIterResult span_cmp (map span_of tiles.now) spans) }
 {
     tiles
         .iter()

@@ -13,7 +13,8 @@ use crate::fault::ArchiveFault;
 use crate::limits::MOST_LEAVES;
 use crate::reading::{directory_of, lies_in};
 use crate::source::Bytes;
-use pm_directory::{Entry, IDS_END};
+use hilbert_id::TILE_IDS;
+use pm_directory::Entry;
 use pm_header::Header;
 use std::alloc::Global;
 
@@ -175,7 +176,7 @@ pub(crate) fn entries_below<B: Bytes>(
         source,
         header,
         root,
-        IDS_END,
+        TILE_IDS,
         MOST_LEAVES,
         &mut tiles,
     )?;

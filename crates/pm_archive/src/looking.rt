@@ -16,7 +16,8 @@ use crate::fault::ArchiveFault;
 use crate::limits::MOST_LEAVES;
 use crate::reading::{content_of, directory_of};
 use crate::source::Bytes;
-use pm_directory::{Entry, IDS_END, find};
+use hilbert_id::TILE_IDS;
+use pm_directory::{Entry, find};
 use pm_header::Header;
 use std::alloc::Global;
 
@@ -115,7 +116,7 @@ pub(crate) fn content_below<B: Bytes>(
     requires placed { ArePlaced (B.count source.old) header.now }
     requires ascending { IsAscending root.now }
     ensures source { Keeps B.count B.holds B.fails B.unchanged source.old source.new }
-    ensures content { (bytes : List ℕ) (tiles : List Entry) → B.holds source.new bytes → EachLists (Lists bytes header.now MOST_LEAVES) IDS_END root.now tiles
+    ensures content { (bytes : List ℕ) (tiles : List Entry) → B.holds source.new bytes → EachLists (Lists bytes header.now MOST_LEAVES) TILE_IDS root.now tiles
         → MatchResult result (λ content. option_map (λ v. v.items) content ≡ content_of bytes header.now tiles id) IsOutside }
     ensures first { (bytes : List ℕ) → B.holds source.new bytes
         → GivesUnless IsOutside (option_map (λ v. v.items)) result (looked_at bytes header.now root.now id) }

@@ -3,7 +3,7 @@ use pm_directory::Entry;
 use std::alloc::Global;
 use std::test::Fail;
 
-fn entry(id: u64, run: u32, length: u32, offset: u64) -> Entry {
+pub(crate) fn entry(id: u64, run: u32, length: u32, offset: u64) -> Entry {
     Entry {
         id,
         run,
@@ -13,43 +13,26 @@ fn entry(id: u64, run: u32, length: u32, offset: u64) -> Entry {
 }
 
 // Three tiles of one content.
-const TILES: [u8; 223] = [
-    0x50, 0x4d, 0x54, 0x69, 0x6c, 0x65, 0x73, 3, // magic, version
-    127, 0, 0, 0, 0, 0, 0, 0, 9, 0, 0, 0, 0, 0, 0, 0, // root
-    136, 0, 0, 0, 0, 0, 0, 0, 66, 0, 0, 0, 0, 0, 0, 0, // metadata
-    202, 0, 0, 0, 0, 0, 0, 0, 0, 0, 0, 0, 0, 0, 0, 0, // leaves
-    202, 0, 0, 0, 0, 0, 0, 0, 21, 0, 0, 0, 0, 0, 0, 0, // tiles
-    3, 0, 0, 0, 0, 0, 0, 0, 2, 0, 0, 0, 0, 0, 0, 0, 1, 0, 0, 0, 0, 0, 0, 0, // counts
-    1, 1, 1, 1, 0, 2, // clustered, compressions, kind, zooms
-    0, 0, 0, 0, 0, 0, 0, 0, 0, 0, 0, 0, 0, 0, 0, 0, // positions
-    0, 0, 0, 0, 0, 0, 0, 0, 0, // centre
-    2, 0, 5, 2, 1, 0x15, 0x15, 1, 1, // root directory
-    // {"vector_layers":[{"fields":{},"id":"p","maxzoom":2,"minzoom":0}]}
-    0x7b, 0x22, 0x76, 0x65, 0x63, 0x74, 0x6f, 0x72, 0x5f, 0x6c, 0x61, 0x79, 0x65, 0x72, 0x73, 0x22,
-    0x3a, 0x5b, 0x7b, 0x22, 0x66, 0x69, 0x65, 0x6c, 0x64, 0x73, 0x22, 0x3a, 0x7b, 0x7d, 0x2c, 0x22,
-    0x69, 0x64, 0x22, 0x3a, 0x22, 0x70, 0x22, 0x2c, 0x22, 0x6d, 0x61, 0x78, 0x7a, 0x6f, 0x6f, 0x6d,
-    0x22, 0x3a, 0x32, 0x2c, 0x22, 0x6d, 0x69, 0x6e, 0x7a, 0x6f, 0x6f, 0x6d, 0x22, 0x3a, 0x30, 0x7d,
-    0x5d, 0x7d,
-    // tile
-    0x1a, 0x13, 0x0a, 0x01, 0x70, 0x12, 0x09, 0x08, 0x07, 0x18, 0x01, 0x22, 0x03, 0x09, 0x00, 0x00,
-    0x28, 0x80, 0x20, 0x78, 0x02,
-];
+const TILES: [u8; 223] = *b"PMTiles\x03\
+    \x7f\0\0\0\0\0\0\0\x09\0\0\0\0\0\0\0\x88\0\0\0\0\0\0\0\x42\0\0\0\0\0\0\0\
+    \xca\0\0\0\0\0\0\0\0\0\0\0\0\0\0\0\xca\0\0\0\0\0\0\0\x15\0\0\0\0\0\0\0\
+    \x03\0\0\0\0\0\0\0\x02\0\0\0\0\0\0\0\x01\0\0\0\0\0\0\0\
+    \x01\x01\x01\x01\0\x02\
+    \0\0\0\0\0\0\0\0\0\0\0\0\0\0\0\0\0\0\0\0\0\0\0\0\0\
+    \x02\0\x05\x02\x01\x15\x15\x01\x01\
+    {\"vector_layers\":[{\"fields\":{},\"id\":\"p\",\"maxzoom\":2,\"minzoom\":0}]}\
+    \x1a\x13\x0a\x01\x70\x12\x09\x08\x07\x18\x01\x22\x03\x09\0\0\x28\x80\x20\x78\x02";
 
 // A leaf directory that names itself.
-const CIRCLE: [u8; 139] = [
-    0x50, 0x4d, 0x54, 0x69, 0x6c, 0x65, 0x73, 3, // magic, version
-    127, 0, 0, 0, 0, 0, 0, 0, 5, 0, 0, 0, 0, 0, 0, 0, // root
-    132, 0, 0, 0, 0, 0, 0, 0, 2, 0, 0, 0, 0, 0, 0, 0, // metadata
-    134, 0, 0, 0, 0, 0, 0, 0, 5, 0, 0, 0, 0, 0, 0, 0, // leaves
-    139, 0, 0, 0, 0, 0, 0, 0, 0, 0, 0, 0, 0, 0, 0, 0, // tiles
-    0, 0, 0, 0, 0, 0, 0, 0, 0, 0, 0, 0, 0, 0, 0, 0, 0, 0, 0, 0, 0, 0, 0, 0, // counts
-    1, 1, 1, 1, 0, 2, // clustered, compressions, kind, zooms
-    0, 0, 0, 0, 0, 0, 0, 0, 0, 0, 0, 0, 0, 0, 0, 0, // positions
-    0, 0, 0, 0, 0, 0, 0, 0, 0, // centre
-    1, 0, 0, 5, 1, // root directory
-    b'{', b'}', // metadata
-    1, 0, 0, 5, 1, // leaf directory
-];
+const CIRCLE: [u8; 139] = *b"PMTiles\x03\
+    \x7f\0\0\0\0\0\0\0\x05\0\0\0\0\0\0\0\x84\0\0\0\0\0\0\0\x02\0\0\0\0\0\0\0\
+    \x86\0\0\0\0\0\0\0\x05\0\0\0\0\0\0\0\x8b\0\0\0\0\0\0\0\0\0\0\0\0\0\0\0\
+    \0\0\0\0\0\0\0\0\0\0\0\0\0\0\0\0\0\0\0\0\0\0\0\0\
+    \x01\x01\x01\x01\0\x02\
+    \0\0\0\0\0\0\0\0\0\0\0\0\0\0\0\0\0\0\0\0\0\0\0\0\0\
+    \x01\0\0\x05\x01\
+    {}\
+    \x01\0\0\x05\x01";
 
 #[test]
 fn tile_entries_are_listed(rt: HostRuntime) -> Result<(), Fail> {

@@ -5,6 +5,7 @@ use crate::counting::{check_counts, told};
 use crate::fault::{ArchiveFault, Count};
 use crate::metadata::is_metadata;
 use crate::report::Report;
+use crate::tests::entry;
 use pm_directory::Entry;
 use pm_header::{HEADER_BYTES, Header, HeaderFault, Part};
 use std::alloc::Global;
@@ -30,31 +31,11 @@ fn unknown() -> Result<Header, HeaderFault> {
     Header::from_bytes(&bytes)
 }
 
-// Two runs of one content, and another content behind it.
-const TILES: [Entry; 3] = [
-    Entry {
-        id: 0,
-        run: 2,
-        length: 21,
-        offset: 0,
-    },
-    Entry {
-        id: 5,
-        run: 1,
-        length: 21,
-        offset: 0,
-    },
-    Entry {
-        id: 7,
-        run: 3,
-        length: 9,
-        offset: 21,
-    },
-];
-
 #[test]
 fn counts_entries(rt: HostRuntime) -> Result<(), Fail> {
-    let report = told(rt.alloc(), &TILES)?;
+    // Two runs of one content, and another content behind it.
+    let tiles = [entry(0, 2, 21, 0), entry(5, 1, 21, 0), entry(7, 3, 9, 21)];
+    let report = told(rt.alloc(), &tiles)?;
     assert_eq!(rt;
         report,
         Report {
@@ -98,12 +79,7 @@ fn tiles_are_read(rt: HostRuntime) -> Result<(), Fail> {
 const SECTION: [u8; 11] = [0x1a, 5, 0x0a, 1, b'p', 0x78, 2, 0x1a, 2, 0x78, 2];
 
 fn tile(id: u64, length: u32, offset: u64) -> Entry {
-    Entry {
-        id,
-        run: 1,
-        length,
-        offset,
-    }
+    entry(id, 1, length, offset)
 }
 
 // What becomes of tile entries over these bytes.

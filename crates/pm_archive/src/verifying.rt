@@ -22,13 +22,8 @@ use crate::reading::bytes_at;
 use crate::report::Report;
 use crate::source::Bytes;
 use pm_directory::Entry;
-use pm_header::Header;
+use pm_header::{Header, NOT_COMPRESSED, VECTOR_TILES};
 use std::alloc::Global;
-
-// The kind of archives of vector tiles, and what says that nothing is compressed.
-const VECTOR_TILES: u8 = 1;
-
-const NOT_COMPRESSED: u8 = 1;
 
 // The metadata are an object.
 fn check_is_metadata(is: bool) -> Result<(), ArchiveFault>

@@ -11,7 +11,7 @@ use Rattle.std.proofs.lemmas.List.{append_assoc, length-append}
 use Rattle.std.proofs.lemmas.List.Elements.{All-contains, All-from_recursion}
 use Rattle.std.proofs.lemmas.Map.Made.{length-from_keys, is_member-Decides}
 use Rattle.std.proofs.lemmas.Slice.Eq.{bytes_eq-Decides}
-use Rattle.pm_directory.specs.Counts.{place_of, same_place, contents_of}
+use Rattle.pm_directory.specs.Counts.{span_of, same_span, contents_of}
 use Rattle.pm_directory.specs.declared.entry.Entry.{Entry}
 use Rattle.pm_build.specs.Runs.{TileRun}
 use Rattle.pm_build.specs.Offsets.{offset_from, spans_from, EachPlaced, ArePlacedRuns}
@@ -56,27 +56,27 @@ stands from (c ∷ cs) q k h = by (bytes_eq q c) refl (stands (from + length c) 
 
 -- ---- the test of two spans
 
-span_Decides : (p q : ℕ × ℕ) → Decides (same_place p q) (p ≡ q)
+span_Decides : (p q : ℕ × ℕ) → Decides (same_span p q) (p ≡ q)
 span_Decides p q =
     let both = Decides-and (eqb p.0 q.0) (eqb p.1 q.1) (Decides-eqb p.0 q.0) (Decides-eqb p.1 q.1) in (
       λ h. let e = both.0 h in ap (λ (n : ℕ). let x : ℕ × ℕ = (n, p.1) in x) e.0 ∙ ap (λ (n : ℕ). let x : ℕ × ℕ = (q.0, n) in x) e.1,
       λ h. both.1 (ap (λ (x : ℕ × ℕ). x.0) h, ap (λ (x : ℕ × ℕ). x.1) h),
     )
 
-span_laws : IsEquivalence same_place
-span_laws = decided same_place span_Decides
+span_laws : IsEquivalence same_span
+span_laws = decided same_span span_Decides
 
 -- ---- no two contents have one span
 
-apart_behind : (x : ℕ × ℕ) (from : ℕ) (cs : List (List ℕ)) → x.0 < from → AllByRecursion (λ y. same_place x y ≡ false) (spans_from from cs)
+apart_behind : (x : ℕ × ℕ) (from : ℕ) (cs : List (List ℕ)) → x.0 < from → AllByRecursion (λ y. same_span x y ≡ false) (spans_from from cs)
 apart_behind x from [] lt = tt
 apart_behind x from (c ∷ cs) lt = (
-  false_from_ne_true (same_place x (from, length c))
+  false_from_ne_true (same_span x (from, length c))
       (λ h. let e : x.0 ≡ from = ap (λ (p : ℕ × ℕ). p.0) ((span_Decides x (from, length c)).0 h) in omega arith),
   apart_behind x (from + length c) cs (omega arith),
 )
 
-distinct_spans : (from : ℕ) (cs : List (List ℕ)) → AllByRecursion (λ c. 0 < length c) cs → IsDistinct same_place (spans_from from cs)
+distinct_spans : (from : ℕ) (cs : List (List ℕ)) → AllByRecursion (λ c. 0 < length c) cs → IsDistinct same_span (spans_from from cs)
 unfolding IsDistinct
 distinct_spans from [] h = tt
 distinct_spans from (c ∷ cs) h = (apart_behind (from, length c) (from + length c) cs (let some = h.0 in omega arith), distinct_spans (from + length c) cs h.1)
@@ -88,21 +88,21 @@ length_spans from (c ∷ cs) = ap suc (length_spans (from + length c) cs)
 -- ---- the spans of the entries are those of the contents
 
 listed_spans : (cs : List (List ℕ)) (rs : List TileRun) (es : List Entry) → EachPlaced cs rs es
-    → AllByRecursion (Contains (spans_from 0 cs)) (map place_of es)
+    → AllByRecursion (Contains (spans_from 0 cs)) (map span_of es)
 listed_spans cs [] [] h = tt
 listed_spans cs [] (e ∷ es) h = absurd h
 listed_spans cs (r ∷ rs) [] h = absurd h
 listed_spans cs (r ∷ rs) (e ∷ es) h =
-    let span : (e.offset, length r.content) ≡ place_of e = ap (λ (n : ℕ). let p : ℕ × ℕ = (e.offset, n) in p) (sym h.0.length_is) in
+    let span : (e.offset, length r.content) ≡ span_of e = ap (λ (n : ℕ). let p : ℕ × ℕ = (e.offset, n) in p) (sym h.0.length_is) in
     (subst (λ (p : ℕ × ℕ). Contains (spans_from 0 cs) p) span (stands 0 cs r.content e.offset h.0.offset_is).listed, listed_spans cs rs es h.1)
 
 -- two lists of spans have the same spans
 same_members : (xs ys : List (ℕ × ℕ)) → AllByRecursion (Contains ys) xs → AllByRecursion (Contains xs) ys → (q : ℕ × ℕ)
-    → is_member same_place xs q ≡ is_member same_place ys q
+    → is_member same_span xs q ≡ is_member same_span ys q
 same_members xs ys in_ys in_xs q =
     let one = is_member-Decides span_Decides xs q in
     let other = is_member-Decides span_Decides ys q in
-    same_from_decides (is_member same_place xs q) (is_member same_place ys q) one (
+    same_from_decides (is_member same_span xs q) (is_member same_span ys q) one (
       λ h. All-contains (Contains xs) ys q (All-from_recursion (Contains xs) ys in_xs) (other.0 h),
       λ h. other.1 (All-contains (Contains ys) xs q (All-from_recursion (Contains ys) xs in_ys) h),
     )
@@ -110,5 +110,5 @@ same_members xs ys in_ys in_xs q =
 pub as_many_spans : (rs : List TileRun) (es : List Entry) (cs : List (List ℕ)) → ArePlacedRuns rs es cs → AllByRecursion (λ c. 0 < length c) cs
     → contents_of es ≡ length cs
 as_many_spans rs es cs h some =
-    sym (length-from_keys span_laws (spans_from 0 cs) (map place_of es) (distinct_spans 0 cs some)
-    (same_members (spans_from 0 cs) (map place_of es) h.reached (listed_spans cs rs es h.each))) ∙ length_spans 0 cs
+    sym (length-from_keys span_laws (spans_from 0 cs) (map span_of es) (distinct_spans 0 cs some)
+    (same_members (spans_from 0 cs) (map span_of es) h.reached (listed_spans cs rs es h.each))) ∙ length_spans 0 cs

@@ -4,6 +4,7 @@ use Rattle.std.proofs.Common.{arith}
 use Rattle.std.specs.List.{AllByRecursion, Contains, concat, slice_range}
 use Rattle.std.proofs.lemmas.List.{length-append, take_at, drop_at}
 use Rattle.std.proofs.lemmas.List.Elements.{All-contains, All-from_recursion}
+use Rattle.hilbert_id.specs.declared.number.TheConstants.{TILE_IDS}
 use Rattle.pm_directory.specs.Directory.{AscendFrom, IsEntry}
 use Rattle.pm_directory.specs.declared.entry.Entry.{Entry}
 use Rattle.pm_build.specs.declared.run.Run.{Run}
@@ -78,12 +79,12 @@ ascend from cs (r ∷ rs) (e ∷ es) counts h t =
 -- ---- what an entry may say
 
 record IsRun (r : TileRun) : Type 0 where
-  ids_fit : r.first + r.count ≤ 6148914691236517205
+  ids_fit : r.first + r.count ≤ TILE_IDS
   some : 0 < length r.content
   length_fits : length r.content < 2 ^ 32
 
 inside_run : (first count : ℕ) (content : List ℕ) (ts : List Tile) → AllByRecursion IsTile (repeated first (suc count) content ++ ts)
-    → (first + suc count ≤ 6148914691236517205) × (0 < length content) × (length content < 2 ^ 32) × AllByRecursion IsTile ts
+    → (first + suc count ≤ TILE_IDS) × (0 < length content) × (length content < 2 ^ 32) × AllByRecursion IsTile ts
 inside_run first zero content ts h = ((let low = h.0.0 in omega arith), h.0.1, h.0.2, h.1)
 inside_run first (suc count) content ts h = let on = inside_run (suc first) count content ts h.1 in ((let low = on.0 in omega arith), h.0.1, h.0.2, on.3)
 

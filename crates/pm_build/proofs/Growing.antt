@@ -6,7 +6,7 @@ use Rattle.std.specs.Str.{bytes_eq}
 use Rattle.std.proofs.lemmas.Bool.{true≢false}
 use Rattle.std.proofs.lemmas.List.{length-append, map_push, take_more, take_all}
 use Rattle.std.proofs.lemmas.List.Elements.{Contains-append_left, Contains-push}
-use Rattle.pm_directory.specs.Counts.{place_of}
+use Rattle.pm_directory.specs.Counts.{span_of}
 use Rattle.pm_directory.specs.declared.entry.Entry.{Entry}
 use Rattle.pm_build.specs.declared.run.Run.{Run}
 use Rattle.pm_build.specs.Runs.{TileRun}
@@ -71,16 +71,16 @@ used_here : (rs : List TileRun) (r : TileRun) → Contains (map (λ x. x.content
 used_here rs r =
     subst (λ (x : List (List ℕ)). Contains x r.content) (sym (map_push (λ (x : TileRun). x.content) rs r)) (Contains-push (map (λ x. x.content) rs) r.content)
 
-reached_more : (es : List Entry) (e : Entry) (ps : List (ℕ × ℕ)) → AllByRecursion (λ p. Contains (map place_of es) p) ps
-    → AllByRecursion (λ p. Contains (map place_of (es ++ e ∷ [])) p) ps
+reached_more : (es : List Entry) (e : Entry) (ps : List (ℕ × ℕ)) → AllByRecursion (λ p. Contains (map span_of es) p) ps
+    → AllByRecursion (λ p. Contains (map span_of (es ++ e ∷ [])) p) ps
 reached_more es e ps h =
-    each_weaker (λ p. Contains (map place_of es) p) (λ p. Contains (map place_of (es ++ e ∷ [])) p)
-    (λ p k. subst (λ (x : List (ℕ × ℕ)). Contains x p) (sym (map_push place_of es e)) (Contains-append_left (map place_of es) (place_of e ∷ []) p k)) ps h
+    each_weaker (λ p. Contains (map span_of es) p) (λ p. Contains (map span_of (es ++ e ∷ [])) p)
+    (λ p k. subst (λ (x : List (ℕ × ℕ)). Contains x p) (sym (map_push span_of es e)) (Contains-append_left (map span_of es) (span_of e ∷ []) p k)) ps h
 
-reached_here : (es : List Entry) (e : Entry) (p : ℕ × ℕ) → place_of e ≡ p → Contains (map place_of (es ++ e ∷ [])) p
+reached_here : (es : List Entry) (e : Entry) (p : ℕ × ℕ) → span_of e ≡ p → Contains (map span_of (es ++ e ∷ [])) p
 reached_here es e p is =
-    subst (λ (q : ℕ × ℕ). Contains (map place_of (es ++ e ∷ [])) q) is
-    (subst (λ (x : List (ℕ × ℕ)). Contains x (place_of e)) (sym (map_push place_of es e)) (Contains-push (map place_of es) (place_of e)))
+    subst (λ (q : ℕ × ℕ). Contains (map span_of (es ++ e ∷ [])) q) is
+    (subst (λ (x : List (ℕ × ℕ)). Contains x (span_of e)) (sym (map_push span_of es e)) (Contains-push (map span_of es) (span_of e)))
 
 -- ---- the order of the contents
 
@@ -124,15 +124,15 @@ more_new rs r es e cs h none p =
     let offset_is : e.offset ≡ 0 + length (concat cs) = cc in
     let length_is : e.length ≡ length r.content = p.length_is in
     let ends : end_of 0 es ≡ length (concat cs) = h.ends in
-    let span : place_of e ≡ (0 + length (concat cs), length r.content) = cc in
+    let span : span_of e ≡ (0 + length (concat cs), length r.content) = cc in
     record {
       each = placed_push (cs ++ r.content ∷ []) rs es r e (placed_grown cs r.content rs es h.each) p;
       different = different_push 0 cs r.content h.different none;
       used = each_push (λ c. Contains (map (λ x. x.content) (rs ++ r ∷ [])) c) cs r.content (used_more rs r cs h.used) (used_here rs r);
       clustered = clustered_push 0 es e h.clustered (inl (omega arith));
       ends = (let grown = end_push 0 es e in let more = concat_push cs r.content in omega arith);
-      reached = subst (λ (ps : List (ℕ × ℕ)). AllByRecursion (λ p. Contains (map place_of (es ++ e ∷ [])) p) ps) (sym (spans_push 0 cs r.content))
-          (each_push (λ p. Contains (map place_of (es ++ e ∷ [])) p) (spans_from 0 cs) (0 + length (concat cs), length r.content)
+      reached = subst (λ (ps : List (ℕ × ℕ)). AllByRecursion (λ p. Contains (map span_of (es ++ e ∷ [])) p) ps) (sym (spans_push 0 cs r.content))
+          (each_push (λ p. Contains (map span_of (es ++ e ∷ [])) p) (spans_from 0 cs) (0 + length (concat cs), length r.content)
           (reached_more es e (spans_from 0 cs) h.reached) (reached_here es e _ span));
     }
 

@@ -6,6 +6,7 @@ use Rattle.std.specs.declared.alloc.Global.{Global}
 use Rattle.std.proofs.lemmas.Bool.{false≢true, eqb-true, eq-eqb, ltb-true, lt-ltb, and_parts, and_from}
 use Rattle.std.proofs.lemmas.List.{nil_from_length}
 use Rattle.std.proofs.lemmas.Slice.Eq.{bytes_eq-Decides}
+use Rattle.hilbert_id.specs.declared.number.TheConstants.{TILE_IDS}
 use Rattle.pm_build.specs.Tiles.{Tile, IsTile, tile_views}
 use Rattle.pm_build.specs.Runs.{TileRun, repeated, tiles_in, CanJoin, NoneJoin, AreLongestRuns}
 use Rattle.pm_build.specs.declared.run.Run.{Run}
@@ -61,7 +62,7 @@ left_first tiles left t bytes is same = ap tile_views is ∙ ap (λ (b : List �
 pub record InRun (runs : List TileRun) (run : Run) (left : List Tile) : Type 0 where
   pub so_far : runs_from (run_view run) left ≡ runs
   pub tiles_left : AllByRecursion IsTile left
-  pub fits : run.first + run.count ≤ 6148914691236517205
+  pub fits : run.first + run.count ≤ TILE_IDS
 
 pub run_begun : (t : ℕ × Vec ℕ Global) (left : List (ℕ × Vec ℕ Global)) (bytes : List ℕ) (run : Run) → bytes ≡ t.1.items
     → AllByRecursion IsTile (tile_views (t ∷ left)) → run_view run ≡ run_of (t.0, bytes) → InRun (runs_of (tile_views (t ∷ left))) run (tile_views left)

@@ -3,6 +3,7 @@ use Rattle.std.proofs.Common.{◌≡◌, ℕ, zero, suc, ◌+◌, ◌*◌, ◌^�
 use Rattle.std.proofs.Common.{◌∙◌, append_assoc, arith}
 use Rattle.std.specs.List.{AllByRecursion}
 use Rattle.std.proofs.lemmas.List.{length-append, append-nil}
+use Rattle.hilbert_id.specs.declared.number.TheConstants.{TILE_IDS}
 use Rattle.pm_directory.specs.declared.entry.Entry.{Entry}
 use Rattle.pm_directory.specs.Directory.{ids_behind, AscendFrom, IsEntry, HasEnd, IsDirectory}
 use Rattle.pm_build.specs.Leaves.{StartWith, NamesLeaf, NameLeaves, AreLeaves}
@@ -86,7 +87,7 @@ pub record IsNameOf (bytes piece : List ℕ) (leaf : List Entry) (name : Entry) 
   pub length_is : name.length ≡ length piece
   pub offset_is : name.offset ≡ length bytes
 
-first_id : (id : ℕ) (leaf : List Entry) → StartWith id leaf → AllByRecursion IsEntry leaf → id ≤ 6148914691236517205
+first_id : (id : ℕ) (leaf : List Entry) → StartWith id leaf → AllByRecursion IsEntry leaf → id ≤ TILE_IDS
 first_id id [] first each = absurd first
 first_id id (e ∷ es) first each = let fits = each.0.ids_fit in omega (arith, first)
 

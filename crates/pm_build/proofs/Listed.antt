@@ -1,11 +1,12 @@
 -- What directories list.
 use Rattle.std.proofs.Common.{◌≡◌, ℕ, suc, ◌+◌, ◌<◌, ◌≤◌, List, [], ◌∷◌, ◌++◌, length, slice_range, refl, sym, ap, subst, ◌∙◌, inl, inr, arith}
 use Rattle.std.specs.List.{AllByRecursion}
+use Rattle.hilbert_id.specs.declared.number.TheConstants.{TILE_IDS}
 use Rattle.pm_header.specs.declared.header.Header.{Header}
 use Rattle.pm_directory.specs.declared.entry.Entry.{Entry}
 use Rattle.pm_directory.specs.Directory.{ids_behind, AscendFrom, IsEntry, IsDirectory}
 use Rattle.pm_archive.specs.Sections.{section_bytes}
-use Rattle.pm_archive.specs.Entries.{ids_end, entry_bytes, LiesIn, bound_of, EachLists, IsLeaf, Lists, HasEntries}
+use Rattle.pm_archive.specs.Entries.{entry_bytes, LiesIn, bound_of, EachLists, IsLeaf, Lists, HasEntries}
 use Rattle.pm_build.specs.Leaves.{StartWith, NameLeaves, AreDirectories}
 use Rattle.pm_build.proofs.Pieces.{part_of_part, all_front, all_back}
 use Rattle.pm_build.proofs.Leaves.{ascend_front, ascend_back}
@@ -34,7 +35,7 @@ ids_before : (from : ℕ) (es fs : List Entry) (f : Entry) → AscendFrom from (
 ids_before from [] fs f h = tt
 ids_before from (e ∷ es) fs f h = (comes_at (ids_behind e) es fs f h.1, ids_before (ids_behind e) es fs f h.1)
 
-ids_last : (es : List Entry) → AllByRecursion IsEntry es → AllByRecursion HasTiles es → AllByRecursion (λ e. ids_behind e ≤ ids_end) es
+ids_last : (es : List Entry) → AllByRecursion IsEntry es → AllByRecursion HasTiles es → AllByRecursion (λ e. ids_behind e ≤ TILE_IDS) es
 ids_last [] each tiles = tt
 ids_last (e ∷ es) each tiles = let fits = each.0.ids_fit in let some = tiles.0 in (omega arith, ids_last es each.1 tiles.1)
 
@@ -44,7 +45,7 @@ both P Q (e ∷ es) p q = ((p.0, q.0), both P Q es p.1 q.1)
 
 -- the ids of a leaf directory's entries are below those of the next
 below_next : (bytes : List ℕ) (from : ℕ) (front rest names : List Entry) → NameLeaves bytes names rest → AscendFrom from (front ++ rest)
-    → AllByRecursion IsEntry front → AllByRecursion HasTiles front → AllByRecursion (λ e. ids_behind e ≤ bound_of ids_end names) front
+    → AllByRecursion IsEntry front → AllByRecursion HasTiles front → AllByRecursion (λ e. ids_behind e ≤ bound_of TILE_IDS names) front
 below_next bytes from front rest [] named h each tiles = ids_last front each tiles
 below_next bytes from front rest (n ∷ ns) (next, others, parts, leaf, named) h each tiles =
     split next leaf.first (subst (λ (xs : List Entry). AscendFrom from (front ++ xs)) parts h)
@@ -62,7 +63,7 @@ from_first id from (f ∷ fs) rest first h =
 
 leaves_listed : (bytes leaves : List ℕ) (h : Header) (from : ℕ) (names es : List Entry) → section_bytes h.leaves bytes ≡ leaves
     → h.leaves.length ≡ length leaves → NameLeaves leaves names es → AscendFrom from es → AllByRecursion IsEntry es → AllByRecursion HasTiles es
-    → AllByRecursion (LiesIn h.tiles) es → EachLists (Lists bytes h 3) ids_end names es
+    → AllByRecursion (LiesIn h.tiles) es → EachLists (Lists bytes h 3) TILE_IDS names es
 leaves_listed bytes leaves h from [] es at size named ascend each tiles inside = named
 leaves_listed bytes leaves h from (n ∷ ns) es at size (front, rest, parts, leaf, named) ascend each tiles inside =
     let within = leaf.inside in
@@ -79,17 +80,17 @@ leaves_listed bytes leaves h from (n ∷ ns) es at size (front, rest, parts, lea
     let there : slice_range leaves n.offset (n.offset + n.length) ≡ entry_bytes h.leaves n bytes =
     ap (λ (xs : List ℕ). slice_range xs n.offset (n.offset + n.length)) (sym at) ∙ section
     ∙ ap (λ (j : ℕ). slice_range bytes (h.leaves.offset + n.offset) j) sums in
-    let is_leaf : IsLeaf bytes h n (bound_of ids_end ns) front = record {
+    let is_leaf : IsLeaf bytes h n (bound_of TILE_IDS ns) front = record {
       leaf = leaf.leaf;
       inside = omega arith;
       directory = subst (λ (xs : List ℕ). IsDirectory xs front) there leaf.directory;
-      between = both (λ e. n.id ≤ e.id) (λ e. ids_behind e ≤ bound_of ids_end ns) front (from_first n.id from front rest leaf.first ascend')
+      between = both (λ e. n.id ≤ e.id) (λ e. ids_behind e ≤ bound_of TILE_IDS ns) front (from_first n.id from front rest leaf.first ascend')
           (below_next leaves from front rest ns named ascend' each_front tiles_front);
     } in (
       front,
       rest,
       parts,
-      inr (front, is_leaf, tiles_listed bytes h 1 (bound_of ids_end ns) front tiles_front (all_front (LiesIn h.tiles) front rest inside')),
+      inr (front, is_leaf, tiles_listed bytes h 1 (bound_of TILE_IDS ns) front tiles_front (all_front (LiesIn h.tiles) front rest inside')),
       leaves_listed bytes leaves h from ns rest at size named (ascend_back from front rest ascend') (all_back IsEntry front rest each')
           (all_back HasTiles front rest tiles') (all_back (LiesIn h.tiles) front rest inside'),
     )
@@ -99,6 +100,6 @@ pub has_entries : (bytes root leaves : List ℕ) (h : Header) (es : List Entry) 
     → h.leaves.length ≡ length leaves → AreDirectories root leaves es → AscendFrom 0 es → AllByRecursion IsEntry es → AllByRecursion (λ e. 0 < e.run) es
     → AllByRecursion (LiesIn h.tiles) es → HasEntries bytes h es
 has_entries bytes root leaves h es at_root at_leaves size (inl d) ascend each tiles inside =
-    (es, subst (λ (xs : List ℕ). IsDirectory xs es) (sym at_root) d.0, tiles_listed bytes h 2 ids_end es tiles inside)
+    (es, subst (λ (xs : List ℕ). IsDirectory xs es) (sym at_root) d.0, tiles_listed bytes h 2 TILE_IDS es tiles inside)
 has_entries bytes root leaves h es at_root at_leaves size (inr d) ascend each tiles inside =
     (d.0, subst (λ (xs : List ℕ). IsDirectory xs d.0) (sym at_root) d.1, leaves_listed bytes leaves h 0 d.0 es at_leaves size d.2 ascend each tiles inside)

@@ -6,10 +6,11 @@ use Rattle.std.proofs.lemmas.Bool.{cases_Bool, and_parts, and_cases, eqb-false, 
 use Rattle.std.proofs.lemmas.List.{length-append, length-map}
 use Rattle.std.proofs.lemmas.List.Elements.{All-contains, All-from_recursion}
 use Rattle.std.proofs.lemmas.Map.Made.{distinct_count-le}
+use Rattle.hilbert_id.specs.declared.number.TheConstants.{TILE_IDS}
 use Rattle.pm_header.specs.declared.header.Header.{Header}
 use Rattle.pm_directory.specs.declared.entry.Entry.{Entry}
 use Rattle.pm_directory.specs.Directory.{IsEntry, HasEnd}
-use Rattle.pm_directory.specs.Counts.{addressed_by, place_of, same_place}
+use Rattle.pm_directory.specs.Counts.{addressed_by, span_of, same_span}
 use Rattle.pm_archive.specs.Sections.{section_bytes}
 use Rattle.pm_archive.specs.Entries.{entry_bytes, LiesIn, entry_of}
 use Rattle.pm_archive.specs.Archive.{content_of_entry, content_of}
@@ -27,7 +28,7 @@ IsShort c = length c < 2 ^ 32
 
 -- each tile has an id of the pyramid
 pub id_low : (tiles : List (ℕ × Vec ℕ Global)) (i : ℕ) (d : ℕ × Vec ℕ Global) → i < length tiles → AllByRecursion IsTile (tile_views tiles)
-    → (get_or tiles i d).0 < 6148914691236517205
+    → (get_or tiles i d).0 < TILE_IDS
 id_low [] i d lt each = absurd (omega arith)
 id_low (t ∷ ts) zero d lt each = each.0.0
 id_low (t ∷ ts) (suc i) d lt each = id_low ts i d (omega arith) each.1
@@ -96,10 +97,10 @@ short_used all (c ∷ cs) short used =
 
 pub contents_fit : (tiles : List Tile) (es : List Entry) (cs : List (List ℕ)) → ArePlaced tiles es cs → length es ≤ 131072 → length (concat cs) ≤ 2 ^ 49
 contents_fit tiles es cs placed few =
-    let different = distinct_count-le same_place (map place_of es) in
+    let different = distinct_count-le same_span (map span_of es) in
     let counted = placed.counted in
     let short = short_used (map (λ r. r.content) placed.runs) cs (short_contents (concat cs) placed.runs es placed.named placed.each) placed.used in
-    omega (arith, length-map es place_of)
+    omega (arith, length-map es span_of)
 
 -- ---- counts
 

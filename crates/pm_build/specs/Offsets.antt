@@ -5,7 +5,7 @@ use Rattle.std.specs.Ordering.{nat_cmp}
 use Rattle.std.specs.Str.{bytes_eq}
 use Rattle.std.specs.Cmp.Lexicographic.{slice_cmp}
 use Rattle.std.specs.BTreeMap.{get_by}
-use Rattle.pm_directory.specs.Counts.{place_of}
+use Rattle.pm_directory.specs.Counts.{span_of}
 use Rattle.pm_directory.specs.declared.entry.Entry.{Entry}
 use Rattle.pm_build.specs.declared.contents.Contents.{Contents}
 use Rattle.pm_build.specs.Runs.{TileRun}
@@ -56,4 +56,4 @@ pub record ArePlacedRuns (runs : List TileRun) (entries : List Entry) (contents 
   pub used : AllByRecursion (λ c. Contains (map (λ r. r.content) runs) c) contents
   pub clustered : IsClustered 0 entries
   pub ends : end_of 0 entries ≡ length (concat contents)
-  pub reached : AllByRecursion (λ p. Contains (map place_of entries) p) (spans_from 0 contents)
+  pub reached : AllByRecursion (λ p. Contains (map span_of entries) p) (spans_from 0 contents)

@@ -2,6 +2,7 @@
 use Rattle.std.specs.Prelude.{ℕ, suc, ◌<◌, ◌≤◌, ◌^◌, List, [], ◌∷◌, length, map, ⊤, Vec}
 use Rattle.std.specs.declared.alloc.Global.{Global}
 use Rattle.std.specs.List.{AllByRecursion}
+use Rattle.hilbert_id.specs.declared.number.TheConstants.{TILE_IDS}
 
 -- a tile by its id and its content
 abbrev pub Tile : Type 0
@@ -14,7 +15,7 @@ IdsAscend from (t ∷ ts) = (from ≤ t.0) × IdsAscend (suc t.0) ts
 
 -- an id of a tile of zooms 0 to 31, and a content that an entry can name
 abbrev pub IsTile : Tile → Type 0
-IsTile t = (t.0 < 6148914691236517205) × (0 < length t.1) × (length t.1 < 2 ^ 32)
+IsTile t = (t.0 < TILE_IDS) × (0 < length t.1) × (length t.1 < 2 ^ 32)
 
 -- tiles in ascending order of their ids
 abbrev pub AreTiles : List Tile → Type 0

@@ -1,14 +1,13 @@
 ghost use Rattle.std.specs.Prelude.{◌≡◌, ◌≤◌, ◌↔◌, IsTrue};
 ghost use Rattle.pm_build.specs.Tiles.{IsTile, tile_views, AreTiles};
 
-/// Behind the last tile id of zoom 31.
-const IDS_END: u64 = 6_148_914_691_236_517_205;
+use hilbert_id::TILE_IDS;
 
 /// Whether an id is at or behind `from`, and a content is some bytes, and not too many.
 fn is_tile(from: u64, id: u64, content: &[u8]) -> bool
     ensures { IsTrue result ↔ ((from ≤ id) × IsTile (id, content.now)) }
 {
-    from <= id && id < IDS_END && content.len() > 0 && content.len() <= u32::MAX as usize
+    from <= id && id < TILE_IDS && content.len() > 0 && content.len() <= u32::MAX as usize
 }
 
 /// Whether these are tiles from which an archive can be built: their ids ascend strictly and are those of tiles of zooms

@@ -3,8 +3,8 @@
 ghost use Rattle.std.specs.Prelude.{◌≡◌, ◌+◌, ◌<◌, ◌^◌};
 ghost use Rattle.pm_build.specs.Laid.{IsZoomOf, header_for};
 
-use hilbert_id::tile_of;
-use pm_header::{HEADER_BYTES, Header, Part};
+use hilbert_id::{TILE_IDS, tile_of};
+use pm_header::{HEADER_BYTES, Header, NOT_COMPRESSED, Part, VECTOR_TILES};
 
 /// How many bytes the sections have.
 #[derive(Clone, Copy, Debug, PartialEq, Eq)]
@@ -23,10 +23,6 @@ pub(crate) struct Counts {
     pub(crate) contents: u64,
 }
 
-// Neither directories and metadata nor tiles are compressed.
-const PLAIN: u8 = 1;
-// The contents are Mapbox vector tiles.
-const VECTOR_TILES: u8 = 1;
 // The map's edges, in degrees times 10,000,000.
 const EAST: i32 = 1_800_000_000;
 
@@ -34,7 +30,7 @@ const NORTH: i32 = 850_511_287;
 
 /// The zoom of a tile id.
 pub(crate) fn zoom_of(id: u64) -> u8
-    requires { id < 6148914691236517205 }
+    requires { id < TILE_IDS }
     ensures { IsZoomOf id result }
 {
     match tile_of(id) {
@@ -73,8 +69,8 @@ pub(crate) fn header_of(lengths: Lengths, counts: Counts, min_zoom: u8, max_zoom
         entries: counts.entries,
         contents: counts.contents,
         clustered: 1,
-        internal: PLAIN,
-        compression: PLAIN,
+        internal: NOT_COMPRESSED,
+        compression: NOT_COMPRESSED,
         kind: VECTOR_TILES,
         min_zoom,
         max_zoom,

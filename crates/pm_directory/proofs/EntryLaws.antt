@@ -3,8 +3,8 @@ use Rattle.std.proofs.Common.{◌≡◌, ℕ, zero, suc, ◌+◌, ◌-◌, ◌^�
 use Rattle.std.proofs.Common.{inl, inr, refl, sym, ap, subst, ◌∙◌, append_assoc, append-nil, arith}
 use Rattle.std.specs.List.{AllByRecursion}
 use Rattle.std.proofs.lemmas.Bool.{ltb-true, ltb-false, lt-ltb, le-ltb, eqb-true, eqb-false, ne_eqb, leb-true, leb-false, le-leb}
+use Rattle.hilbert_id.specs.declared.number.TheConstants.{TILE_IDS}
 use Rattle.pm_directory.specs.declared.entry.Entry.{Entry}
-use Rattle.pm_directory.specs.declared.entry.TheConstants.{IDS_END}
 use Rattle.pm_directory.specs.declared.fault.DirectoryFault.{DirectoryFault}
 use Rattle.pm_directory.specs.declared.fault.DirectoryFault.TheVariants as faults
 use Rattle.pm_directory.specs.Directory.{AscendFrom, IsEntry, id_deltas, offset_at, AreOffsets, runs_of, lengths_of}
@@ -43,23 +43,23 @@ id_err (Some b) delta run len offset d e =
 
 -- ---- a run
 
-run_ok : (id run r : ℕ) → run_at id run ≡ Ok r → (r ≡ run) × (run < 2 ^ 32) × (id + run ≤ IDS_END)
+run_ok : (id run r : ℕ) → run_at id run ≡ Ok r → (r ≡ run) × (run < 2 ^ 32) × (id + run ≤ TILE_IDS)
 run_ok id run r e =
-    let p = pass_ok (ltb run (2 ^ 32)) faults.Range (cond (leb (id + run) IDS_END) (Ok run) (Err faults.Range)) r e in
-    let q = pass_ok (leb (id + run) IDS_END) faults.Range (Ok run) r p.1 in
-    (sym (same_value run r q.1), ltb-true run (2 ^ 32) p.0, leb-true (id + run) IDS_END q.0)
+    let p = pass_ok (ltb run (2 ^ 32)) faults.Range (cond (leb (id + run) TILE_IDS) (Ok run) (Err faults.Range)) r e in
+    let q = pass_ok (leb (id + run) TILE_IDS) faults.Range (Ok run) r p.1 in
+    (sym (same_value run r q.1), ltb-true run (2 ^ 32) p.0, leb-true (id + run) TILE_IDS q.0)
 
-run_only : (id run : ℕ) → run < 2 ^ 32 → id + run ≤ IDS_END → run_at id run ≡ Ok run
-run_only id run small le = rw (lt-ltb run (2 ^ 32) small, le-leb (id + run) IDS_END le) refl
+run_only : (id run : ℕ) → run < 2 ^ 32 → id + run ≤ TILE_IDS → run_at id run ≡ Ok run
+run_only id run small le = rw (lt-ltb run (2 ^ 32) small, le-leb (id + run) TILE_IDS le) refl
 
 run_err : (before : Option Entry) (delta id run len offset : ℕ) (d : DirectoryFault) → id ≡ id_from before + delta → run_at id run ≡ Err d
     → EntryHas before delta run len offset d
 run_err before delta id run len offset d is e =
-    elim (pass_err (ltb run (2 ^ 32)) faults.Range d (cond (leb (id + run) IDS_END) (Ok run) (Err faults.Range)) e) [
+    elim (pass_err (ltb run (2 ^ 32)) faults.Range d (cond (leb (id + run) TILE_IDS) (Ok run) (Err faults.Range)) e) [
       | inl p ↦
-          elim (pass_err (leb (id + run) IDS_END) faults.Range d (Ok run) p.1) [
+          elim (pass_err (leb (id + run) TILE_IDS) faults.Range d (Ok run) p.1) [
             | inl q ↦ absurd (not_both run d q.1)
-            | inr q ↦ past_ids q.1 (omega (arith, leb-false (id + run) IDS_END q.0))
+            | inr q ↦ past_ids q.1 (omega (arith, leb-false (id + run) TILE_IDS q.0))
           ]
       | inr p ↦ run_large p.1 (ltb-false run (2 ^ 32) p.0)
     ]

@@ -9,12 +9,12 @@ addressed_by [] = 0
 addressed_by (e ∷ es) = e.run + addressed_by es
 
 -- where the content of an entry lies
-abbrev pub place_of : Entry → ℕ × ℕ
-place_of e = (e.offset, e.length)
+abbrev pub span_of : Entry → ℕ × ℕ
+span_of e = (e.offset, e.length)
 
-abbrev pub same_place : ℕ × ℕ → ℕ × ℕ → Bool
-same_place p q = nat_eq p.0 q.0 && nat_eq p.1 q.1
+abbrev pub same_span : ℕ × ℕ → ℕ × ℕ → Bool
+same_span p q = nat_eq p.0 q.0 && nat_eq p.1 q.1
 
 -- how many different contents they have, by place
 abbrev pub contents_of : List Entry → ℕ
-contents_of tiles = distinct_count same_place (map place_of tiles)
+contents_of tiles = distinct_count same_span (map span_of tiles)

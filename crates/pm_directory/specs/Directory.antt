@@ -2,8 +2,8 @@
 use Rattle.std.specs.Prelude.{◌≡◌, ℕ, zero, suc, ◌+◌, ◌-◌, ◌^◌, ◌<◌, ◌≤◌, ◌==◌, max, List, [], ◌∷◌, ◌++◌, length, map, Option, Some, None, ⊤, if◌then◌else◌}
 use Rattle.std.specs.List.{AllByRecursion}
 use Rattle.pb_wire.specs.Varint.{IsVarint, varint}
+use Rattle.hilbert_id.specs.declared.number.TheConstants.{TILE_IDS}
 use Rattle.pm_directory.specs.declared.entry.Entry.{Entry}
-use Rattle.pm_directory.specs.declared.entry.TheConstants.{IDS_END}
 
 -- the bytes spell these numbers, one after the other, and nothing else
 abbrev pub AreVarints : List ℕ → List ℕ → Type 0
@@ -28,7 +28,7 @@ pub record IsEntry (e : Entry) : Type 0 where
   pub some : 0 < e.length
   pub length_fits : e.length < 2 ^ 32
   pub run_fits : e.run < 2 ^ 32
-  pub ids_fit : e.id + e.run ≤ IDS_END
+  pub ids_fit : e.id + e.run ≤ TILE_IDS
   pub offset_fits : e.offset < 2 ^ 64
 
 -- the bytes that it names end before offset 2 ^ 64

@@ -1,8 +1,8 @@
 -- The faults that bytes have, each at its place.
 use Rattle.std.specs.Prelude.{◌≡◌, ℕ, ◌+◌, ◌*◌, ◌^◌, ◌<◌, ◌≤◌, ◌⊎◌, List, ◌∷◌, ◌++◌, length, Option, Some, None}
 use Rattle.pb_wire.specs.Varint.{IsVarint, IsCut, IsOverlong}
+use Rattle.hilbert_id.specs.declared.number.TheConstants.{TILE_IDS}
 use Rattle.pm_directory.specs.declared.entry.Entry.{Entry}
-use Rattle.pm_directory.specs.declared.entry.TheConstants.{IDS_END}
 use Rattle.pm_directory.specs.declared.fault.DirectoryFault.{DirectoryFault}
 use Rattle.pm_directory.specs.declared.fault.DirectoryFault.TheVariants as faults
 use Rattle.pm_directory.specs.Directory.{AreVarints, ids_behind, offset_at, IsEntry}
@@ -49,7 +49,7 @@ pub data EntryHas (before : Option Entry) (delta run len offset : ℕ) (d : Dire
   not_behind : d ≡ faults.Order → id_from before + delta < ids_from before → EntryHas before delta run len offset d
   id_large : d ≡ faults.Range → 2 ^ 64 ≤ id_from before + delta → EntryHas before delta run len offset d
   run_large : d ≡ faults.Range → 2 ^ 32 ≤ run → EntryHas before delta run len offset d
-  past_ids : d ≡ faults.Range → IDS_END < id_from before + delta + run → EntryHas before delta run len offset d
+  past_ids : d ≡ faults.Range → TILE_IDS < id_from before + delta + run → EntryHas before delta run len offset d
   no_length : d ≡ faults.Length → len ≡ 0 → EntryHas before delta run len offset d
   length_large : d ≡ faults.Range → 2 ^ 32 ≤ len → EntryHas before delta run len offset d
   no_offset : d ≡ faults.Offset → before ≡ None → offset ≡ 0 → EntryHas before delta run len offset d

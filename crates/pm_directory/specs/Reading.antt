@@ -5,8 +5,8 @@ use Rattle.pb_wire.specs.declared.fault.FaultKind.{FaultKind}
 use Rattle.pb_wire.specs.declared.fault.FaultKind.TheVariants as kinds
 use Rattle.pb_wire.specs.Varint.{varint_at}
 use Rattle.reader.specs.Reading.{Read, ◌>>=◌, repeated}
+use Rattle.hilbert_id.specs.declared.number.TheConstants.{TILE_IDS}
 use Rattle.pm_directory.specs.declared.entry.Entry.{Entry}
-use Rattle.pm_directory.specs.declared.entry.TheConstants.{IDS_END}
 use Rattle.pm_directory.specs.declared.fault.DirectoryFault.{DirectoryFault}
 use Rattle.pm_directory.specs.declared.fault.DirectoryFault.TheVariants.{Cut, Varint, Rest, Order, Length, Offset, Range}
 
@@ -38,7 +38,7 @@ id_at None delta = Ok delta
 id_at (Some b) delta = if nat_lt delta (max 1 b.run) then Err Order else (if nat_lt (b.id + delta) (2 ^ 64) then Ok (b.id + delta) else Err Range)
 
 abbrev pub run_at : ℕ → ℕ → Read DirectoryFault ℕ
-run_at id run = if nat_lt run (2 ^ 32) then (if nat_le (id + run) IDS_END then Ok run else Err Range) else Err Range
+run_at id run = if nat_lt run (2 ^ 32) then (if nat_le (id + run) TILE_IDS then Ok run else Err Range) else Err Range
 
 abbrev pub length_at : ℕ → Read DirectoryFault ℕ
 length_at len = if len == 0 then Err Length else (if nat_lt len (2 ^ 32) then Ok len else Err Range)

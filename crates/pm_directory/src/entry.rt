@@ -1,6 +1,3 @@
-/// The ids of all tiles, of zooms 0 to 31, are below this number.
-pub const IDS_END: u64 = 6_148_914_691_236_517_205;
-
 /// An entry of a directory (PMTiles 3, 4.1).
 #[derive(Clone, Copy, Debug, PartialEq, Eq)]
 pub struct Entry {

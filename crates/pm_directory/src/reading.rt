@@ -7,9 +7,10 @@ ghost use Rattle.reader.specs.Reading.{Gives};
 ghost use Rattle.pm_directory.specs.Reading.{id_at, run_at, length_at, offset_of, entry_at, entries_at, number_at, columns_at, directory_at};
 ghost use Rattle.pm_directory.specs.declared.entry.Entry.{Entry};
 
-use crate::entry::{Entry, IDS_END};
+use crate::entry::Entry;
 use crate::fault::DirectoryFault;
 use crate::numbers::{number, numbers};
+use hilbert_id::TILE_IDS;
 use std::alloc::Global;
 
 // The id so far behind that of the entry before.
@@ -27,7 +28,7 @@ fn id_behind(before: Option<Entry>, delta: u64) -> Result<u64, DirectoryFault>
 fn run_of(id: u64, run: u64) -> Result<u32, DirectoryFault>
     ensures { result ≡ run_at id run }
 {
-    if run > u64::from(u32::MAX) || id > IDS_END || IDS_END - id < run {
+    if run > u64::from(u32::MAX) || id > TILE_IDS || TILE_IDS - id < run {
         return Err(DirectoryFault::Range);
     }
     Ok(run as u32)

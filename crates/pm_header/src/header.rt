@@ -5,6 +5,10 @@ use crate::writing::{MAGIC, VERSION, header_bytes};
 
 /// How many bytes a header has.
 pub const HEADER_BYTES: usize = 127;
+/// What says in `internal` and `compression` that nothing is compressed.
+pub const NOT_COMPRESSED: u8 = 1;
+/// The `kind` of Mapbox vector tiles.
+pub const VECTOR_TILES: u8 = 1;
 
 /// What the header of an archive says (PMTiles 3, 3.2).
 ///

@@ -8,7 +8,7 @@ mod reading;
 mod writing;
 
 pub use fault::HeaderFault;
-pub use header::{HEADER_BYTES, Header};
+pub use header::{HEADER_BYTES, Header, NOT_COMPRESSED, VECTOR_TILES};
 pub use part::Part;
 
 #[cfg(test)]

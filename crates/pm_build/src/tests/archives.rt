@@ -14,19 +14,13 @@ const CONTENT: [u8; 21] = [
 ];
 
 // What stands before the metadata in an archive of the tiles 0, 1 and 5 of one content.
-const BEFORE_METADATA: [u8; 136] = [
-    0x50, 0x4d, 0x54, 0x69, 0x6c, 0x65, 0x73, 3, // magic, version
-    127, 0, 0, 0, 0, 0, 0, 0, 9, 0, 0, 0, 0, 0, 0, 0, // root
-    136, 0, 0, 0, 0, 0, 0, 0, 66, 0, 0, 0, 0, 0, 0, 0, // metadata
-    202, 0, 0, 0, 0, 0, 0, 0, 0, 0, 0, 0, 0, 0, 0, 0, // leaves
-    202, 0, 0, 0, 0, 0, 0, 0, 21, 0, 0, 0, 0, 0, 0, 0, // tiles
-    3, 0, 0, 0, 0, 0, 0, 0, 2, 0, 0, 0, 0, 0, 0, 0, 1, 0, 0, 0, 0, 0, 0, 0, // counts
-    1, 1, 1, 1, 0, 2, // clustered, compressions, kind, zooms
-    0x00, 0x2e, 0xb6, 0x94, 0x49, 0x3a, 0x4e, 0xcd, // west, south
-    0x00, 0xd2, 0x49, 0x6b, 0xb7, 0xc5, 0xb1, 0x32, // east, north
-    0, 0, 0, 0, 0, 0, 0, 0, 0, // centre
-    2, 0, 5, 2, 1, 0x15, 0x15, 1, 1, // root directory
-];
+const BEFORE_METADATA: [u8; 136] = *b"PMTiles\x03\
+    \x7f\0\0\0\0\0\0\0\x09\0\0\0\0\0\0\0\x88\0\0\0\0\0\0\0\x42\0\0\0\0\0\0\0\
+    \xca\0\0\0\0\0\0\0\0\0\0\0\0\0\0\0\xca\0\0\0\0\0\0\0\x15\0\0\0\0\0\0\0\
+    \x03\0\0\0\0\0\0\0\x02\0\0\0\0\0\0\0\x01\0\0\0\0\0\0\0\
+    \x01\x01\x01\x01\0\x02\
+    \0\x2e\xb6\x94\x49\x3a\x4e\xcd\0\xd2\x49\x6b\xb7\xc5\xb1\x32\0\0\0\0\0\0\0\0\0\
+    \x02\0\x05\x02\x01\x15\x15\x01\x01";
 
 // What `build` gives for these tiles.
 fn archive(alloc: Global, tiles: &[(u64, Vec<u8>)]) -> Result<Result<Vec<u8>, BuildFault>, Fail> {

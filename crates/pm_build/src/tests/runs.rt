@@ -17,43 +17,14 @@ fn placed<'a>(alloc: Global, tiles: &'a [(u64, Vec<u8>)]) -> Result<Placed<'a>, 
     Ok(place_runs(alloc, tiles)?)
 }
 
-/// The entries of the tiles 0, 1 and 5 of one content of 21 bytes.
-const JOINED: [Entry; 2] = [
+fn entry(id: u64, run: u32, length: u32, offset: u64) -> Entry {
     Entry {
-        id: 0,
-        run: 2,
-        length: 21,
-        offset: 0,
-    },
-    Entry {
-        id: 5,
-        run: 1,
-        length: 21,
-        offset: 0,
-    },
-];
-
-/// The entries of the tiles 3, 4 and 5, of which the first and the last have one content of 2 bytes, and the other another.
-const BROKEN: [Entry; 3] = [
-    Entry {
-        id: 3,
-        run: 1,
-        length: 2,
-        offset: 0,
-    },
-    Entry {
-        id: 4,
-        run: 1,
-        length: 2,
-        offset: 2,
-    },
-    Entry {
-        id: 5,
-        run: 1,
-        length: 2,
-        offset: 0,
-    },
-];
+        id,
+        run,
+        length,
+        offset,
+    }
+}
 
 #[test]
 fn joins_equal_contents(rt: HostRuntime) -> Result<(), Fail> {
@@ -64,7 +35,10 @@ fn joins_equal_contents(rt: HostRuntime) -> Result<(), Fail> {
         tile(alloc, 5, &[7; 21])?,
     ]?;
     let placed = placed(alloc, &tiles)?;
-    assert_eq!(rt; placed.entries.as_slice(), JOINED.as_slice());
+    assert_eq!(rt;
+        placed.entries.as_slice(),
+        [entry(0, 2, 21, 0), entry(5, 1, 21, 0)].as_slice()
+    );
     assert_eq!(rt; placed.contents.as_slice(), [[7; 21].as_slice()].as_slice());
     Ok(())
 }
@@ -78,7 +52,10 @@ fn breaks_runs_at_other_contents(rt: HostRuntime) -> Result<(), Fail> {
         tile(alloc, 5, &[7; 2])?,
     ]?;
     let placed = placed(alloc, &tiles)?;
-    assert_eq!(rt; placed.entries.as_slice(), BROKEN.as_slice());
+    assert_eq!(rt;
+        placed.entries.as_slice(),
+        [entry(3, 1, 2, 0), entry(4, 1, 2, 2), entry(5, 1, 2, 0)].as_slice()
+    );
     assert_eq!(rt;
         placed.contents.as_slice(),
         [[7, 7].as_slice(), [8, 8].as_slice()].as_slice()

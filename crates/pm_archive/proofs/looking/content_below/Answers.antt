@@ -1,8 +1,8 @@
 use Rattle.std.proofs.Common.{Err, option_map}
 use Rattle.std.proofs.lemmas.Result.{err_from_is_err_and}
+use Rattle.hilbert_id.specs.declared.number.TheConstants.{TILE_IDS}
 use Rattle.pm_archive.specs.Entries.{entry_of}
 use Rattle.pm_archive.specs.declared.limits.TheConstants.{MOST_LEAVES}
-use Rattle.pm_directory.specs.declared.entry.TheConstants.{IDS_END}
 use Rattle.pm_archive.specs.Archive.{content_of}
 use Rattle.pm_archive.specs.Looked.{reached_at, content_at}
 use Rattle.reader.proofs.Steps.{gives_found}
@@ -15,7 +15,7 @@ use Rattle.pm_archive.proofs.looking.content_below.Goals as goal
 pub returns-clause-content : goal.returns-clause-content
 returns-clause-content g c bytes tiles holds lists =
     let h = c.args.header.now in
-    let found = content_found bytes h c.args.id MOST_LEAVES IDS_END c.args.root.now tiles c.leading.result
+    let found = content_found bytes h c.args.id MOST_LEAVES TILE_IDS c.args.root.now tiles c.leading.result
     (c.leading.ensures, c.requires.ascending, lists) c.in_ok-entry.entry
     (c.in_ok-entry.ensures.first bytes (c.content_in.ensures.source.no_others bytes holds)) in
     gives_found IsOutside inside_or_outside (option_map (λ v. v.items)) c.content_in.result (content_at bytes h c.in_ok-entry.entry)
@@ -26,7 +26,7 @@ returns-in_err-entry-clause-content g c =
     let p = err_from_is_err_and c.from_residual.result c.from_residual.ensures.1 in
     rw (p.1, p.2) (λ bytes tiles holds lists.
     let h = c.args.header.now in
-    let reaches = looked_up bytes h c.args.id MOST_LEAVES IDS_END c.args.root.now tiles c.leading.result (c.leading.ensures, c.requires.ascending, lists) in
+    let reaches = looked_up bytes h c.args.id MOST_LEAVES TILE_IDS c.args.root.now tiles c.leading.result (c.leading.ensures, c.requires.ascending, lists) in
     gives_found IsOutside inside_or_outside (λ e. e) (Err c.in_err-entry.field-0.0) (reached_at bytes h c.args.id MOST_LEAVES c.leading.result)
     (entry_of tiles c.args.id) reaches (c.in_err-entry.ensures.first bytes holds))
 
