@@ -1,0 +1,148 @@
+-- A disk that was just formatted holds the empty map.
+use Rattle.std.proofs.Common.{◌≡◌, ◌⊎◌, inl, inr, ⊎_elim, ℕ, zero, suc, Bool, true, false, if◌then◌else◌, ◌<◌, ◌≤◌, ◌+◌, ◌*◌, ◌%◌}
+use Rattle.std.proofs.Common.{List, [], length, drop, take, refl, sym, ◌∙◌, ap, subst, arith, lit<, lit≤}
+use Rattle.std.specs.List.Sorted.{IsStrictlySortedBy}
+use Rattle.std.proofs.lemmas.List.Elements.{All-nil}
+use Rattle.std.proofs.Common.{Result, Err, OnOk, ◌↔◌}
+use Rattle.std.proofs.lemmas.Bool.{cases_lt}
+use Rattle.std.proofs.lemmas.Result.{on_ok_weaker}
+use Rattle.sector_disk.specs.Disk.{Image, History, MayLeave}
+use Rattle.sector_disk.specs.Moments.{LeavesOnly}
+use Rattle.sector_disk.proofs.History.{started, weaken}
+use Rattle.sector_disk.specs.declared.disk.TheConstants.{SECTOR_BYTES}
+use Rattle.generations.specs.Areas.{IsSize}
+use Rattle.generations.specs.Disks.{LiveRoot, IsFresh, HasRoot, HasNoMark, first_root}
+use Rattle.generations.specs.declared.fault.StoreFault.{StoreFault}
+use Rattle.generations.specs.declared.fault.StoreFault.TheVariants.{TooSmall, Damaged}
+use Rattle.generations.specs.declared.fault.What.TheVariants.{Size}
+use Rattle.generations.specs.declared.root.Root.{Root}
+use Rattle.generations.specs.declared.sizes.TheConstants.{LEAST_SECTORS, MOST_SECTORS}
+use Rattle.generations.specs.Sectors.{IsFormat, IsRootOf}
+use Rattle.generations.proofs.Laws.{fresh_live}
+use Rattle.edit_journal.specs.Records.{IsHeadOf}
+use Rattle.edit_journal.specs.declared.sizes.TheConstants.{RECORD_VERSION}
+use Rattle.edit_journal.proofs.Laws.{zeros_no_head}
+use Rattle.feature_store.specs.Layers.{layers, is_tile}
+use Rattle.feature_store.specs.Store.{IsMap, snapshot}
+use Rattle.mvt_layer.specs.Tile.{LayerView}
+use Rattle.tile_service.specs.Stored.{Holds, Keeps, HoldsAt, HasBytes, sector_piece, area_start, first_state, root_of}
+use Rattle.tile_service.specs.Tiles.{HasNoTile}
+use Rattle.tile_service.proofs.Roots.{root_or_none}
+
+empty_map : IsMap []
+unfolding IsStrictlySortedBy snapshot
+empty_map = record { ascending = tt; edits = All-nil _; short = lit< tt }
+
+pub no_text : snapshot [] ≡ []
+unfolding snapshot
+no_text = refl
+
+same_root : root_of first_state ≡ first_root
+unfolding snapshot
+same_root = refl
+
+none_either_way : (b : Bool) (ls : List LayerView) → ls ≡ [] → (if b then ls else []) ≡ []
+none_either_way true ls none = none
+none_either_way false ls none = refl
+
+no_tile : HasNoTile []
+unfolding layers
+no_tile z x y = none_either_way (is_tile z x y) _ refl
+
+drop_none : (n : ℕ) → ◌≡◌ {A = List ℕ} (drop n []) []
+drop_none zero = refl
+drop_none (suc n) = refl
+
+take_none : (n : ℕ) → ◌≡◌ {A = List ℕ} (take n []) []
+take_none zero = refl
+take_none (suc n) = refl
+
+no_piece : (index : ℕ) → sector_piece [] index ≡ []
+no_piece index = ap (take SECTOR_BYTES) (drop_none (SECTOR_BYTES * index)) ∙ take_none SECTOR_BYTES
+
+no_bytes : (first at : ℕ) (sector : List ℕ) → HasBytes first [] at sector
+no_bytes first at sector index is = subst (λ (piece : List ℕ). take (length piece) sector ≡ piece) (sym (no_piece index)) refl
+
+even : 0 % 2 ≡ 0
+even = omega arith
+
+module _ (count n : ℕ) (image : Image) (size : IsSize n) (within : n ≤ count) (fresh : IsFresh n image) where
+  first_live : LiveRoot count image n first_root
+  first_live = fresh_live count n image size within fresh
+
+  stands : HasRoot n image first_root → IsRootOf n 0 (image 1) first_root
+  stands (inl is) = is
+  stands (inr is) = absurd (root_or_none n 1 (image 2) first_root (fresh.empty 2 (omega arith) (omega arith)) is)
+
+  first_sector : (at : ℕ) → at ≡ 1 + 0 % 2 → at ≡ 1
+  first_sector at is = omega (arith, is, even)
+
+  each : (at : ℕ) → HoldsAt count n first_state at (image at)
+  each at = record {
+    format = λ is. subst (λ (a : ℕ). IsFormat count (image a) n) (sym is) first_live.format;
+    live = λ is. subst (λ (p : ℕ). IsRootOf n p (image at) (root_of first_state)) (sym even)
+        (subst (λ (r : Root). IsRootOf n 0 (image at) r) (sym same_root)
+        (subst (λ (a : ℕ). IsRootOf n 0 (image a) first_root) (sym (first_sector at is)) (stands first_live.stands)));
+    other = λ is. inl (fresh.empty at (omega (arith, is)) (omega (arith, is)));
+    snapshot_bytes = subst (λ (bytes : List ℕ). HasBytes (area_start n 0) bytes at (image at)) (sym no_text) (no_bytes (area_start n 0) at (image at));
+    archive_bytes = no_bytes _ at (image at);
+  }
+
+  -- an image of a disk that was just formatted holds the empty map at generation 0
+  pub fresh_holds : Holds count n first_state image
+  fresh_holds = record {
+    sectors = each;
+    journal = record {
+      records = record { edits = tt; room = omega arith; numbers = lit≤ tt; stand = λ at. tt };
+      last = λ at later inside le head. zeros_no_head RECORD_VERSION later
+          (subst (λ (s : List ℕ). IsHeadOf RECORD_VERSION later s) (fresh.empty at (omega (arith, inside.0)) inside.1) head);
+    };
+    is_map = empty_map;
+    are_edits = All-nil _;
+    is_archive = inl (no_tile, refl);
+  }
+
+-- ---- formatting
+
+fresh_or : (n : ℕ) (old : History) → IsSize n → (image : Image) → MayLeave old image ⊎ HasNoMark image ⊎ IsFresh n image
+    → MayLeave old image ⊎ HasNoMark image ⊎ Holds n n first_state image
+fresh_or n old size image (inl was) = inl was
+fresh_or n old size image (inr (inl none)) = inr (inl none)
+fresh_or n old size image (inr (inr fresh)) = inr (inr (fresh_holds n n image size (omega arith) fresh))
+
+-- a count of sectors is too small, too large, or a size
+size_or : (n : ℕ) → (n < LEAST_SECTORS) ⊎ (MOST_SECTORS < n) ⊎ IsSize n
+size_or n = ⊎_elim
+    (λ (small : n < LEAST_SECTORS). inl small)
+    (λ (least : LEAST_SECTORS ≤ n). ⊎_elim
+    (λ (large : MOST_SECTORS < n). inr (inl large))
+    (λ (most : n ≤ MOST_SECTORS). inr (inr (least, most)))
+    (cases_lt MOST_SECTORS n))
+    (cases_lt n LEAST_SECTORS)
+
+-- what formatting leaves at each moment, in terms of what a disk holds
+pub formatting_leaves : (n : ℕ) (old new : History) → ((IsSize n → ⊥) → new ≡ old)
+    → LeavesOnly old new (λ image. MayLeave old image ⊎ HasNoMark image ⊎ IsFresh n image)
+    → LeavesOnly old new (λ image. MayLeave old image ⊎ HasNoMark image ⊎ Holds n n first_state image)
+formatting_leaves n old new untouched leaves = by (size_or n)
+  where
+    same : (IsSize n → ⊥) → LeavesOnly old new (λ image. MayLeave old image ⊎ HasNoMark image ⊎ Holds n n first_state image)
+    same none = subst (λ (h : History). LeavesOnly old h (λ image. MayLeave old image ⊎ HasNoMark image ⊎ Holds n n first_state image))
+        (sym (untouched none)) (started old _ (λ image may. inl may))
+
+    by : (n < LEAST_SECTORS) ⊎ (MOST_SECTORS < n) ⊎ IsSize n
+        → LeavesOnly old new (λ image. MayLeave old image ⊎ HasNoMark image ⊎ Holds n n first_state image)
+    by (inl small) = same (λ size. omega (arith, small, size.0))
+    by (inr (inl large)) = same (λ size. omega (arith, large, size.1))
+    by (inr (inr size)) = weaken old new _ _ leaves (fresh_or n old size)
+
+-- and what it leaves where it is done
+pub formatted_keeps : (n : ℕ) (new : History) (result : Result (Unit {0}) StoreFault) → (result ≡ Err TooSmall) ↔ (n < LEAST_SECTORS)
+    → (result ≡ Err (Damaged Size)) ↔ (MOST_SECTORS < n) → OnOk result ((image : Image) → MayLeave new image → IsFresh n image)
+    → OnOk result (Keeps n n first_state new)
+formatted_keeps n new result small large fresh = by (size_or n)
+  where
+    by : (n < LEAST_SECTORS) ⊎ (MOST_SECTORS < n) ⊎ IsSize n → OnOk result (Keeps n n first_state new)
+    by (inl is) = subst (λ r. OnOk r (Keeps n n first_state new)) (sym (small.1 is)) tt
+    by (inr (inl is)) = subst (λ r. OnOk r (Keeps n n first_state new)) (sym (large.1 is)) tt
+    by (inr (inr size)) = on_ok_weaker result (λ all image may. fresh_holds n n image size (omega arith) (all image may)) fresh

@@ -1,0 +1,82 @@
+-- Laws of what a disk holds, for the crates above.
+use Rattle.std.proofs.Common.{◌≡◌, ℕ, suc, ◌+◌, List, [], ◌∷◌, ◌++◌, length, map, refl, sym, ap, subst, arith}
+use Rattle.std.specs.List.{All}
+use Rattle.std.proofs.lemmas.List.Elements.{All-head, All-tail}
+use Rattle.sector_disk.specs.Disk.{Image}
+use Rattle.generations.specs.Areas.{sectors_of}
+use Rattle.generations.specs.declared.root.Root.{Root}
+use Rattle.generations.proofs.Laws.{one_live}
+use Rattle.edit_journal.specs.Ring.{Ring, Start, HoldsTexts}
+use Rattle.edit_journal.specs.declared.sizes.TheConstants.{RECORD_VERSION}
+use Rattle.edit_journal.proofs.Laws.{one_list}
+use Rattle.edit_text.proofs.Laws.{one_edit}
+use Rattle.feature_model.specs.Data.{EditData}
+use Rattle.feature_model.specs.Spelled.{spelled}
+use Rattle.feature_model.specs.Types.{IsEdit}
+use Rattle.feature_store.specs.Store.{snapshot}
+use Rattle.feature_store.proofs.Laws.{snapshot_of_one_map}
+use Rattle.tile_service.specs.Stored.{Stored, Holds, root_of, area_start, HasBytes, texts_of, journal_ring, journal_start}
+pub use Rattle.tile_service.proofs.Appends.{append_leaves}
+use Rattle.tile_service.proofs.Bytes.{one_bytes}
+pub use Rattle.tile_service.proofs.Fresh.{fresh_holds}
+use Rattle.tile_service.proofs.Roots.{lives}
+
+abbrev head : List (List ℕ) → List ℕ
+head [] = []
+head (text ∷ texts) = text
+
+abbrev rest_of : List (List ℕ) → List (List ℕ)
+rest_of [] = []
+rest_of (text ∷ texts) = texts
+
+-- edits with the same texts are the same
+one_run : (edits others : List EditData) → All IsEdit edits → All IsEdit others → map spelled edits ≡ map spelled others → edits ≡ others
+one_run [] [] are too same = refl
+one_run [] (other ∷ others) are too same = absurd (omega (arith, ap length same))
+one_run (edit ∷ edits) [] are too same = absurd (omega (arith, ap length same))
+one_run (edit ∷ edits) (other ∷ others) are too same =
+    let first : edit ≡ other =
+    (one_edit edit other [] [] (All-head IsEdit edit edits are) (All-head IsEdit other others too) (ap (λ (ts : List (List ℕ)). head ts ++ []) same)).0 in
+    let rest : edits ≡ others = one_run edits others (All-tail IsEdit edit edits are) (All-tail IsEdit other others too) (ap rest_of same) in
+    λ i. first i ∷ rest i
+
+-- An image holds at most one state, on at most one count of sectors.
+pub one_state : (count : ℕ) (image : Image) (n m : ℕ) (a b : Stored) → Holds count n a image → Holds count m b image → (n ≡ m) × (a ≡ b)
+one_state count image n m a b is too =
+    let live = one_live count image n m (root_of a) (root_of b) (lives count image n a is) (lives count image m b too) in
+    let sectors : n ≡ m = live.0 in
+    let generation : a.generation ≡ b.generation = ap (λ (r : Root). r.generation) live.1 in
+    let edits : a.edits ≡ b.edits = ap (λ (r : Root). r.edits) live.1 in
+    let place : a.journal_at ≡ b.journal_at = ap (λ (r : Root). r.journal_at) live.1 in
+    let first : area_start n a.generation ≡ area_start m b.generation = (λ i. area_start (sectors i) (generation i)) in
+    let texts_len : length (snapshot a.snapshot_map) ≡ length (snapshot b.snapshot_map) = ap (λ (r : Root). r.snapshot_len) live.1 in
+    let archive_len : length a.archive ≡ length b.archive = ap (λ (r : Root). r.archive_len) live.1 in
+    let same_texts : snapshot a.snapshot_map ≡ snapshot b.snapshot_map =
+    one_bytes image (area_start n a.generation) (snapshot a.snapshot_map) (snapshot b.snapshot_map) texts_len (λ at. (is.sectors at).snapshot_bytes)
+    (λ at. subst (λ (f : ℕ). HasBytes f (snapshot b.snapshot_map) at (image at)) (sym first) (too.sectors at).snapshot_bytes) in
+    let behind : area_start n a.generation + sectors_of (length (snapshot a.snapshot_map))
+    ≡ area_start m b.generation + sectors_of (length (snapshot b.snapshot_map)) =
+    (λ i. first i + sectors_of (texts_len i)) in
+    let archive : a.archive ≡ b.archive =
+    one_bytes image (area_start n a.generation + sectors_of (length (snapshot a.snapshot_map))) a.archive b.archive archive_len
+    (λ at. (is.sectors at).archive_bytes)
+    (λ at. subst (λ (f : ℕ). HasBytes f b.archive at (image at)) (sym behind) (too.sectors at).archive_bytes) in
+    let maps : a.snapshot_map ≡ b.snapshot_map = snapshot_of_one_map a.snapshot_map b.snapshot_map is.is_map too.is_map same_texts in
+    let ring : journal_ring n ≡ journal_ring m = ap journal_ring sectors in
+    let start : journal_start a ≡ journal_start b = (λ i. record { place = place i; number = suc (edits i) }) in
+    let there : HoldsTexts RECORD_VERSION (journal_ring n) (journal_start a) (texts_of b) image =
+    subst (λ (r : Ring). HoldsTexts RECORD_VERSION r (journal_start a) (texts_of b) image) (sym ring)
+    (subst (λ (s : Start). HoldsTexts RECORD_VERSION (journal_ring m) s (texts_of b) image) (sym start) too.journal) in
+    let since : a.since ≡ b.since =
+    one_run a.since b.since is.are_edits too.are_edits
+    (one_list RECORD_VERSION (journal_ring n) image (journal_start a) (texts_of a) (texts_of b) is.journal there) in (
+      sectors,
+      λ i. record {
+        generation = generation i;
+        snapshot_map = maps i;
+        edits = edits i;
+        since = since i;
+        journal_at = place i;
+        archive = archive i;
+      },
+    )

@@ -1,0 +1,124 @@
+-- Texts and the edits that they are of.
+use Rattle.std.proofs.Common.{◌≡◌, ◌⊎◌, inl, inr, ℕ, zero, suc, ◌<◌, ◌≤◌, ◌+◌, List, [], ◌∷◌, ◌++◌, length, take, drop, get_or}
+use Rattle.std.proofs.Common.{Vec, Global, refl, sym, ◌∙◌, ap, subst, arith, append-nil}
+use Rattle.std.proofs.lemmas.List.{take_more}
+use Rattle.std.proofs.lemmas.List.Elements.{All-nil, All-cons, All-append, All-head, All-tail}
+use Rattle.std.proofs.lemmas.List.Sums.{fold-append}
+use Rattle.edit_text.specs.Decoding.{BeginsWith}
+use Rattle.feature_model.specs.Data.{EditData, put, delete}
+use Rattle.feature_model.specs.Spelled.{spelled}
+use Rattle.feature_model.specs.Types.{IsEdit}
+use Rattle.feature_store.specs.Store.{FeatureMap, changed, after, snapshot}
+use Rattle.feature_store.proofs.Laws.{snapshot_after_put, snapshot_after_delete}
+use Rattle.generations.specs.declared.fault.StoreFault.{StoreFault}
+use Rattle.generations.specs.declared.fault.StoreFault.TheVariants.{Damaged, Memory}
+use Rattle.generations.specs.declared.fault.What.TheVariants.{Text}
+use Rattle.tile_service.specs.Replayed.{IsTextOf, AreTextsOf, IsReplayFault, bytes_of, views_of}
+use Rattle.tile_service.proofs.Appends.{spelled_with}
+
+-- a text begins with its edit
+pub begins : (text : List ℕ) (edit : EditData) → IsTextOf text edit → BeginsWith edit text
+begins text edit is = (is.is_edit, ([], is.is_text ∙ sym (append-nil (spelled edit))))
+
+-- a text of which an edit's takes only a part is that of no edit
+pub no_text_of : (text : List ℕ) (found edit : EditData) (bytes : ℕ) → bytes ≡ length (spelled found) → (bytes ≡ length text → ⊥)
+    → found ≡ edit → IsTextOf text edit → ⊥
+no_text_of text found edit bytes long apart same is =
+    apart (long ∙ ap (λ (e : EditData). length (spelled e)) same ∙ sym (ap length is.is_text))
+
+-- an edit makes the texts of a map longer by its own at most
+pub changed_short : (m : FeatureMap) (edit : EditData) → length (snapshot (changed m edit)) ≤ length (snapshot m) + length (spelled edit)
+changed_short m (put id f) = snapshot_after_put m id f
+changed_short m (delete id) = omega (arith, snapshot_after_delete m id)
+
+pub after_one : (m : FeatureMap) (edits : List EditData) (edit : EditData) → after m (edits ++ edit ∷ []) ≡ changed (after m edits) edit
+after_one m edits edit = fold-append changed m edits (edit ∷ [])
+
+pub with_one : (texts : List (List ℕ)) (edits : List EditData) (text : List ℕ) (edit : EditData) → AreTextsOf texts edits → IsTextOf text edit
+    → AreTextsOf (texts ++ text ∷ []) (edits ++ edit ∷ [])
+with_one texts edits text edit are is = record {
+  are_edits = All-append IsEdit edits (edit ∷ []) are.are_edits (All-cons IsEdit edit [] is.is_edit (All-nil IsEdit));
+  are_texts = (λ i. are.are_texts i ++ is.is_text i ∷ []) ∙ sym (spelled_with edits edit);
+}
+
+-- each of the texts is that of an edit
+pub text_at : (texts : List (List ℕ)) (edits : List EditData) (i : ℕ) → AreTextsOf texts edits → i < length texts
+    → (edit : EditData) × IsTextOf (get_or texts i []) edit
+text_at [] edits i are lt = absurd (omega (arith, lt))
+text_at (text ∷ texts) [] i are lt = absurd (omega (arith, ap length are.are_texts))
+text_at (text ∷ texts) (edit ∷ edits) zero are lt =
+    (edit, record { is_edit = All-head IsEdit edit edits are.are_edits; is_text = ap (λ ts. get_or ts 0 []) are.are_texts })
+text_at (text ∷ texts) (edit ∷ edits) (suc i) are lt = text_at texts edits i
+    (record { are_edits = All-tail IsEdit edit edits are.are_edits; are_texts = ap (drop 1) are.are_texts }) (omega (arith, lt))
+
+-- ---- texts one by one
+
+pub views_push : (texts : List (Vec ℕ Global)) (i : ℕ) (text : Vec ℕ Global) → i < length texts → text ≡ get_or texts i text
+    → views_of (take (i + 1) texts) ≡ views_of (take i texts) ++ text.items ∷ []
+views_push texts i text lt is =
+    ap views_of (take_more texts i text lt ∙ ap (λ t. take i texts ++ t ∷ []) (sym is)) ∙ views_end (take i texts) text
+  where
+    views_end : (ts : List (Vec ℕ Global)) (t : Vec ℕ Global) → views_of (ts ++ t ∷ []) ≡ views_of ts ++ t.items ∷ []
+    views_end [] t = refl
+    views_end (first ∷ ts) t = ap (λ vs. first.items ∷ vs) (views_end ts t)
+
+pub bytes_push : (texts : List (Vec ℕ Global)) (i : ℕ) (text : Vec ℕ Global) → i < length texts → text ≡ get_or texts i text
+    → bytes_of (views_of (drop i texts)) ≡ length text.items + bytes_of (views_of (drop (i + 1) texts))
+bytes_push [] i text lt is = absurd (omega (arith, lt))
+bytes_push (first ∷ texts) zero text lt is = ap (λ (t : Vec ℕ Global). length t.items + bytes_of (views_of texts)) (sym is)
+bytes_push (first ∷ texts) (suc i) text lt is =
+    let on : suc i + 1 ≡ suc (i + 1) = omega arith in
+    bytes_push texts i text (omega (arith, lt)) is ∙ ap (λ n. length text.items + bytes_of (views_of (drop n (first ∷ texts)))) (sym on)
+
+pub view_at : (texts : List (Vec ℕ Global)) (i : ℕ) (text : Vec ℕ Global) → i < length texts → text ≡ get_or texts i text
+    → get_or (views_of texts) i [] ≡ text.items
+view_at [] i text lt is = absurd (omega (arith, lt))
+view_at (first ∷ texts) zero text lt is = ap (λ (t : Vec ℕ Global). t.items) (sym is)
+view_at (first ∷ texts) (suc i) text lt is = view_at texts i text (omega (arith, lt)) is
+
+pub views_length : (texts : List (Vec ℕ Global)) → length (views_of texts) ≡ length texts
+views_length [] = refl
+views_length (text ∷ texts) = ap suc (views_length texts)
+
+-- a text of no edit is in no list of edits' texts
+pub none_replayed : (texts : List (Vec ℕ Global)) (i : ℕ) (text : Vec ℕ Global) → i < length texts → text ≡ get_or texts i text
+    → ((edit : EditData) → IsTextOf text.items edit → ⊥) → (edits : List EditData) → AreTextsOf (views_of texts) edits → ⊥
+none_replayed texts i text lt is none edits are =
+    let found = text_at (views_of texts) edits i are (omega (arith, lt, views_length texts)) in
+    none found.0 (subst (λ (t : List ℕ). IsTextOf t found.0) (view_at texts i text lt is) found.1)
+
+-- and its fault is that of all the texts
+pub replay_fault : (texts : List (Vec ℕ Global)) (i : ℕ) (text : Vec ℕ Global) (bytes : List ℕ) → i < length texts → text ≡ get_or texts i text
+    → bytes ≡ text.items → (fault : StoreFault)
+    → (fault ≡ Memory) ⊎ ((fault ≡ Damaged Text) × ((edit : EditData) → IsTextOf bytes edit → ⊥)) → IsReplayFault (views_of texts) fault
+replay_fault texts i text bytes lt is same fault (inl memory) = inl memory
+replay_fault texts i text bytes lt is same fault (inr damaged) =
+    inr (damaged.0, none_replayed texts i text lt is (λ edit of_it. damaged.1 edit (subst (λ (t : List ℕ). IsTextOf t edit) (sym same) of_it)))
+
+-- the edits of the texts so far, with one more
+pub replayed_one : (texts : List (Vec ℕ Global)) (i : ℕ) (text : Vec ℕ Global) (bytes : List ℕ) (first old new : FeatureMap) → i < length texts
+    → text ≡ get_or texts i text → bytes ≡ text.items
+    → (edits : List EditData) × AreTextsOf (views_of (take i texts)) edits × (old ≡ after first edits)
+    → (edit : EditData) × IsTextOf bytes edit × (new ≡ changed old edit)
+    → (edits : List EditData) × AreTextsOf (views_of (take (i + 1) texts)) edits × (new ≡ after first edits)
+replayed_one texts i text bytes first old new lt is same made one = (
+  made.0 ++ one.0 ∷ [],
+  subst (λ (ts : List (List ℕ)). AreTextsOf ts (made.0 ++ one.0 ∷ [])) (sym (views_push texts i text lt is))
+      (with_one (views_of (take i texts)) made.0 text.items one.0 made.1 (subst (λ (t : List ℕ). IsTextOf t one.0) same one.1)),
+  one.2 ∙ ap (λ (m : FeatureMap). changed m one.0) made.2 ∙ sym (after_one first made.0 one.0),
+)
+
+pub short_one : (texts : List (Vec ℕ Global)) (i end : ℕ) (text : Vec ℕ Global) (bytes : List ℕ) (old new : FeatureMap) → i < length texts
+    → text ≡ get_or texts i text → bytes ≡ text.items → length (snapshot old) + bytes_of (views_of (drop i texts)) < end
+    → (edit : EditData) × IsTextOf bytes edit × (new ≡ changed old edit)
+    → length (snapshot new) + bytes_of (views_of (drop (i + 1) texts)) < end
+short_one texts i end text bytes old new lt is same short one =
+    omega (
+      arith,
+      short,
+      bytes_push texts i text lt is,
+      changed_short old one.0,
+      ap length one.1.is_text,
+      ap length same,
+      ap (λ (m : FeatureMap). length (snapshot m)) one.2,
+    )

@@ -1,0 +1,15 @@
+use Rattle.std.proofs.Common.{ap, length, ◌∙◌, arith}
+use Rattle.feature_store.specs.Store.{snapshot}
+use Rattle.tile_service.proofs.Fresh.{no_text}
+use Rattle.tile_service.proofs.tests.replayed.Goals as goal
+
+pub replay-outcome-requires : goal.replay-outcome-requires
+replay-outcome-requires c = record {
+  texts = omega (
+    arith,
+    ap (λ m. length (snapshot m)) c.new-store.ensures ∙ ap length no_text,
+    ap length c.in_ok-from_slice.ensures.items,
+    ap length c.in_ok-from_slice-2.ensures.items,
+    c.requires,
+  );
+}

@@ -1,0 +1,32 @@
+-- Edits and their texts.
+use Rattle.std.specs.Prelude.{◌≡◌, ◌⊎◌, ◌+◌, ℕ, List, [], ◌∷◌, length, map, All, Vec}
+use Rattle.std.proofs.Common.{Global}
+use Rattle.feature_model.specs.Data.{EditData}
+use Rattle.feature_model.specs.Spelled.{spelled}
+use Rattle.feature_model.specs.Types.{IsEdit}
+use Rattle.generations.specs.declared.fault.StoreFault.{StoreFault}
+use Rattle.generations.specs.declared.fault.StoreFault.TheVariants.{Damaged, Memory}
+use Rattle.generations.specs.declared.fault.What.TheVariants.{Text}
+
+-- the bytes are the text of this edit
+pub record IsTextOf (text : List ℕ) (edit : EditData) : Type 0 where
+  pub is_edit : IsEdit edit
+  pub is_text : text ≡ spelled edit
+
+-- the texts are those of these edits
+pub record AreTextsOf (texts : List (List ℕ)) (edits : List EditData) : Type 0 where
+  pub are_edits : All IsEdit edits
+  pub are_texts : texts ≡ map spelled edits
+
+-- how many bytes texts have together
+abbrev pub bytes_of : List (List ℕ) → ℕ
+bytes_of [] = 0
+bytes_of (text ∷ texts) = length text + bytes_of texts
+
+-- the bytes of each text
+abbrev pub views_of : List (Vec ℕ Global) → List (List ℕ)
+views_of texts = map (λ text. text.items) texts
+
+-- why texts aren't replayed: one of them is no edit's, or an allocation fails
+abbrev pub IsReplayFault : List (List ℕ) → StoreFault → Type 0
+IsReplayFault texts fault = (fault ≡ Memory) ⊎ ((fault ≡ Damaged Text) × ((edits : List EditData) → AreTextsOf texts edits → ⊥))

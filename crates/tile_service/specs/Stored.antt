@@ -1,0 +1,106 @@
+-- What an image of a disk holds: a map as a snapshot and the edits since, and the archive of the snapshot's tiles.
+use Rattle.std.specs.Prelude.{◌≡◌, ◌⊎◌, ◌<◌, ◌+◌, ◌*◌, ◌%◌, ℕ, List, [], ◌∷◌, ◌++◌, length, map, take, drop, All}
+use Rattle.std.proofs.Common.{suc}
+use Rattle.sector_disk.specs.Disk.{Image, History, MayLeave}
+use Rattle.sector_disk.specs.declared.disk.TheConstants.{SECTOR_BYTES}
+use Rattle.generations.specs.Areas.{journal_sectors, area_sectors, sectors_of}
+use Rattle.generations.specs.Sectors.{IsFormat, IsRootOf, IsNoRoot}
+use Rattle.generations.specs.declared.root.Root.{Root}
+use Rattle.edit_journal.specs.Ring.{Ring, Start, HoldsTexts}
+use Rattle.edit_journal.specs.declared.sizes.TheConstants.{RECORD_VERSION}
+use Rattle.feature_model.specs.Data.{EditData}
+use Rattle.feature_model.specs.Spelled.{spelled}
+use Rattle.feature_model.specs.Types.{IsEdit}
+use Rattle.feature_store.specs.Store.{FeatureMap, IsMap, after, snapshot}
+use Rattle.tile_service.specs.Tiles.{IsArchiveOfMap}
+
+-- what a disk holds for a service
+pub record Stored : Type 0 where
+  -- how often an archive was installed
+  pub generation : ℕ
+  -- the map of the snapshot
+  pub snapshot_map : FeatureMap
+  -- how many edits are in it
+  pub edits : ℕ
+  -- the edits since
+  pub since : List EditData
+  -- the place of the journal where the first of their records stands
+  pub journal_at : ℕ
+  -- the bytes of the archive
+  pub archive : List ℕ
+
+-- the map for which it stands
+abbrev pub map_of : Stored → FeatureMap
+map_of stored = after stored.snapshot_map stored.since
+
+-- the number of the last edit
+abbrev pub last_of : Stored → ℕ
+last_of stored = stored.edits + length stored.since
+
+-- the root that names it
+abbrev pub root_of : Stored → Root
+root_of stored = record {
+  generation = stored.generation;
+  edits = stored.edits;
+  journal_at = stored.journal_at;
+  snapshot_len = length (snapshot stored.snapshot_map);
+  archive_len = length stored.archive;
+}
+
+-- ---- where it stands, on a disk of n sectors
+
+-- the journal begins behind the sectors of the format and of the two roots
+abbrev pub journal_ring : ℕ → Ring
+journal_ring n = record { first = 3; places = journal_sectors n }
+
+-- the first sector of the area of a generation
+abbrev pub area_start : (n generation : ℕ) → ℕ
+area_start n generation = 3 + journal_sectors n + (generation % 2) * area_sectors n
+
+-- the part of the bytes in one of the sectors that they take
+abbrev pub sector_piece : List ℕ → ℕ → List ℕ
+sector_piece bytes index = take SECTOR_BYTES (drop (SECTOR_BYTES * index) bytes)
+
+-- The bytes stand in consecutive sectors from a first one on: this sector is as they say, whatever stands behind their end.
+abbrev pub HasBytes : (first : ℕ) → List ℕ → (at : ℕ) → List ℕ → Type 0
+HasBytes first bytes at sector = (index : ℕ) → at ≡ first + index → take (length (sector_piece bytes index)) sector ≡ sector_piece bytes index
+
+-- the sector of the other parity has no root, or one of an earlier generation
+abbrev pub HasEarlierRoot : (n generation : ℕ) → List ℕ → Type 0
+HasEarlierRoot n generation sector = IsNoRoot sector ⊎ ((root : Root) × (root.generation < generation) × IsRootOf n (suc generation % 2) sector root)
+
+-- what a sector has, outside the journal
+pub record HoldsAt (count n : ℕ) (stored : Stored) (at : ℕ) (sector : List ℕ) : Type 0 where
+  pub format : at ≡ 0 → IsFormat count sector n
+  pub live : at ≡ 1 + stored.generation % 2 → IsRootOf n (stored.generation % 2) sector (root_of stored)
+  pub other : at ≡ 1 + suc stored.generation % 2 → HasEarlierRoot n stored.generation sector
+  pub snapshot_bytes : HasBytes (area_start n stored.generation) (snapshot stored.snapshot_map) at sector
+  pub archive_bytes : HasBytes (area_start n stored.generation + sectors_of (length (snapshot stored.snapshot_map))) stored.archive at sector
+
+-- the texts of the edits since the snapshot
+abbrev pub texts_of : Stored → List (List ℕ)
+texts_of stored = map spelled stored.since
+
+-- where the journal begins for it
+abbrev pub journal_start : Stored → Start
+journal_start stored = record { place = stored.journal_at; number = suc stored.edits }
+
+-- A disk of so many sectors, formatted with n of them, has this image.
+pub record Holds (count n : ℕ) (stored : Stored) (image : Image) : Type 0 where
+  pub sectors : (at : ℕ) → HoldsAt count n stored at (image at)
+  pub journal : HoldsTexts RECORD_VERSION (journal_ring n) (journal_start stored) (texts_of stored) image
+  pub is_map : IsMap stored.snapshot_map
+  pub are_edits : All IsEdit stored.since
+  pub is_archive : IsArchiveOfMap stored.snapshot_map stored.archive
+
+-- what nobody has edited since the format
+abbrev pub first_state : Stored
+first_state = record { generation = 0; snapshot_map = []; edits = 0; since = []; journal_at = 0; archive = [] }
+
+-- the same with one more edit
+abbrev pub with_edit : Stored → EditData → Stored
+with_edit stored edit = record stored { since = stored.since ++ edit ∷ [] }
+
+-- whatever a crash now leaves holds it
+abbrev pub Keeps : (count n : ℕ) → Stored → History → Type 0
+Keeps count n stored history = (image : Image) → MayLeave history image → Holds count n stored image
