@@ -1,3 +1,4 @@
 pub mod Appends
 pub mod Records
+pub mod Recovers
 pub mod Ring

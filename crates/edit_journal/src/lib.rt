@@ -6,6 +6,7 @@ mod encoding;
 mod fault;
 mod head;
 mod journal;
+mod recovering;
 mod sizes;
 
 pub use encoding::part_sector;
