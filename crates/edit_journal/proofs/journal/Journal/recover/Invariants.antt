@@ -6,8 +6,8 @@ use Rattle.edit_journal.specs.Appends.{ring_of, start_of}
 use Rattle.edit_journal.specs.Recovers.{texts_of}
 use Rattle.edit_journal.proofs.journal.Journal.recover.Given as goal
 
-abbrev pub invariant-loop-text : goal.invariant-loop-text
-invariant-loop-text g l = record {
+abbrev pub invariant-loop-texts : goal.invariant-loop-texts
+invariant-loop-texts g l = record {
   count : g.D.Sectors.sectors l.disk ≡ g.D.Sectors.sectors l.initial.disk;
   honest : g.D.Sectors.honest l.disk → g.D.Sectors.honest l.initial.disk;
   faults : g.D.Sectors.faults l.disk ≡ g.D.Sectors.faults l.initial.disk;
@@ -20,5 +20,5 @@ invariant-loop-text g l = record {
       (texts_of l.texts.items) (seen (g.D.Sectors.history l.initial.disk));
 }
 
-abbrev pub decreases-loop-text : goal.decreases-loop-text
-decreases-loop-text g l = l.journal.places - l.journal.used
+abbrev pub decreases-loop-texts : goal.decreases-loop-texts
+decreases-loop-texts g l = l.journal.places - l.journal.used
