@@ -1,37 +1,25 @@
 -- What is known of a ring while its records are read.
-use Rattle.std.proofs.Common.{◌≡◌, ◌⊎◌, ℕ, suc, ◌≤◌, ◌<◌, ◌+◌, ◌^◌, List, [], ◌∷◌, ◌++◌, length, map, sym, ◌∙◌, ap, subst, arith, refl}
+use Rattle.std.proofs.Common.{◌≡◌, ◌⊎◌, ℕ, suc, ◌≤◌, ◌<◌, ◌+◌, ◌-◌, ◌^◌, List, [], ◌∷◌, ◌++◌, length, map, sym, ◌∙◌, ap, subst, arith, refl}
 use Rattle.std.proofs.lemmas.List.{map-append, length-map}
 use Rattle.std.specs.Prelude.{Vec}
-use Rattle.std.proofs.Common.{Global}
-use Rattle.sector_disk.specs.Disk.{Image, HasFailed}
+use Rattle.std.proofs.Common.{Global, Result, Err, IfErr}
+use Rattle.sector_disk.specs.Disk.{Image}
 use Rattle.edit_journal.specs.declared.fault.JournalFault.{JournalFault}
-use Rattle.edit_journal.specs.declared.fault.JournalFault.TheVariants.{NumbersSpent, Full, Device, Damaged, Memory}
 use Rattle.edit_journal.specs.declared.sizes.TheConstants.{RECORD_VERSION}
 use Rattle.edit_journal.specs.Records.{IsEditLength, parts_of, HasFront, IsPart, IsHeadOf}
-use Rattle.edit_journal.specs.Ring.{Ring, Start, sector_at, places_of, HoldsRecords}
+use Rattle.edit_journal.specs.Ring.{Ring, Start, sector_at, AreEdits, places_of, HoldsRecords}
 use Rattle.edit_journal.specs.Appends.{start_of}
-use Rattle.edit_journal.specs.Recovers.{texts_of, EndsAt, IsJournal, PartsStand, FrontsStand, IsNext, IsDamaged, IsRecoverFault}
+use Rattle.edit_journal.specs.Recovers.{texts_of, EndsAt, IsJournal, PartsStand, FrontsStand, IsNext, IsDamaged}
+use Rattle.edit_journal.specs.Releases.{MayTake}
 use Rattle.edit_journal.proofs.Fronts.{length_there}
 use Rattle.edit_journal.proofs.Heads.{places_push}
 use Rattle.edit_journal.proofs.Recovers.{one_more, damaged_is_none}
+use Rattle.edit_journal.proofs.Releases.{edits_take}
 
--- ---- faults
+-- ---- a fault
 
-pub told_as : (fault other : JournalFault) (old new : ℕ) → fault ≡ other → IsRecoverFault old new other → IsRecoverFault old new fault
-told_as fault other old new is told = subst (IsRecoverFault old new) (sym is) told
-
-is_damage : JournalFault → Type 0
-is_damage NumbersSpent = ⊥
-is_damage (Full need free) = ⊥
-is_damage Device = ⊥
-is_damage Damaged = Unit {0}
-is_damage Memory = ⊥
-
-pub memory_no_damage : (fault : JournalFault) → fault ≡ Memory → fault ≡ Damaged → ⊥
-memory_no_damage fault is damaged = subst is_damage (sym damaged ∙ is) tt
-
-pub device_no_damage : (fault : JournalFault) → fault ≡ Device → fault ≡ Damaged → ⊥
-device_no_damage fault is damaged = subst is_damage (sym damaged ∙ is) tt
+pub at_err : {T : Type 0} (P : JournalFault → Type 0) (result : Result T JournalFault) (fault : JournalFault) → result ≡ Err fault → P fault → IfErr result P
+at_err {T} P result fault is holds = subst (λ (r : Result T JournalFault). IfErr r P) (sym is) holds
 
 -- ---- one record
 
@@ -78,6 +66,13 @@ texts_push texts text = map-append (λ (t : Vec ℕ Global). t.items) texts (tex
 
 pub texts_count : (texts : List (Vec ℕ Global)) → length (texts_of texts) ≡ length texts
 texts_count texts = length-map texts (λ (t : Vec ℕ Global). t.items)
+
+-- texts of edits are counted
+pub counted : (texts : List (List ℕ)) (edits used last : ℕ) → AreEdits texts → used ≡ places_of texts → last ≡ edits + length texts
+    → MayTake (last - edits) used
+counted texts edits used last are used_is last_is =
+    let takes : MayTake (length texts) (places_of texts) = edits_take texts are in
+    (omega (arith, used_is, last_is, takes.0), omega (arith, used_is, last_is, takes.1))
 
 -- the journal that is read so far has these texts
 module _ (ring now : Ring) (start : Start) (place edits used last : ℕ) (texts : List (List ℕ)) (image : Image)

@@ -5,6 +5,7 @@ ghost use Rattle.edit_journal.specs.Records.{IsEditLength, parts_of, HasFront};
 ghost use Rattle.edit_journal.specs.Ring.{Ring, sector_at, places_of};
 ghost use Rattle.edit_journal.specs.Appends.{ring_of, start_of};
 ghost use Rattle.edit_journal.specs.Recovers.{texts_of, EndsAt, IsJournal, PartsStand, FrontsStand, IsDamaged, IsRecoverFault};
+ghost use Rattle.edit_journal.specs.Releases.{IsCounted};
 ghost use Rattle.edit_journal.specs.declared.sizes.TheConstants.{RECORD_VERSION};
 ghost use Rattle.edit_journal.specs.declared.fault.JournalFault.TheVariants.{Damaged, Device, Memory};
 
@@ -142,6 +143,44 @@ fn read_record<D: Sectors>(
 }
 
 impl Journal {
+    /// The journal with no records, where so many edits came before the next, whose record begins in this place.
+    fn empty(first: u64, places: u64, place: u64, edits: u64) -> Journal
+        requires small { first + places < 2 ^ 64 }
+        requires place { place < places }
+        ensures ring { ring_of result ≡ record { first = first; places = places } }
+        ensures start { start_of result.place result.edits ≡ start_of place edits }
+        ensures none { (result.used ≡ 0) × (result.last ≡ edits) }
+        ensures number { result.last < 2 ^ 64 }
+    {
+        Journal {
+            first,
+            places,
+            place,
+            edits,
+            used: 0,
+            last: edits,
+        }
+    }
+
+    /// The journal with one more record, of a text of this length.
+    fn with_record(self, length: u32) -> Journal
+        requires length { IsEditLength length }
+        requires room { self.used + parts_of length ≤ self.places }
+        requires next { self.last < 2 ^ 64 - 1 }
+        ensures same { (ring_of result ≡ ring_of self) × (start_of result.place result.edits ≡ start_of self.place self.edits) }
+        ensures used { result.used ≡ self.used + parts_of length }
+        ensures last { result.last ≡ self.last + 1 }
+    {
+        Journal {
+            first: self.first,
+            places: self.places,
+            place: self.place,
+            edits: self.edits,
+            used: self.used + count_parts(length) as u64,
+            last: self.last + 1,
+        }
+    }
+
     /// Reads the records from a start on, in a ring of so many places whose place 0 is the first sector: the journal, and its texts
     /// in order. Nothing is written. `Damaged`: a record that was expected isn't whole. The other errors are `Device` and `Memory`.
     pub fn recover<D: Sectors>(
@@ -163,6 +202,7 @@ impl Journal {
             × (start_of found.0.place found.0.edits ≡ start_of start.place start.edits)) }
         ensures used { IfOk result (λ found. found.0.used ≡ places_of (texts_of found.1.items)) }
         ensures last { IfOk result (λ found. found.0.last ≡ start.edits + length found.1.items) }
+        ensures counted { IfOk result (λ found. IsCounted found.0) }
 
         // The texts are those that the disk has, and a disk with a journal is never damaged.
         ensures found { D.honest disk.new → IfOk result (λ found. IsJournal RECORD_VERSION (record { first = first; places = places })
@@ -170,18 +210,10 @@ impl Journal {
         ensures damaged { (texts : List (List ℕ)) → D.honest disk.new → IfErr result (λ fault. fault ≡ Damaged
             → IsJournal RECORD_VERSION (record { first = first; places = places }) (start_of start.place start.edits) texts (seen (D.history disk.old)) → ⊥) }
     {
-        let mut journal = Journal {
-            first,
-            places,
-            place: start.place,
-            edits: start.edits,
-            used: 0,
-            last: start.edits,
-        };
+        let mut journal = Journal::empty(first, places, start.place, start.edits);
         let mut texts = Vec::new(alloc);
         while let Some(text) = read_record(alloc, &journal, disk)? {
-            journal.used += count_parts(text.len() as u32) as u64;
-            journal.last += 1;
+            journal = journal.with_record(text.len() as u32);
             match texts.push(text) {
                 Ok(()) => {}
                 Err(_) => return Err(JournalFault::Memory),
