@@ -1,10 +1,10 @@
 -- The parts of a text are read one after the other, and joined.
-use Rattle.std.proofs.Common.{◌≡◌, ⊎_elim, ℕ, ◌<◌, ◌≤◌, ◌+◌, ◌*◌, ◌-◌, List, [], ◌++◌, length, length-append, take, drop, min, sym, ◌∙◌, ap, subst, arith}
+use Rattle.std.proofs.Common.{◌≡◌, ⊎_elim, ℕ, ◌<◌, ◌≤◌, ◌+◌, ◌*◌, ◌-◌, List, ◌++◌, length, length-append, take, drop, min, sym, ◌∙◌, ap, subst, arith}
 use Rattle.std.proofs.lemmas.Bool.{cases_eq}
 use Rattle.std.proofs.lemmas.List.{take_all, take-append-le, drop-append-le, drop_at, length-take, length-drop}
 use Rattle.sector_disk.specs.Disk.{Image}
 use Rattle.edit_journal.specs.declared.sizes.TheConstants.{PART_BYTES, RECORD_VERSION}
-use Rattle.edit_journal.specs.Records.{parts_of, piece, HasFront, IsPart}
+use Rattle.edit_journal.specs.Records.{parts_of, piece, HasFront}
 use Rattle.edit_journal.specs.Ring.{Ring, sector_at}
 use Rattle.edit_journal.specs.Recovers.{PartsStand}
 use Rattle.edit_journal.proofs.Fronts.{piece_length}

@@ -10,7 +10,7 @@ use Rattle.sector_disk.specs.Disk.History.{begun, wrote}
 use Rattle.sector_disk.proofs.History.{seen_same, seen_other}
 use Rattle.edit_journal.specs.declared.sizes.TheConstants.{PART_BYTES}
 use Rattle.edit_journal.specs.Records.{IsEditLength, parts_of, piece, part_front, record_sector, IsPart, IsHeadOf}
-use Rattle.edit_journal.specs.Ring.{Ring, Start, sector_at, IsInRing, start_behind, NoLaterHead, HoldsTexts}
+use Rattle.edit_journal.specs.Ring.{Ring, Start, sector_at, start_behind, NoLaterHead, HoldsTexts}
 use Rattle.edit_journal.proofs.Places.{in_ring}
 use Rattle.edit_journal.proofs.Fronts.{front_length, kind_there, version_there, number_there, length_there, piece_length}
 

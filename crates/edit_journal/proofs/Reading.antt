@@ -1,5 +1,5 @@
 -- What is known of a ring while its records are read.
-use Rattle.std.proofs.Common.{◌≡◌, ◌⊎◌, ℕ, suc, ◌≤◌, ◌<◌, ◌+◌, ◌-◌, ◌^◌, List, [], ◌∷◌, ◌++◌, length, map, sym, ◌∙◌, ap, subst, arith, refl}
+use Rattle.std.proofs.Common.{◌≡◌, ℕ, ◌≤◌, ◌<◌, ◌+◌, ◌-◌, ◌^◌, List, [], ◌∷◌, ◌++◌, length, sym, ◌∙◌, ap, subst, arith}
 use Rattle.std.proofs.lemmas.List.{map-append, length-map}
 use Rattle.std.specs.Prelude.{Vec}
 use Rattle.std.proofs.Common.{Global, Result, Err, IfErr}
@@ -12,7 +12,6 @@ use Rattle.edit_journal.specs.Appends.{start_of}
 use Rattle.edit_journal.specs.Recovers.{texts_of, EndsAt, IsJournal, PartsStand, FrontsStand, IsNext, IsDamaged}
 use Rattle.edit_journal.specs.Releases.{MayTake}
 use Rattle.edit_journal.proofs.Fronts.{length_there}
-use Rattle.edit_journal.proofs.Heads.{places_push}
 use Rattle.edit_journal.proofs.Recovers.{one_more, damaged_is_none}
 use Rattle.edit_journal.proofs.Releases.{edits_take}
 

@@ -7,7 +7,7 @@ use Rattle.sector_disk.specs.Disk.{Image}
 use Rattle.edit_journal.specs.declared.sizes.TheConstants.{RECORD_VERSION}
 use Rattle.edit_journal.specs.Records.{IsEditLength, parts_of, IsPart, IsHeadOf}
 use Rattle.edit_journal.specs.Ring.{Ring, Start, sector_at, start_behind, AreEdits, places_of, StandsAt, HoldsRecords, HoldsTexts}
-use Rattle.edit_journal.specs.Recovers.{EndsAt, IsJournal, PartsStand, IsNext, IsDamaged}
+use Rattle.edit_journal.specs.Recovers.{EndsAt, IsJournal, IsNext, IsDamaged}
 use Rattle.edit_journal.proofs.Fronts.{length_there}
 use Rattle.edit_journal.proofs.Heads.{stands_push, places_push, edits_push}
 use Rattle.edit_journal.proofs.Laws.{first_is_head, same_text, one_piece}

@@ -29,7 +29,11 @@ fn appended_texts(rt: HostRuntime) -> Result<(), Fail> {
     for (at, byte) in long.iter_mut().enumerate() {
         *byte = (at % 251) as u8;
     }
-    let texts = [[b'x'; 496].as_slice(), [b'y'; 497].as_slice(), long.as_slice()];
+    let texts = [
+        [b'x'; 496].as_slice(),
+        [b'y'; 497].as_slice(),
+        long.as_slice(),
+    ];
     let mut disk = MemoryDisk::new(rt.alloc(), 82)?;
     let mut journal = JOURNAL;
     let numbers = [
@@ -68,7 +72,11 @@ fn crashes(rt: HostRuntime) -> Result<(), Fail> {
             let (found, texts) = Journal::recover(rt.alloc(), &mut left, 2, 80, START)?;
             let is_left = passes == 4 || passes == 3 && choice[0] == 1;
             let wanted = if is_left { (2, 3, 8) } else { (1, 1, 7) };
-            assert_eq!(rt; (texts.len(), found.used, found.last), wanted, "{passes} calls, {choice:?}");
+            assert_eq!(rt;
+                (texts.len(), found.used, found.last),
+                wanted,
+                "{passes} calls, {choice:?}"
+            );
         }
     }
     Ok(())
@@ -114,12 +122,32 @@ fn sectors_by_hand(rt: HostRuntime) -> Result<(), Fail> {
         (zeros, short, Ok((0, 0))),
         // A head with no body, and one with the body of another part.
         (head, zeros, Err(JournalFault::Damaged)),
-        (head, wanted(2, [2, 0], [0xf1, 1, 0, 0], (496, b'b', b'b')), Err(JournalFault::Damaged)),
-        (head, wanted(2, [1, 0], [0xf2, 1, 0, 0], (496, b'b', b'b')), Err(JournalFault::Damaged)),
+        (
+            head,
+            wanted(2, [2, 0], [0xf1, 1, 0, 0], (496, b'b', b'b')),
+            Err(JournalFault::Damaged),
+        ),
+        (
+            head,
+            wanted(2, [1, 0], [0xf2, 1, 0, 0], (496, b'b', b'b')),
+            Err(JournalFault::Damaged),
+        ),
         // A length of 0, a count of parts that isn't the length's, and more parts than places.
-        (wanted(1, [0, 0], [0, 0, 0, 0], (496, b'a', b'a')), zeros, Err(JournalFault::Damaged)),
-        (wanted(1, [2, 0], [2, 0, 0, 0], (496, b'a', b'a')), zeros, Err(JournalFault::Damaged)),
-        (wanted(1, [3, 0], [0xe1, 3, 0, 0], (496, b'a', b'a')), body, Err(JournalFault::Damaged)),
+        (
+            wanted(1, [0, 0], [0, 0, 0, 0], (496, b'a', b'a')),
+            zeros,
+            Err(JournalFault::Damaged),
+        ),
+        (
+            wanted(1, [2, 0], [2, 0, 0, 0], (496, b'a', b'a')),
+            zeros,
+            Err(JournalFault::Damaged),
+        ),
+        (
+            wanted(1, [3, 0], [0xe1, 3, 0, 0], (496, b'a', b'a')),
+            body,
+            Err(JournalFault::Damaged),
+        ),
     ];
     for (first, second, outcome) in rows {
         assert_eq!(rt; found(rt.alloc(), first, second, start)?, outcome);

@@ -1,4 +1,4 @@
-use Rattle.std.proofs.Common.{◌≡◌, ◌+◌, sym, subst, arith, ℕ}
+use Rattle.std.proofs.Common.{◌+◌, sym, subst, arith, ℕ}
 use Rattle.sector_disk.specs.Disk.{History, seen}
 use Rattle.edit_journal.specs.declared.sizes.TheConstants.{RECORD_VERSION}
 use Rattle.edit_journal.specs.Appends.{ring_of}
@@ -28,9 +28,9 @@ returns-in_default-clause-damaged g c honest is =
     damage ring c.args.journal.now.place c.args.journal.now.used (c.args.journal.now.last + 1) image c.in_ok-first.first
     (c.in_ok-first.ensures.gives honest) (omega arith) (omega arith) (c.is_head.ensures.0 c.if-not-is_head.false)
     (elim c.in_default.branch [
-      in_default-via-in-Some+else-head-free w ↦ none_by_room ring c.args.journal.now.place c.args.journal.now.used (c.args.journal.now.last + 1) image
-      c.in_ok-first.first (c.in_ok-first.ensures.gives honest) w.in-Some.head.length w.in-Some.head.length_is w.in-Some.ensures.1
-      (omega (arith, w.if-head-free.false, w.free.ensures, w.in-Some.head.parts_is))
-    | in_default-via-in_default w ↦ none_by_head ring c.args.journal.now.place c.args.journal.now.used (c.args.journal.now.last + 1) image
-      c.in_ok-first.first (c.in_ok-first.ensures.gives honest) w.in_default.ensures
+      | in_default-via-in-Some+else-head-free w ↦ none_by_room ring c.args.journal.now.place c.args.journal.now.used (c.args.journal.now.last + 1) image
+          c.in_ok-first.first (c.in_ok-first.ensures.gives honest) w.in-Some.head.length w.in-Some.head.length_is w.in-Some.ensures.1
+          (omega (arith, w.if-head-free.false, w.free.ensures, w.in-Some.head.parts_is))
+      | in_default-via-in_default w ↦ none_by_head ring c.args.journal.now.place c.args.journal.now.used (c.args.journal.now.last + 1) image
+          c.in_ok-first.first (c.in_ok-first.ensures.gives honest) w.in_default.ensures
     ])
