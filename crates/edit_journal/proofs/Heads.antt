@@ -31,7 +31,7 @@ renumbered : (n m : ℕ) (text : List ℕ) (part : ℕ) (sector : List ℕ) → 
     → IsPart RECORD_VERSION m text part sector
 renumbered n m text part sector same is = subst (λ (k : ℕ). IsPart RECORD_VERSION k text part sector) same is
 
-stands_push : (ring : Ring) (start : Start) (texts : List (List ℕ)) (text : List ℕ) (at : ℕ) (sector : List ℕ)
+pub stands_push : (ring : Ring) (start : Start) (texts : List (List ℕ)) (text : List ℕ) (at : ℕ) (sector : List ℕ)
     → StandsAt RECORD_VERSION ring start texts at sector
     → ((part : ℕ) → part < parts_of (length text) → at ≡ sector_at ring (start.place + places_of texts + part)
     → IsPart RECORD_VERSION (start.number + length texts) text part sector)
@@ -52,11 +52,11 @@ stands_push ring start (first ∷ texts) text at sector stands new = (
       renumbered (start.number + suc (length texts)) (suc start.number + length texts) text part sector number (new part lt (is ∙ ap (sector_at ring) place))),
 )
 
-places_push : (texts : List (List ℕ)) (text : List ℕ) → places_of (texts ++ text ∷ []) ≡ places_of texts + parts_of (length text)
+pub places_push : (texts : List (List ℕ)) (text : List ℕ) → places_of (texts ++ text ∷ []) ≡ places_of texts + parts_of (length text)
 places_push [] text = omega arith
 places_push (first ∷ texts) text = omega (arith, places_push texts text)
 
-edits_push : (texts : List (List ℕ)) (text : List ℕ) → AreEdits texts → IsEditLength (length text) → AreEdits (texts ++ text ∷ [])
+pub edits_push : (texts : List (List ℕ)) (text : List ℕ) → AreEdits texts → IsEditLength (length text) → AreEdits (texts ++ text ∷ [])
 edits_push [] text are is = (is, tt)
 edits_push (first ∷ texts) text are is = (are.0, edits_push texts text are.1 is)
 

@@ -10,7 +10,7 @@ use Rattle.sector_disk.specs.Disk.History.{begun, wrote}
 use Rattle.sector_disk.proofs.History.{seen_same, seen_other}
 use Rattle.edit_journal.specs.declared.sizes.TheConstants.{PART_BYTES}
 use Rattle.edit_journal.specs.Records.{IsEditLength, parts_of, piece, part_front, record_sector, IsPart, IsHeadOf}
-use Rattle.edit_journal.specs.Ring.{Ring, Start, sector_at, IsInRing, start_behind, NoLaterHead, HoldsTexts}
+use Rattle.edit_journal.specs.Ring.{Ring, Start, sector_at, start_behind, NoLaterHead, HoldsTexts}
 use Rattle.edit_journal.proofs.Places.{in_ring}
 use Rattle.edit_journal.proofs.Fronts.{front_length, kind_there, version_there, number_there, length_there, piece_length}
 
@@ -66,7 +66,7 @@ same_pieces (suc parts) text other same =
     ∙ ap (λ (last : List ℕ). take (PART_BYTES * parts) other ++ last) (same parts (omega arith))
     ∙ sym (ap (λ (n : ℕ). take n other) next ∙ take-add (PART_BYTES * parts) PART_BYTES other)
 
-same_text : (text other : List ℕ) → length text ≡ length other
+pub same_text : (text other : List ℕ) → length text ≡ length other
     → ((part : ℕ) → part < parts_of (length text) → piece text part ≡ piece other part) → text ≡ other
 same_text text other len same =
     sym (take_all (PART_BYTES * parts_of (length text)) text (omega arith))
@@ -74,7 +74,7 @@ same_text text other len same =
     ∙ take_all (PART_BYTES * parts_of (length text)) other (omega (arith, len))
 
 -- two texts of one length have the same piece in a sector
-one_piece : (version number : ℕ) (text other : List ℕ) (part : ℕ) (sector : List ℕ) → length text ≡ length other
+pub one_piece : (version number : ℕ) (text other : List ℕ) (part : ℕ) (sector : List ℕ) → length text ≡ length other
     → IsPart version number text part sector → IsPart version number other part sector → piece text part ≡ piece other part
 one_piece version number text other part sector len is too =
     let same : length (piece text part) ≡ length (piece other part) =

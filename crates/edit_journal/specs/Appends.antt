@@ -7,7 +7,7 @@ use Rattle.edit_journal.specs.Ring.{Ring, Start, sector_at, places_of, HoldsText
 use Rattle.edit_journal.specs.declared.sizes.TheConstants.{RECORD_VERSION}
 use Rattle.edit_journal.specs.declared.journal.Journal.{Journal}
 use Rattle.edit_journal.specs.declared.fault.JournalFault.{JournalFault}
-use Rattle.edit_journal.specs.declared.fault.JournalFault.TheVariants.{NumbersSpent, Full, Device}
+use Rattle.edit_journal.specs.declared.fault.JournalFault.TheVariants.{NumbersSpent, Full, Device, Damaged, Memory}
 
 -- the ring that a journal is in
 abbrev pub ring_of : Journal → Ring
@@ -60,3 +60,5 @@ IsAppendFault journal parts old new NumbersSpent = (journal.last ≡ 2 ^ 64 - 1)
 IsAppendFault journal parts old new (Full need free) = (journal.last < 2 ^ 64 - 1) × (need ≡ parts) × (free ≡ journal.places - journal.used)
     × (free < need) × (new ≡ old)
 IsAppendFault journal parts old new Device = (journal.last < 2 ^ 64 - 1) × (parts ≤ journal.places - journal.used) × HasFailed old new
+IsAppendFault journal parts old new Damaged = ⊥
+IsAppendFault journal parts old new Memory = ⊥

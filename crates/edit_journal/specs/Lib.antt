@@ -1,4 +1,5 @@
 pub mod Appends
 pub mod Records
+pub mod Recovers
 pub mod Releases
 pub mod Ring

@@ -15,7 +15,7 @@ use sector_disk::{DiskFault, Sectors};
 
 impl Journal {
     /// The sector of the place so many behind the first record in use.
-    fn sector_of(&self, offset: u64) -> u64
+    pub(crate) fn sector_of(&self, offset: u64) -> u64
         requires { offset < self.now.places }
         ensures is { result ≡ sector_at (ring_of self.now) (self.now.place + offset) }
         ensures within { result < self.now.first + self.now.places }

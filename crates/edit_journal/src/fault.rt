@@ -1,6 +1,6 @@
 use thiserror::Error;
 
-/// Why the journal doesn't take a text.
+/// Why the journal doesn't take a text, or isn't recovered.
 #[derive(Clone, Copy, Debug, PartialEq, Eq, Error)]
 pub enum JournalFault {
     /// The last edit has the last u64 as its number.
@@ -12,4 +12,10 @@ pub enum JournalFault {
     /// A call of the disk failed.
     #[error("a call of the disk failed")]
     Device,
+    /// A record that was expected isn't whole.
+    #[error("a record of the journal isn't whole")]
+    Damaged,
+    /// An allocation failed.
+    #[error("out of memory")]
+    Memory,
 }

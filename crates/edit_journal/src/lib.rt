@@ -6,6 +6,7 @@ mod encoding;
 mod fault;
 mod head;
 mod journal;
+mod recovering;
 mod releasing;
 mod sizes;
 

@@ -3,6 +3,7 @@ ghost use Rattle.std.specs.Prelude.{◌≤◌, ◌<◌};
 ghost use Rattle.edit_journal.specs.Records.{parts_of};
 
 mod appends;
+mod recovers;
 
 use crate::{head_in, is_head, part_sector};
 

@@ -1,4 +1,4 @@
-use Rattle.std.proofs.Common.{arith, ◌+◌, ◌-◌, ◌≡◌}
+use Rattle.std.proofs.Common.{arith}
 use Rattle.edit_journal.specs.Appends.{ring_of}
 use Rattle.edit_journal.proofs.Releases.{keeps_behind}
 use Rattle.edit_journal.proofs.journal.Journal.release.Goals as goal

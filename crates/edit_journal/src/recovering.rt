@@ -1,0 +1,224 @@
+//! The journal that a ring of sectors has.
+ghost use Rattle.std.specs.Prelude.{◌≡◌, ◌≤◌, ◌<◌, ◌+◌, ◌-◌, ◌*◌, ◌^◌, ◌++◌, min, ℕ, List, length, take, drop, IfOk, IfErr, OnOk, IfSome, MatchOption};
+ghost use Rattle.sector_disk.specs.Disk.{seen, HasFailed};
+ghost use Rattle.edit_journal.specs.Records.{IsEditLength, parts_of, HasFront};
+ghost use Rattle.edit_journal.specs.Ring.{Ring, sector_at, places_of};
+ghost use Rattle.edit_journal.specs.Appends.{ring_of, start_of};
+ghost use Rattle.edit_journal.specs.Recovers.{texts_of, EndsAt, IsJournal, PartsStand, FrontsStand, IsDamaged, IsRecoverFault};
+ghost use Rattle.edit_journal.specs.Releases.{IsCounted};
+ghost use Rattle.edit_journal.specs.declared.sizes.TheConstants.{RECORD_VERSION};
+ghost use Rattle.edit_journal.specs.declared.fault.JournalFault.TheVariants.{Damaged, Device, Memory};
+
+use crate::encoding::count_parts;
+use crate::fault::JournalFault;
+use crate::head::{Head, head_in, is_head};
+use crate::journal::{Journal, Start};
+use crate::sizes::PART_BYTES;
+use sector_disk::{DiskFault, SECTOR_BYTES, Sectors};
+use std::alloc::{AllocError, Global};
+
+/// The bytes of the text in a part's sector, where the whole text has this length.
+fn piece_in(sector: &[u8; SECTOR_BYTES], length: u32, part: u16) -> &[u8]
+    requires { PART_BYTES * part < length }
+    ensures { result.now ≡ take (min PART_BYTES (length - PART_BYTES * part)) (drop 16 sector.now) }
+{
+    let rest = length as usize - PART_BYTES * part as usize;
+    &sector[16..16 + PART_BYTES.min(rest)]
+}
+
+/// Adds bytes to a text.
+fn add_bytes(text: &mut Vec<u8>, bytes: &[u8]) -> Result<(), JournalFault>
+    ensures items { OnOk result (text.new.items ≡ text.old.items ++ bytes.now) }
+    ensures fault { IfErr result (λ fault. fault ≡ Memory) }
+{
+    match text.extend_from_slice(bytes) {
+        Ok(()) => Ok(()),
+        Err(AllocError) => Err(JournalFault::Memory),
+    }
+}
+
+/// Reads the sector of the place so many behind the first record in use.
+fn read_place<D: Sectors>(
+    journal: &Journal,
+    disk: &mut D,
+    offset: u64,
+) -> Result<[u8; SECTOR_BYTES], JournalFault>
+    requires offset { offset < journal.now.places }
+    requires ring { journal.now.first + journal.now.places ≤ D.sectors disk.old }
+    ensures count { D.sectors disk.new ≡ D.sectors disk.old }
+    ensures honest { D.honest disk.new → D.honest disk.old }
+    ensures history { D.honest disk.new → D.history disk.new ≡ D.history disk.old }
+    ensures faults { OnOk result (D.faults disk.new ≡ D.faults disk.old) }
+    ensures fault { IfErr result (λ fault. (fault ≡ Device) × HasFailed (D.faults disk.old) (D.faults disk.new)) }
+    ensures gives { D.honest disk.new
+        → IfOk result (λ sector. sector ≡ seen (D.history disk.old) (sector_at (ring_of journal.now) (journal.now.place + offset))) }
+{
+    let mut sector = [0; SECTOR_BYTES];
+    let at = journal.sector_of(offset);
+    match disk.read(at, &mut sector) {
+        Ok(()) => Ok(sector),
+        Err(DiskFault) => Err(JournalFault::Device),
+    }
+}
+
+/// Reads the text of the next record, whose head stands in this sector.
+fn read_text<D: Sectors>(
+    alloc: Global,
+    journal: &Journal,
+    disk: &mut D,
+    head: Head,
+    first: &[u8; SECTOR_BYTES],
+) -> Result<Vec<u8>, JournalFault>
+    requires ring { journal.now.first + journal.now.places ≤ D.sectors disk.old }
+    requires room { journal.now.used + parts_of head.length ≤ journal.now.places }
+    requires front { HasFront RECORD_VERSION head.number head.length 0 first.now }
+    requires first { D.honest disk.old → first.now ≡ seen (D.history disk.old) (sector_at (ring_of journal.now) (journal.now.place + journal.now.used)) }
+    ensures count { D.sectors disk.new ≡ D.sectors disk.old }
+    ensures honest { D.honest disk.new → D.honest disk.old }
+    ensures history { D.honest disk.new → D.history disk.new ≡ D.history disk.old }
+    ensures faults { OnOk result (D.faults disk.new ≡ D.faults disk.old) }
+    ensures fault { IfErr result (IsRecoverFault (D.faults disk.old) (D.faults disk.new)) }
+    ensures whole { IfOk result (λ text. length text.items ≡ head.length) }
+    ensures stands { D.honest disk.new → IfOk result (λ text. PartsStand RECORD_VERSION (ring_of journal.now) journal.now.place journal.now.used
+        head.number text.items (seen (D.history disk.old))) }
+    ensures damaged { D.honest disk.new → IfErr result (λ fault. fault ≡ Damaged
+        → FrontsStand RECORD_VERSION (ring_of journal.now) journal.now.place journal.now.used head.number head.length (seen (D.history disk.old)) → ⊥) }
+{
+    let mut text = match Vec::with_capacity(alloc, head.length as usize) {
+        Ok(text) => text,
+        Err(AllocError) => return Err(JournalFault::Memory),
+    };
+    add_bytes(&mut text, piece_in(first, head.length, 0))?;
+    for part in 1..head.parts {
+        let sector = read_place(journal, disk, journal.used + part as u64)?;
+        if !head.has_part(&sector, part) {
+            return Err(JournalFault::Damaged);
+        }
+        add_bytes(&mut text, piece_in(&sector, head.length, part))?;
+    }
+    Ok(text)
+}
+
+/// Reads the record behind the others: its text, or none where the journal ends.
+fn read_record<D: Sectors>(
+    alloc: Global,
+    journal: &Journal,
+    disk: &mut D,
+) -> Result<Option<Vec<u8>>, JournalFault>
+    requires ring { journal.now.first + journal.now.places ≤ D.sectors disk.old }
+    ensures count { D.sectors disk.new ≡ D.sectors disk.old }
+    ensures honest { D.honest disk.new → D.honest disk.old }
+    ensures history { D.honest disk.new → D.history disk.new ≡ D.history disk.old }
+    ensures faults { OnOk result (D.faults disk.new ≡ D.faults disk.old) }
+    ensures fault { IfErr result (IsRecoverFault (D.faults disk.old) (D.faults disk.new)) }
+    ensures fits { IfOk result (λ next. IfSome next (λ text. IsEditLength (length text.items)
+        × (journal.now.used + parts_of (length text.items) ≤ journal.now.places) × (journal.now.last + 1 < 2 ^ 64))) }
+    ensures next { D.honest disk.new → IfOk result (λ next. MatchOption next
+        (EndsAt RECORD_VERSION (ring_of journal.now) journal.now.place journal.now.used (journal.now.last + 1) (seen (D.history disk.old)))
+        (λ text. PartsStand RECORD_VERSION (ring_of journal.now) journal.now.place journal.now.used (journal.now.last + 1) text.items
+        (seen (D.history disk.old)))) }
+    ensures damaged { D.honest disk.new → IfErr result (λ fault. fault ≡ Damaged
+        → IsDamaged RECORD_VERSION (ring_of journal.now) journal.now.place journal.now.used (journal.now.last + 1) (seen (D.history disk.old))) }
+{
+    if journal.used == journal.places {
+        return Ok(None);
+    }
+    if journal.last == u64::MAX {
+        return Ok(None);
+    }
+    let number = journal.last + 1;
+    let first = read_place(journal, disk, journal.used)?;
+    if !is_head(&first, number) {
+        return Ok(None);
+    }
+    match head_in(&first, number) {
+        Some(head) if head.parts as u64 <= journal.free() => {
+            match read_text(alloc, journal, disk, head, &first) {
+                Ok(text) => Ok(Some(text)),
+                Err(fault) => Err(fault),
+            }
+        }
+        _ => Err(JournalFault::Damaged),
+    }
+}
+
+impl Journal {
+    /// The journal with no records, where so many edits came before the next, whose record begins in this place.
+    fn empty(first: u64, places: u64, place: u64, edits: u64) -> Journal
+        requires small { first + places < 2 ^ 64 }
+        requires place { place < places }
+        ensures ring { ring_of result ≡ record { first = first; places = places } }
+        ensures start { start_of result.place result.edits ≡ start_of place edits }
+        ensures none { (result.used ≡ 0) × (result.last ≡ edits) }
+        ensures number { result.last < 2 ^ 64 }
+    {
+        Journal {
+            first,
+            places,
+            place,
+            edits,
+            used: 0,
+            last: edits,
+        }
+    }
+
+    /// The journal with one more record, of a text of this length.
+    fn with_record(self, length: u32) -> Journal
+        requires length { IsEditLength length }
+        requires room { self.used + parts_of length ≤ self.places }
+        requires next { self.last < 2 ^ 64 - 1 }
+        ensures same { (ring_of result ≡ ring_of self) × (start_of result.place result.edits ≡ start_of self.place self.edits) }
+        ensures used { result.used ≡ self.used + parts_of length }
+        ensures last { result.last ≡ self.last + 1 }
+    {
+        Journal {
+            first: self.first,
+            places: self.places,
+            place: self.place,
+            edits: self.edits,
+            used: self.used + count_parts(length) as u64,
+            last: self.last + 1,
+        }
+    }
+
+    /// Reads the records from a start on, in a ring of so many places whose place 0 is the first sector: the journal, and its texts
+    /// in order. Nothing is written. `Damaged`: a record that was expected isn't whole. The other errors are `Device` and `Memory`.
+    pub fn recover<D: Sectors>(
+        alloc: Global,
+        disk: &mut D,
+        first: u64,
+        places: u64,
+        start: Start,
+    ) -> Result<(Journal, Vec<Vec<u8>>), JournalFault>
+        requires ring { first + places ≤ D.sectors disk.old }
+        requires small { first + places < 2 ^ 64 }
+        requires start { start.place < places }
+        ensures count { D.sectors disk.new ≡ D.sectors disk.old }
+        ensures honest { D.honest disk.new → D.honest disk.old }
+        ensures history { D.honest disk.new → D.history disk.new ≡ D.history disk.old }
+        ensures faults { OnOk result (D.faults disk.new ≡ D.faults disk.old) }
+        ensures fault { IfErr result (IsRecoverFault (D.faults disk.old) (D.faults disk.new)) }
+        ensures same { IfOk result (λ found. (ring_of found.0 ≡ record { first = first; places = places })
+            × (start_of found.0.place found.0.edits ≡ start_of start.place start.edits)) }
+        ensures used { IfOk result (λ found. found.0.used ≡ places_of (texts_of found.1.items)) }
+        ensures last { IfOk result (λ found. found.0.last ≡ start.edits + length found.1.items) }
+        ensures counted { IfOk result (λ found. IsCounted found.0) }
+
+        // The texts are those that the disk has, and a disk with a journal is never damaged.
+        ensures found { D.honest disk.new → IfOk result (λ found. IsJournal RECORD_VERSION (record { first = first; places = places })
+            (start_of start.place start.edits) (texts_of found.1.items) (seen (D.history disk.old))) }
+        ensures damaged { (texts : List (List ℕ)) → D.honest disk.new → IfErr result (λ fault. fault ≡ Damaged
+            → IsJournal RECORD_VERSION (record { first = first; places = places }) (start_of start.place start.edits) texts (seen (D.history disk.old)) → ⊥) }
+    {
+        let mut journal = Journal::empty(first, places, start.place, start.edits);
+        let mut texts = Vec::new(alloc);
+        while let Some(text) = read_record(alloc, &journal, disk)? {
+            journal = journal.with_record(text.len() as u32);
+            match texts.push(text) {
+                Ok(()) => {}
+                Err(_) => return Err(JournalFault::Memory),
+            }
+        }
+        Ok((journal, texts))
+    }
+}
