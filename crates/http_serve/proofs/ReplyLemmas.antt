@@ -1,5 +1,6 @@
 -- How long the head of a reply may be.
-use Rattle.std.proofs.Common.{◌≡◌, ◌++◌, ◌∙◌, ap, append_assoc, sym, ◌≤◌, ℕ, List, [], Option, Bool, true, false, cond, ◌==◌, length, unwrap_or, if◌then◌else◌, lit≤}
+use Rattle.std.proofs.Common.{◌≡◌, ◌++◌, ◌∙◌, ap, append_assoc, sym, ◌≤◌, ℕ, List, [], Option, Bool, true, false, cond, ◌==◌, length}
+use Rattle.std.proofs.Common.{unwrap_or, if◌then◌else◌, lit≤}
 use Rattle.http.specs.StatusCode.{reason_phrase}
 
 -- a phrase of at most 31 bytes, or none
