@@ -1,11 +1,11 @@
 -- Texts and the edits that they are of.
 use Rattle.std.proofs.Common.{◌≡◌, ◌⊎◌, inl, inr, ℕ, zero, suc, ◌<◌, ◌≤◌, ◌+◌, List, [], ◌∷◌, ◌++◌, length, take, drop, get_or}
-use Rattle.std.proofs.Common.{Vec, Global, refl, sym, ◌∙◌, ap, subst, arith, append-nil}
+use Rattle.std.proofs.Common.{Result, Ok, Err, IfErr, Vec, Global, refl, sym, ◌∙◌, ap, subst, arith, append-nil}
 use Rattle.std.proofs.lemmas.List.{take_more}
 use Rattle.std.proofs.lemmas.List.Elements.{All-nil, All-cons, All-append, All-head, All-tail}
 use Rattle.std.proofs.lemmas.List.Sums.{fold-append}
-use Rattle.edit_text.specs.Decoding.{BeginsWith}
-use Rattle.feature_model.specs.Data.{EditData, put, delete}
+use Rattle.edit_text.specs.Decoding.{BeginsWith, BeginsAsPut}
+use Rattle.feature_model.specs.Data.{FeatureData, EditData, put, delete}
 use Rattle.feature_model.specs.Spelled.{spelled}
 use Rattle.feature_model.specs.Types.{IsEdit}
 use Rattle.feature_store.specs.Store.{FeatureMap, changed, after, snapshot}
@@ -13,8 +13,12 @@ use Rattle.feature_store.proofs.Laws.{snapshot_after_put, snapshot_after_delete}
 use Rattle.generations.specs.declared.fault.StoreFault.{StoreFault}
 use Rattle.generations.specs.declared.fault.StoreFault.TheVariants.{Damaged, Memory}
 use Rattle.generations.specs.declared.fault.What.TheVariants.{Text}
-use Rattle.tile_service.specs.Replayed.{IsTextOf, AreTextsOf, IsReplayFault, bytes_of, views_of}
+use Rattle.tile_service.specs.Replayed.{IsTextOf, IsPut, IsTextFault, AreTextsOf, IsReplayFault, bytes_of, views_of}
 use Rattle.tile_service.proofs.Appends.{spelled_with}
+
+first_byte : (id : ℕ) (f : FeatureData) → spelled (put id f) ≡ 1 ∷ drop 1 (spelled (put id f))
+unfolding spelled
+first_byte id f = refl
 
 -- a text begins with its edit
 pub begins : (text : List ℕ) (edit : EditData) → IsTextOf text edit → BeginsWith edit text
@@ -89,11 +93,22 @@ none_replayed texts i text lt is none edits are =
 
 -- and its fault is that of all the texts
 pub replay_fault : (texts : List (Vec ℕ Global)) (i : ℕ) (text : Vec ℕ Global) (bytes : List ℕ) → i < length texts → text ≡ get_or texts i text
-    → bytes ≡ text.items → (fault : StoreFault)
-    → (fault ≡ Memory) ⊎ ((fault ≡ Damaged Text) × ((edit : EditData) → IsTextOf bytes edit → ⊥)) → IsReplayFault (views_of texts) fault
-replay_fault texts i text bytes lt is same fault (inl memory) = inl memory
+    → bytes ≡ text.items → (fault : StoreFault) → IsTextFault bytes fault → IsReplayFault (views_of texts) fault
+replay_fault texts i text bytes lt is same fault (inl memory) =
+    inl (memory.0, (i, omega (arith, lt, views_length texts), subst BeginsAsPut (same ∙ sym (view_at texts i text lt is)) memory.1))
 replay_fault texts i text bytes lt is same fault (inr damaged) =
     inr (damaged.0, none_replayed texts i text lt is (λ edit of_it. damaged.1 edit (subst (λ (t : List ℕ). IsTextOf t edit) (sym same) of_it)))
+
+-- the text of an edit that sets a feature begins as one
+pub begins_as_put : (text : List ℕ) (edit : EditData) → IsTextOf text edit → IsPut edit → BeginsAsPut text
+begins_as_put text (put id f) is so = (drop 1 (spelled (put id f)), is.is_text ∙ first_byte id f)
+begins_as_put text (delete id) is so = absurd so
+
+-- where the edit of a text isn't made, the fault is that of the text
+pub make_fault : (text : List ℕ) (edit : EditData) (result : Result (Unit {0}) StoreFault) → IsTextOf text edit
+    → IfErr result (λ fault. (fault ≡ Memory) × IsPut edit) → IfErr result (IsTextFault text)
+make_fault text edit (Ok done) is told = tt
+make_fault text edit (Err fault) is told = inl (told.0, begins_as_put text edit is told.1)
 
 -- the edits of the texts so far, with one more
 pub replayed_one : (texts : List (Vec ℕ Global)) (i : ℕ) (text : Vec ℕ Global) (bytes : List ℕ) (first old new : FeatureMap) → i < length texts

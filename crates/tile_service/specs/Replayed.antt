@@ -1,7 +1,8 @@
 -- Edits and their texts.
-use Rattle.std.specs.Prelude.{◌≡◌, ◌⊎◌, ◌+◌, ℕ, List, [], ◌∷◌, length, map, All, Vec}
+use Rattle.std.specs.Prelude.{◌≡◌, ◌⊎◌, ◌<◌, ◌+◌, ℕ, get_or, List, [], ◌∷◌, length, map, All, Vec}
 use Rattle.std.proofs.Common.{Global}
-use Rattle.feature_model.specs.Data.{EditData}
+use Rattle.edit_text.specs.Decoding.{BeginsAsPut}
+use Rattle.feature_model.specs.Data.{EditData, put, delete}
 use Rattle.feature_model.specs.Spelled.{spelled}
 use Rattle.feature_model.specs.Types.{IsEdit}
 use Rattle.generations.specs.declared.fault.StoreFault.{StoreFault}
@@ -12,6 +13,11 @@ use Rattle.generations.specs.declared.fault.What.TheVariants.{Text}
 pub record IsTextOf (text : List ℕ) (edit : EditData) : Type 0 where
   pub is_edit : IsEdit edit
   pub is_text : text ≡ spelled edit
+
+-- the edit sets a feature
+abbrev pub IsPut : EditData → Type 0
+IsPut (put id f) = Unit {0}
+IsPut (delete id) = ⊥
 
 -- the texts are those of these edits
 pub record AreTextsOf (texts : List (List ℕ)) (edits : List EditData) : Type 0 where
@@ -27,6 +33,14 @@ bytes_of (text ∷ texts) = length text + bytes_of texts
 abbrev pub views_of : List (Vec ℕ Global) → List (List ℕ)
 views_of texts = map (λ text. text.items) texts
 
--- why texts aren't replayed: one of them is no edit's, or an allocation fails
+-- why the edit of a text isn't made: an allocation fails at what begins as a Put, or the text is no edit's
+abbrev pub IsTextFault : List ℕ → StoreFault → Type 0
+IsTextFault text fault = ((fault ≡ Memory) × BeginsAsPut text) ⊎ ((fault ≡ Damaged Text) × ((edit : EditData) → IsTextOf text edit → ⊥))
+
+-- one of the texts begins as that of a Put
+abbrev pub HasPut : List (List ℕ) → Type 0
+HasPut texts = (index : ℕ) × (index < length texts) × BeginsAsPut (get_or texts index [])
+
+-- why texts aren't replayed: an allocation fails at one that begins as a Put, or one of them is no edit's
 abbrev pub IsReplayFault : List (List ℕ) → StoreFault → Type 0
-IsReplayFault texts fault = (fault ≡ Memory) ⊎ ((fault ≡ Damaged Text) × ((edits : List EditData) → AreTextsOf texts edits → ⊥))
+IsReplayFault texts fault = ((fault ≡ Memory) × HasPut texts) ⊎ ((fault ≡ Damaged Text) × ((edits : List EditData) → AreTextsOf texts edits → ⊥))

@@ -7,7 +7,7 @@ ghost use Rattle.feature_store.specs.Store.{changed, after, snapshot};
 ghost use Rattle.feature_store.specs.declared.limit.TheConstants.{TEXTS_END};
 ghost use Rattle.generations.specs.declared.fault.StoreFault.TheVariants.{Damaged, Memory};
 ghost use Rattle.generations.specs.declared.fault.What.TheVariants.{Text};
-ghost use Rattle.tile_service.specs.Replayed.{IsTextOf, AreTextsOf, IsReplayFault, bytes_of, views_of};
+ghost use Rattle.tile_service.specs.Replayed.{IsTextOf, IsPut, AreTextsOf, IsTextFault, IsReplayFault, bytes_of, views_of};
 
 use edit_text::{TextFault, decode};
 use feature_model::Edit;
@@ -18,7 +18,7 @@ use std::alloc::{AllocError, Global};
 /// The edit of a text.
 fn edit_in(alloc: Global, text: &[u8]) -> Result<Edit, StoreFault>
     ensures edit { IfOk result (λ edit. IsTextOf text.now (edit_data edit)) }
-    ensures fault { IfErr result (λ fault. (fault ≡ Memory) ⊎ ((fault ≡ Damaged Text) × ((edit : EditData) → IsTextOf text.now edit → ⊥))) }
+    ensures fault { IfErr result (IsTextFault text.now) }
 {
     match decode(alloc, text) {
         Ok((edit, bytes)) if bytes == text.len() => Ok(edit),
@@ -33,7 +33,7 @@ fn make(store: &mut Store, edit: Edit) -> Result<(), StoreFault>
     requires edit { IsEdit (edit_data edit) }
     requires texts { length (snapshot store.old.features) + length (spelled (edit_data edit)) < TEXTS_END }
     ensures map { OnOk result (store.new.features ≡ changed store.old.features (edit_data edit)) }
-    ensures fault { IfErr result (λ fault. fault ≡ Memory) }
+    ensures fault { IfErr result (λ fault. (fault ≡ Memory) × IsPut (edit_data edit)) }
 {
     match edit {
         Edit::Put { id, feature } => {
@@ -54,14 +54,14 @@ fn make(store: &mut Store, edit: Edit) -> Result<(), StoreFault>
 fn replay_one(alloc: Global, store: &mut Store, text: &[u8]) -> Result<(), StoreFault>
     requires texts { length (snapshot store.old.features) + length text.now < TEXTS_END }
     ensures made { OnOk result ((edit : EditData) × IsTextOf text.now edit × (store.new.features ≡ changed store.old.features edit)) }
-    ensures fault { IfErr result (λ fault. (fault ≡ Memory) ⊎ ((fault ≡ Damaged Text) × ((edit : EditData) → IsTextOf text.now edit → ⊥))) }
+    ensures fault { IfErr result (IsTextFault text.now) }
 {
     let edit = edit_in(alloc, text)?;
     make(store, edit)
 }
 
 /// Makes the edits of texts in the map, from the first to the last. `Damaged(Text)`: one of them is the text of no edit. `Memory`: an
-/// allocation failed. After an error the edits before the faulty text are made.
+/// allocation failed, at one that sets a feature. After an error the edits before the faulty text are made.
 pub fn replay(alloc: Global, store: &mut Store, texts: &[Vec<u8>]) -> Result<(), StoreFault>
     requires texts { length (snapshot store.old.features) + bytes_of (views_of texts.now) < TEXTS_END }
     ensures made { OnOk result ((edits : List EditData) × AreTextsOf (views_of texts.now) edits × (store.new.features ≡ after store.old.features edits)) }
