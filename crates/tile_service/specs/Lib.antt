@@ -1,3 +1,9 @@
+pub mod Events
+pub mod Limits
+pub mod Machine
+pub mod Opening
 pub mod Replayed
+pub mod Runs
+pub mod Service
 pub mod Stored
 pub mod Tiles

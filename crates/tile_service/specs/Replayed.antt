@@ -5,6 +5,7 @@ use Rattle.edit_text.specs.Decoding.{BeginsAsPut}
 use Rattle.feature_model.specs.Data.{EditData, put, delete}
 use Rattle.feature_model.specs.Spelled.{spelled}
 use Rattle.feature_model.specs.Types.{IsEdit}
+use Rattle.feature_store.specs.Store.{StoreView, HasRoom}
 use Rattle.generations.specs.declared.fault.StoreFault.{StoreFault}
 use Rattle.generations.specs.declared.fault.StoreFault.TheVariants.{Damaged, Memory}
 use Rattle.generations.specs.declared.fault.What.TheVariants.{Text}
@@ -18,6 +19,11 @@ pub record IsTextOf (text : List ℕ) (edit : EditData) : Type 0 where
 abbrev pub IsPut : EditData → Type 0
 IsPut (put id f) = Unit {0}
 IsPut (delete id) = ⊥
+
+-- the edit can be made without memory
+abbrev pub HasRoomFor : StoreView → EditData → Type 0
+HasRoomFor s (put id f) = HasRoom s id
+HasRoomFor s (delete id) = Unit {0}
 
 -- the texts are those of these edits
 pub record AreTextsOf (texts : List (List ℕ)) (edits : List EditData) : Type 0 where

@@ -10,26 +10,29 @@ ghost use Rattle.generations.specs.declared.fault.What.TheVariants.{Size};
 ghost use Rattle.generations.specs.declared.sizes.TheConstants.{LEAST_SECTORS, MOST_SECTORS};
 ghost use Rattle.tile_service.specs.Stored.{Holds, Keeps, first_state};
 
-use generations::StoreFault;
+use crate::service::Service;
+use generations::{StoreFault, format};
 use sector_disk::Sectors;
 
-/// Makes a disk of `LEAST_SECTORS` to `MOST_SECTORS` sectors hold the empty map, and else leaves it untouched. What stood on it is
-/// lost: after a fault of the disk or a crash it holds what it held before, or has no format, or holds the empty map.
-pub fn format<D: Sectors>(disk: &mut D) -> Result<(), StoreFault>
-    ensures small { (result ≡ Err TooSmall) ↔ (D.sectors disk.old < LEAST_SECTORS) }
-    ensures large { (result ≡ Err (Damaged Size)) ↔ (MOST_SECTORS < D.sectors disk.old) }
-    ensures only { IfErr result (λ fault. (fault ≡ TooSmall) ⊎ (fault ≡ Damaged Size) ⊎ (fault ≡ Device)) }
-    ensures untouched { (IsSize (D.sectors disk.old) → ⊥) → disk.new ≡ disk.old }
-    ensures count { D.sectors disk.new ≡ D.sectors disk.old }
-    ensures faults { OnOk result (D.faults disk.new ≡ D.faults disk.old) }
-    ensures failed { IfErr result (λ fault. CountsDevice fault (D.faults disk.old) (D.faults disk.new)) }
-    ensures honest { D.honest disk.new → D.honest disk.old }
+impl<D: Sectors + Drop> Service<D> {
+    /// Makes a disk of `LEAST_SECTORS` to `MOST_SECTORS` sectors hold the empty map, and else leaves it untouched. What stood on it is
+    /// lost: after a fault of the disk or a crash it holds what it held before, or has no format, or holds the empty map.
+    pub fn format(disk: &mut D) -> Result<(), StoreFault>
+        ensures small { (result ≡ Err TooSmall) ↔ (D.sectors disk.old < LEAST_SECTORS) }
+        ensures large { (result ≡ Err (Damaged Size)) ↔ (MOST_SECTORS < D.sectors disk.old) }
+        ensures only { IfErr result (λ fault. (fault ≡ TooSmall) ⊎ (fault ≡ Damaged Size) ⊎ (fault ≡ Device)) }
+        ensures untouched { (IsSize (D.sectors disk.old) → ⊥) → disk.new ≡ disk.old }
+        ensures count { D.sectors disk.new ≡ D.sectors disk.old }
+        ensures faults { OnOk result (D.faults disk.new ≡ D.faults disk.old) }
+        ensures failed { IfErr result (λ fault. CountsDevice fault (D.faults disk.old) (D.faults disk.new)) }
+        ensures honest { D.honest disk.new → D.honest disk.old }
 
-    // A crash at any moment leaves an image from before, or one without the mark of a format, or one that holds the empty map.
-    ensures any_moment { D.honest disk.new → LeavesOnly (D.history disk.old) (D.history disk.new)
-        (λ image. MayLeave (D.history disk.old) image ⊎ HasNoMark image ⊎ Holds (D.sectors disk.old) (D.sectors disk.old) first_state image) }
-    ensures formatted { D.honest disk.new
-        → OnOk result (Keeps (D.sectors disk.old) (D.sectors disk.old) first_state (D.history disk.new)) }
-{
-    generations::format(disk)
+        // A crash at any moment leaves an image from before, or one without the mark of a format, or one that holds the empty map.
+        ensures any_moment { D.honest disk.new → LeavesOnly (D.history disk.old) (D.history disk.new)
+            (λ image. MayLeave (D.history disk.old) image ⊎ HasNoMark image ⊎ Holds (D.sectors disk.old) (D.sectors disk.old) first_state image) }
+        ensures formatted { D.honest disk.new
+            → OnOk result (Keeps (D.sectors disk.old) (D.sectors disk.old) first_state (D.history disk.new)) }
+    {
+        format(disk)
+    }
 }

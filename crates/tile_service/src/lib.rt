@@ -1,12 +1,20 @@
-//! The service of a map that lies on a disk. Here is what its disk holds, a map as a snapshot and the edits since, and an archive of
-//! the snapshot's tiles; a disk made ready for it, and the map after the edits of the journal. The service itself comes next.
+//! A map that lies on a disk, as a service: it takes edits, and shows tiles and features. Stopped at any moment, its disk opens again
+//! with some first edits, all that were acknowledged among them.
 #![tactic(auto)]
 
+mod editing;
+mod event;
+mod fault;
 mod formatting;
+mod opening;
 mod replaying;
+mod running;
+mod service;
+mod showing;
 
-pub use formatting::format;
-pub use replaying::replay;
+pub use event::{Answer, Event};
+pub use fault::ServiceFault;
+pub use service::Service;
 
 #[cfg(test)]
 mod tests;

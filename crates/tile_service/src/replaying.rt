@@ -7,7 +7,7 @@ ghost use Rattle.feature_store.specs.Store.{changed, after, snapshot};
 ghost use Rattle.feature_store.specs.declared.limit.TheConstants.{TEXTS_END};
 ghost use Rattle.generations.specs.declared.fault.StoreFault.TheVariants.{Damaged, Memory};
 ghost use Rattle.generations.specs.declared.fault.What.TheVariants.{Text};
-ghost use Rattle.tile_service.specs.Replayed.{IsTextOf, IsPut, AreTextsOf, IsTextFault, IsReplayFault, bytes_of, views_of};
+ghost use Rattle.tile_service.specs.Replayed.{IsTextOf, IsPut, HasRoomFor, AreTextsOf, IsTextFault, IsReplayFault, bytes_of, views_of};
 
 use edit_text::{TextFault, decode};
 use feature_model::Edit;
@@ -28,6 +28,21 @@ fn edit_in(alloc: Global, text: &[u8]) -> Result<Edit, StoreFault>
     }
 }
 
+/// Makes an edit of the map, which has room for it. It takes no memory.
+pub(crate) fn apply(store: &mut Store, edit: Edit)
+    requires edit { IsEdit (edit_data edit) }
+    requires room { HasRoomFor store.old (edit_data edit) }
+    requires texts { length (snapshot (changed store.old.features (edit_data edit))) < TEXTS_END }
+    ensures { store.new.features ≡ changed store.old.features (edit_data edit) }
+{
+    match edit {
+        Edit::Put { id, feature } => store.place(id, feature),
+        Edit::Delete { id } => {
+            store.remove(id);
+        }
+    }
+}
+
 /// Makes an edit of the map.
 fn make(store: &mut Store, edit: Edit) -> Result<(), StoreFault>
     requires edit { IsEdit (edit_data edit) }
@@ -35,18 +50,13 @@ fn make(store: &mut Store, edit: Edit) -> Result<(), StoreFault>
     ensures map { OnOk result (store.new.features ≡ changed store.old.features (edit_data edit)) }
     ensures fault { IfErr result (λ fault. (fault ≡ Memory) × IsPut (edit_data edit)) }
 {
-    match edit {
-        Edit::Put { id, feature } => {
-            match store.room(id) {
-                Ok(()) => {}
-                Err(AllocError) => return Err(StoreFault::Memory),
-            }
-            store.place(id, feature);
-        }
-        Edit::Delete { id } => {
-            store.remove(id);
+    if let Edit::Put { id, .. } = &edit {
+        match store.room(*id) {
+            Ok(()) => {}
+            Err(AllocError) => return Err(StoreFault::Memory),
         }
     }
+    apply(store, edit);
     Ok(())
 }
 
@@ -62,7 +72,7 @@ fn replay_one(alloc: Global, store: &mut Store, text: &[u8]) -> Result<(), Store
 
 /// Makes the edits of texts in the map, from the first to the last. `Damaged(Text)`: one of them is the text of no edit. `Memory`: an
 /// allocation failed, at one that sets a feature. After an error the edits before the faulty text are made.
-pub fn replay(alloc: Global, store: &mut Store, texts: &[Vec<u8>]) -> Result<(), StoreFault>
+pub(crate) fn replay(alloc: Global, store: &mut Store, texts: &[Vec<u8>]) -> Result<(), StoreFault>
     requires texts { length (snapshot store.old.features) + bytes_of (views_of texts.now) < TEXTS_END }
     ensures made { OnOk result ((edits : List EditData) × AreTextsOf (views_of texts.now) edits × (store.new.features ≡ after store.old.features edits)) }
     ensures fault { IfErr result (IsReplayFault (views_of texts.now)) }

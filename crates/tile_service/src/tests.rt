@@ -1,7 +1,8 @@
 //! Disks made ready, and texts replayed.
 ghost use Rattle.std.specs.Prelude.{◌≤◌, length};
 
-use crate::{format, replay};
+use crate::Service;
+use crate::replaying::replay;
 use feature_store::Store;
 use generations::{StoreFault, What, read_root};
 use sector_disk::MemoryDisk;
@@ -17,7 +18,7 @@ fn sizes_of_disks(rt: HostRuntime) -> Result<(), Fail> {
     ];
     for (sectors, outcome) in rows {
         let mut disk = MemoryDisk::new(rt.alloc(), sectors)?;
-        assert_eq!(rt; format(&mut disk), outcome);
+        assert_eq!(rt; Service::format(&mut disk), outcome);
         assert_eq!(rt; read_root(&mut disk).is_ok(), outcome.is_ok());
     }
     Ok(())

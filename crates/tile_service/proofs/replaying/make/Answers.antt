@@ -5,8 +5,8 @@ use Rattle.feature_store.specs.Store.{snapshot}
 use Rattle.feature_store.proofs.Laws.{snapshot_after_put}
 use Rattle.tile_service.proofs.replaying.make.Goals as goal
 
-pub place-requires-clause-texts : goal.place-requires-clause-texts
-place-requires-clause-texts c =
+pub apply-requires-clause-texts : goal.apply-requires-clause-texts
+apply-requires-clause-texts c =
     omega (
       arith,
       c.requires.texts,

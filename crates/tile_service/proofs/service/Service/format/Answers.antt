@@ -1,6 +1,6 @@
 use Rattle.std.proofs.Common.{ap}
 use Rattle.tile_service.proofs.Fresh.{formatting_leaves, formatted_keeps}
-use Rattle.tile_service.proofs.formatting.format.Goals as goal
+use Rattle.tile_service.proofs.service.Service.format.Goals as goal
 
 pub returns-clause-any_moment : goal.returns-clause-any_moment
 returns-clause-any_moment g c honest = formatting_leaves (g.D.Sectors.sectors c.args.disk.now) (g.D.Sectors.history c.args.disk.now)

@@ -1,0 +1,146 @@
+//! Edits: a text in the journal first, and then a change of the map.
+ghost use Rattle.std.specs.Prelude.{◌≡◌, ◌≢◌, ◌⊎◌, ◌<◌, ◌^◌, ◌-◌, false, IfErr, IfOk, OnOk};
+ghost use Rattle.sector_disk.specs.Moments.{LeavesOnly};
+ghost use Rattle.feature_model.specs.Data.{feature_data, put, delete};
+ghost use Rattle.tile_service.specs.Limits.{KeepsLimits, BreaksLimit};
+ghost use Rattle.tile_service.specs.Machine.{ArchiveState, edit, Steps};
+ghost use Rattle.tile_service.specs.Service.{IsUp, state_of, edit_answer, EventLeaves, CountsDevice, told_as};
+ghost use Rattle.tile_service.specs.Stored.{Stored, with_edit};
+ghost use Rattle.tile_service.specs.declared.fault.ServiceFault.TheVariants.{Limit, Device};
+
+use crate::fault::ServiceFault;
+use crate::replaying::apply;
+use crate::service::Service;
+use edit_journal::JournalFault;
+use edit_text::{delete_text, encode};
+use feature_model::{Edit, EditFault, Feature, check};
+use sector_disk::Sectors;
+use std::alloc::AllocError;
+use tile_cutter::check_reach;
+
+/// Whether a feature is within the limits for its number, its reach too.
+fn within_limits(id: u64, feature: &Feature) -> Result<(), ServiceFault>
+    ensures ok { OnOk result (KeepsLimits id (feature_data feature.now)) }
+    ensures fault { IfErr result (λ fault. (limit : _) × (fault ≡ Limit limit) × BreaksLimit id (feature_data feature.now) limit) }
+{
+    match check(id, feature) {
+        Ok(()) => {}
+        Err(fault) => return Err(ServiceFault::Limit(fault)),
+    }
+    match check_reach(feature) {
+        Ok(()) => Ok(()),
+        Err(_) => Err(ServiceFault::Limit(EditFault::Reach)),
+    }
+}
+
+/// What the fault of an append is told as. An append is never damaged, and takes no memory.
+fn told(fault: JournalFault) -> ServiceFault
+    ensures { result ≡ told_as fault }
+{
+    match fault {
+        JournalFault::NumbersSpent => ServiceFault::NumbersSpent,
+        JournalFault::Full { need, free } => ServiceFault::JournalFull { need, free },
+        JournalFault::Memory => ServiceFault::Memory,
+        JournalFault::Device | JournalFault::Damaged => ServiceFault::Device,
+    }
+}
+
+impl<D: Sectors + Drop> Service<D> {
+    /// Gives a number this feature, whatever feature it had, and answers the number of the edit. At `Ok` the edit outlives a crash.
+    /// After `Device` it stands on the disk or not, and the service makes no more edits; any other fault changes nothing, and writes
+    /// nothing.
+    ///
+    /// # Errors
+    ///
+    /// `Broken`, `Limit`, `NumbersSpent`, `Memory`, `JournalFull`, `Device`, the first that there is in this order.
+    pub fn put(&mut self, id: u64, feature: Feature) -> Result<u64, ServiceFault>
+        ensures machine { (archive : ArchiveState)
+            → Steps (state_of archive self.old) (edit (put id (feature_data feature))) (edit_answer result) (state_of archive self.new) }
+        ensures size { self.new.size ≡ self.old.size }
+        ensures count { D.sectors self.new.disk ≡ D.sectors self.old.disk }
+        ensures honest { D.honest self.new.disk → D.honest self.old.disk }
+        ensures faults { OnOk result (D.faults self.new.disk ≡ D.faults self.old.disk) }
+        ensures failed { IfErr result (λ fault. CountsDevice fault (D.faults self.old.disk) (D.faults self.new.disk)) }
+        ensures untouched { IfErr result (λ fault. fault ≢ Device → self.new.disk ≡ self.old.disk) }
+
+        // A crash at any moment of the call leaves what was stored, or the same with the edit.
+        ensures any_moment { (stored : Stored) → D.honest self.new.disk → IsUp (D.sectors self.old.disk) (D.history self.old.disk) stored self.old
+            → LeavesOnly (D.history self.old.disk) (D.history self.new.disk)
+            (EventLeaves (D.sectors self.old.disk) self.old.size stored (edit (put id (feature_data feature))) (edit_answer result)) }
+        // And after it: the same with the edit where it was acknowledged, and what was stored where it was refused.
+        ensures acknowledged { (stored : Stored) → D.honest self.new.disk → IsUp (D.sectors self.old.disk) (D.history self.old.disk) stored self.old
+            → OnOk result (IsUp (D.sectors self.new.disk) (D.history self.new.disk) (with_edit stored (put id (feature_data feature))) self.new) }
+        ensures refused { (stored : Stored) → D.honest self.new.disk → IsUp (D.sectors self.old.disk) (D.history self.old.disk) stored self.old
+            → IfErr result (λ fault. fault ≢ Device → IsUp (D.sectors self.new.disk) (D.history self.new.disk) stored self.new) }
+    {
+        if self.broken {
+            return Err(ServiceFault::Broken);
+        }
+        match within_limits(id, &feature) {
+            Ok(()) => {}
+            Err(fault) => return Err(fault),
+        }
+        if self.journal.last == u64::MAX {
+            return Err(ServiceFault::NumbersSpent);
+        }
+        let edit = Edit::Put { id, feature };
+        let text = match encode(self.alloc, &edit) {
+            Ok(text) => text,
+            Err(AllocError) => return Err(ServiceFault::Memory),
+        };
+        match self.store.room(id) {
+            Ok(()) => {}
+            Err(AllocError) => return Err(ServiceFault::Memory),
+        }
+        match self.journal.append(&mut self.disk, &text) {
+            Ok(number) => {
+                apply(&mut self.store, edit);
+                Ok(number)
+            }
+            Err(fault) => {
+                self.broken = fault == JournalFault::Device;
+                Err(told(fault))
+            }
+        }
+    }
+
+    /// Takes the feature of a number away, and answers the number of the edit. It takes no memory, and else is as `put`.
+    ///
+    /// # Errors
+    ///
+    /// `Broken`, `NotFound`, `NumbersSpent`, `JournalFull`, `Device`, the first that there is in this order.
+    pub fn delete(&mut self, id: u64) -> Result<u64, ServiceFault>
+        ensures machine { (archive : ArchiveState)
+            → Steps (state_of archive self.old) (edit (delete id)) (edit_answer result) (state_of archive self.new) }
+        ensures size { self.new.size ≡ self.old.size }
+        ensures count { D.sectors self.new.disk ≡ D.sectors self.old.disk }
+        ensures honest { D.honest self.new.disk → D.honest self.old.disk }
+        ensures faults { OnOk result (D.faults self.new.disk ≡ D.faults self.old.disk) }
+        ensures failed { IfErr result (λ fault. CountsDevice fault (D.faults self.old.disk) (D.faults self.new.disk)) }
+        ensures untouched { IfErr result (λ fault. fault ≢ Device → self.new.disk ≡ self.old.disk) }
+        ensures any_moment { (stored : Stored) → D.honest self.new.disk → IsUp (D.sectors self.old.disk) (D.history self.old.disk) stored self.old
+            → LeavesOnly (D.history self.old.disk) (D.history self.new.disk)
+            (EventLeaves (D.sectors self.old.disk) self.old.size stored (edit (delete id)) (edit_answer result)) }
+        ensures acknowledged { (stored : Stored) → D.honest self.new.disk → IsUp (D.sectors self.old.disk) (D.history self.old.disk) stored self.old
+            → OnOk result (IsUp (D.sectors self.new.disk) (D.history self.new.disk) (with_edit stored (delete id)) self.new) }
+        ensures refused { (stored : Stored) → D.honest self.new.disk → IsUp (D.sectors self.old.disk) (D.history self.old.disk) stored self.old
+            → IfErr result (λ fault. fault ≢ Device → IsUp (D.sectors self.new.disk) (D.history self.new.disk) stored self.new) }
+    {
+        if self.broken {
+            return Err(ServiceFault::Broken);
+        }
+        if self.store.get(id).is_none() {
+            return Err(ServiceFault::NotFound);
+        }
+        match self.journal.append(&mut self.disk, &delete_text(id)) {
+            Ok(number) => {
+                self.store.remove(id);
+                Ok(number)
+            }
+            Err(fault) => {
+                self.broken = fault == JournalFault::Device;
+                Err(told(fault))
+            }
+        }
+    }
+}

@@ -1,0 +1,30 @@
+//! Events and their answers.
+use crate::fault::ServiceFault;
+use feature_model::Feature;
+use hilbert_id::TileAt;
+
+/// What a service is asked for.
+#[derive(Debug, Drop)]
+pub enum Event {
+    /// Gives a number a feature.
+    Put { id: u64, feature: Feature },
+    /// Takes the feature of a number away.
+    Delete { id: u64 },
+    /// Asks for a tile.
+    Tile { at: TileAt },
+    /// Asks for the feature of a number.
+    Look { id: u64 },
+}
+
+/// What a service answers.
+#[derive(Debug, Drop)]
+pub enum Answer {
+    /// The edit was made, and has this number.
+    Edited(u64),
+    /// The bytes of the tile, or none where it shows nothing.
+    Tile(Option<Vec<u8>>),
+    /// The feature, or none where the number has none.
+    Look(Option<Feature>),
+    /// Nothing was done.
+    Refused(ServiceFault),
+}

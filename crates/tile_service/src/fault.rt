@@ -1,0 +1,28 @@
+use feature_model::EditFault;
+use thiserror::Error;
+
+/// Why an event is refused. Of several faults the first in this order is told.
+#[derive(Clone, Copy, Debug, PartialEq, Eq, Error)]
+pub enum ServiceFault {
+    /// A write or a sync of the disk has failed before, so no edit is made any more. The disk has to be opened again.
+    #[error("the disk has failed: it has to be opened again")]
+    Broken,
+    /// The feature breaks this limit.
+    #[error("{0}")]
+    Limit(EditFault),
+    /// The number that is to be deleted has no feature.
+    #[error("the number has no feature")]
+    NotFound,
+    /// The last edit has the last u64 as its number.
+    #[error("there are no more numbers for edits")]
+    NumbersSpent,
+    /// An allocation failed.
+    #[error("out of memory")]
+    Memory,
+    /// The record of the edit needs more sectors than the journal has free.
+    #[error("the journal has {free} free sectors, and {need} are needed")]
+    JournalFull { need: u64, free: u64 },
+    /// A call of the disk failed.
+    #[error("a call of the disk failed")]
+    Device,
+}

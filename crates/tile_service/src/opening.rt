@@ -1,0 +1,160 @@
+//! A service made from what a disk holds.
+ghost use Rattle.std.specs.Prelude.{◌≡◌, ◌⊎◌, ◌<◌, ◌≤◌, ◌+◌, ◌*◌, ◌↔◌, [], false, ℕ, List, length, Err, IfErr, IfOk, OnOk, MatchResult};
+ghost use Rattle.sector_disk.specs.Disk.{seen, MayLeave, HasFailed};
+ghost use Rattle.sector_disk.specs.Disk.History.{synced};
+ghost use Rattle.sector_disk.specs.Moments.{LeavesOnly};
+ghost use Rattle.generations.specs.Areas.{IsSize, area_sectors};
+ghost use Rattle.generations.specs.Disks.{HasNoMark, LiveRoot};
+ghost use Rattle.generations.specs.Faults.{CountsDevice};
+ghost use Rattle.generations.specs.Sectors.{CanStand};
+ghost use Rattle.generations.specs.declared.fault.StoreFault.TheVariants.{TooSmall, Device, Damaged, Memory};
+ghost use Rattle.generations.specs.declared.fault.What.TheVariants.{Size};
+ghost use Rattle.generations.specs.declared.sizes.TheConstants.{LEAST_SECTORS, MOST_SECTORS};
+ghost use Rattle.edit_journal.specs.Appends.{ring_of};
+ghost use Rattle.edit_journal.specs.declared.sizes.TheConstants.{PART_BYTES};
+ghost use Rattle.feature_store.specs.Store.{snapshot};
+ghost use Rattle.tile_service.specs.Opening.{IsReplayed, IsRead, IsJournalFault, IsOpenFault};
+ghost use Rattle.tile_service.specs.Service.{IsUp};
+ghost use Rattle.tile_service.specs.Stored.{Stored, Holds, Keeps, first_state, journal_ring};
+
+use crate::replaying::replay;
+use crate::service::Service;
+use edit_journal::{Journal, JournalFault, Start};
+use feature_store::Store;
+use generations::{Layout, Root, StoreFault, What, read_root};
+use sector_disk::{DiskFault, Sectors};
+use std::alloc::Global;
+
+/// What the fault of a recovery is told as. A recovery refuses neither for numbers nor for room.
+fn told(fault: JournalFault) -> StoreFault {
+    match fault {
+        JournalFault::Device => StoreFault::Device,
+        JournalFault::Memory => StoreFault::Memory,
+        JournalFault::NumbersSpent | JournalFault::Full { .. } | JournalFault::Damaged =>
+            StoreFault::Damaged(What::Journal),
+    }
+}
+
+/// What is read from a disk.
+#[derive(Drop)]
+struct Found {
+    layout: Layout,
+    root: Root,
+    journal: Journal,
+    store: Store,
+}
+
+/// Reads the journal that a root names, and the map after its edits.
+fn read_edits<D: Sectors>(
+    alloc: Global,
+    disk: &mut D,
+    layout: Layout,
+    root: Root,
+) -> Result<(Journal, Store), StoreFault>
+    requires within { layout.sectors ≤ D.sectors disk.old }
+    requires can { CanStand layout.sectors root }
+    ensures count { D.sectors disk.new ≡ D.sectors disk.old }
+    ensures honest { D.honest disk.new → D.honest disk.old }
+    ensures history { D.honest disk.new → D.history disk.new ≡ D.history disk.old }
+    ensures faults { OnOk result (D.faults disk.new ≡ D.faults disk.old) }
+    ensures failed { IfErr result (λ fault. CountsDevice fault (D.faults disk.old) (D.faults disk.new)) }
+    ensures ring { IfOk result (λ found. ring_of found.0 ≡ journal_ring layout.sectors) }
+    ensures texts { IfOk result (λ found. length (snapshot found.1.features) ≤ PART_BYTES * found.0.used) }
+    ensures found { D.honest disk.new
+        → IfOk result (λ found. IsReplayed layout.sectors root (seen (D.history disk.old)) found.0 found.1.features) }
+    ensures fault { D.honest disk.new
+        → IfErr result (λ fault. (fault ≡ Device) ⊎ (fault ≡ Memory) ⊎ IsJournalFault layout.sectors root (seen (D.history disk.old)) fault) }
+{
+    let start = Start {
+        place: root.journal_at,
+        edits: root.edits,
+    };
+    let (journal, texts) = match Journal::recover(alloc, disk, 3, layout.journal, start) {
+        Ok(found) => found,
+        Err(fault) => return Err(told(fault)),
+    };
+    let mut store = Store::new(alloc);
+    match replay(alloc, &mut store, &texts) {
+        Ok(()) => Ok((journal, store)),
+        Err(fault) => Err(fault),
+    }
+}
+
+/// Reads what a disk holds, after a sync.
+fn load<D: Sectors>(alloc: Global, disk: &mut D) -> Result<Found, StoreFault>
+    ensures count { D.sectors disk.new ≡ D.sectors disk.old }
+    ensures honest { D.honest disk.new → D.honest disk.old }
+    ensures synced { D.honest disk.new → OnOk result (D.history disk.new ≡ synced (D.history disk.old)) }
+    ensures written { D.honest disk.new → (D.history disk.new ≡ D.history disk.old) ⊎ (D.history disk.new ≡ synced (D.history disk.old)) }
+    ensures faults { OnOk result (D.faults disk.new ≡ D.faults disk.old) }
+    ensures failed { IfErr result (λ fault. CountsDevice fault (D.faults disk.old) (D.faults disk.new)) }
+    ensures within { IfOk result (λ found. found.layout.sectors ≤ D.sectors disk.new) }
+    ensures ring { IfOk result (λ found. ring_of found.journal ≡ journal_ring found.layout.sectors) }
+    ensures texts { IfOk result (λ found. length (snapshot found.store.features) ≤ PART_BYTES * found.journal.used) }
+    ensures found { D.honest disk.new → IfOk result (λ found.
+        IsRead (D.sectors disk.old) found.layout.sectors (seen (D.history disk.old)) found.root found.journal found.store.features) }
+    ensures fault { D.honest disk.new
+        → IfErr result (λ fault. (fault ≡ Device) ⊎ (fault ≡ Memory) ⊎ IsOpenFault (D.sectors disk.old) (seen (D.history disk.old)) fault) }
+{
+    match disk.sync() {
+        Ok(()) => {}
+        Err(DiskFault) => return Err(StoreFault::Device),
+    }
+    let (layout, root) = match read_root(disk) {
+        Ok(found) => found,
+        Err(fault) => return Err(fault),
+    };
+    if root.snapshot_len > 0 || root.archive_len > 0 {
+        return Err(StoreFault::Damaged(What::Snapshot));
+    }
+    match read_edits(alloc, disk, layout, root) {
+        Ok((journal, store)) => Ok(Found {
+            layout,
+            root,
+            journal,
+            store,
+        }),
+        Err(fault) => Err(fault),
+    }
+}
+
+impl<D: Sectors + Drop> Service<D> {
+    /// Opens a disk: reads its live root and the journal, and makes the edits of its texts. It syncs and reads, and writes nothing.
+    /// A fault hands the disk back. A disk with a snapshot or an archive isn't read yet, and is `Damaged(Snapshot)`.
+    ///
+    /// # Errors
+    ///
+    /// `NotFormatted`, `Damaged` of `Size`, `RootSector`, `Snapshot`, `Journal` or `Text`, the first that there is in the order of
+    /// reading; `Device` and `Memory`.
+    pub fn open(alloc: Global, disk: D) -> Result<Service<D>, (D, StoreFault)>
+        ensures count { MatchResult result (λ service. D.sectors service.disk ≡ D.sectors disk) (λ e. D.sectors e.0 ≡ D.sectors disk) }
+        ensures honest { MatchResult result (λ service. D.honest service.disk → D.honest disk) (λ e. D.honest e.0 → D.honest disk) }
+        ensures history { IfOk result (λ service. D.honest service.disk → D.history service.disk ≡ synced (D.history disk)) }
+        ensures written { IfErr result (λ e. D.honest e.0 → (D.history e.0 ≡ D.history disk) ⊎ (D.history e.0 ≡ synced (D.history disk))) }
+        ensures faults { IfOk result (λ service. D.faults service.disk ≡ D.faults disk) }
+        ensures failed { IfErr result (λ e. CountsDevice e.1 (D.faults disk) (D.faults e.0)) }
+        ensures unbroken { IfOk result (λ service. service.broken ≡ false) }
+        ensures fault { IfErr result (λ e. D.honest e.0
+            → (e.1 ≡ Device) ⊎ (e.1 ≡ Memory) ⊎ IsOpenFault (D.sectors disk) (seen (D.history disk)) e.1) }
+
+        // A disk that holds a state without a snapshot opens to that, and only a call of the disk or an allocation can fail.
+        ensures opened { (n : ℕ) (stored : Stored) → stored.snapshot_map ≡ [] → Holds (D.sectors disk) n stored (seen (D.history disk))
+            → IfOk result (λ service. D.honest service.disk → (service.size ≡ n) × IsUp (D.sectors service.disk) (D.history service.disk) stored service) }
+        ensures refused { (n : ℕ) (stored : Stored) → stored.snapshot_map ≡ [] → Holds (D.sectors disk) n stored (seen (D.history disk))
+            → IfErr result (λ e. D.honest e.0 → (e.1 ≡ Device) ⊎ (e.1 ≡ Memory)) }
+    {
+        let mut disk = disk;
+        match load(alloc, &mut disk) {
+            Ok(found) => Ok(Service {
+                alloc,
+                disk,
+                layout: found.layout,
+                journal: found.journal,
+                store: found.store,
+                generation: found.root.generation,
+                broken: false,
+            }),
+            Err(fault) => Err((disk, fault)),
+        }
+    }
+}

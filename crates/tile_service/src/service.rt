@@ -1,0 +1,56 @@
+//! A service: a disk, and what it has of it in memory.
+ghost use Rattle.std.specs.Prelude.{◌≡◌};
+
+use edit_journal::Journal;
+use feature_store::Store;
+use generations::Layout;
+use sector_disk::Sectors;
+use std::alloc::Global;
+use std::marker::Model;
+
+/// A map on a disk that nobody else writes.
+#[derive(Drop)]
+pub struct Service<D: Sectors + Drop> {
+    pub(crate) alloc: Global,
+    pub(crate) disk: D,
+    pub(crate) layout: Layout,
+    pub(crate) journal: Journal,
+    pub(crate) store: Store,
+    pub(crate) generation: u64,
+    pub(crate) broken: bool,
+}
+
+impl<D: Sectors + Drop> Model for Service<D> {
+    ghost use Rattle.tile_service.specs.Service.{ServiceView, IsService};
+
+    ghost Value = { ServiceView D };
+
+    ghost view = { λ s. record {
+      disk = s.disk;
+      size = s.layout.sectors;
+      features = s.store.features;
+      journal = s.journal;
+      generation = s.generation;
+      broken = s.broken;
+    } };
+
+    ghost invariant = { λ s. IsService (D.sectors s.disk) s.layout.sectors s.journal s.store.features };
+}
+
+impl<D: Sectors + Drop> Service<D> {
+    /// Gives the disk back.
+    pub fn into_disk(self) -> D
+        ensures { result ≡ self.disk }
+    {
+        let Service {
+            alloc: _,
+            disk,
+            layout: _,
+            journal: _,
+            store: _,
+            generation: _,
+            broken: _,
+        } = self;
+        disk
+    }
+}
