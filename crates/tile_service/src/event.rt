@@ -4,7 +4,7 @@ use feature_model::Feature;
 use hilbert_id::TileAt;
 
 /// What a service is asked for.
-#[derive(Debug, Drop)]
+#[derive(Debug, PartialEq, Eq, Drop)]
 pub enum Event {
     /// Gives a number a feature.
     Put { id: u64, feature: Feature },
@@ -17,7 +17,7 @@ pub enum Event {
 }
 
 /// What a service answers.
-#[derive(Debug, Drop)]
+#[derive(Debug, PartialEq, Eq, Drop)]
 pub enum Answer {
     /// The edit was made, and has this number.
     Edited(u64),

@@ -1,56 +1,53 @@
-//! Disks made ready, and texts replayed.
-ghost use Rattle.std.specs.Prelude.{◌≤◌, length};
+//! Services over disks in memory.
+ghost use Rattle.std.specs.Prelude.{◌≡◌, IfOk};
+
+mod edits;
+mod openings;
+mod stops;
+mod texts;
 
 use crate::Service;
-use crate::replaying::replay;
-use feature_store::Store;
-use generations::{StoreFault, What, read_root};
-use sector_disk::MemoryDisk;
+use feature_model::{EditValue, Feature, Geometry, Tag, World};
+use sector_disk::{MemoryDisk, Sectors};
 use std::alloc::Global;
 use std::test::Fail;
 
-#[test]
-fn sizes_of_disks(rt: HostRuntime) -> Result<(), Fail> {
-    let rows = [
-        (63, Err(StoreFault::TooSmall)),
-        (64, Ok(())),
-        (16_777_217, Err(StoreFault::Damaged(What::Size))),
-    ];
-    for (sectors, outcome) in rows {
-        let mut disk = MemoryDisk::new(rt.alloc(), sectors)?;
-        assert_eq!(rt; Service::format(&mut disk), outcome);
-        assert_eq!(rt; read_root(&mut disk).is_ok(), outcome.is_ok());
+/// A point at the corner of the world, in the layer `p` on zooms 0 to 2, with a tag of so many letters or none. The text that gives a
+/// number this feature has 25 bytes, or with a tag 30 bytes and the letters.
+fn point(alloc: Global, letters: usize) -> Result<Feature, Fail> {
+    let mut tags = Vec::new(alloc);
+    if letters > 0 {
+        let mut text = String::new(alloc);
+        for _ in 0..letters {
+            text.push_str("x")?;
+        }
+        tags.push(Tag {
+            key: String::from_str(alloc, "t")?,
+            value: EditValue::Text(text),
+        })?;
     }
-    Ok(())
+    Ok(Feature {
+        layer: String::from_str(alloc, "p")?,
+        minzoom: 0,
+        maxzoom: 2,
+        geometry: Geometry::Points(vec![in alloc; World { x: 0, y: 0 }]?),
+        tags,
+    })
 }
 
-/// The text that gives the number 7 a point.
-const POINT: [u8; 25] = [
-    1, 7, 0, 0, 0, 0, 0, 0, 0, 1, 112, 0, 2, 1, 1, 0, 0, 0, 0, 0, 0, 0, 0, 0, 0,
-];
-
-/// The text that takes the feature of the number 7 away.
-const NO_POINT: [u8; 9] = [2, 7, 0, 0, 0, 0, 0, 0, 0];
-
-/// What becomes of the point's text and a second one, and how many features there are then.
-fn replayed(alloc: Global, second: &[u8]) -> Result<(Result<(), StoreFault>, usize), Fail>
-    requires { length second.now ≤ 25 }
+/// A disk in memory of 64 sectors, 16 of them the journal's, that holds the empty map.
+fn formatted(alloc: Global) -> Result<MemoryDisk, Fail>
+    ensures { IfOk result (λ disk. ⟦<MemoryDisk as Sectors>⟧.sectors disk ≡ 64) }
 {
-    let texts = [
-        Vec::from_slice(alloc, &POINT)?,
-        Vec::from_slice(alloc, second)?,
-    ];
-    let mut store = Store::new(alloc);
-    let outcome = replay(alloc, &mut store, &texts);
-    Ok((outcome, store.len()))
+    let mut disk = MemoryDisk::new(alloc, 64)?;
+    let _ = Service::format(&mut disk);
+    Ok(disk)
 }
 
-#[test]
-fn replayed_texts(rt: HostRuntime) -> Result<(), Fail> {
-    let damaged = Err(StoreFault::Damaged(What::Text));
-    assert_eq!(rt; replayed(rt.alloc(), &POINT)?, (Ok(()), 1));
-    assert_eq!(rt; replayed(rt.alloc(), &NO_POINT)?, (Ok(()), 0));
-    assert_eq!(rt; replayed(rt.alloc(), b"\x03")?, (damaged, 1));
-    assert_eq!(rt; replayed(rt.alloc(), &POINT[..24])?, (damaged, 1));
-    Ok(())
+/// The service that a disk holds.
+fn opened<D: Sectors + Drop>(alloc: Global, disk: D) -> Result<Service<D>, Fail> {
+    match Service::open(alloc, disk) {
+        Ok(service) => Ok(service),
+        Err(_) => Err("the disk isn't opened".into()),
+    }
 }

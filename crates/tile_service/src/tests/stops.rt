@@ -1,0 +1,116 @@
+//! A run of edits in which one call of the disk fails, and a crash after it.
+ghost use Rattle.std.specs.Prelude.{◌≡◌};
+
+use super::{formatted, opened, point};
+use crate::{Service, ServiceFault};
+use sector_disk::{FailingCalls, FaultyDisk, MemoryDisk, Sectors};
+use std::alloc::Global;
+use std::test::Fail;
+
+/// The outcomes of four edits: of one sector, of two, a deletion, and of one sector again. They take ten calls of the disk.
+fn edit_all<D: Sectors + Drop>(
+    alloc: Global,
+    service: &mut Service<D>,
+) -> Result<[Result<u64, ServiceFault>; 4], Fail> {
+    Ok([
+        service.put(1, point(alloc, 0)?),
+        service.put(2, point(alloc, 467)?),
+        service.delete(1),
+        service.put(3, point(alloc, 0)?),
+    ])
+}
+
+/// Which of the numbers 1 to 3 have a feature after so many of the edits.
+const FEATURES: [[bool; 3]; 5] = [
+    [false, false, false],
+    [true, false, false],
+    [true, true, false],
+    [false, true, false],
+    [false, true, true],
+];
+
+/// After how many of the edits a service is.
+fn made_in<D: Sectors + Drop>(service: &Service<D>) -> Option<usize> {
+    let there = [1, 2, 3].map(|id| service.feature(id).is_some());
+    FEATURES.iter().position(|features| *features == there)
+}
+
+/// How many outcomes tell an edit as made, where these come first, then one `Device` at most, and then `Broken` alone.
+fn told_by(outcomes: &[Result<u64, ServiceFault>; 4]) -> Option<usize> {
+    let made = outcomes
+        .iter()
+        .take_while(|outcome| outcome.is_ok())
+        .count();
+    let told = outcomes.iter().enumerate().all(|(index, outcome)| match outcome {
+        Ok(number) => *number == index as u64 + 1,
+        Err(ServiceFault::Device) => index == made,
+        Err(ServiceFault::Broken) => index > made,
+        Err(_) => false,
+    });
+    if told { Some(made) } else { None }
+}
+
+/// Makes the edits over a disk of which these calls fail: how many of them were told as made, what reads then gave, and the disk.
+fn run(
+    alloc: Global,
+    failing_calls: FailingCalls,
+) -> Result<(usize, Option<usize>, MemoryDisk), Fail> {
+    let faulty = FaultyDisk::new(formatted(alloc)?, failing_calls);
+    match Service::open(alloc, faulty) {
+        Ok(mut service) => {
+            let outcomes = edit_all(alloc, &mut service)?;
+            let told = told_by(&outcomes).ok_or("outcomes in this order")?;
+            let made = made_in(&service);
+            Ok((told, made, service.into_disk().into_disk()))
+        }
+        Err((faulty, _)) => Ok((0, Some(0), faulty.into_disk())),
+    }
+}
+
+/// For each unsynced sector, which of its writes a crash leaves.
+const CHOICES: [[u32; 3]; 4] = [[0, 0, 0], [1, 1, 1], [0, 1, 1], [1, 0, 0]];
+
+#[test]
+fn stopped_at_each_call(rt: HostRuntime) -> Result<(), Fail> {
+    let alloc = rt.alloc();
+    // Opening takes calls 1 to 5, and 16 doesn't come any more.
+    for call in 1..17 {
+        let kinds = [
+            FailingCalls::AllFrom(call),
+            FailingCalls::OneNotMade(call),
+            FailingCalls::OneMade(call),
+        ];
+        for failing_calls in kinds {
+            let (told, made, disk) = run(alloc, failing_calls)?;
+            assert_eq!(rt; made, Some(told));
+            assert_eq!(rt; told == 4, call > 15);
+            for choice in CHOICES {
+                let mut again = opened(alloc, disk.crash(&choice)?)?;
+                let found = made_in(&again).ok_or("some first edits")?;
+                assert!(rt; found == told || found == told + 1);
+                assert_eq!(rt; again.put(9, point(alloc, 0)?), Ok(found as u64 + 1));
+            }
+        }
+    }
+    Ok(())
+}
+
+/// After how many of the edits the disk is on which call 6, the only write of the first edit's head, failed.
+fn after_a_failed_head(alloc: Global, failing_calls: FailingCalls) -> Result<Option<usize>, Fail> {
+    let (_, _, disk) = run(alloc, failing_calls)?;
+    let again = opened(alloc, disk)?;
+    Ok(made_in(&again))
+}
+
+#[test]
+fn a_failed_head_is_there_where_it_was_written(rt: HostRuntime) -> Result<(), Fail> {
+    assert_eq!(rt;
+        after_a_failed_head(rt.alloc(), FailingCalls::OneNotMade(6))?,
+        Some(0)
+    );
+    assert_eq!(rt;
+        after_a_failed_head(rt.alloc(), FailingCalls::OneMade(6))?,
+        Some(1)
+    );
+    Ok(())
+}
