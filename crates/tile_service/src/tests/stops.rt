@@ -114,3 +114,27 @@ fn a_failed_head_is_there_where_it_was_written(rt: HostRuntime) -> Result<(), Fa
     );
     Ok(())
 }
+
+/// How many calls of the disk an opening takes, and then an edit of a feature with a tag of so many letters.
+fn calls_of(alloc: Global, letters: usize) -> Result<(u64, u64), Fail> {
+    let opening = opened(
+        alloc,
+        FaultyDisk::new(formatted(alloc)?, FailingCalls::OneNotMade(0)),
+    )?;
+    let before = opening.into_disk().calls();
+    let mut service = opened(
+        alloc,
+        FaultyDisk::new(formatted(alloc)?, FailingCalls::OneNotMade(0)),
+    )?;
+    let _ = service.put(1, point(alloc, letters)?);
+    Ok((before, service.into_disk().calls().saturating_sub(before)))
+}
+
+#[test]
+fn calls_of_the_disk(rt: HostRuntime) -> Result<(), Fail> {
+    // A text of 25 bytes, of 496, of 497 and of 993: a write and a sync for one part; the bodies, a sync, the head and a sync for more.
+    for (letters, calls) in [(0, 2), (466, 2), (467, 4), (963, 5)] {
+        assert_eq!(rt; calls_of(rt.alloc(), letters)?, (5, calls));
+    }
+    Ok(())
+}
