@@ -50,8 +50,13 @@ fn opening(alloc: Global, at: u64, sector: &[u8; 512]) -> Result<Result<(), Stor
     let _ = disk.write(at, sector);
     match Service::open(alloc, disk) {
         Ok(_) => Ok(Ok(())),
-        Err((disk, fault)) if disk.count() == 64 => Ok(Err(fault)),
-        Err(_) => Err("another disk came back".into()),
+        Err((disk, fault)) => {
+            if disk.count() == 64 {
+                Ok(Err(fault))
+            } else {
+                Err("another disk came back".into())
+            }
+        }
     }
 }
 

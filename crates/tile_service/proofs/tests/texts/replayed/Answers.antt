@@ -1,7 +1,7 @@
 use Rattle.std.proofs.Common.{ap, length, ◌∙◌, arith}
 use Rattle.feature_store.specs.Store.{snapshot}
 use Rattle.tile_service.proofs.Fresh.{no_text}
-use Rattle.tile_service.proofs.tests.replayed.Goals as goal
+use Rattle.tile_service.proofs.tests.texts.replayed.Goals as goal
 
 pub replay-outcome-requires : goal.replay-outcome-requires
 replay-outcome-requires c = record {
