@@ -13,7 +13,7 @@ ghost use Rattle.generations.specs.declared.sizes.TheConstants.{LEAST_SECTORS, M
 ghost use Rattle.edit_journal.specs.Appends.{ring_of};
 ghost use Rattle.edit_journal.specs.declared.sizes.TheConstants.{PART_BYTES};
 ghost use Rattle.feature_store.specs.Store.{snapshot};
-ghost use Rattle.tile_service.specs.Opening.{IsReplayed, IsRead, IsJournalFault, IsOpenFault};
+ghost use Rattle.tile_service.specs.Opening.{IsReplayed, IsRead, IsJournalFault, IsOpenFault, recovery_told_as};
 ghost use Rattle.tile_service.specs.Service.{IsUp};
 ghost use Rattle.tile_service.specs.Stored.{Stored, Holds, Keeps, first_state, journal_ring};
 
@@ -26,7 +26,9 @@ use sector_disk::{DiskFault, Sectors};
 use std::alloc::Global;
 
 /// What the fault of a recovery is told as. A recovery refuses neither for numbers nor for room.
-fn told(fault: JournalFault) -> StoreFault {
+fn told(fault: JournalFault) -> StoreFault
+    ensures { result ≡ recovery_told_as fault }
+{
     match fault {
         JournalFault::Device => StoreFault::Device,
         JournalFault::Memory => StoreFault::Memory,
