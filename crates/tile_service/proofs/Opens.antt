@@ -10,10 +10,9 @@ use Rattle.generations.specs.declared.fault.StoreFault.TheVariants.{NotFormatted
 use Rattle.generations.specs.declared.fault.What.TheVariants.{Size, RootSector, Snapshot, Journal, Text}
 use Rattle.generations.specs.declared.root.Root.{Root}
 use Rattle.generations.proofs.Laws.{one_live, live_no_fault}
-use Rattle.edit_journal.specs.Appends.{start_of}
 use Rattle.edit_journal.specs.Records.{parts_of}
-use Rattle.edit_journal.specs.Recovers.{IsJournal, IsRecoverFault}
-use Rattle.edit_journal.specs.Ring.{Ring, places_of}
+use Rattle.edit_journal.specs.Recovers.{IsRecoverFault}
+use Rattle.edit_journal.specs.Ring.{places_of}
 use Rattle.edit_journal.specs.declared.fault.JournalFault.{JournalFault}
 use Rattle.edit_journal.specs.declared.fault.JournalFault.TheVariants as faults
 use Rattle.edit_journal.specs.declared.journal.Journal as journals
@@ -24,9 +23,9 @@ use Rattle.feature_model.specs.Spelled.{spelled}
 use Rattle.feature_store.specs.Store.{FeatureMap, changed, after, snapshot}
 use Rattle.feature_store.specs.declared.limit.TheConstants.{TEXTS_END}
 use Rattle.tile_service.specs.Opening.{IsJournalOf, IsReplayed, HasArea, IsRead, IsJournalFault, IsFaultBehind, IsOpenFault, recovery_told_as}
-use Rattle.tile_service.specs.Replayed.{AreTextsOf, IsReplayFault, bytes_of}
+use Rattle.tile_service.specs.Replayed.{AreTextsOf, bytes_of}
 use Rattle.tile_service.specs.Service.{ServiceView, IsUp}
-use Rattle.tile_service.specs.Stored.{Stored, Holds, Keeps, root_of, texts_of, map_of, last_of, journal_start, journal_ring}
+use Rattle.tile_service.specs.Stored.{Stored, Holds, Keeps, root_of, texts_of, map_of, journal_start, journal_ring}
 use Rattle.tile_service.specs.Tiles.{HasNoTile}
 use Rattle.tile_service.proofs.Fresh.{no_text, no_tile}
 use Rattle.tile_service.proofs.Laws.{one_run}
@@ -175,8 +174,8 @@ module _ (sectors n : ℕ) (stored : Stored) (image : Image) (none : stored.snap
       → edits ≡ stored.since
   edits_there texts edits is are = one_run edits stored.since are.are_edits holds.are_edits (sym are.are_texts ∙ one_texts texts is)
 
-  module _ {D : Type 0} (history : History) (service : ServiceView D) (root : Root) (after_sync : (left : Image) → MayLeave history left → image ≡ left)
-      (unbroken : service.broken ≡ false) (generation : service.generation ≡ root.generation)
+  module _ {D : Type 0} (count : ℕ) (old history : History) (service : ServiceView D) (root : Root) (same_image : seen old ≡ image) (same_count : count ≡ sectors)
+      (after_sync : history ≡ synced old) (unbroken : service.broken ≡ false) (generation : service.generation ≡ root.generation)
       (is : IsRead sectors service.size image root service.journal service.features) where
     same : (n ≡ service.size) × (root_of stored ≡ root)
     same = one_live sectors image n service.size (root_of stored) root live is.live
@@ -188,16 +187,22 @@ module _ (sectors n : ℕ) (stored : Stored) (image : Image) (none : stored.snap
     texts_are : replayed.texts ≡ texts_of stored
     texts_are = one_texts replayed.texts replayed.are_texts
 
-    keeps : Keeps sectors service.size stored history
-    keeps left may = subst (λ (m : ℕ). Holds sectors m stored left) same.0
-        (subst (λ (i : Image). Holds sectors n stored i) (after_sync left may) holds)
+    -- a crash leaves what a read gave
+    one_left : (left : Image) → MayLeave history left → image ≡ left
+    one_left left may =
+        let is_seen : (at : ℕ) → left at ≡ seen old at = subst (λ (h : History). MayLeave h left) after_sync may in
+        sym same_image ∙ sym (λ i at. is_seen at i)
+
+    keeps : Keeps count service.size stored history
+    keeps left may = subst (λ (c : ℕ). Holds c service.size stored left) (sym same_count) (subst (λ (m : ℕ). Holds sectors m stored left) same.0
+        (subst (λ (i : Image). Holds sectors n stored i) (one_left left may) holds))
 
     map_is : service.features ≡ map_of stored
     map_is = replayed.map_is ∙ ap (after []) (edits_there replayed.texts replayed.edits replayed.are_texts replayed.are_edits)
         ∙ ap (λ (m : FeatureMap). after m stored.since) (sym none)
 
     -- what is read of it is its map and its journal
-    pub opens : (service.size ≡ n) × IsUp sectors history stored service
+    pub opens : (service.size ≡ n) × IsUp count history stored service
     opens = (
       sym same.0,
       record {
@@ -211,3 +216,10 @@ module _ (sectors n : ℕ) (stored : Stored) (image : Image) (none : stored.snap
         last_is = omega (arith, replayed.last_is, ap length texts_are, texts_count stored.since);
       },
     )
+
+-- of faults only those of the disk and of allocations are left
+pub no_other_fault : (sectors n : ℕ) (stored : Stored) (image : Image) (fault : StoreFault) → stored.snapshot_map ≡ [] → Holds sectors n stored image
+    → (fault ≡ Device) ⊎ (fault ≡ Memory) ⊎ IsOpenFault sectors image fault → (fault ≡ Device) ⊎ (fault ≡ Memory)
+no_other_fault sectors n stored image fault none holds (inl device) = inl device
+no_other_fault sectors n stored image fault none holds (inr (inl memory)) = inr memory
+no_other_fault sectors n stored image fault none holds (inr (inr is)) = absurd (no_open_fault sectors n stored image none holds fault is)

@@ -9,7 +9,7 @@ returns-then-root-gt0-clause-fault g c honest =
     (g.D.Sectors.history c.args.disk.now) (g.D.Sectors.history c.sync.new.self) c.in-Ok-read_root.found.1 c.in-Ok.ensures.count
     (c.in-Ok.ensures.syncs (c.read_root.ensures.honest honest)) (c.in-Ok-read_root.ensures.root honest) in
     inr (inr (area_fault _ _ _ _ before (elim c.then-root-gt0.branch [
-      then-root-gt0-via-then-root-gt0 w ↦ inl w.if-root-gt0.true
+      | then-root-gt0-via-then-root-gt0 w ↦ inl w.if-root-gt0.true
       | then-root-gt0-via-else-root-gt0+then-root-gt0-2 w ↦ inr w.if-root-gt0-2.true
     ])))
 
