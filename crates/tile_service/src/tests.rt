@@ -1,11 +1,11 @@
-//! Disks made ready, and texts replayed.
-ghost use Rattle.std.specs.Prelude.{◌≤◌, length};
+//! Disks made ready and opened, and texts replayed.
+ghost use Rattle.std.specs.Prelude.{◌≡◌, ◌≤◌, length};
 
 use crate::Service;
 use crate::replaying::replay;
 use feature_store::Store;
 use generations::{StoreFault, What, read_root};
-use sector_disk::MemoryDisk;
+use sector_disk::{MemoryDisk, Sectors};
 use std::alloc::Global;
 use std::test::Fail;
 
@@ -52,5 +52,68 @@ fn replayed_texts(rt: HostRuntime) -> Result<(), Fail> {
     assert_eq!(rt; replayed(rt.alloc(), &NO_POINT)?, (Ok(()), 0));
     assert_eq!(rt; replayed(rt.alloc(), b"\x03")?, (damaged, 1));
     assert_eq!(rt; replayed(rt.alloc(), &POINT[..24])?, (damaged, 1));
+    Ok(())
+}
+
+/// How a disk opens, and what comes back of it.
+fn opened(alloc: Global, disk: MemoryDisk) -> (MemoryDisk, Result<(), StoreFault>)
+    ensures { ⟦<MemoryDisk as Sectors>⟧.sectors result.0 ≡ ⟦<MemoryDisk as Sectors>⟧.sectors disk }
+{
+    match Service::open(alloc, disk) {
+        Ok(service) => (service.into_disk(), Ok(())),
+        Err((disk, fault)) => (disk, Err(fault)),
+    }
+}
+
+/// The sector of a first root, whose snapshot has so many bytes, and its archive so many.
+fn root_with(snapshot_len: u8, archive_len: u8) -> [u8; 512] {
+    let mut sector = [0; 512];
+    sector[..8].copy_from_slice(b"VTROOT01");
+    sector[32] = snapshot_len;
+    sector[40] = archive_len;
+    sector
+}
+
+#[test]
+fn opened_disks(rt: HostRuntime) -> Result<(), Fail> {
+    let disk = MemoryDisk::new(rt.alloc(), 64)?;
+    let (mut disk, outcome) = opened(rt.alloc(), disk);
+    assert_eq!(rt; outcome, Err(StoreFault::NotFormatted));
+    assert_eq!(rt; Service::format(&mut disk), Ok(()));
+    for _ in 0..2 {
+        let (again, outcome) = opened(rt.alloc(), disk);
+        assert_eq!(rt; outcome, Ok(()));
+        disk = again;
+    }
+    Ok(())
+}
+
+#[test]
+fn disks_with_an_area(rt: HostRuntime) -> Result<(), Fail> {
+    let damaged = Err(StoreFault::Damaged(What::Snapshot));
+    for (snapshot_len, archive_len, wanted) in [(0, 0, Ok(())), (1, 0, damaged), (0, 1, damaged)] {
+        let mut disk = MemoryDisk::new(rt.alloc(), 64)?;
+        assert_eq!(rt; Service::format(&mut disk), Ok(()));
+        let _ = disk.write(1, &root_with(snapshot_len, archive_len));
+        assert_eq!(rt; opened(rt.alloc(), disk).1, wanted);
+    }
+    Ok(())
+}
+
+/// The sector of the first record, which says that its text has so many bytes. Its first byte is 3.
+fn record_of(bytes: u8) -> [u8; 512] {
+    let mut sector = [0; 512];
+    sector[..17].copy_from_slice(&[1, 1, 1, 0, 1, 0, 0, 0, 0, 0, 0, 0, bytes, 0, 0, 0, 3]);
+    sector
+}
+
+#[test]
+fn damaged_journals(rt: HostRuntime) -> Result<(), Fail> {
+    for (bytes, what) in [(0, What::Journal), (1, What::Text)] {
+        let mut disk = MemoryDisk::new(rt.alloc(), 64)?;
+        assert_eq!(rt; Service::format(&mut disk), Ok(()));
+        let _ = disk.write(3, &record_of(bytes));
+        assert_eq!(rt; opened(rt.alloc(), disk).1, Err(StoreFault::Damaged(what)));
+    }
     Ok(())
 }
