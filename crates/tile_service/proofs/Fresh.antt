@@ -45,7 +45,7 @@ none_either_way : (b : Bool) (ls : List LayerView) → ls ≡ [] → (if b then 
 none_either_way true ls none = none
 none_either_way false ls none = refl
 
-no_tile : HasNoTile []
+pub no_tile : HasNoTile []
 unfolding layers
 no_tile z x y = none_either_way (is_tile z x y) _ refl
 

@@ -30,7 +30,7 @@ rest_of [] = []
 rest_of (text ∷ texts) = texts
 
 -- edits with the same texts are the same
-one_run : (edits others : List EditData) → All IsEdit edits → All IsEdit others → map spelled edits ≡ map spelled others → edits ≡ others
+pub one_run : (edits others : List EditData) → All IsEdit edits → All IsEdit others → map spelled edits ≡ map spelled others → edits ≡ others
 one_run [] [] are too same = refl
 one_run [] (other ∷ others) are too same = absurd (omega (arith, ap length same))
 one_run (edit ∷ edits) [] are too same = absurd (omega (arith, ap length same))

@@ -9,6 +9,8 @@ use Rattle.generations.specs.declared.fault.What.TheVariants.{Size, RootSector, 
 use Rattle.edit_journal.specs.Appends.{start_of}
 use Rattle.edit_journal.specs.Recovers.{IsJournal}
 use Rattle.edit_journal.specs.Ring.{places_of}
+use Rattle.edit_journal.specs.declared.fault.JournalFault.{JournalFault}
+use Rattle.edit_journal.specs.declared.fault.JournalFault.TheVariants as faults
 use Rattle.edit_journal.specs.declared.journal.Journal as journals
 use Rattle.edit_journal.specs.declared.sizes.TheConstants.{RECORD_VERSION}
 use Rattle.feature_model.specs.Data.{EditData}
@@ -62,3 +64,11 @@ IsFaultBehind n root image fault = ((fault ≡ Damaged Snapshot) × HasArea root
 abbrev pub IsOpenFault : (sectors : ℕ) → Image → StoreFault → Type 0
 IsOpenFault sectors image fault =
     IsFaultOf sectors image fault ⊎ ((n : ℕ) × (root : Root) × LiveRoot sectors image n root × IsFaultBehind n root image fault)
+
+-- what the fault of a recovery is told as
+abbrev pub recovery_told_as : JournalFault → StoreFault
+recovery_told_as faults.NumbersSpent = Damaged Journal
+recovery_told_as (faults.Full need free) = Damaged Journal
+recovery_told_as faults.Device = Device
+recovery_told_as faults.Damaged = Damaged Journal
+recovery_told_as faults.Memory = Memory

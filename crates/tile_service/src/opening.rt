@@ -1,21 +1,16 @@
 //! A service made from what a disk holds.
-ghost use Rattle.std.specs.Prelude.{◌≡◌, ◌⊎◌, ◌<◌, ◌≤◌, ◌+◌, ◌*◌, ◌↔◌, [], false, ℕ, List, length, Err, IfErr, IfOk, OnOk, MatchResult};
-ghost use Rattle.sector_disk.specs.Disk.{seen, MayLeave, HasFailed};
+ghost use Rattle.std.specs.Prelude.{◌≡◌, ◌⊎◌, ◌≤◌, ◌*◌, [], false, ℕ, length, IfErr, IfOk, OnOk, MatchResult};
+ghost use Rattle.sector_disk.specs.Disk.{seen};
 ghost use Rattle.sector_disk.specs.Disk.History.{synced};
-ghost use Rattle.sector_disk.specs.Moments.{LeavesOnly};
-ghost use Rattle.generations.specs.Areas.{IsSize, area_sectors};
-ghost use Rattle.generations.specs.Disks.{HasNoMark, LiveRoot};
 ghost use Rattle.generations.specs.Faults.{CountsDevice};
 ghost use Rattle.generations.specs.Sectors.{CanStand};
-ghost use Rattle.generations.specs.declared.fault.StoreFault.TheVariants.{TooSmall, Device, Damaged, Memory};
-ghost use Rattle.generations.specs.declared.fault.What.TheVariants.{Size};
-ghost use Rattle.generations.specs.declared.sizes.TheConstants.{LEAST_SECTORS, MOST_SECTORS};
+ghost use Rattle.generations.specs.declared.fault.StoreFault.TheVariants.{Device, Memory};
 ghost use Rattle.edit_journal.specs.Appends.{ring_of};
 ghost use Rattle.edit_journal.specs.declared.sizes.TheConstants.{PART_BYTES};
 ghost use Rattle.feature_store.specs.Store.{snapshot};
-ghost use Rattle.tile_service.specs.Opening.{IsReplayed, IsRead, IsJournalFault, IsOpenFault};
+ghost use Rattle.tile_service.specs.Opening.{IsReplayed, IsRead, IsJournalFault, IsOpenFault, recovery_told_as};
 ghost use Rattle.tile_service.specs.Service.{IsUp};
-ghost use Rattle.tile_service.specs.Stored.{Stored, Holds, Keeps, first_state, journal_ring};
+ghost use Rattle.tile_service.specs.Stored.{Stored, Holds, journal_ring};
 
 use crate::replaying::replay;
 use crate::service::Service;
@@ -26,7 +21,9 @@ use sector_disk::{DiskFault, Sectors};
 use std::alloc::Global;
 
 /// What the fault of a recovery is told as. A recovery refuses neither for numbers nor for room.
-fn told(fault: JournalFault) -> StoreFault {
+fn told(fault: JournalFault) -> StoreFault
+    ensures { result ≡ recovery_told_as fault }
+{
     match fault {
         JournalFault::Device => StoreFault::Device,
         JournalFault::Memory => StoreFault::Memory,

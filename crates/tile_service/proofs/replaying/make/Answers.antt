@@ -1,16 +1,19 @@
-use Rattle.std.proofs.Common.{ap, length, arith}
-use Rattle.feature_model.specs.Data.{feature_data, edit_data}
+use Rattle.std.proofs.Common.{◌≡◌, ◌+◌, ◌<◌, ◌∙◌, ap, length, arith}
+use Rattle.feature_model.specs.Data.{EditData, edit_data}
 use Rattle.feature_model.specs.Spelled.{spelled}
-use Rattle.feature_store.specs.Store.{snapshot}
-use Rattle.feature_store.proofs.Laws.{snapshot_after_put}
+use Rattle.feature_store.specs.Store.{FeatureMap, changed, snapshot}
+use Rattle.feature_store.specs.declared.limit.TheConstants.{TEXTS_END}
+use Rattle.tile_service.proofs.Replays.{changed_short}
 use Rattle.tile_service.proofs.replaying.make.Goals as goal
+use Rattle.tile_service.proofs.replaying.make.Goals.{in-Put+in-Ok, in_default}
+
+-- an edit of the same map keeps the texts short
+short : (old new : FeatureMap) (edit : EditData) → new ≡ old → length (snapshot old) + length (spelled edit) < TEXTS_END
+    → length (snapshot (changed new edit)) < TEXTS_END
+short old new edit same texts = omega (arith, texts, changed_short new edit, ap (λ (m : FeatureMap). length (snapshot m)) same)
 
 pub apply-requires-clause-texts : goal.apply-requires-clause-texts
-apply-requires-clause-texts c =
-    omega (
-      arith,
-      c.requires.texts,
-      snapshot_after_put c.room.new.self.features c.in-Put.id (feature_data c.in-Put.feature),
-      ap (λ m. length (snapshot m)) c.room.ensures.map,
-      ap (λ e. length (spelled (edit_data e))) c.in-Put.is,
-    )
+apply-requires-clause-texts c = elim c.match-edit.branch [
+  | in-Put+in-Ok w ↦ short _ c.match-edit.store.features (edit_data c.args.edit) (ap (λ s. s.features) w.store-is ∙ w.room.ensures.map) c.requires.texts
+  | in_default w ↦ short _ c.match-edit.store.features (edit_data c.args.edit) (ap (λ s. s.features) w.store-is) c.requires.texts
+]
