@@ -174,8 +174,9 @@ module _ (sectors n : ℕ) (stored : Stored) (image : Image) (none : stored.snap
       → edits ≡ stored.since
   edits_there texts edits is are = one_run edits stored.since are.are_edits holds.are_edits (sym are.are_texts ∙ one_texts texts is)
 
-  module _ {D : Type 0} (count : ℕ) (old history : History) (service : ServiceView D) (root : Root) (same_image : seen old ≡ image) (same_count : count ≡ sectors)
-      (after_sync : history ≡ synced old) (unbroken : service.broken ≡ false) (generation : service.generation ≡ root.generation)
+  module _ {D : Type 0} (count : ℕ) (old history : History) (service : ServiceView D) (root : Root)
+      (same_image : seen old ≡ image) (same_count : count ≡ sectors) (after_sync : history ≡ synced old)
+      (unbroken : service.broken ≡ false) (generation : service.generation ≡ root.generation)
       (is : IsRead sectors service.size image root service.journal service.features) where
     same : (n ≡ service.size) × (root_of stored ≡ root)
     same = one_live sectors image n service.size (root_of stored) root live is.live
