@@ -1,7 +1,9 @@
 mod Appends
 mod Bytes
+mod Edits
 mod Fresh
 pub mod Laws
 mod Pieces
 mod Replays
 mod Roots
+mod Steps
