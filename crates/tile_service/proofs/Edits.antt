@@ -1,7 +1,7 @@
 -- What an edit leaves of what a disk holds, and the service that it leaves.
-use Rattle.std.proofs.Common.{◌≡◌, ◌≢◌, ◌⊎◌, inl, inr, ⊎_elim, ℕ, suc, ◌<◌, ◌≤◌, ◌+◌, ◌*◌, false, List, [], ◌∷◌, ◌++◌, length, refl, sym, ◌∙◌, ap, subst, arith}
+use Rattle.std.proofs.Common.{◌≡◌, ◌≢◌, ◌⊎◌, inl, inr, ⊎_elim, ℕ, suc, false, List, [], ◌∷◌, ◌++◌, sym, ◌∙◌, ap, subst, arith}
 use Rattle.std.proofs.lemmas.List.{length-map}
-use Rattle.sector_disk.specs.Disk.{Image, History, MayLeave, moment}
+use Rattle.sector_disk.specs.Disk.{Image, History, moment}
 use Rattle.sector_disk.specs.Moments.{LeavesOnly}
 use Rattle.sector_disk.proofs.History.{started}
 use Rattle.sector_disk.proofs.Moments.{since_now, is_later}

@@ -1,8 +1,8 @@
 -- The texts of a map and of its edits are short enough.
-use Rattle.std.proofs.Common.{◌≡◌, ◌⊎◌, inl, inr, ⊎_elim, ℕ, Bool, true, false, cond, ◌<◌, ◌≤◌, ◌+◌, ◌*◌, ◌-◌, ◌/◌, List, [], ◌∷◌, length, refl, sym, ap, subst, arith, Some}
+use Rattle.std.proofs.Common.{◌≡◌, ⊎_elim, ℕ, Bool, false, cond, ◌<◌, ◌≤◌, ◌+◌, ◌*◌, [], ◌∷◌, length, sym, subst, arith, Some}
 use Rattle.std.specs.Prelude.{IsSome}
 use Rattle.std.specs.List.{All}
-use Rattle.std.specs.Ordering.{nat_cmp, is_eq}
+use Rattle.std.specs.Ordering.{nat_cmp}
 use Rattle.std.specs.BTreeMap.{is_at}
 use Rattle.std.specs.Map.{lookup}
 use Rattle.std.proofs.lemmas.Bool.{cases_eq, false≢true}
@@ -13,7 +13,7 @@ use Rattle.generations.specs.Areas.{journal_sectors, area_sectors}
 use Rattle.generations.specs.declared.sizes.TheConstants.{MOST_SECTORS}
 use Rattle.edit_journal.specs.Records.{IsEditLength, parts_of}
 use Rattle.edit_journal.specs.declared.sizes.TheConstants.{PART_BYTES}
-use Rattle.feature_model.specs.Data.{FeatureData, EditData, put, delete}
+use Rattle.feature_model.specs.Data.{FeatureData, put}
 use Rattle.feature_model.specs.Limits.{NumberFits, IsAllowed}
 use Rattle.feature_model.specs.Spelled.{spelled}
 use Rattle.feature_model.specs.Types.{IsEdit}
