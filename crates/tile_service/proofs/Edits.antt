@@ -64,9 +64,9 @@ module _ {D : Type 0} (sectors : D → ℕ) (history : D → History) (stored : 
   same_leaves e answer new same = subst (λ (d : D). LeavesOnly (history service.disk) (history d) (leaves_by e answer)) (sym same)
       (started (history service.disk) _ (λ image may. inl (up.keeps image may)))
 
-  as_before : (new : D) → Alone new → (image : Image) → AsBefore (ring_of service.journal) service.journal.place service.journal.used (history service.disk) image
+  as_before : (image : Image) → AsBefore (ring_of service.journal) service.journal.place service.journal.used (history service.disk) image
       → AsBefore (journal_ring service.size) service.journal.place service.journal.used (history service.disk) image
-  as_before new alone image is =
+  as_before image is =
       subst (λ (r : Ring). AsBefore r service.journal.place service.journal.used (history service.disk) image) ring is
 
   module _ (e : EditData) (is_edit : IsEdit e) (text : List ℕ) (is_text : text ≡ spelled e) (new : D) (alone : Alone new) where
@@ -86,7 +86,7 @@ module _ {D : Type 0} (sectors : D → ℕ) (history : D → History) (stored : 
           (λ (same : Holds (sectors service.disk) service.size stored image). inl same)
           (λ (more : Holds (sectors service.disk) service.size (with_edit stored e) image). inr (may, more))
           (append_leaves (sectors service.disk) service.size stored e (history service.disk) service.journal.place service.journal.used up.keeps is_edit image
-          (as_before new alone image (alone.each image left)) (⊎_elim
+          (as_before image (alone.each image left)) (⊎_elim
           (λ is. inl (there (texts_of stored) image is))
           (λ is. inr (with_text image is))
           (leaves.each image left)));
@@ -105,7 +105,7 @@ module _ {D : Type 0} (sectors : D → ℕ) (history : D → History) (stored : 
         → Keeps (sectors service.disk) service.size (with_edit stored e) (history new)
     keeps_edit journal same begins is image may =
         append_made (sectors service.disk) service.size stored e (history service.disk) service.journal.place service.journal.used up.keeps is_edit image
-        (as_before new alone image (alone.each image
+        (as_before image (alone.each image
         (since_now (history new) (moment (history service.disk)) image (is_later (history service.disk) (history new) alone.follows) may)))
         (with_text image
         (subst (λ (r : Ring). HoldsTexts RECORD_VERSION r (start_of service.journal.place service.journal.edits) (texts_of stored ++ text ∷ []) image) same
