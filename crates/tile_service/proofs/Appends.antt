@@ -67,7 +67,7 @@ pub spelled_with : (edits : List EditData) (edit : EditData) → map spelled (ed
 spelled_with [] edit = refl
 spelled_with (first ∷ edits) edit = ap (λ (texts : List (List ℕ)). spelled first ∷ texts) (spelled_with edits edit)
 
-texts_with : (stored : Stored) (edit : EditData) → texts_of (with_edit stored edit) ≡ texts_of stored ++ spelled edit ∷ []
+pub texts_with : (stored : Stored) (edit : EditData) → texts_of (with_edit stored edit) ≡ texts_of stored ++ spelled edit ∷ []
 texts_with stored edit = spelled_with stored.since edit
 
 module _ (count n : ℕ) (stored : Stored) (edit : EditData) (old : History) (place used : ℕ) (keeps : Keeps count n stored old) (is_edit : IsEdit edit)
@@ -82,6 +82,21 @@ module _ (count n : ℕ) (stored : Stored) (edit : EditData) (old : History) (pl
   before : Holds count n stored (seen old)
   before = keeps (seen old) (seen_is_left old)
 
+  with_one : {at : ℕ} → HoldsAt count n stored at (image at) → HoldsAt count n (with_edit stored edit) at (image at)
+  with_one is = record { format = is.format; live = is.live; other = is.other; snapshot_bytes = is.snapshot_bytes; archive_bytes = is.archive_bytes }
+
+  -- Where the journal has the edit too, it holds the same with the edit.
+  pub append_made : HoldsTexts RECORD_VERSION (journal_ring n) (journal_start stored) (texts_of stored ++ spelled edit ∷ []) image
+      → Holds count n (with_edit stored edit) image
+  append_made more = record {
+    sectors = λ at. with_one (sectors at);
+    journal = subst (λ (texts : List (List ℕ)). HoldsTexts RECORD_VERSION (journal_ring n) (journal_start stored) texts image)
+        (sym (texts_with stored edit)) more;
+    is_map = before.is_map;
+    are_edits = All-append IsEdit stored.since (edit ∷ []) before.are_edits (All-cons IsEdit edit [] is_edit (All-nil IsEdit));
+    is_archive = before.is_archive;
+  }
+
   -- It holds the same, or the same with the edit.
   pub append_leaves : HoldsOneMore (journal_ring n) (journal_start stored) (texts_of stored) (spelled edit) image
       → Holds count n stored image ⊎ Holds count n (with_edit stored edit) image
@@ -92,14 +107,4 @@ module _ (count n : ℕ) (stored : Stored) (edit : EditData) (old : History) (pl
     are_edits = before.are_edits;
     is_archive = before.is_archive;
   })
-  append_leaves (inr more) = inr (record {
-    sectors = λ at. with_one (sectors at);
-    journal = subst (λ (texts : List (List ℕ)). HoldsTexts RECORD_VERSION (journal_ring n) (journal_start stored) texts image)
-        (sym (texts_with stored edit)) more;
-    is_map = before.is_map;
-    are_edits = All-append IsEdit stored.since (edit ∷ []) before.are_edits (All-cons IsEdit edit [] is_edit (All-nil IsEdit));
-    is_archive = before.is_archive;
-  })
-    where
-      with_one : {at : ℕ} → HoldsAt count n stored at (image at) → HoldsAt count n (with_edit stored edit) at (image at)
-      with_one is = record { format = is.format; live = is.live; other = is.other; snapshot_bytes = is.snapshot_bytes; archive_bytes = is.archive_bytes }
+  append_leaves (inr more) = inr (append_made more)

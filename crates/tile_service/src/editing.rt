@@ -1,7 +1,9 @@
 //! Edits: a text in the journal first, and then a change of the map.
-ghost use Rattle.std.specs.Prelude.{◌≡◌, ◌≢◌, ◌⊎◌, ◌<◌, ◌^◌, ◌-◌, false, IfErr, IfOk, OnOk};
+ghost use Rattle.std.specs.Prelude.{◌≡◌, ◌≢◌, ◌↔◌, IfErr, OnOk, IsSome, IsTrue};
 ghost use Rattle.sector_disk.specs.Moments.{LeavesOnly};
 ghost use Rattle.feature_model.specs.Data.{feature_data, put, delete};
+ghost use Rattle.feature_model.specs.Limits.{NumberFits};
+ghost use Rattle.feature_store.specs.Store.{feature_at};
 ghost use Rattle.tile_service.specs.Limits.{KeepsLimits, BreaksLimit};
 ghost use Rattle.tile_service.specs.Machine.{ArchiveState, edit, Steps};
 ghost use Rattle.tile_service.specs.Service.{IsUp, state_of, edit_answer, EventLeaves, CountsDevice, told_as};
@@ -14,6 +16,7 @@ use crate::service::Service;
 use edit_journal::JournalFault;
 use edit_text::{delete_text, encode};
 use feature_model::{Edit, EditFault, Feature, check};
+use feature_store::Store;
 use sector_disk::Sectors;
 use std::alloc::AllocError;
 use tile_cutter::check_reach;
@@ -31,6 +34,16 @@ fn within_limits(id: u64, feature: &Feature) -> Result<(), ServiceFault>
         Ok(()) => Ok(()),
         Err(_) => Err(ServiceFault::Limit(EditFault::Reach)),
     }
+}
+
+/// Whether the number has a feature.
+fn has(store: &Store, id: u64) -> bool
+    ensures found { IsTrue result ↔ IsSome (feature_at store.now.features id) }
+    ensures number { IsTrue result → NumberFits id }
+{
+    // What has a feature in a map is a number of one.
+    let _count = store.len();
+    store.get(id).is_some()
 }
 
 /// What the fault of an append is told as. An append is never damaged, and takes no memory.
@@ -129,7 +142,7 @@ impl<D: Sectors + Drop> Service<D> {
         if self.broken {
             return Err(ServiceFault::Broken);
         }
-        if self.store.get(id).is_none() {
+        if !has(&self.store, id) {
             return Err(ServiceFault::NotFound);
         }
         match self.journal.append(&mut self.disk, &delete_text(id)) {

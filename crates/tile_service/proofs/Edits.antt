@@ -1,0 +1,156 @@
+-- What an edit leaves of what a disk holds, and the service that it leaves.
+use Rattle.std.proofs.Common.{◌≡◌, ◌≢◌, ◌⊎◌, inl, inr, ⊎_elim, ℕ, suc, false, List, [], ◌∷◌, ◌++◌, sym, ◌∙◌, ap, subst, arith}
+use Rattle.std.proofs.lemmas.List.{length-map}
+use Rattle.sector_disk.specs.Disk.{Image, History, moment}
+use Rattle.sector_disk.specs.Moments.{LeavesOnly}
+use Rattle.sector_disk.proofs.History.{started}
+use Rattle.sector_disk.proofs.Moments.{since_now, is_later}
+use Rattle.edit_journal.specs.Ring.{Ring, Start, HoldsTexts}
+use Rattle.edit_journal.specs.Appends.{ring_of, start_of, IsAt, AsBefore, HoldsOneMore}
+use Rattle.edit_journal.specs.declared.fault.JournalFault.{JournalFault}
+use Rattle.edit_journal.specs.declared.fault.JournalFault.TheVariants as journals
+use Rattle.edit_journal.specs.declared.journal.Journal.{Journal}
+use Rattle.edit_journal.specs.declared.sizes.TheConstants.{RECORD_VERSION}
+use Rattle.feature_model.specs.Data.{EditData}
+use Rattle.feature_model.specs.Spelled.{spelled}
+use Rattle.feature_model.specs.Types.{IsEdit}
+use Rattle.feature_store.specs.Store.{FeatureMap, changed}
+use Rattle.tile_service.specs.Machine.{AnswerData, edit, refused}
+use Rattle.tile_service.specs.Service.{ServiceView, IsUp, MayStand, EventLeaves, told_as}
+use Rattle.tile_service.specs.Stored.{Stored, Holds, Keeps, with_edit, texts_of, journal_ring, journal_start}
+use Rattle.tile_service.specs.declared.fault.ServiceFault.{ServiceFault}
+use Rattle.tile_service.specs.declared.fault.ServiceFault.TheVariants.{Device}
+use Rattle.tile_service.proofs.Appends.{append_leaves, append_made, texts_with}
+use Rattle.tile_service.proofs.Replays.{after_one}
+
+module _ {D : Type 0} (sectors : D → ℕ) (history : D → History) (stored : Stored) (service : ServiceView D)
+    (ring : ring_of service.journal ≡ journal_ring service.size) (up : IsUp (sectors service.disk) (history service.disk) stored service) where
+  start : start_of service.journal.place service.journal.edits ≡ journal_start stored
+  start = λ i. record { place = up.place_is i; number = suc (up.edits_are i) }
+
+  -- what each image of an event with this answer holds
+  abbrev leaves_by : EditData → AnswerData → Image → Type 0
+  leaves_by e answer = EventLeaves (sectors service.disk) service.size stored (edit e) answer
+
+  -- the append's own words for the sectors that it leaves alone, and for those of the journal
+  abbrev pub Alone : D → Type 0
+  Alone new = LeavesOnly (history service.disk) (history new)
+      (AsBefore (ring_of service.journal) service.journal.place service.journal.used (history service.disk))
+
+  abbrev pub OneMore : D → List ℕ → Type 0
+  OneMore new text = LeavesOnly (history service.disk) (history new)
+      (HoldsOneMore (ring_of service.journal) (start_of service.journal.place service.journal.edits) (texts_of stored) text)
+
+  -- texts that are in the journal by its own words are there by those of what is stored
+  there : (texts : List (List ℕ)) (image : Image)
+      → HoldsTexts RECORD_VERSION (ring_of service.journal) (start_of service.journal.place service.journal.edits) texts image
+      → HoldsTexts RECORD_VERSION (journal_ring service.size) (journal_start stored) texts image
+  there texts image is = subst (λ (r : Ring). HoldsTexts RECORD_VERSION r (journal_start stored) texts image) ring
+      (subst (λ (s : Start). HoldsTexts RECORD_VERSION (ring_of service.journal) s texts image) start is)
+
+  -- The journal has the texts of the edits since the snapshot.
+  pub up_is_at : IsAt (texts_of stored) service.journal (history service.disk)
+  up_is_at = record {
+    keeps = λ image may. subst (λ (r : Ring). HoldsTexts RECORD_VERSION r (start_of service.journal.place service.journal.edits) (texts_of stored) image)
+        (sym ring) (subst (λ (s : Start). HoldsTexts RECORD_VERSION (journal_ring service.size) s (texts_of stored) image)
+        (sym start) (up.keeps image may).journal);
+    uses = up.used_is;
+    counts = omega (arith, up.last_is, up.edits_are, length-map stored.since spelled);
+  }
+
+  -- Where the disk isn't touched, a crash leaves what was stored.
+  pub same_leaves : (e : EditData) (answer : AnswerData) (new : D) → new ≡ service.disk
+      → LeavesOnly (history service.disk) (history new) (leaves_by e answer)
+  same_leaves e answer new same = subst (λ (d : D). LeavesOnly (history service.disk) (history d) (leaves_by e answer)) (sym same)
+      (started (history service.disk) _ (λ image may. inl (up.keeps image may)))
+
+  as_before : (image : Image) → AsBefore (ring_of service.journal) service.journal.place service.journal.used (history service.disk) image
+      → AsBefore (journal_ring service.size) service.journal.place service.journal.used (history service.disk) image
+  as_before image is =
+      subst (λ (r : Ring). AsBefore r service.journal.place service.journal.used (history service.disk) image) ring is
+
+  module _ (e : EditData) (is_edit : IsEdit e) (text : List ℕ) (is_text : text ≡ spelled e) (new : D) (alone : Alone new) where
+    -- with the text there, the edit's is there
+    with_text : (image : Image) → HoldsTexts RECORD_VERSION (ring_of service.journal) (start_of service.journal.place service.journal.edits)
+        (texts_of stored ++ text ∷ []) image
+        → HoldsTexts RECORD_VERSION (journal_ring service.size) (journal_start stored) (texts_of stored ++ spelled e ∷ []) image
+    with_text image is = subst (λ (t : List ℕ). HoldsTexts RECORD_VERSION (journal_ring service.size) (journal_start stored) (texts_of stored ++ t ∷ []) image)
+        is_text (there (texts_of stored ++ text ∷ []) image is)
+
+    -- An append that is made, or in doubt, leaves what was stored, or the same with the edit.
+    pub append_any_moment : (answer : AnswerData) → MayStand answer → OneMore new text
+        → LeavesOnly (history service.disk) (history new) (leaves_by e answer)
+    append_any_moment answer may leaves = record {
+      follows = leaves.follows;
+      each = λ image left. ⊎_elim
+          (λ (same : Holds (sectors service.disk) service.size stored image). inl same)
+          (λ (more : Holds (sectors service.disk) service.size (with_edit stored e) image). inr (may, more))
+          (append_leaves (sectors service.disk) service.size stored e (history service.disk) service.journal.place service.journal.used up.keeps is_edit image
+          (as_before image (alone.each image left)) (⊎_elim
+          (λ is. inl (there (texts_of stored) image is))
+          (λ is. inr (with_text image is))
+          (leaves.each image left)));
+    }
+
+    -- An append that fails leaves what was stored, and in doubt the same with the edit.
+    pub refused_any_moment : (fault : JournalFault) (told : ServiceFault) → told ≡ told_as fault → (fault ≡ journals.Device) ⊎ (new ≡ service.disk)
+        → OneMore new text → LeavesOnly (history service.disk) (history new) (leaves_by e (refused told))
+    refused_any_moment fault told is (inl device) leaves = append_any_moment (refused told) (is ∙ ap told_as device) leaves
+    refused_any_moment fault told is (inr same) leaves = same_leaves e (refused told) new same
+
+    -- Where the journal has the edit, every image that is left now holds the same with the edit.
+    keeps_edit : (journal : Journal) → ring_of journal ≡ ring_of service.journal
+        → start_of journal.place journal.edits ≡ start_of service.journal.place service.journal.edits
+        → IsAt (texts_of stored ++ text ∷ []) journal (history new)
+        → Keeps (sectors service.disk) service.size (with_edit stored e) (history new)
+    keeps_edit journal same begins is image may =
+        append_made (sectors service.disk) service.size stored e (history service.disk) service.journal.place service.journal.used up.keeps is_edit image
+        (as_before image (alone.each image
+        (since_now (history new) (moment (history service.disk)) image (is_later (history service.disk) (history new) alone.follows) may)))
+        (with_text image
+        (subst (λ (r : Ring). HoldsTexts RECORD_VERSION r (start_of service.journal.place service.journal.edits) (texts_of stored ++ text ∷ []) image) same
+        (subst (λ (s : Start). HoldsTexts RECORD_VERSION (ring_of journal) s (texts_of stored ++ text ∷ []) image) begins (is.keeps image may))))
+
+    -- After an append the service goes on from the same with the edit.
+    pub up_with_edit : (after : ServiceView D) → after.disk ≡ new → sectors new ≡ sectors service.disk → after.size ≡ service.size
+        → (ring_of after.journal ≡ ring_of service.journal)
+        × (start_of after.journal.place after.journal.edits ≡ start_of service.journal.place service.journal.edits)
+        → IsAt (texts_of stored ++ text ∷ []) after.journal (history new) → after.features ≡ changed service.features e
+        → after.generation ≡ service.generation → after.broken ≡ service.broken
+        → IsUp (sectors new) (history new) (with_edit stored e) after
+    up_with_edit after disk count size same is features generation broken = record {
+      keeps = subst (λ (c : ℕ). Keeps c after.size (with_edit stored e) (history new)) (sym count)
+          (subst (λ (n : ℕ). Keeps (sectors service.disk) n (with_edit stored e) (history new)) (sym size) (keeps_edit after.journal same.0 same.1 is));
+      unbroken = broken ∙ up.unbroken;
+      generation_is = generation ∙ up.generation_is;
+      map_is = features ∙ ap (λ (m : FeatureMap). changed m e) up.map_is ∙ sym (after_one stored.snapshot_map stored.since e);
+      place_is = ap (λ (s : Start). s.place) same.1 ∙ up.place_is;
+      edits_are = edits;
+      used_is = now.uses;
+      last_is = omega (arith, now.counts, edits, length-map (stored.since ++ e ∷ []) spelled);
+    }
+      where
+        now : IsAt (texts_of (with_edit stored e)) after.journal (history new)
+        now = subst (λ (texts : List (List ℕ)). IsAt texts after.journal (history new))
+            (ap (λ (t : List ℕ). texts_of stored ++ t ∷ []) is_text ∙ sym (texts_with stored e)) is
+
+        edits : after.journal.edits ≡ stored.edits
+        edits = omega (arith, ap (λ (s : Start). s.number) same.1, up.edits_are)
+
+  -- A refused edit that isn't in doubt leaves the service as it was.
+  pub still_up : (after : ServiceView D) (fault : JournalFault) (told : ServiceFault) → told ≡ told_as fault
+      → (fault ≡ journals.Device) ⊎ (after.disk ≡ service.disk) → after.size ≡ service.size → after.journal ≡ service.journal
+      → after.features ≡ service.features → after.generation ≡ service.generation → ((fault ≡ journals.Device → ⊥) → after.broken ≡ false)
+      → told ≢ Device → IsUp (sectors after.disk) (history after.disk) stored after
+  still_up after fault told is (inl device) size journal features generation broken other = absurd (other (is ∙ ap told_as device))
+  still_up after fault told is (inr same) size journal features generation broken other = record {
+    keeps = subst (λ (d : D). Keeps (sectors d) after.size stored (history d)) (sym same)
+        (subst (λ (n : ℕ). Keeps (sectors service.disk) n stored (history service.disk)) (sym size) up.keeps);
+    unbroken = broken (λ device. other (is ∙ ap told_as device));
+    generation_is = generation ∙ up.generation_is;
+    map_is = features ∙ up.map_is;
+    place_is = ap (λ (j : Journal). j.place) journal ∙ up.place_is;
+    edits_are = ap (λ (j : Journal). j.edits) journal ∙ up.edits_are;
+    used_is = ap (λ (j : Journal). j.used) journal ∙ up.used_is;
+    last_is = ap (λ (j : Journal). j.last) journal ∙ up.last_is;
+  }

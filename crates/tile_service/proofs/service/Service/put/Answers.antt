@@ -1,0 +1,98 @@
+use Rattle.std.proofs.Common.{◌≡◌, ◌∙◌, ◌*◌, ℕ, List, refl, sym, ap, subst, arith, rules, length, false}
+use Rattle.sector_disk.specs.declared.disk.TheConstants.{SECTOR_BYTES}
+use Rattle.generations.specs.Areas.{area_sectors}
+use Rattle.edit_journal.specs.Records.{IsEditLength, parts_of}
+use Rattle.edit_journal.specs.Ring.{Ring}
+use Rattle.edit_journal.specs.declared.fault.JournalFault.TheVariants as journals
+use Rattle.feature_model.specs.Data.{put, feature_data}
+use Rattle.feature_store.specs.Store.{with_feature, snapshot}
+use Rattle.tile_service.specs.Machine.{edited, refused}
+use Rattle.tile_service.specs.Stored.{texts_of}
+use Rattle.tile_service.specs.declared.fault.ServiceFault.TheVariants.{NumbersSpent, Memory}
+use Rattle.tile_service.proofs.Edits.{up_is_at, same_leaves, append_any_moment, refused_any_moment, up_with_edit, still_up}
+use Rattle.tile_service.proofs.Steps.{put_length, short_after_put, short_enough}
+use Rattle.tile_service.proofs.service.Service.put.Goals as goal
+use Rattle.tile_service.proofs.service.Service.put.Goals.{in-Put-3, in-Delete-3}
+
+pub returns-in-Err-clause-any_moment : goal.returns-in-Err-clause-any_moment
+returns-in-Err-clause-any_moment g c = rw (← c.self.view_is) (λ stored honest up.
+    same_leaves g.D.Sectors.sectors g.D.Sectors.history stored _ c.self.invariant.ring up (put c.args.id (feature_data c.args.feature))
+    (refused c.in-Err.fault) _ refl)
+
+pub returns-then-self-2-clause-any_moment : goal.returns-then-self-2-clause-any_moment
+returns-then-self-2-clause-any_moment g c = rw (← c.self.view_is) (λ stored honest up.
+    same_leaves g.D.Sectors.sectors g.D.Sectors.history stored _ c.self.invariant.ring up (put c.args.id (feature_data c.args.feature))
+    (refused NumbersSpent) _ refl)
+
+pub returns-in-Err-encode-clause-any_moment : goal.returns-in-Err-encode-clause-any_moment
+returns-in-Err-encode-clause-any_moment g c = rw (← c.self.view_is) (λ stored honest up.
+    same_leaves g.D.Sectors.sectors g.D.Sectors.history stored _ c.self.invariant.ring up (put c.args.id (feature_data c.args.feature))
+    (refused Memory) _ refl)
+
+pub returns-in-Err-room-clause-any_moment : goal.returns-in-Err-room-clause-any_moment
+returns-in-Err-room-clause-any_moment g c = rw (← c.self.view_is) (λ stored honest up.
+    same_leaves g.D.Sectors.sectors g.D.Sectors.history stored _ c.self.invariant.ring up (put c.args.id (feature_data c.args.feature))
+    (refused Memory) _ refl)
+
+pub append-requires-clause-text : goal.append-requires-clause-text
+append-requires-clause-text g c = subst (λ (t : List ℕ). IsEditLength (length t)) (sym (c.deref.ensures.value ∙ c.in-Ok-encode.ensures.text))
+    (put_length c.args.id (feature_data c.args.feature) c.in-Ok.ensures.ok.allowed)
+
+pub apply-requires-clause-texts : goal.apply-requires-clause-texts
+apply-requires-clause-texts g c = rw c.room.ensures.map (short_enough c.self.inside.store.features c.args.id (feature_data c.args.feature)
+    c.self.inside.layout.sectors c.self.inside.journal.used c.self.inside.layout.size.1
+    (omega (arith, c.self.inside.journal.room, ap (λ (r : Ring). r.places) c.self.invariant.ring)) c.self.invariant.texts c.in-Ok.ensures.ok.allowed)
+
+pub invariant_of-self-in-Ok-append : goal.invariant_of-self-in-Ok-append
+invariant_of-self-in-Ok-append g c = record {
+  within = omega (arith, c.self.invariant.within, c.append.ensures.count);
+  ring = c.append.ensures.same.0 ∙ c.self.invariant.ring;
+  texts = omega (
+    arith,
+    ap (λ m. length (snapshot m)) (c.apply.ensures ∙ ap (λ m. with_feature m c.args.id (feature_data c.args.feature)) c.room.ensures.map),
+    c.in-Ok-append.ensures.used,
+    ap (λ (t : List ℕ). parts_of (length t)) (c.deref.ensures.value ∙ c.in-Ok-encode.ensures.text),
+    short_after_put c.self.inside.store.features c.args.id (feature_data c.args.feature) (SECTOR_BYTES * area_sectors c.self.inside.layout.sectors)
+        c.self.inside.journal.used c.self.invariant.texts,
+  );
+}
+
+pub returns-in-Ok-append-clause-any_moment : goal.returns-in-Ok-append-clause-any_moment
+returns-in-Ok-append-clause-any_moment g c = rw (← c.self.view_is) (λ stored honest up.
+    let at = up_is_at g.D.Sectors.sectors g.D.Sectors.history stored _ c.self.invariant.ring up in
+    append_any_moment g.D.Sectors.sectors g.D.Sectors.history stored _ c.self.invariant.ring up (put c.args.id (feature_data c.args.feature))
+    c.in-Ok-encode.ensures.edit _ (c.deref.ensures.value ∙ c.in-Ok-encode.ensures.text) c.append.new.disk (c.append.ensures.frame honest)
+    (edited c.in-Ok-append.number) tt (c.append.ensures.any_moment (texts_of stored) honest at))
+
+pub returns-in-Ok-append-clause-acknowledged : goal.returns-in-Ok-append-clause-acknowledged
+returns-in-Ok-append-clause-acknowledged g c = rw (← c.self.view_is) (λ stored honest up.
+    let at = up_is_at g.D.Sectors.sectors g.D.Sectors.history stored _ c.self.invariant.ring up in
+    up_with_edit g.D.Sectors.sectors g.D.Sectors.history stored _ c.self.invariant.ring up (put c.args.id (feature_data c.args.feature))
+    c.in-Ok-encode.ensures.edit _ (c.deref.ensures.value ∙ c.in-Ok-encode.ensures.text) c.append.new.disk (c.append.ensures.frame honest)
+    _ refl c.append.ensures.count refl c.append.ensures.same (c.in-Ok-append.ensures.acknowledged (texts_of stored) honest at)
+    (c.apply.ensures ∙ ap (λ m. with_feature m c.args.id (feature_data c.args.feature)) c.room.ensures.map) refl refl)
+
+pub returns-in-Err-append-clause-any_moment : goal.returns-in-Err-append-clause-any_moment
+returns-in-Err-append-clause-any_moment g c =
+    let left : c.match-edit-5.self.disk ≡ c.append.new.disk =
+    elim c.match-edit-5.branch [ in-Put-3 w ↦ ap (λ s. s.disk) w.self-is | in-Delete-3 w ↦ ap (λ s. s.disk) w.self-is ] in
+    rw (left, ← c.self.view_is) (λ stored honest up.
+    let at = up_is_at g.D.Sectors.sectors g.D.Sectors.history stored _ c.self.invariant.ring up in
+    refused_any_moment g.D.Sectors.sectors g.D.Sectors.history stored _ c.self.invariant.ring up (put c.args.id (feature_data c.args.feature))
+    c.in-Ok-encode.ensures.edit _ (c.deref.ensures.value ∙ c.in-Ok-encode.ensures.text) c.append.new.disk (c.append.ensures.frame honest)
+    c.in-Err-append.fault c.told.result c.told.ensures c.in-Err-append.ensures.refused (c.append.ensures.any_moment (texts_of stored) honest at))
+
+pub returns-in-Err-append-clause-refused : goal.returns-in-Err-append-clause-refused
+returns-in-Err-append-clause-refused g c =
+    let left : c.match-edit-5.self ≡ record {
+      disk = c.append.new.disk;
+      size = c.self.inside.layout.sectors;
+      features = c.room.new.self.features;
+      journal = c.append.new.self;
+      generation = c.self.inside.generation;
+      broken = c.eq-self-inside.result;
+    } = elim c.match-edit-5.branch [ in-Put-3 w ↦ w.self-is | in-Delete-3 w ↦ w.self-is ] in
+    rw (left, ← c.self.view_is) (λ stored honest up.
+    let unbroken : (c.in-Err-append.fault ≡ journals.Device → ⊥) → c.eq-self-inside.result ≡ false = search rules in
+    still_up g.D.Sectors.sectors g.D.Sectors.history stored _ c.self.invariant.ring up _ c.in-Err-append.fault c.told.result c.told.ensures
+    c.in-Err-append.ensures.refused refl c.in-Err-append.ensures.kept c.room.ensures.map refl unbroken)
