@@ -87,8 +87,11 @@ fn stopped_at_each_call(rt: HostRuntime) -> Result<(), Fail> {
             for choice in CHOICES {
                 let mut again = opened(alloc, disk.crash(&choice)?)?;
                 let found = made_in(&again).ok_or("some first edits")?;
-                assert!(rt; found == told || found == told + 1);
-                assert_eq!(rt; again.put(9, point(alloc, 0)?), Ok(found as u64 + 1));
+                assert!(rt; found == told || found == told.saturating_add(1));
+                assert_eq!(rt;
+                    again.put(9, point(alloc, 0)?),
+                    Ok((found as u64).saturating_add(1))
+                );
             }
         }
     }
