@@ -4,6 +4,7 @@ ghost use Rattle.edit_journal.specs.Records.{parts_of};
 
 mod appends;
 mod recovers;
+mod releases;
 
 use crate::{head_in, is_head, part_sector};
 
