@@ -4,9 +4,10 @@ use Rattle.std.proofs.Common.{List, ◌++◌, length, take, drop, replicate, min
 use Rattle.std.specs.Prelude.{slice_index, IsTrue}
 use Rattle.std.proofs.lemmas.Bool.{iff_false}
 use Rattle.std.proofs.lemmas.Nat.{from_le_bytes-to_le_bytes_8, from_le_bytes-to_le_bytes_4}
-use Rattle.std.proofs.lemmas.List.{take-append-drop, take_at, drop-replicate, take_rest, length-take, length-drop}
+use Rattle.std.proofs.lemmas.List.{take-append-drop, take_at, drop-replicate, take_rest}
 use Rattle.std.proofs.Math.Seq.{drop-append-add}
 use Rattle.edit_journal.specs.declared.sizes.TheConstants.{PART_BYTES}
+use Rattle.edit_journal.proofs.Pieces.{cut_length}
 use Rattle.edit_journal.specs.Records.{IsEditLength, piece, part_front, record_sector, HasFront, number_from, length_from}
 
 -- ---- the front
@@ -71,8 +72,7 @@ pub rest_piece : (text : List ℕ) (part : ℕ) → take PART_BYTES (take (lengt
 rest_piece text part = ap (take PART_BYTES) (take_rest text (PART_BYTES * part))
 
 pub piece_length : (text : List ℕ) (part : ℕ) → length (piece text part) ≡ min PART_BYTES (length text - PART_BYTES * part)
-piece_length text part = length-take PART_BYTES (drop (PART_BYTES * part) text)
-    ∙ ap (min PART_BYTES) (length-drop (PART_BYTES * part) text)
+piece_length text part = cut_length PART_BYTES text part
 
 -- zeros with a front written over them
 put_front : (front bytes first : List ℕ) → length front ≡ 16 → bytes ≡ front

@@ -1,8 +1,8 @@
 -- Laws of records, for the crates above.
-use Rattle.std.proofs.Common.{◌≡◌, ℕ, zero, suc, ◌<◌, ◌≤◌, ◌+◌, ◌*◌, ◌-◌, ◌^◌, ◌==◌, if◌then◌else◌, List, [], ◌∷◌, ◌++◌, length, take, drop, replicate, min}
+use Rattle.std.proofs.Common.{◌≡◌, ℕ, ◌<◌, ◌≤◌, ◌+◌, ◌-◌, ◌^◌, ◌==◌, if◌then◌else◌, List, [], ◌∷◌, ◌++◌, length, take, drop, replicate}
 use Rattle.std.proofs.Common.{⊎_elim, refl, sym, ◌∙◌, ap, subst, arith}
-use Rattle.std.proofs.lemmas.List.{take_at, drop_at, take_all}
-use Rattle.std.proofs.Math.Seq.{take-add, take-append_seam}
+use Rattle.std.proofs.lemmas.List.{take_at, drop_at}
+use Rattle.std.proofs.Math.Seq.{take-append_seam}
 use Rattle.std.proofs.lemmas.Bool.{cases_eq}
 use Rattle.std.proofs.lemmas.Bool.Decides.{nat_tests}
 use Rattle.sector_disk.specs.Disk.{Image, seen, all_zeros}
@@ -11,8 +11,9 @@ use Rattle.sector_disk.proofs.History.{seen_same, seen_other}
 use Rattle.edit_journal.specs.declared.sizes.TheConstants.{PART_BYTES}
 use Rattle.edit_journal.specs.Records.{IsEditLength, parts_of, piece, part_front, record_sector, IsPart, IsHeadOf}
 use Rattle.edit_journal.specs.Ring.{Ring, Start, sector_at, start_behind, NoLaterHead, HoldsTexts}
+use Rattle.edit_journal.proofs.Pieces.{one_cut, same_bytes}
 use Rattle.edit_journal.proofs.Places.{in_ring}
-use Rattle.edit_journal.proofs.Fronts.{front_length, kind_there, version_there, number_there, length_there, piece_length}
+use Rattle.edit_journal.proofs.Fronts.{front_length, kind_there, version_there, number_there, length_there}
 
 -- ---- parts and heads
 
@@ -56,30 +57,14 @@ zeros_no_head version number head = omega (arith, head.kind_is)
 -- ---- at most one list of texts
 
 -- texts of one length are one where their pieces are
-same_pieces : (parts : ℕ) (text other : List ℕ) → ((part : ℕ) → part < parts → piece text part ≡ piece other part)
-    → take (PART_BYTES * parts) text ≡ take (PART_BYTES * parts) other
-same_pieces zero text other same = refl
-same_pieces (suc parts) text other same =
-    let next : PART_BYTES * suc parts ≡ PART_BYTES * parts + PART_BYTES = omega arith in
-    ap (λ (n : ℕ). take n text) next ∙ take-add (PART_BYTES * parts) PART_BYTES text
-    ∙ ap (λ (front : List ℕ). front ++ piece text parts) (same_pieces parts text other (λ part lt. same part (omega (arith, lt))))
-    ∙ ap (λ (last : List ℕ). take (PART_BYTES * parts) other ++ last) (same parts (omega arith))
-    ∙ sym (ap (λ (n : ℕ). take n other) next ∙ take-add (PART_BYTES * parts) PART_BYTES other)
-
 pub same_text : (text other : List ℕ) → length text ≡ length other
     → ((part : ℕ) → part < parts_of (length text) → piece text part ≡ piece other part) → text ≡ other
-same_text text other len same =
-    sym (take_all (PART_BYTES * parts_of (length text)) text (omega arith))
-    ∙ same_pieces (parts_of (length text)) text other same
-    ∙ take_all (PART_BYTES * parts_of (length text)) other (omega (arith, len))
+same_text text other len same = same_bytes PART_BYTES (parts_of (length text)) text other len (omega arith) same
 
 -- two texts of one length have the same piece in a sector
 pub one_piece : (version number : ℕ) (text other : List ℕ) (part : ℕ) (sector : List ℕ) → length text ≡ length other
     → IsPart version number text part sector → IsPart version number other part sector → piece text part ≡ piece other part
-one_piece version number text other part sector len is too =
-    let same : length (piece text part) ≡ length (piece other part) =
-    piece_length text part ∙ ap (λ (n : ℕ). min PART_BYTES (n - PART_BYTES * part)) len ∙ sym (piece_length other part) in
-    sym is.bytes ∙ ap (λ (n : ℕ). take n (drop 16 sector)) same ∙ too.bytes
+one_piece version number text other part sector len is too = one_cut PART_BYTES text other part (drop 16 sector) len is.bytes too.bytes
 
 module _ (version : ℕ) (ring : Ring) (image : Image) where
   -- behind the first text the image has the others

@@ -4,6 +4,7 @@ mod Fronts
 mod Heads
 mod Joined
 pub mod Laws
+pub mod Pieces
 mod Places
 mod Reading
 pub mod Recovers

@@ -4,6 +4,7 @@ ghost use Rattle.edit_journal.specs.Records.{parts_of};
 
 mod appends;
 mod recovers;
+mod releases;
 
 use crate::{head_in, is_head, part_sector};
 
@@ -40,45 +41,36 @@ fn wanted(kind: u8, part: [u8; 2], length: [u8; 4], text: (usize, u8, u8)) -> [u
     sector
 }
 
+/// The sector of a part, beside the one that is wanted.
+fn sectors(
+    length: usize,
+    part: u16,
+    front: (u8, [u8; 2], [u8; 4]),
+    text: (usize, u8, u8),
+) -> [[u8; 512]; 2]
+    requires some { 1 ≤ length }
+    requires few { length ≤ 993 }
+    requires part { part < parts_of length }
+{
+    let (kind, said, bytes) = front;
+    [made(length, part), wanted(kind, said, bytes, text)]
+}
+
 #[test]
 fn sectors_as_bytes(rt: HostRuntime) {
     let rows = [
-        (made(1, 0), wanted(1, [1, 0], [1, 0, 0, 0], (1, b'a', b'a'))),
-        (
-            made(496, 0),
-            wanted(1, [1, 0], [0xf0, 1, 0, 0], (496, b'a', b'b')),
-        ),
-        (
-            made(497, 0),
-            wanted(1, [2, 0], [0xf1, 1, 0, 0], (496, b'a', b'b')),
-        ),
-        (
-            made(497, 1),
-            wanted(2, [1, 0], [0xf1, 1, 0, 0], (1, b'c', b'c')),
-        ),
-        (
-            made(992, 0),
-            wanted(1, [2, 0], [0xe0, 3, 0, 0], (496, b'a', b'b')),
-        ),
-        (
-            made(992, 1),
-            wanted(2, [1, 0], [0xe0, 3, 0, 0], (496, b'c', b'd')),
-        ),
-        (
-            made(993, 0),
-            wanted(1, [3, 0], [0xe1, 3, 0, 0], (496, b'a', b'b')),
-        ),
-        (
-            made(993, 1),
-            wanted(2, [1, 0], [0xe1, 3, 0, 0], (496, b'c', b'd')),
-        ),
-        (
-            made(993, 2),
-            wanted(2, [2, 0], [0xe1, 3, 0, 0], (1, b'e', b'e')),
-        ),
+        sectors(1, 0, (1, [1, 0], [1, 0, 0, 0]), (1, b'a', b'a')),
+        sectors(496, 0, (1, [1, 0], [0xf0, 1, 0, 0]), (496, b'a', b'b')),
+        sectors(497, 0, (1, [2, 0], [0xf1, 1, 0, 0]), (496, b'a', b'b')),
+        sectors(497, 1, (2, [1, 0], [0xf1, 1, 0, 0]), (1, b'c', b'c')),
+        sectors(992, 0, (1, [2, 0], [0xe0, 3, 0, 0]), (496, b'a', b'b')),
+        sectors(992, 1, (2, [1, 0], [0xe0, 3, 0, 0]), (496, b'c', b'd')),
+        sectors(993, 0, (1, [3, 0], [0xe1, 3, 0, 0]), (496, b'a', b'b')),
+        sectors(993, 1, (2, [1, 0], [0xe1, 3, 0, 0]), (496, b'c', b'd')),
+        sectors(993, 2, (2, [2, 0], [0xe1, 3, 0, 0]), (1, b'e', b'e')),
     ];
-    for (sector, bytes) in rows {
-        assert_eq!(rt; sector.as_slice(), bytes.as_slice());
+    for [found, bytes] in rows {
+        assert_eq!(rt; found, bytes);
     }
 }
 

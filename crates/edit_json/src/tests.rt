@@ -34,165 +34,142 @@ const FEATURES: [(&str, &str); 4] = [
     ),
 ];
 
-/// A member's text, and the fault of a feature with it.
-fn faulty_members() -> &'static [(&'static str, &'static str, EditFault)] {
-    &[
-        ("layer", "5", EditFault::Member),
-        ("layer", "null", EditFault::Member),
-        ("layer", r#"["p"]"#, EditFault::Member),
-        ("minzoom", "256", EditFault::Member),
-        ("minzoom", "-1", EditFault::Member),
-        ("minzoom", "1.5", EditFault::Member),
-        ("minzoom", "1.0", EditFault::Member),
-        ("minzoom", "1e0", EditFault::Member),
-        ("minzoom", "-0", EditFault::Member),
-        ("minzoom", r#""1""#, EditFault::Member),
-        ("maxzoom", "256", EditFault::Member),
-        ("maxzoom", "1.5", EditFault::Member),
-        ("maxzoom", r#""1""#, EditFault::Member),
-        ("maxzoom", "null", EditFault::Member),
-        ("geometry", "[[0,0]]", EditFault::Member),
-        ("geometry", "{}", EditFault::Member),
-        ("geometry", r#"{"points":5}"#, EditFault::Member),
-        ("geometry", r#"{"points":{}}"#, EditFault::Member),
-        (
-            "geometry",
-            r#"{"points":[[0,0]],"lines":[[[0,0],[1,1]]]}"#,
-            EditFault::Member,
-        ),
-        ("geometry", r#"{"point":[[0,0]]}"#, EditFault::Member),
-        ("tags", "[]", EditFault::Member),
-        ("tags", "null", EditFault::Member),
-        ("layer", r#""""#, EditFault::Layer),
-        ("minzoom", "3", EditFault::Zoom),
-        ("maxzoom", "17", EditFault::Zoom),
-        ("geometry", r#"{"points":[]}"#, EditFault::Geometry),
-        (
-            "geometry",
-            r#"{"points":[[4294967296,0]]}"#,
-            EditFault::Geometry,
-        ),
-        (
-            "geometry",
-            r#"{"points":[[0,4294967296]]}"#,
-            EditFault::Geometry,
-        ),
-        ("geometry", r#"{"points":[[-1,0]]}"#, EditFault::Geometry),
-        ("geometry", r#"{"points":[[0,1.5]]}"#, EditFault::Geometry),
-        ("geometry", r#"{"points":[[0,-0]]}"#, EditFault::Geometry),
-        ("geometry", r#"{"points":[[1e0,0]]}"#, EditFault::Geometry),
-        ("geometry", r#"{"points":[["1",0]]}"#, EditFault::Geometry),
-        ("geometry", r#"{"points":[[]]}"#, EditFault::Geometry),
-        ("geometry", r#"{"points":[[1]]}"#, EditFault::Geometry),
-        ("geometry", r#"{"points":[[1,2,3]]}"#, EditFault::Geometry),
-        ("geometry", r#"{"points":[[0,0],5]}"#, EditFault::Geometry),
-        ("geometry", r#"{"points":[[[0,0]]]}"#, EditFault::Geometry),
-        ("geometry", r#"{"lines":[]}"#, EditFault::Geometry),
-        ("geometry", r#"{"lines":[[]]}"#, EditFault::Geometry),
-        ("geometry", r#"{"lines":[[[0,0]]]}"#, EditFault::Geometry),
-        (
-            "geometry",
-            r#"{"lines":[[0,0],[1,1]]}"#,
-            EditFault::Geometry,
-        ),
-        (
-            "geometry",
-            r#"{"lines":[[[0,0],[1,1]],5]}"#,
-            EditFault::Geometry,
-        ),
-        ("geometry", r#"{"polygons":[]}"#, EditFault::Geometry),
-        ("geometry", r#"{"polygons":[[]]}"#, EditFault::Geometry),
-        (
-            "geometry",
-            r#"{"polygons":[[[[0,0],[1,1]]]]}"#,
-            EditFault::Geometry,
-        ),
-        (
-            "geometry",
-            r#"{"polygons":[[[0,0],[1,1],[2,2]]]}"#,
-            EditFault::Geometry,
-        ),
-        (
-            "geometry",
-            r#"{"polygons":[[[[0,0],[1,1],[2,0]],[[0,0]]]]}"#,
-            EditFault::Geometry,
-        ),
-        ("tags", r#"{"":1}"#, EditFault::Tags),
-        ("tags", r#"{"":null}"#, EditFault::Tags),
-        ("tags", r#"{"a":null}"#, EditFault::Value),
-        ("tags", r#"{"a":1,"b":null}"#, EditFault::Value),
-        ("tags", r#"{"a":1.5}"#, EditFault::Value),
-        ("tags", r#"{"a":1.0}"#, EditFault::Value),
-        ("tags", r#"{"a":1e0}"#, EditFault::Value),
-        ("tags", r#"{"a":-0}"#, EditFault::Value),
-        ("tags", r#"{"a":[1]}"#, EditFault::Value),
-        ("tags", r#"{"a":{}}"#, EditFault::Value),
-        ("tags", r#"{"a":18446744073709551616}"#, EditFault::Value),
-        ("tags", r#"{"a":-9223372036854775809}"#, EditFault::Value),
-    ]
-}
+/// Members of another type, and objects of other members. A row is a member's name and text, or no name and the text of a whole object.
+const MEMBER_FAULTS: [(&str, &str); 35] = [
+    ("layer", "5"),
+    ("layer", "null"),
+    ("layer", r#"["p"]"#),
+    ("minzoom", "256"),
+    ("minzoom", "-1"),
+    ("minzoom", "1.5"),
+    ("minzoom", "1.0"),
+    ("minzoom", "1e0"),
+    ("minzoom", "-0"),
+    ("minzoom", r#""1""#),
+    ("maxzoom", "256"),
+    ("maxzoom", "1.5"),
+    ("maxzoom", r#""1""#),
+    ("maxzoom", "null"),
+    ("geometry", "[[0,0]]"),
+    ("geometry", "{}"),
+    ("geometry", r#"{"points":5}"#),
+    ("geometry", r#"{"points":{}}"#),
+    ("geometry", r#"{"points":[[0,0]],"lines":[[[0,0],[1,1]]]}"#),
+    ("geometry", r#"{"point":[[0,0]]}"#),
+    ("tags", "[]"),
+    ("tags", "null"),
+    ("", "null"),
+    ("", "5"),
+    ("", "[]"),
+    ("", "{}"),
+    (
+        "",
+        r#"{"minzoom":0,"maxzoom":2,"geometry":{"points":[[0,0]]},"tags":{}}"#,
+    ),
+    (
+        "",
+        r#"{"layer":"p","maxzoom":2,"geometry":{"points":[[0,0]]},"tags":{}}"#,
+    ),
+    (
+        "",
+        r#"{"layer":"p","minzoom":0,"geometry":{"points":[[0,0]]},"tags":{}}"#,
+    ),
+    ("", r#"{"layer":"p","minzoom":0,"maxzoom":2,"tags":{}}"#),
+    (
+        "",
+        r#"{"layer":"p","minzoom":0,"maxzoom":2,"geometry":{"points":[[0,0]]}}"#,
+    ),
+    (
+        "",
+        r#"{"layer":"p","minzoom":0,"maxzoom":2,"geometry":{"points":[[0,0]]},"tags":{},"id":7}"#,
+    ),
+    (
+        "",
+        r#"{"layer":"p","minzoom":0,"maxzoom":2,"geometry":{"points":[[0,0]]},"tags":{},"zoom":7}"#,
+    ),
+    (
+        "",
+        r#"{"layer":"","minzoom":0,"maxzoom":256,"geometry":{"points":[[0,0]]},"tags":{}}"#,
+    ),
+    (
+        "",
+        r#"{"layer":"p","minzoom":3,"maxzoom":2,"geometry":{"points":5},"tags":{}}"#,
+    ),
+];
 
-/// Objects of other members, and objects with two faults.
-fn faulty_objects() -> &'static [(&'static str, EditFault)] {
-    &[
-        ("null", EditFault::Member),
-        ("5", EditFault::Member),
-        ("[]", EditFault::Member),
-        ("{}", EditFault::Member),
-        (
-            r#"{"minzoom":0,"maxzoom":2,"geometry":{"points":[[0,0]]},"tags":{}}"#,
-            EditFault::Member,
-        ),
-        (
-            r#"{"layer":"p","maxzoom":2,"geometry":{"points":[[0,0]]},"tags":{}}"#,
-            EditFault::Member,
-        ),
-        (
-            r#"{"layer":"p","minzoom":0,"geometry":{"points":[[0,0]]},"tags":{}}"#,
-            EditFault::Member,
-        ),
-        (
-            r#"{"layer":"p","minzoom":0,"maxzoom":2,"tags":{}}"#,
-            EditFault::Member,
-        ),
-        (
-            r#"{"layer":"p","minzoom":0,"maxzoom":2,"geometry":{"points":[[0,0]]}}"#,
-            EditFault::Member,
-        ),
-        (
-            r#"{"layer":"p","minzoom":0,"maxzoom":2,"geometry":{"points":[[0,0]]},"tags":{},"id":7}"#,
-            EditFault::Member,
-        ),
-        (
-            r#"{"layer":"p","minzoom":0,"maxzoom":2,"geometry":{"points":[[0,0]]},"tags":{},"zoom":7}"#,
-            EditFault::Member,
-        ),
-        (
-            r#"{"layer":"","minzoom":0,"maxzoom":256,"geometry":{"points":[[0,0]]},"tags":{}}"#,
-            EditFault::Member,
-        ),
-        (
-            r#"{"layer":"p","minzoom":3,"maxzoom":2,"geometry":{"points":5},"tags":{}}"#,
-            EditFault::Member,
-        ),
-        (
-            r#"{"layer":"","minzoom":3,"maxzoom":2,"geometry":{"points":[[0,0]]},"tags":{}}"#,
-            EditFault::Layer,
-        ),
-        (
-            r#"{"layer":"p","minzoom":3,"maxzoom":2,"geometry":{"points":[]},"tags":{}}"#,
-            EditFault::Zoom,
-        ),
-        (
-            r#"{"layer":"p","minzoom":0,"maxzoom":2,"geometry":{"points":[]},"tags":{"":1}}"#,
-            EditFault::Geometry,
-        ),
-        (
-            r#"{"layer":"p","minzoom":0,"maxzoom":2,"geometry":{"points":[]},"tags":{"a":null}}"#,
-            EditFault::Geometry,
-        ),
-    ]
-}
+/// A layer without a name.
+const LAYER_FAULTS: [(&str, &str); 2] = [
+    ("layer", r#""""#),
+    (
+        "",
+        r#"{"layer":"","minzoom":3,"maxzoom":2,"geometry":{"points":[[0,0]]},"tags":{}}"#,
+    ),
+];
+
+/// Zooms that no feature has.
+const ZOOM_FAULTS: [(&str, &str); 3] = [
+    ("minzoom", "3"),
+    ("maxzoom", "17"),
+    (
+        "",
+        r#"{"layer":"p","minzoom":3,"maxzoom":2,"geometry":{"points":[]},"tags":{}}"#,
+    ),
+];
+
+/// Geometries that no feature has.
+const GEOMETRY_FAULTS: [(&str, &str); 25] = [
+    ("geometry", r#"{"points":[]}"#),
+    ("geometry", r#"{"points":[[4294967296,0]]}"#),
+    ("geometry", r#"{"points":[[0,4294967296]]}"#),
+    ("geometry", r#"{"points":[[-1,0]]}"#),
+    ("geometry", r#"{"points":[[0,1.5]]}"#),
+    ("geometry", r#"{"points":[[0,-0]]}"#),
+    ("geometry", r#"{"points":[[1e0,0]]}"#),
+    ("geometry", r#"{"points":[["1",0]]}"#),
+    ("geometry", r#"{"points":[[]]}"#),
+    ("geometry", r#"{"points":[[1]]}"#),
+    ("geometry", r#"{"points":[[1,2,3]]}"#),
+    ("geometry", r#"{"points":[[0,0],5]}"#),
+    ("geometry", r#"{"points":[[[0,0]]]}"#),
+    ("geometry", r#"{"lines":[]}"#),
+    ("geometry", r#"{"lines":[[]]}"#),
+    ("geometry", r#"{"lines":[[[0,0]]]}"#),
+    ("geometry", r#"{"lines":[[0,0],[1,1]]}"#),
+    ("geometry", r#"{"lines":[[[0,0],[1,1]],5]}"#),
+    ("geometry", r#"{"polygons":[]}"#),
+    ("geometry", r#"{"polygons":[[]]}"#),
+    ("geometry", r#"{"polygons":[[[[0,0],[1,1]]]]}"#),
+    ("geometry", r#"{"polygons":[[[0,0],[1,1],[2,2]]]}"#),
+    (
+        "geometry",
+        r#"{"polygons":[[[[0,0],[1,1],[2,0]],[[0,0]]]]}"#,
+    ),
+    (
+        "",
+        r#"{"layer":"p","minzoom":0,"maxzoom":2,"geometry":{"points":[]},"tags":{"":1}}"#,
+    ),
+    (
+        "",
+        r#"{"layer":"p","minzoom":0,"maxzoom":2,"geometry":{"points":[]},"tags":{"a":null}}"#,
+    ),
+];
+
+/// Keys that no tag has.
+const TAG_FAULTS: [(&str, &str); 2] = [("tags", r#"{"":1}"#), ("tags", r#"{"":null}"#)];
+
+/// Values that no tag has.
+const VALUE_FAULTS: [(&str, &str); 10] = [
+    ("tags", r#"{"a":null}"#),
+    ("tags", r#"{"a":1,"b":null}"#),
+    ("tags", r#"{"a":1.5}"#),
+    ("tags", r#"{"a":1.0}"#),
+    ("tags", r#"{"a":1e0}"#),
+    ("tags", r#"{"a":-0}"#),
+    ("tags", r#"{"a":[1]}"#),
+    ("tags", r#"{"a":{}}"#),
+    ("tags", r#"{"a":18446744073709551616}"#),
+    ("tags", r#"{"a":-9223372036854775809}"#),
+];
 
 /// A member, how its text begins, what is repeated, how often, how it ends, and the fault.
 type Length = (
@@ -271,16 +248,22 @@ fn assert_fault(
     Ok(())
 }
 
-/// Asserts that this is the fault of a feature with this text for this member.
-fn assert_member_fault(
+/// Asserts that a feature has this fault with each of the members' texts, and each whole object has it.
+fn assert_each_fault(
     rt: &impl Abort,
     alloc: Global,
-    name: &str,
-    text: &str,
-    fault: Option<EditFault>,
+    fault: EditFault,
+    rows: &[(&str, &str)],
 ) -> Result<(), Fail> {
-    let object = object_with(alloc, name, text)?;
-    assert_fault(rt, alloc, object.as_str(), fault)
+    for (name, text) in rows {
+        if name.is_empty() {
+            assert_fault(rt, alloc, text, Some(fault))?;
+        } else {
+            let object = object_with(alloc, name, text)?;
+            assert_fault(rt, alloc, object.as_str(), Some(fault))?;
+        }
+    }
+    Ok(())
 }
 
 /// A text between two others, so many times.
@@ -328,18 +311,14 @@ fn what_is_read(rt: HostRuntime) -> Result<(), Fail> {
 }
 
 #[test]
-fn members_with_a_fault(rt: HostRuntime) -> Result<(), Fail> {
-    for (name, text, fault) in faulty_members() {
-        assert_member_fault(&rt, rt.alloc(), name, text, Some(*fault))?;
-    }
-    Ok(())
-}
-
-#[test]
-fn objects_with_a_fault(rt: HostRuntime) -> Result<(), Fail> {
-    for (text, fault) in faulty_objects() {
-        assert_fault(&rt, rt.alloc(), text, Some(*fault))?;
-    }
+fn texts_with_a_fault(rt: HostRuntime) -> Result<(), Fail> {
+    let alloc = rt.alloc();
+    assert_each_fault(&rt, alloc, EditFault::Member, &MEMBER_FAULTS)?;
+    assert_each_fault(&rt, alloc, EditFault::Layer, &LAYER_FAULTS)?;
+    assert_each_fault(&rt, alloc, EditFault::Zoom, &ZOOM_FAULTS)?;
+    assert_each_fault(&rt, alloc, EditFault::Geometry, &GEOMETRY_FAULTS)?;
+    assert_each_fault(&rt, alloc, EditFault::Tags, &TAG_FAULTS)?;
+    assert_each_fault(&rt, alloc, EditFault::Value, &VALUE_FAULTS)?;
     Ok(())
 }
 
@@ -348,7 +327,8 @@ fn limits_from_both_sides(rt: HostRuntime) -> Result<(), Fail> {
     let alloc = rt.alloc();
     for (name, before, piece, count, after, fault) in lengths() {
         let text = repeated(alloc, before, piece, *count, after)?;
-        assert_member_fault(&rt, alloc, name, text.as_str(), *fault)?;
+        let object = object_with(alloc, name, text.as_str())?;
+        assert_fault(&rt, alloc, object.as_str(), *fault)?;
     }
     Ok(())
 }

@@ -10,7 +10,7 @@ use Rattle.std.specs.Cmp.Lexicographic.{slice_cmp}
 use Rattle.std.proofs.lemmas.Cmp.{nat_list_cmp_total}
 use Rattle.std.proofs.lemmas.List.Elements.{All-nil, All-cons, All-weaker}
 use Rattle.feature_model.specs.Data.{FeatureData}
-use Rattle.mvt_layer.specs.declared.layers.TheConstants.{DEFAULT_EXTENT}
+use Rattle.mvt_layer.specs.declared.layers.TheConstants.{CURRENT_VERSION, DEFAULT_EXTENT}
 use Rattle.mvt_layer.specs.Tile.{FeatureView, LayerView}
 use Rattle.feature_store.specs.Layers.{cuts_of, with_name, layer_names, layer_with, names_of, IsLayer, AreLayers}
 use Rattle.feature_store.specs.Store.{FeatureMap}
@@ -124,7 +124,7 @@ module _ (m : FeatureMap) (z x y : ℕ) where
           → All (IsLayer m z x y) (cons_option (layer_with n fs) (layers_named names))
       by [] is rest = rest
       by (f ∷ fs) is rest =
-          All-cons (IsLayer m z x y) (record { name = n; version = 2; extent = DEFAULT_EXTENT; features = f ∷ fs }) (layers_named names)
+          All-cons (IsLayer m z x y) (record { name = n; version = CURRENT_VERSION; extent = DEFAULT_EXTENT; features = f ∷ fs }) (layers_named names)
           (record { version = refl; extent = refl; some = omega arith; cuts = sym is }) rest
 
   shown_named : (names : List (List ℕ)) (name : List ℕ) → Contains names name → 0 < length (cuts_of m name z x y)

@@ -6,11 +6,8 @@ ghost use Rattle.mvt_layer.specs.Tile.{layer_views};
 ghost use Rattle.feature_store.specs.Gathered.{layers_of};
 
 use crate::gathered::Gathered;
-use mvt_layer::{DEFAULT_EXTENT, Layer};
+use mvt_layer::{CURRENT_VERSION, DEFAULT_EXTENT, Layer};
 use std::alloc::{AllocError, Global};
-
-/// The version of the format that the layers say.
-const VERSION: u32 = 2;
 
 /// What is gathered as layers, in the order of their names.
 pub(crate) fn listed<'a>(
@@ -24,7 +21,7 @@ pub(crate) fn listed<'a>(
     for (name, features) in gathered {
         layers.push(Layer {
             name,
-            version: VERSION,
+            version: CURRENT_VERSION,
             extent: DEFAULT_EXTENT,
             features,
         })?;

@@ -4,7 +4,6 @@ mod Edits
 mod Fresh
 pub mod Laws
 mod Opens
-mod Pieces
 mod Replays
 mod Roots
 mod Steps

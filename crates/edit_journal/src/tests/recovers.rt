@@ -100,12 +100,23 @@ fn found(
     }
 }
 
+/// A sector of a record of fewer than 65,536 bytes, with 496 bytes of text that are all the same.
+fn filled(kind: u8, part: u8, length: [u8; 2], byte: u8) -> [u8; 512] {
+    wanted(
+        kind,
+        [part, 0],
+        [length[0], length[1], 0, 0],
+        (496, byte, byte),
+    )
+}
+
 #[test]
 fn sectors_by_hand(rt: HostRuntime) -> Result<(), Fail> {
     let zeros = [0; 512];
-    let short = wanted(1, [1, 0], [2, 0, 0, 0], (496, b'a', b'a'));
-    let head = wanted(1, [2, 0], [0xf1, 1, 0, 0], (496, b'a', b'a'));
-    let body = wanted(2, [1, 0], [0xf1, 1, 0, 0], (496, b'b', b'b'));
+    let short = filled(1, 1, [2, 0], b'a');
+    let head = filled(1, 2, [0xf1, 1], b'a');
+    let body = filled(2, 1, [0xf1, 1], b'b');
+    let damaged = Err(JournalFault::Damaged);
     let start = Start {
         place: 0,
         edits: NUMBER - 1,
@@ -121,33 +132,13 @@ fn sectors_by_hand(rt: HostRuntime) -> Result<(), Fail> {
         (body, zeros, Ok((0, 0))),
         (zeros, short, Ok((0, 0))),
         // A head with no body, and one with the body of another part.
-        (head, zeros, Err(JournalFault::Damaged)),
-        (
-            head,
-            wanted(2, [2, 0], [0xf1, 1, 0, 0], (496, b'b', b'b')),
-            Err(JournalFault::Damaged),
-        ),
-        (
-            head,
-            wanted(2, [1, 0], [0xf2, 1, 0, 0], (496, b'b', b'b')),
-            Err(JournalFault::Damaged),
-        ),
+        (head, zeros, damaged),
+        (head, filled(2, 2, [0xf1, 1], b'b'), damaged),
+        (head, filled(2, 1, [0xf2, 1], b'b'), damaged),
         // A length of 0, a count of parts that isn't the length's, and more parts than places.
-        (
-            wanted(1, [0, 0], [0, 0, 0, 0], (496, b'a', b'a')),
-            zeros,
-            Err(JournalFault::Damaged),
-        ),
-        (
-            wanted(1, [2, 0], [2, 0, 0, 0], (496, b'a', b'a')),
-            zeros,
-            Err(JournalFault::Damaged),
-        ),
-        (
-            wanted(1, [3, 0], [0xe1, 3, 0, 0], (496, b'a', b'a')),
-            body,
-            Err(JournalFault::Damaged),
-        ),
+        (filled(1, 0, [0, 0], b'a'), zeros, damaged),
+        (filled(1, 2, [2, 0], b'a'), zeros, damaged),
+        (filled(1, 3, [0xe1, 3], b'a'), body, damaged),
     ];
     for (first, second, outcome) in rows {
         assert_eq!(rt; found(rt.alloc(), first, second, start)?, outcome);

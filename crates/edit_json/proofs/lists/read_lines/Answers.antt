@@ -1,5 +1,5 @@
 use Rattle.feature_model.specs.declared.fault.EditFault.TheVariants.{Memory}
-use Rattle.std.proofs.Common.{◌≢◌, rules, sym, ap, ◌∙◌, map, arith}
+use Rattle.std.proofs.Common.{◌≢◌, rules, sym, ◌∙◌, map, arith}
 use Rattle.std.proofs.lemmas.Result.{err_from_is_err_and}
 use Rattle.edit_json.specs.Lists.{points_at}
 use Rattle.edit_json.proofs.ListLemmas.{list_of-refused, list_of-counted, rest_gives-end, rest_gives-fault}

@@ -1,5 +1,5 @@
 use Rattle.feature_model.specs.declared.fault.EditFault.TheVariants.{Memory}
-use Rattle.std.proofs.Common.{◌≢◌, rules, sym, ap, ◌∙◌, map, arith}
+use Rattle.std.proofs.Common.{◌≢◌, rules, sym, ◌∙◌, map, arith}
 use Rattle.feature_model.specs.declared.limits.TheConstants.{LEAST_RING}
 use Rattle.std.proofs.lemmas.Result.{err_from_is_err_and}
 use Rattle.edit_json.specs.Lists.{lines_at}
