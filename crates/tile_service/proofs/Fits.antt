@@ -253,6 +253,29 @@ holds_as sectors n start {events} {events'} {answers} {answers'} image same_even
     subst (λ (x : List EventData). Holds sectors n (reached start x answers') image) (sym same_events)
     (subst (λ (x : List AnswerData). Holds sectors n (reached start events x) image) (sym same_answers) holds)
 
+device_stores_nothing : (stored : Stored) (event : EventData) → stored_after stored event (refused Device) ≡ stored
+device_stores_nothing stored (edit e) = refl
+device_stores_nothing stored (tile z x y) = refl
+device_stores_nothing stored (look id) = refl
+
+may_stand : (answer : AnswerData) → MayStand answer → (answer ≡ refused Device) ⊎ ((number : ℕ) × (answer ≡ edited number))
+may_stand (edited number) may = inr (number, refl)
+may_stand (shown content) may = absurd may
+may_stand (found f) may = absurd may
+may_stand (refused fault) may = inl (ap (λ (x : ServiceFault). refused x) may)
+
+-- what an event leaves, with the edit of which it tells
+abbrev EditLeaves : (sectors n : ℕ) → Stored → EventData → AnswerData → Image → Type 0
+EditLeaves sectors n stored event answer image = Holds sectors n stored image
+    ⊎ ((e : EditData) × (event ≡ edit e) × MayStand answer × Holds sectors n (with_edit stored e) image)
+
+as_edit : (sectors n : ℕ) (stored : Stored) (event : EventData) (answer : AnswerData) (image : Image)
+    → EventLeaves sectors n stored event answer image → EditLeaves sectors n stored event answer image
+as_edit sectors n stored (edit e) answer image (inl holds) = inl holds
+as_edit sectors n stored (edit e) answer image (inr w) = inr (e, refl, w.0, w.1)
+as_edit sectors n stored (tile z x y) answer image holds = inl holds
+as_edit sectors n stored (look id) answer image holds = inl holds
+
 module _ (sectors n : ℕ) (start : Stored) (events : List EventData) (answers : List AnswerData) (event : EventData) (answer : AnswerData) (old h new : History)
     (same : length events ≡ length answers) (so_far : RunLeaves sectors n start events answers old h) (follows : Follows h new) where
   abbrev events' : List EventData
@@ -372,3 +395,55 @@ module _ (sectors n : ℕ) (start : Stored) (events : List EventData) (answers :
         (λ image may. at_end image (so_far.images (length answers) (omega arith) image
         (since_now h (moment (so_far.by (length answers))) image (so_far.earlier (length answers) (omega arith))
         (subst (λ (x : History). MayLeave x image) unchanged may))))
+
+  -- one that isn't broken stores what it acknowledges
+  module _ (alive : (e : EditData) → IsInDoubt events answers e → ⊥)
+      (call : LeavesOnly h new (EventLeaves sectors n (reached start events answers) event answer))
+      (after : answer ≢ refused Device → Keeps sectors n (stored_after (reached start events answers) event answer) new) where
+    edit_image : (k : ℕ) (image : Image) (e : EditData) → k ≤ length answers + 1 → event ≡ edit e
+        → (answer ≡ refused Device) ⊎ ((number : ℕ) × (answer ≡ edited number))
+        → Holds sectors n (with_edit (reached start events answers) e) image → RunImage sectors n start events' answers' k image
+    edit_image k image e le is (inl failed) holds = doubt_image k image e (last_in_doubt events answers event answer same e is failed)
+        (subst (λ (a : AnswerData). stored_after (reached start events answers) event a ≡ reached start events answers) (sym failed)
+        (device_stores_nothing (reached start events answers) event)) holds
+    edit_image k image e le is (inr w) holds = latest_image k image le
+        (subst (λ (a : AnswerData). Holds sectors n (stored_after (reached start events answers) event a) image) (sym w.1)
+        (subst (λ (x : EventData). Holds sectors n (stored_after (reached start events answers) x (edited w.0)) image) (sym is) holds))
+
+    past_image : (k : ℕ) (image : Image) → RunImage sectors n start events answers k image → RunImage sectors n start events' answers' k image
+    past_image k image (inl w) = earlier_image k w.0 image w.1 w.2 w.3
+    past_image k image (inr w) = absurd (alive w.0 w.1)
+
+    -- during the event
+    during : (k : ℕ) (image : Image) → k ≤ length answers → EditLeaves sectors n (reached start events answers) event answer image
+        → RunImage sectors n start events' answers' k image
+    during k image le (inl holds) = this_image k image le holds
+    during k image le (inr w) = edit_image k image w.0 (omega (arith, le)) w.1 (may_stand answer w.2) w.3
+
+    -- after it, where the disk failed
+    after_fault : (image : Image) → answer ≡ refused Device → EditLeaves sectors n (reached start events answers) event answer image
+        → RunImage sectors n start events' answers' (length answers + 1) image
+    after_fault image failed (inl holds) = latest_image (length answers + 1) image (omega arith)
+        (subst (λ (a : AnswerData). Holds sectors n (stored_after (reached start events answers) event a) image) (sym failed)
+        (subst (λ (s : Stored). Holds sectors n s image) (sym (device_stores_nothing (reached start events answers) event)) holds))
+    after_fault image failed (inr w) = edit_image (length answers + 1) image w.0 (omega arith) w.1 (may_stand answer w.2) w.3
+
+    pub run_unbroken : RunLeaves sectors n start events' answers' old new
+    run_unbroken = run_step
+        (λ k le image left. ⊎_elim (λ was. past_image k image (so_far.images k le image was))
+        (λ now. during k image le (as_edit sectors n (reached start events answers) event answer image now))
+        (left_before h new (EventLeaves sectors n (reached start events answers) event answer) call (moment (so_far.by k)) image (so_far.earlier k le) left))
+        (λ image may. ⊎_elim
+        (λ (failed : answer ≡ refused Device). after_fault image failed (as_edit sectors n (reached start events answers) event answer image
+        (call.each image (since_now new (moment h) image later may))))
+        (λ (not : answer ≢ refused Device). latest_image (length answers + 1) image (omega arith) (after not image may))
+        (device_or_not answer))
+
+  -- the event by any service
+  pub run_goes_on : (broken : Bool) → (broken ≡ true → IsQuiet event answer × (new ≡ h))
+      → (broken ≡ false → (e : EditData) → IsInDoubt events answers e → ⊥)
+      → (broken ≡ false → LeavesOnly h new (EventLeaves sectors n (reached start events answers) event answer))
+      → (broken ≡ false → answer ≢ refused Device → Keeps sectors n (stored_after (reached start events answers) event answer) new)
+      → RunLeaves sectors n start events' answers' old new
+  run_goes_on true quiet alive call after = run_broken (quiet refl).0 (quiet refl).1
+  run_goes_on false quiet alive call after = run_unbroken (alive refl) (call refl) (after refl)

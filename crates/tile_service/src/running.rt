@@ -16,7 +16,6 @@ use feature_model::copy;
 use sector_disk::Sectors;
 use std::alloc::AllocError;
 
-#[tactic(auto, using(crate::proofs::Fits::run_starts, crate::proofs::Runs::runs_on))]
 /// The answer to an edit.
 fn edited(outcome: Result<u64, ServiceFault>) -> Answer
     ensures { answer_data result ≡ edit_answer outcome }
