@@ -1,10 +1,14 @@
 -- A step of the machine that finds it broken, or breaks it, and a run that goes on by a step.
-use Rattle.std.proofs.Common.{◌≡◌, ◌≢◌, ◌⊎◌, inl, inr, ℕ, Bool, true, false, List, [], ◌∷◌, ◌++◌, refl, sym, ◌∙◌, ap, subst}
+use Rattle.std.proofs.Common.{◌≡◌, ◌≢◌, ◌⊎◌, inl, inr, ℕ, Bool, true, false, List, [], ◌∷◌, ◌++◌, Result, Ok, Err, refl, sym, ◌∙◌, ap, subst}
+use Rattle.std.specs.Prelude.{IfErr, OnOk}
 use Rattle.std.proofs.lemmas.Bool.{false≢true}
+use Rattle.sector_disk.specs.Disk.{History, Image}
+use Rattle.sector_disk.specs.Moments.{LeavesOnly}
+use Rattle.sector_disk.proofs.History.{started}
 use Rattle.feature_model.specs.Data.{EditData, put, delete}
 use Rattle.tile_service.specs.Machine.{ServiceState, EventData, edit, tile, look, AnswerData, edited, shown, found, refused, RefusesEdit, Steps, Runs}
-use Rattle.tile_service.specs.Service.{stored_after}
-use Rattle.tile_service.specs.Stored.{Stored}
+use Rattle.tile_service.specs.Service.{edit_answer, EventLeaves, stored_after}
+use Rattle.tile_service.specs.Stored.{Stored, Holds, Keeps, with_edit}
 use Rattle.tile_service.specs.declared.fault.ServiceFault.{ServiceFault}
 use Rattle.tile_service.specs.declared.fault.ServiceFault.TheVariants.{Broken, Limit, NotFound, NumbersSpent, Memory, JournalFull, Device}
 
@@ -120,3 +124,42 @@ runs_on old between new [] (a ∷ answers) event answer run step = absurd run
 runs_on old between new (e ∷ events) [] event answer run step = absurd run
 runs_on old between new (e ∷ events) (a ∷ answers) event answer run step =
     (run.0, run.1, runs_on run.0 between new events answers event answer run.2 step)
+
+-- ---- an edit's answer
+
+pub broken_is_no_device : ◌≡◌ {A = ServiceFault} Broken Device → ⊥
+broken_is_no_device is = false≢true (ap (λ (fault : ServiceFault). is_device (refused fault)) is)
+
+-- a broken one refuses an edit for another fault than the disk's
+pub broken_refuses : {X : Type 0} (old new : ServiceState) (e : EditData) (result : Result ℕ ServiceFault) → Steps old (edit e) (edit_answer result) new
+    → IfErr result (λ fault. fault ≢ Device → X) → old.broken ≡ true → X
+broken_refuses old new e (Ok number) step kept broken = absurd (clash old.broken step.can.unbroken broken)
+broken_refuses old new e (Err fault) step kept broken = let is = refuses_broken old new e fault step broken in
+    kept (λ device. broken_is_no_device (sym is.0 ∙ device))
+
+-- after an edit that was acknowledged, or refused for another fault than the disk's
+pub after_answer : (P : Stored → Type 0) (stored : Stored) (e : EditData) (result : Result ℕ ServiceFault) {event : EventData} {answer : AnswerData}
+    → event ≡ edit e → answer ≡ edit_answer result → OnOk result (P (with_edit stored e)) → IfErr result (λ fault. fault ≢ Device → P stored)
+    → answer ≢ refused Device → P (stored_after stored event answer)
+after_answer P stored e result {event} {answer} is told done kept not =
+    subst (λ (x : EventData). P (stored_after stored x answer)) (sym is)
+    (subst (λ (a : AnswerData). P (stored_after stored (edit e) a)) (sym told)
+    (after_result P stored e result done kept (subst (λ (a : AnswerData). a ≢ refused Device) told not)))
+  where
+    after_result : (P : Stored → Type 0) (stored : Stored) (e : EditData) (result : Result ℕ ServiceFault) → OnOk result (P (with_edit stored e))
+        → IfErr result (λ fault. fault ≢ Device → P stored) → edit_answer result ≢ refused Device → P (stored_after stored (edit e) (edit_answer result))
+    after_result P stored e (Ok number) done kept not = done
+    after_result P stored e (Err fault) done kept not = kept (λ device. not (ap (λ (x : ServiceFault). refused x) device))
+
+leaves_stored : (sectors n : ℕ) (stored : Stored) (event : EventData) (answer : AnswerData) (image : Image) → Holds sectors n stored image
+    → EventLeaves sectors n stored event answer image
+leaves_stored sectors n stored (edit e) answer image holds = inl holds
+leaves_stored sectors n stored (tile z x y) answer image holds = holds
+leaves_stored sectors n stored (look id) answer image holds = holds
+
+-- an event that writes nothing leaves what is stored
+pub writes_nothing : (sectors n : ℕ) (stored : Stored) (event : EventData) (answer : AnswerData) (h new : History) → new ≡ h → Keeps sectors n stored h
+    → LeavesOnly h new (EventLeaves sectors n stored event answer)
+writes_nothing sectors n stored event answer h new same keeps =
+    subst (λ (x : History). LeavesOnly h x (EventLeaves sectors n stored event answer)) (sym same)
+    (started h (EventLeaves sectors n stored event answer) (λ image may. leaves_stored sectors n stored event answer image (keeps image may)))
