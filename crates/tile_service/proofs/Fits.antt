@@ -8,13 +8,13 @@ use Rattle.sector_disk.specs.Moments.{Follows, LeavesOnly}
 use Rattle.sector_disk.proofs.History.{left_before}
 use Rattle.sector_disk.proofs.Moments.{since_now, only_now, is_later, follows_itself}
 use Rattle.feature_model.specs.Data.{EditData}
-use Rattle.tile_service.specs.Machine.{EventData, edit, tile, look, AnswerData, edited, shown, found, refused}
+use Rattle.tile_service.specs.Machine.{ServiceState, EventData, edit, tile, look, AnswerData, edited, shown, found, refused, Steps}
 use Rattle.tile_service.specs.Runs.{edits_by, acknowledged, reached, IsInDoubt, ImageFits, NoneInDoubt, RunFits}
 use Rattle.tile_service.specs.Service.{EventLeaves, MayStand, stored_after}
 use Rattle.tile_service.specs.Stored.{Stored, Holds, Keeps, with_edit}
 use Rattle.tile_service.specs.declared.fault.ServiceFault.{ServiceFault}
 use Rattle.tile_service.specs.declared.fault.ServiceFault.TheVariants.{Device}
-use Rattle.tile_service.proofs.Runs.{device_or_not, IsQuiet}
+use Rattle.tile_service.proofs.Runs.{device_or_not, device_breaks, broken_stays, IsQuiet}
 
 -- ---- what is stored after some events
 
@@ -123,6 +123,15 @@ module _ (events : List EventData) (answers : List AnswerData) (event : EventDat
         answer_is = sym (below answers (answer ∷ []) doubt.index (edited 0) lt) ∙ doubt.answer_is;
       }))
       (cases_eq doubt.index (length answers))
+
+-- One in doubt says that the service is broken.
+pub doubt_breaks : (events : List EventData) (answers : List AnswerData) (event : EventData) (answer : AnswerData) (old new : ServiceState)
+    → length events ≡ length answers → Steps old event answer new → ((e : EditData) → IsInDoubt events answers e → old.broken ≡ true)
+    → (e : EditData) → IsInDoubt (events ++ event ∷ []) (answers ++ answer ∷ []) e → new.broken ≡ true
+doubt_breaks events answers event answer old new same step before e doubt = ⊎_elim
+    (λ (was : IsInDoubt events answers e). (broken_stays old new event answer step (before e was)).0)
+    (λ (failed : answer ≡ refused Device). device_breaks old new event (subst (λ (a : AnswerData). Steps old event a new) failed step))
+    (doubt_before_or_last events answers event answer same e doubt)
 
 -- ---- images
 
@@ -439,11 +448,27 @@ module _ (sectors n : ℕ) (start : Stored) (events : List EventData) (answers :
         (λ (not : answer ≢ refused Device). latest_image (length answers + 1) image (omega arith) (after not image may))
         (device_or_not answer))
 
-  -- the event by any service
-  pub run_goes_on : (broken : Bool) → (broken ≡ true → IsQuiet event answer × (new ≡ h))
-      → (broken ≡ false → (e : EditData) → IsInDoubt events answers e → ⊥)
-      → (broken ≡ false → LeavesOnly h new (EventLeaves sectors n (reached start events answers) event answer))
-      → (broken ≡ false → answer ≢ refused Device → Keeps sectors n (stored_after (reached start events answers) event answer) new)
-      → RunLeaves sectors n start events' answers' old new
-  run_goes_on true quiet alive call after = run_broken (quiet refl).0 (quiet refl).1
-  run_goes_on false quiet alive call after = run_unbroken (alive refl) (call refl) (after refl)
+-- the event by any service
+pub run_goes_on : (sectors n : ℕ) (start : Stored) (events : List EventData) (answers : List AnswerData) (event : EventData) (answer : AnswerData)
+    (old h new : History) → length events ≡ length answers → RunLeaves sectors n start events answers old h → (broken : Bool)
+    → (broken ≡ true → IsQuiet event answer × (new ≡ h))
+    → (broken ≡ false → (e : EditData) → IsInDoubt events answers e → ⊥)
+    → (broken ≡ false → LeavesOnly h new (EventLeaves sectors n (reached start events answers) event answer))
+    → (broken ≡ false → answer ≢ refused Device → Keeps sectors n (stored_after (reached start events answers) event answer) new)
+    → RunLeaves sectors n start (events ++ event ∷ []) (answers ++ answer ∷ []) old new
+run_goes_on sectors n start events answers event answer old h new same so_far true quiet alive call after =
+    run_broken sectors n start events answers event answer old h new same so_far
+    (subst (λ (x : History). Follows h x) (sym (quiet refl).1) (follows_itself h)) (quiet refl).0 (quiet refl).1
+run_goes_on sectors n start events answers event answer old h new same so_far false quiet alive call after =
+    run_unbroken sectors n start events answers event answer old h new same so_far (call refl).follows (alive refl) (call refl) (after refl)
+
+-- the same events and answers, told otherwise
+pub told_as : (P : List EventData → List AnswerData → Type 0) {events events' : List EventData} {answers answers' : List AnswerData}
+    → events' ≡ events → answers' ≡ answers → P events answers → P events' answers'
+told_as P {events} {events'} {answers} {answers'} same_events same_answers holds =
+    subst (λ (x : List EventData). P x answers') (sym same_events) (subst (λ (x : List AnswerData). P events x) (sym same_answers) holds)
+
+-- the same sizes, told otherwise
+pub sized_as : (P : ℕ → ℕ → Type 0) {sectors sectors' n n' : ℕ} → sectors' ≡ sectors → n' ≡ n → P sectors' n' → P sectors n
+sized_as P {sectors} {sectors'} {n} {n'} same_sectors same_n holds =
+    subst (λ (x : ℕ). P x n) same_sectors (subst (λ (x : ℕ). P sectors' x) same_n holds)

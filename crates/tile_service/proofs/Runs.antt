@@ -6,11 +6,15 @@ use Rattle.sector_disk.specs.Disk.{History, Image}
 use Rattle.sector_disk.specs.Moments.{LeavesOnly}
 use Rattle.sector_disk.proofs.History.{started}
 use Rattle.feature_model.specs.Data.{EditData, put, delete}
-use Rattle.tile_service.specs.Machine.{ServiceState, EventData, edit, tile, look, AnswerData, edited, shown, found, refused, RefusesEdit, Steps, Runs}
+use Rattle.tile_service.specs.Machine.{ArchiveState, ServiceState, EventData, edit, tile, look, AnswerData, edited, shown, found, refused, RefusesEdit, Steps, Runs}
 use Rattle.tile_service.specs.Service.{edit_answer, EventLeaves, stored_after}
 use Rattle.tile_service.specs.Stored.{Stored, Holds, Keeps, with_edit}
 use Rattle.tile_service.specs.declared.fault.ServiceFault.{ServiceFault}
 use Rattle.tile_service.specs.declared.fault.ServiceFault.TheVariants.{Broken, Limit, NotFound, NumbersSpent, Memory, JournalFull, Device}
+
+-- any archive: no event of a run changes it
+abbrev pub no_archive : ArchiveState
+no_archive = record { bytes = []; features = [] }
 
 -- ---- whether an answer is that the disk failed
 
@@ -113,6 +117,18 @@ broken_stays old new (look id) (shown content) step broken = absurd step
 broken_stays old new (look id) (found f) step broken = (still_broken old new step.1 broken, quiet (look id) (found f) refl (λ stored. refl))
 broken_stays old new (look id) (refused fault) step broken =
     (still_broken old new step.1 broken, quiet_fault (look id) fault Memory step.0 refl (λ stored. refl))
+
+is_false : (b : Bool) → (b ≡ true → ⊥) → b ≡ false
+is_false true not = absurd (not refl)
+is_false false not = refl
+
+-- One that isn't broken after a step wasn't before, and the disk didn't fail.
+pub was_unbroken : (old new : ServiceState) (event : EventData) (answer : AnswerData) → Steps old event answer new → new.broken ≡ false
+    → (old.broken ≡ false) × (answer ≢ refused Device)
+was_unbroken old new event answer step unbroken = (
+  is_false old.broken (λ broken. clash new.broken unbroken (broken_stays old new event answer step broken).0),
+  λ failed. clash new.broken unbroken (device_breaks old new event (subst (λ (a : AnswerData). Steps old event a new) failed step)),
+)
 
 -- ---- a run
 

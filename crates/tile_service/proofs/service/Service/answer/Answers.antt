@@ -1,14 +1,10 @@
-use Rattle.std.proofs.Common.{◌≡◌, [], Ok, refl, sym, ap, subst}
+use Rattle.std.proofs.Common.{◌≡◌, Ok, refl, sym, ap, subst}
 use Rattle.feature_model.specs.Data.{put, delete, feature_data}
 use Rattle.tile_service.specs.Events.{event_data}
-use Rattle.tile_service.specs.Machine.{ArchiveState, EventData, refused, Steps}
+use Rattle.tile_service.specs.Machine.{EventData, refused, Steps}
 use Rattle.tile_service.specs.Service.{IsUp, state_of, tile_answer}
-use Rattle.tile_service.proofs.Runs.{broken_refuses, after_answer, writes_nothing}
+use Rattle.tile_service.proofs.Runs.{no_archive, broken_refuses, after_answer, writes_nothing}
 use Rattle.tile_service.proofs.service.Service.answer.Goals as goal
-
--- any archive
-abbrev no_archive : ArchiveState
-no_archive = record { bytes = []; features = [] }
 
 pub returns-in-Put-clause-untouched : goal.returns-in-Put-clause-untouched
 returns-in-Put-clause-untouched g c = broken_refuses _ _ _ c.put.result (c.put.ensures.machine no_archive) c.put.ensures.untouched
