@@ -20,7 +20,7 @@ loop-event-init g c = let none = c.in-Ok.ensures.items in record {
   is_finite = tt;
   items = c.into_iter-event-iterator.ensures.into_iter_gives.0;
   left = search;
-  capacity = search;
+  capacity = let counted : vec_len c.args.events ≡ length c.args.events.items = search in omega (arith, c.in-Ok.ensures.capacity, c.len.ensures, counted);
   len = c.in-Ok.ensures.len;
   same = sym (ap (λ l. length (map answer_data l)) none);
   size = refl;
@@ -67,19 +67,19 @@ loop-event-preserved g c =
       size = call.size ∙ inv.size;
       count = call.count ∙ inv.count;
       honest = λ honest. inv.honest (call.honest honest);
-      machine = λ archive. told_as (λ es as. Runs (state_of archive c.args.self.now) es as (state_of archive c.answer-answer.new.self)) events_are answers_are
+      machine = λ archive. told_as (λ asked given. Runs (state_of archive c.args.self.now) asked given (state_of archive c.answer-answer.new.self)) events_are answers_are
           (runs_on _ _ _ events answers _ _ (inv.machine archive) (call.machine archive));
-      doubt = told_as (λ es as. (e : EditData) → IsInDoubt es as e → c.answer-answer.new.self.broken ≡ true) events_are answers_are
+      doubt = told_as (λ asked given. (e : EditData) → IsInDoubt asked given e → c.answer-answer.new.self.broken ≡ true) events_are answers_are
           (doubt_breaks events answers _ _ _ _ inv.same step inv.doubt);
       up = λ stored honest up unbroken.
           let was = was_unbroken _ _ _ _ step unbroken in
-          told_as (λ es as. IsUp (g.D.Sectors.sectors c.answer-answer.new.self.disk) after (reached stored es as) c.answer-answer.new.self) events_are answers_are
+          told_as (λ asked given. IsUp (g.D.Sectors.sectors c.answer-answer.new.self.disk) after (reached stored asked given) c.answer-answer.new.self) events_are answers_are
           (subst (λ (s : Stored). IsUp (g.D.Sectors.sectors c.answer-answer.new.self.disk) after s c.answer-answer.new.self)
           (sym (reached_on stored events answers (event_data event) (answer_data answer) inv.same))
           (call.after (reached stored events answers) honest (inv.up stored (call.honest honest) up was.0) was.1));
       leaves = λ stored honest up.
           let here = inv.up stored (call.honest honest) up in
-          told_as (λ es as. RunLeaves sectors size stored es as first after) events_are answers_are
+          told_as (λ asked given. RunLeaves sectors size stored asked given first after) events_are answers_are
           (run_goes_on sectors size stored events answers (event_data event) (answer_data answer) first before after inv.same
           (inv.leaves stored (call.honest honest) up) c.loop-event.self.broken
           (λ broken. ((broken_stays _ _ _ _ step broken).1, ap (λ d. g.D.Sectors.history d) (call.untouched broken)))
