@@ -34,7 +34,8 @@ stored_by stored (tile z x y) answer = no_edits stored
 stored_by stored (look id) answer = no_edits stored
 
 -- what is stored are the edits before the run and the acknowledged ones
-reached_is : (start : Stored) (events : List EventData) (answers : List AnswerData) → reached start events answers ≡ with_edits start (acknowledged events answers)
+reached_is : (start : Stored) (events : List EventData) (answers : List AnswerData)
+    → reached start events answers ≡ with_edits start (acknowledged events answers)
 reached_is start [] answers = no_edits start
 reached_is start (event ∷ events) [] = no_edits start
 reached_is start (event ∷ events) (answer ∷ answers) =
@@ -57,9 +58,11 @@ split_at : (events : List EventData) (answers : List AnswerData) (i : ℕ)
 split_at events answers zero = (acknowledged events answers, refl)
 split_at [] answers (suc i) = ([], refl)
 split_at (event ∷ events) [] (suc i) = ([], refl)
-split_at (event ∷ events) (answer ∷ answers) (suc i) = let more = split_at events answers i in
-    (more.0, ap (λ (l : List EditData). edits_by event answer ++ l) more.1
-    ∙ sym (append_assoc (edits_by event answer) (acknowledged (take i events) (take i answers)) more.0))
+split_at (event ∷ events) (answer ∷ answers) (suc i) = let more = split_at events answers i in (
+  more.0,
+  ap (λ (l : List EditData). edits_by event answer ++ l) more.1
+      ∙ sym (append_assoc (edits_by event answer) (acknowledged (take i events) (take i answers)) more.0),
+)
 
 -- there are no fewer of more events
 more_of_more : (events : List EventData) (answers : List AnswerData) (k i : ℕ) → k ≤ i
@@ -69,8 +72,12 @@ more_of_more events answers (suc k) zero le = absurd (omega (arith, le))
 more_of_more [] answers (suc k) (suc i) le = omega arith
 more_of_more (event ∷ events) [] (suc k) (suc i) le = omega arith
 more_of_more (event ∷ events) (answer ∷ answers) (suc k) (suc i) le = let rest = more_of_more events answers k i (omega (arith, le)) in
-    omega (arith, rest, length-append (edits_by event answer) (acknowledged (take k events) (take k answers)),
-    length-append (edits_by event answer) (acknowledged (take i events) (take i answers)))
+    omega (
+      arith,
+      rest,
+      length-append (edits_by event answer) (acknowledged (take k events) (take k answers)),
+      length-append (edits_by event answer) (acknowledged (take i events) (take i answers)),
+    )
 
 -- ---- an edit in doubt
 
@@ -114,7 +121,8 @@ module _ (events : List EventData) (answers : List AnswerData) (event : EventDat
       → IsInDoubt events answers e ⊎ (answer ≡ refused Device)
   doubt_before_or_last e doubt = ⊎_elim
       (λ (last : doubt.index ≡ length answers). inr (sym (last_is answers answer (edited 0) doubt.index last) ∙ doubt.answer_is))
-      (λ (sooner : doubt.index ≡ length answers → ⊥). let lt : doubt.index < length answers = omega (arith, sooner, doubt.in_answers, one_more answers answer) in
+      (λ (sooner : doubt.index ≡ length answers → ⊥).
+      let lt : doubt.index < length answers = omega (arith, sooner, doubt.in_answers, one_more answers answer) in
       let lt' : doubt.index < length events = omega (arith, lt, same) in inl (record {
         index = doubt.index;
         in_events = lt';
@@ -168,9 +176,14 @@ image_fits sectors n start events answers k image same le (inl w) =
       within = omega (arith, ap length whole, length-append (start.since ++ first) more.0);
       acknowledged_by = omega (arith, length-append start.since first, more_of_more events answers k i w.1);
       published = refl;
-      fits = (start.generation, start.journal_at, start.archive, subst (λ (s : Stored). Holds sectors n s image)
-          (as_fits start edits (length (start.since ++ first)) (reached start (take i events) (take i answers))
-          (reached_is start (take i events) (take i answers) ∙ ap (λ (l : List EditData). record start { since = l }) (sym taken))) w.3);
+      fits = (
+        start.generation,
+        start.journal_at,
+        start.archive,
+        subst (λ (s : Stored). Holds sectors n s image)
+            (as_fits start edits (length (start.since ++ first)) (reached start (take i events) (take i answers))
+            (reached_is start (take i events) (take i answers) ∙ ap (λ (l : List EditData). record start { since = l }) (sym taken))) w.3,
+      );
     }
 image_fits sectors n start events answers k image same le (inr w) =
     let before = start.since ++ acknowledged events answers in
@@ -186,10 +199,15 @@ image_fits sectors n start events answers k image same le (inr w) =
       within = omega arith;
       acknowledged_by = omega (arith, lengths, length-append start.since (acknowledged events answers), one_more before w.0);
       published = refl;
-      fits = (start.generation, start.journal_at, start.archive, subst (λ (s : Stored). Holds sectors n s image)
-          (as_fits start edits (length edits) (with_edit (reached start events answers) w.0)
-          (ap (λ (s : Stored). with_edit s w.0) (reached_is start events answers)
-          ∙ ap (λ (l : List EditData). record start { since = l }) (sym (take_all (length edits) edits (omega arith))))) w.2);
+      fits = (
+        start.generation,
+        start.journal_at,
+        start.archive,
+        subst (λ (s : Stored). Holds sectors n s image)
+            (as_fits start edits (length edits) (with_edit (reached start events answers) w.0)
+            (ap (λ (s : Stored). with_edit s w.0) (reached_is start events answers)
+            ∙ ap (λ (l : List EditData). record start { since = l }) (sym (take_all (length edits) edits (omega arith))))) w.2,
+      );
     }
 
 -- What a run leaves of a disk, so far.
@@ -247,7 +265,8 @@ by_next_before by done new k apart = grind (arith, nat_tests)
 
 -- a history at which some events had returned, when none was in doubt
 abbrev Settled : (sectors n : ℕ) → Stored → List EventData → List AnswerData → History → Type 0
-Settled sectors n start events answers h = NoneInDoubt events answers → (image : Image) → MayLeave h image → Holds sectors n (reached start events answers) image
+Settled sectors n start events answers h =
+    NoneInDoubt events answers → (image : Image) → MayLeave h image → Holds sectors n (reached start events answers) image
 
 settled_as : (sectors n : ℕ) (start : Stored) {events events' : List EventData} {answers answers' : List AnswerData} {h h' : History}
     → events' ≡ events → answers' ≡ answers → h' ≡ h → Settled sectors n start events answers h → Settled sectors n start events' answers' h'
@@ -334,14 +353,16 @@ module _ (sectors n : ℕ) (start : Stored) (events : List EventData) (answers :
   settled_now image (inl w) none = holds_as sectors n start image (sym (all_events w.0 w.1)) (sym (all_answers w.0 w.1)) w.3
   settled_now image (inr w) none = absurd (none w.0 w.1)
 
-  run_step : ((k : ℕ) → k ≤ length answers → (image : Image) → LeftSince new (moment (so_far.by k)) image → RunImage sectors n start events' answers' k image)
+  run_step : ((k : ℕ) → k ≤ length answers → (image : Image) → LeftSince new (moment (so_far.by k)) image
+      → RunImage sectors n start events' answers' k image)
       → ((image : Image) → MayLeave new image → RunImage sectors n start events' answers' (length answers + 1) image)
       → RunLeaves sectors n start events' answers' old new
   run_step past now = record {
     by = next_by;
     begins = by_before 0 (omega arith) ∙ so_far.begins;
     goes_on = λ k lt. ⊎_elim
-        (λ (last : k ≡ length answers). subst (λ (x : History). Follows x (next_by (suc k))) (sym (by_before k (omega (arith, last)) ∙ ap so_far.by last ∙ so_far.ends))
+        (λ (last : k ≡ length answers). subst (λ (x : History). Follows x (next_by (suc k)))
+        (sym (by_before k (omega (arith, last)) ∙ ap so_far.by last ∙ so_far.ends))
         (subst (λ (x : History). Follows h x) (sym (by_now (suc k) (omega (arith, last)))) follows))
         (λ (sooner : k ≡ length answers → ⊥). let lt' : k < length answers = omega (arith, sooner, lt, longer) in
         subst (λ (x : History). Follows x (next_by (suc k))) (sym (by_before k (omega (arith, lt'))))
@@ -354,7 +375,8 @@ module _ (sectors n : ℕ) (start : Stored) (events : List EventData) (answers :
         omega (arith, ap (λ (x : History). moment x) (by_before k le'), so_far.earlier k le', later))
         (cases_eq k (length answers + 1));
     settled = λ k le. ⊎_elim
-        (λ (last : k ≡ length answers + 1). settled_as sectors n start (all_events k (omega (arith, last))) (all_answers k (omega (arith, last))) (by_now k last)
+        (λ (last : k ≡ length answers + 1). settled_as sectors n start
+        (all_events k (omega (arith, last))) (all_answers k (omega (arith, last))) (by_now k last)
         (λ none image may. settled_now image (now image may) none))
         (λ (sooner : k ≡ length answers + 1 → ⊥). let le' : k ≤ length answers = omega (arith, sooner, le, longer) in
         settled_as sectors n start (first_events k le') (first_answers k le') (by_before k le') (so_far.settled k le'))
@@ -370,29 +392,39 @@ module _ (sectors n : ℕ) (start : Stored) (events : List EventData) (answers :
   -- what was reached earlier, and what is reached now
   earlier_image : (k i : ℕ) (image : Image) → k ≤ i → i ≤ length answers → Holds sectors n (reached start (take i events) (take i answers)) image
       → RunImage sectors n start events' answers' k image
-  earlier_image k i image le le' holds = inl (i, le, omega (arith, longer, le'), holds_as sectors n start image (first_events i le') (first_answers i le') holds)
+  earlier_image k i image le le' holds =
+      inl (i, le, omega (arith, longer, le'), holds_as sectors n start image (first_events i le') (first_answers i le') holds)
 
-  this_image : (k : ℕ) (image : Image) → k ≤ length answers → Holds sectors n (reached start events answers) image → RunImage sectors n start events' answers' k image
+  this_image : (k : ℕ) (image : Image) → k ≤ length answers → Holds sectors n (reached start events answers) image
+      → RunImage sectors n start events' answers' k image
   this_image k image le holds = earlier_image k (length answers) image le (omega arith)
       (holds_as sectors n start image (take_all (length answers) events (omega (arith, same))) (take_all (length answers) answers (omega arith)) holds)
 
   latest_image : (k : ℕ) (image : Image) → k ≤ length answers + 1 → Holds sectors n (stored_after (reached start events answers) event answer) image
       → RunImage sectors n start events' answers' k image
-  latest_image k image le holds = inl (length answers + 1, le, omega (arith, longer),
-      holds_as sectors n start image (all_events (length answers + 1) (omega arith)) (all_answers (length answers + 1) (omega arith))
-      (subst (λ (s : Stored). Holds sectors n s image) (sym reached_now) holds))
+  latest_image k image le holds = inl (
+    length answers + 1,
+    le,
+    omega (arith, longer),
+    holds_as sectors n start image (all_events (length answers + 1) (omega arith)) (all_answers (length answers + 1) (omega arith))
+        (subst (λ (s : Stored). Holds sectors n s image) (sym reached_now) holds),
+  )
 
-  doubt_image : (k : ℕ) (image : Image) (e : EditData) → IsInDoubt events' answers' e → stored_after (reached start events answers) event answer ≡ reached start events answers
+  doubt_image : (k : ℕ) (image : Image) (e : EditData) → IsInDoubt events' answers' e
+      → stored_after (reached start events answers) event answer ≡ reached start events answers
       → Holds sectors n (with_edit (reached start events answers) e) image → RunImage sectors n start events' answers' k image
-  doubt_image k image e doubt nothing holds = inr (e, doubt, subst (λ (s : Stored). Holds sectors n (with_edit s e) image) (sym (reached_now ∙ nothing)) holds)
+  doubt_image k image e doubt nothing holds =
+      inr (e, doubt, subst (λ (s : Stored). Holds sectors n (with_edit s e) image) (sym (reached_now ∙ nothing)) holds)
 
   -- a broken service stores nothing
   module _ (quiet : IsQuiet event answer) (unchanged : new ≡ h) where
     more : (k : ℕ) (image : Image) → RunImage sectors n start events answers k image → RunImage sectors n start events' answers' k image
     more k image (inl w) = earlier_image k w.0 image w.1 w.2 w.3
-    more k image (inr w) = doubt_image k image w.0 (doubt_stays events answers event answer same w.0 w.1) (quiet.stores_nothing (reached start events answers)) w.2
+    more k image (inr w) = doubt_image k image w.0 (doubt_stays events answers event answer same w.0 w.1)
+        (quiet.stores_nothing (reached start events answers)) w.2
 
-    at_end : (image : Image) → RunImage sectors n start events answers (length answers) image → RunImage sectors n start events' answers' (length answers + 1) image
+    at_end : (image : Image) → RunImage sectors n start events answers (length answers) image
+        → RunImage sectors n start events' answers' (length answers + 1) image
     at_end image (inl w) = latest_image (length answers + 1) image (omega arith)
         (subst (λ (s : Stored). Holds sectors n s image) (sym (quiet.stores_nothing (reached start events answers))) (were_all w.0 image w.1 w.3))
     at_end image (inr w) = doubt_image (length answers + 1) image w.0 (doubt_stays events answers event answer same w.0 w.1)

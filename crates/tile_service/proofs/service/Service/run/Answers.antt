@@ -43,7 +43,8 @@ loop-event-preserved g c =
     let answer = c.answer-answer.result in
     let events : List EventData = map event_data yielded in
     let answers : List AnswerData = map answer_data given in
-    let pushed : c.push.new.self.items ≡ given ++ answer ∷ [] = c.push.ensures.items ∙ ap (λ r. if is_ok r then given ++ answer ∷ [] else given) c.unwrap.ensures in
+    let pushed : c.push.new.self.items ≡ given ++ answer ∷ [] =
+    c.push.ensures.items ∙ ap (λ r. if is_ok r then given ++ answer ∷ [] else given) c.unwrap.ensures in
     let events_are : map event_data (yielded ++ event ∷ []) ≡ events ++ event_data event ∷ [] = map-append event_data yielded (event ∷ []) in
     let answers_are : map answer_data c.push.new.self.items ≡ answers ++ answer_data answer ∷ [] =
     ap (λ l. map answer_data l) pushed ∙ map-append answer_data given (answer ∷ []) in
@@ -53,7 +54,8 @@ loop-event-preserved g c =
     let size = c.args.self.now.size in
     let first = g.D.Sectors.history c.args.self.now.disk in
     let before = g.D.Sectors.history c.loop-event.self.disk in
-    let after = g.D.Sectors.history c.answer-answer.new.self.disk in
+    let new = c.answer-answer.new.self in
+    let after = g.D.Sectors.history new.disk in
     record {
       can_next = tt;
       is_finite = tt;
@@ -67,24 +69,26 @@ loop-event-preserved g c =
       size = call.size ∙ inv.size;
       count = call.count ∙ inv.count;
       honest = λ honest. inv.honest (call.honest honest);
-      machine = λ archive. told_as (λ asked given. Runs (state_of archive c.args.self.now) asked given (state_of archive c.answer-answer.new.self)) events_are answers_are
+      machine = λ archive.
+          told_as (λ asked told. Runs (state_of archive c.args.self.now) asked told (state_of archive new)) events_are answers_are
           (runs_on _ _ _ events answers _ _ (inv.machine archive) (call.machine archive));
-      doubt = told_as (λ asked given. (e : EditData) → IsInDoubt asked given e → c.answer-answer.new.self.broken ≡ true) events_are answers_are
+      doubt = told_as (λ asked told. (e : EditData) → IsInDoubt asked told e → new.broken ≡ true) events_are answers_are
           (doubt_breaks events answers _ _ _ _ inv.same step inv.doubt);
       up = λ stored honest up unbroken.
           let was = was_unbroken _ _ _ _ step unbroken in
-          told_as (λ asked given. IsUp (g.D.Sectors.sectors c.answer-answer.new.self.disk) after (reached stored asked given) c.answer-answer.new.self) events_are answers_are
-          (subst (λ (s : Stored). IsUp (g.D.Sectors.sectors c.answer-answer.new.self.disk) after s c.answer-answer.new.self)
+          told_as (λ asked told. IsUp (g.D.Sectors.sectors new.disk) after (reached stored asked told) new) events_are answers_are
+          (subst (λ (s : Stored). IsUp (g.D.Sectors.sectors new.disk) after s new)
           (sym (reached_on stored events answers (event_data event) (answer_data answer) inv.same))
           (call.after (reached stored events answers) honest (inv.up stored (call.honest honest) up was.0) was.1));
       leaves = λ stored honest up.
           let here = inv.up stored (call.honest honest) up in
-          told_as (λ asked given. RunLeaves sectors size stored asked given first after) events_are answers_are
+          told_as (λ asked told. RunLeaves sectors size stored asked told first after) events_are answers_are
           (run_goes_on sectors size stored events answers (event_data event) (answer_data answer) first before after inv.same
           (inv.leaves stored (call.honest honest) up) c.loop-event.self.broken
           (λ broken. ((broken_stays _ _ _ _ step broken).1, ap (λ d. g.D.Sectors.history d) (call.untouched broken)))
           (λ unbroken e doubt. false≢true (sym unbroken ∙ inv.doubt e doubt))
-          (λ unbroken. sized_as (λ count n. LeavesOnly before after (EventLeaves count n (reached stored events answers) (event_data event) (answer_data answer)))
+          (λ unbroken. sized_as
+          (λ count n. LeavesOnly before after (EventLeaves count n (reached stored events answers) (event_data event) (answer_data answer)))
           inv.count inv.size (call.any_moment (reached stored events answers) honest (here unbroken)))
           (λ unbroken fine. sized_as (λ count n. Keeps count n (stored_after (reached stored events answers) (event_data event) (answer_data answer)) after)
           (call.count ∙ inv.count) (call.size ∙ inv.size) (call.after (reached stored events answers) honest (here unbroken) fine).keeps));
