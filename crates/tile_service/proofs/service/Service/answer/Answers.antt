@@ -1,4 +1,4 @@
-use Rattle.std.proofs.Common.{◌≡◌, Ok, refl, sym, ap, subst}
+use Rattle.std.proofs.Common.{Ok, refl, sym, ap, subst}
 use Rattle.feature_model.specs.Data.{put, delete, feature_data}
 use Rattle.tile_service.specs.Events.{event_data}
 use Rattle.tile_service.specs.Machine.{EventData, refused, Steps}

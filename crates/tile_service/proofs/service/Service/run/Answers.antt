@@ -1,4 +1,4 @@
-use Rattle.std.proofs.Common.{◌≡◌, ℕ, ◌+◌, List, [], ◌∷◌, ◌++◌, length, map, true, false, is_ok, if◌then◌else◌, refl, sym, ◌∙◌, ap, subst, arith, append_assoc, length-append}
+use Rattle.std.proofs.Common.{◌≡◌, ℕ, ◌+◌, List, [], ◌∷◌, ◌++◌, length, map, true, is_ok, if◌then◌else◌, refl, sym, ◌∙◌, ap, subst, arith, append_assoc, length-append}
 use Rattle.std.proofs.lemmas.Bool.{false≢true}
 use Rattle.std.proofs.lemmas.List.{map-append, append-nil}
 use Rattle.std.specs.Vec.{vec_len}
@@ -6,7 +6,7 @@ use Rattle.std.specs.Vec.Iter.{into_iter_items}
 use Rattle.feature_model.specs.Data.{EditData}
 use Rattle.sector_disk.specs.Moments.{LeavesOnly}
 use Rattle.tile_service.specs.Events.{event_data, answer_data}
-use Rattle.tile_service.specs.Machine.{ArchiveState, EventData, AnswerData, Runs}
+use Rattle.tile_service.specs.Machine.{EventData, AnswerData, Runs}
 use Rattle.tile_service.specs.Runs.{reached, IsInDoubt, RunFits}
 use Rattle.tile_service.specs.Service.{IsUp, EventLeaves, state_of, stored_after}
 use Rattle.tile_service.specs.Stored.{Stored, Keeps}
