@@ -1,7 +1,8 @@
 -- A disk is formatted in four parts, each of which outlives a crash before the next begins.
-use Rattle.std.proofs.Common.{◌≡◌, ◌⊎◌, inl, inr, ⊎_elim, ℕ, ◌≤◌, ◌<◌, ◌+◌, List, slice_index, take, refl, sym, ◌∙◌, ap, subst, arith, Result}
+use Rattle.std.proofs.Common.{◌≡◌, ◌⊎◌, inl, inr, ⊎_elim, ℕ, ◌≤◌, ◌<◌, ◌+◌, List, slice_index, take, refl, sym, ◌∙◌, ap, subst, arith}
+use Rattle.std.proofs.Common.{rules, Result, Ok, Err, OnErr}
 use Rattle.std.proofs.lemmas.Bool.{cases_eq}
-use Rattle.sector_disk.specs.Disk.{History, Image, seen, MayHold, MayLeave, Writes, Syncs}
+use Rattle.sector_disk.specs.Disk.{History, Image, seen, MayHold, MayLeave, Writes, Syncs, CountsFault, HasFailed}
 use Rattle.sector_disk.specs.Disk.History.{wrote, synced}
 use Rattle.sector_disk.specs.Moments.{Within, LeavesOnly}
 use Rattle.sector_disk.specs.declared.disk.DiskFault.{DiskFault}
@@ -33,6 +34,18 @@ module _ (start : History) (at : ℕ) (bytes : List ℕ) (result : Result (Unit 
       (fits_image new (IsOldOr start at bytes) OldOr
       (sync_within written new (IsOldOr start at bytes) (any_sync told written new syncs) wrote_within) (λ image fits. fits))
 
+-- a read leaves what there was
+pub read_leaves : (start read : History) (at : ℕ) (bytes : List ℕ) → read ≡ start
+    → LeavesOnly start read (λ image. (index : ℕ) → IsOldOr start at bytes index (image index))
+read_leaves start read at bytes same = subst (λ (h : History). LeavesOnly start h (λ image. (index : ℕ) → IsOldOr start at bytes index (image index)))
+    (sym same) (started start _ (λ image may index. inl (may index)))
+
+-- a call that is reported as failed has been counted
+pub failed_call : (result : Result (Unit {0}) DiskFault) (start old new : ℕ) → old ≡ start → CountsFault result old new
+    → OnErr result (HasFailed start new)
+failed_call (Ok done) start old new same counts = tt
+failed_call (Err fault) start old new same counts = search (rules, same, counts)
+
 -- ---- zeros in each sector
 
 module _ (start : History) where
@@ -43,14 +56,20 @@ module _ (start : History) where
   pub emptied_start : LeavesOnly start start Emptied
   emptied_start = started start Emptied (λ image may index. inl (may index))
 
-  module _ (at : ℕ) (pos : 0 < at) (result : Result (Unit {0}) DiskFault) (old new : History) (writes : Writes result at zeros old new)
-      (was : Within old (IsOldOrEmpty start)) where
-    pub empty_within : Within new (IsOldOrEmpty start)
-    empty_within = write_within at zeros old new (IsOldOrEmpty start) (any_write result at zeros old new writes) was (inr (pos, refl))
+  module _ (at : ℕ) (pos : 0 < at) (old new : History) (was : Within old (IsOldOrEmpty start)) where
+    -- what a sector has while one more is emptied
+    empty_fits : (index : ℕ) (left : List ℕ) → IsOldOr old at zeros index left → IsOldOrEmpty start index left
+    empty_fits index left fits = ⊎_elim (λ (may : MayHold old index left). was index left may)
+        (λ (w : (index ≡ at) × (left ≡ zeros)). inr (subst (λ (k : ℕ). 0 < k) (sym w.0) pos, w.1))
+        fits
 
-    pub empty_leaves : LeavesOnly start old Emptied → LeavesOnly start new Emptied
-    empty_leaves so_far = write_leaves start old new at zeros Emptied (any_write result at zeros old new writes) so_far
-        (fits_image new (IsOldOrEmpty start) Emptied empty_within (λ image fits. fits))
+    pub empty_within : Within new (IsOldOr old at zeros) → Within new (IsOldOrEmpty start)
+    empty_within step index left may = empty_fits index left (step index left may)
+
+    pub empty_leaves : LeavesOnly old new (λ image. (index : ℕ) → IsOldOr old at zeros index (image index))
+        → LeavesOnly start old Emptied → LeavesOnly start new Emptied
+    empty_leaves step so_far = then_leaves start old new Emptied so_far
+        (weaken old new _ Emptied step (λ image fits index. empty_fits index (image index) (fits index)))
 
   module _ (result : Result (Unit {0}) DiskFault) (old new : History) (syncs : Syncs result old new) (was : Within old (IsOldOrEmpty start)) where
     pub cleared_within : Within new (IsOldOrEmpty start)
@@ -60,12 +79,12 @@ module _ (start : History) where
     cleared_leaves so_far = sync_leaves start old new Emptied (any_sync result old new syncs) so_far
         (fits_image new (IsOldOrEmpty start) Emptied cleared_within (λ image fits. fits))
 
--- a read gives zeros below this sector, and after its write there too
-pub empty_seen : (at : ℕ) (old new : History) → new ≡ wrote at zeros old → ((k : ℕ) → 0 < k → k < at → seen old k ≡ zeros)
-    → (k : ℕ) → 0 < k → k < at + 1 → seen new k ≡ zeros
-empty_seen at old new is so_far k pos lt = ap (λ (h : History). seen h k) is ∙ ⊎_elim
-    (λ (same : k ≡ at). seen_same at zeros old k same)
-    (λ (apart : k ≡ at → ⊥). seen_other at zeros old k apart ∙ so_far k pos (omega arith))
+-- a read gives zeros below this sector, and once it is emptied there too
+pub empty_seen : (at : ℕ) (old new : History) → seen new at ≡ zeros → ((k : ℕ) → (k ≡ at → ⊥) → seen new k ≡ seen old k)
+    → ((k : ℕ) → 0 < k → k < at → seen old k ≡ zeros) → (k : ℕ) → 0 < k → k < at + 1 → seen new k ≡ zeros
+empty_seen at old new here others so_far k pos lt = ⊎_elim
+    (λ (same : k ≡ at). ap (λ (p : ℕ). seen new p) same ∙ here)
+    (λ (apart : k ≡ at → ⊥). others k apart ∙ so_far k pos (omega arith))
     (cases_eq k at)
 
 -- what a read gives after a sync is what a crash leaves

@@ -44,6 +44,29 @@ fn write_and_sync<D: Sectors>(disk: &mut D, at: u64, sector: &[u8; 512]) -> Resu
     Ok(())
 }
 
+// Zeros in a sector, written only where a read gives something else.
+fn empty_sector<D: Sectors>(disk: &mut D, at: u64) -> Result<(), DiskFault>
+    requires { at < D.sectors disk.old }
+    ensures count { D.sectors disk.new ≡ D.sectors disk.old }
+    ensures honest { D.honest disk.new → D.honest disk.old }
+    ensures faults { OnOk result (D.faults disk.new ≡ D.faults disk.old) }
+    ensures failed { OnErr result (HasFailed (D.faults disk.old) (D.faults disk.new)) }
+    ensures leaves { D.honest disk.new → LeavesOnly (D.history disk.old) (D.history disk.new)
+        (λ image. (index : ℕ) → IsOldOr (D.history disk.old) at zeros index (image index)) }
+    ensures within { D.honest disk.new → Within (D.history disk.new) (IsOldOr (D.history disk.old) at zeros) }
+    ensures empty { D.honest disk.new → OnOk result (seen (D.history disk.new) at ≡ zeros) }
+    ensures others { D.honest disk.new
+        → (index : ℕ) → (index ≡ at → ⊥) → seen (D.history disk.new) index ≡ seen (D.history disk.old) index }
+    ensures spared { D.honest disk.new → seen (D.history disk.old) at ≡ zeros → D.history disk.new ≡ D.history disk.old }
+{
+    let mut sector = [0; 512];
+    disk.read(at, &mut sector)?;
+    if sector == EMPTY {
+        return Ok(());
+    }
+    disk.write(at, &EMPTY)
+}
+
 // Zeros in each sector from the second one to the one before the end.
 fn write_zeros<D: Sectors>(disk: &mut D, end: u64) -> Result<(), DiskFault>
     requires { end ≤ D.sectors disk.old }
@@ -57,7 +80,7 @@ fn write_zeros<D: Sectors>(disk: &mut D, end: u64) -> Result<(), DiskFault>
     ensures empty { D.honest disk.new → OnOk result ((at : ℕ) → 0 < at → at < end → seen (D.history disk.new) at ≡ zeros) }
 {
     for at in 1..end {
-        disk.write(at, &EMPTY)?;
+        empty_sector(disk, at)?;
     }
     Ok(())
 }

@@ -7,14 +7,14 @@ use sector_disk::{FailingCalls, FaultyDisk, MemoryDisk, Sectors};
 use std::alloc::{AllocError, Global};
 use std::test::Fail;
 
-/// For each unsynced sector, of which there are up to 18, whether a crash leaves its last write.
-const CHOICES: [[u32; 18]; 6] = [
-    [0; 18],
-    [1; 18],
-    [1, 0, 1, 0, 1, 0, 1, 0, 1, 0, 1, 0, 1, 0, 1, 0, 1, 0],
-    [0, 1, 0, 1, 0, 1, 0, 1, 0, 1, 0, 1, 0, 1, 0, 1, 0, 1],
-    [1, 0, 0, 0, 0, 0, 0, 0, 0, 0, 0, 0, 0, 0, 0, 0, 0, 0],
-    [0, 1, 1, 1, 1, 1, 1, 1, 1, 1, 1, 1, 1, 1, 1, 1, 1, 1],
+/// For each unsynced sector, of which there are up to four, whether a crash leaves its last write.
+const CHOICES: [[u32; 4]; 6] = [
+    [0, 0, 0, 0],
+    [1, 1, 1, 1],
+    [1, 0, 1, 0],
+    [0, 1, 0, 1],
+    [1, 0, 0, 0],
+    [0, 1, 1, 1],
 ];
 
 /// What a crash left: the old disk, one without the mark, or a fresh one.
@@ -73,27 +73,28 @@ fn left_by(mut disk: MemoryDisk) -> Left
     }
 }
 
-/// What a crash leaves after so many calls. Of the calls 1 and 2 are zeros in sector 0 and a sync, 3 to 21 zeros in sectors 1
-/// to 18 and a sync, 22 and 23 the root and a sync, 24 and 25 the format and a sync.
+/// What a crash leaves after so many calls. Of the calls 1 and 2 are zeros in sector 0 and a sync, 3 to 24 reads of sectors 1
+/// to 18, with zeros after those of 1, 2, 3 and 18, 25 is a sync, 26 and 27 the root and a sync, 28 and 29 the format and a
+/// sync.
 fn wanted(calls: u64, first_choice: u32) -> Left {
     match (calls, first_choice) {
         (0, _) | (1, 0) => Left::Old,
-        (24, 1) | (25, _) => Left::Fresh,
+        (28, 1) | (29, _) => Left::Fresh,
         _ => Left::NoMark,
     }
 }
 
 #[test]
 fn crashes_after_each_call(rt: HostRuntime) -> Result<(), Fail> {
-    for passes in 0..26 {
+    for passes in 0..30 {
         let mut disk = FaultyDisk::new(old_disk(rt.alloc())?, FailingCalls::AllFrom(passes + 1));
         let outcome = format(&mut disk);
-        let fault = if passes == 25 {
+        let fault = if passes == 29 {
             None
         } else {
             Some(StoreFault::Device)
         };
-        assert_eq!(rt; (outcome.err(), disk.calls()), (fault, 25.min(passes + 1)));
+        assert_eq!(rt; (outcome.err(), disk.calls()), (fault, 29.min(passes + 1)));
         let disk = disk.into_disk();
         for choice in CHOICES {
             let left = left_by(disk.crash(&choice)?);
@@ -104,6 +105,15 @@ fn crashes_after_each_call(rt: HostRuntime) -> Result<(), Fail> {
             );
         }
     }
+    Ok(())
+}
+
+/// On a disk of zeros the sectors 1 to 18 are read and not written: 25 calls in all, with these 18 reads.
+#[test]
+fn zeros_are_not_written_again(rt: HostRuntime) -> Result<(), Fail> {
+    let mut disk = FaultyDisk::new(MemoryDisk::new(rt.alloc(), 64)?, FailingCalls::AllFrom(26));
+    let outcome = format(&mut disk);
+    assert_eq!(rt; (outcome.err(), disk.calls()), (None, 25));
     Ok(())
 }
 

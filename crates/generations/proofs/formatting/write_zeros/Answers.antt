@@ -12,27 +12,28 @@ loop-at-init g c = record {
   empty = λ honest at pos lt. absurd (omega arith);
 }
 
-pub returns-in_err-write-clause-leaves : goal.returns-in_err-write-clause-leaves
-returns-in_err-write-clause-leaves g c honest =
+pub returns-in_err-empty_sector-clause-leaves : goal.returns-in_err-empty_sector-clause-leaves
+returns-in_err-empty_sector-clause-leaves g c honest =
     let inv = c.loop-at.invariant in
-    let before = c.write.ensures.honest honest in
-    empty_leaves _ c.loop-at.at (omega arith) _ _ _ (c.write.ensures.writes honest) (inv.within before) (inv.leaves before)
+    let before = c.empty_sector.ensures.honest honest in
+    empty_leaves _ c.loop-at.at (omega arith) _ _ (inv.within before) (c.empty_sector.ensures.leaves honest) (inv.leaves before)
 
-pub returns-in_err-write-clause-within : goal.returns-in_err-write-clause-within
-returns-in_err-write-clause-within g c honest =
-    let before = c.write.ensures.honest honest in
-    empty_within _ c.loop-at.at (omega arith) _ _ _ (c.write.ensures.writes honest) (c.loop-at.invariant.within before)
+pub returns-in_err-empty_sector-clause-within : goal.returns-in_err-empty_sector-clause-within
+returns-in_err-empty_sector-clause-within g c honest =
+    let before = c.empty_sector.ensures.honest honest in
+    empty_within _ c.loop-at.at (omega arith) _ _ (c.loop-at.invariant.within before) (c.empty_sector.ensures.within honest)
 
 pub loop-at-preserved : goal.loop-at-preserved
 loop-at-preserved g c =
     let inv = c.loop-at.invariant in
-    let ok = c.in_ok-write.ensures in
+    let ok = c.in_ok-empty_sector.ensures in
     record {
       count = ok.count ∙ inv.count;
       honest = λ honest. inv.honest (ok.honest honest);
       faults = ok.faults ∙ inv.faults;
-      leaves = λ honest. empty_leaves _ c.loop-at.at (omega arith) _ _ _ (c.write.ensures.writes honest)
-          (inv.within (ok.honest honest)) (inv.leaves (ok.honest honest));
-      within = λ honest. empty_within _ c.loop-at.at (omega arith) _ _ _ (c.write.ensures.writes honest) (inv.within (ok.honest honest));
-      empty = λ honest. empty_seen c.loop-at.at _ _ (ok.writes honest) (inv.empty (ok.honest honest));
+      leaves = λ honest. empty_leaves _ c.loop-at.at (omega arith) _ _ (inv.within (ok.honest honest))
+          (ok.leaves honest) (inv.leaves (ok.honest honest));
+      within = λ honest. empty_within _ c.loop-at.at (omega arith) _ _ (inv.within (ok.honest honest)) (ok.within honest);
+      empty = λ honest. empty_seen c.loop-at.at (g.D.Sectors.history c.loop-at.disk) (g.D.Sectors.history c.empty_sector.new.disk)
+          (ok.empty honest) (ok.others honest) (inv.empty (ok.honest honest));
     }
