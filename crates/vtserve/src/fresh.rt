@@ -7,7 +7,7 @@ ghost use Rattle.generations.specs.declared.fault.What.TheVariants.{Size};
 ghost use Rattle.generations.specs.declared.sizes.TheConstants.{LEAST_SECTORS, MOST_SECTORS};
 ghost use Rattle.thin_service.specs.State.{asked_service};
 ghost use Rattle.tile_service.specs.Service.{IsUp};
-ghost use Rattle.tile_service.specs.Stored.{first_state};
+ghost use Rattle.tile_service.specs.Stored.{Keeps, first_state};
 
 use generations::StoreFault;
 use sector_disk::MemoryDisk;
@@ -16,7 +16,13 @@ use thin_service::ThinService;
 use tile_service::Service;
 
 /// A disk in memory that holds the empty map.
-fn fresh_disk(alloc: Global, sectors: u64) -> Result<MemoryDisk, StoreFault> {
+fn fresh_disk(alloc: Global, sectors: u64) -> Result<MemoryDisk, StoreFault>
+    ensures small { sectors < LEAST_SECTORS → result ≡ Err TooSmall }
+    ensures large { MOST_SECTORS < sectors → result ≡ Err (Damaged Size) }
+    ensures only { IsSize sectors → IfErr result (λ fault. fault ≡ Device) }
+    ensures count { IfOk result (λ disk. memory_sectors disk ≡ sectors) }
+    ensures holds { IfOk result (λ disk. Keeps sectors sectors first_state (memory_history disk)) }
+{
     let mut disk = match MemoryDisk::new(alloc, sectors) {
         Ok(disk) => disk,
         Err(AllocError) => return Err(StoreFault::Memory),
@@ -31,7 +37,12 @@ fn fresh_disk(alloc: Global, sectors: u64) -> Result<MemoryDisk, StoreFault> {
 pub(crate) fn fresh_service(
     alloc: Global,
     sectors: u64,
-) -> Result<ThinService<MemoryDisk>, StoreFault> {
+) -> Result<ThinService<MemoryDisk>, StoreFault>
+    ensures small { sectors < LEAST_SECTORS → result ≡ Err TooSmall }
+    ensures large { MOST_SECTORS < sectors → result ≡ Err (Damaged Size) }
+    ensures only { IsSize sectors → IfErr result (λ fault. (fault ≡ Device) ⊎ (fault ≡ Memory)) }
+    ensures ready { IfOk result (λ thin. IsUp sectors (memory_history (asked_service thin).disk) first_state (asked_service thin)) }
+{
     let disk = match fresh_disk(alloc, sectors) {
         Ok(disk) => disk,
         Err(fault) => return Err(fault),

@@ -122,7 +122,9 @@ mod tests {
             (16_777_217, Some("Damaged")),
         ] {
             assert_eq!(rt;
-                fresh_service(rt.alloc(), sectors).err().map(store_fault_name),
+                fresh_service(rt.alloc(), sectors)
+                    .err()
+                    .map(store_fault_name),
                 fault,
                 "{sectors}"
             );
