@@ -1,5 +1,4 @@
 pub mod Bodies
-pub mod Full
 pub mod Requests
 pub mod State
 pub mod Words

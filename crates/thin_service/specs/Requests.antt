@@ -1,32 +1,32 @@
 -- Requests to the service, and their replies.
-use Rattle.std.specs.Prelude.{◌≡◌, ℕ, ◌+◌, ◌-◌, ◌^◌, ◌<◌, ◌≤◌, ◌⊎◌, Bool, nat_eq, List, [], length, codes, None, if◌then◌else◌}
+use Rattle.std.specs.Prelude.{◌≡◌, ◌≢◌, ℕ, ◌⊎◌, Bool, nat_eq, List, Option, Result, codes, if◌then◌else◌}
 use Rattle.std.specs.Cmp.Lexicographic.{pointwise}
 use Rattle.http_serve.specs.Requests.{RequestView}
 use Rattle.http_serve.specs.Reply.{ReplyView}
+use Rattle.sector_disk.specs.Disk.{History}
+use Rattle.sector_disk.specs.Moments.{LeavesOnly}
 use Rattle.tile_routes.specs.declared.target.TileFormat.{TileFormat}
 use Rattle.tile_routes.specs.Paths.{Asked, asked_feature, asked_tile, asked_nothing, asked_by}
-use Rattle.feature_model.specs.Data.{FeatureData}
-use Rattle.feature_store.specs.Store.{FeatureMap, feature_at, with_feature}
-use Rattle.feature_store.specs.Layers.{layers}
-use Rattle.mvt_layer.specs.Tile.{LayerView}
-use Rattle.mvt_layer.specs.Reads.{ReadsAs}
-use Rattle.mvt_write.specs.Written.{written}
+use Rattle.feature_model.specs.Data as edits
+use Rattle.feature_model.specs.Data.{FeatureData, EditData}
+use Rattle.tile_service.specs.Machine as events
+use Rattle.tile_service.specs.Machine.{ArchiveState, AnswerData, shown, refused, Steps}
+use Rattle.tile_service.specs.Service.{ServiceView, IsUp, state_of, edit_answer, EventLeaves, stored_after}
+use Rattle.tile_service.specs.Stored.{Stored}
+use Rattle.tile_service.specs.declared.fault.ServiceFault.{ServiceFault}
+use Rattle.tile_service.specs.declared.fault.ServiceFault.TheVariants.{Device}
 use Rattle.thin_service.specs.declared.fault.RequestFault.{RequestFault}
-use Rattle.thin_service.specs.declared.fault.RequestFault.TheVariants.{NotFound, NumbersSpent, JournalFull, Memory}
-use Rattle.thin_service.specs.Words.{refusal_of, edit_reply, no_tile, tile_reply}
-use Rattle.thin_service.specs.Full.{IsFull}
+use Rattle.thin_service.specs.declared.fault.RequestFault.TheVariants.{NotFound, Memory}
+use Rattle.thin_service.specs.Words.{refusal_of, outcome_reply, content_reply}
 use Rattle.thin_service.specs.Bodies.{SaysFeature, HasBodyFault}
-
--- what a service has: the map, and how many edits were made
-pub record ServiceState : Type 0 where
-  pub features : FeatureMap
-  pub edits : ℕ
 
 -- ---- what is asked
 
 pub data Wanted : Type 0 where
   -- to set the feature of a number
   put : ℕ → Wanted
+  -- to take the feature of a number away
+  delete : ℕ → Wanted
   -- a tile of a zoom, a column and a row
   tile : ℕ → ℕ → ℕ → TileFormat → Wanted
   -- what is not served
@@ -36,7 +36,8 @@ abbrev pub is_method : List ℕ → List ℕ → Bool
 is_method word name = pointwise nat_eq name word
 
 abbrev pub wanted_by : List ℕ → Asked → Wanted
-wanted_by name (asked_feature id) = if is_method (codes "PUT") name then put id else nothing
+wanted_by name (asked_feature id) =
+    if is_method (codes "PUT") name then put id else (if is_method (codes "DELETE") name then delete id else nothing)
 wanted_by name (asked_tile z x y format) = if is_method (codes "GET") name then tile z x y format else nothing
 wanted_by name asked_nothing = nothing
 
@@ -46,54 +47,51 @@ wanted_of request = wanted_by request.method (asked_by request.path)
 
 -- ---- how it is answered
 
--- the map takes no further number
-abbrev pub IsFullFor : ServiceState → ℕ → Type 0
-IsFullFor s id = IsFull s.features id
+-- the machine takes this step, whatever archive lies on the disk
+abbrev pub TakesStep : {D : Type 0} → ServiceView D → events.EventData → AnswerData → ServiceView D → Type 0
+TakesStep old event answer new = (archive : ArchiveState) → Steps (state_of archive old) event answer (state_of archive new)
 
--- the state behind the edit that sets the number's feature
-abbrev pub after_put : ServiceState → ℕ → FeatureData → ServiceState
-after_put s id f = record { features = with_feature s.features id f; edits = s.edits + 1 }
+-- the reply has the content that the machine gives, and nothing changes
+abbrev pub AnswersTile : {D : Type 0} → ServiceView D → ℕ → ℕ → ℕ → TileFormat → ReplyView → ServiceView D → Type 0
+AnswersTile old z x y format reply new =
+    (content : Option (List ℕ)) × TakesStep old (events.tile z x y) (shown content) new × (reply ≡ content_reply format content) × (new ≡ old)
 
--- why no edit is made: the first fault of the body, or of the state
-abbrev pub RefusesPut : ServiceState → ℕ → List ℕ → RequestFault → Type 0
-RefusesPut old id body NumbersSpent = (f : FeatureData) × SaysFeature id body f × (old.edits ≡ 2 ^ 64 - 1)
-RefusesPut old id body JournalFull = (f : FeatureData) × SaysFeature id body f × (old.edits < 2 ^ 64 - 1) × IsFullFor old id
-RefusesPut old id body fault = HasBodyFault id body fault
+-- a fault that is told, and nothing changes
+abbrev pub Refuses : {D : Type 0} → ServiceView D → RequestFault → ReplyView → ServiceView D → Type 0
+Refuses old fault reply new = (reply ≡ refusal_of fault) × (new ≡ old)
 
--- the edit that the body asks for is made, and the reply tells its number
-pub record MakesPut (old : ServiceState) (id : ℕ) (body : List ℕ) (reply : ReplyView) (new : ServiceState) : Type 0 where
-  pub feature : FeatureData
-  pub says : SaysFeature id body feature
-  pub numbers : old.edits < 2 ^ 64 - 1
-  pub free : ¬ IsFullFor old id
-  pub made : new ≡ after_put old id feature
-  pub told : reply ≡ edit_reply (old.edits + 1)
+module _ {D : Type 0} (sectors : D → ℕ) (honest : D → Type 0) (history : D → History) where
+  -- The service makes this edit or refuses it, and its disk goes on so that a run of edits can be followed: a crash at any moment of
+  -- the edit leaves what was stored, or the same with the edit; afterwards what is acknowledged is stored, unless the disk failed.
+  pub record TakesEdit (old : ServiceView D) (e : EditData) (answer : AnswerData) (new : ServiceView D) : Type 0 where
+    pub machine : TakesStep old (events.edit e) answer new
+    pub size : new.size ≡ old.size
+    pub count : sectors new.disk ≡ sectors old.disk
+    pub stays_honest : honest new.disk → honest old.disk
+    pub any_moment : (stored : Stored) → honest new.disk → IsUp (sectors old.disk) (history old.disk) stored old
+        → LeavesOnly (history old.disk) (history new.disk) (EventLeaves (sectors old.disk) old.size stored (events.edit e) answer)
+    pub after : (stored : Stored) → honest new.disk → IsUp (sectors old.disk) (history old.disk) stored old → answer ≢ refused Device
+        → IsUp (sectors new.disk) (history new.disk) (stored_after stored (events.edit e) answer) new
 
--- the edit is made, or the reply names the fault, and nothing changes
-abbrev pub AnswersPut : ServiceState → ℕ → List ℕ → ReplyView → ServiceState → Type 0
-AnswersPut old id body reply new =
-    MakesPut old id body reply new
-    ⊎ ((fault : RequestFault) × RefusesPut old id body fault × (reply ≡ refusal_of fault) × (new ≡ old))
+  -- the reply tells what became of the edit
+  abbrev pub AnswersEdit : ServiceView D → EditData → ReplyView → ServiceView D → Type 0
+  AnswersEdit old e reply new = (outcome : Result ℕ ServiceFault) × TakesEdit old e (edit_answer outcome) new × (reply ≡ outcome_reply outcome)
 
--- there are no layers, and the reply says so; or it has bytes that read as them
-abbrev pub TellsLayers : List LayerView → TileFormat → ReplyView → Type 0
-TellsLayers ls format reply =
-    ((ls ≡ []) × (reply ≡ no_tile)) ⊎ ((0 < length ls) × ReadsAs (written ls) ls × (reply ≡ tile_reply format (written ls)))
+  -- the reply tells what became of the edit that gives the number the body's feature
+  abbrev pub AnswersPut : ServiceView D → ℕ → List ℕ → ReplyView → ServiceView D → Type 0
+  AnswersPut old id body reply new = (f : FeatureData) × SaysFeature body f × AnswersEdit old (edits.put id f) reply new
 
--- the reply tells the layers of the tile
-abbrev pub AnswersTile : ServiceState → ℕ → ℕ → ℕ → TileFormat → ReplyView → Type 0
-AnswersTile s z x y format reply = TellsLayers (layers s.features z x y) format reply
+  -- the body's fault is told
+  abbrev pub RefusesBody : ServiceView D → List ℕ → ReplyView → ServiceView D → Type 0
+  RefusesBody old body reply new = (fault : RequestFault) × HasBodyFault body fault × Refuses old fault reply new
 
--- out of memory: nothing changes, and the connection goes on
-abbrev pub LacksMemory : ServiceState → ReplyView → ServiceState → Type 0
-LacksMemory old reply new = (reply ≡ refusal_of Memory) × (new ≡ old)
+  -- The reply to what is wanted, and the service behind it. An edit and a tile take memory, and what is not served takes none.
+  abbrev pub Answers : ServiceView D → Wanted → List ℕ → ReplyView → ServiceView D → Type 0
+  Answers old (put id) body reply new = AnswersPut old id body reply new ⊎ RefusesBody old body reply new ⊎ Refuses old Memory reply new
+  Answers old (delete id) body reply new = AnswersEdit old (edits.delete id) reply new ⊎ Refuses old Memory reply new
+  Answers old (tile z x y format) body reply new = AnswersTile old z x y format reply new ⊎ Refuses old Memory reply new
+  Answers old nothing body reply new = Refuses old NotFound reply new
 
--- The reply to what is wanted, and the state behind it. An edit and a tile take memory, and what is not served takes none.
-abbrev pub Answers : ServiceState → Wanted → List ℕ → ReplyView → ServiceState → Type 0
-Answers old (put id) body reply new = AnswersPut old id body reply new ⊎ LacksMemory old reply new
-Answers old (tile z x y format) body reply new = (AnswersTile old z x y format reply × (new ≡ old)) ⊎ LacksMemory old reply new
-Answers old nothing body reply new = (reply ≡ refusal_of NotFound) × (new ≡ old)
-
--- one reply to one request
-abbrev pub Replies : ServiceState → RequestView → ReplyView → ServiceState → Type 0
-Replies old request reply new = Answers old (wanted_of request) request.body reply new
+  -- one reply to one request
+  abbrev pub Replies : ServiceView D → RequestView → ReplyView → ServiceView D → Type 0
+  Replies old request reply new = Answers old (wanted_of request) request.body reply new

@@ -1,12 +1,25 @@
--- What a service has, without where it lies in memory.
+-- What answers requests, without where it lies in memory.
+use Rattle.std.specs.Prelude.{ℕ}
 use Rattle.http_serve.specs.Requests.{RequestView}
 use Rattle.http_serve.specs.Reply.{ReplyView}
+use Rattle.sector_disk.specs.Disk.{History}
+use Rattle.tile_service.specs.Service.{ServiceView}
 use Rattle.thin_service.specs.declared.service.ThinService.{ThinService}
-use Rattle.thin_service.specs.Requests.{ServiceState, Replies}
+use Rattle.thin_service.specs.declared.wanted.Wanted as wants
+use Rattle.thin_service.specs.declared.wanted.Wanted.TheVariants.{Put, Delete, Tile, Nothing}
+use Rattle.thin_service.specs.Requests.{Wanted, put, delete, tile, nothing, Replies}
 
-abbrev pub state_of : ThinService → ServiceState
-state_of s = record { features = s.kept.store.features; edits = s.edits }
+-- what is asked for
+abbrev pub wanted_view : wants.Wanted → Wanted
+wanted_view (Put id) = put id
+wanted_view (Delete id) = delete id
+wanted_view (Tile at format) = tile at.z at.x at.y format
+wanted_view Nothing = nothing
 
--- one reply to one request
-abbrev pub ServiceReplies : ThinService → RequestView → ReplyView → ThinService → Type 0
-ServiceReplies old request reply new = Replies (state_of old) request reply (state_of new)
+-- the service that it asks
+abbrev pub asked_service : {D : Type 0} → ThinService D → ServiceView D
+asked_service s = s.service
+
+-- one reply to one request, over a disk with these sectors, this honesty and this history
+abbrev pub ServiceReplies : {D : Type 0} → (D → ℕ) → (D → Type 0) → (D → History) → ThinService D → RequestView → ReplyView → ThinService D → Type 0
+ServiceReplies sectors honest history old request reply new = Replies sectors honest history (asked_service old) request reply (asked_service new)

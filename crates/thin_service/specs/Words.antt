@@ -1,13 +1,15 @@
 -- The replies of the service.
-use Rattle.std.specs.Prelude.{ℕ, List, ◌++◌, codes, decimal, Some, None}
+use Rattle.std.specs.Prelude.{ℕ, List, ◌++◌, codes, decimal, Option, Some, None, Result, Ok, Err}
 use Rattle.hex.specs.Hex.{encode_lower}
 use Rattle.http_serve.specs.Reply.{ReplyView, plain_reply}
 use Rattle.feature_model.specs.declared.fault.EditFault.{EditFault}
 use Rattle.feature_model.specs.declared.fault.EditFault.TheVariants as edits
 use Rattle.tile_routes.specs.declared.target.TileFormat.{TileFormat}
 use Rattle.tile_routes.specs.declared.target.TileFormat.TheVariants.{Mvt, Hex}
+use Rattle.tile_service.specs.declared.fault.ServiceFault.{ServiceFault}
+use Rattle.tile_service.specs.declared.fault.ServiceFault.TheVariants as services
 use Rattle.thin_service.specs.declared.fault.RequestFault.{RequestFault}
-use Rattle.thin_service.specs.declared.fault.RequestFault.TheVariants.{NotFound, Json, Edit, NumbersSpent, JournalFull, Memory}
+use Rattle.thin_service.specs.declared.fault.RequestFault.TheVariants.{NotFound, Json, Edit, Memory}
 
 unfoldable pub text_type : List ℕ
 text_type = codes "text/plain"
@@ -33,12 +35,25 @@ edit_word edits.Long = codes "E8 Long\n"
 edit_word edits.Reach = codes "E9 Reach\n"
 edit_word edits.Memory = codes "Memory\n"
 
+-- the word of a journal that is full: how many places are needed, and how many are free
+unfoldable pub full_word : ℕ → ℕ → List ℕ
+full_word need free = codes "JournalFull need " ++ ((decimal need ++ codes " free ") ++ (decimal free ++ codes "\n"))
+
+-- the word of a refusal by the service
+unfoldable pub service_word : ServiceFault → List ℕ
+service_word services.Broken = codes "Broken\n"
+service_word (services.Limit fault) = edit_word fault
+service_word services.NotFound = codes "NotFound\n"
+service_word services.NumbersSpent = codes "NumbersSpent\n"
+service_word services.Memory = codes "Memory\n"
+service_word (services.JournalFull need free) = full_word need free
+service_word services.Device = codes "Device\n"
+
+-- the word of a fault
 unfoldable pub fault_word : RequestFault → List ℕ
 fault_word NotFound = codes "NotFound\n"
 fault_word Json = codes "Json\n"
 fault_word (Edit fault) = edit_word fault
-fault_word NumbersSpent = codes "NumbersSpent\n"
-fault_word JournalFull = codes "JournalFull need 1 free 0\n"
 fault_word Memory = codes "Memory\n"
 
 abbrev pub edit_status : EditFault → ℕ
@@ -49,9 +64,16 @@ abbrev pub fault_status : RequestFault → ℕ
 fault_status NotFound = 404
 fault_status Json = 400
 fault_status (Edit fault) = edit_status fault
-fault_status NumbersSpent = 500
-fault_status JournalFull = 507
 fault_status Memory = 503
+
+abbrev pub service_status : ServiceFault → ℕ
+service_status services.Broken = 500
+service_status (services.Limit fault) = edit_status fault
+service_status services.NotFound = 404
+service_status services.NumbersSpent = 500
+service_status services.Memory = 503
+service_status (services.JournalFull need free) = 507
+service_status services.Device = 500
 
 -- a refusal: its word as a text
 abbrev pub refusal_of : RequestFault → ReplyView
@@ -65,6 +87,11 @@ edit_body number = codes "{\"edit\":" ++ decimal number ++ codes "}"
 
 abbrev pub edit_reply : ℕ → ReplyView
 edit_reply number = plain_reply 200 (Some json_type) (edit_body number)
+
+-- the outcome of an edit: its number, or why the service refuses it
+abbrev pub outcome_reply : Result ℕ ServiceFault → ReplyView
+outcome_reply (Ok number) = edit_reply number
+outcome_reply (Err fault) = plain_reply (service_status fault) (Some text_type) (service_word fault)
 
 -- no tile
 abbrev pub no_tile : ReplyView
@@ -81,3 +108,8 @@ format_content Hex bytes = encode_lower bytes
 -- a tile
 abbrev pub tile_reply : TileFormat → List ℕ → ReplyView
 tile_reply format bytes = plain_reply 200 (Some (format_type format)) (format_content format bytes)
+
+-- what a tile has, or none where it shows nothing
+abbrev pub content_reply : TileFormat → Option (List ℕ) → ReplyView
+content_reply format None = no_tile
+content_reply format (Some bytes) = tile_reply format bytes

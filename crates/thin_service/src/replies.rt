@@ -1,8 +1,10 @@
 //! The replies of the service.
-ghost use Rattle.std.specs.Prelude.{◌≡◌, ◌≤◌, [], length, IfOk};
-ghost use Rattle.http_serve.specs.Reply.{reply_view, IsWritable};
-ghost use Rattle.thin_service.specs.Words.{fault_word, edit_word, fault_status, edit_status, edit_body, edit_reply, no_tile, format_type, format_content};
-ghost use Rattle.thin_service.specs.Words.{tile_reply, refusal_of, text_type, json_type, tile_type};
+ghost use Rattle.std.specs.Prelude.{◌≡◌, ◌≤◌, ◌+◌, ◌++◌, [], length, decimal, vec_len, vec_capacity, IfOk, option_map};
+ghost use Rattle.http_serve.specs.Reply.{content_bytes, reply_view, FitsParts, IsWritable};
+ghost use Rattle.thin_service.specs.Words.{fault_word, service_word, edit_word, full_word, fault_status, service_status, edit_status, edit_body, edit_reply};
+ghost use Rattle.thin_service.specs.Words.{outcome_reply, no_tile, format_type, format_content, content_reply, tile_reply, refusal_of};
+ghost use Rattle.thin_service.specs.Words.{text_type, json_type, tile_type};
+ghost use Rattle.thin_service.specs.declared.replies.TheConstants.{MOST_TEXT};
 
 use crate::fault::RequestFault;
 use feature_model::EditFault;
@@ -11,6 +13,10 @@ use http_serve::{Content, Reply};
 use itoa::Buffer;
 use std::alloc::{AllocError, Global};
 use tile_routes::TileFormat;
+use tile_service::ServiceFault;
+
+/// Room for the longest text that tells the outcome of an edit.
+const MOST_TEXT: usize = 128;
 
 /// The word of a fault of an edit, with a line feed.
 #[tactic(auto, unfolding(crate::specs::Words::edit_word))]
@@ -31,6 +37,60 @@ fn edit_word(fault: EditFault) -> &'static [u8]
     }
 }
 
+/// Adds text where there is room.
+fn put(out: &mut Vec<u8>, text: &[u8])
+    requires { vec_len out.old + length text.now ≤ vec_capacity out.old }
+    ensures items { out.new.items ≡ out.old.items ++ text.now }
+    ensures len { vec_len out.new ≡ vec_len out.old + length text.now }
+    ensures capacity { vec_capacity out.old ≤ vec_capacity out.new }
+{
+    out.extend_from_slice(text).unwrap();
+}
+
+/// Adds a number in decimal, and the text behind it.
+fn put_number(out: &mut Vec<u8>, number: u64, behind: &[u8])
+    requires { vec_len out.old + 40 + length behind.now ≤ vec_capacity out.old }
+    ensures items { out.new.items ≡ out.old.items ++ (decimal number ++ behind.now) }
+    ensures len { vec_len out.new ≤ vec_len out.old + 40 + length behind.now }
+    ensures capacity { vec_capacity out.old ≤ vec_capacity out.new }
+{
+    put(out, Buffer::new().format(number).as_bytes());
+    put(out, behind);
+}
+
+/// The word of a journal that is full, with a line feed.
+#[tactic(auto, unfolding(crate::specs::Words::full_word))]
+fn full_word(text: Vec<u8>, need: u64, free: u64) -> Vec<u8>
+    requires empty { text.items ≡ [] }
+    requires room { MOST_TEXT ≤ vec_capacity text }
+    ensures { result.items ≡ full_word need free }
+{
+    let mut text = text;
+    put(&mut text, b"JournalFull need ");
+    put_number(&mut text, need, b" free ");
+    put_number(&mut text, free, b"\n");
+    text
+}
+
+/// The word of a refusal by the service, with a line feed.
+#[tactic(auto, unfolding(crate::specs::Words::service_word))]
+fn service_word(text: Vec<u8>, fault: ServiceFault) -> Content
+    requires empty { text.items ≡ [] }
+    requires room { MOST_TEXT ≤ vec_capacity text }
+    ensures word { content_bytes [] result ≡ service_word fault }
+    ensures whole { FitsParts [] result }
+{
+    match fault {
+        ServiceFault::Broken => Content::Fixed(b"Broken\n"),
+        ServiceFault::Limit(fault) => Content::Fixed(edit_word(fault)),
+        ServiceFault::NotFound => Content::Fixed(b"NotFound\n"),
+        ServiceFault::NumbersSpent => Content::Fixed(b"NumbersSpent\n"),
+        ServiceFault::Memory => Content::Fixed(b"Memory\n"),
+        ServiceFault::JournalFull { need, free } => Content::Whole(full_word(text, need, free)),
+        ServiceFault::Device => Content::Fixed(b"Device\n"),
+    }
+}
+
 /// The word of a fault, with a line feed.
 #[tactic(auto, unfolding(crate::specs::Words::fault_word))]
 fn fault_word(fault: RequestFault) -> &'static [u8]
@@ -40,8 +100,6 @@ fn fault_word(fault: RequestFault) -> &'static [u8]
         RequestFault::NotFound => b"NotFound\n",
         RequestFault::Json => b"Json\n",
         RequestFault::Edit(fault) => edit_word(fault),
-        RequestFault::NumbersSpent => b"NumbersSpent\n",
-        RequestFault::JournalFull => b"JournalFull need 1 free 0\n",
         RequestFault::Memory => b"Memory\n",
     }
 }
@@ -56,6 +114,20 @@ fn edit_status(fault: EditFault) -> StatusCode
     }
 }
 
+/// The status of a refusal by the service.
+fn service_status(fault: ServiceFault) -> StatusCode
+    ensures { result ≡ service_status fault }
+{
+    match fault {
+        ServiceFault::Limit(fault) => edit_status(fault),
+        ServiceFault::NotFound => StatusCode::NOT_FOUND,
+        ServiceFault::Memory => StatusCode::SERVICE_UNAVAILABLE,
+        ServiceFault::JournalFull { .. } => StatusCode::INSUFFICIENT_STORAGE,
+        ServiceFault::Broken | ServiceFault::NumbersSpent | ServiceFault::Device =>
+            StatusCode::INTERNAL_SERVER_ERROR,
+    }
+}
+
 /// The status of a fault.
 fn fault_status(fault: RequestFault) -> StatusCode
     ensures { result ≡ fault_status fault }
@@ -64,8 +136,6 @@ fn fault_status(fault: RequestFault) -> StatusCode
         RequestFault::NotFound => StatusCode::NOT_FOUND,
         RequestFault::Json => StatusCode::BAD_REQUEST,
         RequestFault::Edit(fault) => edit_status(fault),
-        RequestFault::NumbersSpent => StatusCode::INTERNAL_SERVER_ERROR,
-        RequestFault::JournalFull => StatusCode::INSUFFICIENT_STORAGE,
         RequestFault::Memory => StatusCode::SERVICE_UNAVAILABLE,
     }
 }
@@ -83,35 +153,51 @@ pub(crate) fn refusal(fault: RequestFault) -> Reply
     )
 }
 
-/// The text that tells the number of an edit.
-#[tactic(auto, unfolding(crate::specs::Words::edit_body))]
-pub(crate) fn edit_body(alloc: Global, number: u64) -> Result<Vec<u8>, AllocError>
-    ensures { IfOk result (λ text. text.items ≡ edit_body number) }
+/// An empty text, with room for each outcome of an edit.
+pub(crate) fn outcome_space(alloc: Global) -> Result<Vec<u8>, AllocError>
+    ensures empty { IfOk result (λ text. text.items ≡ []) }
+    ensures room { IfOk result (λ text. MOST_TEXT ≤ vec_capacity text) }
 {
-    let mut digits = Buffer::new();
-    let mut text = Vec::from_slice(alloc, b"{\"edit\":")?;
-    text.extend_from_slice(digits.format(number).as_bytes())?;
-    text.extend_from_slice(b"}")?;
-    Ok(text)
+    Vec::with_capacity(alloc, MOST_TEXT)
 }
 
-/// The reply to an edit that was made, whose number the text tells.
-#[tactic(auto, unfolding(crate::specs::Words::json_type))]
-pub(crate) fn made(number: u64, text: Vec<u8>) -> Reply
-    requires { text.items ≡ edit_body number }
-    ensures reply { reply_view [] result ≡ edit_reply number }
+/// The text that tells the number of an edit.
+#[tactic(auto, unfolding(crate::specs::Words::edit_body))]
+fn edit_body(text: Vec<u8>, number: u64) -> Vec<u8>
+    requires empty { text.items ≡ [] }
+    requires room { MOST_TEXT ≤ vec_capacity text }
+    ensures { result.items ≡ edit_body number }
+{
+    let mut text = text;
+    put(&mut text, b"{\"edit\":");
+    put_number(&mut text, number, b"}");
+    text
+}
+
+/// The reply that tells the outcome of an edit. It takes no memory: an edit that was made is always told.
+#[tactic(auto, unfolding(crate::specs::Words::json_type, crate::specs::Words::text_type))]
+pub(crate) fn outcome(text: Vec<u8>, outcome: Result<u64, ServiceFault>) -> Reply
+    requires empty { text.items ≡ [] }
+    requires room { MOST_TEXT ≤ vec_capacity text }
+    ensures reply { reply_view [] result ≡ outcome_reply outcome }
     ensures writable { IsWritable [] result }
 {
-    let _ = number;
-    Reply::plain(
-        StatusCode::OK,
-        Some("application/json"),
-        Content::Whole(text),
-    )
+    match outcome {
+        Ok(number) => Reply::plain(
+            StatusCode::OK,
+            Some("application/json"),
+            Content::Whole(edit_body(text, number)),
+        ),
+        Err(fault) => Reply::plain(
+            service_status(fault),
+            Some("text/plain"),
+            service_word(text, fault),
+        ),
+    }
 }
 
 /// The reply where a tile shows nothing.
-pub(crate) fn no_tile() -> Reply
+fn no_tile() -> Reply
     ensures reply { reply_view [] result ≡ no_tile }
     ensures writable { IsWritable [] result }
 {
@@ -140,12 +226,27 @@ fn format_content(alloc: Global, format: TileFormat, bytes: Vec<u8>) -> Result<V
     }
 }
 
-/// The reply with a tile.
-pub(crate) fn tile(alloc: Global, format: TileFormat, bytes: Vec<u8>) -> Result<Reply, AllocError>
+/// The reply with the bytes of a tile.
+fn some_tile(alloc: Global, format: TileFormat, bytes: Vec<u8>) -> Result<Reply, AllocError>
     ensures reply { IfOk result (λ reply. reply_view [] reply ≡ tile_reply format bytes.items) }
     ensures writable { IfOk result (IsWritable []) }
 {
     let kind = format_type(format);
     let content = format_content(alloc, format, bytes)?;
     Ok(Reply::plain(StatusCode::OK, Some(kind), Content::Whole(content)))
+}
+
+/// The reply with a tile, or the one where it shows nothing.
+pub(crate) fn tile(
+    alloc: Global,
+    format: TileFormat,
+    content: Option<Vec<u8>>,
+) -> Result<Reply, AllocError>
+    ensures reply { IfOk result (λ reply. reply_view [] reply ≡ content_reply format (option_map (λ bytes. bytes.items) content)) }
+    ensures writable { IfOk result (IsWritable []) }
+{
+    match content {
+        None => Ok(no_tile()),
+        Some(bytes) => some_tile(alloc, format, bytes),
+    }
 }

@@ -1,115 +1,123 @@
-ghost use Rattle.std.specs.Prelude.{◌≡◌, ◌≤◌, ◌<◌, ◌+◌, ◌-◌, ◌^◌, ◌⊎◌, [], IfOk, IfErr, OnOk};
+ghost use Rattle.std.specs.Prelude.{◌≡◌, ◌⊎◌, [], IfOk, IfErr};
+ghost use Rattle.feature_model.specs.Data.{delete};
 ghost use Rattle.http_serve.specs.declared.connection.TheConstants.{MOST_READS};
 ghost use Rattle.http_serve.specs.Told.{IsServed, IsServedUpTo, HasContent, MeetsTurns, KeepsTurns, AnswersInput};
 ghost use Rattle.http_serve.specs.Reply.{reply_view, IsWritable};
-ghost use Rattle.thin_service.specs.Requests.{MakesPut, RefusesPut, AnswersTile, Replies};
+ghost use Rattle.thin_service.specs.Bodies.{HasBodyFault};
+ghost use Rattle.thin_service.specs.Requests.{AnswersTile, AnswersEdit, AnswersPut, Answers};
 ghost use Rattle.thin_service.specs.State.{ServiceReplies};
+ghost use Rattle.thin_service.specs.Words.{refusal_of};
 
 use crate::bodies::feature_in;
 use crate::fault::RequestFault;
-use crate::kept::Kept;
 use crate::replies;
+use crate::wanted::{Wanted, wanted_by};
 use hilbert_id::TileAt;
 use http_serve::{ContentFault, Handler, Reply, Request, ServeFault, Served, serve};
-use mvt_write::write_tile;
+use sector_disk::Sectors;
 use std::alloc::{AllocError, Global};
 use std::io::{Read, Write};
 use tile_routes::{Routes, Target, TileFormat};
+use tile_service::Service;
 
-/// A map in memory, which answers requests.
+/// A service, asked by requests.
 #[derive(Drop)]
-pub struct ThinService {
+pub struct ThinService<D: Sectors + Drop> {
     alloc: Global,
     routes: Routes,
-    kept: Kept,
-    edits: u64,
+    service: Service<D>,
 }
 
-impl ThinService {
-    ghost use Rattle.thin_service.specs.State.{state_of};
+impl<D: Sectors + Drop> ThinService<D> {
+    ghost use Rattle.thin_service.specs.State.{asked_service, wanted_view};
 
-    /// A service with the empty map.
-    pub fn new(alloc: Global) -> Result<ThinService, AllocError>
-        ensures { IfOk result (λ service. state_of service ≡ record { features = []; edits = 0 }) }
+    /// What answers requests by asking this service.
+    pub fn new(alloc: Global, service: Service<D>) -> Result<ThinService<D>, AllocError>
+        ensures { IfOk result (λ thin. asked_service thin ≡ service) }
     {
         Ok(ThinService {
             alloc,
             routes: Routes::new(alloc)?,
-            kept: Kept::new(alloc),
-            edits: 0,
+            service,
         })
     }
 
-    /// The number of the next edit.
-    fn next_number(&self) -> Result<u64, RequestFault>
-        ensures next { IfOk result (λ number. (self.now.edits < 2 ^ 64 - 1) × (number ≡ self.now.edits + 1)) }
-        ensures spent { IfErr result (λ fault. (fault ≡ RequestFault.NumbersSpent) × (self.now.edits ≡ 2 ^ 64 - 1)) }
-    {
-        self.edits.checked_add(1).ok_or(RequestFault::NumbersSpent)
-    }
-
-    /// Sets the feature of a number to the one in the body of a request.
+    /// Gives a number the feature in the body of a request.
     fn put(&mut self, id: u64, body: &[u8]) -> Result<Reply, RequestFault>
-        ensures made { IfOk result (λ reply. MakesPut (state_of self.old) id body.now (reply_view [] reply) (state_of self.new)) }
+        ensures answered { IfOk result (λ reply. AnswersPut D.sectors D.honest D.history
+            (asked_service self.old) id body.now (reply_view [] reply) (asked_service self.new)) }
         ensures writable { IfOk result (IsWritable []) }
-        ensures refused { IfErr result (λ fault. (state_of self.new ≡ state_of self.old)
-            × ((fault ≡ RequestFault.Memory) ⊎ RefusesPut (state_of self.old) id body.now fault)) }
+        ensures refused { IfErr result (λ fault. (asked_service self.new ≡ asked_service self.old)
+            × ((fault ≡ RequestFault.Memory) ⊎ HasBodyFault body.now fault)) }
     {
-        let feature = match feature_in(self.alloc, id, body) {
+        let feature = match feature_in(self.alloc, body) {
             Ok(feature) => feature,
             Err(fault) => return Err(fault),
         };
-        let number = match self.next_number() {
-            Ok(number) => number,
-            Err(fault) => return Err(fault),
-        };
-        let Ok(text) = replies::edit_body(self.alloc, number) else {
+        let Ok(text) = replies::outcome_space(self.alloc) else {
             return Err(RequestFault::Memory);
         };
-        match self.kept.make_room(id) {
-            Ok(()) => {
-                self.kept.place(id, feature);
-                self.edits = number;
-                Ok(replies::made(number, text))
-            }
-            Err(fault) => Err(fault),
-        }
+        let outcome = self.service.put(id, feature);
+        Ok(replies::outcome(text, outcome))
+    }
+
+    /// Takes the feature of a number away.
+    fn delete(&mut self, id: u64) -> Result<Reply, RequestFault>
+        ensures answered { IfOk result (λ reply. AnswersEdit D.sectors D.honest D.history
+            (asked_service self.old) (delete id) (reply_view [] reply) (asked_service self.new)) }
+        ensures writable { IfOk result (IsWritable []) }
+        ensures refused { IfErr result (λ fault. (asked_service self.new ≡ asked_service self.old) × (fault ≡ RequestFault.Memory)) }
+    {
+        let Ok(text) = replies::outcome_space(self.alloc) else {
+            return Err(RequestFault::Memory);
+        };
+        let outcome = self.service.delete(id);
+        Ok(replies::outcome(text, outcome))
     }
 
     /// The tile, as it is asked for.
-    fn tile(&self, at: TileAt, format: TileFormat) -> Result<Reply, AllocError>
-        ensures answers { IfOk result (λ reply. AnswersTile (state_of self.now) at.z at.x at.y format (reply_view [] reply)) }
+    fn tile(&mut self, at: TileAt, format: TileFormat) -> Result<Reply, RequestFault>
+        ensures answered { IfOk result (λ reply. AnswersTile
+            (asked_service self.old) at.z at.x at.y format (reply_view [] reply) (asked_service self.new)) }
         ensures writable { IfOk result (IsWritable []) }
+        ensures refused { IfErr result (λ fault. (asked_service self.new ≡ asked_service self.old) × (fault ≡ RequestFault.Memory)) }
     {
-        let layers = self.kept.store.layers(at)?;
-        if layers.len() == 0 {
-            return Ok(replies::no_tile());
+        let Ok(content) = self.service.tile(at) else {
+            return Err(RequestFault::Memory);
+        };
+        match replies::tile(self.alloc, format, content) {
+            Ok(reply) => Ok(reply),
+            Err(AllocError) => Err(RequestFault::Memory),
         }
-        let bytes = write_tile(self.alloc, &layers)?;
-        replies::tile(self.alloc, format, bytes)
+    }
+    /// What is wanted.
+    fn respond(&mut self, wanted: Wanted, body: &[u8]) -> Result<Reply, RequestFault>
+        ensures answered { IfOk result (λ reply. Answers D.sectors D.honest D.history
+            (asked_service self.old) (wanted_view wanted) body.now (reply_view [] reply) (asked_service self.new)) }
+        ensures writable { IfOk result (IsWritable []) }
+        ensures refused { IfErr result (λ fault. Answers D.sectors D.honest D.history
+            (asked_service self.old) (wanted_view wanted) body.now (refusal_of fault) (asked_service self.new)) }
+    {
+        match wanted {
+            Wanted::Put(id) => self.put(id, body),
+            Wanted::Delete(id) => self.delete(id),
+            Wanted::Tile(at, format) => self.tile(at, format),
+            Wanted::Nothing => Err(RequestFault::NotFound),
+        }
     }
 }
 
-impl Handler for ThinService {
-    ghost use Rattle.thin_service.specs.State.{state_of};
+impl<D: Sectors + Drop> Handler for ThinService<D> {
+    ghost use Rattle.thin_service.specs.State.{ServiceReplies};
 
-    ghost replies = { λ old request reply new. Replies (state_of old) request reply (state_of new) };
+    ghost replies = { ServiceReplies D.sectors D.honest D.history };
 
     // No content is read in parts.
     ghost content = { λ _. [] };
 
     fn answer(&mut self, request: &Request<'_>) -> Reply {
-        let result = match self.routes.target(request.path) {
-            Target::Feature(id) if request.method == b"PUT".as_slice() => self.put(
-                id,
-                request.body,
-            ),
-            Target::Tile(at, format) if request.method == b"GET".as_slice() => self
-                .tile(at, format)
-                .map_err(RequestFault::from),
-            _ => Err(RequestFault::NotFound),
-        };
-        match result {
+        let wanted = wanted_by(request.method, self.routes.target(request.path));
+        match self.respond(wanted, request.body) {
             Ok(reply) => reply,
             Err(fault) => replies::refusal(fault),
         }
@@ -122,18 +130,18 @@ impl Handler for ThinService {
 
 /// Serves a connection by at most `http_serve::MOST_READS` reads: one reply to each request, in order, and one to what is
 /// no request.
-pub fn thin_serve<R: Read, W: Write>(
+pub fn thin_serve<D: Sectors + Drop, R: Read, W: Write>(
     alloc: Global,
     reader: &mut R,
     writer: &mut W,
-    service: &mut ThinService,
+    service: &mut ThinService<D>,
 ) -> Result<Served, ServeFault>
-    ensures input { IfOk result (λ served. AnswersInput ServiceReplies service.old (R.remaining reader.old) (W.contents writer.old) served
-        service.new (W.contents writer.new)) }
-    ensures served { IfOk result (λ served. IsServed ServiceReplies service.old (R.remaining reader.old) (W.contents writer.old) served
-        service.new (R.remaining reader.new) (W.contents writer.new)) }
-    ensures fault { IfErr result (λ fault. IsServedUpTo ServiceReplies service.old (R.remaining reader.old) (W.contents writer.old) fault
-        service.new (R.remaining reader.new) (W.contents writer.new)) }
+    ensures input { IfOk result (λ served. AnswersInput (ServiceReplies D.sectors D.honest D.history)
+        service.old (R.remaining reader.old) (W.contents writer.old) served service.new (W.contents writer.new)) }
+    ensures served { IfOk result (λ served. IsServed (ServiceReplies D.sectors D.honest D.history)
+        service.old (R.remaining reader.old) (W.contents writer.old) served service.new (R.remaining reader.new) (W.contents writer.new)) }
+    ensures fault { IfErr result (λ fault. IsServedUpTo (ServiceReplies D.sectors D.honest D.history)
+        service.old (R.remaining reader.old) (W.contents writer.old) fault service.new (R.remaining reader.new) (W.contents writer.new)) }
     ensures whole { IfErr result (HasContent []) }
     ensures turns { IfOk result (λ served. MeetsTurns MOST_READS (R.remaining reader.old) (R.remaining reader.new) served.end) }
     ensures reads { KeepsTurns MOST_READS result (R.remaining reader.old) (R.remaining reader.new) }

@@ -1,10 +1,12 @@
 //! Connections from end to end. The tiles are those of `bench/model/tiles.py`, a second model that shares no code with this one.
 use crate::{ThinService, thin_serve};
-use http_serve::{End, Handler, Request};
+use http_serve::End;
+use sector_disk::MemoryDisk;
 use std::alloc::{AllocError, Global};
 use std::io;
 use std::io::Read;
 use std::test::Fail;
+use tile_service::Service;
 
 /// One point, on zooms 0 to 2.
 const POINT: &str =
@@ -35,16 +37,34 @@ fn request(alloc: Global, method: &str, path: &str, body: &str) -> Result<String
     )
 }
 
-/// What is written for these bytes, read in pieces, by a service with the empty map.
-fn exchange(alloc: Global, input: &str, size: usize) -> Result<(Vec<u8>, End), Fail> {
-    let mut service = ThinService::new(alloc)?;
+/// A service with the empty map, on a disk of so many sectors.
+fn empty(alloc: Global, sectors: u64) -> Result<ThinService<MemoryDisk>, Fail> {
+    let mut disk = MemoryDisk::new(alloc, sectors)?;
+    Service::format(&mut disk).ok().ok_or("a format")?;
+    let service = Service::open(alloc, disk).ok().ok_or("a service")?;
+    Ok(ThinService::new(alloc, service)?)
+}
+
+/// What a service writes for these bytes, read in pieces.
+fn exchange_with(
+    alloc: Global,
+    service: &mut ThinService<MemoryDisk>,
+    input: &str,
+    size: usize,
+) -> Result<(Vec<u8>, End), Fail> {
     let mut out = Vec::new(alloc);
     let mut pieces = Pieces {
         rest: input.as_bytes(),
         size,
     };
-    let served = thin_serve(alloc, &mut pieces, &mut out, &mut service)?;
+    let served = thin_serve(alloc, &mut pieces, &mut out, service)?;
     Ok((out, served.end))
+}
+
+/// What is written for these bytes, read in pieces, by a service with the empty map.
+fn exchange(alloc: Global, input: &str, size: usize) -> Result<(Vec<u8>, End), Fail> {
+    let mut service = empty(alloc, 256)?;
+    exchange_with(alloc, &mut service, input, size)
 }
 
 /// The reply to a request behind a PUT of each of these features.
@@ -409,7 +429,9 @@ fn many_points(alloc: Global, count: usize) -> Result<String, AllocError> {
 
 #[test]
 fn the_longest_text(rt: HostRuntime) -> Result<(), Fail> {
-    let fits = reply_behind(rt.alloc(), &[], many_points(rt.alloc(), 4_093)?.as_str())?;
+    let mut service = empty(rt.alloc(), 512)?;
+    let longest = many_points(rt.alloc(), 4_093)?;
+    let (fits, _) = exchange_with(rt.alloc(), &mut service, longest.as_str(), 65_536)?;
     assert_eq!(rt; fits.as_slice(), MADE.as_bytes());
     let long = reply_behind(rt.alloc(), &[], many_points(rt.alloc(), 4_094)?.as_str())?;
     let expected = refusal(rt.alloc(), "400 Bad Request", "E8 Long")?;
@@ -489,34 +511,81 @@ fn the_pieces_do_not_matter(rt: HostRuntime) -> Result<(), Fail> {
     Ok(())
 }
 
-#[test]
-fn one_place_more_than_is_kept(rt: HostRuntime) -> Result<(), Fail> {
-    let alloc = rt.alloc();
-    let mut service = ThinService::new(alloc)?;
-    let mut out = Vec::new(alloc);
-    for id in 0..65_536 {
-        let path = format!(in alloc; "/features/{id}")?;
-        service.answer(&Request {
-            method: b"PUT",
-            path: path.as_bytes(),
-            range: None,
-            body: POINT.as_bytes(),
-            close: false,
-        });
-    }
-    let further = request(alloc, "PUT", "/features/65536", POINT)?;
-    thin_serve(alloc, &mut further.as_bytes(), &mut out, &mut service)?;
-    let full = refusal(
+/// A PUT of a point with a tag of so many letters. With 466 letters the text of the edit has 496 bytes.
+fn tagged(alloc: Global, letters: usize) -> Result<String, AllocError> {
+    let mut body = String::from_str(
         alloc,
-        "507 Insufficient Storage",
-        "JournalFull need 1 free 0",
+        r#"{"layer":"p","minzoom":0,"maxzoom":2,"geometry":{"points":[[0,0]]},"tags":{"t":""#,
     )?;
-    assert_eq!(rt; out.as_slice(), full.as_bytes());
-    out.clear();
-    let again = request(alloc, "PUT", "/features/65535", POINT)?;
-    thin_serve(alloc, &mut again.as_bytes(), &mut out, &mut service)?;
-    let made =
-        b"HTTP/1.1 200 OK\r\ncontent-type: application/json\r\ncontent-length: 14\r\n\r\n{\"edit\":65537}";
-    assert_eq!(rt; out.as_slice(), made.as_slice());
+    for _ in 0..letters {
+        body.push_str("a")?;
+    }
+    body.push_str("\"}}")?;
+    request(alloc, "PUT", "/features/7", body.as_str())
+}
+
+/// The reply to an edit that was made.
+fn made(alloc: Global, number: u64) -> Result<String, AllocError> {
+    let body = format!(in alloc; "{{\"edit\":{number}}}")?;
+    format!(in alloc;
+        "HTTP/1.1 200 OK\r\ncontent-type: application/json\r\ncontent-length: {}\r\n\r\n{body}",
+        body.len()
+    )
+}
+
+#[test]
+fn a_journal_that_is_nearly_full(rt: HostRuntime) -> Result<(), Fail> {
+    let alloc = rt.alloc();
+    let mut service = empty(alloc, 64)?;
+    for number in 1..16 {
+        let path = format!(in alloc; "/features/{number}")?;
+        let put = request(alloc, "PUT", path.as_str(), POINT)?;
+        let (reply, _) = exchange_with(alloc, &mut service, put.as_str(), 4096)?;
+        assert_eq!(rt; reply.as_slice(), made(alloc, number)?.as_bytes());
+    }
+    for (letters, expected) in [
+        (
+            467,
+            refusal(
+                alloc,
+                "507 Insufficient Storage",
+                "JournalFull need 2 free 1",
+            )?,
+        ),
+        (466, made(alloc, 16)?),
+        (
+            0,
+            refusal(
+                alloc,
+                "507 Insufficient Storage",
+                "JournalFull need 1 free 0",
+            )?,
+        ),
+    ] {
+        let put = tagged(alloc, letters)?;
+        let (reply, _) = exchange_with(alloc, &mut service, put.as_str(), 4096)?;
+        assert_eq!(rt; reply.as_slice(), expected.as_bytes(), "{letters}");
+    }
+    Ok(())
+}
+
+#[test]
+fn deleted_features(rt: HostRuntime) -> Result<(), Fail> {
+    let alloc = rt.alloc();
+    let mut service = empty(alloc, 256)?;
+    for (method, path, expected) in [
+        (
+            "DELETE",
+            "/features/7",
+            refusal(alloc, "404 Not Found", "NotFound")?,
+        ),
+        ("PUT", "/features/7", made(alloc, 1)?),
+        ("DELETE", "/features/7", made(alloc, 2)?),
+        ("GET", "/map/0/0/0.hex", tile_reply(alloc, "")?),
+    ] {
+        let asked = request(alloc, method, path, POINT)?;
+        let (reply, _) = exchange_with(alloc, &mut service, asked.as_str(), 4096)?;
+        assert_eq!(rt; reply.as_slice(), expected.as_bytes(), "{method} {path}");
+    }
     Ok(())
 }

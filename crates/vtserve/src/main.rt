@@ -1,53 +1,18 @@
 //! A vector tile server whose map is edited while it serves.
 #![tactic(auto)]
 
-ghost use Rattle.std.specs.Prelude.{◌≡◌, ◌<◌, ◌≤◌, ◌↔◌, IsOk};
-
 mod archives;
+mod fresh;
 
 use archives::{show_file, verify_file};
 use clap::{Arg, ArgAction, Command};
+use fresh::fresh_service;
+use generations::StoreFault;
 use http_serve::ServeFault;
 use std::alloc::{AllocError, Global};
 use std::fmt::Display;
 use std::process::ExitCode;
-use thin_service::{ThinService, thin_serve};
-
-/// The fewest sectors of a disk.
-const LEAST_SECTORS: u64 = 64;
-/// The most sectors of a disk.
-const MOST_SECTORS: u64 = 16_777_216;
-
-/// Why so many sectors are no disk.
-#[derive(Clone, Copy, Debug, PartialEq, Eq)]
-enum SizeFault {
-    TooSmall,
-    Damaged,
-}
-
-impl SizeFault {
-    fn name(self) -> &'static str {
-        match self {
-            SizeFault::TooSmall => "TooSmall",
-            SizeFault::Damaged => "Damaged",
-        }
-    }
-}
-
-/// Whether a disk may have so many sectors.
-fn check_size(sectors: u64) -> Result<(), SizeFault>
-    ensures fits { IsOk result ↔ ((64 ≤ sectors) × (sectors ≤ 16777216)) }
-    ensures small { (result ≡ Err SizeFault.TooSmall) ↔ (sectors < 64) }
-    ensures large { (result ≡ Err SizeFault.Damaged) ↔ (16777216 < sectors) }
-{
-    if sectors < LEAST_SECTORS {
-        return Err(SizeFault::TooSmall);
-    }
-    if sectors > MOST_SECTORS {
-        return Err(SizeFault::Damaged);
-    }
-    Ok(())
-}
+use thin_service::thin_serve;
 
 /// Prints a fault's name.
 fn refused(rt: &impl Eprint, name: impl Display + Drop) -> anyhow::Result<ExitCode> {
@@ -65,13 +30,22 @@ fn fault_name(fault: ServeFault) -> &'static str {
     }
 }
 
-/// Serves one connection on standard input and output, with the empty map.
-fn demo(rt: &HostRuntime, sectors: u64) -> anyhow::Result<ExitCode> {
-    if let Err(fault) = check_size(sectors) {
-        return refused(rt, fault.name());
+/// The name of why a disk isn't ready.
+fn store_fault_name(fault: StoreFault) -> &'static str {
+    match fault {
+        StoreFault::NotFormatted => "NotFormatted",
+        StoreFault::TooSmall => "TooSmall",
+        StoreFault::Damaged(_) => "Damaged",
+        StoreFault::Device => "Device",
+        StoreFault::Memory => "Memory",
     }
-    let Ok(mut service) = ThinService::new(rt.alloc()) else {
-        return refused(rt, "Memory");
+}
+
+/// Serves one connection on standard input and output, over the empty map on a disk in memory.
+fn demo(rt: &HostRuntime, sectors: u64) -> anyhow::Result<ExitCode> {
+    let mut service = match fresh_service(rt.alloc(), sectors) {
+        Ok(service) => service,
+        Err(fault) => return refused(rt, store_fault_name(fault)),
     };
     match thin_serve(rt.alloc(), &mut rt.stdin(), &mut rt.stdout(), &mut service) {
         Ok(_) => Ok(ExitCode::SUCCESS),
@@ -148,7 +122,9 @@ mod tests {
             (16_777_217, Some("Damaged")),
         ] {
             assert_eq!(rt;
-                check_size(sectors).err().map(SizeFault::name),
+                fresh_service(rt.alloc(), sectors)
+                    .err()
+                    .map(store_fault_name),
                 fault,
                 "{sectors}"
             );

@@ -1,0 +1,58 @@
+//! A service over the empty map.
+ghost use Rattle.std.specs.Prelude.{◌≡◌, ◌<◌, ◌⊎◌, Err, IfErr, IfOk};
+ghost use Rattle.sector_disk.specs.Views.{memory_history, memory_sectors};
+ghost use Rattle.generations.specs.Areas.{IsSize};
+ghost use Rattle.generations.specs.declared.fault.StoreFault.TheVariants.{TooSmall, Damaged, Device, Memory};
+ghost use Rattle.generations.specs.declared.fault.What.TheVariants.{Size};
+ghost use Rattle.generations.specs.declared.sizes.TheConstants.{LEAST_SECTORS, MOST_SECTORS};
+ghost use Rattle.thin_service.specs.State.{asked_service};
+ghost use Rattle.tile_service.specs.Service.{IsUp};
+ghost use Rattle.tile_service.specs.Stored.{Keeps, first_state};
+
+use generations::StoreFault;
+use sector_disk::MemoryDisk;
+use std::alloc::{AllocError, Global};
+use thin_service::ThinService;
+use tile_service::Service;
+
+/// A disk in memory that holds the empty map.
+fn fresh_disk(alloc: Global, sectors: u64) -> Result<MemoryDisk, StoreFault>
+    ensures small { sectors < LEAST_SECTORS → result ≡ Err TooSmall }
+    ensures large { MOST_SECTORS < sectors → result ≡ Err (Damaged Size) }
+    ensures only { IsSize sectors → IfErr result (λ fault. fault ≡ Device) }
+    ensures count { IfOk result (λ disk. memory_sectors disk ≡ sectors) }
+    ensures holds { IfOk result (λ disk. Keeps sectors sectors first_state (memory_history disk)) }
+{
+    let mut disk = match MemoryDisk::new(alloc, sectors) {
+        Ok(disk) => disk,
+        Err(AllocError) => return Err(StoreFault::Memory),
+    };
+    match Service::format(&mut disk) {
+        Ok(()) => Ok(disk),
+        Err(fault) => Err(fault),
+    }
+}
+
+/// A service over the empty map on a disk in memory.
+pub(crate) fn fresh_service(
+    alloc: Global,
+    sectors: u64,
+) -> Result<ThinService<MemoryDisk>, StoreFault>
+    ensures small { sectors < LEAST_SECTORS → result ≡ Err TooSmall }
+    ensures large { MOST_SECTORS < sectors → result ≡ Err (Damaged Size) }
+    ensures only { IsSize sectors → IfErr result (λ fault. (fault ≡ Device) ⊎ (fault ≡ Memory)) }
+    ensures ready { IfOk result (λ thin. IsUp sectors (memory_history (asked_service thin).disk) first_state (asked_service thin)) }
+{
+    let disk = match fresh_disk(alloc, sectors) {
+        Ok(disk) => disk,
+        Err(fault) => return Err(fault),
+    };
+    let service = match Service::open(alloc, disk) {
+        Ok(service) => service,
+        Err((_, fault)) => return Err(fault),
+    };
+    match ThinService::new(alloc, service) {
+        Ok(service) => Ok(service),
+        Err(AllocError) => Err(StoreFault::Memory),
+    }
+}
