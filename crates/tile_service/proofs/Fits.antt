@@ -157,9 +157,8 @@ as_fits start edits i s is = let none : start.edits ≡ start.edits + 0 = omega 
     is ∙ ap (λ (m : ℕ). record start { edits = m; since = take i edits }) none
 
 image_fits : (sectors n : ℕ) (start : Stored) (events : List EventData) (answers : List AnswerData) (k : ℕ) (image : Image)
-    → length events ≡ length answers → k ≤ length answers
     → RunImage sectors n start events answers k image → ImageFits sectors n start events answers k image
-image_fits sectors n start events answers k image same le (inl w) =
+image_fits sectors n start events answers k image (inl w) =
     let i : ℕ = w.0 in
     let first = acknowledged (take i events) (take i answers) in
     let more = split_at events answers i in
@@ -185,7 +184,7 @@ image_fits sectors n start events answers k image same le (inl w) =
             (reached_is start (take i events) (take i answers) ∙ ap (λ (l : List EditData). record start { since = l }) (sym taken))) w.3,
       );
     }
-image_fits sectors n start events answers k image same le (inr w) =
+image_fits sectors n start events answers k image (inr w) =
     let before = start.since ++ acknowledged events answers in
     let edits = before ++ w.0 ∷ [] in
     let first = acknowledged (take k events) (take k answers) in
@@ -219,18 +218,18 @@ pub record RunLeaves (sectors n : ℕ) (start : Stored) (events : List EventData
   pub earlier : (k : ℕ) → k ≤ length answers → moment (by k) ≤ moment new
   pub settled : (k : ℕ) → k ≤ length answers → NoneInDoubt (take k events) (take k answers)
       → (image : Image) → MayLeave (by k) image → Holds sectors n (reached start (take k events) (take k answers)) image
-  pub images : (k : ℕ) → k ≤ length answers → (image : Image) → LeftSince new (moment (by k)) image
-      → RunImage sectors n start events answers k image
+  pub images : (k m : ℕ) → k ≤ m → m ≤ length answers → (image : Image) → LeftSince (by m) (moment (by k)) image
+      → RunImage sectors n start (take m events) (take m answers) k image
 
 pub run_fits : (sectors n : ℕ) (start : Stored) (events : List EventData) (answers : List AnswerData) (old new : History)
-    → length events ≡ length answers → RunLeaves sectors n start events answers old new → RunFits sectors n start events answers old new
-run_fits sectors n start events answers old new same run = record {
+    → RunLeaves sectors n start events answers old new → RunFits sectors n start events answers old new
+run_fits sectors n start events answers old new run = record {
   by = run.by;
   begins = run.begins;
   goes_on = run.goes_on;
   ends = run.ends;
   settled = run.settled;
-  fits = λ k le image left. image_fits sectors n start events answers k image same le (run.images k le image left);
+  fits = λ k m le le' image left. image_fits sectors n start (take m events) (take m answers) k image (run.images k m le le' image left);
 }
 
 -- before the first event
@@ -242,9 +241,13 @@ run_starts sectors n start h keeps = record {
   ends = refl;
   earlier = λ k le. omega arith;
   settled = λ k le none image may. subst (λ (s : Stored). Holds sectors n s image) (sym (nothing_taken k)) (keeps image may);
-  images = λ k le image left. inl (0, omega (arith, le), omega arith, keeps image (only_now h image left));
+  images = λ k m le le' image left. starts_with k m le le' image (keeps image (only_now h image left));
 }
   where
+    starts_with : (k m : ℕ) → k ≤ m → m ≤ 0 → (image : Image) → Holds sectors n start image → RunImage sectors n start (take m []) (take m []) k image
+    starts_with k zero le le' image holds = inl (0, omega (arith, le), omega arith, holds)
+    starts_with k (suc m) le le' image holds = absurd (omega (arith, le'))
+
     nothing_taken : (k : ℕ) → reached start (take k []) (take k []) ≡ start
     nothing_taken zero = refl
     nothing_taken (suc k) = refl
@@ -262,6 +265,12 @@ by_next_last by done new k is = grind (arith, nat_tests)
 by_next_before : (by : ℕ → History) (done : ℕ) (new : History) (k : ℕ) → (k ≡ done → ⊥) → by_next by done new k ≡ by k
 unfolding by_next
 by_next_before by done new k apart = grind (arith, nat_tests)
+
+-- the same events and answers, told otherwise
+pub told_as : (P : List EventData → List AnswerData → Type 0) {events events' : List EventData} {answers answers' : List AnswerData}
+    → events' ≡ events → answers' ≡ answers → P events answers → P events' answers'
+told_as P {events} {events'} {answers} {answers'} same_events same_answers holds =
+    subst (λ (x : List EventData). P x answers') (sym same_events) (subst (λ (x : List AnswerData). P events x) (sym same_answers) holds)
 
 -- a history at which some events had returned, when none was in doubt
 abbrev Settled : (sectors n : ℕ) → Stored → List EventData → List AnswerData → History → Type 0
@@ -353,6 +362,23 @@ module _ (sectors n : ℕ) (start : Stored) (events : List EventData) (answers :
   settled_now image (inl w) none = holds_as sectors n start image (sym (all_events w.0 w.1)) (sym (all_answers w.0 w.1)) w.3
   settled_now image (inr w) none = absurd (none w.0 w.1)
 
+  -- of what was left up to the history before the event
+  images_before : (k : ℕ) → k ≤ length answers → (image : Image) → LeftSince h (moment (so_far.by k)) image → RunImage sectors n start events answers k image
+  images_before k le image left = told_as (λ asked given. RunImage sectors n start asked given k image)
+      (sym (take_all (length answers) events (omega (arith, same)))) (sym (take_all (length answers) answers (omega arith)))
+      (so_far.images k (length answers) le (omega arith) image
+      (subst (λ (x : History). LeftSince x (moment (so_far.by k)) image) (sym so_far.ends) left))
+
+  image_now : ((k : ℕ) → k ≤ length answers → (image : Image) → LeftSince new (moment (so_far.by k)) image → RunImage sectors n start events' answers' k image)
+      → ((image : Image) → MayLeave new image → RunImage sectors n start events' answers' (length answers + 1) image)
+      → (k : ℕ) → k ≤ length answers + 1 → (image : Image) → LeftSince new (moment (next_by k)) image → RunImage sectors n start events' answers' k image
+  image_now past now k le image left = ⊎_elim
+      (λ (last : k ≡ length answers + 1). subst (λ (j : ℕ). RunImage sectors n start events' answers' j image) (sym last)
+      (now image (only_now new image (subst (λ (x : History). LeftSince new (moment x) image) (by_now k last) left))))
+      (λ (sooner : k ≡ length answers + 1 → ⊥). let le' : k ≤ length answers = omega (arith, sooner, le) in
+      past k le' image (subst (λ (x : History). LeftSince new (moment x) image) (by_before k le') left))
+      (cases_eq k (length answers + 1))
+
   run_step : ((k : ℕ) → k ≤ length answers → (image : Image) → LeftSince new (moment (so_far.by k)) image
       → RunImage sectors n start events' answers' k image)
       → ((image : Image) → MayLeave new image → RunImage sectors n start events' answers' (length answers + 1) image)
@@ -381,12 +407,15 @@ module _ (sectors n : ℕ) (start : Stored) (events : List EventData) (answers :
         (λ (sooner : k ≡ length answers + 1 → ⊥). let le' : k ≤ length answers = omega (arith, sooner, le, longer) in
         settled_as sectors n start (first_events k le') (first_answers k le') (by_before k le') (so_far.settled k le'))
         (cases_eq k (length answers + 1));
-    images = λ k le image left. ⊎_elim
-        (λ (last : k ≡ length answers + 1). subst (λ (j : ℕ). RunImage sectors n start events' answers' j image) (sym last)
-        (now image (only_now new image (subst (λ (x : History). LeftSince new (moment x) image) (by_now k last) left))))
-        (λ (sooner : k ≡ length answers + 1 → ⊥). let le' : k ≤ length answers = omega (arith, sooner, le, longer) in
-        past k le' image (subst (λ (x : History). LeftSince new (moment x) image) (by_before k le') left))
-        (cases_eq k (length answers + 1));
+    images = λ k m le le' image left. ⊎_elim
+        (λ (last : m ≡ length answers + 1).
+        told_as (λ asked given. RunImage sectors n start asked given k image) (all_events m (omega (arith, last))) (all_answers m (omega (arith, last)))
+        (image_now past now k (omega (arith, le, last)) image (subst (λ (x : History). LeftSince x (moment (next_by k)) image) (by_now m last) left)))
+        (λ (sooner : m ≡ length answers + 1 → ⊥). let le'' : m ≤ length answers = omega (arith, sooner, le', longer) in
+        told_as (λ asked given. RunImage sectors n start asked given k image) (first_events m le'') (first_answers m le'')
+        (so_far.images k m le le'' image (subst (λ (x : History). LeftSince x (moment (so_far.by k)) image) (by_before m le'')
+        (subst (λ (x : History). LeftSince (next_by m) (moment x) image) (by_before k (omega (arith, le, le''))) left))))
+        (cases_eq m (length answers + 1));
   }
 
   -- what was reached earlier, and what is reached now
@@ -432,8 +461,8 @@ module _ (sectors n : ℕ) (start : Stored) (events : List EventData) (answers :
 
     pub run_broken : RunLeaves sectors n start events' answers' old new
     run_broken = run_step
-        (λ k le image left. more k image (so_far.images k le image (subst (λ (x : History). LeftSince x (moment (so_far.by k)) image) unchanged left)))
-        (λ image may. at_end image (so_far.images (length answers) (omega arith) image
+        (λ k le image left. more k image (images_before k le image (subst (λ (x : History). LeftSince x (moment (so_far.by k)) image) unchanged left)))
+        (λ image may. at_end image (images_before (length answers) (omega arith) image
         (since_now h (moment (so_far.by (length answers))) image (so_far.earlier (length answers) (omega arith))
         (subst (λ (x : History). MayLeave x image) unchanged may))))
 
@@ -471,7 +500,7 @@ module _ (sectors n : ℕ) (start : Stored) (events : List EventData) (answers :
 
     pub run_unbroken : RunLeaves sectors n start events' answers' old new
     run_unbroken = run_step
-        (λ k le image left. ⊎_elim (λ was. past_image k image (so_far.images k le image was))
+        (λ k le image left. ⊎_elim (λ was. past_image k image (images_before k le image was))
         (λ now. during k image le (as_edit sectors n (reached start events answers) event answer image now))
         (left_before h new (EventLeaves sectors n (reached start events answers) event answer) call (moment (so_far.by k)) image (so_far.earlier k le) left))
         (λ image may. ⊎_elim
@@ -493,12 +522,6 @@ run_goes_on sectors n start events answers event answer old h new same so_far tr
     (subst (λ (x : History). Follows h x) (sym (quiet refl).1) (follows_itself h)) (quiet refl).0 (quiet refl).1
 run_goes_on sectors n start events answers event answer old h new same so_far false quiet alive call after =
     run_unbroken sectors n start events answers event answer old h new same so_far (call refl).follows (alive refl) (call refl) (after refl)
-
--- the same events and answers, told otherwise
-pub told_as : (P : List EventData → List AnswerData → Type 0) {events events' : List EventData} {answers answers' : List AnswerData}
-    → events' ≡ events → answers' ≡ answers → P events answers → P events' answers'
-told_as P {events} {events'} {answers} {answers'} same_events same_answers holds =
-    subst (λ (x : List EventData). P x answers') (sym same_events) (subst (λ (x : List AnswerData). P events x) (sym same_answers) holds)
 
 -- the same sizes, told otherwise
 pub sized_as : (P : ℕ → ℕ → Type 0) {sectors sectors' n n' : ℕ} → sectors' ≡ sectors → n' ≡ n → P sectors' n' → P sectors n

@@ -89,5 +89,7 @@ pub record RunFits (sectors n : ℕ) (start : Stored) (events : List EventData) 
   -- then a crash leaves what was acknowledged by then, unless an edit was in doubt
   pub settled : (k : ℕ) → k ≤ length answers → NoneInDoubt (take k events) (take k answers)
       → (image : Image) → MayLeave (by k) image → Holds sectors n (reached start (take k events) (take k answers)) image
-  -- and from then on, at any moment of the run, it leaves that and some of what was asked for later
-  pub fits : (k : ℕ) → k ≤ length answers → (image : Image) → LeftSince new (moment (by k)) image → ImageFits sectors n start events answers k image
+  -- and at any moment between then and the time at which the first m events had returned, it leaves that and some of what was asked
+  -- for by then
+  pub fits : (k m : ℕ) → k ≤ m → m ≤ length answers → (image : Image) → LeftSince (by m) (moment (by k)) image
+      → ImageFits sectors n start (take m events) (take m answers) k image

@@ -74,8 +74,9 @@ impl<D: Sectors + Drop> Service<D> {
         ensures size { self.new.size ≡ self.old.size }
         ensures count { D.sectors self.new.disk ≡ D.sectors self.old.disk }
         ensures honest { D.honest self.new.disk → D.honest self.old.disk }
+        ensures untouched { self.old.broken ≡ true → self.new.disk ≡ self.old.disk }
 
-        // A crash at any moment of the run leaves some first edits of it, all that were acknowledged by then among them.
+        // A crash at any moment of the run leaves some first edits of it: all that were acknowledged by then, and none asked for later.
         ensures any_moment { (stored : Stored) → D.honest self.new.disk → IsUp (D.sectors self.old.disk) (D.history self.old.disk) stored self.old
             → IfOk result (λ answers. RunFits (D.sectors self.old.disk) self.old.size stored (map event_data events.items) (map answer_data answers.items)
             (D.history self.old.disk) (D.history self.new.disk)) }

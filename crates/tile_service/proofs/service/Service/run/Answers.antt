@@ -26,6 +26,7 @@ loop-event-init g c = let none = c.in-Ok.ensures.items in record {
   size = refl;
   count = refl;
   honest = λ honest. honest;
+  untouched = λ broken. (broken, refl);
   machine = λ archive. subst (λ l. Runs (state_of archive c.args.self.now) [] (map answer_data l) (state_of archive c.args.self.now)) (sym none) refl;
   doubt = λ e doubt. absurd (omega (arith, doubt.in_events));
   up = λ stored honest up unbroken. up;
@@ -69,6 +70,7 @@ loop-event-preserved g c =
       size = call.size ∙ inv.size;
       count = call.count ∙ inv.count;
       honest = λ honest. inv.honest (call.honest honest);
+      untouched = λ broken. let was = inv.untouched broken in ((broken_stays _ _ _ _ step was.0).0, call.untouched was.0 ∙ was.1);
       machine = λ archive.
           told_as (λ asked told. Runs (state_of archive c.args.self.now) asked told (state_of archive new)) events_are answers_are
           (runs_on _ _ _ events answers _ _ (inv.machine archive) (call.machine archive));
@@ -105,4 +107,4 @@ returns-clause-any_moment g c stored honest up =
     let all = sym (append-nil c.loop-event.yielded) ∙ ap (λ l. c.loop-event.yielded ++ l) (sym empty) ∙ inv.items in
     subst (λ l. RunFits (g.D.Sectors.sectors c.args.self.now.disk) c.args.self.now.size stored (map event_data l) (map answer_data c.loop-event.answers.items)
     (g.D.Sectors.history c.args.self.now.disk) (g.D.Sectors.history c.loop-event.self.disk)) all
-    (run_fits _ _ stored _ _ _ _ inv.same (inv.leaves stored honest up))
+    (run_fits _ _ stored _ _ _ _ (inv.leaves stored honest up))

@@ -22,6 +22,7 @@ invariant-loop-event g l = record {
   size : l.self.size ≡ l.initial.self.size;
   count : g.D.Sectors.sectors l.self.disk ≡ g.D.Sectors.sectors l.initial.self.disk;
   honest : g.D.Sectors.honest l.self.disk → g.D.Sectors.honest l.initial.self.disk;
+  untouched : l.initial.self.broken ≡ true → (l.self.broken ≡ true) × (l.self.disk ≡ l.initial.self.disk);
   machine : (archive : ArchiveState)
       → Runs (state_of archive l.initial.self) (map event_data l.yielded) (map answer_data l.answers.items) (state_of archive l.self);
   doubt : (e : EditData) → IsInDoubt (map event_data l.yielded) (map answer_data l.answers.items) e → l.self.broken ≡ true;
