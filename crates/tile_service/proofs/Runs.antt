@@ -2,12 +2,12 @@
 use Rattle.std.proofs.Common.{◌≡◌, ◌≢◌, ◌⊎◌, inl, inr, ℕ, Bool, true, false, List, [], ◌∷◌, ◌++◌, Result, Ok, Err, refl, sym, ◌∙◌, ap, subst}
 use Rattle.std.specs.Prelude.{IfErr, OnOk}
 use Rattle.std.proofs.lemmas.Bool.{false≢true}
-use Rattle.sector_disk.specs.Disk.{History, Image}
+use Rattle.sector_disk.specs.Disk.{History, Image, HasFailed}
 use Rattle.sector_disk.specs.Moments.{LeavesOnly}
 use Rattle.sector_disk.proofs.History.{started}
 use Rattle.feature_model.specs.Data.{EditData, put, delete}
 use Rattle.tile_service.specs.Machine.{ArchiveState, ServiceState, EventData, edit, tile, look, AnswerData, edited, shown, found, refused, RefusesEdit, Steps, Runs}
-use Rattle.tile_service.specs.Service.{edit_answer, EventLeaves, stored_after}
+use Rattle.tile_service.specs.Service.{edit_answer, CountsDevice, EventLeaves, stored_after}
 use Rattle.tile_service.specs.Stored.{Stored, Holds, Keeps, with_edit}
 use Rattle.tile_service.specs.declared.fault.ServiceFault.{ServiceFault}
 use Rattle.tile_service.specs.declared.fault.ServiceFault.TheVariants.{Broken, Limit, NotFound, NumbersSpent, Memory, JournalFull, Device}
@@ -129,6 +129,46 @@ was_unbroken old new event answer step unbroken = (
   is_false old.broken (λ broken. clash new.broken unbroken (broken_stays old new event answer step broken).0),
   λ failed. clash new.broken unbroken (device_breaks old new event (subst (λ (a : AnswerData). Steps old event a new) failed step)),
 )
+
+pub true_or_false : (b : Bool) → (b ≡ true) ⊎ (b ≡ false)
+true_or_false true = inl refl
+true_or_false false = inr refl
+
+still : (old new : ServiceState) → new ≡ old → old.broken ≡ false → new.broken ≡ false
+still old new same unbroken = ap (λ (s : ServiceState). s.broken) same ∙ unbroken
+
+-- an edit that is refused for another fault than the disk's changes nothing
+refused_stays : (old new : ServiceState) (e : EditData) (fault : ServiceFault) → RefusesEdit old e fault new → fault ≢ Device → new ≡ old
+refused_stays old new (put id f) Broken step not = step.1
+refused_stays old new (delete id) Broken step not = step.1
+refused_stays old new (put id f) (Limit limit) step not = step.2
+refused_stays old new (delete id) (Limit limit) step not = absurd step
+refused_stays old new (put id f) NotFound step not = absurd step
+refused_stays old new (delete id) NotFound step not = step.2
+refused_stays old new (put id f) NumbersSpent step not = step.3
+refused_stays old new (delete id) NumbersSpent step not = step.3
+refused_stays old new (put id f) Memory step not = step.1
+refused_stays old new (delete id) Memory step not = absurd step
+refused_stays old new (put id f) (JournalFull need free) step not = step.4
+refused_stays old new (delete id) (JournalFull need free) step not = step.4
+refused_stays old new e Device step not = absurd (not refl)
+
+-- where an edit leaves the service unbroken, no call of the disk failed
+pub edit_faults : (old new : ServiceState) (e : EditData) (result : Result ℕ ServiceFault) (before after : ℕ) → Steps old (edit e) (edit_answer result) new
+    → OnOk result (after ≡ before) → IfErr result (λ fault. CountsDevice fault before after) → new.broken ≡ false → after ≡ before
+edit_faults old new e (Ok number) before after step done counts unbroken = done
+edit_faults old new e (Err fault) before after step done (inl w) unbroken = absurd (clash new.broken unbroken
+    (device_breaks old new (edit e) (subst (λ (x : ServiceFault). Steps old (edit e) (refused x) new) w.0 step)))
+edit_faults old new e (Err fault) before after step done (inr w) unbroken = w.1
+
+-- and where it breaks the service, one did
+pub edit_fails : (old new : ServiceState) (e : EditData) (result : Result ℕ ServiceFault) (before after : ℕ) → Steps old (edit e) (edit_answer result) new
+    → IfErr result (λ fault. CountsDevice fault before after) → old.broken ≡ false → new.broken ≡ true → HasFailed before after
+edit_fails old new e (Ok number) before after step counts unbroken broken =
+    absurd (clash new.broken (ap (λ (s : ServiceState). s.broken) step.made ∙ unbroken) broken)
+edit_fails old new e (Err fault) before after step (inl w) unbroken broken = w.1
+edit_fails old new e (Err fault) before after step (inr w) unbroken broken =
+    absurd (clash new.broken (still old new (refused_stays old new e fault step w.0) unbroken) broken)
 
 -- ---- a run
 

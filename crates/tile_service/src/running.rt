@@ -1,5 +1,6 @@
 //! Runs of events.
 ghost use Rattle.std.specs.Prelude.{◌≡◌, ◌≢◌, true, false, map, IfErr, IfOk};
+ghost use Rattle.sector_disk.specs.Disk.{HasFailed};
 ghost use Rattle.sector_disk.specs.Moments.{LeavesOnly};
 ghost use Rattle.feature_model.specs.Data.{feature_data};
 ghost use Rattle.tile_service.specs.Events.{event_data, answer_data};
@@ -47,6 +48,8 @@ impl<D: Sectors + Drop> Service<D> {
         ensures size { self.new.size ≡ self.old.size }
         ensures count { D.sectors self.new.disk ≡ D.sectors self.old.disk }
         ensures honest { D.honest self.new.disk → D.honest self.old.disk }
+        ensures faults { self.new.broken ≡ false → D.faults self.new.disk ≡ D.faults self.old.disk }
+        ensures failed { self.old.broken ≡ false → self.new.broken ≡ true → HasFailed (D.faults self.old.disk) (D.faults self.new.disk) }
         ensures untouched { self.old.broken ≡ true → self.new.disk ≡ self.old.disk }
         ensures any_moment { (stored : Stored) → D.honest self.new.disk → IsUp (D.sectors self.old.disk) (D.history self.old.disk) stored self.old
             → LeavesOnly (D.history self.old.disk) (D.history self.new.disk)
@@ -74,6 +77,8 @@ impl<D: Sectors + Drop> Service<D> {
         ensures size { self.new.size ≡ self.old.size }
         ensures count { D.sectors self.new.disk ≡ D.sectors self.old.disk }
         ensures honest { D.honest self.new.disk → D.honest self.old.disk }
+        ensures faults { self.new.broken ≡ false → D.faults self.new.disk ≡ D.faults self.old.disk }
+        ensures failed { self.old.broken ≡ false → self.new.broken ≡ true → HasFailed (D.faults self.old.disk) (D.faults self.new.disk) }
         ensures untouched { self.old.broken ≡ true → self.new.disk ≡ self.old.disk }
 
         // A crash at any moment of the run leaves some first edits of it: all that were acknowledged by then, and none asked for later.

@@ -3,7 +3,7 @@ use Rattle.feature_model.specs.Data.{put, delete, feature_data}
 use Rattle.tile_service.specs.Events.{event_data}
 use Rattle.tile_service.specs.Machine.{EventData, refused, Steps}
 use Rattle.tile_service.specs.Service.{IsUp, state_of, tile_answer}
-use Rattle.tile_service.proofs.Runs.{no_archive, broken_refuses, after_answer, writes_nothing}
+use Rattle.tile_service.proofs.Runs.{no_archive, broken_refuses, edit_faults, edit_fails, after_answer, writes_nothing}
 use Rattle.tile_service.proofs.service.Service.answer.Goals as goal
 
 pub returns-in-Put-clause-untouched : goal.returns-in-Put-clause-untouched
@@ -45,3 +45,15 @@ returns-in-Err-clause-any_moment g c stored honest up =
 
 pub returns-in-Look-clause-any_moment : goal.returns-in-Look-clause-any_moment
 returns-in-Look-clause-any_moment g c stored honest up = writes_nothing _ _ stored _ _ _ _ refl up.keeps
+
+pub returns-in-Put-clause-faults : goal.returns-in-Put-clause-faults
+returns-in-Put-clause-faults g c = edit_faults _ _ _ c.put.result _ _ (c.put.ensures.machine no_archive) c.put.ensures.faults c.put.ensures.failed
+
+pub returns-in-Put-clause-failed : goal.returns-in-Put-clause-failed
+returns-in-Put-clause-failed g c = edit_fails _ _ _ c.put.result _ _ (c.put.ensures.machine no_archive) c.put.ensures.failed
+
+pub returns-in-Delete-clause-faults : goal.returns-in-Delete-clause-faults
+returns-in-Delete-clause-faults g c = edit_faults _ _ _ c.delete.result _ _ (c.delete.ensures.machine no_archive) c.delete.ensures.faults c.delete.ensures.failed
+
+pub returns-in-Delete-clause-failed : goal.returns-in-Delete-clause-failed
+returns-in-Delete-clause-failed g c = edit_fails _ _ _ c.delete.result _ _ (c.delete.ensures.machine no_archive) c.delete.ensures.failed

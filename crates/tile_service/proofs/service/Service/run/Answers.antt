@@ -1,9 +1,10 @@
-use Rattle.std.proofs.Common.{◌≡◌, ℕ, ◌+◌, List, [], ◌∷◌, ◌++◌, length, map, true, is_ok, if◌then◌else◌, refl, sym, ◌∙◌, ap, subst, arith, append_assoc, length-append}
+use Rattle.std.proofs.Common.{◌≡◌, ◌⊎◌, ⊎_elim, ℕ, ◌+◌, List, [], ◌∷◌, ◌++◌, length, map, true, false, is_ok, if◌then◌else◌, refl, sym, ◌∙◌, ap, subst, arith, append_assoc, length-append}
 use Rattle.std.proofs.lemmas.Bool.{false≢true}
 use Rattle.std.proofs.lemmas.List.{map-append, append-nil}
 use Rattle.std.specs.Vec.{vec_len}
 use Rattle.std.specs.Vec.Iter.{into_iter_items}
 use Rattle.feature_model.specs.Data.{EditData}
+use Rattle.sector_disk.specs.Disk.{HasFailed}
 use Rattle.sector_disk.specs.Moments.{LeavesOnly}
 use Rattle.tile_service.specs.Events.{event_data, answer_data}
 use Rattle.tile_service.specs.Machine.{EventData, AnswerData, Runs}
@@ -11,7 +12,7 @@ use Rattle.tile_service.specs.Runs.{reached, IsInDoubt, RunFits}
 use Rattle.tile_service.specs.Service.{IsUp, EventLeaves, state_of, stored_after}
 use Rattle.tile_service.specs.Stored.{Stored, Keeps}
 use Rattle.tile_service.proofs.Fits.{RunLeaves, reached_on, doubt_breaks, run_starts, run_goes_on, run_fits, told_as, sized_as}
-use Rattle.tile_service.proofs.Runs.{no_archive, broken_stays, was_unbroken, runs_on}
+use Rattle.tile_service.proofs.Runs.{no_archive, broken_stays, true_or_false, was_unbroken, runs_on}
 use Rattle.tile_service.proofs.service.Service.run.Goals as goal
 
 pub loop-event-init : goal.loop-event-init
@@ -26,6 +27,8 @@ loop-event-init g c = let none = c.in-Ok.ensures.items in record {
   size = refl;
   count = refl;
   honest = λ honest. honest;
+  faults = λ unbroken. refl;
+  failed = λ unbroken broken. absurd (false≢true (sym unbroken ∙ broken));
   untouched = λ broken. (broken, refl);
   machine = λ archive. subst (λ l. Runs (state_of archive c.args.self.now) [] (map answer_data l) (state_of archive c.args.self.now)) (sym none) refl;
   doubt = λ e doubt. absurd (omega (arith, doubt.in_events));
@@ -70,6 +73,12 @@ loop-event-preserved g c =
       size = call.size ∙ inv.size;
       count = call.count ∙ inv.count;
       honest = λ honest. inv.honest (call.honest honest);
+      faults = λ unbroken. call.faults unbroken ∙ inv.faults (was_unbroken _ _ _ _ step unbroken).0;
+      failed = λ unbroken broken. ⊎_elim
+          (λ (was : c.loop-event.self.broken ≡ true). subst (λ d. HasFailed (g.D.Sectors.faults c.args.self.now.disk) (g.D.Sectors.faults d))
+          (sym (call.untouched was)) (inv.failed unbroken was))
+          (λ (not : c.loop-event.self.broken ≡ false). subst (λ count. HasFailed count (g.D.Sectors.faults new.disk)) (inv.faults not) (call.failed not broken))
+          (true_or_false c.loop-event.self.broken);
       untouched = λ broken. let was = inv.untouched broken in ((broken_stays _ _ _ _ step was.0).0, call.untouched was.0 ∙ was.1);
       machine = λ archive.
           told_as (λ asked told. Runs (state_of archive c.args.self.now) asked told (state_of archive new)) events_are answers_are

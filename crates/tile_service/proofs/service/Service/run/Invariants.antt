@@ -1,6 +1,7 @@
 use Rattle.std.proofs.Common.{◌≡◌, ◌≤◌, ◌++◌, length, map, true, false}
 use Rattle.std.specs.Vec.{vec_len, vec_capacity}
 use Rattle.std.specs.Vec.Iter.{into_iter_items, into_iter_len}
+use Rattle.sector_disk.specs.Disk.{HasFailed}
 use Rattle.feature_model.specs.Data.{EditData}
 use Rattle.tile_service.specs.Events.{event_data, answer_data}
 use Rattle.tile_service.specs.Machine.{ArchiveState, Runs}
@@ -22,6 +23,9 @@ invariant-loop-event g l = record {
   size : l.self.size ≡ l.initial.self.size;
   count : g.D.Sectors.sectors l.self.disk ≡ g.D.Sectors.sectors l.initial.self.disk;
   honest : g.D.Sectors.honest l.self.disk → g.D.Sectors.honest l.initial.self.disk;
+  faults : l.self.broken ≡ false → g.D.Sectors.faults l.self.disk ≡ g.D.Sectors.faults l.initial.self.disk;
+  failed : l.initial.self.broken ≡ false → l.self.broken ≡ true
+      → HasFailed (g.D.Sectors.faults l.initial.self.disk) (g.D.Sectors.faults l.self.disk);
   untouched : l.initial.self.broken ≡ true → (l.self.broken ≡ true) × (l.self.disk ≡ l.initial.self.disk);
   machine : (archive : ArchiveState)
       → Runs (state_of archive l.initial.self) (map event_data l.yielded) (map answer_data l.answers.items) (state_of archive l.self);
