@@ -1,5 +1,5 @@
 -- Texts and the edits that they are of.
-use Rattle.std.proofs.Common.{◌≡◌, ◌⊎◌, inl, inr, ℕ, zero, suc, ◌<◌, ◌≤◌, ◌+◌, List, [], ◌∷◌, ◌++◌, length, take, drop, get_or}
+use Rattle.std.proofs.Common.{◌≡◌, inl, inr, ℕ, zero, suc, ◌<◌, ◌≤◌, ◌+◌, List, [], ◌∷◌, ◌++◌, length, take, drop, get_or}
 use Rattle.std.proofs.Common.{Result, Ok, Err, IfErr, Vec, Global, refl, sym, ◌∙◌, ap, subst, arith, append-nil}
 use Rattle.std.proofs.lemmas.List.{take_more}
 use Rattle.std.proofs.lemmas.List.Elements.{All-nil, All-cons, All-append, All-head, All-tail}
@@ -11,8 +11,7 @@ use Rattle.feature_model.specs.Types.{IsEdit}
 use Rattle.feature_store.specs.Store.{FeatureMap, changed, after, snapshot}
 use Rattle.feature_store.proofs.Laws.{snapshot_after_put, snapshot_after_delete}
 use Rattle.generations.specs.declared.fault.StoreFault.{StoreFault}
-use Rattle.generations.specs.declared.fault.StoreFault.TheVariants.{Damaged, Memory}
-use Rattle.generations.specs.declared.fault.What.TheVariants.{Text}
+use Rattle.generations.specs.declared.fault.StoreFault.TheVariants.{Memory}
 use Rattle.tile_service.specs.Replayed.{IsTextOf, IsPut, IsTextFault, AreTextsOf, IsReplayFault, bytes_of, views_of}
 use Rattle.tile_service.proofs.Appends.{spelled_with}
 

@@ -6,7 +6,8 @@ use Rattle.sector_disk.specs.Disk.{History, Image, HasFailed}
 use Rattle.sector_disk.specs.Moments.{LeavesOnly}
 use Rattle.sector_disk.proofs.History.{started}
 use Rattle.feature_model.specs.Data.{EditData, put, delete}
-use Rattle.tile_service.specs.Machine.{ArchiveState, ServiceState, EventData, edit, tile, look, AnswerData, edited, shown, found, refused, RefusesEdit, Steps, Runs}
+use Rattle.tile_service.specs.Machine.{ArchiveState, ServiceState, EventData, edit, tile, look, AnswerData, edited, shown, found, refused}
+use Rattle.tile_service.specs.Machine.{RefusesEdit, Steps, Runs}
 use Rattle.tile_service.specs.Service.{edit_answer, CountsDevice, EventLeaves, stored_after}
 use Rattle.tile_service.specs.Stored.{Stored, Holds, Keeps, with_edit}
 use Rattle.tile_service.specs.declared.fault.ServiceFault.{ServiceFault}

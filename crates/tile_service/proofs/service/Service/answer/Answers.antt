@@ -53,7 +53,8 @@ pub returns-in-Put-clause-failed : goal.returns-in-Put-clause-failed
 returns-in-Put-clause-failed g c = edit_fails _ _ _ c.put.result _ _ (c.put.ensures.machine no_archive) c.put.ensures.failed
 
 pub returns-in-Delete-clause-faults : goal.returns-in-Delete-clause-faults
-returns-in-Delete-clause-faults g c = edit_faults _ _ _ c.delete.result _ _ (c.delete.ensures.machine no_archive) c.delete.ensures.faults c.delete.ensures.failed
+returns-in-Delete-clause-faults g c =
+    edit_faults _ _ _ c.delete.result _ _ (c.delete.ensures.machine no_archive) c.delete.ensures.faults c.delete.ensures.failed
 
 pub returns-in-Delete-clause-failed : goal.returns-in-Delete-clause-failed
 returns-in-Delete-clause-failed g c = edit_fails _ _ _ c.delete.result _ _ (c.delete.ensures.machine no_archive) c.delete.ensures.failed
