@@ -1,11 +1,12 @@
 mod Appends
 mod Bytes
+pub mod Callers
 mod Edits
-mod Fits
+pub mod Fits
 mod Fresh
 pub mod Laws
 mod Opens
 mod Replays
 mod Roots
-mod Runs
+pub mod Runs
 mod Steps
