@@ -1,1 +1,3 @@
+mod Along
+mod Connections
 mod Told

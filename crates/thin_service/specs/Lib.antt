@@ -1,4 +1,5 @@
 pub mod Bodies
+pub mod Connections
 pub mod Requests
 pub mod State
 pub mod Words

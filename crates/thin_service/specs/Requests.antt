@@ -1,5 +1,5 @@
 -- Requests to the service, and their replies.
-use Rattle.std.specs.Prelude.{◌≡◌, ◌≢◌, ℕ, ◌⊎◌, Bool, nat_eq, List, Option, Result, codes, if◌then◌else◌}
+use Rattle.std.specs.Prelude.{◌≡◌, ◌≢◌, ℕ, ◌⊎◌, Bool, true, nat_eq, List, Option, Result, codes, if◌then◌else◌}
 use Rattle.std.specs.Cmp.Lexicographic.{pointwise}
 use Rattle.http_serve.specs.Requests.{RequestView}
 use Rattle.http_serve.specs.Reply.{ReplyView}
@@ -68,6 +68,8 @@ module _ {D : Type 0} (sectors : D → ℕ) (honest : D → Type 0) (history : D
     pub size : new.size ≡ old.size
     pub count : sectors new.disk ≡ sectors old.disk
     pub stays_honest : honest new.disk → honest old.disk
+    -- a broken service writes no more
+    pub untouched : old.broken ≡ true → new.disk ≡ old.disk
     pub any_moment : (stored : Stored) → honest new.disk → IsUp (sectors old.disk) (history old.disk) stored old
         → LeavesOnly (history old.disk) (history new.disk) (EventLeaves (sectors old.disk) old.size stored (events.edit e) answer)
     pub after : (stored : Stored) → honest new.disk → IsUp (sectors old.disk) (history old.disk) stored old → answer ≢ refused Device

@@ -5,7 +5,8 @@ ghost use Rattle.http_serve.specs.Told.{IsServed, IsServedUpTo, HasContent, Meet
 ghost use Rattle.http_serve.specs.Reply.{reply_view, IsWritable};
 ghost use Rattle.thin_service.specs.Bodies.{HasBodyFault};
 ghost use Rattle.thin_service.specs.Requests.{AnswersTile, AnswersEdit, AnswersPut, Answers};
-ghost use Rattle.thin_service.specs.State.{ServiceReplies};
+ghost use Rattle.thin_service.specs.Connections.{Run, no_events, Tells, TakesRun};
+ghost use Rattle.thin_service.specs.State.{asked_service, ServiceReplies};
 ghost use Rattle.thin_service.specs.Words.{refusal_of};
 
 use crate::bodies::feature_in;
@@ -145,6 +146,15 @@ pub fn thin_serve<D: Sectors + Drop, R: Read, W: Write>(
     ensures whole { IfErr result (HasContent []) }
     ensures turns { IfOk result (λ served. MeetsTurns MOST_READS (R.remaining reader.old) (R.remaining reader.new) served.end) }
     ensures reads { KeepsTurns MOST_READS result (R.remaining reader.old) (R.remaining reader.new) }
+
+    // The replies tell a run of events. A crash at any moment of the connection leaves some first edits of it: all that were
+    // acknowledged by then, and none asked for later.
+    ensures any_moment { IfOk result (λ served. (run : Run)
+        × IsServed Tells no_events (R.remaining reader.old) (W.contents writer.old) served run (R.remaining reader.new) (W.contents writer.new)
+        × TakesRun D.sectors D.honest D.history (asked_service service.old) run (asked_service service.new)) }
+    ensures any_moment_of_fault { IfErr result (λ fault. (run : Run)
+        × IsServedUpTo Tells no_events (R.remaining reader.old) (W.contents writer.old) fault run (R.remaining reader.new) (W.contents writer.new)
+        × TakesRun D.sectors D.honest D.history (asked_service service.old) run (asked_service service.new)) }
 {
     serve(alloc, reader, writer, service)
 }

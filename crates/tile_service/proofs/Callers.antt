@@ -1,5 +1,6 @@
 -- A run of events as any caller of a service makes it, event by event.
-use Rattle.std.proofs.Common.{◌≡◌, ◌≢◌, ℕ, List, [], ◌∷◌, ◌++◌, length, true, false, refl, sym, ◌∙◌, ap, subst, arith, length-append}
+use Rattle.std.proofs.Common.{◌≡◌, ◌≢◌, ℕ, List, [], ◌∷◌, ◌++◌, length, true, false, refl, sym, ◌∙◌}
+use Rattle.std.proofs.Common.{ap, subst, arith, length-append}
 use Rattle.std.proofs.lemmas.Bool.{false≢true}
 use Rattle.sector_disk.specs.Disk.{History}
 use Rattle.sector_disk.specs.Moments.{LeavesOnly}
@@ -84,8 +85,10 @@ module _ {D : Type 0} (sectors : D → ℕ) (honest : D → Type 0) (history : D
         let here = so.up stored (step.stays_honest is_honest) up in
         run_goes_on (sectors old.disk) old.size stored events answers event answer (history old.disk) (history now.disk) (history new.disk) so.same
         (so.leaves stored (step.stays_honest is_honest) up) now.broken
-        (λ broken. ((broken_stays (state_of no_archive now) (state_of no_archive new) event answer taken broken).1,
-        ap (λ (d : D). history d) (step.untouched broken)))
+        (λ broken. (
+          (broken_stays (state_of no_archive now) (state_of no_archive new) event answer taken broken).1,
+          ap (λ (d : D). history d) (step.untouched broken),
+        ))
         (λ unbroken e doubt. false≢true (sym unbroken ∙ so.doubt e doubt))
         (λ unbroken. sized_as
         (λ count n. LeavesOnly (history now.disk) (history new.disk) (EventLeaves count n (reached stored events answers) event answer))
