@@ -1,4 +1,5 @@
 mod Formats
+pub mod Installs
 pub mod Laws
 mod Live
 mod Parts

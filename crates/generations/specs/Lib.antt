@@ -1,5 +1,6 @@
 pub mod Areas
 pub mod Disks
 pub mod Faults
+pub mod Installs
 pub mod Sectors
 pub mod Written

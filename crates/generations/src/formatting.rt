@@ -1,6 +1,6 @@
 //! The format of a disk.
 ghost use Rattle.std.specs.Prelude.{◌≡◌, ◌⊎◌, ◌≤◌, ◌<◌, ◌+◌, ◌↔◌, ℕ, List, Err, IfErr, OnOk, OnErr};
-ghost use Rattle.sector_disk.specs.Disk.{Image, seen, MayHold, MayLeave, HasFailed};
+ghost use Rattle.sector_disk.specs.Disk.{Image, seen, MayHold, MayLeave, HasFailed, moment};
 ghost use Rattle.sector_disk.specs.Disk.History.{wrote, synced};
 ghost use Rattle.sector_disk.specs.Moments.{Within, LeavesOnly};
 ghost use Rattle.generations.specs.Areas.{IsSize};
@@ -29,7 +29,12 @@ const FIRST_ROOT: Root = Root {
     archive_len: 0,
 };
 
-fn write_and_sync<D: Sectors>(disk: &mut D, at: u64, sector: &[u8; 512]) -> Result<(), DiskFault>
+/// Writes a sector, and has it outlive a crash.
+pub(crate) fn write_and_sync<D: Sectors>(
+    disk: &mut D,
+    at: u64,
+    sector: &[u8; 512],
+) -> Result<(), DiskFault>
     requires { at < D.sectors disk.old }
     ensures count { D.sectors disk.new ≡ D.sectors disk.old }
     ensures honest { D.honest disk.new → D.honest disk.old }
@@ -38,6 +43,7 @@ fn write_and_sync<D: Sectors>(disk: &mut D, at: u64, sector: &[u8; 512]) -> Resu
     ensures leaves { D.honest disk.new → LeavesOnly (D.history disk.old) (D.history disk.new)
         (λ image. (index : ℕ) → IsOldOr (D.history disk.old) at sector.now index (image index)) }
     ensures stands { D.honest disk.new → OnOk result (D.history disk.new ≡ synced (wrote at sector.now (D.history disk.old))) }
+    ensures steps { D.honest disk.new → moment (D.history disk.new) ≤ moment (D.history disk.old) + 2 }
 {
     disk.write(at, sector)?;
     disk.sync()?;

@@ -6,6 +6,7 @@ mod checks;
 mod encoding;
 mod fault;
 mod formatting;
+mod installing;
 mod layout;
 mod reading;
 mod root;
@@ -13,6 +14,7 @@ mod sizes;
 
 pub use fault::{StoreFault, What};
 pub use formatting::format;
+pub use installing::{install, write_area};
 pub use layout::Layout;
 pub use reading::read_root;
 pub use root::Root;

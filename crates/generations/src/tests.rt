@@ -4,6 +4,7 @@ ghost use Rattle.std.specs.Prelude.{◌≡◌, ◌<◌, ◌≤◌, IfOk, length}
 mod bytes;
 mod crashes;
 mod disks;
+mod installs;
 
 use sector_disk::{MemoryDisk, Sectors};
 use std::alloc::{AllocError, Global};
