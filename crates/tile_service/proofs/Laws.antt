@@ -3,7 +3,7 @@ use Rattle.std.proofs.Common.{◌≡◌, ℕ, suc, ◌+◌, List, [], ◌∷◌,
 use Rattle.std.specs.List.{All}
 use Rattle.std.proofs.lemmas.List.Elements.{All-head, All-tail}
 use Rattle.sector_disk.specs.Disk.{Image}
-use Rattle.generations.specs.Areas.{sectors_of}
+use Rattle.generations.specs.Areas.{area_start, sectors_of}
 use Rattle.generations.specs.declared.root.Root.{Root}
 use Rattle.generations.proofs.Laws.{one_live}
 use Rattle.edit_journal.specs.Ring.{Ring, Start, HoldsTexts}
@@ -15,7 +15,7 @@ use Rattle.feature_model.specs.Spelled.{spelled}
 use Rattle.feature_model.specs.Types.{IsEdit}
 use Rattle.feature_store.specs.Store.{snapshot}
 use Rattle.feature_store.proofs.Laws.{snapshot_of_one_map}
-use Rattle.tile_service.specs.Stored.{Stored, Holds, root_of, area_start, HasBytes, texts_of, journal_ring, journal_start}
+use Rattle.tile_service.specs.Stored.{Stored, Holds, root_of, HasBytes, texts_of, journal_ring, journal_start}
 pub use Rattle.tile_service.proofs.Appends.{append_leaves}
 use Rattle.tile_service.proofs.Bytes.{one_bytes}
 pub use Rattle.tile_service.proofs.Fresh.{fresh_holds}

@@ -3,7 +3,7 @@ use Rattle.std.specs.Prelude.{◌≡◌, ◌⊎◌, ◌<◌, ◌+◌, ◌*◌, �
 use Rattle.std.proofs.Common.{suc}
 use Rattle.sector_disk.specs.Disk.{Image, History, MayLeave}
 use Rattle.sector_disk.specs.declared.disk.TheConstants.{SECTOR_BYTES}
-use Rattle.generations.specs.Areas.{journal_sectors, area_sectors, sectors_of}
+use Rattle.generations.specs.Areas.{journal_sectors, area_start, sectors_of}
 use Rattle.generations.specs.Sectors.{IsFormat, IsRootOf, IsNoRoot}
 use Rattle.generations.specs.declared.root.Root.{Root}
 use Rattle.edit_journal.specs.Ring.{Ring, Start, HoldsTexts}
@@ -52,10 +52,6 @@ root_of stored = record {
 -- the journal begins behind the sectors of the format and of the two roots
 abbrev pub journal_ring : ℕ → Ring
 journal_ring n = record { first = 3; places = journal_sectors n }
-
--- the first sector of the area of a generation
-abbrev pub area_start : (n generation : ℕ) → ℕ
-area_start n generation = 3 + journal_sectors n + (generation % 2) * area_sectors n
 
 -- the part of the bytes in one of the sectors that they take
 abbrev pub sector_piece : List ℕ → ℕ → List ℕ
