@@ -61,7 +61,7 @@ edits_push [] text are is = (is, tt)
 edits_push (first ∷ texts) text are is = (are.0, edits_push texts text are.1 is)
 
 -- what follows from a sync that is done
-on_ok : {P : Type 0} (result : Result (Unit {0}) DiskFault) (old new : History) → Syncs result old new → (new ≡ synced old → P) → OnOk result P
+pub on_ok : {P : Type 0} (result : Result (Unit {0}) DiskFault) (old new : History) → Syncs result old new → (new ≡ synced old → P) → OnOk result P
 on_ok (Ok done) old new syncs then = then syncs
 on_ok (Err fault) old new syncs then = tt
 

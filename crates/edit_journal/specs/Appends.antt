@@ -1,5 +1,5 @@
 -- What an append leaves of a journal, at each moment.
-use Rattle.std.specs.Prelude.{◌≡◌, ◌⊎◌, ◌<◌, ◌≤◌, ◌+◌, ◌-◌, ◌^◌, ℕ, List, [], ◌∷◌, ◌++◌, length}
+use Rattle.std.specs.Prelude.{◌≡◌, ◌⊎◌, ◌<◌, ◌≤◌, ◌+◌, ◌-◌, ◌^◌, ◌==◌, if◌then◌else◌, ℕ, List, [], ◌∷◌, ◌++◌, length}
 use Rattle.std.proofs.Common.{suc}
 use Rattle.sector_disk.specs.Disk.{History, Image, MayHold, MayLeave, HasFailed}
 use Rattle.edit_journal.specs.Records.{parts_of, record_sector}
@@ -53,6 +53,11 @@ OldOrBody old ring place used number text at sector = MayHold old at sector ⊎ 
 abbrev pub BodiesStand : History → Ring → (place used number : ℕ) → List ℕ → Type 0
 BodiesStand history ring place used number text = (part : ℕ) (sector : List ℕ) → 0 < part → part < parts_of (length text)
     → MayHold history (sector_at ring (place + (used + part))) sector → sector ≡ record_sector RECORD_VERSION number text part
+
+-- how many writes and syncs a record of so many parts takes: a write for each part, a sync behind its bodies, if it has any,
+-- and a sync behind its head
+abbrev pub steps_of : ℕ → ℕ
+steps_of parts = parts + (if parts == 1 then 1 else 2)
 
 -- why an append of so many parts comes to nothing, and what it makes of the count of faults
 abbrev pub IsAppendFault : Journal → (parts old new : ℕ) → JournalFault → Type 0

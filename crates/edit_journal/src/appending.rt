@@ -1,11 +1,11 @@
 //! A record on the disk: its bodies, a sync, its head, a sync.
 ghost use Rattle.std.specs.Prelude.{◌≡◌, ◌⊎◌, ◌≤◌, ◌<◌, ◌+◌, ◌-◌, ◌^◌, ◌++◌, ◌∷◌, [], ℕ, List, length, IfOk, IfErr, OnOk, OnErr};
-ghost use Rattle.sector_disk.specs.Disk.{seen, HasFailed};
+ghost use Rattle.sector_disk.specs.Disk.{seen, moment, HasFailed};
 ghost use Rattle.sector_disk.specs.Moments.{Within, LeavesOnly};
 ghost use Rattle.edit_journal.specs.Records.{IsEditLength, parts_of};
 ghost use Rattle.edit_journal.specs.Ring.{sector_at};
 ghost use Rattle.edit_journal.specs.Appends.{ring_of, start_of, Keeps, IsAt, AsBefore, ReadsAsBefore, HoldsOneMore, OldOrBody, BodiesStand};
-ghost use Rattle.edit_journal.specs.Appends.{IsAppendFault};
+ghost use Rattle.edit_journal.specs.Appends.{steps_of, IsAppendFault};
 ghost use Rattle.edit_journal.specs.declared.fault.JournalFault.TheVariants.{Device};
 
 use crate::encoding::{count_parts, part_sector};
@@ -51,6 +51,10 @@ fn stage<D: Sectors>(
         → Within (D.history disk.new) (OldOrBody (D.history disk.old) (ring_of journal.now) journal.now.place journal.now.used number text.now) }
     ensures bodies { D.honest disk.new
         → OnOk result (BodiesStand (D.history disk.new) (ring_of journal.now) journal.now.place journal.now.used number text.now) }
+
+    // Of the record's writes and syncs only the write of its head and the sync behind it are left.
+    ensures steps { D.honest disk.new
+        → OnOk result (moment (D.history disk.new) + 2 ≡ moment (D.history disk.old) + steps_of (parts_of (length text.now))) }
 {
     let parts = count_parts(text.len() as u32);
     for part in 1..parts {
@@ -84,6 +88,8 @@ fn write_record<D: Sectors>(journal: &Journal, disk: &mut D, text: &[u8]) -> Res
     ensures acknowledged { (texts : List (List ℕ)) → D.honest disk.new → IsAt texts journal.now (D.history disk.old)
         → OnOk result (Keeps (ring_of journal.now) journal.now.place journal.now.edits (journal.now.used + parts_of (length text.now)) (journal.now.last + 1)
         (texts ++ text.now ∷ []) (D.history disk.new)) }
+    ensures steps { D.honest disk.new
+        → OnOk result (moment (D.history disk.new) ≡ moment (D.history disk.old) + steps_of (parts_of (length text.now))) }
 {
     let number = journal.last + 1;
     stage(journal, disk, number, text)?;
@@ -122,6 +128,10 @@ impl Journal {
             → LeavesOnly (D.history disk.old) (D.history disk.new) (HoldsOneMore (ring_of self.old) (start_of self.old.place self.old.edits) texts text.now) }
         ensures acknowledged { (texts : List (List ℕ)) → D.honest disk.new → IsAt texts self.old (D.history disk.old)
             → OnOk result (IsAt (texts ++ text.now ∷ []) self.new (D.history disk.new)) }
+
+        // It takes one write for each part, and one sync, or two where there are several parts.
+        ensures steps { D.honest disk.new
+            → OnOk result (moment (D.history disk.new) ≡ moment (D.history disk.old) + steps_of (parts_of (length text.now))) }
     {
         if self.last == u64::MAX {
             return Err(JournalFault::NumbersSpent);

@@ -1,11 +1,13 @@
 //! Edits: a text in the journal first, and then a change of the map.
-ghost use Rattle.std.specs.Prelude.{◌≡◌, ◌≢◌, ◌↔◌, IfErr, OnOk, IsSome, IsTrue};
+ghost use Rattle.std.specs.Prelude.{◌≡◌, ◌≢◌, ◌↔◌, ◌+◌, IfErr, OnOk, IsSome, IsTrue};
+ghost use Rattle.sector_disk.specs.Disk.{moment};
 ghost use Rattle.sector_disk.specs.Moments.{LeavesOnly};
+ghost use Rattle.edit_journal.specs.Appends.{steps_of};
 ghost use Rattle.feature_model.specs.Data.{feature_data, put, delete};
 ghost use Rattle.feature_model.specs.Limits.{NumberFits};
 ghost use Rattle.feature_store.specs.Store.{feature_at};
 ghost use Rattle.tile_service.specs.Limits.{KeepsLimits, BreaksLimit};
-ghost use Rattle.tile_service.specs.Machine.{ArchiveState, edit, Steps};
+ghost use Rattle.tile_service.specs.Machine.{ArchiveState, edit, places_for, Steps};
 ghost use Rattle.tile_service.specs.Service.{IsUp, state_of, edit_answer, EventLeaves, CountsDevice, told_as};
 ghost use Rattle.tile_service.specs.Stored.{Stored, with_edit};
 ghost use Rattle.tile_service.specs.declared.fault.ServiceFault.TheVariants.{Limit, Device};
@@ -85,6 +87,10 @@ impl<D: Sectors + Drop> Service<D> {
             → OnOk result (IsUp (D.sectors self.new.disk) (D.history self.new.disk) (with_edit stored (put id (feature_data feature))) self.new) }
         ensures refused { (stored : Stored) → D.honest self.new.disk → IsUp (D.sectors self.old.disk) (D.history self.old.disk) stored self.old
             → IfErr result (λ fault. fault ≢ Device → IsUp (D.sectors self.new.disk) (D.history self.new.disk) stored self.new) }
+
+        // It takes a write for each sector of its text, and one sync, or two where there are several.
+        ensures steps { D.honest self.new.disk
+            → OnOk result (moment (D.history self.new.disk) ≡ moment (D.history self.old.disk) + steps_of (places_for (put id (feature_data feature)))) }
     {
         if self.broken {
             return Err(ServiceFault::Broken);
@@ -138,6 +144,8 @@ impl<D: Sectors + Drop> Service<D> {
             → OnOk result (IsUp (D.sectors self.new.disk) (D.history self.new.disk) (with_edit stored (delete id)) self.new) }
         ensures refused { (stored : Stored) → D.honest self.new.disk → IsUp (D.sectors self.old.disk) (D.history self.old.disk) stored self.old
             → IfErr result (λ fault. fault ≢ Device → IsUp (D.sectors self.new.disk) (D.history self.new.disk) stored self.new) }
+        ensures steps { D.honest self.new.disk
+            → OnOk result (moment (D.history self.new.disk) ≡ moment (D.history self.old.disk) + steps_of (places_for (delete id))) }
     {
         if self.broken {
             return Err(ServiceFault::Broken);

@@ -1,4 +1,5 @@
-use Rattle.std.proofs.Common.{◌∙◌, ◌<◌, inl, refl, arith}
+use Rattle.std.proofs.Common.{◌∙◌, ◌<◌, inl, refl, ap, arith}
+use Rattle.sector_disk.specs.Disk.{moment}
 use Rattle.edit_journal.specs.Appends.{ring_of}
 use Rattle.edit_journal.proofs.Bodies.{staged_start, body_within, body_leaves, body_reads, body_seen, synced_within, synced_leaves}
 use Rattle.edit_journal.proofs.appending.stage.Goals as goal
@@ -13,6 +14,7 @@ loop-part-init g c = record {
       (omega arith) c.requires.room;
   within = λ honest at left may. inl may;
   bodies = λ honest part pos lt. absurd (omega (arith, pos, lt));
+  steps = λ honest. refl;
 }
 
 pub loop-part-preserved : goal.loop-part-preserved
@@ -37,6 +39,7 @@ loop-part-preserved g c =
       bodies = λ honest. body_seen (g.D.Sectors.history c.args.disk.now) (ring_of c.args.journal.now) c.args.journal.now.place c.args.journal.now.used
           c.args.number c.args.text.now begins c.requires.room c.loop-part.part _ _ _ _ (omega arith) c.sector_of-at.ensures.is c.part_sector-sector.ensures
           (ok.writes honest) (inv.bodies (ok.honest honest));
+      steps = λ honest. omega (arith, ap moment (ok.writes honest), inv.steps (ok.honest honest));
     }
 
 pub returns-in_err-sync-clause-within : goal.returns-in_err-sync-clause-within

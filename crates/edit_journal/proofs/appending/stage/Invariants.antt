@@ -1,5 +1,5 @@
 use Rattle.std.proofs.Common.{◌≡◌, ◌<◌, ◌+◌, ℕ}
-use Rattle.sector_disk.specs.Disk.{seen}
+use Rattle.sector_disk.specs.Disk.{seen, moment}
 use Rattle.sector_disk.specs.Moments.{Within, LeavesOnly}
 use Rattle.edit_journal.specs.declared.sizes.TheConstants.{RECORD_VERSION}
 use Rattle.edit_journal.specs.Records.{record_sector}
@@ -21,4 +21,5 @@ invariant-loop-part g l = record {
   bodies : g.D.Sectors.honest l.disk → (part : ℕ) → 0 < part → part < l.part
       → seen (g.D.Sectors.history l.disk) (sector_at (ring_of l.journal) (l.journal.place + (l.journal.used + part)))
       ≡ record_sector RECORD_VERSION l.number l.text part;
+  steps : g.D.Sectors.honest l.disk → moment (g.D.Sectors.history l.disk) + 1 ≡ moment (g.D.Sectors.history l.initial.disk) + l.part;
 }

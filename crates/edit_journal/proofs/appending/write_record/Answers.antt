@@ -1,7 +1,8 @@
-use Rattle.std.proofs.Common.{◌+◌, arith}
+use Rattle.std.proofs.Common.{◌+◌, ap, arith}
+use Rattle.sector_disk.specs.Disk.{moment}
 use Rattle.edit_journal.specs.Appends.{ring_of}
 use Rattle.edit_journal.proofs.Frames.{frame_end}
-use Rattle.edit_journal.proofs.Heads.{stage_leaves, head_leaves, end_leaves, end_keeps}
+use Rattle.edit_journal.proofs.Heads.{on_ok, stage_leaves, head_leaves, end_leaves, end_keeps}
 use Rattle.edit_journal.proofs.appending.write_record.Goals as goal
 
 pub returns-in_err-stage-clause-any_moment : goal.returns-in_err-stage-clause-any_moment
@@ -45,3 +46,10 @@ returns-clause-acknowledged g c texts honest before =
     _ (c.stage.ensures.within staged) (c.in_ok-stage.ensures.bodies staged)
     _ c.sector_of-at.ensures.is _ c.part_sector-head.ensures _ _ (c.write.ensures.writes written) (c.stage.ensures.leaves staged)
     _ _ (c.sync.ensures.syncs honest) (c.in_ok-write.ensures.writes written)
+
+pub returns-clause-steps : goal.returns-clause-steps
+returns-clause-steps g c honest =
+    let written = c.sync.ensures.honest honest in
+    let staged = c.write.ensures.honest written in
+    on_ok c.sync.result _ _ (c.sync.ensures.syncs honest)
+    (λ synced_is. omega (arith, ap moment synced_is, ap moment (c.in_ok-write.ensures.writes written), c.in_ok-stage.ensures.steps staged))
