@@ -1,13 +1,19 @@
-//! Numbers that are written in decimal digits, by the standard library's parser.
+//! Numbers in decimal digits: read by the standard library's parser, written by `itoa`.
 #![tactic(auto)]
 
-ghost use Rattle.std.specs.Prelude.{◌≡◌, ◌^◌, ◌<◌, ◌≤◌, true, length, MatchOption};
+ghost use Rattle.std.specs.Prelude.{◌≡◌, ◌^◌, ◌<◌, ◌≤◌, ◌+◌, ◌++◌, true, length, decimal, vec_len, vec_capacity, MatchOption};
 ghost use Rattle.std.specs.List.{list_all};
 ghost use Rattle.std.specs.Char.{is_ascii_digit};
 ghost use Rattle.std.specs.Str.Parse.{digits_value};
+ghost use Rattle.decimal_number.specs.declared.TheConstants.{MOST_DIGITS};
+
+use itoa::Buffer;
 
 #[cfg(test)]
 mod tests;
+
+/// The most digits of a number below 2^64.
+pub const MOST_DIGITS: usize = 20;
 
 /// Whether each byte is a digit.
 pub fn are_digits(bytes: &[u8]) -> bool
@@ -26,4 +32,24 @@ pub fn digits_number(digits: &[u8]) -> Option<u64>
         Ok(text) => text.parse::<u64>().ok(),
         Err(_) => None,
     }
+}
+
+/// Adds text where there is room. It takes no memory.
+pub fn push_text(out: &mut Vec<u8>, text: &[u8])
+    requires room { vec_len out.old + length text.now ≤ vec_capacity out.old }
+    ensures items { out.new.items ≡ out.old.items ++ text.now }
+    ensures len { vec_len out.new ≡ vec_len out.old + length text.now }
+    ensures capacity { vec_capacity out.old ≤ vec_capacity out.new }
+{
+    out.extend_from_slice(text).unwrap();
+}
+
+/// Adds a number in decimal digits, without zeros in front, where there is room. It takes no memory.
+pub fn push_number(out: &mut Vec<u8>, number: u64)
+    requires room { vec_len out.old + MOST_DIGITS ≤ vec_capacity out.old }
+    ensures items { out.new.items ≡ out.old.items ++ decimal number }
+    ensures len { vec_len out.new ≤ vec_len out.old + MOST_DIGITS }
+    ensures capacity { vec_capacity out.old ≤ vec_capacity out.new }
+{
+    push_text(out, Buffer::new().format(number).as_bytes());
 }

@@ -21,3 +21,22 @@ fn numbers(rt: HostRuntime) -> Result<(), Fail> {
     }
     Ok(())
 }
+
+#[test]
+fn written(rt: HostRuntime) -> Result<(), Fail> {
+    let mut out = Vec::with_capacity(rt.alloc(), 128)?;
+    push_text(&mut out, b"of ");
+    push_number(&mut out, 0);
+    push_text(&mut out, b", ");
+    push_number(&mut out, 7);
+    push_text(&mut out, b", ");
+    push_number(&mut out, 65_536);
+    push_text(&mut out, b", ");
+    push_number(&mut out, u64::MAX);
+    push_text(&mut out, b".");
+    assert_eq!(rt;
+        out.as_slice(),
+        b"of 0, 7, 65536, 18446744073709551615.".as_slice()
+    );
+    Ok(())
+}

@@ -1,6 +1,7 @@
 //! Replies and their bytes.
-ghost use Rattle.std.specs.Prelude.{◌≡◌, ◌≤◌, ◌<◌, ◌+◌, ◌++◌, length, decimal, vec_len, vec_capacity, IfSome, None, not, ◌||◌};
+ghost use Rattle.std.specs.Prelude.{◌≡◌, ◌≤◌, ◌<◌, ◌+◌, ◌*◌, ◌++◌, length, vec_len, vec_capacity, IfSome, None, not, ◌||◌};
 ghost use Rattle.std.specs.Option.{option_map};
+ghost use Rattle.decimal_number.specs.declared.TheConstants.{MOST_DIGITS};
 ghost use Rattle.http_serve.specs.Parts.{front_content, front_bytes};
 ghost use Rattle.http_serve.specs.Reply.{HasShortWords, head_view, content_size, phrase_of, part_line, unsatisfied_line};
 ghost use Rattle.http_serve.specs.Reply.{range_line, word_line, length_line, closing_line, field_lines, reply_head, has_no_content};
@@ -8,8 +9,8 @@ ghost use Rattle.http_serve.specs.Sent.{Sends};
 ghost use Rattle.http_serve.specs.declared.replies.TheConstants.{MOST_WORD};
 
 use crate::writes::{WriteFault, send_all, send_both};
+use decimal_number::{push_number, push_text};
 use http::StatusCode;
-use itoa::Buffer;
 use std::io::Write;
 
 /// The most bytes of the type of a content, and of the list of methods.
@@ -103,16 +104,6 @@ impl Reply {
     }
 }
 
-// Adds text where there is room.
-fn put(out: &mut Vec<u8>, text: &[u8])
-    requires { vec_len out.old + length text.now ≤ vec_capacity out.old }
-    ensures items { out.new.items ≡ out.old.items ++ text.now }
-    ensures len { vec_len out.new ≡ vec_len out.old + length text.now }
-    ensures capacity { vec_capacity out.old ≤ vec_capacity out.new }
-{
-    out.extend_from_slice(text).unwrap();
-}
-
 /// The reason phrase of a status, or nothing where it has none.
 fn phrase_of(status: StatusCode) -> &'static str
     ensures value { result.now ≡ phrase_of status }
@@ -132,48 +123,41 @@ fn closing_line(close: bool) -> &'static [u8]
     if close { b"connection: close\r\n" } else { b"" }
 }
 
-/// Adds a number in decimal, and the text behind it.
-fn put_number(out: &mut Vec<u8>, number: u64, behind: &[u8])
-    requires { vec_len out.old + 40 + length behind.now ≤ vec_capacity out.old }
-    ensures items { out.new.items ≡ out.old.items ++ (decimal number ++ behind.now) }
-    ensures len { vec_len out.new ≤ vec_len out.old + 40 + length behind.now }
-    ensures capacity { vec_capacity out.old ≤ vec_capacity out.new }
-{
-    put(out, Buffer::new().format(number).as_bytes());
-    put(out, behind);
-}
-
 /// Adds the line of a part.
 #[tactic(auto, unfolding(crate::specs::Reply::part_line))]
 fn put_part_line(out: &mut Vec<u8>, first: u64, last: u64, total: u64)
-    requires room { vec_len out.old + 145 ≤ vec_capacity out.old }
+    requires room { vec_len out.old + 3 * MOST_DIGITS + 25 ≤ vec_capacity out.old }
     ensures items { out.new.items ≡ out.old.items ++ part_line first last total }
-    ensures len { vec_len out.new ≤ vec_len out.old + 145 }
+    ensures len { vec_len out.new ≤ vec_len out.old + 3 * MOST_DIGITS + 25 }
     ensures capacity { vec_capacity out.old ≤ vec_capacity out.new }
 {
-    put(out, b"content-range: bytes ");
-    put_number(out, first, b"-");
-    put_number(out, last, b"/");
-    put_number(out, total, b"\r\n");
+    push_text(out, b"content-range: bytes ");
+    push_number(out, first);
+    push_text(out, b"-");
+    push_number(out, last);
+    push_text(out, b"/");
+    push_number(out, total);
+    push_text(out, b"\r\n");
 }
 
 /// Adds the line of a range that isn't there.
 #[tactic(auto, unfolding(crate::specs::Reply::unsatisfied_line))]
 fn put_unsatisfied_line(out: &mut Vec<u8>, total: u64)
-    requires room { vec_len out.old + 65 ≤ vec_capacity out.old }
+    requires room { vec_len out.old + MOST_DIGITS + 25 ≤ vec_capacity out.old }
     ensures items { out.new.items ≡ out.old.items ++ unsatisfied_line total }
-    ensures len { vec_len out.new ≤ vec_len out.old + 65 }
+    ensures len { vec_len out.new ≤ vec_len out.old + MOST_DIGITS + 25 }
     ensures capacity { vec_capacity out.old ≤ vec_capacity out.new }
 {
-    put(out, b"content-range: bytes */");
-    put_number(out, total, b"\r\n");
+    push_text(out, b"content-range: bytes */");
+    push_number(out, total);
+    push_text(out, b"\r\n");
 }
 
 /// Adds the line of the range, where there is one.
 fn put_range_line(out: &mut Vec<u8>, range: Option<ContentRange>)
-    requires room { vec_len out.old + 145 ≤ vec_capacity out.old }
+    requires room { vec_len out.old + 3 * MOST_DIGITS + 25 ≤ vec_capacity out.old }
     ensures items { out.new.items ≡ out.old.items ++ range_line range }
-    ensures len { vec_len out.new ≤ vec_len out.old + 145 }
+    ensures len { vec_len out.new ≤ vec_len out.old + 3 * MOST_DIGITS + 25 }
     ensures capacity { vec_capacity out.old ≤ vec_capacity out.new }
 {
     match range {
@@ -195,30 +179,31 @@ fn put_word_line(out: &mut Vec<u8>, name: &[u8], word: Option<&str>)
     let Some(word) = word else {
         return;
     };
-    put(out, name);
-    put(out, word.as_bytes());
-    put(out, b"\r\n");
+    push_text(out, name);
+    push_text(out, word.as_bytes());
+    push_text(out, b"\r\n");
 }
 
 /// Adds the line of the length.
 #[tactic(auto, unfolding(crate::specs::Reply::length_line))]
 fn put_length_line(out: &mut Vec<u8>, size: u64)
-    requires { vec_len out.old + 58 ≤ vec_capacity out.old }
+    requires { vec_len out.old + MOST_DIGITS + 18 ≤ vec_capacity out.old }
     ensures items { out.new.items ≡ out.old.items ++ length_line size }
-    ensures len { vec_len out.new ≤ vec_len out.old + 58 }
+    ensures len { vec_len out.new ≤ vec_len out.old + MOST_DIGITS + 18 }
     ensures capacity { vec_capacity out.old ≤ vec_capacity out.new }
 {
-    put(out, b"content-length: ");
-    put_number(out, size, b"\r\n");
+    push_text(out, b"content-length: ");
+    push_number(out, size);
+    push_text(out, b"\r\n");
 }
 
 /// Adds the lines of the fields.
 #[tactic(auto, unfolding(crate::specs::Reply::type_name, crate::specs::Reply::allow_name))]
 fn put_field_lines(out: &mut Vec<u8>, reply: &Reply)
     requires words { HasShortWords (head_view reply.now) }
-    requires room { vec_len out.old + 356 ≤ vec_capacity out.old }
+    requires room { vec_len out.old + 4 * MOST_DIGITS + 196 ≤ vec_capacity out.old }
     ensures items { out.new.items ≡ out.old.items ++ field_lines (head_view reply.now) }
-    ensures len { vec_len out.new ≤ vec_len out.old + 356 }
+    ensures len { vec_len out.new ≤ vec_len out.old + 4 * MOST_DIGITS + 196 }
     ensures capacity { vec_capacity out.old ≤ vec_capacity out.new }
 {
     if reply.has_no_content() {
@@ -241,14 +226,14 @@ fn put_reply_head(out: &mut Vec<u8>, reply: &Reply, close: bool)
     ensures capacity { vec_capacity out.old ≤ vec_capacity out.new }
 {
     out.clear();
-    put(out, b"HTTP/1.1 ");
-    put(out, reply.status.as_str().as_bytes());
-    put(out, b" ");
-    put(out, phrase_of(reply.status).as_bytes());
-    put(out, b"\r\n");
+    push_text(out, b"HTTP/1.1 ");
+    push_text(out, reply.status.as_str().as_bytes());
+    push_text(out, b" ");
+    push_text(out, phrase_of(reply.status).as_bytes());
+    push_text(out, b"\r\n");
     put_field_lines(out, reply);
-    put(out, closing_line(close));
-    put(out, b"\r\n");
+    push_text(out, closing_line(close));
+    push_text(out, b"\r\n");
 }
 
 /// How many bytes of replies are gathered for one write.
@@ -275,7 +260,7 @@ pub(crate) fn send_front<W: Write>(
         b""
     };
     if content.len() <= REPLY_SPACE - out.len() {
-        put(out, content);
+        push_text(out, content);
         return send_all(writer, out.as_slice());
     }
     send_both(writer, out.as_slice(), content)

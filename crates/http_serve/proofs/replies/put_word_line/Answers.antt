@@ -8,6 +8,6 @@ unfolding word_line
 returns-clause-items c =
     let name = c.args.name.now in
     let word = c.in-Some.word.now in
-    three_added c.args.out.now.items name word line_end _ _ _ c.put.ensures.items
-    (c.put-2.ensures.items ∙ ap (λ (t : List ℕ). c.put.new.out.items ++ t) c.as_bytes.ensures.value) c.put-3.ensures.items
+    three_added c.args.out.now.items name word line_end _ _ _ c.push_text.ensures.items
+    (c.push_text-2.ensures.items ∙ ap (λ (t : List ℕ). c.push_text.new.out.items ++ t) c.as_bytes.ensures.value) c.push_text-3.ensures.items
     ∙ ap (λ (o : Option (Bor (List ℕ))). c.args.out.now.items ++ word_line name (option_map (λ (k : Bor (List ℕ)). k.now) o)) (sym c.in-Some.is)
