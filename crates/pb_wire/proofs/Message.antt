@@ -49,7 +49,8 @@ pub field_parts : (bytes : List ℕ) (x : Entry × ℕ) → field_at bytes ≡ O
 unfolding field_at
 field_parts bytes x e =
     let key = then_ok (varint_at bytes) (behind_key bytes) x e in
-    let rest = guard_ok ((eqb (key.0.0 / 8) 0) || ltb 536870911 (key.0.0 / 8)) Number (value_at (key.0.0 % 8) (drop key.0.1 bytes) >>= made_field key.0) x key.2 in
+    let rest = guard_ok ((eqb (key.0.0 / 8) 0) || ltb 536870911 (key.0.0 / 8)) Number
+    (value_at (key.0.0 % 8) (drop key.0.1 bytes) >>= made_field key.0) x key.2 in
     let value = then_ok (value_at (key.0.0 % 8) (drop key.0.1 bytes)) (made_field key.0) x rest.1 in
     record {
       key = key.0;
