@@ -6,6 +6,7 @@ mod crashes;
 mod disks;
 mod installs;
 
+use crate::Root;
 use sector_disk::{MemoryDisk, Sectors};
 use std::alloc::{AllocError, Global};
 
@@ -34,6 +35,17 @@ fn root(numbers: [u64; 5]) -> [u8; 512] {
     sector[32..40].copy_from_slice(&snapshot_len.to_le_bytes());
     sector[40..48].copy_from_slice(&archive_len.to_le_bytes());
     sector
+}
+
+/// The numbers of a root, in the order in which they stand.
+fn numbers_of(root: Root) -> [u64; 5] {
+    [
+        root.generation,
+        root.edits,
+        root.journal_at,
+        root.snapshot_len,
+        root.archive_len,
+    ]
 }
 
 /// A disk in memory with these first sectors, synced.

@@ -27,6 +27,15 @@ fn reads(
     Ok(())
 }
 
+/// The integers are written for these points, and read as them.
+fn spells_points(rt: &impl Abort, alloc: Global, points: &[Pt], ints: &[u32]) -> Result<(), Fail>
+    requires { CanSpell (shapes.points points.now) }
+{
+    assert_eq!(rt; encode_points(alloc, points)?.as_slice(), ints);
+    let shape = Shape::Points(points.to_vec(alloc)?);
+    reads(rt, alloc, ShapeKind::Points, ints, &shape)
+}
+
 /// The integers are written for these lines, and read as them.
 fn spells_lines(
     rt: &impl Abort,
@@ -53,30 +62,11 @@ fn spells_rings(
     reads(rt, alloc, ShapeKind::Polygons, ints, &Shape::Rings(rings))
 }
 
-/// "Example Point" of the standard.
+/// "Example Point" and "Example Multi Point" of the standard.
 #[test]
-fn one_point(rt: HostRuntime) -> Result<(), Fail> {
-    let points = [pt(25, 17)];
-    let ints = [9, 50, 34];
-    assert_eq!(rt;
-        encode_points(rt.alloc(), &points)?.as_slice(),
-        ints.as_slice()
-    );
-    let shape = Shape::Points(points.to_vec(rt.alloc())?);
-    reads(&rt, rt.alloc(), ShapeKind::Points, &ints, &shape)
-}
-
-/// "Example Multi Point" of the standard.
-#[test]
-fn two_points(rt: HostRuntime) -> Result<(), Fail> {
-    let points = [pt(5, 7), pt(3, 2)];
-    let ints = [17, 10, 14, 3, 9];
-    assert_eq!(rt;
-        encode_points(rt.alloc(), &points)?.as_slice(),
-        ints.as_slice()
-    );
-    let shape = Shape::Points(points.to_vec(rt.alloc())?);
-    reads(&rt, rt.alloc(), ShapeKind::Points, &ints, &shape)
+fn points_of_the_standard(rt: HostRuntime) -> Result<(), Fail> {
+    spells_points(&rt, rt.alloc(), &[pt(25, 17)], &[9, 50, 34])?;
+    spells_points(&rt, rt.alloc(), &[pt(5, 7), pt(3, 2)], &[17, 10, 14, 3, 9])
 }
 
 /// "Example Multi Linestring" of the standard; the first line is its "Example Linestring".
@@ -146,68 +136,42 @@ fn refuses(rt: &impl Abort, alloc: Global, kind: ShapeKind, ints: &[u32], fault:
     assert_eq!(rt; decode(alloc, kind, ints).err(), Some(fault));
 }
 
-#[test]
-fn names_the_first_fault(rt: HostRuntime) {
-    let alloc = rt.alloc();
-    refuses(&rt, alloc, ShapeKind::Points, &[9, 50], GeometryFault::Cut);
-    refuses(&rt, alloc, ShapeKind::Points, &[1], GeometryFault::Count);
-    refuses(
-        &rt,
-        alloc,
-        ShapeKind::Points,
-        &[10, 50, 34],
-        GeometryFault::Command,
-    );
-    refuses(
-        &rt,
-        alloc,
-        ShapeKind::Points,
-        &[9, 50, 34, 9],
-        GeometryFault::Command,
-    );
-    refuses(&rt, alloc, ShapeKind::Lines, &[9, 4, 4], GeometryFault::Cut);
-    refuses(
-        &rt,
-        alloc,
-        ShapeKind::Lines,
-        &[17, 4, 4, 0, 0],
-        GeometryFault::Count,
-    );
-    refuses(
-        &rt,
-        alloc,
-        ShapeKind::Lines,
-        &[9, 4, 4, 2],
-        GeometryFault::Count,
-    );
-    refuses(
-        &rt,
-        alloc,
+/// Integers that are no shape of this kind, and the first fault that they have.
+const FAULTS: [(ShapeKind, &[u32], GeometryFault); 11] = [
+    (ShapeKind::Points, &[9, 50], GeometryFault::Cut),
+    (ShapeKind::Points, &[1], GeometryFault::Count),
+    (ShapeKind::Points, &[10, 50, 34], GeometryFault::Command),
+    (ShapeKind::Points, &[9, 50, 34, 9], GeometryFault::Command),
+    (ShapeKind::Lines, &[9, 4, 4], GeometryFault::Cut),
+    (ShapeKind::Lines, &[17, 4, 4, 0, 0], GeometryFault::Count),
+    (ShapeKind::Lines, &[9, 4, 4, 2], GeometryFault::Count),
+    (
         ShapeKind::Lines,
         &[9, 4, 4, 10, 2, 2, 15],
         GeometryFault::Command,
-    );
-    refuses(
-        &rt,
-        alloc,
+    ),
+    (
         ShapeKind::Polygons,
         &[9, 0, 0, 10, 2, 2],
         GeometryFault::Count,
-    );
-    refuses(
-        &rt,
-        alloc,
+    ),
+    (
         ShapeKind::Polygons,
         &[9, 0, 0, 18, 2, 2, 4, 4],
         GeometryFault::Cut,
-    );
-    refuses(
-        &rt,
-        alloc,
+    ),
+    (
         ShapeKind::Polygons,
         &[9, 0, 0, 18, 2, 2, 4, 4, 23],
         GeometryFault::Count,
-    );
+    ),
+];
+
+#[test]
+fn names_the_first_fault(rt: HostRuntime) {
+    for (kind, ints, fault) in FAULTS {
+        refuses(&rt, rt.alloc(), kind, ints, fault);
+    }
 }
 
 /// A command that is done 2^29 - 1 times, the most that it can say, with fewer points behind it.

@@ -3,7 +3,7 @@ use Rattle.std.proofs.Common.{◌≡◌, ℕ, zero, suc, ◌+◌, ◌*◌, ◌/�
 use Rattle.std.proofs.Common.{ne_eqb, Result, Ok, Err, refl, sym, ap, subst, ◌∙◌, append_assoc, arith, ◌⊎◌, inl, inr}
 use Rattle.std.specs.Prelude.{◌||◌}
 use Rattle.std.proofs.lemmas.List.{length-drop, length-take, length-append, take-append-drop, drop_at}
-use Rattle.std.proofs.lemmas.Bool.{ltb-false, ltb-true, lt-ltb, le-ltb, eqb-true, eqb-false}
+use Rattle.std.proofs.lemmas.Bool.{false≢true, cases_Bool, ltb-true, lt-ltb, le-ltb, eqb-true, eqb-false}
 use Rattle.reader.specs.Reading.{◌>>=◌}
 use Rattle.reader.proofs.Steps.{failed, not_both, same_fault as same_kind, then_err}
 use Rattle.pb_wire.specs.declared.fault.FaultKind.{FaultKind}
@@ -15,8 +15,8 @@ use Rattle.pb_wire.specs.Items.{Item, item_then, items_in, items_of}
 use Rattle.pb_wire.specs.Faulty.{IsFieldNumber, ValueHas, FieldHas, IsFaulty, no_type, number_cut, number_overlong, eight_cut, bytes_cut, four_cut, key_cut}
 use Rattle.pb_wire.specs.Faulty.{key_overlong, no_number, at_value}
 use Rattle.pb_wire.proofs.VarintLaws.{found_is, spelling_is_found, cut_is, is_cut, overlong_is, is_overlong}
-use Rattle.pb_wire.proofs.Message.{items_first, items_fault, field_len}
-use Rattle.pb_wire.proofs.MessageLaws.{chosen, or_false, field_takes, field_again, whole, item, same_first, items_message}
+use Rattle.pb_wire.proofs.Message.{is_numbered, made_field, behind_key, field_len, items_first, items_fault}
+use Rattle.pb_wire.proofs.MessageLaws.{chosen, field_takes, field_again, whole, item, same_first, items_message}
 
 -- ---- numbers
 
@@ -143,22 +143,7 @@ not_numbered : (n : ℕ) → (eqb n 0 || ltb 536870911 n) ≡ true → IsFieldNu
 not_numbered n e h =
     let none : eqb n 0 ≡ false = ne_eqb n 0 (λ z. absurd (omega (arith, z, h.0))) in
     let low : ltb 536870911 n ≡ false = le-ltb _ _ h.1 in
-    absurd (differ (rw (none, low) at e))
-  where
-    differ : false ≡ true → ⊥
-    differ z = cc
-
-is_numbered : (n : ℕ) → (eqb n 0 || ltb 536870911 n) ≡ false → IsFieldNumber n
-is_numbered n e =
-    let h = or_false (eqb n 0) (ltb 536870911 n) e in
-    let not0 = eqb-false n 0 h.0 in
-    (omega (arith, not0), ltb-false 536870911 n h.1)
-
-abbrev made_field : ℕ × ℕ → Value × ℕ → Result (Entry × ℕ) FaultKind
-made_field key value = Ok (record { number = key.0 / 8; value = value.0 }, key.1 + value.1)
-
-abbrev behind_key : List ℕ → ℕ × ℕ → Result (Entry × ℕ) FaultKind
-behind_key bytes key = cond ((eqb (key.0 / 8) 0) || ltb 536870911 (key.0 / 8)) (Err Number) (value_at (key.0 % 8) (drop key.1 bytes) >>= made_field key)
+    absurd (false≢true (rw (none, low) at e))
 
 field_faults : (bytes : List ℕ) (d : FaultKind) → field_at bytes ≡ Err d → FieldHas bytes d
 unfolding field_at
@@ -177,24 +162,20 @@ field_faults bytes d e =
           ]
     ]
 
-bool_cases : (b : Bool) → (b ≡ true) ⊎ (b ≡ false)
-bool_cases true = inl refl
-bool_cases false = inr refl
-
 field_refused : (bytes : List ℕ) (d : FaultKind) → FieldHas bytes d → field_at bytes ≡ Err d
 unfolding field_at
 field_refused bytes d (key_cut is cut) = rw (is, is_cut bytes cut) refl
 field_refused bytes d (key_overlong is long) = rw (is, is_overlong bytes long) refl
 field_refused bytes d (no_number is key rest k parts spelled none) =
     let read : varint_at bytes ≡ Ok (k, length key) = ap varint_at parts ∙ spelling_is_found key rest k spelled in
-    elim (bool_cases (eqb (k / 8) 0 || ltb 536870911 (k / 8))) [
+    elim (cases_Bool (eqb (k / 8) 0 || ltb 536870911 (k / 8))) [
       | inl b ↦ rw (is, read, b) refl
       | inr b ↦ absurd (none (is_numbered (k / 8) b))
     ]
 field_refused bytes d (at_value key rest k parts spelled number has) =
     let read : varint_at bytes ≡ Ok (k, length key) = ap varint_at parts ∙ spelling_is_found key rest k spelled in
     let behind_it : drop (length key) bytes ≡ rest = ap (drop (length key)) parts ∙ drop_at key rest (length key) refl in
-    elim (bool_cases (eqb (k / 8) 0 || ltb 536870911 (k / 8))) [
+    elim (cases_Bool (eqb (k / 8) 0 || ltb 536870911 (k / 8))) [
       | inl b ↦ absurd (not_numbered (k / 8) b number)
       | inr b ↦ rw (read, b, behind_it, value_refused (k % 8) rest d has) refl
     ]

@@ -1,14 +1,16 @@
 -- Going over a message.
-use Rattle.std.proofs.Common.{◌≡◌, ℕ, zero, suc, ◌+◌, ◌-◌, ◌/◌, ◌%◌, ◌<◌, ◌≤◌, cond, eqb, ltb, List, [], ◌∷◌, length, take, drop, Result, Ok}
+use Rattle.std.proofs.Common.{◌≡◌, ℕ, zero, suc, ◌+◌, ◌-◌, ◌/◌, ◌%◌, ◌<◌, ◌≤◌, false, cond, eqb, ltb, List, [], ◌∷◌, length, take, drop, Result, Ok}
 use Rattle.std.proofs.Common.{Err, refl, ap, arith}
 use Rattle.std.specs.Prelude.{◌||◌}
 use Rattle.std.proofs.lemmas.List.{length-drop, take_all}
+use Rattle.std.proofs.lemmas.Bool.{ltb-false, eqb-false, or_parts}
 use Rattle.reader.specs.Reading.{◌>>=◌}
 use Rattle.reader.proofs.Steps.{then_ok, guard_ok, same_value}
 use Rattle.pb_wire.specs.declared.fault.FaultKind.{FaultKind}
 use Rattle.pb_wire.specs.declared.fault.FaultKind.TheVariants.{Number}
 use Rattle.pb_wire.specs.Varint.{IsGroups, varint_at}
-use Rattle.pb_wire.specs.Message.{Entry, value_at, field_at}
+use Rattle.pb_wire.specs.Message.{Value, Entry, value_at, field_at}
+use Rattle.pb_wire.specs.Faulty.{IsFieldNumber}
 use Rattle.pb_wire.specs.Items.{Item, item_then, items_in}
 use Rattle.pb_wire.proofs.VarintLaws.{found_is}
 
@@ -20,18 +22,49 @@ varint_len bytes n e = let h = found_is bytes n.0 n.1 e in at_least n.1 h.1.grou
     at_least zero h = absurd h
     at_least (suc len) h = omega arith
 
-pub field_len : (bytes : List ℕ) (x : Entry × ℕ) → field_at bytes ≡ Ok x → 0 < x.1
+-- ---- a field in its parts
+
+pub is_numbered : (n : ℕ) → (eqb n 0 || ltb 536870911 n) ≡ false → IsFieldNumber n
+is_numbered n e =
+    let h = or_parts (eqb n 0) (ltb 536870911 n) e in
+    let not0 = eqb-false n 0 h.0 in
+    (omega (arith, not0), ltb-false 536870911 n h.1)
+
+abbrev pub made_field : ℕ × ℕ → Value × ℕ → Result (Entry × ℕ) FaultKind
+made_field key value = Ok (record { number = key.0 / 8; value = value.0 }, key.1 + value.1)
+
+abbrev pub behind_key : List ℕ → ℕ × ℕ → Result (Entry × ℕ) FaultKind
+behind_key bytes key = cond ((eqb (key.0 / 8) 0) || ltb 536870911 (key.0 / 8)) (Err Number) (value_at (key.0 % 8) (drop key.1 bytes) >>= made_field key)
+
+-- the key and the value of which a field was made
+pub record FieldParts (bytes : List ℕ) (x : Entry × ℕ) : Type 0 where
+  pub key : ℕ × ℕ
+  pub value : Value × ℕ
+  pub key_read : varint_at bytes ≡ Ok key
+  pub number : IsFieldNumber (key.0 / 8)
+  pub value_read : value_at (key.0 % 8) (drop key.1 bytes) ≡ Ok value
+  pub made : (record { number = key.0 / 8; value = value.0 }, key.1 + value.1) ≡ x
+
+pub field_parts : (bytes : List ℕ) (x : Entry × ℕ) → field_at bytes ≡ Ok x → FieldParts bytes x
 unfolding field_at
-field_len bytes x e =
-    let key = then_ok (varint_at bytes) (λ key. cond ((eqb (key.0 / 8) 0) || ltb 536870911 (key.0 / 8)) (Err Number)
-    (value_at (key.0 % 8) (drop key.1 bytes) >>= λ value. Ok (record { number = key.0 / 8; value = value.0 }, key.1 + value.1))) x e in
+field_parts bytes x e =
+    let key = then_ok (varint_at bytes) (behind_key bytes) x e in
     let rest = guard_ok ((eqb (key.0.0 / 8) 0) || ltb 536870911 (key.0.0 / 8)) Number
-    (value_at (key.0.0 % 8) (drop key.0.1 bytes) >>= λ value. Ok (record { number = key.0.0 / 8; value = value.0 }, key.0.1 + value.1)) x key.2 in
-    let value = then_ok (value_at (key.0.0 % 8) (drop key.0.1 bytes)) (λ value. Ok (record { number = key.0.0 / 8; value = value.0 }, key.0.1 + value.1))
-    x rest.1 in
-    let made : Entry × ℕ = (record { number = key.0.0 / 8; value = value.0.0 }, key.0.1 + value.0.1) in
-    let is = ap (λ (y : Entry × ℕ). y.1) (same_value {Fault = FaultKind} made x value.2) in
-    omega (arith, varint_len bytes key.0 key.1, is)
+    (value_at (key.0.0 % 8) (drop key.0.1 bytes) >>= made_field key.0) x key.2 in
+    let value = then_ok (value_at (key.0.0 % 8) (drop key.0.1 bytes)) (made_field key.0) x rest.1 in
+    record {
+      key = key.0;
+      value = value.0;
+      key_read = key.1;
+      number = is_numbered (key.0.0 / 8) rest.0;
+      value_read = value.1;
+      made = same_value {Fault = FaultKind} (record { number = key.0.0 / 8; value = value.0.0 }, key.0.1 + value.0.1) x value.2;
+    }
+
+pub field_len : (bytes : List ℕ) (x : Entry × ℕ) → field_at bytes ≡ Ok x → 0 < x.1
+field_len bytes x e = let f = field_parts bytes x e in omega (arith, varint_len bytes f.key f.key_read, ap (λ (y : Entry × ℕ). y.1) f.made)
+
+-- ---- items
 
 item_then_same : (at : ℕ) (a b : ℕ → List Item) (r : Result (Entry × ℕ) FaultKind) → ((x : Entry × ℕ) → r ≡ Ok x → a x.1 ≡ b x.1)
     → item_then at a r ≡ item_then at b r

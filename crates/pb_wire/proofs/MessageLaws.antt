@@ -1,21 +1,20 @@
 -- What is read is spelled so, and what is spelled so is read.
 use Rattle.std.proofs.Common.{◌≡◌, ℕ, zero, suc, ◌+◌, ◌*◌, ◌/◌, ◌%◌, ◌<◌, ◌≤◌, Bool, true, false, cond, eqb, ltb, List, [], ◌∷◌, ◌++◌, length, take, drop, map}
 use Rattle.std.proofs.Common.{ne_eqb, Result, Ok, Err, refl, sym, ap, subst, ◌∙◌, append_assoc, arith, ◌⊎◌, inl, inr}
-use Rattle.std.specs.Prelude.{◌||◌}
 use Rattle.std.proofs.lemmas.List.{length-drop, length-take, length-append, take-append-drop, take_at, drop_at}
 use Rattle.std.proofs.Math.Seq.{take-add}
-use Rattle.std.proofs.lemmas.Bool.{ltb-false, le-ltb, eqb-true, eqb-false}
+use Rattle.std.proofs.lemmas.Bool.{ltb-false, le-ltb, eqb-true}
 use Rattle.reader.specs.Reading.{◌>>=◌}
 use Rattle.reader.proofs.Steps.{then_ok, guard_ok, same_value, not_both}
 use Rattle.pb_wire.specs.declared.fault.FaultKind.{FaultKind}
 use Rattle.pb_wire.specs.declared.fault.WireFault.{WireFault}
-use Rattle.pb_wire.specs.declared.fault.FaultKind.TheVariants.{Cut, Number, WireType}
+use Rattle.pb_wire.specs.declared.fault.FaultKind.TheVariants.{Cut, WireType}
 use Rattle.pb_wire.specs.Varint.{IsVarint, varint_at}
 use Rattle.pb_wire.specs.Message.{Value, varint_value, eight_bytes, some_bytes, four_bytes, Entry, wire_type, SpellsValue, IsField, IsMessage, front_at}
 use Rattle.pb_wire.specs.Message.{value_at, field_at}
 use Rattle.pb_wire.specs.Items.{Item, item_then, items_in}
 use Rattle.pb_wire.proofs.VarintLaws.{found_is, spelling_is_found}
-use Rattle.pb_wire.proofs.Message.{items_first, field_len}
+use Rattle.pb_wire.proofs.Message.{field_parts, field_len, items_first}
 
 pub chosen : {A : Type 0} (b : Bool) (x y z : A) → cond b x y ≡ z → ((b ≡ true) × (x ≡ z)) ⊎ ((b ≡ false) × (y ≡ z))
 chosen true x y z e = inl (refl, e)
@@ -95,43 +94,25 @@ value_takes wire bytes x e =
       ]
     ]
 
-pub or_false : (a b : Bool) → (a || b) ≡ false → (a ≡ false) × (b ≡ false)
-or_false true b e = absurd cc
-or_false false b e = (refl, e)
-
 pub field_takes : (bytes : List ℕ) (x : Entry × ℕ) → field_at bytes ≡ Ok x → (x.1 ≤ length bytes) × IsField (take x.1 bytes) x.0
-unfolding field_at
 field_takes bytes x e =
-    let key = then_ok (varint_at bytes) (λ key. cond ((eqb (key.0 / 8) 0) || ltb 536870911 (key.0 / 8)) (Err Number)
-    (value_at (key.0 % 8) (drop key.1 bytes) >>= λ value. Ok (record { number = key.0 / 8; value = value.0 }, key.1 + value.1))) x e in
-    let rest = guard_ok ((eqb (key.0.0 / 8) 0) || ltb 536870911 (key.0.0 / 8)) Number
-    (value_at (key.0.0 % 8) (drop key.0.1 bytes) >>= λ value. Ok (record { number = key.0.0 / 8; value = value.0 }, key.0.1 + value.1)) x key.2 in
-    let value = then_ok (value_at (key.0.0 % 8) (drop key.0.1 bytes)) (λ value. Ok (record { number = key.0.0 / 8; value = value.0 }, key.0.1 + value.1))
-    x rest.1 in
-    field_made bytes x key.0.0 key.0.1 value.0 key.1 rest.0 value.1
-    (same_value {Fault = FaultKind} (record { number = key.0.0 / 8; value = value.0.0 }, key.0.1 + value.0.1) x value.2)
-  where
-    field_made : (bytes : List ℕ) (x : Entry × ℕ) (key len : ℕ) (value : Value × ℕ) → varint_at bytes ≡ Ok (key, len)
-        → ((eqb (key / 8) 0) || ltb 536870911 (key / 8)) ≡ false → value_at (key % 8) (drop len bytes) ≡ Ok value
-        → (record { number = key / 8; value = value.0 }, len + value.1) ≡ x → (x.1 ≤ length bytes) × IsField (take x.1 bytes) x.0
-    field_made bytes x key len value key_read number_read value_read is =
-        let k = found_is bytes key len key_read in
-        let v = value_takes (key % 8) (drop len bytes) value value_read in
-        let n = or_false (eqb (key / 8) 0) (ltb 536870911 (key / 8)) number_read in
-        let not0 = eqb-false (key / 8) 0 n.0 in
-        let small = ltb-false 536870911 (key / 8) n.1 in
-        let whole : key ≡ 8 * (key / 8) + wire_type value.0 = rw v.type_is (omega arith) in
-        subst (λ (y : Entry × ℕ). (y.1 ≤ length bytes) × IsField (take y.1 bytes) y.0) is (
-          omega (arith, k.0, v.within, length-drop len bytes),
-          record {
-            key = take len bytes;
-            value = take value.1 (drop len bytes);
-            parts = take-add len value.1 bytes;
-            key_is = subst (IsVarint (take len bytes)) whole k.1;
-            value_is = v.spelled;
-            number = (omega (arith, not0), small);
-          },
-        )
+    let f = field_parts bytes x e in
+    let len = f.key.1 in
+    let number = f.key.0 / 8 in
+    let k = found_is bytes f.key.0 len f.key_read in
+    let v = value_takes (f.key.0 % 8) (drop len bytes) f.value f.value_read in
+    let whole : f.key.0 ≡ 8 * number + wire_type f.value.0 = rw v.type_is (omega arith) in
+    subst (λ (y : Entry × ℕ). (y.1 ≤ length bytes) × IsField (take y.1 bytes) y.0) f.made (
+      omega (arith, k.0, v.within, length-drop len bytes),
+      record {
+        key = take len bytes;
+        value = take f.value.1 (drop len bytes);
+        parts = take-add len f.value.1 bytes;
+        key_is = subst (IsVarint (take len bytes)) whole k.1;
+        value_is = v.spelled;
+        number = f.number;
+      },
+    )
 
 -- ---- what is spelled so is read
 

@@ -1,7 +1,7 @@
 //! A format that ends after each of its calls, and then a crash.
 ghost use Rattle.std.specs.Prelude.{◌≡◌, ◌<◌, IfOk};
 
-use super::{FORMAT_64, begins, disk_with, root};
+use super::{FORMAT_64, begins, disk_with, numbers_of, root};
 use crate::{StoreFault, What, format, read_root};
 use sector_disk::{FailingCalls, FaultyDisk, MemoryDisk, Sectors};
 use std::alloc::{AllocError, Global};
@@ -122,15 +122,8 @@ fn formats_and_reads(rt: HostRuntime) -> Result<(), Fail> {
     let mut disk = MemoryDisk::new(rt.alloc(), 256)?;
     format(&mut disk)?;
     let (layout, root) = read_root(&mut disk)?;
-    let numbers = [
-        root.generation,
-        root.edits,
-        root.journal_at,
-        root.snapshot_len,
-        root.archive_len,
-    ];
     assert_eq!(rt;
-        (layout.sectors, layout.journal, layout.area, numbers),
+        (layout.sectors, layout.journal, layout.area, numbers_of(root)),
         (256, 64, 94, [0; 5])
     );
     Ok(())

@@ -1,5 +1,5 @@
 //! What is read of disks, whole and damaged.
-use super::{FORMAT_64, begins, disk_with, root};
+use super::{FORMAT_64, begins, disk_with, numbers_of, root};
 use crate::{StoreFault, What, read_root};
 use sector_disk::MemoryDisk;
 use std::test::Fail;
@@ -80,15 +80,8 @@ fn roots_that_can_stand(rt: HostRuntime) -> Result<(), Fail> {
             [begins(&FORMAT_64), root(numbers), [0; 512]],
         )?;
         let (layout, root) = read_root(&mut disk)?;
-        let found = [
-            root.generation,
-            root.edits,
-            root.journal_at,
-            root.snapshot_len,
-            root.archive_len,
-        ];
         assert_eq!(rt;
-            (layout.sectors, layout.journal, layout.area, found),
+            (layout.sectors, layout.journal, layout.area, numbers_of(root)),
             (64, 16, 22, numbers)
         );
     }
