@@ -1,7 +1,7 @@
 -- Texts and the edits that they are of.
-use Rattle.std.proofs.Common.{◌≡◌, inl, inr, ℕ, zero, suc, ◌<◌, ◌≤◌, ◌+◌, List, [], ◌∷◌, ◌++◌, length, take, drop, get_or}
-use Rattle.std.proofs.Common.{Result, Ok, Err, IfErr, Vec, Global, refl, sym, ◌∙◌, ap, subst, arith, append-nil}
-use Rattle.std.proofs.lemmas.List.{take_more}
+use Rattle.std.proofs.Common.{◌≡◌, inl, inr, ℕ, zero, suc, ◌<◌, ◌≤◌, ◌+◌, List, [], ◌∷◌, ◌++◌, length, drop, get_or}
+use Rattle.std.proofs.Common.{Result, Ok, Err, IfErr, refl, sym, ◌∙◌, ap, subst, arith, append-nil, length-append}
+use Rattle.std.proofs.Math.Seq.{get_or-append_seam}
 use Rattle.std.proofs.lemmas.List.Elements.{All-nil, All-cons, All-append, All-head, All-tail}
 use Rattle.std.proofs.lemmas.List.Sums.{fold-append}
 use Rattle.edit_text.specs.Decoding.{BeginsWith, BeginsAsPut}
@@ -12,7 +12,7 @@ use Rattle.feature_store.specs.Store.{FeatureMap, changed, after, snapshot}
 use Rattle.feature_store.proofs.Laws.{snapshot_after_put, snapshot_after_delete}
 use Rattle.generations.specs.declared.fault.StoreFault.{StoreFault}
 use Rattle.generations.specs.declared.fault.StoreFault.TheVariants.{Memory}
-use Rattle.tile_service.specs.Replayed.{IsTextOf, IsPut, IsTextFault, AreTextsOf, IsReplayFault, bytes_of, views_of}
+use Rattle.tile_service.specs.Replayed.{IsTextOf, IsPut, IsTextFault, AreTextsOf, IsReplayFault, bytes_of}
 use Rattle.tile_service.proofs.Appends.{spelled_with}
 
 first_byte : (id : ℕ) (f : FeatureData) → spelled (put id f) ≡ 1 ∷ drop 1 (spelled (put id f))
@@ -56,47 +56,21 @@ text_at (text ∷ texts) (edit ∷ edits) (suc i) are lt = text_at texts edits i
 
 -- ---- texts one by one
 
-pub views_push : (texts : List (Vec ℕ Global)) (i : ℕ) (text : Vec ℕ Global) → i < length texts → text ≡ get_or texts i text
-    → views_of (take (i + 1) texts) ≡ views_of (take i texts) ++ text.items ∷ []
-views_push texts i text lt is =
-    ap views_of (take_more texts i text lt ∙ ap (λ t. take i texts ++ t ∷ []) (sym is)) ∙ views_end (take i texts) text
-  where
-    views_end : (ts : List (Vec ℕ Global)) (t : Vec ℕ Global) → views_of (ts ++ t ∷ []) ≡ views_of ts ++ t.items ∷ []
-    views_end [] t = refl
-    views_end (first ∷ ts) t = ap (λ vs. first.items ∷ vs) (views_end ts t)
-
-pub bytes_push : (texts : List (Vec ℕ Global)) (i : ℕ) (text : Vec ℕ Global) → i < length texts → text ≡ get_or texts i text
-    → bytes_of (views_of (drop i texts)) ≡ length text.items + bytes_of (views_of (drop (i + 1) texts))
-bytes_push [] i text lt is = absurd (omega (arith, lt))
-bytes_push (first ∷ texts) zero text lt is = ap (λ (t : Vec ℕ Global). length t.items + bytes_of (views_of texts)) (sym is)
-bytes_push (first ∷ texts) (suc i) text lt is =
-    let on : suc i + 1 ≡ suc (i + 1) = omega arith in
-    bytes_push texts i text (omega (arith, lt)) is ∙ ap (λ n. length text.items + bytes_of (views_of (drop n (first ∷ texts)))) (sym on)
-
-pub view_at : (texts : List (Vec ℕ Global)) (i : ℕ) (text : Vec ℕ Global) → i < length texts → text ≡ get_or texts i text
-    → get_or (views_of texts) i [] ≡ text.items
-view_at [] i text lt is = absurd (omega (arith, lt))
-view_at (first ∷ texts) zero text lt is = ap (λ (t : Vec ℕ Global). t.items) (sym is)
-view_at (first ∷ texts) (suc i) text lt is = view_at texts i text (omega (arith, lt)) is
-
-pub views_length : (texts : List (Vec ℕ Global)) → length (views_of texts) ≡ length texts
-views_length [] = refl
-views_length (text ∷ texts) = ap suc (views_length texts)
-
 -- a text of no edit is in no list of edits' texts
-pub none_replayed : (texts : List (Vec ℕ Global)) (i : ℕ) (text : Vec ℕ Global) → i < length texts → text ≡ get_or texts i text
-    → ((edit : EditData) → IsTextOf text.items edit → ⊥) → (edits : List EditData) → AreTextsOf (views_of texts) edits → ⊥
-none_replayed texts i text lt is none edits are =
-    let found = text_at (views_of texts) edits i are (omega (arith, lt, views_length texts)) in
-    none found.0 (subst (λ (t : List ℕ). IsTextOf t found.0) (view_at texts i text lt is) found.1)
+pub none_replayed : (before : List (List ℕ)) (text : List ℕ) (rest : List (List ℕ)) → ((edit : EditData) → IsTextOf text edit → ⊥) → (edits : List EditData)
+    → AreTextsOf (before ++ text ∷ rest) edits → ⊥
+none_replayed before text rest none edits are =
+    let found = text_at (before ++ text ∷ rest) edits (length before) are (omega (arith, length-append before (text ∷ rest))) in
+    none found.0 (subst (λ (t : List ℕ). IsTextOf t found.0) (get_or-append_seam before text rest []) found.1)
 
 -- and its fault is that of all the texts
-pub replay_fault : (texts : List (Vec ℕ Global)) (i : ℕ) (text : Vec ℕ Global) (bytes : List ℕ) → i < length texts → text ≡ get_or texts i text
-    → bytes ≡ text.items → (fault : StoreFault) → IsTextFault bytes fault → IsReplayFault (views_of texts) fault
-replay_fault texts i text bytes lt is same fault (inl memory) =
-    inl (memory.0, (i, omega (arith, lt, views_length texts), subst BeginsAsPut (same ∙ sym (view_at texts i text lt is)) memory.1))
-replay_fault texts i text bytes lt is same fault (inr damaged) =
-    inr (damaged.0, none_replayed texts i text lt is (λ edit of_it. damaged.1 edit (subst (λ (t : List ℕ). IsTextOf t edit) (sym same) of_it)))
+pub replay_fault : (before : List (List ℕ)) (text : List ℕ) (rest : List (List ℕ)) (fault : StoreFault) → IsTextFault text fault
+    → IsReplayFault (before ++ text ∷ rest) fault
+replay_fault before text rest fault (inl memory) = inl (
+  memory.0,
+  (length before, omega (arith, length-append before (text ∷ rest)), subst BeginsAsPut (sym (get_or-append_seam before text rest [])) memory.1),
+)
+replay_fault before text rest fault (inr damaged) = inr (damaged.0, none_replayed before text rest damaged.1)
 
 -- the text of an edit that sets a feature begins as one
 pub begins_as_put : (text : List ℕ) (edit : EditData) → IsTextOf text edit → IsPut edit → BeginsAsPut text
@@ -110,29 +84,17 @@ make_fault text edit (Ok done) is told = tt
 make_fault text edit (Err fault) is told = inl (told.0, begins_as_put text edit is told.1)
 
 -- the edits of the texts so far, with one more
-pub replayed_one : (texts : List (Vec ℕ Global)) (i : ℕ) (text : Vec ℕ Global) (bytes : List ℕ) (first old new : FeatureMap) → i < length texts
-    → text ≡ get_or texts i text → bytes ≡ text.items
-    → (edits : List EditData) × AreTextsOf (views_of (take i texts)) edits × (old ≡ after first edits)
-    → (edit : EditData) × IsTextOf bytes edit × (new ≡ changed old edit)
-    → (edits : List EditData) × AreTextsOf (views_of (take (i + 1) texts)) edits × (new ≡ after first edits)
-replayed_one texts i text bytes first old new lt is same made one = (
+pub replayed_one : (texts : List (List ℕ)) (text : List ℕ) (first old new : FeatureMap)
+    → (edits : List EditData) × AreTextsOf texts edits × (old ≡ after first edits)
+    → (edit : EditData) × IsTextOf text edit × (new ≡ changed old edit)
+    → (edits : List EditData) × AreTextsOf (texts ++ text ∷ []) edits × (new ≡ after first edits)
+replayed_one texts text first old new made one = (
   made.0 ++ one.0 ∷ [],
-  subst (λ (ts : List (List ℕ)). AreTextsOf ts (made.0 ++ one.0 ∷ [])) (sym (views_push texts i text lt is))
-      (with_one (views_of (take i texts)) made.0 text.items one.0 made.1 (subst (λ (t : List ℕ). IsTextOf t one.0) same one.1)),
+  with_one texts made.0 text one.0 made.1 one.1,
   one.2 ∙ ap (λ (m : FeatureMap). changed m one.0) made.2 ∙ sym (after_one first made.0 one.0),
 )
 
-pub short_one : (texts : List (Vec ℕ Global)) (i end : ℕ) (text : Vec ℕ Global) (bytes : List ℕ) (old new : FeatureMap) → i < length texts
-    → text ≡ get_or texts i text → bytes ≡ text.items → length (snapshot old) + bytes_of (views_of (drop i texts)) < end
-    → (edit : EditData) × IsTextOf bytes edit × (new ≡ changed old edit)
-    → length (snapshot new) + bytes_of (views_of (drop (i + 1) texts)) < end
-short_one texts i end text bytes old new lt is same short one =
-    omega (
-      arith,
-      short,
-      bytes_push texts i text lt is,
-      changed_short old one.0,
-      ap length one.1.is_text,
-      ap length same,
-      ap (λ (m : FeatureMap). length (snapshot m)) one.2,
-    )
+pub short_one : (rest : List (List ℕ)) (text : List ℕ) (end : ℕ) (old new : FeatureMap) → length (snapshot old) + bytes_of (text ∷ rest) < end
+    → (edit : EditData) × IsTextOf text edit × (new ≡ changed old edit) → length (snapshot new) + bytes_of rest < end
+short_one rest text end old new short one =
+    omega (arith, short, changed_short old one.0, ap length one.1.is_text, ap (λ (m : FeatureMap). length (snapshot m)) one.2)

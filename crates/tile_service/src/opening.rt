@@ -71,7 +71,7 @@ fn read_edits<D: Sectors>(
         Err(fault) => return Err(told(fault)),
     };
     let mut store = Store::new(alloc);
-    match replay(alloc, &mut store, &texts) {
+    match replay(alloc, &mut store, texts) {
         Ok(()) => Ok((journal, store)),
         Err(fault) => Err(fault),
     }

@@ -71,14 +71,19 @@ fn replay_one(alloc: Global, store: &mut Store, text: &[u8]) -> Result<(), Store
 }
 
 /// Makes the edits of texts in the map, from the first to the last. `Damaged(Text)`: one of them is the text of no edit. `Memory`: an
-/// allocation failed, at one that sets a feature. After an error the edits before the faulty text are made.
-pub(crate) fn replay(alloc: Global, store: &mut Store, texts: &[Vec<u8>]) -> Result<(), StoreFault>
-    requires texts { length (snapshot store.old.features) + bytes_of (views_of texts.now) < TEXTS_END }
-    ensures made { OnOk result ((edits : List EditData) × AreTextsOf (views_of texts.now) edits × (store.new.features ≡ after store.old.features edits)) }
-    ensures fault { IfErr result (IsReplayFault (views_of texts.now)) }
+/// allocation failed, at one that sets a feature. After an error the edits before the faulty text are made. The memory of a text is
+/// given back as soon as its edit is made.
+pub(crate) fn replay(
+    alloc: Global,
+    store: &mut Store,
+    texts: Vec<Vec<u8>>,
+) -> Result<(), StoreFault>
+    requires texts { length (snapshot store.old.features) + bytes_of (views_of texts.items) < TEXTS_END }
+    ensures made { OnOk result ((edits : List EditData) × AreTextsOf (views_of texts.items) edits × (store.new.features ≡ after store.old.features edits)) }
+    ensures fault { IfErr result (IsReplayFault (views_of texts.items)) }
 {
     for text in texts {
-        replay_one(alloc, store, text)?;
+        replay_one(alloc, store, &text)?;
     }
     Ok(())
 }

@@ -19,12 +19,12 @@ const NO_POINT: [u8; 9] = [2, 7, 0, 0, 0, 0, 0, 0, 0];
 fn replayed(alloc: Global, second: &[u8]) -> Result<(Result<(), StoreFault>, usize), Fail>
     requires { length second.now ≤ 25 }
 {
-    let texts = [
+    let texts = vec![in alloc;
         Vec::from_slice(alloc, &POINT)?,
         Vec::from_slice(alloc, second)?,
-    ];
+    ]?;
     let mut store = Store::new(alloc);
-    let outcome = replay(alloc, &mut store, &texts);
+    let outcome = replay(alloc, &mut store, texts);
     Ok((outcome, store.len()))
 }
 

@@ -27,14 +27,13 @@ replay-requires g c = record {
     arith,
     ap (λ (m : FeatureMap). length (snapshot m)) c.new-store.ensures,
     ap length no_text,
-    ap (λ ts. bytes_of (views_of ts)) c.deref.ensures.value,
     ring_short c.args.layout.sectors c.in-Ok.found.0.used c.in-Ok.found.0.places (views_of c.in-Ok.found.1.items) c.args.layout.size
         c.in-Ok.found.0.room (ap (λ (r : Ring). r.places) c.in-Ok.ensures.same.0 ∙ c.args.layout.journal_is) c.in-Ok.ensures.used,
   );
 }
 
 pub returns-in-Ok-replay-clause-texts : goal.returns-in-Ok-replay-clause-texts
-returns-in-Ok-replay-clause-texts g c = replayed_short (views_of c.deref.result.now) c.in-Ok-replay.ensures.made.0 c.replay.new.store.features
+returns-in-Ok-replay-clause-texts g c = replayed_short (views_of c.in-Ok.found.1.items) c.in-Ok-replay.ensures.made.0 c.replay.new.store.features
     c.in-Ok.found.0.used c.in-Ok-replay.ensures.made.1
     (c.in-Ok-replay.ensures.made.2 ∙ ap (λ (m : FeatureMap). after m c.in-Ok-replay.ensures.made.0) c.new-store.ensures)
-    (c.in-Ok.ensures.used ∙ ap (λ ts. places_of (views_of ts)) (sym c.deref.ensures.value))
+    c.in-Ok.ensures.used

@@ -1,17 +1,51 @@
+use Rattle.std.proofs.Common.{◌≡◌, ◌<◌, ◌+◌, List, [], ◌∷◌, ◌++◌, Vec, ℕ, Global, length, sym, ◌∙◌, ap, subst, arith, append_assoc}
+use Rattle.std.proofs.lemmas.List.{map-append}
 use Rattle.std.proofs.lemmas.Result.{err_from_is_err_and}
+use Rattle.std.specs.Vec.Iter.{into_iter_items}
+use Rattle.feature_model.specs.Data.{EditData}
+use Rattle.feature_store.specs.Store.{after, changed, snapshot}
+use Rattle.feature_store.specs.declared.limit.TheConstants.{TEXTS_END}
+use Rattle.tile_service.specs.Replayed.{AreTextsOf, IsReplayFault, IsTextOf, IsTextFault, bytes_of, views_of}
 use Rattle.tile_service.proofs.Replays.{replay_fault, replayed_one, short_one}
 use Rattle.tile_service.proofs.replaying.replay.Goals as goal
 
+views_append : (texts more : List (Vec ℕ Global)) → views_of (texts ++ more) ≡ views_of texts ++ views_of more
+views_append texts more = map-append (λ (text : Vec ℕ Global). text.items) texts more
+
 pub loop-text-preserved : goal.loop-text-preserved
-loop-text-preserved c = record {
-  made = replayed_one c.args.texts.now c.loop-text.text-index c.text-item.result c.deref.result.now _ _ _ c.loop-text-test.true c.text-item.is
-      c.deref.ensures.value c.loop-text.invariant.made c.in_ok-replay_one.ensures.made;
-  short = short_one c.args.texts.now c.loop-text.text-index _ c.text-item.result c.deref.result.now _ _ c.loop-text-test.true c.text-item.is
-      c.deref.ensures.value c.loop-text.invariant.short c.in_ok-replay_one.ensures.made;
-}
+loop-text-preserved c =
+    let inv = c.loop-text.invariant in
+    let yielded = c.loop-text.yielded in
+    let text = c.in-Some.text in
+    let rest = into_iter_items c.next.new.self in
+    let steps = c.in-Some.ensures.steps in
+    let old = c.loop-text.store.features in
+    let made = c.in_ok-replay_one.ensures.made in
+    let edit : (edit : EditData) × IsTextOf text.items edit × (c.replay_one.new.store.features ≡ changed old edit) =
+    (made.0, subst (λ (bytes : List ℕ). IsTextOf bytes made.0) c.deref.ensures.value made.1, made.2) in
+    record {
+      can_next = tt;
+      is_finite = tt;
+      items = append_assoc yielded (text ∷ []) rest ∙ ap (λ l. yielded ++ l) (sym steps.0) ∙ inv.items;
+      left = omega (arith, steps.1, ap length steps.0, inv.left);
+      made = subst (λ (l : List (List ℕ)). (edits : List EditData) × AreTextsOf l edits
+          × (c.replay_one.new.store.features ≡ after c.args.store.now.features edits))
+          (sym (views_append yielded (text ∷ [])))
+          (replayed_one (views_of yielded) text.items c.args.store.now.features old c.replay_one.new.store.features inv.made edit);
+      short = short_one (views_of rest) text.items TEXTS_END old c.replay_one.new.store.features
+          (subst (λ (l : List (Vec ℕ Global)). length (snapshot old) + bytes_of (views_of l) < TEXTS_END) steps.0 inv.short)
+          edit;
+    }
 
 pub returns-in_err-replay_one-clause-fault : goal.returns-in_err-replay_one-clause-fault
 returns-in_err-replay_one-clause-fault c =
+    let inv = c.loop-text.invariant in
+    let yielded = c.loop-text.yielded in
+    let text = c.in-Some.text in
+    let rest = into_iter_items c.next.new.self in
+    let fault = c.in_err-replay_one.field-0.0 in
+    let all : yielded ++ text ∷ rest ≡ c.args.texts.items = ap (λ l. yielded ++ l) (sym c.in-Some.ensures.steps.0) ∙ inv.items in
     let p = err_from_is_err_and c.from_residual.result c.from_residual.ensures.1 in
-    rw (p.1, p.2) (replay_fault c.args.texts.now c.loop-text.text-index c.text-item.result c.deref.result.now c.loop-text-test.true c.text-item.is
-    c.deref.ensures.value c.in_err-replay_one.field-0.0 c.in_err-replay_one.ensures.fault)
+    rw (p.1, p.2) (subst (λ l. IsReplayFault l fault) (sym (views_append yielded (text ∷ rest)) ∙ ap views_of all)
+    (replay_fault (views_of yielded) text.items (views_of rest) fault
+    (subst (λ (bytes : List ℕ). IsTextFault bytes fault) c.deref.ensures.value c.in_err-replay_one.ensures.fault)))

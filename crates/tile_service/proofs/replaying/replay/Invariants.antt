@@ -1,4 +1,5 @@
-use Rattle.std.proofs.Common.{◌≡◌, ◌<◌, ◌+◌, List, length, take, drop}
+use Rattle.std.proofs.Common.{◌≡◌, ◌<◌, ◌+◌, ◌++◌, List, length}
+use Rattle.std.specs.Vec.Iter.{into_iter_items, into_iter_len}
 use Rattle.feature_model.specs.Data.{EditData}
 use Rattle.feature_store.specs.Store.{after, snapshot}
 use Rattle.feature_store.specs.declared.limit.TheConstants.{TEXTS_END}
@@ -7,6 +8,10 @@ use Rattle.tile_service.proofs.replaying.replay.Given as goal
 
 abbrev pub invariant-loop-text : goal.invariant-loop-text
 invariant-loop-text l = record {
-  made : (edits : List EditData) × AreTextsOf (views_of (take l.text-index l.texts)) edits × (l.store.features ≡ after l.fn.store.features edits);
-  short : length (snapshot l.store.features) + bytes_of (views_of (drop l.text-index l.texts)) < TEXTS_END;
+  can_next : goal.iterator-loop-text.can_next l.text-iterator;
+  is_finite : goal.iterator-loop-text.is_finite l.text-iterator;
+  items : l.yielded ++ into_iter_items l.text-iterator ≡ l.fn.texts.items;
+  left : into_iter_len l.text-iterator ≡ length (into_iter_items l.text-iterator);
+  made : (edits : List EditData) × AreTextsOf (views_of l.yielded) edits × (l.store.features ≡ after l.fn.store.features edits);
+  short : length (snapshot l.store.features) + bytes_of (views_of (into_iter_items l.text-iterator)) < TEXTS_END;
 }
