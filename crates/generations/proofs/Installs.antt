@@ -25,7 +25,8 @@ module _ (root : Root) (start : History) where
   module _ (h : History) (is : h ≡ synced start) where
     in_sector : (image : Image) → ((at : ℕ) → IsOldOr h (root_at root.generation) (root_sector root) at (image at)) → (at : ℕ)
         → (image at ≡ seen start at) ⊎ ((at ≡ root_at root.generation) × (image at ≡ root_sector root))
-    in_sector image fits at = subst (λ (x : History). MayHold x at (image at) ⊎ ((at ≡ root_at root.generation) × (image at ≡ root_sector root))) is (fits at)
+    in_sector image fits at =
+        subst (λ (x : History). MayHold x at (image at) ⊎ ((at ≡ root_at root.generation) × (image at ≡ root_sector root))) is (fits at)
 
     install_image : (image : Image) → ((at : ℕ) → IsOldOr h (root_at root.generation) (root_sector root) at (image at)) → Installs root start image
     install_image image fits = ⊎_elim
@@ -78,7 +79,9 @@ module _ (count n : ℕ) (before image : Image) (old root : Root) (lives : LiveR
   later other has = omega (arith, lives.greatest other has, next)
 
   same : (sector : List ℕ) (other : Root) → IsRootSector sector root → IsRootSector sector other → other.generation ≤ root.generation
-  same sector other is too = let generation : other.generation ≡ root.generation = ap (λ (r : Root). r.generation) (one_root sector other root too is) in omega (arith, generation)
+  same sector other is too =
+      let generation : other.generation ≡ root.generation = ap (λ (r : Root). r.generation) (one_root sector other root too is) in
+      omega (arith, generation)
 
   format_stays : IsFormat count (image 0) n
   format_stays = subst (λ (sector : List ℕ). IsFormat count sector n) (sym (with_root.others 0 (λ is. omega (arith, is)))) lives.format
