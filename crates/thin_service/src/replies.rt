@@ -1,5 +1,5 @@
 //! The replies of the service.
-ghost use Rattle.std.specs.Prelude.{◌≡◌, ◌≤◌, ◌+◌, ◌++◌, [], length, decimal, vec_len, vec_capacity, IfOk, option_map};
+ghost use Rattle.std.specs.Prelude.{◌≡◌, ◌≤◌, [], length, vec_capacity, IfOk, option_map};
 ghost use Rattle.http_serve.specs.Reply.{content_bytes, reply_view, FitsParts, IsWritable};
 ghost use Rattle.thin_service.specs.Words.{fault_word, service_word, edit_word, full_word, fault_status, service_status, edit_status, edit_body, edit_reply};
 ghost use Rattle.thin_service.specs.Words.{outcome_reply, no_tile, format_type, format_content, content_reply, tile_reply, refusal_of};
@@ -7,16 +7,16 @@ ghost use Rattle.thin_service.specs.Words.{text_type, json_type, tile_type};
 ghost use Rattle.thin_service.specs.declared.replies.TheConstants.{MOST_TEXT};
 
 use crate::fault::RequestFault;
+use decimal_number::{MOST_DIGITS, push_number, push_text};
 use feature_model::EditFault;
 use http::StatusCode;
 use http_serve::{Content, Reply};
-use itoa::Buffer;
 use std::alloc::{AllocError, Global};
 use tile_routes::TileFormat;
 use tile_service::ServiceFault;
 
-/// Room for the longest text that tells the outcome of an edit.
-const MOST_TEXT: usize = 128;
+/// Room for the longest text that tells the outcome of an edit: that of a journal that is full, with two numbers.
+const MOST_TEXT: usize = 2 * MOST_DIGITS + 24;
 
 /// The word of a fault of an edit, with a line feed.
 #[tactic(auto, unfolding(crate::specs::Words::edit_word))]
@@ -37,27 +37,6 @@ fn edit_word(fault: EditFault) -> &'static [u8]
     }
 }
 
-/// Adds text where there is room.
-fn put(out: &mut Vec<u8>, text: &[u8])
-    requires { vec_len out.old + length text.now ≤ vec_capacity out.old }
-    ensures items { out.new.items ≡ out.old.items ++ text.now }
-    ensures len { vec_len out.new ≡ vec_len out.old + length text.now }
-    ensures capacity { vec_capacity out.old ≤ vec_capacity out.new }
-{
-    out.extend_from_slice(text).unwrap();
-}
-
-/// Adds a number in decimal, and the text behind it.
-fn put_number(out: &mut Vec<u8>, number: u64, behind: &[u8])
-    requires { vec_len out.old + 40 + length behind.now ≤ vec_capacity out.old }
-    ensures items { out.new.items ≡ out.old.items ++ (decimal number ++ behind.now) }
-    ensures len { vec_len out.new ≤ vec_len out.old + 40 + length behind.now }
-    ensures capacity { vec_capacity out.old ≤ vec_capacity out.new }
-{
-    put(out, Buffer::new().format(number).as_bytes());
-    put(out, behind);
-}
-
 /// The word of a journal that is full, with a line feed.
 #[tactic(auto, unfolding(crate::specs::Words::full_word))]
 fn full_word(text: Vec<u8>, need: u64, free: u64) -> Vec<u8>
@@ -66,9 +45,11 @@ fn full_word(text: Vec<u8>, need: u64, free: u64) -> Vec<u8>
     ensures { result.items ≡ full_word need free }
 {
     let mut text = text;
-    put(&mut text, b"JournalFull need ");
-    put_number(&mut text, need, b" free ");
-    put_number(&mut text, free, b"\n");
+    push_text(&mut text, b"JournalFull need ");
+    push_number(&mut text, need);
+    push_text(&mut text, b" free ");
+    push_number(&mut text, free);
+    push_text(&mut text, b"\n");
     text
 }
 
@@ -169,8 +150,9 @@ fn edit_body(text: Vec<u8>, number: u64) -> Vec<u8>
     ensures { result.items ≡ edit_body number }
 {
     let mut text = text;
-    put(&mut text, b"{\"edit\":");
-    put_number(&mut text, number, b"}");
+    push_text(&mut text, b"{\"edit\":");
+    push_number(&mut text, number);
+    push_text(&mut text, b"}");
     text
 }
 
