@@ -4,6 +4,7 @@ set -euo pipefail
 here="$(cd "$(dirname "$0")" && pwd)"
 top="$(cd "$here/../.." && pwd)"
 work="$(mktemp -d)"
+folder="$(cd "${1:-$work}" && pwd)"
 mkdir -p "$work/crates/service_bench/src"
 for crate in reader sector_disk generations pb_wire hilbert_id geometry_commands mvt_layer mvt_write feature_model edit_journal edit_text tile_cutter feature_store pm_header pm_directory pm_archive tile_service; do
     cp -a "$top/crates/$crate" "$work/crates/$crate"
@@ -13,4 +14,4 @@ echo "service_bench: sector_disk feature_model tile_service anyhow" >> "$work/cr
 cp "$top/HANDLES" "$work/HANDLES"
 cp "$here/main.rt.txt" "$work/crates/service_bench/src/main.rt"
 cd "$work/crates/service_bench"
-rt run -- "${1:-$work}/disk"
+rt run -- "$folder/disk"
