@@ -12,12 +12,13 @@ first_byte : (root : Root) → slice_index (root_sector root) 0 ≡ 86
 unfolding root_mark root_sector
 first_byte root = refl
 
-apart : ◌≡◌ {A = ℕ} 0 86 → ⊥
-apart is = omega (arith, is)
+-- the first byte of zeros isn't that of a mark
+pub zero_apart : ◌≡◌ {A = ℕ} 0 86 → ⊥
+zero_apart is = omega (arith, is)
 
 -- a sector of zeros is no root
 pub zeros_no_root : (root : Root) → zeros ≡ root_sector root → ⊥
-zeros_no_root root is = apart (ap (λ (s : List ℕ). slice_index s 0) is ∙ first_byte root)
+zeros_no_root root is = zero_apart (ap (λ (s : List ℕ). slice_index s 0) is ∙ first_byte root)
 
 -- what a slot is said to have makes its sector sound
 pub sound : (n parity : ℕ) (image : Image) (at : ℕ) (slot : Option Root) → IsSlot n parity (image at) slot → IsSound n parity image at

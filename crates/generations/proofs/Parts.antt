@@ -12,6 +12,7 @@ use Rattle.generations.specs.Areas.{journal_sectors}
 use Rattle.generations.specs.Disks.{HasNoMark, IsFresh, first_root}
 use Rattle.generations.specs.Written.{IsOldOr, IsOldOrEmpty}
 use Rattle.generations.specs.Sectors.{disk_mark, format_sector, root_sector, zeros, HasMark}
+use Rattle.generations.proofs.Live.{zero_apart}
 
 -- ---- a write and a sync
 
@@ -95,12 +96,9 @@ synced_holds old new end is empty k pos lt left may =
 
 -- ---- the four parts
 
-apart : ◌≡◌ {A = ℕ} 0 86 → ⊥
-apart is = omega (arith, is)
-
 marks_apart : HasMark zeros → ⊥
 unfolding disk_mark
-marks_apart is = apart (ap (λ (s : List ℕ). slice_index s 0) is)
+marks_apart is = zero_apart (ap (λ (s : List ℕ). slice_index s 0) is)
 
 no_mark : (image : Image) → image 0 ≡ zeros → HasNoMark image
 no_mark image empty mark = marks_apart (ap (λ (s : List ℕ). take 8 s) (sym empty) ∙ mark)

@@ -1,12 +1,8 @@
 -- A root's sector has its numbers, each at its offset.
-use Rattle.std.proofs.Common.{◌≡◌, ◌↔◌, ℕ, ◌<◌, ◌^◌, List, Some, None, sym, ap, subst, ◌∙◌}
-use Rattle.std.specs.Int.{w64, from_le_bytes, to_le_bytes}
+use Rattle.std.proofs.Common.{◌≡◌, ◌↔◌, ℕ, List, Some, None, sym, ap, subst, ◌∙◌}
 use Rattle.std.proofs.lemmas.Nat.{from_le_bytes-to_le_bytes_8}
 use Rattle.generations.specs.Sectors.{root_mark, root_sector, root_from, AreNumbers, IsRootSector}
 use Rattle.generations.specs.declared.root.Root.{Root}
-
-back_8 : (n : ℕ) → n < 2 ^ 64 → from_le_bytes w64 (to_le_bytes w64 n) ≡ n
-back_8 n fits = from_le_bytes-to_le_bytes_8 n fits
 
 -- roots with the same numbers are one
 same_root : (a b : Root) → a.generation ≡ b.generation → a.edits ≡ b.edits → a.journal_at ≡ b.journal_at
@@ -23,11 +19,11 @@ same_root a b generation edits journal_at snapshot_len archive_len = λ i. recor
 pub read_back : (root : Root) → AreNumbers root → root_from (root_sector root) ≡ root
 unfolding root_mark root_sector root_from
 read_back root numbers = same_root (root_from (root_sector root)) root
-    (back_8 root.generation numbers.generation)
-    (back_8 root.edits numbers.edits)
-    (back_8 root.journal_at numbers.journal_at)
-    (back_8 root.snapshot_len numbers.snapshot_len)
-    (back_8 root.archive_len numbers.archive_len)
+    (from_le_bytes-to_le_bytes_8 root.generation numbers.generation)
+    (from_le_bytes-to_le_bytes_8 root.edits numbers.edits)
+    (from_le_bytes-to_le_bytes_8 root.journal_at numbers.journal_at)
+    (from_le_bytes-to_le_bytes_8 root.snapshot_len numbers.snapshot_len)
+    (from_le_bytes-to_le_bytes_8 root.archive_len numbers.archive_len)
 
 -- the root of a sector is the one that is read there
 pub is_read : (sector : List ℕ) (root : Root) → IsRootSector sector root → root ≡ root_from sector

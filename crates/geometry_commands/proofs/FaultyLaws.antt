@@ -16,7 +16,7 @@ use Rattle.geometry_commands.specs.Decoding.{Walk, command_at, step_at, walk_at,
 use Rattle.geometry_commands.specs.Decoding.{lines_in, lines_at, points_end, points_behind, points_at, shape_at}
 use Rattle.geometry_commands.specs.Faulty.{CommandHas, ends, other, StepHas, few, far, WalkHas, LineHas, at_move, move_count, at_first, at_line, line_count}
 use Rattle.geometry_commands.specs.Faulty.{at_others, at_close, close_count, end_of, LinesHas, PointsHas, at_points, no_point, at_ways, behind, ShapeHas}
-use Rattle.geometry_commands.proofs.Spelled.{step_found, command_cons, step_cons, command_found, Walked, walk_first, walk_found, line_found, line_longer}
+use Rattle.geometry_commands.proofs.Spelled.{cells, step_found, command_cons, step_cons, command_found, Walked, walk_first, walk_found, line_found, line_longer}
 
 pub command_has : (id : ℕ) (ints : List ℕ) (d : GeometryFault) → command_at id ints ≡ Err d → CommandHas id ints d
 unfolding command_at
@@ -105,9 +105,6 @@ line_has closed from ints d e = elim (then_err (command_at 1 ints) (line_first c
                 | inr r ↦ absurd (not_both (a.0.0, a.0.1, r.0) d r.2)
               ])
         ]
-      where
-        cells : (a b : ℕ) (s t : List ℕ) → a ≡ b → s ≡ t → a ∷ s ≡ b ∷ t
-        cells a b s t head tail = cc
 
     one : (m : ℕ × List ℕ) → ints ≡ command 1 m.0 ∷ m.1 → (b : Bool) → eqb m.0 1 ≡ b
         → cond b (walk_at 1 [] from m.1 >>= line_second closed) (Err faults.Count) ≡ Err d → LineHas closed from ints d
@@ -173,9 +170,6 @@ points_has (i ∷ is) d e =
           last h.points w.0.2 (eqb (length w.0.2) 0) refl (whole
           ∙ cells (command 1 c.0) (command 1 (length h.points)) c.1 (steps origin h.points ++ w.0.2) (ap (command 1) (sym h.count)) h.spelled) w.0.0 w.2)
     ]
-      where
-        cells : (a b : ℕ) (s t : List ℕ) → a ≡ b → s ≡ t → a ∷ s ≡ b ∷ t
-        cells a b s t head tail = cc
 
 pub shape_has : (kind : ShapeKind) (ints : List ℕ) (d : GeometryFault) → shape_at kind ints ≡ Err d → ShapeHas kind ints d
 unfolding shape_at

@@ -14,7 +14,7 @@ use Rattle.geometry_commands.specs.Commands.{command, steps, points_spelled, ori
 use Rattle.geometry_commands.specs.Ways.{FitsPt}
 use Rattle.geometry_commands.specs.Shapes.{ShapeView, points, lines, rings, raw, lines_spelled, IsLine, IsShape, last_of}
 use Rattle.geometry_commands.specs.Decoding.{Walk, command_at, walk_at, points_end, points_behind, points_at, lines_at, shape_at}
-use Rattle.geometry_commands.proofs.Spelled.{command_found, command_again, walk_found, walk_again, lines_found, lines_again}
+use Rattle.geometry_commands.proofs.Spelled.{cells, command_found, command_again, walk_found, walk_again, lines_found, lines_again}
 
 spelled_points : (ints : List ℕ) (ps : List Pt) (n : ℕ) (t rest : List ℕ) → ints ≡ command 1 n ∷ t → t ≡ steps origin ps ++ rest → length ps ≡ n → (n ≡ 0 → ⊥)
     → length rest ≡ 0 → ints ≡ points_spelled ps
@@ -23,10 +23,7 @@ spelled_points ints (p ∷ ps) n t (r ∷ rest) e1 e2 count some none = absurd (
 spelled_points ints (p ∷ ps) n t [] e1 e2 count some none =
     let e3 = append-nil (steps origin (p ∷ ps)) in
     let e4 : command 1 n ≡ command 1 (length (p ∷ ps)) = ap (command 1) (sym count) in
-    cells (command 1 n) (command 1 (length (p ∷ ps))) t (steps origin (p ∷ ps)) e1 e4 (e2 ∙ e3)
-  where
-    cells : (a b : ℕ) (s u : List ℕ) → ints ≡ a ∷ s → a ≡ b → s ≡ u → ints ≡ b ∷ u
-    cells a b s u e head tail = cc
+    e1 ∙ cells (command 1 n) (command 1 (length (p ∷ ps))) t (steps origin (p ∷ ps)) e4 (e2 ∙ e3)
 
 pub points_found : (ints : List ℕ) (ps : List Pt) → points_at ints ≡ Ok ps → (ints ≡ points_spelled ps) × AllByRecursion FitsPt ps
 unfolding points_at points_behind points_end

@@ -40,6 +40,10 @@ way_back x d = omega (arith, ints)
 way_there : (x y : ℤ) → x +ℤ (y -ℤ x) ≡ y
 way_there x y = omega (arith, ints)
 
+-- two lists by their first items and what stands behind these
+pub cells : (a b : ℕ) (s t : List ℕ) → a ≡ b → s ≡ t → a ∷ s ≡ b ∷ t
+cells a b s t head tail = cc
+
 -- ---- commands
 
 pub command_cons : (id c : ℕ) (is : List ℕ) → command_at id (c ∷ is) ≡ cond (eqb (c % 8) id) (Ok (c / 8, is)) (Err Command)
@@ -57,9 +61,6 @@ command_found id (c ∷ is) r e =
     let t : is ≡ r.1 = ap (λ (q : ℕ × List ℕ). q.1) same in
     let h : c ≡ command id r.0 = omega (arith, k, n) in
     cells c (command id r.0) is r.1 h t
-  where
-    cells : (a b : ℕ) (s t : List ℕ) → a ≡ b → s ≡ t → a ∷ s ≡ b ∷ t
-    cells a b s t head tail = cc
 
 pub command_again : (id n : ℕ) (rest : List ℕ) → id < 8 → command_at id (command id n ∷ rest) ≡ Ok (n, rest)
 command_again id n rest lt =
@@ -85,12 +86,10 @@ step_found from (a ∷ b ∷ is) r e =
     let x : zigzagged ((from.x +ℤ unzigzagged a) -ℤ from.x) ≡ a = ap zigzagged (way_back from.x (unzigzagged a)) ∙ zigzag_back a in
     let y : zigzagged ((from.y +ℤ unzigzagged b) -ℤ from.y) ≡ b = ap zigzagged (way_back from.y (unzigzagged b)) ∙ zigzag_back b in
     let here : a ∷ b ∷ is ≡ step from (led_to from a b) ++ is =
-    cells a b is (zigzagged ((from.x +ℤ unzigzagged a) -ℤ from.x)) (zigzagged ((from.y +ℤ unzigzagged b) -ℤ from.y)) (sym x) (sym y) in
+    cells a (zigzagged ((from.x +ℤ unzigzagged a) -ℤ from.x)) (b ∷ is) (zigzagged ((from.y +ℤ unzigzagged b) -ℤ from.y) ∷ is) (sym x)
+    (cells b (zigzagged ((from.y +ℤ unzigzagged b) -ℤ from.y)) is is (sym y) refl) in
     let F : Pt × List ℕ → Type 0 = λ q. (a ∷ b ∷ is ≡ step from q.0 ++ q.1) × FitsPt q.0 in
     subst F same (here, p.0)
-  where
-    cells : (a b : ℕ) (s : List ℕ) (u v : ℕ) → a ≡ u → b ≡ v → a ∷ b ∷ s ≡ u ∷ v ∷ s
-    cells a b s u v x y = cc
 
 abbrev read_to : Pt → List ℕ → Read GeometryFault (Pt × List ℕ)
 read_to p rest = Ok (p, rest)
@@ -174,9 +173,6 @@ close_found true ints rest e =
     let n = eqb-true c.0.0 1 p.0 in
     let t = same_value {Fault = GeometryFault} c.0.1 rest p.1 in
     command_found 7 ints c.0 c.1 ∙ cells (command 7 c.0.0) (command 7 1) c.0.1 rest (ap (command 7) n) t
-  where
-    cells : (a b : ℕ) (s t : List ℕ) → a ≡ b → s ≡ t → a ∷ s ≡ b ∷ t
-    cells a b s t head tail = cc
 close_found false ints rest e = same_value {Fault = GeometryFault} ints rest e
 
 pub close_again : (closed : Bool) (rest : List ℕ) → close_at closed (close_spelled closed ++ rest) ≡ Ok rest

@@ -4,13 +4,11 @@ use Rattle.std.proofs.Common.{add-zero, arith, eq-eqb}
 use Rattle.std.specs.List.{flat_map, AllByRecursion}
 use Rattle.std.proofs.lemmas.List.{length-append}
 use Rattle.pb_wire.specs.Varint.{IsVarint, varint}
+use Rattle.pb_wire.specs.Faulty.{IsFieldNumber}
 use Rattle.pb_wire.specs.Message.{Value, varint_value, some_bytes, Entry, IsMessage}
 use Rattle.pb_wire.proofs.Varints.{varint_spells}
 use Rattle.mvt_layer.specs.Reads.{values_of, Each, ArePacked, AreNumbers}
 use Rattle.mvt_write.specs.Written.{number_field, bytes_field}
-
-abbrev pub IsNumber : ℕ → Type 0
-IsNumber number = (0 < number) × (number ≤ 536870911)
 
 abbrev pub number_entry : ℕ → ℕ → Entry
 number_entry number n = record { number = number; value = varint_value n }
@@ -19,7 +17,7 @@ abbrev pub bytes_entry : ℕ → List ℕ → Entry
 bytes_entry number bytes = record { number = number; value = some_bytes bytes }
 
 -- a message that begins with a number
-pub message_number : (number n : ℕ) (rest : List ℕ) (fs : List Entry) → IsNumber number → n < 2 ^ 64 → IsMessage rest fs
+pub message_number : (number n : ℕ) (rest : List ℕ) (fs : List Entry) → IsFieldNumber number → n < 2 ^ 64 → IsMessage rest fs
     → IsMessage (number_field number n ++ rest) (number_entry number n ∷ fs)
 message_number number n rest fs fits below others = (
   number_field number n,
@@ -37,7 +35,7 @@ message_number number n rest fs fits below others = (
 )
 
 -- a message that begins with bytes
-pub message_bytes : (number : ℕ) (bytes rest : List ℕ) (fs : List Entry) → IsNumber number → length bytes < 2 ^ 64 → IsMessage rest fs
+pub message_bytes : (number : ℕ) (bytes rest : List ℕ) (fs : List Entry) → IsFieldNumber number → length bytes < 2 ^ 64 → IsMessage rest fs
     → IsMessage (bytes_field number bytes ++ rest) (bytes_entry number bytes ∷ fs)
 message_bytes number bytes rest fs fits below others = (
   bytes_field number bytes,
@@ -55,11 +53,12 @@ message_bytes number bytes rest fs fits below others = (
 )
 
 -- messages of one field
-pub only_number : (number n : ℕ) → IsNumber number → n < 2 ^ 64 → IsMessage (number_field number n) (number_entry number n ∷ [])
+pub only_number : (number n : ℕ) → IsFieldNumber number → n < 2 ^ 64 → IsMessage (number_field number n) (number_entry number n ∷ [])
 only_number number n fits below =
     subst (λ (b : List ℕ). IsMessage b (number_entry number n ∷ [])) (append-nil (number_field number n)) (message_number number n [] [] fits below refl)
 
-pub only_bytes : (number : ℕ) (bytes : List ℕ) → IsNumber number → length bytes < 2 ^ 64 → IsMessage (bytes_field number bytes) (bytes_entry number bytes ∷ [])
+pub only_bytes : (number : ℕ) (bytes : List ℕ) → IsFieldNumber number → length bytes < 2 ^ 64
+    → IsMessage (bytes_field number bytes) (bytes_entry number bytes ∷ [])
 only_bytes number bytes fits below =
     subst (λ (b : List ℕ). IsMessage b (bytes_entry number bytes ∷ [])) (append-nil (bytes_field number bytes))
     (message_bytes number bytes [] [] fits below refl)
@@ -84,7 +83,7 @@ module _ {X : Type 0} (number : ℕ) (bytes_of : X → List ℕ) where
       let f = length_in_field number (bytes_of x) in
       (omega (arith, e, f), omega (arith, e))
 
-  pub message_each : (xs : List X) (rest : List ℕ) (fs : List Entry) → IsNumber number → length (fields_written xs) < 2 ^ 64 → IsMessage rest fs
+  pub message_each : (xs : List X) (rest : List ℕ) (fs : List Entry) → IsFieldNumber number → length (fields_written xs) < 2 ^ 64 → IsMessage rest fs
       → IsMessage (fields_written xs ++ rest) (entries xs ++ fs)
   message_each [] rest fs fits below others = others
   message_each (x ∷ xs) rest fs fits below others =

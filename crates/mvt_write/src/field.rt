@@ -1,6 +1,6 @@
 //! Fields of messages.
 
-ghost use Rattle.std.specs.Prelude.{◌≡◌, ◌*◌, ◌+◌, ◌<◌, ◌^◌, ◌++◌, All, IfOk, OnOk};
+ghost use Rattle.std.specs.Prelude.{◌≡◌, ◌*◌, ◌+◌, ◌<◌, ◌^◌, ◌++◌, IfOk, OnOk};
 ghost use Rattle.std.specs.List.{flat_map};
 ghost use Rattle.pb_wire.specs.Varint.{varint};
 ghost use Rattle.mvt_write.specs.Written.{number_field, bytes_field, packed_field};
@@ -29,8 +29,7 @@ pub(crate) fn put_bytes(out: &mut Vec<u8>, number: u32, bytes: &[u8]) -> Result<
 
 /// The numbers one after the other.
 fn packed(alloc: Global, numbers: &[u32]) -> Result<Vec<u8>, AllocError>
-    ensures written { IfOk result (λ v. v.items ≡ flat_map varint numbers.now) }
-    ensures fits { OnOk result (All (λ n. n < 2 ^ 32) numbers.now) }
+    ensures { IfOk result (λ v. v.items ≡ flat_map varint numbers.now) }
 {
     let mut out = Vec::new(alloc);
     for n in numbers {
@@ -47,8 +46,7 @@ pub(crate) fn put_packed(
     numbers: &[u32],
 ) -> Result<(), AllocError>
     requires { number < 2 ^ 29 }
-    ensures written { OnOk result (out.new.items ≡ out.old.items ++ packed_field number numbers.now) }
-    ensures fits { OnOk result (All (λ n. n < 2 ^ 32) numbers.now) }
+    ensures { OnOk result (out.new.items ≡ out.old.items ++ packed_field number numbers.now) }
 {
     let bytes = packed(alloc, numbers)?;
     put_bytes(out, number, &bytes)

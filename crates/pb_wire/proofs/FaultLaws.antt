@@ -1,5 +1,5 @@
 -- The fault that is met is the one that the bytes have.
-use Rattle.std.proofs.Common.{◌≡◌, ℕ, zero, suc, ◌+◌, ◌*◌, ◌/◌, ◌%◌, ◌<◌, ◌≤◌, Bool, true, false, cond, eqb, ltb, List, [], ◌∷◌, ◌++◌, length, take, drop, map}
+use Rattle.std.proofs.Common.{◌≡◌, ℕ, zero, suc, ◌+◌, ◌*◌, ◌/◌, ◌%◌, ◌<◌, ◌≤◌, Bool, true, false, eqb, ltb, List, [], ◌∷◌, ◌++◌, length, take, drop, map}
 use Rattle.std.proofs.Common.{ne_eqb, Result, Ok, Err, refl, sym, ap, subst, ◌∙◌, append_assoc, arith, ◌⊎◌, inl, inr}
 use Rattle.std.specs.Prelude.{◌||◌}
 use Rattle.std.proofs.lemmas.List.{length-drop, length-take, length-append, take-append-drop, drop_at}
@@ -14,9 +14,9 @@ use Rattle.pb_wire.specs.Message.{Value, varint_value, eight_bytes, some_bytes, 
 use Rattle.pb_wire.specs.Items.{Item, item_then, items_in, items_of}
 use Rattle.pb_wire.specs.Faulty.{IsFieldNumber, ValueHas, FieldHas, IsFaulty, no_type, number_cut, number_overlong, eight_cut, bytes_cut, four_cut, key_cut}
 use Rattle.pb_wire.specs.Faulty.{key_overlong, no_number, at_value}
-use Rattle.pb_wire.proofs.VarintLaws.{found_is, spelling_is_found, cut_is, is_cut, overlong_is, is_overlong}
+use Rattle.pb_wire.proofs.VarintLaws.{chosen, found_is, spelling_is_found, cut_is, is_cut, overlong_is, is_overlong}
 use Rattle.pb_wire.proofs.Message.{is_numbered, made_field, behind_key, field_len, items_first, items_fault}
-use Rattle.pb_wire.proofs.MessageLaws.{chosen, field_takes, field_again, whole, item, same_first, items_message}
+use Rattle.pb_wire.proofs.MessageLaws.{field_takes, field_again, whole, item, same_first, items_message}
 
 -- ---- numbers
 

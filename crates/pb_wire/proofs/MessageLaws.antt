@@ -1,6 +1,6 @@
 -- What is read is spelled so, and what is spelled so is read.
-use Rattle.std.proofs.Common.{◌≡◌, ℕ, zero, suc, ◌+◌, ◌*◌, ◌/◌, ◌%◌, ◌<◌, ◌≤◌, Bool, true, false, cond, eqb, ltb, List, [], ◌∷◌, ◌++◌, length, take, drop, map}
-use Rattle.std.proofs.Common.{ne_eqb, Result, Ok, Err, refl, sym, ap, subst, ◌∙◌, append_assoc, arith, ◌⊎◌, inl, inr}
+use Rattle.std.proofs.Common.{◌≡◌, ℕ, zero, suc, ◌+◌, ◌*◌, ◌/◌, ◌%◌, ◌<◌, ◌≤◌, true, false, eqb, ltb, List, [], ◌∷◌, ◌++◌, length, take, drop, map}
+use Rattle.std.proofs.Common.{ne_eqb, Result, Ok, Err, refl, sym, ap, subst, ◌∙◌, append_assoc, arith, inl, inr}
 use Rattle.std.proofs.lemmas.List.{length-drop, length-take, length-append, take-append-drop, take_at, drop_at}
 use Rattle.std.proofs.Math.Seq.{take-add}
 use Rattle.std.proofs.lemmas.Bool.{ltb-false, le-ltb, eqb-true}
@@ -13,12 +13,8 @@ use Rattle.pb_wire.specs.Varint.{IsVarint, varint_at}
 use Rattle.pb_wire.specs.Message.{Value, varint_value, eight_bytes, some_bytes, four_bytes, Entry, wire_type, SpellsValue, IsField, IsMessage, front_at}
 use Rattle.pb_wire.specs.Message.{value_at, field_at}
 use Rattle.pb_wire.specs.Items.{Item, item_then, items_in}
-use Rattle.pb_wire.proofs.VarintLaws.{found_is, spelling_is_found}
+use Rattle.pb_wire.proofs.VarintLaws.{chosen, found_is, spelling_is_found}
 use Rattle.pb_wire.proofs.Message.{field_parts, field_len, items_first}
-
-pub chosen : {A : Type 0} (b : Bool) (x y z : A) → cond b x y ≡ z → ((b ≡ true) × (x ≡ z)) ⊎ ((b ≡ false) × (y ≡ z))
-chosen true x y z e = inl (refl, e)
-chosen false x y z e = inr (refl, e)
 
 -- ---- what is read is spelled so
 
@@ -173,6 +169,9 @@ GoesOn more = (at : ℕ) (bytes : List ℕ) (fields : List Entry) → length byt
 some_left : (x : Entry) (others : List Item) → item x ∷ others ≡ [] → ⊥
 some_left x others e = cc
 
+nothing_left : (f : Entry) (fs : List Entry) → [] ≡ item f ∷ whole fs → ⊥
+nothing_left f fs e = cc
+
 fault_left : (w : WireFault) (fields : List Entry) → Err w ∷ [] ≡ whole fields → ⊥
 fault_left w [] e = cc
 fault_left w (f ∷ fs) e = cc
@@ -192,16 +191,10 @@ go_message more at bytes fields short next (Err kind) read e = absurd (fault_lef
 pub items_message : (more at : ℕ) (bytes : List ℕ) (fields : List Entry) → length bytes ≤ more → items_in more at bytes ≡ whole fields → IsMessage bytes fields
 unfolding items_in item_then
 items_message zero at [] [] short e = refl
-items_message zero at [] (f ∷ fs) short e = absurd (nothing f fs e)
-  where
-    nothing : (f : Entry) (fs : List Entry) → [] ≡ item f ∷ whole fs → ⊥
-    nothing f fs h = cc
+items_message zero at [] (f ∷ fs) short e = absurd (nothing_left f fs e)
 items_message zero at (b ∷ bs) fields short e = absurd (omega arith)
 items_message (suc more) at [] [] short e = refl
-items_message (suc more) at [] (f ∷ fs) short e = absurd (nothing f fs e)
-  where
-    nothing : (f : Entry) (fs : List Entry) → [] ≡ item f ∷ whole fs → ⊥
-    nothing f fs h = cc
+items_message (suc more) at [] (f ∷ fs) short e = absurd (nothing_left f fs e)
 items_message (suc more) at (b ∷ bs) fields short e = go_message more at (b ∷ bs) fields short (items_message more) (field_at (b ∷ bs)) refl e
 
 pub message_items : (fields : List Entry) (at : ℕ) (bytes : List ℕ) → IsMessage bytes fields → items_in (length bytes) at bytes ≡ whole fields

@@ -7,7 +7,7 @@ use Rattle.std.proofs.lemmas.List.{length-take}
 use Rattle.pb_wire.specs.declared.fault.FaultKind.{FaultKind}
 use Rattle.pb_wire.specs.declared.fault.FaultKind.TheVariants.{Cut, Varint}
 use Rattle.pb_wire.specs.Varint.{IsGroups, groups_value, IsVarint, IsCut, IsOverlong, behind, read_in, varint_at}
-use Rattle.pb_wire.proofs.Varints.{limit_in}
+use Rattle.pb_wire.proofs.Varints.{limit_in, goes_on}
 
 -- a number and its length
 abbrev pub Read : Type 0
@@ -21,7 +21,7 @@ pub record Spells (bytes : List ℕ) (more n len : ℕ) : Type 0 where
   pub value : groups_value (take len bytes) ≡ n
   pub below : n < limit_in more
 
-chosen : {A : Type 0} (b : Bool) (x y z : A) → cond b x y ≡ z → ((b ≡ true) × (x ≡ z)) ⊎ ((b ≡ false) × (y ≡ z))
+pub chosen : {A : Type 0} (b : Bool) (x y z : A) → cond b x y ≡ z → ((b ≡ true) × (x ≡ z)) ⊎ ((b ≡ false) × (y ≡ z))
 chosen true x y z e = inl (refl, e)
 chosen false x y z e = inr (refl, e)
 
@@ -76,10 +76,6 @@ more_bytes b bs more n len high size top s value e =
       value = ap (λ (v : ℕ). b % 128 + 128 * v) s.value;
       below = below;
     })
-  where
-    goes_on : (b : ℕ) (front : List ℕ) → 128 ≤ b → IsGroups front → IsGroups (b ∷ front)
-    goes_on b [] top h = absurd h
-    goes_on b (c ∷ cs) top h = (top, h)
 
 not_found : (kind : FaultKind) (n len : ℕ) → Err kind ≡ found n len → ⊥
 not_found kind n len e = cc

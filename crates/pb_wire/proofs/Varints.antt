@@ -18,6 +18,11 @@ pub limit_begins : (n : ℕ) → n < 2 ^ 64 → n < limit_in 9
 unfolding limit_in
 limit_begins n h = h
 
+-- groups with one more in front
+pub goes_on : (b : ℕ) (bytes : List ℕ) → 128 ≤ b → IsGroups bytes → IsGroups (b ∷ bytes)
+goes_on b [] top h = absurd h
+goes_on b (c ∷ cs) top h = (top, h)
+
 -- one more byte, and the rest of the number
 pub shortest_step : (front : List ℕ) (more next n : ℕ) (whole : List ℕ) → more ≡ suc next → 128 ≤ n → front ++ shortest_in more n ≡ whole
     → (front ++ (128 + n % 128) ∷ []) ++ shortest_in next (n / 128) ≡ whole
@@ -69,10 +74,6 @@ shortest_spells (suc more) n below = elim (cases_lt n 128) [
       let value : (128 + n % 128) % 128 + 128 * groups_value (shortest_in more (n / 128)) ≡ n = rw next.value (omega arith) in
       record { groups = goes_on (128 + n % 128) (shortest_in more (n / 128)) (omega arith) next.groups; len = omega (arith, next.len); value = value })
 ]
-  where
-    goes_on : (b : ℕ) (bytes : List ℕ) → 128 ≤ b → IsGroups bytes → IsGroups (b ∷ bytes)
-    goes_on b [] top h = absurd h
-    goes_on b (c ∷ cs) top h = (top, h)
 
 pub varint_spells : (n : ℕ) → n < 2 ^ 64 → IsVarint (varint n) n
 unfolding varint limit_in

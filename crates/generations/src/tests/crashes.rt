@@ -123,7 +123,12 @@ fn formats_and_reads(rt: HostRuntime) -> Result<(), Fail> {
     format(&mut disk)?;
     let (layout, root) = read_root(&mut disk)?;
     assert_eq!(rt;
-        (layout.sectors, layout.journal, layout.area, numbers_of(root)),
+        (
+            layout.sectors,
+            layout.journal,
+            layout.area,
+            numbers_of(root)
+        ),
         (256, 64, 94, [0; 5])
     );
     Ok(())

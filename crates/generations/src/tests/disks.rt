@@ -81,7 +81,12 @@ fn roots_that_can_stand(rt: HostRuntime) -> Result<(), Fail> {
         )?;
         let (layout, root) = read_root(&mut disk)?;
         assert_eq!(rt;
-            (layout.sectors, layout.journal, layout.area, numbers_of(root)),
+            (
+                layout.sectors,
+                layout.journal,
+                layout.area,
+                numbers_of(root)
+            ),
             (64, 16, 22, numbers)
         );
     }

@@ -1,8 +1,9 @@
-use Rattle.std.proofs.Common.{ℕ, List, ◌<◌, ◌^◌, ◌∙◌, subst}
+use Rattle.std.proofs.Common.{ℕ, List, subst}
 use Rattle.std.specs.Prelude.{All}
 use Rattle.geometry_commands.specs.Shapes.{shape_view, kind_of, IsShape}
 use Rattle.mvt_layer.specs.Tile.{tagged}
 use Rattle.mvt_write.specs.Fits.{FitsTag}
+use Rattle.mvt_write.proofs.Integers.{integers_small}
 use Rattle.mvt_write.proofs.feature.feature_bytes.Goals as goal
 
 pub returns-clause-fits : goal.returns-clause-fits
@@ -12,6 +13,6 @@ returns-clause-fits c =
     record {
       id = c.in_ok-put_id.ensures.fits;
       tags = subst (λ ts. All FitsTag (tagged ts)) c.deref.ensures.value c.in_ok-put_tags.ensures.fits;
-      integers = subst (λ (ns : List ℕ). All (λ n. n < 2 ^ 32) ns) (c.deref-2.ensures.value ∙ spelled) c.in_ok-put_packed.ensures.fits;
+      integers = integers_small shape c.requires.shape;
       shape = subst (λ (ns : List ℕ). IsShape (kind_of shape) ns shape) spelled c.in_ok-integers.ensures.shape;
     }

@@ -1,11 +1,7 @@
-use Rattle.std.proofs.Common.{◌≡◌, ◌<◌, ◌^◌, take}
-use Rattle.std.specs.Prelude.{All}
+use Rattle.std.proofs.Common.{◌≡◌, take}
 use Rattle.std.specs.List.{flat_map}
 use Rattle.pb_wire.specs.Varint.{varint}
 use Rattle.mvt_write.proofs.field.packed.Given as goal
 
 abbrev pub invariant-loop-n : goal.invariant-loop-n
-invariant-loop-n l = record {
-  written : l.out.items ≡ flat_map varint (take l.n-index l.numbers);
-  fits : All (λ n. n < 2 ^ 32) (take l.n-index l.numbers);
-}
+invariant-loop-n l = l.out.items ≡ flat_map varint (take l.n-index l.numbers)
