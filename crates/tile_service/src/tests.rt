@@ -12,14 +12,19 @@ use sector_disk::{MemoryDisk, Sectors};
 use std::alloc::Global;
 use std::test::Fail;
 
-/// A point at the corner of the world, in the layer `p` on zooms 0 to 2, with a tag of so many letters or none. The text that gives a
-/// number this feature has 25 bytes, or with a tag 30 bytes and the letters.
+/// A point at the corner of the world, in the layer `p` on zooms 0 to 2, with a tag of so many letters `x` or none. The text that gives
+/// a number this feature has 25 bytes, or with a tag 30 bytes and the letters.
 fn point(alloc: Global, letters: usize) -> Result<Feature, Fail> {
+    point_of(alloc, "x", letters)
+}
+
+/// The same point with a tag of another letter.
+fn point_of(alloc: Global, letter: &str, letters: usize) -> Result<Feature, Fail> {
     let mut tags = Vec::new(alloc);
     if letters > 0 {
         let mut text = String::new(alloc);
         for _ in 0..letters {
-            text.push_str("x")?;
+            text.push_str(letter)?;
         }
         tags.push(Tag {
             key: String::from_str(alloc, "t")?,

@@ -1,7 +1,7 @@
 //! A run of edits in which one call of the disk fails, and a crash after it.
 ghost use Rattle.std.specs.Prelude.{◌≡◌};
 
-use super::{formatted, opened, point};
+use super::{formatted, opened, point, point_of};
 use crate::{Service, ServiceFault};
 use sector_disk::{FailingCalls, FaultyDisk, MemoryDisk, Sectors};
 use std::alloc::Global;
@@ -138,6 +138,62 @@ fn calls_of_the_disk(rt: HostRuntime) -> Result<(), Fail> {
     // A text of 25 bytes, of 496, of 497 and of 993: a write and a sync for one part; the bodies, a sync, the head and a sync for more.
     for (letters, calls) in [(0, 2), (466, 2), (467, 4), (963, 5)] {
         assert_eq!(rt; calls_of(rt.alloc(), letters)?, (5, calls));
+    }
+    Ok(())
+}
+
+/// The disk that a crash leaves after an edit of three sectors, where its calls from this number on fail. The edit gives a number the
+/// point with 963 such letters.
+fn stopped_edit(
+    alloc: Global,
+    disk: MemoryDisk,
+    call: u64,
+    (id, letter): (u64, &str),
+    choice: &[u32],
+) -> Result<MemoryDisk, Fail> {
+    let faulty = FaultyDisk::new(disk, FailingCalls::AllFrom(call));
+    let mut service = opened(alloc, faulty)?;
+    match service.put(id, point_of(alloc, letter, 963)?) {
+        Err(ServiceFault::Device) => Ok(service.into_disk().into_disk().crash(choice)?),
+        _ => Err("the edit isn't stopped".into()),
+    }
+}
+
+/// Which of the numbers 1 to 3 have a feature on a disk, the number of a further edit of three sectors, which sets feature 3, and which
+/// of them have theirs once the disk is opened again.
+fn goes_on(
+    alloc: Global,
+    disk: MemoryDisk,
+) -> Result<([bool; 3], Result<u64, ServiceFault>, [bool; 3]), Fail> {
+    let mut service = opened(alloc, disk)?;
+    let found = [1, 2, 3].map(|id| service.feature(id).is_some());
+    let feature = point_of(alloc, "z", 963)?;
+    let number = service.put(3, point_of(alloc, "z", 963)?);
+    let again = opened(alloc, service.into_disk().crash(&[])?)?;
+    let kept = [
+        again.feature(1).is_some(),
+        again.feature(2).is_some(),
+        again.feature(3) == Some(&feature),
+    ];
+    Ok((found, number, kept))
+}
+
+#[test]
+fn bodies_without_a_head_are_no_edit(rt: HostRuntime) -> Result<(), Fail> {
+    let alloc = rt.alloc();
+    // Of the first edit one body is written, and a crash leaves it or not. Of the second one, whose number is the same, one is written
+    // too, or both are, or they are synced: call 9 would write its head.
+    for first in [[0], [1]] {
+        for call in 7..10 {
+            for second in [[0, 0], [0, 1], [1, 0], [1, 1]] {
+                let disk = stopped_edit(alloc, formatted(alloc)?, 7, (1, "x"), &first)?;
+                let disk = stopped_edit(alloc, disk, call, (2, "y"), &second)?;
+                assert_eq!(rt;
+                    goes_on(alloc, disk)?,
+                    ([false; 3], Ok(1), [false, false, true])
+                );
+            }
+        }
     }
     Ok(())
 }

@@ -1,11 +1,11 @@
 use Rattle.std.proofs.Common.{ℕ, ap, length, ◌∙◌, arith, subst, sym}
-use Rattle.edit_journal.specs.Ring.{Ring, places_of}
+use Rattle.edit_journal.specs.Ring.{Ring}
 use Rattle.edit_journal.specs.Appends.{start_of}
 use Rattle.edit_journal.specs.Recovers.{IsJournal}
 use Rattle.edit_journal.specs.declared.sizes.TheConstants.{RECORD_VERSION}
 use Rattle.sector_disk.specs.Disk.{seen}
 use Rattle.feature_store.specs.Store.{FeatureMap, after, snapshot}
-use Rattle.tile_service.specs.Replayed.{bytes_of, views_of}
+use Rattle.tile_service.specs.Replayed.{views_of}
 use Rattle.tile_service.proofs.Fresh.{no_text}
 use Rattle.tile_service.proofs.Opens.{recovery_counts, recovery_fault, ring_short, replayed_short}
 use Rattle.tile_service.proofs.opening.read_edits.Goals as goal
