@@ -54,8 +54,8 @@ abbrev pub BodiesStand : History → Ring → (place used number : ℕ) → List
 BodiesStand history ring place used number text = (part : ℕ) (sector : List ℕ) → 0 < part → part < parts_of (length text)
     → MayHold history (sector_at ring (place + (used + part))) sector → sector ≡ record_sector RECORD_VERSION number text part
 
--- how many writes and syncs a record of so many parts takes: a write for each part, a sync behind its bodies, if it has any,
--- and a sync behind its head
+-- how many writes and syncs, counted together, a record of so many parts takes: a write for each part, a sync behind its bodies,
+-- if it has any, and a sync behind its head
 abbrev pub steps_of : ℕ → ℕ
 steps_of parts = parts + (if parts == 1 then 1 else 2)
 

@@ -52,7 +52,7 @@ fn stage<D: Sectors>(
     ensures bodies { D.honest disk.new
         → OnOk result (BodiesStand (D.history disk.new) (ring_of journal.now) journal.now.place journal.now.used number text.now) }
 
-    // Of the record's writes and syncs only the write of its head and the sync behind it are left.
+    // Of the record's writes and syncs, counted together, all but two are made.
     ensures steps { D.honest disk.new
         → OnOk result (moment (D.history disk.new) + 2 ≡ moment (D.history disk.old) + steps_of (parts_of (length text.now))) }
 {
