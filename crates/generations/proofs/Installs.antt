@@ -33,7 +33,8 @@ module _ (root : Root) (start : History) where
         (λ (old : image (root_at root.generation) ≡ seen start (root_at root.generation)). inl (λ at. ⊎_elim
         (λ (same : image at ≡ seen start at). subst (MayHold start at) (sym same) (seen_may start at))
         (λ (w : (at ≡ root_at root.generation) × (image at ≡ root_sector root)).
-        subst (λ (k : ℕ). MayHold start k (image k)) (sym w.0) (subst (MayHold start (root_at root.generation)) (sym old) (seen_may start (root_at root.generation))))
+        subst (λ (k : ℕ). MayHold start k (image k)) (sym w.0)
+        (subst (MayHold start (root_at root.generation)) (sym old) (seen_may start (root_at root.generation))))
         (in_sector image fits at)))
         (λ (new : (root_at root.generation ≡ root_at root.generation) × (image (root_at root.generation) ≡ root_sector root)). inr (record {
           stands = new.1;
