@@ -2,6 +2,7 @@
 use Rattle.std.specs.Prelude.{◌≡◌, ◌⊎◌, ◌<◌, ◌≤◌, ◌+◌, ◌-◌, ◌^◌, ◌==◌, if◌then◌else◌, ℕ, List, [], ◌∷◌, ◌++◌, length}
 use Rattle.std.proofs.Common.{suc}
 use Rattle.sector_disk.specs.Disk.{History, Image, MayHold, MayLeave, HasFailed}
+use Rattle.sector_disk.specs.Disk.History.{begun, wrote, tried, synced}
 use Rattle.edit_journal.specs.Records.{parts_of, record_sector}
 use Rattle.edit_journal.specs.Ring.{Ring, Start, sector_at, places_of, HoldsTexts}
 use Rattle.edit_journal.specs.declared.sizes.TheConstants.{RECORD_VERSION}
@@ -54,10 +55,28 @@ abbrev pub BodiesStand : History → Ring → (place used number : ℕ) → List
 BodiesStand history ring place used number text = (part : ℕ) (sector : List ℕ) → 0 < part → part < parts_of (length text)
     → MayHold history (sector_at ring (place + (used + part))) sector → sector ≡ record_sector RECORD_VERSION number text part
 
--- how many writes and syncs, counted together, a record of so many parts takes: a write for each part, a sync behind its bodies,
--- if it has any, and a sync behind its head
-abbrev pub steps_of : ℕ → ℕ
-steps_of parts = parts + (if parts == 1 then 1 else 2)
+-- how many writes there have been
+abbrev pub writes_in : History → ℕ
+writes_in (begun start) = 0
+writes_in (wrote sector bytes before) = suc (writes_in before)
+writes_in (tried sector bytes before) = suc (writes_in before)
+writes_in (synced before) = writes_in before
+
+-- how many syncs there have been
+abbrev pub syncs_in : History → ℕ
+syncs_in (begun start) = 0
+syncs_in (wrote sector bytes before) = syncs_in before
+syncs_in (tried sector bytes before) = syncs_in before
+syncs_in (synced before) = suc (syncs_in before)
+
+-- how many syncs the record of so many parts takes: one behind its bodies, if it has any, and one behind its head
+abbrev pub syncs_of : ℕ → ℕ
+syncs_of parts = if parts == 1 then 1 else 2
+
+-- what a record of so many parts takes: a write for each of them, and its syncs
+pub record TakesSteps (parts : ℕ) (old new : History) : Type 0 where
+  pub writes : writes_in new ≡ writes_in old + parts
+  pub syncs : syncs_in new ≡ syncs_in old + syncs_of parts
 
 -- why an append of so many parts comes to nothing, and what it makes of the count of faults
 abbrev pub IsAppendFault : Journal → (parts old new : ℕ) → JournalFault → Type 0

@@ -1,11 +1,11 @@
 //! A record on the disk: its bodies, a sync, its head, a sync.
 ghost use Rattle.std.specs.Prelude.{◌≡◌, ◌⊎◌, ◌≤◌, ◌<◌, ◌+◌, ◌-◌, ◌^◌, ◌++◌, ◌∷◌, [], ℕ, List, length, IfOk, IfErr, OnOk, OnErr};
-ghost use Rattle.sector_disk.specs.Disk.{seen, moment, HasFailed};
+ghost use Rattle.sector_disk.specs.Disk.{seen, HasFailed};
 ghost use Rattle.sector_disk.specs.Moments.{Within, LeavesOnly};
 ghost use Rattle.edit_journal.specs.Records.{IsEditLength, parts_of};
 ghost use Rattle.edit_journal.specs.Ring.{sector_at};
 ghost use Rattle.edit_journal.specs.Appends.{ring_of, start_of, Keeps, IsAt, AsBefore, ReadsAsBefore, HoldsOneMore, OldOrBody, BodiesStand};
-ghost use Rattle.edit_journal.specs.Appends.{steps_of, IsAppendFault};
+ghost use Rattle.edit_journal.specs.Appends.{writes_in, syncs_in, syncs_of, TakesSteps, IsAppendFault};
 ghost use Rattle.edit_journal.specs.declared.fault.JournalFault.TheVariants.{Device};
 
 use crate::encoding::{count_parts, part_sector};
@@ -52,9 +52,11 @@ fn stage<D: Sectors>(
     ensures bodies { D.honest disk.new
         → OnOk result (BodiesStand (D.history disk.new) (ring_of journal.now) journal.now.place journal.now.used number text.now) }
 
-    // Of the record's writes and syncs, counted together, all but two are made.
-    ensures steps { D.honest disk.new
-        → OnOk result (moment (D.history disk.new) + 2 ≡ moment (D.history disk.old) + steps_of (parts_of (length text.now))) }
+    // Of the record's writes and syncs all but one of each are made.
+    ensures writes { D.honest disk.new
+        → OnOk result (writes_in (D.history disk.new) + 1 ≡ writes_in (D.history disk.old) + parts_of (length text.now)) }
+    ensures syncs { D.honest disk.new
+        → OnOk result (syncs_in (D.history disk.new) + 1 ≡ syncs_in (D.history disk.old) + syncs_of (parts_of (length text.now))) }
 {
     let parts = count_parts(text.len() as u32);
     for part in 1..parts {
@@ -88,8 +90,7 @@ fn write_record<D: Sectors>(journal: &Journal, disk: &mut D, text: &[u8]) -> Res
     ensures acknowledged { (texts : List (List ℕ)) → D.honest disk.new → IsAt texts journal.now (D.history disk.old)
         → OnOk result (Keeps (ring_of journal.now) journal.now.place journal.now.edits (journal.now.used + parts_of (length text.now)) (journal.now.last + 1)
         (texts ++ text.now ∷ []) (D.history disk.new)) }
-    ensures steps { D.honest disk.new
-        → OnOk result (moment (D.history disk.new) ≡ moment (D.history disk.old) + steps_of (parts_of (length text.now))) }
+    ensures steps { D.honest disk.new → OnOk result (TakesSteps (parts_of (length text.now)) (D.history disk.old) (D.history disk.new)) }
 {
     let number = journal.last + 1;
     stage(journal, disk, number, text)?;
@@ -130,8 +131,7 @@ impl Journal {
             → OnOk result (IsAt (texts ++ text.now ∷ []) self.new (D.history disk.new)) }
 
         // It takes one write for each part, and one sync, or two where there are several parts.
-        ensures steps { D.honest disk.new
-            → OnOk result (moment (D.history disk.new) ≡ moment (D.history disk.old) + steps_of (parts_of (length text.now))) }
+        ensures steps { D.honest disk.new → OnOk result (TakesSteps (parts_of (length text.now)) (D.history disk.old) (D.history disk.new)) }
     {
         if self.last == u64::MAX {
             return Err(JournalFault::NumbersSpent);

@@ -1,8 +1,7 @@
 //! Edits: a text in the journal first, and then a change of the map.
 ghost use Rattle.std.specs.Prelude.{◌≡◌, ◌≢◌, ◌↔◌, ◌+◌, IfErr, OnOk, IsSome, IsTrue};
-ghost use Rattle.sector_disk.specs.Disk.{moment};
 ghost use Rattle.sector_disk.specs.Moments.{LeavesOnly};
-ghost use Rattle.edit_journal.specs.Appends.{steps_of};
+ghost use Rattle.edit_journal.specs.Appends.{TakesSteps};
 ghost use Rattle.feature_model.specs.Data.{feature_data, put, delete};
 ghost use Rattle.feature_model.specs.Limits.{NumberFits};
 ghost use Rattle.feature_store.specs.Store.{feature_at};
@@ -90,7 +89,7 @@ impl<D: Sectors + Drop> Service<D> {
 
         // It takes a write for each sector of its text, and one sync, or two where there are several.
         ensures steps { D.honest self.new.disk
-            → OnOk result (moment (D.history self.new.disk) ≡ moment (D.history self.old.disk) + steps_of (places_for (put id (feature_data feature)))) }
+            → OnOk result (TakesSteps (places_for (put id (feature_data feature))) (D.history self.old.disk) (D.history self.new.disk)) }
     {
         if self.broken {
             return Err(ServiceFault::Broken);
@@ -145,7 +144,7 @@ impl<D: Sectors + Drop> Service<D> {
         ensures refused { (stored : Stored) → D.honest self.new.disk → IsUp (D.sectors self.old.disk) (D.history self.old.disk) stored self.old
             → IfErr result (λ fault. fault ≢ Device → IsUp (D.sectors self.new.disk) (D.history self.new.disk) stored self.new) }
         ensures steps { D.honest self.new.disk
-            → OnOk result (moment (D.history self.new.disk) ≡ moment (D.history self.old.disk) + steps_of (places_for (delete id))) }
+            → OnOk result (TakesSteps (places_for (delete id)) (D.history self.old.disk) (D.history self.new.disk)) }
     {
         if self.broken {
             return Err(ServiceFault::Broken);

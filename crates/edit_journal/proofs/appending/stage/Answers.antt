@@ -1,6 +1,5 @@
 use Rattle.std.proofs.Common.{◌∙◌, ◌<◌, inl, refl, ap, arith}
-use Rattle.sector_disk.specs.Disk.{moment}
-use Rattle.edit_journal.specs.Appends.{ring_of}
+use Rattle.edit_journal.specs.Appends.{ring_of, writes_in, syncs_in}
 use Rattle.edit_journal.proofs.Bodies.{staged_start, body_within, body_leaves, body_reads, body_seen, synced_within, synced_leaves}
 use Rattle.edit_journal.proofs.appending.stage.Goals as goal
 
@@ -14,7 +13,8 @@ loop-part-init g c = record {
       (omega arith) c.requires.room;
   within = λ honest at left may. inl may;
   bodies = λ honest part pos lt. absurd (omega (arith, pos, lt));
-  steps = λ honest. refl;
+  writes = λ honest. refl;
+  syncs = λ honest. refl;
 }
 
 pub loop-part-preserved : goal.loop-part-preserved
@@ -39,7 +39,8 @@ loop-part-preserved g c =
       bodies = λ honest. body_seen (g.D.Sectors.history c.args.disk.now) (ring_of c.args.journal.now) c.args.journal.now.place c.args.journal.now.used
           c.args.number c.args.text.now begins c.requires.room c.loop-part.part _ _ _ _ (omega arith) c.sector_of-at.ensures.is c.part_sector-sector.ensures
           (ok.writes honest) (inv.bodies (ok.honest honest));
-      steps = λ honest. omega (arith, ap moment (ok.writes honest), inv.steps (ok.honest honest));
+      writes = λ honest. omega (arith, ap writes_in (ok.writes honest), inv.writes (ok.honest honest));
+      syncs = λ honest. ap syncs_in (ok.writes honest) ∙ inv.syncs (ok.honest honest);
     }
 
 pub returns-in_err-sync-clause-within : goal.returns-in_err-sync-clause-within

@@ -1,10 +1,10 @@
 use Rattle.std.proofs.Common.{◌≡◌, ◌<◌, ◌+◌, ℕ}
-use Rattle.sector_disk.specs.Disk.{seen, moment}
+use Rattle.sector_disk.specs.Disk.{seen}
 use Rattle.sector_disk.specs.Moments.{Within, LeavesOnly}
 use Rattle.edit_journal.specs.declared.sizes.TheConstants.{RECORD_VERSION}
 use Rattle.edit_journal.specs.Records.{record_sector}
 use Rattle.edit_journal.specs.Ring.{sector_at}
-use Rattle.edit_journal.specs.Appends.{ring_of, OldOrBody, ReadsAsBefore}
+use Rattle.edit_journal.specs.Appends.{ring_of, OldOrBody, ReadsAsBefore, writes_in, syncs_in}
 use Rattle.edit_journal.proofs.appending.stage.Given as goal
 
 abbrev pub invariant-loop-part : goal.invariant-loop-part
@@ -21,5 +21,6 @@ invariant-loop-part g l = record {
   bodies : g.D.Sectors.honest l.disk → (part : ℕ) → 0 < part → part < l.part
       → seen (g.D.Sectors.history l.disk) (sector_at (ring_of l.journal) (l.journal.place + (l.journal.used + part)))
       ≡ record_sector RECORD_VERSION l.number l.text part;
-  steps : g.D.Sectors.honest l.disk → moment (g.D.Sectors.history l.disk) + 1 ≡ moment (g.D.Sectors.history l.initial.disk) + l.part;
+  writes : g.D.Sectors.honest l.disk → writes_in (g.D.Sectors.history l.disk) + 1 ≡ writes_in (g.D.Sectors.history l.initial.disk) + l.part;
+  syncs : g.D.Sectors.honest l.disk → syncs_in (g.D.Sectors.history l.disk) ≡ syncs_in (g.D.Sectors.history l.initial.disk);
 }

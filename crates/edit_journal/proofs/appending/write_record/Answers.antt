@@ -1,6 +1,5 @@
 use Rattle.std.proofs.Common.{◌+◌, ap, arith}
-use Rattle.sector_disk.specs.Disk.{moment}
-use Rattle.edit_journal.specs.Appends.{ring_of}
+use Rattle.edit_journal.specs.Appends.{ring_of, writes_in, syncs_in}
 use Rattle.edit_journal.proofs.Frames.{frame_end}
 use Rattle.edit_journal.proofs.Heads.{on_ok, stage_leaves, head_leaves, end_leaves, end_keeps}
 use Rattle.edit_journal.proofs.appending.write_record.Goals as goal
@@ -52,4 +51,7 @@ returns-clause-steps g c honest =
     let written = c.sync.ensures.honest honest in
     let staged = c.write.ensures.honest written in
     on_ok c.sync.result _ _ (c.sync.ensures.syncs honest)
-    (λ synced_is. omega (arith, ap moment synced_is, ap moment (c.in_ok-write.ensures.writes written), c.in_ok-stage.ensures.steps staged))
+    (λ synced_is. record {
+      writes = omega (arith, ap writes_in synced_is, ap writes_in (c.in_ok-write.ensures.writes written), c.in_ok-stage.ensures.writes staged);
+      syncs = omega (arith, ap syncs_in synced_is, ap syncs_in (c.in_ok-write.ensures.writes written), c.in_ok-stage.ensures.syncs staged);
+    })
