@@ -8,7 +8,7 @@ mod gathered;
 mod layers;
 mod limit;
 mod search;
-mod snapshots;
+mod snapshot_texts;
 mod store;
 
 pub use fault::SnapshotFault;

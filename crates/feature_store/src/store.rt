@@ -15,7 +15,7 @@ use crate::gathered::gather;
 use crate::layers::listed;
 use crate::limit::TEXTS_END;
 use crate::search::find;
-use crate::snapshots::{append_entries, read_entries};
+use crate::snapshot_texts::{append_entries, read_entries};
 use feature_model::{Feature, GREATEST_ZOOM};
 use hilbert_id::TileAt;
 use mvt_layer::Layer;

@@ -1,5 +1,8 @@
 //! The snapshot of a map: the texts of its features, by ascending number.
-ghost use Rattle.std.specs.Prelude.{◌≡◌, ◌⊎◌, ◌<◌, ◌++◌, ℕ, All, IfOk, IfErr, OnOk, IsTrue, length};
+ghost use Rattle.std.specs.Prelude.{◌≡◌, ◌⊎◌, ◌<◌, ◌↔◌, ◌++◌, ℕ, All, IfOk, IfErr, OnOk, IsTrue, length};
+ghost use Rattle.std.specs.Ordering.{nat_cmp};
+ghost use Rattle.std.specs.Map.{keys_of};
+ghost use Rattle.std.specs.List.Sorted.{IsStrictlySortedBy};
 ghost use Rattle.feature_model.specs.Data.{FeatureData, feature_data, put};
 ghost use Rattle.feature_model.specs.Types.{IsEdit};
 ghost use Rattle.edit_text.specs.Decoding.{BeginsWith};
@@ -26,7 +29,19 @@ pub(crate) fn append_entries(out: &mut Vec<u8>, entries: &[Entry]) -> Result<(),
     Ok(())
 }
 
+/// What is told of a text that isn't decoded.
+fn told(fault: TextFault) -> SnapshotFault
+    ensures either { (result ≡ Memory) ⊎ (result ≡ Bad) }
+    ensures memory { fault ≡ TextFault.Memory → result ≡ Memory }
+{
+    match fault {
+        TextFault::Cut | TextFault::Bad => SnapshotFault::Bad,
+        TextFault::Memory => SnapshotFault::Memory,
+    }
+}
+
 /// The feature whose text stands in front, with its number, and the bytes behind it.
+#[tactic(auto, using(crate::proofs::Snapshots::text_behind, crate::proofs::Snapshots::text_within, crate::proofs::Snapshots::deleted_in_front, crate::proofs::Snapshots::not_decoded))]
 fn read_entry(alloc: Global, text: &[u8]) -> Result<(Entry, &[u8]), SnapshotFault>
     ensures edit { IfOk result (λ r. IsEditOf (entry_data r.0)) }
     ensures text { IfOk result (λ r. text.now ≡ entry_text (entry_data r.0) ++ r.1.now) }
@@ -34,15 +49,18 @@ fn read_entry(alloc: Global, text: &[u8]) -> Result<(Entry, &[u8]), SnapshotFaul
         ⊎ ((fault ≡ Bad) × ((e : ℕ × FeatureData) → BeginsWith (put e.0 e.1) text.now → ⊥))) }
 {
     match decode(alloc, text) {
-        Ok((Edit::Put { id, feature }, bytes)) => Ok((Entry { id, feature }, &text[bytes..])),
-        Ok((Edit::Delete { .. }, _)) | Err(TextFault::Cut | TextFault::Bad) => Err(SnapshotFault::Bad),
-        Err(TextFault::Memory) => Err(SnapshotFault::Memory),
+        Ok((edit, len)) => match edit {
+            Edit::Put { id, feature } => Ok((Entry { id, feature }, &text[len..])),
+            Edit::Delete { .. } => Err(SnapshotFault::Bad),
+        },
+        Err(fault) => Err(told(fault)),
     }
 }
 
 /// Whether a number is greater than those of all entries.
 fn is_behind(entries: &[Entry], id: u64) -> bool
-    ensures { IsTrue result → IsBehind (entries_data entries.now) id }
+    requires { IsStrictlySortedBy nat_cmp (keys_of (entries_data entries.now)) }
+    ensures { IsTrue result ↔ IsBehind (entries_data entries.now) id }
 {
     match entries.last() {
         Some(last) => last.id < id,
@@ -51,6 +69,7 @@ fn is_behind(entries: &[Entry], id: u64) -> bool
 }
 
 /// The entries whose texts these are, in one pass.
+#[tactic(auto, using(crate::proofs::Entries::no_entries_read, crate::proofs::Entries::entry_read, crate::proofs::Snapshots::all_read, crate::proofs::Snapshots::map_read))]
 pub(crate) fn read_entries(alloc: Global, text: &[u8]) -> Result<Vec<Entry>, SnapshotFault>
     requires { length text.now < TEXTS_END }
     ensures map { IfOk result (λ entries. IsMap (entries_data entries.items)) }
