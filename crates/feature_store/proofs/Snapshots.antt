@@ -192,6 +192,12 @@ no_text m rest text read some none n is_map same =
     by [] left all = omega (arith, ap length left, none_takes, some)
     by (e ∷ tail) left all = none e (All-head IsEditOf e tail all, (snapshot tail, sym left ∙ snapshot_of_first e tail))
 
+-- what is told of what is left is told of the whole
+pub not_read : (m : FeatureMap) (rest text : List ℕ) (d : SnapshotFault) → IsRead m rest text → 0 < length rest
+    → (d ≡ Memory) ⊎ ((d ≡ Bad) × ((e : ℕ × FeatureData) → BeginsWith (put e.0 e.1) rest → ⊥)) → (d ≡ Memory) ⊎ ((d ≡ Bad) × IsNoSnapshot text)
+not_read m rest text d read some (inl out) = inl out
+not_read m rest text d read some (inr bad) = inr (bad.0, no_text m rest text read some bad.1)
+
 -- what is left begins with the text of a number that isn't greater than all before
 pub not_behind : (m : FeatureMap) (e : ℕ × FeatureData) (rest behind text : List ℕ) → IsRead m rest text → IsEditOf e → rest ≡ entry_text e ++ behind
     → (IsBehind m e.0 → ⊥) → IsNoSnapshot text
