@@ -1,5 +1,6 @@
 -- Entries and the map that they keep.
-use Rattle.std.proofs.Common.{length-set, ◌+◌, ◌≡◌, ℕ, suc, All, subst, ◌-◌, ◌<◌, ◌≤◌, ◌⊎◌, List, [], ◌∷◌, length, get_or, set, take, ◌++◌, Some, IsSome, sym, ap, ◌∙◌, inl, inr}
+use Rattle.std.proofs.Common.{◌≡◌, ℕ, suc, ◌+◌, ◌-◌, ◌<◌, ◌≤◌, ◌⊎◌, inl, inr, Some, IsSome, sym, ap, subst, ◌∙◌}
+use Rattle.std.proofs.Common.{List, [], ◌∷◌, ◌++◌, All, length, length-set, get_or, set, take}
 use Rattle.std.specs.Prelude.{◌↔◌}
 use Rattle.std.proofs.Common.{arith}
 use Rattle.std.specs.List.{insert, remove}
@@ -93,8 +94,7 @@ module _ (es : List Entry) (i : ℕ) (e : Entry) where
   last_tells id ascends long is =
       let m = entries_data es in
       let count : length m ≡ suc i = omega (arith, length-map es entry_data, long) in
-      let there : get_or m i (entry_data e) ≡ entry_data e = get_or-map entry_data es i e (entry_data e) (omega (arith, long)) ∙ ap entry_data (sym is) in
-      (
+      let there : get_or m i (entry_data e) ≡ entry_data e = get_or-map entry_data es i e (entry_data e) (omega (arith, long)) ∙ ap entry_data (sym is) in (
         λ low. behind_last m id i (entry_data e) ascends count (subst (λ (x : ℕ × FeatureData). x.0 < id) (sym there) low),
         λ behind. subst (λ (x : ℕ × FeatureData). x.0 < id) there (behind i (entry_data e) (omega (arith, count))),
       )

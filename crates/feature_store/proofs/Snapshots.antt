@@ -1,9 +1,9 @@
 -- A snapshot is that of one map; what an edit leaves of a map's invariant; and how a snapshot is read.
-use Rattle.std.proofs.Common.{◌≡◌, ℕ, zero, suc, ◌-◌, ◌<◌, ◌≤◌, ◌⊎◌, inl, inr, List, [], ◌∷◌, ◌++◌, length, get_or, take, drop, refl, sym, ap, subst, ◌∙◌, append_assoc, arith}
-use Rattle.std.specs.List.{All, AllByRecursion}
+use Rattle.std.proofs.Common.{◌≡◌, ◌==◌, Bool, false, ℕ, zero, suc, ◌-◌, ◌<◌, ◌≤◌, ◌⊎◌, inl, inr, refl, sym, ap, subst, ◌∙◌, arith}
+use Rattle.std.proofs.Common.{List, [], ◌∷◌, ◌++◌, length, get_or, take, drop, append_assoc}
+use Rattle.std.proofs.lemmas.Bool.Decides.{nat_tests}
+use Rattle.std.specs.List.{All}
 use Rattle.std.specs.List.Sorted.{IsStrictlySortedBy}
-use Rattle.std.specs.Ordering.{nat_cmp}
-use Rattle.std.specs.declared.cmp.Ordering.TheVariants.{Less}
 use Rattle.std.proofs.lemmas.List.{append-nil, length-append, length-drop, take_all, drop_at, flat_map_more, nil_from_length}
 use Rattle.std.proofs.lemmas.List.Elements.{All-nil, All-cons, All-head, All-tail, All-push}
 use Rattle.feature_model.specs.Data.{FeatureData, EditData, put, delete}
@@ -38,7 +38,8 @@ one_map [] [] ms ns same = refl
 one_map [] (f ∷ n) ms ns same = absurd (none_is_one f n same)
 one_map (e ∷ m) [] ms ns same = absurd (none_is_one e m (sym same))
 one_map (e ∷ m) (f ∷ n) ms ns same =
-    let both = one_edit (put e.0 e.1) (put f.0 f.1) (snapshot m) (snapshot n) (All-head IsEditOf e m ms) (All-head IsEditOf f n ns) (texts_of_two e f m n same) in
+    let both = one_edit (put e.0 e.1) (put f.0 f.1) (snapshot m) (snapshot n) (All-head IsEditOf e m ms) (All-head IsEditOf f n ns)
+    (texts_of_two e f m n same) in
     let first : e ≡ f = ap (set_by e) both.0 in
     let rest : m ≡ n = one_map m n (All-tail IsEditOf e m ms) (All-tail IsEditOf f n ns) both.1 in
     λ i. first i ∷ rest i
@@ -120,9 +121,12 @@ text_behind e text len begins long =
 -- what is told of a text, for the edit in front takes a feature away
 pub deleted_in_front : (id : ℕ) (text : List ℕ) → BeginsWith (delete id) text
     → (Bad ≡ Memory) ⊎ ((Bad ≡ Bad) × ((e : ℕ × FeatureData) → BeginsWith (put e.0 e.1) text → ⊥))
-deleted_in_front id text deleted = inr (refl, λ e begins.
-    let both = one_edit (delete id) (put e.0 e.1) deleted.1.0 begins.1.0 deleted.0 begins.0 (sym deleted.1.1 ∙ begins.1.1) in
-    let same : delete id ≡ put e.0 e.1 = both.0 in cc)
+deleted_in_front id text deleted = inr (
+  refl,
+  λ e begins.
+      let both = one_edit (delete id) (put e.0 e.1) deleted.1.0 begins.1.0 deleted.0 begins.0 (sym deleted.1.1 ∙ begins.1.1) in
+      let same : delete id ≡ put e.0 e.1 = both.0 in cc,
+)
 
 -- what is told of a text that isn't decoded
 pub not_decoded : {T : Type 0} (d memory : T) (r : SnapshotFault) (text : List ℕ) → (r ≡ Memory) ⊎ (r ≡ Bad) → (d ≡ memory → r ≡ Memory)
@@ -161,6 +165,10 @@ map_read m rest text read none short = record {
 }
 
 -- ---- what no text of a map begins with
+
+-- what isn't empty has a byte
+pub something_left : (n : ℕ) (empty : Bool) → empty ≡ (n == 0) → empty ≡ false → 0 < n
+something_left n empty is not_so = grind (arith, nat_tests)
 
 -- a map whose snapshot begins with these entries' begins with them, and what is left is the snapshot of the others
 abbrev GoesOn : FeatureMap → List ℕ → FeatureMap → Type 0

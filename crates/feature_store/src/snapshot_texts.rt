@@ -32,7 +32,7 @@ pub(crate) fn append_entries(out: &mut Vec<u8>, entries: &[Entry]) -> Result<(),
 /// What is told of a text that isn't decoded.
 fn told(fault: TextFault) -> SnapshotFault
     ensures either { (result ≡ Memory) ⊎ (result ≡ Bad) }
-    ensures memory { fault ≡ TextFault.Memory → result ≡ Memory }
+    ensures memory { (result ≡ Memory) ↔ (fault ≡ TextFault.Memory) }
 {
     match fault {
         TextFault::Cut | TextFault::Bad => SnapshotFault::Bad,
@@ -41,7 +41,7 @@ fn told(fault: TextFault) -> SnapshotFault
 }
 
 /// The feature whose text stands in front, with its number, and the bytes behind it.
-#[tactic(auto, using(crate::proofs::Snapshots::text_behind, crate::proofs::Snapshots::text_within, crate::proofs::Snapshots::deleted_in_front, crate::proofs::Snapshots::not_decoded))]
+#[tactic(auto, using(crate::proofs::Snapshots::text_behind, crate::proofs::Snapshots::text_within))]
 fn read_entry(alloc: Global, text: &[u8]) -> Result<(Entry, &[u8]), SnapshotFault>
     ensures edit { IfOk result (λ r. IsEditOf (entry_data r.0)) }
     ensures text { IfOk result (λ r. text.now ≡ entry_text (entry_data r.0) ++ r.1.now) }
@@ -69,7 +69,7 @@ fn is_behind(entries: &[Entry], id: u64) -> bool
 }
 
 /// The entries whose texts these are, in one pass.
-#[tactic(auto, using(crate::proofs::Entries::no_entries_read, crate::proofs::Entries::entry_read, crate::proofs::Snapshots::all_read, crate::proofs::Snapshots::map_read))]
+#[tactic(auto, using(crate::proofs::Snapshots::all_read, crate::proofs::Snapshots::map_read))]
 pub(crate) fn read_entries(alloc: Global, text: &[u8]) -> Result<Vec<Entry>, SnapshotFault>
     requires { length text.now < TEXTS_END }
     ensures map { IfOk result (λ entries. IsMap (entries_data entries.items)) }
