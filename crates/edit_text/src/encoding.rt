@@ -197,17 +197,26 @@ pub fn delete_text(id: u64) -> [u8; 9]
     [2, a, b, c, d, e, f, g, h]
 }
 
-/// The text that gives a number this feature.
+/// Adds the text that gives a number this feature to the end of a vector.
 #[tactic(auto, unfolding(feature_model::specs::Spelled::spelled))]
+pub fn append_put(out: &mut Vec<u8>, id: u64, feature: &Feature) -> Result<(), AllocError>
+    requires { IsAllowed id (feature_data feature.now) }
+    ensures text { OnOk result (out.new.items ≡ out.old.items ++ spelled (put id (feature_data feature.now))) }
+    ensures types { OnOk result (FeatureFitsTypes (feature_data feature.now)) }
+{
+    out.push(1)?;
+    put_number(out, id)?;
+    put_feature(out, feature)
+}
+
+/// The text that gives a number this feature.
 fn encode_put(alloc: Global, id: u64, feature: &Feature) -> Result<Vec<u8>, AllocError>
     requires { IsAllowed id (feature_data feature.now) }
     ensures text { IfOk result (λ v. v.items ≡ spelled (put id (feature_data feature.now))) }
     ensures types { OnOk result (FeatureFitsTypes (feature_data feature.now)) }
 {
     let mut out = Vec::with_capacity(alloc, put_text_len(feature) as usize)?;
-    out.push(1)?;
-    put_number(&mut out, id)?;
-    put_feature(&mut out, feature)?;
+    append_put(&mut out, id, feature)?;
     Ok(out)
 }
 

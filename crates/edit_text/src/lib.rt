@@ -10,7 +10,7 @@ mod shapes;
 mod tags;
 
 pub use decoding::decode;
-pub use encoding::{delete_text, encode};
+pub use encoding::{append_put, delete_text, encode};
 pub use fault::TextFault;
 
 #[cfg(test)]

@@ -1,8 +1,10 @@
 -- Entries and the map that they keep.
-use Rattle.std.proofs.Common.{length-set, ◌+◌, ◌≡◌, ℕ, suc, All, subst, ◌-◌, ◌<◌, ◌≤◌, ◌⊎◌, List, length, get_or, set, Some, IsSome, sym, ap, ◌∙◌, inl, inr}
+use Rattle.std.proofs.Common.{◌≡◌, ℕ, suc, ◌+◌, ◌-◌, ◌<◌, ◌≤◌, ◌⊎◌, inl, inr, Some, IsSome, sym, ap, subst, ◌∙◌}
+use Rattle.std.proofs.Common.{List, [], ◌∷◌, ◌++◌, All, length, length-set, get_or, set, take}
+use Rattle.std.specs.Prelude.{◌↔◌}
 use Rattle.std.proofs.Common.{arith}
 use Rattle.std.specs.List.{insert, remove}
-use Rattle.std.proofs.lemmas.List.{length-map, map-set, map-append, take-map, drop-map, get_or-map}
+use Rattle.std.proofs.lemmas.List.{length-map, map-set, map-append, take-map, drop-map, take_more, get_or-map}
 use mathlib.Core.Bool.{false≢true}
 use Rattle.std.proofs.lemmas.List.Edits.{length-insert}
 use Rattle.feature_model.specs.declared.feature.Feature.{Feature}
@@ -12,10 +14,12 @@ use Rattle.feature_model.specs.Types.{IsEdit}
 use Rattle.feature_store.specs.declared.limit.TheConstants.{TEXTS_END}
 use Rattle.feature_store.specs.declared.entry.Entry.{Entry}
 use Rattle.feature_store.specs.Inside.{entry_data, entries_data}
-use Rattle.feature_store.specs.Store.{FeatureMap, IsMap, feature_at, with_feature, without_feature, snapshot}
+use Rattle.feature_store.specs.Snapshots.{IsEditOf, IsBehind}
+use Rattle.feature_store.specs.Store.{FeatureMap, IsMap, feature_at, with_feature, without_feature, entry_text, snapshot}
 use Rattle.feature_store.specs.Positions.{StandsAt, IsGapFor}
 use Rattle.feature_store.proofs.Maps.{stands_in, gap_in, feature_at_stands, feature_at_gap, with_feature_stands, with_feature_gap, without_feature_stands}
-use Rattle.feature_store.proofs.Maps.{IsMap-with_feature}
+use Rattle.feature_store.proofs.Maps.{Ascends, IsMap-with_feature}
+use Rattle.feature_store.proofs.Snapshots.{IsRead, none_read, one_read, behind_last, snapshot_more}
 
 module _ (es : List Entry) (id i : ℕ) where
   pub in_entries : StandsAt (entries_data es) id i → i < length es
@@ -71,3 +75,35 @@ room_in_gap m id i capacity len is_map gap (inr there) = absurd (false≢true (r
 -- what holds of each pair of the map holds of each entry
 pub All-entries : (P : ℕ × FeatureData → Type 0) (es : List Entry) → All P (entries_data es) → All (λ e. P (entry_data e)) es
 All-entries P es all k d lt = subst P (get_or-map entry_data es k d (entry_data d) lt) (all k (entry_data d) (omega (arith, length-map es entry_data)))
+
+-- ---- entries as texts
+
+module _ (es : List Entry) (i : ℕ) (e : Entry) where
+  pub entry_is_edit : i < length es → e ≡ get_or es i e → All IsEditOf (entries_data es) → IsEditOf (entry_data e)
+  entry_is_edit lt is all = subst (λ x. IsEditOf (entry_data x)) (sym is) (All-entries IsEditOf es all i e lt)
+
+  -- the texts of the first entries and of one more
+  pub text_more : (front out next : List ℕ) → i < length es → e ≡ get_or es i e → out ≡ front ++ snapshot (entries_data (take i es))
+      → next ≡ out ++ entry_text (entry_data e) → next ≡ front ++ snapshot (entries_data (take (i + 1) es))
+  text_more front out next lt is before after =
+      rw (take_more es i e lt, ← is, map-append)
+      (after ∙ ap (λ r. r ++ entry_text (entry_data e)) before ∙ snapshot_more front (entries_data (take i es)) (entry_data e))
+
+  -- a number is greater than all where it is greater than the last
+  pub last_tells : (id : ℕ) → Ascends (entries_data es) → length es ≡ suc i → e ≡ get_or es i e → (e.id < id) ↔ IsBehind (entries_data es) id
+  last_tells id ascends long is =
+      let m = entries_data es in
+      let count : length m ≡ suc i = omega (arith, length-map es entry_data, long) in
+      let there : get_or m i (entry_data e) ≡ entry_data e = get_or-map entry_data es i e (entry_data e) (omega (arith, long)) ∙ ap entry_data (sym is) in (
+        λ low. behind_last m id i (entry_data e) ascends count (subst (λ (x : ℕ × FeatureData). x.0 < id) (sym there) low),
+        λ behind. subst (λ (x : ℕ × FeatureData). x.0 < id) there (behind i (entry_data e) (omega (arith, count))),
+      )
+
+pub no_entries_read : (text : List ℕ) → IsRead (entries_data []) text text
+no_entries_read text = none_read text
+
+-- one entry more is read
+pub entry_read : (es : List Entry) (e : Entry) (rest behind text : List ℕ) → IsRead (entries_data es) rest text → IsEditOf (entry_data e)
+    → rest ≡ entry_text (entry_data e) ++ behind → IsBehind (entries_data es) e.id → IsRead (entries_data (es ++ e ∷ [])) behind text
+entry_read es e rest behind text read is begins low =
+    rw map-append (one_read (entries_data es) (entry_data e) rest behind text read is begins low)

@@ -1,18 +1,24 @@
--- A snapshot is that of one map; and what an edit leaves of a map's invariant.
-use Rattle.std.proofs.Common.{◌≡◌, ℕ, ◌<◌, [], ◌∷◌, ◌++◌, length, refl, sym, ap, arith}
+-- A snapshot is that of one map; what an edit leaves of a map's invariant; and how a snapshot is read.
+use Rattle.std.proofs.Common.{◌≡◌, ◌==◌, Bool, false, ℕ, zero, suc, ◌-◌, ◌<◌, ◌≤◌, ◌⊎◌, inl, inr, refl, sym, ap, subst, ◌∙◌, arith}
+use Rattle.std.proofs.Common.{List, [], ◌∷◌, ◌++◌, length, get_or, take, drop, append_assoc}
+use Rattle.std.proofs.lemmas.Bool.Decides.{nat_tests}
 use Rattle.std.specs.List.{All}
-use Rattle.std.proofs.lemmas.List.Elements.{All-head, All-tail}
+use Rattle.std.specs.List.Sorted.{IsStrictlySortedBy}
+use Rattle.std.proofs.lemmas.List.{append-nil, length-append, length-drop, take_all, drop_at, flat_map_more, nil_from_length}
+use Rattle.std.proofs.lemmas.List.Elements.{All-nil, All-cons, All-head, All-tail, All-push}
 use Rattle.feature_model.specs.Data.{FeatureData, EditData, put, delete}
+use Rattle.feature_model.specs.Spelled.{spelled}
 use Rattle.feature_model.specs.Types.{IsEdit}
+use Rattle.edit_text.specs.Decoding.{BeginsWith}
 use Rattle.edit_text.proofs.Laws.{long_from, one_edit}
+use Rattle.feature_store.specs.declared.fault.SnapshotFault.{SnapshotFault}
+use Rattle.feature_store.specs.declared.fault.SnapshotFault.TheVariants.{Bad, Memory}
 use Rattle.feature_store.specs.declared.limit.TheConstants.{TEXTS_END}
+use Rattle.feature_store.specs.Snapshots.{IsEditOf, IsBehind, IsNoSnapshot}
 use Rattle.feature_store.specs.Store.{FeatureMap, IsMap, without_feature, changed, entry_text, snapshot}
-use Rattle.feature_store.proofs.Maps.{IsMap-with_feature, IsMap-without_feature}
-use Rattle.feature_store.proofs.Texts.{snapshot_on, without_takes}
-
--- an entry of a map as an edit
-abbrev pub IsOne : ℕ × FeatureData → Type 0
-IsOne e = IsEdit (put e.0 e.1)
+use Rattle.feature_store.proofs.Maps.{Ascends, AreAbove, IsMap-with_feature, IsMap-without_feature}
+use Rattle.feature_store.proofs.Numbers.{less, below}
+use Rattle.feature_store.proofs.Texts.{none_takes, snapshot_on, without_takes}
 
 -- the number and the feature of an edit that sets one
 abbrev set_by : ℕ × FeatureData → EditData → ℕ × FeatureData
@@ -27,14 +33,15 @@ texts_of_two : (e f : ℕ × FeatureData) (m n : FeatureMap) → snapshot (e ∷
 unfolding snapshot
 texts_of_two e f m n same = same
 
-pub one_map : (m n : FeatureMap) → All IsOne m → All IsOne n → snapshot m ≡ snapshot n → m ≡ n
+pub one_map : (m n : FeatureMap) → All IsEditOf m → All IsEditOf n → snapshot m ≡ snapshot n → m ≡ n
 one_map [] [] ms ns same = refl
 one_map [] (f ∷ n) ms ns same = absurd (none_is_one f n same)
 one_map (e ∷ m) [] ms ns same = absurd (none_is_one e m (sym same))
 one_map (e ∷ m) (f ∷ n) ms ns same =
-    let both = one_edit (put e.0 e.1) (put f.0 f.1) (snapshot m) (snapshot n) (All-head IsOne e m ms) (All-head IsOne f n ns) (texts_of_two e f m n same) in
+    let both = one_edit (put e.0 e.1) (put f.0 f.1) (snapshot m) (snapshot n) (All-head IsEditOf e m ms) (All-head IsEditOf f n ns)
+    (texts_of_two e f m n same) in
     let first : e ≡ f = ap (set_by e) both.0 in
-    let rest : m ≡ n = one_map m n (All-tail IsOne e m ms) (All-tail IsOne f n ns) both.1 in
+    let rest : m ≡ n = one_map m n (All-tail IsEditOf e m ms) (All-tail IsEditOf f n ns) both.1 in
     λ i. first i ∷ rest i
 
 pub map_without : (m : FeatureMap) (id : ℕ) → IsMap m → IsMap (without_feature m id)
@@ -44,3 +51,173 @@ map_without m id is_map = IsMap-without_feature m id is_map (omega (arith, witho
 pub map_changed : (m : FeatureMap) (e : EditData) → IsMap m → IsEdit e → length (snapshot (changed m e)) < TEXTS_END → IsMap (changed m e)
 map_changed m (put id f) is_map edit short = IsMap-with_feature m id f is_map edit short
 map_changed m (delete id) is_map edit short = map_without m id is_map
+
+-- ---- one entry more
+
+snapshot_none : snapshot [] ≡ []
+unfolding snapshot
+snapshot_none = refl
+
+snapshot_of_first : (e : ℕ × FeatureData) (m : FeatureMap) → snapshot (e ∷ m) ≡ entry_text e ++ snapshot m
+unfolding snapshot
+snapshot_of_first e m = refl
+
+pub none_put : (front : List ℕ) → front ≡ front ++ snapshot []
+none_put front = sym (ap (λ r. front ++ r) snapshot_none ∙ append-nil front)
+
+-- behind the snapshot of a map stands the text of one entry more
+pub snapshot_more : (front : List ℕ) (m : FeatureMap) (e : ℕ × FeatureData) → (front ++ snapshot m) ++ entry_text e ≡ front ++ snapshot (m ++ e ∷ [])
+unfolding snapshot
+snapshot_more front m e = flat_map_more entry_text front m e
+
+above_more : (n : ℕ) (m : FeatureMap) (e : ℕ × FeatureData) → AreAbove n m → n < e.0 → AreAbove n (m ++ e ∷ [])
+above_more n [] e above low = (less n e.0 low, tt)
+above_more n (d ∷ m) e above low = (above.0, above_more n m e above.1 low)
+
+ascends_more : (m : FeatureMap) (e : ℕ × FeatureData) → Ascends m → IsBehind m e.0 → Ascends (m ++ e ∷ [])
+unfolding IsStrictlySortedBy
+ascends_more [] e ascends behind = (tt, tt)
+ascends_more (d ∷ m) e ascends behind = (
+  above_more d.0 m e ascends.0 (All-head (λ x. x.0 < e.0) d m behind),
+  ascends_more m e ascends.1 (All-tail (λ x. x.0 < e.0) d m behind),
+)
+
+above_at : (n : ℕ) (m : FeatureMap) (e : ℕ × FeatureData) (tail : FeatureMap) → AreAbove n (m ++ e ∷ tail) → n < e.0
+above_at n [] e tail above = below n e.0 above.0
+above_at n (d ∷ m) e tail above = above_at n m e tail above.1
+
+-- each number is greater than those before it
+ascends_behind : (m : FeatureMap) (e : ℕ × FeatureData) (tail : FeatureMap) → Ascends (m ++ e ∷ tail) → IsBehind m e.0
+unfolding IsStrictlySortedBy
+ascends_behind [] e tail ascends = All-nil (λ x. x.0 < e.0)
+ascends_behind (d ∷ m) e tail ascends =
+    All-cons (λ x. x.0 < e.0) d m (above_at d.0 m e tail ascends.0) (ascends_behind m e tail ascends.1)
+
+-- a number above the last is above all
+pub behind_last : (m : FeatureMap) (id i : ℕ) (d : ℕ × FeatureData) → Ascends m → length m ≡ suc i → (get_or m i d).0 < id → IsBehind m id
+unfolding IsStrictlySortedBy
+behind_last [] id i d ascends long low = absurd (omega (arith, long))
+behind_last (e ∷ []) id zero d ascends long low = All-cons (λ x. x.0 < id) e [] low (All-nil (λ x. x.0 < id))
+behind_last (e ∷ []) id (suc i) d ascends long low = absurd (omega (arith, long))
+behind_last (e ∷ f ∷ m) id zero d ascends long low = absurd (omega (arith, long))
+behind_last (e ∷ f ∷ m) id (suc i) d ascends long low =
+    let on = behind_last (f ∷ m) id i d ascends.1 (omega (arith, long)) low in
+    let first : e.0 < id = omega (arith, below e.0 f.0 ascends.0.0, All-head (λ x. x.0 < id) f m on) in
+    All-cons (λ x. x.0 < id) e (f ∷ m) first on
+
+-- ---- what a text begins with
+
+pub text_within : (e : EditData) (text : List ℕ) → BeginsWith e text → length (spelled e) ≤ length text
+text_within e text begins = omega (arith, ap length begins.1.1, length-append (spelled e) begins.1.0)
+
+-- what stands behind the text of an edit
+pub text_behind : (e : EditData) (text : List ℕ) (len : ℕ) → BeginsWith e text → len ≡ length (spelled e)
+    → text ≡ spelled e ++ take (length text - len) (drop len text)
+text_behind e text len begins long =
+    let behind : drop len text ≡ begins.1.0 = ap (drop len) begins.1.1 ∙ drop_at (spelled e) begins.1.0 len (sym long) in
+    let all = take_all (length text - len) (drop len text) (omega (arith, length-drop len text)) in
+    begins.1.1 ∙ ap (λ r. spelled e ++ r) (sym (all ∙ behind))
+
+-- what is told of a text, for the edit in front takes a feature away
+pub deleted_in_front : (id : ℕ) (text : List ℕ) → BeginsWith (delete id) text
+    → (Bad ≡ Memory) ⊎ ((Bad ≡ Bad) × ((e : ℕ × FeatureData) → BeginsWith (put e.0 e.1) text → ⊥))
+deleted_in_front id text deleted = inr (
+  refl,
+  λ e begins.
+      let both = one_edit (delete id) (put e.0 e.1) deleted.1.0 begins.1.0 deleted.0 begins.0 (sym deleted.1.1 ∙ begins.1.1) in
+      let same : delete id ≡ put e.0 e.1 = both.0 in cc,
+)
+
+-- what is told of a text that isn't decoded
+pub not_decoded : {T : Type 0} (d memory : T) (r : SnapshotFault) (text : List ℕ) → (r ≡ Memory) ⊎ (r ≡ Bad) → (d ≡ memory → r ≡ Memory)
+    → ((e : EditData) → BeginsWith e text → d ≡ memory)
+    → (r ≡ Memory) ⊎ ((r ≡ Bad) × ((e : ℕ × FeatureData) → BeginsWith (put e.0 e.1) text → ⊥))
+not_decoded d memory r text (inl out) told only = inl out
+not_decoded d memory r text (inr bad) told only = inr (bad, λ e begins. let out = told (only (put e.0 e.1) begins) in cc)
+
+-- The text is the snapshot of these entries, and something is left: their numbers ascend, and they keep the limits.
+pub record IsRead (m : FeatureMap) (rest text : List ℕ) : Type 0 where
+  pub ascending : Ascends m
+  pub edits : All IsEditOf m
+  pub whole : text ≡ snapshot m ++ rest
+
+pub none_read : (text : List ℕ) → IsRead [] text text
+unfolding IsStrictlySortedBy
+none_read text = record { ascending = tt; edits = All-nil IsEditOf; whole = ap (λ t. t ++ text) (sym snapshot_none) }
+
+pub one_read : (m : FeatureMap) (e : ℕ × FeatureData) (rest behind text : List ℕ) → IsRead m rest text → IsEditOf e → rest ≡ entry_text e ++ behind
+    → IsBehind m e.0 → IsRead (m ++ e ∷ []) behind text
+one_read m e rest behind text read is begins low = record {
+  ascending = ascends_more m e read.ascending low;
+  edits = All-push IsEditOf m e read.edits is;
+  whole = read.whole ∙ ap (λ r. snapshot m ++ r) begins ∙ sym (append_assoc (snapshot m) (entry_text e) behind)
+      ∙ ap (λ r. r ++ behind) (snapshot_more [] m e);
+}
+
+pub all_read : (m : FeatureMap) (rest text : List ℕ) → IsRead m rest text → length rest ≡ 0 → snapshot m ≡ text
+all_read m rest text read none = sym (read.whole ∙ ap (λ r. snapshot m ++ r) (nil_from_length rest none) ∙ append-nil (snapshot m))
+
+pub map_read : (m : FeatureMap) (rest text : List ℕ) → IsRead m rest text → length rest ≡ 0 → length text < TEXTS_END → IsMap m
+map_read m rest text read none short = record {
+  ascending = read.ascending;
+  edits = read.edits;
+  short = omega (arith, short, ap length (all_read m rest text read none));
+}
+
+-- ---- what no text of a map begins with
+
+-- what isn't empty has a byte
+pub something_left : (n : ℕ) (empty : Bool) → empty ≡ (n == 0) → empty ≡ false → 0 < n
+something_left n empty is not_so = grind (arith, nat_tests)
+
+-- a map whose snapshot begins with these entries' begins with them, and what is left is the snapshot of the others
+abbrev GoesOn : FeatureMap → List ℕ → FeatureMap → Type 0
+GoesOn m rest n = (tail : FeatureMap) × (n ≡ m ++ tail) × (snapshot tail ≡ rest)
+
+goes_on : (m n : FeatureMap) (rest : List ℕ) → All IsEditOf m → All IsEditOf n → snapshot n ≡ snapshot m ++ rest → GoesOn m rest n
+goes_on [] n rest ms ns same = (n, refl, same ∙ ap (λ t. t ++ rest) snapshot_none)
+goes_on (e ∷ m) [] rest ms ns same =
+    absurd (omega (arith, ap length same, none_takes, length-append (snapshot (e ∷ m)) rest, snapshot_on e m, long_from (put e.0 e.1)))
+goes_on (e ∷ m) (f ∷ n) rest ms ns same =
+    let texts = sym (snapshot_of_first f n) ∙ same ∙ ap (λ t. t ++ rest) (snapshot_of_first e m) ∙ append_assoc (entry_text e) (snapshot m) rest in
+    let both = one_edit (put f.0 f.1) (put e.0 e.1) (snapshot n) (snapshot m ++ rest) (All-head IsEditOf f n ns) (All-head IsEditOf e m ms) texts in
+    let first : f ≡ e = ap (set_by e) both.0 in
+    let on = goes_on m n rest (All-tail IsEditOf e m ms) (All-tail IsEditOf f n ns) both.1 in
+    (on.0, λ i. first i ∷ on.1 i, on.2)
+
+All-behind : (m n : FeatureMap) → All IsEditOf (m ++ n) → All IsEditOf n
+All-behind [] n all = all
+All-behind (e ∷ m) n all = All-behind m n (All-tail IsEditOf e (m ++ n) all)
+
+-- what is left isn't empty, and begins with the text of no edit that sets a feature
+pub no_text : (m : FeatureMap) (rest text : List ℕ) → IsRead m rest text → 0 < length rest
+    → ((e : ℕ × FeatureData) → BeginsWith (put e.0 e.1) rest → ⊥) → IsNoSnapshot text
+no_text m rest text read some none n is_map same =
+    let on = goes_on m n rest read.edits is_map.edits (same ∙ read.whole) in
+    by on.0 on.2 (All-behind m on.0 (subst (All IsEditOf) on.1 is_map.edits))
+  where
+    by : (tail : FeatureMap) → snapshot tail ≡ rest → All IsEditOf tail → ⊥
+    by [] left all = omega (arith, ap length left, none_takes, some)
+    by (e ∷ tail) left all = none e (All-head IsEditOf e tail all, (snapshot tail, sym left ∙ snapshot_of_first e tail))
+
+-- what is told of what is left is told of the whole
+pub not_read : (m : FeatureMap) (rest text : List ℕ) (d : SnapshotFault) → IsRead m rest text → 0 < length rest
+    → (d ≡ Memory) ⊎ ((d ≡ Bad) × ((e : ℕ × FeatureData) → BeginsWith (put e.0 e.1) rest → ⊥)) → (d ≡ Memory) ⊎ ((d ≡ Bad) × IsNoSnapshot text)
+not_read m rest text d read some (inl out) = inl out
+not_read m rest text d read some (inr bad) = inr (bad.0, no_text m rest text read some bad.1)
+
+-- what is left begins with the text of a number that isn't greater than all before
+pub not_behind : (m : FeatureMap) (e : ℕ × FeatureData) (rest behind text : List ℕ) → IsRead m rest text → IsEditOf e → rest ≡ entry_text e ++ behind
+    → (IsBehind m e.0 → ⊥) → IsNoSnapshot text
+not_behind m e rest behind text read is begins low n is_map same =
+    let on = goes_on m n rest read.edits is_map.edits (same ∙ read.whole) in
+    by on.0 on.2 (All-behind m on.0 (subst (All IsEditOf) on.1 is_map.edits)) (subst Ascends on.1 is_map.ascending)
+  where
+    by : (tail : FeatureMap) → snapshot tail ≡ rest → All IsEditOf tail → Ascends (m ++ tail) → ⊥
+    by [] left all ascends =
+        omega (arith, ap length left, none_takes, ap length begins, length-append (entry_text e) behind, long_from (put e.0 e.1))
+    by (f ∷ tail) left all ascends =
+        let both = one_edit (put f.0 f.1) (put e.0 e.1) (snapshot tail) behind (All-head IsEditOf f tail all) is
+        (sym (snapshot_of_first f tail) ∙ left ∙ begins) in
+        let first : f ≡ e = ap (set_by e) both.0 in
+        low (ascends_behind m e tail (subst (λ x. Ascends (m ++ x ∷ tail)) first ascends))

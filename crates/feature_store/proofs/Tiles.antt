@@ -21,9 +21,9 @@ use Rattle.mvt_write.proofs.Names.{ascending_differ}
 use Rattle.tile_cutter.specs.Cut.{shown_value, shown_tag, feature_cut}
 use Rattle.tile_cutter.proofs.Shown.{feature_shown}
 use Rattle.feature_store.specs.Layers.{numbered_cut, cuts_of, IsLayer, AreLayers}
+use Rattle.feature_store.specs.Snapshots.{IsEditOf}
 use Rattle.feature_store.specs.Store.{FeatureMap, IsMap}
 use Rattle.feature_store.proofs.Shown.{writable, tags_shown, tags_in_cuts}
-use Rattle.feature_store.proofs.Snapshots.{IsOne}
 use Rattle.feature_store.proofs.Texts.{tags_in_snapshot}
 
 -- ---- what the types of a feature promise
@@ -54,31 +54,31 @@ kept id f z x y v edit cut spelled = record {
 
 module _ (z x y : ℕ) where
   -- what holds of all that is shown of entries holds of the cuts of a layer
-  all_cuts : (P : FeatureView → Type 0) → ((e : ℕ × FeatureData) (v : FeatureView) → IsOne e → feature_cut e.1 z x y ≡ Some v
+  all_cuts : (P : FeatureView → Type 0) → ((e : ℕ × FeatureData) (v : FeatureView) → IsEditOf e → feature_cut e.1 z x y ≡ Some v
       → P (record v { id = Some e.0 }))
-      → (name : List ℕ) (m : FeatureMap) → All IsOne m → All P (cuts_of m name z x y)
+      → (name : List ℕ) (m : FeatureMap) → All IsEditOf m → All P (cuts_of m name z x y)
   all_cuts P each name [] all = All-nil P
-  all_cuts P each name (e ∷ m) all = by (bytes_eq e.1.layer name) (feature_cut e.1 z x y) refl (all_cuts P each name m (All-tail IsOne e m all))
+  all_cuts P each name (e ∷ m) all = by (bytes_eq e.1.layer name) (feature_cut e.1 z x y) refl (all_cuts P each name m (All-tail IsEditOf e m all))
     where
       by : (b : Bool) (o : Option FeatureView) → feature_cut e.1 z x y ≡ o → All P (cuts_of m name z x y)
           → All P (cons_option (if b then option_map (λ (f : FeatureView). record f { id = Some e.0 }) o else None) (cuts_of m name z x y))
       by false o is rest = rest
       by true None is rest = rest
-      by true (Some v) is rest = All-cons P (record v { id = Some e.0 }) (cuts_of m name z x y) (each e v (All-head IsOne e m all) is) rest
+      by true (Some v) is rest = All-cons P (record v { id = Some e.0 }) (cuts_of m name z x y) (each e v (All-head IsEditOf e m all) is) rest
 
   -- a name with cuts is that of a feature
-  name_is_text : (name : List ℕ) (m : FeatureMap) → All IsOne m → 0 < length (cuts_of m name z x y) → IsUtf8 name
+  name_is_text : (name : List ℕ) (m : FeatureMap) → All IsEditOf m → 0 < length (cuts_of m name z x y) → IsUtf8 name
   name_is_text name [] all some = absurd (omega arith)
-  name_is_text name (e ∷ m) all some = by (bytes_eq e.1.layer name) refl some (name_is_text name m (All-tail IsOne e m all))
+  name_is_text name (e ∷ m) all some = by (bytes_eq e.1.layer name) refl some (name_is_text name m (All-tail IsEditOf e m all))
     where
       by : (b : Bool) → bytes_eq e.1.layer name ≡ b
           → 0 < length (cons_option (if b then numbered_cut z x y e else None) (cuts_of m name z x y))
           → (0 < length (cuts_of m name z x y) → IsUtf8 name) → IsUtf8 name
-      by true same some rest = subst IsUtf8 ((bytes_eq-Decides e.1.layer name).0 same) (All-head IsOne e m all).1.layer
+      by true same some rest = subst IsUtf8 ((bytes_eq-Decides e.1.layer name).0 same) (All-head IsEditOf e m all).1.layer
       by false differs some rest = rest some
 
   module _ (allowed : z ≤ GREATEST_ZOOM) (across : x < 2 ^ z) (down : y < 2 ^ z) (m : FeatureMap) (is_map : IsMap m) where
-    spelled : (e : ℕ × FeatureData) (v : FeatureView) → IsOne e → feature_cut e.1 z x y ≡ Some v → CanSpell v.shape × FitsShape v.shape
+    spelled : (e : ℕ × FeatureData) (v : FeatureView) → IsEditOf e → feature_cut e.1 z x y ≡ Some v → CanSpell v.shape × FitsShape v.shape
     spelled e v edit cut = feature_shown e.1 z x y v allowed across down edit.0.feature.geometry edit.1.geometry cut
 
     cuts_can : (name : List ℕ) → All CanWriteFeature (cuts_of m name z x y)

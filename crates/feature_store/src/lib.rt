@@ -3,12 +3,15 @@
 
 mod copies;
 mod entry;
+mod fault;
 mod gathered;
 mod layers;
 mod limit;
 mod search;
+mod snapshot_texts;
 mod store;
 
+pub use fault::SnapshotFault;
 pub use limit::TEXTS_END;
 pub use store::Store;
 

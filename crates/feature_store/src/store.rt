@@ -1,17 +1,21 @@
-ghost use Rattle.std.specs.Prelude.{◌≡◌, ℕ, [], ◌*◌, ◌<◌, ◌≢◌, ◌↔◌, length, Some, IsSome, None, IfOk, OnOk, OnErr, IsTrue, option_map};
+ghost use Rattle.std.specs.Prelude.{◌≡◌, ◌⊎◌, ℕ, [], ◌*◌, ◌<◌, ◌≢◌, ◌↔◌, length, Some, IsSome, None, IfOk, IfErr, OnOk, OnErr, IsTrue, option_map};
 ghost use Rattle.feature_model.specs.Data.{feature_data, put};
 ghost use Rattle.feature_model.specs.Types.{IsEdit};
 ghost use Rattle.mvt_layer.specs.Tile.{layer_views};
 ghost use Rattle.mvt_write.specs.CanWrite.{CanWriteAll};
 ghost use Rattle.feature_store.specs.Layers.{layers};
+ghost use Rattle.feature_store.specs.Snapshots.{IsNoSnapshot};
+ghost use Rattle.feature_store.specs.declared.fault.SnapshotFault.TheVariants.{Bad, Memory};
 ghost use Rattle.feature_store.specs.Store.{IsMap, HasRoom, feature_at, with_feature, without_feature, snapshot, count_with, spare_with, spare_without};
 
 use crate::copies::copy_entries;
 use crate::entry::Entry;
+use crate::fault::SnapshotFault;
 use crate::gathered::gather;
 use crate::layers::listed;
 use crate::limit::TEXTS_END;
 use crate::search::find;
+use crate::snapshot_texts::{append_entries, read_entries};
 use feature_model::{Feature, GREATEST_ZOOM};
 use hilbert_id::TileAt;
 use mvt_layer::Layer;
@@ -135,6 +139,29 @@ impl Store {
         }
         let gathered = gather(alloc, &self.entries, at)?;
         listed(alloc, gathered)
+    }
+
+    /// The snapshot of the map: the texts that give each number its feature, in ascending number. The only error is out of memory.
+    pub fn snapshot_text(&self) -> Result<Vec<u8>, AllocError>
+        ensures { IfOk result (λ text. text.items ≡ snapshot self.now.features) }
+    {
+        let mut text = Vec::new(*self.entries.allocator());
+        append_entries(&mut text, &self.entries)?;
+        Ok(text)
+    }
+
+    /// The map of a snapshot, in one pass over its fewer than `TEXTS_END` bytes.
+    ///
+    /// # Errors
+    ///
+    /// `Bad` where no map has this snapshot, and `Memory`.
+    pub fn from_snapshot(alloc: Global, text: &[u8]) -> Result<Store, SnapshotFault>
+        requires { length text.now < TEXTS_END }
+        ensures map { IfOk result (λ store. snapshot store.features ≡ text.now) }
+        ensures fault { IfErr result (λ fault. (fault ≡ Memory) ⊎ ((fault ≡ Bad) × IsNoSnapshot text.now)) }
+    {
+        let entries = read_entries(alloc, text)?;
+        Ok(Store { entries })
     }
 
     /// The same map once more. The only error is out of memory.

@@ -1,6 +1,6 @@
 use super::*;
 use edit_text::encode;
-use feature_model::{Edit, Feature, Geometry, World, check};
+use feature_model::{Edit, EditValue, Feature, Geometry, Tag, World, check};
 use hilbert_id::TileAt;
 use mvt_layer::Layer;
 use std::alloc::{AllocError, Global};
@@ -109,6 +109,105 @@ fn no_layers_above_the_greatest_zoom(rt: HostRuntime) -> Result<(), Fail> {
     for (zoom, count) in [(0, 1), (16, 1), (17, 0), (31, 0)] {
         let at = TileAt::new(zoom, 0, 0).ok_or("a place")?;
         assert_eq!(rt; store.layers(at)?.len(), count, "at zoom {zoom}");
+    }
+    Ok(())
+}
+
+/// The text that gives number 3 a point at (0, 0), on layer `a` at zooms 0 to 2, without tags.
+const THIRD: [u8; 25] = [
+    1, 3, 0, 0, 0, 0, 0, 0, 0, 1, 97, 0, 2, 1, 1, 0, 0, 0, 0, 0, 0, 0, 0, 0, 0,
+];
+
+/// The same of number 7, on layer `b`, with the tag `k`, which is true.
+const SEVENTH: [u8; 28] = [
+    1, 7, 0, 0, 0, 0, 0, 0, 0, 1, 98, 0, 2, 1, 1, 0, 0, 0, 0, 0, 0, 0, 0, 0, 1, 1, 107, 5,
+];
+
+/// The same of number 258, on layer `a`, without tags.
+const LAST: [u8; 25] = [
+    1, 2, 1, 0, 0, 0, 0, 0, 0, 1, 97, 0, 2, 1, 1, 0, 0, 0, 0, 0, 0, 0, 0, 0, 0,
+];
+
+/// The text that takes number 3 away.
+const DELETE: [u8; 9] = [2, 3, 0, 0, 0, 0, 0, 0, 0];
+
+/// One text behind the other.
+fn joined(alloc: Global, texts: &[&[u8]]) -> Result<Vec<u8>, AllocError> {
+    let mut all = Vec::new(alloc);
+    for text in texts {
+        all.extend_from_slice(text)?;
+    }
+    Ok(all)
+}
+
+/// The map of a text of few bytes.
+fn read_back(alloc: Global, text: &[u8]) -> Result<Result<Store, SnapshotFault>, Fail> {
+    if text.len() > MOST {
+        return Err("too many bytes".into());
+    }
+    Ok(Store::from_snapshot(alloc, text))
+}
+
+#[test]
+fn snapshots_both_ways(rt: HostRuntime) -> Result<(), Fail> {
+    let alloc = rt.alloc();
+    let mut store = filled(alloc, &[(258, "a"), (3, "a")])?;
+    let mut tagged = corner(alloc, "b", 0)?;
+    tagged.tags.push(Tag {
+        key: String::from_str(alloc, "k")?,
+        value: EditValue::Truth(true),
+    })?;
+    put(alloc, &mut store, 7, tagged)?;
+
+    let text = store.snapshot_text()?;
+    let expected = joined(alloc, &[&THIRD, &SEVENTH, &LAST])?;
+    assert_eq!(rt; text, expected);
+
+    let again = read_back(alloc, &text)??;
+    assert_eq!(rt; again.len(), 3);
+    for id in [3, 7, 258] {
+        assert_eq!(rt; again.get(id), store.get(id), "number {id}");
+    }
+    assert_eq!(rt; again.snapshot_text()?, expected);
+    Ok(())
+}
+
+#[test]
+fn empty_snapshot_both_ways(rt: HostRuntime) -> Result<(), Fail> {
+    let alloc = rt.alloc();
+    assert!(rt; Store::new(alloc).snapshot_text()?.is_empty());
+    assert!(rt; read_back(alloc, &[])??.is_empty());
+    Ok(())
+}
+
+/// A cut text, numbers that descend, one number twice, an edit that takes a feature away, and a byte too many.
+#[test]
+fn snapshots_of_no_map(rt: HostRuntime) -> Result<(), Fail> {
+    let alloc = rt.alloc();
+    let texts = [
+        joined(alloc, &[&THIRD[..24]])?,
+        joined(alloc, &[&THIRD, &SEVENTH[..27]])?,
+        joined(alloc, &[&SEVENTH, &THIRD])?,
+        joined(alloc, &[&LAST, &SEVENTH])?,
+        joined(alloc, &[&THIRD, &THIRD])?,
+        joined(alloc, &[&DELETE])?,
+        joined(alloc, &[&THIRD, &DELETE])?,
+        joined(alloc, &[&THIRD, &[1]])?,
+    ];
+    for text in &texts {
+        let fault = read_back(alloc, text)?.err();
+        assert_eq!(rt; fault, Some(SnapshotFault::Bad), "{text:?}");
+    }
+    Ok(())
+}
+
+#[test]
+fn faults_are_told(rt: HostRuntime) -> Result<(), Fail> {
+    for (fault, told) in [
+        (SnapshotFault::Bad, "the snapshot of no map"),
+        (SnapshotFault::Memory, "out of memory"),
+    ] {
+        assert_eq!(rt; fault.to_string(rt.alloc())?.as_str(), told);
     }
     Ok(())
 }
