@@ -1,0 +1,5 @@
+mod Between
+mod Entries
+mod Numbers
+mod Places
+mod Search

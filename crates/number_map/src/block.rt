@@ -152,6 +152,7 @@ fn find<T>(entries: &[Entry<T>], number: u64) -> Result<usize, usize>
 
 /// Moves the entries from an index on to an empty list that has room for them. It takes no memory.
 fn move_from<T>(entries: &mut Vec<Entry<T>>, at: usize, end: &mut Vec<Entry<T>>)
+    requires within { at ≤ vec_len entries.old }
     requires room { vec_len entries.old ≤ vec_capacity end.old }
     requires empty { end.old.items ≡ [] }
     ensures front { entries.new.items ≡ take at entries.old.items }
