@@ -15,6 +15,11 @@ use Rattle.number_map.specs.Blocks.{Ascends, AreBelow, AreAbove}
 use Rattle.number_map.specs.Positions.{StandsAt, IsGapFor}
 use Rattle.number_map.proofs.Numbers.{less, equal, greater, below, at_same, at_other, by_order}
 
+-- no numbers ascend
+pub ascends_none : IsStrictlySortedBy nat_cmp []
+unfolding IsStrictlySortedBy
+ascends_none = tt
+
 module _ {T : Type 0} where
   -- ---- ascending entries
 

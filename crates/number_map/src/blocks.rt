@@ -1,8 +1,8 @@
-ghost use Rattle.std.specs.Prelude.{◌≡◌, ℕ, ◌+◌, ◌<◌, ◌≤◌, ◌++◌, [], length, IfNone, nat_le, slice_index_or, vec_len, vec_capacity};
+ghost use Rattle.std.specs.Prelude.{◌≡◌, ℕ, ◌+◌, ◌<◌, ◌≤◌, ◌++◌, [], length, IfNone, slice_index_or, vec_len, vec_capacity};
 ghost use Rattle.std.specs.Ordering.{nat_cmp};
 ghost use Rattle.std.specs.Map.{lookup, remove_entry};
 ghost use Rattle.std.specs.BTreeMap.{insert_entry, is_at};
-ghost use Rattle.number_map.specs.Blocks.{joined, first_number, Ascends, Accepts, AreFilled, AreFilledBut, AreInOrder, IsHome};
+ghost use Rattle.number_map.specs.Blocks.{joined, Ascends, Accepts, AreFilled, AreFilledBut, AreInOrder, IsHome};
 
 use crate::block::{Block, CAPACITY};
 
@@ -16,9 +16,7 @@ pub(crate) fn home_of<T>(blocks: &[Block<T>], number: u64) -> usize
     ensures within { 0 < length blocks.now → result < length blocks.now }
 {
     blocks
-        .partition_point(|block: &Block<T>| -> bool
-            ensures { result ≡ nat_le (first_number block.now) number }
-        { block.first() <= number })
+        .partition_point(|block| block.first() <= number)
         .saturating_sub(1)
 }
 
