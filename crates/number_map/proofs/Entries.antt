@@ -2,7 +2,7 @@
 use Rattle.std.proofs.Common.{◌≡◌, ◌≢◌, ℕ, zero, suc, ◌+◌, ◌<◌, ◌≤◌, cond, List, [], ◌∷◌, length, get_or, set, Some, None, IsSome, refl, sym, ap, subst, ◌∙◌}
 use Rattle.std.proofs.Common.{arith}
 use Rattle.std.specs.List.{insert, remove, AllByRecursion}
-use Rattle.std.specs.Option.{is_some}
+use Rattle.std.specs.Option.{is_some, IsNone}
 use Rattle.std.specs.List.Sorted.{IsStrictlySortedBy}
 use Rattle.std.specs.Ordering.{nat_cmp, match_ordering}
 use Rattle.std.specs.declared.cmp.Ordering.{Ordering}
@@ -160,32 +160,32 @@ module _ {T : Type 0} where
 
   -- ---- how many there are
 
-  pub not_both : {G : Type 0} (n : ℕ) (es : List (ℕ × T)) → lookup (is_at (nat_cmp n)) es ≡ None → IsSome (lookup (is_at (nat_cmp n)) es) → G
-  not_both n es none some = absurd (false≢true (sym (ap is_some none) ∙ some))
+  pub not_both : {G : Type 0} (n : ℕ) (es : List (ℕ × T)) → IsNone (lookup (is_at (nat_cmp n)) es) → IsSome (lookup (is_at (nat_cmp n)) es) → G
+  not_both n es none some = absurd (false≢true (sym none ∙ some))
 
-  pub length_set_new : (es : List (ℕ × T)) (n : ℕ) (v : T) → lookup (is_at (nat_cmp n)) es ≡ None
+  pub length_set_new : (es : List (ℕ × T)) (n : ℕ) (v : T) → IsNone (lookup (is_at (nat_cmp n)) es)
       → length (insert_entry nat_cmp es n v) ≡ length es + 1
   length_set_new [] n v none = refl
   length_set_new (e ∷ es) n v none = by_order n e.0
       (λ h. omega (arith, ap length (set_step n v e es Less (less n e.0 h))))
       (λ h. not_both n (e ∷ es) none (ap is_some (lookup_here n e es h)))
       (λ h.
-        let there : n ≢ e.0 = λ s. omega arith in
-        omega (arith, ap length (set_step n v e es Greater (greater n e.0 h)), length_set_new es n v (sym (lookup_on n e es there) ∙ none)))
+      let there : n ≢ e.0 = λ s. omega arith in
+      omega (arith, ap length (set_step n v e es Greater (greater n e.0 h)), length_set_new es n v (sym (ap is_some (lookup_on n e es there)) ∙ none)))
 
   pub length_set_same : (es : List (ℕ × T)) (n : ℕ) (v : T) → Ascends es → IsSome (lookup (is_at (nat_cmp n)) es)
       → length (insert_entry nat_cmp es n v) ≡ length es
   length_set_same [] n v s some = absurd (false≢true some)
   length_set_same (e ∷ es) n v s some = by_order n e.0
-      (λ h. not_both n (e ∷ es) (lookup_above (e ∷ es) n (h, raised es n e.0 (omega (arith, h)) (ascends_head e es s))) some)
+      (λ h. not_both n (e ∷ es) (ap is_some (lookup_above (e ∷ es) n (h, raised es n e.0 (omega (arith, h)) (ascends_head e es s)))) some)
       (λ h. omega (arith, ap length (set_step n v e es Equal (equal n e.0 h))))
       (λ h.
-        let there : n ≢ e.0 = λ s. omega arith in
-        omega (
-          arith,
-          ap length (set_step n v e es Greater (greater n e.0 h)),
-          length_set_same es n v (ascends_tail e es s) (sym (ap is_some (lookup_on n e es there)) ∙ some),
-        ))
+      let there : n ≢ e.0 = λ s. omega arith in
+      omega (
+        arith,
+        ap length (set_step n v e es Greater (greater n e.0 h)),
+        length_set_same es n v (ascends_tail e es s) (sym (ap is_some (lookup_on n e es there)) ∙ some),
+      ))
 
   pub length_set_some : (es : List (ℕ × T)) (n : ℕ) (v : T) → 0 < length (insert_entry nat_cmp es n v)
   length_set_some [] n v = omega arith

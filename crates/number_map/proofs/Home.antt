@@ -127,6 +127,16 @@ module _ {T : Type 0} where
         ∙ lookup_behind n (joined (take i bs)) (get_or bs i d ++ joined (drop (i + 1) bs)) home.below
         ∙ lookup_before n (get_or bs i d) (joined (drop (i + 1) bs)) home.above
 
+    -- a number that the block there hasn't is nowhere
+    pub absent_home : (b : List (ℕ × T)) → i < length bs → b ≡ get_or bs i b → lookup (is_at (nat_cmp n)) b ≡ None
+        → lookup (is_at (nat_cmp n)) (joined bs) ≡ None
+    absent_home b lt is none = lookup_home b lt ∙ ap (lookup (is_at (nat_cmp n))) (sym is) ∙ none
+
+    pub absent_past : length bs ≤ i → lookup (is_at (nat_cmp n)) (joined bs) ≡ None
+    absent_past past =
+        ap (lookup (is_at (nat_cmp n))) (sym (append-nil (joined bs)))
+        ∙ lookup_behind n (joined bs) [] (subst (λ cs. AreBelow n (joined cs)) (take_all i bs past) home.below)
+
     -- a number set in the block there is set in all
     set_in : (v : T) (old : List (ℕ × T)) → i < length bs → old ≡ get_or bs i old
         → joined (take i bs) ++ (insert_entry nat_cmp old n v ++ joined (drop (i + 1) bs)) ≡ insert_entry nat_cmp (joined bs) n v

@@ -21,12 +21,7 @@ pub(crate) fn home_of<T>(blocks: &[Block<T>], number: u64) -> usize
 }
 
 /// Gives a number this value in the block where it belongs, and returns the one that it had.
-pub(crate) fn put<T>(
-    blocks: &mut Vec<Block<T>>,
-    at: usize,
-    number: u64,
-    value: T,
-) -> Option<T>
+pub(crate) fn put<T>(blocks: &mut Vec<Block<T>>, at: usize, number: u64, value: T) -> Option<T>
     requires order { AreInOrder blocks.old.items }
     requires home { IsHome blocks.old.items number at }
     requires within { at < vec_len blocks.old }
