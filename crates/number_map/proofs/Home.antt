@@ -1,7 +1,7 @@
 -- The block where a number belongs.
 use Rattle.std.proofs.Common.{◌≡◌, ℕ, zero, suc, ◌+◌, ◌-◌, ◌<◌, ◌≤◌, List, [], ◌∷◌, ◌++◌, length, get_or, set, take, drop, true, false, None, sym, ap, subst, ◌∙◌}
 use Rattle.std.proofs.Common.{inl, inr, arith, append-nil}
-use Rattle.std.specs.List.{insert, All}
+use Rattle.std.specs.List.{insert}
 use Rattle.std.specs.List.Sorted.{IsNonDecreasingBy, IsPartitionPoint}
 use Rattle.std.specs.Ordering.{nat_cmp}
 use Rattle.std.specs.BTreeMap.{insert_entry, is_at}
@@ -14,7 +14,7 @@ use Rattle.std.proofs.lemmas.List.Concat.{flat_map-append}
 use Rattle.std.proofs.lemmas.List.Elements.{All-head, All-tail}
 use Rattle.number_map.specs.Blocks.{joined, first_number, Ascends, AreBelow, AreAbove, AreFilled, AreInOrder, IsHome}
 use Rattle.number_map.proofs.Entries.{ascends_head, raised, lowered}
-use Rattle.number_map.proofs.Between.{above_left, above_right, ascends_left, ascends_right, below_before}
+use Rattle.number_map.proofs.Between.{above_right, ascends_left, ascends_right, below_before}
 use Rattle.number_map.proofs.Between.{lookup_behind, lookup_before, set_behind, set_before, removed_behind, removed_before}
 use Rattle.number_map.proofs.Joined.{joined_at, joined_set, joined_two}
 use Rattle.number_map.proofs.Filled.{IsFilled}

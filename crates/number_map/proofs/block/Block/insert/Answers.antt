@@ -1,5 +1,4 @@
-use Rattle.std.proofs.Common.{Some, sym, ap, subst, length, ◌∙◌, arith}
-use Rattle.std.proofs.lemmas.List.{get_or_default}
+use Rattle.std.proofs.Common.{Some, sym, ap, subst, ◌∙◌, arith}
 use Rattle.number_map.specs.Blocks.{Ascends, Accepts}
 use Rattle.number_map.proofs.Entries.{stands_in, gap_in, lookup_stands, lookup_gap, set_stands, insert_gap}
 use Rattle.number_map.proofs.Places.{place_in_gap}

@@ -1,11 +1,10 @@
-use Rattle.std.proofs.Common.{◌≡◌, ◌<◌, ◌⊎◌, [], None, IsSome, length, not, sym, ap, subst, ◌∙◌, inl, inr, arith}
+use Rattle.std.proofs.Common.{◌≡◌, ◌<◌, ◌⊎◌, [], None, IsSome, length, not, sym, ap, subst, ◌∙◌, arith}
 use Rattle.std.specs.Option.{is_some}
 use Rattle.std.specs.Ordering.{nat_cmp}
 use Rattle.std.specs.BTreeMap.{is_at}
 use Rattle.std.specs.Map.{lookup}
 use Rattle.std.proofs.lemmas.List.Elements.{All-pop}
 use Rattle.number_map.specs.Blocks.{joined, Ascends}
-use Rattle.number_map.specs.MapView.{MapView}
 use Rattle.number_map.specs.Inside.{map_view}
 use Rattle.number_map.proofs.Entries.{ascends_set, length_set_new, length_set_same}
 use Rattle.number_map.proofs.Home.{ascends_at, absent_home, absent_past}
