@@ -1,0 +1,44 @@
+use Rattle.std.proofs.Common.{◌++◌, sym, ap, subst, ◌∙◌, arith}
+use Rattle.std.specs.Ordering.{nat_cmp}
+use Rattle.std.specs.BTreeMap.{insert_entry}
+use Rattle.number_map.specs.Blocks.{Ascends, first_number}
+use Rattle.number_map.proofs.Entries.{lowered, length_set_some}
+use Rattle.number_map.proofs.Between.{ascends_left, ascends_right, set_before, set_behind}
+use Rattle.number_map.proofs.Filled.{IsFilled}
+use Rattle.number_map.proofs.Home.{above_block, below_part}
+use Rattle.number_map.proofs.blocks.halve.Goals as goal
+
+pub insert-requires-clause-ascending : goal.insert-requires-clause-ascending
+insert-requires-clause-ascending g c = ascends_left c.split.new.self c.split.new.upper (subst Ascends c.split.ensures.entries c.requires.ascending)
+
+pub insert-requires-else-number-first-clause-ascending : goal.insert-requires-else-number-first-clause-ascending
+insert-requires-else-number-first-clause-ascending g c =
+    ascends_right c.split.new.self c.split.new.upper (subst Ascends c.split.ensures.entries c.requires.ascending)
+
+-- the number goes to the lower half
+pub returns-then-number-first-clause-entries : goal.returns-then-number-first-clause-entries
+returns-then-number-first-clause-entries g c =
+    let lower = c.split.new.self in
+    let upper = c.split.new.upper in
+    let n = c.args.number in
+    let above = above_block n upper (omega (arith, c.if-number-first.true, c.first.ensures))
+    (ascends_right lower upper (subst Ascends c.split.ensures.entries c.requires.ascending)) in
+    ap (λ es. es ++ upper) c.insert.ensures.entries
+    ∙ sym (set_before n c.args.value lower upper above)
+    ∙ ap (λ es. insert_entry nat_cmp es n c.args.value) (sym c.split.ensures.entries)
+
+pub returns-then-number-first-clause-lower_filled : goal.returns-then-number-first-clause-lower_filled
+returns-then-number-first-clause-lower_filled g c =
+    subst IsFilled (sym c.insert.ensures.entries) (length_set_some c.split.new.self c.args.number c.args.value)
+
+-- the number goes to the upper half
+pub returns-else-number-first-clause-entries : goal.returns-else-number-first-clause-entries
+returns-else-number-first-clause-entries g c =
+    let lower = c.split.new.self in
+    let upper = c.split.new.upper in
+    let n = c.args.number in
+    let below = lowered lower n (first_number upper) (omega (arith, c.if-number-first.false, c.first.ensures))
+    (below_part lower upper c.split.ensures.upper_half.0 (subst Ascends c.split.ensures.entries c.requires.ascending)) in
+    ap (λ es. lower ++ es) c.insert-else-number-first.ensures.entries
+    ∙ sym (set_behind n c.args.value lower upper below)
+    ∙ ap (λ es. insert_entry nat_cmp es n c.args.value) (sym c.split.ensures.entries)

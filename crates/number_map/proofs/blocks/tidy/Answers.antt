@@ -1,0 +1,17 @@
+use Rattle.std.proofs.Common.{sym, ap, subst, ◌∙◌, arith}
+use Rattle.std.proofs.lemmas.List.{nil_from_length}
+use Rattle.number_map.specs.Blocks.{joined, AreFilled}
+use Rattle.number_map.proofs.Filled.{filled_without}
+use Rattle.number_map.proofs.Joined.{joined_without}
+use Rattle.number_map.proofs.blocks.tidy.Goals as goal
+
+-- the block has no entries
+pub returns-then-len-eq0-clause-entries : goal.returns-then-len-eq0-clause-entries
+returns-then-len-eq0-clause-entries g c =
+    let none = nil_from_length c.index.result.now (omega (arith, c.len.ensures.count, c.if-len-eq0.true)) in
+    ap joined c.remove-empty.ensures.by_index.2
+    ∙ joined_without c.args.blocks.now.items c.args.at c.index.result.now (omega arith) (sym c.index.ensures ∙ none)
+
+pub returns-then-len-eq0-clause-filled : goal.returns-then-len-eq0-clause-filled
+returns-then-len-eq0-clause-filled g c =
+    subst AreFilled (sym c.remove-empty.ensures.items) (filled_without c.args.blocks.now.items c.args.at (omega arith) c.requires.filled)

@@ -1,0 +1,19 @@
+use Rattle.std.proofs.Common.{sym, ap, subst, ◌∙◌, arith}
+use Rattle.std.specs.Ordering.{nat_cmp}
+use Rattle.std.specs.BTreeMap.{is_at}
+use Rattle.std.specs.Map.{lookup}
+use Rattle.number_map.specs.Blocks.{Ascends}
+use Rattle.number_map.proofs.Home.{ascends_at, lookup_home}
+use Rattle.number_map.proofs.number_map.NumberMap.get.Goals as goal
+
+pub get-requires : goal.get-requires
+get-requires g c =
+    subst Ascends (sym c.index.ensures)
+    (ascends_at c.self.inside.blocks.items c.home_of-at.result c.index.result.now c.self.invariant.order.ascending (omega arith))
+
+pub returns : goal.returns
+returns g c =
+    let home = rw c.deref.ensures.value at c.home_of-at.ensures.home in
+    rw (← c.self.view_is)
+    (c.get.ensures ∙ ap (lookup (is_at (nat_cmp c.args.number))) c.index.ensures
+    ∙ sym (lookup_home c.self.inside.blocks.items c.args.number c.home_of-at.result home c.index.result.now (omega arith)))

@@ -1,0 +1,52 @@
+-- Entries in blocks.
+use Rattle.std.specs.Prelude.{◌≢◌, ℕ, ◌+◌, ◌<◌, ◌⊎◌, [], ◌∷◌, List, length, take, drop, All, flat_map, slice_index_or, IsSome}
+use Rattle.std.specs.Ordering.{nat_cmp}
+use Rattle.std.specs.Map.{keys_of, lookup}
+use Rattle.std.specs.BTreeMap.{is_at}
+use Rattle.std.specs.List.{AllByRecursion}
+use Rattle.std.specs.List.Sorted.{IsStrictlySortedBy}
+use Rattle.number_map.specs.declared.block.TheConstants.{CAPACITY}
+
+module _ {T : Type 0} where
+  -- the entries of all blocks
+  abbrev pub joined : List (List (ℕ × T)) → List (ℕ × T)
+  joined bs = flat_map (λ es. es) bs
+
+  -- the numbers ascend
+  abbrev pub Ascends : List (ℕ × T) → Type 0
+  Ascends es = IsStrictlySortedBy nat_cmp (keys_of es)
+
+  -- the numbers are below this one
+  abbrev pub AreBelow : ℕ → List (ℕ × T) → Type 0
+  AreBelow n es = AllByRecursion (λ e. e.0 < n) es
+
+  -- the numbers are above this one
+  abbrev pub AreAbove : ℕ → List (ℕ × T) → Type 0
+  AreAbove n es = AllByRecursion (λ e. n < e.0) es
+
+  -- the first number, or 0 where there is none
+  abbrev pub first_number : List (ℕ × T) → ℕ
+  first_number [] = 0
+  first_number (e ∷ es) = e.0
+
+  -- a block has a place for a value of this number
+  abbrev pub Accepts : List (ℕ × T) → ℕ → Type 0
+  Accepts es n = (length es < CAPACITY) ⊎ IsSome (lookup (is_at (nat_cmp n)) es)
+
+  -- each block has entries
+  abbrev pub AreFilled : List (List (ℕ × T)) → Type 0
+  AreFilled bs = All (λ es. 0 < length es) bs
+
+  -- each block but this one has entries
+  abbrev pub AreFilledBut : ℕ → List (List (ℕ × T)) → Type 0
+  AreFilledBut i bs = (k : ℕ) (d : List (ℕ × T)) → k < length bs → k ≢ i → 0 < length (slice_index_or bs k d)
+
+  -- the numbers ascend from block to block, and each block has entries
+  pub record AreInOrder (bs : List (List (ℕ × T))) : Type 0 where
+    pub ascending : Ascends (joined bs)
+    pub filled : AreFilled bs
+
+  -- the blocks before this one have lower numbers, and those behind it higher ones
+  pub record IsHome (bs : List (List (ℕ × T))) (n i : ℕ) : Type 0 where
+    pub below : AreBelow n (joined (take i bs))
+    pub above : AreAbove n (joined (drop (i + 1) bs))

@@ -1,0 +1,5 @@
+pub mod BlockInside
+pub mod Blocks
+pub mod Inside
+pub mod MapView
+pub mod Positions

@@ -1,0 +1,16 @@
+-- Where a number stands among entries.
+use Rattle.std.specs.Prelude.{◌≡◌, ℕ, zero, suc, ◌<◌, [], ◌∷◌, List}
+
+module _ {T : Type 0} where
+  -- the number stands at this position, and lower ones before it
+  abbrev pub StandsAt : List (ℕ × T) → ℕ → ℕ → Type 0
+  StandsAt [] n i = ⊥
+  StandsAt (e ∷ es) n zero = e.0 ≡ n
+  StandsAt (e ∷ es) n (suc i) = (e.0 < n) × StandsAt es n i
+
+  -- the number would stand at this position: lower ones before it, a higher one there or none
+  abbrev pub IsGapFor : List (ℕ × T) → ℕ → ℕ → Type 0
+  IsGapFor [] n zero = Unit {0}
+  IsGapFor [] n (suc i) = ⊥
+  IsGapFor (e ∷ es) n zero = n < e.0
+  IsGapFor (e ∷ es) n (suc i) = (e.0 < n) × IsGapFor es n i

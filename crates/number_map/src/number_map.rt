@@ -1,0 +1,138 @@
+ghost use Rattle.std.specs.Prelude.{◌≡◌, ◌+◌, ◌<◌, ◌≤◌, ◌↔◌, ◌⊎◌, [], length, IsTrue, IsSome, IfSome, IfNone, OnOk, OnErr, option_map};
+ghost use Rattle.std.specs.Ordering.{nat_cmp};
+ghost use Rattle.std.specs.Map.{lookup, remove_entry};
+ghost use Rattle.std.specs.BTreeMap.{insert_entry, is_at};
+ghost use Rattle.number_map.specs.Blocks.{joined, Ascends};
+
+use crate::block::Block;
+use crate::blocks::{home_of, put, put_beside, take_out};
+use std::alloc::{AllocError, Global};
+use std::marker::Model;
+
+/// Values by number, ascending.
+#[derive(Debug, Drop)]
+pub struct NumberMap<T> {
+    blocks: Vec<Block<T>>,
+    spare: Vec<Block<T>>,
+    len: usize,
+}
+
+impl<T> Model for NumberMap<T> {
+    ghost use Rattle.number_map.specs.MapView.{MapView, map_code};
+
+    ghost Value = { MapView T };
+
+    ghost coded = { map_code T.code };
+
+    ghost use Rattle.number_map.specs.Inside.{map_view, IsNumberMap};
+
+    ghost view = { map_view };
+
+    ghost invariant = { IsNumberMap };
+}
+
+impl<T> NumberMap<T> {
+    /// The map of no numbers. It takes no memory.
+    pub fn new(alloc: Global) -> NumberMap<T>
+        ensures { result.entries ≡ [] }
+    {
+        NumberMap {
+            blocks: Vec::new(alloc),
+            spare: Vec::new(alloc),
+            len: 0,
+        }
+    }
+
+    /// How many numbers have a value.
+    pub fn len(&self) -> usize
+        ensures count { result ≡ length self.now.entries }
+        ensures ascending { Ascends self.now.entries }
+    {
+        self.len
+    }
+
+    pub fn is_empty(&self) -> bool
+        ensures { IsTrue result ↔ (self.now.entries ≡ []) }
+    {
+        self.len == 0
+    }
+
+    /// The value of a number, by a binary search among blocks and one in a block.
+    pub fn get(&self, number: u64) -> Option<&T>
+        ensures { option_map (λ v. v.now) result ≡ lookup (is_at (nat_cmp number)) self.now.entries }
+    {
+        let at = home_of(&self.blocks, number);
+        if at >= self.blocks.len() {
+            return None;
+        }
+        self.blocks[at].get(number)
+    }
+
+    /// The entries of one block after another are those of the map.
+    pub fn blocks(&self) -> &[Block<T>]
+        ensures entries { joined result.now ≡ self.now.entries }
+        ensures ascending { Ascends self.now.entries }
+    {
+        &self.blocks
+    }
+}
+
+impl<T: Drop> NumberMap<T> {
+    /// Makes room for one number more. The only error: an allocation fails, and nothing changes then.
+    pub fn room(&mut self) -> Result<(), AllocError>
+        ensures entries { self.new.entries ≡ self.old.entries }
+        ensures room { OnOk result (0 < self.new.spare) }
+        ensures kept { self.old.spare ≤ self.new.spare }
+        ensures missing { OnErr result (self.old.spare ≡ 0) }
+        ensures unchanged { OnErr result (self.new ≡ self.old) }
+    {
+        if self.len == usize::MAX {
+            return Err(AllocError);
+        }
+        if self.spare.is_empty() {
+            let block = Block::new(*self.blocks.allocator())?;
+            self.spare.push(block)?;
+        }
+        self.blocks.reserve(1)
+    }
+
+    /// Gives a number this value, and returns the one that it had. It takes no memory.
+    pub fn insert(&mut self, number: u64, value: T) -> Option<T>
+        requires { (0 < self.old.spare) ⊎ IsSome (lookup (is_at (nat_cmp number)) self.old.entries) }
+        ensures entries { self.new.entries ≡ insert_entry nat_cmp self.old.entries number value }
+        ensures before { result ≡ lookup (is_at (nat_cmp number)) self.old.entries }
+        ensures spare { self.old.spare ≤ self.new.spare + 1 }
+        ensures kept { IfSome result (λ _. self.new.spare ≡ self.old.spare) }
+    {
+        let at = home_of(&self.blocks, number);
+        if at < self.blocks.len() && self.blocks[at].accepts(number) {
+            let before = put(&mut self.blocks, at, number, value);
+            if before.is_none() {
+                self.len += 1;
+            }
+            return before;
+        }
+        let spare = self.spare.pop().unwrap();
+        put_beside(&mut self.blocks, at, spare, number, value);
+        self.len += 1;
+        None
+    }
+
+    /// Takes a number out, and returns the value that it had. It takes no memory, and room stays.
+    pub fn remove(&mut self, number: u64) -> Option<T>
+        ensures entries { self.new.entries ≡ remove_entry (is_at (nat_cmp number)) self.old.entries }
+        ensures removed { result ≡ lookup (is_at (nat_cmp number)) self.old.entries }
+        ensures spare { self.old.spare ≤ self.new.spare }
+        ensures unchanged { IfNone result (self.new ≡ self.old) }
+    {
+        let at = home_of(&self.blocks, number);
+        if at >= self.blocks.len() {
+            return None;
+        }
+        let removed = take_out(&mut self.blocks, at, number);
+        if removed.is_some() {
+            self.len -= 1;
+        }
+        removed
+    }
+}
