@@ -9,8 +9,9 @@ use Rattle.number_map.specs.Inside.{map_view}
 use Rattle.number_map.proofs.Entries.{ascends_set, length_set_new, length_set_same}
 use Rattle.number_map.proofs.Home.{ascends_at, absent_home, absent_past}
 use Rattle.number_map.proofs.Places.{room_where_absent}
+use Rattle.number_map.proofs.number_map.NumberMap.insert.Given as given
 use Rattle.number_map.proofs.number_map.NumberMap.insert.Goals as goal
-use Rattle.number_map.proofs.number_map.NumberMap.insert.Goals.{else-at-len-via-then-at-len+else-accepts, else-at-len-via-else-at-len}
+use Rattle.number_map.proofs.number_map.NumberMap.insert.Goals.{After-pop, else-at-len-via-then-at-len+else-accepts, else-at-len-via-else-at-len}
 
 -- ---- the block has a place
 
@@ -48,18 +49,25 @@ invariant_of-self-else-is_none g c =
 
 -- ---- it has none, or there is no block
 
-pub unwrap-spare-requires : goal.unwrap-spare-requires
-unwrap-spare-requires g c =
+-- the number has no value then
+no_value : (g : given.Over) (c : After-pop g) → lookup (is_at (nat_cmp c.args.number)) (joined c.self.inside.blocks.items) ≡ None
+no_value g c =
     let home = rw c.deref.ensures.value at c.home_of-at.ensures.home in
     let bs = c.self.inside.blocks.items in
-    let absent : lookup (is_at (nat_cmp c.args.number)) (joined bs) ≡ None =
     elim c.else-at-len.branch [
       | else-at-len-via-then-at-len+else-accepts w ↦
           absent_home bs c.args.number c.home_of-at.result home w.index.result.now (omega arith) w.index.ensures w.if-accepts.ensures.absent
       | else-at-len-via-else-at-len w ↦ absent_past bs c.args.number c.home_of-at.result home (omega arith)
-    ] in
-    let room = room_where_absent (map_view c.self.inside) c.args.number absent
-    (subst (λ m. (0 < m.spare) ⊎ IsSome (lookup (is_at (nat_cmp c.args.number)) m.entries)) (sym c.self.view_is) c.requires) in
+    ]
+
+-- so there is room for it
+room_there : (g : given.Over) (c : After-pop g) → 0 < (map_view c.self.inside).spare
+room_there g c = room_where_absent (map_view c.self.inside) c.args.number (no_value g c)
+    (subst (λ m. (0 < m.spare) ⊎ IsSome (lookup (is_at (nat_cmp c.args.number)) m.entries)) (sym c.self.view_is) c.requires)
+
+pub unwrap-spare-requires : goal.unwrap-spare-requires
+unwrap-spare-requires g c =
+    let room = room_there g (goal.at.unwrap-spare-requires g c).After-pop in
     c.pop.ensures.variant.1 (omega (arith, room))
 
 pub put_beside-requires-clause-empty : goal.put_beside-requires-clause-empty
@@ -69,42 +77,18 @@ put_beside-requires-clause-empty g c =
 
 pub put_beside-requires-clause-room : goal.put_beside-requires-clause-room
 put_beside-requires-clause-room g c =
-    let home = rw c.deref.ensures.value at c.home_of-at.ensures.home in
-    let bs = c.self.inside.blocks.items in
-    let absent : lookup (is_at (nat_cmp c.args.number)) (joined bs) ≡ None =
-    elim c.else-at-len.branch [
-      | else-at-len-via-then-at-len+else-accepts w ↦
-          absent_home bs c.args.number c.home_of-at.result home w.index.result.now (omega arith) w.index.ensures w.if-accepts.ensures.absent
-      | else-at-len-via-else-at-len w ↦ absent_past bs c.args.number c.home_of-at.result home (omega arith)
-    ] in
-    let room = room_where_absent (map_view c.self.inside) c.args.number absent
-    (subst (λ m. (0 < m.spare) ⊎ IsSome (lookup (is_at (nat_cmp c.args.number)) m.entries)) (sym c.self.view_is) c.requires) in
+    let room = room_there g (goal.at.put_beside-requires-clause-room g c).After-pop in
     omega (arith, room)
 
 pub overflow_add-self-2 : goal.overflow_add-self-2
 overflow_add-self-2 g c =
-    let home = rw c.deref.ensures.value at c.home_of-at.ensures.home in
-    let bs = c.self.inside.blocks.items in
-    let absent : lookup (is_at (nat_cmp c.args.number)) (joined bs) ≡ None =
-    elim c.else-at-len.branch [
-      | else-at-len-via-then-at-len+else-accepts w ↦
-          absent_home bs c.args.number c.home_of-at.result home w.index.result.now (omega arith) w.index.ensures w.if-accepts.ensures.absent
-      | else-at-len-via-else-at-len w ↦ absent_past bs c.args.number c.home_of-at.result home (omega arith)
-    ] in
-    let room = room_where_absent (map_view c.self.inside) c.args.number absent
-    (subst (λ m. (0 < m.spare) ⊎ IsSome (lookup (is_at (nat_cmp c.args.number)) m.entries)) (sym c.self.view_is) c.requires) in
+    let room = room_there g (goal.at.overflow_add-self-2 g c).After-pop in
     omega (arith, room)
 
 pub invariant_of-self-2 : goal.invariant_of-self-2
 invariant_of-self-2 g c =
-    let home = rw c.deref.ensures.value at c.home_of-at.ensures.home in
     let bs = c.self.inside.blocks.items in
-    let absent : lookup (is_at (nat_cmp c.args.number)) (joined bs) ≡ None =
-    elim c.else-at-len.branch [
-      | else-at-len-via-then-at-len+else-accepts w ↦
-          absent_home bs c.args.number c.home_of-at.result home w.index.result.now (omega arith) w.index.ensures w.if-accepts.ensures.absent
-      | else-at-len-via-else-at-len w ↦ absent_past bs c.args.number c.home_of-at.result home (omega arith)
-    ] in
+    let absent = no_value g (goal.at.invariant_of-self-2 g c).After-pop in
     let popped = All-pop (λ b. b ≡ []) c.self.inside.spare.items c.pop.new.self.items c.pop.result c.pop.ensures.items c.self.invariant.spare in
     let es = joined bs in
     let n = c.args.number in
@@ -117,12 +101,6 @@ invariant_of-self-2 g c =
 
 pub returns-clause-before : goal.returns-clause-before
 returns-clause-before g c =
-    let home = rw c.deref.ensures.value at c.home_of-at.ensures.home in
     let bs = c.self.inside.blocks.items in
-    let absent : lookup (is_at (nat_cmp c.args.number)) (joined bs) ≡ None =
-    elim c.else-at-len.branch [
-      | else-at-len-via-then-at-len+else-accepts w ↦
-          absent_home bs c.args.number c.home_of-at.result home w.index.result.now (omega arith) w.index.ensures w.if-accepts.ensures.absent
-      | else-at-len-via-else-at-len w ↦ absent_past bs c.args.number c.home_of-at.result home (omega arith)
-    ] in
+    let absent = no_value g (goal.at.returns-clause-before g c).After-pop in
     rw (← c.self.view_is) (sym absent)
