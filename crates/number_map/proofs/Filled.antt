@@ -1,8 +1,8 @@
 -- Blocks that have entries.
-use Rattle.std.proofs.Common.{◌≡◌, ℕ, ◌+◌, ◌<◌, List, ◌∷◌, ◌++◌, length, get_or, set, take, drop, sym, ap, subst, ◌∙◌, inl, inr, arith}
+use Rattle.std.proofs.Common.{◌≡◌, ℕ, ◌+◌, ◌<◌, List, ◌∷◌, ◌++◌, length, set, take, drop, sym, ap, subst, inl, inr, arith}
 use Rattle.std.specs.List.{insert, remove}
-use Rattle.std.proofs.lemmas.Bool.{cases_lt, cases_eq}
-use Rattle.std.proofs.lemmas.List.{length-append, get_or-set_other, length-set, get_or_default}
+use Rattle.std.proofs.lemmas.Bool.{cases_lt}
+use Rattle.std.proofs.lemmas.List.{length-append, get_or-set_other, length-set}
 use Rattle.std.proofs.lemmas.List.Edits.{length-remove, get_or-remove_below, get_or-remove_above}
 use Rattle.std.proofs.lemmas.List.Elements.{All-append, All-cons, All-take, All-drop, All-set}
 use Rattle.number_map.specs.Blocks.{AreFilled, AreFilledBut}
@@ -40,11 +40,4 @@ module _ {T : Type 0} where
     | inl below ↦ subst IsFilled (sym (get_or-remove_below bs i d k below lt)) (all k d (omega arith) (λ same. omega arith))
     | inr above ↦ subst IsFilled (sym (get_or-remove_above bs i d k above lt))
         (all (k + 1) d (omega (arith, length-remove bs i lt)) (λ same. omega arith))
-  ]
-
-  -- or found with entries
-  pub filled_all : (bs : List (List (ℕ × T))) (i : ℕ) (b : List (ℕ × T)) → i < length bs → b ≡ get_or bs i b → IsFilled b → AreFilledBut i bs → AreFilled bs
-  filled_all bs i b lt is some all k d within = elim (cases_eq k i) [
-    | inl same ↦ subst (λ n. IsFilled (get_or bs n d)) (sym same) (subst IsFilled (is ∙ get_or_default bs i b d lt) some)
-    | inr other ↦ all k d within other
   ]
