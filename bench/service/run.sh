@@ -6,7 +6,7 @@ top="$(cd "$here/../.." && pwd)"
 work="$(mktemp -d)"
 folder="$(cd "${1:-$work}" && pwd)"
 mkdir -p "$work/crates/service_bench/src"
-for crate in reader sector_disk generations pb_wire hilbert_id geometry_commands mvt_layer mvt_write feature_model edit_journal edit_text tile_cutter feature_store pm_header pm_directory pm_archive tile_service; do
+for crate in reader sector_disk generations pb_wire hilbert_id number_map box_index geometry_commands mvt_layer mvt_write feature_model edit_journal edit_text tile_cutter feature_store pm_header pm_directory pm_archive tile_service; do
     cp -a "$top/crates/$crate" "$work/crates/$crate"
     grep "^$crate:" "$top/crates.txt" >> "$work/crates.txt"
 done

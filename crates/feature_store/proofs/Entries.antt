@@ -1,84 +1,93 @@
 -- Entries and the map that they keep.
-use Rattle.std.proofs.Common.{◌≡◌, ℕ, suc, ◌+◌, ◌-◌, ◌<◌, ◌≤◌, ◌⊎◌, inl, inr, Some, IsSome, sym, ap, subst, ◌∙◌}
-use Rattle.std.proofs.Common.{List, [], ◌∷◌, ◌++◌, All, length, length-set, get_or, set, take}
-use Rattle.std.specs.Prelude.{◌↔◌}
+use Rattle.std.proofs.Common.{◌≡◌, ℕ, true, false, Bool, cond, ◌+◌, ◌<◌, refl, sym, ap, subst, ◌∙◌}
+use Rattle.std.proofs.Common.{List, [], ◌∷◌, ◌++◌, All, length, get_or, take, drop, append_assoc, inl, inr, Option, Some, None, Bor}
 use Rattle.std.proofs.Common.{arith}
-use Rattle.std.specs.List.{insert, remove}
-use Rattle.std.proofs.lemmas.List.{length-map, map-set, map-append, take-map, drop-map, take_more, get_or-map}
-use mathlib.Core.Bool.{false≢true}
-use Rattle.std.proofs.lemmas.List.Edits.{length-insert}
+use Rattle.std.specs.Option.{is_some, option_map}
+use Rattle.std.specs.Ordering.{nat_cmp, match_ordering}
+use Rattle.std.specs.declared.cmp.Ordering.{Ordering}
+use Rattle.std.specs.declared.cmp.Ordering.TheVariants.{Less, Equal, Greater}
+use Rattle.std.specs.BTreeMap.{insert_entry, is_at}
+use Rattle.std.specs.Map.{lookup, remove_entry}
+use Rattle.std.proofs.lemmas.List.{length-map, map-append, append-nil, take_more, drop_more, take-append-drop, get_or-map}
+use Rattle.std.proofs.lemmas.Bool.{cases_eq}
+use Rattle.std.proofs.lemmas.List.Elements.{All-head, All-tail}
+use Rattle.number_map.proofs.Entries.{lookup_here, lookup_on}
+use Rattle.std.proofs.lemmas.List.Concat.{flat_map-append}
+use Rattle.std.proofs.lemmas.Map.Made.{lookup-map_values}
+use Rattle.number_map.specs.Blocks.{joined}
 use Rattle.feature_model.specs.declared.feature.Feature.{Feature}
 use Rattle.feature_model.specs.Data.{FeatureData, feature_data}
-use Rattle.feature_model.specs.Data.{put}
-use Rattle.feature_model.specs.Types.{IsEdit}
-use Rattle.feature_store.specs.declared.limit.TheConstants.{TEXTS_END}
-use Rattle.feature_store.specs.declared.entry.Entry.{Entry}
 use Rattle.feature_store.specs.Inside.{entry_data, entries_data}
-use Rattle.feature_store.specs.Snapshots.{IsEditOf, IsBehind}
-use Rattle.feature_store.specs.Store.{FeatureMap, IsMap, feature_at, with_feature, without_feature, entry_text, snapshot}
-use Rattle.feature_store.specs.Positions.{StandsAt, IsGapFor}
-use Rattle.feature_store.proofs.Maps.{stands_in, gap_in, feature_at_stands, feature_at_gap, with_feature_stands, with_feature_gap, without_feature_stands}
-use Rattle.feature_store.proofs.Maps.{Ascends, IsMap-with_feature}
-use Rattle.feature_store.proofs.Snapshots.{IsRead, none_read, one_read, behind_last, snapshot_more}
+use Rattle.feature_store.specs.Snapshots.{IsEditOf}
+use Rattle.feature_store.specs.Store.{FeatureMap, feature_at, with_feature, without_feature, entry_text, snapshot}
+use Rattle.feature_store.proofs.Snapshots.{snapshot_more, snapshot_both, All-front, All-behind}
 
-module _ (es : List Entry) (id i : ℕ) where
-  pub in_entries : StandsAt (entries_data es) id i → i < length es
-  in_entries h = omega (arith, stands_in (entries_data es) id i h, length-map es entry_data)
+-- the feature of a number
+pub feature_found : (es : List (ℕ × Feature)) (n : ℕ) → feature_at (entries_data es) n ≡ option_map feature_data (lookup (is_at (nat_cmp n)) es)
+unfolding feature_at
+feature_found es n = lookup-map_values feature_data (is_at (nat_cmp n)) es
 
-  pub gap_in_entries : IsGapFor (entries_data es) id i → i ≤ length es
-  gap_in_entries h = omega (arith, gap_in (entries_data es) id i h, length-map es entry_data)
+set_data : (es : List (ℕ × Feature)) (n : ℕ) (f : Feature)
+    → entries_data (insert_entry nat_cmp es n f) ≡ insert_entry nat_cmp (entries_data es) n (feature_data f)
+set_data [] n f = refl
+set_data (e ∷ es) n f = by (nat_cmp n e.0) (set_data es n f)
+  where
+    by : (o : Ordering) → entries_data (insert_entry nat_cmp es n f) ≡ insert_entry nat_cmp (entries_data es) n (feature_data f)
+        → entries_data (match_ordering o ((n, f) ∷ e ∷ es) ((e.0, f) ∷ es) (e ∷ insert_entry nat_cmp es n f))
+        ≡ match_ordering o ((n, feature_data f) ∷ entry_data e ∷ entries_data es) ((e.0, feature_data f) ∷ entries_data es)
+        (entry_data e ∷ insert_entry nat_cmp (entries_data es) n (feature_data f))
+    by Less rest = refl
+    by Equal rest = refl
+    by Greater rest = ap (λ m. entry_data e ∷ m) rest
 
-  -- the entry there has the feature
-  pub feature_there : (e : Entry) → StandsAt (entries_data es) id i → e ≡ get_or es i e → feature_at (entries_data es) id ≡ Some (feature_data e.feature)
-  feature_there e h is =
-      feature_at_stands (entries_data es) id i (entry_data e) h
-      ∙ ap (λ (x : ℕ × FeatureData). Some x.1) (get_or-map entry_data es i e (entry_data e) (in_entries h) ∙ ap entry_data (sym is))
+removed_data : (es : List (ℕ × Feature)) (n : ℕ) → entries_data (remove_entry (is_at (nat_cmp n)) es) ≡ remove_entry (is_at (nat_cmp n)) (entries_data es)
+removed_data [] n = refl
+removed_data (e ∷ es) n = by (is_at (nat_cmp n) e.0) (removed_data es n)
+  where
+    by : (b : Bool) → entries_data (remove_entry (is_at (nat_cmp n)) es) ≡ remove_entry (is_at (nat_cmp n)) (entries_data es)
+        → entries_data (cond b es (e ∷ remove_entry (is_at (nat_cmp n)) es))
+        ≡ cond b (entries_data es) (entry_data e ∷ remove_entry (is_at (nat_cmp n)) (entries_data es))
+    by true rest = refl
+    by false rest = ap (λ m. entry_data e ∷ m) rest
 
-  module _ (f : Feature) where
-    -- an entry of this number
-    abbrev pub entry : Entry
-    entry = record { id = id; feature = f }
+-- the map once a number is set, or taken away
+pub set_is : (es : List (ℕ × Feature)) (n : ℕ) (f : Feature) → entries_data (insert_entry nat_cmp es n f) ≡ with_feature (entries_data es) n (feature_data f)
+unfolding with_feature
+set_is es n f = set_data es n f
 
-    pub set_there : StandsAt (entries_data es) id i → entries_data (set es i entry) ≡ with_feature (entries_data es) id (feature_data f)
-    set_there h = map-set entry_data es i entry ∙ with_feature_stands (entries_data es) id i (feature_data f) h
+pub removed_is : (es : List (ℕ × Feature)) (n : ℕ) → entries_data (remove_entry (is_at (nat_cmp n)) es) ≡ without_feature (entries_data es) n
+unfolding without_feature
+removed_is es n = removed_data es n
 
-    pub insert_there : IsGapFor (entries_data es) id i → entries_data (insert es i entry) ≡ with_feature (entries_data es) id (feature_data f)
-    insert_there h = rw (map-append, ← take-map entry_data i es, ← drop-map entry_data i es) (with_feature_gap (entries_data es) id i (feature_data f) h)
+-- what is found, without where it lies in memory
+pub found_data : (o : Option (Bor Feature)) (p : Option Feature) → option_map (λ v. v.now) o ≡ p
+    → option_map (λ f. feature_data f.now) o ≡ option_map feature_data p
+found_data None p is = ap (option_map feature_data) is
+found_data (Some v) p is = ap (option_map feature_data) is
 
-    pub count_set_there : length (entries_data (set es i entry)) ≡ length (entries_data es)
-    count_set_there = omega (arith, length-map es entry_data, length-map (set es i entry) entry_data, length-set es i entry)
+pub is_some_data : (o : Option Feature) → is_some (option_map feature_data o) ≡ is_some o
+is_some_data None = refl
+is_some_data (Some f) = refl
 
-    pub count_insert_there : IsGapFor (entries_data es) id i → length (entries_data (insert es i entry)) ≡ length (entries_data es) + 1
-    count_insert_there h =
-        omega (arith, length-map es entry_data, length-map (insert es i entry) entry_data, length-insert es i entry (gap_in_entries h))
-
-    -- the texts are short together once the number has the feature
-    abbrev pub IsShortWith : Type 0
-    IsShortWith = length (snapshot (with_feature (entries_data es) id (feature_data f))) < TEXTS_END
-
-    pub IsMap-set_there : IsMap (entries_data es) → IsEdit (put id (feature_data f)) → IsShortWith → StandsAt (entries_data es) id i
-        → IsMap (entries_data (set es i entry))
-    IsMap-set_there is_map edit short h = rw (set_there h) (IsMap-with_feature _ id _ is_map edit short)
-
-    pub IsMap-insert_there : IsMap (entries_data es) → IsEdit (put id (feature_data f)) → IsShortWith → IsGapFor (entries_data es) id i
-        → IsMap (entries_data (insert es i entry))
-    IsMap-insert_there is_map edit short h = rw (insert_there h) (IsMap-with_feature _ id _ is_map edit short)
-
-  pub remove_there : StandsAt (entries_data es) id i → entries_data (remove es i) ≡ without_feature (entries_data es) id
-  remove_there h = rw (map-append, ← take-map entry_data i es, ← drop-map entry_data (suc i) es) (without_feature_stands (entries_data es) id i h)
-
--- where a number has a gap, room for it is room for one more
-pub room_in_gap : (m : FeatureMap) (id i capacity len : ℕ) → IsMap m → IsGapFor m id i → (0 < capacity - len) ⊎ IsSome (feature_at m id) → len < capacity
-room_in_gap m id i capacity len is_map gap (inl spare) = omega arith
-room_in_gap m id i capacity len is_map gap (inr there) = absurd (false≢true (rw (feature_at_gap m id i is_map.ascending gap) at there))
+-- what holds of all entries holds of the one that is found
+pub All-found : (P : ℕ × Feature → Type 0) (es : List (ℕ × Feature)) (n : ℕ) (f : Feature) → All P es → lookup (is_at (nat_cmp n)) es ≡ Some f → P (n, f)
+All-found P [] n f all h = cc
+All-found P (e ∷ es) n f all h = elim (cases_eq n e.0) [
+  | inl here ↦
+      let found : Some e.1 ≡ Some f = sym (lookup_here n e es here) ∙ h in
+      let value : e.1 ≡ f = cc in
+      let is : e ≡ (n, f) = λ i. (sym here i, value i) in
+      subst P is (All-head P e es all)
+  | inr differs ↦ All-found P es n f (All-tail P e es all) (sym (lookup_on n e es differs) ∙ h)
+]
 
 -- what holds of each pair of the map holds of each entry
-pub All-entries : (P : ℕ × FeatureData → Type 0) (es : List Entry) → All P (entries_data es) → All (λ e. P (entry_data e)) es
+pub All-entries : (P : ℕ × FeatureData → Type 0) (es : List (ℕ × Feature)) → All P (entries_data es) → All (λ e. P (entry_data e)) es
 All-entries P es all k d lt = subst P (get_or-map entry_data es k d (entry_data d) lt) (all k (entry_data d) (omega (arith, length-map es entry_data)))
 
 -- ---- entries as texts
 
-module _ (es : List Entry) (i : ℕ) (e : Entry) where
+module _ (es : List (ℕ × Feature)) (i : ℕ) (e : ℕ × Feature) where
   pub entry_is_edit : i < length es → e ≡ get_or es i e → All IsEditOf (entries_data es) → IsEditOf (entry_data e)
   entry_is_edit lt is all = subst (λ x. IsEditOf (entry_data x)) (sym is) (All-entries IsEditOf es all i e lt)
 
@@ -89,21 +98,62 @@ module _ (es : List Entry) (i : ℕ) (e : Entry) where
       rw (take_more es i e lt, ← is, map-append)
       (after ∙ ap (λ r. r ++ entry_text (entry_data e)) before ∙ snapshot_more front (entries_data (take i es)) (entry_data e))
 
-  -- a number is greater than all where it is greater than the last
-  pub last_tells : (id : ℕ) → Ascends (entries_data es) → length es ≡ suc i → e ≡ get_or es i e → (e.id < id) ↔ IsBehind (entries_data es) id
-  last_tells id ascends long is =
-      let m = entries_data es in
-      let count : length m ≡ suc i = omega (arith, length-map es entry_data, long) in
-      let there : get_or m i (entry_data e) ≡ entry_data e = get_or-map entry_data es i e (entry_data e) (omega (arith, long)) ∙ ap entry_data (sym is) in (
-        λ low. behind_last m id i (entry_data e) ascends count (subst (λ (x : ℕ × FeatureData). x.0 < id) (sym there) low),
-        λ behind. subst (λ (x : ℕ × FeatureData). x.0 < id) there (behind i (entry_data e) (omega (arith, count))),
-      )
+  -- a list of entries, at an entry
+  pub entries_parted : i < length es → e ≡ get_or es i e
+      → entries_data es ≡ entries_data (take i es) ++ entry_data e ∷ entries_data (drop (i + 1) es)
+  entries_parted lt is =
+      ap entries_data (sym (take-append-drop i es) ∙ ap (λ r. take i es ++ r) (drop_more es i e lt ∙ ap (λ x. x ∷ drop (i + 1) es) (sym is)))
+      ∙ map-append entry_data (take i es) (e ∷ drop (i + 1) es)
 
-pub no_entries_read : (text : List ℕ) → IsRead (entries_data []) text text
-no_entries_read text = none_read text
+  -- the map of the first entries, and of one more
+  pub entries_more : (front m next : FeatureMap) → i < length es → e ≡ get_or es i e → m ≡ front ++ entries_data (take i es)
+      → next ≡ m ++ entry_data e ∷ [] → next ≡ front ++ entries_data (take (i + 1) es)
+  entries_more front m next lt is before after =
+      rw (take_more es i e lt, ← is, map-append)
+      (after ∙ ap (λ r. r ++ entry_data e ∷ []) before ∙ append_assoc front (entries_data (take i es)) (entry_data e ∷ []))
 
--- one entry more is read
-pub entry_read : (es : List Entry) (e : Entry) (rest behind text : List ℕ) → IsRead (entries_data es) rest text → IsEditOf (entry_data e)
-    → rest ≡ entry_text (entry_data e) ++ behind → IsBehind (entries_data es) e.id → IsRead (entries_data (es ++ e ∷ [])) behind text
-entry_read es e rest behind text read is begins low =
-    rw map-append (one_read (entries_data es) (entry_data e) rest behind text read is begins low)
+module _ (bs : List (List (ℕ × Feature))) (i : ℕ) (b : List (ℕ × Feature)) (lt : i < length bs) (is : b ≡ get_or bs i b) where
+  -- blocks, at a block
+  pub blocks_parted : entries_data (joined bs) ≡ entries_data (joined (take i bs)) ++ (entries_data b ++ entries_data (joined (drop (i + 1) bs)))
+  blocks_parted =
+      ap (λ t. entries_data (joined t))
+      (sym (take-append-drop i bs) ∙ ap (λ r. take i bs ++ r) (drop_more bs i b lt ∙ ap (λ x. x ∷ drop (i + 1) bs) (sym is)))
+      ∙ ap entries_data (flat_map-append (λ es. es) (take i bs) (b ∷ drop (i + 1) bs))
+      ∙ map-append entry_data (joined (take i bs)) (b ++ joined (drop (i + 1) bs))
+      ∙ ap (λ r. entries_data (joined (take i bs)) ++ r) (map-append entry_data b (joined (drop (i + 1) bs)))
+
+  -- the map of the first blocks, and of one more
+  first_blocks : entries_data (joined (take (i + 1) bs)) ≡ entries_data (joined (take i bs)) ++ entries_data b
+  first_blocks =
+      ap (λ t. entries_data (joined t)) (take_more bs i b lt ∙ ap (λ x. take i bs ++ x ∷ []) (sym is))
+      ∙ ap entries_data (flat_map-append (λ es. es) (take i bs) (b ∷ []) ∙ ap (λ x. joined (take i bs) ++ x) (append-nil b))
+      ∙ map-append entry_data (joined (take i bs)) b
+
+  pub blocks_more : (front m next : FeatureMap) → m ≡ front ++ entries_data (joined (take i bs)) → next ≡ m ++ entries_data b
+      → next ≡ front ++ entries_data (joined (take (i + 1) bs))
+  blocks_more front m next before after =
+      after ∙ ap (λ r. r ++ entries_data b) before ∙ append_assoc front (entries_data (joined (take i bs))) (entries_data b)
+      ∙ ap (λ r. front ++ r) (sym first_blocks)
+
+  pub block_texts_more : (front out next : List ℕ) → out ≡ front ++ snapshot (entries_data (joined (take i bs)))
+      → next ≡ out ++ snapshot (entries_data b) → next ≡ front ++ snapshot (entries_data (joined (take (i + 1) bs)))
+  block_texts_more front out next before after =
+      after ∙ ap (λ r. r ++ snapshot (entries_data b)) before
+      ∙ append_assoc front (snapshot (entries_data (joined (take i bs)))) (snapshot (entries_data b))
+      ∙ ap (λ r. front ++ r) (sym (snapshot_both (entries_data (joined (take i bs))) (entries_data b)) ∙ ap snapshot (sym first_blocks))
+
+  -- what holds of all of a map holds of a block's
+  pub block_edits : All IsEditOf (entries_data (joined bs)) → All IsEditOf (entries_data b)
+  block_edits all =
+      All-front (entries_data b) (entries_data (joined (drop (i + 1) bs)))
+      (All-behind (entries_data (joined (take i bs))) (entries_data b ++ entries_data (joined (drop (i + 1) bs))) (subst (All IsEditOf) blocks_parted all))
+
+-- a map in parts: what is there already, and the rest
+pub parts_in_front : (front done there more all : FeatureMap) → all ≡ done ++ more → there ≡ front ++ done → front ++ all ≡ there ++ more
+parts_in_front front done there more all is so_far =
+    ap (λ r. front ++ r) is ∙ sym (append_assoc front done more) ∙ ap (λ r. r ++ more) (sym so_far)
+
+pub parts_grouped : (front done there next rest all : FeatureMap) → all ≡ done ++ (next ++ rest) → there ≡ front ++ done
+    → front ++ all ≡ (there ++ next) ++ rest
+parts_grouped front done there next rest all is so_far =
+    parts_in_front front done there (next ++ rest) all is so_far ∙ sym (append_assoc there next rest)

@@ -1,10 +1,13 @@
+mod Chosen
+mod Covered
 mod Entries
+mod Kept
 pub mod Laws
 mod Listed
 mod Maps
 mod Names
-mod Numbers
-mod Positions
+mod Near
+mod Pairs
 mod Shown
 mod Sizes
 pub mod Snapshots
@@ -12,3 +15,4 @@ pub mod Texts
 mod Tiles
 mod TilesRead
 pub mod Unique
+mod Walk

@@ -1,11 +1,11 @@
 -- What a tile shows of a feature that keeps the limits can be written.
-use Rattle.std.proofs.Common.{◌≡◌, ℕ, ◌+◌, ◌<◌, ◌≤◌, Bool, true, false, List, [], ◌∷◌, ◌++◌, length, map, take, get_or, Option, Some, None, refl, sym, ap, ◌∙◌}
+use Rattle.std.proofs.Common.{◌≡◌, ℕ, ◌≤◌, Bool, true, false, List, [], ◌∷◌, length, map, Option, Some, None, refl, sym, ap, ◌∙◌}
 use Rattle.std.proofs.Common.{arith, if◌then◌else◌}
 use Rattle.std.specs.Option.{option_map}
 use Rattle.std.specs.Str.{bytes_eq}
 use Rattle.std.specs.List.{cons_option}
-use Rattle.std.proofs.lemmas.List.{length-map, length-append, map-append, take_more}
-use Rattle.std.proofs.lemmas.List.Elements.{All-map, All-weaker, filter_map-append}
+use Rattle.std.proofs.lemmas.List.{length-map, length-append}
+use Rattle.std.proofs.lemmas.List.Elements.{All-map, All-weaker}
 use Rattle.feature_model.specs.Data.{FeatureData, TagData, ValueData, text_value, natural_value, negative_value, truth_value}
 use Rattle.feature_model.specs.Limits.{IsAllowed, ValueFits}
 use Rattle.geometry_commands.specs.Shapes.{ShapeView}
@@ -14,8 +14,6 @@ use Rattle.mvt_layer.specs.Tile.{FeatureView}
 use Rattle.mvt_write.specs.CanWrite.{CanWriteValue, CanWriteFeature}
 use Rattle.mvt_write.specs.Written.{tags_of}
 use Rattle.tile_cutter.specs.Cut.{feature_cut, geometry_cut, shown_with, shown_tag, shown_value}
-use Rattle.feature_store.specs.declared.entry.Entry.{Entry}
-use Rattle.feature_store.specs.Inside.{entry_data, entries_data}
 use Rattle.feature_store.specs.Layers.{numbered_cut, cut_for, cuts_of}
 use Rattle.feature_store.specs.Store.{FeatureMap}
 use Rattle.feature_store.proofs.Texts.{all_tags}
@@ -52,12 +50,6 @@ writable id f z x y v allowed cut spelled = record {
   keys = rw (tags_shown f z x y v cut, keys_shown f.tags) allowed.feature.tags.ascending;
   shape = spelled;
 }
-
--- what a tile shows of a map and one entry more
-pub cuts_of-push : (es : List Entry) (i : ℕ) (e : Entry) (name : List ℕ) (z x y : ℕ) → i < length es → e ≡ get_or es i e
-    → cuts_of (entries_data (take (i + 1) es)) name z x y ≡ cuts_of (entries_data (take i es)) name z x y ++ cuts_of (entry_data e ∷ []) name z x y
-cuts_of-push es i e name z x y lt is =
-    rw (take_more es i e lt, ← is, map-append) (filter_map-append (cut_for name z x y) (entries_data (take i es)) (entry_data e ∷ []))
 
 -- ---- how many tags are shown
 

@@ -1,23 +1,30 @@
 -- A snapshot is that of one map; what an edit leaves of a map's invariant; and how a snapshot is read.
-use Rattle.std.proofs.Common.{◌≡◌, ◌==◌, Bool, false, ℕ, zero, suc, ◌-◌, ◌<◌, ◌≤◌, ◌⊎◌, inl, inr, refl, sym, ap, subst, ◌∙◌, arith}
+use Rattle.std.proofs.Common.{◌≡◌, ◌==◌, Bool, false, ℕ, ◌+◌, ◌-◌, ◌<◌, ◌≤◌, ◌⊎◌, inl, inr, refl, sym, ap, subst, ◌∙◌, arith}
 use Rattle.std.proofs.Common.{List, [], ◌∷◌, ◌++◌, length, get_or, take, drop, append_assoc}
 use Rattle.std.proofs.lemmas.Bool.Decides.{nat_tests}
 use Rattle.std.specs.List.{All}
-use Rattle.std.specs.List.Sorted.{IsStrictlySortedBy}
+use Rattle.std.specs.Ordering.{nat_cmp}
+use Rattle.std.specs.declared.cmp.Ordering.TheVariants.{Greater}
+use Rattle.std.specs.BTreeMap.{insert_entry}
 use Rattle.std.proofs.lemmas.List.{append-nil, length-append, length-drop, take_all, drop_at, flat_map_more, nil_from_length}
 use Rattle.std.proofs.lemmas.List.Elements.{All-nil, All-cons, All-head, All-tail, All-push}
 use Rattle.feature_model.specs.Data.{FeatureData, EditData, put, delete}
 use Rattle.feature_model.specs.Spelled.{spelled}
 use Rattle.feature_model.specs.Types.{IsEdit}
 use Rattle.edit_text.specs.Decoding.{BeginsWith}
+use Rattle.std.specs.Prelude.{◌↔◌}
+use Rattle.std.proofs.lemmas.Grind.{get_or_at_push}
+use Rattle.std.proofs.lemmas.List.Concat.{flat_map-append}
 use Rattle.edit_text.proofs.Laws.{long_from, one_edit}
 use Rattle.feature_store.specs.declared.fault.SnapshotFault.{SnapshotFault}
 use Rattle.feature_store.specs.declared.fault.SnapshotFault.TheVariants.{Bad, Memory}
 use Rattle.feature_store.specs.declared.limit.TheConstants.{TEXTS_END}
 use Rattle.feature_store.specs.Snapshots.{IsEditOf, IsBehind, IsNoSnapshot}
-use Rattle.feature_store.specs.Store.{FeatureMap, IsMap, without_feature, changed, entry_text, snapshot}
-use Rattle.feature_store.proofs.Maps.{Ascends, AreAbove, IsMap-with_feature, IsMap-without_feature}
-use Rattle.feature_store.proofs.Numbers.{less, below}
+use Rattle.feature_store.specs.Store.{FeatureMap, IsMap, with_feature, without_feature, changed, entry_text, snapshot}
+use Rattle.number_map.specs.Blocks.{Ascends, AreAbove}
+use Rattle.number_map.proofs.Numbers.{greater}
+use Rattle.number_map.proofs.Entries.{ascends_none, ascends_head, ascends_tail, ascends_cons, set_step}
+use Rattle.feature_store.proofs.Maps.{IsMap-with_feature, IsMap-without_feature}
 use Rattle.feature_store.proofs.Texts.{none_takes, snapshot_on, without_takes}
 
 -- the number and the feature of an edit that sets one
@@ -71,39 +78,94 @@ unfolding snapshot
 snapshot_more front m e = flat_map_more entry_text front m e
 
 above_more : (n : ℕ) (m : FeatureMap) (e : ℕ × FeatureData) → AreAbove n m → n < e.0 → AreAbove n (m ++ e ∷ [])
-above_more n [] e above low = (less n e.0 low, tt)
+above_more n [] e above low = (low, tt)
 above_more n (d ∷ m) e above low = (above.0, above_more n m e above.1 low)
 
 ascends_more : (m : FeatureMap) (e : ℕ × FeatureData) → Ascends m → IsBehind m e.0 → Ascends (m ++ e ∷ [])
-unfolding IsStrictlySortedBy
-ascends_more [] e ascends behind = (tt, tt)
-ascends_more (d ∷ m) e ascends behind = (
-  above_more d.0 m e ascends.0 (All-head (λ x. x.0 < e.0) d m behind),
-  ascends_more m e ascends.1 (All-tail (λ x. x.0 < e.0) d m behind),
-)
+ascends_more [] e ascends behind = ascends_cons e [] tt ascends
+ascends_more (d ∷ m) e ascends behind =
+    ascends_cons d (m ++ e ∷ []) (above_more d.0 m e (ascends_head d m ascends) (All-head (λ x. x.0 < e.0) d m behind))
+    (ascends_more m e (ascends_tail d m ascends) (All-tail (λ x. x.0 < e.0) d m behind))
 
 above_at : (n : ℕ) (m : FeatureMap) (e : ℕ × FeatureData) (tail : FeatureMap) → AreAbove n (m ++ e ∷ tail) → n < e.0
-above_at n [] e tail above = below n e.0 above.0
+above_at n [] e tail above = above.0
 above_at n (d ∷ m) e tail above = above_at n m e tail above.1
 
 -- each number is greater than those before it
-ascends_behind : (m : FeatureMap) (e : ℕ × FeatureData) (tail : FeatureMap) → Ascends (m ++ e ∷ tail) → IsBehind m e.0
-unfolding IsStrictlySortedBy
+pub ascends_behind : (m : FeatureMap) (e : ℕ × FeatureData) (tail : FeatureMap) → Ascends (m ++ e ∷ tail) → IsBehind m e.0
 ascends_behind [] e tail ascends = All-nil (λ x. x.0 < e.0)
 ascends_behind (d ∷ m) e tail ascends =
-    All-cons (λ x. x.0 < e.0) d m (above_at d.0 m e tail ascends.0) (ascends_behind m e tail ascends.1)
+    All-cons (λ x. x.0 < e.0) d m (above_at d.0 m e tail (ascends_head d (m ++ e ∷ tail) ascends))
+    (ascends_behind m e tail (ascends_tail d (m ++ e ∷ tail) ascends))
 
--- a number above the last is above all
-pub behind_last : (m : FeatureMap) (id i : ℕ) (d : ℕ × FeatureData) → Ascends m → length m ≡ suc i → (get_or m i d).0 < id → IsBehind m id
-unfolding IsStrictlySortedBy
-behind_last [] id i d ascends long low = absurd (omega (arith, long))
-behind_last (e ∷ []) id zero d ascends long low = All-cons (λ x. x.0 < id) e [] low (All-nil (λ x. x.0 < id))
-behind_last (e ∷ []) id (suc i) d ascends long low = absurd (omega (arith, long))
-behind_last (e ∷ f ∷ m) id zero d ascends long low = absurd (omega (arith, long))
-behind_last (e ∷ f ∷ m) id (suc i) d ascends long low =
-    let on = behind_last (f ∷ m) id i d ascends.1 (omega (arith, long)) low in
-    let first : e.0 < id = omega (arith, below e.0 f.0 ascends.0.0, All-head (λ x. x.0 < id) f m on) in
-    All-cons (λ x. x.0 < id) e (f ∷ m) first on
+-- a number above all others stands behind them
+set_behind : (m : FeatureMap) (id : ℕ) (f : FeatureData) → IsBehind m id → insert_entry nat_cmp m id f ≡ m ++ (id, f) ∷ []
+set_behind [] id f behind = refl
+set_behind (e ∷ m) id f behind =
+    let here : e.0 < id = All-head (λ x. x.0 < id) e m behind in
+    set_step id f e m Greater (greater id e.0 here) ∙ ap (λ n. e ∷ n) (set_behind m id f (All-tail (λ x. x.0 < id) e m behind))
+
+pub with_behind : (m : FeatureMap) (id : ℕ) (f : FeatureData) → IsBehind m id → with_feature m id f ≡ m ++ (id, f) ∷ []
+unfolding with_feature
+with_behind m id f behind = set_behind m id f behind
+
+-- ---- maps one behind the other
+
+pub All-front : (m n : FeatureMap) → All IsEditOf (m ++ n) → All IsEditOf m
+All-front [] n all = All-nil IsEditOf
+All-front (e ∷ m) n all = All-cons IsEditOf e m (All-head IsEditOf e (m ++ n) all) (All-front m n (All-tail IsEditOf e (m ++ n) all))
+
+pub All-behind : (m n : FeatureMap) → All IsEditOf (m ++ n) → All IsEditOf n
+All-behind [] n all = all
+All-behind (e ∷ m) n all = All-behind m n (All-tail IsEditOf e (m ++ n) all)
+
+pub snapshot_both : (m n : FeatureMap) → snapshot (m ++ n) ≡ snapshot m ++ snapshot n
+unfolding snapshot
+snapshot_both m n = flat_map-append entry_text m n
+
+above_front : (k : ℕ) (m n : FeatureMap) → AreAbove k (m ++ n) → AreAbove k m
+above_front k [] n above = tt
+above_front k (e ∷ m) n above = (above.0, above_front k m n above.1)
+
+ascends_front : (m n : FeatureMap) → Ascends (m ++ n) → Ascends m
+ascends_front [] n up = ascends_none
+ascends_front (e ∷ m) n up =
+    ascends_cons e m (above_front e.0 m n (ascends_head e (m ++ n) up)) (ascends_front m n (ascends_tail e (m ++ n) up))
+
+pub map_front : (m n : FeatureMap) → IsMap (m ++ n) → IsMap m
+map_front m n is_map = record {
+  ascending = ascends_front m n is_map.ascending;
+  edits = All-front m n is_map.edits;
+  short = omega (arith, is_map.short, ap length (snapshot_both m n), length-append (snapshot m) (snapshot n));
+}
+
+-- an entry behind some of a map, and before others
+module _ (m : FeatureMap) (e : ℕ × FeatureData) (tail : FeatureMap) (is_map : IsMap (m ++ e ∷ tail)) where
+  pub edit_there : IsEditOf e
+  edit_there = All-head IsEditOf e tail (All-behind m (e ∷ tail) is_map.edits)
+
+  pub behind_there : IsBehind m e.0
+  behind_there = ascends_behind m e tail is_map.ascending
+
+  pub short_there : length (snapshot m) + length (entry_text e) < TEXTS_END
+  short_there =
+      omega (
+        arith,
+        is_map.short,
+        ap length (snapshot_both m (e ∷ tail)),
+        length-append (snapshot m) (snapshot (e ∷ tail)),
+        snapshot_on e tail,
+      )
+
+-- the least number above all, with one entry more
+pub end_behind : (m : FeatureMap) (e : ℕ × FeatureData) → IsBehind m e.0 → (id : ℕ) → (e.0 + 1 ≤ id) ↔ IsBehind (m ++ e ∷ []) id
+end_behind m e behind id = (
+  λ le. All-push (λ x. x.0 < id) m e (λ k d lt. let h = behind k d lt in omega arith) (omega arith),
+  λ all.
+      let last = all (length m) e (omega (arith, length-append m (e ∷ []))) in
+      let at : get_or (m ++ e ∷ []) (length m) e ≡ e = (get_or_at_push m e).1 in
+      let low : e.0 < id = subst (λ (x : ℕ × FeatureData). x.0 < id) at last in omega arith,
+)
 
 -- ---- what a text begins with
 
@@ -142,8 +204,7 @@ pub record IsRead (m : FeatureMap) (rest text : List ℕ) : Type 0 where
   pub whole : text ≡ snapshot m ++ rest
 
 pub none_read : (text : List ℕ) → IsRead [] text text
-unfolding IsStrictlySortedBy
-none_read text = record { ascending = tt; edits = All-nil IsEditOf; whole = ap (λ t. t ++ text) (sym snapshot_none) }
+none_read text = record { ascending = ascends_none; edits = All-nil IsEditOf; whole = ap (λ t. t ++ text) (sym snapshot_none) }
 
 pub one_read : (m : FeatureMap) (e : ℕ × FeatureData) (rest behind text : List ℕ) → IsRead m rest text → IsEditOf e → rest ≡ entry_text e ++ behind
     → IsBehind m e.0 → IsRead (m ++ e ∷ []) behind text
@@ -184,10 +245,6 @@ goes_on (e ∷ m) (f ∷ n) rest ms ns same =
     let first : f ≡ e = ap (set_by e) both.0 in
     let on = goes_on m n rest (All-tail IsEditOf e m ms) (All-tail IsEditOf f n ns) both.1 in
     (on.0, λ i. first i ∷ on.1 i, on.2)
-
-All-behind : (m n : FeatureMap) → All IsEditOf (m ++ n) → All IsEditOf n
-All-behind [] n all = all
-All-behind (e ∷ m) n all = All-behind m n (All-tail IsEditOf e (m ++ n) all)
 
 -- what is left isn't empty, and begins with the text of no edit that sets a feature
 pub no_text : (m : FeatureMap) (rest text : List ℕ) → IsRead m rest text → 0 < length rest

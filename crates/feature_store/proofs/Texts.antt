@@ -15,8 +15,8 @@ use Rattle.edit_text.proofs.Laws.{short_from}
 use Rattle.feature_model.specs.declared.limits.TheConstants.{MOST_EDIT_BYTES}
 use Rattle.feature_store.specs.declared.limit.TheConstants.{TEXTS_END}
 use Rattle.feature_store.specs.Store.{FeatureMap, IsMap, entry_text, snapshot, with_feature, without_feature}
-use Rattle.feature_store.proofs.Maps.{set_step, removed_here, removed_on}
-use Rattle.feature_store.proofs.Numbers.{less, equal, greater, by_order}
+use Rattle.number_map.proofs.Entries.{set_step, removed_here, removed_on}
+use Rattle.number_map.proofs.Numbers.{less, equal, greater, by_order}
 
 value_takes : (v : ValueData) → 0 < length (spelled_value v)
 unfolding spelled_value

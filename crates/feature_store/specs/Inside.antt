@@ -1,22 +1,24 @@
 -- How a store keeps its map.
-use Rattle.std.specs.Prelude.{ℕ, ◌-◌, List, map, vec_len, vec_capacity}
+use Rattle.std.specs.Prelude.{ℕ, List, map, min}
+use Rattle.feature_model.specs.declared.feature.Feature.{Feature}
 use Rattle.feature_model.specs.Data.{FeatureData, feature_data}
-use Rattle.feature_store.specs.declared.entry.Entry.{Entry}
 use Rattle.feature_store.specs.declared.store.Store.TheInside.{Inside}
+use Rattle.feature_store.specs.Indexed.{IsIndexed}
 use Rattle.feature_store.specs.Store.{FeatureMap, StoreView, IsMap}
 
 -- an entry without where it lies in memory
-abbrev pub entry_data : Entry → ℕ × FeatureData
-entry_data e = (e.id, feature_data e.feature)
+abbrev pub entry_data : ℕ × Feature → ℕ × FeatureData
+entry_data e = (e.0, feature_data e.1)
 
 -- the map that entries keep
-abbrev pub entries_data : List Entry → FeatureMap
+abbrev pub entries_data : List (ℕ × Feature) → FeatureMap
 entries_data es = map entry_data es
 
--- what the entries have room for beyond themselves
+-- the features by number, and for how many more both the numbers and the index have room
 abbrev pub store_view : Inside → StoreView
-store_view s = record { features = entries_data s.entries.items; spare = vec_capacity s.entries - vec_len s.entries }
+store_view s = record { features = entries_data s.features.entries; spare = min s.features.spare s.index.spare }
 
--- what holds of every store
-abbrev pub IsStore : Inside → Type 0
-IsStore s = IsMap (entries_data s.entries.items)
+-- the index has what the map has
+pub record IsStore (s : Inside) : Type 0 where
+  pub is_map : IsMap (entries_data s.features.entries)
+  pub indexed : IsIndexed (entries_data s.features.entries) s.index.entries

@@ -1,6 +1,8 @@
 pub mod Gathered
+pub mod Indexed
 pub mod Inside
 pub mod Layers
-pub mod Positions
+pub mod Pairs
 pub mod Snapshots
 pub mod Store
+pub mod Tiles

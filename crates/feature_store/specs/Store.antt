@@ -1,5 +1,6 @@
 -- The map: features by number, edits of it, and its snapshot.
-use Rattle.std.specs.Prelude.{ℕ, ◌+◌, ◌-◌, ◌<◌, ◌⊎◌, List, length, All, fold, Option, IsSome, is_some, if◌then◌else◌}
+use Rattle.std.specs.Prelude.{ℕ, ◌<◌, List, [], ◌∷◌, length, All, fold, Option}
+use Rattle.std.specs.Option.{option_map_or}
 use Rattle.std.specs.Ordering.{nat_cmp}
 use Rattle.std.specs.List.{flat_map}
 use Rattle.std.specs.List.Sorted.{IsStrictlySortedBy}
@@ -17,6 +18,10 @@ FeatureMap = List (ℕ × FeatureData)
 -- the feature with this number
 unfoldable pub feature_at : FeatureMap → ℕ → Option FeatureData
 feature_at m id = lookup (is_at (nat_cmp id)) m
+
+-- the number with its feature, or nothing
+abbrev pub entry_at : FeatureMap → ℕ → FeatureMap
+entry_at m id = option_map_or (λ f. (id, f) ∷ []) (feature_at m id) []
 
 -- the map in which this number has the feature, whatever it had
 unfoldable pub with_feature : FeatureMap → ℕ → FeatureData → FeatureMap
@@ -49,23 +54,11 @@ pub record IsMap (m : FeatureMap) : Type 0 where
   pub edits : All (λ e. IsEdit (put e.0 e.1)) m
   pub short : length (snapshot m) < TEXTS_END
 
--- what contracts see of a store: its map, and how many features more it takes without memory
+-- what contracts see of a store: its map, and how many features it takes without memory, whether their numbers have features or not
 pub record StoreView : Type 0 where
   pub features : FeatureMap
   pub spare : ℕ
 
--- the number can be set without memory
-abbrev pub HasRoom : StoreView → ℕ → Type 0
-HasRoom s id = (0 < s.spare) ⊎ IsSome (feature_at s.features id)
-
--- how many features more find room once the number has one: a number that had none took the room of one
-abbrev pub spare_with : StoreView → ℕ → ℕ
-spare_with s id = if is_some (feature_at s.features id) then s.spare else s.spare - 1
-
--- how many features there are once the number has one
-abbrev pub count_with : StoreView → ℕ → ℕ
-count_with s id = if is_some (feature_at s.features id) then length s.features else length s.features + 1
-
--- and how many find room once it has none: a number that had one left the room of one
-abbrev pub spare_without : StoreView → ℕ → ℕ
-spare_without s id = if is_some (feature_at s.features id) then s.spare + 1 else s.spare
+-- any number can be given any feature without memory
+abbrev pub HasRoom : StoreView → Type 0
+HasRoom s = 0 < s.spare

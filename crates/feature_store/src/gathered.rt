@@ -3,13 +3,15 @@ ghost use Rattle.feature_model.specs.Data.{feature_data};
 ghost use Rattle.feature_model.specs.Limits.{IsAllowed};
 ghost use Rattle.mvt_layer.specs.Tile.{feature_view};
 ghost use Rattle.feature_store.specs.Gathered.{gathered_for, more_for, HasNoEmpty};
-ghost use Rattle.feature_store.specs.Inside.{entry_data, entries_data};
+ghost use Rattle.feature_store.specs.Indexed.{ShowsAll};
+ghost use Rattle.feature_store.specs.Inside.{entries_data};
 ghost use Rattle.feature_store.specs.Layers.{numbered_cut, cuts_of};
+ghost use Rattle.feature_store.specs.Store.{IsMap, entry_at};
 
-use crate::entry::Entry;
-use feature_model::GREATEST_ZOOM;
+use feature_model::{Feature, GREATEST_ZOOM};
 use hilbert_id::TileAt;
 use mvt_layer::TileFeature;
+use number_map::NumberMap;
 use std::alloc::{AllocError, Global};
 use std::collections::BTreeMap;
 use tile_cutter::cut;
@@ -17,19 +19,20 @@ use tile_cutter::cut;
 /// The features of each layer, by its name.
 pub(crate) type Gathered<'a> = BTreeMap<&'a str, Vec<TileFeature<'a>>>;
 
-/// What the tile shows of an entry, with its number as id.
+/// What the tile shows of a feature, with its number as id.
 fn shown<'a>(
     alloc: Global,
-    entry: &'a Entry,
+    id: u64,
+    feature: &'a Feature,
     at: TileAt,
 ) -> Result<Option<TileFeature<'a>>, AllocError>
     requires zoom { at.z ≤ GREATEST_ZOOM }
-    requires allowed { IsAllowed entry.now.id (feature_data entry.now.feature) }
-    ensures cut { IfOk result (λ o. option_map feature_view o ≡ numbered_cut at.z at.x at.y (entry_data entry.now)) }
+    requires allowed { IsAllowed id (feature_data feature.now) }
+    ensures cut { IfOk result (λ o. option_map feature_view o ≡ numbered_cut at.z at.x at.y (id, feature_data feature.now)) }
 {
-    match cut(alloc, &entry.feature, at)? {
+    match cut(alloc, feature, at)? {
         Some(feature) => Ok(Some(TileFeature {
-            id: Some(entry.id),
+            id: Some(id),
             ..feature
         })),
         None => Ok(None),
@@ -50,39 +53,62 @@ fn add<'a>(
     Ok(())
 }
 
-/// Puts what the tile shows of an entry behind what it shows of the entries before.
+/// Puts what the tile shows of a feature behind what it shows of those before.
 fn add_shown<'a>(
     alloc: Global,
     gathered: &mut Gathered<'a>,
-    entry: &'a Entry,
+    id: u64,
+    feature: &'a Feature,
     at: TileAt,
 ) -> Result<(), AllocError>
     requires zoom { at.z ≤ GREATEST_ZOOM }
-    requires allowed { IsAllowed entry.now.id (feature_data entry.now.feature) }
-    ensures added { OnOk result
-        ((name : List ℕ) → gathered_for gathered.new name ≡ gathered_for gathered.old name ++ cuts_of (entry_data entry.now ∷ []) name at.z at.x at.y) }
+    requires allowed { IsAllowed id (feature_data feature.now) }
+    ensures added { OnOk result ((name : List ℕ)
+        → gathered_for gathered.new name ≡ gathered_for gathered.old name ++ cuts_of ((id, feature_data feature.now) ∷ []) name at.z at.x at.y) }
     ensures no_empty { OnOk result (HasNoEmpty gathered.old → HasNoEmpty gathered.new) }
 {
-    if let Some(feature) = shown(alloc, entry, at)? {
-        add(gathered, entry.feature.layer.as_str(), feature)?;
+    if let Some(shown) = shown(alloc, id, feature, at)? {
+        add(gathered, feature.layer.as_str(), shown)?;
     }
     Ok(())
 }
 
-/// What the tile shows of the entries.
+/// The same of a number, which may have no feature.
+fn add_number<'a>(
+    alloc: Global,
+    gathered: &mut Gathered<'a>,
+    features: &'a NumberMap<Feature>,
+    number: u64,
+    at: TileAt,
+) -> Result<(), AllocError>
+    requires zoom { at.z ≤ GREATEST_ZOOM }
+    requires allowed { All (λ e. IsAllowed e.0 (feature_data e.1)) features.now.entries }
+    ensures added { OnOk result ((name : List ℕ) → gathered_for gathered.new name
+        ≡ gathered_for gathered.old name ++ cuts_of (entry_at (entries_data features.now.entries) number) name at.z at.x at.y) }
+    ensures no_empty { OnOk result (HasNoEmpty gathered.old → HasNoEmpty gathered.new) }
+{
+    if let Some(feature) = features.get(number) {
+        add_shown(alloc, gathered, number, feature, at)?;
+    }
+    Ok(())
+}
+
+/// What the tile shows of the features, by the numbers of those of which it shows something, and maybe of others.
 pub(crate) fn gather<'a>(
     alloc: Global,
-    entries: &'a [Entry],
+    features: &'a NumberMap<Feature>,
+    numbers: &[u64],
     at: TileAt,
 ) -> Result<Gathered<'a>, AllocError>
     requires zoom { at.z ≤ GREATEST_ZOOM }
-    requires allowed { All (λ e. IsAllowed e.id (feature_data e.feature)) entries.now }
-    ensures cuts { IfOk result (λ g. (name : List ℕ) → gathered_for g name ≡ cuts_of (entries_data entries.now) name at.z at.x at.y) }
+    requires map { IsMap (entries_data features.now.entries) }
+    requires shown { ShowsAll (entries_data features.now.entries) at.z at.x at.y numbers.now }
+    ensures cuts { IfOk result (λ g. (name : List ℕ) → gathered_for g name ≡ cuts_of (entries_data features.now.entries) name at.z at.x at.y) }
     ensures no_empty { IfOk result HasNoEmpty }
 {
     let mut gathered = BTreeMap::new(alloc);
-    for entry in entries {
-        add_shown(alloc, &mut gathered, entry, at)?;
+    for number in numbers {
+        add_number(alloc, &mut gathered, features, *number, at)?;
     }
     Ok(gathered)
 }

@@ -1,16 +1,18 @@
 //! The map in memory: its features by number, and the layers of a tile.
 #![tactic(auto)]
 
-mod copies;
-mod entry;
+mod all_pairs;
+mod all_tiles;
+mod appended;
 mod fault;
 mod gathered;
+mod indexed;
 mod layers;
 mod limit;
-mod search;
 mod snapshot_texts;
 mod store;
 
+pub use all_tiles::Tile;
 pub use fault::SnapshotFault;
 pub use limit::TEXTS_END;
 pub use store::Store;

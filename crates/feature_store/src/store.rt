@@ -1,32 +1,39 @@
-ghost use Rattle.std.specs.Prelude.{◌≡◌, ◌⊎◌, ℕ, [], ◌*◌, ◌<◌, ◌≢◌, ◌↔◌, length, Some, IsSome, None, IfOk, IfErr, OnOk, OnErr, IsTrue, option_map};
+ghost use Rattle.std.specs.Prelude.{◌≡◌, ◌⊎◌, ℕ, [], ◌+◌, ◌*◌, ◌<◌, ◌≤◌, ◌≢◌, ◌↔◌, length, Some, IsSome, None, IfOk, IfErr, OnOk, OnErr, IsTrue, option_map};
 ghost use Rattle.feature_model.specs.Data.{feature_data, put};
 ghost use Rattle.feature_model.specs.Types.{IsEdit};
 ghost use Rattle.mvt_layer.specs.Tile.{layer_views};
 ghost use Rattle.mvt_write.specs.CanWrite.{CanWriteAll};
 ghost use Rattle.feature_store.specs.Layers.{layers};
+ghost use Rattle.feature_store.specs.Pairs.{ArePairsOfMap};
 ghost use Rattle.feature_store.specs.Snapshots.{IsNoSnapshot};
+ghost use Rattle.feature_store.specs.Tiles.{AreTiles, tile_views};
 ghost use Rattle.feature_store.specs.declared.fault.SnapshotFault.TheVariants.{Bad, Memory};
-ghost use Rattle.feature_store.specs.Store.{IsMap, HasRoom, feature_at, with_feature, without_feature, snapshot, count_with, spare_with, spare_without};
+ghost use Rattle.feature_store.specs.Store.{IsMap, HasRoom, feature_at, with_feature, without_feature, snapshot};
 
-use crate::copies::copy_entries;
-use crate::entry::Entry;
+use crate::all_pairs::all_pairs;
+use crate::all_tiles::{Tile, tile_layers, tiles_of};
+use crate::appended::append_blocks;
 use crate::fault::SnapshotFault;
-use crate::gathered::gather;
-use crate::layers::listed;
+use crate::indexed::{index_entry, numbers_near, take_entry};
 use crate::limit::TEXTS_END;
-use crate::search::find;
-use crate::snapshot_texts::{append_entries, read_entries};
+use crate::snapshot_texts::{append_block_texts, read_map};
+use box_index::BoxIndex;
 use feature_model::{Feature, GREATEST_ZOOM};
 use hilbert_id::TileAt;
 use mvt_layer::Layer;
+use number_map::NumberMap;
 use std::alloc::{AllocError, Global};
 use std::marker::Model;
 
 /// A map from numbers to features that keep the limits of a feature. The texts of all of them, as the journal and a
 /// snapshot have them, are fewer than `TEXTS_END` bytes together.
+///
+/// An index has the bounding box and the zooms of each feature, so that a tile looks at those near it alone.
 #[derive(Debug, Drop)]
 pub struct Store {
-    entries: Vec<Entry>,
+    features: NumberMap<Feature>,
+    index: BoxIndex,
+    alloc: Global,
 }
 
 impl Model for Store {
@@ -47,7 +54,9 @@ impl Store {
         ensures { result.features ≡ [] }
     {
         Store {
-            entries: Vec::new(alloc),
+            features: NumberMap::new(alloc),
+            index: BoxIndex::new(alloc),
+            alloc,
         }
     }
 
@@ -56,97 +65,106 @@ impl Store {
         ensures count { result ≡ length self.now.features }
         ensures map { IsMap self.now.features }
     {
-        self.entries.len()
+        self.features.len()
     }
 
     pub fn is_empty(&self) -> bool
         ensures { IsTrue result ↔ (self.now.features ≡ []) }
     {
-        self.entries.is_empty()
+        self.features.is_empty()
     }
 
-    /// The feature with this number, by a binary search.
+    /// The feature with this number, by two binary searches.
     pub fn get(&self, id: u64) -> Option<&Feature>
         ensures { option_map (λ f. feature_data f.now) result ≡ feature_at self.now.features id }
     {
-        match find(&self.entries, id) {
-            Ok(at) => Some(&self.entries[at].feature),
-            Err(_) => None,
-        }
+        self.features.get(id)
     }
 
-    /// Makes room for a feature of this number, so that `place` allocates nothing.
-    pub fn room(&mut self, id: u64) -> Result<(), AllocError>
+    /// Makes room for one feature of any number, so that the next `place` allocates nothing.
+    pub fn room(&mut self) -> Result<(), AllocError>
         ensures map { self.new.features ≡ self.old.features }
-        ensures room { OnOk result (HasRoom self.new id) }
+        ensures room { OnOk result (HasRoom self.new) }
+        ensures kept { self.old.spare ≤ self.new.spare }
         // It fails only where room was missing, and nothing changes then.
-        ensures missing { OnErr result (¬ HasRoom self.old id) }
+        ensures missing { OnErr result (¬ HasRoom self.old) }
         ensures unchanged { OnErr result (self.new ≡ self.old) }
     {
-        if self.get(id).is_some() {
-            return Ok(());
-        }
-        self.entries.reserve(1)
+        self.features.room()?;
+        self.index.room()
     }
 
     /// Gives the number this feature, whatever feature it had. It allocates nothing.
     pub fn place(&mut self, id: u64, feature: Feature)
         requires edit { IsEdit (put id (feature_data feature)) }
-        requires room { HasRoom self.old id }
+        requires room { HasRoom self.old }
         requires texts { length (snapshot (with_feature self.old.features id (feature_data feature))) < TEXTS_END }
         ensures map { self.new.features ≡ with_feature self.old.features id (feature_data feature) }
-        ensures spare { self.new.spare ≡ spare_with self.old id }
-        ensures count { length self.new.features ≡ count_with self.old id }
+        ensures spare { self.old.spare ≤ self.new.spare + 1 }
         ensures here { feature_at self.new.features id ≡ Some (feature_data feature) }
         ensures others { (n : ℕ) → n ≢ id → feature_at self.new.features n ≡ feature_at self.old.features n }
     {
-        match find(&self.entries, id) {
-            Ok(at) => self.entries[at] = Entry { id, feature },
-            Err(at) => self.entries.insert(at, Entry { id, feature }).unwrap(),
-        }
+        let entry = index_entry(id, &feature);
+        let before = self.features.insert(id, feature);
+        take_entry(&mut self.index, id, before);
+        self.index.insert(entry);
     }
 
-    /// Takes the number's feature away, and says whether it had one. It allocates nothing.
+    /// Takes the number's feature away, and says whether it had one. It allocates nothing, and room stays.
     pub fn remove(&mut self, id: u64) -> bool
         ensures found { IsTrue result ↔ IsSome (feature_at self.old.features id) }
         ensures map { self.new.features ≡ without_feature self.old.features id }
-        ensures spare { self.new.spare ≡ spare_without self.old id }
+        ensures spare { self.old.spare ≤ self.new.spare }
         ensures gone { feature_at self.new.features id ≡ None }
         ensures others { (n : ℕ) → n ≢ id → feature_at self.new.features n ≡ feature_at self.old.features n }
     {
-        match find(&self.entries, id) {
-            Ok(at) => {
-                let _entry = self.entries.remove(at);
-                true
-            }
-            Err(_) => false,
-        }
+        let before = self.features.remove(id);
+        let found = before.is_some();
+        take_entry(&mut self.index, id, before);
+        found
     }
 
     /// The layers of a tile: names ascend byte by byte, and the features of a layer by number, each with its number as id
     /// (Mapbox Vector Tile 2.1, 4.1 and 4.2). A layer of which the tile shows nothing is left out; above the greatest zoom
     /// there is none.
     ///
-    /// One pass over the features; the layers borrow names, keys and texts from them. The only error is out of memory.
+    /// It looks at the features whose bounding box meets the tile's; the layers borrow names, keys and texts from them. The only
+    /// error is out of memory.
     pub fn layers(&self, at: TileAt) -> Result<Vec<Layer<'_>>, AllocError>
         ensures layers { IfOk result (λ v. layer_views v.items ≡ layers self.now.features at.z at.x at.y) }
         // They can be written as a tile.
         ensures can_write { IfOk result (λ v. CanWriteAll (layer_views v.items)) }
     {
-        let alloc = *self.entries.allocator();
         if at.z > GREATEST_ZOOM {
-            return Ok(Vec::new(alloc));
+            return Ok(Vec::new(self.alloc));
         }
-        let gathered = gather(alloc, &self.entries, at)?;
-        listed(alloc, gathered)
+        let numbers = numbers_near(self.alloc, &self.index, at)?;
+        tile_layers(self.alloc, &self.features, &numbers, at)
+    }
+
+    /// The pairs of a tile's id and a feature's number, ascending, for each tile that the feature covers: no other tile shows
+    /// anything of it. The only error is out of memory.
+    pub fn pairs(&self) -> Result<Vec<(u64, u64)>, AllocError>
+        ensures { IfOk result (λ pairs. ArePairsOfMap self.now.features pairs.items) }
+    {
+        all_pairs(self.alloc, &self.features)
+    }
+
+    /// The tiles that show something of the map, in ascending order of their ids, each with its bytes (Mapbox Vector Tile 2.1).
+    /// The only error is out of memory.
+    pub fn tiles(&self) -> Result<Vec<Tile>, AllocError>
+        ensures { IfOk result (λ tiles. AreTiles self.now.features (tile_views tiles.items)) }
+    {
+        let pairs = self.pairs()?;
+        tiles_of(self.alloc, &self.features, &pairs)
     }
 
     /// The snapshot of the map: the texts that give each number its feature, in ascending number. The only error is out of memory.
     pub fn snapshot_text(&self) -> Result<Vec<u8>, AllocError>
         ensures { IfOk result (λ text. text.items ≡ snapshot self.now.features) }
     {
-        let mut text = Vec::new(*self.entries.allocator());
-        append_entries(&mut text, &self.entries)?;
+        let mut text = Vec::new(self.alloc);
+        append_block_texts(&mut text, self.features.blocks())?;
         Ok(text)
     }
 
@@ -160,15 +178,15 @@ impl Store {
         ensures map { IfOk result (λ store. snapshot store.features ≡ text.now) }
         ensures fault { IfErr result (λ fault. (fault ≡ Memory) ⊎ ((fault ≡ Bad) × IsNoSnapshot text.now)) }
     {
-        let entries = read_entries(alloc, text)?;
-        Ok(Store { entries })
+        read_map(alloc, text)
     }
 
     /// The same map once more. The only error is out of memory.
     pub fn copy(&self) -> Result<Store, AllocError>
         ensures { IfOk result (λ s. s.features ≡ self.now.features) }
     {
-        let entries = copy_entries(*self.entries.allocator(), &self.entries)?;
-        Ok(Store { entries })
+        let mut same = Store::new(self.alloc);
+        append_blocks(self.alloc, &mut same, self.features.blocks())?;
+        Ok(same)
     }
 }

@@ -7,6 +7,8 @@ use std::alloc::{AllocError, Global};
 use std::process::Abort;
 use std::test::Fail;
 
+mod tiles;
+
 /// A point at the world's corner.
 fn corner(alloc: Global, layer: &str, minzoom: u8) -> Result<Feature, AllocError> {
     Ok(Feature {
@@ -28,7 +30,7 @@ fn put(alloc: Global, store: &mut Store, id: u64, feature: Feature) -> Result<()
     if store.len() > MOST {
         return Err("too many features".into());
     }
-    store.room(id)?;
+    store.room()?;
     if let Edit::Put { id, feature } = edit {
         store.place(id, feature);
     }
@@ -95,6 +97,26 @@ fn layers_stand_in_byte_order(rt: HostRuntime) -> Result<(), Fail> {
 
     let elsewhere = TileAt::new(1, 1, 1).ok_or("a place")?;
     assert!(rt; store.layers(elsewhere)?.is_empty());
+    Ok(())
+}
+
+/// The tile of a point at its corner, of feature 7 and the layer `p`.
+const POINT_TILE: [u8; 21] = [
+    0x1a, 0x13, 0x0a, 0x01, 0x70, 0x12, 0x09, 0x08, 0x07, 0x18, 0x01, 0x22, 0x03, 0x09, 0x00, 0x00,
+    0x28, 0x80, 0x20, 0x78, 0x02,
+];
+
+#[test]
+fn pairs_and_tiles_of_a_point(rt: HostRuntime) -> Result<(), Fail> {
+    let store = filled(rt.alloc(), &[(7, "p")])?;
+    let pairs = store.pairs()?;
+    assert_eq!(rt; pairs.as_slice(), [(0, 7), (1, 7), (5, 7)].as_slice());
+    let tiles = store.tiles()?;
+    assert_eq!(rt; tiles.len(), 3);
+    for ((id, bytes), expected) in tiles.iter().zip([0, 1, 5]) {
+        assert_eq!(rt; *id, expected);
+        assert_eq!(rt; bytes.as_slice(), POINT_TILE.as_slice());
+    }
     Ok(())
 }
 

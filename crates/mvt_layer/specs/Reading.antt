@@ -28,6 +28,11 @@ after number step s (Ok f) = if f.number == number then step s f.value else Ok s
 abbrev pub pass : {S : Type 0} → ℕ → (S → Value → Read TileFault S) → S → List ℕ → Read TileFault S
 pass number step s bytes = folded (after number step) s (items_of bytes)
 
+-- what follows from what was read, or the fault that was met
+abbrev pub onward : {X S A : Type 0} → (X → S) → Result X TileFault → (S → Read TileFault A) → Read TileFault A
+onward view (Ok x) next = next (view x)
+onward view (Err fault) next = Err fault
+
 -- a number in place of the one before it
 abbrev pub number_after : Option ℕ → Value → Read TileFault (Option ℕ)
 number_after last (varint_value n) = Ok (Some n)

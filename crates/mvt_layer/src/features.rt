@@ -8,20 +8,29 @@ ghost use Rattle.mvt_layer.specs.Reading.{found_tag, kind_of, tags_at, shape_rea
 ghost use Rattle.geometry_commands.specs.Decoding.{shape_at};
 
 use crate::fault::TileFault;
-use crate::passes::{last_number, numbers};
+use crate::feature_fields::feature_fields;
 use crate::tile::{TagValue, TileFeature};
+use crate::used_keys::UsedKeys;
 use geometry_commands::{GeometryFault, Shape, ShapeKind, decode};
 use std::alloc::Global;
-use std::collections::BTreeSet;
 
-// Field numbers of a feature.
-const ID: u32 = 1;
+/// Lists that one feature after the other fills, so that a layer takes their memory once.
+#[derive(Drop)]
+pub(crate) struct FeatureLists {
+    indices: Vec<u32>,
+    ints: Vec<u32>,
+    used: UsedKeys,
+}
 
-const TAGS: u32 = 2;
-
-const KIND: u32 = 3;
-
-const GEOMETRY: u32 = 4;
+impl FeatureLists {
+    pub(crate) fn new(alloc: Global) -> Self {
+        FeatureLists {
+            indices: Vec::new(alloc),
+            ints: Vec::new(alloc),
+            used: UsedKeys::new(alloc),
+        }
+    }
+}
 
 /// The tag of these two indices.
 fn tag_of<'a>(
@@ -63,17 +72,18 @@ fn check_new(is_new: bool) -> Result<(), TileFault>
     Ok(())
 }
 
-/// The tags of these indices, a key's and a value's in turn. A key index comes once.
+/// The tags of these indices, a key's and a value's in turn. A key index comes once. `used` gives its room, and comes back.
 fn tags_of<'a>(
     alloc: Global,
     keys: &[&'a str],
     values: &[TagValue<'a>],
     indices: &[u32],
-) -> Result<Vec<(&'a str, TagValue<'a>)>, TileFault>
-    ensures { Gives TileFault.Memory (λ v. tagged v.items) result (tags_at (bytes_of keys.entry.now) (tag_views values.entry.now) [] [] indices.now) }
+    used: UsedKeys,
+) -> Result<(Vec<(&'a str, TagValue<'a>)>, UsedKeys), TileFault>
+    ensures { Gives TileFault.Memory (λ r. tagged r.0.items) result (tags_at (bytes_of keys.entry.now) (tag_views values.entry.now) [] [] indices.now) }
 {
-    let mut used = BTreeSet::new(alloc);
-    let mut tags = Vec::new(alloc);
+    let mut used = used.cleared();
+    let mut tags = Vec::with_capacity(alloc, indices.len() / 2)?;
     let mut rest = indices;
     while rest.len() > 0 {
         check_two(rest)?;
@@ -83,7 +93,7 @@ fn tags_of<'a>(
         tags.push(tag)?;
         rest = &rest[2..];
     }
-    Ok(tags)
+    Ok((tags, used))
 }
 
 /// The kind of a feature; unknown where it has none, or one that the standard doesn't have.
@@ -111,21 +121,33 @@ fn shape_of(alloc: Global, kind: ShapeKind, ints: &[u32]) -> Result<Shape, TileF
     }
 }
 
-/// A feature, with the pools of its layer.
+/// A feature, with the pools of its layer, and the lists for the next one.
 #[tactic(auto, unfolding(crate::specs::Reading::feature_at, crate::specs::Reading::feature_of_parts))]
 pub(crate) fn feature_of<'a>(
     alloc: Global,
     keys: &[&'a str],
     values: &[TagValue<'a>],
     bytes: &'a [u8],
-) -> Result<TileFeature<'a>, TileFault>
-    ensures { Gives TileFault.Memory feature_view result (feature_at (bytes_of keys.entry.now) (tag_views values.entry.now) bytes.entry.now) }
+    lists: FeatureLists,
+) -> Result<(TileFeature<'a>, FeatureLists), TileFault>
+    ensures { Gives TileFault.Memory (λ r. feature_view r.0) result (feature_at (bytes_of keys.entry.now) (tag_views values.entry.now) bytes.entry.now) }
 {
-    let id = last_number(bytes, ID)?;
-    let kind = last_number(bytes, KIND)?;
-    let indices = numbers(alloc, bytes, TAGS)?;
-    let ints = numbers(alloc, bytes, GEOMETRY)?;
-    let tags = tags_of(alloc, keys, values, &indices)?;
+    let FeatureLists {
+        indices,
+        ints,
+        used,
+    } = lists;
+    let fields = feature_fields(indices, ints, bytes);
+    let id = fields.id?;
+    let kind = fields.kind?;
+    let indices = fields.indices?;
+    let ints = fields.ints?;
+    let (tags, used) = tags_of(alloc, keys, values, &indices, used)?;
     let shape = shape_of(alloc, kind_said(kind), &ints)?;
-    Ok(TileFeature { id, tags, shape })
+    let lists = FeatureLists {
+        indices,
+        ints,
+        used,
+    };
+    Ok((TileFeature { id, tags, shape }, lists))
 }

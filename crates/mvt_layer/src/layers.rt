@@ -10,9 +10,10 @@ ghost use Rattle.mvt_layer.specs.Reading.{text_at, tag_value_at, feature_at, eac
 ghost use Rattle.mvt_layer.specs.Reading.{layers_in, tile_at};
 
 use crate::fault::TileFault;
-use crate::features::feature_of;
+use crate::features::{FeatureLists, feature_of};
+use crate::layer_fields::layer_fields;
 use crate::named::NamedLayers;
-use crate::passes::{last_bytes, last_number, parts};
+use crate::passes::parts;
 use crate::tile::{Layer, TagValue, TileFeature};
 use crate::values::{tag_value_of, text_of};
 use std::alloc::Global;
@@ -26,26 +27,14 @@ pub const DEFAULT_VERSION: u32 = 1;
 /// The version of layers by the standard as it stands (MVT 2.1, 4.1).
 pub const CURRENT_VERSION: u32 = 2;
 
-// Field numbers of a layer, and of a tile.
-const NAME: u32 = 1;
-
-const FEATURES: u32 = 2;
-
-const KEYS: u32 = 3;
-
-const VALUES: u32 = 4;
-
-const EXTENT: u32 = 5;
-
-const VERSION: u32 = 15;
-
+/// The field number of a tile's layers.
 const LAYERS: u32 = 3;
 
 /// The keys' texts.
 fn texts_of<'a>(alloc: Global, raw: &[&'a [u8]]) -> Result<Vec<&'a str>, TileFault>
     ensures { Gives TileFault.Memory (λ v. bytes_of v.items) result (each_in text_at (bytes_of raw.entry.now)) }
 {
-    let mut texts = Vec::new(alloc);
+    let mut texts = Vec::with_capacity(alloc, raw.len())?;
     for part in raw {
         let text = text_of(*part)?;
         texts.push(text)?;
@@ -56,7 +45,7 @@ fn texts_of<'a>(alloc: Global, raw: &[&'a [u8]]) -> Result<Vec<&'a str>, TileFau
 fn values_of<'a>(alloc: Global, raw: &[&'a [u8]]) -> Result<Vec<TagValue<'a>>, TileFault>
     ensures { Gives TileFault.Memory (λ v. tag_views v.items) result (each_in tag_value_at (bytes_of raw.entry.now)) }
 {
-    let mut values = Vec::new(alloc);
+    let mut values = Vec::with_capacity(alloc, raw.len())?;
     for part in raw {
         let value = tag_value_of(*part)?;
         values.push(value)?;
@@ -74,10 +63,12 @@ fn features_of<'a>(
     ensures { Gives TileFault.Memory (λ v. map feature_view v.items) result
         (each_in (feature_at (bytes_of keys.entry.now) (tag_views values.entry.now)) (bytes_of raw.entry.now)) }
 {
-    let mut features = Vec::new(alloc);
+    let mut features = Vec::with_capacity(alloc, raw.len())?;
+    let mut lists = FeatureLists::new(alloc);
     for part in raw {
-        let feature = feature_of(alloc, keys, values, *part)?;
+        let (feature, left) = feature_of(alloc, keys, values, *part, lists)?;
         features.push(feature)?;
+        lists = left;
     }
     Ok(features)
 }
@@ -139,14 +130,15 @@ fn extent_of(last: Option<u64>) -> Result<u32, TileFault>
 fn layer_of<'a>(alloc: Global, bytes: &'a [u8]) -> Result<Layer<'a>, TileFault>
     ensures { Gives TileFault.Memory layer_view result (layer_at bytes.entry.now) }
 {
-    let name = name_of(last_bytes(bytes, NAME)?)?;
-    let version = version_of(last_number(bytes, VERSION)?)?;
-    let extent = extent_of(last_number(bytes, EXTENT)?)?;
-    let raw_keys = parts(alloc, bytes, KEYS)?;
+    let fields = layer_fields(alloc, bytes);
+    let name = name_of(fields.name?)?;
+    let version = version_of(fields.version?)?;
+    let extent = extent_of(fields.extent?)?;
+    let raw_keys = fields.keys?;
     let keys = texts_of(alloc, &raw_keys)?;
-    let raw_values = parts(alloc, bytes, VALUES)?;
+    let raw_values = fields.values?;
     let values = values_of(alloc, &raw_values)?;
-    let raw_features = parts(alloc, bytes, FEATURES)?;
+    let raw_features = fields.features?;
     let features = features_of(alloc, &keys, &values, &raw_features)?;
     Ok(Layer {
         name,

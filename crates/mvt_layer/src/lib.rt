@@ -2,11 +2,14 @@
 #![tactic(auto)]
 
 mod fault;
+mod feature_fields;
 mod features;
+mod layer_fields;
 mod layers;
 mod named;
 mod passes;
 mod tile;
+mod used_keys;
 mod values;
 
 pub use fault::TileFault;

@@ -1,18 +1,19 @@
-//! One pass over the fields of a message, for one field number.
+//! What the fields of one number say, one item after the other.
 
 ghost use Rattle.std.specs.Prelude.{◌≡◌, ℕ, ◌<◌, ◌≤◌, length, List, Option, IfOk, IfErr, IsTrue};
 ghost use Rattle.reader.specs.Reading.{Reads, Finds, Gives};
 ghost use Rattle.std.specs.Option.{option_map};
 ghost use Rattle.pb_wire.specs.Items.{item_view};
 ghost use Rattle.mvt_layer.specs.Tile.{bytes_of};
-ghost use Rattle.mvt_layer.specs.Reading.{after, number_after, bytes_after, parts_after, numbers_after, number_more, packed_in, last_number_in, last_bytes_in};
-ghost use Rattle.mvt_layer.specs.Reading.{parts_in, numbers_in, number_at, holds_numbers};
+ghost use Rattle.mvt_layer.specs.Reading.{after, number_after, bytes_after, parts_after, numbers_after, number_more, packed_in};
+ghost use Rattle.mvt_layer.specs.Reading.{parts_in, number_at, holds_numbers, onward};
 
 use crate::fault::TileFault;
 use pb_wire::{Field, FieldValue, Fields, WireFault, get_varint};
 use std::alloc::Global;
 
-type FieldItem<'a> = Result<Field<'a>, WireFault>;
+/// A field of a message, or its fault.
+pub(crate) type FieldItem<'a> = Result<Field<'a>, WireFault>;
 
 /// The number that one more item leaves.
 fn number_behind(
@@ -32,15 +33,15 @@ fn number_behind(
     }
 }
 
-/// The last number of a field.
-pub(crate) fn last_number(bytes: &[u8], number: u32) -> Result<Option<u64>, TileFault>
-    ensures { Reads (λ n. n) result (last_number_in number bytes.now) }
+/// The last number of a field, after one item more.
+pub(crate) fn number_then(
+    number: u32,
+    before: Result<Option<u64>, TileFault>,
+    item: FieldItem<'_>,
+) -> Result<Option<u64>, TileFault>
+    ensures { Gives TileFault.Memory (λ n. n) result (onward (λ n. n) before (λ n. after number number_after n (item_view item.entry))) }
 {
-    let mut last = None;
-    for item in Fields::new(bytes) {
-        last = number_behind(number, last, item)?;
-    }
-    Ok(last)
+    number_behind(number, before?, item)
 }
 
 fn bytes_behind<'a>(
@@ -60,15 +61,16 @@ fn bytes_behind<'a>(
     }
 }
 
-/// The last bytes of a field.
-pub(crate) fn last_bytes<'a>(bytes: &'a [u8], number: u32) -> Result<Option<&'a [u8]>, TileFault>
-    ensures { Reads (option_map (λ b. b.now)) result (last_bytes_in number bytes.entry.now) }
+/// The last bytes of a field, after one item more.
+pub(crate) fn bytes_then<'a>(
+    number: u32,
+    before: Result<Option<&'a [u8]>, TileFault>,
+    item: FieldItem<'a>,
+) -> Result<Option<&'a [u8]>, TileFault>
+    ensures { Gives TileFault.Memory (option_map (λ b. b.now)) result
+        (onward (option_map (λ b. b.now)) before.entry (λ last. after number bytes_after last (item_view item.entry))) }
 {
-    let mut last = None;
-    for item in Fields::new(bytes) {
-        last = bytes_behind(number, last, item)?;
-    }
-    Ok(last)
+    bytes_behind(number, before?, item)
 }
 
 fn parts_behind<'a>(
@@ -92,6 +94,18 @@ fn parts_behind<'a>(
     }
 }
 
+/// The parts of a field that may come many times, after one item more.
+pub(crate) fn parts_then<'a>(
+    number: u32,
+    before: Result<Vec<&'a [u8]>, TileFault>,
+    item: FieldItem<'a>,
+) -> Result<Vec<&'a [u8]>, TileFault>
+    ensures { Gives TileFault.Memory (λ v. bytes_of v.items) result
+        (onward (λ v. bytes_of v.items) before.entry (λ parts. after number parts_after parts (item_view item.entry))) }
+{
+    parts_behind(number, before?, item)
+}
+
 /// The parts of a field that may come many times.
 pub(crate) fn parts<'a>(
     alloc: Global,
@@ -108,14 +122,22 @@ pub(crate) fn parts<'a>(
 }
 
 /// One number of 32 bits more.
-fn with_number(before: Vec<u32>, n: u64) -> Result<Vec<u32>, TileFault>
-    ensures { Finds TileFault.Memory (λ v. v.items) result (number_more before.items n) }
+fn add_number(numbers: &mut Vec<u32>, n: u64) -> Result<(), TileFault>
+    ensures { Finds TileFault.Memory (λ _. numbers.new.items) result (number_more numbers.old.items n) }
 {
     if n > 4_294_967_295 {
         return Err(TileFault::Range);
     }
-    let mut numbers = before;
     numbers.push(n as u32)?;
+    Ok(())
+}
+
+/// The numbers with one of 32 bits more.
+fn with_number(before: Vec<u32>, n: u64) -> Result<Vec<u32>, TileFault>
+    ensures { Finds TileFault.Memory (λ v. v.items) result (number_more before.items n) }
+{
+    let mut numbers = before;
+    add_number(&mut numbers, n)?;
     Ok(numbers)
 }
 
@@ -130,15 +152,16 @@ fn packed_number(bytes: &[u8]) -> Result<(u64, usize), TileFault>
     }
 }
 
-/// The numbers that stand one after the other, behind those before.
+/// The numbers that stand one after the other, behind those before. There is room for as many as there are bytes.
 fn with_packed(before: Vec<u32>, bytes: &[u8]) -> Result<Vec<u32>, TileFault>
     ensures { Gives TileFault.Memory (λ v. v.items) result (packed_in (length bytes.now) before.items bytes.now) }
 {
     let mut numbers = before;
+    numbers.reserve(bytes.len())?;
     let mut rest = bytes;
     while rest.len() > 0 {
         let (n, len) = packed_number(rest)?;
-        numbers = with_number(numbers, n)?;
+        add_number(&mut numbers, n)?;
         rest = &rest[len..];
     }
     Ok(numbers)
@@ -160,13 +183,13 @@ fn numbers_behind(number: u32, before: Vec<u32>, item: FieldItem<'_>) -> Result<
     }
 }
 
-/// The numbers of a field, packed or not.
-pub(crate) fn numbers(alloc: Global, bytes: &[u8], number: u32) -> Result<Vec<u32>, TileFault>
-    ensures { Gives TileFault.Memory (λ v. v.items) result (numbers_in number bytes.now) }
+/// The numbers of a field, packed or not, after one item more.
+pub(crate) fn numbers_then(
+    number: u32,
+    before: Result<Vec<u32>, TileFault>,
+    item: FieldItem<'_>,
+) -> Result<Vec<u32>, TileFault>
+    ensures { Gives TileFault.Memory (λ v. v.items) result (onward (λ v. v.items) before (λ ns. after number numbers_after ns (item_view item.entry))) }
 {
-    let mut all = Vec::new(alloc);
-    for item in Fields::new(bytes) {
-        all = numbers_behind(number, all, item)?;
-    }
-    Ok(all)
+    numbers_behind(number, before?, item)
 }

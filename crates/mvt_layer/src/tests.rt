@@ -257,3 +257,27 @@ fn names_faults_of_features(rt: HostRuntime) {
         &[0x1a, 9, 0x0a, 1, 0x70, 0x12, 4, 0x18, 1, 0x20, 0],
     );
 }
+
+/// A feature of 17 tags: more than the key indices that are looked through one by one.
+#[test]
+fn many_tags(rt: HostRuntime) -> Result<(), Fail> {
+    let mut tags = Vec::new(rt.alloc());
+    for key in [
+        "a", "b", "c", "d", "e", "f", "g", "h", "i", "j", "k", "l", "m", "n", "o", "p", "q",
+    ] {
+        tags.push((key, TagValue::Natural(1)))?;
+    }
+    let feature = TileFeature {
+        id: None,
+        tags,
+        shape: shape_of_points(rt.alloc(), &[Pt::ORIGIN])?,
+    };
+    let bytes = [
+        26, 105, 120, 2, 10, 1, 108, 18, 43, 18, 34, 0, 0, 1, 0, 2, 0, 3, 0, 4, 0, 5, 0, 6, 0, 7,
+        0, 8, 0, 9, 0, 10, 0, 11, 0, 12, 0, 13, 0, 14, 0, 15, 0, 16, 0, 24, 1, 34, 3, 9, 0, 0, 26,
+        1, 97, 26, 1, 98, 26, 1, 99, 26, 1, 100, 26, 1, 101, 26, 1, 102, 26, 1, 103, 26, 1, 104,
+        26, 1, 105, 26, 1, 106, 26, 1, 107, 26, 1, 108, 26, 1, 109, 26, 1, 110, 26, 1, 111, 26, 1,
+        112, 26, 1, 113, 34, 2, 40, 1,
+    ];
+    reads_one(&rt, rt.alloc(), &bytes, feature, ("l", 2, 4096))
+}

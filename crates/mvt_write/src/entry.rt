@@ -8,14 +8,31 @@ ghost use Rattle.mvt_write.specs.Values.{value_view};
 
 use crate::field::put_bytes;
 use crate::value::PoolValue;
-use std::alloc::{AllocError, Global};
+use pb_wire::zigzag;
+use std::alloc::AllocError;
+
+/// How many bytes of a text count for its code, from its end.
+const CODED: usize = 16;
+
+/// A number that mostly differs where texts differ in their length or their last bytes.
+fn text_code(text: &str) -> u64 {
+    let bytes = text.as_bytes();
+    let mut code = bytes.len() as u64;
+    for byte in &bytes[bytes.len().saturating_sub(CODED)..] {
+        code = code.rotate_left(5) ^ u64::from(*byte);
+    }
+    code
+}
 
 /// A key or a value of tags, as a layer holds it.
 pub(crate) trait Entry: Ord + Copy {
     ghost spelled: { Self → List ℕ };
 
-    /// Appends the entry as a field.
-    fn put(self, alloc: Global, out: &mut Vec<u8>, number: u32) -> Result<(), AllocError>
+    /// A number that mostly differs where entries differ. Only the speed of a pool rests on it.
+    fn code(self) -> u64;
+
+    /// Appends the entry as a field. What `message` holds is lost.
+    fn put(self, message: &mut Vec<u8>, out: &mut Vec<u8>, number: u32) -> Result<(), AllocError>
         requires { number < 2 ^ 29 }
         ensures { OnOk result (out.new.items ≡ out.old.items ++ bytes_field number (spelled self)) };
 
@@ -29,7 +46,11 @@ impl<'a> Entry for &'a str {
 
     ghost same = { λ a b. is_eq-slice_cmp a.now b.now };
 
-    fn put(self, _alloc: Global, out: &mut Vec<u8>, number: u32) -> Result<(), AllocError> {
+    fn code(self) -> u64 {
+        text_code(self)
+    }
+
+    fn put(self, _message: &mut Vec<u8>, out: &mut Vec<u8>, number: u32) -> Result<(), AllocError> {
         put_bytes(out, number, self.as_bytes())
     }
 }
@@ -41,8 +62,17 @@ impl<'a> Entry for PoolValue<'a> {
 
     ghost same = { same_value };
 
-    fn put(self, alloc: Global, out: &mut Vec<u8>, number: u32) -> Result<(), AllocError> {
-        let message = self.message(alloc)?;
-        put_bytes(out, number, &message)
+    fn code(self) -> u64 {
+        match self {
+            PoolValue::Text(text) => text_code(text),
+            PoolValue::Natural(n) => n,
+            PoolValue::Negative(n) => zigzag(n),
+            PoolValue::Truth(truth) => u64::from(truth) + (1 << 32),
+        }
+    }
+
+    fn put(self, message: &mut Vec<u8>, out: &mut Vec<u8>, number: u32) -> Result<(), AllocError> {
+        self.write_message(message)?;
+        put_bytes(out, number, message)
     }
 }

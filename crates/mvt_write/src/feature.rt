@@ -54,28 +54,31 @@ fn geometry_integers(alloc: Global, shape: &Shape) -> Result<Vec<u32>, AllocErro
     }
 }
 
-/// The message of a feature (Mapbox Vector Tile 2.1, 4.2), by the pools of its layer, to which its tags are added.
+/// Leaves in `message` the message of a feature alone (Mapbox Vector Tile 2.1, 4.2), by the pools of its layer, to which its
+/// tags are added. What `packed` holds is lost.
 #[tactic(auto, unfolding(crate::specs::Written::feature_written))]
-fn feature_bytes<'a>(
+fn write_message<'a>(
     alloc: Global,
+    message: &mut Vec<u8>,
+    packed: &mut Vec<u8>,
     pools: &mut TagPools<'a>,
     feature: &TileFeature<'a>,
-) -> Result<Vec<u8>, AllocError>
+) -> Result<(), AllocError>
     requires { CanWriteFeature (feature_view feature.now) }
     ensures pools { OnOk result (AddsTags pools.old pools.new (feature_view feature.now).tags) }
     // Entries that are added later change nothing.
-    ensures written { IfOk result
-        (λ v. (later_keys later_values : List (List ℕ))
-        → v.items ≡ feature_written (held_keys pools.new ++ later_keys) (held_values pools.new ++ later_values) (feature_view feature.now)) }
+    ensures written { OnOk result
+        ((later_keys later_values : List (List ℕ))
+        → message.new.items ≡ feature_written (held_keys pools.new ++ later_keys) (held_values pools.new ++ later_values) (feature_view feature.now)) }
     ensures fits { OnOk result (FitsFeature (feature_view feature.now)) }
 {
-    let mut out = Vec::new(alloc);
-    put_id(&mut out, feature.id)?;
-    put_tags(alloc, &mut out, pools, &feature.tags)?;
-    put_number(&mut out, 3, geometry_type(&feature.shape))?;
+    message.clear();
+    put_id(message, feature.id)?;
+    put_tags(packed, message, pools, &feature.tags)?;
+    put_number(message, 3, geometry_type(&feature.shape))?;
     let integers = geometry_integers(alloc, &feature.shape)?;
-    put_packed(alloc, &mut out, 4, &integers)?;
-    Ok(out)
+    put_packed(packed, message, 4, &integers)?;
+    Ok(())
 }
 
 /// Appends the fields of features, whose tags are added to the pools.
@@ -94,9 +97,11 @@ pub(crate) fn put_features<'a>(
         (map feature_view features.now)) }
     ensures fits { OnOk result (All FitsFeature (map feature_view features.now)) }
 {
+    let mut message = Vec::new(alloc);
+    let mut packed = Vec::new(alloc);
     for feature in features {
-        let bytes = feature_bytes(alloc, pools, feature)?;
-        put_bytes(out, 2, &bytes)?;
+        write_message(alloc, &mut message, &mut packed, pools, feature)?;
+        put_bytes(out, 2, &message)?;
     }
     Ok(())
 }

@@ -1,12 +1,12 @@
 //! Fields of messages.
 
-ghost use Rattle.std.specs.Prelude.{◌≡◌, ◌*◌, ◌+◌, ◌<◌, ◌^◌, ◌++◌, IfOk, OnOk};
+ghost use Rattle.std.specs.Prelude.{◌≡◌, ◌*◌, ◌+◌, ◌<◌, ◌^◌, ◌++◌, OnOk};
 ghost use Rattle.std.specs.List.{flat_map};
 ghost use Rattle.pb_wire.specs.Varint.{varint};
 ghost use Rattle.mvt_write.specs.Written.{number_field, bytes_field, packed_field};
 
 use pb_wire::put_varint;
-use std::alloc::{AllocError, Global};
+use std::alloc::AllocError;
 
 /// Appends a field that is a number.
 pub(crate) fn put_number(out: &mut Vec<u8>, number: u32, n: u64) -> Result<(), AllocError>
@@ -27,20 +27,19 @@ pub(crate) fn put_bytes(out: &mut Vec<u8>, number: u32, bytes: &[u8]) -> Result<
     out.extend_from_slice(bytes)
 }
 
-/// The numbers one after the other.
-fn packed(alloc: Global, numbers: &[u32]) -> Result<Vec<u8>, AllocError>
-    ensures { IfOk result (λ v. v.items ≡ flat_map varint numbers.now) }
+/// Appends the numbers one after the other.
+fn put_numbers(out: &mut Vec<u8>, numbers: &[u32]) -> Result<(), AllocError>
+    ensures { OnOk result (out.new.items ≡ out.old.items ++ flat_map varint numbers.now) }
 {
-    let mut out = Vec::new(alloc);
     for n in numbers {
-        put_varint(&mut out, u64::from(*n))?;
+        put_varint(out, u64::from(*n))?;
     }
-    Ok(out)
+    Ok(())
 }
 
-/// Appends a field that is many numbers.
+/// Appends a field that is many numbers. What `packed` holds is lost.
 pub(crate) fn put_packed(
-    alloc: Global,
+    packed: &mut Vec<u8>,
     out: &mut Vec<u8>,
     number: u32,
     numbers: &[u32],
@@ -48,6 +47,7 @@ pub(crate) fn put_packed(
     requires { number < 2 ^ 29 }
     ensures { OnOk result (out.new.items ≡ out.old.items ++ packed_field number numbers.now) }
 {
-    let bytes = packed(alloc, numbers)?;
-    put_bytes(out, number, &bytes)
+    packed.clear();
+    put_numbers(packed, numbers)?;
+    put_bytes(out, number, packed)
 }

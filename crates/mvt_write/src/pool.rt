@@ -1,21 +1,50 @@
 //! Pools: what a layer holds once, and names by its index.
 
-ghost use Rattle.std.specs.Prelude.{◌≡◌, ◌<◌, ◌^◌, ◌++◌, map, IfOk, OnOk, []};
-ghost use Rattle.std.specs.BTreeMap.{get};
+ghost use Rattle.std.specs.Prelude.{◌≡◌, ◌<◌, ◌^◌, ◌++◌, ℕ, true, length, slice_index_or, map, IfOk, IfSome, OnOk, OnErr, OnSome, Some, []};
+ghost use Rattle.std.specs.Option.{unwrap_or};
+ghost use Rattle.std.specs.BTreeMap.{get, IsUnchanged, Updates};
 ghost use Rattle.std.specs.List.{flat_map};
 ghost use Rattle.mvt_write.specs.Written.{bytes_field};
-ghost use Rattle.mvt_write.specs.Pools.{index_of, index_in, with_entry};
+ghost use Rattle.mvt_write.specs.Pools.{index_of, index_in, has_entry, with_entry};
 
 use crate::entry::Entry;
 use std::alloc::{AllocError, Global};
+use std::cmp::Ordering;
 use std::collections::BTreeMap;
+
+/// How many entries a pool recalls.
+const RECENT: usize = 512;
+
+/// The place among the recent entries for one of this code, by its product with an odd number that spreads it.
+fn place_of(code: u64) -> usize
+    ensures { result < RECENT }
+{
+    (code.wrapping_mul(0x9e37_79b9_7f4a_7c15) >> 40) as usize % RECENT
+}
+
+/// The number of a key, which is `next` where it had none. An `Err` changes nothing.
+fn number_of<K: Ord + Copy>(
+    numbers: &mut BTreeMap<K, usize>,
+    key: K,
+    next: usize,
+) -> Result<usize, AllocError>
+    ensures number { IfOk result (λ n. n ≡ unwrap_or (get K.cmp numbers.old key) next) }
+    ensures updates { IfOk result (λ n. Updates K.cmp numbers.old numbers.new key (Some n)) }
+    ensures err { OnErr result (IsUnchanged numbers.old numbers.new) }
+{
+    Ok(*numbers.entry(key)?.or_insert(next))
+}
 
 /// Entries in the order of their first use, each once.
 #[derive(Drop)]
 pub(crate) struct Pool<T: Entry> {
     pub entries: Vec<T>,
     indices: BTreeMap<T, usize>,
+    /// For each place the index of the entry that was used there last, or any number.
+    recent: [usize; RECENT],
     ghost indexed: { (entry : T) → get T.cmp indices entry ≡ index_in (map T.spelled entries.items) (T.spelled entry) },
+    ghost placed: { (index : ℕ) → index < length entries.items
+        → index_of (map T.spelled entries.items) (slice_index_or (map T.spelled entries.items) index []) ≡ index },
 }
 
 impl<T: Entry> Pool<T> {
@@ -26,21 +55,51 @@ impl<T: Entry> Pool<T> {
         Pool {
             entries: Vec::new(alloc),
             indices: BTreeMap::new(alloc),
+            recent: [0; RECENT],
+        }
+    }
+
+    /// The index of an entry that was used lately. Not each of them is recalled.
+    fn recalled(&self, place: usize, entry: T) -> Option<usize>
+        requires { place < RECENT }
+        ensures index { IfSome result (λ i. index_of (map T.spelled self.now.entries.items) (T.spelled entry) ≡ i) }
+        ensures held { OnSome result (has_entry (map T.spelled self.now.entries.items) (T.spelled entry) ≡ true) }
+    {
+        let index = self.recent[place];
+        if index >= self.entries.len() {
+            return None;
+        }
+        match self.entries[index].cmp(&entry) {
+            Ordering::Equal => Some(index),
+            _ => None,
         }
     }
 
     /// The index of an entry, which is added at the end where it isn't there.
+    fn found(&mut self, entry: T) -> Result<usize, AllocError>
+        ensures index { IfOk result (λ i. index_of (map T.spelled self.new.entries.items) (T.spelled entry) ≡ i) }
+        ensures entries { OnOk result (map T.spelled self.new.entries.items ≡ with_entry (map T.spelled self.old.entries.items) (T.spelled entry)) }
+    {
+        let next = self.entries.len();
+        self.entries.reserve(1)?;
+        let index = number_of(&mut self.indices, entry, next)?;
+        if index == next {
+            self.entries.push(entry).unwrap();
+        }
+        Ok(index)
+    }
+
+    /// The index of an entry, which is added at the end where it isn't there. A recent one is found without a search.
     pub fn index_of(&mut self, entry: T) -> Result<usize, AllocError>
         ensures index { IfOk result (λ i. index_of (map T.spelled self.new.entries.items) (T.spelled entry) ≡ i) }
         ensures entries { OnOk result (map T.spelled self.new.entries.items ≡ with_entry (map T.spelled self.old.entries.items) (T.spelled entry)) }
     {
-        if let Some(index) = self.indices.get(&entry) {
-            return Ok(*index);
+        let place = place_of(entry.code());
+        if let Some(index) = self.recalled(place, entry) {
+            return Ok(index);
         }
-        let index = self.entries.len();
-        self.entries.reserve(1)?;
-        self.indices.insert(entry, index)?;
-        self.entries.push(entry).unwrap();
+        let index = self.found(entry)?;
+        self.recent[place] = index;
         Ok(index)
     }
 
@@ -49,8 +108,9 @@ impl<T: Entry> Pool<T> {
         requires { number < 2 ^ 29 }
         ensures { OnOk result (out.new.items ≡ out.old.items ++ flat_map (bytes_field number) (map T.spelled self.now.entries.items)) }
     {
+        let mut message = Vec::new(alloc);
         for &entry in &self.entries {
-            entry.put(alloc, out, number)?;
+            entry.put(&mut message, out, number)?;
         }
         Ok(())
     }

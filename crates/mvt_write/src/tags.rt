@@ -1,6 +1,6 @@
 //! The tags of features.
 
-ghost use Rattle.std.specs.Prelude.{◌≡◌, ◌++◌, List, ℕ, All, IfOk, OnOk};
+ghost use Rattle.std.specs.Prelude.{◌≡◌, ◌++◌, List, ℕ, All, OnOk};
 ghost use Rattle.std.specs.List.{flat_map};
 ghost use Rattle.pb_wire.specs.Varint.{varint};
 ghost use Rattle.mvt_layer.specs.Tile.{tag_view, tagged};
@@ -15,7 +15,7 @@ use crate::tag_pools::TagPools;
 use crate::value::PoolValue;
 use mvt_layer::TagValue;
 use pb_wire::put_varint;
-use std::alloc::{AllocError, Global};
+use std::alloc::AllocError;
 
 /// Appends the index of a tag's key and the index of its value.
 fn put_indices<'a>(
@@ -36,30 +36,30 @@ fn put_indices<'a>(
     put_varint(out, pools.values.index_of(PoolValue::new(value))? as u64)
 }
 
-/// The indices of tags, a key's and a value's in turn.
-fn packed_tags<'a>(
-    alloc: Global,
+/// Leaves in `packed` the indices of tags alone, a key's and a value's in turn.
+fn pack_tags<'a>(
+    packed: &mut Vec<u8>,
     pools: &mut TagPools<'a>,
     tags: &[(&'a str, TagValue<'a>)],
-) -> Result<Vec<u8>, AllocError>
+) -> Result<(), AllocError>
     requires { All (λ t. CanWriteValue t.1) (tagged tags.now) }
     ensures pools { OnOk result (AddsTags pools.old pools.new (tagged tags.now)) }
     // Entries that are added later change no index.
-    ensures written { IfOk result
-        (λ v. (later_keys later_values : List (List ℕ))
-        → v.items ≡ flat_map varint (tag_indices (held_keys pools.new ++ later_keys) (held_values pools.new ++ later_values) (tagged tags.now))) }
+    ensures written { OnOk result
+        ((later_keys later_values : List (List ℕ))
+        → packed.new.items ≡ flat_map varint (tag_indices (held_keys pools.new ++ later_keys) (held_values pools.new ++ later_values) (tagged tags.now))) }
     ensures fits { OnOk result (All FitsTag (tagged tags.now)) }
 {
-    let mut out = Vec::new(alloc);
+    packed.clear();
     for &(key, value) in tags {
-        put_indices(&mut out, pools, key, value)?;
+        put_indices(packed, pools, key, value)?;
     }
-    Ok(out)
+    Ok(())
 }
 
-/// Appends the field of a feature's tags, where there are any.
+/// Appends the field of a feature's tags, where there are any. What `packed` holds is lost.
 pub(crate) fn put_tags<'a>(
-    alloc: Global,
+    packed: &mut Vec<u8>,
     out: &mut Vec<u8>,
     pools: &mut TagPools<'a>,
     tags: &[(&'a str, TagValue<'a>)],
@@ -71,10 +71,10 @@ pub(crate) fn put_tags<'a>(
         → out.new.items ≡ out.old.items ++ tags_written (held_keys pools.new ++ later_keys) (held_values pools.new ++ later_values) (tagged tags.now)) }
     ensures fits { OnOk result (All FitsTag (tagged tags.now)) }
 {
-    let indices = packed_tags(alloc, pools, tags)?;
+    pack_tags(packed, pools, tags)?;
     if tags.is_empty() {
         return Ok(());
     }
-    put_bytes(out, 2, &indices)?;
+    put_bytes(out, 2, packed)?;
     Ok(())
 }

@@ -1,6 +1,6 @@
 //! The values that a pool holds.
 
-ghost use Rattle.std.specs.Prelude.{◌≡◌, IfOk};
+ghost use Rattle.std.specs.Prelude.{◌≡◌, OnOk};
 ghost use Rattle.mvt_layer.specs.Tile.{tag_view};
 ghost use Rattle.mvt_write.specs.CanWrite.{CanWriteValue};
 ghost use Rattle.mvt_write.specs.Written.{value_written};
@@ -8,7 +8,7 @@ ghost use Rattle.mvt_write.specs.Written.{value_written};
 use crate::field::{put_bytes, put_number};
 use mvt_layer::TagValue;
 use pb_wire::zigzag;
-use std::alloc::{AllocError, Global};
+use std::alloc::AllocError;
 
 /// The value of a tag that can be written: every one but a floating point number.
 #[derive(Clone, Copy, PartialEq, Eq, PartialOrd, Ord)]
@@ -36,18 +36,17 @@ impl<'a> PoolValue<'a> {
         }
     }
 
-    /// The message that says the value (Mapbox Vector Tile 2.1, 4.4).
+    /// Leaves in `message` alone what says the value (Mapbox Vector Tile 2.1, 4.4).
     #[tactic(auto, unfolding(crate::specs::Written::value_written))]
-    pub fn message(self, alloc: Global) -> Result<Vec<u8>, AllocError>
-        ensures { IfOk result (λ v. v.items ≡ value_written (value_view self.entry)) }
+    pub fn write_message(self, message: &mut Vec<u8>) -> Result<(), AllocError>
+        ensures { OnOk result (message.new.items ≡ value_written (value_view self.entry)) }
     {
-        let mut out = Vec::new(alloc);
+        message.clear();
         match self {
-            PoolValue::Text(text) => put_bytes(&mut out, 1, text.as_bytes())?,
-            PoolValue::Natural(n) => put_number(&mut out, 5, n)?,
-            PoolValue::Negative(n) => put_number(&mut out, 6, zigzag(n))?,
-            PoolValue::Truth(truth) => put_number(&mut out, 7, u64::from(truth))?,
+            PoolValue::Text(text) => put_bytes(message, 1, text.as_bytes()),
+            PoolValue::Natural(n) => put_number(message, 5, n),
+            PoolValue::Negative(n) => put_number(message, 6, zigzag(n)),
+            PoolValue::Truth(truth) => put_number(message, 7, u64::from(truth)),
         }
-        Ok(out)
     }
 }

@@ -53,7 +53,7 @@ module _ {T : Type 0} where
 
   -- ---- one step of a look-up, of setting and of taking away
 
-  lookup_here : (n : ℕ) (e : ℕ × T) (es : List (ℕ × T)) → n ≡ e.0 → lookup (is_at (nat_cmp n)) (e ∷ es) ≡ Some e.1
+  pub lookup_here : (n : ℕ) (e : ℕ × T) (es : List (ℕ × T)) → n ≡ e.0 → lookup (is_at (nat_cmp n)) (e ∷ es) ≡ Some e.1
   lookup_here n e es h = ap (λ b. cond b (Some e.1) (lookup (is_at (nat_cmp n)) es)) (at_same n e.0 h)
 
   pub lookup_on : (n : ℕ) (e : ℕ × T) (es : List (ℕ × T)) → n ≢ e.0 → lookup (is_at (nat_cmp n)) (e ∷ es) ≡ lookup (is_at (nat_cmp n)) es
@@ -82,6 +82,12 @@ module _ {T : Type 0} where
   gap_in [] n (suc i) h = absurd h
   gap_in (e ∷ es) n zero h = omega arith
   gap_in (e ∷ es) n (suc i) h = omega (arith, gap_in es n i h.1)
+
+  -- a gap at the end
+  pub below_gap : (es : List (ℕ × T)) (n i : ℕ) → IsGapFor es n i → i ≡ length es → AreBelow n es
+  below_gap [] n i h is = tt
+  below_gap (e ∷ es) n zero h is = absurd (omega (arith, is))
+  below_gap (e ∷ es) n (suc i) h is = (h.0, below_gap es n i h.1 (omega (arith, is)))
 
   pub lookup_stands : (es : List (ℕ × T)) (n i : ℕ) (d : ℕ × T) → StandsAt es n i → lookup (is_at (nat_cmp n)) es ≡ Some (get_or es i d).1
   lookup_stands [] n i d h = absurd h

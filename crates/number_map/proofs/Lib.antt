@@ -1,8 +1,8 @@
 mod Between
-mod Entries
+pub mod Entries
 mod Filled
 mod Home
 mod Joined
-mod Numbers
+pub mod Numbers
 mod Places
 mod Search

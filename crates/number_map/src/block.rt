@@ -3,7 +3,7 @@ ghost use Rattle.std.specs.Bool.{OnTrue, OnFalse};
 ghost use Rattle.std.specs.Ordering.{nat_cmp};
 ghost use Rattle.std.specs.Map.{lookup, remove_entry};
 ghost use Rattle.std.specs.BTreeMap.{insert_entry, is_at};
-ghost use Rattle.number_map.specs.Blocks.{Ascends, Accepts, first_number};
+ghost use Rattle.number_map.specs.Blocks.{Ascends, Accepts, AreBelow, first_number};
 ghost use Rattle.number_map.specs.Positions.{StandsAt, IsGapFor};
 
 use std::alloc::{AllocError, Global};
@@ -87,6 +87,17 @@ impl<T> Block<T> {
         ensures absent { OnFalse result (lookup (is_at (nat_cmp number)) self.now ≡ None) }
     {
         self.entries.len() < CAPACITY || self.get(number).is_some()
+    }
+
+    /// Whether this number stands behind all others, by a binary search.
+    pub(crate) fn ends_before(&self, number: u64) -> bool
+        requires { Ascends self.now }
+        ensures { OnTrue result (AreBelow number self.now) }
+    {
+        match find(&self.entries, number) {
+            Ok(_) => false,
+            Err(at) => at == self.entries.len(),
+        }
     }
 
     /// Gives a number this value, and returns the one that it had. It takes no memory.

@@ -35,7 +35,8 @@ pub(crate) fn put<T>(blocks: &mut Vec<Block<T>>, at: usize, number: u64, value: 
     blocks[at].insert(number, value)
 }
 
-/// Moves half of a full block's entries to an empty one, and gives a number this value in one of both.
+/// Gives a number this value beside a full block: in an empty one where it stands behind all of its entries, so that numbers
+/// that come in ascending order leave full blocks, else in one of both, once half of the entries are in the empty one.
 fn halve<T: Drop>(lower: &mut Block<T>, spare: Block<T>, number: u64, value: T) -> Block<T>
     requires ascending { Ascends lower.old }
     requires full { CAPACITY ≤ length lower.old }
@@ -45,6 +46,10 @@ fn halve<T: Drop>(lower: &mut Block<T>, spare: Block<T>, number: u64, value: T) 
     ensures upper_filled { 0 < length result }
 {
     let mut upper = spare;
+    if lower.ends_before(number) {
+        upper.insert(number, value);
+        return upper;
+    }
     lower.split(&mut upper);
     if number < upper.first() {
         lower.insert(number, value);

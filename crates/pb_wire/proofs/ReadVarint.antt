@@ -1,6 +1,7 @@
 -- Reading a number, byte by byte.
-use Rattle.std.proofs.Common.{◌≡◌, ℕ, zero, suc, ◌+◌, ◌-◌, ◌*◌, ◌%◌, ◌^◌, ◌<◌, ◌≤◌, true, false, ltb, List, ◌∷◌, length, get_or, drop, Result, Ok, Err, refl}
-use Rattle.std.proofs.Common.{arith, add-one, ◌⊎◌, inl, inr, lit<}
+use Rattle.std.proofs.Common.{◌≡◌, ℕ, zero, suc, ◌+◌, ◌-◌, ◌*◌, ◌%◌, ◌^◌, ◌<◌, ◌≤◌, true, false, ltb, List, [], ◌∷◌, length, get_or, drop, refl}
+use Rattle.std.specs.Prelude.{slice_get}
+use Rattle.std.proofs.Common.{Some, Result, Ok, Err, arith, add-one, ◌⊎◌, inl, inr, lit<}
 use Rattle.std.proofs.lemmas.Bool.{le-ltb, lt-ltb}
 use Rattle.std.proofs.lemmas.Nat.{pow-add}
 use Rattle.std.proofs.lemmas.List.{drop_all}
@@ -112,3 +113,12 @@ read_more bytes v i b room lt is high =
 pub read_cut : (bytes : List ℕ) (v i : ℕ) → length bytes ≤ i → with_value v i (read_in (drop i bytes) (9 - i)) ≡ Err Cut
 unfolding read_in with_value
 read_cut bytes v i le = rw (drop_all i bytes le) refl
+
+-- a first byte below 128 is the number
+pub read_short : (bytes : List ℕ) (b : ℕ) → slice_get bytes 0 ≡ Some b → b < 128 → varint_at bytes ≡ found b 1
+unfolding varint_at read_in
+read_short [] b is low = absurd cc
+read_short (x ∷ xs) b is low =
+    let same : x ≡ b = cc in
+    let short : ltb b 128 ≡ true = lt-ltb b 128 low in
+    rw (same, short) refl

@@ -1,5 +1,5 @@
 -- Spellings of numbers.
-use Rattle.std.proofs.Common.{◌≡◌, ℕ, zero, suc, ◌+◌, ◌-◌, ◌*◌, ◌/◌, ◌%◌, ◌^◌, ◌<◌, ◌≤◌, true, false, ltb, List, [], ◌∷◌, ◌++◌, length, refl, sym, ap, ◌∙◌}
+use Rattle.std.proofs.Common.{◌≡◌, ℕ, zero, suc, ◌+◌, ◌*◌, ◌/◌, ◌%◌, ◌^◌, ◌<◌, ◌≤◌, true, ltb, List, [], ◌∷◌, ◌++◌, length, refl, sym, ap, ◌∙◌}
 use Rattle.std.proofs.Common.{append_assoc, arith}
 use Rattle.std.proofs.Common.{inl, inr}
 use Rattle.std.proofs.lemmas.Bool.{cases_lt, le-ltb, lt-ltb}
@@ -10,10 +10,6 @@ unfoldable pub limit_in : ℕ → ℕ
 limit_in zero = 2
 limit_in (suc more) = 128 * limit_in more
 
-pub varint_begins : (n : ℕ) → shortest_in 9 n ≡ varint n
-unfolding varint
-varint_begins n = refl
-
 pub limit_begins : (n : ℕ) → n < 2 ^ 64 → n < limit_in 9
 unfolding limit_in
 limit_begins n h = h
@@ -23,32 +19,11 @@ pub goes_on : (b : ℕ) (bytes : List ℕ) → 128 ≤ b → IsGroups bytes → 
 goes_on b [] top h = absurd h
 goes_on b (c ∷ cs) top h = (top, h)
 
--- one more byte, and the rest of the number
-pub shortest_step : (front : List ℕ) (more next n : ℕ) (whole : List ℕ) → more ≡ suc next → 128 ≤ n → front ++ shortest_in more n ≡ whole
-    → (front ++ (128 + n % 128) ∷ []) ++ shortest_in next (n / 128) ≡ whole
-unfolding shortest_in
-shortest_step front more next n whole k high so_far =
-    let long : ltb n 128 ≡ false = le-ltb n 128 high in
-    let one : shortest_in more n ≡ (128 + n % 128) ∷ shortest_in next (n / 128) = rw (k, long) refl in
-    append_assoc front ((128 + n % 128) ∷ []) (shortest_in next (n / 128)) ∙ ap (λ (r : List ℕ). front ++ r) (sym one) ∙ so_far
-
 pub limit_step : (more next n : ℕ) → more ≡ suc next → n < limit_in more → n / 128 < limit_in next
 unfolding limit_in
 limit_step more next n k below =
     let here : n < 128 * limit_in next = rw k at below in
     omega arith
-
--- after nine bytes the rest is small
-pub limit_room : (len n : ℕ) → len ≤ 9 → 128 ≤ n → n < limit_in (9 - len) → len < 9
-unfolding limit_in
-limit_room len n room high below =
-    elim (cases_lt len 9) [
-      | inl lt ↦ lt
-      | inr le ↦
-          let k : 9 - len ≡ 0 = omega arith in
-          let here : n < 2 = rw k at below in
-          absurd (omega arith)
-    ]
 
 pub shortest_last : (more n : ℕ) → n < 128 → shortest_in more n ≡ n ∷ []
 unfolding shortest_in
@@ -56,6 +31,43 @@ shortest_last zero n low = refl
 shortest_last (suc more) n low =
     let short : ltb n 128 ≡ true = lt-ltb n 128 low in
     rw short refl
+
+-- more room changes nothing
+shortest_enough : (more n : ℕ) → n < limit_in more → shortest_in more n ≡ shortest_in (suc more) n
+unfolding shortest_in limit_in
+shortest_enough zero n below = rw (lt-ltb n 128 (omega (arith, below))) refl
+shortest_enough (suc more) n below = elim (cases_lt n 128) [
+  | inl low ↦ shortest_last (suc more) n low ∙ sym (shortest_last (suc (suc more)) n low)
+  | inr high ↦ rw (le-ltb n 128 high)
+      (ap (λ (r : List ℕ). (128 + n % 128) ∷ r) (shortest_enough more (n / 128) (limit_step (suc more) more n refl below)))
+]
+
+-- one byte
+pub varint_last : (n : ℕ) → n < 128 → varint n ≡ n ∷ []
+unfolding varint
+varint_last n low = shortest_last 9 n low
+
+-- one more byte, and the rest of the number
+pub varint_step : (n : ℕ) → n < 2 ^ 64 → 128 ≤ n → varint n ≡ (128 + n % 128) ∷ varint (n / 128)
+unfolding varint shortest_in
+varint_step n small high =
+    let behind = shortest_enough 8 (n / 128) (limit_step 9 8 n refl (limit_begins n small)) in
+    rw (le-ltb n 128 high) (ap (λ (r : List ℕ). (128 + n % 128) ∷ r) behind)
+
+pub varint_goes_on : (front : List ℕ) (n : ℕ) (whole : List ℕ) → n < 2 ^ 64 → 128 ≤ n → front ++ varint n ≡ whole
+    → (front ++ (128 + n % 128) ∷ []) ++ varint (n / 128) ≡ whole
+varint_goes_on front n whole small high so_far =
+    append_assoc front ((128 + n % 128) ∷ []) (varint (n / 128)) ∙ ap (λ (r : List ℕ). front ++ r) (sym (varint_step n small high)) ∙ so_far
+
+pub varint_shorter : (n : ℕ) → n < 2 ^ 64 → 128 ≤ n → length (varint n) ≡ 1 + length (varint (n / 128))
+varint_shorter n small high = let e = ap length (varint_step n small high) in omega (arith, e)
+
+pub varint_some : (n : ℕ) → 0 < length (varint n)
+unfolding varint shortest_in
+varint_some n = elim (cases_lt n 128) [
+  | inl low ↦ rw (lt-ltb n 128 low) (omega arith)
+  | inr high ↦ rw (le-ltb n 128 high) (omega arith)
+]
 
 -- ---- the shortest spelling is one, and none is shorter
 

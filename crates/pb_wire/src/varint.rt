@@ -7,6 +7,19 @@ ghost use Rattle.pb_wire.specs.Fault.{with_offset};
 use crate::fault::{FaultKind, WireFault};
 use std::alloc::AllocError;
 
+/// How many bytes the shortest spelling of `n` takes: from 1 to 10.
+fn varint_len(n: u64) -> usize
+    ensures { result ≡ length (varint n) }
+{
+    let mut len = 1usize;
+    let mut rest = n;
+    while rest > 127 {
+        rest /= 128;
+        len += 1;
+    }
+    len
+}
+
 /// Appends the shortest spelling of `n`: seven bits a byte, lowest first, the high bit set on each but the last
 /// (Protocol Buffers, "Encoding", "Base 128 Varints"). An `Err` changes nothing, and comes only where the vector had to
 /// grow.
@@ -15,16 +28,14 @@ pub fn put_varint(out: &mut Vec<u8>, n: u64) -> Result<(), AllocError>
     ensures err { OnErr result (out.new.items ≡ out.old.items) }
     ensures full { OnErr result (vec_capacity out.old < vec_len out.old + length (varint n)) }
 {
-    let mut spelling = [0u8; 10];
+    out.reserve(varint_len(n))?;
     let mut rest = n;
-    let mut len = 0usize;
     while rest >= 128 {
-        spelling[len] = 128 + (rest % 128) as u8;
+        out.push_reserved(128 + (rest % 128) as u8);
         rest /= 128;
-        len += 1;
     }
-    spelling[len] = rest as u8;
-    out.extend_from_slice(&spelling[..len + 1])
+    out.push_reserved(rest as u8);
+    Ok(())
 }
 
 /// The number in front, and how many bytes it takes: at most ten, and not always the fewest. Bytes may follow it.
@@ -42,8 +53,19 @@ pub fn get_varint(bytes: &[u8]) -> Result<(u64, usize), WireFault>
     read(bytes).map_err(|kind| WireFault { at: 0, kind })
 }
 
-/// The number in front, and how many bytes it takes; a fault without an offset.
+/// The number in front, and how many bytes it takes; a fault without an offset. Most numbers take one byte.
 pub(crate) fn read(bytes: &[u8]) -> Result<(u64, usize), FaultKind>
+    ensures within { IfOk result (λ r. (0 < r.1) × (r.1 ≤ length bytes.now)) }
+    ensures exact { result ≡ varint_at bytes.now }
+{
+    match bytes.first() {
+        Some(byte) if *byte < 128 => Ok((u64::from(*byte), 1)),
+        _ => read_groups(bytes),
+    }
+}
+
+/// The same, byte by byte.
+fn read_groups(bytes: &[u8]) -> Result<(u64, usize), FaultKind>
     ensures within { IfOk result (λ r. (0 < r.1) × (r.1 ≤ length bytes.now)) }
     ensures exact { result ≡ varint_at bytes.now }
 {

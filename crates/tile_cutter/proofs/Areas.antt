@@ -1,16 +1,20 @@
 -- Twice the area of a ring: how large its parts are, and how they add up.
-use Rattle.std.proofs.Common.{◌≡◌, ℕ, ℤ, ◌+◌, add-one, drop, get_or, List, [], ◌∷◌, ◌++◌, map, length, refl, pos, negsuc, neg_ℤ, unsigned_abs, ◌*◌, ◌^◌, ◌<◌}
-use Rattle.std.proofs.Common.{◌≤◌, ◌≤ℤ◌, ◌+ℤ◌, ◌*ℤ◌, ◌-ℤ◌, FitsSigned, to_z, of_z, w64, sym, ap, ◌∙◌, subst, arith}
+use Rattle.std.proofs.Common.{Bool, true, false, cond, not, ◌&&◌, Some, take, ◌-◌, nat_le, suc, get_or, drop}
+use Rattle.std.proofs.Common.{◌≡◌, ℕ, ℤ, ◌+◌, List, [], ◌∷◌, ◌++◌, map, length, refl, pos, negsuc, neg_ℤ, unsigned_abs, ◌*◌, ◌^◌, ◌<◌}
+use Rattle.std.proofs.Common.{◌≤◌, ◌≤ℤ◌, ◌+ℤ◌, ◌*ℤ◌, ◌-ℤ◌, FitsSigned, to_z, of_z, w64, sym, ap, ◌∙◌, arith}
 use Rattle.std.proofs.Math.Nat.{mul-le-mul}
-use Rattle.std.proofs.Math.Seq.{drop-cons}
-use Rattle.std.proofs.lemmas.List.{drop_all}
 use Rattle.std.proofs.lemmas.Int.{ints, to_z-of_z, unsigned_abs-mul, fits_signed_from_abs}
-use Rattle.std.specs.Prelude.{All, fold}
-use Rattle.std.specs.List.{AllByRecursion}
-use Rattle.std.proofs.lemmas.List.Elements.{All-from_recursion, recursion_from_All}
+use Rattle.std.specs.Prelude.{fold}
 use Rattle.geometry_commands.specs.declared.point.Pt.{Pt}
-use Rattle.tile_cutter.specs.Cut.{segments, cross, twice_area}
-use Rattle.tile_cutter.specs.Range.{IsWithin, IsSmall}
+use Rattle.std.specs.Ordering.{int_eq}
+use Rattle.std.proofs.lemmas.Bool.Decides.{nat_tests, Decides-int_eq}
+use Rattle.feature_model.specs.declared.feature.World.{World}
+use Rattle.geometry_commands.specs.Shapes.{last_of}
+use Rattle.tile_cutter.specs.Cut.{segments, cross, twice_area, is_ring, tile_points, tile_ring}
+use Rattle.tile_cutter.specs.Passes.{is_same_position, returns_to_start}
+use Rattle.tile_cutter.proofs.Passes.{left_after, same_place, stands_at, stands_next, stands_end, tile_points_are}
+use Rattle.tile_cutter.proofs.Ways.{ring_opened}
+use Rattle.tile_cutter.specs.Range.{IsWithin}
 use mir.Syntax.{w128}
 
 abs_below : (m : ℕ) (u : ℤ) → neg_ℤ (pos m) ≤ℤ u → u ≤ℤ pos m → unsigned_abs u ≤ m
@@ -76,22 +80,98 @@ sub_is u v u_within v_within =
     let v_is = is_128 v (omega (arith, ints)) (omega (arith, ints)) in
     rw (u_is, v_is) (is_128 (u -ℤ v) (omega (arith, ints)) (omega (arith, ints)))
 
+-- ---- the area of points that are left out
+
+-- twice the area from a point along others to the first one, behind a sum
+abbrev pub area_along : ℤ → Pt → List Pt → Pt → ℤ
+area_along s from ps first = fold ◌+ℤ◌ s (map cross (segments (from ∷ (ps ++ first ∷ []))))
+
+-- there and back again
+no_turn : (p : Pt) (s : ℤ) → s +ℤ cross (p, p) ≡ s
+no_turn p s = omega (arith, ints)
+
+-- a point that equals the one before it adds nothing
+area_left : (ps : List Pt) (s : ℤ) (from first : Pt) → area_along s from (left_after (Some from) ps) first ≡ area_along s from ps first
+unfolding left_after
+area_left [] s from first = refl
+area_left (p ∷ ps) s from first =
+    go (is_same_position p from) refl (area_left ps s p first) (area_left ps (s +ℤ cross (from, p)) p first)
+  where
+    go : (b : Bool) → is_same_position p from ≡ b → area_along s p (left_after (Some p) ps) first ≡ area_along s p ps first
+        → area_along (s +ℤ cross (from, p)) p (left_after (Some p) ps) first ≡ area_along (s +ℤ cross (from, p)) p ps first
+        → area_along s from (cond b (left_after (Some p) ps) (p ∷ left_after (Some p) ps)) first ≡ area_along (s +ℤ cross (from, p)) p ps first
+    go true e without behind =
+        let same = same_place p from e in
+        ap (λ (q : Pt). area_along s q (left_after (Some p) ps) first) (sym same)
+        ∙ without
+        ∙ ap (λ (t : ℤ). area_along t p ps first) (sym (no_turn p s) ∙ ap (λ (q : Pt). s +ℤ cross (q, p)) same)
+    go false e without behind = behind
+
+-- a last point that is the first one again
+area_but_last : (s : ℤ) (from q : Pt) (qs : List Pt) (first : Pt) → last_of q qs ≡ first
+    → area_along s from (take (length qs) (q ∷ qs)) first ≡ area_along s from (q ∷ qs) first
+area_but_last s from q [] first same = rw same (sym (no_turn first (s +ℤ cross (from, first))))
+area_but_last s from q (r ∷ rs) first same = area_but_last (s +ℤ cross (from, q)) q r rs first same
+
+-- the area of a ring without it
+area_opened : (ps : List Pt) (b : Bool) → returns_to_start ps ≡ b → twice_area (cond b (take (length ps - 1) ps) ps) ≡ twice_area ps
+unfolding twice_area
+area_opened ps false e = refl
+area_opened [] true e = refl
+area_opened (p ∷ []) true e = sym (no_turn p (pos 0))
+area_opened (p ∷ q ∷ qs) true e =
+    let one : suc (suc (length qs)) - 1 ≡ suc (length qs) = omega arith in
+    rw one (area_but_last (pos 0) p q qs p (sym (same_place p (last_of q qs) e)))
+
+-- the area of a ring in a tile, along all its points
+pub area_begins : (zoom column row : ℕ) (points : List World) (first : World) (others : List World) (start : Pt) → points ≡ first ∷ others
+    → start ≡ stands_at zoom column row first
+    → area_along (pos 0) start (map (stands_at zoom column row) others) start ≡ twice_area (tile_ring zoom column row points)
+unfolding twice_area left_after
+area_begins zoom column row points first others start points_is start_is =
+    let tile = tile_points zoom column row (first ∷ others) in
+    let b = returns_to_start tile in
+    let opened = cond b (take (length tile - 1) tile) tile in
+    let here = stands_at zoom column row first in
+    let whole : area_along (pos 0) here (map (stands_at zoom column row) others) here ≡ twice_area (tile_ring zoom column row (first ∷ others)) =
+    sym (area_left (map (stands_at zoom column row) others) (pos 0) here here)
+    ∙ ap twice_area (tile_points_are zoom column row (first ∷ others))
+    ∙ sym (area_opened tile b refl)
+    ∙ ap twice_area (ring_opened zoom column row (first ∷ others) tile opened (length tile) b refl refl refl refl) in
+    rw (points_is, start_is) whole
+
+pub area_of_none : (zoom column row : ℕ) (points : List World) → length points ≡ 0 → pos 0 ≡ twice_area (tile_ring zoom column row points)
+unfolding twice_area
+area_of_none zoom column row [] e = refl
+area_of_none zoom column row (p ∷ ps) e = absurd (omega arith)
+
+-- fewer than three points have none
+pub area_of_two : (ps : List Pt) → length ps < 3 → twice_area ps ≡ pos 0
+unfolding twice_area
+area_of_two [] few = refl
+area_of_two (p ∷ []) few = no_turn p (pos 0)
+area_of_two (p ∷ q ∷ []) few = omega (arith, ints)
+area_of_two (p ∷ q ∷ r ∷ rs) few = absurd (omega arith)
+
+-- so a ring is what has an area
+pub ring_by_area : (ps : List Pt) → is_ring ps ≡ not (int_eq (twice_area ps) (pos 0))
+ring_by_area ps = go (nat_le 3 (length ps)) refl
+  where
+    go : (b : Bool) → nat_le 3 (length ps) ≡ b → (b && not (int_eq (twice_area ps) (pos 0))) ≡ not (int_eq (twice_area ps) (pos 0))
+    go true e = refl
+    go false e = let few : length ps < 3 = grind (arith, nat_tests) in rw (area_of_two ps few) refl
+
+-- as code tests it
+pub ring_with_area : (ps qs : List Pt) (area : ℤ) → ps ≡ qs → area ≡ twice_area qs → (of_z w128 area ≡ 0 → ⊥) → is_ring ps ≡ true
+ring_with_area ps qs area same is some =
+    ring_by_area ps ∙ ap (λ (r : List Pt). not (int_eq (twice_area r) (pos 0))) same ∙ ap (λ (a : ℤ). not (int_eq a (pos 0))) (sym is)
+    ∙ go (int_eq area (pos 0)) refl
+  where
+    go : (b : Bool) → int_eq area (pos 0) ≡ b → not b ≡ true
+    go true e = absurd (some (ap (of_z w128) ((Decides-int_eq area (pos 0)).0 e)))
+    go false e = refl
+
 -- ---- the sum
-
-pub area_begins : (ring : List Pt) (first : Pt) (others : List Pt) → ring ≡ first ∷ others
-    → fold ◌+ℤ◌ (pos 0) (map cross (segments (first ∷ (others ++ first ∷ [])))) ≡ twice_area ring
-unfolding twice_area
-area_begins ring first others e = rw e refl
-
-pub area_of_none : (ring : List Pt) → length ring ≡ 0 → pos 0 ≡ twice_area ring
-unfolding twice_area
-area_of_none [] e = refl
-area_of_none (p ∷ ps) e = absurd (omega arith)
-
-pub small_parts : (ring : List Pt) (first : Pt) (others : List Pt) → ring ≡ first ∷ others → All IsSmall ring → IsSmall first × All IsSmall others
-small_parts ring first others e small =
-    let both : AllByRecursion IsSmall (first ∷ others) = recursion_from_All IsSmall (first ∷ others) (subst (All IsSmall) e small) in
-    (both.0, All-from_recursion IsSmall others both.1)
 
 -- a sum of so many parts, and one more
 pub sum_is : (i : ℕ) (s u : ℤ) → i < 2 ^ 29 → neg_ℤ (pos (2 ^ 91 * i)) ≤ℤ s → s ≤ℤ pos (2 ^ 91 * i) → IsWithin 91 u
@@ -100,14 +180,21 @@ sum_is i s u few low high within =
     let u_is = is_128 u (omega (arith, ints)) (omega (arith, ints)) in
     rw u_is (is_128 (s +ℤ u) (omega (arith, ints)) (omega (arith, ints)))
 
-pub area_next : (i : ℕ) (s u whole : ℤ) (from to first : Pt) (others : List Pt) (d : Pt) → i < length others → to ≡ get_or others i d → u ≡ cross (from, to)
-    → fold ◌+ℤ◌ s (map cross (segments (from ∷ (drop i others ++ first ∷ [])))) ≡ whole
-    → fold ◌+ℤ◌ (s +ℤ u) (map cross (segments (to ∷ (drop (i + 1) others ++ first ∷ [])))) ≡ whole
-area_next i s u whole from to first others d lt to_is u_is so_far =
-    let next : drop i others ≡ to ∷ drop (i + 1) others = rw (to_is, add-one) (drop-cons others i d lt) in
-    rw u_is (ap (λ (r : List Pt). fold ◌+ℤ◌ s (map cross (segments (from ∷ (r ++ first ∷ []))))) (sym next) ∙ so_far)
+pub sum_fits : (i : ℕ) (s u : ℤ) → i < 2 ^ 29 → neg_ℤ (pos (2 ^ 91 * i)) ≤ℤ s → s ≤ℤ pos (2 ^ 91 * i) → IsWithin 91 u
+    → FitsSigned w128 (s +ℤ to_z w128 (of_z w128 u))
+sum_fits i s u few low high within =
+    let u_is = is_128 u (omega (arith, ints)) (omega (arith, ints)) in
+    rw u_is (fits_128 (s +ℤ u) (omega (arith, ints)) (omega (arith, ints)))
 
-pub area_ends : (i : ℕ) (s u whole : ℤ) (from first : Pt) (others : List Pt) → length others ≤ i → u ≡ cross (from, first)
-    → fold ◌+ℤ◌ s (map cross (segments (from ∷ (drop i others ++ first ∷ [])))) ≡ whole → s +ℤ u ≡ whole
-area_ends i s u whole from first others past u_is so_far =
-    rw u_is (ap (λ (r : List Pt). fold ◌+ℤ◌ s (map cross (segments (from ∷ (r ++ first ∷ []))))) (sym (drop_all i others past)) ∙ so_far)
+module _ (zoom column row : ℕ) (others : List World) (i : ℕ) (s u whole : ℤ) (from start : Pt) where
+  -- the next point
+  pub area_next : (to : Pt) (d : World) → i < length others → to ≡ stands_at zoom column row (get_or others i d) → u ≡ cross (from, to)
+      → area_along s from (map (stands_at zoom column row) (drop i others)) start ≡ whole
+      → area_along (s +ℤ u) to (map (stands_at zoom column row) (drop (i + 1) others)) start ≡ whole
+  area_next to d lt to_is u_is so_far =
+      rw u_is (stands_next (λ (r : List Pt). area_along s from r start) zoom column row others i to d whole lt to_is so_far)
+
+  -- the way back to the first
+  pub area_ends : length others ≤ i → u ≡ cross (from, start) → area_along s from (map (stands_at zoom column row) (drop i others)) start ≡ whole
+      → s +ℤ u ≡ whole
+  area_ends past u_is so_far = rw u_is (stands_end (λ (r : List Pt). area_along s from r start) zoom column row others i whole past so_far)

@@ -48,7 +48,7 @@ quantised_order zoom a b less more order less_is more_is =
     let keeps = quantised_mono zoom a b order in
     (rw less_is (omega (arith, keeps)), rw more_is (omega (arith, keeps)))
 
-quantised_both : (zoom a b : ℕ)
+pub quantised_both : (zoom a b : ℕ)
     → (quantised_axis zoom (min a b) ≡ min (quantised_axis zoom a) (quantised_axis zoom b))
     × (quantised_axis zoom (max a b) ≡ max (quantised_axis zoom a) (quantised_axis zoom b))
 quantised_both zoom a b = ⊎_elim

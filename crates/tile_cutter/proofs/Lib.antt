@@ -1,11 +1,13 @@
 pub mod Chains
 pub mod Areas
 pub mod Boxes
+pub mod CoveredTiles
 pub mod Drawn
 pub mod Each
 pub mod Kept
 pub mod Outside
 pub mod Passes
+pub mod RingBoxes
 pub mod Shown
 pub mod Sizes
 pub mod Spelled

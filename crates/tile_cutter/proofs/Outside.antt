@@ -1,22 +1,26 @@
 -- Outside the tiles that a feature covers nothing of it is shown.
-use Rattle.std.proofs.Common.{◌≡◌, ℕ, ℤ, pos, ◌+◌, ◌-◌, ◌*◌, ◌^◌, ◌<◌, ◌≤◌, ◌-ℤ◌, ◌<ℤ◌, min, max, Bool, true, false, cond, ◌&&◌, List, [], ◌∷◌, ◌++◌, Option}
-use Rattle.std.proofs.Common.{None, map, refl, ap, ⊎_elim, ◌⊎◌, inl, inr, arith}
+use Rattle.std.proofs.Common.{◌≡◌, ℕ, ℤ, pos, ◌+◌, ◌-◌, ◌*◌, ◌^◌, ◌<◌, ◌≤◌, ◌-ℤ◌, ◌<ℤ◌, min, max, Bool, true, false, cond, List, [], ◌∷◌, ◌++◌, Option}
+use Rattle.std.proofs.Common.{None, map, refl, sym, ap, ◌∙◌, ⊎_elim, ◌⊎◌, inl, inr, arith}
 use Rattle.std.specs.Prelude.{All, filter, flat_map, fold, int_le}
 use Rattle.std.specs.List.{slice_split}
 use Rattle.std.proofs.lemmas.Int.{ints, clamps}
 use Rattle.std.proofs.lemmas.Grind.{div_ceil_times}
-use Rattle.std.proofs.lemmas.Bool.{cases_lt}
+use Rattle.std.proofs.lemmas.Bool.{and_left, and_right, cases_lt}
+use Rattle.std.proofs.lemmas.List.{append-nil}
 use Rattle.std.proofs.lemmas.List.Elements.{All-nil, All-cons, All-head, All-tail, All-weaker}
 use Rattle.feature_model.specs.declared.feature.World.{World}
 use Rattle.feature_model.specs.Data.{FeatureData, GeometryData, world_points, world_lines, world_polygons}
 use Rattle.geometry_commands.specs.declared.point.Pt.{Pt}
+use Rattle.geometry_commands.specs.Shapes.{ShapeView, lines}
 use Rattle.mvt_layer.specs.Tile.{FeatureView}
 use Rattle.tile_cutter.specs.declared.reach.TileRange.{TileRange}
 use Rattle.tile_cutter.specs.declared.coordinates.TheConstants.{EXTENT, MARGIN}
 use Rattle.tile_cutter.specs.Cut.{quantised_axis, tile_points, tile_ring, box_start, box_end, in_box, least_corner, greatest_corner, meets_box, points_cut}
 use Rattle.tile_cutter.specs.Cut.{Segment, segments, is_kept, way_along, is_some_segment, line_cut, lines_cut, is_ring, polygon_cut, polygons_cut, geometry_cut}
-use Rattle.tile_cutter.specs.Cut.{has_zoom, feature_cut}
+use Rattle.tile_cutter.specs.Cut.{has_zoom, feature_cut, unless_empty}
 use Rattle.tile_cutter.specs.Covered.{all_of, all_points, least_of, greatest_of, first_met, last_met, covered, IsInRange}
+use Rattle.tile_cutter.specs.Corners.{corners_after, range_of}
+use Rattle.tile_cutter.proofs.Boxes.{covered_is}
 use Rattle.tile_cutter.proofs.Passes.{stands_at}
 use Rattle.tile_cutter.proofs.Kept.{points_all, ring_all}
 use Rattle.tile_cutter.proofs.Chains.{is_left_out}
@@ -38,13 +42,6 @@ IsAbove p = p.y <ℤ box_start
 
 past : (a b : ℤ) → b <ℤ a → int_le a b ≡ false
 past a b h = grind (arith, ints)
-
-first_false : (a b : Bool) → a ≡ false → (a && b) ≡ false
-first_false a b e = rw e refl
-
-second_false : (a b : Bool) → b ≡ false → (a && b) ≡ false
-second_false true b e = e
-second_false false b e = refl
 
 fold_keeps : (P : Pt → Type 0) (f : Pt → Pt → Pt) → ((p q : Pt) → P p → P q → P (f p q)) → (p : Pt) (ps : List Pt) → P p → All P ps → P (fold f p ps)
 fold_keeps P f keeps p [] here all = here
@@ -69,32 +66,32 @@ above_greatest p q p_is q_is = omega (arith, ints, clamps, p_is, q_is)
 
 right_side : IsSide IsRight
 right_side = record {
-  out = λ p h. first_false _ _ (first_false _ _ (second_false _ _ (past p.x box_end h)));
+  out = λ p h. and_left _ _ (and_left _ _ (and_right _ _ (past p.x box_end h)));
   apart =
       λ p ps here all.
-      first_false _ _ (first_false _ _ (first_false _ _ (past (fold least_corner p ps).x box_end (fold_keeps IsRight least_corner right_least p ps here all))));
+      and_left _ _ (and_left _ _ (and_left _ _ (past (fold least_corner p ps).x box_end (fold_keeps IsRight least_corner right_least p ps here all))));
 }
 
 left_side : IsSide IsLeft
 left_side = record {
-  out = λ p h. first_false _ _ (first_false _ _ (first_false _ _ (past box_start p.x h)));
+  out = λ p h. and_left _ _ (and_left _ _ (and_left _ _ (past box_start p.x h)));
   apart =
       λ p ps here all.
-      first_false _ _
-      (first_false _ _ (second_false _ _ (past box_start (fold greatest_corner p ps).x (fold_keeps IsLeft greatest_corner left_greatest p ps here all))));
+      and_left _ _
+      (and_left _ _ (and_right _ _ (past box_start (fold greatest_corner p ps).x (fold_keeps IsLeft greatest_corner left_greatest p ps here all))));
 }
 
 below_side : IsSide IsBelow
 below_side = record {
-  out = λ p h. second_false _ _ (past p.y box_end h);
+  out = λ p h. and_right _ _ (past p.y box_end h);
   apart =
-      λ p ps here all. first_false _ _ (second_false _ _ (past (fold least_corner p ps).y box_end (fold_keeps IsBelow least_corner below_least p ps here all)));
+      λ p ps here all. and_left _ _ (and_right _ _ (past (fold least_corner p ps).y box_end (fold_keeps IsBelow least_corner below_least p ps here all)));
 }
 
 above_side : IsSide IsAbove
 above_side = record {
-  out = λ p h. first_false _ _ (second_false _ _ (past box_start p.y h));
-  apart = λ p ps here all. second_false _ _ (past box_start (fold greatest_corner p ps).y (fold_keeps IsAbove greatest_corner above_greatest p ps here all));
+  out = λ p h. and_left _ _ (and_right _ _ (past box_start p.y h));
+  apart = λ p ps here all. and_right _ _ (past box_start (fold greatest_corner p ps).y (fold_keeps IsAbove greatest_corner above_greatest p ps here all));
 }
 
 -- ---- a geometry on one side
@@ -147,7 +144,7 @@ no_polygon P side zoom column row (outer ∷ inners) all =
     let rings = all_parts (λ p. P (stands_at zoom column row p)) (λ r. r) (outer ∷ inners) all in
     let outer_all = All-head (λ r. All (λ p. P (stands_at zoom column row p)) r) outer inners rings in
     let apart = ring_apart (tile_ring zoom column row outer) (ring_all P zoom column row outer outer_all) in
-    rw (second_false (is_ring (tile_ring zoom column row outer)) (meets_box (tile_ring zoom column row outer)) apart) refl
+    rw (and_right (is_ring (tile_ring zoom column row outer)) (meets_box (tile_ring zoom column row outer)) apart) refl
   where
     ring_apart : (ps : List Pt) → All P ps → meets_box ps ≡ false
     ring_apart [] ps_all = refl
@@ -235,15 +232,15 @@ beside g zoom column row at first last along Behind Before behind before is_behi
     (All-weaker (λ p. along p ≤ greatest_of (map along ps)) (λ p. Before (stands_at zoom column row p))
     (λ p le. is_before p (behind_last zoom at (greatest_of (map along ps)) (along p) met within le)) ps (greatest_above along ps))
 
-pub outside : (f : FeatureData) (zoom column row : ℕ) (range : TileRange) → range ≡ covered f.geometry zoom → column < 2 ^ zoom → row < 2 ^ zoom
-    → ¬ IsInRange range column row → feature_cut f zoom column row ≡ None
+geometry_outside : (g : GeometryData) (zoom column row : ℕ) (range : TileRange) → range ≡ covered g zoom → column < 2 ^ zoom → row < 2 ^ zoom
+    → ¬ IsInRange range column row → geometry_cut zoom column row g ≡ None
 unfolding covered
-outside f zoom column row range is across down out =
-    let columns = beside f.geometry zoom column row column range.x0 range.x1 (λ p. quantised_axis zoom p.x) IsRight IsLeft right_side left_side
+geometry_outside g zoom column row range is across down out =
+    let columns = beside g zoom column row column range.x0 range.x1 (λ p. quantised_axis zoom p.x) IsRight IsLeft right_side left_side
     (λ p h. h) (λ p h. h) (ap (λ r. r.x0) is) (ap (λ r. r.x1) is) across in
-    let rows = beside f.geometry zoom column row row range.y0 range.y1 (λ p. quantised_axis zoom p.y) IsBelow IsAbove below_side above_side
+    let rows = beside g zoom column row row range.y0 range.y1 (λ p. quantised_axis zoom p.y) IsBelow IsAbove below_side above_side
     (λ p h. h) (λ p h. h) (ap (λ r. r.y0) is) (ap (λ r. r.y1) is) down in
-    no_feature f zoom column row (⊎_elim
+    ⊎_elim
     (λ (lt : column < range.x0). columns (inl lt))
     (λ (right_of : range.x0 ≤ column). ⊎_elim
     (λ (lt : range.x1 < column). columns (inr lt))
@@ -255,4 +252,22 @@ outside f zoom column row range is across down out =
     (cases_lt range.y1 row))
     (cases_lt row range.y0))
     (cases_lt range.x1 column))
-    (cases_lt column range.x0))
+    (cases_lt column range.x0)
+
+pub outside : (f : FeatureData) (zoom column row : ℕ) (range : TileRange) → range ≡ covered f.geometry zoom → column < 2 ^ zoom → row < 2 ^ zoom
+    → ¬ IsInRange range column row → feature_cut f zoom column row ≡ None
+outside f zoom column row range is across down out = no_feature f zoom column row (geometry_outside f.geometry zoom column row range is across down out)
+
+nothing_left : {X : Type 0} (shape : List X → ShapeView) (xs : List X) → unless_empty shape xs ≡ None → xs ≡ []
+nothing_left shape [] none = refl
+nothing_left shape (x ∷ xs) none = cc
+
+-- a line is the geometry of a feature
+pub line_outside : (zoom column row : ℕ) (line : List World) (range : TileRange) → range ≡ range_of (corners_after None line) zoom → column < 2 ^ zoom
+    → row < 2 ^ zoom → ¬ IsInRange range column row → line_cut zoom column row line ≡ []
+unfolding geometry_cut lines_cut
+line_outside zoom column row line range is across down out =
+    let g = world_lines (line ∷ []) in
+    let range_is = is ∙ ap (λ ps. range_of (corners_after None ps) zoom) (sym (append-nil line)) ∙ covered_is g zoom in
+    sym (append-nil (line_cut zoom column row line))
+    ∙ nothing_left lines (line_cut zoom column row line ++ []) (geometry_outside g zoom column row range range_is across down out)

@@ -38,6 +38,11 @@ world_same p q e =
     let both = (Decides-and (p.x == q.x) (p.y == q.y) (Decides-eqb p.x q.x) (Decides-eqb p.y q.y)).0 e in
     ap (λ a. let w : World = record { x = a; y = p.y } in w) both.0 ∙ ap (λ b. let w : World = record { x = q.x; y = b } in w) both.1
 
+pub same_place : (p q : Pt) → is_same_position p q ≡ true → p ≡ q
+same_place p q e =
+    let both = (Decides-and (int_eq p.x q.x) (int_eq p.y q.y) (Decides-int_eq p.x q.x) (Decides-int_eq p.y q.y)).0 e in
+    λ i. record { x = both.0 i; y = both.1 i }
+
 -- what stands behind a point
 positions_after : (column row : ℕ) (k : World) (ps : List World)
     → map (position_in column row) (dedup_from is_same k ps)

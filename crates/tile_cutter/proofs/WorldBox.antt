@@ -14,6 +14,7 @@ use Rattle.tile_cutter.specs.Covered.{all_of, all_points, least_of, greatest_of,
 use Rattle.tile_cutter.specs.Corners.{corners_after, least_corner_of, greatest_corner_of, corners_or_origin}
 use Rattle.tile_cutter.specs.WorldBox.{bounding_box, first_shown, last_shown, tile_box, Meets}
 use Rattle.tile_cutter.proofs.Boxes.{least_x_is, least_y_is, greatest_x_is, greatest_y_is}
+use Rattle.tile_cutter.proofs.Each.{each_all}
 use Rattle.tile_cutter.proofs.Outside.{outside}
 
 -- ---- the least and the greatest coordinates are the corners
@@ -45,16 +46,11 @@ bounding_box_is g =
 
 -- ---- points of the world
 
-all_joined : {X Y : Type 0} (P : Y → Type 0) (f : X → List Y) (xs : List X) → All (λ x. All P (f x)) xs → All P (flat_map f xs)
-all_joined P f [] all = All-nil P
-all_joined P f (x ∷ xs) all =
-    All-append P (f x) (flat_map f xs) (All-head (λ y. All P (f y)) x xs all) (all_joined P f xs (All-tail (λ y. All P (f y)) x xs all))
-
 points_in_world : (g : GeometryData) → LiesInWorld g → All IsOfWorld (all_points g)
 points_in_world (world_points ps) all = all
-points_in_world (world_lines ls) all = all_joined IsOfWorld (λ l. l) ls all
+points_in_world (world_lines ls) all = each_all IsOfWorld (λ l. l) ls all
 points_in_world (world_polygons ps) all =
-    all_joined IsOfWorld all_of ps (All-weaker (All (All IsOfWorld)) (λ p. All IsOfWorld (all_of p)) (λ p h. all_joined IsOfWorld (λ l. l) p h) ps all)
+    each_all IsOfWorld all_of ps (All-weaker (All (All IsOfWorld)) (λ p. All IsOfWorld (all_of p)) (λ p h. each_all IsOfWorld (λ l. l) p h) ps all)
 
 -- the corners of points of the world are of the world
 below_first : (m : ℕ) (ns : List ℕ) → least_of (m ∷ ns) ≤ m

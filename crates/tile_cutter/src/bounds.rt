@@ -1,8 +1,13 @@
-ghost use Rattle.std.specs.Prelude.{◌≡◌, [], ◌∷◌};
-ghost use Rattle.tile_cutter.specs.Cut.{in_box, least_corner, greatest_corner, reaches_box, meets_box};
+ghost use Rattle.std.specs.Prelude.{◌≡◌, ◌⊎◌, ◌≤◌, false, [], ◌∷◌};
+ghost use Rattle.std.specs.Bool.{Decides};
+ghost use Rattle.tile_cutter.specs.Covered.{IsInRange};
+ghost use Rattle.tile_cutter.specs.Cut.{in_box, least_corner, greatest_corner, reaches_box, meets_box, tile_ring, line_cut};
 
 use crate::coordinates::{EXTENT, MARGIN};
+use crate::reach::{TileRange, range_of, widened_by_list};
+use feature_model::{GREATEST_ZOOM, World};
 use geometry_commands::Pt;
+use hilbert_id::TileAt;
 
 /// How far the box of a tile reaches to the left and upwards.
 const BOX_START: i64 = -(MARGIN as i64);
@@ -51,18 +56,20 @@ pub(crate) fn segment_meets_box(from: Pt, to: Pt) -> bool
     reaches_box(least_corner(from, to), greatest_corner(from, to))
 }
 
-/// Whether the bounding box of a ring meets the box of its tile.
-pub(crate) fn ring_meets_box(ring: &[Pt]) -> bool
-    ensures { result ≡ meets_box ring.now }
+/// Whether a range has a tile.
+fn has_tile(range: TileRange, at: TileAt) -> bool
+    ensures { Decides result (IsInRange range at.x at.y) }
 {
-    let Some((first, others)) = ring.split_first() else {
-        return false;
-    };
-    let mut least = *first;
-    let mut greatest = *first;
-    for point in others {
-        least = least_corner(least, *point);
-        greatest = greatest_corner(greatest, *point);
-    }
-    reaches_box(least, greatest)
+    range.x0 <= at.x && at.x <= range.x1 && range.y0 <= at.y && at.y <= range.y1
+}
+
+/// Whether the bounding box of points of the world meets the box of a tile.
+pub(crate) fn points_meet_box(points: &[World], at: TileAt) -> bool
+    requires { at.z ≤ GREATEST_ZOOM }
+    // The tile shows nothing of a line whose box doesn't.
+    ensures line { result ≡ false → line_cut at.z at.x at.y points.now ≡ [] }
+    // A ring that has points in the tile meets the box as its points of the world do.
+    ensures ring { (tile_ring at.z at.x at.y points.now ≡ []) ⊎ (result ≡ meets_box (tile_ring at.z at.x at.y points.now)) }
+{
+    has_tile(range_of(widened_by_list(None, points), at.z), at)
 }

@@ -5,6 +5,7 @@ mod bounds;
 mod coordinates;
 mod cutting;
 mod lines;
+mod pairing;
 mod points;
 mod reach;
 mod rings;
@@ -12,6 +13,7 @@ mod world_box;
 
 pub use coordinates::{EXTENT, MARGIN, WORLD_ZOOM};
 pub use cutting::cut;
+pub use pairing::pairs;
 pub use reach::{Corners, MOST_TILES, TileRange, check_reach, cover_count, covers};
 pub use world_box::{bounding_box, tile_box};
 

@@ -7,7 +7,7 @@ ghost use Rattle.tile_cutter.specs.Cut.{line_cut, lines_cut, unless_empty};
 ghost use Rattle.tile_cutter.specs.Passes.{other_than, chain_after, chain_of, ended_by, lists_of};
 ghost use Rattle.tile_cutter.specs.Range.{IsDrawable};
 
-use crate::bounds::segment_meets_box;
+use crate::bounds::{points_meet_box, segment_meets_box};
 use crate::coordinates::{position, repeats};
 use feature_model::{GREATEST_ZOOM, World};
 use geometry_commands::{Pt, Shape};
@@ -67,6 +67,9 @@ fn cut_line(
     ensures drawable { OnOk result (All (IsDrawable false at.x at.y) (lists_of chains.old.items)
         → All (IsDrawable false at.x at.y) (lists_of chains.new.items)) }
 {
+    if !points_meet_box(line, at) {
+        return Ok(());
+    }
     let mut chain = Vec::new(alloc);
     let mut before = None;
     for point in line {

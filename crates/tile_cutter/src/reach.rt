@@ -56,7 +56,7 @@ fn widened(corners: Option<Corners>, point: World) -> Corners
 }
 
 /// The corners with the points of a list.
-fn widened_by_list(corners: Option<Corners>, points: &[World]) -> Option<Corners>
+pub(crate) fn widened_by_list(corners: Option<Corners>, points: &[World]) -> Option<Corners>
     ensures { result ≡ corners_after corners points.now }
 {
     let mut corners = corners;
@@ -119,7 +119,7 @@ fn last_met(greatest: u32, zoom: u8) -> u32
 }
 
 /// The tiles of a zoom whose boxes a bounding box meets; without points, those of the world's upper left corner.
-fn range_of(corners: Option<Corners>, zoom: u8) -> TileRange
+pub(crate) fn range_of(corners: Option<Corners>, zoom: u8) -> TileRange
     requires { zoom ≤ GREATEST_ZOOM }
     ensures { result ≡ range_of corners zoom }
 {

@@ -1,13 +1,13 @@
-ghost use Rattle.std.specs.Prelude.{◌≡◌, ◌≤◌, ◌<◌, ◌^◌, ◌*ℤ◌, ◌++◌, length, map, true, option_map, option_to_list, All, IfOk, IfSome, OnOk};
+ghost use Rattle.std.specs.Prelude.{◌≡◌, ◌≤◌, ◌<◌, ◌^◌, ◌*ℤ◌, ◌++◌, length, map, true, Some, option_map, option_to_list, All, IfOk, IfSome, OnOk};
 ghost use Rattle.feature_model.specs.Limits.{CountFits, RingsFit};
 ghost use Rattle.geometry_commands.specs.Encodable.{CanSpell};
 ghost use Rattle.geometry_commands.specs.Shapes as shapes;
 ghost use Rattle.geometry_commands.specs.Shapes.{shape_view};
-ghost use Rattle.tile_cutter.specs.Cut.{tile_ring, cross, twice_area, turned, inner_rings, polygon_cut, polygons_cut, unless_empty};
+ghost use Rattle.tile_cutter.specs.Cut.{tile_ring, is_ring, cross, twice_area, turned, inner_rings, polygon_cut, polygons_cut, unless_empty};
 ghost use Rattle.tile_cutter.specs.Passes.{returns_to_start, wound, shown_ring, lists_of};
 ghost use Rattle.tile_cutter.specs.Range.{IsWithin, IsSmall, IsOfTile, IsDrawable};
 
-use crate::bounds::ring_meets_box;
+use crate::bounds::points_meet_box;
 use crate::coordinates::{position, repeats};
 use feature_model::{GREATEST_ZOOM, World};
 use geometry_commands::{Pt, Shape};
@@ -74,22 +74,24 @@ fn cross(from: Pt, to: Pt) -> i128
     product(from.x, to.y) - product(to.x, from.y)
 }
 
-/// Twice the area of a ring by the surveyor's formula.
-fn twice_area(ring: &[Pt]) -> i128
-    requires few { length ring.now < 2 ^ 29 }
-    requires small { All IsSmall ring.now }
-    ensures { result ≡ twice_area ring.now }
+/// Twice the area of a ring in a tile by the surveyor's formula.
+fn twice_area(points: &[World], at: TileAt) -> i128
+    requires zoom { at.z ≤ GREATEST_ZOOM }
+    requires few { length points.now < 2 ^ 29 }
+    ensures { result ≡ twice_area (tile_ring at.z at.x at.y points.now) }
 {
-    let Some((first, others)) = ring.split_first() else {
+    let Some((first, others)) = points.split_first() else {
         return 0;
     };
+    let start = position(*first, at);
     let mut sum = 0;
-    let mut from = *first;
-    for to in others {
-        sum += cross(from, *to);
-        from = *to;
+    let mut from = start;
+    for point in others {
+        let to = position(*point, at);
+        sum += cross(from, to);
+        from = to;
     }
-    sum + cross(from, *first)
+    sum + cross(from, start)
 }
 
 /// Turns a ring the other way round, from the same first point.
@@ -100,16 +102,12 @@ fn turn(ring: &mut [Pt])
     ring[1..].reverse();
 }
 
-/// The ring the way round that it has to go, where it has three points and an area.
-fn wound(mut ring: Vec<Pt>, role: Role) -> Option<Vec<Pt>>
-    requires few { length ring.items < 2 ^ 29 }
-    requires small { All IsSmall ring.items }
-    ensures { option_map (λ v. v.items) result ≡ wound role ring.items }
+/// The ring, of which twice the area is given, the way round that it has to go.
+fn wound(mut ring: Vec<Pt>, area: i128, role: Role) -> Vec<Pt>
+    requires area { area ≡ twice_area ring.items }
+    requires ring { is_ring ring.items ≡ true }
+    ensures { Some result.items ≡ wound role ring.items }
 {
-    let area = twice_area(&ring);
-    if ring.len() < 3 || area == 0 {
-        return None;
-    }
     let goes_wrong = match role {
         Role::Outer => area < 0,
         Role::Inner => 0 < area,
@@ -117,11 +115,11 @@ fn wound(mut ring: Vec<Pt>, role: Role) -> Option<Vec<Pt>>
     if goes_wrong {
         turn(&mut ring);
     }
-    Some(ring)
+    ring
 }
 
 /// What a tile shows of a ring: the ring the way round that it has to go, where it has three points and an area; an
-/// outer ring has to meet the box, too.
+/// outer ring has to meet the box, too. A ring that isn't shown takes no memory.
 fn shown_ring(
     alloc: Global,
     points: &[World],
@@ -133,11 +131,16 @@ fn shown_ring(
     ensures ring { IfOk result (λ o. option_map (λ v. v.items) o ≡ shown_ring role (tile_ring at.z at.x at.y points.now)) }
     ensures drawable { IfOk result (λ o. IfSome o (λ v. IsDrawable true at.x at.y v.items)) }
 {
-    let ring = tile_ring(alloc, points, at)?;
-    if role == Role::Outer && !ring_meets_box(&ring) {
+    if role == Role::Outer && !points_meet_box(points, at) {
         return Ok(None);
     }
-    Ok(wound(ring, role))
+    // Fewer than three points have no area.
+    let area = twice_area(points, at);
+    if area == 0 {
+        return Ok(None);
+    }
+    let ring = tile_ring(alloc, points, at)?;
+    Ok(Some(wound(ring, area, role)))
 }
 
 /// Appends a ring, where there is one.

@@ -1,4 +1,4 @@
-use super::{check_reach, cover_count, covers, cut};
+use super::{check_reach, cover_count, covers, cut, pairs};
 use feature_model::{EditFault, EditValue, Feature, GREATEST_ZOOM, Geometry, Tag, World, check};
 use geometry_commands::{Shape, encode_lines, encode_points, encode_rings};
 use hilbert_id::TileAt;
@@ -360,5 +360,23 @@ fn tiles_round_an_edge(rt: HostRuntime) -> Result<(), Fail> {
             "at {x}"
         );
     }
+    Ok(())
+}
+
+#[test]
+fn pairs_behind_what_was_there(rt: HostRuntime) -> Result<(), Fail> {
+    let alloc = rt.alloc();
+    let mut list = vec![in alloc; (9, 9)]?;
+    // Tiles 0/0/0, 1/0/0 and 2/0/0 have the ids 0, 1 and 5.
+    let mut corner = points_of(alloc, &[(0, 0)])?;
+    corner.maxzoom = 2;
+    pairs(&corner, 7, &mut list)?;
+    // At zoom 1 the point stands at 4160, so tile 1/1/0 has it too, whose id is 4.
+    let mut edge = points_of(alloc, &[(2181038080, 0)])?;
+    edge.minzoom = 1;
+    edge.maxzoom = 1;
+    pairs(&edge, 8, &mut list)?;
+    let wanted = [(9, 9), (0, 7), (1, 7), (5, 7), (1, 8), (4, 8)];
+    assert_eq!(rt; list.as_slice(), wanted.as_slice());
     Ok(())
 }

@@ -22,7 +22,7 @@ IsPut (delete id) = ⊥
 
 -- the edit can be made without memory
 abbrev pub HasRoomFor : StoreView → EditData → Type 0
-HasRoomFor s (put id f) = HasRoom s id
+HasRoomFor s (put id f) = HasRoom s
 HasRoomFor s (delete id) = Unit {0}
 
 -- the texts are those of these edits

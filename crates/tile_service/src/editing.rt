@@ -106,7 +106,7 @@ impl<D: Sectors + Drop> Service<D> {
             Ok(text) => text,
             Err(AllocError) => return Err(ServiceFault::Memory),
         };
-        match self.store.room(id) {
+        match self.store.room() {
             Ok(()) => {}
             Err(AllocError) => return Err(ServiceFault::Memory),
         }

@@ -50,8 +50,8 @@ fn make(store: &mut Store, edit: Edit) -> Result<(), StoreFault>
     ensures map { OnOk result (store.new.features ≡ changed store.old.features (edit_data edit)) }
     ensures fault { IfErr result (λ fault. (fault ≡ Memory) × IsPut (edit_data edit)) }
 {
-    if let Edit::Put { id, .. } = &edit {
-        match store.room(*id) {
+    if let Edit::Put { .. } = &edit {
+        match store.room() {
             Ok(()) => {}
             Err(AllocError) => return Err(StoreFault::Memory),
         }

@@ -9,7 +9,7 @@ use Rattle.mvt_layer.proofs.layers.features_of.Goals as goal
 
 pub returns-in_err-feature : goal.returns-in_err-feature
 returns-in_err-feature c =
-    let p = err_from_is_err_and c.from_residual.result c.from_residual.ensures.1 in
+    let p = err_from_is_err_and c.from_residual-in_err-feature.result c.from_residual-in_err-feature.ensures.1 in
     let raw = c.args.raw.now in
     let i = c.loop-part.part-index in
     let keys = bytes_of c.args.keys.now in

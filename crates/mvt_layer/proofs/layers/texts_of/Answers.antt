@@ -8,7 +8,7 @@ use Rattle.mvt_layer.proofs.layers.texts_of.Goals as goal
 
 pub returns-in_err-text : goal.returns-in_err-text
 returns-in_err-text c =
-    let p = err_from_is_err_and c.from_residual.result c.from_residual.ensures.1 in
+    let p = err_from_is_err_and c.from_residual-in_err-text.result c.from_residual-in_err-text.ensures.1 in
     let raw = c.args.raw.now in
     let i = c.loop-part.part-index in
     let stopped = each_stop (λ (t : Bor (List ℕ)). t.now) text_at raw i (bytes_of c.loop-part.texts.items) c.in_err-text.field-0.0 _

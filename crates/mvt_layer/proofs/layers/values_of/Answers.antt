@@ -6,7 +6,7 @@ use Rattle.mvt_layer.proofs.layers.values_of.Goals as goal
 
 pub returns-in_err-value : goal.returns-in_err-value
 returns-in_err-value c =
-    let p = err_from_is_err_and c.from_residual.result c.from_residual.ensures.1 in
+    let p = err_from_is_err_and c.from_residual-in_err-value.result c.from_residual-in_err-value.ensures.1 in
     let raw = c.args.raw.now in
     let i = c.loop-part.part-index in
     let stopped = each_stop tag_view tag_value_at raw i (tag_views c.loop-part.values.items) c.in_err-value.field-0.0 _

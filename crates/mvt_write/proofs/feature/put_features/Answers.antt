@@ -9,8 +9,8 @@ use Rattle.mvt_write.proofs.Lists.{map_more, mapped_has, all_more}
 use Rattle.mvt_write.proofs.FeatureSteps.{features_used, features_more}
 use Rattle.mvt_write.proofs.feature.put_features.Goals as goal
 
-pub feature_bytes-requires : goal.feature_bytes-requires
-feature_bytes-requires c =
+pub write_message-requires : goal.write_message-requires
+write_message-requires c =
     let feature = c.feature-item.result in
     let here = mapped_has feature_view CanWriteFeature c.args.features.now c.loop-feature.feature-index feature c.loop-feature-test.true c.requires in
     subst (λ (f : TileFeature). CanWriteFeature (feature_view f)) (sym c.feature-item.is) here
@@ -22,11 +22,11 @@ loop-feature-preserved c =
     let so_far = map feature_view (take c.loop-feature.feature-index features) in
     let with_next = map feature_view (take (c.loop-feature.feature-index + 1) features) in
     let keys = held_keys c.loop-feature.pools in
-    let new_keys = held_keys c.feature_bytes.new.pools in
+    let new_keys = held_keys c.write_message.new.pools in
     let values = held_values c.loop-feature.pools in
-    let new_values = held_values c.feature_bytes.new.pools in
+    let new_values = held_values c.write_message.new.pools in
     let before = c.loop-feature.invariant in
-    let step = c.in_ok-bytes.ensures in
+    let step = c.in_ok-write_message.ensures in
     let more = rw (← c.feature-item.is) at (map_more feature_view features c.loop-feature.feature-index feature c.loop-feature-test.true) in
     record {
       pools = record {
@@ -37,8 +37,8 @@ loop-feature-preserved c =
             before.pools.values step.pools.values more;
       };
       written =
-          features_more keys new_keys values new_values _ _ c.args.out.now.items c.loop-feature.out.items c.in_ok-bytes.bytes.items c.put_bytes.new.out.items
-          so_far with_next (feature_view feature) before.written step.pools.keys step.pools.values step.written
+          features_more keys new_keys values new_values _ _ c.args.out.now.items c.loop-feature.out.items c.write_message.new.message.items
+          c.put_bytes.new.out.items so_far with_next (feature_view feature) before.written step.pools.keys step.pools.values step.written
           (c.in_ok-put_bytes.ensures ∙ ap (λ (b : List ℕ). c.loop-feature.out.items ++ bytes_field 2 b) c.deref.ensures.value) more;
       fits = all_more FitsFeature so_far with_next (feature_view feature) before.fits step.fits more;
     }

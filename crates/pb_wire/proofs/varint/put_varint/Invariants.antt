@@ -1,15 +1,13 @@
-use Rattle.std.proofs.Common.{◌-◌, ◌≡◌, ◌<◌, ◌≤◌, ◌++◌, length, take}
-use Rattle.pb_wire.specs.Varint.{shortest_in, varint}
-use Rattle.pb_wire.proofs.Varints.{limit_in}
+use Rattle.std.proofs.Common.{◌≡◌, ◌+◌, ◌≤◌, ◌++◌, length}
+use Rattle.std.specs.Prelude.{vec_len, vec_capacity}
+use Rattle.pb_wire.specs.Varint.{varint}
 use Rattle.pb_wire.proofs.varint.put_varint.Given as goal
 
--- what is written so far and the shortest spelling of the rest are the whole
+-- what is written so far and the spelling of the rest are the whole, and there is room for the rest
 abbrev pub invariant-loop-rest : goal.invariant-loop-rest
 invariant-loop-rest l = record {
-  whole : take l.len l.spelling ++ shortest_in (9 - l.len) l.rest ≡ varint l.n;
-  below : l.rest < limit_in (9 - l.len);
-  room : l.len ≤ 9;
-  size : length l.spelling ≡ 10;
+  whole : l.out.items ++ varint l.rest ≡ l.fn.out.items ++ varint l.n;
+  room : vec_len l.out + length (varint l.rest) ≤ vec_capacity l.out;
 }
 
 abbrev pub decreases-loop-rest : goal.decreases-loop-rest

@@ -1,13 +1,16 @@
-use Rattle.std.proofs.Common.{◌≡◌, pos, neg_ℤ, ◌+ℤ◌, ◌≤ℤ◌, ◌*◌, ◌^◌, [], ◌∷◌, ◌++◌, drop, map, fold}
-use Rattle.tile_cutter.specs.Cut.{segments, cross, twice_area}
+use Rattle.std.proofs.Common.{◌≡◌, pos, neg_ℤ, ◌≤ℤ◌, ◌*◌, ◌^◌, drop, map}
+use Rattle.tile_cutter.specs.Cut.{tile_ring, twice_area}
 use Rattle.tile_cutter.specs.Range.{IsSmall}
+use Rattle.tile_cutter.proofs.Areas.{area_along}
+use Rattle.tile_cutter.proofs.Passes.{stands_at}
 use Rattle.tile_cutter.proofs.rings.twice_area.Given as goal
 
 -- the sum so far, and of what is left
-abbrev pub invariant-loop-to : goal.invariant-loop-to
-invariant-loop-to l = record {
-  area : fold ◌+ℤ◌ l.sum (map cross (segments (l.from ∷ (drop l.to-index l.others ++ l.first ∷ [])))) ≡ twice_area l.ring;
-  low : neg_ℤ (pos (2 ^ 91 * l.to-index)) ≤ℤ l.sum;
-  high : l.sum ≤ℤ pos (2 ^ 91 * l.to-index);
+abbrev pub invariant-loop-point : goal.invariant-loop-point
+invariant-loop-point l = record {
+  area : area_along l.sum l.from (map (stands_at l.at.z l.at.x l.at.y) (drop l.point-index l.others)) l.start
+      ≡ twice_area (tile_ring l.at.z l.at.x l.at.y l.points);
+  low : neg_ℤ (pos (2 ^ 91 * l.point-index)) ≤ℤ l.sum;
+  high : l.sum ≤ℤ pos (2 ^ 91 * l.point-index);
   small : IsSmall l.from;
 }

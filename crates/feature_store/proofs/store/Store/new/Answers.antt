@@ -1,9 +1,13 @@
-use Rattle.std.proofs.Common.{arith}
+use Rattle.std.proofs.Common.{[], arith}
 use Rattle.std.proofs.lemmas.List.Elements.{All-nil}
-use Rattle.std.specs.List.Sorted.{IsStrictlySortedBy}
+use Rattle.std.proofs.lemmas.List.Sorted.{IsPermutation-refl}
+use Rattle.number_map.proofs.Entries.{ascends_none}
 use Rattle.feature_store.proofs.Texts.{none_takes}
 use Rattle.feature_store.proofs.store.Store.new.Goals as goal
 
 pub invariant_of-result : goal.invariant_of-result
-unfolding IsStrictlySortedBy
-invariant_of-result c = rw c.new.ensures.items record { ascending = tt; edits = All-nil _; short = omega (arith, none_takes) }
+invariant_of-result c =
+    rw (c.new.ensures, c.new-2.ensures) record {
+      is_map = record { ascending = ascends_none; edits = All-nil _; short = omega (arith, none_takes) };
+      indexed = IsPermutation-refl [];
+    }

@@ -1,0 +1,139 @@
+-- What a tile shows of the features of a few numbers is what it shows of all, where each that it shows is among them.
+use Rattle.std.proofs.Common.{◌≡◌, ◌≢◌, ℕ, zero, suc, ◌+◌, ◌<◌, Bool, true, false, List, [], ◌∷◌, ◌++◌, length, get_or, take, All, Option, Some, None, IsSome}
+use Rattle.std.proofs.Common.{refl, sym, ap, subst, ◌∙◌, arith, if◌then◌else◌}
+use Rattle.std.specs.List.{Contains, AllByRecursion, flat_map, cons_option}
+use Rattle.std.specs.List.Sorted.{IsStrictlySortedBy}
+use Rattle.std.specs.Option.{option_map_or}
+use Rattle.std.specs.Ordering.{nat_cmp}
+use Rattle.std.specs.Str.{bytes_eq}
+use Rattle.std.specs.declared.cmp.Ordering.TheVariants.{Less}
+use Rattle.std.proofs.lemmas.List.{take_more, append-nil}
+use Rattle.std.proofs.lemmas.List.Concat.{flat_map-append}
+use Rattle.std.proofs.lemmas.List.Elements.{All-nil, All-cons, All-head, All-tail, filter_map-append}
+use Rattle.std.proofs.lemmas.Map.Keys.{sorted_head, sorted_tail}
+use Rattle.number_map.specs.Blocks.{Ascends, AreAbove}
+use Rattle.number_map.proofs.Numbers.{below, by_order}
+use Rattle.number_map.proofs.Entries.{ascends_head, ascends_tail, raised, lookup_here, lookup_on, lookup_above}
+use Rattle.feature_model.specs.Data.{FeatureData}
+use Rattle.mvt_layer.specs.Tile.{FeatureView}
+use Rattle.tile_cutter.specs.Cut.{feature_cut}
+use Rattle.feature_store.specs.Indexed.{ShowsAll}
+use Rattle.feature_store.specs.Layers.{numbered_cut, cut_for, cuts_of}
+use Rattle.feature_store.specs.Store.{FeatureMap, IsMap, feature_at, entry_at}
+
+-- the entries of numbers
+abbrev pub chosen : FeatureMap → List ℕ → FeatureMap
+chosen m ns = flat_map (entry_at m) ns
+
+-- what a tile shows of numbers, and of one more
+pub cuts_more : (m : FeatureMap) (ns : List ℕ) (i : ℕ) (name : List ℕ) (z x y : ℕ) → i < length ns
+    → cuts_of (chosen m (take (i + 1) ns)) name z x y ≡ cuts_of (chosen m (take i ns)) name z x y ++ cuts_of (entry_at m (get_or ns i 0)) name z x y
+cuts_more m ns i name z x y lt =
+    let n = get_or ns i 0 in
+    ap (λ t. cuts_of (chosen m t) name z x y) (take_more ns i 0 lt)
+    ∙ ap (λ es. cuts_of es name z x y) (flat_map-append (entry_at m) (take i ns) (n ∷ []) ∙ ap (λ es. chosen m (take i ns) ++ es) (append-nil (entry_at m n)))
+    ∙ filter_map-append (cut_for name z x y) (chosen m (take i ns)) (entry_at m n)
+
+entry_here : (e : ℕ × FeatureData) (m : FeatureMap) (n : ℕ) → n ≡ e.0 → entry_at (e ∷ m) n ≡ e ∷ []
+unfolding feature_at
+entry_here e m n here =
+    ap (λ o. option_map_or (λ f. let d : ℕ × FeatureData = (n, f) in d ∷ []) o []) (lookup_here n e m here)
+    ∙ ap (λ (k : ℕ). let d : ℕ × FeatureData = (k, e.1) in d ∷ []) here
+
+entry_on : (e : ℕ × FeatureData) (m : FeatureMap) (n : ℕ) → n ≢ e.0 → entry_at (e ∷ m) n ≡ entry_at m n
+unfolding feature_at
+entry_on e m n differs = ap (λ o. option_map_or (λ f. let d : ℕ × FeatureData = (n, f) in d ∷ []) o []) (lookup_on n e m differs)
+
+no_entry : (m : FeatureMap) (n : ℕ) → AreAbove n m → entry_at m n ≡ []
+unfolding feature_at
+no_entry m n above = ap (λ o. option_map_or (λ f. let d : ℕ × FeatureData = (n, f) in d ∷ []) o []) (lookup_above m n above)
+
+-- numbers above this one
+abbrev AreOver : ℕ → List ℕ → Type 0
+AreOver n ns = AllByRecursion (λ k. n < k) ns
+
+over_from : (n : ℕ) (ns : List ℕ) → AllByRecursion (λ k. nat_cmp n k ≡ Less) ns → AreOver n ns
+over_from n [] all = tt
+over_from n (k ∷ ns) all = (below n k all.0, over_from n ns all.1)
+
+over_head : (n : ℕ) (ns : List ℕ) → IsStrictlySortedBy nat_cmp (n ∷ ns) → AreOver n ns
+over_head n ns up = over_from n ns (sorted_head nat_cmp n ns up)
+
+over_lower : (n k : ℕ) (ns : List ℕ) → n < k → AreOver k ns → AreOver n ns
+over_lower n k [] lt all = tt
+over_lower n k (j ∷ ns) lt all = let h = all.0 in (omega arith, over_lower n k ns lt all.1)
+
+not_over : (n : ℕ) (ns : List ℕ) → AreOver n ns → Contains ns n → ⊥
+not_over n [] all (k, lt, is) = omega arith
+not_over n (j ∷ ns) all (zero, lt, is) = let h = all.0 in omega arith
+not_over n (j ∷ ns) all (suc k, lt, is) = not_over n ns all.1 (k, omega arith, is)
+
+contained_behind : (n : ℕ) (ns : List ℕ) (k : ℕ) → Contains (n ∷ ns) k → n ≢ k → Contains ns k
+contained_behind n ns k (zero, lt, is) differs = absurd (differs is)
+contained_behind n ns k (suc i, lt, is) differs = (i, omega arith, is)
+
+chosen_none : (ns : List ℕ) → chosen [] ns ≡ []
+unfolding feature_at
+chosen_none [] = refl
+chosen_none (n ∷ ns) = chosen_none ns
+
+chosen_on : (e : ℕ × FeatureData) (m : FeatureMap) (ns : List ℕ) → AreOver e.0 ns → chosen (e ∷ m) ns ≡ chosen m ns
+chosen_on e m [] over = refl
+chosen_on e m (n ∷ ns) over =
+    let h = over.0 in
+    let first : entry_at (e ∷ m) n ≡ entry_at m n = entry_on e m n (λ same. omega arith) in
+    let rest : chosen (e ∷ m) ns ≡ chosen m ns = chosen_on e m ns over.1 in
+    λ i. first i ++ rest i
+
+module _ (name : List ℕ) (z x y : ℕ) where
+  -- a number is among these where the tile shows something of its feature
+  abbrev IsAsked : List ℕ → ℕ × FeatureData → Type 0
+  IsAsked ns e = IsSome (feature_cut e.1 z x y) → Contains ns e.0
+
+  asked_behind : (n : ℕ) (ns : List ℕ) (m : FeatureMap) → AreAbove n m → All (IsAsked (n ∷ ns)) m → All (IsAsked ns) m
+  asked_behind n ns [] above asked = All-nil (IsAsked ns)
+  asked_behind n ns (e ∷ m) above asked =
+      let h = above.0 in
+      All-cons (IsAsked ns) e m (λ some. contained_behind n ns e.0 (All-head (IsAsked (n ∷ ns)) e m asked some) (λ same. omega arith))
+      (asked_behind n ns m above.1 (All-tail (IsAsked (n ∷ ns)) e m asked))
+
+  no_cut : (e : ℕ × FeatureData) (o : Option FeatureView) → feature_cut e.1 z x y ≡ o → (IsSome o → ⊥) → cut_for name z x y e ≡ None
+  no_cut e None is none = by (bytes_eq e.1.layer name)
+    where
+      by : (b : Bool) → (if b then numbered_cut z x y e else None) ≡ None
+      by true = rw is refl
+      by false = refl
+  no_cut e (Some v) is none = absurd (none refl)
+
+  cuts_on : (e : ℕ × FeatureData) (m : FeatureMap) → (IsSome (feature_cut e.1 z x y) → ⊥) → cuts_of (e ∷ m) name z x y ≡ cuts_of m name z x y
+  cuts_on e m none = ap (λ o. cons_option o (cuts_of m name z x y)) (no_cut e (feature_cut e.1 z x y) refl none)
+
+  chosen_are : (m : FeatureMap) (ns : List ℕ) → Ascends m → IsStrictlySortedBy nat_cmp ns → All (IsAsked ns) m
+      → cuts_of (chosen m ns) name z x y ≡ cuts_of m name z x y
+  chosen_are [] ns up ns_up asked = ap (λ es. cuts_of es name z x y) (chosen_none ns)
+  chosen_are (e ∷ m) [] up ns_up asked =
+      chosen_are m [] (ascends_tail e m up) ns_up (All-tail (IsAsked []) e m asked)
+      ∙ sym (cuts_on e m (λ some. not_over e.0 [] tt (All-head (IsAsked []) e m asked some)))
+  chosen_are (e ∷ m) (n ∷ ns) up ns_up asked = by_order n e.0
+      (λ h.
+      let above : AreAbove n (e ∷ m) = (h, raised m n e.0 (omega (arith, h)) (ascends_head e m up)) in
+      ap (λ es. cuts_of (es ++ chosen (e ∷ m) ns) name z x y) (no_entry (e ∷ m) n above)
+      ∙ chosen_are (e ∷ m) ns up (sorted_tail nat_cmp n ns ns_up) (asked_behind n ns (e ∷ m) above asked))
+      (λ h.
+      let over : AreOver e.0 ns = subst (λ k. AreOver k ns) h (over_head n ns ns_up) in
+      let above : AreAbove n m = subst (λ k. AreAbove k m) (sym h) (ascends_head e m up) in
+      let first = entry_here e m n h in
+      let rest = chosen_on e m ns over in
+      ap (λ es. cuts_of (es ++ chosen (e ∷ m) ns) name z x y) first
+      ∙ ap (λ es. cuts_of (e ∷ es) name z x y) rest
+      ∙ ap (cons_option (cut_for name z x y e))
+      (chosen_are m ns (ascends_tail e m up) (sorted_tail nat_cmp n ns ns_up) (asked_behind n ns m above (All-tail (IsAsked (n ∷ ns)) e m asked))))
+      (λ h.
+      let over : AreOver e.0 (n ∷ ns) = (h, over_lower e.0 n ns h (over_head n ns ns_up)) in
+      ap (λ es. cuts_of es name z x y) (chosen_on e m (n ∷ ns) over)
+      ∙ chosen_are m (n ∷ ns) (ascends_tail e m up) ns_up (All-tail (IsAsked (n ∷ ns)) e m asked)
+      ∙ sym (cuts_on e m (λ some. not_over e.0 (n ∷ ns) over (All-head (IsAsked (n ∷ ns)) e m asked some))))
+
+pub all_chosen : (m : FeatureMap) (ns : List ℕ) (name : List ℕ) (z x y : ℕ) → IsMap m → ShowsAll m z x y ns
+    → cuts_of (chosen m ns) name z x y ≡ cuts_of m name z x y
+all_chosen m ns name z x y is_map shows = chosen_are name z x y m ns is_map.ascending shows.ascending shows.every

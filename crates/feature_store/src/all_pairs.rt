@@ -1,0 +1,50 @@
+//! The pairs of a tile's id and the number of a feature that covers it.
+ghost use Rattle.std.specs.Prelude.{◌≡◌, IfOk, OnOk};
+ghost use Rattle.number_map.specs.Blocks.{joined};
+ghost use Rattle.feature_store.specs.Inside.{entry_data, entries_data};
+ghost use Rattle.feature_store.specs.Pairs.{AddsPairs, ArePairsOfMap};
+ghost use Rattle.feature_store.specs.Snapshots.{IsEditOf};
+ghost use Rattle.feature_store.specs.Store.{IsMap};
+ghost use Rattle.std.specs.Prelude.{All};
+
+use feature_model::Feature;
+use number_map::{Block, Entry, NumberMap};
+use std::alloc::{AllocError, Global};
+use tile_cutter::pairs;
+
+/// Adds the pairs of entries.
+fn add_pairs(list: &mut Vec<(u64, u64)>, entries: &[Entry<Feature>]) -> Result<(), AllocError>
+    requires { All IsEditOf (entries_data entries.now) }
+    ensures { OnOk result (AddsPairs (entries_data entries.now) list.old.items list.new.items) }
+{
+    for entry in entries {
+        pairs(&entry.1, entry.0, list)?;
+    }
+    Ok(())
+}
+
+/// Adds the pairs of blocks of entries.
+fn add_block_pairs(list: &mut Vec<(u64, u64)>, blocks: &[Block<Feature>]) -> Result<(), AllocError>
+    requires { All IsEditOf (entries_data (joined blocks.now)) }
+    ensures { OnOk result (AddsPairs (entries_data (joined blocks.now)) list.old.items list.new.items) }
+{
+    for block in blocks {
+        add_pairs(list, block.entries())?;
+    }
+    Ok(())
+}
+
+/// All pairs, in ascending order.
+pub(crate) fn all_pairs(
+    alloc: Global,
+    features: &NumberMap<Feature>,
+) -> Result<Vec<(u64, u64)>, AllocError>
+    requires { IsMap (entries_data features.now.entries) }
+    ensures { IfOk result (λ pairs. ArePairsOfMap (entries_data features.now.entries) pairs.items) }
+{
+    let mut pairs = Vec::new(alloc);
+    add_block_pairs(&mut pairs, features.blocks())?;
+    pairs.sort_unstable();
+    pairs.dedup();
+    Ok(pairs)
+}

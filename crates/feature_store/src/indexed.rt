@@ -1,0 +1,59 @@
+//! What the index by boxes has of a feature.
+ghost use Rattle.std.specs.Prelude.{◌≡◌, ◌≤◌, IfOk, option_map};
+ghost use Rattle.feature_model.specs.Data.{feature_data};
+ghost use Rattle.feature_store.specs.Indexed.{index_entry, world_box, IsIndexed, ShowsAll};
+ghost use Rattle.feature_store.specs.Store.{FeatureMap, IsMap, feature_at, without_feature};
+
+use box_index::{BoxIndex, Entry, Span, WorldBox};
+use feature_model::{Feature, GREATEST_ZOOM};
+use hilbert_id::TileAt;
+use std::alloc::{AllocError, Global};
+use tile_cutter::{Corners, bounding_box, tile_box};
+
+fn world_box(corners: Corners) -> WorldBox
+    ensures { result ≡ world_box corners }
+{
+    WorldBox {
+        x0: corners.least.x,
+        x1: corners.greatest.x,
+        y0: corners.least.y,
+        y1: corners.greatest.y,
+    }
+}
+
+/// The number of a feature, its bounding box and its zooms.
+pub(crate) fn index_entry(id: u64, feature: &Feature) -> Entry
+    ensures { result ≡ index_entry (id, feature_data feature.now) }
+{
+    Entry {
+        id,
+        span: Span {
+            bounds: world_box(bounding_box(feature)),
+            minzoom: feature.minzoom,
+            maxzoom: feature.maxzoom,
+        },
+    }
+}
+
+/// Takes out of the index what it has of the number's feature, where there is one.
+pub(crate) fn take_entry(index: &mut BoxIndex, id: u64, feature: Option<Feature>)
+    ensures indexed { (m : FeatureMap) → option_map feature_data feature ≡ feature_at m id
+        → IsIndexed m index.old.entries → IsIndexed (without_feature m id) index.new.entries }
+    ensures spare { index.old.spare ≤ index.new.spare }
+{
+    if let Some(feature) = feature {
+        index.remove(&index_entry(id, &feature));
+    }
+}
+
+/// The numbers of the features whose bounding box meets the box of a tile, and that have its zoom: it shows nothing of others.
+pub(crate) fn numbers_near(
+    alloc: Global,
+    index: &BoxIndex,
+    at: TileAt,
+) -> Result<Vec<u64>, AllocError>
+    requires { at.z ≤ GREATEST_ZOOM }
+    ensures { IfOk result (λ numbers. (m : FeatureMap) → IsMap m → IsIndexed m index.now.entries → ShowsAll m at.z at.x at.y numbers.items) }
+{
+    index.query(alloc, &world_box(tile_box(at)), at.z)
+}

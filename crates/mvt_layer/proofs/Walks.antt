@@ -1,0 +1,30 @@
+-- One walk over a message, where each field number has a state of its own.
+use Rattle.std.proofs.Common.{◌≡◌, ◌≢◌, List, [], ◌∷◌, Result, Ok, Err, sym}
+use Rattle.reader.specs.Reading.{Read, Gives, folded}
+use Rattle.reader.proofs.Steps.{same_fault, not_both, folded_on, folded_stop, folded_done}
+use Rattle.mvt_layer.specs.declared.fault.TileFault.{TileFault}
+use Rattle.mvt_layer.specs.declared.fault.TileFault.TheVariants.{Memory}
+use Rattle.mvt_layer.specs.Reading.{onward}
+
+-- what a state says so far leads to the whole by what is left; its fault is the whole's
+abbrev pub Leads : {X S A : Type 0} → (X → S) → Result X TileFault → (S → Read TileFault A) → Read TileFault A → Type 0
+Leads view (Ok x) next whole = next (view x) ≡ whole
+Leads view (Err d) next whole = d ≢ Memory → whole ≡ Err d
+
+module _ {X S I : Type 0} (view : X → S) (step : S → I → Read TileFault S) where
+  -- one item more
+  pub leads_on : (before next : Result X TileFault) (item : I) (left others : List I) (whole : Read TileFault S)
+      → left ≡ item ∷ others → Leads view before (λ s. folded step s left) whole → Gives Memory view next (onward view before (λ s. step s item))
+      → Leads view next (λ s. folded step s others) whole
+  leads_on (Ok x) (Ok y) item left others whole first so_far e = folded_on step (view x) (view y) item left others whole first so_far e
+  leads_on (Ok x) (Err d) item left others whole first so_far e = λ other. folded_stop step (view x) item left others d whole first so_far (e other)
+  leads_on (Err c) (Ok y) item left others whole first so_far e = absurd (not_both (view y) c (sym e))
+  leads_on (Err c) (Err d) item left others whole first so_far e = λ other.
+      let same : c ≡ d = same_fault {A = S} c d (e other) in
+      rw same at so_far other
+
+  -- nothing is left
+  pub leads_done : (state : Result X TileFault) (left : List I) (whole : Read TileFault S)
+      → left ≡ [] → Leads view state (λ s. folded step s left) whole → Gives Memory view state whole
+  leads_done (Ok x) left whole nothing so_far = folded_done step (view x) left whole nothing so_far
+  leads_done (Err d) left whole nothing so_far = so_far

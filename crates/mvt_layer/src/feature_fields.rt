@@ -1,0 +1,69 @@
+//! The fields of a feature, in one walk over its bytes.
+
+ghost use Rattle.reader.specs.Reading.{Gives};
+ghost use Rattle.pb_wire.specs.Items.{item_view};
+ghost use Rattle.mvt_layer.specs.Reading.{onward, after, number_after, numbers_after, last_number_in, numbers_in};
+
+use crate::fault::TileFault;
+use crate::passes::{FieldItem, number_then, numbers_then};
+use pb_wire::Fields;
+
+// Field numbers of a feature.
+const ID: u32 = 1;
+
+const TAGS: u32 = 2;
+
+const KIND: u32 = 3;
+
+const GEOMETRY: u32 = 4;
+
+/// What the fields of a feature say, each number for itself: a fault of one is none of the others.
+#[derive(Drop)]
+pub(crate) struct FeatureFields {
+    pub(crate) id: Result<Option<u64>, TileFault>,
+    pub(crate) kind: Result<Option<u64>, TileFault>,
+    pub(crate) indices: Result<Vec<u32>, TileFault>,
+    pub(crate) ints: Result<Vec<u32>, TileFault>,
+}
+
+/// What they say with one item more.
+fn with_item(before: FeatureFields, item: FieldItem<'_>) -> FeatureFields
+    ensures id { Gives TileFault.Memory (λ n. n) result.id (onward (λ n. n) before.id (λ n. after 1 number_after n (item_view item.entry))) }
+    ensures kind { Gives TileFault.Memory (λ n. n) result.kind (onward (λ n. n) before.kind (λ n. after 3 number_after n (item_view item.entry))) }
+    ensures indices { Gives TileFault.Memory (λ v. v.items) result.indices
+        (onward (λ v. v.items) before.indices (λ ns. after 2 numbers_after ns (item_view item.entry))) }
+    ensures ints { Gives TileFault.Memory (λ v. v.items) result.ints
+        (onward (λ v. v.items) before.ints (λ ns. after 4 numbers_after ns (item_view item.entry))) }
+{
+    FeatureFields {
+        id: number_then(ID, before.id, item),
+        kind: number_then(KIND, before.kind, item),
+        indices: numbers_then(TAGS, before.indices, item),
+        ints: numbers_then(GEOMETRY, before.ints, item),
+    }
+}
+
+/// What all the fields say, in the room of two lists that nothing needs any more.
+pub(crate) fn feature_fields(
+    mut indices: Vec<u32>,
+    mut ints: Vec<u32>,
+    bytes: &[u8],
+) -> FeatureFields
+    ensures id { Gives TileFault.Memory (λ n. n) result.id (last_number_in 1 bytes.now) }
+    ensures kind { Gives TileFault.Memory (λ n. n) result.kind (last_number_in 3 bytes.now) }
+    ensures indices { Gives TileFault.Memory (λ v. v.items) result.indices (numbers_in 2 bytes.now) }
+    ensures ints { Gives TileFault.Memory (λ v. v.items) result.ints (numbers_in 4 bytes.now) }
+{
+    indices.clear();
+    ints.clear();
+    let mut fields = FeatureFields {
+        id: Ok(None),
+        kind: Ok(None),
+        indices: Ok(indices),
+        ints: Ok(ints),
+    };
+    for item in Fields::new(bytes) {
+        fields = with_item(fields, item);
+    }
+    fields
+}

@@ -1,0 +1,18 @@
+use Rattle.std.proofs.Common.{sym, ◌∙◌, ap, true≢false}
+use Rattle.tile_cutter.specs.Corners.{range_of}
+use Rattle.tile_cutter.proofs.Outside.{line_outside}
+use Rattle.tile_cutter.proofs.RingBoxes.{ring_says}
+use Rattle.tile_cutter.proofs.bounds.points_meet_box.Goals as goal
+
+pub returns-clause-line : goal.returns-clause-line
+returns-clause-line c = λ none.
+    let at = c.args.at in
+    line_outside at.z at.x at.y c.args.points.now c.range_of.result
+    (c.range_of.ensures ∙ ap (λ corners. range_of corners at.z) c.widened_by_list.ensures) at.column at.row
+    (λ inside. true≢false (sym (c.has_tile.ensures.1 inside) ∙ none))
+
+pub returns-clause-ring : goal.returns-clause-ring
+returns-clause-ring c =
+    let at = c.args.at in
+    ring_says at.z at.x at.y c.args.points.now c.widened_by_list.result c.range_of.result c.has_tile.result at.column at.row
+    c.widened_by_list.ensures c.range_of.ensures c.has_tile.ensures
