@@ -1,69 +1,18 @@
 // The other program of this benchmark: reads the tiles that main.rt.txt leaves in a folder, and writes them again, with
 // protozero. The bytes that it writes must be those that it has read.
 #include "../peer_clock.hpp"
-#include "../peer_tile.hpp"
+#include "../peer_writer.hpp"
 
 #include <cstdio>
 #include <fstream>
 #include <iterator>
 #include <string>
-#include <unordered_map>
-
-#include <protozero/pbf_writer.hpp>
-
-using protozero::pbf_writer;
-
-// Entries in the order of their first use, each once.
-template <typename T>
-struct Pool {
-    std::vector<T> entries;
-    std::unordered_map<T, std::uint32_t> indices;
-
-    std::uint32_t index(const T& entry) {
-        const auto [at, is_new] = indices.try_emplace(entry, static_cast<std::uint32_t>(entries.size()));
-        if (is_new) {
-            entries.push_back(entry);
-        }
-        return at->second;
-    }
-};
-
-void put_value(pbf_writer& layer, const Value& value) {
-    pbf_writer message{layer, 4};
-    switch (value.index()) {
-        case 0: message.add_string(1, std::get<0>(value).data(), std::get<0>(value).size()); break;
-        case 1: message.add_uint64(5, std::get<1>(value)); break;
-        case 2: message.add_sint64(6, std::get<2>(value)); break;
-        case 3: message.add_bool(7, std::get<3>(value)); break;
-        case 4: message.add_float(2, std::get<4>(value)); break;
-        default: message.add_double(3, std::get<5>(value));
-    }
-}
-
-void put_point(protozero::packed_field_uint32& field, const Point& point, Point& cursor) {
-    field.add_element(protozero::encode_zigzag32(static_cast<std::int32_t>(point.x - cursor.x)));
-    field.add_element(protozero::encode_zigzag32(static_cast<std::int32_t>(point.y - cursor.y)));
-    cursor = point;
-}
-
-void put_command(protozero::packed_field_uint32& field, std::uint32_t id, std::size_t count) {
-    field.add_element(static_cast<std::uint32_t>(count) << 3U | id);
-}
 
 void put_geometry(pbf_writer& message, const Feature& feature) {
     protozero::packed_field_uint32 field{message, 4};
     Point cursor{0, 0};
     for (const Points& part : feature.parts) {
-        put_command(field, move_to, feature.kind == 1 ? part.size() : 1);
-        for (std::size_t i = 0; i < part.size(); ++i) {
-            if (feature.kind != 1 && i == 1) {
-                put_command(field, line_to, part.size() - 1);
-            }
-            put_point(field, part[i], cursor);
-        }
-        if (feature.kind == 3) {
-            put_command(field, close_path, 1);
-        }
+        put_part(field, feature.kind, part.data(), part.size(), cursor);
     }
 }
 
@@ -91,14 +40,7 @@ void put_layer(pbf_writer& tile, const Layer& layer) {
     for (const Feature& feature : layer.features) {
         put_feature(message, feature, keys, values);
     }
-    for (const auto& key : keys.entries) {
-        message.add_string(3, key.data(), key.size());
-    }
-    for (const auto& value : values.entries) {
-        put_value(message, value);
-    }
-    message.add_uint32(5, layer.extent);
-    message.add_uint32(15, layer.version);
+    put_end(message, keys, values, layer.extent, layer.version);
 }
 
 std::string write_tile(const std::vector<Layer>& layers) {

@@ -19,6 +19,8 @@ pub type Entry<T> = (u64, T);
 /// A few entries, ascending by number.
 #[derive(Debug, Drop)]
 pub struct Block<T> {
+    /// The first number, or 0: a search over blocks reads it and no entry.
+    first: u64,
     entries: Vec<Entry<T>>,
 }
 
@@ -47,6 +49,7 @@ impl<T> Block<T> {
         ensures { IfOk result (λ b. b ≡ []) }
     {
         Ok(Block {
+            first: 0,
             entries: Vec::with_capacity(alloc, CAPACITY)?,
         })
     }
@@ -62,10 +65,7 @@ impl<T> Block<T> {
     pub(crate) fn first(&self) -> u64
         ensures { result ≡ first_number self.now }
     {
-        match self.entries.first() {
-            Some(entry) => entry.0,
-            None => 0,
-        }
+        self.first
     }
 
     /// The value of a number, by a binary search.
@@ -107,13 +107,9 @@ impl<T> Block<T> {
         ensures entries { self.new ≡ insert_entry nat_cmp self.old number value }
         ensures before { result ≡ lookup (is_at (nat_cmp number)) self.old }
     {
-        match find(&self.entries, number) {
-            Ok(at) => Some(mem::replace(&mut self.entries[at], (number, value)).1),
-            Err(at) => {
-                self.entries.insert(at, (number, value)).unwrap();
-                None
-            }
-        }
+        let before = insert_into(&mut self.entries, number, value);
+        self.first = first_of(&self.entries);
+        before
     }
 
     /// Takes a number out, and returns the value that it had.
@@ -123,10 +119,9 @@ impl<T> Block<T> {
         ensures removed { result ≡ lookup (is_at (nat_cmp number)) self.old }
         ensures unchanged { IfNone result (self.new ≡ self.old) }
     {
-        match find(&self.entries, number) {
-            Ok(at) => Some(self.entries.remove(at).1),
-            Err(_) => None,
-        }
+        let before = remove_from(&mut self.entries, number);
+        self.first = first_of(&self.entries);
+        before
     }
 
     /// Moves the upper half of a full block to an empty one. It takes no memory.
@@ -138,6 +133,8 @@ impl<T> Block<T> {
         ensures upper_half { (0 < length upper.new) × (length upper.new < CAPACITY) }
     {
         move_from(&mut self.entries, CAPACITY / 2, &mut upper.entries);
+        self.first = first_of(&self.entries);
+        upper.first = first_of(&upper.entries);
     }
 }
 
@@ -149,6 +146,7 @@ impl<T: Drop> Block<T> {
     {
         let mut other = other;
         self.entries.append(&mut other.entries).unwrap();
+        self.first = first_of(&self.entries);
     }
 }
 
@@ -159,6 +157,51 @@ fn find<T>(entries: &[Entry<T>], number: u64) -> Result<usize, usize>
     ensures absent { IfErr result (IsGapFor entries.now number) }
 {
     entries.binary_search_by_key(&number, |entry| entry.0)
+}
+
+/// The first number, or 0 where there is none.
+fn first_of<T>(entries: &[Entry<T>]) -> u64
+    ensures { result ≡ first_number entries.now }
+{
+    match entries.first() {
+        Some(entry) => entry.0,
+        None => 0,
+    }
+}
+
+/// Gives a number this value, and returns the one that it had. It takes no memory.
+fn insert_into<T>(entries: &mut Vec<Entry<T>>, number: u64, value: T) -> Option<T>
+    requires ascending { Ascends entries.old.items }
+    requires place { Accepts entries.old.items number }
+    requires few { vec_len entries.old ≤ CAPACITY }
+    requires capacity { CAPACITY ≤ vec_capacity entries.old }
+    ensures few { vec_len entries.new ≤ CAPACITY }
+    ensures capacity { CAPACITY ≤ vec_capacity entries.new }
+    ensures entries { entries.new.items ≡ insert_entry nat_cmp entries.old.items number value }
+    ensures before { result ≡ lookup (is_at (nat_cmp number)) entries.old.items }
+{
+    match find(entries, number) {
+        Ok(at) => Some(mem::replace(&mut entries[at], (number, value)).1),
+        Err(at) => {
+            entries.insert(at, (number, value)).unwrap();
+            None
+        }
+    }
+}
+
+/// Takes a number out, and returns the value that it had.
+fn remove_from<T>(entries: &mut Vec<Entry<T>>, number: u64) -> Option<T>
+    requires { Ascends entries.old.items }
+    ensures few { vec_len entries.new ≤ vec_len entries.old }
+    ensures capacity { vec_capacity entries.new ≡ vec_capacity entries.old }
+    ensures entries { entries.new.items ≡ remove_entry (is_at (nat_cmp number)) entries.old.items }
+    ensures removed { result ≡ lookup (is_at (nat_cmp number)) entries.old.items }
+    ensures unchanged { IfNone result (entries.new ≡ entries.old) }
+{
+    match find(entries, number) {
+        Ok(at) => Some(entries.remove(at).1),
+        Err(_) => None,
+    }
 }
 
 /// Moves the entries from an index on to an empty list that has room for them. It takes no memory.

@@ -1,7 +1,6 @@
-use Rattle.std.proofs.Common.{Some, sym, ap, subst, ◌∙◌, arith}
-use Rattle.number_map.specs.Blocks.{Ascends}
+use Rattle.std.proofs.Common.{Some, sym, ap, ◌∙◌, arith}
 use Rattle.number_map.proofs.Entries.{stands_in, lookup_stands, lookup_gap, remove_stands, remove_gap}
-use Rattle.number_map.proofs.block.Block.remove.Goals as goal
+use Rattle.number_map.proofs.block.remove_from.Goals as goal
 
 -- the number was there
 pub remove-requires : goal.remove-requires
@@ -10,20 +9,20 @@ remove-requires g c = omega (arith, stands_in _ _ _ c.in-Ok.ensures.found, c.der
 pub returns-in-Ok-clause-entries : goal.returns-in-Ok-clause-entries
 returns-in-Ok-clause-entries g c =
     let found = rw c.deref.ensures.value at c.in-Ok.ensures.found in
-    rw (← c.self.view_is) (c.remove.ensures.items ∙ remove_stands _ _ _ found)
+    (c.remove.ensures.items ∙ remove_stands _ _ _ found)
 
 pub returns-in-Ok-clause-removed : goal.returns-in-Ok-clause-removed
 returns-in-Ok-clause-removed g c =
     let found = rw c.deref.ensures.value at c.in-Ok.ensures.found in
-    rw (← c.self.view_is) (sym (lookup_stands _ _ _ c.remove.result found ∙ ap (λ e. Some e.1) (sym c.remove.ensures.value)))
+    (sym (lookup_stands _ _ _ c.remove.result found ∙ ap (λ e. Some e.1) (sym c.remove.ensures.value)))
 
 -- the number was not there
 pub returns-in-Err-clause-entries : goal.returns-in-Err-clause-entries
 returns-in-Err-clause-entries g c =
     let gap = rw c.deref.ensures.value at c.in-Err.ensures.absent in
-    rw (← c.self.view_is) (sym (remove_gap _ _ _ (subst Ascends (sym c.self.view_is) c.requires) gap))
+    (sym (remove_gap _ _ _ c.requires gap))
 
 pub returns-in-Err-clause-removed : goal.returns-in-Err-clause-removed
 returns-in-Err-clause-removed g c =
     let gap = rw c.deref.ensures.value at c.in-Err.ensures.absent in
-    rw (← c.self.view_is) (sym (lookup_gap _ _ _ (subst Ascends (sym c.self.view_is) c.requires) gap))
+    (sym (lookup_gap _ _ _ c.requires gap))
