@@ -13,7 +13,7 @@ use Rattle.feature_model.specs.Data.{FeatureData}
 use Rattle.feature_store.specs.Store.{FeatureMap}
 use Rattle.map_metadata.specs.declared.field_kind.FieldKind.{FieldKind}
 use Rattle.map_metadata.specs.Fields.{features_in, kinds_in, IsKey, IsFieldKind, IsLeast, IsGreatest}
-use Rattle.map_metadata.specs.Metadata.{LayerData, Ascend, names_of, IsLayer, AreLayers, layers_json, IsMetadata}
+use Rattle.map_metadata.specs.Metadata.{LayerData, Ascend, IsLayer, AreLayers, layers_json, IsMetadata}
 use Rattle.map_metadata.proofs.Shown.{contains_here, contains_on, contains_cases, none_there}
 
 -- ---- lists in the order of their names

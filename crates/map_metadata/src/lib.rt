@@ -10,3 +10,6 @@ mod summary;
 mod writer;
 
 pub use writer::{metadata, metadata_text};
+
+#[cfg(test)]
+mod tests;
