@@ -1,5 +1,6 @@
 -- Features that are summed up in turn.
-use Rattle.std.proofs.Common.{◌≡◌, ℕ, ◌<◌, ◌+◌, List, [], ◌∷◌, ◌++◌, length, get_or, take, map, Bool, true, false, Option, Some, None, min, max, refl, sym, ap, subst, ◌∙◌, arith, if◌then◌else◌}
+use Rattle.std.proofs.Common.{◌≡◌, ℕ, ◌<◌, ◌+◌, min, max, List, [], ◌∷◌, ◌++◌, length, get_or, take, map, Bool, true, false, Option, Some, None}
+use Rattle.std.proofs.Common.{refl, sym, ap, subst, ◌∙◌, arith, if◌then◌else◌}
 use Rattle.std.specs.Str.{bytes_eq}
 use Rattle.std.specs.String.{string_bytes}
 use Rattle.std.specs.List.{cons_option}
@@ -22,7 +23,8 @@ use Rattle.map_metadata.specs.declared.field_kind.FieldKind.{FieldKind}
 use Rattle.map_metadata.specs.declared.field_kind.FieldKind.TheVariants.{Text, Number, Truth}
 use Rattle.map_metadata.specs.declared.summary.LayerSummary.{LayerSummary}
 use Rattle.map_metadata.specs.Fields.{kind_of, kinds_of, features_in, kinds_in}
-use Rattle.map_metadata.specs.Summaries.{joined, with_kind, with_kinds, with_feature, with_features, Layers, layer_at, kind_at, zooms_of, zooms_in, kind_in, Adds, SumsUp}
+use Rattle.map_metadata.specs.Summaries.{joined, with_kind, with_kinds, with_feature, with_features}
+use Rattle.map_metadata.specs.Summaries.{Layers, layer_at, kind_at, zooms_of, zooms_in, kind_in, Adds, SumsUp}
 
 min_same : (n : ℕ) → min n n ≡ n
 min_same n = omega arith

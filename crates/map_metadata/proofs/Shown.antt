@@ -105,7 +105,8 @@ least_two a b ns n is = record {
   ];
   least =
       let first = All-head (λ k. n ≤ k) (min a b) ns is.least in
-      All-cons (λ k. n ≤ k) a (b ∷ ns) (omega (arith, first)) (All-cons (λ k. n ≤ k) b ns (omega (arith, first)) (All-tail (λ k. n ≤ k) (min a b) ns is.least));
+      All-cons (λ k. n ≤ k) a (b ∷ ns) (omega (arith, first))
+      (All-cons (λ k. n ≤ k) b ns (omega (arith, first)) (All-tail (λ k. n ≤ k) (min a b) ns is.least));
 }
 
 greatest_two : (a b : ℕ) (ns : List ℕ) (n : ℕ) → IsGreatest (max a b ∷ ns) n → IsGreatest (a ∷ b ∷ ns) n
@@ -119,7 +120,8 @@ greatest_two a b ns n is = record {
   ];
   greatest =
       let first = All-head (λ k. k ≤ n) (max a b) ns is.greatest in
-      All-cons (λ k. k ≤ n) a (b ∷ ns) (omega (arith, first)) (All-cons (λ k. k ≤ n) b ns (omega (arith, first)) (All-tail (λ k. k ≤ n) (max a b) ns is.greatest));
+      All-cons (λ k. k ≤ n) a (b ∷ ns) (omega (arith, first))
+      (All-cons (λ k. k ≤ n) b ns (omega (arith, first)) (All-tail (λ k. k ≤ n) (max a b) ns is.greatest));
 }
 
 -- the zooms of features, from those of the first

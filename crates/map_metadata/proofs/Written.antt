@@ -12,7 +12,8 @@ use Rattle.std.specs.declared.string.String.{String}
 use Rattle.std.proofs.lemmas.Cmp.{nat_list_cmp_total}
 use Rattle.std.proofs.lemmas.Map.Keys.{sorted_head, sorted_tail}
 use Rattle.serde_json.specs.Data.{Data, Members, put, string, member}
-use Rattle.serde_json.specs.View.{items_of}
+use Rattle.serde_json.specs.declared.value.Value.{Value}
+use Rattle.serde_json.specs.View.{items_of, view}
 use Rattle.serde_json.specs.Written.{has_float, items_have_float, members_have_float, compact_text}
 use Rattle.feature_store.specs.Store.{FeatureMap}
 use Rattle.map_metadata.specs.declared.field_kind.FieldKind.{FieldKind}
@@ -68,3 +69,9 @@ pub text_of : (m : FeatureMap) (v : Data) (r : Result (String Global) AllocError
     → IfOk r (λ text. (d : Data) × IsMetadata m d × (string_bytes text ≡ compact_text d))
 text_of m v (Ok text) is written = (v, is, written (metadata_whole m v is))
 text_of m v (Err e) is written = tt
+
+-- the object with the layers of the map, where there is one
+pub metadata_of : (m : FeatureMap) (d : Data) (r : Result Value AllocError) → IsMetadata m d → IfOk r (λ v. view v ≡ d)
+    → IfOk r (λ v. IsMetadata m (view v))
+metadata_of m d (Ok v) (ls, are, is) same = (ls, are, same ∙ is)
+metadata_of m d (Err e) is same = tt

@@ -1,15 +1,15 @@
 //! The metadata of a map, as a JSON value and as text.
 
 ghost use Rattle.std.specs.Prelude.{◌≡◌, map, IfOk, string_bytes, All};
+ghost use Rattle.std.specs.BTreeMap.{IsOrdered};
+ghost use Rattle.std.specs.Ordering.{nat_cmp};
+ghost use Rattle.std.specs.Cmp.Lexicographic.{slice_cmp};
 ghost use Rattle.serde_json.specs.Data.{Data, object, array, member, no_members};
 ghost use Rattle.serde_json.specs.View.{view, items_of};
 ghost use Rattle.serde_json.specs.Written.{compact_text};
 ghost use Rattle.map_metadata.specs.Fields.{name_bytes};
 ghost use Rattle.map_metadata.specs.Metadata.{fields_json, layer_json, IsMetadata};
 ghost use Rattle.map_metadata.specs.Summaries.{fields_data, layer_data, HasOrder};
-ghost use Rattle.std.specs.BTreeMap.{IsOrdered};
-ghost use Rattle.std.specs.Ordering.{nat_cmp};
-ghost use Rattle.std.specs.Cmp.Lexicographic.{slice_cmp};
 
 use crate::summary::{Fields, LayerSummary, Layers, summed_up};
 use feature_store::Store;
@@ -84,8 +84,7 @@ pub fn metadata(alloc: Global, store: &Store) -> Result<Value, AllocError>
 {
     let layers = summed_up(alloc, store.blocks())?;
     let list = layers_value(alloc, layers)?;
-    let value = document(alloc, list)?;
-    Ok(value)
+    document(alloc, list)
 }
 
 /// The metadata of a map as compact text. The only error is out of memory.

@@ -11,7 +11,8 @@ pub returns-clause-zooms : goal.returns-clause-zooms
 returns-clause-zooms c name =
     let fresh : LayerSummary = record { minzoom = c.args.feature.now.minzoom; maxzoom = c.args.feature.now.maxzoom; fields = c.new.result } in
     let layer = string_bytes c.args.feature.now.layer in
-    let more = feature_zooms c.args.layers.now (map_with_value c.in_ok-layers.field-0 c.add.new.self) layer name (feature_data c.args.feature.now) c.add.new.self
+    let new = map_with_value c.in_ok-layers.field-0 c.add.new.self in
+    let more = feature_zooms c.args.layers.now new layer name (feature_data c.args.feature.now) c.add.new.self
     (grind (arith, text_groups))
     (λ same. zooms_after c.args.layers.now layer name (feature_data c.args.feature.now) c.or_insert-layer.result.now c.add.new.self fresh
     (grind (arith, text_groups)) same refl refl c.in_ok-add.ensures.minzoom c.in_ok-add.ensures.maxzoom) in
@@ -21,7 +22,8 @@ pub returns-clause-kinds : goal.returns-clause-kinds
 returns-clause-kinds c name key =
     let fresh : LayerSummary = record { minzoom = c.args.feature.now.minzoom; maxzoom = c.args.feature.now.maxzoom; fields = c.new.result } in
     let layer = string_bytes c.args.feature.now.layer in
-    let more = feature_kinds c.args.layers.now (map_with_value c.in_ok-layers.field-0 c.add.new.self) layer name (feature_data c.args.feature.now) c.add.new.self
+    let new = map_with_value c.in_ok-layers.field-0 c.add.new.self in
+    let more = feature_kinds c.args.layers.now new layer name (feature_data c.args.feature.now) c.add.new.self
     (grind (arith, text_groups)) key
     (λ same. kind_after c.args.layers.now layer name (feature_data c.args.feature.now) c.or_insert-layer.result.now c.add.new.self fresh
     (grind (arith, text_groups)) same key c.new.ensures.empty (c.in_ok-add.ensures.kinds key)) in
