@@ -54,7 +54,7 @@ IsKey fs key = Contains (keys_in fs) key
 abbrev pub AreAll : List FieldKind → FieldKind → Type 0
 AreAll kinds kind = All (λ k. k ≡ kind) kinds
 
--- each value is of no one kind
+-- no one kind is that of each value
 abbrev pub Differ : List FieldKind → Type 0
 Differ kinds = (kind : FieldKind) → AreAll kinds kind → ⊥
 
