@@ -2,5 +2,7 @@
 #![tactic(auto)]
 
 mod reading;
+mod source;
 
 pub use reading::read_bytes;
+pub use source::SectorBytes;
