@@ -1,5 +1,5 @@
 -- The pieces of bytes in consecutive sectors.
-use Rattle.std.proofs.Common.{◌≡◌, ⊎_elim, ℕ, zero, suc, ◌<◌, ◌≤◌, ◌+◌, ◌-◌, ◌*◌, ◌/◌, ◌%◌, List, ◌++◌, length, length-append, replicate, take, drop, slice_range, sym, ◌∙◌, ap, arith}
+use Rattle.std.proofs.Common.{◌≡◌, ⊎_elim, ℕ, zero, suc, ◌<◌, ◌≤◌, ◌+◌, ◌-◌, ◌*◌, List, ◌++◌, length, length-append, replicate, take, drop, slice_range, sym, ◌∙◌, ap, arith}
 use Rattle.std.proofs.lemmas.List.{take-take, take_at, drop_at, drop-drop, drop-take, length-take, length-drop, length-replicate}
 use Rattle.sector_disk.specs.Disk.{Image}
 use Rattle.sector_disk.specs.declared.disk.TheConstants.{SECTOR_BYTES}
@@ -12,8 +12,12 @@ use Rattle.sector_bytes.specs.Bytes.{whole_sector, bytes_from, sector_piece, Are
 -- a sector as it is read has so many bytes
 pub whole_length : (sector : List ℕ) → length (whole_sector sector) ≡ SECTOR_BYTES
 whole_length sector =
-    omega (arith, length-take SECTOR_BYTES (sector ++ replicate SECTOR_BYTES 0), length-append sector (replicate SECTOR_BYTES 0),
-    length-replicate SECTOR_BYTES zero)
+    omega (
+      arith,
+      length-take SECTOR_BYTES (sector ++ replicate SECTOR_BYTES 0),
+      length-append sector (replicate SECTOR_BYTES 0),
+      length-replicate SECTOR_BYTES zero,
+    )
 
 -- and where there are so many, those
 pub whole_is : (sector : List ℕ) → length sector ≡ SECTOR_BYTES → whole_sector sector ≡ sector
