@@ -1,5 +1,6 @@
 -- Bytes in sectors and bytes read of sectors, for the crates above.
-use Rattle.std.proofs.Common.{◌≡◌, ⊎_elim, ℕ, zero, suc, ◌<◌, ◌≤◌, ◌+◌, ◌-◌, ◌*◌, List, [], ◌++◌, length, replicate, take, drop, min, slice_range, sym, ◌∙◌, ap, subst, arith}
+use Rattle.std.proofs.Common.{◌≡◌, ⊎_elim, ℕ, zero, suc, ◌<◌, ◌≤◌, ◌+◌, ◌-◌, ◌*◌, List, []}
+use Rattle.std.proofs.Common.{◌++◌, length, replicate, take, drop, min, slice_range, sym, ◌∙◌, ap, subst, arith}
 use Rattle.std.proofs.lemmas.Bool.{cases_lt}
 use Rattle.std.proofs.lemmas.List.{take_all, take-take, take-append-le, take_at, drop_at, drop_all, drop-drop, drop-take, length-take, length-drop}
 use Rattle.std.proofs.lemmas.Slice.{between_is}

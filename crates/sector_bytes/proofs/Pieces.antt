@@ -1,5 +1,6 @@
 -- The pieces of bytes in consecutive sectors.
-use Rattle.std.proofs.Common.{◌≡◌, ⊎_elim, ℕ, zero, suc, ◌<◌, ◌≤◌, ◌+◌, ◌-◌, ◌*◌, List, ◌++◌, length, length-append, replicate, take, drop, slice_range, sym, ◌∙◌, ap, arith}
+use Rattle.std.proofs.Common.{◌≡◌, ⊎_elim, ℕ, zero, suc, ◌<◌, ◌≤◌, ◌+◌, ◌-◌, ◌*◌, List}
+use Rattle.std.proofs.Common.{◌++◌, length, length-append, replicate, take, drop, slice_range, sym, ◌∙◌, ap, arith}
 use Rattle.std.proofs.lemmas.List.{take-take, take_at, drop_at, drop-drop, drop-take, length-take, length-drop, length-replicate}
 use Rattle.sector_disk.specs.Disk.{Image}
 use Rattle.sector_disk.specs.declared.disk.TheConstants.{SECTOR_BYTES}
