@@ -5,10 +5,11 @@ use Rattle.std.proofs.lemmas.Bool.{cases_lt}
 use Rattle.std.proofs.lemmas.List.{take_all, take-take, take-append-le, take_at, drop_at, drop_all, drop-drop, drop-take, length-take, length-drop}
 use Rattle.std.proofs.lemmas.Slice.{between_is}
 use Rattle.std.proofs.Math.Seq.{take-add}
-use Rattle.sector_disk.specs.Disk.{Image}
+use Rattle.sector_disk.specs.Disk.{History, Image, seen}
 use Rattle.sector_disk.specs.declared.disk.TheConstants.{SECTOR_BYTES}
 use Rattle.generations.specs.Areas.{sectors_of}
 use Rattle.sector_bytes.specs.Bytes.{whole_sector, bytes_from, sector_piece, StandsIn, AreWhole}
+use Rattle.sector_bytes.specs.Source.{SourceView, AreItsBytes, IsUntouched}
 use Rattle.sector_bytes.proofs.Pieces.{whole_length, whole_is, piece_is}
 
 -- ---- what stands in sectors is read of them
@@ -112,3 +113,15 @@ pub read_stands : (image : Image) (first n : ℕ) → AreWhole first 0 n image
 read_stands image first n whole =
     let same : n ≡ n - 0 = omega arith in
     subst (λ (m : ℕ). StandsIn first (take m (bytes_from image first (sectors_of n))) image) same (front_stands image first n whole)
+
+-- ---- sources whose disk is left as it was
+
+-- the bytes that a source had are those that it has
+pub still_there : {D : Type 0} (sectors : D → ℕ) (honest : D → Type 0) (history : D → History) (old new : SourceView D) (bytes : List ℕ)
+    → IsUntouched sectors honest history old new → new.len ≡ old.len → honest new.disk.now
+    → AreItsBytes old.first old.len bytes (seen (history old.disk.now)) → AreItsBytes new.first new.len bytes (seen (history new.disk.now))
+still_there sectors honest history old new bytes same len is are = record {
+  length_is = are.length_is ∙ sym len;
+  stands = subst (λ (h : History). StandsIn new.first bytes (seen h)) (sym (same.same_history is))
+      (subst (λ (first : ℕ). StandsIn first bytes (seen (history old.disk.now))) (sym same.same_first) are.stands);
+}

@@ -3,7 +3,7 @@ ghost use Rattle.std.proofs.Common.{refl, ◌∙◌};
 ghost use Rattle.std.specs.Prelude.{◌≡◌, ◌≤◌, ◌<◌, ◌+◌, ◌^◌, length, OnOk, IfSome, Option, Some, slice_range};
 ghost use Rattle.generations.specs.Areas.{sectors_of};
 ghost use Rattle.sector_bytes.specs.Bytes.{bytes_from};
-ghost use Rattle.sector_bytes.specs.Source.{SourceView, AreItsBytes};
+ghost use Rattle.sector_bytes.specs.Source.{SourceView, AreItsBytes, IsUntouched};
 ghost use Rattle.sector_disk.specs.Disk.{seen};
 ghost use Rattle.sector_disk.specs.declared.disk.TheConstants.{SECTOR_BYTES};
 
@@ -49,6 +49,14 @@ impl<'a, D: Sectors> SectorBytes<'a, D> {
             last: None,
             sector,
         }
+    }
+
+    /// The disk.
+    pub fn into_disk(self) -> &'a mut D
+        ensures same_reference { result.ghost_name ≡ self.entry.disk.ghost_name }
+        ensures disk { result.now ≡ self.entry.disk.now }
+    {
+        self.disk
     }
 
     /// Reads a part of one sector, as many bytes as `into` has room for. The disk is asked only for another sector than last.
@@ -128,8 +136,7 @@ impl<'a, D: Sectors> Bytes for SectorBytes<'a, D> {
 
     ghost fails = { λ s. Unit {0} };
 
-    ghost unchanged = { λ old new. (new.disk.ghost_name ≡ old.disk.ghost_name) × (D.sectors new.disk.now ≡ D.sectors old.disk.now)
-        × (D.honest new.disk.now → D.honest old.disk.now × (D.history new.disk.now ≡ D.history old.disk.now)) };
+    ghost unchanged = { IsUntouched D.sectors D.honest D.history };
 
     fn len(&self) -> u64 {
         self.len
@@ -141,11 +148,19 @@ impl<'a, D: Sectors> Bytes for SectorBytes<'a, D> {
 
     ghost sized = { λ s bytes held. held.1.length_is };
 
-    ghost unchanged_itself = { λ s. (refl, refl, λ honest. (honest, refl)) };
+    ghost unchanged_itself = { λ s. record {
+      same_reference = refl;
+      same_first = refl;
+      same_count = refl;
+      was_honest = λ honest. honest;
+      same_history = λ honest. refl;
+    } };
 
-    ghost unchanged_on = { λ a b c first then. (
-      then.0 ∙ first.0,
-      then.1 ∙ first.1,
-      λ honest. ((first.2 (then.2 honest).0).0, (then.2 honest).1 ∙ (first.2 (then.2 honest).0).1),
-    ) };
+    ghost unchanged_on = { λ a b c first then. record {
+      same_reference = then.same_reference ∙ first.same_reference;
+      same_first = then.same_first ∙ first.same_first;
+      same_count = then.same_count ∙ first.same_count;
+      was_honest = λ honest. first.was_honest (then.was_honest honest);
+      same_history = λ honest. then.same_history honest ∙ first.same_history (then.was_honest honest);
+    } };
 }
