@@ -1,6 +1,6 @@
 //! The bytes of sectors as a source that `pm_archive` reads.
 ghost use Rattle.std.proofs.Common.{refl, ◌∙◌};
-ghost use Rattle.std.specs.Prelude.{◌≡◌, ◌≤◌, ◌<◌, ◌+◌, ◌^◌, length, OnOk, IfSome, Option, Some, slice_range};
+ghost use Rattle.std.specs.Prelude.{◌≡◌, ◌≤◌, ◌<◌, ◌+◌, ◌^◌, length, OnOk, IfSome, Some, slice_range};
 ghost use Rattle.generations.specs.Areas.{sectors_of};
 ghost use Rattle.sector_bytes.specs.Bytes.{bytes_from};
 ghost use Rattle.sector_bytes.specs.Source.{SourceView, AreItsBytes, IsUntouched};
@@ -51,7 +51,7 @@ impl<'a, D: Sectors> SectorBytes<'a, D> {
         }
     }
 
-    /// The disk.
+    /// Gives the disk back. Only a source that is taken apart by this tells the disk's owner how it left the disk.
     pub fn into_disk(self) -> &'a mut D
         ensures same_reference { result.ghost_name ≡ self.entry.disk.ghost_name }
         ensures disk { result.now ≡ self.entry.disk.now }

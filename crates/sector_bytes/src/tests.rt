@@ -1,5 +1,5 @@
 //! Bytes read from disks that were written sector by sector.
-ghost use Rattle.std.specs.Prelude.{◌≡◌, ◌<◌, length, IfOk};
+ghost use Rattle.std.specs.Prelude.{◌≡◌, IfOk};
 
 mod archives;
 mod parts;
