@@ -1,0 +1,11 @@
+//! Bytes that stand in consecutive sectors of a disk, read from an offset on.
+#![tactic(auto)]
+
+mod reading;
+mod source;
+
+pub use reading::read_bytes;
+pub use source::SectorBytes;
+
+#[cfg(test)]
+mod tests;

@@ -1,0 +1,166 @@
+//! The bytes of sectors as a source that `pm_archive` reads.
+ghost use Rattle.std.proofs.Common.{refl, ◌∙◌};
+ghost use Rattle.std.specs.Prelude.{◌≡◌, ◌≤◌, ◌<◌, ◌+◌, ◌^◌, length, OnOk, IfSome, Some, slice_range};
+ghost use Rattle.generations.specs.Areas.{sectors_of};
+ghost use Rattle.sector_bytes.specs.Bytes.{bytes_from};
+ghost use Rattle.sector_bytes.specs.Source.{SourceView, AreItsBytes, IsUntouched};
+ghost use Rattle.sector_disk.specs.Disk.{seen};
+ghost use Rattle.sector_disk.specs.declared.disk.TheConstants.{SECTOR_BYTES};
+
+use pm_archive::{Bytes, ReadFault};
+use sector_disk::{DiskFault, SECTOR_BYTES, Sectors};
+use std::marker::Model;
+
+/// Bytes that stand in consecutive sectors of a disk. It keeps the sector that it read last, so that parts of one sector
+/// that are read one after the other cost one read.
+#[derive(Drop)]
+pub struct SectorBytes<'a, D: Sectors> {
+    disk: &'a mut D,
+    first: u64,
+    len: u64,
+    last: Option<u64>,
+    sector: [u8; SECTOR_BYTES],
+}
+
+impl<'a, D: Sectors> Model for SectorBytes<'a, D> {
+    ghost Value = { SourceView D };
+
+    ghost view = { λ s. record { disk = s.disk; first = s.first; len = s.len; last = s.last } };
+
+    ghost invariant = { λ s. (s.first + sectors_of s.len ≤ D.sectors s.disk.now) × (s.first + sectors_of s.len < 2 ^ 64)
+        × (D.honest s.disk.now → IfSome s.last (λ index. s.sector ≡ seen (D.history s.disk.now) (s.first + index))) };
+}
+
+impl<'a, D: Sectors> SectorBytes<'a, D> {
+    /// So many bytes from the first byte of a sector on.
+    pub fn new(disk: &'a mut D, first: u64, len: u64) -> SectorBytes<'a, D>
+        requires on_disk { first + sectors_of len ≤ D.sectors disk.old }
+        ensures same_reference { result.disk.ghost_name ≡ disk.entry.ghost_name }
+        ensures disk { result.disk.now ≡ disk.old }
+        ensures first { result.first ≡ first }
+        ensures len { result.len ≡ len }
+    {
+        let _count = disk.count();
+        let sector = [0; SECTOR_BYTES];
+        SectorBytes {
+            disk,
+            first,
+            len,
+            last: None,
+            sector,
+        }
+    }
+
+    /// Gives the disk back. Only a source that is taken apart by this tells the disk's owner how it left the disk.
+    pub fn into_disk(self) -> &'a mut D
+        ensures same_reference { result.ghost_name ≡ self.entry.disk.ghost_name }
+        ensures disk { result.now ≡ self.entry.disk.now }
+    {
+        self.disk
+    }
+
+    /// Reads a part of one sector, as many bytes as `into` has room for. The disk is asked only for another sector than last.
+    fn read_part(&mut self, index: u64, offset: usize, into: &mut [u8]) -> Result<(), ReadFault>
+        requires inside { index < sectors_of self.old.len }
+        requires fits { offset + length into.old ≤ SECTOR_BYTES }
+        ensures same_reference { self.new.disk.ghost_name ≡ self.old.disk.ghost_name }
+        ensures first { self.new.first ≡ self.old.first }
+        ensures len { self.new.len ≡ self.old.len }
+        ensures count { D.sectors self.new.disk.now ≡ D.sectors self.old.disk.now }
+        ensures honest { D.honest self.new.disk.now → D.honest self.old.disk.now }
+        ensures history { D.honest self.new.disk.now → D.history self.new.disk.now ≡ D.history self.old.disk.now }
+        ensures length { length into.new ≡ length into.old }
+        ensures whole { D.honest self.new.disk.now
+            → OnOk result (length (seen (D.history self.old.disk.now) (self.old.first + index)) ≡ SECTOR_BYTES) }
+        ensures read { D.honest self.new.disk.now → OnOk result (into.new
+            ≡ slice_range (seen (D.history self.old.disk.now) (self.old.first + index)) offset (offset + length into.old)) }
+    {
+        if self.last != Some(index) {
+            self.read_sector(index)?;
+        }
+        into.copy_from_slice(&self.sector[offset..offset + into.len()]);
+        Ok(())
+    }
+
+    /// Reads a sector, and keeps it.
+    fn read_sector(&mut self, index: u64) -> Result<(), ReadFault>
+        requires inside { index < sectors_of self.old.len }
+        ensures same_reference { self.new.disk.ghost_name ≡ self.old.disk.ghost_name }
+        ensures first { self.new.first ≡ self.old.first }
+        ensures len { self.new.len ≡ self.old.len }
+        ensures count { D.sectors self.new.disk.now ≡ D.sectors self.old.disk.now }
+        ensures honest { D.honest self.new.disk.now → D.honest self.old.disk.now }
+        ensures history { D.honest self.new.disk.now → D.history self.new.disk.now ≡ D.history self.old.disk.now }
+        ensures last { OnOk result (self.new.last ≡ Some index) }
+    {
+        self.last = None;
+        match self.disk.read(self.first + index, &mut self.sector) {
+            Ok(()) => {}
+            Err(DiskFault) => return Err(ReadFault),
+        }
+        self.last = Some(index);
+        Ok(())
+    }
+
+    /// Reads bytes from an offset on, as many as `into` has room for, one sector after the other.
+    fn read_parts(&mut self, at: u64, into: &mut [u8]) -> Result<(), ReadFault>
+        requires inside { at + length into.old ≤ self.old.len }
+        ensures same_reference { self.new.disk.ghost_name ≡ self.old.disk.ghost_name }
+        ensures first { self.new.first ≡ self.old.first }
+        ensures len { self.new.len ≡ self.old.len }
+        ensures count { D.sectors self.new.disk.now ≡ D.sectors self.old.disk.now }
+        ensures honest { D.honest self.new.disk.now → D.honest self.old.disk.now }
+        ensures history { D.honest self.new.disk.now → D.history self.new.disk.now ≡ D.history self.old.disk.now }
+        ensures length { length into.new ≡ length into.old }
+        ensures read { D.honest self.new.disk.now → OnOk result (into.new ≡ slice_range
+            (bytes_from (seen (D.history self.old.disk.now)) self.old.first (sectors_of (at + length into.old))) at (at + length into.old)) }
+    {
+        let _len = self.len;
+        let mut done = 0;
+        while done < into.len() {
+            let place = at + done as u64;
+            let offset = (place % SECTOR_BYTES as u64) as usize;
+            let part = (SECTOR_BYTES - offset).min(into.len() - done);
+            let index = place / SECTOR_BYTES as u64;
+            self.read_part(index, offset, &mut into[done..done + part])?;
+            done += part;
+        }
+        Ok(())
+    }
+}
+
+impl<'a, D: Sectors> Bytes for SectorBytes<'a, D> {
+    ghost count = { λ s. s.len };
+
+    ghost holds = { λ s bytes. D.honest s.disk.now × AreItsBytes s.first s.len bytes (seen (D.history s.disk.now)) };
+
+    ghost fails = { λ s. Unit {0} };
+
+    ghost unchanged = { IsUntouched D.sectors D.honest D.history };
+
+    fn len(&self) -> u64 {
+        self.len
+    }
+
+    fn read_at(&mut self, at: u64, into: &mut [u8]) -> Result<(), ReadFault> {
+        self.read_parts(at, into)
+    }
+
+    ghost sized = { λ s bytes held. held.1.length_is };
+
+    ghost unchanged_itself = { λ s. record {
+      same_reference = refl;
+      same_first = refl;
+      same_count = refl;
+      was_honest = λ honest. honest;
+      same_history = λ honest. refl;
+    } };
+
+    ghost unchanged_on = { λ a b c first then. record {
+      same_reference = then.same_reference ∙ first.same_reference;
+      same_first = then.same_first ∙ first.same_first;
+      same_count = then.same_count ∙ first.same_count;
+      was_honest = λ honest. first.was_honest (then.was_honest honest);
+      same_history = λ honest. then.same_history honest ∙ first.same_history (then.was_honest honest);
+    } };
+}
