@@ -1,0 +1,7 @@
+//! What a publication writes into an area: the snapshot of a map, and behind it, from the next sector on, the archive of its
+//! tiles. No call knows a disk.
+#![tactic(auto)]
+
+mod content;
+
+pub use content::AreaContent;
