@@ -1,3 +1,4 @@
 pub mod Content
+pub mod Faults
 pub mod Inside
 pub mod Tiles

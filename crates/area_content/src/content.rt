@@ -1,5 +1,5 @@
 //! The content of an area, sector by sector.
-ghost use Rattle.std.specs.Prelude.{◌≡◌, ◌<◌, ◌≤◌, length};
+ghost use Rattle.std.specs.Prelude.{◌≡◌, ◌<◌, ◌≤◌, ◌^◌, length};
 ghost use Rattle.generations.specs.Areas.{sectors_of};
 ghost use Rattle.area_content.specs.Content.{sectors_taken, piece, padded, sector_at};
 
@@ -25,7 +25,7 @@ impl Model for AreaContent {
 /// How many sectors so many bytes take.
 pub(crate) fn sectors_for(bytes: usize) -> u64
     ensures taken { result ≡ sectors_of bytes }
-    ensures small { result ≤ 36028797018963968 }
+    ensures small { result ≤ 2 ^ 55 }
 {
     let bytes = bytes as u64;
     let part = if bytes % 512 > 0 { 1 } else { 0 };

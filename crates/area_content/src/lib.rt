@@ -2,6 +2,11 @@
 //! tiles. No call knows a disk.
 #![tactic(auto)]
 
+mod archive;
 mod content;
+mod fault;
+mod making;
 
 pub use content::AreaContent;
+pub use fault::ContentFault;
+pub use making::content_of;
