@@ -1,6 +1,6 @@
 -- From the tiles of a map to those of its archive.
-use Rattle.std.proofs.Common.{◌≡◌, ◌≢◌, inl, inr, ℕ, zero, suc, ◌+◌, ◌^◌, ◌<◌, ◌≤◌, Bool, true, false, eqb, if◌then◌else◌, List, [], ◌∷◌, length, Option, Some, None}
-use Rattle.std.proofs.Common.{refl, sym, ap, subst, ◌∙◌, arith}
+use Rattle.std.proofs.Common.{◌≡◌, ◌≢◌, inl, inr, ℕ, zero, suc, ◌+◌, ◌^◌, ◌<◌, ◌≤◌, Bool, true, false, eqb, if◌then◌else◌, List, [], ◌∷◌, length}
+use Rattle.std.proofs.Common.{Option, Some, None, refl, sym, ap, subst, ◌∙◌, arith}
 use Rattle.std.specs.Prelude.{All}
 use Rattle.std.specs.List.{AllByRecursion, Contains}
 use Rattle.std.specs.List.Sorted.{IsStrictlySortedBy}
@@ -121,7 +121,8 @@ module _ (m : FeatureMap) where
       ap (λ k. layers m k a b) one.0 ∙ ap (λ k. layers m z k b) one.1 ∙ ap (λ k. layers m z x k) one.2
 
   -- the content of a tile's id reads as its layers
-  reads_there : IsMap m → (z x y id : ℕ) (bytes : List ℕ) → IsTileId z x y id → IsTile m (id, bytes) → (0 < length (layers m z x y)) × ReadsAs bytes (layers m z x y)
+  reads_there : IsMap m → (z x y id : ℕ) (bytes : List ℕ) → IsTileId z x y id → IsTile m (id, bytes)
+      → (0 < length (layers m z x y)) × ReadsAs bytes (layers m z x y)
   reads_there is_map z x y id bytes place (w, a, b, other, some, is) =
       let same = the_place z x y w a b id place other in
       let written_is : bytes ≡ written (layers m z x y) = is ∙ ap written same in (

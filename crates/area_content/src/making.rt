@@ -32,6 +32,7 @@ fn archive_for(
         (λ bytes. (bound : ℕ) × IsBoundOfMap store.now.features (length metadata.now) bound × (length bytes.items ≤ bound)) }
     ensures fault { IfErr result (IsContentFault store.now.features (length metadata.now) area) }
 {
+    // A clause of this call says that the features keep what a map keeps.
     let _count = store.len();
     let tiles = match store.tiles() {
         Ok(tiles) => tiles,
