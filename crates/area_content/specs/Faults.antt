@@ -4,6 +4,8 @@ use Rattle.std.specs.List.{AllByRecursion, concat}
 use Rattle.feature_store.specs.Store.{FeatureMap, snapshot}
 use Rattle.feature_store.specs.Tiles.{AreTiles}
 use Rattle.generations.specs.Areas.{sectors_of}
+use Rattle.pm_build.specs.declared.fault.BuildFault.{BuildFault}
+use Rattle.pm_build.specs.declared.fault.BuildFault.TheVariants as building
 use Rattle.pm_build.specs.declared.limit.TheConstants.{MAX_ENTRIES}
 use Rattle.pm_build.specs.Placed.{AreDifferent}
 use Rattle.pm_build.specs.Runs.{TileRun, AreLongestRuns}
@@ -51,3 +53,8 @@ abbrev pub IsContentFault : FeatureMap → (metadata area : ℕ) → ContentFaul
 IsContentFault m metadata area TooManyTiles = HasManyTiles m
 IsContentFault m metadata area (AreaFull need free) = IsFull m metadata area need free
 IsContentFault m metadata area Memory = ⊤
+
+-- what is told of a fault of the archive's making
+abbrev pub told_as : BuildFault → ContentFault
+told_as building.TooManyEntries = TooManyTiles
+told_as building.Memory = Memory

@@ -4,7 +4,7 @@ ghost use Rattle.feature_store.specs.Store.{snapshot};
 ghost use Rattle.generations.specs.Areas.{sectors_of};
 ghost use Rattle.pm_archive.specs.Archive.{IsMetadata};
 ghost use Rattle.area_content.specs.Content.{sectors_taken};
-ghost use Rattle.area_content.specs.Faults.{IsBoundOfMap, IsContentFault};
+ghost use Rattle.area_content.specs.Faults.{IsBoundOfMap, IsContentFault, told_as};
 ghost use Rattle.area_content.specs.Tiles.{IsArchiveOfMap};
 ghost use Rattle.area_content.specs.declared.fault.ContentFault.TheVariants.{AreaFull};
 
@@ -14,6 +14,16 @@ use crate::fault::ContentFault;
 use feature_store::Store;
 use pm_build::BuildFault;
 use std::alloc::Global;
+
+/// What is told of a fault of the archive's making.
+fn told(fault: BuildFault) -> ContentFault
+    ensures { result ≡ told_as fault }
+{
+    match fault {
+        BuildFault::TooManyEntries => ContentFault::TooManyTiles,
+        BuildFault::Memory => ContentFault::Memory,
+    }
+}
 
 /// The archive of a map whose snapshot takes so many sectors of an area.
 fn archive_for(
@@ -46,8 +56,7 @@ fn archive_for(
     }
     match archive_of(alloc, &tiles, metadata) {
         Ok(bytes) => Ok(bytes),
-        Err(BuildFault::TooManyEntries) => Err(ContentFault::TooManyTiles),
-        Err(BuildFault::Memory) => Err(ContentFault::Memory),
+        Err(fault) => Err(told(fault)),
     }
 }
 
