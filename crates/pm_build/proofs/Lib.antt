@@ -3,7 +3,7 @@ mod Counting
 mod Entries
 mod Growing
 mod Headers
-mod Joining
+pub mod Joining
 mod Leaves
 mod Listed
 mod Offsets

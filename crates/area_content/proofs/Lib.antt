@@ -1,0 +1,5 @@
+mod Bounds
+pub mod Laws
+mod Lengths
+mod MapTiles
+mod Pieces

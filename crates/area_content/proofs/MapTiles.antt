@@ -1,0 +1,184 @@
+-- From the tiles of a map to those of its archive.
+use Rattle.std.proofs.Common.{◌≡◌, ◌≢◌, inl, inr, ℕ, zero, suc, ◌+◌, ◌^◌, ◌<◌, ◌≤◌, Bool, true, false, eqb, if◌then◌else◌, List, [], ◌∷◌, length}
+use Rattle.std.proofs.Common.{Option, Some, None, refl, sym, ap, subst, ◌∙◌, arith}
+use Rattle.std.specs.Prelude.{All}
+use Rattle.std.specs.List.{AllByRecursion, Contains}
+use Rattle.std.specs.List.Sorted.{IsStrictlySortedBy}
+use Rattle.std.specs.Map.{keys_of}
+use Rattle.std.specs.Ordering.{nat_cmp}
+use Rattle.std.specs.declared.cmp.Ordering.TheVariants.{Less}
+use Rattle.std.proofs.lemmas.Bool.{cases_lt, eqb-true, eqb-false}
+use Rattle.std.proofs.lemmas.Bool.Decides.{nat_tests}
+use Rattle.std.proofs.lemmas.List.{nil_from_length}
+use Rattle.std.proofs.lemmas.List.Elements.{All-head, All-tail, All-contains, Contains-append_right, Contains-get_or}
+use Rattle.feature_model.specs.declared.limits.TheConstants.{GREATEST_ZOOM}
+use Rattle.feature_store.specs.Layers.{is_tile, layers}
+use Rattle.feature_store.specs.Store.{FeatureMap, IsMap}
+use Rattle.feature_store.specs.Tiles.{IsTile, AreTiles}
+use Rattle.feature_store.proofs.Laws.{layers_outside, written_layers_read}
+use Rattle.hilbert_id.specs.Curve.{IsTileId, first_id}
+use Rattle.hilbert_id.specs.declared.number.TheConstants.{TILE_IDS}
+use Rattle.hilbert_id.proofs.Ids.{no_tile_behind, one_tile_of}
+use Rattle.hilbert_id.proofs.Laws.{curve_reaches}
+use Rattle.mvt_layer.specs.Reads.{ReadsAs}
+use Rattle.mvt_layer.specs.Tile.{LayerView}
+use Rattle.mvt_write.specs.Written.{written}
+use Rattle.pb_wire.specs.Varint.{varint, shortest_in}
+use Rattle.pm_archive.specs.Archive.{IsArchiveOf}
+use Rattle.pm_build.specs.Built.{tile_content}
+use Rattle.pm_build.specs.Tiles.{Tile, IdsAscend}
+use Rattle.pm_build.specs.Tiles as build
+use Rattle.area_content.specs.Faults.{IsShort}
+use Rattle.area_content.specs.Tiles.{IsTileContent, AreTilesOf, HasNoTile, IsArchiveOfMap}
+
+-- ---- ids and contents as an archive wants them
+
+ascend_behind : (id : ℕ) (ts : List Tile) → AllByRecursion (λ k. nat_cmp id k ≡ Less) (keys_of ts) → IsStrictlySortedBy nat_cmp (keys_of ts)
+    → IdsAscend (suc id) ts
+unfolding IsStrictlySortedBy
+ascend_behind id [] above sorted = tt
+ascend_behind id (t ∷ ts) above sorted = (let less = above.0 in grind (arith, nat_tests), ascend_behind t.0 ts sorted.0 sorted.1)
+
+ascend : (ts : List Tile) → IsStrictlySortedBy nat_cmp (keys_of ts) → IdsAscend 0 ts
+unfolding IsStrictlySortedBy
+ascend [] sorted = tt
+ascend (t ∷ ts) sorted = (omega arith, ascend_behind t.0 ts sorted.0 sorted.1)
+
+some_written : (ls : List LayerView) → 0 < length ls → 0 < length (written ls)
+unfolding written varint shortest_in
+some_written [] some = absurd (omega (arith, some))
+some_written (l ∷ ls) some = omega arith
+
+zoom_within : (z x y : ℕ) → is_tile z x y ≡ true → z ≤ GREATEST_ZOOM
+zoom_within z x y is = grind (arith, nat_tests)
+
+column_within : (z x y : ℕ) → is_tile z x y ≡ true → x < 2 ^ z
+column_within z x y is = grind (arith, nat_tests)
+
+row_within : (z x y : ℕ) → is_tile z x y ≡ true → y < 2 ^ z
+row_within z x y is = grind (arith, nat_tests)
+
+-- ---- contents by their ids
+
+content_in : (ts : List Tile) (id : ℕ) (bytes : List ℕ) → tile_content ts id ≡ Some bytes → Contains ts (id, bytes)
+content_in [] id bytes is = absurd (cc)
+content_in (t ∷ ts) id bytes is = by (eqb t.0 id) refl is (content_in ts id bytes)
+  where
+    by : (b : Bool) → eqb t.0 id ≡ b → (if b then Some t.1 else tile_content ts id) ≡ Some bytes
+        → (tile_content ts id ≡ Some bytes → Contains ts (id, bytes)) → Contains (t ∷ ts) (id, bytes)
+    by true here found behind =
+        let at : t.0 ≡ id = eqb-true t.0 id here in
+        let content : t.1 ≡ bytes = cc in
+        let whole : t ≡ (id, bytes) = ap (λ (k : ℕ). let u : Tile = (k, t.1) in u) at ∙ ap (λ (b : List ℕ). let u : Tile = (id, b) in u) content in
+        subst (Contains (t ∷ ts)) whole (Contains-get_or (t ∷ ts) 0 t (omega arith))
+    by false other found behind = Contains-append_right (t ∷ []) ts (id, bytes) (behind found)
+
+content_there : (ts : List Tile) (id : ℕ) → Contains (keys_of ts) id → tile_content ts id ≡ None → ⊥
+content_there [] id there is = absurd (omega (arith, there.1))
+content_there (t ∷ ts) id there is = by (eqb t.0 id) refl there is (content_there ts id)
+  where
+    by : (b : Bool) → eqb t.0 id ≡ b → Contains (t.0 ∷ keys_of ts) id → (if b then Some t.1 else tile_content ts id) ≡ None
+        → (Contains (keys_of ts) id → tile_content ts id ≡ None → ⊥) → ⊥
+    by true here listed found behind = cc
+    by false other (zero, within, same) found behind = absurd (eqb-false t.0 id other same)
+    by false other (suc k, within, same) found behind = behind (k, omega (arith, within), same) found
+
+module _ (m : FeatureMap) where
+  -- a tile that shows something is one of the world
+  shows_inside : (z x y : ℕ) → 0 < length (layers m z x y) → is_tile z x y ≡ true
+  shows_inside z x y some = by (is_tile z x y) refl
+    where
+      by : (b : Bool) → is_tile z x y ≡ b → is_tile z x y ≡ true
+      by true is = is
+      by false is = absurd (omega (arith, some, ap (λ (ls : List LayerView). length ls) (layers_outside m z x y is)))
+
+  id_below : (t : Tile) → IsTile m t → t.0 < TILE_IDS
+  id_below t (z, x, y, place, some, is) =
+      elim (cases_lt t.0 TILE_IDS) [
+        | inl lt ↦ lt
+        | inr le ↦ absurd (no_tile_behind z x y t.0 (omega (arith, zoom_within z x y (shows_inside z x y some))) place le)
+      ]
+
+  some_bytes : (t : Tile) → IsTile m t → 0 < length t.1
+  some_bytes t (z, x, y, place, some, is) = omega (arith, some_written (layers m z x y) some, ap (λ (bytes : List ℕ). length bytes) is)
+
+  each_fits : (ts : List Tile) → All (IsTile m) ts → All IsShort ts → AllByRecursion build.IsTile ts
+  each_fits [] each short = tt
+  each_fits (t ∷ ts) each short =
+      let is = All-head (IsTile m) t ts each in
+      ((id_below t is, some_bytes t is, All-head IsShort t ts short), each_fits ts (All-tail (IsTile m) t ts each) (All-tail IsShort t ts short))
+
+  -- an archive can be built of the tiles of a map, where each content is short enough
+  pub buildable : (ts : List Tile) → AreTiles m ts → All IsShort ts → build.AreTiles ts
+  buildable ts are short = (ascend ts are.ascending, each_fits ts are.each short)
+
+  -- ---- the contents are the tiles of the map
+
+  -- tiles of one id have the same layers
+  the_place : (z x y w a b id : ℕ) → IsTileId z x y id → IsTileId w a b id → layers m w a b ≡ layers m z x y
+  the_place z x y w a b id is other =
+      let one = one_tile_of w a b z x y id other is in
+      ap (λ k. layers m k a b) one.0 ∙ ap (λ k. layers m z k b) one.1 ∙ ap (λ k. layers m z x k) one.2
+
+  -- the content of a tile's id reads as its layers
+  reads_there : IsMap m → (z x y id : ℕ) (bytes : List ℕ) → IsTileId z x y id → IsTile m (id, bytes)
+      → (0 < length (layers m z x y)) × ReadsAs bytes (layers m z x y)
+  reads_there is_map z x y id bytes place (w, a, b, other, some, is) =
+      let same = the_place z x y w a b id place other in
+      let written_is : bytes ≡ written (layers m z x y) = is ∙ ap written same in (
+        subst (λ (ls : List LayerView). 0 < length ls) same some,
+        subst (λ (text : List ℕ). ReadsAs text (layers m z x y)) (sym written_is) (written_layers_read m z x y is_map),
+      )
+
+  -- and without one there are none
+  read_there : IsMap m → (ts : List Tile) → AreTiles m ts → (z x y id : ℕ) → IsTileId z x y id → IsTileContent (layers m z x y) (tile_content ts id)
+  read_there is_map ts are z x y id place = by (tile_content ts id) refl
+    where
+      by : (o : Option (List ℕ)) → tile_content ts id ≡ o → IsTileContent (layers m z x y) o
+      by (Some bytes) is =
+          reads_there is_map z x y id bytes place (All-contains (IsTile m) ts (id, bytes) are.each (content_in ts id bytes is))
+      by None is =
+          elim (cases_lt 0 (length (layers m z x y))) [
+            | inl some ↦ absurd (content_there ts id (are.every z x y id place some) is)
+            | inr none ↦ nil_from_length (layers m z x y) (omega arith)
+          ]
+
+  content_of_tile : (ts : List Tile) → AreTiles m ts → (id : ℕ) (bytes : List ℕ) → tile_content ts id ≡ Some bytes
+      → (z : ℕ) × (x : ℕ) × (y : ℕ) × IsTileId z x y id
+  content_of_tile ts are id bytes is =
+      let tile = All-contains (IsTile m) ts (id, bytes) are.each (content_in ts id bytes is) in
+      (tile.0, tile.1, tile.2, tile.3)
+
+  tiles_of_map : IsMap m → (ts : List Tile) → AreTiles m ts → AreTilesOf m (tile_content ts)
+  tiles_of_map is_map ts are = record { each = read_there is_map ts are; only = content_of_tile ts are }
+
+  -- ---- maps without tiles
+
+  shows_none : AreTiles m [] → (z x y : ℕ) → 0 < length (layers m z x y) → ⊥
+  shows_none are z x y some =
+      let is = shows_inside z x y some in
+      let there = curve_reaches z x y (column_within z x y is) (row_within z x y is) in
+      let listed = are.every z x y (first_id z + there.0) (there.0, there.2, refl) some in
+      absurd (omega (arith, listed.1))
+
+  no_tile : AreTiles m [] → HasNoTile m
+  no_tile are z x y =
+      elim (cases_lt 0 (length (layers m z x y))) [
+        | inl some ↦ absurd (shows_none are z x y some)
+        | inr none ↦ nil_from_length (layers m z x y) (omega arith)
+      ]
+
+  a_tile : (t : Tile) (ts : List Tile) → AreTiles m (t ∷ ts) → HasNoTile m → ⊥
+  a_tile t ts are none =
+      let tile = All-head (IsTile m) t ts are.each in
+      absurd (omega (arith, tile.4, ap (λ (ls : List LayerView). length ls) (none tile.0 tile.1 tile.2)))
+
+  -- no bytes are the archive of no tiles
+  pub none_is_archive : (ts : List Tile) (bytes : List ℕ) → ts ≡ [] → bytes ≡ [] → AreTiles m ts → IsArchiveOfMap m bytes
+  none_is_archive ts bytes none empty are = inl (no_tile (subst (AreTiles m) none are), empty)
+
+  -- an archive of tiles is one of their map
+  pub some_are_archive : (ts : List Tile) (bytes : List ℕ) → ts ≢ [] → IsMap m → AreTiles m ts → IsArchiveOf bytes (tile_content ts) → IsArchiveOfMap m bytes
+  some_are_archive [] bytes some is_map are archive = absurd (some refl)
+  some_are_archive (t ∷ ts) bytes some is_map are archive =
+      inr (a_tile t ts are, (tile_content (t ∷ ts), tiles_of_map is_map (t ∷ ts) are, archive))

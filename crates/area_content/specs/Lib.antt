@@ -1,0 +1,4 @@
+pub mod Content
+pub mod Faults
+pub mod Inside
+pub mod Tiles

@@ -1,0 +1,27 @@
+-- The tiles of a map, and archives of them.
+use Rattle.std.specs.Prelude.{◌≡◌, ◌⊎◌, ◌<◌, ℕ, List, [], length, Option, Some, None}
+use Rattle.feature_store.specs.Layers.{layers}
+use Rattle.feature_store.specs.Store.{FeatureMap}
+use Rattle.hilbert_id.specs.Curve.{IsTileId}
+use Rattle.mvt_layer.specs.Reads.{ReadsAs}
+use Rattle.mvt_layer.specs.Tile.{LayerView}
+use Rattle.pm_archive.specs.Archive.{IsArchiveOf}
+
+-- what is stored for these layers: nothing where there are none, else bytes that read as them
+abbrev pub IsTileContent : List LayerView → Option (List ℕ) → Type 0
+IsTileContent ls None = ls ≡ []
+IsTileContent ls (Some bytes) = (0 < length ls) × ReadsAs bytes ls
+
+-- the contents of tile ids are the tiles of the map, and no other id has one
+pub record AreTilesOf (m : FeatureMap) (content : ℕ → Option (List ℕ)) : Type 0 where
+  pub each : (z x y id : ℕ) → IsTileId z x y id → IsTileContent (layers m z x y) (content id)
+  pub only : (id : ℕ) (bytes : List ℕ) → content id ≡ Some bytes → (z : ℕ) × (x : ℕ) × (y : ℕ) × IsTileId z x y id
+
+-- no tile of the map shows anything
+abbrev pub HasNoTile : FeatureMap → Type 0
+HasNoTile m = (z x y : ℕ) → layers m z x y ≡ []
+
+-- the bytes are an archive of exactly the tiles of the map, or none where it has no tile
+abbrev pub IsArchiveOfMap : FeatureMap → List ℕ → Type 0
+IsArchiveOfMap m bytes =
+    (HasNoTile m × (bytes ≡ [])) ⊎ ((HasNoTile m → ⊥) × ((content : ℕ → Option (List ℕ)) × AreTilesOf m content × IsArchiveOf bytes content))

@@ -1,0 +1,97 @@
+//! The content of an area, sector by sector.
+ghost use Rattle.std.specs.Prelude.{◌≡◌, ◌<◌, ◌≤◌, ◌^◌, length};
+ghost use Rattle.generations.specs.Areas.{sectors_of};
+ghost use Rattle.area_content.specs.Content.{sectors_taken, piece, padded, sector_at};
+
+use std::marker::Model;
+
+/// The snapshot and the archive of a map, each from a sector of its own on.
+#[derive(Debug, Drop)]
+pub struct AreaContent {
+    snapshot: Vec<u8>,
+    archive: Vec<u8>,
+}
+
+impl Model for AreaContent {
+    ghost use Rattle.area_content.specs.Content.{ContentView};
+
+    ghost Value = { ContentView };
+
+    ghost use Rattle.area_content.specs.Inside.{content_view};
+
+    ghost view = { content_view };
+}
+
+/// How many sectors so many bytes take.
+pub(crate) fn sectors_for(bytes: usize) -> u64
+    ensures taken { result ≡ sectors_of bytes }
+    ensures small { result ≤ 2 ^ 55 }
+{
+    let bytes = bytes as u64;
+    let part = if bytes % 512 > 0 { 1 } else { 0 };
+    bytes / 512 + part
+}
+
+/// The part of the bytes in one of the sectors that they take.
+fn piece(bytes: &[u8], index: u64) -> &[u8]
+    requires { index < sectors_of (length bytes.now) }
+    ensures piece { result.now ≡ piece bytes.now index }
+    ensures short { length result.now ≤ 512 }
+{
+    let behind = &bytes[512 * index as usize..];
+    &behind[..behind.len().min(512)]
+}
+
+/// A sector of these bytes, with zeros behind their end.
+fn padded(bytes: &[u8]) -> [u8; 512]
+    requires { length bytes.now ≤ 512 }
+    ensures { result ≡ padded bytes.now }
+{
+    let mut sector = [0; 512];
+    sector[..bytes.len()].copy_from_slice(bytes);
+    sector
+}
+
+impl AreaContent {
+    /// The content of these bytes.
+    pub(crate) fn of(snapshot: Vec<u8>, archive: Vec<u8>) -> AreaContent
+        ensures snapshot { result.snapshot ≡ snapshot.items }
+        ensures archive { result.archive ≡ archive.items }
+    {
+        AreaContent { snapshot, archive }
+    }
+
+    /// How many bytes the snapshot has.
+    pub fn snapshot_len(&self) -> u64
+        ensures { result ≡ length self.now.snapshot }
+    {
+        self.snapshot.len() as u64
+    }
+
+    /// How many bytes the archive has.
+    pub fn archive_len(&self) -> u64
+        ensures { result ≡ length self.now.archive }
+    {
+        self.archive.len() as u64
+    }
+
+    /// How many sectors both take.
+    pub fn sectors(&self) -> u64
+        ensures { result ≡ sectors_taken self.now }
+    {
+        sectors_for(self.snapshot.len()) + sectors_for(self.archive.len())
+    }
+
+    /// The bytes of a sector: first come those of the snapshot, then those of the archive. It reads no other bytes.
+    pub fn sector(&self, index: u64) -> [u8; 512]
+        requires { index < sectors_taken self.now }
+        ensures { result ≡ sector_at self.now index }
+    {
+        let first = sectors_for(self.snapshot.len());
+        if index < first {
+            padded(piece(&self.snapshot, index))
+        } else {
+            padded(piece(&self.archive, index - first))
+        }
+    }
+}

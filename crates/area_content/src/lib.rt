@@ -1,0 +1,15 @@
+//! What a publication writes into an area: the snapshot of a map, and behind it, from the next sector on, the archive of its
+//! tiles. No call knows a disk.
+#![tactic(auto)]
+
+mod archive;
+mod content;
+mod fault;
+mod making;
+
+pub use content::AreaContent;
+pub use fault::ContentFault;
+pub use making::content_of;
+
+#[cfg(test)]
+mod tests;
