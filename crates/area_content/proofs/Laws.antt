@@ -3,21 +3,22 @@ use Rattle.std.proofs.Common.{◌≡◌, ℕ, ◌+◌, ◌-◌, ◌<◌, false, 
 use Rattle.std.proofs.lemmas.Bool.{lt-ltb, le-ltb}
 use Rattle.std.proofs.lemmas.List.{take_at}
 use Rattle.generations.specs.Areas.{sectors_of}
-use Rattle.area_content.specs.Content.{ContentView, piece, padded, sector_at}
+use Rattle.sector_bytes.specs.Bytes.{sector_piece}
+use Rattle.area_content.specs.Content.{ContentView, padded, sector_at}
 
 begins : (bytes : List ℕ) → take (length bytes) (padded bytes) ≡ bytes
 begins bytes = take_at bytes (replicate (512 - length bytes) 0) (length bytes) refl
 
 -- A sector of the snapshot begins with that piece of it.
 pub snapshot_sector : (c : ContentView) (index : ℕ) → index < sectors_of (length c.snapshot)
-    → take (length (piece c.snapshot index)) (sector_at c index) ≡ piece c.snapshot index
-snapshot_sector c index within = rw (lt-ltb index (sectors_of (length c.snapshot)) within) (begins (piece c.snapshot index))
+    → take (length (sector_piece c.snapshot index)) (sector_at c index) ≡ sector_piece c.snapshot index
+snapshot_sector c index within = rw (lt-ltb index (sectors_of (length c.snapshot)) within) (begins (sector_piece c.snapshot index))
 
 -- Behind the sectors of the snapshot a sector begins with a piece of the archive.
 pub archive_sector : (c : ContentView) (index : ℕ)
-    → take (length (piece c.archive index)) (sector_at c (sectors_of (length c.snapshot) + index)) ≡ piece c.archive index
+    → take (length (sector_piece c.archive index)) (sector_at c (sectors_of (length c.snapshot) + index)) ≡ sector_piece c.archive index
 archive_sector c index =
     let n = sectors_of (length c.snapshot) in
     let behind : ltb (n + index) n ≡ false = le-ltb (n + index) n (omega arith) in
     let index_is : n + index - n ≡ index = omega arith in
-    rw (behind, index_is) (begins (piece c.archive index))
+    rw (behind, index_is) (begins (sector_piece c.archive index))

@@ -1,6 +1,8 @@
 -- The snapshot and the archive of a map, as the sectors of an area.
-use Rattle.std.specs.Prelude.{ℕ, ◌+◌, ◌-◌, ◌*◌, List, ◌++◌, length, take, drop, replicate, nat_lt, if◌then◌else◌}
+use Rattle.std.specs.Prelude.{ℕ, ◌+◌, ◌-◌, List, ◌++◌, length, replicate, nat_lt, if◌then◌else◌}
 use Rattle.generations.specs.Areas.{sectors_of}
+use Rattle.sector_bytes.specs.Bytes.{sector_piece}
+use Rattle.sector_disk.specs.declared.disk.TheConstants.{SECTOR_BYTES}
 
 -- what contracts see: the bytes of the snapshot and of the archive
 pub record ContentView : Type 0 where
@@ -11,16 +13,12 @@ pub record ContentView : Type 0 where
 abbrev pub sectors_taken : ContentView → ℕ
 sectors_taken c = sectors_of (length c.snapshot) + sectors_of (length c.archive)
 
--- the part of the bytes in one of the sectors that they take
-abbrev pub piece : List ℕ → ℕ → List ℕ
-piece bytes index = take 512 (drop (512 * index) bytes)
-
 -- a sector that begins with the piece, and has zeros behind its end
 abbrev pub padded : List ℕ → List ℕ
-padded bytes = bytes ++ replicate (512 - length bytes) 0
+padded bytes = bytes ++ replicate (SECTOR_BYTES - length bytes) 0
 
 -- the sector of this index: first those of the snapshot, then those of the archive
 abbrev pub sector_at : ContentView → ℕ → List ℕ
 sector_at c index =
-    if nat_lt index (sectors_of (length c.snapshot)) then padded (piece c.snapshot index)
-    else padded (piece c.archive (index - sectors_of (length c.snapshot)))
+    if nat_lt index (sectors_of (length c.snapshot)) then padded (sector_piece c.snapshot index)
+    else padded (sector_piece c.archive (index - sectors_of (length c.snapshot)))

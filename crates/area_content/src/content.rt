@@ -1,8 +1,11 @@
 //! The content of an area, sector by sector.
 ghost use Rattle.std.specs.Prelude.{◌≡◌, ◌<◌, ◌≤◌, ◌^◌, length};
 ghost use Rattle.generations.specs.Areas.{sectors_of};
-ghost use Rattle.area_content.specs.Content.{sectors_taken, piece, padded, sector_at};
+ghost use Rattle.area_content.specs.Content.{sectors_taken, padded, sector_at};
+ghost use Rattle.sector_bytes.specs.Bytes.{sector_piece};
+ghost use Rattle.sector_disk.specs.declared.disk.TheConstants.{SECTOR_BYTES};
 
+use sector_disk::SECTOR_BYTES;
 use std::marker::Model;
 
 /// The snapshot and the archive of a map, each from a sector of its own on.
@@ -28,26 +31,30 @@ pub(crate) fn sectors_for(bytes: usize) -> u64
     ensures small { result ≤ 2 ^ 55 }
 {
     let bytes = bytes as u64;
-    let part = if bytes % 512 > 0 { 1 } else { 0 };
-    bytes / 512 + part
+    let part = if bytes % SECTOR_BYTES as u64 > 0 {
+        1
+    } else {
+        0
+    };
+    bytes / SECTOR_BYTES as u64 + part
 }
 
 /// The part of the bytes in one of the sectors that they take.
 fn piece(bytes: &[u8], index: u64) -> &[u8]
     requires { index < sectors_of (length bytes.now) }
-    ensures piece { result.now ≡ piece bytes.now index }
-    ensures short { length result.now ≤ 512 }
+    ensures piece { result.now ≡ sector_piece bytes.now index }
+    ensures short { length result.now ≤ SECTOR_BYTES }
 {
-    let behind = &bytes[512 * index as usize..];
-    &behind[..behind.len().min(512)]
+    let behind = &bytes[SECTOR_BYTES * index as usize..];
+    &behind[..behind.len().min(SECTOR_BYTES)]
 }
 
 /// A sector of these bytes, with zeros behind their end.
-fn padded(bytes: &[u8]) -> [u8; 512]
-    requires { length bytes.now ≤ 512 }
+fn padded(bytes: &[u8]) -> [u8; SECTOR_BYTES]
+    requires { length bytes.now ≤ SECTOR_BYTES }
     ensures { result ≡ padded bytes.now }
 {
-    let mut sector = [0; 512];
+    let mut sector = [0; SECTOR_BYTES];
     sector[..bytes.len()].copy_from_slice(bytes);
     sector
 }
@@ -83,7 +90,7 @@ impl AreaContent {
     }
 
     /// The bytes of a sector: first come those of the snapshot, then those of the archive. It reads no other bytes.
-    pub fn sector(&self, index: u64) -> [u8; 512]
+    pub fn sector(&self, index: u64) -> [u8; SECTOR_BYTES]
         requires { index < sectors_taken self.now }
         ensures { result ≡ sector_at self.now index }
     {
