@@ -6,6 +6,7 @@ pub mod Fits
 mod Fresh
 pub mod Laws
 mod Opens
+pub mod Publishes
 mod Replays
 mod Roots
 pub mod Runs
