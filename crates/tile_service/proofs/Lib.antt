@@ -1,6 +1,7 @@
 mod Appends
 mod Bytes
 pub mod Callers
+pub mod Contents
 mod Edits
 pub mod Fits
 mod Fresh

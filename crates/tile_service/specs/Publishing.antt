@@ -44,3 +44,19 @@ IsBeside n generation before image = (at : ℕ) → (IsInArea n generation at �
 pub record HasArea (n generation : ℕ) (snapshot_bytes archive_bytes : List ℕ) (image : Image) : Type 0 where
   pub snapshot_stands : (at : ℕ) → HasBytes (area_start n generation) snapshot_bytes at (image at)
   pub archive_stands : (at : ℕ) → HasBytes (area_start n generation + sectors_of (length snapshot_bytes)) archive_bytes at (image at)
+
+-- ---- an area that is being written
+
+-- the sector begins with these bytes
+abbrev pub BeginsWith : List ℕ → List ℕ → Type 0
+BeginsWith bytes sector = take (length bytes) sector ≡ bytes
+
+-- The sector is the one of this index of a snapshot with an archive behind it, each from a sector of its own on.
+pub record IsContentSector (snapshot_bytes archive_bytes : List ℕ) (index : ℕ) (sector : List ℕ) : Type 0 where
+  pub of_snapshot : BeginsWith (sector_piece snapshot_bytes index) sector
+  pub of_archive : (behind : ℕ) → index ≡ sectors_of (length snapshot_bytes) + behind → BeginsWith (sector_piece archive_bytes behind) sector
+
+-- the first so many of these sectors stand in the area of a generation
+abbrev pub HasFirst : (n generation : ℕ) → (snapshot_bytes archive_bytes : List ℕ) → (written : ℕ) → Image → Type 0
+HasFirst n generation snapshot_bytes archive_bytes written image =
+    (index : ℕ) → index < written → IsContentSector snapshot_bytes archive_bytes index (image (area_start n generation + index))
