@@ -6,6 +6,7 @@ mod Edits
 pub mod Fits
 mod Fresh
 pub mod Laws
+pub mod Installed
 mod Opens
 pub mod Publishes
 mod Replays
