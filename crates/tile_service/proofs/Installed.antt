@@ -1,6 +1,6 @@
 -- What is stored once a publication is installed.
-use Rattle.std.proofs.Common.{◌≡◌, ◌⊎◌, inl, inr, ⊎_elim, ℕ, Bool, false, zero, suc, ◌<◌, ◌≤◌, ◌+◌, ◌-◌, ◌%◌}
-use Rattle.std.proofs.Common.{List, [], ◌∷◌, ◌++◌, length, take, drop, Result, Ok, Err, OnOk, refl, sym, ◌∙◌, ap, subst, arith}
+use Rattle.std.proofs.Common.{◌≡◌, ◌⊎◌, inl, inr, ⊎_elim, ℕ, false, zero, suc, ◌<◌, ◌≤◌, ◌+◌, ◌-◌, ◌%◌}
+use Rattle.std.proofs.Common.{List, [], ◌∷◌, length, take, drop, Result, Ok, Err, OnOk, refl, sym, ◌∙◌, ap, subst, arith}
 use Rattle.std.proofs.Common.{length-append, length-drop}
 use Rattle.std.proofs.lemmas.List.{length-map, length-take, drop-map, take_all, take-append-le, drop-append-le}
 use Rattle.std.proofs.lemmas.List.Elements.{All-drop}
@@ -26,7 +26,8 @@ use Rattle.feature_model.specs.Types.{IsEdit}
 use Rattle.feature_store.specs.Store.{FeatureMap, IsMap, after, changed, snapshot}
 use Rattle.tile_service.specs.Publishing.{map_at, published, CanPublish, HasArea}
 use Rattle.tile_service.specs.Service.{ServiceView, IsUp}
-use Rattle.tile_service.specs.Stored.{Stored, Holds, HasBytes, HasEarlierRoot, Keeps, map_of, last_of, root_of, texts_of, with_edit, journal_ring, journal_start}
+use Rattle.tile_service.specs.Stored.{Stored, Holds, HasBytes, HasEarlierRoot, Keeps}
+use Rattle.tile_service.specs.Stored.{map_of, last_of, root_of, texts_of, with_edit, journal_ring, journal_start}
 use Rattle.tile_service.specs.Tiles.{IsArchiveOfMap}
 use Rattle.tile_service.proofs.Appends.{texts_with}
 use Rattle.tile_service.proofs.Publishes.{same_ring, live_can}

@@ -8,6 +8,7 @@ mod Fresh
 pub mod Laws
 pub mod Installed
 mod Opens
+pub mod Publications
 pub mod Publishes
 mod Replays
 mod Roots

@@ -1,12 +1,11 @@
 -- What the writes of a publication leave of what a disk holds.
 use Rattle.std.proofs.Common.{◌≡◌, ◌⊎◌, inl, inr, ⊎_elim, ℕ, suc, ◌<◌, ◌≤◌, ◌+◌, ◌*◌, ◌%◌, ◌==◌, if◌then◌else◌}
-use Rattle.std.proofs.Common.{List, [], ◌∷◌, length, take, drop, Result, refl, sym, ◌∙◌, ap, subst, arith}
+use Rattle.std.proofs.Common.{List, [], ◌∷◌, length, take, Result, refl, sym, ◌∙◌, ap, subst, arith}
 use Rattle.std.proofs.lemmas.Bool.{cases_eq, cases_lt}
 use Rattle.std.proofs.lemmas.Bool.Decides.{nat_tests}
 use Rattle.std.proofs.lemmas.List.{drop_all}
 use Rattle.std.proofs.lemmas.Nat.{mod_below}
 use Rattle.sector_disk.specs.Disk.{Image, History, seen, MayHold, MayLeave, FailedWrite, Writes}
-use Rattle.sector_disk.specs.Disk.History.{wrote, tried}
 use Rattle.sector_disk.specs.Moments.{LeavesOnly}
 use Rattle.sector_disk.specs.declared.disk.DiskFault.{DiskFault}
 use Rattle.sector_disk.specs.declared.disk.TheConstants.{SECTOR_BYTES}
@@ -38,11 +37,11 @@ starts n generation = ⊎_elim
     second g is = ap (λ (p : ℕ). 3 + journal_sectors n + p * area_sectors n) is ∙ omega arith
 
 -- an area lies behind the journal
-behind_ring : (n generation at : ℕ) → IsInArea n generation at → 3 + journal_sectors n ≤ at
+pub behind_ring : (n generation at : ℕ) → IsInArea n generation at → 3 + journal_sectors n ≤ at
 behind_ring n generation at inside = ⊎_elim (λ is. omega (arith, inside.0)) (λ is. omega (arith, is.0, inside.0)) (starts n generation)
 
 -- and the areas of a generation and of the next one have no sector in common
-areas_apart : (n generation at index : ℕ) → IsInArea n (suc generation) at → index < area_sectors n → at ≡ area_start n generation + index → ⊥
+pub areas_apart : (n generation at index : ℕ) → IsInArea n (suc generation) at → index < area_sectors n → at ≡ area_start n generation + index → ⊥
 areas_apart n generation at index inside lt same = ⊎_elim
     (λ is. omega (arith, is.0, is.1, inside.0, lt, same)) (λ is. omega (arith, is.0, is.1, inside.1, same)) (starts n generation)
 

@@ -1,7 +1,7 @@
 -- What a publication leaves on a disk: the map after some of the edits as the next snapshot, with its archive.
-use Rattle.std.specs.Prelude.{◌≡◌, ◌<◌, ◌≤◌, ◌+◌, ◌-◌, ◌^◌, ◌%◌, ℕ, List, length, take, drop, nat_lt, if◌then◌else◌}
+use Rattle.std.specs.Prelude.{◌≡◌, ◌<◌, ◌≤◌, ◌+◌, ◌^◌, ◌%◌, ℕ, List, length, take, drop}
 use Rattle.std.proofs.Common.{suc}
-use Rattle.sector_disk.specs.Disk.{Image}
+use Rattle.sector_disk.specs.Disk.{Image, History, seen}
 use Rattle.sector_bytes.specs.Bytes.{sector_piece}
 use Rattle.generations.specs.Areas.{journal_sectors, area_sectors, area_start, sectors_of}
 use Rattle.edit_journal.specs.Ring.{places_of}
@@ -60,3 +60,8 @@ pub record IsContentSector (snapshot_bytes archive_bytes : List ℕ) (index : �
 abbrev pub HasFirst : (n generation : ℕ) → (snapshot_bytes archive_bytes : List ℕ) → (written : ℕ) → Image → Type 0
 HasFirst n generation snapshot_bytes archive_bytes written image =
     (index : ℕ) → index < written → IsContentSector snapshot_bytes archive_bytes index (image (area_start n generation + index))
+
+-- A publication is under way: a read gives the first so many sectors of what can be published.
+pub record IsUnderWay (n : ℕ) (stored : Stored) (count : ℕ) (archive : List ℕ) (written : ℕ) (history : History) : Type 0 where
+  pub can : CanPublish n stored count archive
+  pub first : HasFirst n (suc stored.generation) (snapshot (map_at stored count)) archive written (seen history)
