@@ -1,11 +1,15 @@
 mod Appends
 mod Bytes
 pub mod Callers
+pub mod Contents
 mod Edits
 pub mod Fits
 mod Fresh
 pub mod Laws
+pub mod Installed
 mod Opens
+pub mod Publications
+pub mod Publishes
 mod Replays
 mod Roots
 pub mod Runs

@@ -2,6 +2,7 @@ pub mod Events
 pub mod Limits
 pub mod Machine
 pub mod Opening
+pub mod Publishing
 pub mod Replayed
 pub mod Runs
 pub mod Service

@@ -1,0 +1,252 @@
+-- What is stored once a publication is installed.
+use Rattle.std.proofs.Common.{◌≡◌, ◌⊎◌, inl, inr, ⊎_elim, ℕ, false, zero, suc, ◌<◌, ◌≤◌, ◌+◌, ◌-◌, ◌%◌}
+use Rattle.std.proofs.Common.{List, [], ◌∷◌, length, take, drop, Result, Ok, Err, OnOk, refl, sym, ◌∙◌, ap, subst, arith}
+use Rattle.std.proofs.Common.{length-append, length-drop}
+use Rattle.std.proofs.lemmas.List.{length-map, length-take, drop-map, take_all, take-append-le, drop-append-le}
+use Rattle.std.proofs.lemmas.List.Elements.{All-drop}
+use Rattle.std.proofs.lemmas.Nat.{mod_below}
+use Rattle.sector_disk.specs.Disk.{Image, History, seen, MayLeave}
+use Rattle.sector_disk.specs.Disk.History.{begun, wrote, synced}
+use Rattle.sector_disk.specs.Moments.{LeavesOnly}
+use Rattle.sector_disk.proofs.History.{weaken}
+use Rattle.sector_disk.proofs.Laws.{seen_is_left}
+use Rattle.sector_bytes.specs.Bytes.{sector_piece}
+use Rattle.generations.specs.Areas.{journal_sectors, area_sectors, area_start, sectors_of}
+use Rattle.generations.specs.Installs.{root_at, WithRoot, Installs}
+use Rattle.generations.specs.Sectors.{root_sector, AreNumbers, IsFormat, IsRootOf}
+use Rattle.generations.proofs.Installs.{installed_image}
+use Rattle.edit_journal.specs.Appends.{Keeps as KeepsTexts}
+use Rattle.edit_journal.specs.Releases.{MayTake}
+use Rattle.edit_journal.specs.Ring.{Ring, AreEdits, places_of, HoldsTexts}
+use Rattle.edit_journal.specs.declared.sizes.TheConstants.{RECORD_VERSION}
+use Rattle.edit_journal.proofs.Releases.{edits_take, keeps_behind}
+use Rattle.feature_model.specs.Data.{EditData}
+use Rattle.feature_model.specs.Spelled.{spelled}
+use Rattle.feature_model.specs.Types.{IsEdit}
+use Rattle.feature_store.specs.Store.{FeatureMap, IsMap, after, changed, snapshot}
+use Rattle.tile_service.specs.Publishing.{map_at, published, CanPublish, HasArea}
+use Rattle.tile_service.specs.Service.{ServiceView, IsUp}
+use Rattle.tile_service.specs.Stored.{Stored, Holds, HasBytes, HasEarlierRoot, Keeps}
+use Rattle.tile_service.specs.Stored.{map_of, last_of, root_of, texts_of, with_edit, journal_ring, journal_start}
+use Rattle.tile_service.specs.Tiles.{IsArchiveOfMap}
+use Rattle.tile_service.proofs.Appends.{texts_with}
+use Rattle.tile_service.proofs.Publishes.{same_ring, live_can}
+
+-- ---- the journal from a later start on
+
+places_split : (texts : List (List ℕ)) (taken : ℕ) → places_of (drop taken texts) + places_of (take taken texts) ≡ places_of texts
+places_split texts zero = omega arith
+places_split [] (suc taken) = omega arith
+places_split (text ∷ texts) (suc taken) = omega (arith, places_split texts taken)
+
+first_edits : (texts : List (List ℕ)) (taken : ℕ) → AreEdits texts → AreEdits (take taken texts)
+first_edits texts zero are = tt
+first_edits [] (suc taken) are = tt
+first_edits (text ∷ texts) (suc taken) are = (are.0, first_edits texts taken are.1)
+
+-- An image that holds texts holds those behind the first ones, from the place behind their records on.
+pub holds_later : (ring : Ring) (place edits taken : ℕ) (texts : List (List ℕ)) (image : Image) → place < ring.places → taken ≤ length texts
+    → HoldsTexts RECORD_VERSION ring (record { place = place; number = suc edits }) texts image
+    → HoldsTexts RECORD_VERSION ring (record { place = (place + places_of (take taken texts)) % ring.places; number = suc (edits + taken) })
+    (drop taken texts) image
+holds_later ring place edits taken texts image begins le holds =
+    (keeps_behind ring place edits (places_of texts) (edits + length texts) texts (begun image) now begins holds.records.room
+    (places_of (take taken texts)) (places_of (drop taken texts)) ((place + places_of (take taken texts)) % ring.places) (edits + taken) taken
+    (places_split texts taken) takes refl le refl refl).keeps image (λ at. refl)
+  where
+    now : KeepsTexts ring place edits (places_of texts) (edits + length texts) texts (begun image)
+    now = record {
+      keeps = λ other may. subst (λ (i : Image). HoldsTexts RECORD_VERSION ring (record { place = place; number = suc edits }) texts i)
+          (λ i at. sym (may at) i) holds;
+      uses = refl;
+      counts = refl;
+    }
+
+    takes : MayTake (edits + taken - edits) (places_of (take taken texts))
+    takes =
+        let records : length (take taken texts) ≡ edits + taken - edits = omega (arith, length-take taken texts, le) in
+        subst (λ (r : ℕ). MayTake r (places_of (take taken texts))) records
+        (edits_take (take taken texts) (first_edits texts taken holds.records.edits))
+
+-- ---- the next root in its sector
+
+module _ (count n : ℕ) (stored : Stored) (taken : ℕ) (archive : List ℕ) (can : CanPublish n stored taken archive)
+    (before : Image) (holds : Holds count n stored before) where
+  abbrev next : Stored
+  next = published n stored taken archive
+
+  format : IsFormat count (before 0) n
+  format = (holds.sectors 0).format refl
+
+  some_place : 0 < journal_sectors n
+  some_place = omega (arith, (live_can count n stored before holds).journal)
+
+  place_below : (root_of next).journal_at < journal_sectors n
+  place_below = mod_below (stored.journal_at + places_of (take taken (texts_of stored))) (journal_sectors n) some_place
+
+  numbers : AreNumbers (root_of next)
+  numbers = record {
+    generation = can.generation;
+    edits = omega (arith, holds.journal.records.numbers, length-map stored.since spelled, can.within);
+    journal_at = omega (arith, place_below, format.size.1);
+    snapshot_len = omega (arith, can.is_map.short);
+    archive_len = omega (arith, can.area, format.size.1);
+  }
+
+  -- It has a root of a later generation than any other.
+  pub next_root : IsRootOf n (suc stored.generation % 2) (root_sector (root_of next)) (root_of next)
+  next_root = record {
+    stands = record { bytes = refl; numbers = numbers };
+    parity_is = refl;
+    can = record { journal = place_below; area = can.area };
+  }
+
+  module _ (area : HasArea n (suc stored.generation) (snapshot (map_at stored taken)) archive before) (image : Image)
+      (with_root : WithRoot (root_of next) before image) where
+    -- behind the sectors of the roots the image is the one before
+    bytes_stay : (first at : ℕ) (bytes : List ℕ) → 3 ≤ first → HasBytes first bytes at (before at) → HasBytes first bytes at (image at)
+    bytes_stay first at bytes behind stands index is =
+        subst (λ (s : List ℕ). take (length (sector_piece bytes index)) s ≡ sector_piece bytes index)
+        (sym (with_root.others at (λ root. omega (arith, behind, is, root)))) (stands index is)
+
+    next_live : (at : ℕ) → at ≡ 1 + suc stored.generation % 2 → IsRootOf n (suc stored.generation % 2) (image at) (root_of next)
+    next_live at is = subst (λ (s : List ℕ). IsRootOf n (suc stored.generation % 2) s (root_of next))
+        (sym (subst (λ (i : ℕ). image i ≡ root_sector (root_of next)) (sym is) with_root.stands)) next_root
+
+    earlier : (at : ℕ) → at ≡ 1 + suc (suc stored.generation) % 2 → HasEarlierRoot n (suc stored.generation) (image at)
+    earlier at is =
+        let same : stored.generation % 2 ≡ suc (suc stored.generation) % 2 = omega arith in
+        let stays : image at ≡ before at = with_root.others at (λ root. omega (arith, is, root)) in
+        inr (
+          root_of stored,
+          omega arith,
+          subst (λ (p : ℕ). IsRootOf n p (image at) (root_of stored)) same
+              (subst (λ (s : List ℕ). IsRootOf n (stored.generation % 2) s (root_of stored)) (sym stays)
+              ((holds.sectors at).live (omega (arith, is, same)))),
+        )
+
+    journal : HoldsTexts RECORD_VERSION (journal_ring n) (journal_start next) (texts_of next) image
+    journal = subst (λ (texts : List (List ℕ)). HoldsTexts RECORD_VERSION (journal_ring n) (journal_start next) texts image)
+        (drop-map spelled taken stored.since)
+        (holds_later (journal_ring n) stored.journal_at stored.edits taken (texts_of stored) image (live_can count n stored before holds).journal
+        (omega (arith, can.within, length-map stored.since spelled))
+        (same_ring RECORD_VERSION (journal_ring n) (journal_start stored) (texts_of stored) before image some_place
+        (λ at inside. with_root.others at (λ root. omega (arith, inside.0, root))) holds.journal))
+
+    -- With the area written before it, the image holds what is published.
+    pub installed_holds : Holds count n next image
+    installed_holds = record {
+      sectors = λ at. record {
+        format = λ is. subst (λ (s : List ℕ). IsFormat count s n) (sym (with_root.others at (λ root. omega (arith, is, root)))) ((holds.sectors at).format is);
+        live = next_live at;
+        other = earlier at;
+        snapshot_bytes = bytes_stay (area_start n (suc stored.generation)) at (snapshot (map_at stored taken)) (omega arith) (area.snapshot_stands at);
+        archive_bytes = bytes_stay (area_start n (suc stored.generation) + sectors_of (length (snapshot (map_at stored taken)))) at archive (omega arith)
+            (area.archive_stands at);
+      };
+      journal = journal;
+      is_map = can.is_map;
+      are_edits = All-drop IsEdit taken stored.since holds.are_edits;
+      is_archive = can.is_archive;
+    }
+
+-- ---- the installation
+
+module _ (count n : ℕ) (stored : Stored) (taken : ℕ) (archive : List ℕ) (can : CanPublish n stored taken archive) (old new : History)
+    (keeps : Keeps count n stored old) (area : HasArea n (suc stored.generation) (snapshot (map_at stored taken)) archive (seen old)) where
+  with_next : (image : Image) → WithRoot (root_of (published n stored taken archive)) (seen old) image → Holds count n (published n stored taken archive) image
+  with_next image with_root =
+      installed_holds count n stored taken archive can (seen old) (keeps (seen old) (seen_is_left old)) area image with_root
+
+  -- A crash at any moment of it leaves what was stored, or what is published.
+  pub install_leaves : LeavesOnly old new (Installs (root_of (published n stored taken archive)) old)
+      → LeavesOnly old new (λ image. Holds count n stored image ⊎ Holds count n (published n stored taken archive) image)
+  install_leaves leaves = weaken old new (Installs (root_of (published n stored taken archive)) old)
+      (λ image. Holds count n stored image ⊎ Holds count n (published n stored taken archive) image) leaves
+      (λ image. ⊎_elim (λ (before : MayLeave old image). inl (keeps image before))
+      (λ (is : WithRoot (root_of (published n stored taken archive)) (seen old) image). inr (with_next image is)))
+
+  -- Once it is done, whatever a crash leaves holds what is published.
+  pub installed_keeps : new ≡ synced (wrote (root_at (suc stored.generation)) (root_sector (root_of (published n stored taken archive))) (synced old))
+      → Keeps count n (published n stored taken archive) new
+  installed_keeps is image may = with_next image (installed_image (root_of (published n stored taken archive)) old new is image may)
+
+  -- The same by the clause of an installation that succeeded.
+  pub install_keeps : {E : Type 0} (result : Result (Unit {0}) E)
+      → OnOk result (new ≡ synced (wrote (root_at (suc stored.generation)) (root_sector (root_of (published n stored taken archive))) (synced old)))
+      → OnOk result (Keeps count n (published n stored taken archive) new)
+  install_keeps (Ok done) is = installed_keeps is
+  install_keeps (Err fault) is = tt
+
+-- ---- edits while a publication goes on
+
+module _ (n : ℕ) (stored : Stored) (taken : ℕ) (archive : List ℕ) (edit : EditData) (within : taken ≤ length stored.since) where
+  -- The map that is published stays the same.
+  pub map_stays : map_at (with_edit stored edit) taken ≡ map_at stored taken
+  map_stays = ap (λ (edits : List EditData). after stored.snapshot_map edits) (take-append-le taken stored.since (edit ∷ []) within)
+
+  texts_stay : take taken (texts_of (with_edit stored edit)) ≡ take taken (texts_of stored)
+  texts_stay = ap (take taken) (texts_with stored edit)
+      ∙ take-append-le taken (texts_of stored) (spelled edit ∷ []) (omega (arith, within, length-map stored.since spelled))
+
+  -- So it goes on to be one that can be published,
+  pub can_still : CanPublish n stored taken archive → CanPublish n (with_edit stored edit) taken archive
+  can_still can = record {
+    within = omega (arith, within, length-append stored.since (edit ∷ []));
+    is_map = subst IsMap (sym map_stays) can.is_map;
+    is_archive = subst (λ (m : FeatureMap). IsArchiveOfMap m archive) (sym map_stays) can.is_archive;
+    area = subst (λ (m : FeatureMap). sectors_of (length (snapshot m)) + sectors_of (length archive) ≤ area_sectors n) (sym map_stays) can.area;
+    generation = can.generation;
+  }
+
+  -- and the edit is then one of those since.
+  pub published_stays : published n (with_edit stored edit) taken archive ≡ with_edit (published n stored taken archive) edit
+  published_stays = λ i. record {
+    generation = suc stored.generation;
+    snapshot_map = map_stays i;
+    edits = stored.edits + taken;
+    since = drop-append-le taken stored.since (edit ∷ []) within i;
+    journal_at = (stored.journal_at + places_of (texts_stay i)) % journal_sectors n;
+    archive = archive;
+  }
+
+-- ---- the service that goes on from it
+
+-- The map after all edits is what is published, where all are taken.
+pub all_taken : (stored : Stored) → map_at stored (length stored.since) ≡ map_of stored
+all_taken stored = ap (λ (edits : List EditData). after stored.snapshot_map edits) (take_all (length stored.since) stored.since (omega arith))
+
+after_both : (m : FeatureMap) (edits : List EditData) (taken : ℕ) → after (after m (take taken edits)) (drop taken edits) ≡ after m edits
+after_both m edits zero = refl
+after_both m [] (suc taken) = refl
+after_both m (edit ∷ edits) (suc taken) = after_both (changed m edit) edits taken
+
+module _ (n : ℕ) (stored : Stored) (taken : ℕ) (archive : List ℕ) (within : taken ≤ length stored.since) where
+  -- It stands for the same map
+  pub same_map : map_of (published n stored taken archive) ≡ map_of stored
+  same_map = after_both stored.snapshot_map stored.since taken
+
+  -- and the same last number.
+  pub same_last : last_of (published n stored taken archive) ≡ last_of stored
+  same_last = omega (arith, within, length-drop taken stored.since)
+
+  -- A service with the records behind the published ones goes on from it.
+  pub up_published : {D : Type 0} (count : ℕ) (h : History) (service : ServiceView D) → service.size ≡ n
+      → Keeps count n (published n stored taken archive) h → service.broken ≡ false → service.generation ≡ suc stored.generation
+      → service.features ≡ map_of stored → service.journal.place ≡ (published n stored taken archive).journal_at
+      → service.journal.edits ≡ stored.edits + taken
+      → service.journal.used + places_of (take taken (texts_of stored)) ≡ places_of (texts_of stored)
+      → service.journal.last ≡ last_of stored → IsUp count h (published n stored taken archive) service
+  up_published count h service size keeps unbroken generation features place edits used last = record {
+    keeps = subst (λ (k : ℕ). Keeps count k (published n stored taken archive) h) (sym size) keeps;
+    unbroken = unbroken;
+    generation_is = generation;
+    map_is = features ∙ sym same_map;
+    place_is = place;
+    edits_are = edits;
+    used_is = left ∙ ap places_of (drop-map spelled taken stored.since);
+    last_is = last ∙ sym same_last;
+  }
+    where
+      left : service.journal.used ≡ places_of (drop taken (texts_of stored))
+      left = omega (arith, used, places_split (texts_of stored) taken)

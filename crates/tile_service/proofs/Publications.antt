@@ -1,0 +1,82 @@
+-- A publication from its first write to its installation, while edits go on.
+use Rattle.std.proofs.Common.{◌≡◌, ℕ, suc, ◌+◌, ◌==◌, if◌then◌else◌, List, [], length, Result, Ok, Err, OnOk, sym, ap, subst, arith, lit<, lit≤}
+use Rattle.std.proofs.lemmas.Bool.Decides.{nat_tests}
+use Rattle.sector_disk.specs.Disk.{Image, History, seen, Writes}
+use Rattle.sector_disk.specs.Disk.History.{begun}
+use Rattle.sector_disk.specs.declared.disk.DiskFault.{DiskFault}
+use Rattle.generations.specs.Areas.{area_start, sectors_of}
+use Rattle.generations.specs.Installs.{root_at, WithRoot}
+use Rattle.generations.specs.Sectors.{root_sector}
+use Rattle.generations.specs.declared.root.Root.{Root}
+use Rattle.generations.proofs.Laws.{fresh_image, some_fresh}
+use Rattle.edit_journal.specs.Appends.{ReadsAsBefore}
+use Rattle.feature_model.specs.Data.{EditData}
+use Rattle.feature_store.specs.Store.{FeatureMap, snapshot}
+use Rattle.tile_service.specs.Publishing.{map_at, published, CanPublish, IsContentSector, HasFirst, HasArea, IsUnderWay}
+use Rattle.tile_service.specs.Stored.{Stored, Holds, first_state, root_of, with_edit, journal_ring}
+use Rattle.tile_service.proofs.Contents.{none_written, write_stands, content_stands, append_keeps_area}
+use Rattle.tile_service.proofs.Fresh.{fresh_holds, no_text}
+use Rattle.tile_service.proofs.Installed.{map_stays, can_still, installed_holds}
+
+module _ (n : ℕ) (stored : Stored) (taken : ℕ) (archive : List ℕ) where
+  -- before the first write
+  pub begins : (history : History) → CanPublish n stored taken archive → IsUnderWay n stored taken archive 0 history
+  begins history can = record { can = can; first = none_written (snapshot (map_at stored taken)) archive n (suc stored.generation) (seen history) }
+
+  -- A write of the next sector that succeeds brings it one further.
+  pub goes_further : (result : Result (Unit {0}) DiskFault) (written : ℕ) (sector : List ℕ) (old new : History)
+      → IsUnderWay n stored taken archive written old → IsContentSector (snapshot (map_at stored taken)) archive written sector
+      → Writes result (area_start n (suc stored.generation) + written) sector old new
+      → OnOk result (IsUnderWay n stored taken archive (written + 1) new)
+  goes_further (Ok done) written sector old new was is writes = record {
+    can = was.can;
+    first = write_stands (snapshot (map_at stored taken)) archive n (suc stored.generation) (Ok done) written sector old new was.first is writes;
+  }
+  goes_further (Err fault) written sector old new was is writes = tt
+
+  -- With an edit in the journal it is where it was,
+  pub goes_on_with_edit : (edit : EditData) (written place used : ℕ) (old new : History) → IsUnderWay n stored taken archive written old
+      → ReadsAsBefore (journal_ring n) place used (seen old) (seen new) → IsUnderWay n (with_edit stored edit) taken archive written new
+  goes_on_with_edit edit written place used old new was reads = record {
+    can = can_still n stored taken archive edit was.can.within was.can;
+    first = subst (λ (m : FeatureMap). HasFirst n (suc stored.generation) (snapshot m) archive written (seen new))
+        (sym (map_stays n stored taken archive edit was.can.within))
+        (append_keeps_area (snapshot (map_at stored taken)) archive n (suc stored.generation) written place used (seen old) (seen new) reads was.first);
+  }
+
+  -- and once all sectors are written, the area has what an installation needs.
+  pub all_written : (written : ℕ) (history : History)
+      → written ≡ sectors_of (length (snapshot (map_at stored taken))) + sectors_of (length archive)
+      → IsUnderWay n stored taken archive written history
+      → HasArea n (suc stored.generation) (snapshot (map_at stored taken)) archive (seen history)
+  all_written written history is was = content_stands (snapshot (map_at stored taken)) archive n (suc stored.generation) (seen history)
+      (subst (λ (k : ℕ). HasFirst n (suc stored.generation) (snapshot (map_at stored taken)) archive k (seen history)) is was.first)
+
+-- ---- the definitions aren't empty
+
+-- an image that is another but for the sector of a root
+abbrev with_root : Root → Image → Image
+with_root root before at = if at == root_at root.generation then root_sector root else before at
+
+has_root : (root : Root) (before : Image) → WithRoot root before (with_root root before)
+has_root root before = record { stands = grind (arith, nat_tests); others = λ at apart. grind (arith, nat_tests) }
+
+first_holds : Holds 64 64 first_state (fresh_image 64)
+first_holds = fresh_holds 64 64 (fresh_image 64) (lit≤ tt, lit≤ tt) (lit≤ tt) (some_fresh 64)
+
+-- the empty map can be published
+pub first_can : CanPublish 64 first_state 0 []
+first_can = record {
+  within = omega arith;
+  is_map = first_holds.is_map;
+  is_archive = first_holds.is_archive;
+  area = omega (arith, ap (λ (bytes : List ℕ). sectors_of (length bytes)) no_text);
+  generation = lit< tt;
+}
+
+-- and is held once it is installed
+pub first_published : Holds 64 64 (published 64 first_state 0 []) (with_root (root_of (published 64 first_state 0 [])) (fresh_image 64))
+first_published = installed_holds 64 64 first_state 0 [] first_can (fresh_image 64) first_holds
+    (all_written 64 first_state 0 [] 0 (begun (fresh_image 64)) (omega (arith, ap (λ (bytes : List ℕ). sectors_of (length bytes)) no_text))
+    (begins 64 first_state 0 [] (begun (fresh_image 64)) first_can))
+    (with_root (root_of (published 64 first_state 0 [])) (fresh_image 64)) (has_root (root_of (published 64 first_state 0 [])) (fresh_image 64))
