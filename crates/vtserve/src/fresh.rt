@@ -9,6 +9,7 @@ ghost use Rattle.thin_service.specs.State.{asked_service};
 ghost use Rattle.tile_service.specs.Service.{IsUp};
 ghost use Rattle.tile_service.specs.Stored.{Keeps, first_state};
 
+use crate::disks::opened_service;
 use generations::StoreFault;
 use sector_disk::MemoryDisk;
 use std::alloc::{AllocError, Global};
@@ -47,12 +48,8 @@ pub(crate) fn fresh_service(
         Ok(disk) => disk,
         Err(fault) => return Err(fault),
     };
-    let service = match Service::open(alloc, disk) {
-        Ok(service) => service,
-        Err((_, fault)) => return Err(fault),
-    };
-    match ThinService::new(alloc, service) {
+    match opened_service(alloc, disk) {
         Ok(service) => Ok(service),
-        Err(AllocError) => Err(StoreFault::Memory),
+        Err((_, fault)) => Err(fault),
     }
 }

@@ -1,0 +1,184 @@
+#!/usr/bin/env python3
+"""What the commands over a disk in a file do: `vtserve format` and `vtserve pipe`, each case by processes of its own.
+
+    python3 bench/commands.py [PROGRAM]       PROGRAM is crates/vtserve/out/vtserve, which `rt run` leaves there
+
+It prints a line for each case, and ends with 1 if one differs from what is wanted. Files lie in a scratch folder. What a process
+that is killed leaves is what it asked the system to write: a crash of the machine is not tried.
+"""
+import os
+import resource
+import signal
+import subprocess
+import sys
+import tempfile
+
+HERE = os.path.dirname(os.path.abspath(__file__))
+PROGRAM = os.path.abspath(sys.argv[1] if len(sys.argv) > 1 else os.path.join(HERE, "..", "crates", "vtserve", "out", "vtserve"))
+BODY = b'{"layer":"p","minzoom":0,"maxzoom":2,"geometry":{"points":[[0,0]]},"tags":{}}'
+TILE = b"1a130a017012090807180122030900002880207802"
+GET = b"GET /map/0/0/0.hex HTTP/1.1\r\nhost: x\r\n\r\n"
+DELETE = b"DELETE /features/7 HTTP/1.1\r\nhost: x\r\n\r\n"
+JSON, TEXT = b"application/json", b"text/plain"
+EMPTY = b"HTTP/1.1 204 No Content\r\n\r\n"
+
+
+def put(number):
+    """A request that gives a number the point at the corner of the world."""
+    return b"PUT /features/%d HTTP/1.1\r\nhost: x\r\ncontent-length: %d\r\n\r\n%s" % (number, len(BODY), BODY)
+
+
+def reply(kind, content):
+    """A reply of status 200."""
+    return b"HTTP/1.1 200 OK\r\ncontent-type: %s\r\ncontent-length: %d\r\n\r\n%s" % (kind, len(content), content)
+
+
+def edit(number):
+    """The reply to an edit that was made."""
+    return reply(JSON, b'{"edit":%d}' % number)
+
+
+def vtserve(words, requests=b"", **more):
+    """The status, standard output and standard error of one process."""
+    child = subprocess.run([PROGRAM, *words], input=requests, capture_output=True, timeout=60, **more)
+    return child.returncode, child.stdout, child.stderr
+
+
+def killed_after_its_reply(path, request, wanted):
+    """What a process wrote that is killed as soon as it has written so many bytes, while its input stays open."""
+    child = subprocess.Popen([PROGRAM, "pipe", path], stdin=subprocess.PIPE, stdout=subprocess.PIPE, stderr=subprocess.PIPE)
+    child.stdin.write(request)
+    child.stdin.flush()
+    written = child.stdout.read(len(wanted))
+    child.send_signal(signal.SIGKILL)
+    rest, told = child.communicate(timeout=60)
+    return child.returncode, written + rest, told
+
+
+def content(path):
+    """The bytes of a file, and when it was changed."""
+    with open(path, "rb") as file:
+        return file.read(), os.fstat(file.fileno()).st_mtime_ns
+
+
+class Cases:
+    """The cases so far, each printed as it is seen."""
+
+    def __init__(self):
+        self.differ = 0
+
+    def show(self, name, found, wanted):
+        if found == wanted:
+            print(f"ok      {name}")
+        else:
+            self.differ += 1
+            print(f"DIFFERS {name}: {found!r}, wanted {wanted!r}")
+
+
+def refusal(name):
+    """Status 1, nothing on standard output, and the fault's name on standard error."""
+    return 1, b"", b"vtserve: %s\n" % name
+
+
+def formats(cases, folder):
+    """A disk is made once, and only of a size that it may have."""
+    disk = os.path.join(folder, "disk")
+    cases.show("format makes a disk of 256 sectors", vtserve(["format", disk, "--sectors", "256"]), (0, b"formatted 256 sectors\n", b""))
+    cases.show("it has 256 sectors of 512 bytes", os.path.getsize(disk), 131072)
+    before = content(disk)
+    cases.show("format of a file that is there", vtserve(["format", disk, "--sectors", "256"]), refusal(b"File"))
+    cases.show("it changes no byte", content(disk) == before, True)
+    other = os.path.join(folder, "other")
+    for sectors, name in [("63", b"TooSmall"), ("0", b"TooSmall"), ("16777217", b"Damaged"), ("18446744073709551615", b"Damaged")]:
+        cases.show(f"format --sectors {sectors}", vtserve(["format", other, "--sectors", sectors]), refusal(name))
+        cases.show("no file is made", os.path.exists(other), False)
+    cases.show("sizes are judged before the file", vtserve(["format", disk, "--sectors", "63"]), refusal(b"TooSmall"))
+    cases.show("that file too is left as it is", content(disk) == before, True)
+    cases.show("format in a folder that isn't there", vtserve(["format", os.path.join(folder, "no", "disk"), "--sectors", "64"]), refusal(b"File"))
+    cases.show("format in the folder where it runs", vtserve(["format", "here", "--sectors", "64"], cwd=folder), (0, b"formatted 64 sectors\n", b""))
+    most = os.path.join(folder, "most")
+    cases.show("format --sectors 16777216", vtserve(["format", most, "--sectors", "16777216"]), (0, b"formatted 16777216 sectors\n", b""))
+    cases.show("it serves", vtserve(["pipe", most], GET), (0, EMPTY, b""))
+    return disk
+
+
+def keeps(cases, folder, disk):
+    """What one process was told is what the next one has."""
+    cases.show("PUT", vtserve(["pipe", disk], put(7)), (0, edit(1), b""))
+    cases.show("another process: GET", vtserve(["pipe", disk], GET), (0, reply(TEXT, TILE), b""))
+    cases.show("a third: DELETE, then GET", vtserve(["pipe", disk], DELETE + GET), (0, edit(2) + EMPTY, b""))
+    cases.show("PUT, then killed", killed_after_its_reply(disk, put(7), edit(3)), (-signal.SIGKILL, edit(3), b""))
+    cases.show("it is there", vtserve(["pipe", disk], GET), (0, reply(TEXT, TILE), b""))
+    cases.show("DELETE, then killed", killed_after_its_reply(disk, DELETE, edit(4)), (-signal.SIGKILL, edit(4), b""))
+    cases.show("it is gone, and the next edit is 5", vtserve(["pipe", disk], GET + put(7)), (0, EMPTY + edit(5), b""))
+    many = os.path.join(folder, "many")
+    vtserve(["format", many, "--sectors", "256"])
+    told = [killed_after_its_reply(many, put(number), edit(number)) for number in range(1, 21)]
+    cases.show("20 processes, each killed after its reply", told, [(-signal.SIGKILL, edit(number), b"") for number in range(1, 21)])
+    deletes = b"".join(b"DELETE /features/%d HTTP/1.1\r\nhost: x\r\n\r\n" % number for number in range(1, 21))
+    cases.show("none of the 20 is lost", vtserve(["pipe", many], deletes + GET), (0, b"".join(edit(number) for number in range(21, 41)) + EMPTY, b""))
+
+
+def refuses(cases, folder, disk):
+    """What is no disk of a map."""
+    cases.show("pipe of a missing file", vtserve(["pipe", os.path.join(folder, "none")]), refusal(b"File"))
+    cases.show("no file is made", os.path.exists(os.path.join(folder, "none")), False)
+    cases.show("pipe of a folder", vtserve(["pipe", folder]), refusal(b"File"))
+    rows = [
+        ("a file without a byte", b"", b"NotFormatted"),
+        ("a file of zeros", bytes(32768), b"NotFormatted"),
+        ("a disk cut short", content(disk)[0][:32768], b"Damaged"),
+        ("a disk with a byte of a root changed", content(disk)[0][:1024] + b"x" + content(disk)[0][1025:], b"Damaged"),
+    ]
+    for name, held, fault in rows:
+        path = os.path.join(folder, "held")
+        with open(path, "wb") as file:
+            file.write(held)
+        cases.show(f"pipe of {name}", vtserve(["pipe", path], GET), refusal(fault))
+        cases.show("it is left as it is", content(path)[0] == held, True)
+    cases.show("pipe where no request comes", vtserve(["pipe", disk]), (0, b"", b""))
+
+
+def runs_out(cases, folder):
+    """Files that the system keeps from growing: what can't be made is taken away, and can be tried again."""
+    path = os.path.join(folder, "short")
+
+    def limit():
+        signal.signal(signal.SIGXFSZ, signal.SIG_IGN)
+        resource.setrlimit(resource.RLIMIT_FSIZE, (65536, 65536))
+
+    cases.show("format where files may have 128 sectors", vtserve(["format", path, "--sectors", "256"], preexec_fn=limit), refusal(b"File"))
+    cases.show("the file is taken away", os.path.exists(path), False)
+    cases.show("format again, of 128 sectors", vtserve(["format", path, "--sectors", "128"], preexec_fn=limit), (0, b"formatted 128 sectors\n", b""))
+
+
+def words(cases, folder, disk):
+    """Command lines that don't parse are status 2, before any file is touched."""
+    path = os.path.join(folder, "unmade")
+    lines = [
+        ["format", path],
+        ["format", "--sectors", "64"],
+        ["format", path, "64"],
+        ["format", path, "--sectors", "x"],
+        ["pipe"],
+        ["pipe", disk, "64"],
+    ]
+    for line in lines:
+        status, out, told = vtserve(line)
+        cases.show(" ".join(word.replace(folder, "FOLDER") for word in line), (status, out, told != b""), (2, b"", True))
+    cases.show("no file is made", os.path.exists(path), False)
+
+
+def main():
+    cases = Cases()
+    with tempfile.TemporaryDirectory() as folder:
+        disk = formats(cases, folder)
+        keeps(cases, folder, disk)
+        refuses(cases, folder, disk)
+        runs_out(cases, folder)
+        words(cases, folder, disk)
+    return 1 if cases.differ else 0
+
+
+if __name__ == "__main__":
+    sys.exit(main())

@@ -1,0 +1,132 @@
+//! Services over disks, and disks in new files: for every disk, and for all that a file may have had.
+ghost use Rattle.std.specs.Prelude.{◌≡◌, ◌<◌, ◌⊎◌, ℕ, Err, IfErr, IfOk, IfSome, IsOk};
+ghost use Rattle.sector_disk.specs.Disk.{all_zeros, seen};
+ghost use Rattle.sector_disk.specs.Disk.History.{begun, synced};
+ghost use Rattle.generations.specs.Areas.{IsSize};
+ghost use Rattle.generations.specs.declared.fault.StoreFault.TheVariants.{TooSmall, Damaged, Device, Memory};
+ghost use Rattle.generations.specs.declared.fault.What.TheVariants.{Size};
+ghost use Rattle.generations.specs.declared.sizes.TheConstants.{LEAST_SECTORS, MOST_SECTORS};
+ghost use Rattle.thin_service.specs.State.{asked_service};
+ghost use Rattle.tile_service.specs.Opening.{IsOpenFault};
+ghost use Rattle.tile_service.specs.Service.{IsUp};
+ghost use Rattle.tile_service.specs.Stored.{Stored, Holds, Keeps, first_state};
+ghost use Rattle.vtserve.specs.declared.fault.CommandFault.TheVariants.{File, Store};
+
+use crate::fault::CommandFault;
+use generations::{LEAST_SECTORS, MOST_SECTORS, StoreFault, What};
+use sector_disk::{FileDisk, Sectors, Start, SystemFile};
+use std::alloc::{AllocError, Global};
+use std::fs::OpenFile;
+use std::io::{self, Read, Seek, Write};
+use std::os::unix::fs::FileExt;
+use std::path::Path;
+use std::rt::Files;
+use thin_service::ThinService;
+use tile_service::Service;
+
+/// A service that goes on from what a disk holds, to which nothing is written. A disk that can't be opened is handed back.
+pub(crate) fn opened_service<D: Sectors + Drop>(
+    alloc: Global,
+    disk: D,
+) -> Result<ThinService<D>, (Option<D>, StoreFault)>
+    ensures count { IfOk result (λ thin. D.sectors (asked_service thin).disk ≡ D.sectors disk) }
+    ensures honest { IfOk result (λ thin. D.honest (asked_service thin).disk → D.honest disk) }
+    ensures history { IfOk result (λ thin. D.honest (asked_service thin).disk → D.history (asked_service thin).disk ≡ synced (D.history disk)) }
+    ensures fault { IfErr result (λ e. IfSome e.0 D.honest
+        → (e.1 ≡ Device) ⊎ (e.1 ≡ Memory) ⊎ IsOpenFault (D.sectors disk) (seen (D.history disk)) e.1) }
+
+    // Every state that the disk holds is what the service goes on from, and only a call of the disk or an
+    // allocation can fail.
+    ensures opened { (n : ℕ) (stored : Stored) → Holds (D.sectors disk) n stored (seen (D.history disk))
+        → IfOk result (λ thin. D.honest (asked_service thin).disk → ((asked_service thin).size ≡ n)
+        × IsUp (D.sectors disk) (D.history (asked_service thin).disk) stored (asked_service thin)) }
+    ensures refused { (n : ℕ) (stored : Stored) → Holds (D.sectors disk) n stored (seen (D.history disk))
+        → IfErr result (λ e. IfSome e.0 D.honest → (e.1 ≡ Device) ⊎ (e.1 ≡ Memory)) }
+{
+    let service = match Service::open(alloc, disk) {
+        Ok(service) => service,
+        Err((disk, fault)) => return Err((Some(disk), fault)),
+    };
+    match ThinService::new(alloc, service) {
+        Ok(service) => Ok(service),
+        Err(AllocError) => Err((None, StoreFault::Memory)),
+    }
+}
+
+/// Whether a disk may be formatted with so many sectors.
+fn check_size(sectors: u64) -> Result<(), StoreFault>
+    ensures small { sectors < LEAST_SECTORS → result ≡ Err TooSmall }
+    ensures large { MOST_SECTORS < sectors → result ≡ Err (Damaged Size) }
+    ensures fine { IsSize sectors → IsOk result }
+{
+    if sectors < LEAST_SECTORS {
+        Err(StoreFault::TooSmall)
+    } else if sectors > MOST_SECTORS {
+        Err(StoreFault::Damaged(What::Size))
+    } else {
+        Ok(())
+    }
+}
+
+/// Syncs the folder of a path, so that the name outlives a crash.
+fn sync_folder<R: Files>(files: &R, path: &str) -> io::Result<()> {
+    let folder = match Path::new(path).parent() {
+        Some(folder) => folder.as_str(),
+        None => "",
+    };
+    let folder = if folder.is_empty() { "." } else { folder };
+    let file = std::fs::File::open(files, folder)?;
+    OpenFile::sync_all(&file)
+}
+
+/// Has a disk hold the empty map, in a file whose name outlives a crash.
+fn settle<D: Sectors + Drop, R: Files>(
+    files: &R,
+    path: &str,
+    disk: &mut D,
+) -> Result<(), CommandFault>
+    ensures count { D.sectors disk.new ≡ D.sectors disk.old }
+    ensures honest { D.honest disk.new → D.honest disk.old }
+    ensures only { IsSize (D.sectors disk.old) → IfErr result (λ fault. (fault ≡ File) ⊎ (fault ≡ Store Device)) }
+    ensures holds { D.honest disk.new → IfOk result (λ _. Keeps (D.sectors disk.old) (D.sectors disk.old) first_state (D.history disk.new)) }
+{
+    match Service::format(disk) {
+        Ok(()) => {}
+        Err(fault) => return Err(CommandFault::Store(fault)),
+    }
+    match sync_folder(files, path) {
+        Ok(()) => Ok(()),
+        Err(_) => Err(CommandFault::File),
+    }
+}
+
+/// A new file of so many sectors at a path where there is nothing, and its disk, which holds the empty map. For a count outside
+/// the limits no file is touched. Where the format fails, the file is removed, if the system lets it.
+pub(crate) fn formatted_file<
+    F: FileExt + OpenFile + Read + Write + Seek + Drop,
+    R: Files<File = F>,
+    S: Start,
+>(files: &R, path: &str, sectors: u64, start: S) -> Result<FileDisk<SystemFile<F>, S>, CommandFault>
+    requires zeros { S.found ≡ begun all_zeros }
+    ensures small { sectors < LEAST_SECTORS → result ≡ Err (Store TooSmall) }
+    ensures large { MOST_SECTORS < sectors → result ≡ Err (Store (Damaged Size)) }
+    ensures only { IsSize sectors → IfErr result (λ fault. (fault ≡ File) ⊎ (fault ≡ Store Device)) }
+    ensures count { IfOk result (λ disk. ⟦<FileDisk<SystemFile<F>, S> as Sectors>⟧.sectors disk ≡ sectors) }
+    ensures holds { IfOk result (λ disk. ⟦<FileDisk<SystemFile<F>, S> as Sectors>⟧.honest disk
+        → Keeps sectors sectors first_state (⟦<FileDisk<SystemFile<F>, S> as Sectors>⟧.history disk)) }
+{
+    match check_size(sectors) {
+        Ok(()) => {}
+        Err(fault) => return Err(CommandFault::Store(fault)),
+    }
+    let Ok(mut disk) = FileDisk::create(files, path, sectors, start) else {
+        return Err(CommandFault::File);
+    };
+    match settle(files, path, &mut disk) {
+        Ok(()) => Ok(disk),
+        Err(fault) => {
+            let _ = files.remove_file(path);
+            Err(fault)
+        }
+    }
+}

@@ -1,0 +1,49 @@
+//! Why a command comes to no good end.
+
+use generations::StoreFault;
+use http_serve::ServeFault;
+
+/// Why a command doesn't do what it was asked.
+pub(crate) enum CommandFault {
+    /// The file can't be opened or made, or its folder not be synced.
+    File,
+    /// The disk isn't ready for a service.
+    Store(StoreFault),
+    /// What ended a connection.
+    Connection(ServeFault),
+    /// Standard output didn't take all.
+    Write,
+}
+
+impl CommandFault {
+    /// Its name, as standard error shows it.
+    pub(crate) fn name(self) -> &'static str {
+        match self {
+            CommandFault::File => "File",
+            CommandFault::Store(fault) => store_fault_name(fault),
+            CommandFault::Connection(fault) => serve_fault_name(fault),
+            CommandFault::Write => "Write",
+        }
+    }
+}
+
+/// The name of what ended a connection.
+fn serve_fault_name(fault: ServeFault) -> &'static str {
+    match fault {
+        ServeFault::Memory => "Memory",
+        ServeFault::Read { .. } => "Read",
+        ServeFault::Write { .. } => "Write",
+        ServeFault::Content { .. } => "Content",
+    }
+}
+
+/// The name of why a disk isn't ready.
+pub(crate) fn store_fault_name(fault: StoreFault) -> &'static str {
+    match fault {
+        StoreFault::NotFormatted => "NotFormatted",
+        StoreFault::TooSmall => "TooSmall",
+        StoreFault::Damaged(_) => "Damaged",
+        StoreFault::Device => "Device",
+        StoreFault::Memory => "Memory",
+    }
+}
