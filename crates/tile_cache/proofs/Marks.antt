@@ -1,0 +1,101 @@
+-- What a grid remembers of marks.
+use Rattle.std.proofs.Common.{◌≡◌, ℕ, zero, suc, replicate, slice_index, ◌+◌, ◌-◌, ◌*◌, ◌^◌, ◌≤◌, ◌⊎◌, List, [], ◌∷◌, map, max, refl, sym, subst, inl, inr, arith}
+use Rattle.std.specs.Prelude.{All}
+use Rattle.std.proofs.Math.ListN.{get_or}
+use Rattle.std.proofs.Math.Nat.{one-le-pow, mul-le-mul_right}
+use Rattle.std.proofs.lemmas.List.Elements.{All-nil, All-cons, All-head, All-tail, All-weaker, Contains-append_right}
+use Rattle.box_index.specs.declared.span.WorldBox.{WorldBox}
+use Rattle.tile_cutter.specs.declared.reach.Corners.{Corners}
+use Rattle.tile_cutter.specs.declared.coordinates.TheConstants.{EXTENT, MARGIN, WORLD_ZOOM}
+use Rattle.tile_cutter.specs.WorldBox.{tile_box, first_shown, last_shown}
+use Rattle.tile_cache.specs.Cells.{cell_at, cell_of, cells_of, HasCell, RisesTo, HasWhole, IsZeroOrCell}
+use Rattle.tile_cache.specs.Touched.{Mark, Reaches, Touches, IsZeroOrMarked, Remembers, IsNewest}
+
+either : {P Q R : Type 0} → (P → R) → (Q → R) → P ⊎ Q → R
+either f g (inl p) = f p
+either f g (inr q) = g q
+
+-- ---- a mark more
+
+pub remembers_none : (cells : List ℕ) → ((at : ℕ) → get_or cells at 0 ≡ 0) → Remembers cells []
+remembers_none cells zeros = record { reached = λ column row. All-nil (λ (m : Mark). Touches m.0 column row → m.1 ≤ cell_at cells column row); only = λ at. inl (zeros at) }
+
+pub zeros : (n at : ℕ) → slice_index (replicate n 0) at ≡ 0
+zeros zero at = refl
+zeros (suc n) zero = refl
+zeros (suc n) (suc at) = zeros n at
+
+marked_more : (m : Mark) (marks : List Mark) (n : ℕ) → IsZeroOrMarked marks n → IsZeroOrMarked (m ∷ marks) n
+marked_more m marks n (inl is) = inl is
+marked_more m marks n (inr is) = inr (Contains-append_right (m.1 ∷ []) (map (λ (k : Mark). k.1) marks) n is)
+
+marked_here : (m : Mark) (marks : List Mark) → IsZeroOrMarked (m ∷ marks) m.1
+marked_here m marks = inr (0, omega arith, refl)
+
+pub remembers_more : (old new : List ℕ) (m : Mark) (marks : List Mark) → RisesTo m.1 old new
+    → ((column row : ℕ) → Touches m.0 column row → m.1 ≤ cell_at new column row) → Remembers old marks → Remembers new (m ∷ marks)
+remembers_more old new m marks r here before = record {
+  reached = λ column row. All-cons (λ (k : Mark). Touches k.0 column row → k.1 ≤ cell_at new column row) m marks (here column row)
+      (All-weaker (λ (k : Mark). Touches k.0 column row → k.1 ≤ cell_at old column row) (λ (k : Mark). Touches k.0 column row → k.1 ≤ cell_at new column row)
+      (λ k below touches. omega (arith, below touches, r.rises (32 * row + column))) marks (before.reached column row));
+  only = λ at. either (λ (same : get_or new at 0 ≡ get_or old at 0). subst (IsZeroOrMarked (m ∷ marks)) (sym same) (marked_more m marks (get_or old at 0) (before.only at)))
+      (λ (is : get_or new at 0 ≡ m.1). subst (IsZeroOrMarked (m ∷ marks)) (sym is) (marked_here m marks)) (r.only at);
+}
+
+-- ---- a box that reaches a tile has a cell in common with it
+
+cell_rises : (m n : ℕ) → m ≤ n → cell_of m ≤ cell_of n
+cell_rises m n le = omega (arith, le)
+
+shown_rises : (zoom at : ℕ) → first_shown zoom at ≤ last_shown zoom at
+shown_rises zoom at =
+    let unit = one-le-pow (WORLD_ZOOM - zoom) 2 (omega arith) in
+    let near : (EXTENT * at - MARGIN) + 1 ≤ EXTENT * at + (EXTENT + MARGIN + 1) = omega arith in
+    omega (arith, unit, mul-le-mul_right (2 ^ (WORLD_ZOOM - zoom)) near)
+
+-- the world has the whole of each tile's box
+pub whole_world : (zoom column row : ℕ)
+    → HasWhole (record { least = record { x = 0; y = 0 }; greatest = record { x = 2 ^ 32 - 1; y = 2 ^ 32 - 1 } }) (tile_box zoom column row)
+unfolding tile_box
+whole_world zoom column row = record { left = omega arith; right = omega arith; top = omega arith; bottom = omega arith }
+
+-- of two overlapping ranges one cell is in both
+common : (a b c d : ℕ) → a ≤ b → c ≤ d → a ≤ d → c ≤ b → (n : ℕ) × (cell_of a ≤ n) × (n ≤ cell_of b) × (cell_of c ≤ n) × (n ≤ cell_of d)
+common a b c d ab cd ad cb =
+    let ab' = cell_rises a b ab in let cd' = cell_rises c d cd in let ad' = cell_rises a d ad in let cb' = cell_rises c b cb in
+    (max (cell_of a) (cell_of c), omega arith, omega (arith, ab', cb'), omega arith, omega (arith, cd', ad'))
+
+common_cell : (b : WorldBox) (zoom column row : ℕ) (whole : Corners) → HasWhole whole (tile_box zoom column row) → Reaches b zoom column row
+    → (across : ℕ) × (down : ℕ) × Touches b across down × HasCell (cells_of whole) across down
+unfolding tile_box
+common_cell b zoom column row whole has reaches =
+    let x = common b.x0 b.x1 (first_shown zoom column) (last_shown zoom column) reaches.ordered.across (shown_rises zoom column) reaches.meets.left reaches.meets.right in
+    let y = common b.y0 b.y1 (first_shown zoom row) (last_shown zoom row) reaches.ordered.down (shown_rises zoom row) reaches.meets.top reaches.meets.bottom in (
+      x.0,
+      y.0,
+      record { ordered = reaches.ordered; cell = record { left = x.1; right = x.2; top = y.1; bottom = y.2 } },
+      record {
+        left = omega (arith, x.3, cell_rises whole.least.x (first_shown zoom column) has.left);
+        right = omega (arith, x.4, cell_rises (last_shown zoom column) whole.greatest.x has.right);
+        top = omega (arith, y.3, cell_rises whole.least.y (first_shown zoom row) has.top);
+        bottom = omega (arith, y.4, cell_rises (last_shown zoom row) whole.greatest.y has.bottom);
+      },
+    )
+
+-- ---- the greatest number of the cells of a tile
+
+pub newest_of : (cells : List ℕ) (marks : List Mark) (zoom column row n : ℕ) (whole : Corners) → HasWhole whole (tile_box zoom column row)
+    → ((across down : ℕ) → HasCell (cells_of whole) across down → cell_at cells across down ≤ n) → IsZeroOrCell cells n → Remembers cells marks
+    → IsNewest marks zoom column row n
+newest_of cells marks zoom column row n whole has greatest found remembers = record {
+  reached = each marks (λ across down. remembers.reached across down);
+  only = either (λ (zero_is : n ≡ 0). inl zero_is) (λ (one : (at : ℕ) × (n ≡ get_or cells at 0)). subst (IsZeroOrMarked marks) (sym one.1) (remembers.only one.0)) found;
+}
+  where
+    each : (ms : List Mark) → ((across down : ℕ) → All (λ (m : Mark). Touches m.0 across down → m.1 ≤ cell_at cells across down) ms)
+        → All (λ (m : Mark). Reaches m.0 zoom column row → m.1 ≤ n) ms
+    each [] all = All-nil (λ (m : Mark). Reaches m.0 zoom column row → m.1 ≤ n)
+    each (m ∷ ms) all = All-cons (λ (k : Mark). Reaches k.0 zoom column row → k.1 ≤ n) m ms
+        (λ reaches. let cell = common_cell m.0 zoom column row whole has reaches in
+        omega (arith, All-head (λ (k : Mark). Touches k.0 cell.0 cell.1 → k.1 ≤ cell_at cells cell.0 cell.1) m ms (all cell.0 cell.1) cell.2, greatest cell.0 cell.1 cell.3))
+        (each ms (λ across down. All-tail (λ (k : Mark). Touches k.0 across down → k.1 ≤ cell_at cells across down) m ms (all across down)))

@@ -1,0 +1,12 @@
+use Rattle.tile_cache.proofs.Places.{kept_put, others_put}
+use Rattle.tile_cache.proofs.kept_tiles.TileCache.keep.Goals as goal
+
+pub returns-in-Ok-clause-kept : goal.returns-in-Ok-clause-kept
+returns-in-Ok-clause-kept c =
+    let kept = kept_put c.args.self.now c.place_of.result c.put.new.self (record { number = c.args.number; bytes = c.args.bytes }) c.in-Ok.ensures.entries in
+    rw c.place_of.ensures at kept
+
+pub returns-in-Ok-clause-others : goal.returns-in-Ok-clause-others
+returns-in-Ok-clause-others c =
+    let others = others_put c.args.self.now c.place_of.result c.put.new.self (record { number = c.args.number; bytes = c.args.bytes }) c.in-Ok.ensures.entries in
+    rw c.place_of.ensures at others

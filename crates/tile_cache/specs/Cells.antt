@@ -1,0 +1,48 @@
+-- The cells of the world: 32 in a row, and 32 rows of them.
+use Rattle.std.specs.Prelude.{◌≡◌, ℕ, ◌+◌, ◌*◌, ◌/◌, ◌^◌, ◌<◌, ◌≤◌, ◌⊎◌, List, length, slice_index}
+use Rattle.tile_cutter.specs.declared.reach.Corners.{Corners}
+use Rattle.tile_cache.specs.declared.touch_grid.TheConstants.{SIDE}
+use Rattle.tile_cache.specs.declared.touch_grid.Cells.{Cells}
+
+-- the number of a cell, by its column and its row
+abbrev pub cell_at : List ℕ → ℕ → ℕ → ℕ
+cell_at cells column row = slice_index cells (SIDE * row + column)
+
+-- the column of cells that has a column of the world, or the row that has a row
+abbrev pub cell_of : ℕ → ℕ
+cell_of coordinate = coordinate / 2 ^ 27
+
+-- the cells that a box of the world touches
+abbrev pub cells_of : Corners → Cells
+cells_of c = record { left = cell_of c.least.x; right = cell_of c.greatest.x; top = cell_of c.least.y; bottom = cell_of c.greatest.y }
+
+-- one of these cells stands in this column and row
+pub record HasCell (range : Cells) (column row : ℕ) : Type 0 where
+  pub left : range.left ≤ column
+  pub right : column ≤ range.right
+  pub top : range.top ≤ row
+  pub bottom : row ≤ range.bottom
+
+-- the columns and the rows at both ends of these cells stand in the grid
+pub record IsWithin (range : Cells) : Type 0 where
+  pub left : range.left < SIDE
+  pub right : range.right < SIDE
+  pub top : range.top < SIDE
+  pub bottom : range.bottom < SIDE
+
+-- no number falls, and each that changes becomes this one
+pub record RisesTo (number : ℕ) (old new : List ℕ) : Type 0 where
+  pub length : length new ≡ length old
+  pub rises : (at : ℕ) → slice_index old at ≤ slice_index new at
+  pub only : (at : ℕ) → (slice_index new at ≡ slice_index old at) ⊎ (slice_index new at ≡ number)
+
+-- 0, or the number of a cell
+abbrev pub IsZeroOrCell : List ℕ → ℕ → Type 0
+IsZeroOrCell cells n = (n ≡ 0) ⊎ ((at : ℕ) × (n ≡ slice_index cells at))
+
+-- a box has the whole of another
+pub record HasWhole (outer inner : Corners) : Type 0 where
+  pub left : outer.least.x ≤ inner.least.x
+  pub right : inner.greatest.x ≤ outer.greatest.x
+  pub top : outer.least.y ≤ inner.least.y
+  pub bottom : inner.greatest.y ≤ outer.greatest.y

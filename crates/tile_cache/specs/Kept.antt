@@ -1,0 +1,46 @@
+-- What a cache of tiles keeps.
+use Rattle.std.specs.Prelude.{◌≡◌, ℕ, Bool, false, cond, ◌&&◌, ◌⊎◌, List, Option, Some, None, nat_le, nat_eq, option_map, ⊤}
+use Rattle.std.specs.Borrow.{Fml, MutBor, follows_so}
+use Rattle.std.specs.Map.{lookup}
+use mathlib.Core.Option.{none}
+use Rattle.tile_cache.specs.declared.kept_tiles.Place.{Place}
+use Rattle.tile_cache.specs.declared.kept_tiles.KeptTile.{KeptTile}
+use Rattle.tile_cache.specs.declared.kept_tiles.TileCache.{TileCache}
+use Rattle.tile_cache.specs.contracts.kept_tiles.TileCache.{the_row}
+
+-- a number and the bytes of a tile
+abbrev pub Tile : Type 0
+Tile = ℕ × List ℕ
+
+-- the number and the bytes of what is kept
+abbrev pub tile_of : KeptTile → Tile
+tile_of k = (k.number, k.bytes.items)
+
+-- whether a place is this one
+abbrev pub is_place : Place → Place → Bool
+is_place p q = nat_eq p.z q.z && (nat_eq p.x q.x && nat_eq p.y q.y)
+
+-- what is kept for a place, with its number
+abbrev pub kept_at : TileCache → ℕ → ℕ → ℕ → Option Tile
+kept_at c z x y = option_map tile_of (lookup (is_place (record { z = z; x = x; y = y })) c.tiles.entries)
+
+-- the bytes, where they were kept with a number of at least this one
+abbrev pub fresh : ℕ → Option Tile → Option (List ℕ)
+fresh newest None = None
+fresh newest (Some t) = cond (nat_le newest t.0) (Some t.1) None
+
+-- the same is kept at each place
+abbrev pub KeepsSame : TileCache → TileCache → Type 0
+KeepsSame old new = (z x y : ℕ) → kept_at new z x y ≡ kept_at old z x y
+
+-- once the borrow has ended, the same is kept at each place
+abbrev pub EndsWithSame : MutBor TileCache → Fml
+EndsWithSame c = follows_so the_row the_row c.ghost_name none (λ _ _. ⊤) (KeepsSame c.now)
+
+-- what was there, or nothing
+abbrev pub IsSameOrNone : Option Tile → Option Tile → Type 0
+IsSameOrNone old new = (new ≡ old) ⊎ (new ≡ None)
+
+-- another place
+abbrev pub IsOtherPlace : ℕ → ℕ → ℕ → ℕ → ℕ → ℕ → Type 0
+IsOtherPlace z x y z' x' y' = is_place (record { z = z; x = x; y = y }) (record { z = z'; x = x'; y = y' }) ≡ false

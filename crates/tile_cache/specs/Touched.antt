@@ -1,0 +1,43 @@
+-- Which edits a grid remembers, and which of them reach a tile.
+use Rattle.std.specs.Prelude.{◌≡◌, ℕ, ◌≤◌, ◌⊎◌, List, map, All, Contains, slice_index}
+use Rattle.box_index.specs.declared.span.WorldBox.{WorldBox}
+use Rattle.tile_cutter.specs.declared.reach.Corners.{Corners}
+use Rattle.tile_cutter.specs.WorldBox.{tile_box, Meets}
+use Rattle.tile_cache.specs.Cells.{cell_at, cells_of, HasCell}
+
+-- an edit that was noted: the box that it touched, and its number
+abbrev pub Mark : Type 0
+Mark = WorldBox × ℕ
+
+-- a box by its corners
+abbrev pub corners : WorldBox → Corners
+corners b = record { least = record { x = b.x0; y = b.y0 }; greatest = record { x = b.x1; y = b.y1 } }
+
+-- the corners of a box aren't the wrong way round
+pub record IsOrdered (b : WorldBox) : Type 0 where
+  pub across : b.x0 ≤ b.x1
+  pub down : b.y0 ≤ b.y1
+
+-- a box can reach a tile: it meets the box that the tile shows
+pub record Reaches (b : WorldBox) (zoom column row : ℕ) : Type 0 where
+  pub ordered : IsOrdered b
+  pub meets : Meets (corners b) (tile_box zoom column row)
+
+-- a box touches the cell of this column and row
+pub record Touches (b : WorldBox) (column row : ℕ) : Type 0 where
+  pub ordered : IsOrdered b
+  pub cell : HasCell (cells_of (corners b)) column row
+
+-- 0, or the number of a mark
+abbrev pub IsZeroOrMarked : List Mark → ℕ → Type 0
+IsZeroOrMarked marks n = (n ≡ 0) ⊎ Contains (map (λ m. m.1) marks) n
+
+-- cells have at least the number of each mark that touches them, and only numbers of marks
+pub record Remembers (cells : List ℕ) (marks : List Mark) : Type 0 where
+  pub reached : (column row : ℕ) → All (λ m. Touches m.0 column row → m.1 ≤ cell_at cells column row) marks
+  pub only : (at : ℕ) → IsZeroOrMarked marks (slice_index cells at)
+
+-- a number is at least that of each mark that can reach the tile, and 0 or the number of a mark
+pub record IsNewest (marks : List Mark) (zoom column row n : ℕ) : Type 0 where
+  pub reached : All (λ m. Reaches m.0 zoom column row → m.1 ≤ n) marks
+  pub only : IsZeroOrMarked marks n

@@ -1,0 +1,89 @@
+ghost use Rattle.std.specs.Prelude.{◌≡◌, ℕ, ◌≤◌, None, Some, ◌⊎◌, OnOk, OnErr, IfOk, option_map, vec_len};
+ghost use Rattle.std.specs.Borrow.{sem};
+
+use hilbert_id::TileAt;
+use lru::LruCache;
+use std::alloc::{AllocError, Global};
+use std::num::NonZeroUsize;
+
+/// The most tiles that are kept.
+pub const MOST_TILES_KEPT: usize = 256;
+
+/// A zoom, a column and a row.
+#[derive(Clone, Copy, Debug, PartialEq, Eq, Hash)]
+pub struct Place {
+    pub z: u8,
+    pub x: u32,
+    pub y: u32,
+}
+
+/// A tile's bytes, and the number of the last edit when it was made.
+#[derive(Debug, Drop)]
+pub struct KeptTile {
+    pub number: u64,
+    pub bytes: Vec<u8>,
+}
+
+/// Tiles made before, at most 256, by their place, each with the number of the last edit when it was made.
+#[derive(Drop)]
+pub struct TileCache {
+    tiles: LruCache<Place, KeptTile>,
+}
+
+/// The place of a tile.
+fn place_of(at: TileAt) -> Place
+    ensures { result ≡ record { z = at.z; x = at.x; y = at.y } }
+{
+    Place {
+        z: at.z,
+        x: at.x,
+        y: at.y,
+    }
+}
+
+impl TileCache {
+    ghost use Rattle.tile_cache.specs.Kept.{kept_at, fresh, KeepsSame, EndsWithSame, IsSameOrNone, IsOtherPlace};
+
+    /// Keeps nothing yet.
+    pub fn new(alloc: Global) -> Result<TileCache, AllocError>
+        ensures { IfOk result (λ c. (z x y : ℕ) → kept_at c z x y ≡ None) }
+    {
+        let most = NonZeroUsize::new(MOST_TILES_KEPT).unwrap();
+        Ok(TileCache {
+            tiles: LruCache::new(alloc, most)?,
+        })
+    }
+
+    /// The bytes kept for a place, if they were kept with a number of at least `newest`.
+    pub fn get(&mut self, at: TileAt, newest: u64) -> Option<&[u8]>
+        ensures* same { sem 𝓛 (EndsWithSame self.entry) }
+        ensures found { option_map (λ b. b.now) result ≡ fresh newest (kept_at self.old at.z at.x at.y) }
+    {
+        let place = place_of(at);
+        self.tiles.promote(&place);
+        match self.tiles.peek(&place) {
+            Some(kept) => {
+                if kept.number < newest {
+                    return None;
+                }
+                Some(&kept.bytes)
+            }
+            None => None,
+        }
+    }
+
+    /// Keeps a tile's bytes with the number of the last edit; the tile asked for longest ago gives way.
+    ///
+    /// The error: an allocation failed, and all is kept as it was.
+    pub fn keep(&mut self, at: TileAt, number: u64, bytes: Vec<u8>) -> Result<(), AllocError>
+        ensures kept { OnOk result (kept_at self.new at.z at.x at.y ≡ Some (number, bytes.items)) }
+        ensures others { (z x y : ℕ) → IsOtherPlace at.z at.x at.y z x y → IsSameOrNone (kept_at self.old z x y) (kept_at self.new z x y) }
+        ensures refused { OnErr result (KeepsSame self.old self.new) }
+    {
+        let kept = KeptTile { number, bytes };
+        match self.tiles.put(place_of(at), kept) {
+            Ok(_) => Ok(()),
+            Err(_) => Err(AllocError),
+        }
+    }
+}

@@ -1,0 +1,166 @@
+ghost use Rattle.std.specs.Prelude.{◌≡◌, ℕ, ◌/◌, ◌<◌, ◌≤◌, ◌^◌, ◌∷◌, [], List, length, slice_index};
+ghost use Rattle.tile_cutter.specs.WorldBox.{tile_box};
+ghost use Rattle.tile_cache.specs.Cells.{cell_at, cells_of, IsWithin, HasCell, RisesTo, HasWhole, IsZeroOrCell};
+ghost use Rattle.tile_cache.specs.Touched.{Mark, Remembers, IsNewest};
+
+use box_index::WorldBox;
+use feature_model::{GREATEST_ZOOM, World};
+use hilbert_id::TileAt;
+use std::marker::Model;
+use tile_cutter::{Corners, tile_box};
+
+/// How many cells the world has in a row, and how many rows of them.
+const SIDE: usize = 32;
+
+/// The newest edit of each of 32 by 32 cells of the world.
+#[derive(Debug, Drop)]
+pub struct TouchGrid {
+    cells: [u64; 1_024],
+}
+
+impl Model for TouchGrid {
+    ghost use Rattle.std.specs.Prelude.{◌≡◌, ℕ, List, length};
+
+    ghost Value = { List ℕ };
+
+    ghost view = { λ g. g.cells };
+
+    ghost invariant = { λ g. length g.cells ≡ 1024 };
+}
+
+/// Cells of the grid, ends included.
+#[derive(Clone, Copy, Debug)]
+pub(crate) struct Cells {
+    left: usize,
+    right: usize,
+    top: usize,
+    bottom: usize,
+}
+
+/// The column of cells that has a column of the world, or the row that has a row.
+fn cell_of(coordinate: u32) -> usize
+    ensures cell { result ≡ coordinate / 2 ^ 27 }
+    ensures within { result < SIDE }
+{
+    (coordinate >> 27) as usize
+}
+
+/// The cells that a box of the world touches.
+fn cells_of(corners: Corners) -> Cells
+    ensures cells { result ≡ cells_of corners }
+    ensures within { IsWithin result }
+{
+    Cells {
+        left: cell_of(corners.least.x),
+        right: cell_of(corners.greatest.x),
+        top: cell_of(corners.least.y),
+        bottom: cell_of(corners.greatest.y),
+    }
+}
+
+/// Raises the numbers from one place up to another to this one.
+fn raise(cells: &mut [u64], first: usize, end: usize, number: u64)
+    requires { end ≤ length cells.old }
+    ensures rises { RisesTo number cells.old cells.new }
+    ensures raised { (at : ℕ) → first ≤ at → at < end → number ≤ slice_index cells.new at }
+{
+    for at in first..end {
+        cells[at] = cells[at].max(number);
+    }
+}
+
+/// Raises the numbers of cells to this one.
+fn raise_cells(cells: &mut [u64], range: Cells, number: u64)
+    requires all { length cells.old ≡ 1024 }
+    requires within { IsWithin range }
+    ensures rises { RisesTo number cells.old cells.new }
+    ensures raised { (column row : ℕ) → HasCell range column row → number ≤ cell_at cells.new column row }
+{
+    for row in range.top..range.bottom + 1 {
+        raise(
+            cells,
+            SIDE * row + range.left,
+            SIDE * row + range.right + 1,
+            number,
+        );
+    }
+}
+
+/// The greatest of the numbers from one place up to another, or 0.
+fn greatest(cells: &[u64], first: usize, end: usize) -> u64
+    requires { end ≤ length cells.now }
+    ensures reached { (at : ℕ) → first ≤ at → at < end → slice_index cells.now at ≤ result }
+    ensures found { IsZeroOrCell cells.now result }
+{
+    let mut newest = 0;
+    for at in first..end {
+        newest = cells[at].max(newest);
+    }
+    newest
+}
+
+/// The greatest of the numbers of cells, or 0.
+fn greatest_of(cells: &[u64], range: Cells) -> u64
+    requires all { length cells.now ≡ 1024 }
+    requires within { IsWithin range }
+    ensures reached { (column row : ℕ) → HasCell range column row → cell_at cells.now column row ≤ result }
+    ensures found { IsZeroOrCell cells.now result }
+{
+    let mut newest = 0;
+    for row in range.top..range.bottom + 1 {
+        newest = greatest(cells, SIDE * row + range.left, SIDE * row + range.right + 1).max(newest);
+    }
+    newest
+}
+
+/// A box that has the whole of what a tile shows: the world, where no tile of the zoom is cut.
+fn shown_by(at: TileAt) -> Corners
+    ensures { HasWhole result (tile_box at.z at.x at.y) }
+{
+    if at.z > GREATEST_ZOOM {
+        return Corners {
+            least: World { x: 0, y: 0 },
+            greatest: World {
+                x: u32::MAX,
+                y: u32::MAX,
+            },
+        };
+    }
+    tile_box(at)
+}
+
+impl TouchGrid {
+    /// A grid that no edit touched.
+    pub fn new() -> TouchGrid
+        ensures { Remembers result [] }
+    {
+        TouchGrid { cells: [0; 1_024] }
+    }
+
+    /// Notes that an edit of this number touched a box. Numbers only rise: the greatest stays.
+    pub fn mark(&mut self, bounds: &WorldBox, number: u64)
+        ensures { (marks : List Mark) → Remembers self.old marks → Remembers self.new ((bounds.now, number) ∷ marks) }
+    {
+        if bounds.x1 < bounds.x0 || bounds.y1 < bounds.y0 {
+            return;
+        }
+        let corners = Corners {
+            least: World {
+                x: bounds.x0,
+                y: bounds.y0,
+            },
+            greatest: World {
+                x: bounds.x1,
+                y: bounds.y1,
+            },
+        };
+        raise_cells(&mut self.cells, cells_of(corners), number);
+    }
+
+    /// At least the number of every marked edit whose box can reach the tile, its margin included; 0 where none was marked.
+    pub fn newest(&self, at: TileAt) -> u64
+        ensures { (marks : List Mark) → Remembers self.now marks → IsNewest marks at.z at.x at.y result }
+    {
+        greatest_of(&self.cells, cells_of(shown_by(at)))
+    }
+}
