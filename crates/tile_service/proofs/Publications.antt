@@ -1,6 +1,8 @@
 -- A publication from its first write to its installation, while edits go on.
-use Rattle.std.proofs.Common.{◌≡◌, ℕ, suc, ◌+◌, ◌==◌, if◌then◌else◌, List, [], length, Result, Ok, Err, OnOk, sym, ap, subst, arith, lit<, lit≤}
+use Rattle.std.proofs.Common.{◌≡◌, ℕ, zero, suc, ◌≤◌, ◌+◌, ◌==◌, if◌then◌else◌, List, [], ◌∷◌, length, take, drop}
+use Rattle.std.proofs.Common.{Result, Ok, Err, OnOk, refl, sym, ◌∙◌, ap, subst, arith, lit<, lit≤}
 use Rattle.std.proofs.lemmas.Bool.Decides.{nat_tests}
+use Rattle.std.proofs.lemmas.List.{take-take, drop-drop}
 use Rattle.sector_disk.specs.Disk.{Image, History, seen, Writes}
 use Rattle.sector_disk.specs.Disk.History.{begun}
 use Rattle.sector_disk.specs.declared.disk.DiskFault.{DiskFault}
@@ -11,8 +13,9 @@ use Rattle.generations.specs.declared.root.Root.{Root}
 use Rattle.generations.proofs.Laws.{fresh_image, some_fresh}
 use Rattle.edit_journal.specs.Appends.{ReadsAsBefore}
 use Rattle.feature_model.specs.Data.{EditData}
-use Rattle.feature_store.specs.Store.{FeatureMap, snapshot}
+use Rattle.feature_store.specs.Store.{FeatureMap, after, changed, snapshot}
 use Rattle.tile_service.specs.Publishing.{map_at, published, CanPublish, IsContentSector, HasFirst, HasArea, IsUnderWay}
+use Rattle.tile_service.specs.Runs.{Fits}
 use Rattle.tile_service.specs.Stored.{Stored, Holds, first_state, root_of, with_edit, journal_ring}
 use Rattle.tile_service.proofs.Contents.{none_written, write_stands, content_stands, append_keeps_area}
 use Rattle.tile_service.proofs.Fresh.{fresh_holds, no_text}
@@ -51,6 +54,60 @@ module _ (n : ℕ) (stored : Stored) (taken : ℕ) (archive : List ℕ) where
       → HasArea n (suc stored.generation) (snapshot (map_at stored taken)) archive (seen history)
   all_written written history is was = content_stands (snapshot (map_at stored taken)) archive n (suc stored.generation) (seen history)
       (subst (λ (k : ℕ). HasFirst n (suc stored.generation) (snapshot (map_at stored taken)) archive k (seen history)) is was.first)
+
+-- ---- publications in a run of edits
+
+-- The state has the first i of the edits since a start, the first j of them in its snapshot.
+abbrev pub fitting : Stored → List EditData → (i j generation journal_at : ℕ) → (archive : List ℕ) → Stored
+fitting start edits i j generation journal_at archive = record {
+  generation = generation;
+  snapshot_map = after start.snapshot_map (take j edits);
+  edits = start.edits + j;
+  since = drop j (take i edits);
+  journal_at = journal_at;
+  archive = archive;
+}
+
+none_taken : (taken : ℕ) → ◌≡◌ {A = List EditData} (take taken []) []
+none_taken zero = refl
+none_taken (suc taken) = refl
+
+-- the map after the edits of one snapshot and those of the next
+both_after : (m : FeatureMap) (j taken i all : ℕ) (edits : List EditData) → all ≡ j + taken → all ≤ i
+    → after (after m (take j edits)) (take taken (drop j (take i edits))) ≡ after m (take all edits)
+both_after m zero taken i all edits is le =
+    let same : taken ≡ all = omega (arith, is) in
+    ap (λ (l : List EditData). after m l) (take-take taken i edits (omega (arith, is, le)) ∙ ap (λ (k : ℕ). take k edits) same)
+both_after m (suc j) taken i zero edits is le = absurd (omega (arith, is))
+both_after m (suc j) taken zero (suc all) edits is le = absurd (omega (arith, le))
+both_after m (suc j) taken (suc i) (suc all) [] is le = ap (λ (l : List EditData). after m l) (none_taken taken)
+both_after m (suc j) taken (suc i) (suc all) (edit ∷ edits) is le = both_after (changed m edit) j taken i all edits (omega (arith, is)) (omega (arith, le))
+
+module _ (start : Stored) (edits : List EditData) (i j taken n generation journal_at : ℕ) (archive next : List ℕ) (le : j + taken ≤ i) where
+  abbrev pub place_behind : ℕ
+  place_behind = (published n (fitting start edits i j generation journal_at archive) taken next).journal_at
+
+  -- Published, it has more of them in its snapshot.
+  pub published_fits : published n (fitting start edits i j generation journal_at archive) taken next
+      ≡ fitting start edits i (j + taken) (suc generation) place_behind next
+  published_fits = λ k. record {
+    generation = suc generation;
+    snapshot_map = both_after start.snapshot_map j taken i (j + taken) edits refl le k;
+    edits = sum k;
+    since = drops k;
+    journal_at = place_behind;
+    archive = next;
+  }
+    where
+      sum : start.edits + j + taken ≡ start.edits + (j + taken)
+      sum = omega arith
+
+      drops : drop taken (drop j (take i edits)) ≡ drop (j + taken) (take i edits)
+      drops = drop-drop taken j (take i edits)
+
+  pub fits_published : (sectors : ℕ) (image : Image) → Holds sectors n (published n (fitting start edits i j generation journal_at archive) taken next) image
+      → Fits sectors n start edits i (j + taken) image
+  fits_published sectors image holds = (suc generation, place_behind, next, subst (λ (s : Stored). Holds sectors n s image) published_fits holds)
 
 -- ---- the definitions aren't empty
 
