@@ -1,5 +1,6 @@
 -- What is kept at a place, where the order changes or one goes.
-use Rattle.std.proofs.Common.{◌≡◌, ℕ, zero, suc, Bool, true, false, cond, ◌⊎◌, List, [], ◌∷◌, take, Option, Some, None, refl, sym, ap, ◌∙◌, inl, inr, subst, ◌<◌, ◌≤◌, ◌-◌, ◌&&◌}
+use Rattle.std.proofs.Common.{◌≡◌, ℕ, zero, suc, ◌+◌, ◌-◌, ◌<◌, ◌≤◌, Bool, true, false, cond, ◌&&◌, ◌⊎◌, List, [], ◌∷◌, length, take, Option, Some, None, refl, sym, ap, subst, ◌∙◌, inl, inr, arith}
+use Rattle.std.proofs.lemmas.List.{length-take, take_all}
 use Rattle.std.specs.Map.{lookup, lookup_entry, remove_entry}
 use Rattle.std.specs.Option.{option_map_or}
 use Rattle.std.specs.Prelude.{option_map}
@@ -9,7 +10,7 @@ use Rattle.lru.proofs.CallerLemmas.{Contains-lookup_entry}
 use Rattle.tile_cache.specs.declared.kept_tiles.Place.{Place}
 use Rattle.tile_cache.specs.declared.kept_tiles.KeptTile.{KeptTile}
 use Rattle.tile_cache.specs.declared.kept_tiles.TileCache.{TileCache}
-use Rattle.tile_cache.specs.Kept.{is_place, tile_of, kept_at, fresh, KeepsSame, IsSameOrNone, IsOtherPlace}
+use Rattle.tile_cache.specs.Kept.{is_place, tile_of, kept_at, fresh, count_kept, most_kept, KeepsSame, KeepsOthers, KeepsFewer}
 
 module _ {K V : Type 0} (test other : K → Bool) where
   -- the first entry of one test, which another test doesn't pass, goes
@@ -53,6 +54,13 @@ module _ {K V : Type 0} (test other : K → Bool) where
   put_apart es n k v None apart here is = rw (apart k here) (lookup_taken n es)
   put_apart es n k v (Some e) apart here is = inl (lookup_front es e v apart is)
 
+  -- where there is room nothing goes
+  pub put_with_room : (es : List (K × V)) (n : ℕ) (k : K) (v : V) (o : Option (K × V)) → ((j : K) → test j ≡ true → other j ≡ false) → test k ≡ true
+      → length es ≤ n → lookup_entry test es ≡ o
+      → lookup other (option_map_or (λ e. (e.0, v) ∷ remove_entry test es) o ((k, v) ∷ take n es)) ≡ lookup other es
+  put_with_room es n k v None apart here few is = rw (apart k here) (ap (lookup other) (take_all n es few))
+  put_with_room es n k v (Some e) apart here few is = lookup_front es e v apart is
+
 module _ {K V : Type 0} (test : K → Bool) where
   -- the first entry that passes has the value that is found
   pub lookup_from_entry : (es : List (K × V)) (e : K × V) → lookup_entry test es ≡ Some e → lookup test es ≡ Some e.1
@@ -71,6 +79,24 @@ module _ {K V : Type 0} (test : K → Bool) where
       → lookup test (option_map_or (λ e. (e.0, v) ∷ remove_entry test es) o ((k, v) ∷ take n es)) ≡ Some v
   put_here es n k v None here is = rw here refl
   put_here es n k v (Some e) here is = rw ((Contains-lookup_entry test es e is).1) refl
+
+  -- how many there are
+  length_without : (es : List (K × V)) (e : K × V) → lookup_entry test es ≡ Some e → length (remove_entry test es) + 1 ≡ length es
+  length_without [] e is = cc
+  length_without (f ∷ es) e is = (elim (test f.0) as (λ b. test f.0 ≡ b → length (remove_entry test (f ∷ es)) + 1 ≡ length (f ∷ es)) [
+    | true ↦ λ t. rw t (omega arith)
+    | false ↦ λ t. let on = length_without es e (rw t at is) in rw t (omega (arith, on))
+  ]) refl
+
+  pub length_promoted : (es : List (K × V)) (o : Option (K × V)) → lookup_entry test es ≡ o
+      → length (option_map_or (λ e. e ∷ remove_entry test es) o es) ≡ length es
+  length_promoted es None is = refl
+  length_promoted es (Some e) is = omega (arith, length_without es e is)
+
+  pub length_put : (es : List (K × V)) (n : ℕ) (k : K) (v : V) (o : Option (K × V)) → lookup_entry test es ≡ o
+      → length (option_map_or (λ e. (e.0, v) ∷ remove_entry test es) o ((k, v) ∷ take n es)) ≤ length es + 1
+  length_put es n k v None is = omega (arith, length-take n es)
+  length_put es n k v (Some e) is = omega (arith, length_without es e is)
 
 -- ---- places
 
@@ -109,31 +135,43 @@ lookup_promoted p q es = go (is_place p q) refl
 
 module _ (c : TileCache) (at : Place) (tiles : LruCache Place KeptTile) where
   pub kept_promoted : tiles ≡ lru_cache (promoted (is_place at) c.tiles.entries) c.tiles.cap → KeepsSame c (record { tiles = tiles })
-  kept_promoted is z x y = rw is (ap (option_map tile_of) (lookup_promoted at (record { z = z; x = x; y = y }) c.tiles.entries))
+  kept_promoted is = rw is (record {
+    tiles = λ z x y. ap (option_map tile_of) (lookup_promoted at (record { z = z; x = x; y = y }) c.tiles.entries);
+    count = length_promoted (is_place at) c.tiles.entries (lookup_entry (is_place at) c.tiles.entries) refl;
+    most = refl;
+  })
 
   -- what is found at the place was there before
   pub kept_found : tiles ≡ lru_cache (promoted (is_place at) c.tiles.entries) c.tiles.cap → (found : Option KeptTile)
       → found ≡ lookup (is_place at) tiles.entries → kept_at c at.z at.x at.y ≡ option_map tile_of found
-  kept_found is found found_is = sym (kept_promoted is at.z at.x at.y) ∙ ap (option_map tile_of) (sym found_is)
+  kept_found is found found_is = sym ((kept_promoted is).tiles at.z at.x at.y) ∙ ap (option_map tile_of) (sym found_is)
 
-  pub kept_put : (v : KeptTile) → tiles ≡ lru_cache (put_entries is_place c.tiles at v) c.tiles.cap → kept_at (record { tiles = tiles }) at.z at.x at.y ≡ Some (tile_of v)
-  kept_put v is = rw is (ap (option_map tile_of)
-      (put_here (is_place at) c.tiles.entries (c.tiles.cap - 1) at v (lookup_entry (is_place at) c.tiles.entries) (place_here at) refl))
+  module _ (v : KeptTile) (is : tiles ≡ lru_cache (put_entries is_place c.tiles at v) c.tiles.cap) where
+    pub kept_put : kept_at (record { tiles = tiles }) at.z at.x at.y ≡ Some (tile_of v)
+    kept_put = rw is (ap (option_map tile_of)
+        (put_here (is_place at) c.tiles.entries (c.tiles.cap - 1) at v (lookup_entry (is_place at) c.tiles.entries) (place_here at) refl))
 
-  pub others_put : (v : KeptTile) → tiles ≡ lru_cache (put_entries is_place c.tiles at v) c.tiles.cap → (z x y : ℕ) → IsOtherPlace at.z at.x at.y z x y
-      → IsSameOrNone (kept_at c z x y) (kept_at (record { tiles = tiles }) z x y)
-  others_put v is z x y other = rw is (go
-      (put_apart (is_place at) (is_place q) c.tiles.entries (c.tiles.cap - 1) at v (lookup_entry (is_place at) c.tiles.entries) (apart at q other) (place_here at) refl))
-    where
-      q : Place
-      q = record { z = z; x = x; y = y }
+    pub others_put : KeepsFewer at.z at.x at.y c (record { tiles = tiles })
+    others_put z x y other = rw is (go
+        (put_apart (is_place at) (is_place q) c.tiles.entries (c.tiles.cap - 1) at v (lookup_entry (is_place at) c.tiles.entries) (apart at q other) (place_here at) refl))
+      where
+        q : Place
+        q = record { z = z; x = x; y = y }
 
-      after : Option KeptTile
-      after = lookup (is_place q) (put_entries is_place c.tiles at v)
+        after : Option KeptTile
+        after = lookup (is_place q) (put_entries is_place c.tiles at v)
 
-      go : (after ≡ lookup (is_place q) c.tiles.entries) ⊎ (after ≡ None) → IsSameOrNone (kept_at c z x y) (option_map tile_of after)
-      go (inl same) = inl (ap (option_map tile_of) same)
-      go (inr none) = inr (ap (option_map tile_of) none)
+        go : (after ≡ lookup (is_place q) c.tiles.entries) ⊎ (after ≡ None) → (option_map tile_of after ≡ kept_at c z x y) ⊎ (option_map tile_of after ≡ None)
+        go (inl same) = inl (ap (option_map tile_of) same)
+        go (inr none) = inr (ap (option_map tile_of) none)
+
+    pub others_with_room : count_kept c < most_kept c → KeepsOthers at.z at.x at.y c (record { tiles = tiles })
+    others_with_room room z x y other = rw is (ap (option_map tile_of)
+        (put_with_room (is_place at) (is_place (record { z = z; x = x; y = y })) c.tiles.entries (c.tiles.cap - 1) at v (lookup_entry (is_place at) c.tiles.entries)
+        (apart at (record { z = z; x = x; y = y }) other) (place_here at) (omega (arith, room)) refl))
+
+    pub count_put : count_kept (record { tiles = tiles }) ≤ count_kept c + 1
+    count_put = rw is (length_put (is_place at) c.tiles.entries (c.tiles.cap - 1) at v (lookup_entry (is_place at) c.tiles.entries) refl)
 
 -- ---- what is fresh
 

@@ -1,4 +1,4 @@
-ghost use Rattle.std.specs.Prelude.{◌≡◌, ℕ, ◌≤◌, None, Some, ◌⊎◌, OnOk, OnErr, IfOk, option_map, vec_len};
+ghost use Rattle.std.specs.Prelude.{◌≡◌, ◌+◌, ◌<◌, ◌≤◌, Some, OnOk, OnErr, IfOk, option_map};
 ghost use Rattle.std.specs.Borrow.{sem};
 
 use hilbert_id::TileAt;
@@ -42,11 +42,11 @@ fn place_of(at: TileAt) -> Place
 }
 
 impl TileCache {
-    ghost use Rattle.tile_cache.specs.Kept.{kept_at, fresh, KeepsSame, EndsWithSame, IsSameOrNone, IsOtherPlace};
+    ghost use Rattle.tile_cache.specs.Kept.{kept_at, fresh, count_kept, most_kept, KeepsNothing, KeepsSame, KeepsOthers, KeepsFewer, EndsWithSame};
 
     /// Keeps nothing yet.
     pub fn new(alloc: Global) -> Result<TileCache, AllocError>
-        ensures { IfOk result (λ c. (z x y : ℕ) → kept_at c z x y ≡ None) }
+        ensures { IfOk result KeepsNothing }
     {
         let most = NonZeroUsize::new(MOST_TILES_KEPT).unwrap();
         Ok(TileCache {
@@ -77,7 +77,11 @@ impl TileCache {
     /// The error: an allocation failed, and all is kept as it was.
     pub fn keep(&mut self, at: TileAt, number: u64, bytes: Vec<u8>) -> Result<(), AllocError>
         ensures kept { OnOk result (kept_at self.new at.z at.x at.y ≡ Some (number, bytes.items)) }
-        ensures others { (z x y : ℕ) → IsOtherPlace at.z at.x at.y z x y → IsSameOrNone (kept_at self.old z x y) (kept_at self.new z x y) }
+        ensures others { OnOk result (KeepsFewer at.z at.x at.y self.old self.new) }
+        // Nothing gives way while there is room.
+        ensures room { count_kept self.old < most_kept self.old → OnOk result (KeepsOthers at.z at.x at.y self.old self.new) }
+        ensures count { OnOk result (count_kept self.new ≤ count_kept self.old + 1) }
+        ensures most { most_kept self.new ≡ most_kept self.old }
         ensures refused { OnErr result (KeepsSame self.old self.new) }
     {
         let kept = KeptTile { number, bytes };

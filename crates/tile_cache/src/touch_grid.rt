@@ -76,7 +76,8 @@ fn raise_cells(cells: &mut [u64], range: Cells, number: u64)
     ensures rises { RisesTo number cells.old cells.new }
     ensures raised { (column row : ℕ) → HasCell range column row → number ≤ cell_at cells.new column row }
 {
-    for row in range.top..range.bottom + 1 {
+    let end = range.bottom + 1;
+    for row in range.top..end {
         raise(
             cells,
             SIDE * row + range.left,
