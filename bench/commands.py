@@ -4,10 +4,12 @@
     python3 bench/commands.py [PROGRAM]       PROGRAM is crates/vtserve/out/vtserve, which `rt run` leaves there
 
 It prints a line for each case, and ends with 1 if one differs from what is wanted. Files lie in a scratch folder. What a process
-that is killed leaves is what it asked the system to write: a crash of the machine is not tried.
+that is killed leaves is what it asked the system to write: a crash of the machine is not tried. Where there is no strace, which
+lets calls of the system fail, those cases are left out, and a line says so.
 """
 import os
 import resource
+import shutil
 import signal
 import subprocess
 import sys
@@ -36,6 +38,11 @@ def reply(kind, content):
 def edit(number):
     """The reply to an edit that was made."""
     return reply(JSON, b'{"edit":%d}' % number)
+
+
+def error(word):
+    """A reply of status 500."""
+    return b"HTTP/1.1 500 Internal Server Error\r\ncontent-type: text/plain\r\ncontent-length: %d\r\n\r\n%s\n" % (len(word) + 1, word)
 
 
 def vtserve(words, requests=b"", **more):
@@ -152,6 +159,39 @@ def runs_out(cases, folder):
     cases.show("format again, of 128 sectors", vtserve(["format", path, "--sectors", "128"], preexec_fn=limit), (0, b"formatted 128 sectors\n", b""))
 
 
+def failing(call, at, number, words, requests=b""):
+    """What the program does where the call of the system of this name and number fails, of those on the file or folder at a path."""
+    trace = ["strace", "-qq", "-o", os.devnull, "-P", at, "-e", f"trace={call}", "-e", f"inject={call}:error=EIO:when={number}"]
+    child = subprocess.run([*trace, PROGRAM, *words], input=requests, capture_output=True, timeout=60)
+    return child.returncode, child.stdout, child.stderr
+
+
+def fails(cases, folder):
+    """Calls of the system that fail."""
+    if not shutil.which("strace"):
+        print("        no strace: no call of the system is made to fail")
+        return
+    path = os.path.join(folder, "again")
+    make = ["format", path, "--sectors", "64"]
+    rows = [
+        ("fsync", path, 1, b"File", "the sync of its length"),
+        ("fsync", folder, 1, b"File", "the sync of its folder"),
+        ("pread64", path, 1, b"Device", "a read"),
+        ("pwrite64", path, 1, b"Device", "a write"),
+        ("fdatasync", path, 1, b"Device", "its first sync"),
+        ("fdatasync", path, 4, b"Device", "its last sync"),
+    ]
+    for call, at, number, fault, name in rows:
+        cases.show(f"format where {name} fails", failing(call, at, number, make), refusal(fault))
+        cases.show("the file is taken away", os.path.exists(path), False)
+    cases.show("the same command again", vtserve(make), (0, b"formatted 64 sectors\n", b""))
+    cases.show("pipe where its sync fails", failing("fdatasync", path, 1, ["pipe", path], GET), refusal(b"Device"))
+    cases.show("pipe where a read fails", failing("pread64", path, 2, ["pipe", path], GET), refusal(b"Device"))
+    told = error(b"Device") + error(b"Broken") + EMPTY
+    cases.show("PUT where its write fails, PUT, GET", failing("pwrite64", path, 1, ["pipe", path], put(7) + put(7) + GET), (0, told, b""))
+    cases.show("another process: PUT", vtserve(["pipe", path], put(7)), (0, edit(1), b""))
+
+
 def words(cases, folder, disk):
     """Command lines that don't parse are status 2, before any file is touched."""
     path = os.path.join(folder, "unmade")
@@ -171,11 +211,13 @@ def words(cases, folder, disk):
 
 def main():
     cases = Cases()
-    with tempfile.TemporaryDirectory() as folder:
+    with tempfile.TemporaryDirectory() as scratch:
+        folder = os.path.realpath(scratch)
         disk = formats(cases, folder)
         keeps(cases, folder, disk)
         refuses(cases, folder, disk)
         runs_out(cases, folder)
+        fails(cases, folder)
         words(cases, folder, disk)
     return 1 if cases.differ else 0
 
