@@ -10,6 +10,7 @@ use Rattle.sector_disk.specs.Disk.{Image, History, MayLeave}
 use Rattle.sector_disk.specs.Moments.{LeavesOnly}
 use Rattle.sector_disk.proofs.History.{started, weaken}
 use Rattle.sector_disk.specs.declared.disk.TheConstants.{SECTOR_BYTES}
+use Rattle.sector_bytes.specs.Bytes.{sector_piece}
 use Rattle.generations.specs.Areas.{IsSize, area_start}
 use Rattle.generations.specs.Disks.{LiveRoot, IsFresh, HasRoot, HasNoMark, first_root}
 use Rattle.generations.specs.declared.fault.StoreFault.{StoreFault}
@@ -25,7 +26,7 @@ use Rattle.edit_journal.proofs.Laws.{zeros_no_head}
 use Rattle.feature_store.specs.Layers.{layers, is_tile}
 use Rattle.feature_store.specs.Store.{IsMap, snapshot}
 use Rattle.mvt_layer.specs.Tile.{LayerView}
-use Rattle.tile_service.specs.Stored.{Holds, Keeps, HoldsAt, HasBytes, sector_piece, first_state, root_of}
+use Rattle.tile_service.specs.Stored.{Holds, Keeps, HoldsAt, HasBytes, first_state, root_of}
 use Rattle.tile_service.specs.Tiles.{HasNoTile}
 use Rattle.tile_service.proofs.Roots.{root_or_none}
 

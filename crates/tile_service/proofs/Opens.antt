@@ -1,8 +1,10 @@
 -- What is read as a disk is opened, and what a disk that holds a state opens to.
-use Rattle.std.proofs.Common.{◌≡◌, ◌⊎◌, inl, inr, ⊎_elim, ℕ, suc, false, ◌<◌, ◌≤◌, ◌+◌, ◌*◌, List, [], ◌∷◌, length, map, refl, sym, ◌∙◌, ap, subst, arith}
+use Rattle.std.proofs.Common.{◌≡◌, ◌⊎◌, inl, inr, ℕ, suc, false, ◌<◌, ◌≤◌, ◌+◌, ◌*◌, List, [], ◌∷◌, length, map, Result, Ok, Err, IfErr, refl, sym, ◌∙◌, ap, subst, arith}
 use Rattle.sector_disk.specs.Disk.{History, Image, seen, MayLeave}
 use Rattle.sector_disk.specs.Disk.History.{synced}
-use Rattle.generations.specs.Areas.{IsSize, journal_sectors}
+use Rattle.sector_disk.specs.declared.disk.TheConstants.{SECTOR_BYTES}
+use Rattle.sector_bytes.specs.Bytes.{StandsIn}
+use Rattle.generations.specs.Areas.{IsSize, journal_sectors, area_sectors, area_start}
 use Rattle.generations.specs.Disks.{LiveRoot}
 use Rattle.generations.specs.Faults.{CountsDevice}
 use Rattle.generations.specs.declared.fault.StoreFault.{StoreFault}
@@ -20,14 +22,15 @@ use Rattle.edit_journal.specs.declared.sizes.TheConstants.{PART_BYTES, RECORD_VE
 use Rattle.edit_journal.proofs.Recovers.{held_is_journal, one_journal}
 use Rattle.feature_model.specs.Data.{EditData}
 use Rattle.feature_model.specs.Spelled.{spelled}
+use Rattle.feature_store.specs.Snapshots.{IsNoSnapshot}
 use Rattle.feature_store.specs.Store.{FeatureMap, changed, after, snapshot}
 use Rattle.feature_store.specs.declared.limit.TheConstants.{TEXTS_END}
-use Rattle.tile_service.specs.Opening.{IsJournalOf, IsReplayed, HasArea, IsRead, IsJournalFault, IsFaultBehind, IsOpenFault, recovery_told_as}
-use Rattle.tile_service.specs.Replayed.{AreTextsOf, bytes_of}
+use Rattle.feature_store.proofs.Laws.{snapshot_of_one_map}
+use Rattle.tile_service.specs.Opening.{IsJournalOf, HasSnapshot, IsReplayed, IsRead, IsContentFault, IsOpenFault, recovery_told_as}
+use Rattle.tile_service.specs.Replayed.{AreTextsOf, IsReplayFault, bytes_of}
 use Rattle.tile_service.specs.Service.{ServiceView, IsUp}
 use Rattle.tile_service.specs.Stored.{Stored, Holds, Keeps, root_of, texts_of, map_of, journal_start, journal_ring}
-use Rattle.tile_service.specs.Tiles.{HasNoTile}
-use Rattle.tile_service.proofs.Fresh.{no_text, no_tile}
+use Rattle.tile_service.proofs.Bytes.{one_stands, each_stands}
 use Rattle.tile_service.proofs.Laws.{one_run}
 use Rattle.tile_service.proofs.Replays.{changed_short}
 use Rattle.tile_service.proofs.Roots.{lives}
@@ -43,29 +46,46 @@ pub places_hold : (texts : List (List ℕ)) → bytes_of texts ≤ PART_BYTES * 
 places_hold [] = omega arith
 places_hold (text ∷ texts) = omega (arith, parts_hold (length text), places_hold texts)
 
--- so those of a journal are short together
-pub ring_short : (n used places : ℕ) (texts : List (List ℕ)) → IsSize n → used ≤ places → places ≡ journal_sectors n → used ≡ places_of texts
-    → bytes_of texts < TEXTS_END
-ring_short n used places texts size room is uses = omega (arith, places_hold texts, size.1, room, is, uses)
+-- so those of a snapshot and of a journal are short together
+pub texts_short : (n used places len : ℕ) (texts : List (List ℕ)) → IsSize n → len ≤ SECTOR_BYTES * area_sectors n → used ≤ places
+    → places ≡ journal_sectors n → used ≡ places_of texts → len + bytes_of texts < TEXTS_END
+texts_short n used places len texts size short room is uses = omega (arith, places_hold texts, size.1, short, room, is, uses)
 
 -- the texts of a map grow by those of the edits at most
 pub after_short : (m : FeatureMap) (edits : List EditData) → length (snapshot (after m edits)) ≤ length (snapshot m) + bytes_of (map spelled edits)
 after_short m [] = omega arith
 after_short m (edit ∷ edits) = omega (arith, after_short (changed m edit) edits, changed_short m edit)
 
--- and those of the map after the texts of a journal are at most what its places hold
-pub replayed_short : (texts : List (List ℕ)) (edits : List EditData) (m : FeatureMap) (used : ℕ) → AreTextsOf texts edits → m ≡ after [] edits
-    → used ≡ places_of texts → length (snapshot m) ≤ PART_BYTES * used
-replayed_short texts edits m used are is uses =
+-- and those of the map after the texts of a journal by what its places hold
+pub replayed_short : (texts : List (List ℕ)) (edits : List EditData) (first m : FeatureMap) (area used : ℕ) → AreTextsOf texts edits
+    → length (snapshot first) ≤ area → m ≡ after first edits → used ≡ places_of texts → length (snapshot m) ≤ area + PART_BYTES * used
+replayed_short texts edits first m area used are short is uses =
     omega (
       arith,
       ap (λ (m : FeatureMap). length (snapshot m)) is,
-      after_short [] edits,
-      ap length no_text,
+      after_short first edits,
+      short,
       ap bytes_of are.are_texts,
       places_hold texts,
       uses,
     )
+
+-- ---- what is wrong with a snapshot
+
+-- what stands in an area is the snapshot of no map
+no_snapshot : (n : ℕ) (root : Root) (image : Image) (text : List ℕ) → StandsIn (area_start n root.generation) text image
+    → length text ≡ root.snapshot_len → IsNoSnapshot text → (m : FeatureMap) → HasSnapshot n root m image → ⊥
+no_snapshot n root image text stands len none m has = none m has.is_map
+    (one_stands image (area_start n root.generation) (snapshot m) text (has.len ∙ sym len) has.stands stands)
+
+pub snapshot_fault : {T : Type 0} (n : ℕ) (root : Root) (image : Image) (text : List ℕ) (result : Result T StoreFault)
+    → StandsIn (area_start n root.generation) text image → length text ≡ root.snapshot_len
+    → IfErr result (λ fault. (fault ≡ Memory) ⊎ ((fault ≡ Damaged Snapshot) × IsNoSnapshot text))
+    → IfErr result (λ fault. (fault ≡ Device) ⊎ (fault ≡ Memory) ⊎ IsContentFault n root image fault)
+snapshot_fault n root image text (Ok done) stands len is = tt
+snapshot_fault n root image text (Err fault) stands len (inl memory) = inr (inl memory)
+snapshot_fault n root image text (Err fault) stands len (inr bad) =
+    inr (inr (subst (IsContentFault n root image) (sym bad.0) (no_snapshot n root image text stands len bad.1)))
 
 -- ---- what the faults of a recovery are told as
 
@@ -76,14 +96,22 @@ recovery_counts faults.Device old new is = is
 recovery_counts faults.Damaged old new is = is
 recovery_counts faults.Memory old new is = is
 
-pub recovery_fault : (n : ℕ) (root : Root) (image : Image) (fault : JournalFault) (old new : ℕ) → IsRecoverFault old new fault
-    → ((texts : List (List ℕ)) → fault ≡ faults.Damaged → IsJournalOf n root texts image → ⊥)
-    → (recovery_told_as fault ≡ Device) ⊎ (recovery_told_as fault ≡ Memory) ⊎ IsJournalFault n root image (recovery_told_as fault)
-recovery_fault n root image faults.NumbersSpent old new is damaged = absurd is
-recovery_fault n root image (faults.Full need free) old new is damaged = absurd is
-recovery_fault n root image faults.Device old new is damaged = inl refl
-recovery_fault n root image faults.Damaged old new is damaged = inr (inr (λ texts journal. damaged texts refl journal))
-recovery_fault n root image faults.Memory old new is damaged = inr (inl refl)
+module _ (n : ℕ) (root : Root) (image : Image) (m : FeatureMap) (has : HasSnapshot n root m image) where
+  pub recovery_fault : (fault : JournalFault) (old new : ℕ) → IsRecoverFault old new fault
+      → ((texts : List (List ℕ)) → fault ≡ faults.Damaged → IsJournalOf n root texts image → ⊥)
+      → (recovery_told_as fault ≡ Device) ⊎ (recovery_told_as fault ≡ Memory) ⊎ IsContentFault n root image (recovery_told_as fault)
+  recovery_fault faults.NumbersSpent old new is damaged = absurd is
+  recovery_fault (faults.Full need free) old new is damaged = absurd is
+  recovery_fault faults.Device old new is damaged = inl refl
+  recovery_fault faults.Damaged old new is damaged = inr (inr (m, has, λ texts journal. damaged texts refl journal))
+  recovery_fault faults.Memory old new is damaged = inr (inl refl)
+
+  -- and of a replay
+  pub text_fault : (texts : List (List ℕ)) (fault : StoreFault) → IsJournalOf n root texts image → IsReplayFault texts fault
+      → (fault ≡ Device) ⊎ (fault ≡ Memory) ⊎ IsContentFault n root image fault
+  text_fault texts fault journal (inl memory) = inr (inl memory.0)
+  text_fault texts fault journal (inr bad) =
+      inr (inr (subst (IsContentFault n root image) (sym bad.0) (m, has, texts, journal, bad.1)))
 
 -- ---- what was read after a sync stood there before it
 
@@ -92,37 +120,20 @@ pub live_before : (sectors count n : ℕ) (old new : History) (root : Root) → 
 live_before sectors count n old new root same is live =
     subst (λ (h : History). LiveRoot sectors (seen h) n root) is (subst (λ (c : ℕ). LiveRoot c (seen new) n root) same live)
 
--- a root that counts and names an area is a fault
-pub area_fault : (sectors n : ℕ) (image : Image) (root : Root) → LiveRoot sectors image n root → HasArea root → IsOpenFault sectors image (Damaged Snapshot)
-area_fault sectors n image root live area = inr (n, root, live, inl (refl, area))
-
-empty_area : (root : Root) → root.snapshot_len ≤ 0 → root.archive_len ≤ 0 → HasArea root → ⊥
-empty_area root snapshot_ archive (inl lt) = omega (arith, lt, snapshot_)
-empty_area root snapshot_ archive (inr lt) = omega (arith, lt, archive)
-
--- else its journal is what counts
 pub read_after : (sectors n : ℕ) (old new : History) (root : Root) (journal : journals.Journal) (features : FeatureMap) → new ≡ synced old
-    → LiveRoot sectors (seen old) n root → root.snapshot_len ≤ 0 → root.archive_len ≤ 0 → IsReplayed n root (seen new) journal features
-    → IsRead sectors n (seen old) root journal features
-read_after sectors n old new root journal features is live snapshot_ archive replayed = record {
+    → LiveRoot sectors (seen old) n root → IsReplayed n root (seen new) journal features → IsRead sectors n (seen old) root journal features
+read_after sectors n old new root journal features is live replayed = record {
   live = live;
-  no_area = empty_area root snapshot_ archive;
   replayed = subst (λ (h : History). IsReplayed n root (seen h) journal features) is replayed;
 }
 
-pub fault_after : (sectors n : ℕ) (old new : History) (root : Root) (fault : StoreFault) → new ≡ synced old
-    → LiveRoot sectors (seen old) n root → root.snapshot_len ≤ 0 → root.archive_len ≤ 0
-    → (fault ≡ Device) ⊎ (fault ≡ Memory) ⊎ IsJournalFault n root (seen new) fault
+pub fault_after : (sectors n : ℕ) (old new : History) (root : Root) (fault : StoreFault) → new ≡ synced old → LiveRoot sectors (seen old) n root
+    → (fault ≡ Device) ⊎ (fault ≡ Memory) ⊎ IsContentFault n root (seen new) fault
     → (fault ≡ Device) ⊎ (fault ≡ Memory) ⊎ IsOpenFault sectors (seen old) fault
-fault_after sectors n old new root fault is live snapshot_ archive (inl device) = inl device
-fault_after sectors n old new root fault is live snapshot_ archive (inr (inl memory)) = inr (inl memory)
-fault_after sectors n old new root fault is live snapshot_ archive (inr (inr journal)) =
-    inr (inr (inr (
-      n,
-      root,
-      live,
-      inr (empty_area root snapshot_ archive, subst (λ (h : History). IsJournalFault n root (seen h) fault) is journal),
-    )))
+fault_after sectors n old new root fault is live (inl device) = inl device
+fault_after sectors n old new root fault is live (inr (inl memory)) = inr (inl memory)
+fault_after sectors n old new root fault is live (inr (inr content)) =
+    inr (inr (inr (n, root, live, subst (λ (h : History). IsContentFault n root (seen h) fault) is content)))
 
 -- ---- what a disk that holds a state has
 
@@ -130,16 +141,20 @@ texts_count : (edits : List EditData) → length (map spelled edits) ≡ length 
 texts_count [] = refl
 texts_count (edit ∷ edits) = ap suc (texts_count edits)
 
-module _ (sectors n : ℕ) (stored : Stored) (image : Image) (none : stored.snapshot_map ≡ []) (holds : Holds sectors n stored image) where
+module _ (sectors n : ℕ) (stored : Stored) (image : Image) (holds : Holds sectors n stored image) where
   live : LiveRoot sectors image n (root_of stored)
   live = lives sectors image n stored holds
 
-  no_archive : stored.archive ≡ []
-  no_archive = ⊎_elim (λ empty. empty.1) (λ some. absurd (some.0 (subst HasNoTile (sym none) no_tile))) holds.is_archive
+  snapshot_there : HasSnapshot n (root_of stored) stored.snapshot_map image
+  snapshot_there = record {
+    is_map = holds.is_map;
+    len = refl;
+    stands = each_stands image (area_start n stored.generation) (snapshot stored.snapshot_map) (λ at. (holds.sectors at).snapshot_bytes);
+  }
 
-  no_area : HasArea (root_of stored) → ⊥
-  no_area (inl lt) = omega (arith, lt, ap (λ (m : FeatureMap). length (snapshot m)) none, ap length no_text)
-  no_area (inr lt) = omega (arith, lt, ap length no_archive)
+  one_snapshot : (m : FeatureMap) → HasSnapshot n (root_of stored) m image → m ≡ stored.snapshot_map
+  one_snapshot m has = snapshot_of_one_map m stored.snapshot_map has.is_map holds.is_map
+      (one_stands image (area_start n stored.generation) (snapshot m) (snapshot stored.snapshot_map) has.len has.stands snapshot_there.stands)
 
   journal_there : IsJournalOf n (root_of stored) (texts_of stored) image
   journal_there = held_is_journal RECORD_VERSION (journal_ring n) image (journal_start stored) (texts_of stored) holds.journal
@@ -147,28 +162,24 @@ module _ (sectors n : ℕ) (stored : Stored) (image : Image) (none : stored.snap
   one_texts : (texts : List (List ℕ)) → IsJournalOf n (root_of stored) texts image → texts ≡ texts_of stored
   one_texts texts is = one_journal RECORD_VERSION (journal_ring n) image (journal_start stored) texts (texts_of stored) is journal_there
 
-  no_journal_fault : (fault : StoreFault) → IsJournalFault n (root_of stored) image fault → ⊥
-  no_journal_fault NotFormatted is = is
-  no_journal_fault TooSmall is = is
-  no_journal_fault (Damaged Size) is = is
-  no_journal_fault (Damaged RootSector) is = is
-  no_journal_fault (Damaged Snapshot) is = is
-  no_journal_fault (Damaged Journal) is = is (texts_of stored) journal_there
-  no_journal_fault (Damaged Text) is = is.2 stored.since (record { are_edits = holds.are_edits; are_texts = one_texts is.0 is.1 })
-  no_journal_fault Device is = is
-  no_journal_fault Memory is = is
-
-  nothing_behind : (fault : StoreFault) → IsFaultBehind n (root_of stored) image fault → ⊥
-  nothing_behind fault (inl is) = no_area is.1
-  nothing_behind fault (inr is) = no_journal_fault fault is.1
+  no_content_fault : (fault : StoreFault) → IsContentFault n (root_of stored) image fault → ⊥
+  no_content_fault NotFormatted is = is
+  no_content_fault TooSmall is = is
+  no_content_fault (Damaged Size) is = is
+  no_content_fault (Damaged RootSector) is = is
+  no_content_fault (Damaged Snapshot) is = is stored.snapshot_map snapshot_there
+  no_content_fault (Damaged Journal) is = is.2 (texts_of stored) journal_there
+  no_content_fault (Damaged Text) is = is.4 stored.since (record { are_edits = holds.are_edits; are_texts = one_texts is.2 is.3 })
+  no_content_fault Device is = is
+  no_content_fault Memory is = is
 
   -- it has no fault for which it isn't opened
   pub no_open_fault : (fault : StoreFault) → IsOpenFault sectors image fault → ⊥
   no_open_fault fault (inl is) = live_no_fault sectors image n (root_of stored) fault live is
   no_open_fault fault (inr is) =
       let same = one_live sectors image n is.0 (root_of stored) is.1 live is.2 in
-      nothing_behind fault (subst (λ (m : ℕ). IsFaultBehind m (root_of stored) image fault) (sym same.0)
-      (subst (λ (r : Root). IsFaultBehind is.0 r image fault) (sym same.1) is.3))
+      no_content_fault fault (subst (λ (m : ℕ). IsContentFault m (root_of stored) image fault) (sym same.0)
+      (subst (λ (r : Root). IsContentFault is.0 r image fault) (sym same.1) is.3))
 
   edits_there : (texts : List (List ℕ)) (edits : List EditData) → IsJournalOf n (root_of stored) texts image → AreTextsOf texts edits
       → edits ≡ stored.since
@@ -199,8 +210,10 @@ module _ (sectors n : ℕ) (stored : Stored) (image : Image) (none : stored.snap
         (subst (λ (i : Image). Holds sectors n stored i) (one_left left may) holds))
 
     map_is : service.features ≡ map_of stored
-    map_is = replayed.map_is ∙ ap (after []) (edits_there replayed.texts replayed.edits replayed.are_texts replayed.are_edits)
-        ∙ ap (λ (m : FeatureMap). after m stored.since) (sym none)
+    map_is =
+        let same_map = one_snapshot replayed.snapshot_map replayed.has_snapshot in
+        let same_edits = edits_there replayed.texts replayed.edits replayed.are_texts replayed.are_edits in
+        replayed.map_is ∙ (λ i. after (same_map i) (same_edits i))
 
     -- what is read of it is its map and its journal
     pub opens : (service.size ≡ n) × IsUp count history stored service
@@ -219,8 +232,8 @@ module _ (sectors n : ℕ) (stored : Stored) (image : Image) (none : stored.snap
     )
 
 -- of faults only those of the disk and of allocations are left
-pub no_other_fault : (sectors n : ℕ) (stored : Stored) (image : Image) (fault : StoreFault) → stored.snapshot_map ≡ [] → Holds sectors n stored image
+pub no_other_fault : (sectors n : ℕ) (stored : Stored) (image : Image) (fault : StoreFault) → Holds sectors n stored image
     → (fault ≡ Device) ⊎ (fault ≡ Memory) ⊎ IsOpenFault sectors image fault → (fault ≡ Device) ⊎ (fault ≡ Memory)
-no_other_fault sectors n stored image fault none holds (inl device) = inl device
-no_other_fault sectors n stored image fault none holds (inr (inl memory)) = inr memory
-no_other_fault sectors n stored image fault none holds (inr (inr is)) = absurd (no_open_fault sectors n stored image none holds fault is)
+no_other_fault sectors n stored image fault holds (inl device) = inl device
+no_other_fault sectors n stored image fault holds (inr (inl memory)) = inr memory
+no_other_fault sectors n stored image fault holds (inr (inr is)) = absurd (no_open_fault sectors n stored image holds fault is)

@@ -1,6 +1,8 @@
 -- What is read as a disk is opened, and why one isn't opened.
-use Rattle.std.specs.Prelude.{◌≡◌, ◌⊎◌, ◌<◌, ◌+◌, ℕ, List, [], length}
+use Rattle.std.specs.Prelude.{◌≡◌, ◌⊎◌, ◌+◌, ℕ, List, length}
 use Rattle.sector_disk.specs.Disk.{Image}
+use Rattle.sector_bytes.specs.Bytes.{StandsIn}
+use Rattle.generations.specs.Areas.{area_start}
 use Rattle.generations.specs.Disks.{LiveRoot, IsFaultOf}
 use Rattle.generations.specs.declared.root.Root.{Root}
 use Rattle.generations.specs.declared.fault.StoreFault.{StoreFault}
@@ -14,7 +16,7 @@ use Rattle.edit_journal.specs.declared.fault.JournalFault.TheVariants as faults
 use Rattle.edit_journal.specs.declared.journal.Journal as journals
 use Rattle.edit_journal.specs.declared.sizes.TheConstants.{RECORD_VERSION}
 use Rattle.feature_model.specs.Data.{EditData}
-use Rattle.feature_store.specs.Store.{FeatureMap, after}
+use Rattle.feature_store.specs.Store.{FeatureMap, IsMap, after, snapshot}
 use Rattle.tile_service.specs.Replayed.{AreTextsOf}
 use Rattle.tile_service.specs.Stored.{journal_ring}
 
@@ -22,8 +24,16 @@ use Rattle.tile_service.specs.Stored.{journal_ring}
 abbrev pub IsJournalOf : (n : ℕ) → Root → List (List ℕ) → Image → Type 0
 IsJournalOf n root texts image = IsJournal RECORD_VERSION (journal_ring n) (start_of root.journal_at root.edits) texts image
 
--- the journal that the root names, and the map after its edits
+-- the map whose snapshot stands in the area of the root
+pub record HasSnapshot (n : ℕ) (root : Root) (m : FeatureMap) (image : Image) : Type 0 where
+  pub is_map : IsMap m
+  pub len : length (snapshot m) ≡ root.snapshot_len
+  pub stands : StandsIn (area_start n root.generation) (snapshot m) image
+
+-- the snapshot and the journal that the root names, and the map after the journal's edits
 pub record IsReplayed (n : ℕ) (root : Root) (image : Image) (journal : journals.Journal) (features : FeatureMap) : Type 0 where
+  pub snapshot_map : FeatureMap
+  pub has_snapshot : HasSnapshot n root snapshot_map image
   pub texts : List (List ℕ)
   pub edits : List EditData
   pub are_texts : IsJournalOf n root texts image
@@ -32,38 +42,33 @@ pub record IsReplayed (n : ℕ) (root : Root) (image : Image) (journal : journal
   pub edits_are : journal.edits ≡ root.edits
   pub used_is : journal.used ≡ places_of texts
   pub last_is : journal.last ≡ root.edits + length texts
-  pub map_is : features ≡ after [] edits
+  pub map_is : features ≡ after snapshot_map edits
 
--- the root names a snapshot or an archive
-abbrev pub HasArea : Root → Type 0
-HasArea root = (0 < root.snapshot_len) ⊎ (0 < root.archive_len)
-
--- what a disk of so many sectors has: a root that counts, with no area, and the map after its journal
+-- what a disk of so many sectors has: a root that counts, and the map after its journal
 pub record IsRead (sectors n : ℕ) (image : Image) (root : Root) (journal : journals.Journal) (features : FeatureMap) : Type 0 where
   pub live : LiveRoot sectors image n root
-  pub no_area : HasArea root → ⊥
   pub replayed : IsReplayed n root image journal features
 
--- what is wrong with the journal that the root names: a record isn't whole, or a text is that of no edit
-abbrev pub IsJournalFault : (n : ℕ) → Root → Image → StoreFault → Type 0
-IsJournalFault n root image NotFormatted = ⊥
-IsJournalFault n root image TooSmall = ⊥
-IsJournalFault n root image (Damaged Size) = ⊥
-IsJournalFault n root image (Damaged RootSector) = ⊥
-IsJournalFault n root image (Damaged Snapshot) = ⊥
-IsJournalFault n root image (Damaged Journal) = (texts : List (List ℕ)) → IsJournalOf n root texts image → ⊥
-IsJournalFault n root image (Damaged Text) = (texts : List (List ℕ)) × IsJournalOf n root texts image × ((edits : List EditData) → AreTextsOf texts edits → ⊥)
-IsJournalFault n root image Device = ⊥
-IsJournalFault n root image Memory = ⊥
-
--- what is wrong behind the sectors of the roots: the one that counts names an area, which nobody reads yet, or its journal is at fault
-abbrev pub IsFaultBehind : (n : ℕ) → Root → Image → StoreFault → Type 0
-IsFaultBehind n root image fault = ((fault ≡ Damaged Snapshot) × HasArea root) ⊎ ((HasArea root → ⊥) × IsJournalFault n root image fault)
+-- What is wrong with what the root names, in the order of reading: there is no snapshot of a map; there is one, and a record of the
+-- journal isn't whole; there is one, and the journal has a text that is that of no edit.
+abbrev pub IsContentFault : (n : ℕ) → Root → Image → StoreFault → Type 0
+IsContentFault n root image NotFormatted = ⊥
+IsContentFault n root image TooSmall = ⊥
+IsContentFault n root image (Damaged Size) = ⊥
+IsContentFault n root image (Damaged RootSector) = ⊥
+IsContentFault n root image (Damaged Snapshot) = (m : FeatureMap) → HasSnapshot n root m image → ⊥
+IsContentFault n root image (Damaged Journal) =
+    (m : FeatureMap) × HasSnapshot n root m image × ((texts : List (List ℕ)) → IsJournalOf n root texts image → ⊥)
+IsContentFault n root image (Damaged Text) =
+    (m : FeatureMap) × HasSnapshot n root m image × (texts : List (List ℕ)) × IsJournalOf n root texts image
+    × ((edits : List EditData) → AreTextsOf texts edits → ⊥)
+IsContentFault n root image Device = ⊥
+IsContentFault n root image Memory = ⊥
 
 -- what is wrong with a disk of so many sectors
 abbrev pub IsOpenFault : (sectors : ℕ) → Image → StoreFault → Type 0
 IsOpenFault sectors image fault =
-    IsFaultOf sectors image fault ⊎ ((n : ℕ) × (root : Root) × LiveRoot sectors image n root × IsFaultBehind n root image fault)
+    IsFaultOf sectors image fault ⊎ ((n : ℕ) × (root : Root) × LiveRoot sectors image n root × IsContentFault n root image fault)
 
 -- what the fault of a recovery is told as
 abbrev pub recovery_told_as : JournalFault → StoreFault

@@ -1,8 +1,8 @@
 -- What an image of a disk holds: a map as a snapshot and the edits since, and the archive of the snapshot's tiles.
-use Rattle.std.specs.Prelude.{◌≡◌, ◌⊎◌, ◌<◌, ◌+◌, ◌*◌, ◌%◌, ℕ, List, [], ◌∷◌, ◌++◌, length, map, take, drop, All}
+use Rattle.std.specs.Prelude.{◌≡◌, ◌⊎◌, ◌<◌, ◌+◌, ◌%◌, ℕ, List, [], ◌∷◌, ◌++◌, length, map, take, All}
 use Rattle.std.proofs.Common.{suc}
 use Rattle.sector_disk.specs.Disk.{Image, History, MayLeave}
-use Rattle.sector_disk.specs.declared.disk.TheConstants.{SECTOR_BYTES}
+use Rattle.sector_bytes.specs.Bytes.{sector_piece}
 use Rattle.generations.specs.Areas.{journal_sectors, area_start, sectors_of}
 use Rattle.generations.specs.Sectors.{IsFormat, IsRootOf, IsNoRoot}
 use Rattle.generations.specs.declared.root.Root.{Root}
@@ -52,10 +52,6 @@ root_of stored = record {
 -- the journal begins behind the sectors of the format and of the two roots
 abbrev pub journal_ring : ℕ → Ring
 journal_ring n = record { first = 3; places = journal_sectors n }
-
--- the part of the bytes in one of the sectors that they take
-abbrev pub sector_piece : List ℕ → ℕ → List ℕ
-sector_piece bytes index = take SECTOR_BYTES (drop (SECTOR_BYTES * index) bytes)
 
 -- The bytes stand in consecutive sectors from a first one on: this sector is as they say, whatever stands behind their end.
 abbrev pub HasBytes : (first : ℕ) → List ℕ → (at : ℕ) → List ℕ → Type 0

@@ -11,6 +11,7 @@ mod replaying;
 mod running;
 mod service;
 mod showing;
+mod snapshot_reading;
 
 pub use event::{Answer, Event};
 pub use fault::ServiceFault;

@@ -1,19 +1,22 @@
 //! A service made from what a disk holds.
-ghost use Rattle.std.specs.Prelude.{◌≡◌, ◌⊎◌, ◌≤◌, ◌*◌, [], false, ℕ, length, IfErr, IfOk, OnOk, MatchResult};
+ghost use Rattle.std.specs.Prelude.{◌≡◌, ◌⊎◌, ◌≤◌, ◌+◌, ◌*◌, false, ℕ, length, IfErr, IfOk, OnOk, MatchResult};
 ghost use Rattle.sector_disk.specs.Disk.{seen};
 ghost use Rattle.sector_disk.specs.Disk.History.{synced};
+ghost use Rattle.sector_disk.specs.declared.disk.TheConstants.{SECTOR_BYTES};
+ghost use Rattle.generations.specs.Areas.{area_sectors};
 ghost use Rattle.generations.specs.Faults.{CountsDevice};
 ghost use Rattle.generations.specs.Sectors.{CanStand};
 ghost use Rattle.generations.specs.declared.fault.StoreFault.TheVariants.{Device, Memory};
 ghost use Rattle.edit_journal.specs.Appends.{ring_of};
 ghost use Rattle.edit_journal.specs.declared.sizes.TheConstants.{PART_BYTES};
 ghost use Rattle.feature_store.specs.Store.{snapshot};
-ghost use Rattle.tile_service.specs.Opening.{IsReplayed, IsRead, IsJournalFault, IsOpenFault, recovery_told_as};
+ghost use Rattle.tile_service.specs.Opening.{HasSnapshot, IsReplayed, IsRead, IsContentFault, IsOpenFault, recovery_told_as};
 ghost use Rattle.tile_service.specs.Service.{IsUp};
 ghost use Rattle.tile_service.specs.Stored.{Stored, Holds, journal_ring};
 
 use crate::replaying::replay;
 use crate::service::Service;
+use crate::snapshot_reading::read_snapshot;
 use edit_journal::{Journal, JournalFault, Start};
 use feature_store::Store;
 use generations::{Layout, Root, StoreFault, What, read_root};
@@ -41,8 +44,47 @@ struct Found {
     store: Store,
 }
 
-/// Reads the journal that a root names, and the map after its edits.
+/// Reads the journal that a root names, and makes the edits of its texts in the map of the root's snapshot.
 fn read_edits<D: Sectors>(
+    alloc: Global,
+    disk: &mut D,
+    layout: Layout,
+    root: Root,
+    store: Store,
+) -> Result<(Journal, Store), StoreFault>
+    requires within { layout.sectors ≤ D.sectors disk.old }
+    requires can { CanStand layout.sectors root }
+    requires texts { length (snapshot store.features) ≤ SECTOR_BYTES * area_sectors layout.sectors }
+    ensures count { D.sectors disk.new ≡ D.sectors disk.old }
+    ensures honest { D.honest disk.new → D.honest disk.old }
+    ensures history { D.honest disk.new → D.history disk.new ≡ D.history disk.old }
+    ensures faults { OnOk result (D.faults disk.new ≡ D.faults disk.old) }
+    ensures failed { IfErr result (λ fault. CountsDevice fault (D.faults disk.old) (D.faults disk.new)) }
+    ensures ring { IfOk result (λ found. ring_of found.0 ≡ journal_ring layout.sectors) }
+    ensures texts { IfOk result (λ found.
+        length (snapshot found.1.features) ≤ SECTOR_BYTES * area_sectors layout.sectors + PART_BYTES * found.0.used) }
+    ensures found { D.honest disk.new → HasSnapshot layout.sectors root store.features (seen (D.history disk.old))
+        → IfOk result (λ found. IsReplayed layout.sectors root (seen (D.history disk.old)) found.0 found.1.features) }
+    ensures fault { D.honest disk.new → HasSnapshot layout.sectors root store.features (seen (D.history disk.old))
+        → IfErr result (λ fault. (fault ≡ Device) ⊎ (fault ≡ Memory) ⊎ IsContentFault layout.sectors root (seen (D.history disk.old)) fault) }
+{
+    let start = Start {
+        place: root.journal_at,
+        edits: root.edits,
+    };
+    let (journal, texts) = match Journal::recover(alloc, disk, 3, layout.journal, start) {
+        Ok(found) => found,
+        Err(fault) => return Err(told(fault)),
+    };
+    let mut store = store;
+    match replay(alloc, &mut store, texts) {
+        Ok(()) => Ok((journal, store)),
+        Err(fault) => Err(fault),
+    }
+}
+
+/// Reads the snapshot and the journal that a root names, and the map after the journal's edits.
+fn read_map<D: Sectors>(
     alloc: Global,
     disk: &mut D,
     layout: Layout,
@@ -56,23 +98,19 @@ fn read_edits<D: Sectors>(
     ensures faults { OnOk result (D.faults disk.new ≡ D.faults disk.old) }
     ensures failed { IfErr result (λ fault. CountsDevice fault (D.faults disk.old) (D.faults disk.new)) }
     ensures ring { IfOk result (λ found. ring_of found.0 ≡ journal_ring layout.sectors) }
-    ensures texts { IfOk result (λ found. length (snapshot found.1.features) ≤ PART_BYTES * found.0.used) }
+    ensures texts { IfOk result (λ found.
+        length (snapshot found.1.features) ≤ SECTOR_BYTES * area_sectors layout.sectors + PART_BYTES * found.0.used) }
     ensures found { D.honest disk.new
         → IfOk result (λ found. IsReplayed layout.sectors root (seen (D.history disk.old)) found.0 found.1.features) }
     ensures fault { D.honest disk.new
-        → IfErr result (λ fault. (fault ≡ Device) ⊎ (fault ≡ Memory) ⊎ IsJournalFault layout.sectors root (seen (D.history disk.old)) fault) }
+        → IfErr result (λ fault. (fault ≡ Device) ⊎ (fault ≡ Memory) ⊎ IsContentFault layout.sectors root (seen (D.history disk.old)) fault) }
 {
-    let start = Start {
-        place: root.journal_at,
-        edits: root.edits,
+    let store = match read_snapshot(alloc, disk, layout, root) {
+        Ok(store) => store,
+        Err(fault) => return Err(fault),
     };
-    let (journal, texts) = match Journal::recover(alloc, disk, 3, layout.journal, start) {
-        Ok(found) => found,
-        Err(fault) => return Err(told(fault)),
-    };
-    let mut store = Store::new(alloc);
-    match replay(alloc, &mut store, texts) {
-        Ok(()) => Ok((journal, store)),
+    match read_edits(alloc, disk, layout, root, store) {
+        Ok(found) => Ok(found),
         Err(fault) => Err(fault),
     }
 }
@@ -87,7 +125,8 @@ fn load<D: Sectors>(alloc: Global, disk: &mut D) -> Result<Found, StoreFault>
     ensures failed { IfErr result (λ fault. CountsDevice fault (D.faults disk.old) (D.faults disk.new)) }
     ensures within { IfOk result (λ found. found.layout.sectors ≤ D.sectors disk.new) }
     ensures ring { IfOk result (λ found. ring_of found.journal ≡ journal_ring found.layout.sectors) }
-    ensures texts { IfOk result (λ found. length (snapshot found.store.features) ≤ PART_BYTES * found.journal.used) }
+    ensures texts { IfOk result (λ found.
+        length (snapshot found.store.features) ≤ SECTOR_BYTES * area_sectors found.layout.sectors + PART_BYTES * found.journal.used) }
     ensures found { D.honest disk.new → IfOk result (λ found.
         IsRead (D.sectors disk.old) found.layout.sectors (seen (D.history disk.old)) found.root found.journal found.store.features) }
     ensures fault { D.honest disk.new
@@ -101,10 +140,7 @@ fn load<D: Sectors>(alloc: Global, disk: &mut D) -> Result<Found, StoreFault>
         Ok(found) => found,
         Err(fault) => return Err(fault),
     };
-    if root.snapshot_len > 0 || root.archive_len > 0 {
-        return Err(StoreFault::Damaged(What::Snapshot));
-    }
-    match read_edits(alloc, disk, layout, root) {
+    match read_map(alloc, disk, layout, root) {
         Ok((journal, store)) => Ok(Found {
             layout,
             root,
@@ -116,8 +152,8 @@ fn load<D: Sectors>(alloc: Global, disk: &mut D) -> Result<Found, StoreFault>
 }
 
 impl<D: Sectors + Drop> Service<D> {
-    /// Opens a disk: reads its live root and the journal, and makes the edits of its texts. It syncs and reads, and writes nothing.
-    /// A fault hands the disk back. A disk with a snapshot or an archive isn't read yet, and is `Damaged(Snapshot)`.
+    /// Opens a disk: reads its live root, the map of its snapshot and the journal, and makes the edits of its texts. It syncs and
+    /// reads, and writes nothing. A fault hands the disk back.
     ///
     /// # Errors
     ///
@@ -134,10 +170,10 @@ impl<D: Sectors + Drop> Service<D> {
         ensures fault { IfErr result (λ e. D.honest e.0
             → (e.1 ≡ Device) ⊎ (e.1 ≡ Memory) ⊎ IsOpenFault (D.sectors disk) (seen (D.history disk)) e.1) }
 
-        // A disk that holds a state without a snapshot opens to that, and only a call of the disk or an allocation can fail.
-        ensures opened { (n : ℕ) (stored : Stored) → stored.snapshot_map ≡ [] → Holds (D.sectors disk) n stored (seen (D.history disk))
+        // A disk that holds a state opens to that, and only a call of the disk or an allocation can fail.
+        ensures opened { (n : ℕ) (stored : Stored) → Holds (D.sectors disk) n stored (seen (D.history disk))
             → IfOk result (λ service. D.honest service.disk → (service.size ≡ n) × IsUp (D.sectors service.disk) (D.history service.disk) stored service) }
-        ensures refused { (n : ℕ) (stored : Stored) → stored.snapshot_map ≡ [] → Holds (D.sectors disk) n stored (seen (D.history disk))
+        ensures refused { (n : ℕ) (stored : Stored) → Holds (D.sectors disk) n stored (seen (D.history disk))
             → IfErr result (λ e. D.honest e.0 → (e.1 ≡ Device) ⊎ (e.1 ≡ Memory)) }
     {
         let mut disk = disk;

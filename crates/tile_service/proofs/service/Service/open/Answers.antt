@@ -4,8 +4,8 @@ use Rattle.tile_service.proofs.Opens.{opens, no_other_fault}
 use Rattle.tile_service.proofs.service.Service.open.Goals as goal
 
 pub returns-in-Ok-clause-opened : goal.returns-in-Ok-clause-opened
-returns-in-Ok-clause-opened g c n stored none holds honest =
-    opens (g.D.Sectors.sectors c.args.disk) n stored (seen (g.D.Sectors.history c.args.disk)) none holds
+returns-in-Ok-clause-opened g c n stored holds honest =
+    opens (g.D.Sectors.sectors c.args.disk) n stored (seen (g.D.Sectors.history c.args.disk)) holds
     (g.D.Sectors.sectors c.load.new.disk) (g.D.Sectors.history c.args.disk) (g.D.Sectors.history c.load.new.disk)
     (record {
       disk = c.load.new.disk;
@@ -18,6 +18,6 @@ returns-in-Ok-clause-opened g c n stored none holds honest =
     c.in-Ok.found.root refl c.load.ensures.count (c.in-Ok.ensures.synced honest) refl refl (c.in-Ok.ensures.found honest)
 
 pub returns-in-Err-clause-refused : goal.returns-in-Err-clause-refused
-returns-in-Err-clause-refused g c n stored none holds honest =
-    no_other_fault (g.D.Sectors.sectors c.args.disk) n stored (seen (g.D.Sectors.history c.args.disk)) c.in-Err.fault none holds
+returns-in-Err-clause-refused g c n stored holds honest =
+    no_other_fault (g.D.Sectors.sectors c.args.disk) n stored (seen (g.D.Sectors.history c.args.disk)) c.in-Err.fault holds
     (c.in-Err.ensures.fault honest)

@@ -1,0 +1,113 @@
+-- The pieces of bytes in consecutive sectors.
+use Rattle.std.proofs.Common.{◌≡◌, ⊎_elim, ℕ, zero, suc, ◌<◌, ◌≤◌, ◌+◌, ◌-◌, ◌*◌, ◌/◌, ◌%◌, List, ◌++◌, length, length-append, replicate, take, drop, slice_range, sym, ◌∙◌, ap, arith}
+use Rattle.std.proofs.lemmas.List.{take-take, take_at, drop_at, drop-drop, drop-take, length-take, length-drop, length-replicate}
+use Rattle.sector_disk.specs.Disk.{Image}
+use Rattle.sector_disk.specs.declared.disk.TheConstants.{SECTOR_BYTES}
+use Rattle.std.proofs.lemmas.Bool.{cases_lt}
+use Rattle.std.proofs.lemmas.Slice.{take-put_mid}
+use Rattle.std.proofs.Math.Seq.{take-add}
+use borrow.Rule.Slice.PartMut.{put_mid, post_of}
+use Rattle.sector_bytes.specs.Bytes.{whole_sector, bytes_from, sector_piece, AreWhole}
+
+-- a sector as it is read has so many bytes
+pub whole_length : (sector : List ℕ) → length (whole_sector sector) ≡ SECTOR_BYTES
+whole_length sector =
+    omega (arith, length-take SECTOR_BYTES (sector ++ replicate SECTOR_BYTES 0), length-append sector (replicate SECTOR_BYTES 0), length-replicate SECTOR_BYTES zero)
+
+-- and where there are so many, those
+pub whole_is : (sector : List ℕ) → length sector ≡ SECTOR_BYTES → whole_sector sector ≡ sector
+whole_is sector len = take_at sector (replicate SECTOR_BYTES 0) SECTOR_BYTES len
+
+-- behind one sector come the others
+behind : (front rest : List ℕ) (index : ℕ) → length front ≡ SECTOR_BYTES
+    → drop (SECTOR_BYTES * suc index) (front ++ rest) ≡ drop (SECTOR_BYTES * index) rest
+behind front rest index len =
+    ap (λ (n : ℕ). drop n (front ++ rest)) (omega arith) ∙ sym (drop-drop (SECTOR_BYTES * index) SECTOR_BYTES (front ++ rest))
+    ∙ ap (drop (SECTOR_BYTES * index)) (drop_at front rest SECTOR_BYTES len)
+
+-- each piece of the bytes of sectors is a sector
+pub piece_is : (image : Image) (first count index : ℕ) → index < count → sector_piece (bytes_from image first count) index ≡ whole_sector (image (first + index))
+piece_is image first zero index lt = absurd (omega (arith, lt))
+piece_is image first (suc count) zero lt =
+    take_at (whole_sector (image first)) (bytes_from image (suc first) count) SECTOR_BYTES (whole_length (image first))
+    ∙ ap (λ (n : ℕ). whole_sector (image n)) (omega arith)
+piece_is image first (suc count) (suc index) lt =
+    ap (take SECTOR_BYTES) (behind (whole_sector (image first)) (bytes_from image (suc first) count) index (whole_length (image first)))
+    ∙ piece_is image (suc first) count index (omega (arith, lt))
+    ∙ ap (λ (n : ℕ). whole_sector (image n)) (omega arith)
+
+-- bytes within one sector are a part of their piece there
+pub within_piece : (bytes : List ℕ) (index offset size : ℕ) → offset + size ≤ SECTOR_BYTES
+    → take size (drop (SECTOR_BYTES * index + offset) bytes) ≡ take size (drop offset (sector_piece bytes index))
+within_piece bytes index offset size fits =
+    let there : List ℕ = drop (SECTOR_BYTES * index) bytes in
+    let split : offset + (SECTOR_BYTES - offset) ≡ SECTOR_BYTES = omega (arith, fits) in
+    ap (take size) (sym (drop-drop offset (SECTOR_BYTES * index) bytes))
+    ∙ sym (take-take size (SECTOR_BYTES - offset) (drop offset there) (omega (arith, fits)))
+    ∙ ap (take size) (sym (drop-take offset (SECTOR_BYTES - offset) there) ∙ ap (λ (n : ℕ). drop offset (take n there)) split)
+
+-- ---- bytes read one sector after the other
+
+-- the sector of the next byte behind so many from an offset on, and where in it the byte stands
+abbrev pub sector_index : (at done : ℕ) → ℕ
+sector_index at done = at / SECTOR_BYTES + (at % SECTOR_BYTES + done) / SECTOR_BYTES
+
+abbrev pub sector_offset : (at done : ℕ) → ℕ
+sector_offset at done = (at % SECTOR_BYTES + done) % SECTOR_BYTES
+
+pub there : (at done : ℕ) → SECTOR_BYTES * sector_index at done + sector_offset at done ≡ at + done
+there at done = omega arith
+
+-- bytes put into the middle of others leave them as long
+pub put_length : (done part size : ℕ) (into next : List ℕ) → done + part ≤ length into → size ≡ part → length next ≡ part
+    → length (put_mid done size into next) ≡ length into
+put_length done part size into next within size_is long =
+    let behind : List ℕ = post_of done size into in
+    omega (
+      arith,
+      length-append (take done into) (next ++ behind),
+      length-append next behind,
+      length-take done into,
+      length-drop size (drop done into),
+      length-drop done into,
+      within,
+      size_is,
+      long,
+    )
+
+module _ (image : Image) (first at done part : ℕ) (fits : sector_offset at done + part ≤ SECTOR_BYTES)
+    (len : length (image (first + sector_index at done)) ≡ SECTOR_BYTES) where
+  -- one sector more is whole
+  pub next_whole : AreWhole first at done image → AreWhole first at (done + part) image
+  next_whole whole place from below = ⊎_elim
+      (λ (before : place < at + done). whole place from before)
+      (λ (behind : at + done ≤ place). ap (λ (n : ℕ). length (image (first + n))) (omega (arith, below, behind, fits, there at done)) ∙ len)
+      (cases_lt place (at + done))
+
+  -- and the bytes so far are joined by those of the sector
+  pub next_read : (count : ℕ) (front next : List ℕ) → sector_index at done < count
+      → next ≡ take part (drop (sector_offset at done) (image (first + sector_index at done)))
+      → front ≡ take done (drop at (bytes_from image first count))
+      → front ++ next ≡ take (done + part) (drop at (bytes_from image first count))
+  next_read count front next lt next_is front_is =
+      let bytes : List ℕ = bytes_from image first count in
+      let index : ℕ = sector_index at done in
+      let sector : sector_piece bytes index ≡ image (first + index) =
+      piece_is image first count index lt ∙ whole_is (image (first + index)) len in
+      let last : next ≡ take part (drop done (drop at bytes)) =
+      next_is ∙ ap (λ (s : List ℕ). take part (drop (sector_offset at done) s)) (sym sector)
+      ∙ sym (within_piece bytes index (sector_offset at done) part fits)
+      ∙ ap (λ (n : ℕ). take part (drop n bytes)) (there at done) ∙ ap (take part) (sym (drop-drop done at bytes)) in
+      ap (λ (f : List ℕ). f ++ next) front_is ∙ ap (λ (l : List ℕ). take done (drop at bytes) ++ l) last ∙ sym (take-add done part (drop at bytes))
+
+  -- as they stand in a buffer behind those before them
+  pub next_put : (count size kept : ℕ) (into next : List ℕ) → sector_index at done < count → size ≡ part → done ≤ length into → length next ≡ part
+      → next ≡ slice_range (image (first + sector_index at done)) (sector_offset at done) (sector_offset at done + size)
+      → take done into ≡ slice_range (bytes_from image first count) at (at + done)
+      → take (done + part) (put_mid done kept into next) ≡ slice_range (bytes_from image first count) at (at + (done + part))
+  next_put count size kept into next lt size_is within long next_is front_is =
+      take-put_mid done kept into next (done + part) (omega (arith, long)) within
+      ∙ next_read count (take done into) next lt
+      (next_is ∙ ap (λ (n : ℕ). take n (drop (sector_offset at done) (image (first + sector_index at done)))) (omega (arith, size_is)))
+      (front_is ∙ ap (λ (n : ℕ). take n (drop at (bytes_from image first count))) (omega arith))
+      ∙ ap (λ (n : ℕ). take n (drop at (bytes_from image first count))) (omega arith)

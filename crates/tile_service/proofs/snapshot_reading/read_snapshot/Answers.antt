@@ -1,0 +1,17 @@
+use Rattle.std.proofs.Common.{◌≡◌, ◌∙◌, ◌⊎◌, ◌+◌, ℕ, List, length, IfErr, ap, subst, sym}
+use Rattle.generations.specs.declared.fault.StoreFault.TheVariants.{Damaged, Memory}
+use Rattle.generations.specs.declared.fault.What.TheVariants.{Snapshot}
+use Rattle.feature_store.specs.Snapshots.{IsNoSnapshot}
+use Rattle.sector_bytes.specs.Bytes.{StandsIn}
+use Rattle.sector_disk.specs.Disk.{seen}
+use Rattle.tile_service.proofs.Opens.{snapshot_fault}
+use Rattle.tile_service.proofs.snapshot_reading.read_snapshot.Goals as goal
+
+pub returns-clause-fault : goal.returns-clause-fault
+returns-clause-fault g c honest =
+    let image = seen (g.D.Sectors.history c.args.disk.now) in
+    snapshot_fault c.args.layout.sectors c.args.root image c.in-Ok.text.items c.map_in.result
+    (subst (λ (first : ℕ). StandsIn first c.in-Ok.text.items image) c.area_of-first.ensures (c.in-Ok.ensures.stands honest))
+    c.in-Ok.ensures.len
+    (subst (λ (text : List ℕ). IfErr c.map_in.result (λ fault. (fault ≡ Memory) ⊎ ((fault ≡ Damaged Snapshot) × IsNoSnapshot text)))
+    c.deref.ensures.value c.map_in.ensures.fault)

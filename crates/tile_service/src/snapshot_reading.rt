@@ -1,0 +1,98 @@
+//! The map whose snapshot a disk has.
+ghost use Rattle.std.specs.Prelude.{◌≡◌, ◌⊎◌, ◌≤◌, ◌<◌, ◌+◌, length, IfErr, IfOk, OnOk};
+ghost use Rattle.sector_disk.specs.Disk.{seen};
+ghost use Rattle.sector_bytes.specs.Bytes.{StandsIn};
+ghost use Rattle.generations.specs.Areas.{area_start, sectors_of};
+ghost use Rattle.generations.specs.Faults.{CountsDevice};
+ghost use Rattle.generations.specs.Sectors.{CanStand};
+ghost use Rattle.generations.specs.declared.fault.StoreFault.TheVariants.{Damaged, Device, Memory};
+ghost use Rattle.generations.specs.declared.fault.What.TheVariants.{Snapshot};
+ghost use Rattle.feature_store.specs.Snapshots.{IsNoSnapshot};
+ghost use Rattle.feature_store.specs.Store.{IsMap, snapshot};
+ghost use Rattle.feature_store.specs.declared.limit.TheConstants.{TEXTS_END};
+ghost use Rattle.tile_service.specs.Opening.{HasSnapshot, IsContentFault};
+
+use feature_store::{SnapshotFault, Store};
+use generations::{Layout, Root, StoreFault, What};
+use sector_bytes::read_bytes;
+use sector_disk::{DiskFault, Sectors};
+use std::alloc::{AllocError, Global};
+
+/// The first sector of the area of a generation.
+fn area_of(layout: Layout, generation: u64) -> u64
+    ensures { result ≡ area_start layout.sectors generation }
+{
+    3 + layout.journal + generation % 2 * layout.area
+}
+
+/// The map of a snapshot.
+fn map_in(alloc: Global, text: &[u8]) -> Result<Store, StoreFault>
+    requires { length text.now < TEXTS_END }
+    ensures map { IfOk result (λ store. IsMap store.features) }
+    ensures text { IfOk result (λ store. snapshot store.features ≡ text.now) }
+    ensures fault { IfErr result (λ fault. (fault ≡ Memory) ⊎ ((fault ≡ Damaged Snapshot) × IsNoSnapshot text.now)) }
+{
+    match Store::from_snapshot(alloc, text) {
+        Ok(store) => {
+            // What a store has is a map.
+            let _count = store.len();
+            Ok(store)
+        }
+        Err(SnapshotFault::Bad) => Err(StoreFault::Damaged(What::Snapshot)),
+        Err(SnapshotFault::Memory) => Err(StoreFault::Memory),
+    }
+}
+
+/// Reads so many bytes that stand in consecutive sectors from a first one on.
+fn read_text<D: Sectors>(
+    alloc: Global,
+    disk: &mut D,
+    first: u64,
+    len: u64,
+) -> Result<Vec<u8>, StoreFault>
+    requires on_disk { first + sectors_of len ≤ D.sectors disk.old }
+    ensures count { D.sectors disk.new ≡ D.sectors disk.old }
+    ensures honest { D.honest disk.new → D.honest disk.old }
+    ensures history { D.honest disk.new → D.history disk.new ≡ D.history disk.old }
+    ensures faults { OnOk result (D.faults disk.new ≡ D.faults disk.old) }
+    ensures failed { IfErr result (λ fault. CountsDevice fault (D.faults disk.old) (D.faults disk.new)) }
+    ensures fault { IfErr result (λ fault. (fault ≡ Device) ⊎ (fault ≡ Memory)) }
+    ensures len { IfOk result (λ text. length text.items ≡ len) }
+    ensures stands { D.honest disk.new → IfOk result (λ text. StandsIn first text.items (seen (D.history disk.old))) }
+{
+    let mut text = match vec![in alloc; 0; len as usize] {
+        Ok(text) => text,
+        Err(AllocError) => return Err(StoreFault::Memory),
+    };
+    match read_bytes(disk, first, 0, &mut text) {
+        Ok(()) => Ok(text),
+        Err(DiskFault) => Err(StoreFault::Device),
+    }
+}
+
+/// Reads the snapshot that a root names, and gives its map.
+pub(crate) fn read_snapshot<D: Sectors>(
+    alloc: Global,
+    disk: &mut D,
+    layout: Layout,
+    root: Root,
+) -> Result<Store, StoreFault>
+    requires within { layout.sectors ≤ D.sectors disk.old }
+    requires can { CanStand layout.sectors root }
+    ensures count { D.sectors disk.new ≡ D.sectors disk.old }
+    ensures honest { D.honest disk.new → D.honest disk.old }
+    ensures history { D.honest disk.new → D.history disk.new ≡ D.history disk.old }
+    ensures faults { OnOk result (D.faults disk.new ≡ D.faults disk.old) }
+    ensures failed { IfErr result (λ fault. CountsDevice fault (D.faults disk.old) (D.faults disk.new)) }
+    ensures texts { IfOk result (λ store. length (snapshot store.features) ≡ root.snapshot_len) }
+    ensures found { D.honest disk.new → IfOk result (λ store. HasSnapshot layout.sectors root store.features (seen (D.history disk.old))) }
+    ensures fault { D.honest disk.new
+        → IfErr result (λ fault. (fault ≡ Device) ⊎ (fault ≡ Memory) ⊎ IsContentFault layout.sectors root (seen (D.history disk.old)) fault) }
+{
+    let first = area_of(layout, root.generation);
+    let text = match read_text(alloc, disk, first, root.snapshot_len) {
+        Ok(text) => text,
+        Err(fault) => return Err(fault),
+    };
+    map_in(alloc, &text)
+}
