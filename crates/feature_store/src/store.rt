@@ -3,6 +3,8 @@ ghost use Rattle.feature_model.specs.Data.{feature_data, put};
 ghost use Rattle.feature_model.specs.Types.{IsEdit};
 ghost use Rattle.mvt_layer.specs.Tile.{layer_views};
 ghost use Rattle.mvt_write.specs.CanWrite.{CanWriteAll};
+ghost use Rattle.number_map.specs.Blocks.{joined};
+ghost use Rattle.feature_store.specs.Inside.{entries_data};
 ghost use Rattle.feature_store.specs.Layers.{layers};
 ghost use Rattle.feature_store.specs.Pairs.{ArePairsOfMap};
 ghost use Rattle.feature_store.specs.Snapshots.{IsNoSnapshot};
@@ -21,7 +23,7 @@ use box_index::BoxIndex;
 use feature_model::{Feature, GREATEST_ZOOM};
 use hilbert_id::TileAt;
 use mvt_layer::Layer;
-use number_map::NumberMap;
+use number_map::{Block, NumberMap};
 use std::alloc::{AllocError, Global};
 use std::marker::Model;
 
@@ -79,6 +81,13 @@ impl Store {
         ensures { option_map (λ f. feature_data f.now) result ≡ feature_at self.now.features id }
     {
         self.features.get(id)
+    }
+
+    /// The features by ascending number, in blocks.
+    pub fn blocks(&self) -> &[Block<Feature>]
+        ensures { entries_data (joined result.now) ≡ self.now.features }
+    {
+        self.features.blocks()
     }
 
     /// Makes room for one feature of any number, so that the next `place` allocates nothing.

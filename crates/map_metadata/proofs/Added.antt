@@ -1,0 +1,174 @@
+-- Features that are summed up in turn.
+use Rattle.std.proofs.Common.{◌≡◌, ℕ, ◌<◌, ◌+◌, min, max, List, [], ◌∷◌, ◌++◌, length, get_or, take, map, Bool, true, false, Option, Some, None}
+use Rattle.std.proofs.Common.{refl, sym, ap, subst, ◌∙◌, arith, if◌then◌else◌}
+use Rattle.std.specs.Str.{bytes_eq}
+use Rattle.std.specs.String.{string_bytes}
+use Rattle.std.specs.List.{cons_option}
+use Rattle.std.specs.Option.{unwrap_or, option_map, option_and_then}
+use Rattle.std.specs.Ordering.{nat_cmp}
+use Rattle.std.specs.Cmp.Lexicographic.{slice_cmp}
+use Rattle.std.specs.BTreeMap.{is_at}
+use Rattle.std.specs.Map.{lookup}
+use Rattle.std.proofs.lemmas.Slice.Eq.{bytes_eq-Decides}
+use Rattle.std.proofs.lemmas.List.{take_more, append-nil, map-append}
+use Rattle.std.proofs.lemmas.List.Concat.{flat_map-append}
+use Rattle.std.proofs.lemmas.List.Elements.{filter_map-append}
+use Rattle.number_map.specs.Blocks.{joined as all_of}
+use Rattle.feature_model.specs.declared.feature.Feature.{Feature}
+use Rattle.feature_model.specs.declared.feature.Tag.{Tag}
+use Rattle.feature_model.specs.Data.{FeatureData, TagData, tag_data, value_data}
+use Rattle.feature_store.specs.Inside.{entry_data, entries_data}
+use Rattle.feature_store.specs.Store.{FeatureMap}
+use Rattle.map_metadata.specs.declared.field_kind.FieldKind.{FieldKind}
+use Rattle.map_metadata.specs.declared.field_kind.FieldKind.TheVariants.{Text, Number, Truth}
+use Rattle.map_metadata.specs.declared.summary.LayerSummary.{LayerSummary}
+use Rattle.map_metadata.specs.Fields.{kind_of, kinds_of, features_in, kinds_in}
+use Rattle.map_metadata.specs.Summaries.{joined, with_kind, with_kinds, with_feature, with_features}
+use Rattle.map_metadata.specs.Summaries.{Layers, layer_at, kind_at, zooms_of, zooms_in, kind_in, Adds, SumsUp}
+
+min_same : (n : ℕ) → min n n ≡ n
+min_same n = omega arith
+
+max_same : (n : ℕ) → max n n ≡ n
+max_same n = omega arith
+
+pub joined_same : (k : FieldKind) → joined k k ≡ k
+joined_same Text = refl
+joined_same Number = refl
+joined_same Truth = refl
+
+pub with_kinds-append : (o : Option FieldKind) (ks js : List FieldKind) → with_kinds o (ks ++ js) ≡ with_kinds (with_kinds o ks) js
+with_kinds-append o [] js = refl
+with_kinds-append o (k ∷ ks) js = with_kinds-append (Some (with_kind o k)) ks js
+
+pub with_features-append : (o : Option (ℕ × ℕ)) (fs gs : List FeatureData) → with_features o (fs ++ gs) ≡ with_features (with_features o fs) gs
+with_features-append o [] gs = refl
+with_features-append o (f ∷ fs) gs = with_features-append (Some (with_feature o f)) fs gs
+
+kinds_of-append : (ts us : List TagData) (key : List ℕ) → kinds_of (ts ++ us) key ≡ kinds_of ts key ++ kinds_of us key
+kinds_of-append ts us key = filter_map-append (λ t. if bytes_eq t.key key then Some (kind_of t.value) else None) ts us
+
+pub features_in-append : (m n : FeatureMap) (name : List ℕ) → features_in (m ++ n) name ≡ features_in m name ++ features_in n name
+features_in-append m n name = filter_map-append (λ e. if bytes_eq e.1.layer name then Some e.1 else None) m n
+
+kinds_in-append : (fs gs : List FeatureData) (key : List ℕ) → kinds_in (fs ++ gs) key ≡ kinds_in fs key ++ kinds_in gs key
+kinds_in-append fs gs key = flat_map-append (λ f. kinds_of f.tags key) fs gs
+
+-- the kind of a key, once a value more is taken in
+one_tag : (b : Bool) (o : Option FieldKind) (k : FieldKind)
+    → (if b then Some (with_kind o k) else o) ≡ with_kinds o (cons_option (if b then Some k else None) [])
+one_tag true o k = refl
+one_tag false o k = refl
+
+-- the kinds of the first tags, and of one more
+pub tags_more : (ts : List Tag) (i : ℕ) (t : Tag) (key name : List ℕ) (kind : FieldKind) (o p q : Option FieldKind) → i < length ts → t ≡ get_or ts i t
+    → key ≡ string_bytes t.key → kind ≡ kind_of (value_data t.value)
+    → p ≡ with_kinds o (kinds_of (map tag_data (take i ts)) name) → q ≡ (if bytes_eq key name then Some (with_kind p kind) else p)
+    → q ≡ with_kinds o (kinds_of (map tag_data (take (i + 1) ts)) name)
+tags_more ts i t key name kind o p q lt is key_is kind_is before after =
+    after ∙ ap (λ k. if bytes_eq k name then Some (with_kind p kind) else p) key_is
+    ∙ ap (λ k. if bytes_eq (string_bytes t.key) name then Some (with_kind p k) else p) kind_is
+    ∙ one_tag (bytes_eq (string_bytes t.key) name) p (kind_of (value_data t.value))
+    ∙ ap (λ r. with_kinds r (kinds_of (tag_data t ∷ []) name)) before
+    ∙ sym (with_kinds-append o (kinds_of (map tag_data (take i ts)) name) (kinds_of (tag_data t ∷ []) name))
+    ∙ ap (with_kinds o) (sym (kinds_of-append (map tag_data (take i ts)) (tag_data t ∷ []) name))
+    ∙ ap (λ us. with_kinds o (kinds_of us name)) (sym (map-append tag_data (take i ts) (t ∷ [])))
+    ∙ ap (λ us. with_kinds o (kinds_of (map tag_data us) name)) (ap (λ u. take i ts ++ u ∷ []) is ∙ sym (take_more ts i t lt))
+
+-- ---- one feature
+
+module _ (old : Layers) (layer name : List ℕ) (f : FeatureData) (before after fresh : LayerSummary)
+    (was : before ≡ unwrap_or (layer_at old layer) fresh) (same : bytes_eq layer name ≡ true) where
+  -- the layer of the name as it was
+  there : before ≡ unwrap_or (layer_at old name) fresh
+  there = was ∙ ap (λ n. unwrap_or (layer_at old n) fresh) ((bytes_eq-Decides layer name).0 same)
+
+  pub zooms_after : fresh.minzoom ≡ f.minzoom → fresh.maxzoom ≡ f.maxzoom
+      → after.minzoom ≡ min before.minzoom f.minzoom → after.maxzoom ≡ max before.maxzoom f.maxzoom
+      → zooms_of after ≡ with_feature (zooms_in old name) f
+  zooms_after first last least greatest = by (layer_at old name) there
+    where
+      by : (o : Option LayerSummary) → before ≡ unwrap_or o fresh → zooms_of after ≡ with_feature (option_map zooms_of o) f
+      by None is = λ i. (
+        (least ∙ ap (λ s. min s.minzoom f.minzoom) is ∙ ap (λ n. min n f.minzoom) first ∙ min_same f.minzoom) i,
+        (greatest ∙ ap (λ s. max s.maxzoom f.maxzoom) is ∙ ap (λ n. max n f.maxzoom) last ∙ max_same f.maxzoom) i,
+      )
+      by (Some s) is = λ i. ((least ∙ ap (λ s. min s.minzoom f.minzoom) is) i, (greatest ∙ ap (λ s. max s.maxzoom f.maxzoom) is) i)
+
+  pub kind_after : (key : List ℕ) → fresh.fields.entries ≡ []
+      → kind_at after.fields key ≡ with_kinds (kind_at before.fields key) (kinds_of f.tags key)
+      → kind_at after.fields key ≡ with_kinds (kind_in old name key) (kinds_of f.tags key ++ [])
+  kind_after key none kinds =
+      kinds ∙ ap (λ o. with_kinds o (kinds_of f.tags key)) (by (layer_at old name) there)
+      ∙ ap (with_kinds (kind_in old name key)) (sym (append-nil (kinds_of f.tags key)))
+    where
+      by : (o : Option LayerSummary) → before ≡ unwrap_or o fresh → kind_at before.fields key ≡ option_and_then (λ s. kind_at s.fields key) o
+      by None is = ap (λ s. kind_at s.fields key) is ∙ ap (λ es. lookup (is_at (λ k. slice_cmp nat_cmp key k.now)) es) none
+      by (Some s) is = ap (λ s. kind_at s.fields key) is
+
+-- what is known of a name: of its own layer, or of another
+module _ (old new : Layers) (layer name : List ℕ) (f : FeatureData) (after : LayerSummary)
+    (there : layer_at new name ≡ (if bytes_eq layer name then Some after else layer_at old name)) where
+  pub feature_zooms : (bytes_eq layer name ≡ true → zooms_of after ≡ with_feature (zooms_in old name) f)
+      → zooms_in new name ≡ with_features (zooms_in old name) (cons_option (if bytes_eq layer name then Some f else None) [])
+  feature_zooms here = by (bytes_eq layer name) refl
+    where
+      by : (b : Bool) → bytes_eq layer name ≡ b
+          → zooms_in new name ≡ with_features (zooms_in old name) (cons_option (if b then Some f else None) [])
+      by true is = ap (option_map zooms_of) (there ∙ ap (λ b. if b then Some after else layer_at old name) is) ∙ ap Some (here is)
+      by false is = ap (option_map zooms_of) (there ∙ ap (λ b. if b then Some after else layer_at old name) is)
+
+  pub feature_kinds : (key : List ℕ)
+      → (bytes_eq layer name ≡ true → kind_at after.fields key ≡ with_kinds (kind_in old name key) (kinds_of f.tags key ++ []))
+      → kind_in new name key ≡ with_kinds (kind_in old name key) (kinds_in (cons_option (if bytes_eq layer name then Some f else None) []) key)
+  feature_kinds key here = by (bytes_eq layer name) refl
+    where
+      by : (b : Bool) → bytes_eq layer name ≡ b
+          → kind_in new name key ≡ with_kinds (kind_in old name key) (kinds_in (cons_option (if b then Some f else None) []) key)
+      by true is = ap (option_and_then (λ s. kind_at s.fields key)) (there ∙ ap (λ b. if b then Some after else layer_at old name) is) ∙ here is
+      by false is = ap (option_and_then (λ s. kind_at s.fields key)) (there ∙ ap (λ b. if b then Some after else layer_at old name) is)
+
+-- ---- features
+
+pub adds_none : (a : Layers) → Adds a a []
+adds_none a = record { zooms = λ name. refl; kinds = λ name key. refl }
+
+pub adds_more : (a b c : Layers) (m n : FeatureMap) → Adds a b m → Adds b c n → Adds a c (m ++ n)
+adds_more a b c m n first second = record {
+  zooms = λ name.
+      second.zooms name ∙ ap (λ o. with_features o (features_in n name)) (first.zooms name)
+      ∙ sym (with_features-append (zooms_in a name) (features_in m name) (features_in n name))
+      ∙ ap (with_features (zooms_in a name)) (sym (features_in-append m n name));
+  kinds = λ name key.
+      second.kinds name key ∙ ap (λ o. with_kinds o (kinds_in (features_in n name) key)) (first.kinds name key)
+      ∙ sym (with_kinds-append (kind_in a name key) (kinds_in (features_in m name) key) (kinds_in (features_in n name) key))
+      ∙ ap (with_kinds (kind_in a name key)) (sym (kinds_in-append (features_in m name) (features_in n name) key))
+      ∙ ap (λ fs. with_kinds (kind_in a name key) (kinds_in fs key)) (sym (features_in-append m n name));
+}
+
+pub sums_none : (a : Layers) → a.entries ≡ [] → SumsUp a []
+sums_none a none = record { zooms = λ name. rw none refl; kinds = λ name key. rw none refl }
+
+pub sums_more : (b c : Layers) (m n : FeatureMap) → SumsUp b m → Adds b c n → SumsUp c (m ++ n)
+sums_more b c m n first second = record {
+  zooms = λ name.
+      second.zooms name ∙ ap (λ o. with_features o (features_in n name)) (first.zooms name)
+      ∙ sym (with_features-append None (features_in m name) (features_in n name))
+      ∙ ap (with_features None) (sym (features_in-append m n name));
+  kinds = λ name key.
+      second.kinds name key ∙ ap (λ o. with_kinds o (kinds_in (features_in n name) key)) (first.kinds name key)
+      ∙ sym (with_kinds-append None (kinds_in (features_in m name) key) (kinds_in (features_in n name) key))
+      ∙ ap (with_kinds None) (sym (kinds_in-append (features_in m name) (features_in n name) key))
+      ∙ ap (λ fs. with_kinds None (kinds_in fs key)) (sym (features_in-append m n name));
+}
+
+pub entries_more : (a b c : Layers) (es : List (ℕ × Feature)) (i : ℕ) (e : ℕ × Feature) → i < length es → e ≡ get_or es i e
+    → Adds a b (entries_data (take i es)) → Adds b c (entry_data e ∷ []) → Adds a c (entries_data (take (i + 1) es))
+entries_more a b c es i e lt is first second =
+    rw (take_more es i e lt, ← is, map-append) (adds_more a b c (entries_data (take i es)) (entry_data e ∷ []) first second)
+
+pub blocks_more : (b c : Layers) (bs : List (List (ℕ × Feature))) (i : ℕ) (es there : List (ℕ × Feature)) → i < length bs → es ≡ get_or bs i es
+    → there ≡ es → SumsUp b (entries_data (all_of (take i bs))) → Adds b c (entries_data there) → SumsUp c (entries_data (all_of (take (i + 1) bs)))
+blocks_more b c bs i es there lt is same first second =
+    rw (take_more bs i es lt, ← is, flat_map-append, append-nil, map-append)
+    (sums_more b c (entries_data (all_of (take i bs))) (entries_data es) first (subst (λ x. Adds b c (entries_data x)) same second))

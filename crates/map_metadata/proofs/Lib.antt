@@ -1,0 +1,4 @@
+mod Added
+mod Shown
+mod Written
+pub mod Unique

@@ -1,0 +1,77 @@
+-- Layers as JSON: members that are put in the order of their keys stand in that order, and no number is a float.
+use Rattle.std.proofs.Common.{◌≡◌, ℕ, false, List, [], ◌∷◌, ◌++◌, map, Less, Greater, nat_cmp, Bor, Result, Ok, Err, IfOk, refl, sym, ap, subst, ◌∙◌}
+use Rattle.std.specs.Ordering.{ordering_reverse}
+use Rattle.std.specs.Cmp.Lexicographic.{slice_cmp}
+use Rattle.std.specs.List.{AllByRecursion}
+use Rattle.std.specs.List.Sorted.{IsStrictlySortedBy}
+use Rattle.std.specs.Map.{keys_of}
+use Rattle.std.specs.String.{string_bytes}
+use Rattle.std.specs.declared.alloc.Global.{Global}
+use Rattle.std.specs.declared.alloc.AllocError.{AllocError}
+use Rattle.std.specs.declared.string.String.{String}
+use Rattle.std.proofs.lemmas.Cmp.{nat_list_cmp_total}
+use Rattle.std.proofs.lemmas.Map.Keys.{sorted_head, sorted_tail}
+use Rattle.serde_json.specs.Data.{Data, Members, put, string, member}
+use Rattle.serde_json.specs.declared.value.Value.{Value}
+use Rattle.serde_json.specs.View.{items_of, view}
+use Rattle.serde_json.specs.Written.{has_float, items_have_float, members_have_float, compact_text}
+use Rattle.feature_store.specs.Store.{FeatureMap}
+use Rattle.map_metadata.specs.declared.field_kind.FieldKind.{FieldKind}
+use Rattle.map_metadata.specs.Fields.{kind_name}
+use Rattle.map_metadata.specs.Metadata.{LayerData, fields_json, layer_json, IsMetadata}
+use Rattle.map_metadata.specs.Summaries.{Fields, HasOrder, fields_data}
+
+-- a key with its kind
+abbrev pub Field : Type 0
+Field = Bor (List ℕ) × FieldKind
+
+before_there : (k : List ℕ) (ys : List Field) (x : Field) (rest : List Field)
+    → AllByRecursion (λ y. slice_cmp nat_cmp k y.now ≡ Less) (keys_of (ys ++ x ∷ rest)) → slice_cmp nat_cmp k x.0.now ≡ Less
+before_there k [] x rest h = h.0
+before_there k (y ∷ ys) x rest h = before_there k ys x rest h.1
+
+behind : (a b : List ℕ) → slice_cmp nat_cmp a b ≡ Less → slice_cmp nat_cmp b a ≡ Greater
+behind a b h = nat_list_cmp_total.antisymm b a ∙ ap ordering_reverse h
+
+put_behind : (ys : List Field) (x : Field) (rest : List Field) → IsStrictlySortedBy (λ a b. slice_cmp nat_cmp a.now b.now) (keys_of (ys ++ x ∷ rest))
+    → put x.0.now (string (kind_name x.1)) (fields_json (fields_data ys)) ≡ fields_json (fields_data (ys ++ x ∷ []))
+put_behind [] x rest s = refl
+put_behind (y ∷ ys) x rest s =
+    let first = behind y.0.now x.0.now (before_there y.0.now ys x rest (sorted_head (λ a b. slice_cmp nat_cmp a.now b.now) y.0 (keys_of (ys ++ x ∷ rest)) s)) in
+    rw first (ap (member y.0.now (string (kind_name y.1)))
+    (put_behind ys x rest (sorted_tail (λ a b. slice_cmp nat_cmp a.now b.now) y.0 (keys_of (ys ++ x ∷ rest)) s)))
+
+-- a loop that puts one field after the other
+pub put_next : (fields : Fields) (ys rest now : List Field) (x : Field) (d : Data) (before after : Members) → HasOrder fields → now ≡ x ∷ rest
+    → ys ++ now ≡ fields.entries → d ≡ string (kind_name x.1) → before ≡ fields_json (fields_data ys) → after ≡ put x.0.now d before
+    → after ≡ fields_json (fields_data (ys ++ x ∷ []))
+put_next fields ys rest now x d before after order step all value so_far more =
+    let parts : ys ++ x ∷ rest ≡ fields.entries = ap (λ l. ys ++ l) (sym step) ∙ all in
+    more ∙ ap (λ e. put x.0.now e before) value ∙ ap (put x.0.now (string (kind_name x.1))) so_far
+    ∙ put_behind ys x rest (subst (λ es. IsStrictlySortedBy (λ a b. slice_cmp nat_cmp a.now b.now) (keys_of es)) (sym parts) order)
+
+-- ---- no number is a float
+
+fields_whole : (fs : List (List ℕ × FieldKind)) → members_have_float (fields_json fs) ≡ false
+fields_whole [] = refl
+fields_whole (f ∷ fs) = fields_whole fs
+
+layers_whole : (ls : List LayerData) → items_have_float (items_of (map layer_json ls)) ≡ false
+layers_whole [] = refl
+layers_whole (l ∷ ls) = rw (fields_whole l.fields, layers_whole ls) refl
+
+pub metadata_whole : (m : FeatureMap) (d : Data) → IsMetadata m d → has_float d ≡ false
+metadata_whole m d (ls, are, is) = rw (is, layers_whole ls) refl
+
+-- a text of the metadata, where there is one
+pub text_of : (m : FeatureMap) (v : Data) (r : Result (String Global) AllocError) → IsMetadata m v
+    → IfOk r (λ text. has_float v ≡ false → string_bytes text ≡ compact_text v)
+    → IfOk r (λ text. (d : Data) × IsMetadata m d × (string_bytes text ≡ compact_text d))
+text_of m v (Ok text) is written = (v, is, written (metadata_whole m v is))
+text_of m v (Err e) is written = tt
+
+-- the object with the layers of the map, where there is one
+pub metadata_of : (m : FeatureMap) (d : Data) (r : Result Value AllocError) → IsMetadata m d → IfOk r (λ v. view v ≡ d)
+    → IfOk r (λ v. IsMetadata m (view v))
+metadata_of m d (Ok v) (ls, are, is) same = (ls, are, same ∙ is)
+metadata_of m d (Err e) is same = tt

@@ -1,0 +1,11 @@
+use Rattle.std.proofs.Common.{◌≡◌, map, All}
+use Rattle.serde_json.specs.View.{view}
+use Rattle.map_metadata.specs.Metadata.{layer_json}
+use Rattle.map_metadata.specs.Summaries.{layer_data, HasOrder}
+use Rattle.map_metadata.proofs.writer.layers_value.Given as goal
+
+abbrev pub invariant-loop-name : goal.invariant-loop-name
+invariant-loop-name l = record {
+  values : map view l.list.items ≡ map layer_json (map layer_data l.yielded);
+  fields : All (λ e. HasOrder e.1.fields) l.yielded;
+}

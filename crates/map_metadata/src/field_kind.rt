@@ -1,0 +1,52 @@
+//! What the values of a key are.
+
+ghost use Rattle.std.specs.Prelude.{◌≡◌};
+ghost use Rattle.feature_model.specs.Data.{value_data};
+ghost use Rattle.map_metadata.specs.Fields.{kind_of, kind_name};
+ghost use Rattle.map_metadata.specs.Summaries.{joined};
+
+use feature_model::EditValue;
+
+/// The kind of a value, or of all values of a key.
+#[derive(Clone, Copy, Debug, PartialEq, Eq)]
+pub(crate) enum FieldKind {
+    Text,
+    Number,
+    Truth,
+}
+
+impl FieldKind {
+    /// The kind of a value.
+    pub(crate) fn of(value: &EditValue) -> FieldKind
+        ensures { result ≡ kind_of (value_data value.now) }
+    {
+        match value {
+            EditValue::Text(_) => FieldKind::Text,
+            EditValue::Natural(_) | EditValue::Negative(_) => FieldKind::Number,
+            EditValue::Truth(_) => FieldKind::Truth,
+        }
+    }
+
+    /// The kind of values of two kinds: text where they differ.
+    pub(crate) fn joined(self, other: FieldKind) -> FieldKind
+        ensures { result ≡ joined self other }
+    {
+        match (self, other) {
+            (FieldKind::Number, FieldKind::Number) => FieldKind::Number,
+            (FieldKind::Truth, FieldKind::Truth) => FieldKind::Truth,
+            _ => FieldKind::Text,
+        }
+    }
+
+    /// The name that metadata has for it.
+    #[tactic(auto, unfolding(crate::specs::Fields::kind_name))]
+    pub(crate) fn name(self) -> &'static str
+        ensures { result.now ≡ kind_name self }
+    {
+        match self {
+            FieldKind::Text => "String",
+            FieldKind::Number => "Number",
+            FieldKind::Truth => "Boolean",
+        }
+    }
+}

@@ -1,0 +1,112 @@
+//! What metadata says of the layers, summed up in one pass over the features.
+
+ghost use Rattle.std.specs.Prelude.{◌≡◌, ℕ, List, [], ◌∷◌, min, max, map, Some, OnOk, IfOk, if◌then◌else◌};
+ghost use Rattle.std.specs.Str.{bytes_eq};
+ghost use Rattle.feature_model.specs.Data.{feature_data, tag_data};
+ghost use Rattle.number_map.specs.Blocks.{joined};
+ghost use Rattle.feature_store.specs.Inside.{entry_data, entries_data};
+ghost use Rattle.map_metadata.specs.Fields.{kinds_of, features_in, kinds_in};
+ghost use Rattle.map_metadata.specs.Summaries.{kind_at, with_kind, with_kinds, with_features, zooms_in, kind_in, Adds, SumsUp};
+
+use crate::field_kind::FieldKind;
+use feature_model::{Feature, Tag};
+use number_map::{Block, Entry};
+use std::alloc::{AllocError, Global};
+use std::collections::BTreeMap;
+
+/// The kind of each key.
+pub(crate) type Fields<'a> = BTreeMap<&'a str, FieldKind>;
+
+/// What metadata says of a layer, beside its name.
+#[derive(Drop)]
+pub(crate) struct LayerSummary<'a> {
+    pub minzoom: u8,
+    pub maxzoom: u8,
+    pub fields: Fields<'a>,
+}
+
+/// The layers by name.
+pub(crate) type Layers<'a> = BTreeMap<&'a str, LayerSummary<'a>>;
+
+/// Takes in that a key has a value of this kind.
+fn add_kind<'a>(fields: &mut Fields<'a>, key: &'a str, kind: FieldKind) -> Result<(), AllocError>
+    ensures { OnOk result ((name : List ℕ)
+        → kind_at fields.new name ≡ (if bytes_eq key.now name then Some (with_kind (kind_at fields.old name) kind) else kind_at fields.old name)) }
+{
+    let known = fields.entry(key)?.or_insert(kind);
+    *known = known.joined(kind);
+    Ok(())
+}
+
+/// Takes in the values of tags.
+fn add_tags<'a>(fields: &mut Fields<'a>, tags: &'a [Tag]) -> Result<(), AllocError>
+    ensures { OnOk result ((name : List ℕ) → kind_at fields.new name ≡ with_kinds (kind_at fields.old name) (kinds_of (map tag_data tags.now) name)) }
+{
+    for tag in tags {
+        add_kind(fields, tag.key.as_str(), FieldKind::of(&tag.value))?;
+    }
+    Ok(())
+}
+
+impl<'a> LayerSummary<'a> {
+    /// Takes in a feature.
+    fn add(&mut self, feature: &'a Feature) -> Result<(), AllocError>
+        ensures minzoom { OnOk result (self.new.minzoom ≡ min self.old.minzoom (feature_data feature.now).minzoom) }
+        ensures maxzoom { OnOk result (self.new.maxzoom ≡ max self.old.maxzoom (feature_data feature.now).maxzoom) }
+        ensures kinds { OnOk result ((key : List ℕ)
+            → kind_at self.new.fields key ≡ with_kinds (kind_at self.old.fields key) (kinds_of (feature_data feature.now).tags key)) }
+    {
+        self.minzoom = self.minzoom.min(feature.minzoom);
+        self.maxzoom = self.maxzoom.max(feature.maxzoom);
+        add_tags(&mut self.fields, &feature.tags)
+    }
+}
+
+/// Takes a feature in at its layer.
+fn add_feature<'a>(
+    alloc: Global,
+    layers: &mut Layers<'a>,
+    feature: &'a Feature,
+) -> Result<(), AllocError>
+    ensures zooms { OnOk result ((name : List ℕ) → zooms_in layers.new name
+        ≡ with_features (zooms_in layers.old name) (features_in ((0, feature_data feature.now) ∷ []) name)) }
+    ensures kinds { OnOk result ((name key : List ℕ) → kind_in layers.new name key
+        ≡ with_kinds (kind_in layers.old name key) (kinds_in (features_in ((0, feature_data feature.now) ∷ []) name) key)) }
+{
+    let empty = LayerSummary {
+        minzoom: feature.minzoom,
+        maxzoom: feature.maxzoom,
+        fields: BTreeMap::new(alloc),
+    };
+    let layer = layers.entry(feature.layer.as_str())?.or_insert(empty);
+    layer.add(feature)?;
+    Ok(())
+}
+
+/// Takes in features.
+fn add_entries<'a>(
+    alloc: Global,
+    layers: &mut Layers<'a>,
+    entries: &'a [Entry<Feature>],
+) -> Result<(), AllocError>
+    ensures { OnOk result (Adds layers.old layers.new (entries_data entries.now)) }
+{
+    for entry in entries {
+        add_feature(alloc, layers, &entry.1)?;
+    }
+    Ok(())
+}
+
+/// The layers of the features in blocks.
+pub(crate) fn summed_up<'a>(
+    alloc: Global,
+    blocks: &'a [Block<Feature>],
+) -> Result<Layers<'a>, AllocError>
+    ensures { IfOk result (λ layers. SumsUp layers (entries_data (joined blocks.now))) }
+{
+    let mut layers = BTreeMap::new(alloc);
+    for block in blocks {
+        add_entries(alloc, &mut layers, block.entries())?;
+    }
+    Ok(layers)
+}
