@@ -1,8 +1,9 @@
 //! Services over disks in memory.
-ghost use Rattle.std.specs.Prelude.{◌≡◌, IfOk};
+ghost use Rattle.std.specs.Prelude.{◌≡◌, ◌≤◌, IfOk, length};
 
 mod edits;
 mod openings;
+mod snapshots;
 mod stops;
 mod texts;
 
@@ -47,6 +48,29 @@ fn formatted(alloc: Global) -> Result<MemoryDisk, Fail>
     let mut disk = MemoryDisk::new(alloc, 64)?;
     let _ = Service::format(&mut disk);
     Ok(disk)
+}
+
+/// A sector that begins with these bytes, and then has zeros.
+fn begins(bytes: &[u8]) -> [u8; 512]
+    requires { length bytes.now ≤ 512 }
+{
+    let mut sector = [0; 512];
+    sector[..bytes.len()].copy_from_slice(bytes);
+    sector
+}
+
+/// The sector of a root with these numbers, in the order in which they stand: its generation, how many edits the snapshot has, where the
+/// journal goes on, the lengths of the snapshot and of the archive.
+fn root(numbers: [u64; 5]) -> [u8; 512] {
+    let [generation, edits, journal_at, snapshot_len, archive_len] = numbers;
+    let mut sector = [0; 512];
+    sector[..8].copy_from_slice(b"VTROOT01");
+    sector[8..16].copy_from_slice(&generation.to_le_bytes());
+    sector[16..24].copy_from_slice(&edits.to_le_bytes());
+    sector[24..32].copy_from_slice(&journal_at.to_le_bytes());
+    sector[32..40].copy_from_slice(&snapshot_len.to_le_bytes());
+    sector[40..48].copy_from_slice(&archive_len.to_le_bytes());
+    sector
 }
 
 /// The service that a disk holds.

@@ -1,7 +1,6 @@
 //! Disks made ready and opened, and those that aren't.
-ghost use Rattle.std.specs.Prelude.{◌<◌, ◌≤◌, length};
 
-use super::{formatted, opened, point};
+use super::{begins, formatted, opened, point, root};
 use crate::{Service, ServiceFault};
 use generations::{StoreFault, What, read_root};
 use sector_disk::{MemoryDisk, Sectors};
@@ -21,25 +20,6 @@ fn sizes_of_disks(rt: HostRuntime) -> Result<(), Fail> {
         assert_eq!(rt; read_root(&mut disk).is_ok(), outcome.is_ok());
     }
     Ok(())
-}
-
-/// The sector of a root of generation 0 with these numbers.
-fn root(edits: u64, snapshot_len: u64, archive_len: u64) -> [u8; 512] {
-    let mut sector = [0; 512];
-    sector[..8].copy_from_slice(b"VTROOT01");
-    sector[16..24].copy_from_slice(&edits.to_le_bytes());
-    sector[32..40].copy_from_slice(&snapshot_len.to_le_bytes());
-    sector[40..48].copy_from_slice(&archive_len.to_le_bytes());
-    sector
-}
-
-/// A sector that begins with these bytes, and then has zeros.
-fn begins(bytes: &[u8]) -> [u8; 512]
-    requires { length bytes.now ≤ 512 }
-{
-    let mut sector = [0; 512];
-    sector[..bytes.len()].copy_from_slice(bytes);
-    sector
 }
 
 /// What comes of opening a formatted disk of 64 sectors to which this sector was written.
@@ -68,8 +48,8 @@ fn disks_that_are_no_service(rt: HostRuntime) -> Result<(), Fail> {
         (0, begins(b"VTILEDSK"), damaged(What::Size)),
         (1, begins(b""), damaged(What::RootSector)),
         (2, begins(b"VTROOT01"), damaged(What::RootSector)),
-        (1, root(0, 1, 0), damaged(What::Snapshot)),
-        (1, root(0, 0, 1), damaged(What::Snapshot)),
+        (1, root([0, 0, 0, 1, 0]), damaged(What::Snapshot)),
+        (1, root([0, 0, 0, 0, 1]), Ok(())),
         // a head of number 1 whose text has no byte, or more than fit, or is that of no edit
         (3, begins(&[1, 1, 1, 0, 1]), damaged(What::Journal)),
         (
@@ -98,7 +78,7 @@ fn disks_that_are_no_service(rt: HostRuntime) -> Result<(), Fail> {
             begins(&[1, 1, 1, 0, 1, 0, 0, 0, 0, 0, 0, 0, 1, 0, 0, 0, 3]),
             Ok(()),
         ),
-        (1, root(5, 0, 0), Ok(())),
+        (1, root([0, 5, 0, 0, 0]), Ok(())),
     ];
     for (at, sector, outcome) in rows {
         assert_eq!(rt; opening(rt.alloc(), at, &sector)?, outcome);
@@ -124,7 +104,7 @@ fn disks_that_are_no_service(rt: HostRuntime) -> Result<(), Fail> {
 fn spent_numbers(rt: HostRuntime) -> Result<(), Fail> {
     let alloc = rt.alloc();
     let mut disk = formatted(alloc)?;
-    let _ = disk.write(1, &root(u64::MAX - 1, 0, 0));
+    let _ = disk.write(1, &root([0, u64::MAX - 1, 0, 0, 0]));
     let mut service = opened(alloc, disk)?;
     assert_eq!(rt; service.put(1, point(alloc, 0)?), Ok(u64::MAX));
     assert_eq!(rt;
