@@ -1,4 +1,5 @@
 mod Added
+mod Known
 mod Shown
 mod Written
 pub mod Unique

@@ -1,5 +1,5 @@
 -- What is summed up of a map are its layers.
-use Rattle.std.proofs.Common.{◌≡◌, ◌⊎◌, ◌↔◌, ℕ, zero, suc, ◌<◌, ◌≤◌, Bool, true, false, cond, List, [], ◌∷◌, length, map, All, Option, Some, None, inl, inr}
+use Rattle.std.proofs.Common.{◌≡◌, ◌↔◌, ℕ, ◌<◌, ◌≤◌, Bool, true, false, cond, List, [], ◌∷◌, length, map, All, Option, Some, None, inl, inr}
 use Rattle.std.proofs.Common.{min, max, is_some, Bor, refl, sym, ap, subst, ◌∙◌, arith}
 use mathlib.Core.Bool.{false≢true}
 use Rattle.std.specs.List.{Contains, AllByRecursion}
@@ -12,7 +12,7 @@ use Rattle.std.specs.BTreeMap.{is_at, IsOrdered}
 use Rattle.std.specs.Map.{keys_of, lookup}
 use Rattle.std.proofs.lemmas.Bool.{cases_lt}
 use Rattle.std.proofs.lemmas.Cmp.{nat_list_cmp_total, on_total}
-use Rattle.std.proofs.lemmas.List.Elements.{All-nil, All-cons, All-head, All-tail, All-map, All-weaker, Contains-append_right}
+use Rattle.std.proofs.lemmas.List.Elements.{All-nil, All-cons, All-head, All-tail, All-map, All-weaker}
 use Rattle.std.proofs.lemmas.Slice.Eq.{bytes_eq-Decides}
 use Rattle.std.proofs.lemmas.Map.Text.{is_eq-slice_cmp}
 use Rattle.std.proofs.lemmas.Map.Views.{All-found}
@@ -24,22 +24,8 @@ use Rattle.map_metadata.specs.declared.summary.LayerSummary.{LayerSummary}
 use Rattle.map_metadata.specs.Fields.{features_in, IsLayerName, kinds_in, IsKey, Differ, IsFieldKind, IsLeast, IsGreatest}
 use Rattle.map_metadata.specs.Metadata.{Ascend, names_of, IsLayer, AreLayers}
 use Rattle.map_metadata.specs.Summaries.{joined, with_kinds, with_feature, with_features, kind_at, layer_at, zooms_of, Layers, SumsUp}
+use Rattle.map_metadata.proofs.Known.{contains_here, contains_on, contains_cases, none_there, named, some_named, keyed, some_keyed}
 use Rattle.map_metadata.specs.Summaries.{fields_data, layer_data, HasOrder}
-
--- ---- lists
-
-pub contains_here : {X : Type 0} (x : X) (xs : List X) → Contains (x ∷ xs) x
-contains_here x xs = (0, omega arith, refl)
-
-pub contains_on : {X : Type 0} (x : X) (xs : List X) (y : X) → Contains xs y → Contains (x ∷ xs) y
-contains_on x xs y h = Contains-append_right (x ∷ []) xs y h
-
-pub contains_cases : {X : Type 0} (n : X) (ns : List X) (x : X) → Contains (n ∷ ns) x → (n ≡ x) ⊎ Contains ns x
-contains_cases n ns x (zero, lt, is) = inl is
-contains_cases n ns x (suc k, lt, is) = inr (k, omega arith, is)
-
-pub none_there : {X G : Type 0} (x : X) → Contains [] x → G
-none_there x (k, lt, is) = absurd (omega (arith, lt))
 
 -- ---- kinds
 
@@ -238,9 +224,10 @@ module _ (m : FeatureMap) (g : Layers) (sums : SumsUp g m) where
       → Contains (keys_of (fields_data e.1.fields.entries)) key ↔ IsKey (features_in m e.0.now) key
   keys_of_layer e is key =
       let some = ap is_some (kinds_at e is key) in
-      let known = kinds_some (kinds_in (features_in m e.0.now) key) in (
-        λ h. known.0 (sym some ∙ there_found e.1.fields.entries key (subst (λ ks. Contains ks key) (keys_are e.1.fields.entries) h)),
-        λ h. subst (λ ks. Contains ks key) (sym (keys_are e.1.fields.entries)) (found_there e.1.fields.entries key (some ∙ known.1 h)),
+      let fs = features_in m e.0.now in
+      let known = kinds_some (kinds_in fs key) in (
+        λ h. keyed fs key (known.0 (sym some ∙ there_found e.1.fields.entries key (subst (λ ks. Contains ks key) (keys_are e.1.fields.entries) h))),
+        λ h. subst (λ ks. Contains ks key) (sym (keys_are e.1.fields.entries)) (found_there e.1.fields.entries key (some ∙ known.1 (some_keyed fs key h))),
       )
 
   layer_is : (e : Bor (List ℕ) × LayerSummary) → IsFound e → HasOrder e.1.fields → IsLayer m (layer_data e)
@@ -265,8 +252,8 @@ module _ (m : FeatureMap) (g : Layers) (sums : SumsUp g m) where
   names_known name =
       let some = sym (some_zooms (layer_at g name)) ∙ ap is_some (sums.zooms name) in
       let known = features_some (features_in m name) in (
-        λ h. known.0 (sym some ∙ there_found g.entries name (subst (λ ks. Contains ks name) (names_are g.entries) h)),
-        λ h. subst (λ ks. Contains ks name) (sym (names_are g.entries)) (found_there g.entries name (some ∙ known.1 h)),
+        λ h. named m name (known.0 (sym some ∙ there_found g.entries name (subst (λ ks. Contains ks name) (names_are g.entries) h))),
+        λ h. subst (λ ks. Contains ks name) (sym (names_are g.entries)) (found_there g.entries name (some ∙ known.1 (some_named m name h))),
       )
 
   pub are_layers : All (λ e. HasOrder e.1.fields) g.entries → IsOrdered (λ a b. slice_cmp nat_cmp a.now b.now) g → AreLayers m (map layer_data g.entries)

@@ -14,7 +14,7 @@ use Rattle.feature_store.specs.Store.{FeatureMap}
 use Rattle.map_metadata.specs.declared.field_kind.FieldKind.{FieldKind}
 use Rattle.map_metadata.specs.Fields.{features_in, kinds_in, IsKey, IsFieldKind, IsLeast, IsGreatest}
 use Rattle.map_metadata.specs.Metadata.{LayerData, Ascend, IsLayer, AreLayers, layers_json, IsMetadata}
-use Rattle.map_metadata.proofs.Shown.{contains_here, contains_on, contains_cases, none_there}
+use Rattle.map_metadata.proofs.Known.{contains_here, contains_on, contains_cases, none_there, some_keyed}
 
 -- ---- lists in the order of their names
 
@@ -92,7 +92,8 @@ module _ (fs : List FeatureData) where
 
   one_field : (f g : List ℕ × FieldKind) → IsField f → IsField g → f.0 ≡ g.0 → f ≡ g
   one_field f g is_f is_g same =
-      let kind : f.1 ≡ g.1 = one_kind (kinds_in fs f.0) f.1 g.1 is_f.0 is_f.1 (subst (λ k. IsFieldKind (kinds_in fs k) g.1) (sym same) is_g.1) in
+      let kind : f.1 ≡ g.1 =
+      one_kind (kinds_in fs f.0) f.1 g.1 (some_keyed fs f.0 is_f.0) is_f.1 (subst (λ k. IsFieldKind (kinds_in fs k) g.1) (sym same) is_g.1) in
       λ i. (same i, kind i)
 
   are_fields : (gs : List (List ℕ × FieldKind)) → ((key : List ℕ) → Contains (keys_of gs) key → IsKey fs key)

@@ -1,6 +1,6 @@
 -- The features of a layer, and what they have for a key.
 use Prim.Native.String.{String}
-use Rattle.std.specs.Prelude.{◌≡◌, ◌⊎◌, ℕ, ◌<◌, ◌≤◌, List, length, All, Contains, codes, Some, None, filter_map, flat_map, if◌then◌else◌}
+use Rattle.std.specs.Prelude.{◌≡◌, ◌⊎◌, ℕ, ◌≤◌, List, map, All, Contains, codes, Some, None, filter_map, flat_map, if◌then◌else◌}
 use Rattle.std.specs.Str.{bytes_eq}
 use Rattle.feature_model.specs.Data.{ValueData, text_value, natural_value, negative_value, truth_value, TagData, FeatureData}
 use Rattle.feature_store.specs.Store.{FeatureMap}
@@ -32,7 +32,7 @@ features_in m name = filter_map (λ e. if bytes_eq e.1.layer name then Some e.1 
 
 -- some feature is of the layer with this name
 abbrev pub IsLayerName : FeatureMap → List ℕ → Type 0
-IsLayerName m name = 0 < length (features_in m name)
+IsLayerName m name = Contains (map (λ e. e.1.layer) m) name
 
 -- the kinds of the values of a key
 abbrev pub kinds_of : List TagData → List ℕ → List FieldKind
@@ -42,15 +42,19 @@ kinds_of ts key = filter_map (λ t. if bytes_eq t.key key then Some (kind_of t.v
 abbrev pub kinds_in : List FeatureData → List ℕ → List FieldKind
 kinds_in fs key = flat_map (λ f. kinds_of f.tags key) fs
 
+-- the keys of their tags
+abbrev pub keys_in : List FeatureData → List (List ℕ)
+keys_in fs = flat_map (λ f. map (λ t. t.key) f.tags) fs
+
 -- some feature has a tag with this key
 abbrev pub IsKey : List FeatureData → List ℕ → Type 0
-IsKey fs key = 0 < length (kinds_in fs key)
+IsKey fs key = Contains (keys_in fs) key
 
 -- each value is of this kind
 abbrev pub AreAll : List FieldKind → FieldKind → Type 0
 AreAll kinds kind = All (λ k. k ≡ kind) kinds
 
--- each value is of no one kind
+-- no one kind is that of each value
 abbrev pub Differ : List FieldKind → Type 0
 Differ kinds = (kind : FieldKind) → AreAll kinds kind → ⊥
 

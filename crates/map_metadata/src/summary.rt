@@ -62,7 +62,7 @@ impl<'a> LayerSummary<'a> {
     }
 }
 
-/// Takes a feature in at its layer.
+/// Takes a feature in at its layer, whatever its number.
 fn add_feature<'a>(
     alloc: Global,
     layers: &mut Layers<'a>,
