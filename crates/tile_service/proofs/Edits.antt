@@ -116,13 +116,16 @@ module _ {D : Type 0} (sectors : D → ℕ) (history : D → History) (stored : 
         → (ring_of after.journal ≡ ring_of service.journal)
         × (start_of after.journal.place after.journal.edits ≡ start_of service.journal.place service.journal.edits)
         → IsAt (texts_of stored ++ text ∷ []) after.journal (history new) → after.features ≡ changed service.features e
-        → after.generation ≡ service.generation → after.broken ≡ service.broken
+        → after.generation ≡ service.generation → after.snapshot_len ≡ service.snapshot_len → after.archive_len ≡ service.archive_len
+        → after.broken ≡ service.broken
         → IsUp (sectors new) (history new) (with_edit stored e) after
-    up_with_edit after disk count size same is features generation broken = record {
+    up_with_edit after disk count size same is features generation snapshot_len archive_len broken = record {
       keeps = subst (λ (c : ℕ). Keeps c after.size (with_edit stored e) (history new)) (sym count)
           (subst (λ (n : ℕ). Keeps (sectors service.disk) n (with_edit stored e) (history new)) (sym size) (keeps_edit after.journal same.0 same.1 is));
       unbroken = broken ∙ up.unbroken;
       generation_is = generation ∙ up.generation_is;
+      snapshot_len_is = snapshot_len ∙ up.snapshot_len_is;
+      archive_len_is = archive_len ∙ up.archive_len_is;
       map_is = features ∙ ap (λ (m : FeatureMap). changed m e) up.map_is ∙ sym (after_one stored.snapshot_map stored.since e);
       place_is = ap (λ (s : Start). s.place) same.1 ∙ up.place_is;
       edits_are = edits;
@@ -140,14 +143,17 @@ module _ {D : Type 0} (sectors : D → ℕ) (history : D → History) (stored : 
   -- A refused edit that isn't in doubt leaves the service as it was.
   pub still_up : (after : ServiceView D) (fault : JournalFault) (told : ServiceFault) → told ≡ told_as fault
       → (fault ≡ journals.Device) ⊎ (after.disk ≡ service.disk) → after.size ≡ service.size → after.journal ≡ service.journal
-      → after.features ≡ service.features → after.generation ≡ service.generation → ((fault ≡ journals.Device → ⊥) → after.broken ≡ false)
+      → after.features ≡ service.features → after.generation ≡ service.generation → after.snapshot_len ≡ service.snapshot_len
+      → after.archive_len ≡ service.archive_len → ((fault ≡ journals.Device → ⊥) → after.broken ≡ false)
       → told ≢ Device → IsUp (sectors after.disk) (history after.disk) stored after
-  still_up after fault told is (inl device) size journal features generation broken other = absurd (other (is ∙ ap told_as device))
-  still_up after fault told is (inr same) size journal features generation broken other = record {
+  still_up after fault told is (inl device) size journal features generation snapshot_len archive_len broken other = absurd (other (is ∙ ap told_as device))
+  still_up after fault told is (inr same) size journal features generation snapshot_len archive_len broken other = record {
     keeps = subst (λ (d : D). Keeps (sectors d) after.size stored (history d)) (sym same)
         (subst (λ (n : ℕ). Keeps (sectors service.disk) n stored (history service.disk)) (sym size) up.keeps);
     unbroken = broken (λ device. other (is ∙ ap told_as device));
     generation_is = generation ∙ up.generation_is;
+    snapshot_len_is = snapshot_len ∙ up.snapshot_len_is;
+    archive_len_is = archive_len ∙ up.archive_len_is;
     map_is = features ∙ up.map_is;
     place_is = ap (λ (j : Journal). j.place) journal ∙ up.place_is;
     edits_are = ap (λ (j : Journal). j.edits) journal ∙ up.edits_are;

@@ -1,4 +1,5 @@
 mod Appends
+mod Archives
 mod Bytes
 pub mod Callers
 pub mod Contents

@@ -188,6 +188,7 @@ module _ (sectors n : ℕ) (stored : Stored) (image : Image) (holds : Holds sect
   module _ {D : Type 0} (count : ℕ) (old history : History) (service : ServiceView D) (root : Root)
       (same_image : seen old ≡ image) (same_count : count ≡ sectors) (after_sync : history ≡ synced old)
       (unbroken : service.broken ≡ false) (generation : service.generation ≡ root.generation)
+      (snapshot_len : service.snapshot_len ≡ root.snapshot_len) (archive_len : service.archive_len ≡ root.archive_len)
       (is : IsRead sectors service.size image root service.journal service.features) where
     same : (n ≡ service.size) × (root_of stored ≡ root)
     same = one_live sectors image n service.size (root_of stored) root live is.live
@@ -223,6 +224,8 @@ module _ (sectors n : ℕ) (stored : Stored) (image : Image) (holds : Holds sect
         keeps = keeps;
         unbroken = unbroken;
         generation_is = generation ∙ sym (ap (λ (r : Root). r.generation) same.1);
+        snapshot_len_is = snapshot_len ∙ sym (ap (λ (r : Root). r.snapshot_len) same.1);
+        archive_len_is = archive_len ∙ sym (ap (λ (r : Root). r.archive_len) same.1);
         map_is = map_is;
         place_is = replayed.place_is;
         edits_are = replayed.edits_are;

@@ -3,7 +3,8 @@ use Rattle.std.specs.Prelude.{◌≡◌, ◌≢◌, ◌⊎◌, ◌≤◌, ◌+�
 use Rattle.std.proofs.Common.{Global}
 use Rattle.sector_disk.specs.Disk.{History, Image, HasFailed}
 use Rattle.sector_disk.specs.declared.disk.TheConstants.{SECTOR_BYTES}
-use Rattle.generations.specs.Areas.{area_sectors}
+use Rattle.generations.specs.Areas.{area_sectors, sectors_of}
+use Rattle.generations.specs.declared.root.Root.{Root}
 use Rattle.edit_journal.specs.Appends.{ring_of}
 use Rattle.edit_journal.specs.Ring.{places_of}
 use Rattle.edit_journal.specs.declared.fault.JournalFault.{JournalFault}
@@ -25,12 +26,17 @@ pub record ServiceView (D : Type 0) : Type 0 where
   -- where the records of the edits since the snapshot lie
   pub journal : Journal
   pub generation : ℕ
+  -- how many bytes the snapshot of that generation has, and the archive behind it
+  pub snapshot_len : ℕ
+  pub archive_len : ℕ
   pub broken : Bool
 
 -- what always holds of one whose disk has so many sectors
-pub record IsService (sectors size : ℕ) (journal : Journal) (features : FeatureMap) : Type 0 where
+pub record IsService (sectors size : ℕ) (root : Root) (journal : Journal) (features : FeatureMap) : Type 0 where
   pub within : size ≤ sectors
   pub ring : ring_of journal ≡ journal_ring size
+  -- an area holds the snapshot and the archive
+  pub area : sectors_of root.snapshot_len + sectors_of root.archive_len ≤ area_sectors size
   -- the texts of the features are short together: they came from an area and from the journal
   pub texts : length (snapshot features) ≤ SECTOR_BYTES * area_sectors size + PART_BYTES * journal.used
 
@@ -54,6 +60,8 @@ pub record IsUp {D : Type 0} (sectors : ℕ) (history : History) (stored : Store
   pub keeps : Keeps sectors service.size stored history
   pub unbroken : service.broken ≡ false
   pub generation_is : service.generation ≡ stored.generation
+  pub snapshot_len_is : service.snapshot_len ≡ length (snapshot stored.snapshot_map)
+  pub archive_len_is : service.archive_len ≡ length stored.archive
   pub map_is : service.features ≡ map_of stored
   pub place_is : service.journal.place ≡ stored.journal_at
   pub edits_are : service.journal.edits ≡ stored.edits

@@ -71,6 +71,8 @@ impl<D: Sectors + Drop> Service<D> {
         ensures machine { (archive : ArchiveState)
             → Steps (state_of archive self.old) (edit (put id (feature_data feature))) (edit_answer result) (state_of archive self.new) }
         ensures size { self.new.size ≡ self.old.size }
+        ensures snapshot_len { self.new.snapshot_len ≡ self.old.snapshot_len }
+        ensures archive_len { self.new.archive_len ≡ self.old.archive_len }
         ensures count { D.sectors self.new.disk ≡ D.sectors self.old.disk }
         ensures honest { D.honest self.new.disk → D.honest self.old.disk }
         ensures faults { OnOk result (D.faults self.new.disk ≡ D.faults self.old.disk) }
@@ -131,6 +133,8 @@ impl<D: Sectors + Drop> Service<D> {
         ensures machine { (archive : ArchiveState)
             → Steps (state_of archive self.old) (edit (delete id)) (edit_answer result) (state_of archive self.new) }
         ensures size { self.new.size ≡ self.old.size }
+        ensures snapshot_len { self.new.snapshot_len ≡ self.old.snapshot_len }
+        ensures archive_len { self.new.archive_len ≡ self.old.archive_len }
         ensures count { D.sectors self.new.disk ≡ D.sectors self.old.disk }
         ensures honest { D.honest self.new.disk → D.honest self.old.disk }
         ensures faults { OnOk result (D.faults self.new.disk ≡ D.faults self.old.disk) }

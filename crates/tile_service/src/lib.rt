@@ -7,6 +7,7 @@ mod event;
 mod fault;
 mod formatting;
 mod opening;
+mod published;
 mod replaying;
 mod running;
 mod service;

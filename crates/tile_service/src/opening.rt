@@ -124,6 +124,7 @@ fn load<D: Sectors>(alloc: Global, disk: &mut D) -> Result<Found, StoreFault>
     ensures faults { OnOk result (D.faults disk.new ≡ D.faults disk.old) }
     ensures failed { IfErr result (λ fault. CountsDevice fault (D.faults disk.old) (D.faults disk.new)) }
     ensures within { IfOk result (λ found. found.layout.sectors ≤ D.sectors disk.new) }
+    ensures can { IfOk result (λ found. CanStand found.layout.sectors found.root) }
     ensures ring { IfOk result (λ found. ring_of found.journal ≡ journal_ring found.layout.sectors) }
     ensures texts { IfOk result (λ found.
         length (snapshot found.store.features) ≤ SECTOR_BYTES * area_sectors found.layout.sectors + PART_BYTES * found.journal.used) }
@@ -184,7 +185,7 @@ impl<D: Sectors + Drop> Service<D> {
                 layout: found.layout,
                 journal: found.journal,
                 store: found.store,
-                generation: found.root.generation,
+                root: found.root,
                 broken: false,
             }),
             Err(fault) => Err((disk, fault)),

@@ -46,6 +46,8 @@ impl<D: Sectors + Drop> Service<D> {
         ensures machine { (archive : ArchiveState)
             → Steps (state_of archive self.old) (event_data event) (answer_data result) (state_of archive self.new) }
         ensures size { self.new.size ≡ self.old.size }
+        ensures snapshot_len { self.new.snapshot_len ≡ self.old.snapshot_len }
+        ensures archive_len { self.new.archive_len ≡ self.old.archive_len }
         ensures count { D.sectors self.new.disk ≡ D.sectors self.old.disk }
         ensures honest { D.honest self.new.disk → D.honest self.old.disk }
         ensures faults { self.new.broken ≡ false → D.faults self.new.disk ≡ D.faults self.old.disk }
@@ -75,6 +77,8 @@ impl<D: Sectors + Drop> Service<D> {
             Runs (state_of archive self.old) (map event_data events.items) (map answer_data answers.items) (state_of archive self.new)) }
         ensures memory { IfErr result (λ fault. (fault ≡ Memory) × (self.new ≡ self.old)) }
         ensures size { self.new.size ≡ self.old.size }
+        ensures snapshot_len { self.new.snapshot_len ≡ self.old.snapshot_len }
+        ensures archive_len { self.new.archive_len ≡ self.old.archive_len }
         ensures count { D.sectors self.new.disk ≡ D.sectors self.old.disk }
         ensures honest { D.honest self.new.disk → D.honest self.old.disk }
         ensures faults { self.new.broken ≡ false → D.faults self.new.disk ≡ D.faults self.old.disk }

@@ -3,7 +3,7 @@ ghost use Rattle.std.specs.Prelude.{◌≡◌};
 
 use edit_journal::Journal;
 use feature_store::Store;
-use generations::Layout;
+use generations::{Layout, Root};
 use sector_disk::Sectors;
 use std::alloc::Global;
 use std::marker::Model;
@@ -16,7 +16,7 @@ pub struct Service<D: Sectors + Drop> {
     pub(crate) layout: Layout,
     pub(crate) journal: Journal,
     pub(crate) store: Store,
-    pub(crate) generation: u64,
+    pub(crate) root: Root,
     pub(crate) broken: bool,
 }
 
@@ -30,11 +30,13 @@ impl<D: Sectors + Drop> Model for Service<D> {
       size = s.layout.sectors;
       features = s.store.features;
       journal = s.journal;
-      generation = s.generation;
+      generation = s.root.generation;
+      snapshot_len = s.root.snapshot_len;
+      archive_len = s.root.archive_len;
       broken = s.broken;
     } };
 
-    ghost invariant = { λ s. IsService (D.sectors s.disk) s.layout.sectors s.journal s.store.features };
+    ghost invariant = { λ s. IsService (D.sectors s.disk) s.layout.sectors s.root s.journal s.store.features };
 }
 
 impl<D: Sectors + Drop> Service<D> {
@@ -48,7 +50,7 @@ impl<D: Sectors + Drop> Service<D> {
             layout: _,
             journal: _,
             store: _,
-            generation: _,
+            root: _,
             broken: _,
         } = self;
         disk

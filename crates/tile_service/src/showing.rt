@@ -1,16 +1,21 @@
 //! What a service shows.
-ghost use Rattle.std.specs.Prelude.{◌≡◌, IfErr, option_map};
+ghost use Rattle.std.specs.Prelude.{◌≡◌, IfErr, IfOk, option_map};
 ghost use Rattle.feature_model.specs.Data.{feature_data};
 ghost use Rattle.feature_store.specs.Store.{feature_at};
+ghost use Rattle.map_metadata.specs.Metadata.{IsMetadata};
+ghost use Rattle.serde_json.specs.View.{view};
 ghost use Rattle.tile_service.specs.Machine.{ArchiveState, tile, Steps};
 ghost use Rattle.tile_service.specs.Service.{state_of, tile_answer};
+ghost use Rattle.tile_service.specs.declared.fault.ServiceFault.TheVariants.{Memory};
 
 use crate::fault::ServiceFault;
 use crate::service::Service;
 use feature_model::Feature;
 use hilbert_id::TileAt;
+use map_metadata::metadata;
 use mvt_write::write_tile;
 use sector_disk::Sectors;
+use serde_json::Value;
 use std::alloc::AllocError;
 
 impl<D: Sectors + Drop> Service<D> {
@@ -37,6 +42,18 @@ impl<D: Sectors + Drop> Service<D> {
         }
         match write_tile(self.alloc, &layers) {
             Ok(bytes) => Ok(Some(bytes)),
+            Err(AllocError) => Err(ServiceFault::Memory),
+        }
+    }
+
+    /// The JSON metadata of the map after the last acknowledged edit: what an archive of its tiles would have. The only error is
+    /// `Memory`.
+    pub fn metadata(&self) -> Result<Value, ServiceFault>
+        ensures metadata { IfOk result (λ v. IsMetadata self.now.features (view v)) }
+        ensures fault { IfErr result (λ fault. fault ≡ Memory) }
+    {
+        match metadata(self.alloc, &self.store) {
+            Ok(value) => Ok(value),
             Err(AllocError) => Err(ServiceFault::Memory),
         }
     }

@@ -19,7 +19,7 @@ use sector_disk::{DiskFault, Sectors};
 use std::alloc::{AllocError, Global};
 
 /// The first sector of the area of a generation.
-fn area_of(layout: Layout, generation: u64) -> u64
+pub(crate) fn area_of(layout: Layout, generation: u64) -> u64
     ensures { result ≡ area_start layout.sectors generation }
 {
     3 + layout.journal + generation % 2 * layout.area

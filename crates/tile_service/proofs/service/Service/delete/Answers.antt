@@ -21,6 +21,7 @@ pub invariant_of-self : goal.invariant_of-self
 invariant_of-self g c = record {
   within = omega (arith, c.self.invariant.within, c.append.ensures.count);
   ring = c.append.ensures.same.0 ∙ c.self.invariant.ring;
+  area = c.self.invariant.area;
   texts = omega (
     arith,
     ap (λ m. length (snapshot m)) c.remove.ensures.map,
@@ -43,7 +44,7 @@ returns-in-Ok-clause-acknowledged g c = rw (← c.self.view_is) (λ stored hones
     let at = up_is_at g.D.Sectors.sectors g.D.Sectors.history stored _ c.self.invariant.ring up in
     up_with_edit g.D.Sectors.sectors g.D.Sectors.history stored _ c.self.invariant.ring up (delete c.args.id) fits _ c.delete_text.ensures
     c.append.new.disk (c.append.ensures.frame honest) _ refl c.append.ensures.count refl c.append.ensures.same
-    (c.in-Ok.ensures.acknowledged (texts_of stored) honest at) c.remove.ensures.map refl refl)
+    (c.in-Ok.ensures.acknowledged (texts_of stored) honest at) c.remove.ensures.map refl refl refl refl)
 
 pub returns-in-Err-clause-any_moment : goal.returns-in-Err-clause-any_moment
 returns-in-Err-clause-any_moment g c = rw (← c.self.view_is) (λ stored honest up.
@@ -57,4 +58,4 @@ pub returns-in-Err-clause-refused : goal.returns-in-Err-clause-refused
 returns-in-Err-clause-refused g c = rw (← c.self.view_is) (λ stored honest up.
     let unbroken : (c.in-Err.fault ≡ journals.Device → ⊥) → c.eq-self-inside.result ≡ false = search rules in
     still_up g.D.Sectors.sectors g.D.Sectors.history stored _ c.self.invariant.ring up _ c.in-Err.fault c.told.result c.told.ensures
-    c.in-Err.ensures.refused refl c.in-Err.ensures.kept refl refl unbroken)
+    c.in-Err.ensures.refused refl c.in-Err.ensures.kept refl refl refl refl unbroken)

@@ -13,9 +13,11 @@ returns-in-Ok-clause-opened g c n stored holds honest =
       features = c.in-Ok.found.store.features;
       journal = c.in-Ok.found.journal;
       generation = c.in-Ok.found.root.generation;
+      snapshot_len = c.in-Ok.found.root.snapshot_len;
+      archive_len = c.in-Ok.found.root.archive_len;
       broken = false;
     })
-    c.in-Ok.found.root refl c.load.ensures.count (c.in-Ok.ensures.synced honest) refl refl (c.in-Ok.ensures.found honest)
+    c.in-Ok.found.root refl c.load.ensures.count (c.in-Ok.ensures.synced honest) refl refl refl refl (c.in-Ok.ensures.found honest)
 
 pub returns-in-Err-clause-refused : goal.returns-in-Err-clause-refused
 returns-in-Err-clause-refused g c n stored holds honest =

@@ -47,6 +47,7 @@ pub invariant_of-self-in-Ok-append : goal.invariant_of-self-in-Ok-append
 invariant_of-self-in-Ok-append g c = record {
   within = omega (arith, c.self.invariant.within, c.append.ensures.count);
   ring = c.append.ensures.same.0 ∙ c.self.invariant.ring;
+  area = c.self.invariant.area;
   texts = omega (
     arith,
     ap (λ m. length (snapshot m)) (c.apply.ensures ∙ ap (λ m. with_feature m c.args.id (feature_data c.args.feature)) c.room.ensures.map),
@@ -70,7 +71,7 @@ returns-in-Ok-append-clause-acknowledged g c = rw (← c.self.view_is) (λ store
     up_with_edit g.D.Sectors.sectors g.D.Sectors.history stored _ c.self.invariant.ring up (put c.args.id (feature_data c.args.feature))
     c.in-Ok-encode.ensures.edit _ (c.deref.ensures.value ∙ c.in-Ok-encode.ensures.text) c.append.new.disk (c.append.ensures.frame honest)
     _ refl c.append.ensures.count refl c.append.ensures.same (c.in-Ok-append.ensures.acknowledged (texts_of stored) honest at)
-    (c.apply.ensures ∙ ap (λ m. with_feature m c.args.id (feature_data c.args.feature)) c.room.ensures.map) refl refl)
+    (c.apply.ensures ∙ ap (λ m. with_feature m c.args.id (feature_data c.args.feature)) c.room.ensures.map) refl refl refl refl)
 
 pub returns-in-Err-append-clause-any_moment : goal.returns-in-Err-append-clause-any_moment
 returns-in-Err-append-clause-any_moment g c =
@@ -89,10 +90,12 @@ returns-in-Err-append-clause-refused g c =
       size = c.self.inside.layout.sectors;
       features = c.room.new.self.features;
       journal = c.append.new.self;
-      generation = c.self.inside.generation;
+      generation = c.self.inside.root.generation;
+      snapshot_len = c.self.inside.root.snapshot_len;
+      archive_len = c.self.inside.root.archive_len;
       broken = c.eq-self-inside.result;
     } = elim c.match-edit-5.branch [ in-Put-3 w ↦ w.self-is | in-Delete-3 w ↦ w.self-is ] in
     rw (left, ← c.self.view_is) (λ stored honest up.
     let unbroken : (c.in-Err-append.fault ≡ journals.Device → ⊥) → c.eq-self-inside.result ≡ false = search rules in
     still_up g.D.Sectors.sectors g.D.Sectors.history stored _ c.self.invariant.ring up _ c.in-Err-append.fault c.told.result c.told.ensures
-    c.in-Err-append.ensures.refused refl c.in-Err-append.ensures.kept c.room.ensures.map refl unbroken)
+    c.in-Err-append.ensures.refused refl c.in-Err-append.ensures.kept c.room.ensures.map refl refl refl unbroken)

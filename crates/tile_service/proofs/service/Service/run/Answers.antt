@@ -26,6 +26,8 @@ loop-event-init g c = let none = c.in-Ok.ensures.items in record {
   len = c.in-Ok.ensures.len;
   same = sym (ap (λ l. length (map answer_data l)) none);
   size = refl;
+  snapshot_len = refl;
+  archive_len = refl;
   count = refl;
   honest = λ honest. honest;
   faults = λ unbroken. refl;
@@ -72,6 +74,8 @@ loop-event-preserved g c =
       same = ap length events_are ∙ length-append events (event_data event ∷ []) ∙ ap (λ (n : ℕ). n + 1) inv.same
           ∙ sym (length-append answers (answer_data answer ∷ [])) ∙ sym (ap length answers_are);
       size = call.size ∙ inv.size;
+      snapshot_len = call.snapshot_len ∙ inv.snapshot_len;
+      archive_len = call.archive_len ∙ inv.archive_len;
       count = call.count ∙ inv.count;
       honest = λ honest. inv.honest (call.honest honest);
       faults = λ unbroken. call.faults unbroken ∙ inv.faults (was_unbroken _ _ _ _ step unbroken).0;

@@ -21,6 +21,8 @@ invariant-loop-event g l = record {
   len : vec_len l.answers ≡ length l.yielded;
   same : length (map event_data l.yielded) ≡ length (map answer_data l.answers.items);
   size : l.self.size ≡ l.initial.self.size;
+  snapshot_len : l.self.snapshot_len ≡ l.initial.self.snapshot_len;
+  archive_len : l.self.archive_len ≡ l.initial.self.archive_len;
   count : g.D.Sectors.sectors l.self.disk ≡ g.D.Sectors.sectors l.initial.self.disk;
   honest : g.D.Sectors.honest l.self.disk → g.D.Sectors.honest l.initial.self.disk;
   faults : l.self.broken ≡ false → g.D.Sectors.faults l.self.disk ≡ g.D.Sectors.faults l.initial.self.disk;

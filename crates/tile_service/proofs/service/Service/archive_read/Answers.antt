@@ -1,0 +1,21 @@
+use Rattle.std.proofs.Common.{◌≡◌, ◌+◌, length, slice_range, OnOk, sym, ap, subst, arith}
+use Rattle.tile_service.proofs.Archives.{archive_is_read, up_unwritten}
+use Rattle.tile_service.proofs.service.Service.archive_read.Goals as goal
+use Rattle.tile_service.proofs.service.Service.archive_read.Goals.{in-Ok, in-Err}
+
+pub returns-clause-read : goal.returns-clause-read
+returns-clause-read g c = rw (← c.self.view_is) (λ stored up honest.
+    let is = archive_is_read (g.D.Sectors.sectors c.self.inside.disk) (g.D.Sectors.history c.self.inside.disk) stored _ up
+    _ c.args.at (length c.args.into.now) c.read_bytes.new.into (λ i. c.area_of.ensures i + c.sectors_for.ensures i)
+    (omega (arith, c.requires.within, ap (λ s. s.archive_len) c.self.view_is)) in
+    elim c.match-read_bytes.branch [
+      | in-Ok w ↦ subst (λ result. OnOk result (c.read_bytes.new.into ≡ slice_range stored.archive c.args.at (c.args.at + length c.args.into.now)))
+          (sym w.result-is) (is (w.in-Ok.ensures.read honest))
+      | in-Err w ↦ subst (λ result. OnOk result (c.read_bytes.new.into ≡ slice_range stored.archive c.args.at (c.args.at + length c.args.into.now)))
+          (sym w.result-is) tt
+    ])
+
+pub returns-clause-up : goal.returns-clause-up
+returns-clause-up g c = rw (← c.self.view_is) (λ stored up honest.
+    up_unwritten (g.D.Sectors.sectors c.self.inside.disk) (g.D.Sectors.history c.self.inside.disk) stored _ up
+    c.read_bytes.new.disk _ _ c.read_bytes.ensures.count (c.read_bytes.ensures.history honest))

@@ -1,0 +1,57 @@
+//! The archive that was published last.
+ghost use Rattle.std.specs.Prelude.{◌≡◌, ◌≤◌, ◌+◌, length, slice_range, IfErr, OnOk};
+ghost use Rattle.generations.specs.Areas.{sectors_of};
+ghost use Rattle.tile_service.specs.Service.{IsUp, CountsDevice};
+ghost use Rattle.tile_service.specs.Stored.{Stored};
+ghost use Rattle.tile_service.specs.declared.fault.ServiceFault.TheVariants.{Device};
+
+use crate::fault::ServiceFault;
+use crate::service::Service;
+use crate::snapshot_reading::area_of;
+use sector_bytes::read_bytes;
+use sector_disk::{DiskFault, SECTOR_BYTES, Sectors};
+
+/// How many sectors so many bytes take.
+fn sectors_for(bytes: u64) -> u64
+    ensures { result ≡ sectors_of bytes }
+{
+    bytes.div_ceil(SECTOR_BYTES as u64)
+}
+
+impl<D: Sectors + Drop> Service<D> {
+    /// How many bytes the published archive has, 0 where there is none.
+    pub fn archive_len(&self) -> u64
+        ensures { result ≡ self.now.archive_len }
+    {
+        self.root.archive_len
+    }
+
+    /// Reads bytes of the published archive, as many as `into` has room for, from an offset on. It takes no memory, and writes nothing.
+    /// After a fault `into` has any bytes, and the service goes on as before.
+    ///
+    /// # Errors
+    ///
+    /// `Device`.
+    pub fn archive_read(&mut self, at: u64, into: &mut [u8]) -> Result<(), ServiceFault>
+        requires within { at + length into.old ≤ self.old.archive_len }
+        ensures same { self.new ≡ record self.old { disk = self.new.disk } }
+        ensures count { D.sectors self.new.disk ≡ D.sectors self.old.disk }
+        ensures honest { D.honest self.new.disk → D.honest self.old.disk }
+        ensures history { D.honest self.new.disk → D.history self.new.disk ≡ D.history self.old.disk }
+        ensures faults { OnOk result (D.faults self.new.disk ≡ D.faults self.old.disk) }
+        ensures failed { IfErr result (λ fault. CountsDevice fault (D.faults self.old.disk) (D.faults self.new.disk)) }
+        ensures fault { IfErr result (λ fault. fault ≡ Device) }
+        ensures length { length into.new ≡ length into.old }
+        ensures read { (stored : Stored) → IsUp (D.sectors self.old.disk) (D.history self.old.disk) stored self.old → D.honest self.new.disk
+            → OnOk result (into.new ≡ slice_range stored.archive at (at + length into.old)) }
+        ensures up { (stored : Stored) → IsUp (D.sectors self.old.disk) (D.history self.old.disk) stored self.old → D.honest self.new.disk
+            → IsUp (D.sectors self.new.disk) (D.history self.new.disk) stored self.new }
+    {
+        let first = area_of(self.layout, self.root.generation)
+            + sectors_for(self.root.snapshot_len);
+        match read_bytes(&mut self.disk, first, at, into) {
+            Ok(()) => Ok(()),
+            Err(DiskFault) => Err(ServiceFault::Device),
+        }
+    }
+}
