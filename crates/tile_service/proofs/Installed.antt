@@ -28,7 +28,7 @@ use Rattle.tile_service.specs.Publishing.{map_at, published, CanPublish, HasArea
 use Rattle.tile_service.specs.Service.{ServiceView, IsUp}
 use Rattle.tile_service.specs.Stored.{Stored, Holds, HasBytes, HasEarlierRoot, Keeps}
 use Rattle.tile_service.specs.Stored.{map_of, last_of, root_of, texts_of, with_edit, journal_ring, journal_start}
-use Rattle.tile_service.specs.Tiles.{IsArchiveOfMap}
+use Rattle.area_content.specs.Tiles.{IsArchiveOfMap}
 use Rattle.tile_service.proofs.Appends.{texts_with}
 use Rattle.tile_service.proofs.Publishes.{same_ring, live_can}
 

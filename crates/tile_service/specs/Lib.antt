@@ -7,4 +7,3 @@ pub mod Replayed
 pub mod Runs
 pub mod Service
 pub mod Stored
-pub mod Tiles

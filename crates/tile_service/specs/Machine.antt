@@ -8,7 +8,7 @@ use Rattle.feature_store.specs.Store.{FeatureMap, feature_at, changed}
 use Rattle.tile_service.specs.declared.fault.ServiceFault.{ServiceFault}
 use Rattle.tile_service.specs.declared.fault.ServiceFault.TheVariants.{Broken, Limit, NotFound, NumbersSpent, Memory, JournalFull, Device}
 use Rattle.tile_service.specs.Limits.{KeepsLimits, BreaksLimit}
-use Rattle.tile_service.specs.Tiles.{IsTileContent}
+use Rattle.area_content.specs.Tiles.{IsTileContent}
 
 -- ---- the state
 

@@ -7,7 +7,7 @@ use Rattle.generations.specs.Areas.{journal_sectors, area_sectors, area_start, s
 use Rattle.edit_journal.specs.Ring.{places_of}
 use Rattle.feature_store.specs.Store.{FeatureMap, IsMap, after, snapshot}
 use Rattle.tile_service.specs.Stored.{Stored, HasBytes, texts_of}
-use Rattle.tile_service.specs.Tiles.{IsArchiveOfMap}
+use Rattle.area_content.specs.Tiles.{IsArchiveOfMap}
 
 -- the map that is published: that after the first edits since the last snapshot
 abbrev pub map_at : Stored → (count : ℕ) → FeatureMap

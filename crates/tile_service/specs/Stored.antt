@@ -12,7 +12,7 @@ use Rattle.feature_model.specs.Data.{EditData}
 use Rattle.feature_model.specs.Spelled.{spelled}
 use Rattle.feature_model.specs.Types.{IsEdit}
 use Rattle.feature_store.specs.Store.{FeatureMap, IsMap, after, snapshot}
-use Rattle.tile_service.specs.Tiles.{IsArchiveOfMap}
+use Rattle.area_content.specs.Tiles.{IsArchiveOfMap}
 
 -- what a disk holds for a service
 pub record Stored : Type 0 where
