@@ -3,6 +3,7 @@ ghost use Rattle.std.specs.Prelude.{◌≡◌, ◌≤◌, IfOk, length};
 
 mod edits;
 mod openings;
+mod published;
 mod snapshots;
 mod stops;
 mod texts;

@@ -1,0 +1,182 @@
+//! An archive behind a snapshot, made byte by byte, and the metadata of a map. The disk has 64 sectors; area 1 begins at 41.
+ghost use Rattle.std.specs.Prelude.{◌≡◌, ◌≤◌, IfOk};
+
+use super::{begins, formatted, opened, point, root};
+use crate::{Service, ServiceFault};
+use sector_disk::{FailingCalls, FaultyDisk, MemoryDisk, Sectors};
+use std::alloc::Global;
+use std::test::Fail;
+
+/// So many bytes of an archive from an offset on. Each is the remainder of its place by 251.
+fn part(alloc: Global, at: u64, count: u64) -> Result<Vec<u8>, Fail> {
+    let mut bytes = Vec::new(alloc);
+    for index in 0..count {
+        bytes.push((at.saturating_add(index) % 251 & 0xff) as u8)?;
+    }
+    Ok(bytes)
+}
+
+/// The texts that give the numbers 1 to 21 a point. Together they have 525 bytes.
+fn texts(alloc: Global) -> Result<Vec<u8>, Fail> {
+    let mut text = Vec::new(alloc);
+    for id in 1..22 {
+        text.extend_from_slice(&[1, id, 0, 0, 0, 0, 0, 0, 0])?;
+        text.extend_from_slice(&[1, 112, 0, 2, 1, 1, 0, 0, 0, 0, 0, 0, 0, 0, 0, 0])?;
+    }
+    Ok(text)
+}
+
+/// A sector of bytes, from an offset on, with zeros where they end.
+fn sector(bytes: &[u8], at: usize) -> [u8; 512]
+    requires { at ≤ 1024 }
+{
+    let start = at.min(bytes.len());
+    let end = (at + 512).min(bytes.len());
+    begins(&bytes[start..end])
+}
+
+/// A disk whose root of generation 1 has a snapshot of 5 edits and 525 bytes, and an archive of 1,100.
+fn published(alloc: Global) -> Result<MemoryDisk, Fail> {
+    let text = texts(alloc)?;
+    let archive = part(alloc, 0, 1_100)?;
+    let mut disk = formatted(alloc)?;
+    let _ = disk.write(2, &root([1, 5, 0, 525, 1_100]));
+    let _ = disk.write(41, &sector(&text, 0));
+    let _ = disk.write(42, &sector(&text, 512));
+    let _ = disk.write(43, &sector(&archive, 0));
+    let _ = disk.write(44, &sector(&archive, 512));
+    let _ = disk.write(45, &sector(&archive, 1_024));
+    Ok(disk)
+}
+
+/// So many bytes of the archive of a service, from an offset on.
+fn read<D: Sectors + Drop>(
+    alloc: Global,
+    service: &mut Service<D>,
+    at: u64,
+    count: u64,
+) -> Result<Result<Vec<u8>, ServiceFault>, Fail> {
+    let len = service.archive_len();
+    if at > len || count > len - at {
+        return Err("the archive has fewer bytes".into());
+    }
+    let mut bytes = vec![in alloc; 0; count as usize]?;
+    match service.archive_read(at, &mut bytes) {
+        Ok(()) => Ok(Ok(bytes)),
+        Err(fault) => Ok(Err(fault)),
+    }
+}
+
+/// Parts of the archive: where each begins, and how many bytes it has.
+const PARTS: [(u64, u64); 14] = [
+    (0, 1_100),
+    (0, 0),
+    (0, 1),
+    (0, 512),
+    (0, 513),
+    (1, 1_023),
+    (500, 600),
+    (511, 1),
+    (511, 2),
+    (512, 512),
+    (513, 511),
+    (1_023, 2),
+    (1_099, 1),
+    (1_100, 0),
+];
+
+#[test]
+fn parts_of_an_archive(rt: HostRuntime) -> Result<(), Fail> {
+    let alloc = rt.alloc();
+    let mut service = opened(alloc, published(alloc)?)?;
+    assert_eq!(rt; service.archive_len(), 1_100);
+    for (at, count) in PARTS {
+        assert_eq!(rt;
+            read(alloc, &mut service, at, count)?,
+            Ok(part(alloc, at, count)?)
+        );
+    }
+    // Edits leave it as it is.
+    assert_eq!(rt; service.put(7, point(alloc, 467)?), Ok(6));
+    assert_eq!(rt; service.delete(8), Ok(7));
+    assert_eq!(rt; service.archive_len(), 1_100);
+    assert_eq!(rt;
+        read(alloc, &mut service, 0, 1_100)?,
+        Ok(part(alloc, 0, 1_100)?)
+    );
+    Ok(())
+}
+
+#[test]
+fn no_archive(rt: HostRuntime) -> Result<(), Fail> {
+    let alloc = rt.alloc();
+    let mut service = opened(alloc, formatted(alloc)?)?;
+    assert_eq!(rt; service.archive_len(), 0);
+    assert_eq!(rt; read(alloc, &mut service, 0, 0)?, Ok(Vec::new(alloc)));
+    Ok(())
+}
+
+/// How many calls of the disk an opening takes, and then a part of the archive.
+fn calls_of(alloc: Global, at: u64, count: u64) -> Result<(u64, u64), Fail> {
+    let none = FailingCalls::OneNotMade(0);
+    let service = opened(alloc, FaultyDisk::new(published(alloc)?, none))?;
+    let before = service.into_disk().calls();
+    let mut service = opened(alloc, FaultyDisk::new(published(alloc)?, none))?;
+    let _ = read(alloc, &mut service, at, count)?;
+    Ok((before, service.into_disk().calls().saturating_sub(before)))
+}
+
+#[test]
+fn each_sector_is_read_once(rt: HostRuntime) -> Result<(), Fail> {
+    for ((at, count), calls) in [
+        ((0, 1_100), 3),
+        ((511, 2), 2),
+        ((512, 512), 1),
+        ((1_100, 0), 0),
+    ] {
+        assert_eq!(rt; calls_of(rt.alloc(), at, count)?, (7, calls));
+    }
+    Ok(())
+}
+
+#[test]
+fn service_goes_on_after_a_failed_read(rt: HostRuntime) -> Result<(), Fail> {
+    let alloc = rt.alloc();
+    // Opening takes calls 1 to 7, and the three sectors of the archive take 8 to 10.
+    for call in 8..11 {
+        let disk = FaultyDisk::new(published(alloc)?, FailingCalls::OneNotMade(call));
+        let mut service = opened(alloc, disk)?;
+        assert_eq!(rt;
+            read(alloc, &mut service, 0, 1_100)?,
+            Err(ServiceFault::Device)
+        );
+        assert_eq!(rt; service.put(30, point(alloc, 0)?), Ok(6));
+        assert_eq!(rt;
+            read(alloc, &mut service, 0, 1_100)?,
+            Ok(part(alloc, 0, 1_100)?)
+        );
+        let again = opened(alloc, service.into_disk().into_disk().crash(&[])?)?;
+        assert!(rt; again.feature(30).is_some());
+        assert_eq!(rt; again.archive_len(), 1_100);
+    }
+    Ok(())
+}
+
+/// The metadata of a map with one point.
+const METADATA: &str = r#"{"vector_layers":[{"fields":{},"id":"p","maxzoom":2,"minzoom":0}]}"#;
+
+#[test]
+fn metadata_of_the_map(rt: HostRuntime) -> Result<(), Fail> {
+    let alloc = rt.alloc();
+    let mut service = opened(alloc, formatted(alloc)?)?;
+    let _ = service.put(7, point(alloc, 0)?);
+    let text = service.metadata()?.to_string(alloc)?;
+    assert_eq!(rt; text.as_str(), METADATA);
+    assert_eq!(rt; text.len(), 66);
+    let _ = service.delete(7);
+    assert_eq!(rt;
+        service.metadata()?.to_string(alloc)?.as_str(),
+        r#"{"vector_layers":[]}"#
+    );
+    Ok(())
+}
