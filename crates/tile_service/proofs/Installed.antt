@@ -236,8 +236,9 @@ module _ (n : ℕ) (stored : Stored) (taken : ℕ) (archive : List ℕ) (within 
       → service.features ≡ map_of stored → service.journal.place ≡ (published n stored taken archive).journal_at
       → service.journal.edits ≡ stored.edits + taken
       → service.journal.used + places_of (take taken (texts_of stored)) ≡ places_of (texts_of stored)
-      → service.journal.last ≡ last_of stored → IsUp count h (published n stored taken archive) service
-  up_published count h service size keeps unbroken generation features place edits used last = record {
+      → service.journal.last ≡ last_of stored → service.snapshot_len ≡ length (snapshot (map_at stored taken))
+      → service.archive_len ≡ length archive → IsUp count h (published n stored taken archive) service
+  up_published count h service size keeps unbroken generation features place edits used last snapshot_ archive_ = record {
     keeps = subst (λ (k : ℕ). Keeps count k (published n stored taken archive) h) (sym size) keeps;
     unbroken = unbroken;
     generation_is = generation;
@@ -246,6 +247,8 @@ module _ (n : ℕ) (stored : Stored) (taken : ℕ) (archive : List ℕ) (within 
     edits_are = edits;
     used_is = left ∙ ap places_of (drop-map spelled taken stored.since);
     last_is = last ∙ sym same_last;
+    snapshot_len_is = snapshot_;
+    archive_len_is = archive_;
   }
     where
       left : service.journal.used ≡ places_of (drop taken (texts_of stored))
