@@ -1,5 +1,6 @@
 -- What a grid remembers of marks.
-use Rattle.std.proofs.Common.{◌≡◌, ℕ, zero, suc, replicate, slice_index, ◌+◌, ◌-◌, ◌*◌, ◌^◌, ◌≤◌, ◌⊎◌, List, [], ◌∷◌, map, max, refl, sym, subst, inl, inr, arith}
+use Rattle.std.proofs.Common.{◌≡◌, ℕ, zero, suc, replicate, slice_index, ◌+◌, ◌-◌, ◌*◌, ◌^◌, ◌≤◌, ◌⊎◌, List, [], ◌∷◌}
+use Rattle.std.proofs.Common.{map, max, refl, sym, subst, inl, inr, arith}
 use Rattle.std.specs.Prelude.{All}
 use Rattle.std.proofs.Math.ListN.{get_or}
 use Rattle.std.proofs.Math.Nat.{one-le-pow, mul-le-mul_right}
@@ -18,7 +19,10 @@ either f g (inr q) = g q
 -- ---- a mark more
 
 pub remembers_none : (cells : List ℕ) → ((at : ℕ) → get_or cells at 0 ≡ 0) → Remembers cells []
-remembers_none cells zeros = record { reached = λ column row. All-nil (λ (m : Mark). Touches m.0 column row → m.1 ≤ cell_at cells column row); only = λ at. inl (zeros at) }
+remembers_none cells none = record {
+  reached = λ column row. All-nil (λ (m : Mark). Touches m.0 column row → m.1 ≤ cell_at cells column row);
+  only = λ at. inl (none at);
+}
 
 pub zeros : (n at : ℕ) → slice_index (replicate n 0) at ≡ 0
 zeros zero at = refl
@@ -38,7 +42,8 @@ remembers_more old new m marks r here before = record {
   reached = λ column row. All-cons (λ (k : Mark). Touches k.0 column row → k.1 ≤ cell_at new column row) m marks (here column row)
       (All-weaker (λ (k : Mark). Touches k.0 column row → k.1 ≤ cell_at old column row) (λ (k : Mark). Touches k.0 column row → k.1 ≤ cell_at new column row)
       (λ k below touches. omega (arith, below touches, r.rises (32 * row + column))) marks (before.reached column row));
-  only = λ at. either (λ (same : get_or new at 0 ≡ get_or old at 0). subst (IsZeroOrMarked (m ∷ marks)) (sym same) (marked_more m marks (get_or old at 0) (before.only at)))
+  only = λ at. either (λ (same : get_or new at 0 ≡ get_or old at 0). subst (IsZeroOrMarked (m ∷ marks)) (sym same)
+      (marked_more m marks (get_or old at 0) (before.only at)))
       (λ (is : get_or new at 0 ≡ m.1). subst (IsZeroOrMarked (m ∷ marks)) (sym is) (marked_here m marks)) (r.only at);
 }
 
@@ -69,8 +74,10 @@ common_cell : (b : WorldBox) (zoom column row : ℕ) (whole : Corners) → HasWh
     → (across : ℕ) × (down : ℕ) × Touches b across down × HasCell (cells_of whole) across down
 unfolding tile_box
 common_cell b zoom column row whole has reaches =
-    let x = common b.x0 b.x1 (first_shown zoom column) (last_shown zoom column) reaches.ordered.across (shown_rises zoom column) reaches.meets.left reaches.meets.right in
-    let y = common b.y0 b.y1 (first_shown zoom row) (last_shown zoom row) reaches.ordered.down (shown_rises zoom row) reaches.meets.top reaches.meets.bottom in (
+    let x = common b.x0 b.x1 (first_shown zoom column) (last_shown zoom column) reaches.ordered.across
+    (shown_rises zoom column) reaches.meets.left reaches.meets.right in
+    let y = common b.y0 b.y1 (first_shown zoom row) (last_shown zoom row) reaches.ordered.down
+    (shown_rises zoom row) reaches.meets.top reaches.meets.bottom in (
       x.0,
       y.0,
       record { ordered = reaches.ordered; cell = record { left = x.1; right = x.2; top = y.1; bottom = y.2 } },
@@ -89,7 +96,8 @@ pub newest_of : (cells : List ℕ) (marks : List Mark) (zoom column row n : ℕ)
     → IsNewest marks zoom column row n
 newest_of cells marks zoom column row n whole has greatest found remembers = record {
   reached = each marks (λ across down. remembers.reached across down);
-  only = either (λ (zero_is : n ≡ 0). inl zero_is) (λ (one : (at : ℕ) × (n ≡ get_or cells at 0)). subst (IsZeroOrMarked marks) (sym one.1) (remembers.only one.0)) found;
+  only = either (λ (zero_is : n ≡ 0). inl zero_is) (λ (one : (at : ℕ) × (n ≡ get_or cells at 0)). subst (IsZeroOrMarked marks) (sym one.1)
+      (remembers.only one.0)) found;
 }
   where
     each : (ms : List Mark) → ((across down : ℕ) → All (λ (m : Mark). Touches m.0 across down → m.1 ≤ cell_at cells across down) ms)
@@ -97,5 +105,6 @@ newest_of cells marks zoom column row n whole has greatest found remembers = rec
     each [] all = All-nil (λ (m : Mark). Reaches m.0 zoom column row → m.1 ≤ n)
     each (m ∷ ms) all = All-cons (λ (k : Mark). Reaches k.0 zoom column row → k.1 ≤ n) m ms
         (λ reaches. let cell = common_cell m.0 zoom column row whole has reaches in
-        omega (arith, All-head (λ (k : Mark). Touches k.0 cell.0 cell.1 → k.1 ≤ cell_at cells cell.0 cell.1) m ms (all cell.0 cell.1) cell.2, greatest cell.0 cell.1 cell.3))
+        let below = All-head (λ (k : Mark). Touches k.0 cell.0 cell.1 → k.1 ≤ cell_at cells cell.0 cell.1) m ms (all cell.0 cell.1) in
+        omega (arith, below cell.2, greatest cell.0 cell.1 cell.3))
         (each ms (λ across down. All-tail (λ (k : Mark). Touches k.0 across down → k.1 ≤ cell_at cells across down) m ms (all across down)))

@@ -34,7 +34,7 @@ module _ (number : ℕ) where
         (omega (arith, get_or-set_same xs at (max (get_or xs at 0) number) 0 lt)))
         (λ (apart : other ≡ at → ⊥). omega (arith, get_or-set_other xs at other (max (get_or xs at 0) number) 0 apart)) (cases_eq other at);
     only = λ other. either (λ (same : other ≡ at).
-        subst (λ k. (get_or (set xs at (max (get_or xs at 0) number)) k 0 ≡ get_or xs k 0) ⊎ (get_or (set xs at (max (get_or xs at 0) number)) k 0 ≡ number)) (sym same)
+        subst (λ k. let new = get_or (set xs at (max (get_or xs at 0) number)) k 0 in (new ≡ get_or xs k 0) ⊎ (new ≡ number)) (sym same)
         (rw (get_or-set_same xs at (max (get_or xs at 0) number) 0 lt) (max_is (get_or xs at 0) number)))
         (λ (apart : other ≡ at → ⊥). inl (get_or-set_other xs at other (max (get_or xs at 0) number) 0 apart)) (cases_eq other at);
   }

@@ -1,5 +1,6 @@
 -- What is kept at a place, where the order changes or one goes.
-use Rattle.std.proofs.Common.{◌≡◌, ℕ, zero, suc, ◌+◌, ◌-◌, ◌<◌, ◌≤◌, Bool, true, false, cond, ◌&&◌, ◌⊎◌, List, [], ◌∷◌, length, take, Option, Some, None, refl, sym, ap, subst, ◌∙◌, inl, inr, arith}
+use Rattle.std.proofs.Common.{◌≡◌, ℕ, zero, suc, ◌+◌, ◌-◌, ◌<◌, ◌≤◌, Bool, true, false, cond, ◌&&◌, ◌⊎◌, List, [], ◌∷◌, length, take, Option}
+use Rattle.std.proofs.Common.{Some, None, refl, sym, ap, subst, ◌∙◌, inl, inr, arith}
 use Rattle.std.proofs.lemmas.List.{length-take, take_all}
 use Rattle.std.specs.Map.{lookup, lookup_entry, remove_entry}
 use Rattle.std.specs.Option.{option_map_or}
@@ -153,7 +154,8 @@ module _ (c : TileCache) (at : Place) (tiles : LruCache Place KeptTile) where
 
     pub others_put : KeepsFewer at.z at.x at.y c (record { tiles = tiles })
     others_put z x y other = rw is (go
-        (put_apart (is_place at) (is_place q) c.tiles.entries (c.tiles.cap - 1) at v (lookup_entry (is_place at) c.tiles.entries) (apart at q other) (place_here at) refl))
+        (put_apart (is_place at) (is_place q) c.tiles.entries (c.tiles.cap - 1) at v (lookup_entry (is_place at) c.tiles.entries)
+        (apart at q other) (place_here at) refl))
       where
         q : Place
         q = record { z = z; x = x; y = y }
@@ -167,8 +169,8 @@ module _ (c : TileCache) (at : Place) (tiles : LruCache Place KeptTile) where
 
     pub others_with_room : count_kept c < most_kept c → KeepsOthers at.z at.x at.y c (record { tiles = tiles })
     others_with_room room z x y other = rw is (ap (option_map tile_of)
-        (put_with_room (is_place at) (is_place (record { z = z; x = x; y = y })) c.tiles.entries (c.tiles.cap - 1) at v (lookup_entry (is_place at) c.tiles.entries)
-        (apart at (record { z = z; x = x; y = y }) other) (place_here at) (omega (arith, room)) refl))
+        (put_with_room (is_place at) (is_place (record { z = z; x = x; y = y })) c.tiles.entries (c.tiles.cap - 1) at v
+        (lookup_entry (is_place at) c.tiles.entries) (apart at (record { z = z; x = x; y = y }) other) (place_here at) (omega (arith, room)) refl))
 
     pub count_put : count_kept (record { tiles = tiles }) ≤ count_kept c + 1
     count_put = rw is (length_put (is_place at) c.tiles.entries (c.tiles.cap - 1) at v (lookup_entry (is_place at) c.tiles.entries) refl)

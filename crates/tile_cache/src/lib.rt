@@ -5,7 +5,10 @@
 mod kept_tiles;
 mod touch_grid;
 
-pub use kept_tiles::{KeptTile, MOST_TILES_KEPT, Place, TileCache};
+pub use kept_tiles::{MOST_TILES_KEPT, TileCache};
+// A contract names the fields of a cache only where their types are exported.
+#[doc(hidden)]
+pub use kept_tiles::{KeptTile, Place};
 pub use touch_grid::TouchGrid;
 
 #[cfg(test)]

@@ -12,20 +12,26 @@ use tile_cutter::{Corners, tile_box};
 /// How many cells the world has in a row, and how many rows of them.
 const SIDE: usize = 32;
 
+/// How many cells there are.
+const CELLS: usize = SIDE * SIDE;
+
 /// The newest edit of each of 32 by 32 cells of the world.
+///
+/// A contract says of it which lists of marked edits it remembers.
 #[derive(Debug, Drop)]
 pub struct TouchGrid {
-    cells: [u64; 1_024],
+    cells: [u64; CELLS],
 }
 
 impl Model for TouchGrid {
     ghost use Rattle.std.specs.Prelude.{◌≡◌, ℕ, List, length};
+    ghost use Rattle.tile_cache.specs.declared.touch_grid.TheConstants.{CELLS};
 
     ghost Value = { List ℕ };
 
     ghost view = { λ g. g.cells };
 
-    ghost invariant = { λ g. length g.cells ≡ 1024 };
+    ghost invariant = { λ g. length g.cells ≡ CELLS };
 }
 
 /// Cells of the grid, ends included.
@@ -71,7 +77,7 @@ fn raise(cells: &mut [u64], first: usize, end: usize, number: u64)
 
 /// Raises the numbers of cells to this one.
 fn raise_cells(cells: &mut [u64], range: Cells, number: u64)
-    requires all { length cells.old ≡ 1024 }
+    requires all { length cells.old ≡ CELLS }
     requires within { IsWithin range }
     ensures rises { RisesTo number cells.old cells.new }
     ensures raised { (column row : ℕ) → HasCell range column row → number ≤ cell_at cells.new column row }
@@ -102,7 +108,7 @@ fn greatest(cells: &[u64], first: usize, end: usize) -> u64
 
 /// The greatest of the numbers of cells, or 0.
 fn greatest_of(cells: &[u64], range: Cells) -> u64
-    requires all { length cells.now ≡ 1024 }
+    requires all { length cells.now ≡ CELLS }
     requires within { IsWithin range }
     ensures reached { (column row : ℕ) → HasCell range column row → cell_at cells.now column row ≤ result }
     ensures found { IsZeroOrCell cells.now result }
@@ -135,7 +141,7 @@ impl TouchGrid {
     pub fn new() -> TouchGrid
         ensures { Remembers result [] }
     {
-        TouchGrid { cells: [0; 1_024] }
+        TouchGrid { cells: [0; CELLS] }
     }
 
     /// Notes that an edit of this number touched a box. Numbers only rise: the greatest stays.

@@ -8,7 +8,8 @@ returns-in-Ok-clause-kept c =
 
 pub returns-in-Ok-clause-others : goal.returns-in-Ok-clause-others
 returns-in-Ok-clause-others c =
-    let others = others_put c.args.self.now c.place_of.result c.put.new.self (record { number = c.args.number; bytes = c.args.bytes }) c.in-Ok.ensures.entries in
+    let others = others_put c.args.self.now c.place_of.result c.put.new.self
+    (record { number = c.args.number; bytes = c.args.bytes }) c.in-Ok.ensures.entries in
     rw c.place_of.ensures at others
 
 pub returns-in-Ok-clause-room : goal.returns-in-Ok-clause-room
