@@ -146,6 +146,20 @@ def refuses(cases, folder, disk):
     cases.show("pipe where no request comes", vtserve(["pipe", disk]), (0, b"", b""))
 
 
+def closed_streams(cases, folder):
+    """Standard streams that are closed: a disk's file doesn't get their numbers."""
+    path = os.path.join(folder, "closed")
+    for number, name, wanted in [(0, "input", (0, b"", b"")), (1, "output", (0, b"", b"")), (2, "error", (0, EMPTY, b""))]:
+        vtserve(["format", path, "--sectors", "64"])
+        before = content(path)
+        cases.show(f"pipe where standard {name} is closed", vtserve(["pipe", path], GET, preexec_fn=lambda: os.close(number)), wanted)
+        cases.show("the disk is left as it is", content(path) == before, True)
+        os.remove(path)
+    made = vtserve(["format", path, "--sectors", "64"], preexec_fn=lambda: os.close(1))
+    cases.show("format where standard output is closed", made, refusal(b"Write"))
+    cases.show("the disk is made", vtserve(["pipe", path], GET), (0, EMPTY, b""))
+
+
 def runs_out(cases, folder):
     """Files that the system keeps from growing: what can't be made is taken away, and can be tried again."""
     path = os.path.join(folder, "short")
@@ -216,6 +230,7 @@ def main():
         disk = formats(cases, folder)
         keeps(cases, folder, disk)
         refuses(cases, folder, disk)
+        closed_streams(cases, folder)
         runs_out(cases, folder)
         fails(cases, folder)
         words(cases, folder, disk)
