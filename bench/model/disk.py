@@ -357,20 +357,18 @@ def map_of(disk):
 # ---- writing
 
 
-def put_at(disk, sector, text):
-    disk[SECTOR * sector : SECTOR * sector + len(text)] = text
+def put_at(disk, sector, held):
+    disk[SECTOR * sector : SECTOR * sector + len(held)] = held
 
 
-def records(layout, edits, journal_at, before, padding):
-    """The sectors of the records of edits, each with its place in the disk."""
-    used = 0
-    for number, made in enumerate(edits, before + 1):
-        text = text_of(made)
+def put_records(disk, layout, place, number, texts, padding=bytes):
+    """Puts the records of texts into the ring, from a place and a number on."""
+    for text in texts:
         for part in range(parts_of(len(text))):
             piece = text[TEXT_OF_PART * part : TEXT_OF_PART * (part + 1)]
-            yield layout.place(journal_at + used), front(part, number, len(text)) + piece + padding(TEXT_OF_PART - len(piece))
-            used += 1
-    assert used <= layout.places, f"{used} of {layout.places} places"
+            put_at(disk, layout.place(place + part), front(part, number, len(text)) + piece + padding(TEXT_OF_PART - len(piece)))
+        place += parts_of(len(text))
+        number += 1
 
 
 def snapshot_text(found):
@@ -380,21 +378,27 @@ def snapshot_text(found):
 def write_disk(sectors, generation, snapshot_map, edits, archive, journal_at, before=0, padding=bytes, older=None):
     """A disk whose root has this generation, the snapshot of a map and an archive, and whose journal has edits from a place on.
 
-    `before` edits came before these. What the format leaves free is filled by `padding`, which gives so many bytes; the places of
-    the journal that no record has must then hold no head of a number behind the last one. `older` is the root in the other sector.
+    `before` edits came before these. What the format leaves free is filled by `padding`, which gives so many bytes. `older` is the
+    root in the other sector, if there is one.
     """
-    layout = Layout(sectors)
-    snapshot = snapshot_text(snapshot_map)
+    layout, snapshot = Layout(sectors), snapshot_text(snapshot_map)
     root = Root(generation, before, journal_at, len(snapshot), len(archive))
-    assert layout.can_stand(root), root
     disk = bytearray(padding(SECTOR * sectors))
     put_at(disk, 0, format_sector(sectors))
     put_at(disk, 1 + generation % 2, root_sector(root))
     put_at(disk, 2 - generation % 2, root_sector(older) if older else bytes(SECTOR))
     put_at(disk, layout.area_at(generation), snapshot)
     put_at(disk, layout.area_at(generation) + whole_sectors(len(snapshot)), archive)
-    for place, sector in records(layout, edits, journal_at, before, padding):
-        put_at(disk, place, sector)
+    put_records(disk, layout, journal_at, before + 1, [text_of(made) for made in edits], padding)
+    return bytes(disk)
+
+
+def with_edits(held, edits):
+    """The bytes of a disk behind more edits, each a record with zeros behind its text."""
+    found = read_disk(held)
+    disk = bytearray(held)
+    place, number = found.root.journal_at + found.used, found.root.edits + len(found.edits) + 1
+    put_records(disk, found.layout, place, number, [text_of(made) for made in edits])
     return bytes(disk)
 
 
