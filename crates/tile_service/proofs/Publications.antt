@@ -15,7 +15,7 @@ use Rattle.edit_journal.specs.Appends.{ReadsAsBefore}
 use Rattle.feature_model.specs.Data.{EditData}
 use Rattle.feature_store.specs.Store.{FeatureMap, after, changed, snapshot}
 use Rattle.tile_service.specs.Publishing.{map_at, published, CanPublish, IsContentSector, HasFirst, HasArea, IsUnderWay}
-use Rattle.tile_service.specs.Runs.{Fits}
+use Rattle.tile_service.specs.Runs.{fitting, Fits}
 use Rattle.tile_service.specs.Stored.{Stored, Holds, first_state, root_of, with_edit, journal_ring}
 use Rattle.tile_service.proofs.Contents.{none_written, write_stands, content_stands, append_keeps_area}
 use Rattle.tile_service.proofs.Fresh.{fresh_holds, no_text}
@@ -56,17 +56,6 @@ module _ (n : ℕ) (stored : Stored) (taken : ℕ) (archive : List ℕ) where
       (subst (λ (k : ℕ). HasFirst n (suc stored.generation) (snapshot (map_at stored taken)) archive k (seen history)) is was.first)
 
 -- ---- publications in a run of edits
-
--- The state has the first i of the edits since a start, the first j of them in its snapshot.
-abbrev pub fitting : Stored → List EditData → (i j generation journal_at : ℕ) → (archive : List ℕ) → Stored
-fitting start edits i j generation journal_at archive = record {
-  generation = generation;
-  snapshot_map = after start.snapshot_map (take j edits);
-  edits = start.edits + j;
-  since = drop j (take i edits);
-  journal_at = journal_at;
-  archive = archive;
-}
 
 none_taken : (taken : ℕ) → ◌≡◌ {A = List EditData} (take taken []) []
 none_taken zero = refl

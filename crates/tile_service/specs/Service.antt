@@ -1,21 +1,43 @@
 -- A service without where it lies in memory, and the disk that it stands on.
-use Rattle.std.specs.Prelude.{◌≡◌, ◌≢◌, ◌⊎◌, ◌≤◌, ◌+◌, ◌-◌, ◌*◌, ℕ, Bool, false, length, None, Option, option_map, Result, Ok, Err, Vec}
+use Rattle.std.specs.Prelude.{◌≡◌, ◌≢◌, ◌⊎◌, ◌<◌, ◌≤◌, ◌+◌, ◌-◌, ◌*◌, ◌^◌, ℕ, zero, suc, Bool, false, length, take}
+use Rattle.std.specs.Prelude.{Option, Some, None, IfSome, option_map, Result, Ok, Err, Vec}
 use Rattle.std.proofs.Common.{Global}
 use Rattle.sector_disk.specs.Disk.{History, Image, HasFailed}
 use Rattle.sector_disk.specs.declared.disk.TheConstants.{SECTOR_BYTES}
 use Rattle.generations.specs.Areas.{area_sectors, sectors_of}
 use Rattle.generations.specs.declared.root.Root.{Root}
 use Rattle.edit_journal.specs.Appends.{ring_of}
+use Rattle.edit_journal.specs.Releases.{IsCounted, IsBehind}
 use Rattle.edit_journal.specs.Ring.{places_of}
 use Rattle.edit_journal.specs.declared.fault.JournalFault.{JournalFault}
 use Rattle.edit_journal.specs.declared.fault.JournalFault.TheVariants as journals
 use Rattle.edit_journal.specs.declared.journal.Journal.{Journal}
+use Rattle.edit_journal.specs.declared.journal.Start.{Start}
 use Rattle.edit_journal.specs.declared.sizes.TheConstants.{PART_BYTES}
+use Rattle.area_content.specs.Content.{ContentView, sectors_taken}
+use Rattle.feature_model.specs.Data.{EditData}
 use Rattle.feature_store.specs.Store.{FeatureMap, snapshot}
 use Rattle.tile_service.specs.declared.fault.ServiceFault.{ServiceFault}
 use Rattle.tile_service.specs.declared.fault.ServiceFault.TheVariants.{NumbersSpent, Memory, JournalFull, Device}
-use Rattle.tile_service.specs.Machine.{ArchiveState, ServiceState, EventData, edit, tile, look, AnswerData, edited, shown, found, refused}
+use Rattle.tile_service.specs.declared.publishing.TheConstants.{STEP_SECTORS}
+use Rattle.tile_service.specs.Machine.{ArchiveState, Publication, ServiceState, EventData, edit, tile, look, begin, step, cancel}
+use Rattle.tile_service.specs.Machine.{AnswerData, edited, shown, found, left, cancelled, refused}
+use Rattle.tile_service.specs.Publishing.{map_at, published, IsUnderWay}
 use Rattle.tile_service.specs.Stored.{Stored, Holds, Keeps, map_of, last_of, texts_of, with_edit, journal_ring}
+
+-- what contracts see of a publication under way
+pub record PublicationView : Type 0 where
+  -- the snapshot and the archive of the map of its beginning
+  pub content : ContentView
+  -- where the journal went on at its beginning, and how many places the records in use had then
+  pub start : Start
+  pub places : ℕ
+  -- how many sectors of the content are written
+  pub written : ℕ
+
+-- what is left of it: the sectors that aren't written, and the root's
+abbrev pub left_of : PublicationView → ℕ
+left_of p = sectors_taken p.content + 1 - p.written
 
 -- what contracts see of a service
 pub record ServiceView (D : Type 0) : Type 0 where
@@ -29,30 +51,94 @@ pub record ServiceView (D : Type 0) : Type 0 where
   -- how many bytes the snapshot of that generation has, and the archive behind it
   pub snapshot_len : ℕ
   pub archive_len : ℕ
+  pub publication : Option PublicationView
   pub broken : Bool
 
+-- what always holds of a publication under way
+pub record IsGoing (size : ℕ) (root : Root) (journal : Journal) (features : FeatureMap) (p : PublicationView) : Type 0 where
+  -- the records that were in use at its beginning are the first of those in use
+  pub behind : IsBehind journal p.start p.places
+  -- an area holds it
+  pub area : sectors_taken p.content ≤ area_sectors size
+  pub written : p.written ≤ sectors_taken p.content
+  pub generation : root.generation < 2 ^ 64 - 1
+  -- the texts of the features came from an area and from the records behind
+  pub texts : length (snapshot features) ≤ SECTOR_BYTES * area_sectors size + PART_BYTES * (journal.used - p.places)
+
 -- what always holds of one whose disk has so many sectors
-pub record IsService (sectors size : ℕ) (root : Root) (journal : Journal) (features : FeatureMap) : Type 0 where
+pub record IsService (sectors size : ℕ) (root : Root) (journal : Journal) (features : FeatureMap) (publication : Option PublicationView) : Type 0 where
   pub within : size ≤ sectors
   pub ring : ring_of journal ≡ journal_ring size
   -- an area holds the snapshot and the archive
   pub area : sectors_of root.snapshot_len + sectors_of root.archive_len ≤ area_sectors size
   -- the texts of the features are short together: they came from an area and from the journal
   pub texts : length (snapshot features) ≤ SECTOR_BYTES * area_sectors size + PART_BYTES * journal.used
+  -- the records in use have the places in use
+  pub counted : IsCounted journal
+  pub going : IfSome publication (IsGoing size root journal features)
 
--- its state; no publication is under way, and the archive lies on the disk
-abbrev pub state_of : {D : Type 0} → ArchiveState → ServiceView D → ServiceState
-state_of archive service = record {
+-- ---- the state
+
+-- what the service doesn't have in memory: the archive, and the map of which a publication under way is
+pub record Known : Type 0 where
+  pub archive : ArchiveState
+  pub publishing : FeatureMap
+
+-- a publication of this map
+abbrev pub going_of : FeatureMap → PublicationView → Publication
+going_of m p = record { archive = record { bytes = p.content.archive; features = m }; last = p.start.edits; places = p.places; left = left_of p }
+
+-- its state
+abbrev pub state_of : {D : Type 0} → Known → ServiceView D → ServiceState
+state_of known service = record {
+  size = service.size;
   features = service.features;
   last = service.journal.last;
   free = service.journal.places - service.journal.used;
   generation = service.generation;
-  archive = archive;
-  publication = None;
+  archive = known.archive;
+  publication = option_map (going_of known.publishing) service.publication;
   broken = service.broken;
 }
 
+-- what is known once the publication is installed
+abbrev pub known_installed : Known → Option PublicationView → Known
+known_installed known None = known
+known_installed known (Some p) = record known { archive = record { bytes = p.content.archive; features = known.publishing } }
+
+-- what is known after an event with this answer
+abbrev pub known_after : {D : Type 0} → Known → ServiceView D → EventData → AnswerData → Known
+known_after known service (edit e) answer = known
+known_after known service (tile z x y) answer = known
+known_after known service (look id) answer = known
+known_after known service begin (edited number) = known
+known_after known service begin (shown content) = known
+known_after known service begin (found f) = known
+known_after known service begin (left told) = record known { publishing = service.features }
+known_after known service begin cancelled = known
+known_after known service begin (refused fault) = known
+known_after known service step (edited number) = known
+known_after known service step (shown content) = known
+known_after known service step (found f) = known
+known_after known service step (left zero) = known_installed known service.publication
+known_after known service step (left (suc told)) = known
+known_after known service step cancelled = known
+known_after known service step (refused fault) = known
+known_after known service cancel answer = known
+
 -- ---- the service and its disk
+
+-- how many of the edits since the snapshot came before the publication's beginning
+abbrev pub count_at : Stored → PublicationView → ℕ
+count_at stored p = p.start.edits - stored.edits
+
+-- The publication is one of the map after some of the edits since, and what it has written so far is read again.
+pub record Publishes (n : ℕ) (stored : Stored) (history : History) (p : PublicationView) : Type 0 where
+  pub later : stored.edits ≤ p.start.edits
+  pub under_way : IsUnderWay n stored (count_at stored p) p.content.archive p.written history
+  pub snapshot_is : p.content.snapshot ≡ snapshot (map_at stored (count_at stored p))
+  pub place_is : p.start.place ≡ (published n stored (count_at stored p) p.content.archive).journal_at
+  pub places_are : p.places ≡ places_of (take (count_at stored p) (texts_of stored))
 
 -- The service goes on from what is stored: every image that a crash now may leave of its disk holds that, and it has the map, the
 -- numbers and the places that go with it. The disk has so many sectors and this history.
@@ -67,6 +153,7 @@ pub record IsUp {D : Type 0} (sectors : ℕ) (history : History) (stored : Store
   pub edits_are : service.journal.edits ≡ stored.edits
   pub used_is : service.journal.used ≡ places_of (texts_of stored)
   pub last_is : service.journal.last ≡ last_of stored
+  pub publication : IfSome service.publication (Publishes service.size stored history)
 
 -- ---- events and answers
 
@@ -74,6 +161,16 @@ pub record IsUp {D : Type 0} (sectors : ℕ) (history : History) (stored : Store
 abbrev pub edit_answer : Result ℕ ServiceFault → AnswerData
 edit_answer (Ok number) = edited number
 edit_answer (Err fault) = refused fault
+
+-- what the beginning and the steps of a publication answer
+abbrev pub left_answer : Result ℕ ServiceFault → AnswerData
+left_answer (Ok told) = left told
+left_answer (Err fault) = refused fault
+
+-- what the end of a publication that is given up answers
+abbrev pub cancel_answer : Result (Unit {0}) ServiceFault → AnswerData
+cancel_answer (Ok done) = cancelled
+cancel_answer (Err fault) = refused fault
 
 -- what a tile answers
 abbrev pub tile_answer : Result (Option (Vec ℕ Global)) ServiceFault → AnswerData
@@ -85,22 +182,63 @@ abbrev pub MayStand : AnswerData → Type 0
 MayStand (edited number) = Unit {0}
 MayStand (shown content) = ⊥
 MayStand (found f) = ⊥
+MayStand (left told) = ⊥
+MayStand cancelled = ⊥
 MayStand (refused fault) = fault ≡ Device
 
--- An image that a crash during an event leaves holds what was stored, or the same with the edit that is made or in doubt.
-abbrev pub EventLeaves : (sectors n : ℕ) → Stored → EventData → AnswerData → Image → Type 0
-EventLeaves sectors n stored (edit e) answer image = Holds sectors n stored image ⊎ (MayStand answer × Holds sectors n (with_edit stored e) image)
-EventLeaves sectors n stored (tile z x y) answer image = Holds sectors n stored image
-EventLeaves sectors n stored (look id) answer image = Holds sectors n stored image
+-- what is stored once the publication is installed
+abbrev pub installed : (n : ℕ) → Stored → Option PublicationView → Stored
+installed n stored None = stored
+installed n stored (Some p) = published n stored (count_at stored p) p.content.archive
+
+-- no more than a step's sectors are left to write
+abbrev pub IsLast : Option PublicationView → Type 0
+IsLast None = ⊥
+IsLast (Some p) = left_of p ≤ STEP_SECTORS + 1
+
+-- a step with this answer has installed the publication, or may have done so
+abbrev pub MayInstall : Option PublicationView → AnswerData → Type 0
+MayInstall publication answer = IsLast publication × ((answer ≡ left 0) ⊎ (answer ≡ refused Device))
+
+-- An image that a crash during an event leaves holds what was stored; or the same with the edit that is made or in doubt; or what the
+-- step installs.
+abbrev pub EventLeaves : (sectors n : ℕ) → Stored → Option PublicationView → EventData → AnswerData → Image → Type 0
+EventLeaves sectors n stored publication (edit e) answer image =
+    Holds sectors n stored image ⊎ (MayStand answer × Holds sectors n (with_edit stored e) image)
+EventLeaves sectors n stored publication (tile z x y) answer image = Holds sectors n stored image
+EventLeaves sectors n stored publication (look id) answer image = Holds sectors n stored image
+EventLeaves sectors n stored publication begin answer image = Holds sectors n stored image
+EventLeaves sectors n stored publication step answer image =
+    Holds sectors n stored image ⊎ (MayInstall publication answer × Holds sectors n (installed n stored publication) image)
+EventLeaves sectors n stored publication cancel answer image = Holds sectors n stored image
+
+-- what is stored after an edit
+abbrev pub edited_by : Stored → EditData → AnswerData → Stored
+edited_by stored e (edited number) = with_edit stored e
+edited_by stored e (shown content) = stored
+edited_by stored e (found f) = stored
+edited_by stored e (left told) = stored
+edited_by stored e cancelled = stored
+edited_by stored e (refused fault) = stored
+
+-- what is stored after a step
+abbrev pub stepped_by : (n : ℕ) → Stored → Option PublicationView → AnswerData → Stored
+stepped_by n stored publication (edited number) = stored
+stepped_by n stored publication (shown content) = stored
+stepped_by n stored publication (found f) = stored
+stepped_by n stored publication (left zero) = installed n stored publication
+stepped_by n stored publication (left (suc told)) = stored
+stepped_by n stored publication cancelled = stored
+stepped_by n stored publication (refused fault) = stored
 
 -- what is stored after an event
-abbrev pub stored_after : Stored → EventData → AnswerData → Stored
-stored_after stored (edit e) (edited number) = with_edit stored e
-stored_after stored (edit e) (shown content) = stored
-stored_after stored (edit e) (found f) = stored
-stored_after stored (edit e) (refused fault) = stored
-stored_after stored (tile z x y) answer = stored
-stored_after stored (look id) answer = stored
+abbrev pub stored_after : (n : ℕ) → Stored → Option PublicationView → EventData → AnswerData → Stored
+stored_after n stored publication (edit e) answer = edited_by stored e answer
+stored_after n stored publication (tile z x y) answer = stored
+stored_after n stored publication (look id) answer = stored
+stored_after n stored publication begin answer = stored
+stored_after n stored publication step answer = stepped_by n stored publication answer
+stored_after n stored publication cancel answer = stored
 
 -- what the fault of an append to the journal is told as
 abbrev pub told_as : JournalFault → ServiceFault

@@ -6,8 +6,8 @@ ghost use Rattle.feature_model.specs.Data.{feature_data, put, delete};
 ghost use Rattle.feature_model.specs.Limits.{NumberFits};
 ghost use Rattle.feature_store.specs.Store.{feature_at};
 ghost use Rattle.tile_service.specs.Limits.{KeepsLimits, BreaksLimit};
-ghost use Rattle.tile_service.specs.Machine.{ArchiveState, edit, places_for, Steps};
-ghost use Rattle.tile_service.specs.Service.{IsUp, state_of, edit_answer, EventLeaves, CountsDevice, told_as};
+ghost use Rattle.tile_service.specs.Machine.{edit, places_for, Steps};
+ghost use Rattle.tile_service.specs.Service.{Known, IsUp, state_of, edit_answer, EventLeaves, CountsDevice, told_as};
 ghost use Rattle.tile_service.specs.Stored.{Stored, with_edit};
 ghost use Rattle.tile_service.specs.declared.fault.ServiceFault.TheVariants.{Limit, Device};
 
@@ -68,11 +68,12 @@ impl<D: Sectors + Drop> Service<D> {
     ///
     /// `Broken`, `Limit`, `NumbersSpent`, `Memory`, `JournalFull`, `Device`, the first that there is in this order.
     pub fn put(&mut self, id: u64, feature: Feature) -> Result<u64, ServiceFault>
-        ensures machine { (archive : ArchiveState)
-            → Steps (state_of archive self.old) (edit (put id (feature_data feature))) (edit_answer result) (state_of archive self.new) }
+        ensures machine { (known : Known)
+            → Steps (state_of known self.old) (edit (put id (feature_data feature))) (edit_answer result) (state_of known self.new) }
         ensures size { self.new.size ≡ self.old.size }
         ensures snapshot_len { self.new.snapshot_len ≡ self.old.snapshot_len }
         ensures archive_len { self.new.archive_len ≡ self.old.archive_len }
+        ensures publication { OnOk result (self.new.publication ≡ self.old.publication) }
         ensures count { D.sectors self.new.disk ≡ D.sectors self.old.disk }
         ensures honest { D.honest self.new.disk → D.honest self.old.disk }
         ensures faults { OnOk result (D.faults self.new.disk ≡ D.faults self.old.disk) }
@@ -82,7 +83,7 @@ impl<D: Sectors + Drop> Service<D> {
         // A crash at any moment of the call leaves what was stored, or the same with the edit.
         ensures any_moment { (stored : Stored) → D.honest self.new.disk → IsUp (D.sectors self.old.disk) (D.history self.old.disk) stored self.old
             → LeavesOnly (D.history self.old.disk) (D.history self.new.disk)
-            (EventLeaves (D.sectors self.old.disk) self.old.size stored (edit (put id (feature_data feature))) (edit_answer result)) }
+            (EventLeaves (D.sectors self.old.disk) self.old.size stored self.old.publication (edit (put id (feature_data feature))) (edit_answer result)) }
         // And after it: the same with the edit where it was acknowledged, and what was stored where it was refused.
         ensures acknowledged { (stored : Stored) → D.honest self.new.disk → IsUp (D.sectors self.old.disk) (D.history self.old.disk) stored self.old
             → OnOk result (IsUp (D.sectors self.new.disk) (D.history self.new.disk) (with_edit stored (put id (feature_data feature))) self.new) }
@@ -119,6 +120,9 @@ impl<D: Sectors + Drop> Service<D> {
             }
             Err(fault) => {
                 self.broken = fault == JournalFault::Device;
+                if self.broken {
+                    self.publication = None;
+                }
                 Err(told(fault))
             }
         }
@@ -130,11 +134,12 @@ impl<D: Sectors + Drop> Service<D> {
     ///
     /// `Broken`, `NotFound`, `NumbersSpent`, `JournalFull`, `Device`, the first that there is in this order.
     pub fn delete(&mut self, id: u64) -> Result<u64, ServiceFault>
-        ensures machine { (archive : ArchiveState)
-            → Steps (state_of archive self.old) (edit (delete id)) (edit_answer result) (state_of archive self.new) }
+        ensures machine { (known : Known)
+            → Steps (state_of known self.old) (edit (delete id)) (edit_answer result) (state_of known self.new) }
         ensures size { self.new.size ≡ self.old.size }
         ensures snapshot_len { self.new.snapshot_len ≡ self.old.snapshot_len }
         ensures archive_len { self.new.archive_len ≡ self.old.archive_len }
+        ensures publication { OnOk result (self.new.publication ≡ self.old.publication) }
         ensures count { D.sectors self.new.disk ≡ D.sectors self.old.disk }
         ensures honest { D.honest self.new.disk → D.honest self.old.disk }
         ensures faults { OnOk result (D.faults self.new.disk ≡ D.faults self.old.disk) }
@@ -142,7 +147,7 @@ impl<D: Sectors + Drop> Service<D> {
         ensures untouched { IfErr result (λ fault. fault ≢ Device → self.new.disk ≡ self.old.disk) }
         ensures any_moment { (stored : Stored) → D.honest self.new.disk → IsUp (D.sectors self.old.disk) (D.history self.old.disk) stored self.old
             → LeavesOnly (D.history self.old.disk) (D.history self.new.disk)
-            (EventLeaves (D.sectors self.old.disk) self.old.size stored (edit (delete id)) (edit_answer result)) }
+            (EventLeaves (D.sectors self.old.disk) self.old.size stored self.old.publication (edit (delete id)) (edit_answer result)) }
         ensures acknowledged { (stored : Stored) → D.honest self.new.disk → IsUp (D.sectors self.old.disk) (D.history self.old.disk) stored self.old
             → OnOk result (IsUp (D.sectors self.new.disk) (D.history self.new.disk) (with_edit stored (delete id)) self.new) }
         ensures refused { (stored : Stored) → D.honest self.new.disk → IsUp (D.sectors self.old.disk) (D.history self.old.disk) stored self.old
@@ -163,6 +168,9 @@ impl<D: Sectors + Drop> Service<D> {
             }
             Err(fault) => {
                 self.broken = fault == JournalFault::Device;
+                if self.broken {
+                    self.publication = None;
+                }
                 Err(told(fault))
             }
         }

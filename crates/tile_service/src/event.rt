@@ -14,6 +14,12 @@ pub enum Event {
     Tile { at: TileAt },
     /// Asks for the feature of a number.
     Look { id: u64 },
+    /// Begins a publication of the map.
+    Begin,
+    /// Writes the next sectors of the publication.
+    Step,
+    /// Gives the publication up.
+    Cancel,
 }
 
 /// What a service answers.
@@ -25,6 +31,10 @@ pub enum Answer {
     Tile(Option<Vec<u8>>),
     /// The feature, or none where the number has none.
     Look(Option<Feature>),
+    /// How much of the publication is left: the sectors to write, and one for the root. With 0 it is installed.
+    Left(u64),
+    /// The publication was given up.
+    Cancelled,
     /// Nothing was done.
     Refused(ServiceFault),
 }

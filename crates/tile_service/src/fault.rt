@@ -7,18 +7,30 @@ pub enum ServiceFault {
     /// A write or a sync of the disk has failed before, so no edit is made any more. The disk has to be opened again.
     #[error("the disk has failed: it has to be opened again")]
     Broken,
+    /// A publication is under way.
+    #[error("a publication is under way")]
+    Busy,
+    /// No publication is under way.
+    #[error("no publication is under way")]
+    Idle,
     /// The feature breaks this limit.
     #[error("{0}")]
     Limit(EditFault),
     /// The number that is to be deleted has no feature.
     #[error("the number has no feature")]
     NotFound,
-    /// The last edit has the last u64 as its number.
-    #[error("there are no more numbers for edits")]
+    /// The last edit, or the published generation, has the last u64 as its number.
+    #[error("there are no more numbers")]
     NumbersSpent,
     /// An allocation failed.
     #[error("out of memory")]
     Memory,
+    /// The tiles of the map need more entries than an archive takes.
+    #[error("the map has more tiles than an archive takes")]
+    TooManyTiles,
+    /// The snapshot of the map and the archive need more sectors than an area has.
+    #[error("an area has {free} sectors, and {need} are needed")]
+    AreaFull { need: u64, free: u64 },
     /// The record of the edit needs more sectors than the journal has free.
     #[error("the journal has {free} free sectors, and {need} are needed")]
     JournalFull { need: u64, free: u64 },

@@ -8,6 +8,7 @@ mod fault;
 mod formatting;
 mod opening;
 mod published;
+mod publishing;
 mod replaying;
 mod running;
 mod service;

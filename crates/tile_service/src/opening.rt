@@ -186,6 +186,7 @@ impl<D: Sectors + Drop> Service<D> {
                 journal: found.journal,
                 store: found.store,
                 root: found.root,
+                publication: None,
                 broken: false,
             }),
             Err(fault) => Err((disk, fault)),

@@ -1,6 +1,7 @@
 //! A service: a disk, and what it has of it in memory.
 ghost use Rattle.std.specs.Prelude.{◌≡◌};
 
+use crate::publishing::Publication;
 use edit_journal::Journal;
 use feature_store::Store;
 use generations::{Layout, Root};
@@ -17,6 +18,7 @@ pub struct Service<D: Sectors + Drop> {
     pub(crate) journal: Journal,
     pub(crate) store: Store,
     pub(crate) root: Root,
+    pub(crate) publication: Option<Publication>,
     pub(crate) broken: bool,
 }
 
@@ -33,10 +35,11 @@ impl<D: Sectors + Drop> Model for Service<D> {
       generation = s.root.generation;
       snapshot_len = s.root.snapshot_len;
       archive_len = s.root.archive_len;
+      publication = s.publication;
       broken = s.broken;
     } };
 
-    ghost invariant = { λ s. IsService (D.sectors s.disk) s.layout.sectors s.root s.journal s.store.features };
+    ghost invariant = { λ s. IsService (D.sectors s.disk) s.layout.sectors s.root s.journal s.store.features s.publication };
 }
 
 impl<D: Sectors + Drop> Service<D> {
@@ -51,6 +54,7 @@ impl<D: Sectors + Drop> Service<D> {
             journal: _,
             store: _,
             root: _,
+            publication: _,
             broken: _,
         } = self;
         disk

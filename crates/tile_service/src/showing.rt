@@ -4,8 +4,8 @@ ghost use Rattle.feature_model.specs.Data.{feature_data};
 ghost use Rattle.feature_store.specs.Store.{feature_at};
 ghost use Rattle.map_metadata.specs.Metadata.{IsMetadata};
 ghost use Rattle.serde_json.specs.View.{view};
-ghost use Rattle.tile_service.specs.Machine.{ArchiveState, tile, Steps};
-ghost use Rattle.tile_service.specs.Service.{state_of, tile_answer};
+ghost use Rattle.tile_service.specs.Machine.{tile, Steps};
+ghost use Rattle.tile_service.specs.Service.{Known, state_of, tile_answer};
 ghost use Rattle.tile_service.specs.declared.fault.ServiceFault.TheVariants.{Memory};
 
 use crate::fault::ServiceFault;
@@ -29,8 +29,8 @@ impl<D: Sectors + Drop> Service<D> {
     /// The bytes of a tile (Mapbox Vector Tile 2.1), after the last acknowledged edit: none where it shows nothing, so above the
     /// greatest zoom too. The only error is `Memory`.
     pub fn tile(&mut self, at: TileAt) -> Result<Option<Vec<u8>>, ServiceFault>
-        ensures machine { (archive : ArchiveState)
-            → Steps (state_of archive self.old) (tile at.z at.x at.y) (tile_answer result) (state_of archive self.new) }
+        ensures machine { (known : Known)
+            → Steps (state_of known self.old) (tile at.z at.x at.y) (tile_answer result) (state_of known self.new) }
         ensures same { self.new ≡ self.old }
     {
         let layers = match self.store.layers(at) {

@@ -1,0 +1,227 @@
+//! Publications: the snapshot of the map and the archive of its tiles, written by steps into the area of the next generation.
+ghost use Rattle.std.specs.Prelude.{◌≡◌, ◌≢◌, ◌≤◌, ◌+◌, IfErr, OnOk, OnErr};
+ghost use Rattle.sector_disk.specs.Disk.{moment};
+ghost use Rattle.sector_disk.specs.Moments.{LeavesOnly};
+ghost use Rattle.tile_service.specs.Machine.{begin, step, cancel, Steps};
+ghost use Rattle.tile_service.specs.Service.{Known, IsUp, state_of, known_after, left_answer, cancel_answer, EventLeaves, stored_after, CountsDevice};
+ghost use Rattle.tile_service.specs.Stored.{Stored};
+ghost use Rattle.tile_service.specs.declared.fault.ServiceFault.TheVariants.{Device};
+
+use crate::fault::ServiceFault;
+use crate::service::Service;
+use area_content::{AreaContent, ContentFault, content_of};
+use edit_journal::Start;
+use feature_store::Store;
+use generations::{Layout, Root, install, write_area};
+use map_metadata::metadata_text;
+use sector_disk::{DiskFault, Sectors};
+use std::alloc::{AllocError, Global};
+use std::marker::Model;
+
+/// How many sectors a step of a publication writes at most, beside the root.
+pub const STEP_SECTORS: u64 = 64;
+
+/// A publication under way.
+#[derive(Drop)]
+pub(crate) struct Publication {
+    /// The snapshot and the archive of the map of its beginning.
+    pub(crate) content: AreaContent,
+    /// Where the journal went on at its beginning.
+    pub(crate) start: Start,
+    /// How many places the records in use had then.
+    pub(crate) places: u64,
+    /// How many sectors of the content are written.
+    pub(crate) written: u64,
+}
+
+impl Model for Publication {
+    ghost use Rattle.tile_service.specs.Service.{PublicationView};
+
+    ghost Value = { PublicationView };
+
+    ghost view = { λ p. record { content = p.content; start = p.start; places = p.places; written = p.written } };
+}
+
+/// The snapshot and the archive of a map, for an area of so many sectors.
+fn content_for(alloc: Global, store: &Store, area: u64) -> Result<AreaContent, ServiceFault> {
+    let metadata = match metadata_text(alloc, store) {
+        Ok(text) => text,
+        Err(AllocError) => return Err(ServiceFault::Memory),
+    };
+    match content_of(alloc, store, metadata.as_bytes(), area) {
+        Ok(content) => Ok(content),
+        Err(ContentFault::TooManyTiles) => Err(ServiceFault::TooManyTiles),
+        Err(ContentFault::AreaFull { need, free }) => Err(ServiceFault::AreaFull { need, free }),
+        Err(ContentFault::Memory) => Err(ServiceFault::Memory),
+    }
+}
+
+/// Writes sectors of the content into the area of a generation, from one index to another.
+fn write_sectors<D: Sectors>(
+    disk: &mut D,
+    layout: Layout,
+    generation: u64,
+    content: &AreaContent,
+    from: u64,
+    to: u64,
+) -> Result<(), DiskFault> {
+    for index in from..to {
+        write_area(disk, layout, generation, index, &content.sector(index))?;
+    }
+    Ok(())
+}
+
+impl<D: Sectors + Drop> Service<D> {
+    /// Makes the publication the live generation, all of whose sectors are written.
+    fn install(&mut self, publication: Publication) -> Result<u64, ServiceFault> {
+        let root = Root {
+            generation: self.root.generation + 1,
+            edits: publication.start.edits,
+            journal_at: publication.start.place,
+            snapshot_len: publication.content.snapshot_len(),
+            archive_len: publication.content.archive_len(),
+        };
+        match install(&mut self.disk, root) {
+            Ok(()) => {
+                self.journal.release(publication.start);
+                self.root = root;
+                Ok(0)
+            }
+            Err(DiskFault) => {
+                self.broken = true;
+                Err(ServiceFault::Device)
+            }
+        }
+    }
+
+    /// Goes on with a publication by a step.
+    fn advance(&mut self, publication: Publication) -> Result<u64, ServiceFault> {
+        let left = publication.content.sectors() - publication.written;
+        let more = left.min(STEP_SECTORS);
+        let written = publication.written + more;
+        match write_sectors(
+            &mut self.disk,
+            self.layout,
+            self.root.generation + 1,
+            &publication.content,
+            publication.written,
+            written,
+        ) {
+            Ok(()) => {}
+            Err(DiskFault) => {
+                self.broken = true;
+                return Err(ServiceFault::Device);
+            }
+        }
+        if left <= STEP_SECTORS {
+            return self.install(publication);
+        }
+        self.publication = Some(Publication {
+            content: publication.content,
+            start: publication.start,
+            places: publication.places,
+            written,
+        });
+        Ok(left - more + 1)
+    }
+
+    /// Begins a publication: makes the snapshot of the map and the archive of its tiles in memory, and answers how many sectors they
+    /// take, and 1 more for the root. Nothing is written yet. Edits go on meanwhile: what is published is the map of this moment.
+    ///
+    /// # Errors
+    ///
+    /// `Broken`, `Busy` while a publication is under way, `NumbersSpent` after the last generation, `Memory`, `TooManyTiles`,
+    /// `AreaFull`, the first that there is in this order, but that `AreaFull` for a tile of 2^32 bytes comes before `TooManyTiles`.
+    /// Nothing changes then.
+    pub fn publish_begin(&mut self) -> Result<u64, ServiceFault>
+        ensures machine { (known : Known) → Steps (state_of known self.old) begin (left_answer result)
+            (state_of (known_after known self.old begin (left_answer result)) self.new) }
+        ensures same { self.new ≡ record self.old { publication = self.new.publication } }
+        ensures refused { OnErr result (self.new ≡ self.old) }
+        ensures up { (stored : Stored) → IsUp (D.sectors self.old.disk) (D.history self.old.disk) stored self.old
+            → IsUp (D.sectors self.new.disk) (D.history self.new.disk) stored self.new }
+    {
+        if self.broken {
+            return Err(ServiceFault::Broken);
+        }
+        if self.publication.is_some() {
+            return Err(ServiceFault::Busy);
+        }
+        if self.root.generation == u64::MAX {
+            return Err(ServiceFault::NumbersSpent);
+        }
+        match content_for(self.alloc, &self.store, self.layout.area) {
+            Ok(content) => {
+                let left = content.sectors() + 1;
+                self.publication = Some(Publication {
+                    content,
+                    start: self.journal.next(),
+                    places: self.journal.used,
+                    written: 0,
+                });
+                Ok(left)
+            }
+            Err(fault) => Err(fault),
+        }
+    }
+
+    /// Goes on with the publication: writes its next `STEP_SECTORS` sectors, or what is left of them, and where none is left makes it
+    /// the live generation and frees the places of its edits in the journal. Answers how much is left, 0 once it is live. It takes no
+    /// memory.
+    ///
+    /// # Errors
+    ///
+    /// `Broken`, `Idle` where no publication is under way, `Device`, the first that there is in this order. After `Device` the
+    /// service is broken, and the publication given up.
+    pub fn publish_step(&mut self) -> Result<u64, ServiceFault>
+        ensures machine { (known : Known) → Steps (state_of known self.old) step (left_answer result)
+            (state_of (known_after known self.old step (left_answer result)) self.new) }
+        ensures size { self.new.size ≡ self.old.size }
+        ensures count { D.sectors self.new.disk ≡ D.sectors self.old.disk }
+        ensures honest { D.honest self.new.disk → D.honest self.old.disk }
+        ensures faults { OnOk result (D.faults self.new.disk ≡ D.faults self.old.disk) }
+        ensures failed { IfErr result (λ fault. CountsDevice fault (D.faults self.old.disk) (D.faults self.new.disk)) }
+        ensures refused { IfErr result (λ fault. fault ≢ Device → self.new ≡ self.old) }
+
+        // It makes at most 64 writes and those of an installation: two syncs and a write.
+        ensures steps { D.honest self.new.disk → moment (D.history self.new.disk) ≤ moment (D.history self.old.disk) + 67 }
+
+        // A crash at any moment of the call leaves what was stored, or where the step is the last one what it installs.
+        ensures any_moment { (stored : Stored) → D.honest self.new.disk → IsUp (D.sectors self.old.disk) (D.history self.old.disk) stored self.old
+            → LeavesOnly (D.history self.old.disk) (D.history self.new.disk)
+            (EventLeaves (D.sectors self.old.disk) self.old.size stored self.old.publication step (left_answer result)) }
+        // And after it: what it installs where it answers 0, and else what was stored.
+        ensures after { (stored : Stored) → D.honest self.new.disk → IsUp (D.sectors self.old.disk) (D.history self.old.disk) stored self.old
+            → OnOk result (IsUp (D.sectors self.new.disk) (D.history self.new.disk)
+            (stored_after self.old.size stored self.old.publication step (left_answer result)) self.new) }
+    {
+        if self.broken {
+            return Err(ServiceFault::Broken);
+        }
+        match self.publication.take() {
+            None => Err(ServiceFault::Idle),
+            Some(publication) => self.advance(publication),
+        }
+    }
+
+    /// Gives the publication up that is under way. It takes no memory, and writes nothing.
+    ///
+    /// # Errors
+    ///
+    /// `Broken`, `Idle` where no publication is under way. Nothing changes then.
+    pub fn publish_cancel(&mut self) -> Result<(), ServiceFault>
+        ensures machine { (known : Known) → Steps (state_of known self.old) cancel (cancel_answer result) (state_of known self.new) }
+        ensures same { self.new ≡ record self.old { publication = self.new.publication } }
+        ensures refused { OnErr result (self.new ≡ self.old) }
+        ensures up { (stored : Stored) → IsUp (D.sectors self.old.disk) (D.history self.old.disk) stored self.old
+            → IsUp (D.sectors self.new.disk) (D.history self.new.disk) stored self.new }
+    {
+        if self.broken {
+            return Err(ServiceFault::Broken);
+        }
+        match self.publication.take() {
+            None => Err(ServiceFault::Idle),
+            Some(_) => Ok(()),
+        }
+    }
+}
