@@ -4,15 +4,9 @@
 # turns.
 set -euo pipefail
 here="$(cd "$(dirname "$0")" && pwd)"
-top="$(cd "$here/../.." && pwd)"
 work="$(mktemp -d)"
-mkdir -p "$work/crates/archive_bench/src" "$work/archives"
-for crate in reader pb_wire hilbert_id geometry_commands mvt_layer pm_header pm_directory pm_archive pm_build; do
-    cp -a "$top/crates/$crate" "$work/crates/$crate"
-    grep "^$crate:" "$top/crates.txt"
-done > "$work/crates.txt"
-echo "archive_bench: pm_archive pm_build anyhow" >> "$work/crates.txt"
-cp "$top/HANDLES" "$work/HANDLES"
+mkdir -p "$work/archives"
+python3 "$here/../scratch.py" "$work" archive_bench pm_archive pm_build anyhow
 cp "$here/main.rt.txt" "$work/crates/archive_bench/src/main.rt"
 g++ -O2 -std=c++17 -o "$work/peer" "$here/peer.cpp"
 cd "$work/crates/archive_bench"

@@ -3,15 +3,8 @@
 # scratch repository with copies of the product's crates, outside of this one, builds main.rt.txt there, and runs both by turns.
 set -euo pipefail
 here="$(cd "$(dirname "$0")" && pwd)"
-top="$(cd "$here/../.." && pwd)"
 work="$(mktemp -d)"
-mkdir -p "$work/crates/codec_bench/src"
-for crate in reader pb_wire hilbert_id number_map box_index geometry_commands mvt_layer mvt_write feature_model edit_text tile_cutter feature_store; do
-    cp -a "$top/crates/$crate" "$work/crates/$crate"
-    grep "^$crate:" "$top/crates.txt"
-done > "$work/crates.txt"
-echo "codec_bench: feature_store feature_model edit_text mvt_layer mvt_write hilbert_id anyhow" >> "$work/crates.txt"
-cp "$top/HANDLES" "$work/HANDLES"
+python3 "$here/../scratch.py" "$work" codec_bench feature_store feature_model edit_text mvt_layer mvt_write hilbert_id anyhow
 cp "$here/main.rt.txt" "$work/crates/codec_bench/src/main.rt"
 mkdir -p "$work/crates/codec_bench/proofs/put" "$work/tiles"
 cp "$here/put.antt.txt" "$work/crates/codec_bench/proofs/put/Answers.antt"
