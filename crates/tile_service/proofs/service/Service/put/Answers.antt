@@ -1,12 +1,13 @@
-use Rattle.std.proofs.Common.{◌≡◌, ◌∙◌, ℕ, List, refl, sym, ap, subst, arith, length}
+use Rattle.std.proofs.Common.{◌≡◌, ◌≢◌, ◌∙◌, ℕ, List, refl, sym, ap, subst, arith, rules, length}
 use Rattle.edit_journal.specs.Records.{IsEditLength, parts_of}
 use Rattle.edit_journal.specs.Ring.{Ring}
 use Rattle.feature_model.specs.Data.{put, feature_data}
 use Rattle.feature_model.specs.Spelled.{spelled}
 use Rattle.feature_store.specs.Store.{with_feature, snapshot}
 use Rattle.tile_service.specs.Machine.{edited, refused}
+use Rattle.tile_service.specs.Service.{IsUp}
 use Rattle.tile_service.specs.Stored.{texts_of}
-use Rattle.tile_service.specs.declared.fault.ServiceFault.TheVariants.{NumbersSpent, Memory}
+use Rattle.tile_service.specs.declared.fault.ServiceFault.TheVariants.{NumbersSpent, Memory, Device}
 use Rattle.tile_service.proofs.Edits.{up_is_at, same_leaves, append_any_moment, refused_any_moment, up_with_edit}
 use Rattle.tile_service.proofs.Going.{service_on}
 use Rattle.tile_service.proofs.Steps.{put_length, short_after_put, short_enough}
@@ -43,10 +44,10 @@ apply-requires-clause-texts g c = rw c.room.ensures.map (short_enough c.self.ins
 
 pub invariant_of-self-in-Ok-append : goal.invariant_of-self-in-Ok-append
 invariant_of-self-in-Ok-append g c =
-    let text : c.deref.result ≡ spelled (put c.args.id (feature_data c.args.feature)) = c.deref.ensures.value ∙ c.in-Ok-encode.ensures.text in
+    let text : c.deref.result.now ≡ spelled (put c.args.id (feature_data c.args.feature)) = c.deref.ensures.value ∙ c.in-Ok-encode.ensures.text in
     let later = c.apply.ensures ∙ ap (λ m. with_feature m c.args.id (feature_data c.args.feature)) c.room.ensures.map in
     service_on c.self.inside.layout.sectors c.self.inside.root c.self.inside.journal c.append.new.self c.append.ensures.same.0 c.append.ensures.same.1
-    (length c.deref.result)
+    (length c.deref.result.now)
     (subst (λ (t : List ℕ). IsEditLength (length t)) (sym text) (put_length c.args.id (feature_data c.args.feature) c.in-Ok.ensures.ok.allowed))
     c.in-Ok-append.ensures.used c.in-Ok-append.ensures.last c.self.inside.store.features c.apply.new.store.features
     (λ area places was. omega (
@@ -79,3 +80,8 @@ returns-in-Err-append-clause-any_moment g c = rw (ap (λ s. s.disk) c.fail.ensur
     refused_any_moment g.D.Sectors.sectors g.D.Sectors.history stored _ c.self.invariant.ring up (put c.args.id (feature_data c.args.feature))
     c.in-Ok-encode.ensures.edit _ (c.deref.ensures.value ∙ c.in-Ok-encode.ensures.text) c.append.new.disk (c.append.ensures.frame honest)
     c.in-Err-append.fault c.fail.result c.fail.ensures.told c.in-Err-append.ensures.refused (c.append.ensures.any_moment (texts_of stored) honest at))
+
+pub returns-in-Err-append-clause-refused : goal.returns-in-Err-append-clause-refused
+returns-in-Err-append-clause-refused g c =
+    let same : c.fail.result ≢ Device → c.fail.new.self ≡ c.args.self.now = search rules in
+    (λ stored honest up other. subst (λ s. IsUp (g.D.Sectors.sectors s.disk) (g.D.Sectors.history s.disk) stored s) (sym (same other)) up)
