@@ -1,6 +1,7 @@
 -- What is read as a disk is opened, and what a disk that holds a state opens to.
 use Rattle.std.specs.Prelude.{Option, None, IfSome}
-use Rattle.std.proofs.Common.{◌≡◌, ◌⊎◌, inl, inr, ℕ, suc, false, ◌<◌, ◌≤◌, ◌+◌, ◌*◌, List, [], ◌∷◌, length, map, Result, Ok, Err, IfErr, refl, sym, ◌∙◌, ap, subst, arith}
+use Rattle.std.proofs.Common.{◌≡◌, ◌⊎◌, inl, inr, ℕ, suc, false, ◌<◌, ◌≤◌, ◌+◌, ◌*◌, List, [], ◌∷◌, length, map}
+use Rattle.std.proofs.Common.{Result, Ok, Err, IfErr, refl, sym, ◌∙◌, ap, subst, arith}
 use Rattle.sector_disk.specs.Disk.{History, Image, seen, MayLeave}
 use Rattle.sector_disk.specs.Disk.History.{synced}
 use Rattle.sector_disk.specs.declared.disk.TheConstants.{SECTOR_BYTES}
