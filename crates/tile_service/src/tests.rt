@@ -1,14 +1,18 @@
 //! Services over disks in memory.
 ghost use Rattle.std.specs.Prelude.{◌≡◌, ◌≤◌, IfOk, length};
 
+mod archives;
 mod edits;
 mod openings;
+mod publication_stops;
+mod publications;
 mod published;
+mod scripts;
 mod snapshots;
 mod stops;
 mod texts;
 
-use crate::Service;
+use crate::{Service, ServiceFault};
 use feature_model::{EditValue, Feature, Geometry, Tag, World};
 use sector_disk::{MemoryDisk, Sectors};
 use std::alloc::Global;
@@ -80,4 +84,54 @@ fn opened<D: Sectors + Drop>(alloc: Global, disk: D) -> Result<Service<D>, Fail>
         Ok(service) => Ok(service),
         Err(_) => Err("the disk isn't opened".into()),
     }
+}
+
+/// So many bytes of the archive of a service, from an offset on.
+fn read<D: Sectors + Drop>(
+    alloc: Global,
+    service: &mut Service<D>,
+    at: u64,
+    count: u64,
+) -> Result<Result<Vec<u8>, ServiceFault>, Fail> {
+    let len = service.archive_len();
+    if at > len || count > len - at {
+        return Err("the archive has fewer bytes".into());
+    }
+    let mut bytes = vec![in alloc; 0; count as usize]?;
+    match service.archive_read(at, &mut bytes) {
+        Ok(()) => Ok(Ok(bytes)),
+        Err(fault) => Ok(Err(fault)),
+    }
+}
+
+/// All bytes of the archive of a service.
+fn archive<D: Sectors + Drop>(alloc: Global, service: &mut Service<D>) -> Result<Vec<u8>, Fail> {
+    let len = service.archive_len();
+    match read(alloc, service, 0, len)? {
+        Ok(bytes) => Ok(bytes),
+        Err(fault) => Err(fault.into()),
+    }
+}
+
+/// Publishes the map in at most ten steps: what the beginning answers, and then each step.
+fn publish<D: Sectors + Drop>(alloc: Global, service: &mut Service<D>) -> Result<Vec<u64>, Fail> {
+    let mut answers = Vec::new(alloc);
+    answers.push(service.publish_begin()?)?;
+    for _ in 0..10 {
+        let left = service.publish_step()?;
+        answers.push(left)?;
+        if left == 0 {
+            return Ok(answers);
+        }
+    }
+    Err("the steps don't end".into())
+}
+
+/// A sector of a disk, zeros where the disk has none.
+fn sector_at(disk: &mut MemoryDisk, at: u64) -> [u8; 512] {
+    let mut sector = [0; 512];
+    if at < disk.count() {
+        let _ = disk.read(at, &mut sector);
+    }
+    sector
 }

@@ -1,8 +1,8 @@
 //! An archive behind a snapshot, made byte by byte, and the metadata of a map. The disk has 64 sectors; area 1 begins at 41.
 ghost use Rattle.std.specs.Prelude.{◌≡◌, ◌≤◌, IfOk};
 
-use super::{begins, formatted, opened, point, root};
-use crate::{Service, ServiceFault};
+use super::{begins, formatted, opened, point, read, root};
+use crate::ServiceFault;
 use sector_disk::{FailingCalls, FaultyDisk, MemoryDisk, Sectors};
 use std::alloc::Global;
 use std::test::Fail;
@@ -47,24 +47,6 @@ fn published(alloc: Global) -> Result<MemoryDisk, Fail> {
     let _ = disk.write(44, &sector(&archive, 512));
     let _ = disk.write(45, &sector(&archive, 1_024));
     Ok(disk)
-}
-
-/// So many bytes of the archive of a service, from an offset on.
-fn read<D: Sectors + Drop>(
-    alloc: Global,
-    service: &mut Service<D>,
-    at: u64,
-    count: u64,
-) -> Result<Result<Vec<u8>, ServiceFault>, Fail> {
-    let len = service.archive_len();
-    if at > len || count > len - at {
-        return Err("the archive has fewer bytes".into());
-    }
-    let mut bytes = vec![in alloc; 0; count as usize]?;
-    match service.archive_read(at, &mut bytes) {
-        Ok(()) => Ok(Ok(bytes)),
-        Err(fault) => Ok(Err(fault)),
-    }
 }
 
 /// Parts of the archive: where each begins, and how many bytes it has.

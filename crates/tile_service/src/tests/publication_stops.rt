@@ -1,0 +1,118 @@
+//! A publication in which one call of the disk fails, and a crash after it.
+
+use super::archives::archive_of;
+use super::{archive, formatted, opened, point, publish};
+use crate::{Service, ServiceFault};
+use sector_disk::{FailingCalls, FaultyDisk, MemoryDisk, Sectors};
+use std::alloc::Global;
+use std::test::Fail;
+
+/// A disk on which feature 7 is published.
+fn with_archive(alloc: Global) -> Result<MemoryDisk, Fail> {
+    let mut service = opened(alloc, formatted(alloc)?)?;
+    let _ = service.put(7, point(alloc, 0)?)?;
+    let _ = publish(alloc, &mut service)?;
+    Ok(service.into_disk())
+}
+
+/// What is answered once a call of the disk has failed: to a beginning, a step, a cancellation, an edit, a deletion.
+fn refused_by<D: Sectors + Drop>(
+    alloc: Global,
+    service: &mut Service<D>,
+) -> Result<[Option<ServiceFault>; 5], Fail> {
+    Ok([
+        service.publish_begin().err(),
+        service.publish_step().err(),
+        service.publish_cancel().err(),
+        service.put(9, point(alloc, 0)?).err(),
+        service.delete(7).err(),
+    ])
+}
+
+/// The disk after feature 8 was added and published too, in one step that fails where these calls of the disk do. Opening takes calls
+/// 1 to 6, and the edit 7 and 8. The step writes a sector of the snapshot and one of the archive, syncs, writes the root, and syncs:
+/// these are 9 to 13.
+fn stopped(alloc: Global, failing_calls: FailingCalls) -> Result<MemoryDisk, Fail> {
+    let faulty = FaultyDisk::new(with_archive(alloc)?, failing_calls);
+    let mut service = opened(alloc, faulty)?;
+    let _ = service.put(8, point(alloc, 0)?)?;
+    let begun = service.publish_begin()?;
+    let step = service.publish_step();
+    let broken = [Some(ServiceFault::Broken); 5];
+    if (begun, step) != (3, Err(ServiceFault::Device))
+        || service.publication.is_some()
+        || refused_by(alloc, &mut service)? != broken
+        || service.feature(8).is_none()
+        || service.archive_len() != 223
+    {
+        return Err("the step doesn't break the service".into());
+    }
+    Ok(service.into_disk().into_disk())
+}
+
+/// Whether the new archive stands on a disk once it is opened again, or else the old one. Both features are there, and a publication
+/// brings the new archive.
+fn is_new(alloc: Global, disk: MemoryDisk) -> Result<bool, Fail> {
+    let old = archive_of(alloc, &[(7, 0)])?;
+    let new = archive_of(alloc, &[(7, 0), (8, 0)])?;
+    let mut service = opened(alloc, disk)?;
+    if service.feature(7).is_none() || service.feature(8).is_none() {
+        return Err("an edit is lost".into());
+    }
+    let stands = archive(alloc, &mut service)?;
+    let _ = publish(alloc, &mut service)?;
+    if archive(alloc, &mut service)? != new || (stands != old && stands != new) {
+        return Err("neither archive".into());
+    }
+    Ok(stands == new)
+}
+
+/// For each unsynced sector, which of its writes a crash leaves. Two are unsynced at most.
+const CHOICES: [[u32; 2]; 4] = [[0, 0], [0, 1], [1, 0], [1, 1]];
+
+/// For each of these choices, whether the new archive stands.
+fn news(alloc: Global, failing_calls: FailingCalls) -> Result<[bool; 4], Fail> {
+    let disk = stopped(alloc, failing_calls)?;
+    let mut found = [false; 4];
+    for (choice, new) in CHOICES.iter().zip(found.iter_mut()) {
+        *new = is_new(alloc, disk.crash(choice)?)?;
+    }
+    Ok(found)
+}
+
+#[test]
+fn stopped_before_the_root_is_written(rt: HostRuntime) -> Result<(), Fail> {
+    for call in 9..13 {
+        for failing_calls in [FailingCalls::AllFrom(call), FailingCalls::OneNotMade(call)] {
+            assert_eq!(rt; news(rt.alloc(), failing_calls)?, [false; 4], "{call}");
+        }
+        // A write that was made, and told as failed.
+        let made = FailingCalls::OneMade(call);
+        let root = [false, false, call == 12, call == 12];
+        assert_eq!(rt; news(rt.alloc(), made)?, root, "{call}");
+    }
+    Ok(())
+}
+
+#[test]
+fn stopped_before_the_root_is_synced(rt: HostRuntime) -> Result<(), Fail> {
+    let alloc = rt.alloc();
+    let by_choice = [false, false, true, true];
+    assert_eq!(rt; news(alloc, FailingCalls::AllFrom(13))?, by_choice);
+    assert_eq!(rt; news(alloc, FailingCalls::OneNotMade(13))?, by_choice);
+    assert_eq!(rt; news(alloc, FailingCalls::OneMade(13))?, [true; 4]);
+    Ok(())
+}
+
+#[test]
+fn calls_of_a_publication(rt: HostRuntime) -> Result<(), Fail> {
+    let alloc = rt.alloc();
+    let faulty = FaultyDisk::new(with_archive(alloc)?, FailingCalls::OneNotMade(14));
+    let mut service = opened(alloc, faulty)?;
+    assert_eq!(rt; service.put(8, point(alloc, 0)?), Ok(2));
+    assert_eq!(rt; publish(alloc, &mut service)?.as_slice(), [3, 0].as_slice());
+    assert_eq!(rt; service.publish_begin(), Ok(3));
+    assert_eq!(rt; service.publish_cancel(), Ok(()));
+    assert_eq!(rt; service.into_disk().calls(), 13);
+    Ok(())
+}
