@@ -1,5 +1,6 @@
 mod Appends
 mod Archives
+mod AreaWrites
 mod Bytes
 pub mod Callers
 pub mod Contents

@@ -1,10 +1,13 @@
 //! Publications: the snapshot of the map and the archive of its tiles, written by steps into the area of the next generation.
 ghost use Rattle.std.specs.Prelude.{◌≡◌, ◌≢◌, ◌≤◌, ◌+◌, IfErr, OnOk, OnErr};
-ghost use Rattle.sector_disk.specs.Disk.{moment};
+ghost use Rattle.std.proofs.Common.{suc};
+ghost use Rattle.sector_disk.specs.Disk.{moment, seen, HasFailed};
 ghost use Rattle.sector_disk.specs.Moments.{LeavesOnly};
+ghost use Rattle.area_content.specs.Content.{sectors_taken};
+ghost use Rattle.tile_service.specs.Publishing.{HasFirst};
 ghost use Rattle.tile_service.specs.Machine.{begin, step, cancel, Steps};
 ghost use Rattle.tile_service.specs.Service.{Known, IsUp, state_of, known_after, left_answer, cancel_answer, EventLeaves, stored_after, CountsDevice};
-ghost use Rattle.tile_service.specs.Stored.{Stored};
+ghost use Rattle.tile_service.specs.Stored.{Stored, Holds, Keeps};
 ghost use Rattle.tile_service.specs.declared.fault.ServiceFault.TheVariants.{Device};
 
 use crate::fault::ServiceFault;
@@ -64,7 +67,30 @@ fn write_sectors<D: Sectors>(
     content: &AreaContent,
     from: u64,
     to: u64,
-) -> Result<(), DiskFault> {
+) -> Result<(), DiskFault>
+    requires order { from ≤ to }
+    requires within { to ≤ sectors_taken content.now }
+    requires area { sectors_taken content.now ≤ layout.area }
+    requires on_disk { layout.sectors ≤ D.sectors disk.old }
+    ensures count { D.sectors disk.new ≡ D.sectors disk.old }
+    ensures honest { D.honest disk.new → D.honest disk.old }
+    ensures faults { OnOk result (D.faults disk.new ≡ D.faults disk.old) }
+    ensures failed { OnErr result (HasFailed (D.faults disk.old) (D.faults disk.new)) }
+    ensures steps { D.honest disk.new → moment (D.history disk.new) + from ≤ moment (D.history disk.old) + to }
+
+    // What is stored is of the generation before it, and stays.
+    ensures leaves { (stored : Stored) → D.honest disk.new → generation ≡ suc stored.generation
+        → Keeps (D.sectors disk.old) layout.sectors stored (D.history disk.old)
+        → LeavesOnly (D.history disk.old) (D.history disk.new) (Holds (D.sectors disk.old) layout.sectors stored) }
+    ensures keeps { (stored : Stored) → D.honest disk.new → generation ≡ suc stored.generation
+        → Keeps (D.sectors disk.old) layout.sectors stored (D.history disk.old)
+        → Keeps (D.sectors disk.old) layout.sectors stored (D.history disk.new) }
+
+    // With the sectors before it there, those before the end are there.
+    ensures first { D.honest disk.new
+        → HasFirst layout.sectors generation content.now.snapshot content.now.archive from (seen (D.history disk.old))
+        → OnOk result (HasFirst layout.sectors generation content.now.snapshot content.now.archive to (seen (D.history disk.new))) }
+{
     for index in from..to {
         write_area(disk, layout, generation, index, &content.sector(index))?;
     }
