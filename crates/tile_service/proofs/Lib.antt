@@ -11,6 +11,7 @@ pub mod Laws
 pub mod Installed
 mod Opens
 pub mod Publications
+mod PublishSteps
 pub mod Publishes
 mod Replays
 mod Roots

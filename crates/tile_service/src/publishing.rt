@@ -1,10 +1,12 @@
 //! Publications: the snapshot of the map and the archive of its tiles, written by steps into the area of the next generation.
-ghost use Rattle.std.specs.Prelude.{◌≡◌, ◌≢◌, ◌≤◌, ◌+◌, IfErr, OnOk, OnErr};
+ghost use Rattle.std.specs.Prelude.{◌≡◌, ◌≢◌, ◌<◌, ◌≤◌, ◌+◌, ◌^◌, IfOk, IfErr, OnOk, OnErr};
 ghost use Rattle.std.proofs.Common.{suc};
 ghost use Rattle.sector_disk.specs.Disk.{moment, seen, HasFailed};
 ghost use Rattle.sector_disk.specs.Moments.{LeavesOnly};
+ghost use Rattle.feature_store.specs.Store.{IsMap, snapshot};
 ghost use Rattle.area_content.specs.Content.{sectors_taken};
-ghost use Rattle.tile_service.specs.Publishing.{HasFirst};
+ghost use Rattle.area_content.specs.Tiles.{IsArchiveOfMap};
+ghost use Rattle.tile_service.specs.Publishing.{HasFirst, HasNoContent, told_content};
 ghost use Rattle.tile_service.specs.Machine.{begin, step, cancel, Steps};
 ghost use Rattle.tile_service.specs.Service.{Known, IsUp, state_of, known_after, left_answer, cancel_answer, EventLeaves, stored_after, CountsDevice};
 ghost use Rattle.tile_service.specs.Stored.{Stored, Holds, Keeps};
@@ -45,17 +47,35 @@ impl Model for Publication {
     ghost view = { λ p. record { content = p.content; start = p.start; places = p.places; written = p.written } };
 }
 
+/// What is told of a map that has no content for an area.
+fn told(fault: ContentFault) -> ServiceFault
+    ensures { result ≡ told_content fault }
+{
+    match fault {
+        ContentFault::TooManyTiles => ServiceFault::TooManyTiles,
+        ContentFault::AreaFull { need, free } => ServiceFault::AreaFull { need, free },
+        ContentFault::Memory => ServiceFault::Memory,
+    }
+}
+
 /// The snapshot and the archive of a map, for an area of so many sectors.
-fn content_for(alloc: Global, store: &Store, area: u64) -> Result<AreaContent, ServiceFault> {
+fn content_for(alloc: Global, store: &Store, area: u64) -> Result<AreaContent, ServiceFault>
+    requires { area < 2 ^ 23 }
+    ensures map { IsMap store.now.features }
+    ensures snapshot { IfOk result (λ c. c.snapshot ≡ snapshot store.now.features) }
+    ensures archive { IfOk result (λ c. IsArchiveOfMap store.now.features c.archive) }
+    ensures fits { IfOk result (λ c. sectors_taken c ≤ area) }
+    ensures fault { IfErr result (HasNoContent store.now.features area) }
+{
+    // A clause of this call says that the features keep what a map keeps.
+    let _count = store.len();
     let metadata = match metadata_text(alloc, store) {
         Ok(text) => text,
         Err(AllocError) => return Err(ServiceFault::Memory),
     };
     match content_of(alloc, store, metadata.as_bytes(), area) {
         Ok(content) => Ok(content),
-        Err(ContentFault::TooManyTiles) => Err(ServiceFault::TooManyTiles),
-        Err(ContentFault::AreaFull { need, free }) => Err(ServiceFault::AreaFull { need, free }),
-        Err(ContentFault::Memory) => Err(ServiceFault::Memory),
+        Err(fault) => Err(told(fault)),
     }
 }
 
