@@ -1,6 +1,6 @@
 use Rattle.std.proofs.Common.{ℕ, List, sym, subst}
 use Rattle.pm_archive.specs.Archive.{IsMetadata}
-use Rattle.tile_service.proofs.PublishSteps.{metadata_is_text, has_no_content}
+use Rattle.tile_service.proofs.PublishSteps.{metadata_is_text}
 use Rattle.tile_service.proofs.publishing.content_for.Goals as goal
 
 pub content_of-requires-clause-metadata : goal.content_of-requires-clause-metadata
