@@ -1,5 +1,5 @@
 //! Publications: the snapshot of the map and the archive of its tiles, written by steps into the area of the next generation.
-ghost use Rattle.std.specs.Prelude.{◌≡◌, ◌≢◌, ◌<◌, ◌≤◌, ◌+◌, ◌^◌, IfOk, IfErr, OnOk, OnErr};
+ghost use Rattle.std.specs.Prelude.{◌≡◌, ◌≢◌, ◌⊎◌, ◌<◌, ◌≤◌, ◌+◌, ◌^◌, false, true, None, Some, IfOk, IfErr, OnOk, OnErr};
 ghost use Rattle.std.proofs.Common.{suc};
 ghost use Rattle.sector_disk.specs.Disk.{moment, seen, HasFailed};
 ghost use Rattle.sector_disk.specs.Moments.{LeavesOnly};
@@ -7,7 +7,8 @@ ghost use Rattle.feature_store.specs.Store.{IsMap, snapshot};
 ghost use Rattle.area_content.specs.Content.{sectors_taken};
 ghost use Rattle.area_content.specs.Tiles.{IsArchiveOfMap};
 ghost use Rattle.tile_service.specs.Publishing.{HasFirst, HasNoContent, told_content};
-ghost use Rattle.tile_service.specs.Machine.{begin, step, cancel, Steps};
+ghost use Rattle.tile_service.specs.Machine.{begin, step, cancel, Steps, after_install};
+ghost use Rattle.tile_service.specs.Service.{IsGoing, with_publication, going_of, known_installed, installed};
 ghost use Rattle.tile_service.specs.Service.{Known, IsUp, state_of, known_after, left_answer, cancel_answer, EventLeaves, stored_after, CountsDevice};
 ghost use Rattle.tile_service.specs.Stored.{Stored, Holds, Keeps};
 ghost use Rattle.tile_service.specs.declared.fault.ServiceFault.TheVariants.{Device};
@@ -119,7 +120,32 @@ fn write_sectors<D: Sectors>(
 
 impl<D: Sectors + Drop> Service<D> {
     /// Makes the publication the live generation, all of whose sectors are written.
-    fn install(&mut self, publication: Publication) -> Result<u64, ServiceFault> {
+    fn install_now(&mut self, publication: Publication) -> Result<u64, ServiceFault>
+        requires none { self.old.publication ≡ None }
+        requires unbroken { self.old.broken ≡ false }
+        requires going { (root : Root) × (root.generation ≡ self.old.generation)
+            × IsGoing self.old.size root self.old.journal self.old.features publication }
+        requires written { publication.written ≡ sectors_taken publication.content }
+        ensures told { IfOk result (λ told. told ≡ 0) }
+        ensures fault { IfErr result (λ fault. fault ≡ Device) }
+        ensures broken { OnErr result (self.new ≡ record self.old { disk = self.new.disk; broken = true }) }
+        ensures size { self.new.size ≡ self.old.size }
+        ensures state { (known : Known) → OnOk result (state_of (known_installed known (Some publication)) self.new
+            ≡ after_install (state_of known (with_publication self.old publication)) (going_of known.publishing publication)) }
+        ensures count { D.sectors self.new.disk ≡ D.sectors self.old.disk }
+        ensures honest { D.honest self.new.disk → D.honest self.old.disk }
+        ensures faults { OnOk result (D.faults self.new.disk ≡ D.faults self.old.disk) }
+        ensures failed { OnErr result (HasFailed (D.faults self.old.disk) (D.faults self.new.disk)) }
+        ensures steps { D.honest self.new.disk → moment (D.history self.new.disk) ≤ moment (D.history self.old.disk) + 3 }
+        ensures any_moment { (stored : Stored) → D.honest self.new.disk
+            → IsUp (D.sectors self.old.disk) (D.history self.old.disk) stored (with_publication self.old publication)
+            → LeavesOnly (D.history self.old.disk) (D.history self.new.disk) (λ image. Holds (D.sectors self.old.disk) self.old.size stored image
+            ⊎ Holds (D.sectors self.old.disk) self.old.size (installed self.old.size stored (Some publication)) image) }
+        ensures after { (stored : Stored) → D.honest self.new.disk
+            → IsUp (D.sectors self.old.disk) (D.history self.old.disk) stored (with_publication self.old publication)
+            → OnOk result
+            (IsUp (D.sectors self.new.disk) (D.history self.new.disk) (installed self.old.size stored (Some publication)) self.new) }
+    {
         let root = Root {
             generation: self.root.generation + 1,
             edits: publication.start.edits,
@@ -140,8 +166,30 @@ impl<D: Sectors + Drop> Service<D> {
         }
     }
 
-    /// Goes on with a publication by a step.
-    fn advance(&mut self, publication: Publication) -> Result<u64, ServiceFault> {
+    /// Goes on with a publication by a step. It was taken out of the service.
+    fn advance(&mut self, publication: Publication) -> Result<u64, ServiceFault>
+        requires none { self.old.publication ≡ None }
+        requires unbroken { self.old.broken ≡ false }
+        requires going { (root : Root) × (root.generation ≡ self.old.generation)
+            × IsGoing self.old.size root self.old.journal self.old.features publication }
+        ensures machine { (known : Known) → Steps (state_of known (with_publication self.old publication)) step (left_answer result)
+            (state_of (known_after known (with_publication self.old publication) step (left_answer result)) self.new) }
+        ensures fault { IfErr result (λ fault. fault ≡ Device) }
+        ensures size { self.new.size ≡ self.old.size }
+        ensures count { D.sectors self.new.disk ≡ D.sectors self.old.disk }
+        ensures honest { D.honest self.new.disk → D.honest self.old.disk }
+        ensures faults { OnOk result (D.faults self.new.disk ≡ D.faults self.old.disk) }
+        ensures failed { OnErr result (HasFailed (D.faults self.old.disk) (D.faults self.new.disk)) }
+        ensures steps { D.honest self.new.disk → moment (D.history self.new.disk) ≤ moment (D.history self.old.disk) + 67 }
+        ensures any_moment { (stored : Stored) → D.honest self.new.disk
+            → IsUp (D.sectors self.old.disk) (D.history self.old.disk) stored (with_publication self.old publication)
+            → LeavesOnly (D.history self.old.disk) (D.history self.new.disk)
+            (EventLeaves (D.sectors self.old.disk) self.old.size stored (Some publication) step (left_answer result)) }
+        ensures after { (stored : Stored) → D.honest self.new.disk
+            → IsUp (D.sectors self.old.disk) (D.history self.old.disk) stored (with_publication self.old publication)
+            → OnOk result (IsUp (D.sectors self.new.disk) (D.history self.new.disk)
+            (stored_after self.old.size stored (Some publication) step (left_answer result)) self.new) }
+    {
         let left = publication.content.sectors() - publication.written;
         let more = left.min(STEP_SECTORS);
         let written = publication.written + more;
@@ -159,15 +207,16 @@ impl<D: Sectors + Drop> Service<D> {
                 return Err(ServiceFault::Device);
             }
         }
-        if left <= STEP_SECTORS {
-            return self.install(publication);
-        }
-        self.publication = Some(Publication {
+        let publication = Publication {
             content: publication.content,
             start: publication.start,
             places: publication.places,
             written,
-        });
+        };
+        if left <= STEP_SECTORS {
+            return self.install_now(publication);
+        }
+        self.publication = Some(publication);
         Ok(left - more + 1)
     }
 
