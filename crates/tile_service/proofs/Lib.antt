@@ -1,5 +1,6 @@
 mod Appends
 mod Archives
+mod AreaWrites
 mod Bytes
 pub mod Callers
 pub mod Contents
@@ -11,6 +12,7 @@ pub mod Laws
 pub mod Installed
 mod Opens
 pub mod Publications
+mod PublishSteps
 pub mod Publishes
 mod Replays
 mod Roots
