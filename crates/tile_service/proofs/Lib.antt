@@ -9,6 +9,7 @@ mod Fresh
 pub mod Laws
 pub mod Installed
 mod Opens
+pub mod Progress
 pub mod Publications
 pub mod Publishes
 mod Replays
