@@ -1,60 +1,83 @@
 -- A run of events as any caller of a service makes it, event by event.
-use Rattle.std.proofs.Common.{◌≡◌, ◌≢◌, ℕ, List, [], ◌∷◌, ◌++◌, length, true, false, refl, sym, ◌∙◌}
+use Rattle.std.proofs.Common.{◌≡◌, ◌≢◌, ℕ, ◌<◌, ◌+◌, ◌-◌, List, [], ◌∷◌, ◌++◌, length, get_or, Option, Some, None, true, false, refl, sym, ◌∙◌}
 use Rattle.std.proofs.Common.{ap, subst, arith, length-append}
+use Rattle.std.specs.Prelude.{IfSome}
 use Rattle.std.proofs.lemmas.Bool.{false≢true}
 use Rattle.sector_disk.specs.Disk.{History}
 use Rattle.sector_disk.specs.Moments.{LeavesOnly}
-use Rattle.feature_model.specs.Data.{EditData}
-use Rattle.tile_service.specs.Machine.{ArchiveState, EventData, tile, AnswerData, refused, Steps, Runs}
-use Rattle.tile_service.specs.Runs.{reached, IsInDoubt}
-use Rattle.tile_service.specs.Service.{ServiceView, IsUp, state_of, EventLeaves, stored_after}
-use Rattle.tile_service.specs.Stored.{Stored, Keeps}
+use Rattle.tile_service.specs.Machine.{EventData, tile, AnswerData, cancelled, refused, Steps, Runs}
+use Rattle.tile_service.specs.Runs.{all_edits, way_of, Way, Progress, starts, progress_of, NoneInDoubt, Reaches, TakesRun}
+use Rattle.tile_service.specs.Service.{PublicationView, ServiceView, Known, Publishes, IsUp, state_of, known_after, EventLeaves, stored_after}
+use Rattle.tile_service.specs.Stored.{Stored, Keeps, last_of}
 use Rattle.tile_service.specs.declared.fault.ServiceFault.TheVariants.{Device}
-use Rattle.tile_service.proofs.Fits.{RunLeaves, reached_on, doubt_breaks, run_starts, run_goes_on, sized_as}
-use Rattle.tile_service.proofs.Runs.{no_archive, broken_stays, was_unbroken, runs_on, writes_nothing}
+use Rattle.tile_service.proofs.Fits.{RunLeaves, IsHere, doubt_breaks, run_starts, run_goes_on, run_fits, reaches_on, published_within, sized_as}
+use Rattle.tile_service.proofs.Progress.{Within, IsSince, has_start, has_last, progress_on, progress_edits, way_in, way_seen, way_after}
+use Rattle.tile_service.proofs.Runs.{no_known, broken_stays, was_unbroken, runs_on, writes_nothing}
 
 module _ {D : Type 0} (sectors : D → ℕ) (honest : D → Type 0) (history : D → History) where
   -- What one event does, whatever call made it.
   pub record HasStep (old : ServiceView D) (event : EventData) (answer : AnswerData) (new : ServiceView D) : Type 0 where
-    pub machine : (archive : ArchiveState) → Steps (state_of archive old) event answer (state_of archive new)
+    pub machine : (known : Known) → Steps (state_of known old) event answer (state_of (known_after known old event answer) new)
     pub size : new.size ≡ old.size
     pub count : sectors new.disk ≡ sectors old.disk
     pub stays_honest : honest new.disk → honest old.disk
     pub untouched : old.broken ≡ true → new.disk ≡ old.disk
     pub any_moment : (stored : Stored) → honest new.disk → IsUp (sectors old.disk) (history old.disk) stored old
-        → LeavesOnly (history old.disk) (history new.disk) (EventLeaves (sectors old.disk) old.size stored event answer)
+        → LeavesOnly (history old.disk) (history new.disk) (EventLeaves (sectors old.disk) old.size stored old.publication event answer)
     pub after : (stored : Stored) → honest new.disk → IsUp (sectors old.disk) (history old.disk) stored old → answer ≢ refused Device
-        → IsUp (sectors new.disk) (history new.disk) (stored_after stored event answer) new
+        → IsUp (sectors new.disk) (history new.disk) (stored_after old.size stored old.publication event answer) new
+
+  -- What a service goes on from after a run: what is stored, and the publication that is under way.
+  pub record IsUpAfter (old : ServiceView D) (events : List EventData) (answers : List AnswerData) (now : ServiceView D) (stored : Stored) : Type 0 where
+    pub reached : Stored
+    pub is_up : IsUp (sectors now.disk) (history now.disk) reached now
+    pub reaches : Reaches stored (way_of stored.edits old.publication) events answers reached
+    pub way_is : way_of stored.edits now.publication ≡ (progress_of (starts stored (way_of stored.edits old.publication)) events answers).under_way
 
   -- What some events have done so far, one after the other.
   pub record HasRun (old : ServiceView D) (events : List EventData) (answers : List AnswerData) (now : ServiceView D) : Type 0 where
     pub same : length events ≡ length answers
-    pub machine : (archive : ArchiveState) → Runs (state_of archive old) events answers (state_of archive now)
+    pub machine : (known : Known) → (then_known : Known) × Runs (state_of known old) events answers (state_of then_known now)
     pub size : now.size ≡ old.size
     pub count : sectors now.disk ≡ sectors old.disk
     pub stays_honest : honest now.disk → honest old.disk
-    pub doubt : (e : EditData) → IsInDoubt events answers e → now.broken ≡ true
+    pub doubt : (index : ℕ) → index < length answers → get_or answers index cancelled ≡ refused Device → now.broken ≡ true
     pub up : (stored : Stored) → honest now.disk → IsUp (sectors old.disk) (history old.disk) stored old → now.broken ≡ false
-        → IsUp (sectors now.disk) (history now.disk) (reached stored events answers) now
+        → IsUpAfter old events answers now stored
     pub leaves : (stored : Stored) → honest now.disk → IsUp (sectors old.disk) (history old.disk) stored old
-        → RunLeaves (sectors old.disk) old.size stored events answers (history old.disk) (history now.disk)
+        → RunLeaves (sectors old.disk) old.size stored (way_of stored.edits old.publication) events answers (history old.disk) (history now.disk)
+
+  -- a publication under way is one of the edits since
+  since_of : (n : ℕ) (stored : Stored) (h : History) (publication : Option PublicationView) → IfSome publication (Publishes n stored h)
+      → IfSome publication (IsSince stored)
+  since_of n stored h None publishes = tt
+  since_of n stored h (Some p) publishes = (publishes.later, publishes.under_way.can.within)
+
+  within_of : (stored : Stored) (publication : Option PublicationView) → IfSome publication (IsSince stored)
+      → Within (starts stored (way_of stored.edits publication))
+  within_of stored None since = record { published = omega arith; under_way = tt }
+  within_of stored (Some p) since = record { published = omega arith; under_way = since.1 }
+
+  up_since : (stored : Stored) (now : ServiceView D) → IsUp (sectors now.disk) (history now.disk) stored now → IfSome now.publication (IsSince stored)
+  up_since stored now up = since_of now.size stored (history now.disk) now.publication up.publication
 
   -- before the first event
   pub run_begins : (old : ServiceView D) → HasRun old [] [] old
   run_begins old = record {
     same = refl;
-    machine = λ archive. refl;
+    machine = λ known. (known, refl);
     size = refl;
     count = refl;
     stays_honest = λ is_honest. is_honest;
-    doubt = λ e doubt. absurd (omega (arith, doubt.in_events));
-    up = λ stored is_honest up unbroken. up;
-    leaves = λ stored is_honest up. run_starts (sectors old.disk) old.size stored (history old.disk) up.keeps;
+    doubt = λ index lt. absurd (omega (arith, lt));
+    up = λ stored is_honest up unbroken. record { reached = stored; is_up = up; reaches = has_start stored; way_is = refl };
+    leaves = λ stored is_honest up. run_starts (sectors old.disk) old.size stored (way_of stored.edits old.publication) (history old.disk)
+        (within_of stored old.publication (up_since stored old up)) up.keeps;
   }
 
   -- a tile that is shown changes nothing
   pub tile_step : (old new : ServiceView D) (z x y : ℕ) (answer : AnswerData)
-      → ((archive : ArchiveState) → Steps (state_of archive old) (tile z x y) answer (state_of archive new)) → new ≡ old
+      → ((known : Known) → Steps (state_of known old) (tile z x y) answer (state_of known new)) → new ≡ old
       → HasStep old (tile z x y) answer new
   tile_step old new z x y answer machine same = record {
     machine = machine;
@@ -62,50 +85,108 @@ module _ {D : Type 0} (sectors : D → ℕ) (honest : D → Type 0) (history : D
     count = ap (λ (s : ServiceView D). sectors s.disk) same;
     stays_honest = λ is_honest. subst (λ (s : ServiceView D). honest s.disk) same is_honest;
     untouched = λ broken. ap (λ (s : ServiceView D). s.disk) same;
-    any_moment = λ stored is_honest up. writes_nothing (sectors old.disk) old.size stored (tile z x y) answer (history old.disk) (history new.disk)
-        (ap (λ (s : ServiceView D). history s.disk) same) up.keeps;
+    any_moment = λ stored is_honest up. writes_nothing (sectors old.disk) old.size stored old.publication (tile z x y) answer
+        (history old.disk) (history new.disk) (ap (λ (s : ServiceView D). history s.disk) same) up.keeps;
     after = λ stored is_honest up not. subst (λ (s : ServiceView D). IsUp (sectors s.disk) (history s.disk) stored s) (sym same) up;
   }
 
   module _ (old now new : ServiceView D) (events : List EventData) (answers : List AnswerData) (event : EventData) (answer : AnswerData)
-      (so : HasRun old events answers now) (step : HasStep now event answer new) where
-    taken : Steps (state_of no_archive now) event answer (state_of no_archive new)
-    taken = step.machine no_archive
+      (so : HasRun old events answers now) (goes : HasStep now event answer new) where
+    abbrev known_then : Known
+    known_then = known_after no_known now event answer
+
+    taken : Steps (state_of no_known now) event answer (state_of known_then new)
+    taken = goes.machine no_known
+
+    was : new.broken ≡ false → (now.broken ≡ false) × (answer ≢ refused Device)
+    was unbroken = was_unbroken (state_of no_known now) (state_of known_then new) event answer taken unbroken
+
+    abbrev way : Stored → Option Way
+    way stored = way_of stored.edits old.publication
+
+    -- the event at a service that isn't broken
+    here : (stored : Stored) → honest new.disk → IsUp (sectors old.disk) (history old.disk) stored old → now.broken ≡ false
+        → IsHere (sectors old.disk) old.size stored (way stored) events answers event answer (history now.disk) (history new.disk)
+    here stored is_honest up unbroken =
+        let so_far = so.up stored (goes.stays_honest is_honest) up unbroken in
+        record {
+          s = so_far.reached;
+          publication = now.publication;
+          reaches = so_far.reaches;
+          way_is = so_far.way_is;
+          since = up_since so_far.reached now so_far.is_up;
+          call = sized_as
+              (λ count n. LeavesOnly (history now.disk) (history new.disk) (EventLeaves count n so_far.reached now.publication event answer))
+              so.count so.size (goes.any_moment so_far.reached is_honest so_far.is_up);
+          after = λ fine. subst
+              (λ (n : ℕ). Keeps (sectors old.disk) old.size (stored_after n so_far.reached now.publication event answer) (history new.disk)) so.size
+              (sized_as (λ count n. Keeps count n (stored_after now.size so_far.reached now.publication event answer) (history new.disk))
+              (goes.count ∙ so.count) (goes.size ∙ so.size) (goes.after so_far.reached is_honest so_far.is_up fine).keeps);
+        }
+
+    none : now.broken ≡ false → NoneInDoubt answers
+    none unbroken index lt is = false≢true (sym unbroken ∙ so.doubt index lt is)
 
     up_on : (stored : Stored) → honest new.disk → IsUp (sectors old.disk) (history old.disk) stored old → new.broken ≡ false
-        → IsUp (sectors new.disk) (history new.disk) (reached stored (events ++ event ∷ []) (answers ++ answer ∷ [])) new
+        → IsUpAfter old (events ++ event ∷ []) (answers ++ answer ∷ []) new stored
+    unfolding here
     up_on stored is_honest up unbroken =
-        let was = was_unbroken (state_of no_archive now) (state_of no_archive new) event answer taken unbroken in
-        subst (λ (s : Stored). IsUp (sectors new.disk) (history new.disk) s new) (sym (reached_on stored events answers event answer so.same))
-        (step.after (reached stored events answers) is_honest (so.up stored (step.stays_honest is_honest) up was.0) was.1)
+        let so_far = so.up stored (goes.stays_honest is_honest) up (was unbroken).0 in
+        let leaves = so.leaves stored (goes.stays_honest is_honest) up in
+        let is_here = here stored is_honest up (was unbroken).0 in
+        let p : Progress = progress_of (starts stored (way stored)) events answers in
+        let last : last_of so_far.reached ≡ stored.edits + length (all_edits stored events answers) =
+        has_last stored (all_edits stored events answers) p.published so_far.reached
+        (published_within stored (way stored) leaves.within events answers) so_far.reaches in
+        let counted : now.journal.last - stored.edits ≡ p.edits =
+        omega (arith, so_far.is_up.last_is, last, progress_edits stored (way stored) events answers) in
+        record {
+          reached = stored_after now.size so_far.reached now.publication event answer;
+          is_up = goes.after so_far.reached is_honest so_far.is_up (was unbroken).1;
+          reaches = subst (λ (n : ℕ). Reaches stored (way stored) (events ++ event ∷ []) (answers ++ answer ∷ [])
+              (stored_after n so_far.reached now.publication event answer)) (sym so.size)
+              (reaches_on (sectors old.disk) old.size stored (way stored) events answers event answer (history old.disk) (history now.disk)
+              (history new.disk) leaves is_here.call.follows (none (was unbroken).0) is_here);
+          way_is = sym (way_seen stored.edits known_then.publishing new.publication)
+              ∙ way_after stored.edits (state_of no_known now) (state_of known_then new) p
+              (way_seen stored.edits no_known.publishing now.publication ∙ so_far.way_is) event answer taken counted (was unbroken).1
+              ∙ sym (ap (λ (q : Progress). q.under_way) (progress_on (starts stored (way stored)) events answers event answer so.same));
+        }
 
     leaves_on : (stored : Stored) → honest new.disk → IsUp (sectors old.disk) (history old.disk) stored old
-        → RunLeaves (sectors old.disk) old.size stored (events ++ event ∷ []) (answers ++ answer ∷ []) (history old.disk) (history new.disk)
+        → RunLeaves (sectors old.disk) old.size stored (way stored) (events ++ event ∷ []) (answers ++ answer ∷ []) (history old.disk) (history new.disk)
     leaves_on stored is_honest up =
-        let here = so.up stored (step.stays_honest is_honest) up in
-        run_goes_on (sectors old.disk) old.size stored events answers event answer (history old.disk) (history now.disk) (history new.disk) so.same
-        (so.leaves stored (step.stays_honest is_honest) up) now.broken
+        run_goes_on (sectors old.disk) old.size stored (way stored) events answers event answer (history old.disk) (history now.disk) (history new.disk)
+        (so.leaves stored (goes.stays_honest is_honest) up) now.broken
         (λ broken. (
-          (broken_stays (state_of no_archive now) (state_of no_archive new) event answer taken broken).1,
-          ap (λ (d : D). history d) (step.untouched broken),
+          (broken_stays (state_of no_known now) (state_of known_then new) event answer taken broken).1,
+          ap (λ (d : D). history d) (goes.untouched broken),
         ))
-        (λ unbroken e doubt. false≢true (sym unbroken ∙ so.doubt e doubt))
-        (λ unbroken. sized_as
-        (λ count n. LeavesOnly (history now.disk) (history new.disk) (EventLeaves count n (reached stored events answers) event answer))
-        so.count so.size (step.any_moment (reached stored events answers) is_honest (here unbroken)))
-        (λ unbroken fine. sized_as (λ count n. Keeps count n (stored_after (reached stored events answers) event answer) (history new.disk))
-        (step.count ∙ so.count) (step.size ∙ so.size) (step.after (reached stored events answers) is_honest (here unbroken) fine).keeps)
+        none (here stored is_honest up)
 
     -- one event more
     pub run_on : HasRun old (events ++ event ∷ []) (answers ++ answer ∷ []) new
     run_on = record {
       same = omega (arith, so.same, length-append events (event ∷ []), length-append answers (answer ∷ []));
-      machine = λ archive. runs_on (state_of archive old) (state_of archive now) (state_of archive new) events answers event answer
-          (so.machine archive) (step.machine archive);
-      size = step.size ∙ so.size;
-      count = step.count ∙ so.count;
-      stays_honest = λ is_honest. so.stays_honest (step.stays_honest is_honest);
-      doubt = doubt_breaks events answers event answer (state_of no_archive now) (state_of no_archive new) so.same taken so.doubt;
+      machine = λ known. let so_far = so.machine known in (
+        known_after so_far.0 now event answer,
+        runs_on (state_of known old) (state_of so_far.0 now) (state_of (known_after so_far.0 now event answer) new) events answers event answer
+            so_far.1 (goes.machine so_far.0),
+      );
+      size = goes.size ∙ so.size;
+      count = goes.count ∙ so.count;
+      stays_honest = λ is_honest. so.stays_honest (goes.stays_honest is_honest);
+      doubt = doubt_breaks answers event answer (state_of no_known now) (state_of known_then new) taken so.doubt;
       up = up_on;
       leaves = leaves_on;
     }
+
+  -- What a run says of itself.
+  pub takes_run : (old : ServiceView D) (events : List EventData) (answers : List AnswerData) (now : ServiceView D) → HasRun old events answers now
+      → TakesRun sectors honest history old events answers now
+  takes_run old events answers now so = record {
+    machine = so.machine;
+    any_moment = λ stored is_honest up. run_fits (sectors old.disk) old.size stored (way_of stored.edits old.publication) events answers
+        (history old.disk) (history now.disk) (so.leaves stored is_honest up);
+    after = λ stored is_honest up unbroken. let then_up = so.up stored is_honest up unbroken in (then_up.reached, then_up.is_up, then_up.reaches);
+  }

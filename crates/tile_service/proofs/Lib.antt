@@ -11,6 +11,7 @@ mod Going
 pub mod Laws
 pub mod Installed
 mod Opens
+pub mod Progress
 pub mod Publications
 mod PublishSteps
 pub mod Publishes

@@ -125,8 +125,9 @@ pub record IsStepInDoubt (start : Progress) (events : List EventData) (answers :
 -- How many edits the snapshot may have from the time on at which the first k events had returned: those of the publication that was
 -- installed last at some time since then, or those of one in doubt.
 abbrev pub IsPublished : Progress → List EventData → List AnswerData → (k j : ℕ) → Type 0
-IsPublished start events answers k j = (index : ℕ) × (k ≤ index) × (index ≤ length answers)
-    × ((j ≡ (progress_of start (take index events) (take index answers)).published) ⊎ IsStepInDoubt start events answers index j)
+IsPublished start events answers k j =
+    ((index : ℕ) × (k ≤ index) × (index ≤ length answers) × (j ≡ (progress_of start (take index events) (take index answers)).published))
+    ⊎ ((index : ℕ) × IsStepInDoubt start events answers index j)
 
 -- ---- images
 
