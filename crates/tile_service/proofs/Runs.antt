@@ -348,7 +348,19 @@ runs_on old between new (e ∷ events) [] event answer run goes = absurd run
 runs_on old between new (e ∷ events) (a ∷ answers) event answer run goes =
     (run.0, run.1, runs_on run.0 between new events answers event answer run.2 goes)
 
--- ---- an edit's answer
+-- ---- an event's answer
+
+-- the same event and answer, told otherwise
+pub told_step : (P : EventData → AnswerData → Type 0) {event event' : EventData} {answer answer' : AnswerData} → event ≡ event' → answer ≡ answer'
+    → P event' answer' → P event answer
+told_step P {event} {event'} {answer} {answer'} same_event same_answer holds =
+    subst (λ (x : EventData). P x answer) (sym same_event) (subst (λ (x : AnswerData). P event' x) (sym same_answer) holds)
+
+-- what is the same after a refusal has what it had
+pub kept_for : {A : Type 0} (P : A → Type 0) (old new : A) (result : Result ℕ ServiceFault) → IfErr result (λ fault. fault ≢ Device → new ≡ old) → P old
+    → IfErr result (λ fault. fault ≢ Device → P new)
+kept_for P old new (Ok told) same holds = tt
+kept_for P old new (Err fault) same holds = λ not. subst P (sym (same not)) holds
 
 pub broken_is_no_device : ◌≡◌ {A = ServiceFault} Broken Device → ⊥
 broken_is_no_device is = false≢true (ap (λ (fault : ServiceFault). is_device (refused fault)) is)
