@@ -1,8 +1,10 @@
 //! A publication in which one call of the disk fails, and a crash after it.
 
-use super::archives::archive_of;
+use super::archives::{archive_of, points_to, tile_of};
+use super::publications::large_disk;
 use super::{archive, formatted, opened, point, publish};
 use crate::{Service, ServiceFault};
+use hilbert_id::TileAt;
 use sector_disk::{FailingCalls, FaultyDisk, MemoryDisk, Sectors};
 use std::alloc::Global;
 use std::test::Fail;
@@ -114,5 +116,63 @@ fn calls_of_a_publication(rt: HostRuntime) -> Result<(), Fail> {
     assert_eq!(rt; service.publish_begin(), Ok(3));
     assert_eq!(rt; service.publish_cancel(), Ok(()));
     assert_eq!(rt; service.into_disk().calls(), 13);
+    Ok(())
+}
+
+/// How many calls of the disk an opening takes.
+fn calls_of_opening(alloc: Global, disk: MemoryDisk) -> Result<u64, Fail> {
+    let service = opened(alloc, FaultyDisk::new(disk, FailingCalls::OneNotMade(0)))?;
+    Ok(service.into_disk().calls())
+}
+
+/// Which step of a publication fails where the calls of the disk from this number on do, and the disk.
+fn stopped_from(alloc: Global, disk: MemoryDisk, call: u64) -> Result<(u64, MemoryDisk), Fail> {
+    let faulty = FaultyDisk::new(disk, FailingCalls::AllFrom(call));
+    let mut service = opened(alloc, faulty)?;
+    let _ = service.publish_begin()?;
+    for step in 1..5 {
+        match service.publish_step() {
+            Ok(_) => {}
+            Err(ServiceFault::Device) => return Ok((step, service.into_disk().into_disk())),
+            Err(fault) => return Err(fault.into()),
+        }
+    }
+    Err("no step fails".into())
+}
+
+/// Whether the disk shows all points, and how many bytes its archive has.
+fn large_shown(alloc: Global, disk: MemoryDisk) -> Result<(bool, u64), Fail> {
+    let at = TileAt::new(0, 0, 0).ok_or("a tile")?;
+    let mut service = opened(alloc, disk)?;
+    let tile = tile_of(alloc, &points_to(alloc, 62, 1_000)?)?;
+    let shown = service.tile(at)?.as_deref() == Some(tile.as_slice());
+    Ok((shown, service.archive_len()))
+}
+
+/// Calls of the publication, the step that makes each, and how long the archive is where that call isn't made, by whether a crash
+/// leaves what wasn't synced. Two steps write 64 sectors each, and the third writes two, syncs, writes the root, and syncs.
+const LARGE: [(u64, u64, [u64; 2]); 6] = [
+    (1, 1, [0, 0]),
+    (64, 1, [0, 0]),
+    (65, 2, [0, 0]),
+    (130, 3, [0, 0]),
+    (132, 3, [0, 0]),
+    (133, 3, [0, 2_166]),
+];
+
+#[test]
+fn stopped_in_each_step(rt: HostRuntime) -> Result<(), Fail> {
+    let alloc = rt.alloc();
+    let whole = large_disk(alloc)?;
+    let before = calls_of_opening(alloc, whole.crash(&[])?)?;
+    for (call, step, lengths) in LARGE {
+        let first = before.saturating_add(call);
+        let (failed, disk) = stopped_from(alloc, whole.crash(&[])?, first)?;
+        assert_eq!(rt; failed, step, "{call}");
+        for (choice, len) in [[0; 130], [1; 130]].iter().zip(lengths) {
+            let shown = large_shown(alloc, disk.crash(choice)?)?;
+            assert_eq!(rt; shown, (true, len), "{call}");
+        }
+    }
     Ok(())
 }
