@@ -73,36 +73,46 @@ fn is_new(alloc: Global, disk: MemoryDisk) -> Result<bool, Fail> {
 const CHOICES: [[u32; 2]; 4] = [[0, 0], [0, 1], [1, 0], [1, 1]];
 
 /// For each of these choices, whether the new archive stands.
-fn news(alloc: Global, failing_calls: FailingCalls) -> Result<[bool; 4], Fail> {
+fn news(alloc: Global, failing_calls: FailingCalls) -> Result<Vec<bool>, Fail> {
     let disk = stopped(alloc, failing_calls)?;
-    let mut found = [false; 4];
-    for (choice, new) in CHOICES.iter().zip(found.iter_mut()) {
-        *new = is_new(alloc, disk.crash(choice)?)?;
+    let mut found = Vec::new(alloc);
+    for choice in CHOICES {
+        found.push(is_new(alloc, disk.crash(&choice)?)?)?;
     }
     Ok(found)
 }
 
-#[test]
-fn stopped_before_the_root_is_written(rt: HostRuntime) -> Result<(), Fail> {
-    for call in 9..13 {
-        for failing_calls in [FailingCalls::AllFrom(call), FailingCalls::OneNotMade(call)] {
-            assert_eq!(rt; news(rt.alloc(), failing_calls)?, [false; 4], "{call}");
-        }
-        // A write that was made, and told as failed.
-        let made = FailingCalls::OneMade(call);
-        let root = [false, false, call == 12, call == 12];
-        assert_eq!(rt; news(rt.alloc(), made)?, root, "{call}");
-    }
-    Ok(())
-}
+/// Where only the sync that follows the root's write fails, the root stands by the crash's choice.
+const BY_CHOICE: [bool; 4] = [false, false, true, true];
+
+/// Which calls fail, and for each choice, whether the new archive stands.
+const STOPS: [(FailingCalls, [bool; 4]); 15] = [
+    (FailingCalls::AllFrom(9), [false; 4]),
+    (FailingCalls::AllFrom(10), [false; 4]),
+    (FailingCalls::AllFrom(11), [false; 4]),
+    (FailingCalls::AllFrom(12), [false; 4]),
+    (FailingCalls::AllFrom(13), BY_CHOICE),
+    (FailingCalls::OneNotMade(9), [false; 4]),
+    (FailingCalls::OneNotMade(10), [false; 4]),
+    (FailingCalls::OneNotMade(11), [false; 4]),
+    (FailingCalls::OneNotMade(12), [false; 4]),
+    (FailingCalls::OneNotMade(13), BY_CHOICE),
+    (FailingCalls::OneMade(9), [false; 4]),
+    (FailingCalls::OneMade(10), [false; 4]),
+    (FailingCalls::OneMade(11), [false; 4]),
+    (FailingCalls::OneMade(12), BY_CHOICE),
+    (FailingCalls::OneMade(13), [true; 4]),
+];
 
 #[test]
-fn stopped_before_the_root_is_synced(rt: HostRuntime) -> Result<(), Fail> {
-    let alloc = rt.alloc();
-    let by_choice = [false, false, true, true];
-    assert_eq!(rt; news(alloc, FailingCalls::AllFrom(13))?, by_choice);
-    assert_eq!(rt; news(alloc, FailingCalls::OneNotMade(13))?, by_choice);
-    assert_eq!(rt; news(alloc, FailingCalls::OneMade(13))?, [true; 4]);
+fn stopped_at_each_call_of_a_step(rt: HostRuntime) -> Result<(), Fail> {
+    for (failing_calls, new) in STOPS {
+        assert_eq!(rt;
+            news(rt.alloc(), failing_calls)?.as_slice(),
+            new.as_slice(),
+            "{failing_calls:?}"
+        );
+    }
     Ok(())
 }
 
@@ -169,8 +179,9 @@ fn stopped_in_each_step(rt: HostRuntime) -> Result<(), Fail> {
         let first = before.saturating_add(call);
         let (failed, disk) = stopped_from(alloc, whole.crash(&[])?, first)?;
         assert_eq!(rt; failed, step, "{call}");
-        for (choice, len) in [[0; 130], [1; 130]].iter().zip(lengths) {
-            let shown = large_shown(alloc, disk.crash(choice)?)?;
+        let [none, all] = lengths;
+        for (choice, len) in [([0; 130], none), ([1; 130], all)] {
+            let shown = large_shown(alloc, disk.crash(&choice)?)?;
             assert_eq!(rt; shown, (true, len), "{call}");
         }
     }
