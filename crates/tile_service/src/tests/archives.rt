@@ -6,6 +6,15 @@ use std::test::Fail;
 /// A feature's number, and how many letters `x` the tag of its point has: none, or 128 to 16,000.
 pub(crate) type Point = (u8, u16);
 
+/// The points of the numbers from 1 to a last one, each with so many letters.
+pub(crate) fn points_to(alloc: Global, last: u8, letters: u16) -> Result<Vec<Point>, Fail> {
+    let mut points = Vec::new(alloc);
+    for id in 1..=last {
+        points.push((id, letters))?;
+    }
+    Ok(points)
+}
+
 /// What stands in a layer behind its points and its tags: extent 4096 and version 2.
 const LAYER_END: [u8; 5] = [0x28, 0x80, 0x20, 0x78, 2];
 

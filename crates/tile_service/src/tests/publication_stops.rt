@@ -1,8 +1,10 @@
 //! A publication in which one call of the disk fails, and a crash after it.
 
-use super::archives::archive_of;
+use super::archives::{archive_of, points_to, tile_of};
+use super::publications::large_disk;
 use super::{archive, formatted, opened, point, publish};
 use crate::{Service, ServiceFault};
+use hilbert_id::TileAt;
 use sector_disk::{FailingCalls, FaultyDisk, MemoryDisk, Sectors};
 use std::alloc::Global;
 use std::test::Fail;
@@ -71,36 +73,46 @@ fn is_new(alloc: Global, disk: MemoryDisk) -> Result<bool, Fail> {
 const CHOICES: [[u32; 2]; 4] = [[0, 0], [0, 1], [1, 0], [1, 1]];
 
 /// For each of these choices, whether the new archive stands.
-fn news(alloc: Global, failing_calls: FailingCalls) -> Result<[bool; 4], Fail> {
+fn news(alloc: Global, failing_calls: FailingCalls) -> Result<Vec<bool>, Fail> {
     let disk = stopped(alloc, failing_calls)?;
-    let mut found = [false; 4];
-    for (choice, new) in CHOICES.iter().zip(found.iter_mut()) {
-        *new = is_new(alloc, disk.crash(choice)?)?;
+    let mut found = Vec::new(alloc);
+    for choice in CHOICES {
+        found.push(is_new(alloc, disk.crash(&choice)?)?)?;
     }
     Ok(found)
 }
 
-#[test]
-fn stopped_before_the_root_is_written(rt: HostRuntime) -> Result<(), Fail> {
-    for call in 9..13 {
-        for failing_calls in [FailingCalls::AllFrom(call), FailingCalls::OneNotMade(call)] {
-            assert_eq!(rt; news(rt.alloc(), failing_calls)?, [false; 4], "{call}");
-        }
-        // A write that was made, and told as failed.
-        let made = FailingCalls::OneMade(call);
-        let root = [false, false, call == 12, call == 12];
-        assert_eq!(rt; news(rt.alloc(), made)?, root, "{call}");
-    }
-    Ok(())
-}
+/// Where only the sync that follows the root's write fails, the root stands by the crash's choice.
+const BY_CHOICE: [bool; 4] = [false, false, true, true];
+
+/// Which calls fail, and for each choice, whether the new archive stands.
+const STOPS: [(FailingCalls, [bool; 4]); 15] = [
+    (FailingCalls::AllFrom(9), [false; 4]),
+    (FailingCalls::AllFrom(10), [false; 4]),
+    (FailingCalls::AllFrom(11), [false; 4]),
+    (FailingCalls::AllFrom(12), [false; 4]),
+    (FailingCalls::AllFrom(13), BY_CHOICE),
+    (FailingCalls::OneNotMade(9), [false; 4]),
+    (FailingCalls::OneNotMade(10), [false; 4]),
+    (FailingCalls::OneNotMade(11), [false; 4]),
+    (FailingCalls::OneNotMade(12), [false; 4]),
+    (FailingCalls::OneNotMade(13), BY_CHOICE),
+    (FailingCalls::OneMade(9), [false; 4]),
+    (FailingCalls::OneMade(10), [false; 4]),
+    (FailingCalls::OneMade(11), [false; 4]),
+    (FailingCalls::OneMade(12), BY_CHOICE),
+    (FailingCalls::OneMade(13), [true; 4]),
+];
 
 #[test]
-fn stopped_before_the_root_is_synced(rt: HostRuntime) -> Result<(), Fail> {
-    let alloc = rt.alloc();
-    let by_choice = [false, false, true, true];
-    assert_eq!(rt; news(alloc, FailingCalls::AllFrom(13))?, by_choice);
-    assert_eq!(rt; news(alloc, FailingCalls::OneNotMade(13))?, by_choice);
-    assert_eq!(rt; news(alloc, FailingCalls::OneMade(13))?, [true; 4]);
+fn stopped_at_each_call_of_a_step(rt: HostRuntime) -> Result<(), Fail> {
+    for (failing_calls, new) in STOPS {
+        assert_eq!(rt;
+            news(rt.alloc(), failing_calls)?.as_slice(),
+            new.as_slice(),
+            "{failing_calls:?}"
+        );
+    }
     Ok(())
 }
 
@@ -114,5 +126,64 @@ fn calls_of_a_publication(rt: HostRuntime) -> Result<(), Fail> {
     assert_eq!(rt; service.publish_begin(), Ok(3));
     assert_eq!(rt; service.publish_cancel(), Ok(()));
     assert_eq!(rt; service.into_disk().calls(), 13);
+    Ok(())
+}
+
+/// How many calls of the disk an opening takes.
+fn calls_of_opening(alloc: Global, disk: MemoryDisk) -> Result<u64, Fail> {
+    let service = opened(alloc, FaultyDisk::new(disk, FailingCalls::OneNotMade(0)))?;
+    Ok(service.into_disk().calls())
+}
+
+/// Which step of a publication fails where the calls of the disk from this number on do, and the disk.
+fn stopped_from(alloc: Global, disk: MemoryDisk, call: u64) -> Result<(u64, MemoryDisk), Fail> {
+    let faulty = FaultyDisk::new(disk, FailingCalls::AllFrom(call));
+    let mut service = opened(alloc, faulty)?;
+    let _ = service.publish_begin()?;
+    for step in 1..5 {
+        match service.publish_step() {
+            Ok(_) => {}
+            Err(ServiceFault::Device) => return Ok((step, service.into_disk().into_disk())),
+            Err(fault) => return Err(fault.into()),
+        }
+    }
+    Err("no step fails".into())
+}
+
+/// Whether the disk shows all points, and how many bytes its archive has.
+fn large_shown(alloc: Global, disk: MemoryDisk) -> Result<(bool, u64), Fail> {
+    let at = TileAt::new(0, 0, 0).ok_or("a tile")?;
+    let mut service = opened(alloc, disk)?;
+    let tile = tile_of(alloc, &points_to(alloc, 62, 1_000)?)?;
+    let shown = service.tile(at)?.as_deref() == Some(tile.as_slice());
+    Ok((shown, service.archive_len()))
+}
+
+/// Calls of the publication, the step that makes each, and how long the archive is where that call isn't made, by whether a crash
+/// leaves what wasn't synced. Two steps write 64 sectors each, and the third writes two, syncs, writes the root, and syncs.
+const LARGE: [(u64, u64, [u64; 2]); 6] = [
+    (1, 1, [0, 0]),
+    (64, 1, [0, 0]),
+    (65, 2, [0, 0]),
+    (130, 3, [0, 0]),
+    (132, 3, [0, 0]),
+    (133, 3, [0, 2_166]),
+];
+
+#[test]
+fn stopped_in_each_step(rt: HostRuntime) -> Result<(), Fail> {
+    let alloc = rt.alloc();
+    let whole = large_disk(alloc)?;
+    let before = calls_of_opening(alloc, whole.crash(&[])?)?;
+    for (call, step, lengths) in LARGE {
+        let first = before.saturating_add(call);
+        let (failed, disk) = stopped_from(alloc, whole.crash(&[])?, first)?;
+        assert_eq!(rt; failed, step, "{call}");
+        let [none, all] = lengths;
+        for (choice, len) in [([0; 130], none), ([1; 130], all)] {
+            let shown = large_shown(alloc, disk.crash(&choice)?)?;
+            assert_eq!(rt; shown, (true, len), "{call}");
+        }
+    }
     Ok(())
 }

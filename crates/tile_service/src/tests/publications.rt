@@ -1,6 +1,6 @@
 //! Publications by steps, over disks in memory of 64 sectors: 16 of the journal, and two areas of 22, the second of them at 41.
 
-use super::archives::{Point, archive_of, tile_of};
+use super::archives::{Point, archive_of, points_to, tile_of};
 use super::{archive, begins, formatted, opened, point, publish, root, sector_at};
 use crate::{Service, ServiceFault};
 use feature_model::{Feature, Geometry, World};
@@ -10,13 +10,22 @@ use sector_disk::{MemoryDisk, Sectors};
 use std::alloc::Global;
 use std::test::Fail;
 
-/// A service of an empty disk that was given these features, in this order.
-fn service_with(alloc: Global, points: &[Point]) -> Result<Service<MemoryDisk>, Fail> {
-    let mut service = opened(alloc, formatted(alloc)?)?;
+/// The service of a disk to which these features are added, in this order.
+pub(crate) fn with_points(
+    alloc: Global,
+    disk: MemoryDisk,
+    points: &[Point],
+) -> Result<Service<MemoryDisk>, Fail> {
+    let mut service = opened(alloc, disk)?;
     for (id, letters) in points {
         let _ = service.put(u64::from(*id), point(alloc, usize::from(*letters))?)?;
     }
     Ok(service)
+}
+
+/// A service of an empty disk that was given these features.
+fn service_with(alloc: Global, points: &[Point]) -> Result<Service<MemoryDisk>, Fail> {
+    with_points(alloc, formatted(alloc)?, points)
 }
 
 #[test]
@@ -47,25 +56,24 @@ fn a_point_is_published(rt: HostRuntime) -> Result<(), Fail> {
     Ok(())
 }
 
+/// A disk of 1,024 sectors that holds the points 1 to 62 with 1,000 letters each. Their texts of 1,030 bytes take 125 sectors of an
+/// area, and their archive of 2,166 bytes takes 5.
+pub(crate) fn large_disk(alloc: Global) -> Result<MemoryDisk, Fail> {
+    let mut disk = MemoryDisk::new(alloc, 1_024)?;
+    let _ = Service::format(&mut disk);
+    let service = with_points(alloc, disk, &points_to(alloc, 62, 1_000)?)?;
+    Ok(service.into_disk())
+}
+
 #[test]
 fn steps_of_64_sectors(rt: HostRuntime) -> Result<(), Fail> {
     let alloc = rt.alloc();
-    // 62 texts of 1,030 bytes take 125 sectors, and an archive of 2,166 bytes takes 5.
-    let mut points = Vec::new(alloc);
-    for id in 1..63 {
-        points.push((id, 1_000))?;
-    }
-    let mut disk = MemoryDisk::new(alloc, 1_024)?;
-    let _ = Service::format(&mut disk);
-    let mut service = opened(alloc, disk)?;
-    for (id, letters) in &points {
-        let _ = service.put(u64::from(*id), point(alloc, usize::from(*letters))?)?;
-    }
+    let mut service = opened(alloc, large_disk(alloc)?)?;
     assert_eq!(rt;
         publish(alloc, &mut service)?.as_slice(),
         [131, 67, 3, 0].as_slice()
     );
-    let bytes = archive_of(alloc, &points)?;
+    let bytes = archive_of(alloc, &points_to(alloc, 62, 1_000)?)?;
     assert_eq!(rt; archive(alloc, &mut service)?, bytes);
     let left = service.into_disk().crash(&[])?;
     let mut again = opened(alloc, left)?;
@@ -74,15 +82,6 @@ fn steps_of_64_sectors(rt: HostRuntime) -> Result<(), Fail> {
     let mut disk = again.into_disk();
     assert_eq!(rt; sector_at(&mut disk, 2), root([1, 62, 186, 63_860, 2_166]));
     Ok(())
-}
-
-/// The points of the numbers 1 to 15, without tags.
-fn fifteen(alloc: Global) -> Result<Vec<Point>, Fail> {
-    let mut points = Vec::new(alloc);
-    for id in 1..16 {
-        points.push((id, 0))?;
-    }
-    Ok(points)
 }
 
 /// The head and the body of edit 16, which gives the number 16 a point with 467 letters.
@@ -102,7 +101,7 @@ fn two_parts(alloc: Global) -> Result<([u8; 512], [u8; 512]), Fail> {
 #[test]
 fn a_publication_frees_the_journal(rt: HostRuntime) -> Result<(), Fail> {
     let alloc = rt.alloc();
-    let points = fifteen(alloc)?;
+    let points = points_to(alloc, 15, 0)?;
     let mut service = service_with(alloc, &points)?;
     let full = ServiceFault::JournalFull { need: 2, free: 1 };
     assert_eq!(rt; service.put(16, point(alloc, 467)?), Err(full));
@@ -142,6 +141,31 @@ fn an_edit_between(rt: HostRuntime) -> Result<(), Fail> {
     assert_eq!(rt; archive(alloc, &mut again)?, first);
     assert_eq!(rt; again.tile(at)?.as_deref(), Some(both.as_slice()));
     assert_eq!(rt; again.put(9, point(alloc, 0)?), Ok(3));
+    Ok(())
+}
+
+#[test]
+fn edits_between_keep_their_places(rt: HostRuntime) -> Result<(), Fail> {
+    let alloc = rt.alloc();
+    let at = TileAt::new(0, 0, 0).ok_or("a tile")?;
+    let full = ServiceFault::JournalFull { need: 1, free: 0 };
+    let mut service = service_with(alloc, &points_to(alloc, 9, 0)?)?;
+    assert_eq!(rt; service.publish_begin(), Ok(3));
+    for id in 10..15 {
+        assert_eq!(rt; service.put(id, point(alloc, 0)?), Ok(id));
+    }
+    assert_eq!(rt; service.publish_step(), Ok(0));
+    // Of the 16 places five are still in use.
+    for id in 15..26 {
+        assert_eq!(rt; service.put(id, point(alloc, 0)?), Ok(id));
+    }
+    assert_eq!(rt; service.put(26, point(alloc, 0)?), Err(full));
+    let mut again = opened(alloc, service.into_disk().crash(&[])?)?;
+    let all = tile_of(alloc, &points_to(alloc, 25, 0)?)?;
+    assert_eq!(rt; again.tile(at)?.as_deref(), Some(all.as_slice()));
+    assert_eq!(rt; again.put(26, point(alloc, 0)?), Err(full));
+    assert_eq!(rt; publish(alloc, &mut again)?.as_slice(), [4, 0].as_slice());
+    assert_eq!(rt; again.put(26, point(alloc, 0)?), Ok(26));
     Ok(())
 }
 

@@ -159,7 +159,7 @@ struct Expected {
     archives: Vec<Vec<u8>>,
 }
 
-fn expected(alloc: Global) -> Result<Expected, Fail> {
+fn what_is_expected(alloc: Global) -> Result<Expected, Fail> {
     let mut tiles = Vec::new(alloc);
     for points in MAPS {
         tiles.push(shown(alloc, points)?)?;
@@ -211,7 +211,7 @@ fn may_stand(failed: usize, found: (usize, usize)) -> bool {
 #[test]
 fn stopped_script(rt: HostRuntime) -> Result<(), Fail> {
     let alloc = rt.alloc();
-    let expected = expected(alloc)?;
+    let expected = what_is_expected(alloc)?;
     for call in 1..28 {
         let failed = event_of(call);
         let kinds = [
