@@ -6,7 +6,7 @@ use Rattle.http_serve.specs.Reply.{ReplyView}
 use Rattle.sector_disk.specs.Disk.{History}
 use Rattle.sector_disk.specs.Moments.{LeavesOnly}
 use Rattle.tile_routes.specs.declared.target.TileFormat.{TileFormat}
-use Rattle.tile_routes.specs.Paths.{Asked, asked_feature, asked_tile, asked_nothing, asked_by}
+use Rattle.tile_routes.specs.Paths.{Asked, asked_feature, asked_tile, asked_by}
 use Rattle.feature_model.specs.Data as edits
 use Rattle.feature_model.specs.Data.{FeatureData, EditData}
 use Rattle.tile_service.specs.Machine as events
@@ -39,7 +39,7 @@ abbrev pub wanted_by : List ℕ → Asked → Wanted
 wanted_by name (asked_feature id) =
     if is_method (codes "PUT") name then put id else (if is_method (codes "DELETE") name then delete id else nothing)
 wanted_by name (asked_tile z x y format) = if is_method (codes "GET") name then tile z x y format else nothing
-wanted_by name asked_nothing = nothing
+wanted_by name other = nothing
 
 -- what a request wants: its path is one of the router's, and its method one of the path's
 abbrev pub wanted_of : RequestView → Wanted

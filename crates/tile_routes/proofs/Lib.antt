@@ -1,2 +1,3 @@
 mod Keys
+mod Methods
 mod Texts

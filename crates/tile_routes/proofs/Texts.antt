@@ -14,7 +14,7 @@ use Rattle.matchit.specs.Seek.{first}
 use Rattle.matchit.specs.declared.params.Params.{Params}
 use Rattle.matchit.proofs.OnLiterals.{matchit_on_literals}
 use Rattle.tile_routes.specs.declared.routes.Route.{Route}
-use Rattle.tile_routes.specs.Paths.{served_rows, Asked, asked_at, asked_by, asked_nothing}
+use Rattle.tile_routes.specs.Paths.{served_paths, served_rows, Asked, asked_at, asked_by, asked_nothing}
 use Rattle.tile_routes.specs.Targets.{parts_of}
 use Rattle.tile_routes.proofs.Keys.{EachKey, IfKey, seek-key}
 
@@ -43,8 +43,8 @@ HasText : RouteOf Route → Type 0
 HasText route = list_all is_ascii route.text ≡ true
 
 rows-text : EachKey HasText served_rows
-unfolding matchit_on_literals served_rows HasText
-rows-text = (refl, (refl, tt))
+unfolding matchit_on_literals served_rows served_paths HasText
+rows-text = (refl, (refl, (refl, (refl, (refl, (refl, (refl, (refl, tt))))))))
 
 first-ascii : (b : ℕ) (bs : List ℕ) → list_all is_ascii (b ∷ bs) ≡ true → (b < 128) × (list_all is_ascii bs ≡ true)
 first-ascii b bs is = (grind (arith, nat_tests), grind (arith, nat_tests))

@@ -10,17 +10,35 @@ use Rattle.tile_routes.specs.Paths.{served_rows}
 
 -- a number for each route
 abbrev code_of : Route → ℕ
-code_of routes.Feature = 0
-code_of routes.Tile = 1
+code_of routes.Tile = 0
+code_of routes.Metadata = 1
+code_of routes.Archive = 2
+code_of routes.Feature = 3
+code_of routes.Publish = 4
+code_of routes.PublishBegin = 5
+code_of routes.PublishStep = 6
+code_of routes.PublishCancel = 7
 
 -- the route of a number
 abbrev route_of : ℕ → Route
-route_of zero = routes.Feature
-route_of (suc more) = routes.Tile
+route_of zero = routes.Tile
+route_of (suc zero) = routes.Metadata
+route_of (suc (suc zero)) = routes.Archive
+route_of (suc (suc (suc zero))) = routes.Feature
+route_of (suc (suc (suc (suc zero)))) = routes.Publish
+route_of (suc (suc (suc (suc (suc zero))))) = routes.PublishBegin
+route_of (suc (suc (suc (suc (suc (suc zero)))))) = routes.PublishStep
+route_of (suc (suc (suc (suc (suc (suc (suc more))))))) = routes.PublishCancel
 
 route-back : (r : Route) → route_of (code_of r) ≡ r
-route-back routes.Feature = refl
 route-back routes.Tile = refl
+route-back routes.Metadata = refl
+route-back routes.Archive = refl
+route-back routes.Feature = refl
+route-back routes.Publish = refl
+route-back routes.PublishBegin = refl
+route-back routes.PublishStep = refl
+route-back routes.PublishCancel = refl
 
 coded_route : Coded Route
 coded_route = code_by ℕ coded_ℕ code_of route_of route-back

@@ -1,5 +1,5 @@
 -- What a path asks for: the route that the router finds, and the numbers in its place.
-use Rattle.std.specs.Prelude.{ℕ, ◌-◌, ◌^◌, ◌&&◌, Bool, nat_lt, nat_le, List, [], length, take, drop, codes, Option, Some, None, Result, Ok, Err}
+use Rattle.std.specs.Prelude.{ℕ, ◌-◌, ◌^◌, ◌&&◌, Bool, nat_lt, nat_le, List, [], ◌∷◌, length, take, drop, codes, Option, Some, None, Result, Ok, Err}
 use Rattle.std.specs.Prelude.{if◌then◌else◌, nat_eq}
 use Rattle.std.specs.Cmp.Lexicographic.{pointwise}
 use Rattle.std.specs.List.{list_all}
@@ -26,14 +26,37 @@ with_scan (Err error) route rows = rows
 abbrev pub with_route : List ℕ → Route → RowsOf (RouteOf Route) → RowsOf (RouteOf Route)
 with_route text route rows = with_scan (parse_route text) route rows
 
--- the paths that are served, as the router keeps them
+abbrev pub with_routes : List (List ℕ × Route) → RowsOf (RouteOf Route) → RowsOf (RouteOf Route)
+with_routes [] rows = rows
+with_routes (path ∷ more) rows = with_routes more (with_route path.0 path.1 rows)
+
+-- the paths that are served
+unfoldable pub served_paths : List (List ℕ × Route)
+served_paths =
+    (codes "/map/{z}/{x}/{y}", routes.Tile)
+    ∷ (codes "/map/metadata", routes.Metadata)
+    ∷ (codes "/map.pmtiles", routes.Archive)
+    ∷ (codes "/features/{id}", routes.Feature)
+    ∷ (codes "/publish", routes.Publish)
+    ∷ (codes "/publish/begin", routes.PublishBegin)
+    ∷ (codes "/publish/step", routes.PublishStep)
+    ∷ (codes "/publish/cancel", routes.PublishCancel)
+    ∷ []
+
+-- these, as the router keeps them
 unfoldable pub served_rows : RowsOf (RouteOf Route)
-served_rows = with_route (codes "/map/{z}/{x}/{y}") routes.Tile (with_route (codes "/features/{id}") routes.Feature [])
+served_rows = with_routes served_paths []
 
 -- what a path asks for
 pub data Asked : Type 0 where
-  asked_feature : ℕ → Asked
   asked_tile : ℕ → ℕ → ℕ → TileFormat → Asked
+  asked_metadata : Asked
+  asked_archive : Asked
+  asked_feature : ℕ → Asked
+  asked_publish : Asked
+  asked_begin : Asked
+  asked_step : Asked
+  asked_cancel : Asked
   asked_nothing : Asked
 
 abbrev pub ends_as : List ℕ → List ℕ → Bool
@@ -78,9 +101,15 @@ part_named name parts = text_or_nothing (named name parts)
 
 -- what the parts of a path on a route ask for
 abbrev pub asked_on : Route → List (List ℕ × List ℕ) → Asked
-asked_on routes.Feature parts = feature_asked (number_of (part_named (codes "id") parts))
 asked_on routes.Tile parts =
     named_tile (number_of (part_named (codes "z") parts)) (number_of (part_named (codes "x") parts)) (row_and_format (part_named (codes "y") parts))
+asked_on routes.Metadata parts = asked_metadata
+asked_on routes.Archive parts = asked_archive
+asked_on routes.Feature parts = feature_asked (number_of (part_named (codes "id") parts))
+asked_on routes.Publish parts = asked_publish
+asked_on routes.PublishBegin parts = asked_begin
+asked_on routes.PublishStep parts = asked_step
+asked_on routes.PublishCancel parts = asked_cancel
 
 abbrev pub asked_at : Option (RouteOf Route) → List ℕ → Asked
 asked_at None path = asked_nothing

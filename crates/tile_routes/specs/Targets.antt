@@ -5,21 +5,28 @@ use Rattle.matchit.specs.Params.{walk}
 use Rattle.matchit.specs.declared.params.Params.{Params}
 use Rattle.feature_model.specs.declared.limits.TheConstants.{GREATEST_ZOOM, NUMBER_END}
 use Rattle.tile_routes.specs.declared.target.Target.{Target}
-use Rattle.tile_routes.specs.declared.target.Target.TheVariants.{Feature, Tile, Nothing}
+use Rattle.tile_routes.specs.declared.target.Target.TheVariants.{Tile, Metadata, Archive, Feature, Publish, PublishBegin, PublishStep, PublishCancel, Nothing}
 use Rattle.tile_routes.specs.declared.target.TileFormat.{TileFormat}
-use Rattle.tile_routes.specs.Paths.{Asked, asked_feature, asked_tile, asked_nothing}
+use Rattle.tile_routes.specs.Paths.{Asked, asked_tile, asked_metadata, asked_archive, asked_feature, asked_nothing}
+use Rattle.tile_routes.specs.Paths.{asked_publish, asked_begin, asked_step, asked_cancel}
 
 -- what a target asks for
 abbrev pub asked_of : Target → Asked
-asked_of (Feature id) = asked_feature id
 asked_of (Tile at format) = asked_tile at.z at.x at.y format
+asked_of Metadata = asked_metadata
+asked_of Archive = asked_archive
+asked_of (Feature id) = asked_feature id
+asked_of Publish = asked_publish
+asked_of PublishBegin = asked_begin
+asked_of PublishStep = asked_step
+asked_of PublishCancel = asked_cancel
 asked_of Nothing = asked_nothing
 
 -- a number of a feature, and a tile up to the greatest zoom
 abbrev pub IsInRange : Target → Type 0
-IsInRange (Feature id) = id < NUMBER_END
 IsInRange (Tile at format) = at.z ≤ GREATEST_ZOOM
-IsInRange Nothing = Unit {0}
+IsInRange (Feature id) = id < NUMBER_END
+IsInRange other = Unit {0}
 
 abbrev pub row_view : Bor (List ℕ) × TileFormat → List ℕ × TileFormat
 row_view r = (r.0.now, r.1)

@@ -14,10 +14,22 @@ use std::alloc::{AllocError, Global};
 /// The routes that are served.
 #[derive(Clone, Copy, Debug, PartialEq, Eq)]
 pub enum Route {
+    /// A tile of the map.
+    Tile,
+    /// What the map has.
+    Metadata,
+    /// The archive that was published last.
+    Archive,
     /// A feature of the map.
     Feature,
-    /// A tile of it.
-    Tile,
+    /// A publication.
+    Publish,
+    /// The begin of one by steps.
+    PublishBegin,
+    /// A step of it.
+    PublishStep,
+    /// Its end before it is done.
+    PublishCancel,
 }
 
 /// The paths that are served.
@@ -32,8 +44,14 @@ fn served(alloc: Global) -> Result<Router<Route>, InsertError>
     ensures { IfOk result (λ router. router ≡ served_rows) }
 {
     let mut router = Router::new(alloc);
-    router.insert("/features/{id}", Route::Feature)?;
     router.insert("/map/{z}/{x}/{y}", Route::Tile)?;
+    router.insert("/map/metadata", Route::Metadata)?;
+    router.insert("/map.pmtiles", Route::Archive)?;
+    router.insert("/features/{id}", Route::Feature)?;
+    router.insert("/publish", Route::Publish)?;
+    router.insert("/publish/begin", Route::PublishBegin)?;
+    router.insert("/publish/step", Route::PublishStep)?;
+    router.insert("/publish/cancel", Route::PublishCancel)?;
     Ok(router)
 }
 
@@ -75,8 +93,14 @@ fn route_target(route: Route, params: &Params<'_, '_>) -> Target
     ensures range { IsInRange result }
 {
     match route {
-        Route::Feature => feature_target(part(params, "id")),
         Route::Tile => tile_target(part(params, "z"), part(params, "x"), part(params, "y")),
+        Route::Metadata => Target::Metadata,
+        Route::Archive => Target::Archive,
+        Route::Feature => feature_target(part(params, "id")),
+        Route::Publish => Target::Publish,
+        Route::PublishBegin => Target::PublishBegin,
+        Route::PublishStep => Target::PublishStep,
+        Route::PublishCancel => Target::PublishCancel,
     }
 }
 

@@ -20,10 +20,22 @@ pub enum TileFormat {
 /// What a path asks for.
 #[derive(Clone, Copy, Debug, PartialEq, Eq)]
 pub enum Target {
-    /// `/features/{id}`: the feature of this number, which is below `feature_model::NUMBER_END`.
-    Feature(u64),
     /// `/map/{z}/{x}/{y}.mvt` and `.hex`: a tile of a zoom up to `feature_model::GREATEST_ZOOM`.
     Tile(TileAt, TileFormat),
+    /// `/map/metadata`: what the map has, as JSON.
+    Metadata,
+    /// `/map.pmtiles`: the archive that was published last.
+    Archive,
+    /// `/features/{id}`: the feature of this number, which is below `feature_model::NUMBER_END`.
+    Feature(u64),
+    /// `/publish`: a publication, whole.
+    Publish,
+    /// `/publish/begin`: to begin one by steps.
+    PublishBegin,
+    /// `/publish/step`: to go on with it.
+    PublishStep,
+    /// `/publish/cancel`: to give it up.
+    PublishCancel,
     /// Any other path.
     Nothing,
 }
