@@ -35,18 +35,22 @@ edit_word edits.Long = codes "E8 Long\n"
 edit_word edits.Reach = codes "E9 Reach\n"
 edit_word edits.Memory = codes "Memory\n"
 
--- the word of a journal that is full: how many places are needed, and how many are free
-unfoldable pub full_word : ℕ → ℕ → List ℕ
-full_word need free = codes "JournalFull need " ++ ((decimal need ++ codes " free ") ++ (decimal free ++ codes "\n"))
+-- the word of what is full: its name, how many sectors are needed, and how many are free
+unfoldable pub full_word : List ℕ → ℕ → ℕ → List ℕ
+full_word name need free = (name ++ codes " need ") ++ ((decimal need ++ codes " free ") ++ (decimal free ++ codes "\n"))
 
 -- the word of a refusal by the service
 unfoldable pub service_word : ServiceFault → List ℕ
 service_word services.Broken = codes "Broken\n"
+service_word services.Busy = codes "Busy\n"
+service_word services.Idle = codes "Idle\n"
 service_word (services.Limit fault) = edit_word fault
 service_word services.NotFound = codes "NotFound\n"
 service_word services.NumbersSpent = codes "NumbersSpent\n"
 service_word services.Memory = codes "Memory\n"
-service_word (services.JournalFull need free) = full_word need free
+service_word services.TooManyTiles = codes "TooManyTiles\n"
+service_word (services.AreaFull need free) = full_word (codes "AreaFull") need free
+service_word (services.JournalFull need free) = full_word (codes "JournalFull") need free
 service_word services.Device = codes "Device\n"
 
 -- the word of a fault
@@ -68,10 +72,14 @@ fault_status Memory = 503
 
 abbrev pub service_status : ServiceFault → ℕ
 service_status services.Broken = 500
+service_status services.Busy = 409
+service_status services.Idle = 409
 service_status (services.Limit fault) = edit_status fault
 service_status services.NotFound = 404
 service_status services.NumbersSpent = 500
 service_status services.Memory = 503
+service_status services.TooManyTiles = 507
+service_status (services.AreaFull need free) = 507
 service_status (services.JournalFull need free) = 507
 service_status services.Device = 500
 

@@ -15,7 +15,7 @@ use std::alloc::{AllocError, Global};
 use tile_routes::TileFormat;
 use tile_service::ServiceFault;
 
-/// Room for the longest text that tells the outcome of an edit: that of a journal that is full, with two numbers.
+/// Room for the longest text that tells the outcome of an edit: that of a journal or an area that is full, with two numbers.
 const MOST_TEXT: usize = 2 * MOST_DIGITS + 24;
 
 /// The word of a fault of an edit, with a line feed.
@@ -37,15 +37,17 @@ fn edit_word(fault: EditFault) -> &'static [u8]
     }
 }
 
-/// The word of a journal that is full, with a line feed.
+/// The word of what is full, with a line feed: what it is, how many sectors are needed and how many are free.
 #[tactic(auto, unfolding(crate::specs::Words::full_word))]
-fn full_word(text: Vec<u8>, need: u64, free: u64) -> Vec<u8>
+fn full_word(text: Vec<u8>, name: &[u8], need: u64, free: u64) -> Vec<u8>
+    requires name { length name.now ≤ 11 }
     requires empty { text.items ≡ [] }
     requires room { MOST_TEXT ≤ vec_capacity text }
-    ensures { result.items ≡ full_word need free }
+    ensures { result.items ≡ full_word name.now need free }
 {
     let mut text = text;
-    push_text(&mut text, b"JournalFull need ");
+    push_text(&mut text, name);
+    push_text(&mut text, b" need ");
     push_number(&mut text, need);
     push_text(&mut text, b" free ");
     push_number(&mut text, free);
@@ -63,11 +65,17 @@ fn service_word(text: Vec<u8>, fault: ServiceFault) -> Content
 {
     match fault {
         ServiceFault::Broken => Content::Fixed(b"Broken\n"),
+        ServiceFault::Busy => Content::Fixed(b"Busy\n"),
+        ServiceFault::Idle => Content::Fixed(b"Idle\n"),
         ServiceFault::Limit(fault) => Content::Fixed(edit_word(fault)),
         ServiceFault::NotFound => Content::Fixed(b"NotFound\n"),
         ServiceFault::NumbersSpent => Content::Fixed(b"NumbersSpent\n"),
         ServiceFault::Memory => Content::Fixed(b"Memory\n"),
-        ServiceFault::JournalFull { need, free } => Content::Whole(full_word(text, need, free)),
+        ServiceFault::TooManyTiles => Content::Fixed(b"TooManyTiles\n"),
+        ServiceFault::AreaFull { need, free } =>
+            Content::Whole(full_word(text, b"AreaFull", need, free)),
+        ServiceFault::JournalFull { need, free } =>
+            Content::Whole(full_word(text, b"JournalFull", need, free)),
         ServiceFault::Device => Content::Fixed(b"Device\n"),
     }
 }
@@ -103,7 +111,10 @@ fn service_status(fault: ServiceFault) -> StatusCode
         ServiceFault::Limit(fault) => edit_status(fault),
         ServiceFault::NotFound => StatusCode::NOT_FOUND,
         ServiceFault::Memory => StatusCode::SERVICE_UNAVAILABLE,
-        ServiceFault::JournalFull { .. } => StatusCode::INSUFFICIENT_STORAGE,
+        ServiceFault::Busy | ServiceFault::Idle => StatusCode::CONFLICT,
+        ServiceFault::TooManyTiles
+        | ServiceFault::AreaFull { .. }
+        | ServiceFault::JournalFull { .. } => StatusCode::INSUFFICIENT_STORAGE,
         ServiceFault::Broken | ServiceFault::NumbersSpent | ServiceFault::Device =>
             StatusCode::INTERNAL_SERVER_ERROR,
     }
