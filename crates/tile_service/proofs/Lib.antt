@@ -16,3 +16,4 @@ mod Replays
 mod Roots
 pub mod Runs
 mod Steps
+mod Whole
