@@ -1,18 +1,19 @@
 -- A run of events as any caller of a service makes it, event by event.
-use Rattle.std.proofs.Common.{◌≡◌, ◌≢◌, ℕ, ◌<◌, ◌+◌, ◌-◌, List, [], ◌∷◌, ◌++◌, length, get_or, Option, Some, None, true, false, refl, sym, ◌∙◌}
+use Rattle.std.proofs.Common.{◌≡◌, ◌≢◌, ℕ, ◌<◌, ◌+◌, ◌-◌, List, [], ◌∷◌, ◌++◌, length, get_or, Option, Some, None, Result, true, false, refl, sym, ◌∙◌}
 use Rattle.std.proofs.Common.{ap, subst, arith, length-append}
-use Rattle.std.specs.Prelude.{IfSome}
+use Rattle.std.specs.Prelude.{IfSome, IfErr, OnOk}
 use Rattle.std.proofs.lemmas.Bool.{false≢true}
 use Rattle.sector_disk.specs.Disk.{History}
 use Rattle.sector_disk.specs.Moments.{LeavesOnly}
-use Rattle.tile_service.specs.Machine.{EventData, tile, AnswerData, cancelled, refused, Steps, Runs}
+use Rattle.tile_service.specs.Machine.{EventData, tile, begin, step, AnswerData, cancelled, refused, Steps, Runs}
 use Rattle.tile_service.specs.Runs.{all_edits, way_of, Way, Progress, starts, progress_of, NoneInDoubt, Reaches, TakesRun}
-use Rattle.tile_service.specs.Service.{PublicationView, ServiceView, Known, Publishes, IsUp, state_of, known_after, EventLeaves, stored_after}
+use Rattle.tile_service.specs.Service.{PublicationView, ServiceView, Known, Publishes, IsUp, state_of, known_after, left_answer, EventLeaves, stored_after}
 use Rattle.tile_service.specs.Stored.{Stored, Keeps, last_of}
+use Rattle.tile_service.specs.declared.fault.ServiceFault.{ServiceFault}
 use Rattle.tile_service.specs.declared.fault.ServiceFault.TheVariants.{Device}
 use Rattle.tile_service.proofs.Fits.{RunLeaves, IsHere, doubt_breaks, run_starts, run_goes_on, run_fits, reaches_on, published_within, sized_as}
 use Rattle.tile_service.proofs.Progress.{Within, IsSince, has_start, has_last, progress_on, progress_edits, way_in, way_seen, way_after}
-use Rattle.tile_service.proofs.Runs.{no_known, broken_stays, was_unbroken, runs_on, writes_nothing}
+use Rattle.tile_service.proofs.Runs.{no_known, broken_stays, broken_halts, was_unbroken, kept_for, after_step, runs_on, writes_nothing}
 
 module _ {D : Type 0} (sectors : D → ℕ) (honest : D → Type 0) (history : D → History) where
   -- What one event does, whatever call made it.
@@ -88,6 +89,46 @@ module _ {D : Type 0} (sectors : D → ℕ) (honest : D → Type 0) (history : D
     any_moment = λ stored is_honest up. writes_nothing (sectors old.disk) old.size stored old.publication (tile z x y) answer
         (history old.disk) (history new.disk) (ap (λ (s : ServiceView D). history s.disk) same) up.keeps;
     after = λ stored is_honest up not. subst (λ (s : ServiceView D). IsUp (sectors s.disk) (history s.disk) stored s) (sym same) up;
+  }
+
+  -- the beginning of a publication changes nothing on the disk
+  pub begin_step : (old new : ServiceView D) (result : Result ℕ ServiceFault)
+      → ((known : Known) → Steps (state_of known old) begin (left_answer result) (state_of (known_after known old begin (left_answer result)) new))
+      → new ≡ record old { publication = new.publication }
+      → ((stored : Stored) → IsUp (sectors old.disk) (history old.disk) stored old → IsUp (sectors new.disk) (history new.disk) stored new)
+      → HasStep old begin (left_answer result) new
+  begin_step old new result machine same up_still = record {
+    machine = machine;
+    size = ap (λ (s : ServiceView D). s.size) same;
+    count = ap (λ (s : ServiceView D). sectors s.disk) same;
+    stays_honest = λ is_honest. subst (λ (d : D). honest d) (ap (λ (s : ServiceView D). s.disk) same) is_honest;
+    untouched = λ broken. ap (λ (s : ServiceView D). s.disk) same;
+    any_moment = λ stored is_honest up. writes_nothing (sectors old.disk) old.size stored old.publication begin (left_answer result)
+        (history old.disk) (history new.disk) (ap (λ (s : ServiceView D). history s.disk) same) up.keeps;
+    after = λ stored is_honest up not. up_still stored up;
+  }
+
+  -- what a step of it does
+  pub step_step : (old new : ServiceView D) (result : Result ℕ ServiceFault)
+      → ((known : Known) → Steps (state_of known old) step (left_answer result) (state_of (known_after known old step (left_answer result)) new))
+      → new.size ≡ old.size → sectors new.disk ≡ sectors old.disk → (honest new.disk → honest old.disk)
+      → IfErr result (λ fault. fault ≢ Device → new ≡ old)
+      → ((stored : Stored) → honest new.disk → IsUp (sectors old.disk) (history old.disk) stored old
+      → LeavesOnly (history old.disk) (history new.disk) (EventLeaves (sectors old.disk) old.size stored old.publication step (left_answer result)))
+      → ((stored : Stored) → honest new.disk → IsUp (sectors old.disk) (history old.disk) stored old
+      → OnOk result (IsUp (sectors new.disk) (history new.disk) (stored_after old.size stored old.publication step (left_answer result)) new))
+      → HasStep old step (left_answer result) new
+  step_step old new result machine size count stays same leaves up_after = record {
+    machine = machine;
+    size = size;
+    count = count;
+    stays_honest = stays;
+    untouched = broken_halts (state_of no_known old) (state_of (known_after no_known old step (left_answer result)) new) result (machine no_known)
+        (kept_for (λ (s : ServiceView D). s.disk ≡ old.disk) old new result same refl);
+    any_moment = leaves;
+    after = λ stored is_honest up not. after_step (λ (s : Stored). IsUp (sectors new.disk) (history new.disk) s new) old.size stored old.publication
+        result refl refl (up_after stored is_honest up)
+        (kept_for (λ (s : ServiceView D). IsUp (sectors s.disk) (history s.disk) stored s) old new result same up) not;
   }
 
   module _ (old now new : ServiceView D) (events : List EventData) (answers : List AnswerData) (event : EventData) (answer : AnswerData)

@@ -19,3 +19,4 @@ mod Replays
 mod Roots
 pub mod Runs
 mod Steps
+mod Whole

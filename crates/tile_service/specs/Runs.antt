@@ -1,12 +1,14 @@
 -- What a disk may hold during a run of events.
 use Rattle.std.specs.Prelude.{◌≡◌, ◌≢◌, ◌⊎◌, ◌<◌, ◌≤◌, ◌+◌, ◌-◌, ℕ, zero, suc, false, List, [], ◌∷◌, ◌++◌, length, take, drop, get_or}
-use Rattle.std.specs.Prelude.{Option, Some, None, option_map}
+use Rattle.std.specs.Prelude.{Option, Some, None, option_map, Result, Ok, Err, replicate}
 use Rattle.sector_disk.specs.Disk.{History, Image, MayLeave, moment, LeftSince}
 use Rattle.sector_disk.specs.Moments.{Follows}
 use Rattle.feature_model.specs.Data.{EditData}
 use Rattle.feature_store.specs.Store.{after}
+use Rattle.tile_service.specs.declared.fault.ServiceFault.{ServiceFault}
 use Rattle.tile_service.specs.declared.fault.ServiceFault.TheVariants.{Device}
 use Rattle.tile_service.specs.declared.publishing.TheConstants.{STEP_SECTORS}
+use Rattle.tile_service.specs.declared.publishing_whole.Published.{Published}
 use Rattle.tile_service.specs.Machine.{EventData, edit, tile, look, begin, step, cancel, AnswerData, edited, shown, found, left, cancelled, refused, Runs}
 use Rattle.tile_service.specs.Service.{PublicationView, ServiceView, Known, IsUp, state_of, left_of}
 use Rattle.tile_service.specs.Stored.{Stored, Holds}
@@ -194,6 +196,13 @@ Reaches start way events answers s = (generation : ℕ) × (journal_at : ℕ) ×
 
 -- ---- what a service makes of a run
 
+-- How a whole publication ends: with a step that installs it, and then the generation, the last edit before its beginning and the
+-- archive's length are told; or with a beginning or a step that is refused, and then the fault is told.
+abbrev pub EndsAs : {D : Type 0} → Result Published ServiceFault → (old new : ServiceView D) → (last : AnswerData) → Type 0
+EndsAs (Ok p) old new last =
+    (last ≡ left 0) × (p.generation ≡ new.generation) × (p.edits ≡ old.journal.last) × (p.archive_len ≡ new.archive_len)
+EndsAs (Err fault) old new last = last ≡ refused fault
+
 module _ {D : Type 0} (sectors : D → ℕ) (honest : D → Type 0) (history : D → History) where
   -- The service answers these events one after the other. A crash at any moment leaves some first edits of the run: all that were
   -- acknowledged by then, and none asked for later. A service that isn't broken at the end goes on from what was acknowledged.
@@ -204,3 +213,11 @@ module _ {D : Type 0} (sectors : D → ℕ) (honest : D → Type 0) (history : D
     pub after : (stored : Stored) → honest new.disk → IsUp (sectors old.disk) (history old.disk) stored old → new.broken ≡ false
         → (reached : Stored) × IsUp (sectors new.disk) (history new.disk) reached new
         × Reaches stored (way_of stored.edits old.publication) events answers reached
+
+  -- The service begins a publication and goes on with it, until it is installed or an event is refused.
+  pub record TakesPublication (old : ServiceView D) (result : Result Published ServiceFault) (new : ServiceView D) : Type 0 where
+    pub steps : ℕ
+    pub before : List AnswerData
+    pub last : AnswerData
+    pub run : TakesRun old (begin ∷ replicate steps step) (before ++ last ∷ []) new
+    pub ends : EndsAs result old new last

@@ -9,6 +9,7 @@ mod formatting;
 mod opening;
 mod published;
 mod publishing;
+mod publishing_whole;
 mod replaying;
 mod running;
 mod service;
@@ -17,6 +18,7 @@ mod snapshot_reading;
 
 pub use event::{Answer, Event};
 pub use fault::ServiceFault;
+pub use publishing_whole::Published;
 pub use service::Service;
 
 #[cfg(test)]

@@ -1,0 +1,129 @@
+-- A publication from its beginning to its end, step by step.
+use Rattle.std.proofs.Common.{◌≡◌, ◌≢◌, ◌⊎◌, inl, inr, ⊎_elim, ℕ, zero, suc, ◌<◌, ◌+◌, ◌-◌, Bool, true, false, List, [], ◌∷◌, ◌++◌, replicate, Option, Some, None}
+use Rattle.std.proofs.Common.{refl, sym, ◌∙◌, ap, subst, arith}
+use Rattle.std.specs.Prelude.{option_map}
+use Rattle.std.proofs.lemmas.Bool.{false≢true}
+use Rattle.std.proofs.lemmas.List.{replicate_more}
+use Rattle.generations.specs.Areas.{journal_sectors}
+use Rattle.feature_store.specs.Store.{FeatureMap}
+use Rattle.tile_service.specs.Machine.{Publication, ServiceState, EventData, begin, step, Begins, GoesOn, HasPublication, RefusesBegin, RefusesStep}
+use Rattle.tile_service.specs.Service.{PublicationView, ServiceView, Known, state_of, going_of, CountsDevice}
+use Rattle.tile_service.specs.declared.fault.ServiceFault.{ServiceFault}
+use Rattle.tile_service.specs.declared.fault.ServiceFault.TheVariants.{Broken, Busy, Idle, Limit, NotFound, NumbersSpent, Memory}
+use Rattle.tile_service.specs.declared.fault.ServiceFault.TheVariants.{TooManyTiles, AreaFull, JournalFull, Device}
+use Rattle.tile_service.specs.declared.publishing.TheConstants.{STEP_SECTORS}
+
+-- ---- how much is left
+
+abbrev is_going : Option Publication → Bool
+is_going None = false
+is_going (Some p) = true
+
+not_both : (publication : Option Publication) (p : Publication) → publication ≡ None → publication ≡ Some p → ⊥
+not_both publication p none some = false≢true (sym (ap is_going none) ∙ ap is_going some)
+
+abbrev left_in : Option Publication → ℕ
+left_in None = 0
+left_in (Some p) = p.left
+
+-- So much of a publication is left, or none is under way.
+abbrev pub Stands : ServiceState → ℕ → Type 0
+Stands s zero = s.publication ≡ None
+Stands s (suc more) = (under_way : HasPublication s) × (under_way.publication.left ≡ suc more)
+
+pub begun_stands : (old new : ServiceState) (told : ℕ) → Begins old told new → Stands new told
+begun_stands old new zero goes = absurd (omega (arith, goes.told_is))
+begun_stands old new (suc more) goes = (record {
+  unbroken = ap (λ (s : ServiceState). s.broken) goes.begun ∙ goes.can.unbroken;
+  publication = record {
+    archive = record { bytes = goes.archive; features = old.features };
+    last = old.last;
+    places = journal_sectors old.size - old.free;
+    left = suc more;
+  };
+  is = ap (λ (s : ServiceState). s.publication) goes.begun;
+}, refl)
+
+pub on_stands : (old new : ServiceState) (under_way : HasPublication old) (told : ℕ) → GoesOn old under_way.publication told new → Stands new told
+on_stands old new under_way zero (inl w) = absurd (omega (arith, w.0, w.1))
+on_stands old new under_way (suc more) (inl w) = (record {
+  unbroken = ap (λ (s : ServiceState). s.broken) w.2 ∙ under_way.unbroken;
+  publication = record under_way.publication { left = suc more };
+  is = ap (λ (s : ServiceState). s.publication) w.2;
+}, refl)
+on_stands old new under_way zero (inr w) = ap (λ (s : ServiceState). s.publication) w.2
+on_stands old new under_way (suc more) (inr w) = absurd (omega (arith, w.1))
+
+-- it gets less
+pub falls : (old new : ServiceState) (rest : ℕ) (under_way : HasPublication old) (told : ℕ) → Stands old rest
+    → GoesOn old under_way.publication told new → told < rest
+falls old new zero under_way told stands goes = absurd (not_both old.publication under_way.publication stands under_way.is)
+falls old new (suc more) under_way told stands (inl w) =
+    let same : stands.0.publication.left ≡ under_way.publication.left = ap left_in (sym stands.0.is ∙ under_way.is) in
+    omega (arith, same, stands.1, w.0, w.1)
+falls old new (suc more) under_way told stands (inr w) = omega (arith, w.1)
+
+-- ---- refusals
+
+clash : (b : Bool) → b ≡ false → b ≡ true → ⊥
+clash b not is = false≢true (sym not ∙ is)
+
+-- a step of one that is under way fails for the disk alone
+pub only_device : (old new : ServiceState) (rest : ℕ) (fault : ServiceFault) → 0 < rest → Stands old rest → RefusesStep old fault new → fault ≡ Device
+only_device old new zero fault lt stands goes = absurd (omega (arith, lt))
+only_device old new (suc more) Broken lt stands goes = absurd (clash old.broken stands.0.unbroken goes.0)
+only_device old new (suc more) Busy lt stands goes = absurd goes
+only_device old new (suc more) Idle lt stands goes = absurd (not_both old.publication stands.0.publication goes.1 stands.0.is)
+only_device old new (suc more) (Limit limit) lt stands goes = absurd goes
+only_device old new (suc more) NotFound lt stands goes = absurd goes
+only_device old new (suc more) NumbersSpent lt stands goes = absurd goes
+only_device old new (suc more) Memory lt stands goes = absurd goes
+only_device old new (suc more) TooManyTiles lt stands goes = absurd goes
+only_device old new (suc more) (AreaFull need free) lt stands goes = absurd goes
+only_device old new (suc more) (JournalFull need free) lt stands goes = absurd goes
+only_device old new (suc more) Device lt stands goes = refl
+
+-- and then it is given up
+pub device_gives_up : (old new : ServiceState) (fault : ServiceFault) → fault ≡ Device → RefusesStep old fault new → new.publication ≡ None
+device_gives_up old new fault is goes =
+    ap (λ (s : ServiceState). s.publication) (subst (λ (x : ServiceFault). RefusesStep old x new) is goes).1
+
+-- where none begins, there was one, or none is under way, or the service was broken
+pub begin_gives_up : (old new : ServiceState) (fault : ServiceFault) → RefusesBegin old fault new
+    → (fault ≡ Broken) ⊎ (fault ≡ Busy) ⊎ (old.publication ≡ None)
+begin_gives_up old new Broken goes = inl refl
+begin_gives_up old new Busy goes = inr (inl refl)
+begin_gives_up old new Idle goes = absurd goes
+begin_gives_up old new (Limit limit) goes = absurd goes
+begin_gives_up old new NotFound goes = absurd goes
+begin_gives_up old new NumbersSpent goes = inr (inr goes.1)
+begin_gives_up old new Memory goes = inr (inr goes.0.none)
+begin_gives_up old new TooManyTiles goes = inr (inr goes.0.none)
+begin_gives_up old new (AreaFull need free) goes = inr (inr goes.0.none)
+begin_gives_up old new (JournalFull need free) goes = absurd goes
+begin_gives_up old new Device goes = absurd goes
+
+-- a beginning counts no fault of the disk
+pub begin_counts : (old new : ServiceState) (fault : ServiceFault) (before after : ℕ) → RefusesBegin old fault new → after ≡ before
+    → CountsDevice fault before after
+begin_counts old new fault before after goes same = inr ((λ device. subst (λ (x : ServiceFault). RefusesBegin old x new) device goes), same)
+
+-- the view has none where the machine has none
+pub none_seen : (m : FeatureMap) (publication : Option PublicationView) → option_map (going_of m) publication ≡ None → publication ≡ None
+none_seen m None is = refl
+none_seen m (Some p) is = absurd (not_both (Some (going_of m p)) (going_of m p) is refl)
+
+pub begin_given_up : {D : Type 0} (known known' : Known) (old new : ServiceView D) (fault : ServiceFault)
+    → RefusesBegin (state_of known old) fault (state_of known' new) → new ≡ old → (fault ≡ Broken) ⊎ (fault ≡ Busy) ⊎ (new.publication ≡ None)
+begin_given_up {D} known known' old new fault goes same = ⊎_elim
+    (λ (broken : fault ≡ Broken). inl broken)
+    (λ (rest : (fault ≡ Busy) ⊎ ((state_of known old).publication ≡ None)). ⊎_elim
+    (λ (busy : fault ≡ Busy). inr (inl busy))
+    (λ (none : (state_of known old).publication ≡ None). inr (inr
+    (ap (λ (s : ServiceView D). s.publication) same ∙ none_seen known.publishing old.publication none)))
+    rest)
+    (begin_gives_up (state_of known old) (state_of known' new) fault goes)
+
+-- one step more
+pub steps_more : (P : List EventData → Type 0) (steps : ℕ) → P ((begin ∷ replicate steps step) ++ step ∷ []) → P (begin ∷ replicate (steps + 1) step)
+steps_more P steps holds = subst (λ (l : List EventData). P (begin ∷ l)) (replicate_more steps step) holds

@@ -1,0 +1,203 @@
+use Rattle.std.proofs.Common.{◌≡◌, inr, ℕ, ◌+◌, List, [], ◌∷◌, ◌++◌, Ok, Err, replicate, refl, sym, ◌∙◌, ap, subst, arith}
+use Rattle.tile_service.specs.Machine.{EventData, AnswerData, begin, step, left, refused}
+use Rattle.tile_service.specs.Service.{state_of, known_after, CountsDevice}
+use Rattle.tile_service.proofs.Callers.{HasRun, HasStep, begin_step, step_step, run_begins, run_on, takes_run}
+use Rattle.tile_service.proofs.Runs.{no_known}
+use Rattle.tile_service.proofs.Whole.{Stands, begun_stands, on_stands, falls, only_device, device_gives_up, begin_counts, none_seen, begin_given_up, steps_more}
+use Rattle.tile_service.proofs.service.Service.publish.Goals as goal
+
+pub loop-rest-init : goal.loop-rest-init
+loop-rest-init g c =
+    let call = c.in-Ok.ensures in
+    let old = c.args.self.now in
+    let new = c.publish_begin.new.self in
+    let goes : HasStep g.D.Sectors.sectors g.D.Sectors.honest g.D.Sectors.history old begin (left c.in-Ok.told) new =
+    begin_step g.D.Sectors.sectors g.D.Sectors.honest g.D.Sectors.history old new (Ok c.in-Ok.told) call.machine call.same call.up in
+    let run : HasRun g.D.Sectors.sectors g.D.Sectors.honest g.D.Sectors.history old (begin ∷ []) (left c.in-Ok.told ∷ []) new =
+    run_on g.D.Sectors.sectors g.D.Sectors.honest g.D.Sectors.history old old new [] [] begin (left c.in-Ok.told)
+    (run_begins g.D.Sectors.sectors g.D.Sectors.honest g.D.Sectors.history old) goes in
+    record {
+      stands = (
+        known_after no_known old begin (left c.in-Ok.told),
+        begun_stands (state_of no_known old) (state_of (known_after no_known old begin (left c.in-Ok.told)) new) c.in-Ok.told (call.machine no_known),
+      );
+      edits = refl;
+      faults = ap (λ s. g.D.Sectors.faults s.disk) call.same;
+      run = (0, [], run);
+    }
+
+pub loop-rest-preserved : goal.loop-rest-preserved
+loop-rest-preserved g c =
+    let inv = c.loop-rest.invariant in
+    let call = c.in-Ok-publish_step.ensures in
+    let old = c.loop-rest.self in
+    let new = c.publish_step.new.self in
+    let rest = c.loop-rest.rest in
+    let goes : HasStep g.D.Sectors.sectors g.D.Sectors.honest g.D.Sectors.history old step (left c.in-Ok-publish_step.told) new =
+    step_step g.D.Sectors.sectors g.D.Sectors.honest g.D.Sectors.history old new (Ok c.in-Ok-publish_step.told)
+    call.machine call.size call.count call.honest call.refused call.any_moment call.after in
+    let run : HasRun g.D.Sectors.sectors g.D.Sectors.honest g.D.Sectors.history c.args.self.now
+    (begin ∷ replicate (inv.run.0 + 1) step) ((inv.run.1 ++ left rest ∷ []) ++ left c.in-Ok-publish_step.told ∷ []) new =
+    steps_more (λ events. HasRun g.D.Sectors.sectors g.D.Sectors.honest g.D.Sectors.history c.args.self.now
+    events ((inv.run.1 ++ left rest ∷ []) ++ left c.in-Ok-publish_step.told ∷ []) new) inv.run.0
+    (run_on g.D.Sectors.sectors g.D.Sectors.honest g.D.Sectors.history c.args.self.now old new
+    (begin ∷ replicate inv.run.0 step) (inv.run.1 ++ left rest ∷ []) step (left c.in-Ok-publish_step.told) inv.run.2 goes) in
+    let known = inv.stands.0 in
+    let moved = call.machine known in
+    record {
+      stands = (
+        known_after known old step (left c.in-Ok-publish_step.told),
+        on_stands (state_of known old) (state_of (known_after known old step (left c.in-Ok-publish_step.told)) new) moved.0
+            c.in-Ok-publish_step.told moved.1,
+      );
+      edits = inv.edits;
+      faults = call.faults ∙ inv.faults;
+      run = (inv.run.0 + 1, inv.run.1 ++ left rest ∷ [], run);
+    }
+
+pub loop-rest-smaller : goal.loop-rest-smaller
+loop-rest-smaller g c =
+    let inv = c.loop-rest.invariant in
+    let moved = c.in-Ok-publish_step.ensures.machine inv.stands.0 in
+    falls (state_of inv.stands.0 c.loop-rest.self)
+    (state_of (known_after inv.stands.0 c.loop-rest.self step (left c.in-Ok-publish_step.told)) c.publish_step.new.self)
+    c.loop-rest.rest moved.0 c.in-Ok-publish_step.told inv.stands.1 moved.1
+
+pub returns-in-Err-clause-run : goal.returns-in-Err-clause-run
+returns-in-Err-clause-run g c =
+    let call = c.in-Err.ensures in
+    let old = c.args.self.now in
+    let new = c.publish_begin.new.self in
+    let goes : HasStep g.D.Sectors.sectors g.D.Sectors.honest g.D.Sectors.history old begin (refused c.in-Err.fault) new =
+    begin_step g.D.Sectors.sectors g.D.Sectors.honest g.D.Sectors.history old new (Err c.in-Err.fault) call.machine call.same call.up in
+    let run : HasRun g.D.Sectors.sectors g.D.Sectors.honest g.D.Sectors.history old (begin ∷ []) (refused c.in-Err.fault ∷ []) new =
+    run_on g.D.Sectors.sectors g.D.Sectors.honest g.D.Sectors.history old old new [] [] begin (refused c.in-Err.fault)
+    (run_begins g.D.Sectors.sectors g.D.Sectors.honest g.D.Sectors.history old) goes in
+    record {
+      steps = 0;
+      before = [];
+      last = refused c.in-Err.fault;
+      run = takes_run g.D.Sectors.sectors g.D.Sectors.honest g.D.Sectors.history old (begin ∷ []) (refused c.in-Err.fault ∷ []) new run;
+      ends = refl;
+    }
+
+pub returns-in-Err-clause-size : goal.returns-in-Err-clause-size
+returns-in-Err-clause-size g c =
+    ap (λ s. s.size) c.in-Err.ensures.same
+
+pub returns-in-Err-clause-count : goal.returns-in-Err-clause-count
+returns-in-Err-clause-count g c =
+    ap (λ s. g.D.Sectors.sectors s.disk) c.in-Err.ensures.same
+
+pub returns-in-Err-clause-honest : goal.returns-in-Err-clause-honest
+returns-in-Err-clause-honest g c honest =
+    subst (λ d. g.D.Sectors.honest d) (ap (λ s. s.disk) c.in-Err.ensures.same) honest
+
+pub returns-in-Err-clause-failed : goal.returns-in-Err-clause-failed
+returns-in-Err-clause-failed g c =
+    begin_counts _ _ c.in-Err.fault _ _ (c.in-Err.ensures.machine no_known) (ap (λ s. g.D.Sectors.faults s.disk) c.in-Err.ensures.same)
+
+pub returns-in-Err-clause-refused : goal.returns-in-Err-clause-refused
+returns-in-Err-clause-refused g c not =
+    c.in-Err.ensures.refused
+
+pub returns-in-Err-clause-given_up : goal.returns-in-Err-clause-given_up
+returns-in-Err-clause-given_up g c =
+    begin_given_up no_known _ _ _ c.in-Err.fault (c.in-Err.ensures.machine no_known) c.in-Err.ensures.refused
+
+pub returns-in-Err-publish_step-clause-run : goal.returns-in-Err-publish_step-clause-run
+returns-in-Err-publish_step-clause-run g c =
+    let inv = c.loop-rest.invariant in
+    let call = c.in-Err-publish_step.ensures in
+    let old = c.loop-rest.self in
+    let new = c.publish_step.new.self in
+    let rest = c.loop-rest.rest in
+    let goes : HasStep g.D.Sectors.sectors g.D.Sectors.honest g.D.Sectors.history old step (refused c.in-Err-publish_step.fault) new =
+    step_step g.D.Sectors.sectors g.D.Sectors.honest g.D.Sectors.history old new (Err c.in-Err-publish_step.fault)
+    call.machine call.size call.count call.honest call.refused call.any_moment call.after in
+    let run : HasRun g.D.Sectors.sectors g.D.Sectors.honest g.D.Sectors.history c.args.self.now
+    (begin ∷ replicate (inv.run.0 + 1) step) ((inv.run.1 ++ left rest ∷ []) ++ refused c.in-Err-publish_step.fault ∷ []) new =
+    steps_more (λ events. HasRun g.D.Sectors.sectors g.D.Sectors.honest g.D.Sectors.history c.args.self.now
+    events ((inv.run.1 ++ left rest ∷ []) ++ refused c.in-Err-publish_step.fault ∷ []) new) inv.run.0
+    (run_on g.D.Sectors.sectors g.D.Sectors.honest g.D.Sectors.history c.args.self.now old new
+    (begin ∷ replicate inv.run.0 step) (inv.run.1 ++ left rest ∷ []) step (refused c.in-Err-publish_step.fault) inv.run.2 goes) in
+    record {
+      steps = inv.run.0 + 1;
+      before = inv.run.1 ++ left rest ∷ [];
+      last = refused c.in-Err-publish_step.fault;
+      run = takes_run g.D.Sectors.sectors g.D.Sectors.honest g.D.Sectors.history c.args.self.now (begin ∷ replicate (inv.run.0 + 1) step)
+          ((inv.run.1 ++ left rest ∷ []) ++ refused c.in-Err-publish_step.fault ∷ []) new run;
+      ends = refl;
+    }
+
+pub returns-in-Err-publish_step-clause-size : goal.returns-in-Err-publish_step-clause-size
+returns-in-Err-publish_step-clause-size g c =
+    c.in-Err-publish_step.ensures.size ∙ c.loop-rest.invariant.run.2.size
+
+pub returns-in-Err-publish_step-clause-count : goal.returns-in-Err-publish_step-clause-count
+returns-in-Err-publish_step-clause-count g c =
+    c.in-Err-publish_step.ensures.count ∙ c.loop-rest.invariant.run.2.count
+
+pub returns-in-Err-publish_step-clause-honest : goal.returns-in-Err-publish_step-clause-honest
+returns-in-Err-publish_step-clause-honest g c honest =
+    c.loop-rest.invariant.run.2.stays_honest (c.in-Err-publish_step.ensures.honest honest)
+
+pub returns-in-Err-publish_step-clause-failed : goal.returns-in-Err-publish_step-clause-failed
+returns-in-Err-publish_step-clause-failed g c =
+    subst (λ before. CountsDevice c.in-Err-publish_step.fault before (g.D.Sectors.faults c.publish_step.new.self.disk))
+    c.loop-rest.invariant.faults c.in-Err-publish_step.ensures.failed
+
+pub returns-in-Err-publish_step-clause-refused : goal.returns-in-Err-publish_step-clause-refused
+returns-in-Err-publish_step-clause-refused g c not =
+    let inv = c.loop-rest.invariant in
+    let known = inv.stands.0 in
+    let moved = c.in-Err-publish_step.ensures.machine known in
+    let is = only_device (state_of known c.loop-rest.self) (state_of known c.publish_step.new.self) c.loop-rest.rest c.in-Err-publish_step.fault
+    (omega (arith, c.loop-rest-test.true)) inv.stands.1 moved in
+    absurd (not is)
+
+pub returns-in-Err-publish_step-clause-given_up : goal.returns-in-Err-publish_step-clause-given_up
+returns-in-Err-publish_step-clause-given_up g c =
+    let inv = c.loop-rest.invariant in
+    let known = inv.stands.0 in
+    let moved = c.in-Err-publish_step.ensures.machine known in
+    let is = only_device (state_of known c.loop-rest.self) (state_of known c.publish_step.new.self) c.loop-rest.rest c.in-Err-publish_step.fault
+    (omega (arith, c.loop-rest-test.true)) inv.stands.1 moved in
+    inr (inr (none_seen known.publishing c.publish_step.new.self.publication
+    (device_gives_up (state_of known c.loop-rest.self) (state_of known c.publish_step.new.self) c.in-Err-publish_step.fault is moved)))
+
+pub returns-clause-run : goal.returns-clause-run
+returns-clause-run g c =
+    let inv = c.loop-rest.invariant in
+    let done : c.loop-rest.rest ≡ 0 = omega (arith, c.loop-rest-test.false) in
+    record {
+      steps = inv.run.0;
+      before = inv.run.1;
+      last = left c.loop-rest.rest;
+      run = takes_run g.D.Sectors.sectors g.D.Sectors.honest g.D.Sectors.history c.args.self.now (begin ∷ replicate inv.run.0 step)
+          (inv.run.1 ++ left c.loop-rest.rest ∷ []) c.loop-rest.self inv.run.2;
+      ends = (ap (λ (n : ℕ). left n) done, refl, inv.edits, refl);
+    }
+
+pub returns-clause-size : goal.returns-clause-size
+returns-clause-size g c =
+    c.loop-rest.invariant.run.2.size
+
+pub returns-clause-count : goal.returns-clause-count
+returns-clause-count g c =
+    c.loop-rest.invariant.run.2.count
+
+pub returns-clause-honest : goal.returns-clause-honest
+returns-clause-honest g c =
+    c.loop-rest.invariant.run.2.stays_honest
+
+pub returns-clause-faults : goal.returns-clause-faults
+returns-clause-faults g c =
+    c.loop-rest.invariant.faults
+
+pub returns-clause-idle : goal.returns-clause-idle
+returns-clause-idle g c =
+    let inv = c.loop-rest.invariant in
+    let done : c.loop-rest.rest ≡ 0 = omega (arith, c.loop-rest-test.false) in
+    none_seen inv.stands.0.publishing c.loop-rest.self.publication
+    (subst (λ (n : ℕ). Stands (state_of inv.stands.0 c.loop-rest.self) n) done inv.stands.1)

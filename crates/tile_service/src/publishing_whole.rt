@@ -1,0 +1,56 @@
+//! A publication as one call.
+ghost use Rattle.std.specs.Prelude.{◌≡◌, ◌≢◌, ◌⊎◌, IfErr, OnOk, None};
+ghost use Rattle.tile_service.specs.Runs.{TakesPublication};
+ghost use Rattle.tile_service.specs.Service.{CountsDevice};
+ghost use Rattle.tile_service.specs.declared.fault.ServiceFault.TheVariants.{Broken, Busy, Device};
+
+use crate::fault::ServiceFault;
+use crate::service::Service;
+use sector_disk::Sectors;
+
+/// What was published.
+#[derive(Clone, Copy, Debug, PartialEq, Eq)]
+pub struct Published {
+    /// The number of the generation.
+    pub generation: u64,
+    /// The number of the last edit that it has.
+    pub edits: u64,
+    /// How many bytes its archive has.
+    pub archive_len: u64,
+}
+
+impl<D: Sectors + Drop> Service<D> {
+    /// Publishes the map: begins a publication, and goes on with it to its end.
+    ///
+    /// # Errors
+    ///
+    /// Those of `publish_begin`, with which nothing changes, and `Device`, after which the service is broken.
+    pub fn publish(&mut self) -> Result<Published, ServiceFault>
+        ensures run { TakesPublication D.sectors D.honest D.history self.old result self.new }
+        ensures size { self.new.size ≡ self.old.size }
+        ensures count { D.sectors self.new.disk ≡ D.sectors self.old.disk }
+        ensures honest { D.honest self.new.disk → D.honest self.old.disk }
+        ensures faults { OnOk result (D.faults self.new.disk ≡ D.faults self.old.disk) }
+        ensures failed { IfErr result (λ fault. CountsDevice fault (D.faults self.old.disk) (D.faults self.new.disk)) }
+        ensures idle { OnOk result (self.new.publication ≡ None) }
+        ensures refused { IfErr result (λ fault. fault ≢ Device → self.new ≡ self.old) }
+        ensures given_up { IfErr result (λ fault. (fault ≡ Broken) ⊎ (fault ≡ Busy) ⊎ (self.new.publication ≡ None)) }
+    {
+        let edits = self.journal.last;
+        let mut rest = match self.publish_begin() {
+            Ok(told) => told,
+            Err(fault) => return Err(fault),
+        };
+        while rest > 0 {
+            rest = match self.publish_step() {
+                Ok(told) => told,
+                Err(fault) => return Err(fault),
+            };
+        }
+        Ok(Published {
+            generation: self.root.generation,
+            edits,
+            archive_len: self.root.archive_len,
+        })
+    }
+}
