@@ -212,16 +212,6 @@ headless_missing bytes none few = record {
 pub partial_missing : (bytes : List ℕ) → HasNoRequest bytes → length bytes < 8192 → IsMissing bytes NO_HEAD (length bytes + 1)
 partial_missing bytes none few = headless_missing bytes (λ head rest is. none head rest is.reads) few
 
--- too many fields
-pub overflows_missing : (bytes : List ℕ) → RequestOverflows 32 bytes → length bytes < 8192 → IsMissing bytes NO_HEAD 8192
-overflows_missing bytes over few = record {
-  few = few;
-  bound = omega arith;
-  head = None;
-  bare = refl;
-  refused = λ more below. (refl, overflows_no_head bytes over more);
-}
-
 -- bytes that are refused begin with no request
 pub refused_none : (bytes : List ℕ) (head : Option RequestHead) (refusal : Refusal) (m : Request) (r : List ℕ)
     → IsRefused bytes head refusal → IsRequest bytes m r → ⊥

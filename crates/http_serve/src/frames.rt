@@ -9,8 +9,8 @@ ghost use Rattle.http_serve.specs.Reply.{is_head};
 use crate::Refusal;
 use crate::fields::{MOST_BODY, framing, range_of, says_close};
 use crate::refusals::{NO_HEAD, Rejection};
+use httparse::Status;
 use httparse::spans::{EMPTY_HEADER_SPAN, HeaderSpan, RequestSpans, Span, parse_request};
-use httparse::{Error, Status};
 
 /// The most bytes that a head may have.
 pub const MOST_HEAD: usize = 8_192;
@@ -71,10 +71,6 @@ pub(crate) fn find_request(bytes: &[u8]) -> Next
         Ok(Status::Partial) => Next::More(Missing {
             rejection,
             until: bytes.len() + 1,
-        }),
-        Err(Error::TooManyHeaders) if !full => Next::More(Missing {
-            rejection,
-            until: MOST_HEAD,
         }),
         Err(_) => Next::Refused(rejection),
     }

@@ -47,13 +47,16 @@ fn heads_have_limits(rt: HostRuntime) -> Result<(), Fail> {
     Ok(())
 }
 
-/// A head that never ends is refused at 8,192 bytes, and what is no head at once.
+/// A head that never ends is refused at 8,192 bytes, one of too many fields at its empty line, and what is no head at once.
 #[test]
 fn refusals_wait_for_no_more(rt: HostRuntime) -> Result<(), Fail> {
     let alloc = rt.alloc();
     let long = head_of(alloc, 9_000, 40)?;
+    let mut fields = head_of(alloc, 1_000, 31)?;
+    fields.extend_from_slice(b"GET /a")?;
     for (input, read) in [
         (long.as_slice(), 8_192),
+        (fields.as_slice(), 1_000),
         (b"GET\r\n\r\nGET /a".as_slice(), 4),
     ] {
         let mut out = Vec::new(alloc);
