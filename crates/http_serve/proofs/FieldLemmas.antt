@@ -20,8 +20,9 @@ use Rattle.httparse.specs.Ascii.{comma}
 use Rattle.httparse.specs.Grammar.{trim_ows}
 use Rattle.http_serve.specs.declared.fields.TheConstants.{MOST_BODY}
 use Rattle.http_serve.specs.declared.refusals.Refusal.{Refusal}
-use Rattle.http_serve.specs.declared.refusals.Refusal.TheVariants.{Head}
-use Rattle.http_serve.specs.Fields.{NamedValue, values_of, stated_length, only_value, is_numeral, is_word, lists_close, is_close, says_close}
+use Rattle.http_serve.specs.declared.refusals.Refusal.TheVariants.{Host, Coding, Expect, Length, Body}
+use Rattle.http_serve.specs.Fields.{NamedValue, values_of, limited, stated_length, only_value, is_numeral, is_word, lists_close, is_close, says_close}
+use Rattle.http_serve.specs.Fields.{framing, body_length, is_hosted, has_field}
 
 -- more fields
 values-append : (word : List ℕ) (xs ys : List NamedValue) → values_of word (xs ++ ys) ≡ values_of word xs ++ values_of word ys
@@ -58,7 +59,7 @@ two_values word bytes fields i v w so =
     omega arith
 
 -- more than one value states no length, and is no range
-pub often_refused : (values : List (List ℕ)) → 1 < length values → stated_length values ≡ Err Head
+pub often_refused : (values : List (List ℕ)) → 1 < length values → stated_length values ≡ Err Length
 often_refused [] h = absurd (omega arith)
 often_refused (v ∷ []) h = absurd (omega arith)
 often_refused (v ∷ w ∷ more) h = refl
@@ -68,18 +69,37 @@ often_none [] h = absurd (omega arith)
 often_none (v ∷ []) h = absurd (omega arith)
 often_none (v ∷ w ∷ more) h = refl
 
-numeral_bound : (v : List ℕ) (a b : Bool) (n k : ℕ) → b ≡ nat_le k MOST_BODY
-    → ◌≡◌ {A = Result ℕ Refusal} (cond (a && b) (Ok k) (Err Head)) (Ok n) → n ≤ MOST_BODY
-numeral_bound v true true n k is e = let same : k ≡ n = cc in grind (arith, nat_tests)
-numeral_bound v true false n k is e = cc
-numeral_bound v false b n k is e = cc
+-- what isn't refused by a test is what stands behind it
+taken : (b : Bool) (r : Result ℕ Refusal) (e : Refusal) (n : ℕ) → cond b r (Err e) ≡ Ok n → r ≡ Ok n
+taken true r e n is = is
+taken false r e n is = cc
+
+spared : (b : Bool) (e : Refusal) (r : Result ℕ Refusal) (n : ℕ) → cond b (Err e) r ≡ Ok n → r ≡ Ok n
+spared true e r n is = cc
+spared false e r n is = is
+
+limited_bound : (k n : ℕ) → limited k ≡ Ok n → n ≤ MOST_BODY
+limited_bound k n is = by (nat_le k MOST_BODY) refl is
+  where
+    by : (b : Bool) → b ≡ nat_le k MOST_BODY → ◌≡◌ {A = Result ℕ Refusal} (cond b (Ok k) (Err Body)) (Ok n) → n ≤ MOST_BODY
+    by true is e = let same : k ≡ n = cc in grind (arith, nat_tests)
+    by false is e = cc
+
+stated_bound : (values : List (List ℕ)) (n : ℕ) → stated_length values ≡ Ok n → n ≤ MOST_BODY
+stated_bound [] n e = let same : 0 ≡ n = cc in omega arith
+stated_bound (v ∷ []) n e = limited_bound (digits_value 10 v) n (taken (is_numeral v) (limited (digits_value 10 v)) Length n e)
+stated_bound (v ∷ w ∷ more) n e = cc
 
 -- no length above the limit is stated
-pub stated_bound : (values : List (List ℕ)) (n : ℕ) → stated_length values ≡ Ok n → n ≤ MOST_BODY
-stated_bound [] n e = let same : 0 ≡ n = cc in omega arith
-stated_bound (v ∷ []) n e =
-    numeral_bound v (is_numeral v) (nat_le (digits_value 10 v) MOST_BODY) n (digits_value 10 v) refl e
-stated_bound (v ∷ w ∷ more) n e = cc
+pub framing_bound : (minor : ℕ) (fields : List NamedValue) (n : ℕ) → framing minor fields ≡ Ok n → n ≤ MOST_BODY
+framing_bound minor fields n e =
+    let length : Result ℕ Refusal = body_length fields in
+    let behind_expect : Result ℕ Refusal = cond (has_field (codes "expect") fields) (Err Expect) length in
+    let behind_coding : Result ℕ Refusal = cond (has_field (codes "transfer-encoding") fields) (Err Coding) behind_expect in
+    stated_bound (values_of (codes "content-length") fields) n (
+    spared (has_field (codes "expect") fields) Expect length n (
+    spared (has_field (codes "transfer-encoding") fields) Coding behind_expect n (
+    taken (is_hosted minor fields) behind_coding Host n e)))
 
 -- ---- the options of a connection
 

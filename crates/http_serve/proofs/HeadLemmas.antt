@@ -12,10 +12,13 @@ use Rattle.httparse.specs.Spans.{IsWithin, span_bytes, IsRequestAt, IsRequestWit
 use Rattle.httparse.specs.declared.spans.HeaderSpan.{HeaderSpan}
 use Rattle.httparse.specs.declared.spans.RequestSpans.{RequestSpans}
 use Rattle.httparse.proofs.GrammarLemmas.{request_unique, request_prefix_free, ReadsRequest-append}
+use Rattle.http_serve.specs.declared.refusals.TheConstants.{NO_HEAD}
 use Rattle.http_serve.specs.declared.refusals.Refusal.{Refusal}
-use Rattle.http_serve.specs.declared.refusals.Refusal.TheVariants.{Head}
-use Rattle.http_serve.specs.Fields.{NamedValue, body_length, range_of, says_close}
+use Rattle.http_serve.specs.declared.refusals.Rejection.{Rejection}
+use Rattle.http_serve.specs.declared.refusals.Refusal.TheVariants.{Short}
+use Rattle.http_serve.specs.Fields.{NamedValue, framing, range_of, says_close}
 use Rattle.http_serve.specs.Frame.{IsFrameOf}
+use Rattle.http_serve.specs.Reply.{has_head_method}
 use Rattle.http_serve.specs.declared.frames.TheConstants.{MOST_REQUEST}
 use Rattle.http_serve.specs.Requests.{Request, IsHead, IsRequest, HasNoHead, HasFault, IsFault, IsRefused, fields_of}
 
@@ -99,12 +102,13 @@ module _ (bytes : List ℕ) (fields : List HeaderSpan) (spans : RequestSpans) (h
         omega arith;
   }
 
-  pub spans_stated : body_length (map (header_bytes bytes) (take spans.headers fields)) ≡ body_length (fields_of h)
-  spans_stated = ap body_length at.fields
+  pub spans_stated : framing spans.version (map (header_bytes bytes) (take spans.headers fields)) ≡ framing h.minor (fields_of h)
+  spans_stated =
+      ap (λ (minor : ℕ). framing minor (map (header_bytes bytes) (take spans.headers fields))) at.version ∙ ap (framing h.minor) at.fields
 
   -- the fields are refused, whatever follows
   pub stated_fault : spans.len ≤ 8192 → length fields ≤ 32 → (refusal : Refusal)
-      → body_length (map (header_bytes bytes) (take spans.headers fields)) ≡ Err refusal
+      → framing spans.version (map (header_bytes bytes) (take spans.headers fields)) ≡ Err refusal
       → (more : List ℕ) → HasFault (bytes ++ more) h refusal
   stated_fault size room refusal e more = record {
     rest = drop spans.len bytes ++ more;
@@ -114,8 +118,8 @@ module _ (bytes : List ℕ) (fields : List HeaderSpan) (spans : RequestSpans) (h
 
   -- the body isn't whole, nor with few bytes more
   pub short_fault : IsRequestWithin bytes fields spans → spans.len ≤ 8192 → length fields ≤ 32 → (n : ℕ)
-      → body_length (map (header_bytes bytes) (take spans.headers fields)) ≡ Ok n
-      → (more : List ℕ) → length (bytes ++ more) < spans.len + n → HasFault (bytes ++ more) h Head
+      → framing spans.version (map (header_bytes bytes) (take spans.headers fields)) ≡ Ok n
+      → (more : List ℕ) → length (bytes ++ more) < spans.len + n → HasFault (bytes ++ more) h Short
   short_fault within size room n e more short = record {
     rest = drop spans.len bytes ++ more;
     is = IsHead-append bytes more h (drop spans.len bytes) (spans_head size room);
@@ -123,11 +127,11 @@ module _ (bytes : List ℕ) (fields : List HeaderSpan) (spans : RequestSpans) (h
         let limit = within.section.len_fits in
         let few : length (drop spans.len bytes ++ more) < n =
         omega (arith, length-drop spans.len bytes, length-append (drop spans.len bytes) more, length-append bytes more) in
-        subst (λ (s : Result ℕ Refusal). IsFault (length (drop spans.len bytes ++ more)) s Head) (sym e ∙ spans_stated) (few, refl);
+        subst (λ (s : Result ℕ Refusal). IsFault (length (drop spans.len bytes ++ more)) s Short) (sym e ∙ spans_stated) (few, refl);
   }
 
   pub spans_message : spans.len ≤ 8192 → length fields ≤ 32 → (n : ℕ)
-      → body_length (map (header_bytes bytes) (take spans.headers fields)) ≡ Ok n
+      → framing spans.version (map (header_bytes bytes) (take spans.headers fields)) ≡ Ok n
       → spans.len + n ≤ length bytes
       → IsRequest bytes (record { head = h; body = take n (drop spans.len bytes) }) (drop (spans.len + n) bytes)
   spans_message size room n e fits = record {
@@ -143,7 +147,7 @@ module _ (bytes : List ℕ) (fields : List HeaderSpan) (spans : RequestSpans) (h
   }
 
   pub spans_frame : IsRequestWithin bytes fields spans → spans.len ≤ 8192 → length fields ≤ 32 → (n : ℕ)
-      → body_length (map (header_bytes bytes) (take spans.headers fields)) ≡ Ok n
+      → framing spans.version (map (header_bytes bytes) (take spans.headers fields)) ≡ Ok n
       → spans.len + n ≤ length bytes → (close : Bool)
       → close ≡ spans.version == 0 || says_close (map (header_bytes bytes) (take spans.headers fields))
       → (range : Option Span) → IfSome range (IsWithin (length bytes))
@@ -181,20 +185,22 @@ module _ (bytes : List ℕ) (fields : List HeaderSpan) (spans : RequestSpans) (h
 -- ---- heads that aren't there
 
 -- no bytes have no head
-pub empty_missing : (bytes : List ℕ) → length bytes ≡ 0 → IsMissing bytes Head 1
+pub empty_missing : (bytes : List ℕ) → length bytes ≡ 0 → IsMissing bytes NO_HEAD 1
 empty_missing bytes empty = record {
   few = omega arith;
   bound = omega arith;
   head = None;
+  bare = refl;
   refused = λ more below. (refl, empty_no_head (bytes ++ more) (omega arith));
 }
 
 -- without a head so far, one more byte is needed
-pub headless_missing : (bytes : List ℕ) → HasNoHead bytes → length bytes < 8192 → IsMissing bytes Head (length bytes + 1)
+pub headless_missing : (bytes : List ℕ) → HasNoHead bytes → length bytes < 8192 → IsMissing bytes NO_HEAD (length bytes + 1)
 headless_missing bytes none few = record {
   few = omega arith;
   bound = omega arith;
   head = None;
+  bare = refl;
   refused = λ more below. (refl, same more (omega (arith, length-append bytes more)));
 }
   where
@@ -203,17 +209,8 @@ headless_missing bytes none few = record {
     same (x ∷ more) e = absurd (omega arith)
 
 -- the same by the parser's word
-pub partial_missing : (bytes : List ℕ) → HasNoRequest bytes → length bytes < 8192 → IsMissing bytes Head (length bytes + 1)
+pub partial_missing : (bytes : List ℕ) → HasNoRequest bytes → length bytes < 8192 → IsMissing bytes NO_HEAD (length bytes + 1)
 partial_missing bytes none few = headless_missing bytes (λ head rest is. none head rest is.reads) few
-
--- too many fields
-pub overflows_missing : (bytes : List ℕ) → RequestOverflows 32 bytes → length bytes < 8192 → IsMissing bytes Head 8192
-overflows_missing bytes over few = record {
-  few = few;
-  bound = omega arith;
-  head = None;
-  refused = λ more below. (refl, overflows_no_head bytes over more);
-}
 
 -- bytes that are refused begin with no request
 pub refused_none : (bytes : List ℕ) (head : Option RequestHead) (refusal : Refusal) (m : Request) (r : List ℕ)
@@ -221,19 +218,20 @@ pub refused_none : (bytes : List ℕ) (head : Option RequestHead) (refusal : Ref
 refused_none bytes None refusal m r none x = none.1 m.head (m.body ++ r) x.head
 refused_none bytes (Some head) refusal m r fault x =
     let same = request_unique bytes head m.head fault.rest (m.body ++ r) fault.is.reads x.head.reads in
-    let stated = ap (λ (h : RequestHead). body_length (fields_of h)) same.0 ∙ x.body in
+    let stated = ap (λ (h : RequestHead). framing h.minor (fields_of h)) same.0 ∙ x.body in
     let short = subst (λ (s : Result ℕ Refusal). IsFault (length fault.rest) s refusal) stated fault.fault in
     let all = ap length same.1 in
     absurd (omega (arith, short.0, length-append m.body r))
 
 -- where no whole request is there
-pub missing_now : (bytes : List ℕ) (refusal : Refusal) (until : ℕ) → IsMissing bytes refusal until
-    → (length bytes < MOST_REQUEST) × (head : Option RequestHead) × IsRefused bytes head refusal
-missing_now bytes refusal until is =
+pub missing_now : (bytes : List ℕ) (rejection : Rejection) (until : ℕ) → IsMissing bytes rejection until
+    → (length bytes < MOST_REQUEST) × (head : Option RequestHead) × (rejection.bare ≡ has_head_method head) × IsRefused bytes head rejection.refusal
+missing_now bytes rejection until is =
     let few = is.few in
     let bound = is.bound in
     let size : length (bytes ++ []) < until = omega (arith, length-append bytes []) in (
       omega arith,
       is.head,
-      subst (λ (t : List ℕ). IsRefused t is.head refusal) (append-nil bytes) (is.refused [] size),
+      is.bare,
+      subst (λ (t : List ℕ). IsRefused t is.head rejection.refusal) (append-nil bytes) (is.refused [] size),
     )

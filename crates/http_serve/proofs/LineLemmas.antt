@@ -10,7 +10,7 @@ use Rattle.httparse.specs.Grammar.{RequestHead, IsRequestHead, print_request}
 use Rattle.http_serve.specs.declared.lines.Lines.{Lines}
 use Rattle.http_serve.specs.declared.lines.Lines.TheVariants.{Blank, Inside, Ended, Empty}
 use Rattle.http_serve.specs.Lines.{after_byte, after_bytes}
-use Rattle.http_serve.specs.declared.refusals.Refusal.TheVariants.{Head}
+use Rattle.http_serve.specs.declared.refusals.TheConstants.{NO_HEAD}
 use Rattle.http_serve.specs.declared.searches.Search.{Search}
 use Rattle.http_serve.specs.declared.searches.Search.TheVariants.{Until}
 use Rattle.http_serve.specs.declared.searches.Search.TheVariants.{Head as AtHead}
@@ -173,7 +173,7 @@ module _ (bytes : List ℕ) (n : ℕ) (old new : Lines) (so : after_bytes Blank 
   scanned_all = (omega arith, ap (λ (t : List ℕ). after_bytes Blank t) (take_all (length bytes) bytes (omega arith)) ∙ lines_now)
 
   -- bytes without an empty line are no head
-  pub scanned_missing : new ≢ Empty → length bytes < 8192 → IsMissing bytes Head (length bytes + 1)
+  pub scanned_missing : new ≢ Empty → length bytes < 8192 → IsMissing bytes NO_HEAD (length bytes + 1)
   scanned_missing other few = headless_missing bytes (lines_no_head bytes (λ e. other (sym lines_now ∙ e))) few
 
 -- more bytes leave what is known
@@ -186,6 +186,7 @@ IsKnown-append bytes more (AtHead scanned lines position) is =
 IsKnown-append bytes more (Until missing) is = (
   is.0,
   is.1,
-  λ m below. subst (λ (t : List ℕ). IsRefused t is.1 missing.refusal) (sym (append_assoc bytes more m))
-      (is.2 (more ++ m) (subst (λ (t : List ℕ). length t < missing.until) (append_assoc bytes more m) below)),
+  is.2,
+  λ m below. subst (λ (t : List ℕ). IsRefused t is.1 missing.rejection.refusal) (sym (append_assoc bytes more m))
+      (is.3 (more ++ m) (subst (λ (t : List ℕ). length t < missing.until) (append_assoc bytes more m) below)),
 )

@@ -5,7 +5,7 @@ use Rattle.std.proofs.Math.Seq.{take-append_seam, drop-append_seam}
 use Rattle.httparse.specs.Grammar.{RequestHead}
 use Rattle.httparse.proofs.GrammarLemmas.{request_unique}
 use Rattle.http_serve.specs.declared.refusals.Refusal.{Refusal}
-use Rattle.http_serve.specs.Fields.{body_length}
+use Rattle.http_serve.specs.Fields.{framing}
 use Rattle.http_serve.specs.Requests.{Request, IsHead, IsRequest, IsRefused, IsFault, Begins, Ending, going, closed, asked, refused, EndsAs, Requests}
 use Rattle.http_serve.specs.Requests.{asks_to_close, fields_of}
 use Rattle.http_serve.proofs.HeadLemmas.{empty_no_head, refused_none}
@@ -23,7 +23,7 @@ message_unique : (bytes : List ℕ) (m n : Request) (r q : List ℕ) → IsReque
 message_unique bytes m n r q x y =
     let same = head_unique bytes m.head n.head (m.body ++ r) (n.body ++ q) x.head y.head in
     let stated : ◌≡◌ {A = Result ℕ Refusal} (Ok (length m.body)) (Ok (length n.body)) =
-    sym x.body ∙ ap (λ (h : RequestHead). body_length (fields_of h)) same.0 ∙ y.body in
+    sym x.body ∙ ap (λ (h : RequestHead). framing h.minor (fields_of h)) same.0 ∙ y.body in
     let size : length m.body ≡ length n.body = cc in
     let parts = seam m.body r n.body q same.1 size in
     (λ i. record { head = same.0 i; body = parts.0 i }, parts.1)
@@ -40,11 +40,11 @@ refusal_unique bytes (Some h) None a b x y = absurd (y.1 h x.rest x.is)
 refusal_unique bytes (Some h) (Some k) a b x y =
     let same = head_unique bytes h k x.rest y.rest x.is y.is in
     let P : ℕ → Result ℕ Refusal → Type 0 = λ n s. IsFault n s a in
-    let moved : IsFault (length y.rest) (body_length (fields_of k)) a =
-    subst (λ (n : ℕ). P n (body_length (fields_of k))) (ap length same.1)
-    (subst (λ (t : RequestHead). P (length x.rest) (body_length (fields_of t))) same.0 x.fault) in
+    let moved : IsFault (length y.rest) (framing k.minor (fields_of k)) a =
+    subst (λ (n : ℕ). P n (framing k.minor (fields_of k))) (ap length same.1)
+    (subst (λ (t : RequestHead). P (length x.rest) (framing t.minor (fields_of t))) same.0 x.fault) in
     let some : RequestHead → Option RequestHead = λ head. Some head in
-    (ap some same.0, fault_unique (length y.rest) (body_length (fields_of k)) a b moved y.fault)
+    (ap some same.0, fault_unique (length y.rest) (framing k.minor (fields_of k)) a b moved y.fault)
 
 -- no request is where the bytes end, but for one that ends them
 end_none : (bytes : List ℕ) (ending : Ending) (m : Request) (r : List ℕ) → (ending ≢ going) → EndsAs bytes ending → IsRequest bytes m r

@@ -6,7 +6,8 @@ use Rattle.httparse.specs.Grammar.{RequestHead}
 use Rattle.std.proofs.lemmas.List.{append-nil}
 use Rattle.std.specs.Io.KnownBytes.{Appends, Consumes, IsAtEnd}
 use Rattle.http_serve.specs.declared.refusals.Refusal.{Refusal}
-use Rattle.http_serve.specs.declared.refusals.Refusal.TheVariants.{Head}
+use Rattle.http_serve.specs.declared.refusals.Rejection.{Rejection}
+use Rattle.http_serve.specs.declared.refusals.TheConstants.{NO_HEAD}
 use Rattle.http_serve.specs.declared.connection.End.{End}
 use Rattle.http_serve.specs.declared.connection.End.TheVariants.{Closed, Asked, Refused, Turns}
 use Rattle.http_serve.specs.declared.connection.Served.{Served}
@@ -19,7 +20,7 @@ use Rattle.http_serve.specs.Input.{buffer_size}
 use Rattle.http_serve.specs.Parts.{cut_after}
 use Rattle.http_serve.specs.Requests.{Request, Ending, going, closed, asked, refused, EndsAs, IsRefused, Requests}
 use Rattle.http_serve.specs.Requests.{RequestView}
-use Rattle.http_serve.specs.Reply.{ReplyView, refusal_bytes}
+use Rattle.http_serve.specs.Reply.{ReplyView, refusal_bytes, has_head_method}
 use Rattle.http_serve.specs.Served.{RisesBy, reply_count, Answers, AnswersEnd, AnswersAll, AnswersNext, RefusesNext, Carries, Ends, Breaks, Anything, MayFollow}
 use Rattle.http_serve.specs.Steps.{HasPlainEnd, IsFinished, IsUnfinished, IsBroken}
 use Rattle.http_serve.specs.Told.{end_of, IfTurns, IsServed, IsServedTo, IsServedSoFar, IsServedInPart, IsServedUpTo, IsAnswered, LosesAtLeast, LosesAtMost}
@@ -55,13 +56,14 @@ not_turns Turns stopped ended other x = absurd (other refl)
 
 -- the replies to the whole requests of the bytes so far are written, and what is left begins with none
 pub record IsSoFar {S : Type 0} (replies : S → RequestView → ReplyView → S → Type 0) (old : S) (left held : Option (List ℕ))
-    (new : S) (leaves holds : Option (List ℕ)) (requests : ℕ) (waiting : List ℕ) (reason : Refusal) : Type 0 where
+    (new : S) (leaves holds : Option (List ℕ)) (requests : ℕ) (waiting : List ℕ) (reason : Rejection) : Type 0 where
   pub bytes : List ℕ
   pub read : Consumes left leaves bytes
   pub carries : Carries replies old bytes held 0 new waiting holds requests
   pub few : length waiting < MOST_REQUEST
   pub head : Option RequestHead
-  pub refused : IsRefused waiting head reason
+  pub bare : reason.bare ≡ has_head_method head
+  pub refused : IsRefused waiting head reason.refusal
 
 module _ {S : Type 0} (replies : S → RequestView → ReplyView → S → Type 0) where
   -- what a cut reply leaves
@@ -71,7 +73,7 @@ module _ {S : Type 0} (replies : S → RequestView → ReplyView → S → Type 
   cut_breaks old bytes held before new holds requests cuts.Content breaks = breaks
 
   pub SoFar_start : (old : S) (left held : Option (List ℕ)) (waiting : List ℕ) → waiting ≡ []
-      → IsSoFar replies old left held old left held 0 waiting Head
+      → IsSoFar replies old left held old left held 0 waiting NO_HEAD
   SoFar_start old left held waiting empty =
       let none = empty_no_head waiting (ap length empty) in
       let size : length waiting ≡ 0 = ap length empty in
@@ -81,6 +83,7 @@ module _ {S : Type 0} (replies : S → RequestView → ReplyView → S → Type 
         carries = Carries_start replies old waiting held 0 (omega arith);
         few = omega arith;
         head = None;
+        bare = refl;
         refused = (refl, none);
       }
 
@@ -171,7 +174,7 @@ module _ {S : Type 0} (replies : S → RequestView → ReplyView → S → Type 
     written = y.written;
   }
 
-  module _ (old : S) (left held : Option (List ℕ)) (middle : S) (leaves holds : Option (List ℕ)) (requests : ℕ) (waiting : List ℕ) (reason : Refusal)
+  module _ (old : S) (left held : Option (List ℕ)) (middle : S) (leaves holds : Option (List ℕ)) (requests : ℕ) (waiting : List ℕ) (reason : Rejection)
       (so : IsSoFar replies old left held middle leaves holds requests waiting reason) where
     -- a read failed, or the bound on reads is met
     pub SoFar_stops : IsServedSoFar replies old left held requests middle leaves holds
@@ -180,7 +183,7 @@ module _ {S : Type 0} (replies : S → RequestView → ReplyView → S → Type 
       rest = waiting;
       read = so.read;
       carries = so.carries;
-      none = λ request behind. refused_none waiting so.head reason request behind so.refused;
+      none = λ request behind. refused_none waiting so.head reason.refusal request behind so.refused;
     }
 
     -- a read that failed gave nothing
@@ -192,15 +195,15 @@ module _ {S : Type 0} (replies : S → RequestView → ReplyView → S → Type 
           let P : List ℕ → Type 0 = λ t. Consumes left last t in
           subst P (append-nil so.bytes) (Consumes-then left leaves last so.bytes [] so.read came);
       carries = so.carries;
-      none = λ request behind. refused_none waiting so.head reason request behind so.refused;
+      none = λ request behind. refused_none waiting so.head reason.refusal request behind so.refused;
     }
 
     module _ (more : List ℕ) (last : Option (List ℕ)) (came : Consumes leaves last more) (new : S) (now : Option (List ℕ))
         (full : List ℕ) (joined : full ≡ waiting ++ more) where
       -- more came, and the whole requests in it are answered
-      pub SoFar_goes : (rest : List ℕ) (after : ℕ) (head : Option RequestHead) (next : Refusal) → Carries replies middle full holds requests new rest now after
-          → length rest < MOST_REQUEST → IsRefused rest head next → IsSoFar replies old left held new last now after rest next
-      SoFar_goes rest after head next y few none = record {
+      pub SoFar_goes : (rest : List ℕ) (after : ℕ) (head : Option RequestHead) (next : Rejection) → Carries replies middle full holds requests new rest now after
+          → length rest < MOST_REQUEST → next.bare ≡ has_head_method head → IsRefused rest head next.refusal → IsSoFar replies old left held new last now after rest next
+      SoFar_goes rest after head next y few bare none = record {
         bytes = so.bytes ++ more;
         read = Consumes-then left leaves last so.bytes more so.read came;
         carries =
@@ -209,6 +212,7 @@ module _ {S : Type 0} (replies : S → RequestView → ReplyView → S → Type 
             (subst (λ (t : List ℕ). Carries replies middle t holds requests new rest now after) joined y);
         few = few;
         head = head;
+        bare = bare;
         refused = none;
       }
 
@@ -256,7 +260,7 @@ module _ {S : Type 0} (replies : S → RequestView → ReplyView → S → Type 
 
     -- the input ended
     SoFar_finish : (served : Served) (last : Option (List ℕ)) (now : Option (List ℕ)) → Consumes leaves last [] → IsAtEnd last
-        → IsFinished waiting so.head reason holds requests served now → IsServedTo replies old left held served middle last now
+        → IsFinished waiting so.head reason.refusal holds requests served now → IsServedTo replies old left held served middle last now
     SoFar_finish served last now came at_end y = record {
       bytes = so.bytes;
       read =
@@ -278,7 +282,7 @@ module _ {S : Type 0} (replies : S → RequestView → ReplyView → S → Type 
         plain (refused head refusal) text h = (h, refl)
 
     SoFar_unfinished : (last : Option (List ℕ)) (count : ℕ) (now : Option (List ℕ)) → Consumes leaves last [] → IsAtEnd last
-        → 0 < length waiting → count < length (refusal_bytes so.head reason) → Appends holds now (take count (refusal_bytes so.head reason))
+        → 0 < length waiting → count < length (refusal_bytes so.head reason.refusal) → Appends holds now (take count (refusal_bytes so.head reason.refusal))
         → IsServedInPart replies old left held requests middle last now
     SoFar_unfinished last count now came at_end some cut y = record {
       bytes = so.bytes;
@@ -286,8 +290,8 @@ module _ {S : Type 0} (replies : S → RequestView → ReplyView → S → Type 
           let P : List ℕ → Type 0 = λ t. Consumes left last t in
           subst P (append-nil so.bytes) (Consumes-then left leaves last so.bytes [] so.read came);
       breaks =
-          Breaks_refused replies old so.bytes held 0 middle waiting holds requests (MayFollow last) so.head reason count now so.carries some
-          (λ more may. subst (λ (t : List ℕ). IsRefused t so.head reason)
+          Breaks_refused replies old so.bytes held 0 middle waiting holds requests (MayFollow last) so.head reason.refusal count now so.carries some
+          (λ more may. subst (λ (t : List ℕ). IsRefused t so.head reason.refusal)
           (sym (ap (λ (t : List ℕ). waiting ++ t) (may at_end) ∙ append-nil waiting)) so.refused) cut y;
     }
 
@@ -300,16 +304,16 @@ module _ {S : Type 0} (replies : S → RequestView → ReplyView → S → Type 
       same_waits = joined ∙ ap (λ (t : List ℕ). waiting ++ t) none_came ∙ append-nil waiting
 
       pub SoFar_done : (n ≡ 0 → IsAtEnd last) → (served : Served)
-          → IsFinished full so.head reason holds requests served now → IsServed replies old left held served middle last now
+          → IsFinished full so.head reason.refusal holds requests served now → IsServed replies old left held served middle last now
       SoFar_done at_end served y =
-          let z = subst (λ (t : List ℕ). IsFinished t so.head reason holds requests served now) same_waits y in
+          let z = subst (λ (t : List ℕ). IsFinished t so.head reason.refusal holds requests served now) same_waits y in
           not_turns served.end _ _ (finished_other served.end z.ending z.last z.told z.plain)
           (SoFar_finish served last now (subst (λ (t : List ℕ). Consumes leaves last t) none_came came) (at_end zero) z)
 
-      pub SoFar_failed : (n ≡ 0 → IsAtEnd last) → (fault : ServeFault) → IsUnfinished full so.head reason holds requests fault now
+      pub SoFar_failed : (n ≡ 0 → IsAtEnd last) → (fault : ServeFault) → IsUnfinished full so.head reason.refusal holds requests fault now
           → IsServedUpTo replies old left held fault middle last now
       SoFar_failed at_end fault y =
-          let z = subst (λ (t : List ℕ). IsUnfinished t so.head reason holds requests fault now) same_waits y in
+          let z = subst (λ (t : List ℕ). IsUnfinished t so.head reason.refusal holds requests fault now) same_waits y in
           subst (λ (f : ServeFault). IsServedUpTo replies old left held f middle last now) (sym z.told)
           (SoFar_unfinished last z.count now (subst (λ (t : List ℕ). Consumes leaves last t) none_came came) (at_end zero) z.some z.cut z.written)
 

@@ -1,6 +1,6 @@
--- What the fields of a head say of its body and of the connection.
+-- What the fields of a head say of the request, of its body and of the connection.
 use Rattle.std.specs.Prelude.{ℕ, List, [], ◌∷◌, ◌≡◌, ◌<◌, ◌==◌, ◌&&◌, Bool, cond, nat_eq, nat_lt, nat_le, length, map, filter, codes, Option, None, Some}
-use Rattle.std.specs.Prelude.{Result, Ok, Err}
+use Rattle.std.specs.Prelude.{Result, Ok, Err, ◌||◌}
 use Rattle.std.specs.List.{list_all, list_any, slice_split}
 use Rattle.std.specs.Char.{is_ascii_digit, to_ascii_lowercase}
 use Rattle.std.specs.Cmp.Lexicographic.{pointwise}
@@ -12,7 +12,7 @@ use Rattle.http_serve.specs.declared.fields.TheConstants.{MOST_BODY}
 use Rattle.http_serve.specs.declared.fields.Stated.{Stated}
 use Rattle.http_serve.specs.declared.fields.Stated.TheVariants.{Never, Once, Often}
 use Rattle.http_serve.specs.declared.refusals.Refusal.{Refusal}
-use Rattle.http_serve.specs.declared.refusals.Refusal.TheVariants.{Head}
+use Rattle.http_serve.specs.declared.refusals.Refusal.TheVariants.{Host, Coding, Expect, Length, Body}
 
 -- a field's name, and its value without the white space around it
 abbrev pub NamedValue : Type 0
@@ -38,20 +38,47 @@ IsStated bytes Often values = 1 < length values
 abbrev pub is_numeral : List ℕ → Bool
 is_numeral value = nat_lt 0 (length value) && list_all is_ascii_digit value
 
--- the number that a content-length writes, up to the most bytes of a body
+-- a number up to the most bytes of a body
+abbrev pub limited : ℕ → Result ℕ Refusal
+limited size = cond (nat_le size MOST_BODY) (Ok size) (Err Body)
+
+-- the number that a content-length writes (RFC 9110, 8.6)
 abbrev pub numeral_length : List ℕ → Result ℕ Refusal
-numeral_length value =
-    cond (is_numeral value && nat_le (digits_value 10 value) MOST_BODY) (Ok (digits_value 10 value)) (Err Head)
+numeral_length value = cond (is_numeral value) (limited (digits_value 10 value)) (Err Length)
 
 -- the length by all values: none is 0, and more than one is refused
 abbrev pub stated_length : List (List ℕ) → Result ℕ Refusal
 stated_length [] = Ok 0
 stated_length (value ∷ []) = numeral_length value
-stated_length (value ∷ other ∷ more) = Err Head
+stated_length (value ∷ other ∷ more) = Err Length
 
 -- how long the body is, or why the head is refused
 abbrev pub body_length : List NamedValue → Result ℕ Refusal
 body_length fields = stated_length (values_of (codes "content-length") fields)
+
+-- ---- framing
+
+-- some field has this name
+abbrev pub has_field : List ℕ → List NamedValue → Bool
+has_field word fields = nat_lt 0 (length (values_of word fields))
+
+-- exactly one field is called host
+abbrev pub has_one_host : List NamedValue → Bool
+has_one_host fields = length (values_of (codes "host") fields) == 1
+
+-- HTTP/1.0 needs no host, HTTP/1.1 has one (RFC 9112, 3.2)
+abbrev pub is_hosted : (minor : ℕ) → List NamedValue → Bool
+is_hosted minor fields = minor == 0 || has_one_host fields
+
+-- How long the body is, or the first reason why the head is refused: its host, a coding of its body, which none is taken of
+-- (RFC 9112, 6.1 and 6.3), an expectation, which none is met (RFC 9110, 10.1.1), its length.
+abbrev pub framing : (minor : ℕ) → List NamedValue → Result ℕ Refusal
+framing minor fields =
+    cond (is_hosted minor fields)
+    (cond (has_field (codes "transfer-encoding") fields) (Err Coding)
+    (cond (has_field (codes "expect") fields) (Err Expect)
+    (body_length fields)))
+    (Err Host)
 
 -- ---- range
 

@@ -6,9 +6,10 @@ use Rattle.http_serve.specs.declared.frames.TheConstants.{MOST_REQUEST}
 use Rattle.http_serve.specs.declared.frames.Frame.{Frame}
 use Rattle.http_serve.specs.declared.frames.Next.{Next}
 use Rattle.http_serve.specs.declared.frames.Next.TheVariants.{Whole, Refused, More}
-use Rattle.http_serve.specs.declared.refusals.Refusal.{Refusal}
+use Rattle.http_serve.specs.declared.refusals.Rejection.{Rejection}
 use Rattle.http_serve.specs.Requests.{Request, IsRequest, IsRefused, fields_of, asks_to_close}
 use Rattle.http_serve.specs.Fields.{range_of}
+use Rattle.http_serve.specs.Reply.{has_head_method}
 
 -- bytes begin with this request, and the frame has its parts
 pub record IsFrameOf (bytes : List ℕ) (frame : Frame) (request : Request) : Type 0 where
@@ -25,14 +26,22 @@ pub record IsFrameOf (bytes : List ℕ) (frame : Frame) (request : Request) : Ty
   pub close : frame.close ≡ asks_to_close request.head
 
 -- bytes, with what may follow them up to a length, begin with no request
-pub record IsMissing (bytes : List ℕ) (refusal : Refusal) (until : ℕ) : Type 0 where
+pub record IsMissing (bytes : List ℕ) (rejection : Rejection) (until : ℕ) : Type 0 where
   pub few : length bytes < until
   pub bound : until ≤ MOST_REQUEST
   pub head : Option RequestHead
-  pub refused : (more : List ℕ) → length (bytes ++ more) < until → IsRefused (bytes ++ more) head refusal
+  pub bare : rejection.bare ≡ has_head_method head
+  pub refused : (more : List ℕ) → length (bytes ++ more) < until → IsRefused (bytes ++ more) head rejection.refusal
+
+-- bytes begin with no request, whatever follows
+pub record IsRejected (bytes : List ℕ) (rejection : Rejection) : Type 0 where
+  pub some : 0 < length bytes
+  pub head : Option RequestHead
+  pub bare : rejection.bare ≡ has_head_method head
+  pub refused : (more : List ℕ) → IsRefused (bytes ++ more) head rejection.refusal
 
 -- what bytes begin with
 abbrev pub IsNext : List ℕ → Next → Type 0
 IsNext bytes (Whole frame) = (request : Request) × IsFrameOf bytes frame request
-IsNext bytes (Refused refusal) = (head : Option RequestHead) × (0 < length bytes) × ((more : List ℕ) → IsRefused (bytes ++ more) head refusal)
-IsNext bytes (More missing) = IsMissing bytes missing.refusal missing.until
+IsNext bytes (Refused rejection) = IsRejected bytes rejection
+IsNext bytes (More missing) = IsMissing bytes missing.rejection missing.until

@@ -8,7 +8,7 @@ use Rattle.httparse.specs.Spans.{span_bytes}
 use Rattle.http_serve.specs.Requests.{Request, asks_to_close}
 use Rattle.http_serve.specs.declared.frames.Frame.{Frame}
 use Rattle.http_serve.specs.declared.refusals.Refusal.{Refusal}
-use Rattle.http_serve.specs.declared.refusals.Refusal.TheVariants.{Head}
+use Rattle.http_serve.specs.declared.refusals.Refusal.TheVariants.{Head, Host, Coding, Expect, Length, Body, Short}
 use Rattle.http_serve.specs.declared.replies.TheConstants.{MOST_WORD}
 use Rattle.http_serve.specs.declared.replies.Content.{Content}
 use Rattle.http_serve.specs.declared.replies.Content.TheVariants.{Empty, Fixed, Whole, Parts}
@@ -174,10 +174,25 @@ reply_at bytes frame reply = reply_bytes frame.close (is_head (span_bytes bytes 
 
 -- ---- refusals
 
--- 400 Bad Request, and the word of the refusal on a line
+-- a status, and a text that tells the refusal
+abbrev pub refused_by : ℕ → List ℕ → ReplyView
+refused_by status text = plain_reply status (Some (codes "text/plain")) text
+
+-- the word of the refusal on a line: 400 Bad Request, or the status that RFC 9110 and RFC 9112 have for it
 unfoldable pub refusal_view : Refusal → ReplyView
-refusal_view Head = plain_reply 400 (Some (codes "text/plain")) (codes "Head\n")
+refusal_view Head = refused_by 400 (codes "Head\n")
+refusal_view Host = refused_by 400 (codes "Host\n")
+refusal_view Coding = refused_by 501 (codes "Coding\n")
+refusal_view Expect = refused_by 417 (codes "Expect\n")
+refusal_view Length = refused_by 400 (codes "Length\n")
+refusal_view Body = refused_by 413 (codes "Body\n")
+refusal_view Short = refused_by 400 (codes "Short\n")
+
+-- there is a head, whose method is HEAD
+abbrev pub has_head_method : Option RequestHead → Bool
+has_head_method None = false
+has_head_method (Some head) = is_head head.method
 
 -- the reply to what is no request, whose head this is, where it has one
 abbrev pub refusal_bytes : Option RequestHead → Refusal → List ℕ
-refusal_bytes head Head = reply_bytes true false (refusal_view Head)
+refusal_bytes head refusal = reply_bytes true (has_head_method head) (refusal_view refusal)

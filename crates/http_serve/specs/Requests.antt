@@ -7,8 +7,8 @@ use Rattle.httparse.specs.Spans.{name_and_value, span_bytes}
 use Rattle.http_serve.specs.declared.frames.Frame.{Frame}
 use Rattle.http_serve.specs.declared.frames.TheConstants.{MOST_HEAD, MOST_FIELDS}
 use Rattle.http_serve.specs.declared.refusals.Refusal.{Refusal}
-use Rattle.http_serve.specs.declared.refusals.Refusal.TheVariants.{Head}
-use Rattle.http_serve.specs.Fields.{NamedValue, body_length, range_of, says_close}
+use Rattle.http_serve.specs.declared.refusals.Refusal.TheVariants.{Head, Short}
+use Rattle.http_serve.specs.Fields.{NamedValue, framing, range_of, says_close}
 
 -- a request: its head and its body
 pub record Request : Type 0 where
@@ -27,7 +27,7 @@ pub record IsHead (bytes : List ℕ) (head : RequestHead) (rest : List ℕ) : Ty
 -- bytes are this request and then rest
 pub record IsRequest (bytes : List ℕ) (request : Request) (rest : List ℕ) : Type 0 where
   pub head : IsHead bytes request.head (request.body ++ rest)
-  pub body : body_length (fields_of request.head) ≡ Ok (length request.body)
+  pub body : framing request.head.minor (fields_of request.head) ≡ Ok (length request.body)
 
 -- the connection ends after this request: it is of HTTP/1.0, or says so
 abbrev pub asks_to_close : RequestHead → Bool
@@ -76,14 +76,14 @@ HasNoHead bytes = (head : RequestHead) (rest : List ℕ) → ¬ (IsHead bytes he
 
 -- a head states this, and so many bytes are left behind it: why that is no request
 abbrev pub IsFault : ℕ → Result ℕ Refusal → Refusal → Type 0
-IsFault left (Ok size) refusal = (left < size) × (refusal ≡ Head)
+IsFault left (Ok size) refusal = (left < size) × (refusal ≡ Short)
 IsFault left (Err stated) refusal = refusal ≡ stated
 
 -- bytes begin with this head, which is refused
 pub record HasFault (bytes : List ℕ) (head : RequestHead) (refusal : Refusal) : Type 0 where
   pub rest : List ℕ
   pub is : IsHead bytes head rest
-  pub fault : IsFault (length rest) (body_length (fields_of head)) refusal
+  pub fault : IsFault (length rest) (framing head.minor (fields_of head)) refusal
 
 -- bytes, which are all there is, begin with no request, for this reason: they have no head, or this one
 abbrev pub IsRefused : List ℕ → Option RequestHead → Refusal → Type 0

@@ -6,6 +6,7 @@ use Rattle.http_serve.specs.declared.searches.Search.{Search}
 use Rattle.http_serve.specs.declared.searches.Search.TheVariants.{Head, Until}
 use Rattle.http_serve.specs.declared.frames.TheConstants.{MOST_REQUEST}
 use Rattle.http_serve.specs.Lines.{after_bytes}
+use Rattle.http_serve.specs.Reply.{has_head_method}
 use Rattle.http_serve.specs.Requests.{IsRefused}
 
 -- how far the first bytes are to an empty line, or up to which length no request is whole. Where a head may be at fault only says when it is parsed
@@ -15,4 +16,5 @@ IsKnown bytes (Head scanned lines position) =
 IsKnown bytes (Until missing) =
     (missing.until ≤ MOST_REQUEST)
     × (head : Option RequestHead)
-    × ((more : List ℕ) → length (bytes ++ more) < missing.until → IsRefused (bytes ++ more) head missing.refusal)
+    × (missing.rejection.bare ≡ has_head_method head)
+    × ((more : List ℕ) → length (bytes ++ more) < missing.until → IsRefused (bytes ++ more) head missing.rejection.refusal)

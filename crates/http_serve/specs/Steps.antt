@@ -12,7 +12,7 @@ use Rattle.http_serve.specs.declared.frames.TheConstants.{MOST_REQUEST}
 use Rattle.http_serve.specs.declared.refusals.Refusal.{Refusal}
 use Rattle.http_serve.specs.Requests.{IsRefused, EndsAs, Ending, going, closed, asked, refused}
 use Rattle.http_serve.specs.Requests.{RequestView}
-use Rattle.http_serve.specs.Reply.{ReplyView, refusal_bytes}
+use Rattle.http_serve.specs.Reply.{ReplyView, refusal_bytes, has_head_method}
 use Rattle.http_serve.specs.Served.{RisesBy, reply_count, Carries, Ends, Breaks, Anything}
 use Rattle.http_serve.specs.Told.{end_of}
 
@@ -49,9 +49,9 @@ module _ {S : Type 0} (replies : S → RequestView → ReplyView → S → Type 
   IsPaused old waiting held before (Ended served) new rest holds =
       (ending : Ending) × Ends replies old waiting Anything held before ending new holds served.requests
       × (served.end ≡ end_of ending) × (served.end ≢ Turns)
-  IsPaused old waiting held before (More requests refusal) new rest holds =
+  IsPaused old waiting held before (More requests rejection) new rest holds =
       Carries replies old waiting held before new rest holds requests × (length rest < MOST_REQUEST)
-      × (head : Option RequestHead) × IsRefused rest head refusal
+      × (head : Option RequestHead) × (rejection.bare ≡ has_head_method head) × IsRefused rest head rejection.refusal
 
   -- a reply was cut
   abbrev pub IsBroken : S → List ℕ → Option (List ℕ) → ℕ → ServeFault → S → Option (List ℕ) → Type 0

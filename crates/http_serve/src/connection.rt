@@ -4,7 +4,7 @@ ghost use Rattle.httparse.specs.Grammar.{RequestHead};
 ghost use Rattle.httparse.specs.Spans.{IsWithin, span_bytes};
 ghost use Rattle.std.specs.Option.{option_map};
 ghost use Rattle.http_serve.specs.Requests.{path_of, request_view_at};
-ghost use Rattle.http_serve.specs.Reply.{ReplyView, is_head, reply_at, refusal_bytes};
+ghost use Rattle.http_serve.specs.Reply.{ReplyView, reply_at, refusal_bytes, has_head_method};
 ghost use Rattle.http_serve.specs.Search.{IsKnown};
 ghost use Rattle.http_serve.specs.Sent.{Sends};
 ghost use Rattle.http_serve.specs.Steps.{IsPaused, IsBroken, IsFinished, IsUnfinished};
@@ -14,12 +14,13 @@ ghost use Rattle.http_serve.specs.Parts.{IsCutIn};
 
 use crate::contents::{SendFault, send_reply};
 use crate::fields::position_or_len;
-use crate::frames::{Frame, Next};
+use crate::frames::{Frame, Next, is_head};
 use crate::inputs::Input;
+use crate::refusals::{NO_HEAD, Rejection};
 use crate::replies::{REPLY_SPACE, send_front};
 use crate::searches::{START, Search, find_next};
 use crate::writes::WriteFault;
-use crate::{Handler, Refusal, Request};
+use crate::{Handler, Request};
 use httparse::spans::Span;
 use std::alloc::Global;
 use std::io::{Read, Write};
@@ -70,7 +71,7 @@ enum Pause {
     /// The connection ended.
     Ended(Served),
     /// So many replies were written, and more bytes are needed. If none follow, this is why there is no request.
-    More { requests: u64, refusal: Refusal },
+    More { requests: u64, rejection: Rejection },
 }
 
 /// A request's path: its target up to the first question mark.
@@ -89,13 +90,6 @@ fn part_of(bytes: &[u8], part: Option<Span>) -> Option<&[u8]>
         Some(span) => Some(span.of(bytes)),
         None => None,
     }
-}
-
-/// Whether a method is HEAD, whose replies are only heads (RFC 9110, 9.3.2).
-fn is_head(method: &[u8]) -> bool
-    ensures { result ≡ is_head method.now }
-{
-    method == b"HEAD".as_slice()
 }
 
 /// Answers the request in a frame of these bytes.
@@ -129,12 +123,18 @@ fn answer_one<H: Handler, W: Write>(
 }
 
 /// Tells that the bytes are no request.
-fn refuse<W: Write>(writer: &mut W, out: &mut Vec<u8>, refusal: Refusal) -> Result<(), WriteFault>
+fn refuse<W: Write>(
+    writer: &mut W,
+    out: &mut Vec<u8>,
+    rejection: Rejection,
+) -> Result<(), WriteFault>
     requires room { 16384 ≤ vec_capacity out.old }
     ensures room { 16384 ≤ vec_capacity out.new }
-    ensures sent { (head : Option RequestHead) → Sends result (W.contents writer.old) (W.contents writer.new) (refusal_bytes head refusal) }
+    ensures sent { (head : Option RequestHead) → rejection.bare ≡ has_head_method head
+        → Sends result (W.contents writer.old) (W.contents writer.new) (refusal_bytes head rejection.refusal) }
 {
-    send_front(writer, out, &refusal.reply(), true, false)
+    let reply = rejection.refusal.reply();
+    send_front(writer, out, &reply, true, rejection.bare)
 }
 
 /// The bytes that wait, what is known of them, and room for replies.
@@ -168,10 +168,10 @@ fn answer_whole<H: Handler, W: Write>(
             Next::More(missing) => {
                 return Ok(Pause::More {
                     requests,
-                    refusal: missing.refusal,
+                    rejection: missing.rejection,
                 });
             }
-            Next::Refused(refusal) => match refuse(writer, &mut session.out, refusal) {
+            Next::Refused(rejection) => match refuse(writer, &mut session.out, rejection) {
                 Ok(()) => {
                     return Ok(Pause::Ended(Served {
                         requests: requests.saturating_add(1),
@@ -200,12 +200,14 @@ fn finish<W: Write>(
     writer: &mut W,
     session: &mut Session,
     requests: u64,
-    reason: Refusal,
+    reason: Rejection,
 ) -> Result<Served, ServeFault>
     requires room { 16384 ≤ vec_capacity session.old.out }
-    ensures ends { (head : Option RequestHead) → IfOk result (λ served. IsFinished session.old.input.waiting head reason (W.contents writer.old) requests
+    ensures ends { (head : Option RequestHead) → reason.bare ≡ has_head_method head
+        → IfOk result (λ served. IsFinished session.old.input.waiting head reason.refusal (W.contents writer.old) requests
         served (W.contents writer.new)) }
-    ensures fault { (head : Option RequestHead) → IfErr result (λ fault. IsUnfinished session.old.input.waiting head reason (W.contents writer.old) requests
+    ensures fault { (head : Option RequestHead) → reason.bare ≡ has_head_method head
+        → IfErr result (λ fault. IsUnfinished session.old.input.waiting head reason.refusal (W.contents writer.old) requests
         fault (W.contents writer.new)) }
 {
     if session.input.waiting().is_empty() {
@@ -251,7 +253,7 @@ pub fn serve_turns<R: Read, W: Write, H: Handler>(
         out,
     };
     let mut requests = 0;
-    let mut reason = Refusal::Head;
+    let mut reason = NO_HEAD;
     for _turn in 0..turns {
         let Ok(count) = session.input.read_from(reader) else {
             return Err(ServeFault::Read { requests });
@@ -263,10 +265,10 @@ pub fn serve_turns<R: Read, W: Write, H: Handler>(
             Pause::Ended(served) => return Ok(served),
             Pause::More {
                 requests: answered,
-                refusal,
+                rejection,
             } => {
                 requests = answered;
-                reason = refusal;
+                reason = rejection;
             }
         }
     }

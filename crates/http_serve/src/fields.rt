@@ -1,11 +1,11 @@
-//! What the fields of a head say of its body and of the connection (RFC 9110, 8.6 and 7.6.1).
-ghost use Rattle.std.specs.Prelude.{◌≡◌, ◌≤◌, ◌<◌, ◌&&◌, ◌==◌, true, length, map, reverse, codes, All, IfSome};
+//! What the fields of a head say of the request, of its body and of the connection (RFC 9110, 7.6.1, 8.6 and 10.1.1; RFC 9112, 3.2 and 6).
+ghost use Rattle.std.specs.Prelude.{◌≡◌, ◌≤◌, ◌<◌, ◌&&◌, ◌==◌, ◌^◌, ℕ, true, length, map, reverse, codes, All, IfSome, MatchOption};
 ghost use Rattle.std.specs.List.{position, position_or_len};
 ghost use Rattle.std.specs.Char.{to_ascii_lowercase};
 ghost use Rattle.std.specs.Option.{option_map};
 ghost use Rattle.httparse.specs.Spans.{IsHeaderWithin, IsWithin, header_bytes, span_bytes};
 ghost use Rattle.httparse.specs.Grammar.{is_ows, skip_ows, trim_ows};
-ghost use Rattle.http_serve.specs.Fields.{is_word, IsStated, values_of, numeral_length, body_length, range_of, lists_close, says_close};
+ghost use Rattle.http_serve.specs.Fields.{is_word, IsStated, values_of, limited, numeral_length, body_length, has_field, is_hosted, framing, range_of, lists_close, says_close};
 
 use crate::Refusal;
 use decimal_number::{are_digits, digits_number};
@@ -54,29 +54,79 @@ fn find_stated(bytes: &[u8], fields: &[HeaderSpan], word: &[u8]) -> Stated
     }
 }
 
+/// A number up to the most bytes of a body. None is 2^64 or more.
+fn limited(number: Option<u64>) -> Result<u64, Refusal>
+    ensures { (size : ℕ) → MatchOption number (2 ^ 64 ≤ size) (λ number. number ≡ size) → result ≡ limited size }
+{
+    match number {
+        Some(size) if size <= MOST_BODY => Ok(size),
+        _ => Err(Refusal::Body),
+    }
+}
+
 /// The length that a value of content-length writes.
 fn numeral_length(value: &[u8]) -> Result<u64, Refusal>
     ensures { result ≡ numeral_length value.now }
 {
     if value.is_empty() || !are_digits(value) {
-        return Err(Refusal::Head);
+        return Err(Refusal::Length);
     }
-    match digits_number(value) {
-        Some(size) if size <= MOST_BODY => Ok(size),
-        _ => Err(Refusal::Head),
-    }
+    limited(digits_number(value))
 }
 
-/// How long the body of a request is, by the fields of its head.
-pub(crate) fn body_length(bytes: &[u8], fields: &[HeaderSpan]) -> Result<u64, Refusal>
+/// How long the body is, by the values of content-length.
+fn body_length(bytes: &[u8], fields: &[HeaderSpan]) -> Result<u64, Refusal>
     requires { All (IsHeaderWithin (length bytes.now)) fields.now }
     ensures { result ≡ body_length (map (header_bytes bytes.now) fields.now) }
 {
     match find_stated(bytes, fields, b"content-length") {
         Stated::Never => Ok(0),
         Stated::Once(value) => numeral_length(value.of(bytes)),
-        Stated::Often => Err(Refusal::Head),
+        Stated::Often => Err(Refusal::Length),
     }
+}
+
+/// Whether there is a field whose name is this word of lower case letters.
+fn has_field(bytes: &[u8], fields: &[HeaderSpan], word: &[u8]) -> bool
+    requires fields { All (IsHeaderWithin (length bytes.now)) fields.now }
+    requires word { map to_ascii_lowercase word.now ≡ word.now }
+    ensures { result ≡ has_field word.now (map (header_bytes bytes.now) fields.now) }
+{
+    match find_stated(bytes, fields, word) {
+        Stated::Never => false,
+        _ => true,
+    }
+}
+
+/// Whether a head of HTTP/1.1 has exactly one host. One of HTTP/1.0 needs none.
+fn is_hosted(bytes: &[u8], version: u8, fields: &[HeaderSpan]) -> bool
+    requires { All (IsHeaderWithin (length bytes.now)) fields.now }
+    ensures { result ≡ is_hosted version (map (header_bytes bytes.now) fields.now) }
+{
+    if version == 0 {
+        return true;
+    }
+    match find_stated(bytes, fields, b"host") {
+        Stated::Once(_) => true,
+        _ => false,
+    }
+}
+
+/// How long the body of a request is, or why its head is refused, by its version and its fields.
+pub(crate) fn framing(bytes: &[u8], version: u8, fields: &[HeaderSpan]) -> Result<u64, Refusal>
+    requires { All (IsHeaderWithin (length bytes.now)) fields.now }
+    ensures { result ≡ framing version (map (header_bytes bytes.now) fields.now) }
+{
+    if !is_hosted(bytes, version, fields) {
+        return Err(Refusal::Host);
+    }
+    if has_field(bytes, fields, b"transfer-encoding") {
+        return Err(Refusal::Coding);
+    }
+    if has_field(bytes, fields, b"expect") {
+        return Err(Refusal::Expect);
+    }
+    body_length(bytes, fields)
 }
 
 /// The value of the one field called range, without the white space around it.

@@ -4,11 +4,13 @@ ghost use Rattle.httparse.specs.Spans.{IsRequestWithin, IsRequestOf, IsHeaderWit
 ghost use Rattle.http_serve.specs.Fields.{says_close};
 ghost use Rattle.http_serve.specs.declared.frames.TheConstants.{MOST_HEAD, MOST_FIELDS};
 ghost use Rattle.http_serve.specs.Frame.{IsNext};
+ghost use Rattle.http_serve.specs.Reply.{is_head};
 
 use crate::Refusal;
-use crate::fields::{MOST_BODY, body_length, range_of, says_close};
+use crate::fields::{MOST_BODY, framing, range_of, says_close};
+use crate::refusals::{NO_HEAD, Rejection};
+use httparse::Status;
 use httparse::spans::{EMPTY_HEADER_SPAN, HeaderSpan, RequestSpans, Span, parse_request};
-use httparse::{Error, Status};
 
 /// The most bytes that a head may have.
 pub const MOST_HEAD: usize = 8_192;
@@ -33,7 +35,7 @@ pub(crate) struct Frame {
 #[derive(Clone, Copy, Debug)]
 pub(crate) struct Missing {
     /// Why there is no request, if nothing follows.
-    pub(crate) refusal: Refusal,
+    pub(crate) rejection: Rejection,
     /// Below so many bytes in all there is no whole request.
     pub(crate) until: usize,
 }
@@ -44,7 +46,7 @@ pub(crate) enum Next {
     /// A request.
     Whole(Frame),
     /// No request, whatever follows.
-    Refused(Refusal),
+    Refused(Rejection),
     /// No whole request so far.
     More(Missing),
 }
@@ -53,25 +55,24 @@ pub(crate) enum Next {
 pub(crate) fn find_request(bytes: &[u8]) -> Next
     ensures { IsNext bytes.now result }
 {
-    let refusal = Refusal::Head;
+    let rejection = NO_HEAD;
     if bytes.is_empty() {
-        return Next::More(Missing { refusal, until: 1 });
+        return Next::More(Missing {
+            rejection,
+            until: 1,
+        });
     }
     let full = bytes.len() >= MOST_HEAD;
     let mut fields = [EMPTY_HEADER_SPAN; MOST_FIELDS];
     match parse_request(bytes, &mut fields) {
-        Ok(Status::Complete(head)) if head.len > MOST_HEAD => Next::Refused(refusal),
+        Ok(Status::Complete(head)) if head.len > MOST_HEAD => Next::Refused(rejection),
         Ok(Status::Complete(head)) => framed(bytes, &head, &fields),
-        Ok(Status::Partial) if full => Next::Refused(refusal),
+        Ok(Status::Partial) if full => Next::Refused(rejection),
         Ok(Status::Partial) => Next::More(Missing {
-            refusal,
+            rejection,
             until: bytes.len() + 1,
         }),
-        Err(Error::TooManyHeaders) if !full => Next::More(Missing {
-            refusal,
-            until: MOST_HEAD,
-        }),
-        Err(_) => Next::Refused(refusal),
+        Err(_) => Next::Refused(rejection),
     }
 }
 
@@ -81,6 +82,13 @@ fn asks_to_close(bytes: &[u8], version: u8, fields: &[HeaderSpan]) -> bool
     ensures { result ≡ (version == 0 || says_close (map (header_bytes bytes.now) fields.now)) }
 {
     version == 0 || says_close(bytes, fields)
+}
+
+/// Whether a method is HEAD, whose replies are only heads (RFC 9110, 9.3.2).
+pub(crate) fn is_head(method: &[u8]) -> bool
+    ensures { result ≡ is_head method.now }
+{
+    method == b"HEAD".as_slice()
 }
 
 // What bytes begin with, where a head is there.
@@ -93,14 +101,16 @@ fn framed(bytes: &[u8], head: &RequestSpans, fields: &[HeaderSpan]) -> Next
     ensures { IsNext bytes.now result }
 {
     let fields = &fields[..head.headers];
-    let size = match body_length(bytes, fields) {
+    let bare = is_head(head.method.of(bytes));
+    let size = match framing(bytes, head.version, fields) {
         Ok(size) => size as usize,
-        Err(refusal) => return Next::Refused(refusal),
+        Err(refusal) => return Next::Refused(Rejection { refusal, bare }),
     };
     let end = head.len + size;
     if end > bytes.len() {
+        let refusal = Refusal::Short;
         return Next::More(Missing {
-            refusal: Refusal::Head,
+            rejection: Rejection { refusal, bare },
             until: end,
         });
     }

@@ -1,30 +1,68 @@
 //! What is answered to bytes that are no request.
-ghost use Rattle.std.specs.Prelude.{◌≡◌, []};
-ghost use Rattle.http_serve.specs.Reply.{IsWritable, reply_view, refusal_view};
+ghost use Rattle.std.specs.Prelude.{◌≡◌, codes, Some};
+ghost use Rattle.http_serve.specs.Parts.{front_content};
+ghost use Rattle.http_serve.specs.Reply.{HasShortWords, head_of, head_view, refusal_view, refused_by};
 
 use crate::{Content, Reply};
 use http::StatusCode;
 
-/// Why bytes begin with no request.
+/// Why bytes begin with no request: the first of these that is so.
 #[derive(Clone, Copy, Debug, PartialEq, Eq)]
 pub enum Refusal {
-    /// No head is there, its content-length is no single number up to `MOST_BODY`, or its body is cut short.
+    /// No head is there.
     Head,
+    /// A head of HTTP/1.1 has no host, or more than one.
+    Host,
+    /// The body has a coding.
+    Coding,
+    /// The head expects something.
+    Expect,
+    /// There is more than one content-length, or it isn't digits alone.
+    Length,
+    /// The body is longer than `MOST_BODY`.
+    Body,
+    /// The input ends before the body does.
+    Short,
+}
+
+/// A refusal, and whether its reply is only a head, because a head with the method HEAD was read.
+#[derive(Clone, Copy, Debug)]
+pub(crate) struct Rejection {
+    pub(crate) refusal: Refusal,
+    pub(crate) bare: bool,
+}
+
+/// No head is there.
+pub(crate) const NO_HEAD: Rejection = Rejection {
+    refusal: Refusal::Head,
+    bare: false,
+};
+
+/// A reply of a status and a text.
+fn refused_by(status: StatusCode, text: &'static [u8]) -> Reply
+    ensures head { head_view result ≡ head_of (refused_by status text.now) }
+    ensures content { front_content result.content ≡ text.now }
+    ensures words { HasShortWords (head_view result) }
+{
+    Reply::plain(status, Some("text/plain"), Content::Fixed(text))
 }
 
 impl Refusal {
     /// The reply that tells it.
     #[tactic(auto, unfolding(crate::specs::Reply::refusal_view))]
     pub(crate) fn reply(self) -> Reply
-        ensures reply { reply_view [] result ≡ refusal_view self }
-        ensures writable { IsWritable [] result }
+        ensures head { head_view result ≡ head_of (refusal_view self) }
+        ensures content { front_content result.content ≡ (refusal_view self).content }
+        ensures words { HasShortWords (head_view result) }
     {
         match self {
-            Refusal::Head => Reply::plain(
-                StatusCode::BAD_REQUEST,
-                Some("text/plain"),
-                Content::Fixed(b"Head\n"),
-            ),
+            Refusal::Head => refused_by(StatusCode::BAD_REQUEST, b"Head\n"),
+            Refusal::Host => refused_by(StatusCode::BAD_REQUEST, b"Host\n"),
+            Refusal::Coding => refused_by(StatusCode::NOT_IMPLEMENTED, b"Coding\n"),
+            Refusal::Expect => refused_by(StatusCode::EXPECTATION_FAILED, b"Expect\n"),
+            Refusal::Length => refused_by(StatusCode::BAD_REQUEST, b"Length\n"),
+            Refusal::Body => refused_by(StatusCode::PAYLOAD_TOO_LARGE, b"Body\n"),
+            Refusal::Short => refused_by(StatusCode::BAD_REQUEST, b"Short\n"),
         }
     }
 }

@@ -5,10 +5,10 @@ ghost use Rattle.http_serve.specs.Frame.{IsNext, IsMissing};
 ghost use Rattle.http_serve.specs.Lines.{after_bytes};
 ghost use Rattle.http_serve.specs.Search.{IsKnown};
 
-use crate::Refusal;
 use crate::frames::{MOST_HEAD, Missing, Next, find_request};
 use crate::lines::Lines;
 use crate::positions::Position;
+use crate::refusals::NO_HEAD;
 
 /// What is known of the bytes that wait, so that they aren't looked through again for each piece.
 #[derive(Clone, Copy, Debug)]
@@ -40,7 +40,7 @@ fn scan_head(
 ) -> Option<Missing>
     requires within { scanned ≤ length bytes.now }
     requires lines { after_bytes Blank (take scanned bytes.now) ≡ lines }
-    ensures missing { IfSome result (λ missing. IsMissing bytes.now missing.refusal missing.until) }
+    ensures missing { IfSome result (λ missing. IsMissing bytes.now missing.rejection missing.until) }
     ensures known { IsKnown bytes.now search.new }
 {
     let lines = lines.after_bytes(&bytes[scanned..]);
@@ -58,7 +58,7 @@ fn scan_head(
         return None;
     }
     Some(Missing {
-        refusal: Refusal::Head,
+        rejection: NO_HEAD,
         until: scanned + 1,
     })
 }
@@ -67,7 +67,7 @@ fn scan_head(
 /// where a byte may be its fault, and where it is as long as a head may be; a body where it is whole.
 pub(crate) fn known_missing(bytes: &[u8], search: &mut Search) -> Option<Missing>
     requires { IsKnown bytes.now search.old }
-    ensures missing { IfSome result (λ missing. IsMissing bytes.now missing.refusal missing.until) }
+    ensures missing { IfSome result (λ missing. IsMissing bytes.now missing.rejection missing.until) }
     ensures known { IsKnown bytes.now search.new }
 {
     match *search {

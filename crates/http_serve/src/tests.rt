@@ -5,6 +5,7 @@ ghost use Rattle.http_serve.specs.Reply.{IsWritable};
 mod bodies;
 mod clients;
 mod faults;
+mod framing;
 mod heads;
 mod parts;
 mod replies;
@@ -186,13 +187,17 @@ impl Write for Counter<'_> {
 
 const A: &str = "HTTP/1.1 200 OK\r\ncontent-type: text/plain\r\ncontent-length: 7\r\n\r\nGET /a\n";
 
+const A_LAST: &str =
+    "HTTP/1.1 200 OK\r\ncontent-type: text/plain\r\ncontent-length: 7\r\nconnection: close\r\n\r\nGET /a\n";
+
 const B: &str =
     "HTTP/1.1 200 OK\r\ncontent-type: text/plain\r\ncontent-length: 9\r\n\r\nPUT /b\nhi";
 
 const HEAD: &str =
     "HTTP/1.1 400 Bad Request\r\ncontent-type: text/plain\r\ncontent-length: 5\r\nconnection: close\r\n\r\nHead\n";
 
-const TWO: &str = "GET /a HTTP/1.1\r\n\r\nPUT /b?c HTTP/1.1\r\nContent-Length: 002\r\n\r\nhi";
+const TWO: &str =
+    "GET /a HTTP/1.1\r\nhost: a\r\n\r\nPUT /b?c HTTP/1.1\r\nhost: a\r\nContent-Length: 002\r\n\r\nhi";
 
 /// Serves these bytes in pieces of this size.
 fn talk(alloc: Global, input: &[u8], size: usize) -> Result<(Vec<u8>, Served), ServeFault> {

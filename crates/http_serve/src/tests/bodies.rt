@@ -41,7 +41,10 @@ fn waiting_bytes_are_seldom_moved(rt: HostRuntime) -> Result<(), Fail> {
 #[test]
 fn large_bodies_come_back(rt: HostRuntime) -> Result<(), Fail> {
     let alloc = rt.alloc();
-    let mut input = Vec::from_slice(alloc, b"PUT /b HTTP/1.1\r\ncontent-length: 65536\r\n\r\n")?;
+    let mut input = Vec::from_slice(
+        alloc,
+        b"PUT /b HTTP/1.1\r\nhost: a\r\ncontent-length: 65536\r\n\r\n",
+    )?;
     let mut want = Vec::from_slice(
         alloc,
         b"HTTP/1.1 200 OK\r\ncontent-type: text/plain\r\ncontent-length: 65543\r\n\r\nPUT /b\n",

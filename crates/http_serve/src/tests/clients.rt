@@ -33,16 +33,19 @@ fn a_client_that_waits_is_answered(rt: HostRuntime) -> Result<(), Fail> {
     let (a, b) = (A.len(), B.len());
     let steps = [
         ("GET /a HT", 0),
-        ("TP/1.1\r\nx", 0),
+        ("TP/1.1\r\nhost: a\r\nx", 0),
         (": y\r\n", 0),
         ("\r", 0),
-        ("\nPUT /b HTTP/1.1\r\ncontent-length: 2\r\n\r", 0),
+        ("\nPUT /b HTTP/1.1\r\nhost: a\r\ncontent-length: 2\r\n\r", 0),
         ("\n", a),
         ("h", a),
-        ("iGET /a HTTP/1.1\n\r", a),
+        ("iGET /a HTTP/1.1\nhost: a\n\r", a),
         ("\n", a + b),
         ("\r\n", a + b + a),
-        ("\nGET /a HTTP/1.1\n\nGET /a HTTP/1.1\n\nG", a + b + a),
+        (
+            "\nGET /a HTTP/1.1\nhost: a\n\nGET /a HTTP/1.1\nhost: a\n\nG",
+            a + b + a,
+        ),
         ("ET /a HTTP/1.0\n", a + b + a + a + a),
         ("\nGET", a + b + a + a + a),
         ("never read", 0),
@@ -73,7 +76,7 @@ fn a_client_that_waits_is_answered(rt: HostRuntime) -> Result<(), Fail> {
 #[test]
 fn stops_at_its_turns(rt: HostRuntime) -> Result<(), Fail> {
     let alloc = rt.alloc();
-    for (turns, requests) in [(0, 0), (18, 0), (19, 1), (60, 1), (63, 2)] {
+    for (turns, requests) in [(0, 0), (27, 0), (28, 1), (78, 1), (81, 2)] {
         let mut out = Vec::new(alloc);
         let mut reader = Pieces::failing(TWO.as_bytes(), 1);
         let served = serve_turns(alloc, &mut reader, &mut out, &mut Echo { alloc }, turns)?;

@@ -7,7 +7,7 @@ use std::test::Fail;
 #[test]
 fn a_read_that_fails_ends_the_connection(rt: HostRuntime) -> Result<(), Fail> {
     let alloc = rt.alloc();
-    for (size, requests) in [(0, 0), (18, 0), (19, 1), (60, 1)] {
+    for (size, requests) in [(0, 0), (27, 0), (28, 1), (78, 1)] {
         let mut out = Vec::new(alloc);
         let mut reader = Pieces::failing(&TWO.as_bytes()[..size], 5);
         let fault = serve(alloc, &mut reader, &mut out, &mut Echo { alloc });
@@ -22,7 +22,7 @@ fn a_read_that_fails_ends_the_connection(rt: HostRuntime) -> Result<(), Fail> {
 #[test]
 fn a_write_that_fails_leaves_a_prefix(rt: HostRuntime) -> Result<(), Fail> {
     let alloc = rt.alloc();
-    let input = "GET /a HTTP/1.1\r\n\r\n\r\n";
+    let input = "GET /a HTTP/1.1\r\nhost: a\r\n\r\n\r\n";
     let mut whole = Vec::from_slice(alloc, A.as_bytes())?;
     whole.extend_from_slice(HEAD.as_bytes())?;
     for fails in [true, false] {

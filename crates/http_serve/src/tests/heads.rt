@@ -8,9 +8,9 @@ use httparse::spans::{EMPTY_HEADER_SPAN, parse_request};
 use std::alloc::{AllocError, Global};
 use std::test::Fail;
 
-/// A head of so many bytes, with so many fields, of which the last fills up.
+/// A head of so many bytes, with a host, so many fields more, and a last one that fills up.
 fn head_of(alloc: Global, size: usize, fields: usize) -> Result<Vec<u8>, AllocError> {
-    let mut head = Vec::from_slice(alloc, b"GET /a HTTP/1.1\r\n")?;
+    let mut head = Vec::from_slice(alloc, b"GET /a HTTP/1.1\r\nhost: a\r\n")?;
     for _ in 0..fields {
         head.extend_from_slice(b"x: y\r\n")?;
     }
@@ -26,10 +26,10 @@ fn head_of(alloc: Global, size: usize, fields: usize) -> Result<Vec<u8>, AllocEr
 fn heads_have_limits(rt: HostRuntime) -> Result<(), Fail> {
     let alloc = rt.alloc();
     for (size, fields, reply, end) in [
-        (8_192, 3, A, End::Closed),
-        (8_193, 3, HEAD, End::Refused),
-        (1_000, 31, A, End::Closed),
-        (1_000, 32, HEAD, End::Refused),
+        (8_192, 2, A, End::Closed),
+        (8_193, 2, HEAD, End::Refused),
+        (1_000, 30, A, End::Closed),
+        (1_000, 31, HEAD, End::Refused),
         (8_190, 40, HEAD, End::Refused),
     ] {
         let head = head_of(alloc, size, fields)?;
@@ -47,13 +47,16 @@ fn heads_have_limits(rt: HostRuntime) -> Result<(), Fail> {
     Ok(())
 }
 
-/// A head that never ends is refused at 8,192 bytes, and what is no head at once.
+/// A head that never ends is refused at 8,192 bytes, one of too many fields at its empty line, and what is no head at once.
 #[test]
 fn refusals_wait_for_no_more(rt: HostRuntime) -> Result<(), Fail> {
     let alloc = rt.alloc();
     let long = head_of(alloc, 9_000, 40)?;
+    let mut fields = head_of(alloc, 1_000, 31)?;
+    fields.extend_from_slice(b"GET /a")?;
     for (input, read) in [
         (long.as_slice(), 8_192),
+        (fields.as_slice(), 1_000),
         (b"GET\r\n\r\nGET /a".as_slice(), 4),
     ] {
         let mut out = Vec::new(alloc);
@@ -169,7 +172,7 @@ fn a_head_is_parsed_a_few_times(rt: HostRuntime) -> Result<(), Fail> {
     for _ in 0..3_900 {
         target.extend_from_slice("\u{e9}".as_bytes())?;
     }
-    target.extend_from_slice(b" HTTP/1.1\r\n\r\n")?;
+    target.extend_from_slice(b" HTTP/1.1\r\nhost: a\r\n\r\n")?;
     assert_eq!(rt; count_parses(target.as_slice()), 2);
     Ok(())
 }

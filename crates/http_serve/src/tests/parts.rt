@@ -70,7 +70,7 @@ impl Handler for Download {
     }
 }
 
-const GETS: &str = "GET /a HTTP/1.1\r\n\r\nGET /a HTTP/1.1\r\n\r\n";
+const GETS: &str = "GET /a HTTP/1.1\r\nhost: a\r\n\r\nGET /a HTTP/1.1\r\nhost: a\r\n\r\n";
 
 const LONG_HEAD: &str =
     "HTTP/1.1 200 OK\r\ncontent-type: text/plain\r\ncontent-length: 1300\r\n\r\n";
@@ -183,7 +183,7 @@ fn contents_that_are_cut(rt: HostRuntime) -> Result<(), Fail> {
 /// For a head no part is read.
 #[test]
 fn a_head_has_no_parts(rt: HostRuntime) -> Result<(), Fail> {
-    let input = "HEAD /a HTTP/1.1\r\n\r\nHEAD /a HTTP/1.1\r\n\r\n";
+    let input = "HEAD /a HTTP/1.1\r\nhost: a\r\n\r\nHEAD /a HTTP/1.1\r\nhost: a\r\n\r\n";
     let (out, reads, end) = serve_download(rt.alloc(), input, Some(0), usize::MAX)?;
     let want = long_replies(rt.alloc(), &[Some(0), Some(0)])?;
     assert_eq!(rt; end, CLOSED);

@@ -20,18 +20,19 @@ returns-in-More-clause-ok g c =
     let input = c.requests.session.input.waiting in
     let missing = c.in-More.missing in
     let found = subst (λ (t : List ℕ). IsNext t (More missing)) c.waiting.ensures c.in-More.ensures.next in
-    let told = missing_now input missing.refusal missing.until found in
-    (c.requests.invariant.carries, told.0, told.1, told.2)
+    let told = missing_now input missing.rejection missing.until found in
+    (c.requests.invariant.carries, told.0, told.1, told.2, told.3)
 
 pub returns-in-Ok-clause-ok : goal.returns-in-Ok-clause-ok
 returns-in-Ok-clause-ok g c =
     let input = c.requests.session.input.waiting in
-    let refusal = c.in-Refused.refusal in
-    let found = subst (λ (t : List ℕ). IsNext t (Refused refusal)) c.waiting.ensures c.in-Refused.ensures.next in (
-      refused found.0 refusal,
-      Ends_push g.H.Handler.replies _ _ _ c.args.requests _ input _ c.requests.requests Anything (refused found.0 refusal) (refusal_bytes found.0 refusal) _ _
+    let rejection = c.in-Refused.rejection in
+    let refusal = rejection.refusal in
+    let found = subst (λ (t : List ℕ). IsNext t (Refused rejection)) c.waiting.ensures c.in-Refused.ensures.next in (
+      refused found.head refusal,
+      Ends_push g.H.Handler.replies _ _ _ c.args.requests _ input _ c.requests.requests Anything (refused found.head refusal) (refusal_bytes found.head refusal) _ _
           c.saturating_add.result c.requests.invariant.carries
-          (λ more _. (omega (arith, found.1, length-append input more), found.2 more)) (refl, refl) (c.in-Ok.ensures.sent found.0) c.saturating_add.ensures,
+          (λ more _. (omega (arith, found.some, length-append input more), found.refused more)) (refl, refl) (c.in-Ok.ensures.sent found.head found.bare) c.saturating_add.ensures,
       refl,
       λ e. cc,
     )
@@ -39,12 +40,13 @@ returns-in-Ok-clause-ok g c =
 pub returns-in-Err-clause-err : goal.returns-in-Err-clause-err
 returns-in-Err-clause-err g c =
     let input = c.requests.session.input.waiting in
-    let refusal = c.in-Refused.refusal in
-    let found = subst (λ (t : List ℕ). IsNext t (Refused refusal)) c.waiting.ensures c.in-Refused.ensures.next in
-    let sent = c.in-Err.ensures.sent found.0 in
-    Breaks_refused g.H.Handler.replies _ _ _ c.args.requests _ input _ c.requests.requests Anything found.0 refusal sent.0 _
-    c.requests.invariant.carries found.1
-    (λ more _. found.2 more) sent.1 sent.2
+    let rejection = c.in-Refused.rejection in
+    let refusal = rejection.refusal in
+    let found = subst (λ (t : List ℕ). IsNext t (Refused rejection)) c.waiting.ensures c.in-Refused.ensures.next in
+    let sent = c.in-Err.ensures.sent found.head found.bare in
+    Breaks_refused g.H.Handler.replies _ _ _ c.args.requests _ input _ c.requests.requests Anything found.head refusal sent.0 _
+    c.requests.invariant.carries found.some
+    (λ more _. found.refused more) sent.1 sent.2
 
 pub returns-in-Err-answer_one-clause-err : goal.returns-in-Err-answer_one-clause-err
 returns-in-Err-answer_one-clause-err g c =

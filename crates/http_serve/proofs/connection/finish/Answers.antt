@@ -5,19 +5,19 @@ use Rattle.http_serve.proofs.HeadLemmas.{some_bytes}
 use Rattle.http_serve.proofs.connection.finish.Goals as goal
 
 pub returns-in-Ok-clause-ends : goal.returns-in-Ok-clause-ends
-returns-in-Ok-clause-ends g c = λ head. record {
-  ending = refused head c.args.reason;
-  last = refusal_bytes head c.args.reason;
+returns-in-Ok-clause-ends g c = λ head bare. record {
+  ending = refused head c.args.reason.refusal;
+  last = refusal_bytes head c.args.reason.refusal;
   told = refl;
   plain = refl;
   ends = λ is. (let some = some_bytes _ _ c.is_empty.ensures c.if-is_empty.false in omega (arith, some, ap length c.waiting.ensures), is);
-  written = c.in-Ok.ensures.sent head;
+  written = c.in-Ok.ensures.sent head bare;
   counted = c.saturating_add.ensures;
 }
 
 pub returns-in-Err-clause-fault : goal.returns-in-Err-clause-fault
-returns-in-Err-clause-fault g c = λ head.
-    let sent = c.in-Err.ensures.sent head in
+returns-in-Err-clause-fault g c = λ head bare.
+    let sent = c.in-Err.ensures.sent head bare in
     record {
       some = let some = some_bytes _ _ c.is_empty.ensures c.if-is_empty.false in omega (arith, some, ap length c.waiting.ensures);
       count = sent.0;

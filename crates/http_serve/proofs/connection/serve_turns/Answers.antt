@@ -54,7 +54,7 @@ loop-turn-preserved g c =
           c.in-Ok-read_from.count came.0 c.loop-turn.invariant.most came.1 came.3 (omega arith);
       so_far =
           SoFar_goes g.H.Handler.replies _ _ _ _ _ _ c.loop-turn.requests _ _ c.loop-turn.invariant.so_far came.0 _ came.1 _ _ _ came.2
-          _ c.in-More.answered pause.2 c.in-More.refusal pause.0 pause.1 pause.3;
+          _ c.in-More.answered pause.2 c.in-More.rejection pause.0 pause.1 pause.3 pause.4;
     }
 
 pub returns-then-count-eq0-clause-served : goal.returns-then-count-eq0-clause-served
@@ -62,19 +62,19 @@ returns-then-count-eq0-clause-served g c =
     let came = c.in-Ok-read_from.ensures.ok in
     if_ok c.finish.result _ _
     (SoFar_done g.H.Handler.replies _ _ _ _ _ _ c.loop-turn.requests _ _ c.loop-turn.invariant.so_far _ came.0 _ _ _ came.1 came.2 came.3
-    c.if-count-eq0.true came.4) (c.finish.ensures.ends c.loop-turn.invariant.so_far.head)
+    c.if-count-eq0.true came.4) (c.finish.ensures.ends c.loop-turn.invariant.so_far.head c.loop-turn.invariant.so_far.bare)
 
 pub returns-then-count-eq0-clause-fault : goal.returns-then-count-eq0-clause-fault
 returns-then-count-eq0-clause-fault g c =
     let came = c.in-Ok-read_from.ensures.ok in
     if_err c.finish.result _ _
     (SoFar_failed g.H.Handler.replies _ _ _ _ _ _ c.loop-turn.requests _ _ c.loop-turn.invariant.so_far _ came.0 _ _ _ came.1 came.2 came.3
-    c.if-count-eq0.true came.4) (c.finish.ensures.fault c.loop-turn.invariant.so_far.head)
+    c.if-count-eq0.true came.4) (c.finish.ensures.fault c.loop-turn.invariant.so_far.head c.loop-turn.invariant.so_far.bare)
 
 pub returns-then-count-eq0-clause-turns : goal.returns-then-count-eq0-clause-turns
 returns-then-count-eq0-clause-turns g c =
     if_ok c.finish.result _ _ (λ served. finished_turns c.args.turns _ _ _ _ _ _ _ served _)
-    (c.finish.ensures.ends c.loop-turn.invariant.so_far.head)
+    (c.finish.ensures.ends c.loop-turn.invariant.so_far.head c.loop-turn.invariant.so_far.bare)
 
 pub returns-clause-turns : goal.returns-clause-turns
 returns-clause-turns g c = least_over _ _ c.loop-turn._turn c.args.turns c.loop-turn.invariant.least c.loop-turn-test.false
@@ -97,8 +97,8 @@ returns-then-count-eq0-clause-reads g c =
     finished_reads c.args.turns _ _ _ _ _ _ _ c.finish.result _
     (most_more (g.R.Read.remaining c.args.reader.now) _ _ (c.loop-turn._turn * buffer_size) (c.args.turns * buffer_size)
     c.in-Ok-read_from.count came.0 c.loop-turn.invariant.most came.1 came.3 (omega arith))
-    (c.finish.ensures.fault c.loop-turn.invariant.so_far.head)
+    (c.finish.ensures.fault c.loop-turn.invariant.so_far.head c.loop-turn.invariant.so_far.bare)
 
 pub returns-then-count-eq0-clause-content : goal.returns-then-count-eq0-clause-content
 returns-then-count-eq0-clause-content g c =
-    if_err c.finish.result _ _ (λ fault. unfinished_content _ _ _ _ _ _ fault _) (c.finish.ensures.fault c.loop-turn.invariant.so_far.head)
+    if_err c.finish.result _ _ (λ fault. unfinished_content _ _ _ _ _ _ fault _) (c.finish.ensures.fault c.loop-turn.invariant.so_far.head c.loop-turn.invariant.so_far.bare)
