@@ -1,9 +1,8 @@
-use Rattle.std.proofs.Common.{◌≡◌, ◌+◌, ◌-◌, ◌<◌, ◌≤◌, refl, sym, ◌∙◌, ap, subst, arith}
+use Rattle.std.proofs.Common.{◌+◌, ◌-◌, ◌≤◌, refl, sym, ◌∙◌, ap, subst, arith}
 use Rattle.area_content.specs.Content.{sectors_taken}
 use Rattle.tile_service.specs.Machine.{left, refused}
-use Rattle.tile_service.specs.Service.{ServiceView, PublicationView, IsUp, left_of, with_publication}
+use Rattle.tile_service.specs.Service.{ServiceView, PublicationView, IsUp, with_publication}
 use Rattle.tile_service.specs.declared.fault.ServiceFault.TheVariants.{Device}
-use Rattle.tile_service.specs.declared.publishing.TheConstants.{STEP_SECTORS}
 use Rattle.tile_service.proofs.PublishSteps.{up_further, step_leaves, last_step_leaves, up_after_step, up_after_last, step_told, last_step_told}
 use Rattle.tile_service.proofs.service.Service.advance.Goals as goal
 
