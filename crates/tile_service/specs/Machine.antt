@@ -142,12 +142,14 @@ pub record Begins (old : ServiceState) (told : ℕ) (new : ServiceState) : Type 
   pub is_archive : IsArchiveOfMap old.features archive
   pub room : sectors_for old.features archive ≤ area_sectors old.size
   pub told_is : told ≡ sectors_for old.features archive + 1
-  pub begun : new ≡ record old { publication = Some (record {
-    archive = record { bytes = archive; features = old.features };
-    last = old.last;
-    places = journal_sectors old.size - old.free;
-    left = told;
-  }) }
+  pub begun : new ≡ record old {
+    publication = Some (record {
+      archive = record { bytes = archive; features = old.features };
+      last = old.last;
+      places = journal_sectors old.size - old.free;
+      left = told;
+    });
+  }
 
 -- the snapshot of the map and an archive of it don't fit into the area
 abbrev pub IsAreaFull : ServiceState → (need free : ℕ) → Type 0
