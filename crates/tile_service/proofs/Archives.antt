@@ -1,4 +1,5 @@
 -- The archive of a service, as its disk is read.
+use Rattle.std.specs.Prelude.{IfSome}
 use Rattle.std.proofs.Common.{◌≡◌, ℕ, ◌≤◌, ◌+◌, List, length, slice_range, sym, ◌∙◌, subst, arith}
 use Rattle.sector_disk.specs.Disk.{History, seen}
 use Rattle.sector_disk.proofs.Laws.{seen_is_left}
@@ -6,7 +7,7 @@ use Rattle.sector_bytes.specs.Bytes.{bytes_from, StandsIn}
 use Rattle.sector_bytes.proofs.Laws.{stands_read}
 use Rattle.generations.specs.Areas.{area_start, sectors_of}
 use Rattle.feature_store.specs.Store.{snapshot}
-use Rattle.tile_service.specs.Service.{ServiceView, IsUp}
+use Rattle.tile_service.specs.Service.{ServiceView, Publishes, IsUp}
 use Rattle.tile_service.specs.Stored.{Stored, Keeps}
 use Rattle.tile_service.proofs.Bytes.{each_stands}
 
@@ -43,4 +44,5 @@ module _ {D : Type 0} (count : ℕ) (history : History) (stored : Stored) (servi
     edits_are = up.edits_are;
     used_is = up.used_is;
     last_is = up.last_is;
+    publication = subst (λ (h : History). IfSome service.publication (Publishes service.size stored h)) (sym same_history) up.publication;
   }

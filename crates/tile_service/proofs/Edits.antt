@@ -1,12 +1,13 @@
 -- What an edit leaves of what a disk holds, and the service that it leaves.
-use Rattle.std.proofs.Common.{◌≡◌, ◌≢◌, ◌⊎◌, inl, inr, ⊎_elim, ℕ, suc, false, List, [], ◌∷◌, ◌++◌, sym, ◌∙◌, ap, subst, arith}
+use Rattle.std.specs.Prelude.{Option, None, Some, IfSome}
+use Rattle.std.proofs.Common.{◌≡◌, ◌⊎◌, inl, inr, ⊎_elim, ℕ, suc, List, [], ◌∷◌, ◌++◌, sym, ◌∙◌, ap, subst, arith}
 use Rattle.std.proofs.lemmas.List.{length-map}
-use Rattle.sector_disk.specs.Disk.{Image, History, moment}
+use Rattle.sector_disk.specs.Disk.{Image, History, seen, moment}
 use Rattle.sector_disk.specs.Moments.{LeavesOnly}
 use Rattle.sector_disk.proofs.History.{started}
 use Rattle.sector_disk.proofs.Moments.{since_now, is_later}
-use Rattle.edit_journal.specs.Ring.{Ring, Start, HoldsTexts}
-use Rattle.edit_journal.specs.Appends.{ring_of, start_of, IsAt, AsBefore, HoldsOneMore}
+use Rattle.edit_journal.specs.Ring.{Ring, Start, HoldsTexts, places_of}
+use Rattle.edit_journal.specs.Appends.{ring_of, start_of, IsAt, AsBefore, ReadsAsBefore, HoldsOneMore}
 use Rattle.edit_journal.specs.declared.fault.JournalFault.{JournalFault}
 use Rattle.edit_journal.specs.declared.fault.JournalFault.TheVariants as journals
 use Rattle.edit_journal.specs.declared.journal.Journal.{Journal}
@@ -14,14 +15,33 @@ use Rattle.edit_journal.specs.declared.sizes.TheConstants.{RECORD_VERSION}
 use Rattle.feature_model.specs.Data.{EditData}
 use Rattle.feature_model.specs.Spelled.{spelled}
 use Rattle.feature_model.specs.Types.{IsEdit}
-use Rattle.feature_store.specs.Store.{FeatureMap, changed}
+use Rattle.feature_store.specs.Store.{FeatureMap, changed, snapshot}
 use Rattle.tile_service.specs.Machine.{AnswerData, edit, refused}
-use Rattle.tile_service.specs.Service.{ServiceView, IsUp, MayStand, EventLeaves, told_as}
+use Rattle.tile_service.specs.Service.{PublicationView, ServiceView, count_at, Publishes, IsUp, MayStand, EventLeaves, told_as}
 use Rattle.tile_service.specs.Stored.{Stored, Holds, Keeps, with_edit, texts_of, journal_ring, journal_start}
 use Rattle.tile_service.specs.declared.fault.ServiceFault.{ServiceFault}
-use Rattle.tile_service.specs.declared.fault.ServiceFault.TheVariants.{Device}
 use Rattle.tile_service.proofs.Appends.{append_leaves, append_made, texts_with}
+use Rattle.tile_service.proofs.Installed.{map_stays, texts_stay, published_stays}
+use Rattle.tile_service.proofs.Publications.{goes_on_with_edit}
 use Rattle.tile_service.proofs.Replays.{after_one}
+
+-- A publication under way goes on to be one of the same with the edit, where a read gives what it gave of all but free places.
+module _ (n : ℕ) (stored : Stored) (e : EditData) (place used : ℕ) (old new : History)
+    (reads : ReadsAsBefore (journal_ring n) place used (seen old) (seen new)) where
+  publishes_on : (p : PublicationView) → Publishes n stored old p → Publishes n (with_edit stored e) new p
+  publishes_on p was = record {
+    later = was.later;
+    under_way = goes_on_with_edit n stored (count_at stored p) p.content.archive e p.written place used old new was.under_way reads;
+    snapshot_is = was.snapshot_is ∙ ap snapshot (sym (map_stays n stored (count_at stored p) p.content.archive e was.under_way.can.within));
+    place_is = was.place_is
+        ∙ ap (λ (s : Stored). s.journal_at) (sym (published_stays n stored (count_at stored p) p.content.archive e was.under_way.can.within));
+    places_are = was.places_are ∙ ap places_of (sym (texts_stay n stored (count_at stored p) p.content.archive e was.under_way.can.within));
+  }
+
+  all_on : (publication : Option PublicationView) → IfSome publication (Publishes n stored old)
+      → IfSome publication (Publishes n (with_edit stored e) new)
+  all_on None was = tt
+  all_on (Some p) was = publishes_on p was
 
 module _ {D : Type 0} (sectors : D → ℕ) (history : D → History) (stored : Stored) (service : ServiceView D)
     (ring : ring_of service.journal ≡ journal_ring service.size) (up : IsUp (sectors service.disk) (history service.disk) stored service) where
@@ -30,7 +50,7 @@ module _ {D : Type 0} (sectors : D → ℕ) (history : D → History) (stored : 
 
   -- what each image of an event with this answer holds
   abbrev leaves_by : EditData → AnswerData → Image → Type 0
-  leaves_by e answer = EventLeaves (sectors service.disk) service.size stored (edit e) answer
+  leaves_by e answer = EventLeaves (sectors service.disk) service.size stored service.publication (edit e) answer
 
   -- the append's own words for the sectors that it leaves alone, and for those of the journal
   abbrev pub Alone : D → Type 0
@@ -117,9 +137,10 @@ module _ {D : Type 0} (sectors : D → ℕ) (history : D → History) (stored : 
         × (start_of after.journal.place after.journal.edits ≡ start_of service.journal.place service.journal.edits)
         → IsAt (texts_of stored ++ text ∷ []) after.journal (history new) → after.features ≡ changed service.features e
         → after.generation ≡ service.generation → after.snapshot_len ≡ service.snapshot_len → after.archive_len ≡ service.archive_len
-        → after.broken ≡ service.broken
+        → after.publication ≡ service.publication → after.broken ≡ service.broken
+        → ReadsAsBefore (ring_of service.journal) service.journal.place service.journal.used (seen (history service.disk)) (seen (history new))
         → IsUp (sectors new) (history new) (with_edit stored e) after
-    up_with_edit after disk count size same is features generation snapshot_len archive_len broken = record {
+    up_with_edit after disk count size same is features generation snapshot_len archive_len publication broken reads = record {
       keeps = subst (λ (c : ℕ). Keeps c after.size (with_edit stored e) (history new)) (sym count)
           (subst (λ (n : ℕ). Keeps (sectors service.disk) n (with_edit stored e) (history new)) (sym size) (keeps_edit after.journal same.0 same.1 is));
       unbroken = broken ∙ up.unbroken;
@@ -131,6 +152,11 @@ module _ {D : Type 0} (sectors : D → ℕ) (history : D → History) (stored : 
       edits_are = edits;
       used_is = now.uses;
       last_is = omega (arith, now.counts, edits, length-map (stored.since ++ e ∷ []) spelled);
+      publication = subst (λ (k : ℕ). IfSome after.publication (Publishes k (with_edit stored e) (history new))) (sym size)
+          (subst (λ (o : Option PublicationView). IfSome o (Publishes service.size (with_edit stored e) (history new))) (sym publication)
+          (all_on service.size stored e service.journal.place service.journal.used (history service.disk) (history new)
+          (subst (λ (r : Ring). ReadsAsBefore r service.journal.place service.journal.used (seen (history service.disk)) (seen (history new))) ring reads)
+          service.publication up.publication));
     }
       where
         now : IsAt (texts_of (with_edit stored e)) after.journal (history new)
@@ -139,24 +165,3 @@ module _ {D : Type 0} (sectors : D → ℕ) (history : D → History) (stored : 
 
         edits : after.journal.edits ≡ stored.edits
         edits = omega (arith, ap (λ (s : Start). s.number) same.1, up.edits_are)
-
-  -- A refused edit that isn't in doubt leaves the service as it was.
-  pub still_up : (after : ServiceView D) (fault : JournalFault) (told : ServiceFault) → told ≡ told_as fault
-      → (fault ≡ journals.Device) ⊎ (after.disk ≡ service.disk) → after.size ≡ service.size → after.journal ≡ service.journal
-      → after.features ≡ service.features → after.generation ≡ service.generation → after.snapshot_len ≡ service.snapshot_len
-      → after.archive_len ≡ service.archive_len → ((fault ≡ journals.Device → ⊥) → after.broken ≡ false)
-      → told ≢ Device → IsUp (sectors after.disk) (history after.disk) stored after
-  still_up after fault told is (inl device) size journal features generation snapshot_len archive_len broken other = absurd (other (is ∙ ap told_as device))
-  still_up after fault told is (inr same) size journal features generation snapshot_len archive_len broken other = record {
-    keeps = subst (λ (d : D). Keeps (sectors d) after.size stored (history d)) (sym same)
-        (subst (λ (n : ℕ). Keeps (sectors service.disk) n stored (history service.disk)) (sym size) up.keeps);
-    unbroken = broken (λ device. other (is ∙ ap told_as device));
-    generation_is = generation ∙ up.generation_is;
-    snapshot_len_is = snapshot_len ∙ up.snapshot_len_is;
-    archive_len_is = archive_len ∙ up.archive_len_is;
-    map_is = features ∙ up.map_is;
-    place_is = ap (λ (j : Journal). j.place) journal ∙ up.place_is;
-    edits_are = ap (λ (j : Journal). j.edits) journal ∙ up.edits_are;
-    used_is = ap (λ (j : Journal). j.used) journal ∙ up.used_is;
-    last_is = ap (λ (j : Journal). j.last) journal ∙ up.last_is;
-  }

@@ -2,6 +2,7 @@
 use Rattle.std.proofs.Common.{◌≡◌, ◌⊎◌, inl, inr, ⊎_elim, ℕ, false, zero, suc, ◌<◌, ◌≤◌, ◌+◌, ◌-◌, ◌%◌}
 use Rattle.std.proofs.Common.{List, [], ◌∷◌, length, take, drop, Result, Ok, Err, OnOk, refl, sym, ◌∙◌, ap, subst, arith}
 use Rattle.std.proofs.Common.{length-append, length-drop}
+use Rattle.std.specs.Prelude.{Option, None, IfSome}
 use Rattle.std.proofs.lemmas.List.{length-map, length-take, drop-map, take_all, take-append-le, drop-append-le}
 use Rattle.std.proofs.lemmas.List.Elements.{All-drop}
 use Rattle.std.proofs.lemmas.Nat.{mod_below}
@@ -25,7 +26,7 @@ use Rattle.feature_model.specs.Spelled.{spelled}
 use Rattle.feature_model.specs.Types.{IsEdit}
 use Rattle.feature_store.specs.Store.{FeatureMap, IsMap, after, changed, snapshot}
 use Rattle.tile_service.specs.Publishing.{map_at, published, CanPublish, HasArea}
-use Rattle.tile_service.specs.Service.{ServiceView, IsUp}
+use Rattle.tile_service.specs.Service.{ServiceView, PublicationView, Publishes, IsUp}
 use Rattle.tile_service.specs.Stored.{Stored, Holds, HasBytes, HasEarlierRoot, Keeps}
 use Rattle.tile_service.specs.Stored.{map_of, last_of, root_of, texts_of, with_edit, journal_ring, journal_start}
 use Rattle.area_content.specs.Tiles.{IsArchiveOfMap}
@@ -185,7 +186,7 @@ module _ (n : ℕ) (stored : Stored) (taken : ℕ) (archive : List ℕ) (edit : 
   pub map_stays : map_at (with_edit stored edit) taken ≡ map_at stored taken
   map_stays = ap (λ (edits : List EditData). after stored.snapshot_map edits) (take-append-le taken stored.since (edit ∷ []) within)
 
-  texts_stay : take taken (texts_of (with_edit stored edit)) ≡ take taken (texts_of stored)
+  pub texts_stay : take taken (texts_of (with_edit stored edit)) ≡ take taken (texts_of stored)
   texts_stay = ap (take taken) (texts_with stored edit)
       ∙ take-append-le taken (texts_of stored) (spelled edit ∷ []) (omega (arith, within, length-map stored.since spelled))
 
@@ -237,8 +238,8 @@ module _ (n : ℕ) (stored : Stored) (taken : ℕ) (archive : List ℕ) (within 
       → service.journal.edits ≡ stored.edits + taken
       → service.journal.used + places_of (take taken (texts_of stored)) ≡ places_of (texts_of stored)
       → service.journal.last ≡ last_of stored → service.snapshot_len ≡ length (snapshot (map_at stored taken))
-      → service.archive_len ≡ length archive → IsUp count h (published n stored taken archive) service
-  up_published count h service size keeps unbroken generation features place edits used last snapshot_ archive_ = record {
+      → service.archive_len ≡ length archive → service.publication ≡ None → IsUp count h (published n stored taken archive) service
+  up_published count h service size keeps unbroken generation features place edits used last snapshot_ archive_ publication = record {
     keeps = subst (λ (k : ℕ). Keeps count k (published n stored taken archive) h) (sym size) keeps;
     unbroken = unbroken;
     generation_is = generation;
@@ -249,6 +250,7 @@ module _ (n : ℕ) (stored : Stored) (taken : ℕ) (archive : List ℕ) (within 
     last_is = last ∙ sym same_last;
     snapshot_len_is = snapshot_;
     archive_len_is = archive_;
+    publication = subst (λ (o : Option PublicationView). IfSome o (Publishes service.size (published n stored taken archive) h)) (sym publication) tt;
   }
     where
       left : service.journal.used ≡ places_of (drop taken (texts_of stored))

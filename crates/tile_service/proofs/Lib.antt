@@ -6,6 +6,7 @@ pub mod Contents
 mod Edits
 pub mod Fits
 mod Fresh
+mod Going
 pub mod Laws
 pub mod Installed
 mod Opens

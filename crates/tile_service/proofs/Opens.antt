@@ -1,5 +1,7 @@
 -- What is read as a disk is opened, and what a disk that holds a state opens to.
-use Rattle.std.proofs.Common.{◌≡◌, ◌⊎◌, inl, inr, ℕ, suc, false, ◌<◌, ◌≤◌, ◌+◌, ◌*◌, List, [], ◌∷◌, length, map, Result, Ok, Err, IfErr, refl, sym, ◌∙◌, ap, subst, arith}
+use Rattle.std.specs.Prelude.{Option, None, IfSome}
+use Rattle.std.proofs.Common.{◌≡◌, ◌⊎◌, inl, inr, ℕ, suc, false, ◌<◌, ◌≤◌, ◌+◌, ◌*◌, List, [], ◌∷◌, length, map}
+use Rattle.std.proofs.Common.{Result, Ok, Err, IfErr, refl, sym, ◌∙◌, ap, subst, arith}
 use Rattle.sector_disk.specs.Disk.{History, Image, seen, MayLeave}
 use Rattle.sector_disk.specs.Disk.History.{synced}
 use Rattle.sector_disk.specs.declared.disk.TheConstants.{SECTOR_BYTES}
@@ -28,7 +30,7 @@ use Rattle.feature_store.specs.declared.limit.TheConstants.{TEXTS_END}
 use Rattle.feature_store.proofs.Laws.{snapshot_of_one_map}
 use Rattle.tile_service.specs.Opening.{IsJournalOf, HasSnapshot, IsReplayed, IsRead, IsContentFault, IsOpenFault, recovery_told_as}
 use Rattle.tile_service.specs.Replayed.{AreTextsOf, IsReplayFault, bytes_of}
-use Rattle.tile_service.specs.Service.{ServiceView, IsUp}
+use Rattle.tile_service.specs.Service.{PublicationView, ServiceView, Publishes, IsUp}
 use Rattle.tile_service.specs.Stored.{Stored, Holds, Keeps, root_of, texts_of, map_of, journal_start, journal_ring}
 use Rattle.tile_service.proofs.Bytes.{one_stands, each_stands}
 use Rattle.tile_service.proofs.Laws.{one_run}
@@ -189,7 +191,7 @@ module _ (sectors n : ℕ) (stored : Stored) (image : Image) (holds : Holds sect
       (same_image : seen old ≡ image) (same_count : count ≡ sectors) (after_sync : history ≡ synced old)
       (unbroken : service.broken ≡ false) (generation : service.generation ≡ root.generation)
       (snapshot_len : service.snapshot_len ≡ root.snapshot_len) (archive_len : service.archive_len ≡ root.archive_len)
-      (is : IsRead sectors service.size image root service.journal service.features) where
+      (publication : service.publication ≡ None) (is : IsRead sectors service.size image root service.journal service.features) where
     same : (n ≡ service.size) × (root_of stored ≡ root)
     same = one_live sectors image n service.size (root_of stored) root live is.live
 
@@ -231,6 +233,7 @@ module _ (sectors n : ℕ) (stored : Stored) (image : Image) (holds : Holds sect
         edits_are = replayed.edits_are;
         used_is = replayed.used_is ∙ ap places_of texts_are;
         last_is = omega (arith, replayed.last_is, ap length texts_are, texts_count stored.since);
+        publication = subst (λ (o : Option PublicationView). IfSome o (Publishes service.size stored history)) (sym publication) tt;
       },
     )
 

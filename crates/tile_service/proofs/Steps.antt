@@ -13,9 +13,9 @@ use Rattle.generations.specs.Areas.{journal_sectors, area_sectors}
 use Rattle.generations.specs.declared.sizes.TheConstants.{MOST_SECTORS}
 use Rattle.edit_journal.specs.Records.{IsEditLength, parts_of}
 use Rattle.edit_journal.specs.declared.sizes.TheConstants.{PART_BYTES}
-use Rattle.feature_model.specs.Data.{FeatureData, put}
+use Rattle.feature_model.specs.Data.{FeatureData, put, delete}
 use Rattle.feature_model.specs.Limits.{NumberFits, IsAllowed}
-use Rattle.feature_model.specs.Spelled.{spelled}
+use Rattle.feature_model.specs.Spelled.{eight_bytes, spelled}
 use Rattle.feature_model.specs.Types.{IsEdit}
 use Rattle.feature_store.specs.Store.{FeatureMap, IsMap, feature_at, with_feature, without_feature, snapshot}
 use Rattle.feature_store.specs.declared.limit.TheConstants.{TEXTS_END}
@@ -47,6 +47,10 @@ some_byte id f = omega arith
 
 pub put_length : (id : ℕ) (f : FeatureData) → IsAllowed id f → IsEditLength (length (spelled (put id f)))
 put_length id f is = (some_byte id f, is.text)
+
+pub delete_length : (id : ℕ) → IsEditLength (length (spelled (delete id)))
+unfolding spelled eight_bytes
+delete_length id = (omega arith, omega arith)
 
 -- the parts of a text have room for it
 parts_hold : (bytes : ℕ) → bytes ≤ PART_BYTES * parts_of bytes

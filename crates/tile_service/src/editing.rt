@@ -1,7 +1,8 @@
 //! Edits: a text in the journal first, and then a change of the map.
-ghost use Rattle.std.specs.Prelude.{◌≡◌, ◌≢◌, ◌↔◌, ◌+◌, IfErr, OnOk, IsSome, IsTrue};
+ghost use Rattle.std.specs.Prelude.{◌≡◌, ◌≢◌, ◌↔◌, ◌+◌, true, IfErr, OnOk, IsSome, IsTrue, None};
 ghost use Rattle.sector_disk.specs.Moments.{LeavesOnly};
 ghost use Rattle.edit_journal.specs.Appends.{TakesSteps};
+ghost use Rattle.edit_journal.specs.declared.fault.JournalFault.TheVariants as journals;
 ghost use Rattle.feature_model.specs.Data.{feature_data, put, delete};
 ghost use Rattle.feature_model.specs.Limits.{NumberFits};
 ghost use Rattle.feature_store.specs.Store.{feature_at};
@@ -60,6 +61,20 @@ fn told(fault: JournalFault) -> ServiceFault
 }
 
 impl<D: Sectors + Drop> Service<D> {
+    /// Tells why an append has failed. After a fault of the disk no more edits are made, and the publication is given up.
+    fn fail(&mut self, fault: JournalFault) -> ServiceFault
+        ensures told { result ≡ told_as fault }
+        ensures same { self.new ≡ record self.old { publication = self.new.publication; broken = self.new.broken } }
+        ensures device { fault ≡ journals.Device → (self.new.publication ≡ None) × (self.new.broken ≡ true) }
+        ensures other { fault ≢ journals.Device → self.new ≡ self.old }
+    {
+        if fault == JournalFault::Device {
+            self.broken = true;
+            self.publication = None;
+        }
+        told(fault)
+    }
+
     /// Gives a number this feature, whatever feature it had, and answers the number of the edit. At `Ok` the edit outlives a crash.
     /// After `Device` it stands on the disk or not, and the service makes no more edits; any other fault changes nothing, and writes
     /// nothing.
@@ -79,6 +94,7 @@ impl<D: Sectors + Drop> Service<D> {
         ensures faults { OnOk result (D.faults self.new.disk ≡ D.faults self.old.disk) }
         ensures failed { IfErr result (λ fault. CountsDevice fault (D.faults self.old.disk) (D.faults self.new.disk)) }
         ensures untouched { IfErr result (λ fault. fault ≢ Device → self.new.disk ≡ self.old.disk) }
+        ensures kept { IfErr result (λ fault. fault ≢ Device → self.new ≡ self.old) }
 
         // A crash at any moment of the call leaves what was stored, or the same with the edit.
         ensures any_moment { (stored : Stored) → D.honest self.new.disk → IsUp (D.sectors self.old.disk) (D.history self.old.disk) stored self.old
@@ -118,13 +134,7 @@ impl<D: Sectors + Drop> Service<D> {
                 apply(&mut self.store, edit);
                 Ok(number)
             }
-            Err(fault) => {
-                self.broken = fault == JournalFault::Device;
-                if self.broken {
-                    self.publication = None;
-                }
-                Err(told(fault))
-            }
+            Err(fault) => Err(self.fail(fault)),
         }
     }
 
@@ -145,6 +155,7 @@ impl<D: Sectors + Drop> Service<D> {
         ensures faults { OnOk result (D.faults self.new.disk ≡ D.faults self.old.disk) }
         ensures failed { IfErr result (λ fault. CountsDevice fault (D.faults self.old.disk) (D.faults self.new.disk)) }
         ensures untouched { IfErr result (λ fault. fault ≢ Device → self.new.disk ≡ self.old.disk) }
+        ensures kept { IfErr result (λ fault. fault ≢ Device → self.new ≡ self.old) }
         ensures any_moment { (stored : Stored) → D.honest self.new.disk → IsUp (D.sectors self.old.disk) (D.history self.old.disk) stored self.old
             → LeavesOnly (D.history self.old.disk) (D.history self.new.disk)
             (EventLeaves (D.sectors self.old.disk) self.old.size stored self.old.publication (edit (delete id)) (edit_answer result)) }
@@ -166,13 +177,7 @@ impl<D: Sectors + Drop> Service<D> {
                 self.store.remove(id);
                 Ok(number)
             }
-            Err(fault) => {
-                self.broken = fault == JournalFault::Device;
-                if self.broken {
-                    self.publication = None;
-                }
-                Err(told(fault))
-            }
+            Err(fault) => Err(self.fail(fault)),
         }
     }
 }

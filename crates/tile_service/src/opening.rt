@@ -8,6 +8,7 @@ ghost use Rattle.generations.specs.Faults.{CountsDevice};
 ghost use Rattle.generations.specs.Sectors.{CanStand};
 ghost use Rattle.generations.specs.declared.fault.StoreFault.TheVariants.{Device, Memory};
 ghost use Rattle.edit_journal.specs.Appends.{ring_of};
+ghost use Rattle.edit_journal.specs.Releases.{IsCounted};
 ghost use Rattle.edit_journal.specs.declared.sizes.TheConstants.{PART_BYTES};
 ghost use Rattle.feature_store.specs.Store.{snapshot};
 ghost use Rattle.tile_service.specs.Opening.{HasSnapshot, IsReplayed, IsRead, IsContentFault, IsOpenFault, recovery_told_as};
@@ -63,6 +64,7 @@ fn read_edits<D: Sectors>(
     ensures ring { IfOk result (λ found. ring_of found.0 ≡ journal_ring layout.sectors) }
     ensures texts { IfOk result (λ found.
         length (snapshot found.1.features) ≤ SECTOR_BYTES * area_sectors layout.sectors + PART_BYTES * found.0.used) }
+    ensures counted { IfOk result (λ found. IsCounted found.0) }
     ensures found { D.honest disk.new → HasSnapshot layout.sectors root store.features (seen (D.history disk.old))
         → IfOk result (λ found. IsReplayed layout.sectors root (seen (D.history disk.old)) found.0 found.1.features) }
     ensures fault { D.honest disk.new → HasSnapshot layout.sectors root store.features (seen (D.history disk.old))
@@ -100,6 +102,7 @@ fn read_map<D: Sectors>(
     ensures ring { IfOk result (λ found. ring_of found.0 ≡ journal_ring layout.sectors) }
     ensures texts { IfOk result (λ found.
         length (snapshot found.1.features) ≤ SECTOR_BYTES * area_sectors layout.sectors + PART_BYTES * found.0.used) }
+    ensures counted { IfOk result (λ found. IsCounted found.0) }
     ensures found { D.honest disk.new
         → IfOk result (λ found. IsReplayed layout.sectors root (seen (D.history disk.old)) found.0 found.1.features) }
     ensures fault { D.honest disk.new
@@ -128,6 +131,7 @@ fn load<D: Sectors>(alloc: Global, disk: &mut D) -> Result<Found, StoreFault>
     ensures ring { IfOk result (λ found. ring_of found.journal ≡ journal_ring found.layout.sectors) }
     ensures texts { IfOk result (λ found.
         length (snapshot found.store.features) ≤ SECTOR_BYTES * area_sectors found.layout.sectors + PART_BYTES * found.journal.used) }
+    ensures counted { IfOk result (λ found. IsCounted found.journal) }
     ensures found { D.honest disk.new → IfOk result (λ found.
         IsRead (D.sectors disk.old) found.layout.sectors (seen (D.history disk.old)) found.root found.journal found.store.features) }
     ensures fault { D.honest disk.new

@@ -1,4 +1,4 @@
-use Rattle.std.proofs.Common.{false, refl}
+use Rattle.std.proofs.Common.{None, false, refl}
 use Rattle.sector_disk.specs.Disk.{seen}
 use Rattle.tile_service.proofs.Opens.{opens, no_other_fault}
 use Rattle.tile_service.proofs.service.Service.open.Goals as goal
@@ -15,9 +15,10 @@ returns-in-Ok-clause-opened g c n stored holds honest =
       generation = c.in-Ok.found.root.generation;
       snapshot_len = c.in-Ok.found.root.snapshot_len;
       archive_len = c.in-Ok.found.root.archive_len;
+      publication = None;
       broken = false;
     })
-    c.in-Ok.found.root refl c.load.ensures.count (c.in-Ok.ensures.synced honest) refl refl refl refl (c.in-Ok.ensures.found honest)
+    c.in-Ok.found.root refl c.load.ensures.count (c.in-Ok.ensures.synced honest) refl refl refl refl refl (c.in-Ok.ensures.found honest)
 
 pub returns-in-Err-clause-refused : goal.returns-in-Err-clause-refused
 returns-in-Err-clause-refused g c n stored holds honest =

@@ -1,18 +1,17 @@
-use Rattle.std.proofs.Common.{◌≡◌, ◌∙◌, ◌*◌, ℕ, List, refl, sym, ap, subst, arith, rules, length, false}
-use Rattle.sector_disk.specs.declared.disk.TheConstants.{SECTOR_BYTES}
-use Rattle.generations.specs.Areas.{area_sectors}
+use Rattle.std.proofs.Common.{◌≡◌, ◌≢◌, ◌∙◌, ℕ, List, refl, sym, ap, subst, arith, rules, length}
 use Rattle.edit_journal.specs.Records.{IsEditLength, parts_of}
 use Rattle.edit_journal.specs.Ring.{Ring}
-use Rattle.edit_journal.specs.declared.fault.JournalFault.TheVariants as journals
 use Rattle.feature_model.specs.Data.{put, feature_data}
+use Rattle.feature_model.specs.Spelled.{spelled}
 use Rattle.feature_store.specs.Store.{with_feature, snapshot}
 use Rattle.tile_service.specs.Machine.{edited, refused}
+use Rattle.tile_service.specs.Service.{IsUp}
 use Rattle.tile_service.specs.Stored.{texts_of}
-use Rattle.tile_service.specs.declared.fault.ServiceFault.TheVariants.{NumbersSpent, Memory}
-use Rattle.tile_service.proofs.Edits.{up_is_at, same_leaves, append_any_moment, refused_any_moment, up_with_edit, still_up}
+use Rattle.tile_service.specs.declared.fault.ServiceFault.TheVariants.{NumbersSpent, Memory, Device}
+use Rattle.tile_service.proofs.Edits.{up_is_at, same_leaves, append_any_moment, refused_any_moment, up_with_edit}
+use Rattle.tile_service.proofs.Going.{service_on}
 use Rattle.tile_service.proofs.Steps.{put_length, short_after_put, short_enough}
 use Rattle.tile_service.proofs.service.Service.put.Goals as goal
-use Rattle.tile_service.proofs.service.Service.put.Goals.{in-Put-3, in-Delete-3}
 
 pub returns-in-Err-clause-any_moment : goal.returns-in-Err-clause-any_moment
 returns-in-Err-clause-any_moment g c = rw (← c.self.view_is) (λ stored honest up.
@@ -44,19 +43,20 @@ apply-requires-clause-texts g c = rw c.room.ensures.map (short_enough c.self.ins
     (omega (arith, c.self.inside.journal.room, ap (λ (r : Ring). r.places) c.self.invariant.ring)) c.self.invariant.texts c.in-Ok.ensures.ok.allowed)
 
 pub invariant_of-self-in-Ok-append : goal.invariant_of-self-in-Ok-append
-invariant_of-self-in-Ok-append g c = record {
-  within = omega (arith, c.self.invariant.within, c.append.ensures.count);
-  ring = c.append.ensures.same.0 ∙ c.self.invariant.ring;
-  area = c.self.invariant.area;
-  texts = omega (
-    arith,
-    ap (λ m. length (snapshot m)) (c.apply.ensures ∙ ap (λ m. with_feature m c.args.id (feature_data c.args.feature)) c.room.ensures.map),
-    c.in-Ok-append.ensures.used,
-    ap (λ (t : List ℕ). parts_of (length t)) (c.deref.ensures.value ∙ c.in-Ok-encode.ensures.text),
-    short_after_put c.self.inside.store.features c.args.id (feature_data c.args.feature) (SECTOR_BYTES * area_sectors c.self.inside.layout.sectors)
-        c.self.inside.journal.used c.self.invariant.texts,
-  );
-}
+invariant_of-self-in-Ok-append g c =
+    let text : c.deref.result.now ≡ spelled (put c.args.id (feature_data c.args.feature)) = c.deref.ensures.value ∙ c.in-Ok-encode.ensures.text in
+    let later = c.apply.ensures ∙ ap (λ m. with_feature m c.args.id (feature_data c.args.feature)) c.room.ensures.map in
+    service_on c.self.inside.layout.sectors c.self.inside.root c.self.inside.journal c.append.new.self c.append.ensures.same.0 c.append.ensures.same.1
+    (length c.deref.result.now)
+    (subst (λ (t : List ℕ). IsEditLength (length t)) (sym text) (put_length c.args.id (feature_data c.args.feature) c.in-Ok.ensures.ok.allowed))
+    c.in-Ok-append.ensures.used c.in-Ok-append.ensures.last c.self.inside.store.features c.apply.new.store.features
+    (λ area places was. omega (
+      arith,
+      ap (λ m. length (snapshot m)) later,
+      ap (λ (t : List ℕ). parts_of (length t)) text,
+      short_after_put c.self.inside.store.features c.args.id (feature_data c.args.feature) area places was,
+    ))
+    _ _ _ c.append.ensures.count c.self.invariant
 
 pub returns-in-Ok-append-clause-any_moment : goal.returns-in-Ok-append-clause-any_moment
 returns-in-Ok-append-clause-any_moment g c = rw (← c.self.view_is) (λ stored honest up.
@@ -71,31 +71,17 @@ returns-in-Ok-append-clause-acknowledged g c = rw (← c.self.view_is) (λ store
     up_with_edit g.D.Sectors.sectors g.D.Sectors.history stored _ c.self.invariant.ring up (put c.args.id (feature_data c.args.feature))
     c.in-Ok-encode.ensures.edit _ (c.deref.ensures.value ∙ c.in-Ok-encode.ensures.text) c.append.new.disk (c.append.ensures.frame honest)
     _ refl c.append.ensures.count refl c.append.ensures.same (c.in-Ok-append.ensures.acknowledged (texts_of stored) honest at)
-    (c.apply.ensures ∙ ap (λ m. with_feature m c.args.id (feature_data c.args.feature)) c.room.ensures.map) refl refl refl refl)
+    (c.apply.ensures ∙ ap (λ m. with_feature m c.args.id (feature_data c.args.feature)) c.room.ensures.map) refl refl refl refl refl
+    (c.append.ensures.reads honest))
 
 pub returns-in-Err-append-clause-any_moment : goal.returns-in-Err-append-clause-any_moment
-returns-in-Err-append-clause-any_moment g c =
-    let left : c.match-edit-5.self.disk ≡ c.append.new.disk =
-    elim c.match-edit-5.branch [ in-Put-3 w ↦ ap (λ s. s.disk) w.self-is | in-Delete-3 w ↦ ap (λ s. s.disk) w.self-is ] in
-    rw (left, ← c.self.view_is) (λ stored honest up.
+returns-in-Err-append-clause-any_moment g c = rw (ap (λ s. s.disk) c.fail.ensures.same, ← c.self.view_is) (λ stored honest up.
     let at = up_is_at g.D.Sectors.sectors g.D.Sectors.history stored _ c.self.invariant.ring up in
     refused_any_moment g.D.Sectors.sectors g.D.Sectors.history stored _ c.self.invariant.ring up (put c.args.id (feature_data c.args.feature))
     c.in-Ok-encode.ensures.edit _ (c.deref.ensures.value ∙ c.in-Ok-encode.ensures.text) c.append.new.disk (c.append.ensures.frame honest)
-    c.in-Err-append.fault c.told.result c.told.ensures c.in-Err-append.ensures.refused (c.append.ensures.any_moment (texts_of stored) honest at))
+    c.in-Err-append.fault c.fail.result c.fail.ensures.told c.in-Err-append.ensures.refused (c.append.ensures.any_moment (texts_of stored) honest at))
 
 pub returns-in-Err-append-clause-refused : goal.returns-in-Err-append-clause-refused
 returns-in-Err-append-clause-refused g c =
-    let left : c.match-edit-5.self ≡ record {
-      disk = c.append.new.disk;
-      size = c.self.inside.layout.sectors;
-      features = c.room.new.self.features;
-      journal = c.append.new.self;
-      generation = c.self.inside.root.generation;
-      snapshot_len = c.self.inside.root.snapshot_len;
-      archive_len = c.self.inside.root.archive_len;
-      broken = c.eq-self-inside.result;
-    } = elim c.match-edit-5.branch [ in-Put-3 w ↦ w.self-is | in-Delete-3 w ↦ w.self-is ] in
-    rw (left, ← c.self.view_is) (λ stored honest up.
-    let unbroken : (c.in-Err-append.fault ≡ journals.Device → ⊥) → c.eq-self-inside.result ≡ false = search rules in
-    still_up g.D.Sectors.sectors g.D.Sectors.history stored _ c.self.invariant.ring up _ c.in-Err-append.fault c.told.result c.told.ensures
-    c.in-Err-append.ensures.refused refl c.in-Err-append.ensures.kept c.room.ensures.map refl refl refl unbroken)
+    let same : c.fail.result ≢ Device → c.fail.new.self ≡ c.args.self.now = search rules in
+    (λ stored honest up other. subst (λ s. IsUp (g.D.Sectors.sectors s.disk) (g.D.Sectors.history s.disk) stored s) (sym (same other)) up)
