@@ -1,5 +1,5 @@
 -- Layers as JSON: members that are put in the order of their keys stand in that order, and no number is a float.
-use Rattle.std.proofs.Common.{◌≡◌, ℕ, false, List, [], ◌∷◌, ◌++◌, map, Less, Greater, nat_cmp, Bor, Result, Ok, Err, IfOk, refl, sym, ap, subst, ◌∙◌}
+use Rattle.std.proofs.Common.{◌≡◌, ◌≤◌, ℕ, false, Some, arith, List, [], ◌∷◌, ◌++◌, map, Less, Greater, nat_cmp, Bor, Result, Ok, Err, IfOk, refl, sym, ap, subst, ◌∙◌}
 use Rattle.std.specs.Ordering.{ordering_reverse}
 use Rattle.std.specs.Cmp.Lexicographic.{slice_cmp}
 use Rattle.std.specs.List.{AllByRecursion}
@@ -11,7 +11,8 @@ use Rattle.std.specs.declared.alloc.AllocError.{AllocError}
 use Rattle.std.specs.declared.string.String.{String}
 use Rattle.std.proofs.lemmas.Cmp.{nat_list_cmp_total}
 use Rattle.std.proofs.lemmas.Map.Keys.{sorted_head, sorted_tail}
-use Rattle.serde_json.specs.Data.{Data, Members, put, string, member}
+use Rattle.serde_json.specs.Data.{Data, Members, put, string, member, depth, items_depth, members_depth}
+use Rattle.serde_json.specs.Read.{read, max_depth}
 use Rattle.serde_json.specs.declared.value.Value.{Value}
 use Rattle.serde_json.specs.View.{items_of, view}
 use Rattle.serde_json.specs.Written.{has_float, items_have_float, members_have_float, compact_text}
@@ -63,12 +64,26 @@ layers_whole (l ∷ ls) = rw (fields_whole l.fields, layers_whole ls) refl
 pub metadata_whole : (m : FeatureMap) (d : Data) → IsMetadata m d → has_float d ≡ false
 metadata_whole m d (ls, are, is) = rw (is, layers_whole ls) refl
 
+-- ---- the metadata is shallow
+
+fields_shallow : (fs : List (List ℕ × FieldKind)) → members_depth (fields_json fs) ≡ 0
+fields_shallow [] = refl
+fields_shallow (f ∷ fs) = rw (fields_shallow fs) refl
+
+layers_shallow : (ls : List LayerData) → items_depth (items_of (map layer_json ls)) ≤ 2
+layers_shallow [] = omega arith
+layers_shallow (l ∷ ls) = omega (arith, fields_shallow l.fields, layers_shallow ls)
+
+pub metadata_shallow : (m : FeatureMap) (d : Data) → IsMetadata m d → depth d ≤ max_depth
+metadata_shallow m d (ls, are, is) = subst (λ (j : Data). depth j ≤ max_depth) (sym is) (omega (arith, layers_shallow ls))
+
 -- a text of the metadata, where there is one
 pub text_of : (m : FeatureMap) (v : Data) (r : Result (String Global) AllocError) → IsMetadata m v
     → IfOk r (λ text. has_float v ≡ false → string_bytes text ≡ compact_text v)
-    → IfOk r (λ text. (d : Data) × IsMetadata m d × (string_bytes text ≡ compact_text d))
-text_of m v (Ok text) is written = (v, is, written (metadata_whole m v is))
-text_of m v (Err e) is written = tt
+    → IfOk r (λ text. depth v ≤ max_depth → read (string_bytes text) ≡ Some v)
+    → IfOk r (λ text. (d : Data) × IsMetadata m d × (string_bytes text ≡ compact_text d) × (read (string_bytes text) ≡ Some d))
+text_of m v (Ok text) is written reads = (v, is, written (metadata_whole m v is), reads (metadata_shallow m v is))
+text_of m v (Err e) is written reads = tt
 
 -- the object with the layers of the map, where there is one
 pub metadata_of : (m : FeatureMap) (d : Data) (r : Result Value AllocError) → IsMetadata m d → IfOk r (λ v. view v ≡ d)

@@ -1,10 +1,11 @@
 //! The metadata of a map, as a JSON value and as text.
 
-ghost use Rattle.std.specs.Prelude.{◌≡◌, map, IfOk, string_bytes, All};
+ghost use Rattle.std.specs.Prelude.{◌≡◌, map, Some, IfOk, string_bytes, All};
 ghost use Rattle.std.specs.BTreeMap.{IsOrdered};
 ghost use Rattle.std.specs.Ordering.{nat_cmp};
 ghost use Rattle.std.specs.Cmp.Lexicographic.{slice_cmp};
 ghost use Rattle.serde_json.specs.Data.{Data, object, array, member, no_members};
+ghost use Rattle.serde_json.specs.Read.{read};
 ghost use Rattle.serde_json.specs.View.{view, items_of};
 ghost use Rattle.serde_json.specs.Written.{compact_text};
 ghost use Rattle.map_metadata.specs.Fields.{name_bytes};
@@ -87,9 +88,10 @@ pub fn metadata(alloc: Global, store: &Store) -> Result<Value, AllocError>
     document(alloc, list)
 }
 
-/// The metadata of a map as compact text. The only error is out of memory.
+/// The metadata of a map as compact text, which reads as it. The only error is out of memory.
 pub fn metadata_text(alloc: Global, store: &Store) -> Result<String, AllocError>
-    ensures { IfOk result (λ text. (d : Data) × IsMetadata store.now.features d × (string_bytes text ≡ compact_text d)) }
+    ensures { IfOk result (λ text. (d : Data) × IsMetadata store.now.features d × (string_bytes text ≡ compact_text d)
+        × (read (string_bytes text) ≡ Some d)) }
 {
     let value = metadata(alloc, store)?;
     value.to_string(alloc)

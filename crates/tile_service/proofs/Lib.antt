@@ -1,5 +1,6 @@
 mod Appends
 mod Archives
+mod AreaWrites
 mod Bytes
 pub mod Callers
 pub mod Contents
@@ -12,6 +13,7 @@ pub mod Installed
 mod Opens
 pub mod Progress
 pub mod Publications
+mod PublishSteps
 pub mod Publishes
 mod Replays
 mod Roots

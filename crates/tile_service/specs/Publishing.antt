@@ -1,5 +1,5 @@
 -- What a publication leaves on a disk: the map after some of the edits as the next snapshot, with its archive.
-use Rattle.std.specs.Prelude.{◌≡◌, ◌<◌, ◌≤◌, ◌+◌, ◌^◌, ◌%◌, ℕ, List, length, take, drop}
+use Rattle.std.specs.Prelude.{◌≡◌, ◌<◌, ◌≤◌, ◌+◌, ◌^◌, ◌%◌, ℕ, List, length, take, drop, ⊤}
 use Rattle.std.proofs.Common.{suc}
 use Rattle.sector_disk.specs.Disk.{Image, History, seen}
 use Rattle.sector_bytes.specs.Bytes.{sector_piece}
@@ -8,6 +8,15 @@ use Rattle.edit_journal.specs.Ring.{places_of}
 use Rattle.feature_store.specs.Store.{FeatureMap, IsMap, after, snapshot}
 use Rattle.tile_service.specs.Stored.{Stored, HasBytes, texts_of}
 use Rattle.area_content.specs.Tiles.{IsArchiveOfMap}
+use Rattle.area_content.specs.Faults.{HasManyTiles, IsFull}
+use Rattle.area_content.specs.declared.fault.ContentFault.{ContentFault}
+use Rattle.area_content.specs.declared.fault.ContentFault.TheVariants as contents
+use Rattle.map_metadata.specs.Metadata.{IsMetadata}
+use Rattle.serde_json.specs.Data.{Data}
+use Rattle.serde_json.specs.Written.{compact_text}
+use Rattle.tile_service.specs.declared.fault.ServiceFault.{ServiceFault}
+use Rattle.tile_service.specs.declared.fault.ServiceFault.TheVariants.{Broken, Busy, Idle, Limit, NotFound, NumbersSpent, Memory}
+use Rattle.tile_service.specs.declared.fault.ServiceFault.TheVariants.{TooManyTiles, AreaFull, JournalFull, Device}
 
 -- the map that is published: that after the first edits since the last snapshot
 abbrev pub map_at : Stored → (count : ℕ) → FeatureMap
@@ -65,3 +74,25 @@ HasFirst n generation snapshot_bytes archive_bytes written image =
 pub record IsUnderWay (n : ℕ) (stored : Stored) (count : ℕ) (archive : List ℕ) (written : ℕ) (history : History) : Type 0 where
   pub can : CanPublish n stored count archive
   pub first : HasFirst n (suc stored.generation) (snapshot (map_at stored count)) archive written (seen history)
+
+-- ---- a map that can't be published
+
+-- what is told of a map that has no content for an area
+abbrev pub told_content : ContentFault → ServiceFault
+told_content contents.TooManyTiles = TooManyTiles
+told_content (contents.AreaFull need free) = AreaFull need free
+told_content contents.Memory = Memory
+
+-- why a map has no content for an area of so many sectors
+abbrev pub HasNoContent : FeatureMap → (area : ℕ) → ServiceFault → Type 0
+HasNoContent m area Broken = ⊥
+HasNoContent m area Busy = ⊥
+HasNoContent m area Idle = ⊥
+HasNoContent m area (Limit fault) = ⊥
+HasNoContent m area NotFound = ⊥
+HasNoContent m area NumbersSpent = ⊥
+HasNoContent m area Memory = ⊤
+HasNoContent m area TooManyTiles = HasManyTiles m
+HasNoContent m area (AreaFull need free) = (d : Data) × IsMetadata m d × IsFull m (length (compact_text d)) area need free
+HasNoContent m area (JournalFull need free) = ⊥
+HasNoContent m area Device = ⊥

@@ -77,6 +77,10 @@ pub record IsService (sectors size : ℕ) (root : Root) (journal : Journal) (fea
   pub counted : IsCounted journal
   pub going : IfSome publication (IsGoing size root journal features)
 
+-- the service with this publication under way
+abbrev pub with_publication : {D : Type 0} → ServiceView D → PublicationView → ServiceView D
+with_publication service p = record service { publication = Some p }
+
 -- ---- the state
 
 -- what the service doesn't have in memory: the archive, and the map of which a publication under way is

@@ -1,10 +1,16 @@
 //! Publications: the snapshot of the map and the archive of its tiles, written by steps into the area of the next generation.
-ghost use Rattle.std.specs.Prelude.{◌≡◌, ◌≢◌, ◌≤◌, ◌+◌, IfErr, OnOk, OnErr};
-ghost use Rattle.sector_disk.specs.Disk.{moment};
+ghost use Rattle.std.specs.Prelude.{◌≡◌, ◌≢◌, ◌⊎◌, ◌<◌, ◌≤◌, ◌+◌, ◌^◌, false, true, None, Some, IfOk, IfErr, OnOk, OnErr};
+ghost use Rattle.std.proofs.Common.{suc};
+ghost use Rattle.sector_disk.specs.Disk.{moment, seen, HasFailed};
 ghost use Rattle.sector_disk.specs.Moments.{LeavesOnly};
-ghost use Rattle.tile_service.specs.Machine.{begin, step, cancel, Steps};
+ghost use Rattle.feature_store.specs.Store.{IsMap, snapshot};
+ghost use Rattle.area_content.specs.Content.{sectors_taken};
+ghost use Rattle.area_content.specs.Tiles.{IsArchiveOfMap};
+ghost use Rattle.tile_service.specs.Publishing.{HasFirst, HasNoContent, told_content};
+ghost use Rattle.tile_service.specs.Machine.{begin, step, cancel, Steps, after_install};
+ghost use Rattle.tile_service.specs.Service.{IsGoing, with_publication, going_of, known_installed, installed};
 ghost use Rattle.tile_service.specs.Service.{Known, IsUp, state_of, known_after, left_answer, cancel_answer, EventLeaves, stored_after, CountsDevice};
-ghost use Rattle.tile_service.specs.Stored.{Stored};
+ghost use Rattle.tile_service.specs.Stored.{Stored, Holds, Keeps};
 ghost use Rattle.tile_service.specs.declared.fault.ServiceFault.TheVariants.{Device};
 
 use crate::fault::ServiceFault;
@@ -42,17 +48,35 @@ impl Model for Publication {
     ghost view = { λ p. record { content = p.content; start = p.start; places = p.places; written = p.written } };
 }
 
+/// What is told of a map that has no content for an area.
+fn told(fault: ContentFault) -> ServiceFault
+    ensures { result ≡ told_content fault }
+{
+    match fault {
+        ContentFault::TooManyTiles => ServiceFault::TooManyTiles,
+        ContentFault::AreaFull { need, free } => ServiceFault::AreaFull { need, free },
+        ContentFault::Memory => ServiceFault::Memory,
+    }
+}
+
 /// The snapshot and the archive of a map, for an area of so many sectors.
-fn content_for(alloc: Global, store: &Store, area: u64) -> Result<AreaContent, ServiceFault> {
+fn content_for(alloc: Global, store: &Store, area: u64) -> Result<AreaContent, ServiceFault>
+    requires { area < 2 ^ 23 }
+    ensures map { IsMap store.now.features }
+    ensures snapshot { IfOk result (λ c. c.snapshot ≡ snapshot store.now.features) }
+    ensures archive { IfOk result (λ c. IsArchiveOfMap store.now.features c.archive) }
+    ensures fits { IfOk result (λ c. sectors_taken c ≤ area) }
+    ensures fault { IfErr result (HasNoContent store.now.features area) }
+{
+    // A clause of this call says that the features keep what a map keeps.
+    let _count = store.len();
     let metadata = match metadata_text(alloc, store) {
         Ok(text) => text,
         Err(AllocError) => return Err(ServiceFault::Memory),
     };
     match content_of(alloc, store, metadata.as_bytes(), area) {
         Ok(content) => Ok(content),
-        Err(ContentFault::TooManyTiles) => Err(ServiceFault::TooManyTiles),
-        Err(ContentFault::AreaFull { need, free }) => Err(ServiceFault::AreaFull { need, free }),
-        Err(ContentFault::Memory) => Err(ServiceFault::Memory),
+        Err(fault) => Err(told(fault)),
     }
 }
 
@@ -64,7 +88,30 @@ fn write_sectors<D: Sectors>(
     content: &AreaContent,
     from: u64,
     to: u64,
-) -> Result<(), DiskFault> {
+) -> Result<(), DiskFault>
+    requires order { from ≤ to }
+    requires within { to ≤ sectors_taken content.now }
+    requires area { sectors_taken content.now ≤ layout.area }
+    requires on_disk { layout.sectors ≤ D.sectors disk.old }
+    ensures count { D.sectors disk.new ≡ D.sectors disk.old }
+    ensures honest { D.honest disk.new → D.honest disk.old }
+    ensures faults { OnOk result (D.faults disk.new ≡ D.faults disk.old) }
+    ensures failed { OnErr result (HasFailed (D.faults disk.old) (D.faults disk.new)) }
+    ensures steps { D.honest disk.new → moment (D.history disk.new) + from ≤ moment (D.history disk.old) + to }
+
+    // What is stored is of the generation before it, and stays.
+    ensures leaves { (stored : Stored) → D.honest disk.new → generation ≡ suc stored.generation
+        → Keeps (D.sectors disk.old) layout.sectors stored (D.history disk.old)
+        → LeavesOnly (D.history disk.old) (D.history disk.new) (Holds (D.sectors disk.old) layout.sectors stored) }
+    ensures keeps { (stored : Stored) → D.honest disk.new → generation ≡ suc stored.generation
+        → Keeps (D.sectors disk.old) layout.sectors stored (D.history disk.old)
+        → Keeps (D.sectors disk.old) layout.sectors stored (D.history disk.new) }
+
+    // With the sectors before it there, those before the end are there.
+    ensures first { D.honest disk.new
+        → HasFirst layout.sectors generation content.now.snapshot content.now.archive from (seen (D.history disk.old))
+        → OnOk result (HasFirst layout.sectors generation content.now.snapshot content.now.archive to (seen (D.history disk.new))) }
+{
     for index in from..to {
         write_area(disk, layout, generation, index, &content.sector(index))?;
     }
@@ -73,7 +120,32 @@ fn write_sectors<D: Sectors>(
 
 impl<D: Sectors + Drop> Service<D> {
     /// Makes the publication the live generation, all of whose sectors are written.
-    fn install(&mut self, publication: Publication) -> Result<u64, ServiceFault> {
+    fn install_now(&mut self, publication: Publication) -> Result<u64, ServiceFault>
+        requires none { self.old.publication ≡ None }
+        requires unbroken { self.old.broken ≡ false }
+        requires going { (root : Root) × (root.generation ≡ self.old.generation)
+            × IsGoing self.old.size root self.old.journal self.old.features publication }
+        requires written { publication.written ≡ sectors_taken publication.content }
+        ensures told { IfOk result (λ told. told ≡ 0) }
+        ensures fault { IfErr result (λ fault. fault ≡ Device) }
+        ensures broken { OnErr result (self.new ≡ record self.old { disk = self.new.disk; broken = true }) }
+        ensures size { self.new.size ≡ self.old.size }
+        ensures state { (known : Known) → OnOk result (state_of (known_installed known (Some publication)) self.new
+            ≡ after_install (state_of known (with_publication self.old publication)) (going_of known.publishing publication)) }
+        ensures count { D.sectors self.new.disk ≡ D.sectors self.old.disk }
+        ensures honest { D.honest self.new.disk → D.honest self.old.disk }
+        ensures faults { OnOk result (D.faults self.new.disk ≡ D.faults self.old.disk) }
+        ensures failed { OnErr result (HasFailed (D.faults self.old.disk) (D.faults self.new.disk)) }
+        ensures steps { D.honest self.new.disk → moment (D.history self.new.disk) ≤ moment (D.history self.old.disk) + 3 }
+        ensures any_moment { (stored : Stored) → D.honest self.new.disk
+            → IsUp (D.sectors self.old.disk) (D.history self.old.disk) stored (with_publication self.old publication)
+            → LeavesOnly (D.history self.old.disk) (D.history self.new.disk) (λ image. Holds (D.sectors self.old.disk) self.old.size stored image
+            ⊎ Holds (D.sectors self.old.disk) self.old.size (installed self.old.size stored (Some publication)) image) }
+        ensures after { (stored : Stored) → D.honest self.new.disk
+            → IsUp (D.sectors self.old.disk) (D.history self.old.disk) stored (with_publication self.old publication)
+            → OnOk result
+            (IsUp (D.sectors self.new.disk) (D.history self.new.disk) (installed self.old.size stored (Some publication)) self.new) }
+    {
         let root = Root {
             generation: self.root.generation + 1,
             edits: publication.start.edits,
@@ -94,8 +166,30 @@ impl<D: Sectors + Drop> Service<D> {
         }
     }
 
-    /// Goes on with a publication by a step.
-    fn advance(&mut self, publication: Publication) -> Result<u64, ServiceFault> {
+    /// Goes on with a publication by a step. It was taken out of the service.
+    fn advance(&mut self, publication: Publication) -> Result<u64, ServiceFault>
+        requires none { self.old.publication ≡ None }
+        requires unbroken { self.old.broken ≡ false }
+        requires going { (root : Root) × (root.generation ≡ self.old.generation)
+            × IsGoing self.old.size root self.old.journal self.old.features publication }
+        ensures machine { (known : Known) → Steps (state_of known (with_publication self.old publication)) step (left_answer result)
+            (state_of (known_after known (with_publication self.old publication) step (left_answer result)) self.new) }
+        ensures fault { IfErr result (λ fault. fault ≡ Device) }
+        ensures size { self.new.size ≡ self.old.size }
+        ensures count { D.sectors self.new.disk ≡ D.sectors self.old.disk }
+        ensures honest { D.honest self.new.disk → D.honest self.old.disk }
+        ensures faults { OnOk result (D.faults self.new.disk ≡ D.faults self.old.disk) }
+        ensures failed { OnErr result (HasFailed (D.faults self.old.disk) (D.faults self.new.disk)) }
+        ensures steps { D.honest self.new.disk → moment (D.history self.new.disk) ≤ moment (D.history self.old.disk) + 67 }
+        ensures any_moment { (stored : Stored) → D.honest self.new.disk
+            → IsUp (D.sectors self.old.disk) (D.history self.old.disk) stored (with_publication self.old publication)
+            → LeavesOnly (D.history self.old.disk) (D.history self.new.disk)
+            (EventLeaves (D.sectors self.old.disk) self.old.size stored (Some publication) step (left_answer result)) }
+        ensures after { (stored : Stored) → D.honest self.new.disk
+            → IsUp (D.sectors self.old.disk) (D.history self.old.disk) stored (with_publication self.old publication)
+            → OnOk result (IsUp (D.sectors self.new.disk) (D.history self.new.disk)
+            (stored_after self.old.size stored (Some publication) step (left_answer result)) self.new) }
+    {
         let left = publication.content.sectors() - publication.written;
         let more = left.min(STEP_SECTORS);
         let written = publication.written + more;
@@ -113,15 +207,16 @@ impl<D: Sectors + Drop> Service<D> {
                 return Err(ServiceFault::Device);
             }
         }
-        if left <= STEP_SECTORS {
-            return self.install(publication);
-        }
-        self.publication = Some(Publication {
+        let publication = Publication {
             content: publication.content,
             start: publication.start,
             places: publication.places,
             written,
-        });
+        };
+        if left <= STEP_SECTORS {
+            return self.install_now(publication);
+        }
+        self.publication = Some(publication);
         Ok(left - more + 1)
     }
 

@@ -1,0 +1,40 @@
+-- The writes of a step of a publication into the area of the next generation.
+use Rattle.std.proofs.Common.{◌≡◌, inl, inr, ℕ, suc, ◌<◌, ◌≤◌, ◌+◌, List, Result, ap, subst, arith}
+use Rattle.sector_disk.specs.Disk.{History, moment, FailedWrite, Writes}
+use Rattle.sector_disk.specs.Moments.{LeavesOnly}
+use Rattle.sector_disk.specs.declared.disk.DiskFault.{DiskFault}
+use Rattle.sector_disk.proofs.History.{then_leaves}
+use Rattle.generations.specs.Areas.{area_sectors, area_start}
+use Rattle.area_content.specs.Content.{ContentView, sector_at}
+use Rattle.area_content.proofs.Laws.{snapshot_sector, archive_sector}
+use Rattle.tile_service.specs.Publishing.{IsContentSector, IsInArea}
+use Rattle.tile_service.specs.Stored.{Stored, Holds, Keeps}
+use Rattle.tile_service.proofs.Contents.{content_sector}
+use Rattle.tile_service.proofs.Publishes.{write_area_keeps, write_area_leaves}
+
+-- a write, reported as done or as failed, takes one moment at most
+pub write_moment : (at : ℕ) (bytes : List ℕ) (old new : History) → FailedWrite at bytes old new → moment new ≤ moment old + 1
+write_moment at bytes old new (inl is) = omega (arith, ap moment is)
+write_moment at bytes old new (inr (inl is)) = omega (arith, ap moment is)
+write_moment at bytes old new (inr (inr is)) = omega (arith, ap moment is)
+
+-- what is written of a content is its sectors
+pub is_content_sector : (c : ContentView) (index : ℕ) → IsContentSector c.snapshot c.archive index (sector_at c index)
+is_content_sector c index = content_sector c.snapshot c.archive (sector_at c) (snapshot_sector c) (archive_sector c) index
+
+module _ (count n : ℕ) (stored : Stored) (generation index : ℕ) (sector : List ℕ) (result : Result (Unit {0}) DiskFault) (old new : History)
+    (writes : Writes result (area_start n generation + index) sector old new) (next : generation ≡ suc stored.generation) (lt : index < area_sectors n)
+    (keeps : Keeps count n stored old) where
+  written : Writes result (area_start n (suc stored.generation) + index) sector old new
+  written = subst (λ (g : ℕ). Writes result (area_start n g + index) sector old new) next writes
+
+  inside : IsInArea n (suc stored.generation) (area_start n (suc stored.generation) + index)
+  inside = (omega arith, omega (arith, lt))
+
+  -- A write into the area of the generation after what is stored leaves that.
+  pub next_area_keeps : Keeps count n stored new
+  next_area_keeps = write_area_keeps count n stored old new (area_start n (suc stored.generation) + index) sector result written inside keeps
+
+  pub next_area_leaves : (start : History) → LeavesOnly start old (Holds count n stored) → LeavesOnly start new (Holds count n stored)
+  next_area_leaves start so_far = then_leaves start old new (Holds count n stored) so_far
+      (write_area_leaves count n stored old new (area_start n (suc stored.generation) + index) sector result written inside keeps)

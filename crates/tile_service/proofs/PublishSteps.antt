@@ -1,0 +1,319 @@
+-- The beginning of a publication, its steps and its end.
+use Rattle.std.proofs.Common.{◌≡◌, ◌⊎◌, inl, inr, ⊎_elim, ◌<◌, ◌≤◌, ◌+◌, ◌-◌, ◌^◌, ◌%◌, ℕ, zero, suc, false, true, List, length, take}
+use Rattle.std.proofs.Common.{Result, Ok, Err, OnOk, Some, refl, sym, ◌∙◌, ap, subst, arith}
+use Rattle.std.proofs.lemmas.List.{length-map, take_all}
+use Rattle.std.proofs.lemmas.Str.{IsUtf8-string_bytes}
+use Rattle.std.specs.Prelude.{Option, None, IfSome, IfOk, IfErr, OnErr, option_map, string_bytes}
+use Rattle.std.specs.declared.string.String.{String}
+use Rattle.std.specs.declared.alloc.Global.{Global}
+use Rattle.sector_disk.specs.Disk.{History, seen}
+use Rattle.sector_disk.specs.Disk.History.{wrote, synced}
+use Rattle.sector_disk.specs.Moments.{LeavesOnly}
+use Rattle.sector_disk.proofs.History.{then_leaves, weaken}
+use Rattle.generations.specs.Areas.{journal_sectors, area_sectors}
+use Rattle.generations.specs.Installs.{root_at, Installs}
+use Rattle.generations.specs.Sectors.{root_sector}
+use Rattle.generations.specs.declared.root.Root.{Root}
+use Rattle.edit_journal.specs.Appends.{ring_of}
+use Rattle.edit_journal.specs.Ring.{Ring, places_of}
+use Rattle.area_content.specs.Content.{sectors_taken}
+use Rattle.area_content.specs.Tiles.{IsArchiveOfMap}
+use Rattle.feature_model.specs.Spelled.{spelled}
+use Rattle.feature_store.specs.Store.{FeatureMap, IsMap, snapshot}
+use Rattle.map_metadata.specs.Metadata.{IsMetadata}
+use Rattle.pm_archive.specs.Archive.{IsMetadata as IsMetadataText}
+use Rattle.serde_json.specs.Data.{Data}
+use Rattle.serde_json.specs.Read.{read}
+use Rattle.serde_json.specs.Written.{compact_text}
+use Rattle.tile_service.specs.Machine.{AnswerData, left, refused, step, Begins, Steps, HasPublication, after_install}
+use Rattle.tile_service.specs.Publishing.{map_at, published, CanPublish, HasFirst, HasArea, IsUnderWay}
+use Rattle.tile_service.specs.Service.{PublicationView, ServiceView, Known, Publishes, IsUp, EventLeaves, count_at, left_of, left_answer}
+use Rattle.tile_service.specs.Service.{going_of, state_of, known_after, known_installed, installed, stored_after, with_publication}
+use Rattle.tile_service.specs.Stored.{Stored, Holds, Keeps, root_of, journal_ring, texts_of}
+use Rattle.tile_service.specs.declared.fault.ServiceFault.{ServiceFault}
+use Rattle.tile_service.specs.declared.fault.ServiceFault.TheVariants.{Device}
+use Rattle.tile_service.specs.declared.publishing.TheConstants.{STEP_SECTORS}
+use Rattle.tile_service.proofs.Installed.{all_taken, install_leaves, installed_keeps, up_published}
+use Rattle.tile_service.proofs.Publications.{begins, all_written}
+
+-- ---- the content
+
+-- the metadata of a map, with its text
+abbrev pub HasText : FeatureMap → List ℕ → Type 0
+HasText m text = (d : Data) × IsMetadata m d × (text ≡ compact_text d) × (read text ≡ Some d)
+
+-- It is one for an archive.
+pub metadata_is_text : (m : FeatureMap) (text : String Global) → HasText m (string_bytes text) → IsMetadataText (string_bytes text)
+metadata_is_text m text (d, (ls, are, is), same, reads) = (IsUtf8-string_bytes text, (_, reads ∙ ap Some is))
+
+-- ---- its beginning and its end
+
+module _ {D : Type 0} (sectors : ℕ) (h : History) (stored : Stored) (service : ServiceView D) (up : IsUp sectors h stored service) where
+  -- A service with another publication goes on from what is stored, if that is one of it.
+  pub up_with : (p : Option PublicationView) → IfSome p (Publishes service.size stored h) → IsUp sectors h stored (record service { publication = p })
+  up_with p publishes = record {
+    keeps = up.keeps;
+    unbroken = up.unbroken;
+    generation_is = up.generation_is;
+    snapshot_len_is = up.snapshot_len_is;
+    archive_len_is = up.archive_len_is;
+    map_is = up.map_is;
+    place_is = up.place_is;
+    edits_are = up.edits_are;
+    used_is = up.used_is;
+    last_is = up.last_is;
+    publication = publishes;
+  }
+
+  module _ (p : PublicationView) (is_map : IsMap service.features) (is_archive : IsArchiveOfMap service.features p.content.archive)
+      (text : p.content.snapshot ≡ snapshot service.features) (area : sectors_taken p.content ≤ area_sectors service.size)
+      (generation : service.generation < 2 ^ 64 - 1) (ring : ring_of service.journal ≡ journal_ring service.size)
+      (place : p.start.place ≡ (service.journal.place + service.journal.used) % service.journal.places)
+      (edits : p.start.edits ≡ service.journal.last) (places : p.places ≡ service.journal.used) where
+    abbrev count : ℕ
+    count = count_at stored p
+
+    count_is : count ≡ length stored.since
+    count_is = omega (arith, edits, up.last_is)
+
+    map : map_at stored count ≡ service.features
+    map = ap (map_at stored) count_is ∙ all_taken stored ∙ sym up.map_is
+
+    used : service.journal.used ≡ places_of (take count (texts_of stored))
+    used = up.used_is ∙ ap places_of (sym (take_all count (texts_of stored) (omega (arith, count_is, length-map stored.since spelled))))
+
+    can : CanPublish service.size stored count p.content.archive
+    can = record {
+      within = omega (arith, count_is);
+      is_map = subst IsMap (sym map) is_map;
+      is_archive = subst (λ (m : FeatureMap). IsArchiveOfMap m p.content.archive) (sym map) is_archive;
+      area = omega (arith, area, ap length text, ap (λ (m : FeatureMap). length (snapshot m)) map);
+      generation = omega (arith, generation, up.generation_is);
+    }
+
+    -- A publication that begins is one of the map after all edits.
+    pub begins_publishing : p.written ≡ 0 → Publishes service.size stored h p
+    begins_publishing none = record {
+      later = omega (arith, edits, up.last_is);
+      under_way = subst (λ (w : ℕ). IsUnderWay service.size stored count p.content.archive w h) (sym none)
+          (begins service.size stored count p.content.archive h can);
+      snapshot_is = text ∙ ap snapshot (sym map);
+      place_is = place ∙ (λ i. (up.place_is i + used i) % (ap (λ (r : Ring). r.places) ring) i);
+      places_are = places ∙ used;
+    }
+
+-- What the machine says of its beginning.
+pub begins_told : {D : Type 0} (known : Known) (service : ServiceView D) (p : PublicationView) (told : ℕ) → service.broken ≡ false
+    → service.publication ≡ None → service.generation < 2 ^ 64 - 1 → IsArchiveOfMap service.features p.content.archive
+    → p.content.snapshot ≡ snapshot service.features → sectors_taken p.content ≤ area_sectors service.size
+    → ring_of service.journal ≡ journal_ring service.size → p.start.edits ≡ service.journal.last → p.places ≡ service.journal.used → p.written ≡ 0
+    → told ≡ sectors_taken p.content + 1
+    → Begins (state_of known service) told (state_of (record known { publishing = service.features }) (record service { publication = Some p }))
+begins_told known service p told unbroken none generation is_archive text area ring edits places written told_is = record {
+  can = record { unbroken = unbroken; none = ap (option_map (going_of known.publishing)) none; generation = generation };
+  archive = p.content.archive;
+  is_archive = is_archive;
+  room = omega (arith, area, ap length text);
+  told_is = omega (arith, told_is, ap length text);
+  begun = λ i. record (state_of known service) {
+    publication = Some (record {
+      archive = record { bytes = p.content.archive; features = service.features };
+      last = edits i;
+      places = used i;
+      left = left_is i;
+    });
+  };
+}
+  where
+    used : p.places ≡ journal_sectors service.size - (service.journal.places - service.journal.used)
+    used = omega (arith, places, ap (λ (r : Ring). r.places) ring, service.journal.room)
+
+    left_is : left_of p ≡ told
+    left_is = omega (arith, written, told_is)
+
+-- ---- its installation
+
+module _ {D : Type 0} (sectors : ℕ) (old : History) (stored : Stored) (service : ServiceView D) (p : PublicationView)
+    (up : IsUp sectors old stored (with_publication service p)) where
+  abbrev next : Stored
+  next = published service.size stored (count_at stored p) p.content.archive
+
+  going : Publishes service.size stored old p
+  going = up.publication
+
+  -- the root that names it
+  pub next_root_is : (root : Root) → root.generation ≡ service.generation + 1 → root.edits ≡ p.start.edits → root.journal_at ≡ p.start.place
+      → root.snapshot_len ≡ length p.content.snapshot → root.archive_len ≡ length p.content.archive → root ≡ root_of next
+  next_root_is root generation edits place text archive = λ i. record {
+    generation = generation_is i;
+    edits = edits_are i;
+    journal_at = (place ∙ going.place_is) i;
+    snapshot_len = (text ∙ ap length going.snapshot_is) i;
+    archive_len = archive i;
+  }
+    where
+      generation_is : root.generation ≡ suc stored.generation
+      generation_is = omega (arith, generation, up.generation_is)
+
+      edits_are : root.edits ≡ stored.edits + count_at stored p
+      edits_are = omega (arith, edits, going.later)
+
+  module _ (written : p.written ≡ sectors_taken p.content) (root : Root) (root_is : root ≡ root_of next) (new : History) where
+    area_stands : HasArea service.size (suc stored.generation) (snapshot (map_at stored (count_at stored p))) p.content.archive (seen old)
+    area_stands = all_written service.size stored (count_at stored p) p.content.archive p.written old
+        (omega (arith, written, ap length going.snapshot_is)) going.under_way
+
+    -- A crash at any moment of the installation leaves what was stored, or what is published.
+    pub installing_leaves : LeavesOnly old new (Installs root old)
+        → LeavesOnly old new (λ image. Holds sectors service.size stored image ⊎ Holds sectors service.size next image)
+    installing_leaves leaves = install_leaves sectors service.size stored (count_at stored p) p.content.archive going.under_way.can old new up.keeps
+        area_stands (subst (λ (r : Root). LeavesOnly old new (Installs r old)) root_is leaves)
+
+    -- After it the service goes on from what is published.
+    pub up_installed : (count : ℕ) (after : ServiceView D) → count ≡ sectors
+        → new ≡ synced (wrote (root_at root.generation) (root_sector root) (synced old)) → after.size ≡ service.size
+        → after.broken ≡ service.broken → after.generation ≡ service.generation + 1 → after.features ≡ service.features
+        → after.journal.place ≡ p.start.place → after.journal.edits ≡ p.start.edits
+        → after.journal.used + p.places ≡ service.journal.used → after.journal.last ≡ service.journal.last
+        → after.snapshot_len ≡ length p.content.snapshot → after.archive_len ≡ length p.content.archive → after.publication ≡ None
+        → IsUp count new next after
+    up_installed count after same is size broken generation features place edits freed last text archive none =
+        subst (λ (k : ℕ). IsUp k new next after) (sym same)
+        (up_published service.size stored (count_at stored p) p.content.archive going.under_way.can.within sectors new after size
+        (installed_keeps sectors service.size stored (count_at stored p) p.content.archive going.under_way.can old new up.keeps area_stands
+        (subst (λ (r : Root). new ≡ synced (wrote (root_at r.generation) (root_sector r) (synced old))) root_is is))
+        (broken ∙ up.unbroken) (omega (arith, generation, up.generation_is)) (features ∙ up.map_is) (place ∙ going.place_is)
+        (omega (arith, edits, going.later)) (omega (arith, freed, going.places_are, up.used_is)) (last ∙ up.last_is)
+        (text ∙ ap length going.snapshot_is) archive none)
+
+-- ---- its steps
+
+-- With more sectors written it is under way still.
+pub up_further : {D : Type 0} (sectors count : ℕ) (old new : History) (stored : Stored) (service : ServiceView D) (p : PublicationView)
+    (generation to : ℕ) (disk : D) → IsUp sectors old stored (with_publication service p) → count ≡ sectors → generation ≡ service.generation + 1
+    → Keeps sectors service.size stored new
+    → (HasFirst service.size generation p.content.snapshot p.content.archive p.written (seen old)
+    → HasFirst service.size generation p.content.snapshot p.content.archive to (seen new))
+    → IsUp count new stored (with_publication (record service { disk = disk }) (record p { written = to }))
+up_further sectors count old new stored service p generation to disk up same next keeps more = record {
+  keeps = subst (λ (k : ℕ). Keeps k service.size stored new) (sym same) keeps;
+  unbroken = up.unbroken;
+  generation_is = up.generation_is;
+  snapshot_len_is = up.snapshot_len_is;
+  archive_len_is = up.archive_len_is;
+  map_is = up.map_is;
+  place_is = up.place_is;
+  edits_are = up.edits_are;
+  used_is = up.used_is;
+  last_is = up.last_is;
+  publication = record {
+    later = was.later;
+    under_way = record {
+      can = was.under_way.can;
+      first = subst (λ (g : ℕ). HasFirst service.size g texts p.content.archive to (seen new)) is
+          (subst (λ (t : List ℕ). HasFirst service.size generation t p.content.archive to (seen new)) was.snapshot_is
+          (more (subst (λ (t : List ℕ). HasFirst service.size generation t p.content.archive p.written (seen old)) (sym was.snapshot_is)
+          (subst (λ (g : ℕ). HasFirst service.size g texts p.content.archive p.written (seen old)) (sym is) was.under_way.first))));
+    };
+    snapshot_is = was.snapshot_is;
+    place_is = was.place_is;
+    places_are = was.places_are;
+  };
+}
+  where
+    was : Publishes service.size stored old p
+    was = up.publication
+
+    texts : List ℕ
+    texts = snapshot (map_at stored (count_at stored p))
+
+    is : generation ≡ suc stored.generation
+    is = omega (arith, next, up.generation_is)
+
+-- what is stored is of the generation before
+pub next_is : {D : Type 0} (sectors : ℕ) (h : History) (stored : Stored) (service : ServiceView D) → IsUp sectors h stored service
+    → (generation : ℕ) → generation ≡ service.generation + 1 → generation ≡ suc stored.generation
+next_is sectors h stored service up generation is = omega (arith, is, up.generation_is)
+
+module _ (sectors n : ℕ) (stored : Stored) (p : PublicationView) (old new : History) where
+  -- A step that only writes into the area leaves what was stored.
+  pub step_leaves : (answer : AnswerData) → LeavesOnly old new (Holds sectors n stored)
+      → LeavesOnly old new (EventLeaves sectors n stored (Some p) step answer)
+  step_leaves answer leaves = weaken old new (Holds sectors n stored) (EventLeaves sectors n stored (Some p) step answer) leaves (λ image is. inl is)
+
+  may_install : (r : Result ℕ ServiceFault) → IfOk r (λ told. told ≡ 0) → IfErr r (λ fault. fault ≡ Device)
+      → (left_answer r ≡ left 0) ⊎ (left_answer r ≡ refused Device)
+  may_install (Ok told) is fault = inl (ap left is)
+  may_install (Err fault) is device = inr (ap refused device)
+
+  -- One that installs it leaves that, or what it installs.
+  pub last_step_leaves : (between : History) (there : ℕ) (r : Result ℕ ServiceFault) → there ≡ sectors → IfOk r (λ told. told ≡ 0)
+      → IfErr r (λ fault. fault ≡ Device) → left_of p ≤ STEP_SECTORS + 1 → LeavesOnly old between (Holds sectors n stored)
+      → LeavesOnly between new (λ image. Holds there n stored image ⊎ Holds there n (installed n stored (Some p)) image)
+      → LeavesOnly old new (EventLeaves sectors n stored (Some p) step (left_answer r))
+  last_step_leaves between there r same told fault last first second =
+      then_leaves old between new (EventLeaves sectors n stored (Some p) step (left_answer r))
+      (weaken old between (Holds sectors n stored) (EventLeaves sectors n stored (Some p) step (left_answer r)) first (λ image is. inl is))
+      (weaken between new (λ image. Holds sectors n stored image ⊎ Holds sectors n (installed n stored (Some p)) image)
+      (EventLeaves sectors n stored (Some p) step (left_answer r))
+      (subst (λ (k : ℕ). LeavesOnly between new (λ image. Holds k n stored image ⊎ Holds k n (installed n stored (Some p)) image)) same second)
+      (λ image. ⊎_elim (λ (is : Holds sectors n stored image). inl is)
+      (λ (is : Holds sectors n (installed n stored (Some p)) image). inr ((last, may_install r told fault), is))))
+
+module _ {D : Type 0} (n : ℕ) (stored : Stored) (p : PublicationView) (sectors : ℕ) (h : History) (after : ServiceView D) where
+  -- what goes on after a step
+  pub up_after_step : (told : ℕ) → 0 < told → IsUp sectors h stored after
+      → IsUp sectors h (stored_after n stored (Some p) step (left told)) after
+  up_after_step zero pos up = absurd (omega (arith, pos))
+  up_after_step (suc told) pos up = up
+
+  pub up_after_last : (r : Result ℕ ServiceFault) → IfOk r (λ told. told ≡ 0) → OnOk r (IsUp sectors h (installed n stored (Some p)) after)
+      → OnOk r (IsUp sectors h (stored_after n stored (Some p) step (left_answer r)) after)
+  up_after_last (Ok told) is up =
+      subst (λ (t : ℕ). IsUp sectors h (stored_after n stored (Some p) step (left t)) after) (sym is) up
+  up_after_last (Err fault) is up = tt
+
+module _ {D : Type 0} (known : Known) (service : ServiceView D) (p : PublicationView) (unbroken : service.broken ≡ false) where
+  abbrev was : ServiceView D
+  was = with_publication service p
+
+  abbrev under_way : HasPublication (state_of known was)
+  under_way = record { unbroken = unbroken; publication = going_of known.publishing p; is = refl }
+
+  -- What the machine says of a step with more to write,
+  pub step_told : (to told : ℕ) (disk : D) → STEP_SECTORS + 1 < left_of p → told ≡ left_of p - STEP_SECTORS → to ≡ p.written + STEP_SECTORS
+      → Steps (state_of known was) step (left told)
+      (state_of (known_after known was step (left told)) (with_publication (record service { disk = disk }) (record p { written = to })))
+  step_told to zero disk more told_is to_is = absurd (omega (arith, more, told_is))
+  step_told to (suc told) disk more told_is to_is = (
+    under_way,
+    inl (
+      more,
+      told_is,
+      λ i. record (state_of known service) {
+        publication = Some (record (going_of known.publishing p) { left = left_is i });
+      },
+    ),
+  )
+    where
+      left_is : left_of (record p { written = to }) ≡ suc told
+      left_is = omega (arith, more, told_is, to_is)
+
+  -- and of the last one.
+  pub last_step_told : (to : ℕ) (r : Result ℕ ServiceFault) (disk : D) (after : ServiceView D) → service.publication ≡ None
+      → IfOk r (λ told. told ≡ 0) → IfErr r (λ fault. fault ≡ Device) → left_of p ≤ STEP_SECTORS + 1
+      → OnErr r (after ≡ record service { disk = disk; broken = true })
+      → OnOk r (state_of (known_installed known (Some (record p { written = to }))) after
+      ≡ after_install (state_of known (with_publication service (record p { written = to }))) (going_of known.publishing (record p { written = to })))
+      → Steps (state_of known was) step (left_answer r) (state_of (known_after known was step (left_answer r)) after)
+  last_step_told to (Ok told) disk after none is fault last broken installs =
+      subst (λ (t : ℕ). Steps (state_of known was) step (left t) (state_of (known_after known was step (left t)) after)) (sym is)
+      (under_way, inr (last, refl, installs))
+  last_step_told to (Err fault) disk after none is device last broken installs =
+      subst (λ (f : ServiceFault). Steps (state_of known was) step (refused f) (state_of known after)) (sym device) (
+        under_way,
+        ap (state_of known) broken ∙ (λ i. record (state_of known service) {
+          publication = option_map (going_of known.publishing) (none i);
+          broken = true;
+        }),
+      )

@@ -1,0 +1,57 @@
+use Rattle.std.proofs.Common.{◌∙◌, ℕ, List, Ok, refl, sym, subst, arith}
+use Rattle.sector_disk.proofs.History.{started, any_write}
+use Rattle.tile_service.specs.Publishing.{IsContentSector}
+use Rattle.tile_service.specs.Stored.{Holds}
+use Rattle.tile_service.proofs.AreaWrites.{write_moment, is_content_sector, next_area_keeps, next_area_leaves}
+use Rattle.tile_service.proofs.Contents.{write_stands}
+use Rattle.tile_service.proofs.publishing.write_sectors.Goals as goal
+
+pub loop-index-init : goal.loop-index-init
+loop-index-init g c = record {
+  count = refl;
+  honest = λ honest. honest;
+  faults = refl;
+  steps = λ honest. omega arith;
+  leaves = λ stored honest next keeps. started (g.D.Sectors.history c.args.disk.now)
+      (Holds (g.D.Sectors.sectors c.args.disk.now) c.args.layout.sectors stored) keeps;
+  keeps = λ stored honest next keeps. keeps;
+  first = λ honest first. first;
+}
+
+pub returns-in_err-write_area-clause-leaves : goal.returns-in_err-write_area-clause-leaves
+returns-in_err-write_area-clause-leaves g c stored honest next keeps =
+    let before = c.write_area.ensures.honest honest in
+    let inv = c.loop-index.invariant in
+    next_area_leaves _ c.args.layout.sectors stored c.args.generation c.loop-index.index _ _ _ _ (c.write_area.ensures.writes honest) next
+    (omega arith) (inv.keeps stored before next keeps) _ (inv.leaves stored before next keeps)
+
+pub returns-in_err-write_area-clause-keeps : goal.returns-in_err-write_area-clause-keeps
+returns-in_err-write_area-clause-keeps g c stored honest next keeps =
+    next_area_keeps _ c.args.layout.sectors stored c.args.generation c.loop-index.index _ _ _ _ (c.write_area.ensures.writes honest) next
+    (omega arith) (c.loop-index.invariant.keeps stored (c.write_area.ensures.honest honest) next keeps)
+
+pub loop-index-preserved : goal.loop-index-preserved
+loop-index-preserved g c =
+    let inv = c.loop-index.invariant in
+    let ok = c.in_ok-write_area.ensures in
+    record {
+      count = ok.count ∙ inv.count;
+      honest = λ honest. inv.honest (ok.honest honest);
+      faults = ok.faults ∙ inv.faults;
+      steps = λ honest. omega (
+        arith,
+        inv.steps (ok.honest honest),
+        write_moment _ _ _ _ (any_write c.write_area.result _ _ _ _ (c.write_area.ensures.writes honest)),
+      );
+      leaves = λ stored honest next keeps.
+          next_area_leaves _ c.args.layout.sectors stored c.args.generation c.loop-index.index _ _ _ _ (c.write_area.ensures.writes honest) next
+          (omega arith) (inv.keeps stored (ok.honest honest) next keeps) _ (inv.leaves stored (ok.honest honest) next keeps);
+      keeps = λ stored honest next keeps.
+          next_area_keeps _ c.args.layout.sectors stored c.args.generation c.loop-index.index _ _ _ _ (c.write_area.ensures.writes honest) next
+          (omega arith) (inv.keeps stored (ok.honest honest) next keeps);
+      first = λ honest first. write_stands c.args.content.now.snapshot c.args.content.now.archive c.args.layout.sectors c.args.generation
+          (Ok tt) c.loop-index.index _ _ _ (inv.first (ok.honest honest) first)
+          (subst (λ (s : List ℕ). IsContentSector c.args.content.now.snapshot c.args.content.now.archive c.loop-index.index s) (sym c.sector.ensures)
+          (is_content_sector c.args.content.now c.loop-index.index))
+          (ok.writes honest);
+    }

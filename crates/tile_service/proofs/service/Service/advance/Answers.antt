@@ -1,0 +1,163 @@
+use Rattle.std.proofs.Common.{◌+◌, ◌-◌, ◌≤◌, refl, sym, ◌∙◌, ap, subst, arith}
+use Rattle.area_content.specs.Content.{sectors_taken}
+use Rattle.tile_service.specs.Machine.{left, refused}
+use Rattle.tile_service.specs.Service.{ServiceView, PublicationView, IsUp, with_publication}
+use Rattle.tile_service.specs.declared.fault.ServiceFault.TheVariants.{Device}
+use Rattle.tile_service.proofs.PublishSteps.{up_further, step_leaves, last_step_leaves, up_after_step, up_after_last, step_told, last_step_told}
+use Rattle.tile_service.proofs.service.Service.advance.Goals as goal
+
+pub returns-in-Err-clause-any_moment : goal.returns-in-Err-clause-any_moment
+returns-in-Err-clause-any_moment g c = rw (← c.self.view_is, ← c.publication.view_is) (λ stored honest up.
+    let p : PublicationView = record {
+      content = c.publication.inside.content;
+      start = c.publication.inside.start;
+      places = c.publication.inside.places;
+      written = c.publication.inside.written;
+    } in
+    step_leaves _ _ stored p _ _ (refused Device)
+    (c.write_sectors.ensures.leaves stored honest (omega (arith, up.generation_is)) up.keeps))
+
+pub returns-then-left-le-STEP_SECTORS-clause-machine : goal.returns-then-left-le-STEP_SECTORS-clause-machine
+returns-then-left-le-STEP_SECTORS-clause-machine g c = rw (← c.self.view_is, ← c.publication.view_is) (λ known.
+    let service : ServiceView g.row.D.Denot = record {
+      disk = c.self.inside.disk;
+      size = c.self.inside.layout.sectors;
+      features = c.self.inside.store.features;
+      journal = c.self.inside.journal;
+      generation = c.self.inside.root.generation;
+      snapshot_len = c.self.inside.root.snapshot_len;
+      archive_len = c.self.inside.root.archive_len;
+      publication = c.self.inside.publication;
+      broken = c.self.inside.broken;
+    } in
+    let p : PublicationView = record {
+      content = c.publication.inside.content;
+      start = c.publication.inside.start;
+      places = c.publication.inside.places;
+      written = c.publication.inside.written;
+    } in
+    last_step_told known service p (ap (λ s. s.broken) c.self.view_is ∙ c.requires.unbroken)
+    (c.publication.inside.written + c.min-more.result) c.install_now.result c.install_now.new.self.disk c.install_now.new.self
+    (ap (λ s. s.publication) c.self.view_is ∙ c.requires.none)
+    c.install_now.ensures.told c.install_now.ensures.fault (omega (arith, c.sectors.ensures)) c.install_now.ensures.broken
+    (c.install_now.ensures.state known))
+
+pub returns-then-left-le-STEP_SECTORS-clause-any_moment : goal.returns-then-left-le-STEP_SECTORS-clause-any_moment
+returns-then-left-le-STEP_SECTORS-clause-any_moment g c = rw (← c.self.view_is, ← c.publication.view_is) (λ stored honest up.
+    let service : ServiceView g.row.D.Denot = record {
+      disk = c.self.inside.disk;
+      size = c.self.inside.layout.sectors;
+      features = c.self.inside.store.features;
+      journal = c.self.inside.journal;
+      generation = c.self.inside.root.generation;
+      snapshot_len = c.self.inside.root.snapshot_len;
+      archive_len = c.self.inside.root.archive_len;
+      publication = c.self.inside.publication;
+      broken = c.self.inside.broken;
+    } in
+    let p : PublicationView = record {
+      content = c.publication.inside.content;
+      start = c.publication.inside.start;
+      places = c.publication.inside.places;
+      written = c.publication.inside.written;
+    } in
+    let written = c.install_now.ensures.honest honest in
+    let between : IsUp (g.D.Sectors.sectors c.write_sectors.new.disk) (g.D.Sectors.history c.write_sectors.new.disk) stored
+    (with_publication (record service { disk = c.write_sectors.new.disk }) (record p { written = c.publication.inside.written + c.min-more.result })) =
+    up_further _ _ _ _ stored service p (c.self.inside.root.generation + 1) (c.publication.inside.written + c.min-more.result) c.write_sectors.new.disk up
+    c.write_sectors.ensures.count refl (c.write_sectors.ensures.keeps stored written (omega (arith, up.generation_is)) up.keeps)
+    (c.in-Ok.ensures.first written) in
+    last_step_leaves _ _ stored p _ _ _ _ c.install_now.result c.write_sectors.ensures.count c.install_now.ensures.told
+    c.install_now.ensures.fault (omega (arith, c.sectors.ensures))
+    (c.write_sectors.ensures.leaves stored written (omega (arith, up.generation_is)) up.keeps)
+    (c.install_now.ensures.any_moment stored honest between))
+
+pub returns-then-left-le-STEP_SECTORS-clause-after : goal.returns-then-left-le-STEP_SECTORS-clause-after
+returns-then-left-le-STEP_SECTORS-clause-after g c = rw (← c.self.view_is, ← c.publication.view_is) (λ stored honest up.
+    let service : ServiceView g.row.D.Denot = record {
+      disk = c.self.inside.disk;
+      size = c.self.inside.layout.sectors;
+      features = c.self.inside.store.features;
+      journal = c.self.inside.journal;
+      generation = c.self.inside.root.generation;
+      snapshot_len = c.self.inside.root.snapshot_len;
+      archive_len = c.self.inside.root.archive_len;
+      publication = c.self.inside.publication;
+      broken = c.self.inside.broken;
+    } in
+    let p : PublicationView = record {
+      content = c.publication.inside.content;
+      start = c.publication.inside.start;
+      places = c.publication.inside.places;
+      written = c.publication.inside.written;
+    } in
+    let written = c.install_now.ensures.honest honest in
+    let between : IsUp (g.D.Sectors.sectors c.write_sectors.new.disk) (g.D.Sectors.history c.write_sectors.new.disk) stored
+    (with_publication (record service { disk = c.write_sectors.new.disk }) (record p { written = c.publication.inside.written + c.min-more.result })) =
+    up_further _ _ _ _ stored service p (c.self.inside.root.generation + 1) (c.publication.inside.written + c.min-more.result) c.write_sectors.new.disk up
+    c.write_sectors.ensures.count refl (c.write_sectors.ensures.keeps stored written (omega (arith, up.generation_is)) up.keeps)
+    (c.in-Ok.ensures.first written) in
+    up_after_last _ stored p _ _ c.install_now.new.self c.install_now.result c.install_now.ensures.told
+    (c.install_now.ensures.after stored honest between))
+
+pub returns-clause-machine : goal.returns-clause-machine
+returns-clause-machine g c = rw (← c.self.view_is, ← c.publication.view_is) (λ known.
+    let service : ServiceView g.row.D.Denot = record {
+      disk = c.self.inside.disk;
+      size = c.self.inside.layout.sectors;
+      features = c.self.inside.store.features;
+      journal = c.self.inside.journal;
+      generation = c.self.inside.root.generation;
+      snapshot_len = c.self.inside.root.snapshot_len;
+      archive_len = c.self.inside.root.archive_len;
+      publication = c.self.inside.publication;
+      broken = c.self.inside.broken;
+    } in
+    let p : PublicationView = record {
+      content = c.publication.inside.content;
+      start = c.publication.inside.start;
+      places = c.publication.inside.places;
+      written = c.publication.inside.written;
+    } in
+    let within : c.publication.inside.written ≤ sectors_taken c.publication.inside.content =
+    subst (λ (q : PublicationView). q.written ≤ sectors_taken q.content) (sym c.publication.view_is) c.requires.going.2.written in
+    step_told known service p (ap (λ s. s.broken) c.self.view_is ∙ c.requires.unbroken)
+    (c.publication.inside.written + c.min-more.result) (c.sectors.result - c.publication.inside.written - c.min-more.result + 1) c.write_sectors.new.disk
+    (omega (arith, c.sectors.ensures)) (omega (arith, c.sectors.ensures, c.min-more.ensures, within)) (omega (arith, c.min-more.ensures)))
+
+pub returns-clause-any_moment : goal.returns-clause-any_moment
+returns-clause-any_moment g c = rw (← c.self.view_is, ← c.publication.view_is) (λ stored honest up.
+    let p : PublicationView = record {
+      content = c.publication.inside.content;
+      start = c.publication.inside.start;
+      places = c.publication.inside.places;
+      written = c.publication.inside.written;
+    } in
+    step_leaves _ _ stored p _ _ (left (c.sectors.result - c.publication.inside.written - c.min-more.result + 1))
+    (c.write_sectors.ensures.leaves stored honest (omega (arith, up.generation_is)) up.keeps))
+
+pub returns-clause-after : goal.returns-clause-after
+returns-clause-after g c = rw (← c.self.view_is, ← c.publication.view_is) (λ stored written up.
+    let service : ServiceView g.row.D.Denot = record {
+      disk = c.self.inside.disk;
+      size = c.self.inside.layout.sectors;
+      features = c.self.inside.store.features;
+      journal = c.self.inside.journal;
+      generation = c.self.inside.root.generation;
+      snapshot_len = c.self.inside.root.snapshot_len;
+      archive_len = c.self.inside.root.archive_len;
+      publication = c.self.inside.publication;
+      broken = c.self.inside.broken;
+    } in
+    let p : PublicationView = record {
+      content = c.publication.inside.content;
+      start = c.publication.inside.start;
+      places = c.publication.inside.places;
+      written = c.publication.inside.written;
+    } in
+    let between : IsUp (g.D.Sectors.sectors c.write_sectors.new.disk) (g.D.Sectors.history c.write_sectors.new.disk) stored
+    (with_publication (record service { disk = c.write_sectors.new.disk }) (record p { written = c.publication.inside.written + c.min-more.result })) =
+    up_further _ _ _ _ stored service p (c.self.inside.root.generation + 1) (c.publication.inside.written + c.min-more.result) c.write_sectors.new.disk up
+    c.write_sectors.ensures.count refl (c.write_sectors.ensures.keeps stored written (omega (arith, up.generation_is)) up.keeps)
+    (c.in-Ok.ensures.first written) in
+    up_after_step _ stored p _ _ _ (c.sectors.result - c.publication.inside.written - c.min-more.result + 1) (omega arith) between)
