@@ -234,14 +234,19 @@ module _ (start : Stored) (edits : List EditData) (j generation journal_at : ℕ
 
 -- before the first event
 pub has_start : (start : Stored) → Has start (start.since ++ []) 0 start
-has_start start = (start.generation, start.journal_at, start.archive, λ k. record {
-  generation = start.generation;
-  snapshot_map = start.snapshot_map;
-  edits = none k;
-  since = whole k;
-  journal_at = start.journal_at;
-  archive = start.archive;
-})
+has_start start = (
+  start.generation,
+  start.journal_at,
+  start.archive,
+  λ k. record {
+    generation = start.generation;
+    snapshot_map = start.snapshot_map;
+    edits = none k;
+    since = whole k;
+    journal_at = start.journal_at;
+    archive = start.archive;
+  },
+)
   where
     none : start.edits ≡ start.edits + 0
     none = omega arith

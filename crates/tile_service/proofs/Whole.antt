@@ -33,24 +33,30 @@ Stands s (suc more) = (under_way : HasPublication s) × (under_way.publication.l
 
 pub begun_stands : (old new : ServiceState) (told : ℕ) → Begins old told new → Stands new told
 begun_stands old new zero goes = absurd (omega (arith, goes.told_is))
-begun_stands old new (suc more) goes = (record {
-  unbroken = ap (λ (s : ServiceState). s.broken) goes.begun ∙ goes.can.unbroken;
-  publication = record {
-    archive = record { bytes = goes.archive; features = old.features };
-    last = old.last;
-    places = journal_sectors old.size - old.free;
-    left = suc more;
-  };
-  is = ap (λ (s : ServiceState). s.publication) goes.begun;
-}, refl)
+begun_stands old new (suc more) goes = (
+  record {
+    unbroken = ap (λ (s : ServiceState). s.broken) goes.begun ∙ goes.can.unbroken;
+    publication = record {
+      archive = record { bytes = goes.archive; features = old.features };
+      last = old.last;
+      places = journal_sectors old.size - old.free;
+      left = suc more;
+    };
+    is = ap (λ (s : ServiceState). s.publication) goes.begun;
+  },
+  refl,
+)
 
 pub on_stands : (old new : ServiceState) (under_way : HasPublication old) (told : ℕ) → GoesOn old under_way.publication told new → Stands new told
 on_stands old new under_way zero (inl w) = absurd (omega (arith, w.0, w.1))
-on_stands old new under_way (suc more) (inl w) = (record {
-  unbroken = ap (λ (s : ServiceState). s.broken) w.2 ∙ under_way.unbroken;
-  publication = record under_way.publication { left = suc more };
-  is = ap (λ (s : ServiceState). s.publication) w.2;
-}, refl)
+on_stands old new under_way (suc more) (inl w) = (
+  record {
+    unbroken = ap (λ (s : ServiceState). s.broken) w.2 ∙ under_way.unbroken;
+    publication = record under_way.publication { left = suc more };
+    is = ap (λ (s : ServiceState). s.publication) w.2;
+  },
+  refl,
+)
 on_stands old new under_way zero (inr w) = ap (λ (s : ServiceState). s.publication) w.2
 on_stands old new under_way (suc more) (inr w) = absurd (omega (arith, w.1))
 

@@ -21,7 +21,7 @@ loop-rest-init g c =
         known_after no_known old begin (left c.in-Ok.told),
         begun_stands (state_of no_known old) (state_of (known_after no_known old begin (left c.in-Ok.told)) new) c.in-Ok.told (call.machine no_known),
       );
-      edits = refl;
+      edits = ap (λ s. s.journal.last) c.self.view_is;
       faults = ap (λ s. g.D.Sectors.faults s.disk) call.same;
       run = (0, [], run);
     }
@@ -176,7 +176,12 @@ returns-clause-run g c =
       last = left c.loop-rest.rest;
       run = takes_run g.D.Sectors.sectors g.D.Sectors.honest g.D.Sectors.history c.args.self.now (begin ∷ replicate inv.run.0 step)
           (inv.run.1 ++ left c.loop-rest.rest ∷ []) c.loop-rest.self inv.run.2;
-      ends = (ap (λ (n : ℕ). left n) done, refl, inv.edits, refl);
+      ends = (
+        ap (λ (n : ℕ). left n) done,
+        ap (λ s. s.generation) c.self-2.view_is,
+        inv.edits,
+        ap (λ s. s.archive_len) c.self-2.view_is,
+      );
     }
 
 pub returns-clause-size : goal.returns-clause-size
