@@ -20,7 +20,7 @@ use Rattle.tile_service.specs.Stored.{Stored, with_edit}
 use Rattle.tile_service.specs.declared.fault.ServiceFault.{ServiceFault}
 use Rattle.tile_service.specs.declared.fault.ServiceFault.TheVariants.{Device}
 use Rattle.tile_service.proofs.Callers.{HasRun, HasStep, run_begins, run_on, tile_step, takes_run}
-use Rattle.tile_service.proofs.Runs.{no_archive, broken_refuses, after_answer}
+use Rattle.tile_service.proofs.Runs.{no_known, broken_refuses, after_answer}
 use Rattle.thin_service.specs.declared.fault.RequestFault.{RequestFault}
 use Rattle.thin_service.specs.declared.fault.RequestFault.TheVariants.{NotFound, Memory}
 use Rattle.thin_service.specs.declared.service.ThinService.{ThinService}
@@ -46,10 +46,10 @@ module _ {D : Type 0} (sectors : D → ℕ) (honest : D → Type 0) (history : D
     size = size;
     count = count;
     stays_honest = stays;
-    untouched = broken_refuses (state_of no_archive old) (state_of no_archive new) e outcome (machine no_archive) kept;
+    untouched = broken_refuses (state_of no_known old) (state_of no_known new) e outcome (machine no_known) kept;
     any_moment = moments;
-    after = λ stored is_honest up not. after_answer (λ (s : Stored). IsUp (sectors new.disk) (history new.disk) s new) stored e outcome refl refl
-        (acknowledged stored is_honest up) (refused stored is_honest up) not;
+    after = λ stored is_honest up not. after_answer (λ (s : Stored). IsUp (sectors new.disk) (history new.disk) s new) old.size stored old.publication e outcome refl
+        refl (acknowledged stored is_honest up) (refused stored is_honest up) not;
   }
 
   edit_step : (old : ServiceView D) (e : EditData) (answer : AnswerData) (new : ServiceView D) → TakesEdit sectors honest history old e answer new

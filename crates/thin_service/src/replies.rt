@@ -72,10 +72,18 @@ fn service_word(text: Vec<u8>, fault: ServiceFault) -> Content
         ServiceFault::NumbersSpent => Content::Fixed(b"NumbersSpent\n"),
         ServiceFault::Memory => Content::Fixed(b"Memory\n"),
         ServiceFault::TooManyTiles => Content::Fixed(b"TooManyTiles\n"),
-        ServiceFault::AreaFull { need, free } =>
-            Content::Whole(full_word(text, b"AreaFull", need, free)),
-        ServiceFault::JournalFull { need, free } =>
-            Content::Whole(full_word(text, b"JournalFull", need, free)),
+        ServiceFault::AreaFull { need, free } => Content::Whole(full_word(
+            text,
+            b"AreaFull",
+            need,
+            free,
+        )),
+        ServiceFault::JournalFull { need, free } => Content::Whole(full_word(
+            text,
+            b"JournalFull",
+            need,
+            free,
+        )),
         ServiceFault::Device => Content::Fixed(b"Device\n"),
     }
 }
