@@ -314,9 +314,10 @@ impl<D: Sectors + Drop> Service<D> {
         if self.broken {
             return Err(ServiceFault::Broken);
         }
-        match self.publication.take() {
-            None => Err(ServiceFault::Idle),
-            Some(_) => Ok(()),
+        if self.publication.is_none() {
+            return Err(ServiceFault::Idle);
         }
+        self.publication = None;
+        Ok(())
     }
 }
