@@ -93,9 +93,9 @@ fn two_parts(alloc: Global) -> Result<([u8; 512], [u8; 512]), Fail> {
     for _ in 0..466 {
         head.push(120)?;
     }
-    let head = head.get(..512).ok_or("a sector")?;
+    let end = head.len().min(512);
     let body = [2, 1, 1, 0, 16, 0, 0, 0, 0, 0, 0, 0, 0xf1, 1, 0, 0, 120];
-    Ok((begins(head), begins(&body)))
+    Ok((begins(&head[..end]), begins(&body)))
 }
 
 #[test]

@@ -1,6 +1,5 @@
 //! A run of edits and publications in which one call of the disk fails, and a crash after it. What stands then is compared with a list
 //! of maps: i edits are made, and the archive is that of the first j of them.
-ghost use Rattle.std.specs.Prelude.{◌≤◌};
 
 use super::archives::{Point, archive_of, tile_of};
 use super::{archive, formatted, opened, point, root, sector_at};
@@ -230,32 +229,39 @@ fn stopped_script(rt: HostRuntime) -> Result<(), Fail> {
     Ok(())
 }
 
-/// The events of a round: two features, a publication with a third one between, and the first one deleted.
-fn round(alloc: Global, first: u64) -> Result<[Event; 8], Fail>
-    requires { first ≤ 100 }
-{
+/// The events of a round of three numbers: two features, a publication with the third one between, and the first one deleted.
+fn round(alloc: Global, [first, second, third]: [u64; 3]) -> Result<[Event; 8], Fail> {
     let at = TileAt::new(0, 0, 0).ok_or("a tile")?;
-    let [one, two, three] = [point(alloc, 0)?, point(alloc, 467)?, point(alloc, 0)?];
+    let [plain, tagged, between] = [point(alloc, 0)?, point(alloc, 467)?, point(alloc, 0)?];
     Ok([
         Event::Put {
             id: first,
-            feature: one,
+            feature: plain,
         },
         Event::Put {
-            id: first + 1,
-            feature: two,
+            id: second,
+            feature: tagged,
         },
         Event::Begin,
         Event::Put {
-            id: first + 2,
-            feature: three,
+            id: third,
+            feature: between,
         },
         Event::Step,
         Event::Delete { id: first },
         Event::Tile { at },
-        Event::Look { id: first + 1 },
+        Event::Look { id: second },
     ])
 }
+
+/// The numbers of the features of five rounds.
+const NUMBERS: [[u64; 3]; 5] = [
+    [11, 12, 13],
+    [21, 22, 23],
+    [31, 32, 33],
+    [41, 42, 43],
+    [51, 52, 53],
+];
 
 /// The points of the fifth publication.
 const LAST: [Point; 10] = [
@@ -275,8 +281,8 @@ const LAST: [Point; 10] = [
 fn five_rounds(rt: HostRuntime) -> Result<(), Fail> {
     let alloc = rt.alloc();
     let mut events = Vec::new(alloc);
-    for first in [11, 21, 31, 41, 51] {
-        for event in round(alloc, first)? {
+    for numbers in NUMBERS {
+        for event in round(alloc, numbers)? {
             events.push(event)?;
         }
     }
