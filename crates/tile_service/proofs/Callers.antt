@@ -12,7 +12,7 @@ use Rattle.tile_service.specs.Stored.{Stored, Keeps, last_of}
 use Rattle.tile_service.specs.declared.fault.ServiceFault.{ServiceFault}
 use Rattle.tile_service.specs.declared.fault.ServiceFault.TheVariants.{Device}
 use Rattle.tile_service.proofs.Fits.{RunLeaves, IsHere, doubt_breaks, run_starts, run_goes_on, run_fits, reaches_on, published_within, sized_as}
-use Rattle.tile_service.proofs.Progress.{Within, IsSince, has_start, has_last, progress_on, progress_edits, way_in, way_seen, way_after}
+use Rattle.tile_service.proofs.Progress.{Within, IsSince, has_start, has_last, progress_on, progress_edits, way_seen, way_after}
 use Rattle.tile_service.proofs.Runs.{no_known, broken_stays, broken_halts, was_unbroken, kept_for, after_step, runs_on, writes_nothing}
 
 module _ {D : Type 0} (sectors : D → ℕ) (honest : D → Type 0) (history : D → History) where

@@ -7,7 +7,7 @@ use Rattle.sector_disk.specs.Disk.{History, Image, HasFailed}
 use Rattle.sector_disk.specs.Moments.{LeavesOnly}
 use Rattle.sector_disk.proofs.History.{started}
 use Rattle.feature_model.specs.Data.{EditData, put, delete}
-use Rattle.tile_service.specs.Machine.{ArchiveState, ServiceState, EventData, edit, tile, look, begin, step, cancel}
+use Rattle.tile_service.specs.Machine.{ServiceState, EventData, edit, tile, look, begin, step, cancel}
 use Rattle.tile_service.specs.Machine.{AnswerData, edited, shown, found, left, cancelled, refused}
 use Rattle.tile_service.specs.Machine.{RefusesEdit, RefusesBegin, RefusesStep, RefusesCancel, Steps, Runs}
 use Rattle.tile_service.specs.Runs.{Progress, edits_by, progress_after}
@@ -423,4 +423,5 @@ pub writes_nothing : (sectors n : ℕ) (stored : Stored) (publication : Option P
     → new ≡ h → Keeps sectors n stored h → LeavesOnly h new (EventLeaves sectors n stored publication event answer)
 writes_nothing sectors n stored publication event answer h new same keeps =
     subst (λ (x : History). LeavesOnly h x (EventLeaves sectors n stored publication event answer)) (sym same)
-    (started h (EventLeaves sectors n stored publication event answer) (λ image may. leaves_stored sectors n stored publication event answer image (keeps image may)))
+    (started h (EventLeaves sectors n stored publication event answer)
+    (λ image may. leaves_stored sectors n stored publication event answer image (keeps image may)))

@@ -1,17 +1,18 @@
-use Rattle.std.proofs.Common.{◌≡◌, ◌∙◌, Ok, Err, true, false, refl, sym, ap, subst}
+use Rattle.std.proofs.Common.{◌≡◌, ◌∙◌, refl, sym, ap, subst}
 use Rattle.std.proofs.lemmas.Bool.{false≢true}
 use Rattle.sector_disk.specs.Moments.{LeavesOnly}
 use Rattle.feature_model.specs.Data.{put, delete, feature_data}
-use Rattle.tile_service.specs.Events.{event_data, answer_data}
-use Rattle.tile_service.specs.Machine.{EventData, AnswerData, Steps}
-use Rattle.tile_service.specs.Service.{IsUp, EventLeaves, state_of, known_after, stored_after, cancel_answer}
+use Rattle.tile_service.specs.Events.{event_data}
+use Rattle.tile_service.specs.Machine.{Steps}
+use Rattle.tile_service.specs.Service.{IsUp, EventLeaves, state_of, known_after, stored_after}
 use Rattle.tile_service.proofs.Runs.{no_known, told_step, kept_for, broken_refuses, broken_halts, edit_faults, edit_fails, step_faults, step_fails}
 use Rattle.tile_service.proofs.Runs.{after_answer, after_step, writes_nothing}
 use Rattle.tile_service.proofs.service.Service.answer.Goals as goal
 
 pub returns-in-Put-clause-machine : goal.returns-in-Put-clause-machine
 returns-in-Put-clause-machine g c known =
-    told_step (λ event answer. Steps (state_of known c.args.self.now) event answer (state_of (known_after known c.args.self.now event answer) c.put.new.self))
+    told_step (λ event answer. Steps (state_of known c.args.self.now) event answer
+    (state_of (known_after known c.args.self.now event answer) c.put.new.self))
     (ap event_data c.in-Put.is) c.edited.ensures (c.put.ensures.machine known)
 
 pub returns-in-Put-clause-untouched : goal.returns-in-Put-clause-untouched
@@ -40,7 +41,8 @@ returns-in-Put-clause-after g c stored honest up not =
 
 pub returns-in-Delete-clause-machine : goal.returns-in-Delete-clause-machine
 returns-in-Delete-clause-machine g c known =
-    told_step (λ event answer. Steps (state_of known c.args.self.now) event answer (state_of (known_after known c.args.self.now event answer) c.delete.new.self))
+    told_step (λ event answer. Steps (state_of known c.args.self.now) event answer
+    (state_of (known_after known c.args.self.now event answer) c.delete.new.self))
     (ap event_data c.in-Delete.is) c.edited-in-Delete.ensures (c.delete.ensures.machine known)
 
 pub returns-in-Delete-clause-untouched : goal.returns-in-Delete-clause-untouched
@@ -69,7 +71,8 @@ returns-in-Delete-clause-after g c stored honest up not =
 
 pub returns-in-Ok-clause-machine : goal.returns-in-Ok-clause-machine
 returns-in-Ok-clause-machine g c known =
-    told_step (λ event answer. Steps (state_of known c.args.self.now) event answer (state_of (known_after known c.args.self.now event answer) c.tile.new.self))
+    told_step (λ event answer. Steps (state_of known c.args.self.now) event answer
+    (state_of (known_after known c.args.self.now event answer) c.tile.new.self))
     (ap event_data c.in-Tile.is) refl (c.in-Ok.ensures.machine known)
 
 pub returns-in-Ok-clause-count : goal.returns-in-Ok-clause-count
@@ -104,7 +107,8 @@ returns-in-Ok-clause-after g c stored honest up not =
 
 pub returns-in-Err-clause-machine : goal.returns-in-Err-clause-machine
 returns-in-Err-clause-machine g c known =
-    told_step (λ event answer. Steps (state_of known c.args.self.now) event answer (state_of (known_after known c.args.self.now event answer) c.tile.new.self))
+    told_step (λ event answer. Steps (state_of known c.args.self.now) event answer
+    (state_of (known_after known c.args.self.now event answer) c.tile.new.self))
     (ap event_data c.in-Tile.is) refl (c.in-Err.ensures.machine known)
 
 pub returns-in-Err-clause-count : goal.returns-in-Err-clause-count
@@ -139,7 +143,8 @@ returns-in-Err-clause-after g c stored honest up not =
 
 pub returns-in-Look-clause-machine : goal.returns-in-Look-clause-machine
 returns-in-Look-clause-machine g c known =
-    told_step (λ event answer. Steps (state_of known c.args.self.now) event answer (state_of (known_after known c.args.self.now event answer) c.args.self.now))
+    told_step (λ event answer. Steps (state_of known c.args.self.now) event answer
+    (state_of (known_after known c.args.self.now event answer) c.args.self.now))
     (ap event_data c.in-Look.is) refl (c.look.ensures known)
 
 pub returns-in-Look-clause-failed : goal.returns-in-Look-clause-failed
@@ -158,7 +163,8 @@ returns-in-Look-clause-after g c stored honest up not =
 
 pub returns-in-Begin-clause-machine : goal.returns-in-Begin-clause-machine
 returns-in-Begin-clause-machine g c known =
-    told_step (λ event answer. Steps (state_of known c.args.self.now) event answer (state_of (known_after known c.args.self.now event answer) c.publish_begin.new.self))
+    told_step (λ event answer. Steps (state_of known c.args.self.now) event answer
+    (state_of (known_after known c.args.self.now event answer) c.publish_begin.new.self))
     (ap event_data c.in-Begin.is) c.left.ensures (c.publish_begin.ensures.machine known)
 
 pub returns-in-Begin-clause-count : goal.returns-in-Begin-clause-count
@@ -193,7 +199,8 @@ returns-in-Begin-clause-after g c stored honest up not =
 
 pub returns-in-Ok-publish_cancel-clause-machine : goal.returns-in-Ok-publish_cancel-clause-machine
 returns-in-Ok-publish_cancel-clause-machine g c known =
-    told_step (λ event answer. Steps (state_of known c.args.self.now) event answer (state_of (known_after known c.args.self.now event answer) c.publish_cancel.new.self))
+    told_step (λ event answer. Steps (state_of known c.args.self.now) event answer
+    (state_of (known_after known c.args.self.now event answer) c.publish_cancel.new.self))
     (ap event_data c.in-Cancel.is) refl (c.in-Ok-publish_cancel.ensures.machine known)
 
 pub returns-in-Ok-publish_cancel-clause-count : goal.returns-in-Ok-publish_cancel-clause-count
@@ -228,7 +235,8 @@ returns-in-Ok-publish_cancel-clause-after g c stored honest up not =
 
 pub returns-in-Err-publish_cancel-clause-machine : goal.returns-in-Err-publish_cancel-clause-machine
 returns-in-Err-publish_cancel-clause-machine g c known =
-    told_step (λ event answer. Steps (state_of known c.args.self.now) event answer (state_of (known_after known c.args.self.now event answer) c.publish_cancel.new.self))
+    told_step (λ event answer. Steps (state_of known c.args.self.now) event answer
+    (state_of (known_after known c.args.self.now event answer) c.publish_cancel.new.self))
     (ap event_data c.in-Cancel.is) refl (c.in-Err-publish_cancel.ensures.machine known)
 
 pub returns-in-Err-publish_cancel-clause-count : goal.returns-in-Err-publish_cancel-clause-count
@@ -263,7 +271,8 @@ returns-in-Err-publish_cancel-clause-after g c stored honest up not =
 
 pub returns-in-Step-clause-machine : goal.returns-in-Step-clause-machine
 returns-in-Step-clause-machine g c known =
-    told_step (λ event answer. Steps (state_of known c.args.self.now) event answer (state_of (known_after known c.args.self.now event answer) c.publish_step.new.self))
+    told_step (λ event answer. Steps (state_of known c.args.self.now) event answer
+    (state_of (known_after known c.args.self.now event answer) c.publish_step.new.self))
     (ap event_data c.in-Step.is) c.left-in-Step.ensures (c.publish_step.ensures.machine known)
 
 pub returns-in-Step-clause-untouched : goal.returns-in-Step-clause-untouched

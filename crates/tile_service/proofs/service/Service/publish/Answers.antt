@@ -1,5 +1,5 @@
-use Rattle.std.proofs.Common.{◌≡◌, inr, ℕ, ◌+◌, List, [], ◌∷◌, ◌++◌, Ok, Err, replicate, refl, sym, ◌∙◌, ap, subst, arith}
-use Rattle.tile_service.specs.Machine.{EventData, AnswerData, begin, step, left, refused}
+use Rattle.std.proofs.Common.{◌≡◌, inr, ℕ, ◌+◌, [], ◌∷◌, ◌++◌, Ok, Err, replicate, refl, ◌∙◌, ap, subst, arith}
+use Rattle.tile_service.specs.Machine.{begin, step, left, refused}
 use Rattle.tile_service.specs.Service.{state_of, known_after, CountsDevice}
 use Rattle.tile_service.proofs.Callers.{HasRun, HasStep, begin_step, step_step, run_begins, run_on, takes_run}
 use Rattle.tile_service.proofs.Runs.{no_known}
