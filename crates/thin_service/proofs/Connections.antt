@@ -13,29 +13,30 @@ use Rattle.tile_routes.specs.declared.target.TileFormat.{TileFormat}
 use Rattle.feature_model.specs.Data as edits
 use Rattle.feature_model.specs.Data.{EditData}
 use Rattle.tile_service.specs.Machine as events
-use Rattle.tile_service.specs.Machine.{ArchiveState, AnswerData, shown, Steps}
-use Rattle.tile_service.specs.Service.{ServiceView, IsUp, state_of, edit_answer, EventLeaves}
+use Rattle.tile_service.specs.Machine.{AnswerData, shown, Steps}
+use Rattle.tile_service.specs.Service.{ServiceView, Known, IsUp, state_of, edit_answer, EventLeaves}
+use Rattle.tile_service.specs.Runs.{TakesRun}
 use Rattle.tile_service.specs.Stored.{Stored, with_edit}
 use Rattle.tile_service.specs.declared.fault.ServiceFault.{ServiceFault}
 use Rattle.tile_service.specs.declared.fault.ServiceFault.TheVariants.{Device}
-use Rattle.tile_service.proofs.Callers.{HasRun, HasStep, run_begins, run_on, tile_step}
-use Rattle.tile_service.proofs.Fits.{run_fits}
-use Rattle.tile_service.proofs.Runs.{no_archive, broken_refuses, after_answer}
+use Rattle.tile_service.proofs.Callers.{HasRun, HasStep, run_begins, run_on, takes_run, tile_step}
+use Rattle.tile_service.proofs.Runs.{no_known, broken_refuses, after_answer}
 use Rattle.thin_service.specs.declared.fault.RequestFault.{RequestFault}
 use Rattle.thin_service.specs.declared.fault.RequestFault.TheVariants.{NotFound, Memory}
 use Rattle.thin_service.specs.declared.service.ThinService.{ThinService}
-use Rattle.thin_service.specs.Connections.{Run, no_events, with_event, TellsEdit, TellsTile, TellsFault, TellsOf, Tells, TakesRun}
+use Rattle.thin_service.specs.Connections.{Run, no_events, with_event, TellsEdit, TellsTile, TellsFault, TellsOf, Tells}
 use Rattle.thin_service.specs.Requests.{Wanted, put, delete, tile, nothing, wanted_of, TakesEdit, AnswersEdit, AnswersTile, Refuses, Answers}
 use Rattle.thin_service.specs.State.{asked_service, ServiceReplies}
 
 module _ {D : Type 0} (sectors : D → ℕ) (honest : D → Type 0) (history : D → History) where
   -- what a call of the service with an edit says
   pub takes_edit : (old : ServiceView D) (e : EditData) (outcome : Result ℕ ServiceFault) (new : ServiceView D)
-      → ((archive : ArchiveState) → Steps (state_of archive old) (events.edit e) (edit_answer outcome) (state_of archive new))
+      → ((known : Known) → Steps (state_of known old) (events.edit e) (edit_answer outcome) (state_of known new))
       → new.size ≡ old.size → sectors new.disk ≡ sectors old.disk → (honest new.disk → honest old.disk)
       → IfErr outcome (λ fault. fault ≢ Device → new.disk ≡ old.disk)
       → ((stored : Stored) → honest new.disk → IsUp (sectors old.disk) (history old.disk) stored old
-      → LeavesOnly (history old.disk) (history new.disk) (EventLeaves (sectors old.disk) old.size stored (events.edit e) (edit_answer outcome)))
+      → LeavesOnly (history old.disk) (history new.disk)
+      (EventLeaves (sectors old.disk) old.size stored old.publication (events.edit e) (edit_answer outcome)))
       → ((stored : Stored) → honest new.disk → IsUp (sectors old.disk) (history old.disk) stored old
       → OnOk outcome (IsUp (sectors new.disk) (history new.disk) (with_edit stored e) new))
       → ((stored : Stored) → honest new.disk → IsUp (sectors old.disk) (history old.disk) stored old
@@ -46,10 +47,10 @@ module _ {D : Type 0} (sectors : D → ℕ) (honest : D → Type 0) (history : D
     size = size;
     count = count;
     stays_honest = stays;
-    untouched = broken_refuses (state_of no_archive old) (state_of no_archive new) e outcome (machine no_archive) kept;
+    untouched = broken_refuses (state_of no_known old) (state_of no_known new) e outcome (machine no_known) kept;
     any_moment = moments;
-    after = λ stored is_honest up not. after_answer (λ (s : Stored). IsUp (sectors new.disk) (history new.disk) s new) stored e outcome refl refl
-        (acknowledged stored is_honest up) (refused stored is_honest up) not;
+    after = λ stored is_honest up not. after_answer (λ (s : Stored). IsUp (sectors new.disk) (history new.disk) s new) old.size stored
+        old.publication e outcome refl refl (acknowledged stored is_honest up) (refused stored is_honest up) not;
   }
 
   edit_step : (old : ServiceView D) (e : EditData) (answer : AnswerData) (new : ServiceView D) → TakesEdit sectors honest history old e answer new
@@ -62,15 +63,6 @@ module _ {D : Type 0} (sectors : D → ℕ) (honest : D → Type 0) (history : D
     untouched = is.untouched;
     any_moment = is.any_moment;
     after = is.after;
-  }
-
-  takes_run : (old : ServiceView D) (run : Run) (new : ServiceView D) → HasRun sectors honest history old run.events run.answers new
-      → TakesRun sectors honest history old run new
-  takes_run old run new so = record {
-    machine = so.machine;
-    any_moment = λ stored is_honest up. run_fits (sectors old.disk) old.size stored run.events run.answers (history old.disk) (history new.disk)
-        (so.leaves stored is_honest up);
-    after = so.up;
   }
 
   -- since a first state of the service
@@ -133,18 +125,18 @@ module _ {D : Type 0} (sectors : D → ℕ) (honest : D → Type 0) (history : D
   pub connection_runs : (old : ThinService D) (left held : Option (List ℕ)) (served : Served) (new : ThinService D) (leaves holds : Option (List ℕ))
       → IsServed (ServiceReplies sectors honest history) old left held served new leaves holds
       → (run : Run) × IsServed Tells no_events left held served run leaves holds
-      × TakesRun sectors honest history (asked_service old) run (asked_service new)
+      × TakesRun sectors honest history (asked_service old) run.events run.answers (asked_service new)
   connection_runs old left held served new leaves holds is =
       let told = served_along (ServiceReplies sectors honest history) Tells (λ s run. GoesAlong (asked_service old) (asked_service s) run)
       (replied old) old left held served new leaves holds no_events (run_begins sectors honest history (asked_service old)) is in
-      (told.0, told.1, takes_run (asked_service old) told.0 (asked_service new) told.2)
+      (told.0, told.1, takes_run sectors honest history (asked_service old) told.0.events told.0.answers (asked_service new) told.2)
 
   -- So does one that a fault ended.
   pub ended_connection_runs : (old : ThinService D) (left held : Option (List ℕ)) (fault : ServeFault) (new : ThinService D) (leaves holds : Option (List ℕ))
       → IsServedUpTo (ServiceReplies sectors honest history) old left held fault new leaves holds
       → (run : Run) × IsServedUpTo Tells no_events left held fault run leaves holds
-      × TakesRun sectors honest history (asked_service old) run (asked_service new)
+      × TakesRun sectors honest history (asked_service old) run.events run.answers (asked_service new)
   ended_connection_runs old left held fault new leaves holds is =
       let told = fault_along (ServiceReplies sectors honest history) Tells (λ s run. GoesAlong (asked_service old) (asked_service s) run)
       (replied old) old left held fault new leaves holds no_events (run_begins sectors honest history (asked_service old)) is in
-      (told.0, told.1, takes_run (asked_service old) told.0 (asked_service new) told.2)
+      (told.0, told.1, takes_run sectors honest history (asked_service old) told.0.events told.0.answers (asked_service new) told.2)

@@ -1,16 +1,13 @@
--- The events that a connection asks for, and what they leave of the disk.
-use Rattle.std.specs.Prelude.{◌≡◌, ◌⊎◌, ℕ, false, List, [], ◌∷◌, ◌++◌, Option, Result}
+-- The events that a connection asks for.
+use Rattle.std.specs.Prelude.{◌≡◌, ◌⊎◌, ℕ, List, [], ◌∷◌, ◌++◌, Option, Result}
 use Rattle.http_serve.specs.Requests.{RequestView}
 use Rattle.http_serve.specs.Reply.{ReplyView}
-use Rattle.sector_disk.specs.Disk.{History}
 use Rattle.tile_routes.specs.declared.target.TileFormat.{TileFormat}
 use Rattle.feature_model.specs.Data as edits
 use Rattle.feature_model.specs.Data.{FeatureData, EditData}
 use Rattle.tile_service.specs.Machine as events
-use Rattle.tile_service.specs.Machine.{ArchiveState, EventData, AnswerData, shown, Runs}
-use Rattle.tile_service.specs.Runs.{reached, RunFits}
-use Rattle.tile_service.specs.Service.{ServiceView, IsUp, state_of, edit_answer}
-use Rattle.tile_service.specs.Stored.{Stored}
+use Rattle.tile_service.specs.Machine.{EventData, AnswerData, shown}
+use Rattle.tile_service.specs.Service.{edit_answer}
 use Rattle.tile_service.specs.declared.fault.ServiceFault.{ServiceFault}
 use Rattle.thin_service.specs.declared.fault.RequestFault.{RequestFault}
 use Rattle.thin_service.specs.declared.fault.RequestFault.TheVariants.{NotFound, Memory}
@@ -64,15 +61,3 @@ TellsOf old nothing body reply new = TellsFault old NotFound reply new
 -- how the run goes on by one reply to one request
 abbrev pub Tells : Run → RequestView → ReplyView → Run → Type 0
 Tells old request reply new = TellsOf old (wanted_of request) request.body reply new
-
--- ---- what the service makes of them
-
-module _ {D : Type 0} (sectors : D → ℕ) (honest : D → Type 0) (history : D → History) where
-  -- The service answers these events one after the other. A crash at any moment leaves some first edits of the run: all that were
-  -- acknowledged by then, and none asked for later. A service that isn't broken at the end goes on from what was acknowledged.
-  pub record TakesRun (old : ServiceView D) (run : Run) (new : ServiceView D) : Type 0 where
-    pub machine : (archive : ArchiveState) → Runs (state_of archive old) run.events run.answers (state_of archive new)
-    pub any_moment : (stored : Stored) → honest new.disk → IsUp (sectors old.disk) (history old.disk) stored old
-        → RunFits (sectors old.disk) old.size stored run.events run.answers (history old.disk) (history new.disk)
-    pub after : (stored : Stored) → honest new.disk → IsUp (sectors old.disk) (history old.disk) stored old → new.broken ≡ false
-        → IsUp (sectors new.disk) (history new.disk) (reached stored run.events run.answers) new

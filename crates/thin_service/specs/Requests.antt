@@ -10,8 +10,8 @@ use Rattle.tile_routes.specs.Paths.{Asked, asked_feature, asked_tile, asked_noth
 use Rattle.feature_model.specs.Data as edits
 use Rattle.feature_model.specs.Data.{FeatureData, EditData}
 use Rattle.tile_service.specs.Machine as events
-use Rattle.tile_service.specs.Machine.{ArchiveState, AnswerData, shown, refused, Steps}
-use Rattle.tile_service.specs.Service.{ServiceView, IsUp, state_of, edit_answer, EventLeaves, stored_after}
+use Rattle.tile_service.specs.Machine.{AnswerData, shown, refused, Steps}
+use Rattle.tile_service.specs.Service.{ServiceView, Known, IsUp, state_of, edit_answer, EventLeaves, stored_after}
 use Rattle.tile_service.specs.Stored.{Stored}
 use Rattle.tile_service.specs.declared.fault.ServiceFault.{ServiceFault}
 use Rattle.tile_service.specs.declared.fault.ServiceFault.TheVariants.{Device}
@@ -47,9 +47,9 @@ wanted_of request = wanted_by request.method (asked_by request.path)
 
 -- ---- how it is answered
 
--- the machine takes this step, whatever archive lies on the disk
+-- the machine takes this step, whatever lies on the disk beside the map
 abbrev pub TakesStep : {D : Type 0} → ServiceView D → events.EventData → AnswerData → ServiceView D → Type 0
-TakesStep old event answer new = (archive : ArchiveState) → Steps (state_of archive old) event answer (state_of archive new)
+TakesStep old event answer new = (known : Known) → Steps (state_of known old) event answer (state_of known new)
 
 -- the reply has the content that the machine gives, and nothing changes
 abbrev pub AnswersTile : {D : Type 0} → ServiceView D → ℕ → ℕ → ℕ → TileFormat → ReplyView → ServiceView D → Type 0
@@ -71,9 +71,9 @@ module _ {D : Type 0} (sectors : D → ℕ) (honest : D → Type 0) (history : D
     -- a broken service writes no more
     pub untouched : old.broken ≡ true → new.disk ≡ old.disk
     pub any_moment : (stored : Stored) → honest new.disk → IsUp (sectors old.disk) (history old.disk) stored old
-        → LeavesOnly (history old.disk) (history new.disk) (EventLeaves (sectors old.disk) old.size stored (events.edit e) answer)
+        → LeavesOnly (history old.disk) (history new.disk) (EventLeaves (sectors old.disk) old.size stored old.publication (events.edit e) answer)
     pub after : (stored : Stored) → honest new.disk → IsUp (sectors old.disk) (history old.disk) stored old → answer ≢ refused Device
-        → IsUp (sectors new.disk) (history new.disk) (stored_after stored (events.edit e) answer) new
+        → IsUp (sectors new.disk) (history new.disk) (stored_after old.size stored old.publication (events.edit e) answer) new
 
   -- the reply tells what became of the edit
   abbrev pub AnswersEdit : ServiceView D → EditData → ReplyView → ServiceView D → Type 0

@@ -39,13 +39,21 @@ edit_word edits.Memory = codes "Memory\n"
 unfoldable pub full_word : ℕ → ℕ → List ℕ
 full_word need free = codes "JournalFull need " ++ ((decimal need ++ codes " free ") ++ (decimal free ++ codes "\n"))
 
+-- the word of an area that is too small: how many sectors are needed, and how many it has
+unfoldable pub area_word : ℕ → ℕ → List ℕ
+area_word need free = codes "AreaFull need " ++ ((decimal need ++ codes " free ") ++ (decimal free ++ codes "\n"))
+
 -- the word of a refusal by the service
 unfoldable pub service_word : ServiceFault → List ℕ
 service_word services.Broken = codes "Broken\n"
+service_word services.Busy = codes "Busy\n"
+service_word services.Idle = codes "Idle\n"
 service_word (services.Limit fault) = edit_word fault
 service_word services.NotFound = codes "NotFound\n"
 service_word services.NumbersSpent = codes "NumbersSpent\n"
 service_word services.Memory = codes "Memory\n"
+service_word services.TooManyTiles = codes "TooManyTiles\n"
+service_word (services.AreaFull need free) = area_word need free
 service_word (services.JournalFull need free) = full_word need free
 service_word services.Device = codes "Device\n"
 
@@ -68,10 +76,14 @@ fault_status Memory = 503
 
 abbrev pub service_status : ServiceFault → ℕ
 service_status services.Broken = 500
+service_status services.Busy = 409
+service_status services.Idle = 409
 service_status (services.Limit fault) = edit_status fault
 service_status services.NotFound = 404
 service_status services.NumbersSpent = 500
 service_status services.Memory = 503
+service_status services.TooManyTiles = 507
+service_status (services.AreaFull need free) = 507
 service_status (services.JournalFull need free) = 507
 service_status services.Device = 500
 

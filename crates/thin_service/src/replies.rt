@@ -1,7 +1,7 @@
 //! The replies of the service.
 ghost use Rattle.std.specs.Prelude.{◌≡◌, ◌≤◌, [], length, vec_capacity, IfOk, option_map};
 ghost use Rattle.http_serve.specs.Reply.{content_bytes, reply_view, FitsParts, IsWritable};
-ghost use Rattle.thin_service.specs.Words.{fault_word, service_word, edit_word, full_word, fault_status, service_status, edit_status, edit_body, edit_reply};
+ghost use Rattle.thin_service.specs.Words.{fault_word, service_word, edit_word, full_word, area_word, fault_status, service_status, edit_status, edit_body, edit_reply};
 ghost use Rattle.thin_service.specs.Words.{outcome_reply, no_tile, format_type, format_content, content_reply, tile_reply, refusal_of};
 ghost use Rattle.thin_service.specs.Words.{text_type, json_type, tile_type};
 ghost use Rattle.thin_service.specs.declared.replies.TheConstants.{MOST_TEXT};
@@ -53,6 +53,22 @@ fn full_word(text: Vec<u8>, need: u64, free: u64) -> Vec<u8>
     text
 }
 
+/// The word of an area that is too small, with a line feed.
+#[tactic(auto, unfolding(crate::specs::Words::area_word))]
+fn area_word(text: Vec<u8>, need: u64, free: u64) -> Vec<u8>
+    requires empty { text.items ≡ [] }
+    requires room { MOST_TEXT ≤ vec_capacity text }
+    ensures { result.items ≡ area_word need free }
+{
+    let mut text = text;
+    push_text(&mut text, b"AreaFull need ");
+    push_number(&mut text, need);
+    push_text(&mut text, b" free ");
+    push_number(&mut text, free);
+    push_text(&mut text, b"\n");
+    text
+}
+
 /// The word of a refusal by the service, with a line feed.
 #[tactic(auto, unfolding(crate::specs::Words::service_word))]
 fn service_word(text: Vec<u8>, fault: ServiceFault) -> Content
@@ -63,10 +79,14 @@ fn service_word(text: Vec<u8>, fault: ServiceFault) -> Content
 {
     match fault {
         ServiceFault::Broken => Content::Fixed(b"Broken\n"),
+        ServiceFault::Busy => Content::Fixed(b"Busy\n"),
+        ServiceFault::Idle => Content::Fixed(b"Idle\n"),
         ServiceFault::Limit(fault) => Content::Fixed(edit_word(fault)),
         ServiceFault::NotFound => Content::Fixed(b"NotFound\n"),
         ServiceFault::NumbersSpent => Content::Fixed(b"NumbersSpent\n"),
         ServiceFault::Memory => Content::Fixed(b"Memory\n"),
+        ServiceFault::TooManyTiles => Content::Fixed(b"TooManyTiles\n"),
+        ServiceFault::AreaFull { need, free } => Content::Whole(area_word(text, need, free)),
         ServiceFault::JournalFull { need, free } => Content::Whole(full_word(text, need, free)),
         ServiceFault::Device => Content::Fixed(b"Device\n"),
     }
@@ -101,9 +121,12 @@ fn service_status(fault: ServiceFault) -> StatusCode
 {
     match fault {
         ServiceFault::Limit(fault) => edit_status(fault),
+        ServiceFault::Busy | ServiceFault::Idle => StatusCode::CONFLICT,
         ServiceFault::NotFound => StatusCode::NOT_FOUND,
         ServiceFault::Memory => StatusCode::SERVICE_UNAVAILABLE,
-        ServiceFault::JournalFull { .. } => StatusCode::INSUFFICIENT_STORAGE,
+        ServiceFault::TooManyTiles
+        | ServiceFault::AreaFull { .. }
+        | ServiceFault::JournalFull { .. } => StatusCode::INSUFFICIENT_STORAGE,
         ServiceFault::Broken | ServiceFault::NumbersSpent | ServiceFault::Device =>
             StatusCode::INTERNAL_SERVER_ERROR,
     }

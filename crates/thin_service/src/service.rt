@@ -5,9 +5,10 @@ ghost use Rattle.http_serve.specs.Told.{IsServed, IsServedUpTo, HasContent, Meet
 ghost use Rattle.http_serve.specs.Reply.{reply_view, IsWritable};
 ghost use Rattle.thin_service.specs.Bodies.{HasBodyFault};
 ghost use Rattle.thin_service.specs.Requests.{AnswersTile, AnswersEdit, AnswersPut, Answers};
-ghost use Rattle.thin_service.specs.Connections.{Run, no_events, Tells, TakesRun};
+ghost use Rattle.thin_service.specs.Connections.{Run, no_events, Tells};
 ghost use Rattle.thin_service.specs.State.{asked_service, ServiceReplies};
 ghost use Rattle.thin_service.specs.Words.{refusal_of};
+ghost use Rattle.tile_service.specs.Runs.{TakesRun};
 
 use crate::bodies::feature_in;
 use crate::fault::RequestFault;
@@ -151,10 +152,10 @@ pub fn thin_serve<D: Sectors + Drop, R: Read, W: Write>(
     // acknowledged by then, and none asked for later.
     ensures any_moment { IfOk result (λ served. (run : Run)
         × IsServed Tells no_events (R.remaining reader.old) (W.contents writer.old) served run (R.remaining reader.new) (W.contents writer.new)
-        × TakesRun D.sectors D.honest D.history (asked_service service.old) run (asked_service service.new)) }
+        × TakesRun D.sectors D.honest D.history (asked_service service.old) run.events run.answers (asked_service service.new)) }
     ensures any_moment_of_fault { IfErr result (λ fault. (run : Run)
         × IsServedUpTo Tells no_events (R.remaining reader.old) (W.contents writer.old) fault run (R.remaining reader.new) (W.contents writer.new)
-        × TakesRun D.sectors D.honest D.history (asked_service service.old) run (asked_service service.new)) }
+        × TakesRun D.sectors D.honest D.history (asked_service service.old) run.events run.answers (asked_service service.new)) }
 {
     serve(alloc, reader, writer, service)
 }
