@@ -201,8 +201,10 @@ module _ {S : Type 0} (replies : S → RequestView → ReplyView → S → Type 
     module _ (more : List ℕ) (last : Option (List ℕ)) (came : Consumes leaves last more) (new : S) (now : Option (List ℕ))
         (full : List ℕ) (joined : full ≡ waiting ++ more) where
       -- more came, and the whole requests in it are answered
-      pub SoFar_goes : (rest : List ℕ) (after : ℕ) (head : Option RequestHead) (next : Rejection) → Carries replies middle full holds requests new rest now after
-          → length rest < MOST_REQUEST → next.bare ≡ has_head_method head → IsRefused rest head next.refusal → IsSoFar replies old left held new last now after rest next
+      pub SoFar_goes : (rest : List ℕ) (after : ℕ) (head : Option RequestHead) (next : Rejection)
+          → Carries replies middle full holds requests new rest now after
+          → length rest < MOST_REQUEST → next.bare ≡ has_head_method head → IsRefused rest head next.refusal
+          → IsSoFar replies old left held new last now after rest next
       SoFar_goes rest after head next y few bare none = record {
         bytes = so.bytes ++ more;
         read = Consumes-then left leaves last so.bytes more so.read came;

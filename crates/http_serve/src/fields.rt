@@ -5,7 +5,8 @@ ghost use Rattle.std.specs.Char.{to_ascii_lowercase};
 ghost use Rattle.std.specs.Option.{option_map};
 ghost use Rattle.httparse.specs.Spans.{IsHeaderWithin, IsWithin, header_bytes, span_bytes};
 ghost use Rattle.httparse.specs.Grammar.{is_ows, skip_ows, trim_ows};
-ghost use Rattle.http_serve.specs.Fields.{is_word, IsStated, values_of, limited, numeral_length, body_length, has_field, is_hosted, framing, range_of, lists_close, says_close};
+ghost use Rattle.http_serve.specs.Fields.{is_word, IsStated, values_of, limited, numeral_length, range_of, lists_close, says_close};
+ghost use Rattle.http_serve.specs.Fields.{body_length, has_field, is_hosted, framing};
 
 use crate::Refusal;
 use decimal_number::{are_digits, digits_number};

@@ -30,9 +30,11 @@ returns-in-Ok-clause-ok g c =
     let refusal = rejection.refusal in
     let found = subst (λ (t : List ℕ). IsNext t (Refused rejection)) c.waiting.ensures c.in-Refused.ensures.next in (
       refused found.head refusal,
-      Ends_push g.H.Handler.replies _ _ _ c.args.requests _ input _ c.requests.requests Anything (refused found.head refusal) (refusal_bytes found.head refusal) _ _
+      Ends_push g.H.Handler.replies _ _ _ c.args.requests _ input _ c.requests.requests Anything
+          (refused found.head refusal) (refusal_bytes found.head refusal) _ _
           c.saturating_add.result c.requests.invariant.carries
-          (λ more _. (omega (arith, found.some, length-append input more), found.refused more)) (refl, refl) (c.in-Ok.ensures.sent found.head found.bare) c.saturating_add.ensures,
+          (λ more _. (omega (arith, found.some, length-append input more), found.refused more)) (refl, refl)
+          (c.in-Ok.ensures.sent found.head found.bare) c.saturating_add.ensures,
       refl,
       λ e. cc,
     )

@@ -101,4 +101,5 @@ returns-then-count-eq0-clause-reads g c =
 
 pub returns-then-count-eq0-clause-content : goal.returns-then-count-eq0-clause-content
 returns-then-count-eq0-clause-content g c =
-    if_err c.finish.result _ _ (λ fault. unfinished_content _ _ _ _ _ _ fault _) (c.finish.ensures.fault c.loop-turn.invariant.so_far.head c.loop-turn.invariant.so_far.bare)
+    if_err c.finish.result _ _ (λ fault. unfinished_content _ _ _ _ _ _ fault _)
+    (c.finish.ensures.fault c.loop-turn.invariant.so_far.head c.loop-turn.invariant.so_far.bare)
