@@ -2,7 +2,7 @@
 
 use super::archives::{Point, archive_of, points_to, tile_of};
 use super::{archive, begins, formatted, opened, point, publish, root, sector_at};
-use crate::{Service, ServiceFault};
+use crate::{Published, Service, ServiceFault};
 use feature_model::{Feature, Geometry, World};
 use hilbert_id::TileAt;
 use pm_archive::{Archive, Report};
@@ -53,6 +53,27 @@ fn a_point_is_published(rt: HostRuntime) -> Result<(), Fail> {
     let mut disk = service.into_disk();
     assert_eq!(rt; sector_at(&mut disk, 2), root([1, 1, 1, 25, 223]));
     assert_eq!(rt; sector_at(&mut disk, 1), root([2, 2, 2, 50, 234]));
+    Ok(())
+}
+
+#[test]
+fn a_publication_as_one_call(rt: HostRuntime) -> Result<(), Fail> {
+    let alloc = rt.alloc();
+    let mut service = service_with(alloc, &[(7, 0)])?;
+    let published = Published {
+        generation: 1,
+        edits: 1,
+        archive_len: 223,
+    };
+    assert_eq!(rt; service.publish(), Ok(published));
+    assert_eq!(rt;
+        archive(alloc, &mut service)?,
+        archive_of(alloc, &[(7, 0)])?
+    );
+    // It leaves the one that is under way.
+    assert_eq!(rt; service.publish_begin(), Ok(3));
+    assert_eq!(rt; service.publish(), Err(ServiceFault::Busy));
+    assert_eq!(rt; service.publish_step(), Ok(0));
     Ok(())
 }
 
