@@ -2,6 +2,7 @@
 ghost use Rattle.std.specs.Prelude.{◌≡◌, ◌≤◌, IfOk, length};
 
 mod archives;
+mod calls;
 mod edits;
 mod openings;
 mod publication_stops;
@@ -116,9 +117,9 @@ fn archive<D: Sectors + Drop>(alloc: Global, service: &mut Service<D>) -> Result
 /// Publishes the map in at most ten steps: what the beginning answers, and then each step.
 fn publish<D: Sectors + Drop>(alloc: Global, service: &mut Service<D>) -> Result<Vec<u64>, Fail> {
     let mut answers = Vec::new(alloc);
-    answers.push(service.publish_begin()?)?;
+    answers.push(service.ask_begin()?)?;
     for _ in 0..10 {
-        let left = service.publish_step()?;
+        let left = service.ask_step()?;
         answers.push(left)?;
         if left == 0 {
             return Ok(answers);

@@ -16,22 +16,22 @@ fn edits_are_shown_and_outlive_crashes(rt: HostRuntime) -> Result<(), Fail> {
     let tile = TileAt::new(0, 0, 0).ok_or("a tile")?;
     let deep = TileAt::new(17, 0, 0).ok_or("a tile")?;
     let mut service = opened(alloc, formatted(alloc)?)?;
-    assert_eq!(rt; service.tile(tile)?, None);
-    assert_eq!(rt; service.put(7, point(alloc, 0)?), Ok(1));
-    assert_eq!(rt; service.feature(7), Some(&point(alloc, 0)?));
-    assert_eq!(rt; service.tile(tile)?.as_deref(), Some(TILE.as_slice()));
-    assert_eq!(rt; service.tile(deep)?, None);
-    assert_eq!(rt; service.put(8, point(alloc, 467)?), Ok(2));
-    assert_eq!(rt; service.delete(9), Err(ServiceFault::NotFound));
-    assert_eq!(rt; service.delete(8), Ok(3));
-    assert_eq!(rt; service.delete(8), Err(ServiceFault::NotFound));
+    assert_eq!(rt; service.ask_tile(tile)?, None);
+    assert_eq!(rt; service.ask_put(7, point(alloc, 0)?), Ok(1));
+    assert_eq!(rt; service.ask_feature(7), Some(&point(alloc, 0)?));
+    assert_eq!(rt; service.ask_tile(tile)?.as_deref(), Some(TILE.as_slice()));
+    assert_eq!(rt; service.ask_tile(deep)?, None);
+    assert_eq!(rt; service.ask_put(8, point(alloc, 467)?), Ok(2));
+    assert_eq!(rt; service.ask_delete(9), Err(ServiceFault::NotFound));
+    assert_eq!(rt; service.ask_delete(8), Ok(3));
+    assert_eq!(rt; service.ask_delete(8), Err(ServiceFault::NotFound));
 
     let left = service.into_disk().crash(&[])?;
     let mut again = opened(alloc, left)?;
-    assert_eq!(rt; again.feature(7), Some(&point(alloc, 0)?));
-    assert_eq!(rt; again.feature(8), None);
-    assert_eq!(rt; again.tile(tile)?.as_deref(), Some(TILE.as_slice()));
-    assert_eq!(rt; again.put(8, point(alloc, 0)?), Ok(4));
+    assert_eq!(rt; again.ask_feature(7), Some(&point(alloc, 0)?));
+    assert_eq!(rt; again.ask_feature(8), None);
+    assert_eq!(rt; again.ask_tile(tile)?.as_deref(), Some(TILE.as_slice()));
+    assert_eq!(rt; again.ask_put(8, point(alloc, 0)?), Ok(4));
     Ok(())
 }
 
@@ -47,21 +47,24 @@ fn refused_edits(rt: HostRuntime) -> Result<(), Fail> {
         (1, point(alloc, 1_025)?, EditFault::Value),
     ];
     for (id, feature, fault) in rows {
-        assert_eq!(rt; service.put(id, feature), Err(ServiceFault::Limit(fault)));
+        assert_eq!(rt;
+            service.ask_put(id, feature),
+            Err(ServiceFault::Limit(fault))
+        );
     }
     for id in 1..16 {
-        assert_eq!(rt; service.put(id, point(alloc, 0)?), Ok(id));
+        assert_eq!(rt; service.ask_put(id, point(alloc, 0)?), Ok(id));
     }
     let full = |need, free| Err(ServiceFault::JournalFull { need, free });
-    assert_eq!(rt; service.put(16, point(alloc, 467)?), full(2, 1));
-    assert_eq!(rt; service.feature(16), None);
-    assert_eq!(rt; service.put(16, point(alloc, 466)?), Ok(16));
-    assert_eq!(rt; service.put(17, point(alloc, 0)?), full(1, 0));
-    assert_eq!(rt; service.delete(1), full(1, 0));
-    assert!(rt; service.feature(1).is_some());
+    assert_eq!(rt; service.ask_put(16, point(alloc, 467)?), full(2, 1));
+    assert_eq!(rt; service.ask_feature(16), None);
+    assert_eq!(rt; service.ask_put(16, point(alloc, 466)?), Ok(16));
+    assert_eq!(rt; service.ask_put(17, point(alloc, 0)?), full(1, 0));
+    assert_eq!(rt; service.ask_delete(1), full(1, 0));
+    assert!(rt; service.ask_feature(1).is_some());
     let again = opened(alloc, service.into_disk().crash(&[])?)?;
-    assert_eq!(rt; again.feature(16), Some(&point(alloc, 466)?));
-    assert_eq!(rt; again.feature(17), None);
+    assert_eq!(rt; again.ask_feature(16), Some(&point(alloc, 466)?));
+    assert_eq!(rt; again.ask_feature(17), None);
     Ok(())
 }
 
@@ -92,7 +95,7 @@ fn answers_to_events(rt: HostRuntime) -> Result<(), Fail> {
         Answer::Edited(2),
         Answer::Look(None),
     ];
-    assert_eq!(rt; service.run(events)?.as_slice(), wanted.as_slice());
-    assert_eq!(rt; service.run(Vec::new(alloc))?.len(), 0);
+    assert_eq!(rt; service.ask_run(events)?.as_slice(), wanted.as_slice());
+    assert_eq!(rt; service.ask_run(Vec::new(alloc))?.len(), 0);
     Ok(())
 }

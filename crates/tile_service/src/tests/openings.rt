@@ -106,14 +106,14 @@ fn spent_numbers(rt: HostRuntime) -> Result<(), Fail> {
     let mut disk = formatted(alloc)?;
     let _ = disk.write(1, &root([0, u64::MAX - 1, 0, 0, 0]));
     let mut service = opened(alloc, disk)?;
-    assert_eq!(rt; service.put(1, point(alloc, 0)?), Ok(u64::MAX));
+    assert_eq!(rt; service.ask_put(1, point(alloc, 0)?), Ok(u64::MAX));
     assert_eq!(rt;
-        service.put(2, point(alloc, 0)?),
+        service.ask_put(2, point(alloc, 0)?),
         Err(ServiceFault::NumbersSpent)
     );
-    assert_eq!(rt; service.delete(1), Err(ServiceFault::NumbersSpent));
-    assert_eq!(rt; service.delete(2), Err(ServiceFault::NotFound));
+    assert_eq!(rt; service.ask_delete(1), Err(ServiceFault::NumbersSpent));
+    assert_eq!(rt; service.ask_delete(2), Err(ServiceFault::NotFound));
     let again = opened(alloc, service.into_disk())?;
-    assert!(rt; again.feature(1).is_some());
+    assert!(rt; again.ask_feature(1).is_some());
     Ok(())
 }

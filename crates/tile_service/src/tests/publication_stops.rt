@@ -12,7 +12,7 @@ use std::test::Fail;
 /// A disk on which feature 7 is published.
 fn with_archive(alloc: Global) -> Result<MemoryDisk, Fail> {
     let mut service = opened(alloc, formatted(alloc)?)?;
-    let _ = service.put(7, point(alloc, 0)?)?;
+    let _ = service.ask_put(7, point(alloc, 0)?)?;
     let _ = publish(alloc, &mut service)?;
     Ok(service.into_disk())
 }
@@ -23,11 +23,11 @@ fn refused_by<D: Sectors + Drop>(
     service: &mut Service<D>,
 ) -> Result<[Option<ServiceFault>; 5], Fail> {
     Ok([
-        service.publish_begin().err(),
-        service.publish_step().err(),
-        service.publish_cancel().err(),
-        service.put(9, point(alloc, 0)?).err(),
-        service.delete(7).err(),
+        service.ask_begin().err(),
+        service.ask_step().err(),
+        service.ask_cancel().err(),
+        service.ask_put(9, point(alloc, 0)?).err(),
+        service.ask_delete(7).err(),
     ])
 }
 
@@ -37,14 +37,14 @@ fn refused_by<D: Sectors + Drop>(
 fn stopped(alloc: Global, failing_calls: FailingCalls) -> Result<MemoryDisk, Fail> {
     let faulty = FaultyDisk::new(with_archive(alloc)?, failing_calls);
     let mut service = opened(alloc, faulty)?;
-    let _ = service.put(8, point(alloc, 0)?)?;
-    let begun = service.publish_begin()?;
-    let step = service.publish_step();
+    let _ = service.ask_put(8, point(alloc, 0)?)?;
+    let begun = service.ask_begin()?;
+    let step = service.ask_step();
     let broken = [Some(ServiceFault::Broken); 5];
     if (begun, step) != (3, Err(ServiceFault::Device))
         || service.publication.is_some()
         || refused_by(alloc, &mut service)? != broken
-        || service.feature(8).is_none()
+        || service.ask_feature(8).is_none()
         || service.archive_len() != 223
     {
         return Err("the step doesn't break the service".into());
@@ -58,7 +58,7 @@ fn is_new(alloc: Global, disk: MemoryDisk) -> Result<bool, Fail> {
     let old = archive_of(alloc, &[(7, 0)])?;
     let new = archive_of(alloc, &[(7, 0), (8, 0)])?;
     let mut service = opened(alloc, disk)?;
-    if service.feature(7).is_none() || service.feature(8).is_none() {
+    if service.ask_feature(7).is_none() || service.ask_feature(8).is_none() {
         return Err("an edit is lost".into());
     }
     let stands = archive(alloc, &mut service)?;
@@ -121,10 +121,10 @@ fn calls_of_a_publication(rt: HostRuntime) -> Result<(), Fail> {
     let alloc = rt.alloc();
     let faulty = FaultyDisk::new(with_archive(alloc)?, FailingCalls::OneNotMade(14));
     let mut service = opened(alloc, faulty)?;
-    assert_eq!(rt; service.put(8, point(alloc, 0)?), Ok(2));
+    assert_eq!(rt; service.ask_put(8, point(alloc, 0)?), Ok(2));
     assert_eq!(rt; publish(alloc, &mut service)?.as_slice(), [3, 0].as_slice());
-    assert_eq!(rt; service.publish_begin(), Ok(3));
-    assert_eq!(rt; service.publish_cancel(), Ok(()));
+    assert_eq!(rt; service.ask_begin(), Ok(3));
+    assert_eq!(rt; service.ask_cancel(), Ok(()));
     assert_eq!(rt; service.into_disk().calls(), 13);
     Ok(())
 }
@@ -139,9 +139,9 @@ fn calls_of_opening(alloc: Global, disk: MemoryDisk) -> Result<u64, Fail> {
 fn stopped_from(alloc: Global, disk: MemoryDisk, call: u64) -> Result<(u64, MemoryDisk), Fail> {
     let faulty = FaultyDisk::new(disk, FailingCalls::AllFrom(call));
     let mut service = opened(alloc, faulty)?;
-    let _ = service.publish_begin()?;
+    let _ = service.ask_begin()?;
     for step in 1..5 {
-        match service.publish_step() {
+        match service.ask_step() {
             Ok(_) => {}
             Err(ServiceFault::Device) => return Ok((step, service.into_disk().into_disk())),
             Err(fault) => return Err(fault.into()),
@@ -155,7 +155,7 @@ fn large_shown(alloc: Global, disk: MemoryDisk) -> Result<(bool, u64), Fail> {
     let at = TileAt::new(0, 0, 0).ok_or("a tile")?;
     let mut service = opened(alloc, disk)?;
     let tile = tile_of(alloc, &points_to(alloc, 62, 1_000)?)?;
-    let shown = service.tile(at)?.as_deref() == Some(tile.as_slice());
+    let shown = service.ask_tile(at)?.as_deref() == Some(tile.as_slice());
     Ok((shown, service.archive_len()))
 }
 

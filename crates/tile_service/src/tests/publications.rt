@@ -18,7 +18,7 @@ pub(crate) fn with_points(
 ) -> Result<Service<MemoryDisk>, Fail> {
     let mut service = opened(alloc, disk)?;
     for (id, letters) in points {
-        let _ = service.put(u64::from(*id), point(alloc, usize::from(*letters))?)?;
+        let _ = service.ask_put(u64::from(*id), point(alloc, usize::from(*letters))?)?;
     }
     Ok(service)
 }
@@ -46,7 +46,7 @@ fn a_point_is_published(rt: HostRuntime) -> Result<(), Fail> {
         }
     );
     // The second publication goes into the other area.
-    assert_eq!(rt; service.put(8, point(alloc, 0)?), Ok(2));
+    assert_eq!(rt; service.ask_put(8, point(alloc, 0)?), Ok(2));
     assert_eq!(rt; publish(alloc, &mut service)?.as_slice(), [3, 0].as_slice());
     let both = archive_of(alloc, &[(7, 0), (8, 0)])?;
     assert_eq!(rt; archive(alloc, &mut service)?, both);
@@ -65,15 +65,15 @@ fn a_publication_as_one_call(rt: HostRuntime) -> Result<(), Fail> {
         edits: 1,
         archive_len: 223,
     };
-    assert_eq!(rt; service.publish(), Ok(published));
+    assert_eq!(rt; service.ask_publish(), Ok(published));
     assert_eq!(rt;
         archive(alloc, &mut service)?,
         archive_of(alloc, &[(7, 0)])?
     );
     // It leaves the one that is under way.
-    assert_eq!(rt; service.publish_begin(), Ok(3));
-    assert_eq!(rt; service.publish(), Err(ServiceFault::Busy));
-    assert_eq!(rt; service.publish_step(), Ok(0));
+    assert_eq!(rt; service.ask_begin(), Ok(3));
+    assert_eq!(rt; service.ask_publish(), Err(ServiceFault::Busy));
+    assert_eq!(rt; service.ask_step(), Ok(0));
     Ok(())
 }
 
@@ -98,7 +98,7 @@ fn steps_of_64_sectors(rt: HostRuntime) -> Result<(), Fail> {
     assert_eq!(rt; archive(alloc, &mut service)?, bytes);
     let left = service.into_disk().crash(&[])?;
     let mut again = opened(alloc, left)?;
-    assert_eq!(rt; again.feature(62), Some(&point(alloc, 1_000)?));
+    assert_eq!(rt; again.ask_feature(62), Some(&point(alloc, 1_000)?));
     assert_eq!(rt; archive(alloc, &mut again)?, bytes);
     let mut disk = again.into_disk();
     assert_eq!(rt; sector_at(&mut disk, 2), root([1, 62, 186, 63_860, 2_166]));
@@ -125,13 +125,13 @@ fn a_publication_frees_the_journal(rt: HostRuntime) -> Result<(), Fail> {
     let points = points_to(alloc, 15, 0)?;
     let mut service = service_with(alloc, &points)?;
     let full = ServiceFault::JournalFull { need: 2, free: 1 };
-    assert_eq!(rt; service.put(16, point(alloc, 467)?), Err(full));
-    assert_eq!(rt; service.feature(16), None);
+    assert_eq!(rt; service.ask_put(16, point(alloc, 467)?), Err(full));
+    assert_eq!(rt; service.ask_feature(16), None);
     assert_eq!(rt; publish(alloc, &mut service)?.as_slice(), [3, 0].as_slice());
     let bytes = archive(alloc, &mut service)?;
     assert_eq!(rt; bytes.len(), 380);
     assert_eq!(rt; bytes, archive_of(alloc, &points)?);
-    assert_eq!(rt; service.put(16, point(alloc, 467)?), Ok(16));
+    assert_eq!(rt; service.ask_put(16, point(alloc, 467)?), Ok(16));
     // Its head stands at place 15 of the journal, and its body at place 0.
     let (head, body) = two_parts(alloc)?;
     let mut disk = service.into_disk();
@@ -139,9 +139,9 @@ fn a_publication_frees_the_journal(rt: HostRuntime) -> Result<(), Fail> {
     assert_eq!(rt; sector_at(&mut disk, 18), head);
     assert_eq!(rt; sector_at(&mut disk, 3), body);
     let mut again = opened(alloc, disk.crash(&[])?)?;
-    assert_eq!(rt; again.feature(15), Some(&point(alloc, 0)?));
-    assert_eq!(rt; again.feature(16), Some(&point(alloc, 467)?));
-    assert_eq!(rt; again.put(17, point(alloc, 0)?), Ok(17));
+    assert_eq!(rt; again.ask_feature(15), Some(&point(alloc, 0)?));
+    assert_eq!(rt; again.ask_feature(16), Some(&point(alloc, 467)?));
+    assert_eq!(rt; again.ask_put(17, point(alloc, 0)?), Ok(17));
     Ok(())
 }
 
@@ -152,16 +152,16 @@ fn an_edit_between(rt: HostRuntime) -> Result<(), Fail> {
     let first = archive_of(alloc, &[(7, 0)])?;
     let both = tile_of(alloc, &[(7, 0), (8, 0)])?;
     let mut service = service_with(alloc, &[(7, 0)])?;
-    assert_eq!(rt; service.publish_begin(), Ok(3));
-    assert_eq!(rt; service.put(8, point(alloc, 0)?), Ok(2));
+    assert_eq!(rt; service.ask_begin(), Ok(3));
+    assert_eq!(rt; service.ask_put(8, point(alloc, 0)?), Ok(2));
     assert_eq!(rt; service.archive_len(), 0);
-    assert_eq!(rt; service.publish_step(), Ok(0));
+    assert_eq!(rt; service.ask_step(), Ok(0));
     assert_eq!(rt; archive(alloc, &mut service)?, first);
-    assert_eq!(rt; service.tile(at)?.as_deref(), Some(both.as_slice()));
+    assert_eq!(rt; service.ask_tile(at)?.as_deref(), Some(both.as_slice()));
     let mut again = opened(alloc, service.into_disk().crash(&[])?)?;
     assert_eq!(rt; archive(alloc, &mut again)?, first);
-    assert_eq!(rt; again.tile(at)?.as_deref(), Some(both.as_slice()));
-    assert_eq!(rt; again.put(9, point(alloc, 0)?), Ok(3));
+    assert_eq!(rt; again.ask_tile(at)?.as_deref(), Some(both.as_slice()));
+    assert_eq!(rt; again.ask_put(9, point(alloc, 0)?), Ok(3));
     Ok(())
 }
 
@@ -171,22 +171,22 @@ fn edits_between_keep_their_places(rt: HostRuntime) -> Result<(), Fail> {
     let at = TileAt::new(0, 0, 0).ok_or("a tile")?;
     let full = ServiceFault::JournalFull { need: 1, free: 0 };
     let mut service = service_with(alloc, &points_to(alloc, 9, 0)?)?;
-    assert_eq!(rt; service.publish_begin(), Ok(3));
+    assert_eq!(rt; service.ask_begin(), Ok(3));
     for id in 10..15 {
-        assert_eq!(rt; service.put(id, point(alloc, 0)?), Ok(id));
+        assert_eq!(rt; service.ask_put(id, point(alloc, 0)?), Ok(id));
     }
-    assert_eq!(rt; service.publish_step(), Ok(0));
+    assert_eq!(rt; service.ask_step(), Ok(0));
     // Of the 16 places five are still in use.
     for id in 15..26 {
-        assert_eq!(rt; service.put(id, point(alloc, 0)?), Ok(id));
+        assert_eq!(rt; service.ask_put(id, point(alloc, 0)?), Ok(id));
     }
-    assert_eq!(rt; service.put(26, point(alloc, 0)?), Err(full));
+    assert_eq!(rt; service.ask_put(26, point(alloc, 0)?), Err(full));
     let mut again = opened(alloc, service.into_disk().crash(&[])?)?;
     let all = tile_of(alloc, &points_to(alloc, 25, 0)?)?;
-    assert_eq!(rt; again.tile(at)?.as_deref(), Some(all.as_slice()));
-    assert_eq!(rt; again.put(26, point(alloc, 0)?), Err(full));
+    assert_eq!(rt; again.ask_tile(at)?.as_deref(), Some(all.as_slice()));
+    assert_eq!(rt; again.ask_put(26, point(alloc, 0)?), Err(full));
     assert_eq!(rt; publish(alloc, &mut again)?.as_slice(), [4, 0].as_slice());
-    assert_eq!(rt; again.put(26, point(alloc, 0)?), Ok(26));
+    assert_eq!(rt; again.ask_put(26, point(alloc, 0)?), Ok(26));
     Ok(())
 }
 
@@ -206,7 +206,7 @@ fn no_tiles(rt: HostRuntime) -> Result<(), Fail> {
         geometry: Geometry::Lines(vec![in alloc; line]?),
         tags: Vec::new(alloc),
     };
-    assert_eq!(rt; service.put(7, hidden), Ok(1));
+    assert_eq!(rt; service.ask_put(7, hidden), Ok(1));
     assert_eq!(rt; publish(alloc, &mut service)?.as_slice(), [2, 0].as_slice());
     assert_eq!(rt; service.archive_len(), 0);
     let mut disk = service.into_disk();
@@ -228,16 +228,16 @@ fn an_area_is_full(rt: HostRuntime) -> Result<(), Fail> {
         y: 123_456_789,
     };
     deep.geometry = Geometry::Points(vec![in alloc; place]?);
-    assert_eq!(rt; service.delete(7), Ok(2));
-    assert_eq!(rt; service.put(1, deep), Ok(3));
+    assert_eq!(rt; service.ask_delete(7), Ok(2));
+    assert_eq!(rt; service.ask_put(1, deep), Ok(3));
     let full = ServiceFault::AreaFull { need: 39, free: 22 };
-    assert_eq!(rt; service.publish_begin(), Err(full));
-    assert_eq!(rt; service.publish_step(), Err(ServiceFault::Idle));
+    assert_eq!(rt; service.ask_begin(), Err(full));
+    assert_eq!(rt; service.ask_step(), Err(ServiceFault::Idle));
     assert_eq!(rt;
         archive(alloc, &mut service)?,
         archive_of(alloc, &[(7, 0)])?
     );
-    assert_eq!(rt; service.put(2, point(alloc, 0)?), Ok(4));
+    assert_eq!(rt; service.ask_put(2, point(alloc, 0)?), Ok(4));
     let mut disk = service.into_disk();
     assert_eq!(rt; sector_at(&mut disk, 1), root([0, 0, 0, 0, 0]));
     assert_eq!(rt; sector_at(&mut disk, 2), root([1, 1, 1, 25, 223]));
@@ -251,10 +251,10 @@ fn generations_are_spent(rt: HostRuntime) -> Result<(), Fail> {
     let last = root([u64::MAX, 0, 0, 0, 0]);
     let _ = disk.write(2, &last);
     let mut service = opened(alloc, disk)?;
-    assert_eq!(rt; service.publish_begin(), Err(ServiceFault::NumbersSpent));
-    assert_eq!(rt; service.publish_step(), Err(ServiceFault::Idle));
-    assert_eq!(rt; service.put(7, point(alloc, 0)?), Ok(1));
-    assert_eq!(rt; service.publish_begin(), Err(ServiceFault::NumbersSpent));
+    assert_eq!(rt; service.ask_begin(), Err(ServiceFault::NumbersSpent));
+    assert_eq!(rt; service.ask_step(), Err(ServiceFault::Idle));
+    assert_eq!(rt; service.ask_put(7, point(alloc, 0)?), Ok(1));
+    assert_eq!(rt; service.ask_begin(), Err(ServiceFault::NumbersSpent));
     let mut disk = service.into_disk();
     assert_eq!(rt; sector_at(&mut disk, 1), root([0, 0, 0, 0, 0]));
     assert_eq!(rt; sector_at(&mut disk, 2), last);
@@ -266,22 +266,22 @@ fn busy_and_idle(rt: HostRuntime) -> Result<(), Fail> {
     let alloc = rt.alloc();
     let idle = Err(ServiceFault::Idle);
     let mut service = service_with(alloc, &[(7, 0)])?;
-    assert_eq!(rt; service.publish_step(), idle);
-    assert_eq!(rt; service.publish_begin(), Ok(3));
-    assert_eq!(rt; service.publish_begin(), Err(ServiceFault::Busy));
-    assert_eq!(rt; service.publish_cancel(), Ok(()));
-    assert_eq!(rt; service.publish_step(), idle);
-    assert_eq!(rt; service.publish_cancel(), Err(ServiceFault::Idle));
+    assert_eq!(rt; service.ask_step(), idle);
+    assert_eq!(rt; service.ask_begin(), Ok(3));
+    assert_eq!(rt; service.ask_begin(), Err(ServiceFault::Busy));
+    assert_eq!(rt; service.ask_cancel(), Ok(()));
+    assert_eq!(rt; service.ask_step(), idle);
+    assert_eq!(rt; service.ask_cancel(), Err(ServiceFault::Idle));
     assert_eq!(rt; service.archive_len(), 0);
     assert_eq!(rt; publish(alloc, &mut service)?.as_slice(), [3, 0].as_slice());
-    assert_eq!(rt; service.publish_step(), idle);
+    assert_eq!(rt; service.ask_step(), idle);
     // A publication that was begun before a stop is no longer under way.
-    assert_eq!(rt; service.put(8, point(alloc, 0)?), Ok(2));
-    assert_eq!(rt; service.publish_begin(), Ok(3));
+    assert_eq!(rt; service.ask_put(8, point(alloc, 0)?), Ok(2));
+    assert_eq!(rt; service.ask_begin(), Ok(3));
     let mut again = opened(alloc, service.into_disk().crash(&[])?)?;
-    assert_eq!(rt; again.publish_step(), idle);
-    assert_eq!(rt; again.publish_cancel(), Err(ServiceFault::Idle));
+    assert_eq!(rt; again.ask_step(), idle);
+    assert_eq!(rt; again.ask_cancel(), Err(ServiceFault::Idle));
     assert_eq!(rt; archive(alloc, &mut again)?, archive_of(alloc, &[(7, 0)])?);
-    assert!(rt; again.feature(8).is_some());
+    assert!(rt; again.ask_feature(8).is_some());
     Ok(())
 }

@@ -79,8 +79,8 @@ fn parts_of_an_archive(rt: HostRuntime) -> Result<(), Fail> {
         );
     }
     // Edits leave it as it is.
-    assert_eq!(rt; service.put(7, point(alloc, 467)?), Ok(6));
-    assert_eq!(rt; service.delete(8), Ok(7));
+    assert_eq!(rt; service.ask_put(7, point(alloc, 467)?), Ok(6));
+    assert_eq!(rt; service.ask_delete(8), Ok(7));
     assert_eq!(rt; service.archive_len(), 1_100);
     assert_eq!(rt;
         read(alloc, &mut service, 0, 1_100)?,
@@ -132,13 +132,13 @@ fn service_goes_on_after_a_failed_read(rt: HostRuntime) -> Result<(), Fail> {
             read(alloc, &mut service, 0, 1_100)?,
             Err(ServiceFault::Device)
         );
-        assert_eq!(rt; service.put(30, point(alloc, 0)?), Ok(6));
+        assert_eq!(rt; service.ask_put(30, point(alloc, 0)?), Ok(6));
         assert_eq!(rt;
             read(alloc, &mut service, 0, 1_100)?,
             Ok(part(alloc, 0, 1_100)?)
         );
         let again = opened(alloc, service.into_disk().into_disk().crash(&[])?)?;
-        assert!(rt; again.feature(30).is_some());
+        assert!(rt; again.ask_feature(30).is_some());
         assert_eq!(rt; again.archive_len(), 1_100);
     }
     Ok(())
@@ -151,13 +151,13 @@ const METADATA: &str = r#"{"vector_layers":[{"fields":{},"id":"p","maxzoom":2,"m
 fn metadata_of_the_map(rt: HostRuntime) -> Result<(), Fail> {
     let alloc = rt.alloc();
     let mut service = opened(alloc, formatted(alloc)?)?;
-    let _ = service.put(7, point(alloc, 0)?);
-    let text = service.metadata()?.to_string(alloc)?;
+    let _ = service.ask_put(7, point(alloc, 0)?);
+    let text = service.ask_metadata()?.to_string(alloc)?;
     assert_eq!(rt; text.as_str(), METADATA);
     assert_eq!(rt; text.len(), 66);
-    let _ = service.delete(7);
+    let _ = service.ask_delete(7);
     assert_eq!(rt;
-        service.metadata()?.to_string(alloc)?.as_str(),
+        service.ask_metadata()?.to_string(alloc)?.as_str(),
         r#"{"vector_layers":[]}"#
     );
     Ok(())

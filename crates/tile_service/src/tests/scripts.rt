@@ -142,7 +142,7 @@ fn run(alloc: Global, failing_calls: FailingCalls, failed: usize) -> Result<Memo
     let faulty = FaultyDisk::new(formatted(alloc)?, failing_calls);
     match Service::open(alloc, faulty) {
         Ok(mut service) => {
-            if service.run(events(alloc)?)? != answers_of(alloc, failed)? {
+            if service.ask_run(events(alloc)?)? != answers_of(alloc, failed)? {
                 return Err("other answers".into());
             }
             Ok(service.into_disk().into_disk())
@@ -174,13 +174,13 @@ fn what_is_expected(alloc: Global) -> Result<Expected, Fail> {
 fn found_on(alloc: Global, disk: MemoryDisk, expected: &Expected) -> Result<(usize, usize), Fail> {
     let mut service = opened(alloc, disk)?;
     let at = TileAt::new(0, 0, 0).ok_or("a tile")?;
-    let tile = service.tile(at)?;
+    let tile = service.ask_tile(at)?;
     let bytes = archive(alloc, &mut service)?;
     let edits = expected.tiles.iter().position(|shown| *shown == tile);
     let edits = edits.ok_or("some first edits")?;
     let publications = expected.archives.iter().position(|known| *known == bytes);
     let publications = publications.ok_or("an archive of some first edits")?;
-    if service.put(9, point(alloc, 0)?)? != (edits as u64).saturating_add(1) {
+    if service.ask_put(9, point(alloc, 0)?)? != (edits as u64).saturating_add(1) {
         return Err("another number".into());
     }
     Ok((edits, publications))
@@ -287,7 +287,7 @@ fn five_rounds(rt: HostRuntime) -> Result<(), Fail> {
         }
     }
     let mut service = opened(alloc, formatted(alloc)?)?;
-    let answers = service.run(events)?;
+    let answers = service.ask_run(events)?;
     assert_eq!(rt; answers.len(), 40);
     let refused = answers
         .iter()
@@ -298,7 +298,7 @@ fn five_rounds(rt: HostRuntime) -> Result<(), Fail> {
     let mut disk = service.into_disk();
     assert_eq!(rt; sector_at(&mut disk, 2), root([5, 18, 7, 2_610, 833]));
     let mut again = opened(alloc, disk.crash(&[])?)?;
-    assert_eq!(rt; again.put(9, point(alloc, 0)?), Ok(21));
+    assert_eq!(rt; again.ask_put(9, point(alloc, 0)?), Ok(21));
     let head = sector_at(&mut again.into_disk(), 12);
     let begin = [1, 1, 1, 0, 21, 0, 0, 0, 0, 0, 0, 0];
     assert_eq!(rt; head.get(..12), Some(begin.as_slice()));

@@ -76,13 +76,13 @@ fn snapshot_without_edits(rt: HostRuntime) -> Result<(), Fail> {
     let text = texts_of(alloc, POINTS)?;
     assert_eq!(rt; text.len(), 655);
     let mut service = opened(alloc, disk_with(alloc, [5, 0, 655, 0], &text)?)?;
-    assert_eq!(rt; service.feature(7), Some(&point(alloc, 0)?));
-    assert_eq!(rt; service.feature(8), None);
-    assert_eq!(rt; service.feature(9), Some(&point(alloc, 600)?));
-    assert_eq!(rt; service.put(8, point(alloc, 0)?), Ok(6));
+    assert_eq!(rt; service.ask_feature(7), Some(&point(alloc, 0)?));
+    assert_eq!(rt; service.ask_feature(8), None);
+    assert_eq!(rt; service.ask_feature(9), Some(&point(alloc, 600)?));
+    assert_eq!(rt; service.ask_put(8, point(alloc, 0)?), Ok(6));
     let again = opened(alloc, service.into_disk().crash(&[])?)?;
-    assert!(rt; again.feature(8).is_some());
-    assert!(rt; again.feature(9).is_some());
+    assert!(rt; again.ask_feature(8).is_some());
+    assert!(rt; again.ask_feature(9).is_some());
     Ok(())
 }
 
@@ -101,10 +101,10 @@ fn edits_behind_a_snapshot(rt: HostRuntime) -> Result<(), Fail> {
         ]),
     );
     let mut service = opened(alloc, disk)?;
-    assert_eq!(rt; service.feature(7), Some(&point(alloc, 2)?));
-    assert_eq!(rt; service.feature(9), None);
-    assert_eq!(rt; service.put(9, point(alloc, 1)?), Ok(8));
-    assert_eq!(rt; service.feature(9), Some(&point(alloc, 1)?));
+    assert_eq!(rt; service.ask_feature(7), Some(&point(alloc, 2)?));
+    assert_eq!(rt; service.ask_feature(9), None);
+    assert_eq!(rt; service.ask_put(9, point(alloc, 1)?), Ok(8));
+    assert_eq!(rt; service.ask_feature(9), Some(&point(alloc, 1)?));
     Ok(())
 }
 
@@ -204,7 +204,7 @@ fn features_by(alloc: Global, generation: u64) -> Result<[bool; 3], Fail> {
     let _ = disk.write(1, &root([generation, 5, 0, 25, 0]));
     write_two(&mut disk, 19, &texts_of(alloc, [(8, 0), (9, 0)])?);
     let service = opened(alloc, disk)?;
-    Ok([7, 8, 9].map(|id| service.feature(id).is_some()))
+    Ok([7, 8, 9].map(|id| service.ask_feature(id).is_some()))
 }
 
 #[test]
@@ -221,7 +221,7 @@ fn archive_behind_a_snapshot(rt: HostRuntime) -> Result<(), Fail> {
     let mut disk = disk_with(alloc, [5, 0, 655, 10_240], &texts_of(alloc, POINTS)?)?;
     let _ = disk.write(43, &[0xff; 512]);
     let service = opened(alloc, disk)?;
-    assert_eq!(rt; service.feature(9), Some(&point(alloc, 600)?));
+    assert_eq!(rt; service.ask_feature(9), Some(&point(alloc, 600)?));
     let more = disk_with(alloc, [5, 0, 655, 10_241], &texts_of(alloc, POINTS)?)?;
     assert_eq!(rt;
         outcome(alloc, more),

@@ -13,10 +13,10 @@ fn edit_all<D: Sectors + Drop>(
     service: &mut Service<D>,
 ) -> Result<[Result<u64, ServiceFault>; 4], Fail> {
     Ok([
-        service.put(1, point(alloc, 0)?),
-        service.put(2, point(alloc, 467)?),
-        service.delete(1),
-        service.put(3, point(alloc, 0)?),
+        service.ask_put(1, point(alloc, 0)?),
+        service.ask_put(2, point(alloc, 467)?),
+        service.ask_delete(1),
+        service.ask_put(3, point(alloc, 0)?),
     ])
 }
 
@@ -31,7 +31,7 @@ const FEATURES: [[bool; 3]; 5] = [
 
 /// After how many of the edits a service is.
 fn made_in<D: Sectors + Drop>(service: &Service<D>) -> Option<usize> {
-    let there = [1, 2, 3].map(|id| service.feature(id).is_some());
+    let there = [1, 2, 3].map(|id| service.ask_feature(id).is_some());
     FEATURES.iter().position(|features| *features == there)
 }
 
@@ -89,7 +89,7 @@ fn stopped_at_each_call(rt: HostRuntime) -> Result<(), Fail> {
                 let found = made_in(&again).ok_or("some first edits")?;
                 assert!(rt; found == told || found == told.saturating_add(1));
                 assert_eq!(rt;
-                    again.put(9, point(alloc, 0)?),
+                    again.ask_put(9, point(alloc, 0)?),
                     Ok((found as u64).saturating_add(1))
                 );
             }
@@ -129,7 +129,7 @@ fn calls_of(alloc: Global, letters: usize) -> Result<(u64, u64), Fail> {
         alloc,
         FaultyDisk::new(formatted(alloc)?, FailingCalls::OneNotMade(0)),
     )?;
-    let _ = service.put(1, point(alloc, letters)?);
+    let _ = service.ask_put(1, point(alloc, letters)?);
     Ok((before, service.into_disk().calls().saturating_sub(before)))
 }
 
@@ -153,7 +153,7 @@ fn stopped_edit(
 ) -> Result<MemoryDisk, Fail> {
     let faulty = FaultyDisk::new(disk, FailingCalls::AllFrom(call));
     let mut service = opened(alloc, faulty)?;
-    match service.put(id, point_of(alloc, letter, 963)?) {
+    match service.ask_put(id, point_of(alloc, letter, 963)?) {
         Err(ServiceFault::Device) => Ok(service.into_disk().into_disk().crash(choice)?),
         _ => Err("the edit isn't stopped".into()),
     }
@@ -166,14 +166,14 @@ fn goes_on(
     disk: MemoryDisk,
 ) -> Result<([bool; 3], Result<u64, ServiceFault>, [bool; 3]), Fail> {
     let mut service = opened(alloc, disk)?;
-    let found = [1, 2, 3].map(|id| service.feature(id).is_some());
+    let found = [1, 2, 3].map(|id| service.ask_feature(id).is_some());
     let feature = point_of(alloc, "z", 963)?;
-    let number = service.put(3, point_of(alloc, "z", 963)?);
+    let number = service.ask_put(3, point_of(alloc, "z", 963)?);
     let again = opened(alloc, service.into_disk().crash(&[])?)?;
     let kept = [
-        again.feature(1).is_some(),
-        again.feature(2).is_some(),
-        again.feature(3) == Some(&feature),
+        again.ask_feature(1).is_some(),
+        again.ask_feature(2).is_some(),
+        again.ask_feature(3) == Some(&feature),
     ];
     Ok((found, number, kept))
 }
