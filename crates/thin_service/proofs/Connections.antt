@@ -14,12 +14,12 @@ use Rattle.feature_model.specs.Data as edits
 use Rattle.feature_model.specs.Data.{EditData}
 use Rattle.tile_service.specs.Machine as events
 use Rattle.tile_service.specs.Machine.{AnswerData, shown, Steps}
-use Rattle.tile_service.specs.Runs.{TakesRun}
+use Rattle.tile_service.specs.Runs.{TakesEvent, TakesRun}
 use Rattle.tile_service.specs.Service.{ServiceView, Known, IsUp, state_of, edit_answer, EventLeaves}
 use Rattle.tile_service.specs.Stored.{Stored, with_edit}
 use Rattle.tile_service.specs.declared.fault.ServiceFault.{ServiceFault}
 use Rattle.tile_service.specs.declared.fault.ServiceFault.TheVariants.{Device}
-use Rattle.tile_service.proofs.Callers.{HasRun, HasStep, run_begins, run_on, tile_step, takes_run}
+use Rattle.tile_service.proofs.Callers.{HasRun, run_begins, run_on, tile_step, takes_run}
 use Rattle.tile_service.proofs.Runs.{no_known, broken_refuses, after_answer}
 use Rattle.thin_service.specs.declared.fault.RequestFault.{RequestFault}
 use Rattle.thin_service.specs.declared.fault.RequestFault.TheVariants.{NotFound, Memory}
@@ -53,7 +53,7 @@ module _ {D : Type 0} (sectors : D → ℕ) (honest : D → Type 0) (history : D
   }
 
   edit_step : (old : ServiceView D) (e : EditData) (answer : AnswerData) (new : ServiceView D) → TakesEdit sectors honest history old e answer new
-      → HasStep sectors honest history old (events.edit e) answer new
+      → TakesEvent sectors honest history old (events.edit e) answer new
   edit_step old e answer new is = record {
     machine = is.machine;
     size = is.size;

@@ -1,33 +1,25 @@
 -- A run of events as any caller of a service makes it, event by event.
 use Rattle.std.proofs.Common.{◌≡◌, ◌≢◌, ℕ, ◌<◌, ◌+◌, ◌-◌, List, [], ◌∷◌, ◌++◌, length, get_or, Option, Some, None, Result, true, false, refl, sym, ◌∙◌}
-use Rattle.std.proofs.Common.{ap, subst, arith, length-append}
+use Rattle.std.proofs.Common.{ap, subst, arith, append_assoc, length-append}
+use Rattle.std.proofs.lemmas.List.{append-nil}
 use Rattle.std.specs.Prelude.{IfSome, IfErr, OnOk}
 use Rattle.std.proofs.lemmas.Bool.{false≢true}
 use Rattle.sector_disk.specs.Disk.{History}
 use Rattle.sector_disk.specs.Moments.{LeavesOnly}
-use Rattle.tile_service.specs.Machine.{EventData, tile, begin, step, AnswerData, cancelled, refused, Steps, Runs}
-use Rattle.tile_service.specs.Runs.{all_edits, way_of, Way, Progress, starts, progress_of, NoneInDoubt, Reaches, TakesRun}
-use Rattle.tile_service.specs.Service.{PublicationView, ServiceView, Known, Publishes, IsUp, state_of, known_after, left_answer, EventLeaves, stored_after}
-use Rattle.tile_service.specs.Stored.{Stored, Keeps, last_of}
+use Rattle.feature_model.specs.Data.{EditData}
+use Rattle.tile_service.specs.Machine.{EventData, edit, tile, begin, step, cancel, AnswerData, cancelled, refused, Steps, Runs}
+use Rattle.tile_service.specs.Runs.{all_edits, way_of, Way, Progress, starts, progress_of, NoneInDoubt, Reaches, TakesEvent, TakesEvents, TakesRun}
+use Rattle.tile_service.specs.Service.{PublicationView, ServiceView, Known, Publishes, IsUp, state_of, known_after, edit_answer, left_answer}
+use Rattle.tile_service.specs.Service.{EventLeaves, stored_after}
+use Rattle.tile_service.specs.Stored.{Stored, Keeps, last_of, with_edit}
 use Rattle.tile_service.specs.declared.fault.ServiceFault.{ServiceFault}
 use Rattle.tile_service.specs.declared.fault.ServiceFault.TheVariants.{Device}
 use Rattle.tile_service.proofs.Fits.{RunLeaves, IsHere, doubt_breaks, run_starts, run_goes_on, run_fits, reaches_on, published_within, sized_as}
 use Rattle.tile_service.proofs.Progress.{Within, IsSince, has_start, has_last, progress_on, progress_edits, way_seen, way_after}
-use Rattle.tile_service.proofs.Runs.{no_known, broken_stays, broken_halts, was_unbroken, kept_for, after_step, runs_on, writes_nothing}
+use Rattle.tile_service.proofs.Runs.{no_known, broken_stays, broken_halts, was_unbroken, kept_for, after_step, after_answer, broken_refuses}
+use Rattle.tile_service.proofs.Runs.{runs_on, writes_nothing}
 
 module _ {D : Type 0} (sectors : D → ℕ) (honest : D → Type 0) (history : D → History) where
-  -- What one event does, whatever call made it.
-  pub record HasStep (old : ServiceView D) (event : EventData) (answer : AnswerData) (new : ServiceView D) : Type 0 where
-    pub machine : (known : Known) → Steps (state_of known old) event answer (state_of (known_after known old event answer) new)
-    pub size : new.size ≡ old.size
-    pub count : sectors new.disk ≡ sectors old.disk
-    pub stays_honest : honest new.disk → honest old.disk
-    pub untouched : old.broken ≡ true → new.disk ≡ old.disk
-    pub any_moment : (stored : Stored) → honest new.disk → IsUp (sectors old.disk) (history old.disk) stored old
-        → LeavesOnly (history old.disk) (history new.disk) (EventLeaves (sectors old.disk) old.size stored old.publication event answer)
-    pub after : (stored : Stored) → honest new.disk → IsUp (sectors old.disk) (history old.disk) stored old → answer ≢ refused Device
-        → IsUp (sectors new.disk) (history new.disk) (stored_after old.size stored old.publication event answer) new
-
   -- What a service goes on from after a run: what is stored, and the publication that is under way.
   pub record IsUpAfter (old : ServiceView D) (events : List EventData) (answers : List AnswerData) (now : ServiceView D) (stored : Stored) : Type 0 where
     pub reached : Stored
@@ -79,7 +71,7 @@ module _ {D : Type 0} (sectors : D → ℕ) (honest : D → Type 0) (history : D
   -- a tile that is shown changes nothing
   pub tile_step : (old new : ServiceView D) (z x y : ℕ) (answer : AnswerData)
       → ((known : Known) → Steps (state_of known old) (tile z x y) answer (state_of known new)) → new ≡ old
-      → HasStep old (tile z x y) answer new
+      → TakesEvent sectors honest history old (tile z x y) answer new
   tile_step old new z x y answer machine same = record {
     machine = machine;
     size = ap (λ (s : ServiceView D). s.size) same;
@@ -91,12 +83,35 @@ module _ {D : Type 0} (sectors : D → ℕ) (honest : D → Type 0) (history : D
     after = λ stored is_honest up not. subst (λ (s : ServiceView D). IsUp (sectors s.disk) (history s.disk) stored s) (sym same) up;
   }
 
+  -- an edit, by what a call of the service with it says
+  pub edit_step : (old new : ServiceView D) (e : EditData) (outcome : Result ℕ ServiceFault)
+      → ((known : Known) → Steps (state_of known old) (edit e) (edit_answer outcome) (state_of known new))
+      → new.size ≡ old.size → sectors new.disk ≡ sectors old.disk → (honest new.disk → honest old.disk)
+      → IfErr outcome (λ fault. fault ≢ Device → new.disk ≡ old.disk)
+      → ((stored : Stored) → honest new.disk → IsUp (sectors old.disk) (history old.disk) stored old
+      → LeavesOnly (history old.disk) (history new.disk) (EventLeaves (sectors old.disk) old.size stored old.publication (edit e) (edit_answer outcome)))
+      → ((stored : Stored) → honest new.disk → IsUp (sectors old.disk) (history old.disk) stored old
+      → OnOk outcome (IsUp (sectors new.disk) (history new.disk) (with_edit stored e) new))
+      → ((stored : Stored) → honest new.disk → IsUp (sectors old.disk) (history old.disk) stored old
+      → IfErr outcome (λ fault. fault ≢ Device → IsUp (sectors new.disk) (history new.disk) stored new))
+      → TakesEvent sectors honest history old (edit e) (edit_answer outcome) new
+  edit_step old new e outcome machine size count stays kept moments acknowledged refuses = record {
+    machine = machine;
+    size = size;
+    count = count;
+    stays_honest = stays;
+    untouched = broken_refuses (state_of no_known old) (state_of no_known new) e outcome (machine no_known) kept;
+    any_moment = moments;
+    after = λ stored is_honest up not. after_answer (λ (s : Stored). IsUp (sectors new.disk) (history new.disk) s new) old.size stored old.publication
+        e outcome refl refl (acknowledged stored is_honest up) (refuses stored is_honest up) not;
+  }
+
   -- the beginning of a publication changes nothing on the disk
   pub begin_step : (old new : ServiceView D) (result : Result ℕ ServiceFault)
       → ((known : Known) → Steps (state_of known old) begin (left_answer result) (state_of (known_after known old begin (left_answer result)) new))
       → new ≡ record old { publication = new.publication }
       → ((stored : Stored) → IsUp (sectors old.disk) (history old.disk) stored old → IsUp (sectors new.disk) (history new.disk) stored new)
-      → HasStep old begin (left_answer result) new
+      → TakesEvent sectors honest history old begin (left_answer result) new
   begin_step old new result machine same up_still = record {
     machine = machine;
     size = ap (λ (s : ServiceView D). s.size) same;
@@ -117,7 +132,7 @@ module _ {D : Type 0} (sectors : D → ℕ) (honest : D → Type 0) (history : D
       → LeavesOnly (history old.disk) (history new.disk) (EventLeaves (sectors old.disk) old.size stored old.publication step (left_answer result)))
       → ((stored : Stored) → honest new.disk → IsUp (sectors old.disk) (history old.disk) stored old
       → OnOk result (IsUp (sectors new.disk) (history new.disk) (stored_after old.size stored old.publication step (left_answer result)) new))
-      → HasStep old step (left_answer result) new
+      → TakesEvent sectors honest history old step (left_answer result) new
   step_step old new result machine size count stays same leaves up_after = record {
     machine = machine;
     size = size;
@@ -131,8 +146,25 @@ module _ {D : Type 0} (sectors : D → ℕ) (honest : D → Type 0) (history : D
         (kept_for (λ (s : ServiceView D). IsUp (sectors s.disk) (history s.disk) stored s) old new result same up) not;
   }
 
+  -- nor does its end where it is given up
+  pub cancel_step : (old new : ServiceView D) (answer : AnswerData)
+      → ((known : Known) → Steps (state_of known old) cancel answer (state_of known new))
+      → new ≡ record old { publication = new.publication }
+      → ((stored : Stored) → IsUp (sectors old.disk) (history old.disk) stored old → IsUp (sectors new.disk) (history new.disk) stored new)
+      → TakesEvent sectors honest history old cancel answer new
+  cancel_step old new answer machine same up_still = record {
+    machine = machine;
+    size = ap (λ (s : ServiceView D). s.size) same;
+    count = ap (λ (s : ServiceView D). sectors s.disk) same;
+    stays_honest = λ is_honest. subst (λ (d : D). honest d) (ap (λ (s : ServiceView D). s.disk) same) is_honest;
+    untouched = λ broken. ap (λ (s : ServiceView D). s.disk) same;
+    any_moment = λ stored is_honest up. writes_nothing (sectors old.disk) old.size stored old.publication cancel answer
+        (history old.disk) (history new.disk) (ap (λ (s : ServiceView D). history s.disk) same) up.keeps;
+    after = λ stored is_honest up not. up_still stored up;
+  }
+
   module _ (old now new : ServiceView D) (events : List EventData) (answers : List AnswerData) (event : EventData) (answer : AnswerData)
-      (so : HasRun old events answers now) (goes : HasStep now event answer new) where
+      (so : HasRun old events answers now) (goes : TakesEvent sectors honest history now event answer new) where
     abbrev known_then : Known
     known_then = known_after no_known now event answer
 
@@ -221,6 +253,61 @@ module _ {D : Type 0} (sectors : D → ℕ) (honest : D → Type 0) (history : D
       up = up_on;
       leaves = leaves_on;
     }
+
+  -- some events more
+  pub run_on_all : (old now new : ServiceView D) (events : List EventData) (answers : List AnswerData) (more : List EventData) (told : List AnswerData)
+      → HasRun old events answers now → TakesEvents sectors honest history now more told new → HasRun old (events ++ more) (answers ++ told) new
+  run_on_all old now new events answers [] [] so same = subst (λ (l : List EventData). HasRun old l (answers ++ []) new) (sym (append-nil events))
+      (subst (λ (l : List AnswerData). HasRun old events l new) (sym (append-nil answers))
+      (subst (λ (s : ServiceView D). HasRun old events answers s) (sym same) so))
+  run_on_all old now new events answers [] (answer ∷ told) so goes = absurd goes
+  run_on_all old now new events answers (event ∷ more) [] so goes = absurd goes
+  run_on_all old now new events answers (event ∷ more) (answer ∷ told) so goes =
+      subst (λ (l : List EventData). HasRun old l (answers ++ answer ∷ told) new) (append_assoc events (event ∷ []) more)
+      (subst (λ (l : List AnswerData). HasRun old ((events ++ event ∷ []) ++ more) l new) (append_assoc answers (answer ∷ []) told)
+      (run_on_all old goes.0 new (events ++ event ∷ []) (answers ++ answer ∷ []) more told
+      (run_on old now goes.0 events answers event answer so goes.1) goes.2))
+
+  -- the events of a chain, and one more
+  pub events_on : (old now new : ServiceView D) (events : List EventData) (answers : List AnswerData) (event : EventData) (answer : AnswerData)
+      → TakesEvents sectors honest history old events answers now → TakesEvent sectors honest history now event answer new
+      → TakesEvents sectors honest history old (events ++ event ∷ []) (answers ++ answer ∷ []) new
+  events_on old now new [] [] event answer so goes =
+      (new, subst (λ (s : ServiceView D). TakesEvent sectors honest history s event answer new) so goes, refl)
+  events_on old now new [] (a ∷ answers) event answer so goes = absurd so
+  events_on old now new (e ∷ events) [] event answer so goes = absurd so
+  events_on old now new (e ∷ events) (a ∷ answers) event answer so goes =
+      (so.0, so.1, events_on so.0 now new events answers event answer so.2 goes)
+
+  -- reading the archive is no event: it leaves a run as it is
+  pub run_reads : (old now new : ServiceView D) (events : List EventData) (answers : List AnswerData) → HasRun old events answers now
+      → new ≡ record now { disk = new.disk } → sectors new.disk ≡ sectors now.disk → (honest new.disk → honest now.disk)
+      → (honest new.disk → history new.disk ≡ history now.disk)
+      → ((stored : Stored) → IsUp (sectors now.disk) (history now.disk) stored now → honest new.disk → IsUp (sectors new.disk) (history new.disk) stored new)
+      → HasRun old events answers new
+  run_reads old now new events answers so same count stays unwritten up_still =
+      let broken : new.broken ≡ now.broken = ap (λ (s : ServiceView D). s.broken) same in
+      record {
+        same = so.same;
+        machine = λ known. let so_far = so.machine known in (
+          so_far.0,
+          subst (λ s. Runs (state_of known old) events answers s) (sym (ap (λ (s : ServiceView D). state_of so_far.0 s) same)) so_far.1,
+        );
+        size = ap (λ (s : ServiceView D). s.size) same ∙ so.size;
+        count = count ∙ so.count;
+        stays_honest = λ is_honest. so.stays_honest (stays is_honest);
+        doubt = λ index lt is. broken ∙ so.doubt index lt is;
+        up = λ stored is_honest up unbroken.
+            let so_far = so.up stored (stays is_honest) up (sym broken ∙ unbroken) in
+            record {
+              reached = so_far.reached;
+              is_up = up_still so_far.reached so_far.is_up is_honest;
+              reaches = so_far.reaches;
+              way_is = ap (λ (s : ServiceView D). way_of stored.edits s.publication) same ∙ so_far.way_is;
+            };
+        leaves = λ stored is_honest up. subst (λ (h : History). RunLeaves (sectors old.disk) old.size stored (way_of stored.edits old.publication)
+            events answers (history old.disk) h) (sym (unwritten is_honest)) (so.leaves stored (stays is_honest) up);
+      }
 
   -- What a run says of itself.
   pub takes_run : (old : ServiceView D) (events : List EventData) (answers : List AnswerData) (now : ServiceView D) → HasRun old events answers now

@@ -1,16 +1,16 @@
 -- What a disk may hold during a run of events.
-use Rattle.std.specs.Prelude.{◌≡◌, ◌≢◌, ◌⊎◌, ◌<◌, ◌≤◌, ◌+◌, ◌-◌, ℕ, zero, suc, false, List, [], ◌∷◌, ◌++◌, length, take, drop, get_or}
+use Rattle.std.specs.Prelude.{◌≡◌, ◌≢◌, ◌⊎◌, ◌<◌, ◌≤◌, ◌+◌, ◌-◌, ℕ, zero, suc, true, false, List, [], ◌∷◌, ◌++◌, length, take, drop, get_or}
 use Rattle.std.specs.Prelude.{Option, Some, None, option_map, Result, Ok, Err, replicate}
 use Rattle.sector_disk.specs.Disk.{History, Image, MayLeave, moment, LeftSince}
-use Rattle.sector_disk.specs.Moments.{Follows}
+use Rattle.sector_disk.specs.Moments.{Follows, LeavesOnly}
 use Rattle.feature_model.specs.Data.{EditData}
 use Rattle.feature_store.specs.Store.{after}
 use Rattle.tile_service.specs.declared.fault.ServiceFault.{ServiceFault}
 use Rattle.tile_service.specs.declared.fault.ServiceFault.TheVariants.{Device}
 use Rattle.tile_service.specs.declared.publishing.TheConstants.{STEP_SECTORS}
 use Rattle.tile_service.specs.declared.publishing_whole.Published.{Published}
-use Rattle.tile_service.specs.Machine.{EventData, edit, tile, look, begin, step, cancel, AnswerData, edited, shown, found, left, cancelled, refused, Runs}
-use Rattle.tile_service.specs.Service.{PublicationView, ServiceView, Known, IsUp, state_of, left_of}
+use Rattle.tile_service.specs.Machine.{EventData, edit, tile, look, begin, step, cancel, AnswerData, edited, shown, found, left, cancelled, refused, Steps, Runs}
+use Rattle.tile_service.specs.Service.{PublicationView, ServiceView, Known, IsUp, state_of, known_after, left_of, EventLeaves, stored_after}
 use Rattle.tile_service.specs.Stored.{Stored, Holds}
 
 -- ---- the edits of a run
@@ -204,6 +204,28 @@ EndsAs (Ok p) old new last =
 EndsAs (Err fault) old new last = last ≡ refused fault
 
 module _ {D : Type 0} (sectors : D → ℕ) (honest : D → Type 0) (history : D → History) where
+  -- The service answers one event, whatever call asks for it. A crash at any moment leaves what was stored, or what the event makes of
+  -- it; afterwards what it makes of it is stored, unless the disk failed.
+  pub record TakesEvent (old : ServiceView D) (event : EventData) (answer : AnswerData) (new : ServiceView D) : Type 0 where
+    pub machine : (known : Known) → Steps (state_of known old) event answer (state_of (known_after known old event answer) new)
+    pub size : new.size ≡ old.size
+    pub count : sectors new.disk ≡ sectors old.disk
+    pub stays_honest : honest new.disk → honest old.disk
+    -- a broken service writes no more
+    pub untouched : old.broken ≡ true → new.disk ≡ old.disk
+    pub any_moment : (stored : Stored) → honest new.disk → IsUp (sectors old.disk) (history old.disk) stored old
+        → LeavesOnly (history old.disk) (history new.disk) (EventLeaves (sectors old.disk) old.size stored old.publication event answer)
+    pub after : (stored : Stored) → honest new.disk → IsUp (sectors old.disk) (history old.disk) stored old → answer ≢ refused Device
+        → IsUp (sectors new.disk) (history new.disk) (stored_after old.size stored old.publication event answer) new
+
+  -- It answers these, from the first to the last.
+  pub TakesEvents : ServiceView D → List EventData → List AnswerData → ServiceView D → Type 0
+  TakesEvents old [] [] new = new ≡ old
+  TakesEvents old [] (answer ∷ answers) new = ⊥
+  TakesEvents old (event ∷ events) [] new = ⊥
+  TakesEvents old (event ∷ events) (answer ∷ answers) new =
+      (between : ServiceView D) × TakesEvent old event answer between × TakesEvents between events answers new
+
   -- The service answers these events one after the other. A crash at any moment leaves some first edits of the run: all that were
   -- acknowledged by then, and none asked for later. A service that isn't broken at the end goes on from what was acknowledged.
   pub record TakesRun (old : ServiceView D) (events : List EventData) (answers : List AnswerData) (new : ServiceView D) : Type 0 where
@@ -219,5 +241,6 @@ module _ {D : Type 0} (sectors : D → ℕ) (honest : D → Type 0) (history : D
     pub steps : ℕ
     pub before : List AnswerData
     pub last : AnswerData
+    pub events : TakesEvents old (begin ∷ replicate steps step) (before ++ last ∷ []) new
     pub run : TakesRun old (begin ∷ replicate steps step) (before ++ last ∷ []) new
     pub ends : EndsAs result old new last

@@ -1,7 +1,8 @@
 use Rattle.std.proofs.Common.{◌≡◌, inr, ℕ, ◌+◌, [], ◌∷◌, ◌++◌, Ok, Err, replicate, refl, ◌∙◌, ap, subst, arith}
 use Rattle.tile_service.specs.Machine.{begin, step, left, refused}
+use Rattle.tile_service.specs.Runs.{TakesEvent, TakesEvents}
 use Rattle.tile_service.specs.Service.{state_of, known_after, CountsDevice}
-use Rattle.tile_service.proofs.Callers.{HasRun, HasStep, begin_step, step_step, run_begins, run_on, takes_run}
+use Rattle.tile_service.proofs.Callers.{HasRun, begin_step, step_step, run_begins, run_on, events_on, takes_run}
 use Rattle.tile_service.proofs.Runs.{no_known}
 use Rattle.tile_service.proofs.Whole.{Stands, begun_stands, on_stands, falls, only_device, device_gives_up, begin_counts, none_seen, begin_given_up, steps_more}
 use Rattle.tile_service.proofs.service.Service.publish.Goals as goal
@@ -11,7 +12,7 @@ loop-rest-init g c =
     let call = c.in-Ok.ensures in
     let old = c.args.self.now in
     let new = c.publish_begin.new.self in
-    let goes : HasStep g.D.Sectors.sectors g.D.Sectors.honest g.D.Sectors.history old begin (left c.in-Ok.told) new =
+    let goes : TakesEvent g.D.Sectors.sectors g.D.Sectors.honest g.D.Sectors.history old begin (left c.in-Ok.told) new =
     begin_step g.D.Sectors.sectors g.D.Sectors.honest g.D.Sectors.history old new (Ok c.in-Ok.told) call.machine call.same call.up in
     let run : HasRun g.D.Sectors.sectors g.D.Sectors.honest g.D.Sectors.history old (begin ∷ []) (left c.in-Ok.told ∷ []) new =
     run_on g.D.Sectors.sectors g.D.Sectors.honest g.D.Sectors.history old old new [] [] begin (left c.in-Ok.told)
@@ -23,7 +24,7 @@ loop-rest-init g c =
       );
       edits = ap (λ s. s.journal.last) c.self.view_is;
       faults = ap (λ s. g.D.Sectors.faults s.disk) call.same;
-      run = (0, [], run);
+      run = (0, [], run, (new, goes, refl));
     }
 
 pub loop-rest-preserved : goal.loop-rest-preserved
@@ -33,7 +34,7 @@ loop-rest-preserved g c =
     let old = c.loop-rest.self in
     let new = c.publish_step.new.self in
     let rest = c.loop-rest.rest in
-    let goes : HasStep g.D.Sectors.sectors g.D.Sectors.honest g.D.Sectors.history old step (left c.in-Ok-publish_step.told) new =
+    let goes : TakesEvent g.D.Sectors.sectors g.D.Sectors.honest g.D.Sectors.history old step (left c.in-Ok-publish_step.told) new =
     step_step g.D.Sectors.sectors g.D.Sectors.honest g.D.Sectors.history old new (Ok c.in-Ok-publish_step.told)
     call.machine call.size call.count call.honest call.refused call.any_moment call.after in
     let run : HasRun g.D.Sectors.sectors g.D.Sectors.honest g.D.Sectors.history c.args.self.now
@@ -42,6 +43,12 @@ loop-rest-preserved g c =
     events ((inv.run.1 ++ left rest ∷ []) ++ left c.in-Ok-publish_step.told ∷ []) new) inv.run.0
     (run_on g.D.Sectors.sectors g.D.Sectors.honest g.D.Sectors.history c.args.self.now old new
     (begin ∷ replicate inv.run.0 step) (inv.run.1 ++ left rest ∷ []) step (left c.in-Ok-publish_step.told) inv.run.2 goes) in
+    let taken : TakesEvents g.D.Sectors.sectors g.D.Sectors.honest g.D.Sectors.history c.args.self.now
+    (begin ∷ replicate (inv.run.0 + 1) step) ((inv.run.1 ++ left rest ∷ []) ++ left c.in-Ok-publish_step.told ∷ []) new =
+    steps_more (λ events. TakesEvents g.D.Sectors.sectors g.D.Sectors.honest g.D.Sectors.history c.args.self.now
+    events ((inv.run.1 ++ left rest ∷ []) ++ left c.in-Ok-publish_step.told ∷ []) new) inv.run.0
+    (events_on g.D.Sectors.sectors g.D.Sectors.honest g.D.Sectors.history c.args.self.now old new
+    (begin ∷ replicate inv.run.0 step) (inv.run.1 ++ left rest ∷ []) step (left c.in-Ok-publish_step.told) inv.run.3 goes) in
     let known = inv.stands.0 in
     let moved = call.machine known in
     record {
@@ -52,7 +59,7 @@ loop-rest-preserved g c =
       );
       edits = inv.edits;
       faults = call.faults ∙ inv.faults;
-      run = (inv.run.0 + 1, inv.run.1 ++ left rest ∷ [], run);
+      run = (inv.run.0 + 1, inv.run.1 ++ left rest ∷ [], run, taken);
     }
 
 pub loop-rest-smaller : goal.loop-rest-smaller
@@ -68,7 +75,7 @@ returns-in-Err-clause-run g c =
     let call = c.in-Err.ensures in
     let old = c.args.self.now in
     let new = c.publish_begin.new.self in
-    let goes : HasStep g.D.Sectors.sectors g.D.Sectors.honest g.D.Sectors.history old begin (refused c.in-Err.fault) new =
+    let goes : TakesEvent g.D.Sectors.sectors g.D.Sectors.honest g.D.Sectors.history old begin (refused c.in-Err.fault) new =
     begin_step g.D.Sectors.sectors g.D.Sectors.honest g.D.Sectors.history old new (Err c.in-Err.fault) call.machine call.same call.up in
     let run : HasRun g.D.Sectors.sectors g.D.Sectors.honest g.D.Sectors.history old (begin ∷ []) (refused c.in-Err.fault ∷ []) new =
     run_on g.D.Sectors.sectors g.D.Sectors.honest g.D.Sectors.history old old new [] [] begin (refused c.in-Err.fault)
@@ -77,6 +84,7 @@ returns-in-Err-clause-run g c =
       steps = 0;
       before = [];
       last = refused c.in-Err.fault;
+      events = (new, goes, refl);
       run = takes_run g.D.Sectors.sectors g.D.Sectors.honest g.D.Sectors.history old (begin ∷ []) (refused c.in-Err.fault ∷ []) new run;
       ends = refl;
     }
@@ -112,7 +120,7 @@ returns-in-Err-publish_step-clause-run g c =
     let old = c.loop-rest.self in
     let new = c.publish_step.new.self in
     let rest = c.loop-rest.rest in
-    let goes : HasStep g.D.Sectors.sectors g.D.Sectors.honest g.D.Sectors.history old step (refused c.in-Err-publish_step.fault) new =
+    let goes : TakesEvent g.D.Sectors.sectors g.D.Sectors.honest g.D.Sectors.history old step (refused c.in-Err-publish_step.fault) new =
     step_step g.D.Sectors.sectors g.D.Sectors.honest g.D.Sectors.history old new (Err c.in-Err-publish_step.fault)
     call.machine call.size call.count call.honest call.refused call.any_moment call.after in
     let run : HasRun g.D.Sectors.sectors g.D.Sectors.honest g.D.Sectors.history c.args.self.now
@@ -121,10 +129,17 @@ returns-in-Err-publish_step-clause-run g c =
     events ((inv.run.1 ++ left rest ∷ []) ++ refused c.in-Err-publish_step.fault ∷ []) new) inv.run.0
     (run_on g.D.Sectors.sectors g.D.Sectors.honest g.D.Sectors.history c.args.self.now old new
     (begin ∷ replicate inv.run.0 step) (inv.run.1 ++ left rest ∷ []) step (refused c.in-Err-publish_step.fault) inv.run.2 goes) in
+    let taken : TakesEvents g.D.Sectors.sectors g.D.Sectors.honest g.D.Sectors.history c.args.self.now
+    (begin ∷ replicate (inv.run.0 + 1) step) ((inv.run.1 ++ left rest ∷ []) ++ refused c.in-Err-publish_step.fault ∷ []) new =
+    steps_more (λ events. TakesEvents g.D.Sectors.sectors g.D.Sectors.honest g.D.Sectors.history c.args.self.now
+    events ((inv.run.1 ++ left rest ∷ []) ++ refused c.in-Err-publish_step.fault ∷ []) new) inv.run.0
+    (events_on g.D.Sectors.sectors g.D.Sectors.honest g.D.Sectors.history c.args.self.now old new
+    (begin ∷ replicate inv.run.0 step) (inv.run.1 ++ left rest ∷ []) step (refused c.in-Err-publish_step.fault) inv.run.3 goes) in
     record {
       steps = inv.run.0 + 1;
       before = inv.run.1 ++ left rest ∷ [];
       last = refused c.in-Err-publish_step.fault;
+      events = taken;
       run = takes_run g.D.Sectors.sectors g.D.Sectors.honest g.D.Sectors.history c.args.self.now (begin ∷ replicate (inv.run.0 + 1) step)
           ((inv.run.1 ++ left rest ∷ []) ++ refused c.in-Err-publish_step.fault ∷ []) new run;
       ends = refl;
@@ -174,6 +189,7 @@ returns-clause-run g c =
       steps = inv.run.0;
       before = inv.run.1;
       last = left c.loop-rest.rest;
+      events = inv.run.3;
       run = takes_run g.D.Sectors.sectors g.D.Sectors.honest g.D.Sectors.history c.args.self.now (begin ∷ replicate inv.run.0 step)
           (inv.run.1 ++ left c.loop-rest.rest ∷ []) c.loop-rest.self inv.run.2;
       ends = (

@@ -7,8 +7,8 @@ use Rattle.std.specs.Vec.Iter.{into_iter_items}
 use Rattle.sector_disk.specs.Disk.{HasFailed}
 use Rattle.tile_service.specs.Events.{event_data, answer_data}
 use Rattle.tile_service.specs.Machine.{EventData, AnswerData}
-use Rattle.tile_service.specs.Runs.{TakesRun}
-use Rattle.tile_service.proofs.Callers.{HasRun, HasStep, run_begins, run_on, takes_run}
+use Rattle.tile_service.specs.Runs.{TakesEvent, TakesRun}
+use Rattle.tile_service.proofs.Callers.{HasRun, run_begins, run_on, takes_run}
 use Rattle.tile_service.proofs.Fits.{told_as}
 use Rattle.tile_service.proofs.Runs.{no_known, broken_stays, true_or_false, was_unbroken}
 use Rattle.tile_service.proofs.service.Service.run.Goals as goal
@@ -46,7 +46,7 @@ loop-event-preserved g c =
     let steps = c.in-Some.ensures.steps in
     let taken = call.machine no_known in
     let new = c.answer-answer.new.self in
-    let goes : HasStep g.D.Sectors.sectors g.D.Sectors.honest g.D.Sectors.history c.loop-event.self (event_data event) (answer_data answer) new = record {
+    let goes : TakesEvent g.D.Sectors.sectors g.D.Sectors.honest g.D.Sectors.history c.loop-event.self (event_data event) (answer_data answer) new = record {
       machine = call.machine;
       size = call.size;
       count = call.count;
