@@ -219,7 +219,7 @@ module _ {D : Type 0} (sectors : D → ℕ) (honest : D → Type 0) (history : D
         → IsUp (sectors new.disk) (history new.disk) (stored_after old.size stored old.publication event answer) new
 
   -- It answers these, from the first to the last.
-  pub TakesEvents : ServiceView D → List EventData → List AnswerData → ServiceView D → Type 0
+  abbrev pub TakesEvents : ServiceView D → List EventData → List AnswerData → ServiceView D → Type 0
   TakesEvents old [] [] new = new ≡ old
   TakesEvents old [] (answer ∷ answers) new = ⊥
   TakesEvents old (event ∷ events) [] new = ⊥

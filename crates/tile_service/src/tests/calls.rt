@@ -1,10 +1,30 @@
-//! The calls of a service without their clauses: no test needs these, and its proof is much shorter without them.
+//! The calls of a service without their clauses: no test needs these, and its proof is much shorter without them. For the same reason a
+//! test asks for several events at once where it can.
 
+use super::point;
 use crate::{Answer, Event, Published, Service, ServiceFault};
 use feature_model::Feature;
 use hilbert_id::TileAt;
 use sector_disk::Sectors;
 use serde_json::Value;
+use std::alloc::Global;
+use std::test::Fail;
+
+/// The event that gives a number a point with so many letters.
+pub(crate) fn put(alloc: Global, id: u64, letters: usize) -> Result<Event, Fail> {
+    let feature = point(alloc, letters)?;
+    Ok(Event::Put { id, feature })
+}
+
+/// The answer that shows such a point.
+pub(crate) fn shows(alloc: Global, letters: usize) -> Result<Answer, Fail> {
+    Ok(Answer::Look(Some(point(alloc, letters)?)))
+}
+
+/// The answer that the journal is full.
+pub(crate) fn full(need: u64, free: u64) -> Answer {
+    Answer::Refused(ServiceFault::JournalFull { need, free })
+}
 
 impl<D: Sectors + Drop> Service<D> {
     pub(crate) fn ask_put(&mut self, id: u64, feature: Feature) -> Result<u64, ServiceFault> {

@@ -1,4 +1,5 @@
 //! Edits, tiles and features, one call after the other and as runs of events.
+use super::calls::{full, put, shows};
 use super::{formatted, opened, point};
 use crate::{Answer, Event, ServiceFault};
 use feature_model::EditFault;
@@ -13,25 +14,47 @@ const TILE: [u8; 21] = [
 #[test]
 fn edits_are_shown_and_outlive_crashes(rt: HostRuntime) -> Result<(), Fail> {
     let alloc = rt.alloc();
-    let tile = TileAt::new(0, 0, 0).ok_or("a tile")?;
+    let at = TileAt::new(0, 0, 0).ok_or("a tile")?;
+    let mut service = opened(alloc, formatted(alloc)?)?;
+    let events = vec![in alloc;
+        put(alloc, 7, 0)?,
+        put(alloc, 8, 467)?,
+        Event::Delete { id: 9 },
+        Event::Delete { id: 8 },
+        Event::Delete { id: 8 },
+    ]?;
+    let wanted = [
+        Answer::Edited(1),
+        Answer::Edited(2),
+        Answer::Refused(ServiceFault::NotFound),
+        Answer::Edited(3),
+        Answer::Refused(ServiceFault::NotFound),
+    ];
+    assert_eq!(rt; service.ask_run(events)?.as_slice(), wanted.as_slice());
+    let mut again = opened(alloc, service.into_disk().crash(&[])?)?;
+    let events = vec![in alloc;
+        Event::Look { id: 7 },
+        Event::Look { id: 8 },
+        Event::Tile { at },
+        put(alloc, 8, 0)?,
+    ]?;
+    let wanted = [
+        shows(alloc, 0)?,
+        Answer::Look(None),
+        Answer::Tile(Some(Vec::from_slice(alloc, &TILE)?)),
+        Answer::Edited(4),
+    ];
+    assert_eq!(rt; again.ask_run(events)?.as_slice(), wanted.as_slice());
+    Ok(())
+}
+
+#[test]
+fn no_tile_above_the_greatest_zoom(rt: HostRuntime) -> Result<(), Fail> {
+    let alloc = rt.alloc();
     let deep = TileAt::new(17, 0, 0).ok_or("a tile")?;
     let mut service = opened(alloc, formatted(alloc)?)?;
-    assert_eq!(rt; service.ask_tile(tile)?, None);
     assert_eq!(rt; service.ask_put(7, point(alloc, 0)?), Ok(1));
-    assert_eq!(rt; service.ask_feature(7), Some(&point(alloc, 0)?));
-    assert_eq!(rt; service.ask_tile(tile)?.as_deref(), Some(TILE.as_slice()));
     assert_eq!(rt; service.ask_tile(deep)?, None);
-    assert_eq!(rt; service.ask_put(8, point(alloc, 467)?), Ok(2));
-    assert_eq!(rt; service.ask_delete(9), Err(ServiceFault::NotFound));
-    assert_eq!(rt; service.ask_delete(8), Ok(3));
-    assert_eq!(rt; service.ask_delete(8), Err(ServiceFault::NotFound));
-
-    let left = service.into_disk().crash(&[])?;
-    let mut again = opened(alloc, left)?;
-    assert_eq!(rt; again.ask_feature(7), Some(&point(alloc, 0)?));
-    assert_eq!(rt; again.ask_feature(8), None);
-    assert_eq!(rt; again.ask_tile(tile)?.as_deref(), Some(TILE.as_slice()));
-    assert_eq!(rt; again.ask_put(8, point(alloc, 0)?), Ok(4));
     Ok(())
 }
 
@@ -52,16 +75,33 @@ fn refused_edits(rt: HostRuntime) -> Result<(), Fail> {
             Err(ServiceFault::Limit(fault))
         );
     }
+    Ok(())
+}
+
+#[test]
+fn a_full_journal(rt: HostRuntime) -> Result<(), Fail> {
+    let alloc = rt.alloc();
+    let mut service = opened(alloc, formatted(alloc)?)?;
     for id in 1..16 {
         assert_eq!(rt; service.ask_put(id, point(alloc, 0)?), Ok(id));
     }
-    let full = |need, free| Err(ServiceFault::JournalFull { need, free });
-    assert_eq!(rt; service.ask_put(16, point(alloc, 467)?), full(2, 1));
-    assert_eq!(rt; service.ask_feature(16), None);
-    assert_eq!(rt; service.ask_put(16, point(alloc, 466)?), Ok(16));
-    assert_eq!(rt; service.ask_put(17, point(alloc, 0)?), full(1, 0));
-    assert_eq!(rt; service.ask_delete(1), full(1, 0));
-    assert!(rt; service.ask_feature(1).is_some());
+    let events = vec![in alloc;
+        put(alloc, 16, 467)?,
+        Event::Look { id: 16 },
+        put(alloc, 16, 466)?,
+        put(alloc, 17, 0)?,
+        Event::Delete { id: 1 },
+        Event::Look { id: 1 },
+    ]?;
+    let wanted = [
+        full(2, 1),
+        Answer::Look(None),
+        Answer::Edited(16),
+        full(1, 0),
+        full(1, 0),
+        shows(alloc, 0)?,
+    ];
+    assert_eq!(rt; service.ask_run(events)?.as_slice(), wanted.as_slice());
     let again = opened(alloc, service.into_disk().crash(&[])?)?;
     assert_eq!(rt; again.ask_feature(16), Some(&point(alloc, 466)?));
     assert_eq!(rt; again.ask_feature(17), None);

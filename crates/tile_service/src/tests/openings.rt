@@ -1,7 +1,8 @@
 //! Disks made ready and opened, and those that aren't.
 
-use super::{begins, formatted, opened, point, root};
-use crate::{Service, ServiceFault};
+use super::calls::put;
+use super::{begins, formatted, opened, root};
+use crate::{Answer, Event, Service, ServiceFault};
 use generations::{StoreFault, What, read_root};
 use sector_disk::{MemoryDisk, Sectors};
 use std::alloc::Global;
@@ -106,13 +107,19 @@ fn spent_numbers(rt: HostRuntime) -> Result<(), Fail> {
     let mut disk = formatted(alloc)?;
     let _ = disk.write(1, &root([0, u64::MAX - 1, 0, 0, 0]));
     let mut service = opened(alloc, disk)?;
-    assert_eq!(rt; service.ask_put(1, point(alloc, 0)?), Ok(u64::MAX));
-    assert_eq!(rt;
-        service.ask_put(2, point(alloc, 0)?),
-        Err(ServiceFault::NumbersSpent)
-    );
-    assert_eq!(rt; service.ask_delete(1), Err(ServiceFault::NumbersSpent));
-    assert_eq!(rt; service.ask_delete(2), Err(ServiceFault::NotFound));
+    let events = vec![in alloc;
+        put(alloc, 1, 0)?,
+        put(alloc, 2, 0)?,
+        Event::Delete { id: 1 },
+        Event::Delete { id: 2 },
+    ]?;
+    let wanted = [
+        Answer::Edited(u64::MAX),
+        Answer::Refused(ServiceFault::NumbersSpent),
+        Answer::Refused(ServiceFault::NumbersSpent),
+        Answer::Refused(ServiceFault::NotFound),
+    ];
+    assert_eq!(rt; service.ask_run(events)?.as_slice(), wanted.as_slice());
     let again = opened(alloc, service.into_disk())?;
     assert!(rt; again.ask_feature(1).is_some());
     Ok(())

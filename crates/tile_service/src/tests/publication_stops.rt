@@ -3,7 +3,7 @@
 use super::archives::{archive_of, points_to, tile_of};
 use super::publications::large_disk;
 use super::{archive, formatted, opened, point, publish};
-use crate::{Service, ServiceFault};
+use crate::{Answer, Event, Service, ServiceFault};
 use hilbert_id::TileAt;
 use sector_disk::{FailingCalls, FaultyDisk, MemoryDisk, Sectors};
 use std::alloc::Global;
@@ -123,8 +123,9 @@ fn calls_of_a_publication(rt: HostRuntime) -> Result<(), Fail> {
     let mut service = opened(alloc, faulty)?;
     assert_eq!(rt; service.ask_put(8, point(alloc, 0)?), Ok(2));
     assert_eq!(rt; publish(alloc, &mut service)?.as_slice(), [3, 0].as_slice());
-    assert_eq!(rt; service.ask_begin(), Ok(3));
-    assert_eq!(rt; service.ask_cancel(), Ok(()));
+    let events = vec![in alloc; Event::Begin, Event::Cancel]?;
+    let wanted = [Answer::Left(3), Answer::Cancelled];
+    assert_eq!(rt; service.ask_run(events)?.as_slice(), wanted.as_slice());
     assert_eq!(rt; service.into_disk().calls(), 13);
     Ok(())
 }

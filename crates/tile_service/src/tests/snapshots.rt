@@ -1,8 +1,9 @@
 //! Disks with a snapshot, made byte by byte. Of their 64 sectors 16 are the journal's, from 3 on; area 0 begins at 19, area 1 at 41.
 ghost use Rattle.std.specs.Prelude.{◌≡◌, ◌<◌, IfOk};
 
+use super::calls::{put, shows};
 use super::{begins, formatted, opened, point, root};
-use crate::Service;
+use crate::{Answer, Event, Service};
 use generations::{StoreFault, What};
 use sector_disk::{MemoryDisk, Sectors};
 use std::alloc::Global;
@@ -76,13 +77,21 @@ fn snapshot_without_edits(rt: HostRuntime) -> Result<(), Fail> {
     let text = texts_of(alloc, POINTS)?;
     assert_eq!(rt; text.len(), 655);
     let mut service = opened(alloc, disk_with(alloc, [5, 0, 655, 0], &text)?)?;
-    assert_eq!(rt; service.ask_feature(7), Some(&point(alloc, 0)?));
-    assert_eq!(rt; service.ask_feature(8), None);
-    assert_eq!(rt; service.ask_feature(9), Some(&point(alloc, 600)?));
-    assert_eq!(rt; service.ask_put(8, point(alloc, 0)?), Ok(6));
+    let events = vec![in alloc;
+        Event::Look { id: 7 },
+        Event::Look { id: 8 },
+        Event::Look { id: 9 },
+        put(alloc, 8, 0)?,
+    ]?;
+    let wanted = [
+        shows(alloc, 0)?,
+        Answer::Look(None),
+        shows(alloc, 600)?,
+        Answer::Edited(6),
+    ];
+    assert_eq!(rt; service.ask_run(events)?.as_slice(), wanted.as_slice());
     let again = opened(alloc, service.into_disk().crash(&[])?)?;
-    assert!(rt; again.ask_feature(8).is_some());
-    assert!(rt; again.ask_feature(9).is_some());
+    assert!(rt; again.ask_feature(8).is_some() && again.ask_feature(9).is_some());
     Ok(())
 }
 
@@ -101,10 +110,19 @@ fn edits_behind_a_snapshot(rt: HostRuntime) -> Result<(), Fail> {
         ]),
     );
     let mut service = opened(alloc, disk)?;
-    assert_eq!(rt; service.ask_feature(7), Some(&point(alloc, 2)?));
-    assert_eq!(rt; service.ask_feature(9), None);
-    assert_eq!(rt; service.ask_put(9, point(alloc, 1)?), Ok(8));
-    assert_eq!(rt; service.ask_feature(9), Some(&point(alloc, 1)?));
+    let events = vec![in alloc;
+        Event::Look { id: 7 },
+        Event::Look { id: 9 },
+        put(alloc, 9, 1)?,
+        Event::Look { id: 9 },
+    ]?;
+    let wanted = [
+        shows(alloc, 2)?,
+        Answer::Look(None),
+        Answer::Edited(8),
+        shows(alloc, 1)?,
+    ];
+    assert_eq!(rt; service.ask_run(events)?.as_slice(), wanted.as_slice());
     Ok(())
 }
 
