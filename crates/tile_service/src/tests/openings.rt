@@ -1,8 +1,8 @@
 //! Disks made ready and opened, and those that aren't.
 
-use super::calls::put;
+use super::calls::{Ask, Told, other_answer};
 use super::{begins, formatted, opened, root};
-use crate::{Answer, Event, Service, ServiceFault};
+use crate::{Service, ServiceFault};
 use generations::{StoreFault, What, read_root};
 use sector_disk::{MemoryDisk, Sectors};
 use std::alloc::Global;
@@ -107,20 +107,14 @@ fn spent_numbers(rt: HostRuntime) -> Result<(), Fail> {
     let mut disk = formatted(alloc)?;
     let _ = disk.write(1, &root([0, u64::MAX - 1, 0, 0, 0]));
     let mut service = opened(alloc, disk)?;
-    let events = vec![in alloc;
-        put(alloc, 1, 0)?,
-        put(alloc, 2, 0)?,
-        Event::Delete { id: 1 },
-        Event::Delete { id: 2 },
-    ]?;
-    let wanted = [
-        Answer::Edited(u64::MAX),
-        Answer::Refused(ServiceFault::NumbersSpent),
-        Answer::Refused(ServiceFault::NumbersSpent),
-        Answer::Refused(ServiceFault::NotFound),
+    let rows = [
+        (Ask::Put(1, 0), Told::Edited(u64::MAX)),
+        (Ask::Put(2, 0), Told::Refused(ServiceFault::NumbersSpent)),
+        (Ask::Delete(1), Told::Refused(ServiceFault::NumbersSpent)),
+        (Ask::Delete(2), Told::Refused(ServiceFault::NotFound)),
     ];
-    assert_eq!(rt; service.ask_run(events)?.as_slice(), wanted.as_slice());
+    assert_eq!(rt; other_answer(alloc, &mut service, &rows)?, None);
     let again = opened(alloc, service.into_disk())?;
-    assert!(rt; again.ask_feature(1).is_some());
+    assert!(rt; again.has(1));
     Ok(())
 }

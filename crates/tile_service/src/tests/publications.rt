@@ -1,11 +1,10 @@
 //! Publications by steps, over disks in memory of 64 sectors: 16 of the journal, and two areas of 22, the second of them at 41.
 
-use super::archives::{Point, archive_of, points_to, tile_of};
-use super::calls::{full, put, shows};
+use super::archives::{Point, archive_of, points_to};
+use super::calls::{Ask, Told, full, other_answer};
 use super::{archive, begins, formatted, opened, point, publish, root, sector_at};
-use crate::{Answer, Event, Published, Service, ServiceFault};
+use crate::{Published, Service, ServiceFault};
 use feature_model::{Feature, Geometry, World};
-use hilbert_id::TileAt;
 use pm_archive::{Archive, Report};
 use sector_disk::{MemoryDisk, Sectors};
 use std::alloc::Global;
@@ -106,7 +105,8 @@ fn steps_of_64_sectors(rt: HostRuntime) -> Result<(), Fail> {
     assert_eq!(rt; archive(alloc, &mut service)?, bytes);
     let left = service.into_disk().crash(&[])?;
     let mut again = opened(alloc, left)?;
-    assert_eq!(rt; again.ask_feature(62), Some(&point(alloc, 1_000)?));
+    let rows = [(Ask::Look(62), Told::Point(1_000))];
+    assert_eq!(rt; other_answer(alloc, &mut again, &rows)?, None);
     assert_eq!(rt; archive(alloc, &mut again)?, bytes);
     let mut disk = again.into_disk();
     assert_eq!(rt; sector_at(&mut disk, 2), root([1, 62, 186, 63_860, 2_166]));
@@ -160,28 +160,27 @@ fn an_edit_at_the_end_of_the_ring(rt: HostRuntime) -> Result<(), Fail> {
     assert_eq!(rt; sector_at(&mut disk, 18), head);
     assert_eq!(rt; sector_at(&mut disk, 3), body);
     let mut again = opened(alloc, disk.crash(&[])?)?;
-    let events = vec![in alloc;
-        Event::Look { id: 15 },
-        Event::Look { id: 16 },
-        put(alloc, 17, 0)?,
-    ]?;
-    let wanted = [shows(alloc, 0)?, shows(alloc, 467)?, Answer::Edited(17)];
-    assert_eq!(rt; again.ask_run(events)?.as_slice(), wanted.as_slice());
+    let rows = [
+        (Ask::Look(15), Told::Point(0)),
+        (Ask::Look(16), Told::Point(467)),
+        (Ask::Put(17, 0), Told::Edited(17)),
+    ];
+    assert_eq!(rt; other_answer(alloc, &mut again, &rows)?, None);
     Ok(())
 }
 
 #[test]
 fn an_edit_between(rt: HostRuntime) -> Result<(), Fail> {
     let alloc = rt.alloc();
-    let at = TileAt::new(0, 0, 0).ok_or("a tile")?;
     let mut service = service_with(alloc, &[(7, 0)])?;
     assert_eq!(rt; service.ask_begin(), Ok(3));
     assert_eq!(rt; service.ask_put(8, point(alloc, 0)?), Ok(2));
     assert_eq!(rt; service.archive_len(), 0);
-    let events = vec![in alloc; Event::Step, Event::Tile { at }]?;
-    let both = tile_of(alloc, &[(7, 0), (8, 0)])?;
-    let wanted = [Answer::Left(0), Answer::Tile(Some(both))];
-    assert_eq!(rt; service.ask_run(events)?.as_slice(), wanted.as_slice());
+    let rows = [
+        (Ask::Step, Told::Left(0)),
+        (Ask::Tile, Told::Tile(&[(7, 0), (8, 0)])),
+    ];
+    assert_eq!(rt; other_answer(alloc, &mut service, &rows)?, None);
     assert_eq!(rt;
         archive(alloc, &mut service)?,
         archive_of(alloc, &[(7, 0)])?
@@ -192,16 +191,17 @@ fn an_edit_between(rt: HostRuntime) -> Result<(), Fail> {
 #[test]
 fn an_edit_between_outlives_a_crash(rt: HostRuntime) -> Result<(), Fail> {
     let alloc = rt.alloc();
-    let at = TileAt::new(0, 0, 0).ok_or("a tile")?;
     let mut service = service_with(alloc, &[(7, 0)])?;
-    let events = vec![in alloc; Event::Begin, put(alloc, 8, 0)?, Event::Step]?;
-    let _ = service.ask_run(events)?;
+    let _ = service.ask_begin()?;
+    let _ = service.ask_put(8, point(alloc, 0)?)?;
+    let _ = service.ask_step()?;
     let mut again = opened(alloc, service.into_disk().crash(&[])?)?;
     assert_eq!(rt; archive(alloc, &mut again)?, archive_of(alloc, &[(7, 0)])?);
-    let events = vec![in alloc; Event::Tile { at }, put(alloc, 9, 0)?]?;
-    let both = tile_of(alloc, &[(7, 0), (8, 0)])?;
-    let wanted = [Answer::Tile(Some(both)), Answer::Edited(3)];
-    assert_eq!(rt; again.ask_run(events)?.as_slice(), wanted.as_slice());
+    let rows = [
+        (Ask::Tile, Told::Tile(&[(7, 0), (8, 0)])),
+        (Ask::Put(9, 0), Told::Edited(3)),
+    ];
+    assert_eq!(rt; other_answer(alloc, &mut again, &rows)?, None);
     Ok(())
 }
 
@@ -222,13 +222,11 @@ fn with_edits_between(alloc: Global) -> Result<MemoryDisk, Fail> {
 #[test]
 fn edits_between_keep_their_places(rt: HostRuntime) -> Result<(), Fail> {
     let alloc = rt.alloc();
-    let at = TileAt::new(0, 0, 0).ok_or("a tile")?;
     // Of the 16 places five were still in use, and eleven were free.
     let mut again = opened(alloc, with_edits_between(alloc)?.crash(&[])?)?;
-    let events = vec![in alloc; Event::Tile { at }, put(alloc, 26, 0)?]?;
-    let all = tile_of(alloc, &points_to(alloc, 25, 0)?)?;
-    let wanted = [Answer::Tile(Some(all)), full(1, 0)];
-    assert_eq!(rt; again.ask_run(events)?.as_slice(), wanted.as_slice());
+    let all = points_to(alloc, 25, 0)?;
+    let rows = [(Ask::Tile, Told::Tile(&all)), (Ask::Put(26, 0), full(1, 0))];
+    assert_eq!(rt; other_answer(alloc, &mut again, &rows)?, None);
     assert_eq!(rt; publish(alloc, &mut again)?.as_slice(), [4, 0].as_slice());
     assert_eq!(rt; again.ask_put(26, point(alloc, 0)?), Ok(26));
     Ok(())
@@ -284,22 +282,17 @@ fn an_area_is_full(rt: HostRuntime) -> Result<(), Fail> {
     let alloc = rt.alloc();
     let mut service = service_with(alloc, &[(7, 0)])?;
     let _ = publish(alloc, &mut service)?;
-    let feature = deep_point(alloc)?;
-    let events = vec![in alloc;
-        Event::Delete { id: 7 },
-        Event::Put { id: 1, feature },
-        Event::Begin,
-        Event::Step,
-        put(alloc, 2, 0)?,
-    ]?;
-    let wanted = [
-        Answer::Edited(2),
-        Answer::Edited(3),
-        Answer::Refused(ServiceFault::AreaFull { need: 39, free: 22 }),
-        Answer::Refused(ServiceFault::Idle),
-        Answer::Edited(4),
+    let _ = service.ask_delete(7)?;
+    let _ = service.ask_put(1, deep_point(alloc)?)?;
+    let rows = [
+        (
+            Ask::Begin,
+            Told::Refused(ServiceFault::AreaFull { need: 39, free: 22 }),
+        ),
+        (Ask::Step, Told::Refused(ServiceFault::Idle)),
+        (Ask::Put(2, 0), Told::Edited(4)),
     ];
-    assert_eq!(rt; service.ask_run(events)?.as_slice(), wanted.as_slice());
+    assert_eq!(rt; other_answer(alloc, &mut service, &rows)?, None);
     assert_eq!(rt;
         archive(alloc, &mut service)?,
         archive_of(alloc, &[(7, 0)])?
@@ -317,14 +310,13 @@ fn generations_are_spent(rt: HostRuntime) -> Result<(), Fail> {
     let last = root([u64::MAX, 0, 0, 0, 0]);
     let _ = disk.write(2, &last);
     let mut service = opened(alloc, disk)?;
-    let events = vec![in alloc; Event::Begin, Event::Step, put(alloc, 7, 0)?, Event::Begin]?;
-    let wanted = [
-        Answer::Refused(ServiceFault::NumbersSpent),
-        Answer::Refused(ServiceFault::Idle),
-        Answer::Edited(1),
-        Answer::Refused(ServiceFault::NumbersSpent),
+    let rows = [
+        (Ask::Begin, Told::Refused(ServiceFault::NumbersSpent)),
+        (Ask::Step, Told::Refused(ServiceFault::Idle)),
+        (Ask::Put(7, 0), Told::Edited(1)),
+        (Ask::Begin, Told::Refused(ServiceFault::NumbersSpent)),
     ];
-    assert_eq!(rt; service.ask_run(events)?.as_slice(), wanted.as_slice());
+    assert_eq!(rt; other_answer(alloc, &mut service, &rows)?, None);
     let mut disk = service.into_disk();
     assert_eq!(rt; sector_at(&mut disk, 1), root([0, 0, 0, 0, 0]));
     assert_eq!(rt; sector_at(&mut disk, 2), last);
@@ -357,29 +349,18 @@ fn three_rows_of_tiles(rt: HostRuntime) -> Result<(), Fail> {
 fn busy_and_idle(rt: HostRuntime) -> Result<(), Fail> {
     let alloc = rt.alloc();
     let mut service = service_with(alloc, &[(7, 0)])?;
-    let events = vec![in alloc;
-        Event::Step,
-        Event::Begin,
-        Event::Begin,
-        Event::Cancel,
-        Event::Step,
-        Event::Cancel,
-        Event::Begin,
-        Event::Step,
-        Event::Step,
-    ]?;
-    let wanted = [
-        Answer::Refused(ServiceFault::Idle),
-        Answer::Left(3),
-        Answer::Refused(ServiceFault::Busy),
-        Answer::Cancelled,
-        Answer::Refused(ServiceFault::Idle),
-        Answer::Refused(ServiceFault::Idle),
-        Answer::Left(3),
-        Answer::Left(0),
-        Answer::Refused(ServiceFault::Idle),
+    let rows = [
+        (Ask::Step, Told::Refused(ServiceFault::Idle)),
+        (Ask::Begin, Told::Left(3)),
+        (Ask::Begin, Told::Refused(ServiceFault::Busy)),
+        (Ask::Cancel, Told::Cancelled),
+        (Ask::Step, Told::Refused(ServiceFault::Idle)),
+        (Ask::Cancel, Told::Refused(ServiceFault::Idle)),
+        (Ask::Begin, Told::Left(3)),
+        (Ask::Step, Told::Left(0)),
+        (Ask::Step, Told::Refused(ServiceFault::Idle)),
     ];
-    assert_eq!(rt; service.ask_run(events)?.as_slice(), wanted.as_slice());
+    assert_eq!(rt; other_answer(alloc, &mut service, &rows)?, None);
     Ok(())
 }
 
@@ -399,16 +380,15 @@ fn no_publication_is_under_way_after_a_crash(rt: HostRuntime) -> Result<(), Fail
     let alloc = rt.alloc();
     let mut service = service_with(alloc, &[(7, 0)])?;
     let _ = publish(alloc, &mut service)?;
-    let events = vec![in alloc; put(alloc, 8, 0)?, Event::Begin]?;
-    let _ = service.ask_run(events)?;
+    let _ = service.ask_put(8, point(alloc, 0)?)?;
+    let _ = service.ask_begin()?;
     let mut again = opened(alloc, service.into_disk().crash(&[])?)?;
-    let events = vec![in alloc; Event::Step, Event::Cancel, Event::Look { id: 8 }]?;
-    let wanted = [
-        Answer::Refused(ServiceFault::Idle),
-        Answer::Refused(ServiceFault::Idle),
-        shows(alloc, 0)?,
+    let rows = [
+        (Ask::Step, Told::Refused(ServiceFault::Idle)),
+        (Ask::Cancel, Told::Refused(ServiceFault::Idle)),
+        (Ask::Look(8), Told::Point(0)),
     ];
-    assert_eq!(rt; again.ask_run(events)?.as_slice(), wanted.as_slice());
+    assert_eq!(rt; other_answer(alloc, &mut again, &rows)?, None);
     assert_eq!(rt; archive(alloc, &mut again)?, archive_of(alloc, &[(7, 0)])?);
     Ok(())
 }
