@@ -3,6 +3,7 @@ ghost use Rattle.std.specs.Prelude.{◌≡◌, ◌≤◌, IfOk, length};
 
 mod archives;
 mod calls;
+mod earlier;
 mod edits;
 mod openings;
 mod publication_stops;
