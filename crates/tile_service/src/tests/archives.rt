@@ -72,6 +72,14 @@ pub(crate) fn tile_of(alloc: Global, points: &[Point]) -> Result<Vec<u8>, Fail> 
     Ok(tile)
 }
 
+/// The tile of a map, or none where it has no point.
+pub(crate) fn shown(alloc: Global, points: &[Point]) -> Result<Option<Vec<u8>>, Fail> {
+    if points.is_empty() {
+        return Ok(None);
+    }
+    Ok(Some(tile_of(alloc, points)?))
+}
+
 /// The metadata of a map of points without tags.
 const PLAIN: &[u8] = br#"{"vector_layers":[{"fields":{},"id":"p","maxzoom":2,"minzoom":0}]}"#;
 

@@ -1,10 +1,99 @@
-//! The calls of a service without their clauses: no test needs these, and its proof is much shorter without them.
+//! The calls of a service without their clauses: no test needs these, and its proof is much shorter without them. For the same reason
+//! tests ask for several events at once, and compare owned values: a comparison of what a service lends costs minutes.
 
+use super::archives::{Point, shown};
+use super::point;
 use crate::{Answer, Event, Published, Service, ServiceFault};
 use feature_model::Feature;
 use hilbert_id::TileAt;
 use sector_disk::Sectors;
 use serde_json::Value;
+use std::alloc::Global;
+use std::test::Fail;
+
+/// An event, as the tests write it. What they put are points with so many letters, and they ask for tile 0/0/0.
+#[derive(Clone, Copy)]
+pub(crate) enum Ask {
+    Put(u64, usize),
+    Delete(u64),
+    Tile,
+    Look(u64),
+    Begin,
+    Step,
+    Cancel,
+}
+
+/// An answer, as the tests write it.
+#[derive(Clone, Copy)]
+pub(crate) enum Told<'a> {
+    Edited(u64),
+    /// The tile of these points, or none where there is no point.
+    Tile(&'a [Point]),
+    /// A point with so many letters.
+    Point(usize),
+    /// The number has no feature.
+    None,
+    Left(u64),
+    Cancelled,
+    Refused(ServiceFault),
+}
+
+/// The journal has too few places for an edit.
+pub(crate) fn full(need: u64, free: u64) -> Told<'static> {
+    Told::Refused(ServiceFault::JournalFull { need, free })
+}
+
+fn event(alloc: Global, ask: Ask) -> Result<Event, Fail> {
+    let at = TileAt::new(0, 0, 0).ok_or("a tile")?;
+    match ask {
+        Ask::Put(id, letters) => {
+            let feature = point(alloc, letters)?;
+            Ok(Event::Put { id, feature })
+        }
+        Ask::Delete(id) => Ok(Event::Delete { id }),
+        Ask::Tile => Ok(Event::Tile { at }),
+        Ask::Look(id) => Ok(Event::Look { id }),
+        Ask::Begin => Ok(Event::Begin),
+        Ask::Step => Ok(Event::Step),
+        Ask::Cancel => Ok(Event::Cancel),
+    }
+}
+
+fn answer(alloc: Global, told: Told<'_>) -> Result<Answer, Fail> {
+    match told {
+        Told::Edited(number) => Ok(Answer::Edited(number)),
+        Told::Tile(points) => Ok(Answer::Tile(shown(alloc, points)?)),
+        Told::Point(letters) => Ok(Answer::Look(Some(point(alloc, letters)?))),
+        Told::None => Ok(Answer::Look(None)),
+        Told::Left(left) => Ok(Answer::Left(left)),
+        Told::Cancelled => Ok(Answer::Cancelled),
+        Told::Refused(fault) => Ok(Answer::Refused(fault)),
+    }
+}
+
+/// The events of these rows.
+fn events_of(alloc: Global, rows: &[(Ask, Told<'_>)]) -> Result<Vec<Event>, Fail> {
+    let mut events = Vec::new(alloc);
+    for (ask, _) in rows {
+        events.push(event(alloc, *ask)?)?;
+    }
+    Ok(events)
+}
+
+/// Asks a service for the events of these rows, one after the other: which row has another answer than it is given first, if one has.
+pub(crate) fn other_answer<D: Sectors + Drop>(
+    alloc: Global,
+    service: &mut Service<D>,
+    rows: &[(Ask, Told<'_>)],
+) -> Result<Option<usize>, Fail> {
+    let answers = service.ask_run(events_of(alloc, rows)?)?;
+    for (index, (_, told)) in rows.iter().enumerate() {
+        if answers.get(index) != Some(&answer(alloc, *told)?) {
+            return Ok(Some(index));
+        }
+    }
+    Ok(None)
+}
 
 impl<D: Sectors + Drop> Service<D> {
     pub(crate) fn ask_put(&mut self, id: u64, feature: Feature) -> Result<u64, ServiceFault> {
@@ -39,8 +128,9 @@ impl<D: Sectors + Drop> Service<D> {
         self.tile(at)
     }
 
-    pub(crate) fn ask_feature(&self, id: u64) -> Option<&Feature> {
-        self.feature(id)
+    /// Whether the number has a feature.
+    pub(crate) fn has(&self, id: u64) -> bool {
+        self.feature(id).is_some()
     }
 
     pub(crate) fn ask_metadata(&self) -> Result<Value, ServiceFault> {

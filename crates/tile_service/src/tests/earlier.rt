@@ -61,7 +61,7 @@ fn earlier_disk(alloc: Global) -> Result<MemoryDisk, Fail> {
 fn a_disk_of_an_earlier_landing(rt: HostRuntime) -> Result<(), Fail> {
     let alloc = rt.alloc();
     let mut service = opened(alloc, earlier_disk(alloc)?)?;
-    let there = [7, 8, 9].map(|id| service.ask_feature(id).is_some());
+    let there = [7, 8, 9].map(|id| service.has(id));
     assert_eq!(rt; there, [false, true, true]);
     let published = archive_of(alloc, &[(7, 0), (8, 0)])?;
     assert_eq!(rt; archive(alloc, &mut service)?, published);

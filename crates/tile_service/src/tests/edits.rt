@@ -1,6 +1,7 @@
 //! Edits, tiles and features, one call after the other and as runs of events.
+use super::calls::{Ask, Told, full, other_answer};
 use super::{formatted, opened, point};
-use crate::{Answer, Event, ServiceFault};
+use crate::ServiceFault;
 use feature_model::EditFault;
 use hilbert_id::TileAt;
 use std::test::Fail;
@@ -13,25 +14,36 @@ const TILE: [u8; 21] = [
 #[test]
 fn edits_are_shown_and_outlive_crashes(rt: HostRuntime) -> Result<(), Fail> {
     let alloc = rt.alloc();
-    let tile = TileAt::new(0, 0, 0).ok_or("a tile")?;
+    let mut service = opened(alloc, formatted(alloc)?)?;
+    let rows = [
+        (Ask::Put(7, 0), Told::Edited(1)),
+        (Ask::Put(8, 467), Told::Edited(2)),
+        (Ask::Delete(9), Told::Refused(ServiceFault::NotFound)),
+        (Ask::Delete(8), Told::Edited(3)),
+        (Ask::Delete(8), Told::Refused(ServiceFault::NotFound)),
+    ];
+    assert_eq!(rt; other_answer(alloc, &mut service, &rows)?, None);
+    let mut again = opened(alloc, service.into_disk().crash(&[])?)?;
+    let rows = [
+        (Ask::Look(7), Told::Point(0)),
+        (Ask::Look(8), Told::None),
+        (Ask::Tile, Told::Tile(&[(7, 0)])),
+        (Ask::Put(8, 0), Told::Edited(4)),
+    ];
+    assert_eq!(rt; other_answer(alloc, &mut again, &rows)?, None);
+    Ok(())
+}
+
+#[test]
+fn the_bytes_of_a_tile(rt: HostRuntime) -> Result<(), Fail> {
+    let alloc = rt.alloc();
+    let at = TileAt::new(0, 0, 0).ok_or("a tile")?;
     let deep = TileAt::new(17, 0, 0).ok_or("a tile")?;
     let mut service = opened(alloc, formatted(alloc)?)?;
-    assert_eq!(rt; service.ask_tile(tile)?, None);
     assert_eq!(rt; service.ask_put(7, point(alloc, 0)?), Ok(1));
-    assert_eq!(rt; service.ask_feature(7), Some(&point(alloc, 0)?));
-    assert_eq!(rt; service.ask_tile(tile)?.as_deref(), Some(TILE.as_slice()));
+    let bytes = Vec::from_slice(alloc, &TILE)?;
+    assert_eq!(rt; service.ask_tile(at)?, Some(bytes));
     assert_eq!(rt; service.ask_tile(deep)?, None);
-    assert_eq!(rt; service.ask_put(8, point(alloc, 467)?), Ok(2));
-    assert_eq!(rt; service.ask_delete(9), Err(ServiceFault::NotFound));
-    assert_eq!(rt; service.ask_delete(8), Ok(3));
-    assert_eq!(rt; service.ask_delete(8), Err(ServiceFault::NotFound));
-
-    let left = service.into_disk().crash(&[])?;
-    let mut again = opened(alloc, left)?;
-    assert_eq!(rt; again.ask_feature(7), Some(&point(alloc, 0)?));
-    assert_eq!(rt; again.ask_feature(8), None);
-    assert_eq!(rt; again.ask_tile(tile)?.as_deref(), Some(TILE.as_slice()));
-    assert_eq!(rt; again.ask_put(8, point(alloc, 0)?), Ok(4));
     Ok(())
 }
 
@@ -52,50 +64,49 @@ fn refused_edits(rt: HostRuntime) -> Result<(), Fail> {
             Err(ServiceFault::Limit(fault))
         );
     }
+    Ok(())
+}
+
+#[test]
+fn a_full_journal(rt: HostRuntime) -> Result<(), Fail> {
+    let alloc = rt.alloc();
+    let mut service = opened(alloc, formatted(alloc)?)?;
     for id in 1..16 {
         assert_eq!(rt; service.ask_put(id, point(alloc, 0)?), Ok(id));
     }
-    let full = |need, free| Err(ServiceFault::JournalFull { need, free });
-    assert_eq!(rt; service.ask_put(16, point(alloc, 467)?), full(2, 1));
-    assert_eq!(rt; service.ask_feature(16), None);
-    assert_eq!(rt; service.ask_put(16, point(alloc, 466)?), Ok(16));
-    assert_eq!(rt; service.ask_put(17, point(alloc, 0)?), full(1, 0));
-    assert_eq!(rt; service.ask_delete(1), full(1, 0));
-    assert!(rt; service.ask_feature(1).is_some());
-    let again = opened(alloc, service.into_disk().crash(&[])?)?;
-    assert_eq!(rt; again.ask_feature(16), Some(&point(alloc, 466)?));
-    assert_eq!(rt; again.ask_feature(17), None);
+    let rows = [
+        (Ask::Put(16, 467), full(2, 1)),
+        (Ask::Look(16), Told::None),
+        (Ask::Put(16, 466), Told::Edited(16)),
+        (Ask::Put(17, 0), full(1, 0)),
+        (Ask::Delete(1), full(1, 0)),
+        (Ask::Look(1), Told::Point(0)),
+    ];
+    assert_eq!(rt; other_answer(alloc, &mut service, &rows)?, None);
+    let mut again = opened(alloc, service.into_disk().crash(&[])?)?;
+    let rows = [
+        (Ask::Look(16), Told::Point(466)),
+        (Ask::Look(17), Told::None),
+    ];
+    assert_eq!(rt; other_answer(alloc, &mut again, &rows)?, None);
     Ok(())
 }
 
 #[test]
 fn answers_to_events(rt: HostRuntime) -> Result<(), Fail> {
     let alloc = rt.alloc();
-    let at = TileAt::new(0, 0, 0).ok_or("a tile")?;
     let mut service = opened(alloc, formatted(alloc)?)?;
-    let feature = point(alloc, 0)?;
-    let events = vec![in alloc;
-        Event::Tile { at },
-        Event::Put { id: 7, feature },
-        Event::Tile { at },
-        Event::Look { id: 7 },
-        Event::Look { id: 8 },
-        Event::Delete { id: 8 },
-        Event::Delete { id: 7 },
-        Event::Look { id: 7 },
-    ]?;
-    let content = Vec::from_slice(alloc, &TILE)?;
-    let wanted = [
-        Answer::Tile(None),
-        Answer::Edited(1),
-        Answer::Tile(Some(content)),
-        Answer::Look(Some(point(alloc, 0)?)),
-        Answer::Look(None),
-        Answer::Refused(ServiceFault::NotFound),
-        Answer::Edited(2),
-        Answer::Look(None),
+    let rows = [
+        (Ask::Tile, Told::Tile(&[])),
+        (Ask::Put(7, 0), Told::Edited(1)),
+        (Ask::Tile, Told::Tile(&[(7, 0)])),
+        (Ask::Look(7), Told::Point(0)),
+        (Ask::Look(8), Told::None),
+        (Ask::Delete(8), Told::Refused(ServiceFault::NotFound)),
+        (Ask::Delete(7), Told::Edited(2)),
+        (Ask::Look(7), Told::None),
     ];
-    assert_eq!(rt; service.ask_run(events)?.as_slice(), wanted.as_slice());
+    assert_eq!(rt; other_answer(alloc, &mut service, &rows)?, None);
     assert_eq!(rt; service.ask_run(Vec::new(alloc))?.len(), 0);
     Ok(())
 }

@@ -1,6 +1,7 @@
 //! Disks made ready and opened, and those that aren't.
 
-use super::{begins, formatted, opened, point, root};
+use super::calls::{Ask, Told, other_answer};
+use super::{begins, formatted, opened, root};
 use crate::{Service, ServiceFault};
 use generations::{StoreFault, What, read_root};
 use sector_disk::{MemoryDisk, Sectors};
@@ -106,14 +107,14 @@ fn spent_numbers(rt: HostRuntime) -> Result<(), Fail> {
     let mut disk = formatted(alloc)?;
     let _ = disk.write(1, &root([0, u64::MAX - 1, 0, 0, 0]));
     let mut service = opened(alloc, disk)?;
-    assert_eq!(rt; service.ask_put(1, point(alloc, 0)?), Ok(u64::MAX));
-    assert_eq!(rt;
-        service.ask_put(2, point(alloc, 0)?),
-        Err(ServiceFault::NumbersSpent)
-    );
-    assert_eq!(rt; service.ask_delete(1), Err(ServiceFault::NumbersSpent));
-    assert_eq!(rt; service.ask_delete(2), Err(ServiceFault::NotFound));
+    let rows = [
+        (Ask::Put(1, 0), Told::Edited(u64::MAX)),
+        (Ask::Put(2, 0), Told::Refused(ServiceFault::NumbersSpent)),
+        (Ask::Delete(1), Told::Refused(ServiceFault::NumbersSpent)),
+        (Ask::Delete(2), Told::Refused(ServiceFault::NotFound)),
+    ];
+    assert_eq!(rt; other_answer(alloc, &mut service, &rows)?, None);
     let again = opened(alloc, service.into_disk())?;
-    assert!(rt; again.ask_feature(1).is_some());
+    assert!(rt; again.has(1));
     Ok(())
 }

@@ -1,6 +1,7 @@
 //! A publication in which one call of the disk fails, and a crash after it.
 
 use super::archives::{archive_of, points_to, tile_of};
+use super::calls::{Ask, Told, other_answer};
 use super::publications::large_disk;
 use super::{archive, formatted, opened, point, publish};
 use crate::{Service, ServiceFault};
@@ -44,7 +45,7 @@ fn stopped(alloc: Global, failing_calls: FailingCalls) -> Result<MemoryDisk, Fai
     if (begun, step) != (3, Err(ServiceFault::Device))
         || service.publication.is_some()
         || refused_by(alloc, &mut service)? != broken
-        || service.ask_feature(8).is_none()
+        || !service.has(8)
         || service.archive_len() != 223
     {
         return Err("the step doesn't break the service".into());
@@ -58,7 +59,7 @@ fn is_new(alloc: Global, disk: MemoryDisk) -> Result<bool, Fail> {
     let old = archive_of(alloc, &[(7, 0)])?;
     let new = archive_of(alloc, &[(7, 0), (8, 0)])?;
     let mut service = opened(alloc, disk)?;
-    if service.ask_feature(7).is_none() || service.ask_feature(8).is_none() {
+    if !service.has(7) || !service.has(8) {
         return Err("an edit is lost".into());
     }
     let stands = archive(alloc, &mut service)?;
@@ -123,8 +124,8 @@ fn calls_of_a_publication(rt: HostRuntime) -> Result<(), Fail> {
     let mut service = opened(alloc, faulty)?;
     assert_eq!(rt; service.ask_put(8, point(alloc, 0)?), Ok(2));
     assert_eq!(rt; publish(alloc, &mut service)?.as_slice(), [3, 0].as_slice());
-    assert_eq!(rt; service.ask_begin(), Ok(3));
-    assert_eq!(rt; service.ask_cancel(), Ok(()));
+    let rows = [(Ask::Begin, Told::Left(3)), (Ask::Cancel, Told::Cancelled)];
+    assert_eq!(rt; other_answer(alloc, &mut service, &rows)?, None);
     assert_eq!(rt; service.into_disk().calls(), 13);
     Ok(())
 }
@@ -155,7 +156,7 @@ fn large_shown(alloc: Global, disk: MemoryDisk) -> Result<(bool, u64), Fail> {
     let at = TileAt::new(0, 0, 0).ok_or("a tile")?;
     let mut service = opened(alloc, disk)?;
     let tile = tile_of(alloc, &points_to(alloc, 62, 1_000)?)?;
-    let shown = service.ask_tile(at)?.as_deref() == Some(tile.as_slice());
+    let shown = service.ask_tile(at)? == Some(tile);
     Ok((shown, service.archive_len()))
 }
 

@@ -1,10 +1,10 @@
 //! Publications by steps, over disks in memory of 64 sectors: 16 of the journal, and two areas of 22, the second of them at 41.
 
-use super::archives::{Point, archive_of, points_to, tile_of};
+use super::archives::{Point, archive_of, points_to};
+use super::calls::{Ask, Told, full, other_answer};
 use super::{archive, begins, formatted, opened, point, publish, root, sector_at};
 use crate::{Published, Service, ServiceFault};
 use feature_model::{Feature, Geometry, World};
-use hilbert_id::TileAt;
 use pm_archive::{Archive, Report};
 use sector_disk::{MemoryDisk, Sectors};
 use std::alloc::Global;
@@ -45,9 +45,16 @@ fn a_point_is_published(rt: HostRuntime) -> Result<(), Fail> {
             contents: 1
         }
     );
-    // The second publication goes into the other area.
+    Ok(())
+}
+
+#[test]
+fn the_second_publication_takes_the_other_area(rt: HostRuntime) -> Result<(), Fail> {
+    let alloc = rt.alloc();
+    let mut service = service_with(alloc, &[(7, 0)])?;
+    let _ = publish(alloc, &mut service)?;
     assert_eq!(rt; service.ask_put(8, point(alloc, 0)?), Ok(2));
-    assert_eq!(rt; publish(alloc, &mut service)?.as_slice(), [3, 0].as_slice());
+    let _ = publish(alloc, &mut service)?;
     let both = archive_of(alloc, &[(7, 0), (8, 0)])?;
     assert_eq!(rt; archive(alloc, &mut service)?, both);
     let mut disk = service.into_disk();
@@ -98,7 +105,8 @@ fn steps_of_64_sectors(rt: HostRuntime) -> Result<(), Fail> {
     assert_eq!(rt; archive(alloc, &mut service)?, bytes);
     let left = service.into_disk().crash(&[])?;
     let mut again = opened(alloc, left)?;
-    assert_eq!(rt; again.ask_feature(62), Some(&point(alloc, 1_000)?));
+    let rows = [(Ask::Look(62), Told::Point(1_000))];
+    assert_eq!(rt; other_answer(alloc, &mut again, &rows)?, None);
     assert_eq!(rt; archive(alloc, &mut again)?, bytes);
     let mut disk = again.into_disk();
     assert_eq!(rt; sector_at(&mut disk, 2), root([1, 62, 186, 63_860, 2_166]));
@@ -124,69 +132,114 @@ fn a_publication_frees_the_journal(rt: HostRuntime) -> Result<(), Fail> {
     let alloc = rt.alloc();
     let points = points_to(alloc, 15, 0)?;
     let mut service = service_with(alloc, &points)?;
-    let full = ServiceFault::JournalFull { need: 2, free: 1 };
-    assert_eq!(rt; service.ask_put(16, point(alloc, 467)?), Err(full));
-    assert_eq!(rt; service.ask_feature(16), None);
+    let none = ServiceFault::JournalFull { need: 2, free: 1 };
+    assert_eq!(rt; service.ask_put(16, point(alloc, 467)?), Err(none));
     assert_eq!(rt; publish(alloc, &mut service)?.as_slice(), [3, 0].as_slice());
     let bytes = archive(alloc, &mut service)?;
     assert_eq!(rt; bytes.len(), 380);
     assert_eq!(rt; bytes, archive_of(alloc, &points)?);
     assert_eq!(rt; service.ask_put(16, point(alloc, 467)?), Ok(16));
-    // Its head stands at place 15 of the journal, and its body at place 0.
+    Ok(())
+}
+
+/// A disk on which the features 1 to 15 are published, and 16 was added then.
+fn freed(alloc: Global) -> Result<MemoryDisk, Fail> {
+    let mut service = service_with(alloc, &points_to(alloc, 15, 0)?)?;
+    let _ = publish(alloc, &mut service)?;
+    let _ = service.ask_put(16, point(alloc, 467)?)?;
+    Ok(service.into_disk())
+}
+
+#[test]
+fn an_edit_at_the_end_of_the_ring(rt: HostRuntime) -> Result<(), Fail> {
+    let alloc = rt.alloc();
+    // The head of edit 16 stands at place 15 of the journal, and its body at place 0.
     let (head, body) = two_parts(alloc)?;
-    let mut disk = service.into_disk();
+    let mut disk = freed(alloc)?;
     assert_eq!(rt; sector_at(&mut disk, 2), root([1, 15, 15, 375, 380]));
     assert_eq!(rt; sector_at(&mut disk, 18), head);
     assert_eq!(rt; sector_at(&mut disk, 3), body);
     let mut again = opened(alloc, disk.crash(&[])?)?;
-    assert_eq!(rt; again.ask_feature(15), Some(&point(alloc, 0)?));
-    assert_eq!(rt; again.ask_feature(16), Some(&point(alloc, 467)?));
-    assert_eq!(rt; again.ask_put(17, point(alloc, 0)?), Ok(17));
+    let rows = [
+        (Ask::Look(15), Told::Point(0)),
+        (Ask::Look(16), Told::Point(467)),
+        (Ask::Put(17, 0), Told::Edited(17)),
+    ];
+    assert_eq!(rt; other_answer(alloc, &mut again, &rows)?, None);
     Ok(())
 }
 
 #[test]
 fn an_edit_between(rt: HostRuntime) -> Result<(), Fail> {
     let alloc = rt.alloc();
-    let at = TileAt::new(0, 0, 0).ok_or("a tile")?;
-    let first = archive_of(alloc, &[(7, 0)])?;
-    let both = tile_of(alloc, &[(7, 0), (8, 0)])?;
     let mut service = service_with(alloc, &[(7, 0)])?;
     assert_eq!(rt; service.ask_begin(), Ok(3));
     assert_eq!(rt; service.ask_put(8, point(alloc, 0)?), Ok(2));
     assert_eq!(rt; service.archive_len(), 0);
-    assert_eq!(rt; service.ask_step(), Ok(0));
-    assert_eq!(rt; archive(alloc, &mut service)?, first);
-    assert_eq!(rt; service.ask_tile(at)?.as_deref(), Some(both.as_slice()));
-    let mut again = opened(alloc, service.into_disk().crash(&[])?)?;
-    assert_eq!(rt; archive(alloc, &mut again)?, first);
-    assert_eq!(rt; again.ask_tile(at)?.as_deref(), Some(both.as_slice()));
-    assert_eq!(rt; again.ask_put(9, point(alloc, 0)?), Ok(3));
+    let rows = [
+        (Ask::Step, Told::Left(0)),
+        (Ask::Tile, Told::Tile(&[(7, 0), (8, 0)])),
+    ];
+    assert_eq!(rt; other_answer(alloc, &mut service, &rows)?, None);
+    assert_eq!(rt;
+        archive(alloc, &mut service)?,
+        archive_of(alloc, &[(7, 0)])?
+    );
     Ok(())
+}
+
+#[test]
+fn an_edit_between_outlives_a_crash(rt: HostRuntime) -> Result<(), Fail> {
+    let alloc = rt.alloc();
+    let mut service = service_with(alloc, &[(7, 0)])?;
+    let _ = service.ask_begin()?;
+    let _ = service.ask_put(8, point(alloc, 0)?)?;
+    let _ = service.ask_step()?;
+    let mut again = opened(alloc, service.into_disk().crash(&[])?)?;
+    assert_eq!(rt; archive(alloc, &mut again)?, archive_of(alloc, &[(7, 0)])?);
+    let rows = [
+        (Ask::Tile, Told::Tile(&[(7, 0), (8, 0)])),
+        (Ask::Put(9, 0), Told::Edited(3)),
+    ];
+    assert_eq!(rt; other_answer(alloc, &mut again, &rows)?, None);
+    Ok(())
+}
+
+/// A disk on which a publication of the features 1 to 9 was begun and ended, with 10 to 14 added between and 15 to 25 behind.
+fn with_edits_between(alloc: Global) -> Result<MemoryDisk, Fail> {
+    let mut service = service_with(alloc, &points_to(alloc, 9, 0)?)?;
+    let _ = service.ask_begin()?;
+    for id in 10..15 {
+        let _ = service.ask_put(id, point(alloc, 0)?)?;
+    }
+    let _ = service.ask_step()?;
+    for id in 15..26 {
+        let _ = service.ask_put(id, point(alloc, 0)?)?;
+    }
+    Ok(service.into_disk())
 }
 
 #[test]
 fn edits_between_keep_their_places(rt: HostRuntime) -> Result<(), Fail> {
     let alloc = rt.alloc();
-    let at = TileAt::new(0, 0, 0).ok_or("a tile")?;
-    let full = ServiceFault::JournalFull { need: 1, free: 0 };
-    let mut service = service_with(alloc, &points_to(alloc, 9, 0)?)?;
-    assert_eq!(rt; service.ask_begin(), Ok(3));
-    for id in 10..15 {
-        assert_eq!(rt; service.ask_put(id, point(alloc, 0)?), Ok(id));
-    }
-    assert_eq!(rt; service.ask_step(), Ok(0));
-    // Of the 16 places five are still in use.
-    for id in 15..26 {
-        assert_eq!(rt; service.ask_put(id, point(alloc, 0)?), Ok(id));
-    }
-    assert_eq!(rt; service.ask_put(26, point(alloc, 0)?), Err(full));
-    let mut again = opened(alloc, service.into_disk().crash(&[])?)?;
-    let all = tile_of(alloc, &points_to(alloc, 25, 0)?)?;
-    assert_eq!(rt; again.ask_tile(at)?.as_deref(), Some(all.as_slice()));
-    assert_eq!(rt; again.ask_put(26, point(alloc, 0)?), Err(full));
+    // Of the 16 places five were still in use, and eleven were free.
+    let mut again = opened(alloc, with_edits_between(alloc)?.crash(&[])?)?;
+    let all = points_to(alloc, 25, 0)?;
+    let rows = [(Ask::Tile, Told::Tile(&all)), (Ask::Put(26, 0), full(1, 0))];
+    assert_eq!(rt; other_answer(alloc, &mut again, &rows)?, None);
     assert_eq!(rt; publish(alloc, &mut again)?.as_slice(), [4, 0].as_slice());
     assert_eq!(rt; again.ask_put(26, point(alloc, 0)?), Ok(26));
+    Ok(())
+}
+
+#[test]
+fn an_empty_map(rt: HostRuntime) -> Result<(), Fail> {
+    let alloc = rt.alloc();
+    let mut service = service_with(alloc, &[])?;
+    assert_eq!(rt; publish(alloc, &mut service)?.as_slice(), [1, 0].as_slice());
+    assert_eq!(rt; service.archive_len(), 0);
+    let mut disk = service.into_disk();
+    assert_eq!(rt; sector_at(&mut disk, 2), root([1, 0, 0, 0, 0]));
     Ok(())
 }
 
@@ -194,8 +247,6 @@ fn edits_between_keep_their_places(rt: HostRuntime) -> Result<(), Fail> {
 fn no_tiles(rt: HostRuntime) -> Result<(), Fail> {
     let alloc = rt.alloc();
     let mut service = service_with(alloc, &[])?;
-    assert_eq!(rt; publish(alloc, &mut service)?.as_slice(), [1, 0].as_slice());
-    assert_eq!(rt; service.archive_len(), 0);
     // A line of 16,384 units is shown from zoom 6 on.
     let mut line = vec![in alloc; World { x: 0, y: 0 }]?;
     line.push(World { x: 16_384, y: 0 })?;
@@ -210,17 +261,12 @@ fn no_tiles(rt: HostRuntime) -> Result<(), Fail> {
     assert_eq!(rt; publish(alloc, &mut service)?.as_slice(), [2, 0].as_slice());
     assert_eq!(rt; service.archive_len(), 0);
     let mut disk = service.into_disk();
-    assert_eq!(rt; sector_at(&mut disk, 2), root([1, 0, 0, 0, 0]));
-    assert_eq!(rt; sector_at(&mut disk, 1), root([2, 1, 1, 35, 0]));
+    assert_eq!(rt; sector_at(&mut disk, 2), root([1, 1, 1, 35, 0]));
     Ok(())
 }
 
-#[test]
-fn an_area_is_full(rt: HostRuntime) -> Result<(), Fail> {
-    let alloc = rt.alloc();
-    let mut service = service_with(alloc, &[(7, 0)])?;
-    let _ = publish(alloc, &mut service)?;
-    // One tile of about 1,040 bytes for each zoom: 3 sectors and 17,949 bytes.
+/// A point of zooms 0 to 16 with a tag of 1,000 letters: one tile of about 1,040 bytes for each zoom, 3 sectors and 17,949 bytes.
+fn deep_point(alloc: Global) -> Result<Feature, Fail> {
     let mut deep = point(alloc, 1_000)?;
     deep.maxzoom = 16;
     let place = World {
@@ -228,16 +274,29 @@ fn an_area_is_full(rt: HostRuntime) -> Result<(), Fail> {
         y: 123_456_789,
     };
     deep.geometry = Geometry::Points(vec![in alloc; place]?);
-    assert_eq!(rt; service.ask_delete(7), Ok(2));
-    assert_eq!(rt; service.ask_put(1, deep), Ok(3));
-    let full = ServiceFault::AreaFull { need: 39, free: 22 };
-    assert_eq!(rt; service.ask_begin(), Err(full));
-    assert_eq!(rt; service.ask_step(), Err(ServiceFault::Idle));
+    Ok(deep)
+}
+
+#[test]
+fn an_area_is_full(rt: HostRuntime) -> Result<(), Fail> {
+    let alloc = rt.alloc();
+    let mut service = service_with(alloc, &[(7, 0)])?;
+    let _ = publish(alloc, &mut service)?;
+    let _ = service.ask_delete(7)?;
+    let _ = service.ask_put(1, deep_point(alloc)?)?;
+    let rows = [
+        (
+            Ask::Begin,
+            Told::Refused(ServiceFault::AreaFull { need: 39, free: 22 }),
+        ),
+        (Ask::Step, Told::Refused(ServiceFault::Idle)),
+        (Ask::Put(2, 0), Told::Edited(4)),
+    ];
+    assert_eq!(rt; other_answer(alloc, &mut service, &rows)?, None);
     assert_eq!(rt;
         archive(alloc, &mut service)?,
         archive_of(alloc, &[(7, 0)])?
     );
-    assert_eq!(rt; service.ask_put(2, point(alloc, 0)?), Ok(4));
     let mut disk = service.into_disk();
     assert_eq!(rt; sector_at(&mut disk, 1), root([0, 0, 0, 0, 0]));
     assert_eq!(rt; sector_at(&mut disk, 2), root([1, 1, 1, 25, 223]));
@@ -251,10 +310,13 @@ fn generations_are_spent(rt: HostRuntime) -> Result<(), Fail> {
     let last = root([u64::MAX, 0, 0, 0, 0]);
     let _ = disk.write(2, &last);
     let mut service = opened(alloc, disk)?;
-    assert_eq!(rt; service.ask_begin(), Err(ServiceFault::NumbersSpent));
-    assert_eq!(rt; service.ask_step(), Err(ServiceFault::Idle));
-    assert_eq!(rt; service.ask_put(7, point(alloc, 0)?), Ok(1));
-    assert_eq!(rt; service.ask_begin(), Err(ServiceFault::NumbersSpent));
+    let rows = [
+        (Ask::Begin, Told::Refused(ServiceFault::NumbersSpent)),
+        (Ask::Step, Told::Refused(ServiceFault::Idle)),
+        (Ask::Put(7, 0), Told::Edited(1)),
+        (Ask::Begin, Told::Refused(ServiceFault::NumbersSpent)),
+    ];
+    assert_eq!(rt; other_answer(alloc, &mut service, &rows)?, None);
     let mut disk = service.into_disk();
     assert_eq!(rt; sector_at(&mut disk, 1), root([0, 0, 0, 0, 0]));
     assert_eq!(rt; sector_at(&mut disk, 2), last);
@@ -286,24 +348,47 @@ fn three_rows_of_tiles(rt: HostRuntime) -> Result<(), Fail> {
 #[test]
 fn busy_and_idle(rt: HostRuntime) -> Result<(), Fail> {
     let alloc = rt.alloc();
-    let idle = Err(ServiceFault::Idle);
     let mut service = service_with(alloc, &[(7, 0)])?;
-    assert_eq!(rt; service.ask_step(), idle);
+    let rows = [
+        (Ask::Step, Told::Refused(ServiceFault::Idle)),
+        (Ask::Begin, Told::Left(3)),
+        (Ask::Begin, Told::Refused(ServiceFault::Busy)),
+        (Ask::Cancel, Told::Cancelled),
+        (Ask::Step, Told::Refused(ServiceFault::Idle)),
+        (Ask::Cancel, Told::Refused(ServiceFault::Idle)),
+        (Ask::Begin, Told::Left(3)),
+        (Ask::Step, Told::Left(0)),
+        (Ask::Step, Told::Refused(ServiceFault::Idle)),
+    ];
+    assert_eq!(rt; other_answer(alloc, &mut service, &rows)?, None);
+    Ok(())
+}
+
+#[test]
+fn cancelled_publications(rt: HostRuntime) -> Result<(), Fail> {
+    let alloc = rt.alloc();
+    let mut service = service_with(alloc, &[(7, 0)])?;
     assert_eq!(rt; service.ask_begin(), Ok(3));
-    assert_eq!(rt; service.ask_begin(), Err(ServiceFault::Busy));
     assert_eq!(rt; service.ask_cancel(), Ok(()));
-    assert_eq!(rt; service.ask_step(), idle);
     assert_eq!(rt; service.ask_cancel(), Err(ServiceFault::Idle));
     assert_eq!(rt; service.archive_len(), 0);
-    assert_eq!(rt; publish(alloc, &mut service)?.as_slice(), [3, 0].as_slice());
-    assert_eq!(rt; service.ask_step(), idle);
-    // A publication that was begun before a stop is no longer under way.
-    assert_eq!(rt; service.ask_put(8, point(alloc, 0)?), Ok(2));
-    assert_eq!(rt; service.ask_begin(), Ok(3));
+    Ok(())
+}
+
+#[test]
+fn no_publication_is_under_way_after_a_crash(rt: HostRuntime) -> Result<(), Fail> {
+    let alloc = rt.alloc();
+    let mut service = service_with(alloc, &[(7, 0)])?;
+    let _ = publish(alloc, &mut service)?;
+    let _ = service.ask_put(8, point(alloc, 0)?)?;
+    let _ = service.ask_begin()?;
     let mut again = opened(alloc, service.into_disk().crash(&[])?)?;
-    assert_eq!(rt; again.ask_step(), idle);
-    assert_eq!(rt; again.ask_cancel(), Err(ServiceFault::Idle));
+    let rows = [
+        (Ask::Step, Told::Refused(ServiceFault::Idle)),
+        (Ask::Cancel, Told::Refused(ServiceFault::Idle)),
+        (Ask::Look(8), Told::Point(0)),
+    ];
+    assert_eq!(rt; other_answer(alloc, &mut again, &rows)?, None);
     assert_eq!(rt; archive(alloc, &mut again)?, archive_of(alloc, &[(7, 0)])?);
-    assert!(rt; again.ask_feature(8).is_some());
     Ok(())
 }

@@ -1,6 +1,7 @@
 //! An archive behind a snapshot, made byte by byte, and the metadata of a map. The disk has 64 sectors; area 1 begins at 41.
 ghost use Rattle.std.specs.Prelude.{◌≡◌, ◌≤◌, IfOk};
 
+use super::calls::{Ask, Told, other_answer};
 use super::{begins, formatted, opened, point, read, root};
 use crate::ServiceFault;
 use sector_disk::{FailingCalls, FaultyDisk, MemoryDisk, Sectors};
@@ -79,9 +80,11 @@ fn parts_of_an_archive(rt: HostRuntime) -> Result<(), Fail> {
         );
     }
     // Edits leave it as it is.
-    assert_eq!(rt; service.ask_put(7, point(alloc, 467)?), Ok(6));
-    assert_eq!(rt; service.ask_delete(8), Ok(7));
-    assert_eq!(rt; service.archive_len(), 1_100);
+    let rows = [
+        (Ask::Put(7, 467), Told::Edited(6)),
+        (Ask::Delete(8), Told::Edited(7)),
+    ];
+    assert_eq!(rt; other_answer(alloc, &mut service, &rows)?, None);
     assert_eq!(rt;
         read(alloc, &mut service, 0, 1_100)?,
         Ok(part(alloc, 0, 1_100)?)
@@ -138,8 +141,7 @@ fn service_goes_on_after_a_failed_read(rt: HostRuntime) -> Result<(), Fail> {
             Ok(part(alloc, 0, 1_100)?)
         );
         let again = opened(alloc, service.into_disk().into_disk().crash(&[])?)?;
-        assert!(rt; again.ask_feature(30).is_some());
-        assert_eq!(rt; again.archive_len(), 1_100);
+        assert!(rt; again.has(30) && again.archive_len() == 1_100);
     }
     Ok(())
 }

@@ -1,7 +1,7 @@
 //! A run of edits and publications in which one call of the disk fails, and a crash after it. What stands then is compared with a list
 //! of maps: i edits are made, and the archive is that of the first j of them.
 
-use super::archives::{Point, archive_of, tile_of};
+use super::archives::{Point, archive_of, shown, tile_of};
 use super::{archive, formatted, opened, point, root, sector_at};
 use crate::{Answer, Event, Service, ServiceFault};
 use hilbert_id::TileAt;
@@ -80,14 +80,6 @@ fn answers(alloc: Global) -> Result<[Answer; 11], Fail> {
         Answer::Edited(4),
         Answer::Left(0),
     ])
-}
-
-/// The tile of a map, or none where it has no point.
-fn shown(alloc: Global, points: &[Point]) -> Result<Option<Vec<u8>>, Fail> {
-    if points.is_empty() {
-        return Ok(None);
-    }
-    Ok(Some(tile_of(alloc, points)?))
 }
 
 /// What an event behind the failed one is answered, where so many edits were told as made: the tile is shown, all else is refused.

@@ -1,7 +1,8 @@
 //! Disks with a snapshot, made byte by byte. Of their 64 sectors 16 are the journal's, from 3 on; area 0 begins at 19, area 1 at 41.
 ghost use Rattle.std.specs.Prelude.{◌≡◌, ◌<◌, IfOk};
 
-use super::{begins, formatted, opened, point, root};
+use super::calls::{Ask, Told, other_answer};
+use super::{begins, formatted, opened, root};
 use crate::Service;
 use generations::{StoreFault, What};
 use sector_disk::{MemoryDisk, Sectors};
@@ -76,13 +77,15 @@ fn snapshot_without_edits(rt: HostRuntime) -> Result<(), Fail> {
     let text = texts_of(alloc, POINTS)?;
     assert_eq!(rt; text.len(), 655);
     let mut service = opened(alloc, disk_with(alloc, [5, 0, 655, 0], &text)?)?;
-    assert_eq!(rt; service.ask_feature(7), Some(&point(alloc, 0)?));
-    assert_eq!(rt; service.ask_feature(8), None);
-    assert_eq!(rt; service.ask_feature(9), Some(&point(alloc, 600)?));
-    assert_eq!(rt; service.ask_put(8, point(alloc, 0)?), Ok(6));
+    let rows = [
+        (Ask::Look(7), Told::Point(0)),
+        (Ask::Look(8), Told::None),
+        (Ask::Look(9), Told::Point(600)),
+        (Ask::Put(8, 0), Told::Edited(6)),
+    ];
+    assert_eq!(rt; other_answer(alloc, &mut service, &rows)?, None);
     let again = opened(alloc, service.into_disk().crash(&[])?)?;
-    assert!(rt; again.ask_feature(8).is_some());
-    assert!(rt; again.ask_feature(9).is_some());
+    assert!(rt; again.has(8) && again.has(9));
     Ok(())
 }
 
@@ -101,10 +104,13 @@ fn edits_behind_a_snapshot(rt: HostRuntime) -> Result<(), Fail> {
         ]),
     );
     let mut service = opened(alloc, disk)?;
-    assert_eq!(rt; service.ask_feature(7), Some(&point(alloc, 2)?));
-    assert_eq!(rt; service.ask_feature(9), None);
-    assert_eq!(rt; service.ask_put(9, point(alloc, 1)?), Ok(8));
-    assert_eq!(rt; service.ask_feature(9), Some(&point(alloc, 1)?));
+    let rows = [
+        (Ask::Look(7), Told::Point(2)),
+        (Ask::Look(9), Told::None),
+        (Ask::Put(9, 1), Told::Edited(8)),
+        (Ask::Look(9), Told::Point(1)),
+    ];
+    assert_eq!(rt; other_answer(alloc, &mut service, &rows)?, None);
     Ok(())
 }
 
@@ -204,7 +210,7 @@ fn features_by(alloc: Global, generation: u64) -> Result<[bool; 3], Fail> {
     let _ = disk.write(1, &root([generation, 5, 0, 25, 0]));
     write_two(&mut disk, 19, &texts_of(alloc, [(8, 0), (9, 0)])?);
     let service = opened(alloc, disk)?;
-    Ok([7, 8, 9].map(|id| service.ask_feature(id).is_some()))
+    Ok([7, 8, 9].map(|id| service.has(id)))
 }
 
 #[test]
@@ -220,8 +226,9 @@ fn archive_behind_a_snapshot(rt: HostRuntime) -> Result<(), Fail> {
     // The archive takes the 20 sectors behind the snapshot, whatever they have.
     let mut disk = disk_with(alloc, [5, 0, 655, 10_240], &texts_of(alloc, POINTS)?)?;
     let _ = disk.write(43, &[0xff; 512]);
-    let service = opened(alloc, disk)?;
-    assert_eq!(rt; service.ask_feature(9), Some(&point(alloc, 600)?));
+    let mut service = opened(alloc, disk)?;
+    let rows = [(Ask::Look(9), Told::Point(600))];
+    assert_eq!(rt; other_answer(alloc, &mut service, &rows)?, None);
     let more = disk_with(alloc, [5, 0, 655, 10_241], &texts_of(alloc, POINTS)?)?;
     assert_eq!(rt;
         outcome(alloc, more),

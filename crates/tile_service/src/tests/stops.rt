@@ -2,7 +2,7 @@
 ghost use Rattle.std.specs.Prelude.{◌≡◌};
 
 use super::{formatted, opened, point, point_of};
-use crate::{Service, ServiceFault};
+use crate::{Answer, Event, Service, ServiceFault};
 use sector_disk::{FailingCalls, FaultyDisk, MemoryDisk, Sectors};
 use std::alloc::Global;
 use std::test::Fail;
@@ -31,7 +31,7 @@ const FEATURES: [[bool; 3]; 5] = [
 
 /// After how many of the edits a service is.
 fn made_in<D: Sectors + Drop>(service: &Service<D>) -> Option<usize> {
-    let there = [1, 2, 3].map(|id| service.ask_feature(id).is_some());
+    let there = [1, 2, 3].map(|id| service.has(id));
     FEATURES.iter().position(|features| *features == there)
 }
 
@@ -166,14 +166,15 @@ fn goes_on(
     disk: MemoryDisk,
 ) -> Result<([bool; 3], Result<u64, ServiceFault>, [bool; 3]), Fail> {
     let mut service = opened(alloc, disk)?;
-    let found = [1, 2, 3].map(|id| service.ask_feature(id).is_some());
+    let found = [1, 2, 3].map(|id| service.has(id));
     let feature = point_of(alloc, "z", 963)?;
     let number = service.ask_put(3, point_of(alloc, "z", 963)?);
-    let again = opened(alloc, service.into_disk().crash(&[])?)?;
+    let mut again = opened(alloc, service.into_disk().crash(&[])?)?;
+    let mut third = again.ask_run(vec![in alloc; Event::Look { id: 3 }]?)?;
     let kept = [
-        again.ask_feature(1).is_some(),
-        again.ask_feature(2).is_some(),
-        again.ask_feature(3) == Some(&feature),
+        again.has(1),
+        again.has(2),
+        third.pop() == Some(Answer::Look(Some(feature))),
     ];
     Ok((found, number, kept))
 }
