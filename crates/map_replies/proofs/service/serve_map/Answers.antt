@@ -1,6 +1,6 @@
 use Rattle.http_serve.proofs.ServeLemmas.{if_ok, if_err}
-use Rattle.thin_service.proofs.Connections.{connection_runs, ended_connection_runs}
-use Rattle.thin_service.proofs.service.thin_serve.Goals as goal
+use Rattle.map_replies.proofs.Connections.{connection_runs, ended_connection_runs}
+use Rattle.map_replies.proofs.service.serve_map.Goals as goal
 
 pub returns-clause-any_moment : goal.returns-clause-any_moment
 returns-clause-any_moment g c =

@@ -1,6 +1,6 @@
 use Rattle.feature_model.specs.Data.{feature_data}
-use Rattle.thin_service.proofs.Connections.{takes_edit}
-use Rattle.thin_service.proofs.service.ThinService.put.Goals as goal
+use Rattle.map_replies.proofs.Connections.{takes_edit}
+use Rattle.map_replies.proofs.service.MapReplies.put.Goals as goal
 
 pub returns-clause-answered : goal.returns-clause-answered
 returns-clause-answered g c = let call = c.put-outcome.ensures in (

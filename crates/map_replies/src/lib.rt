@@ -8,7 +8,7 @@ mod service;
 mod wanted;
 
 pub use fault::RequestFault;
-pub use service::{ThinService, thin_serve};
+pub use service::{MapReplies, serve_map};
 
 #[cfg(test)]
 mod tests;

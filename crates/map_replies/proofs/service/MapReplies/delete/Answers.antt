@@ -1,5 +1,5 @@
-use Rattle.thin_service.proofs.Connections.{takes_edit}
-use Rattle.thin_service.proofs.service.ThinService.delete.Goals as goal
+use Rattle.map_replies.proofs.Connections.{takes_edit}
+use Rattle.map_replies.proofs.service.MapReplies.delete.Goals as goal
 
 pub returns-clause-answered : goal.returns-clause-answered
 returns-clause-answered g c = let call = c.delete-outcome.ensures in (

@@ -9,11 +9,11 @@ use Rattle.tile_service.specs.Machine as events
 use Rattle.tile_service.specs.Machine.{EventData, AnswerData, shown}
 use Rattle.tile_service.specs.Service.{edit_answer}
 use Rattle.tile_service.specs.declared.fault.ServiceFault.{ServiceFault}
-use Rattle.thin_service.specs.declared.fault.RequestFault.{RequestFault}
-use Rattle.thin_service.specs.declared.fault.RequestFault.TheVariants.{NotFound, Memory}
-use Rattle.thin_service.specs.Bodies.{SaysFeature, HasBodyFault}
-use Rattle.thin_service.specs.Requests.{Wanted, put, delete, tile, nothing, wanted_of}
-use Rattle.thin_service.specs.Words.{refusal_of, outcome_reply, content_reply}
+use Rattle.map_replies.specs.declared.fault.RequestFault.{RequestFault}
+use Rattle.map_replies.specs.declared.fault.RequestFault.TheVariants.{NotFound, Memory}
+use Rattle.map_replies.specs.Bodies.{SaysFeature, HasBodyFault}
+use Rattle.map_replies.specs.Requests.{Wanted, put, delete, tile, nothing, wanted_of}
+use Rattle.map_replies.specs.Words.{refusal_of, outcome_reply, content_reply}
 
 -- the events that were asked for so far, and their answers
 pub record Run : Type 0 where

@@ -4,10 +4,10 @@ use Rattle.http_serve.specs.Requests.{RequestView}
 use Rattle.http_serve.specs.Reply.{ReplyView}
 use Rattle.sector_disk.specs.Disk.{History}
 use Rattle.tile_service.specs.Service.{ServiceView}
-use Rattle.thin_service.specs.declared.service.ThinService.{ThinService}
-use Rattle.thin_service.specs.declared.wanted.Wanted as wants
-use Rattle.thin_service.specs.declared.wanted.Wanted.TheVariants.{Put, Delete, Tile, Nothing}
-use Rattle.thin_service.specs.Requests.{Wanted, put, delete, tile, nothing, Replies}
+use Rattle.map_replies.specs.declared.service.MapReplies.{MapReplies}
+use Rattle.map_replies.specs.declared.wanted.Wanted as wants
+use Rattle.map_replies.specs.declared.wanted.Wanted.TheVariants.{Put, Delete, Tile, Nothing}
+use Rattle.map_replies.specs.Requests.{Wanted, put, delete, tile, nothing, Replies}
 
 -- what is asked for
 abbrev pub wanted_view : wants.Wanted → Wanted
@@ -17,9 +17,9 @@ wanted_view (Tile at format) = tile at.z at.x at.y format
 wanted_view Nothing = nothing
 
 -- the service that it asks
-abbrev pub asked_service : {D : Type 0} → ThinService D → ServiceView D
+abbrev pub asked_service : {D : Type 0} → MapReplies D → ServiceView D
 asked_service s = s.service
 
 -- one reply to one request, over a disk with these sectors, this honesty and this history
-abbrev pub ServiceReplies : {D : Type 0} → (D → ℕ) → (D → Type 0) → (D → History) → ThinService D → RequestView → ReplyView → ThinService D → Type 0
+abbrev pub ServiceReplies : {D : Type 0} → (D → ℕ) → (D → Type 0) → (D → History) → MapReplies D → RequestView → ReplyView → MapReplies D → Type 0
 ServiceReplies sectors honest history old request reply new = Replies sectors honest history (asked_service old) request reply (asked_service new)

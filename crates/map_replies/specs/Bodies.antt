@@ -6,8 +6,8 @@ use Rattle.feature_model.specs.Data.{FeatureData}
 use Rattle.feature_model.specs.declared.fault.EditFault.{EditFault}
 use Rattle.feature_model.specs.declared.fault.EditFault.TheVariants as edits
 use Rattle.edit_json.specs.Faults.{IsFeature, IsFirstJsonFault}
-use Rattle.thin_service.specs.declared.fault.RequestFault.{RequestFault}
-use Rattle.thin_service.specs.declared.fault.RequestFault.TheVariants.{Json, Edit, Memory}
+use Rattle.map_replies.specs.declared.fault.RequestFault.{RequestFault}
+use Rattle.map_replies.specs.declared.fault.RequestFault.TheVariants.{Json, Edit, Memory}
 
 -- the bytes are a JSON text of this value
 abbrev pub IsJson : List ℕ → Data → Type 0

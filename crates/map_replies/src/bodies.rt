@@ -3,7 +3,7 @@ ghost use Rattle.std.specs.Prelude.{◌≡◌, ◌<◌, ◌⊎◌, length, IfOk,
 ghost use Rattle.serde_json.specs.View.{view};
 ghost use Rattle.feature_model.specs.Data.{feature_data};
 ghost use Rattle.edit_json.specs.Faults.{IsFeature, IsFirstJsonFault};
-ghost use Rattle.thin_service.specs.Bodies.{IsJson, SaysFeature, IsEditFault, HasBodyFault};
+ghost use Rattle.map_replies.specs.Bodies.{IsJson, SaysFeature, IsEditFault, HasBodyFault};
 
 use crate::fault::RequestFault;
 use edit_json::feature_from_json;

@@ -3,12 +3,12 @@ ghost use Rattle.feature_model.specs.Data.{delete};
 ghost use Rattle.http_serve.specs.declared.connection.TheConstants.{MOST_READS};
 ghost use Rattle.http_serve.specs.Told.{IsServed, IsServedUpTo, HasContent, MeetsTurns, KeepsTurns, AnswersInput};
 ghost use Rattle.http_serve.specs.Reply.{reply_view, IsWritable};
-ghost use Rattle.thin_service.specs.Bodies.{HasBodyFault};
-ghost use Rattle.thin_service.specs.Requests.{AnswersTile, AnswersEdit, AnswersPut, Answers};
-ghost use Rattle.thin_service.specs.Connections.{Run, no_events, Tells};
+ghost use Rattle.map_replies.specs.Bodies.{HasBodyFault};
+ghost use Rattle.map_replies.specs.Requests.{AnswersTile, AnswersEdit, AnswersPut, Answers};
+ghost use Rattle.map_replies.specs.Connections.{Run, no_events, Tells};
 ghost use Rattle.tile_service.specs.Runs.{TakesRun};
-ghost use Rattle.thin_service.specs.State.{asked_service, ServiceReplies};
-ghost use Rattle.thin_service.specs.Words.{refusal_of};
+ghost use Rattle.map_replies.specs.State.{asked_service, ServiceReplies};
+ghost use Rattle.map_replies.specs.Words.{refusal_of};
 
 use crate::bodies::feature_in;
 use crate::fault::RequestFault;
@@ -24,20 +24,20 @@ use tile_service::Service;
 
 /// A service, asked by requests.
 #[derive(Drop)]
-pub struct ThinService<D: Sectors + Drop> {
+pub struct MapReplies<D: Sectors + Drop> {
     alloc: Global,
     routes: Routes,
     service: Service<D>,
 }
 
-impl<D: Sectors + Drop> ThinService<D> {
-    ghost use Rattle.thin_service.specs.State.{asked_service, wanted_view};
+impl<D: Sectors + Drop> MapReplies<D> {
+    ghost use Rattle.map_replies.specs.State.{asked_service, wanted_view};
 
     /// What answers requests by asking this service.
-    pub fn new(alloc: Global, service: Service<D>) -> Result<ThinService<D>, AllocError>
-        ensures { IfOk result (λ thin. asked_service thin ≡ service) }
+    pub fn new(alloc: Global, service: Service<D>) -> Result<MapReplies<D>, AllocError>
+        ensures { IfOk result (λ replies. asked_service replies ≡ service) }
     {
-        Ok(ThinService {
+        Ok(MapReplies {
             alloc,
             routes: Routes::new(alloc)?,
             service,
@@ -109,8 +109,8 @@ impl<D: Sectors + Drop> ThinService<D> {
     }
 }
 
-impl<D: Sectors + Drop> Handler for ThinService<D> {
-    ghost use Rattle.thin_service.specs.State.{ServiceReplies};
+impl<D: Sectors + Drop> Handler for MapReplies<D> {
+    ghost use Rattle.map_replies.specs.State.{ServiceReplies};
 
     ghost replies = { ServiceReplies D.sectors D.honest D.history };
 
@@ -132,11 +132,11 @@ impl<D: Sectors + Drop> Handler for ThinService<D> {
 
 /// Serves a connection by at most `http_serve::MOST_READS` reads: one reply to each request, in order, and one to what is
 /// no request.
-pub fn thin_serve<D: Sectors + Drop, R: Read, W: Write>(
+pub fn serve_map<D: Sectors + Drop, R: Read, W: Write>(
     alloc: Global,
     reader: &mut R,
     writer: &mut W,
-    service: &mut ThinService<D>,
+    service: &mut MapReplies<D>,
 ) -> Result<Served, ServeFault>
     ensures input { IfOk result (λ served. AnswersInput (ServiceReplies D.sectors D.honest D.history)
         service.old (R.remaining reader.old) (W.contents writer.old) served service.new (W.contents writer.new)) }

@@ -1,5 +1,5 @@
 //! Connections from end to end. The tiles are those of `bench/model/tiles.py`, a second model that shares no code with this one.
-use crate::{ThinService, thin_serve};
+use crate::{MapReplies, serve_map};
 use http_serve::End;
 use sector_disk::MemoryDisk;
 use std::alloc::{AllocError, Global};
@@ -38,17 +38,17 @@ fn request(alloc: Global, method: &str, path: &str, body: &str) -> Result<String
 }
 
 /// A service with the empty map, on a disk of so many sectors.
-fn empty(alloc: Global, sectors: u64) -> Result<ThinService<MemoryDisk>, Fail> {
+fn empty(alloc: Global, sectors: u64) -> Result<MapReplies<MemoryDisk>, Fail> {
     let mut disk = MemoryDisk::new(alloc, sectors)?;
     Service::format(&mut disk).ok().ok_or("a format")?;
     let service = Service::open(alloc, disk).ok().ok_or("a service")?;
-    Ok(ThinService::new(alloc, service)?)
+    Ok(MapReplies::new(alloc, service)?)
 }
 
 /// What a service writes for these bytes, read in pieces.
 fn exchange_with(
     alloc: Global,
-    service: &mut ThinService<MemoryDisk>,
+    service: &mut MapReplies<MemoryDisk>,
     input: &str,
     size: usize,
 ) -> Result<(Vec<u8>, End), Fail> {
@@ -57,7 +57,7 @@ fn exchange_with(
         rest: input.as_bytes(),
         size,
     };
-    let served = thin_serve(alloc, &mut pieces, &mut out, service)?;
+    let served = serve_map(alloc, &mut pieces, &mut out, service)?;
     Ok((out, served.end))
 }
 

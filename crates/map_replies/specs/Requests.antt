@@ -15,10 +15,10 @@ use Rattle.tile_service.specs.Service.{ServiceView, Known, IsUp, state_of, edit_
 use Rattle.tile_service.specs.Stored.{Stored}
 use Rattle.tile_service.specs.declared.fault.ServiceFault.{ServiceFault}
 use Rattle.tile_service.specs.declared.fault.ServiceFault.TheVariants.{Device}
-use Rattle.thin_service.specs.declared.fault.RequestFault.{RequestFault}
-use Rattle.thin_service.specs.declared.fault.RequestFault.TheVariants.{NotFound, Memory}
-use Rattle.thin_service.specs.Words.{refusal_of, outcome_reply, content_reply}
-use Rattle.thin_service.specs.Bodies.{SaysFeature, HasBodyFault}
+use Rattle.map_replies.specs.declared.fault.RequestFault.{RequestFault}
+use Rattle.map_replies.specs.declared.fault.RequestFault.TheVariants.{NotFound, Memory}
+use Rattle.map_replies.specs.Words.{refusal_of, outcome_reply, content_reply}
+use Rattle.map_replies.specs.Bodies.{SaysFeature, HasBodyFault}
 
 -- ---- what is asked
 

@@ -15,7 +15,7 @@ pub enum RequestFault {
 
 impl From<EditFault> for RequestFault {
     ghost use Rattle.std.specs.Prelude.{◌≡◌};
-    ghost use Rattle.thin_service.specs.Bodies.{told_as};
+    ghost use Rattle.map_replies.specs.Bodies.{told_as};
 
     ghost from_gives = { λ edit fault. fault ≡ told_as edit };
 

@@ -4,9 +4,9 @@ use Rattle.serde_json.specs.Data.{Data}
 use Rattle.feature_model.specs.declared.fault.EditFault.{EditFault}
 use Rattle.feature_model.specs.declared.fault.EditFault.TheVariants as edits
 use Rattle.edit_json.specs.Faults.{IsFirstJsonFault}
-use Rattle.thin_service.specs.declared.fault.RequestFault.{RequestFault}
-use Rattle.thin_service.specs.declared.fault.RequestFault.TheVariants.{NotFound, Json, Edit, Memory}
-use Rattle.thin_service.specs.Bodies.{told_as, IsEditFault, IsJson, HasBodyFault}
+use Rattle.map_replies.specs.declared.fault.RequestFault.{RequestFault}
+use Rattle.map_replies.specs.declared.fault.RequestFault.TheVariants.{NotFound, Json, Edit, Memory}
+use Rattle.map_replies.specs.Bodies.{told_as, IsEditFault, IsJson, HasBodyFault}
 
 -- a fault with P is told as out of memory or as itself
 pub told : (P : EditFault → Type 0) (e : EditFault) → P e → (told_as e ≡ Memory) ⊎ IsEditFault P (told_as e)

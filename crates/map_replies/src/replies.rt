@@ -1,10 +1,10 @@
 //! The replies of the service.
 ghost use Rattle.std.specs.Prelude.{◌≡◌, ◌≤◌, [], length, vec_capacity, IfOk, option_map};
 ghost use Rattle.http_serve.specs.Reply.{content_bytes, reply_view, FitsParts, IsWritable};
-ghost use Rattle.thin_service.specs.Words.{fault_word, service_word, edit_word, full_word, fault_status, service_status, edit_status, edit_body, edit_reply};
-ghost use Rattle.thin_service.specs.Words.{outcome_reply, no_tile, format_type, format_content, content_reply, tile_reply, refusal_of};
-ghost use Rattle.thin_service.specs.Words.{text_type, json_type, tile_type};
-ghost use Rattle.thin_service.specs.declared.replies.TheConstants.{MOST_TEXT};
+ghost use Rattle.map_replies.specs.Words.{fault_word, service_word, edit_word, full_word, fault_status, service_status, edit_status, edit_body, edit_reply};
+ghost use Rattle.map_replies.specs.Words.{outcome_reply, no_tile, format_type, format_content, content_reply, tile_reply, refusal_of};
+ghost use Rattle.map_replies.specs.Words.{text_type, json_type, tile_type};
+ghost use Rattle.map_replies.specs.declared.replies.TheConstants.{MOST_TEXT};
 
 use crate::fault::RequestFault;
 use decimal_number::{MOST_DIGITS, push_number, push_text};

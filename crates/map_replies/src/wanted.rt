@@ -1,8 +1,8 @@
 //! What a request asks for.
 ghost use Rattle.std.specs.Prelude.{◌≡◌};
 ghost use Rattle.tile_routes.specs.Targets.{asked_of};
-ghost use Rattle.thin_service.specs.Requests.{wanted_by};
-ghost use Rattle.thin_service.specs.State.{wanted_view};
+ghost use Rattle.map_replies.specs.Requests.{wanted_by};
+ghost use Rattle.map_replies.specs.State.{wanted_view};
 
 use hilbert_id::TileAt;
 use tile_routes::{Target, TileFormat};

@@ -6,7 +6,7 @@ use Rattle.http_serve.specs.declared.connection.Served.{Served}
 use Rattle.http_serve.specs.Requests.{RequestView}
 use Rattle.http_serve.specs.Reply.{ReplyView}
 use Rattle.http_serve.specs.Told.{IsServed, IsServedUpTo}
-use Rattle.thin_service.proofs.Along.{served_along, fault_along}
+use Rattle.map_replies.proofs.Along.{served_along, fault_along}
 use Rattle.sector_disk.specs.Disk.{History}
 use Rattle.sector_disk.specs.Moments.{LeavesOnly}
 use Rattle.tile_routes.specs.declared.target.TileFormat.{TileFormat}
@@ -21,12 +21,12 @@ use Rattle.tile_service.specs.declared.fault.ServiceFault.{ServiceFault}
 use Rattle.tile_service.specs.declared.fault.ServiceFault.TheVariants.{Device}
 use Rattle.tile_service.proofs.Callers.{HasRun, run_begins, run_on, tile_step, takes_run}
 use Rattle.tile_service.proofs.Runs.{no_known, broken_refuses, after_answer}
-use Rattle.thin_service.specs.declared.fault.RequestFault.{RequestFault}
-use Rattle.thin_service.specs.declared.fault.RequestFault.TheVariants.{NotFound, Memory}
-use Rattle.thin_service.specs.declared.service.ThinService.{ThinService}
-use Rattle.thin_service.specs.Connections.{Run, no_events, with_event, TellsEdit, TellsTile, TellsFault, TellsOf, Tells}
-use Rattle.thin_service.specs.Requests.{Wanted, put, delete, tile, nothing, wanted_of, TakesEdit, AnswersEdit, AnswersTile, Refuses, Answers}
-use Rattle.thin_service.specs.State.{asked_service, ServiceReplies}
+use Rattle.map_replies.specs.declared.fault.RequestFault.{RequestFault}
+use Rattle.map_replies.specs.declared.fault.RequestFault.TheVariants.{NotFound, Memory}
+use Rattle.map_replies.specs.declared.service.MapReplies.{MapReplies}
+use Rattle.map_replies.specs.Connections.{Run, no_events, with_event, TellsEdit, TellsTile, TellsFault, TellsOf, Tells}
+use Rattle.map_replies.specs.Requests.{Wanted, put, delete, tile, nothing, wanted_of, TakesEdit, AnswersEdit, AnswersTile, Refuses, Answers}
+use Rattle.map_replies.specs.State.{asked_service, ServiceReplies}
 
 module _ {D : Type 0} (sectors : D → ℕ) (honest : D → Type 0) (history : D → History) where
   -- what a call of the service with an edit says
@@ -114,14 +114,14 @@ module _ {D : Type 0} (sectors : D → ℕ) (honest : D → Type 0) (history : D
         let on = no_event old told Memory reply new so is in (on.0, inr on.1, on.2)
     answered old told nothing body reply new so is = no_event old told NotFound reply new so is
 
-  replied : (first old : ThinService D) (told : Run) (request : RequestView) (reply : ReplyView) (new : ThinService D)
+  replied : (first old : MapReplies D) (told : Run) (request : RequestView) (reply : ReplyView) (new : MapReplies D)
       → GoesAlong (asked_service first) (asked_service old) told → ServiceReplies sectors honest history old request reply new
       → (run : Run) × Tells told request reply run × GoesAlong (asked_service first) (asked_service new) run
   replied first old told request reply new so is =
       answered (asked_service first) (asked_service old) told (wanted_of request) request.body reply (asked_service new) so is
 
   -- A connection that was served tells a run of events that the service took.
-  pub connection_runs : (old : ThinService D) (left held : Option (List ℕ)) (served : Served) (new : ThinService D) (leaves holds : Option (List ℕ))
+  pub connection_runs : (old : MapReplies D) (left held : Option (List ℕ)) (served : Served) (new : MapReplies D) (leaves holds : Option (List ℕ))
       → IsServed (ServiceReplies sectors honest history) old left held served new leaves holds
       → (run : Run) × IsServed Tells no_events left held served run leaves holds
       × TakesRun sectors honest history (asked_service old) run.events run.answers (asked_service new)
@@ -131,7 +131,7 @@ module _ {D : Type 0} (sectors : D → ℕ) (honest : D → Type 0) (history : D
       (told.0, told.1, takes_run sectors honest history (asked_service old) told.0.events told.0.answers (asked_service new) told.2)
 
   -- So does one that a fault ended.
-  pub ended_connection_runs : (old : ThinService D) (left held : Option (List ℕ)) (fault : ServeFault) (new : ThinService D) (leaves holds : Option (List ℕ))
+  pub ended_connection_runs : (old : MapReplies D) (left held : Option (List ℕ)) (fault : ServeFault) (new : MapReplies D) (leaves holds : Option (List ℕ))
       → IsServedUpTo (ServiceReplies sectors honest history) old left held fault new leaves holds
       → (run : Run) × IsServedUpTo Tells no_events left held fault run leaves holds
       × TakesRun sectors honest history (asked_service old) run.events run.answers (asked_service new)
