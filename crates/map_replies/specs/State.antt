@@ -5,16 +5,7 @@ use Rattle.http_serve.specs.Reply.{ReplyView}
 use Rattle.sector_disk.specs.Disk.{History}
 use Rattle.tile_service.specs.Service.{ServiceView}
 use Rattle.map_replies.specs.declared.service.MapReplies.{MapReplies}
-use Rattle.map_replies.specs.declared.wanted.Wanted as wants
-use Rattle.map_replies.specs.declared.wanted.Wanted.TheVariants.{Put, Delete, Tile, Nothing}
-use Rattle.map_replies.specs.Requests.{Wanted, put, delete, tile, nothing, Replies}
-
--- what is asked for
-abbrev pub wanted_view : wants.Wanted → Wanted
-wanted_view (Put id) = put id
-wanted_view (Delete id) = delete id
-wanted_view (Tile at format) = tile at.z at.x at.y format
-wanted_view Nothing = nothing
+use Rattle.map_replies.specs.Requests.{Replies}
 
 -- the service that it asks
 abbrev pub asked_service : {D : Type 0} → MapReplies D → ServiceView D

@@ -1,11 +1,17 @@
 -- The replies of the service.
 use Rattle.std.specs.Prelude.{ℕ, List, ◌++◌, codes, decimal, Option, Some, None, Result, Ok, Err}
 use Rattle.hex.specs.Hex.{encode_lower}
+use Rattle.serde_json.specs.Written.{compact_text}
 use Rattle.http_serve.specs.Reply.{ReplyView, plain_reply}
+use Rattle.feature_model.specs.Data.{FeatureData}
+use Rattle.edit_json.specs.Json.{json_of}
 use Rattle.feature_model.specs.declared.fault.EditFault.{EditFault}
 use Rattle.feature_model.specs.declared.fault.EditFault.TheVariants as edits
 use Rattle.tile_routes.specs.declared.target.TileFormat.{TileFormat}
 use Rattle.tile_routes.specs.declared.target.TileFormat.TheVariants.{Mvt, Hex}
+use Rattle.tile_routes.specs.Methods.{allow_of}
+use Rattle.tile_routes.specs.Paths.{Asked}
+use Rattle.tile_service.specs.declared.publishing_whole.Published.{Published}
 use Rattle.tile_service.specs.declared.fault.ServiceFault.{ServiceFault}
 use Rattle.tile_service.specs.declared.fault.ServiceFault.TheVariants as services
 use Rattle.map_replies.specs.declared.fault.RequestFault.{RequestFault}
@@ -87,23 +93,69 @@ service_status services.Device = 500
 abbrev pub refusal_of : RequestFault → ReplyView
 refusal_of fault = plain_reply (fault_status fault) (Some text_type) (fault_word fault)
 
+-- a refusal by the service
+abbrev pub service_refusal : ServiceFault → ReplyView
+service_refusal fault = plain_reply (service_status fault) (Some text_type) (service_word fault)
+
+-- the word of a method that a path doesn't allow
+unfoldable pub method_word : List ℕ
+method_word = codes "Method\n"
+
+-- 405 Method Not Allowed, with the methods that the path allows (RFC 9110, 15.5.6)
+abbrev pub not_allowed_reply : Asked → ReplyView
+not_allowed_reply asked = record { status = 405; kind = Some text_type; range = None; allow = Some (allow_of asked); content = method_word }
+
 -- ---- answers
+
+-- a text in JSON
+abbrev pub json_reply : List ℕ → ReplyView
+json_reply text = plain_reply 200 (Some json_type) text
+
+-- nothing to tell
+abbrev pub empty_reply : ReplyView
+empty_reply = plain_reply 204 None (codes "")
 
 -- the number of an edit that was made
 unfoldable pub edit_body : ℕ → List ℕ
 edit_body number = codes "{\"edit\":" ++ decimal number ++ codes "}"
 
 abbrev pub edit_reply : ℕ → ReplyView
-edit_reply number = plain_reply 200 (Some json_type) (edit_body number)
+edit_reply number = json_reply (edit_body number)
 
 -- the outcome of an edit: its number, or why the service refuses it
 abbrev pub outcome_reply : Result ℕ ServiceFault → ReplyView
 outcome_reply (Ok number) = edit_reply number
-outcome_reply (Err fault) = plain_reply (service_status fault) (Some text_type) (service_word fault)
+outcome_reply (Err fault) = service_refusal fault
 
--- no tile
-abbrev pub no_tile : ReplyView
-no_tile = plain_reply 204 None (codes "")
+-- how much of a publication is left
+unfoldable pub left_body : ℕ → List ℕ
+left_body left = codes "{\"left\":" ++ decimal left ++ codes "}"
+
+-- the outcome of the beginning or of a step of a publication
+abbrev pub left_reply : Result ℕ ServiceFault → ReplyView
+left_reply (Ok left) = json_reply (left_body left)
+left_reply (Err fault) = service_refusal fault
+
+-- what was published: how many bytes the archive has, the number of the last edit in it, and the number of its generation
+unfoldable pub published_body : Published → List ℕ
+published_body p =
+    codes "{\"archive\":" ++ decimal p.archive_len ++ codes ",\"edits\":" ++ decimal p.edits ++ codes ",\"generation\":" ++ decimal p.generation
+    ++ codes "}"
+
+-- the outcome of a whole publication
+abbrev pub published_reply : Result Published ServiceFault → ReplyView
+published_reply (Ok p) = json_reply (published_body p)
+published_reply (Err fault) = service_refusal fault
+
+-- the outcome of giving a publication up
+abbrev pub cancel_reply : Result (Unit {0}) ServiceFault → ReplyView
+cancel_reply (Ok done) = empty_reply
+cancel_reply (Err fault) = service_refusal fault
+
+-- the feature of a number, or that there is none
+abbrev pub found_reply : Option FeatureData → ReplyView
+found_reply None = refusal_of NotFound
+found_reply (Some f) = json_reply (compact_text (json_of f))
 
 abbrev pub format_type : TileFormat → List ℕ
 format_type Mvt = tile_type
@@ -119,5 +171,5 @@ tile_reply format bytes = plain_reply 200 (Some (format_type format)) (format_co
 
 -- what a tile has, or none where it shows nothing
 abbrev pub content_reply : TileFormat → Option (List ℕ) → ReplyView
-content_reply format None = no_tile
+content_reply format None = empty_reply
 content_reply format (Some bytes) = tile_reply format bytes

@@ -1,11 +1,15 @@
-//! The first service: a map on a disk behind an HTTP/1.1 connection.
+//! A map on a disk behind HTTP/1.1 connections: a reply to each request.
 #![tactic(auto)]
 
+mod archives;
 mod bodies;
+mod editing;
 mod fault;
+mod parts;
+mod publishing;
 mod replies;
 mod service;
-mod wanted;
+mod showing;
 
 pub use fault::RequestFault;
 pub use service::{MapReplies, serve_map};

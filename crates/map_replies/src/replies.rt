@@ -2,7 +2,10 @@
 ghost use Rattle.std.specs.Prelude.{◌≡◌, ◌≤◌, [], length, vec_capacity, IfOk, option_map};
 ghost use Rattle.http_serve.specs.Reply.{content_bytes, reply_view, FitsParts, IsWritable};
 ghost use Rattle.map_replies.specs.Words.{fault_word, service_word, edit_word, full_word, fault_status, service_status, edit_status, edit_body, edit_reply};
-ghost use Rattle.map_replies.specs.Words.{outcome_reply, no_tile, format_type, format_content, content_reply, tile_reply, refusal_of};
+ghost use Rattle.map_replies.specs.Words.{service_refusal, not_allowed_reply, json_reply, empty_reply, outcome_reply, left_body, left_reply};
+ghost use Rattle.map_replies.specs.Words.{published_body, published_reply, cancel_reply};
+ghost use Rattle.map_replies.specs.Words.{format_type, format_content, content_reply, tile_reply, refusal_of};
+ghost use Rattle.tile_routes.specs.Targets.{asked_of};
 ghost use Rattle.map_replies.specs.Words.{text_type, json_type, tile_type};
 ghost use Rattle.map_replies.specs.declared.replies.TheConstants.{MOST_TEXT};
 
@@ -12,11 +15,11 @@ use feature_model::EditFault;
 use http::StatusCode;
 use http_serve::{Content, Reply};
 use std::alloc::{AllocError, Global};
-use tile_routes::TileFormat;
-use tile_service::ServiceFault;
+use tile_routes::{Target, TileFormat};
+use tile_service::{Published, ServiceFault};
 
-/// Room for the longest text that tells the outcome of an edit: that of a journal or an area that is full, with two numbers.
-const MOST_TEXT: usize = 2 * MOST_DIGITS + 24;
+/// Room for the longest text that tells an outcome: that of a publication, with three numbers.
+const MOST_TEXT: usize = 3 * MOST_DIGITS + 35;
 
 /// The word of a fault of an edit, with a line feed.
 #[tactic(auto, unfolding(crate::specs::Words::edit_word))]
@@ -153,7 +156,58 @@ pub(crate) fn refusal(fault: RequestFault) -> Reply
     )
 }
 
-/// An empty text, with room for each outcome of an edit.
+/// The reply that names a refusal by the service.
+#[tactic(auto, unfolding(crate::specs::Words::text_type))]
+fn service_refusal(text: Vec<u8>, fault: ServiceFault) -> Reply
+    requires empty { text.items ≡ [] }
+    requires room { MOST_TEXT ≤ vec_capacity text }
+    ensures reply { reply_view [] result ≡ service_refusal fault }
+    ensures writable { IsWritable [] result }
+{
+    Reply::plain(
+        service_status(fault),
+        Some("text/plain"),
+        service_word(text, fault),
+    )
+}
+
+/// The reply to a method that the path doesn't allow.
+#[tactic(auto, unfolding(crate::specs::Words::text_type, crate::specs::Words::method_word), using(crate::proofs::Texts::allow_short))]
+pub(crate) fn not_allowed(target: Target) -> Reply
+    ensures reply { reply_view [] result ≡ not_allowed_reply (asked_of target) }
+    ensures writable { IsWritable [] result }
+{
+    Reply {
+        status: StatusCode::METHOD_NOT_ALLOWED,
+        kind: Some("text/plain"),
+        range: None,
+        allow: Some(target.allow()),
+        content: Content::Fixed(b"Method\n"),
+    }
+}
+
+/// The reply with a text in JSON.
+#[tactic(auto, unfolding(crate::specs::Words::json_type))]
+pub(crate) fn json(text: Vec<u8>) -> Reply
+    ensures reply { reply_view [] result ≡ json_reply text.items }
+    ensures writable { IsWritable [] result }
+{
+    Reply::plain(
+        StatusCode::OK,
+        Some("application/json"),
+        Content::Whole(text),
+    )
+}
+
+/// The reply with nothing to tell.
+pub(crate) fn empty() -> Reply
+    ensures reply { reply_view [] result ≡ empty_reply }
+    ensures writable { IsWritable [] result }
+{
+    Reply::plain(StatusCode::NO_CONTENT, None, Content::Empty)
+}
+
+/// An empty text, with room for each outcome.
 pub(crate) fn outcome_space(alloc: Global) -> Result<Vec<u8>, AllocError>
     ensures empty { IfOk result (λ text. text.items ≡ []) }
     ensures room { IfOk result (λ text. MOST_TEXT ≤ vec_capacity text) }
@@ -176,7 +230,6 @@ fn edit_body(text: Vec<u8>, number: u64) -> Vec<u8>
 }
 
 /// The reply that tells the outcome of an edit. It takes no memory: an edit that was made is always told.
-#[tactic(auto, unfolding(crate::specs::Words::json_type, crate::specs::Words::text_type))]
 pub(crate) fn outcome(text: Vec<u8>, outcome: Result<u64, ServiceFault>) -> Reply
     requires empty { text.items ≡ [] }
     requires room { MOST_TEXT ≤ vec_capacity text }
@@ -184,25 +237,80 @@ pub(crate) fn outcome(text: Vec<u8>, outcome: Result<u64, ServiceFault>) -> Repl
     ensures writable { IsWritable [] result }
 {
     match outcome {
-        Ok(number) => Reply::plain(
-            StatusCode::OK,
-            Some("application/json"),
-            Content::Whole(edit_body(text, number)),
-        ),
-        Err(fault) => Reply::plain(
-            service_status(fault),
-            Some("text/plain"),
-            service_word(text, fault),
-        ),
+        Ok(number) => json(edit_body(text, number)),
+        Err(fault) => service_refusal(text, fault),
     }
 }
 
-/// The reply where a tile shows nothing.
-fn no_tile() -> Reply
-    ensures reply { reply_view [] result ≡ no_tile }
+/// The text that tells how much of a publication is left.
+#[tactic(auto, unfolding(crate::specs::Words::left_body))]
+fn left_body(text: Vec<u8>, left: u64) -> Vec<u8>
+    requires empty { text.items ≡ [] }
+    requires room { MOST_TEXT ≤ vec_capacity text }
+    ensures { result.items ≡ left_body left }
+{
+    let mut text = text;
+    push_text(&mut text, b"{\"left\":");
+    push_number(&mut text, left);
+    push_text(&mut text, b"}");
+    text
+}
+
+/// The reply that tells the outcome of the beginning or of a step of a publication. It takes no memory.
+pub(crate) fn left(text: Vec<u8>, outcome: Result<u64, ServiceFault>) -> Reply
+    requires empty { text.items ≡ [] }
+    requires room { MOST_TEXT ≤ vec_capacity text }
+    ensures reply { reply_view [] result ≡ left_reply outcome }
     ensures writable { IsWritable [] result }
 {
-    Reply::plain(StatusCode::NO_CONTENT, None, Content::Empty)
+    match outcome {
+        Ok(left) => json(left_body(text, left)),
+        Err(fault) => service_refusal(text, fault),
+    }
+}
+
+/// The text that tells what was published.
+#[tactic(auto, unfolding(crate::specs::Words::published_body))]
+fn published_body(text: Vec<u8>, published: Published) -> Vec<u8>
+    requires empty { text.items ≡ [] }
+    requires room { MOST_TEXT ≤ vec_capacity text }
+    ensures { result.items ≡ published_body published }
+{
+    let mut text = text;
+    push_text(&mut text, b"{\"archive\":");
+    push_number(&mut text, published.archive_len);
+    push_text(&mut text, b",\"edits\":");
+    push_number(&mut text, published.edits);
+    push_text(&mut text, b",\"generation\":");
+    push_number(&mut text, published.generation);
+    push_text(&mut text, b"}");
+    text
+}
+
+/// The reply that tells the outcome of a whole publication. It takes no memory.
+pub(crate) fn published(text: Vec<u8>, outcome: Result<Published, ServiceFault>) -> Reply
+    requires empty { text.items ≡ [] }
+    requires room { MOST_TEXT ≤ vec_capacity text }
+    ensures reply { reply_view [] result ≡ published_reply outcome }
+    ensures writable { IsWritable [] result }
+{
+    match outcome {
+        Ok(published) => json(published_body(text, published)),
+        Err(fault) => service_refusal(text, fault),
+    }
+}
+
+/// The reply that tells whether a publication was given up. It takes no memory.
+pub(crate) fn cancelled(text: Vec<u8>, outcome: Result<(), ServiceFault>) -> Reply
+    requires empty { text.items ≡ [] }
+    requires room { MOST_TEXT ≤ vec_capacity text }
+    ensures reply { reply_view [] result ≡ cancel_reply outcome }
+    ensures writable { IsWritable [] result }
+{
+    match outcome {
+        Ok(()) => empty(),
+        Err(fault) => service_refusal(text, fault),
+    }
 }
 
 /// The type of a tile's content.
@@ -247,7 +355,7 @@ pub(crate) fn tile(
     ensures writable { IfOk result (IsWritable []) }
 {
     match content {
-        None => Ok(no_tile()),
+        None => Ok(empty()),
         Some(bytes) => some_tile(alloc, format, bytes),
     }
 }

@@ -1,37 +1,36 @@
-ghost use Rattle.std.specs.Prelude.{◌≡◌, ◌⊎◌, [], IfOk, IfErr};
-ghost use Rattle.feature_model.specs.Data.{delete};
+//! The replies of a map.
+ghost use Rattle.std.specs.Prelude.{◌≡◌, [], IfOk, IfErr, option_map};
 ghost use Rattle.http_serve.specs.declared.connection.TheConstants.{MOST_READS};
 ghost use Rattle.http_serve.specs.Told.{IsServed, IsServedUpTo, HasContent, MeetsTurns, KeepsTurns, AnswersInput};
 ghost use Rattle.http_serve.specs.Reply.{reply_view, IsWritable};
-ghost use Rattle.map_replies.specs.Bodies.{HasBodyFault};
-ghost use Rattle.map_replies.specs.Requests.{AnswersTile, AnswersEdit, AnswersPut, Answers};
-ghost use Rattle.map_replies.specs.Connections.{Run, no_events, Tells};
+ghost use Rattle.tile_routes.specs.Targets.{asked_of};
+ghost use Rattle.tile_routes.specs.Wanted.{wanted_view};
 ghost use Rattle.tile_service.specs.Runs.{TakesRun};
+ghost use Rattle.map_replies.specs.Requests.{AnswersOnFeature, AnswersAllowed, Answers};
+ghost use Rattle.map_replies.specs.Connections.{Run, no_events, Tells};
 ghost use Rattle.map_replies.specs.State.{asked_service, ServiceReplies};
 ghost use Rattle.map_replies.specs.Words.{refusal_of};
 
-use crate::bodies::feature_in;
 use crate::fault::RequestFault;
+use crate::parts::range_for;
 use crate::replies;
-use crate::wanted::{Wanted, wanted_by};
-use hilbert_id::TileAt;
 use http_serve::{ContentFault, Handler, Reply, Request, ServeFault, Served, serve};
 use sector_disk::Sectors;
 use std::alloc::{AllocError, Global};
 use std::io::{Read, Write};
-use tile_routes::{Routes, Target, TileFormat};
+use tile_routes::{Method, Routes, Target, Wanted};
 use tile_service::Service;
 
 /// A service, asked by requests.
 #[derive(Drop)]
 pub struct MapReplies<D: Sectors + Drop> {
-    alloc: Global,
+    pub(crate) alloc: Global,
     routes: Routes,
-    service: Service<D>,
+    pub(crate) service: Service<D>,
 }
 
 impl<D: Sectors + Drop> MapReplies<D> {
-    ghost use Rattle.map_replies.specs.State.{asked_service, wanted_view};
+    ghost use Rattle.map_replies.specs.State.{asked_service};
 
     /// What answers requests by asking this service.
     pub fn new(alloc: Global, service: Service<D>) -> Result<MapReplies<D>, AllocError>
@@ -44,67 +43,65 @@ impl<D: Sectors + Drop> MapReplies<D> {
         })
     }
 
-    /// Gives a number the feature in the body of a request.
-    fn put(&mut self, id: u64, body: &[u8]) -> Result<Reply, RequestFault>
-        ensures answered { IfOk result (λ reply. AnswersPut D.sectors D.honest D.history
-            (asked_service self.old) id body.now (reply_view [] reply) (asked_service self.new)) }
+    /// What is wanted of a feature, by a method of its path.
+    fn on_feature(&mut self, id: u64, method: Method, body: &[u8]) -> Result<Reply, RequestFault>
+        ensures answered { IfOk result (λ reply. AnswersOnFeature D.sectors D.honest D.history
+            (asked_service self.old) id method body.now (reply_view [] reply) (asked_service self.new)) }
         ensures writable { IfOk result (IsWritable []) }
-        ensures refused { IfErr result (λ fault. (asked_service self.new ≡ asked_service self.old)
-            × ((fault ≡ RequestFault.Memory) ⊎ HasBodyFault body.now fault)) }
+        ensures refused { IfErr result (λ fault. AnswersOnFeature D.sectors D.honest D.history
+            (asked_service self.old) id method body.now (refusal_of fault) (asked_service self.new)) }
     {
-        let feature = match feature_in(self.alloc, body) {
-            Ok(feature) => feature,
-            Err(fault) => return Err(fault),
-        };
-        let Ok(text) = replies::outcome_space(self.alloc) else {
-            return Err(RequestFault::Memory);
-        };
-        let outcome = self.service.put(id, feature);
-        Ok(replies::outcome(text, outcome))
-    }
-
-    /// Takes the feature of a number away.
-    fn delete(&mut self, id: u64) -> Result<Reply, RequestFault>
-        ensures answered { IfOk result (λ reply. AnswersEdit D.sectors D.honest D.history
-            (asked_service self.old) (delete id) (reply_view [] reply) (asked_service self.new)) }
-        ensures writable { IfOk result (IsWritable []) }
-        ensures refused { IfErr result (λ fault. (asked_service self.new ≡ asked_service self.old) × (fault ≡ RequestFault.Memory)) }
-    {
-        let Ok(text) = replies::outcome_space(self.alloc) else {
-            return Err(RequestFault::Memory);
-        };
-        let outcome = self.service.delete(id);
-        Ok(replies::outcome(text, outcome))
-    }
-
-    /// The tile, as it is asked for.
-    fn tile(&mut self, at: TileAt, format: TileFormat) -> Result<Reply, RequestFault>
-        ensures answered { IfOk result (λ reply. AnswersTile
-            (asked_service self.old) at.z at.x at.y format (reply_view [] reply) (asked_service self.new)) }
-        ensures writable { IfOk result (IsWritable []) }
-        ensures refused { IfErr result (λ fault. (asked_service self.new ≡ asked_service self.old) × (fault ≡ RequestFault.Memory)) }
-    {
-        let Ok(content) = self.service.tile(at) else {
-            return Err(RequestFault::Memory);
-        };
-        match replies::tile(self.alloc, format, content) {
-            Ok(reply) => Ok(reply),
-            Err(AllocError) => Err(RequestFault::Memory),
+        match method {
+            Method::Put => self.put(id, body),
+            Method::Delete => self.delete(id),
+            Method::Get | Method::Head | Method::Post => self.feature(id),
         }
     }
-    /// What is wanted.
-    fn respond(&mut self, wanted: Wanted, body: &[u8]) -> Result<Reply, RequestFault>
-        ensures answered { IfOk result (λ reply. Answers D.sectors D.honest D.history
-            (asked_service self.old) (wanted_view wanted) body.now (reply_view [] reply) (asked_service self.new)) }
+
+    /// What is wanted by a method that the path allows.
+    fn allowed(
+        &mut self,
+        target: Target,
+        method: Method,
+        range: Option<&[u8]>,
+        body: &[u8],
+    ) -> Result<Reply, RequestFault>
+        ensures answered { IfOk result (λ reply. AnswersAllowed D.sectors D.honest D.history (asked_service self.old) (asked_of target) method
+            (option_map (λ value. value.now) range.entry) body.now (reply_view [] reply) (asked_service self.new)) }
         ensures writable { IfOk result (IsWritable []) }
-        ensures refused { IfErr result (λ fault. Answers D.sectors D.honest D.history
-            (asked_service self.old) (wanted_view wanted) body.now (refusal_of fault) (asked_service self.new)) }
+        ensures refused { IfErr result (λ fault. AnswersAllowed D.sectors D.honest D.history (asked_service self.old) (asked_of target) method
+            (option_map (λ value. value.now) range.entry) body.now (refusal_of fault) (asked_service self.new)) }
+    {
+        match target {
+            Target::Tile(at, format) => self.tile(at, format),
+            Target::Feature(id) => self.on_feature(id, method, body),
+            Target::Metadata => self.metadata(),
+            Target::Archive => self.archive(range_for(method, range)),
+            Target::Publish => self.publish(),
+            Target::PublishBegin => self.publish_begin(),
+            Target::PublishStep => self.publish_step(),
+            Target::PublishCancel => self.publish_cancel(),
+            Target::Nothing => Err(RequestFault::NotFound),
+        }
+    }
+
+    /// What is wanted.
+    fn respond(
+        &mut self,
+        wanted: Wanted,
+        range: Option<&[u8]>,
+        body: &[u8],
+    ) -> Result<Reply, RequestFault>
+        ensures answered { IfOk result (λ reply. Answers D.sectors D.honest D.history (asked_service self.old) (wanted_view wanted)
+            (option_map (λ value. value.now) range.entry) body.now (reply_view [] reply) (asked_service self.new)) }
+        ensures writable { IfOk result (IsWritable []) }
+        ensures refused { IfErr result (λ fault. Answers D.sectors D.honest D.history (asked_service self.old) (wanted_view wanted)
+            (option_map (λ value. value.now) range.entry) body.now (refusal_of fault) (asked_service self.new)) }
     {
         match wanted {
-            Wanted::Put(id) => self.put(id, body),
-            Wanted::Delete(id) => self.delete(id),
-            Wanted::Tile(at, format) => self.tile(at, format),
-            Wanted::Nothing => Err(RequestFault::NotFound),
+            Wanted::NotFound => Err(RequestFault::NotFound),
+            Wanted::NotAllowed(target) => Ok(replies::not_allowed(target)),
+            Wanted::Allowed(target, method) => self.allowed(target, method, range, body),
         }
     }
 }
@@ -118,8 +115,8 @@ impl<D: Sectors + Drop> Handler for MapReplies<D> {
     ghost content = { λ _. [] };
 
     fn answer(&mut self, request: &Request<'_>) -> Reply {
-        let wanted = wanted_by(request.method, self.routes.target(request.path));
-        match self.respond(wanted, request.body) {
+        let wanted = self.routes.wanted(request.method, request.path);
+        match self.respond(wanted, request.range, request.body) {
             Ok(reply) => reply,
             Err(fault) => replies::refusal(fault),
         }
