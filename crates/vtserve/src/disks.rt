@@ -6,7 +6,7 @@ ghost use Rattle.generations.specs.Areas.{IsSize};
 ghost use Rattle.generations.specs.declared.fault.StoreFault.TheVariants.{TooSmall, Damaged, Device, Memory};
 ghost use Rattle.generations.specs.declared.fault.What.TheVariants.{Size};
 ghost use Rattle.generations.specs.declared.sizes.TheConstants.{LEAST_SECTORS, MOST_SECTORS};
-ghost use Rattle.thin_service.specs.State.{asked_service};
+ghost use Rattle.map_replies.specs.State.{asked_service};
 ghost use Rattle.tile_service.specs.Opening.{IsOpenFault};
 ghost use Rattle.tile_service.specs.Service.{IsUp};
 ghost use Rattle.tile_service.specs.Stored.{Stored, Holds, Keeps, first_state};
@@ -14,6 +14,7 @@ ghost use Rattle.vtserve.specs.declared.fault.CommandFault.TheVariants.{File, St
 
 use crate::fault::CommandFault;
 use generations::{LEAST_SECTORS, MOST_SECTORS, StoreFault, What};
+use map_replies::MapReplies;
 use sector_disk::{FileDisk, Sectors, Start, SystemFile};
 use std::alloc::{AllocError, Global};
 use std::fs::OpenFile;
@@ -21,25 +22,24 @@ use std::io::{self, Read, Seek, Write};
 use std::os::unix::fs::FileExt;
 use std::path::Path;
 use std::rt::Files;
-use thin_service::ThinService;
 use tile_service::Service;
 
 /// A service that goes on from what a disk holds, to which nothing is written. A disk that can't be opened is handed back.
 pub(crate) fn opened_service<D: Sectors + Drop>(
     alloc: Global,
     disk: D,
-) -> Result<ThinService<D>, (Option<D>, StoreFault)>
-    ensures count { IfOk result (λ thin. D.sectors (asked_service thin).disk ≡ D.sectors disk) }
-    ensures honest { IfOk result (λ thin. D.honest (asked_service thin).disk → D.honest disk) }
-    ensures history { IfOk result (λ thin. D.honest (asked_service thin).disk → D.history (asked_service thin).disk ≡ synced (D.history disk)) }
+) -> Result<MapReplies<D>, (Option<D>, StoreFault)>
+    ensures count { IfOk result (λ replies. D.sectors (asked_service replies).disk ≡ D.sectors disk) }
+    ensures honest { IfOk result (λ replies. D.honest (asked_service replies).disk → D.honest disk) }
+    ensures history { IfOk result (λ replies. D.honest (asked_service replies).disk → D.history (asked_service replies).disk ≡ synced (D.history disk)) }
     ensures fault { IfErr result (λ e. IfSome e.0 D.honest
         → (e.1 ≡ Device) ⊎ (e.1 ≡ Memory) ⊎ IsOpenFault (D.sectors disk) (seen (D.history disk)) e.1) }
 
     // Every state that the disk holds is what the service goes on from, and only a call of the disk or an
     // allocation can fail.
     ensures opened { (n : ℕ) (stored : Stored) → Holds (D.sectors disk) n stored (seen (D.history disk))
-        → IfOk result (λ thin. D.honest (asked_service thin).disk → ((asked_service thin).size ≡ n)
-        × IsUp (D.sectors disk) (D.history (asked_service thin).disk) stored (asked_service thin)) }
+        → IfOk result (λ replies. D.honest (asked_service replies).disk → ((asked_service replies).size ≡ n)
+        × IsUp (D.sectors disk) (D.history (asked_service replies).disk) stored (asked_service replies)) }
     ensures refused { (n : ℕ) (stored : Stored) → Holds (D.sectors disk) n stored (seen (D.history disk))
         → IfErr result (λ e. IfSome e.0 D.honest → (e.1 ≡ Device) ⊎ (e.1 ≡ Memory)) }
 {
@@ -47,7 +47,7 @@ pub(crate) fn opened_service<D: Sectors + Drop>(
         Ok(service) => service,
         Err((disk, fault)) => return Err((Some(disk), fault)),
     };
-    match ThinService::new(alloc, service) {
+    match MapReplies::new(alloc, service) {
         Ok(service) => Ok(service),
         Err(AllocError) => Err((None, StoreFault::Memory)),
     }

@@ -5,15 +5,15 @@ ghost use Rattle.generations.specs.Areas.{IsSize};
 ghost use Rattle.generations.specs.declared.fault.StoreFault.TheVariants.{TooSmall, Damaged, Device, Memory};
 ghost use Rattle.generations.specs.declared.fault.What.TheVariants.{Size};
 ghost use Rattle.generations.specs.declared.sizes.TheConstants.{LEAST_SECTORS, MOST_SECTORS};
-ghost use Rattle.thin_service.specs.State.{asked_service};
+ghost use Rattle.map_replies.specs.State.{asked_service};
 ghost use Rattle.tile_service.specs.Service.{IsUp};
 ghost use Rattle.tile_service.specs.Stored.{Keeps, first_state};
 
 use crate::disks::opened_service;
 use generations::StoreFault;
+use map_replies::MapReplies;
 use sector_disk::MemoryDisk;
 use std::alloc::{AllocError, Global};
-use thin_service::ThinService;
 use tile_service::Service;
 
 /// A disk in memory that holds the empty map.
@@ -38,11 +38,11 @@ fn fresh_disk(alloc: Global, sectors: u64) -> Result<MemoryDisk, StoreFault>
 pub(crate) fn fresh_service(
     alloc: Global,
     sectors: u64,
-) -> Result<ThinService<MemoryDisk>, StoreFault>
+) -> Result<MapReplies<MemoryDisk>, StoreFault>
     ensures small { sectors < LEAST_SECTORS → result ≡ Err TooSmall }
     ensures large { MOST_SECTORS < sectors → result ≡ Err (Damaged Size) }
     ensures only { IsSize sectors → IfErr result (λ fault. (fault ≡ Device) ⊎ (fault ≡ Memory)) }
-    ensures ready { IfOk result (λ thin. IsUp sectors (memory_history (asked_service thin).disk) first_state (asked_service thin)) }
+    ensures ready { IfOk result (λ replies. IsUp sectors (memory_history (asked_service replies).disk) first_state (asked_service replies)) }
 {
     let disk = match fresh_disk(alloc, sectors) {
         Ok(disk) => disk,

@@ -5,7 +5,7 @@ use Rattle.sector_disk.specs.Disk.{seen}
 use Rattle.sector_disk.specs.Views.{memory_history}
 use Rattle.tile_service.specs.Service.{IsUp}
 use Rattle.tile_service.specs.Stored.{Holds, first_state}
-use Rattle.thin_service.specs.State.{asked_service}
+use Rattle.map_replies.specs.State.{asked_service}
 use Rattle.vtserve.proofs.fresh.fresh_service.Goals as goal
 
 -- every disk in memory is honest
@@ -18,9 +18,9 @@ returns-in-Ok-opened_service-clause-ready c =
     let history = memory_history c.in-Ok.disk in
     let holds = subst (λ n. Holds n c.args.sectors first_state (seen history)) (sym c.in-Ok.ensures.count)
     (c.in-Ok.ensures.holds (seen history) (seen_is_left history)) in
-    let thin = asked_service c.in-Ok-opened_service.service in
+    let asked = asked_service c.in-Ok-opened_service.service in
     let up = (c.in-Ok-opened_service.ensures.opened c.args.sectors first_state holds tt).1 in
-    subst (λ n. IsUp n (memory_history thin.disk) first_state thin) c.in-Ok.ensures.count up
+    subst (λ n. IsUp n (memory_history asked.disk) first_state asked) c.in-Ok.ensures.count up
 
 pub returns-clause-only : goal.returns-clause-only
 returns-clause-only c size =

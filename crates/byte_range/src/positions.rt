@@ -1,0 +1,27 @@
+//! Positions of bytes in decimal digits.
+ghost use Rattle.std.specs.Prelude.{◌≡◌, ◌<◌, ◌≤◌, ◌&&◌, ℕ, nat_lt, nat_le, length, MatchOption};
+ghost use Rattle.std.specs.List.{list_all};
+ghost use Rattle.std.specs.Char.{is_ascii_digit};
+ghost use Rattle.byte_range.specs.Ranges.{IsPosition, is_numeral};
+
+use decimal_number::{are_digits, digits_number};
+
+/// The most digits of a position. A number of so many digits is below 2^64.
+pub const MOST_POSITION_DIGITS: usize = 18;
+
+/// Whether the text is one digit or more, and not too many.
+fn is_numeral(text: &[u8]) -> bool
+    ensures { result ≡ is_numeral text.now }
+{
+    !text.is_empty() && text.len() <= MOST_POSITION_DIGITS && are_digits(text)
+}
+
+/// The position that the text writes. Zeros in front are digits as others are.
+pub(crate) fn position_in(text: &[u8]) -> Option<u64>
+    ensures { MatchOption result ((position : ℕ) → ¬ (IsPosition text.now position)) (IsPosition text.now) }
+{
+    if !is_numeral(text) {
+        return None;
+    }
+    digits_number(text)
+}

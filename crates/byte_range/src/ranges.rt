@@ -1,0 +1,59 @@
+//! Ranges of bytes.
+ghost use Rattle.std.specs.Prelude.{◌≡◌, ◌↔◌, ℕ, List, Some, MatchOption};
+ghost use Rattle.std.specs.List.{position};
+ghost use Rattle.byte_range.specs.Ranges.{AreAround, AreEnds, IsRange, is_dash};
+
+use crate::positions::position_in;
+
+/// The bytes from one to another one, both counted from 0.
+#[derive(Clone, Copy, Debug, PartialEq, Eq)]
+pub struct ByteRange {
+    /// The first byte.
+    pub first: u64,
+    /// The last byte, which isn't before the first one.
+    pub last: u64,
+}
+
+/// The index of the first dash.
+fn dash_in(text: &[u8]) -> Option<usize>
+    ensures { result ≡ position is_dash text.now }
+{
+    text.iter().position(|byte| *byte == b'-')
+}
+
+/// The range from the position that one text writes to that of another one.
+fn between(before: &[u8], behind: &[u8]) -> Option<ByteRange>
+    ensures { MatchOption result ((first last : ℕ) → ¬ (AreAround before.now behind.now first last))
+        (λ range. AreAround before.now behind.now range.first range.last) }
+{
+    match (position_in(before), position_in(behind)) {
+        (Some(first), Some(last)) if first <= last => Some(ByteRange { first, last }),
+        _ => None,
+    }
+}
+
+/// The range that stands behind the unit.
+fn range_in(text: &[u8]) -> Option<ByteRange>
+    ensures { MatchOption result ((first last : ℕ) → ¬ (AreEnds text.now first last)) (λ range. AreEnds text.now range.first range.last) }
+{
+    match dash_in(text) {
+        Some(dash) => between(&text[..dash], &text[dash + 1..]),
+        None => None,
+    }
+}
+
+/// The range that the value of a field `range` asks for. None where the value has any other form than `bytes=`, one to
+/// `MOST_POSITION_DIGITS` digits, `-` and one to as many digits, or where the last byte is before the first one.
+pub fn byte_range(value: &[u8]) -> Option<ByteRange>
+    ensures { (range : ByteRange) → (result ≡ Some range) ↔ IsRange value.now range.first range.last }
+{
+    match value.strip_prefix(b"bytes=") {
+        Some(text) => range_in(text),
+        None => None,
+    }
+}
+
+/// A value asks for at most one range.
+pub fn at_most_one_range()
+    ensures { (value : List ℕ) (a b c d : ℕ) → IsRange value a b → IsRange value c d → (a ≡ c) × (b ≡ d) }
+{}

@@ -1,0 +1,5 @@
+mod Along
+mod Connections
+mod PartLemmas
+mod Texts
+mod Told

@@ -1,0 +1,72 @@
+-- Lengths of words, and values without floats.
+use Rattle.std.proofs.Common.{◌≡◌, ◌≤◌, List, [], ◌∷◌, false, map, length, refl, arith}
+use Rattle.serde_json.specs.Data.{Data}
+use Rattle.serde_json.specs.View.{items_of}
+use Rattle.serde_json.specs.Written.{has_float, items_have_float, members_have_float}
+use Rattle.tile_routes.specs.Methods.{allow_of, name_of}
+use Rattle.tile_routes.specs.Paths.{Asked, asked_tile, asked_metadata, asked_archive, asked_feature, asked_nothing}
+use Rattle.tile_routes.specs.Paths.{asked_publish, asked_begin, asked_step, asked_cancel}
+use Rattle.feature_model.specs.declared.feature.World.{World}
+use Rattle.feature_model.specs.Data.{GeometryData, world_points, world_lines, world_polygons, ValueData, text_value}
+use Rattle.feature_model.specs.Data.{natural_value, negative_value, truth_value, TagData, FeatureData}
+use Rattle.edit_json.specs.Json.{json_of, point_json, points_json, lines_json, shape_json, shape_of, value_json, tags_json}
+use Rattle.feature_store.specs.Store.{FeatureMap}
+use Rattle.map_metadata.specs.Metadata.{LayerData, fields_json, layer_json, IsMetadata}
+
+-- the methods that a path allows make a short word
+pub allow_short : (asked : Asked) → length (allow_of asked) ≤ 64
+unfolding name_of
+allow_short (asked_tile z x y format) = omega arith
+allow_short asked_metadata = omega arith
+allow_short asked_archive = omega arith
+allow_short (asked_feature id) = omega arith
+allow_short asked_publish = omega arith
+allow_short asked_begin = omega arith
+allow_short asked_step = omega arith
+allow_short asked_cancel = omega arith
+allow_short asked_nothing = omega arith
+
+-- ---- metadata has no float
+
+fields_whole : (fs : _) → members_have_float (fields_json fs) ≡ false
+fields_whole [] = refl
+fields_whole (f ∷ fs) = fields_whole fs
+
+layers_whole : (ls : List LayerData) → items_have_float (items_of (map layer_json ls)) ≡ false
+layers_whole [] = refl
+layers_whole (l ∷ ls) = rw (fields_whole l.fields, layers_whole ls) refl
+
+pub metadata_whole : (m : FeatureMap) (d : Data) → IsMetadata m d → has_float d ≡ false
+metadata_whole m d (ls, are, is) = rw (is, layers_whole ls) refl
+
+-- ---- nor has a feature
+
+points_whole : (ps : List World) → items_have_float (items_of (map point_json ps)) ≡ false
+points_whole [] = refl
+points_whole (p ∷ ps) = points_whole ps
+
+lines_whole : (ls : List (List World)) → items_have_float (items_of (map points_json ls)) ≡ false
+lines_whole [] = refl
+lines_whole (l ∷ ls) = rw (points_whole l, lines_whole ls) refl
+
+polygons_whole : (ps : List (List (List World))) → items_have_float (items_of (map lines_json ps)) ≡ false
+polygons_whole [] = refl
+polygons_whole (p ∷ ps) = rw (lines_whole p, polygons_whole ps) refl
+
+shape_whole : (g : GeometryData) → has_float (shape_json (shape_of g)) ≡ false
+shape_whole (world_points ps) = rw (points_whole ps) refl
+shape_whole (world_lines ls) = rw (lines_whole ls) refl
+shape_whole (world_polygons ps) = rw (polygons_whole ps) refl
+
+value_whole : (v : ValueData) → has_float (value_json v) ≡ false
+value_whole (text_value t) = refl
+value_whole (natural_value n) = refl
+value_whole (negative_value z) = refl
+value_whole (truth_value b) = refl
+
+tags_whole : (ts : List TagData) → members_have_float (tags_json ts) ≡ false
+tags_whole [] = refl
+tags_whole (t ∷ ts) = rw (value_whole t.value, tags_whole ts) refl
+
+pub feature_whole : (f : FeatureData) → has_float (json_of f) ≡ false
+feature_whole f = rw (shape_whole f.geometry, tags_whole f.tags) refl

@@ -1,0 +1,10 @@
+use Rattle.tile_service.proofs.Callers.{step_step}
+use Rattle.map_replies.proofs.service.MapReplies.publish_step.Goals as goal
+
+pub returns-clause-answered : goal.returns-clause-answered
+returns-clause-answered g c = let call = c.publish_step-outcome.ensures in (
+  c.publish_step-outcome.result,
+  step_step g.D.Sectors.sectors g.D.Sectors.honest g.D.Sectors.history _ _ c.publish_step-outcome.result call.machine call.size call.count call.honest
+      call.refused call.any_moment call.after,
+  c.left.ensures.reply,
+)

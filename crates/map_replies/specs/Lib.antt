@@ -1,0 +1,6 @@
+pub mod Bodies
+pub mod Connections
+pub mod Parts
+pub mod Requests
+pub mod State
+pub mod Words

@@ -1,0 +1,53 @@
+-- Parts of the published archive, as the field range asks for them (RFC 9110, 14), and the replies with them.
+use Rattle.std.specs.Prelude.{◌≡◌, ◌<◌, ◌≤◌, ◌+◌, ◌-◌, ℕ, min, List, [], codes, slice_range, Option, Some, None}
+use Rattle.byte_range.specs.Ranges.{IsRange}
+use Rattle.http_serve.specs.Reply.{ReplyView, plain_reply}
+use Rattle.http_serve.specs.declared.replies.ContentRange.TheVariants as ranges
+use Rattle.tile_routes.specs.declared.method.Method.{Method}
+use Rattle.tile_routes.specs.declared.method.Method.TheVariants.{Get}
+use Rattle.map_replies.specs.declared.parts.Part.{Part}
+use Rattle.map_replies.specs.declared.parts.Part.TheVariants.{Whole, Between, Beyond}
+use Rattle.map_replies.specs.Words.{text_type}
+
+-- a range counts for GET alone (RFC 9110, 14.2)
+abbrev pub range_for : Method → Option (List ℕ) → Option (List ℕ)
+range_for Get range = range
+range_for method range = None
+
+-- the range asks for the bytes from first to last
+abbrev pub Asks : Option (List ℕ) → (first last : ℕ) → Type 0
+Asks None first last = ⊥
+Asks (Some value) first last = IsRange value first last
+
+-- which part of so many bytes a range asks for: where it asks for none, the whole; and of a part that ends behind them what there is
+abbrev pub IsPart : Option (List ℕ) → (total : ℕ) → Part → Type 0
+IsPart range total Whole = (first last : ℕ) → ¬ (Asks range first last)
+IsPart range total (Between first last) = (asked : ℕ) × Asks range first asked × (first < total) × (last ≡ min asked (total - 1))
+IsPart range total Beyond = (first : ℕ) × (last : ℕ) × Asks range first last × (total ≤ first)
+
+-- how many bytes a part has
+abbrev pub size_of : Part → (total : ℕ) → ℕ
+size_of Whole total = total
+size_of (Between first last) total = last + 1 - first
+size_of Beyond total = 0
+
+-- the bytes of a part
+abbrev pub bytes_of : Part → List ℕ → List ℕ
+bytes_of Whole archive = archive
+bytes_of (Between first last) archive = slice_range archive first (last + 1)
+bytes_of Beyond archive = []
+
+unfoldable pub octets_type : List ℕ
+octets_type = codes "application/octet-stream"
+
+-- the word of a range behind the last byte
+unfoldable pub range_word : List ℕ
+range_word = codes "Range\n"
+
+-- the reply with a part of so many bytes: 200 OK, 206 Partial Content, or 416 Range Not Satisfiable
+abbrev pub part_reply : Part → (total : ℕ) → (content : List ℕ) → ReplyView
+part_reply Whole total content = plain_reply 200 (Some octets_type) content
+part_reply (Between first last) total content =
+    record { status = 206; kind = Some octets_type; range = Some (ranges.Part first last total); allow = None; content = content }
+part_reply Beyond total content =
+    record { status = 416; kind = Some text_type; range = Some (ranges.Unsatisfied total); allow = None; content = range_word }

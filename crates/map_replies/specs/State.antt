@@ -1,0 +1,16 @@
+-- What answers requests, without where it lies in memory.
+use Rattle.std.specs.Prelude.{ℕ}
+use Rattle.http_serve.specs.Requests.{RequestView}
+use Rattle.http_serve.specs.Reply.{ReplyView}
+use Rattle.sector_disk.specs.Disk.{History}
+use Rattle.tile_service.specs.Service.{ServiceView}
+use Rattle.map_replies.specs.declared.service.MapReplies.{MapReplies}
+use Rattle.map_replies.specs.Requests.{Replies}
+
+-- the service that it asks
+abbrev pub asked_service : {D : Type 0} → MapReplies D → ServiceView D
+asked_service s = s.service
+
+-- one reply to one request, over a disk with these sectors, this honesty and this history
+abbrev pub ServiceReplies : {D : Type 0} → (D → ℕ) → (D → Type 0) → (D → History) → MapReplies D → RequestView → ReplyView → MapReplies D → Type 0
+ServiceReplies sectors honest history old request reply new = Replies sectors honest history (asked_service old) request reply (asked_service new)

@@ -1,0 +1,175 @@
+-- The replies of the service.
+use Rattle.std.specs.Prelude.{ℕ, List, ◌++◌, codes, decimal, Option, Some, None, Result, Ok, Err}
+use Rattle.hex.specs.Hex.{encode_lower}
+use Rattle.serde_json.specs.Written.{compact_text}
+use Rattle.http_serve.specs.Reply.{ReplyView, plain_reply}
+use Rattle.feature_model.specs.Data.{FeatureData}
+use Rattle.edit_json.specs.Json.{json_of}
+use Rattle.feature_model.specs.declared.fault.EditFault.{EditFault}
+use Rattle.feature_model.specs.declared.fault.EditFault.TheVariants as edits
+use Rattle.tile_routes.specs.declared.target.TileFormat.{TileFormat}
+use Rattle.tile_routes.specs.declared.target.TileFormat.TheVariants.{Mvt, Hex}
+use Rattle.tile_routes.specs.Methods.{allow_of}
+use Rattle.tile_routes.specs.Paths.{Asked}
+use Rattle.tile_service.specs.declared.publishing_whole.Published.{Published}
+use Rattle.tile_service.specs.declared.fault.ServiceFault.{ServiceFault}
+use Rattle.tile_service.specs.declared.fault.ServiceFault.TheVariants as services
+use Rattle.map_replies.specs.declared.fault.RequestFault.{RequestFault}
+use Rattle.map_replies.specs.declared.fault.RequestFault.TheVariants.{NotFound, Json, Edit, Memory}
+
+unfoldable pub text_type : List ℕ
+text_type = codes "text/plain"
+
+unfoldable pub json_type : List ℕ
+json_type = codes "application/json"
+
+unfoldable pub tile_type : List ℕ
+tile_type = codes "application/vnd.mapbox-vector-tile"
+
+-- ---- refusals
+
+-- the word of a fault of an edit, and a line feed
+unfoldable pub edit_word : EditFault → List ℕ
+edit_word edits.Member = codes "E1 Member\n"
+edit_word edits.Number = codes "E2 Number\n"
+edit_word edits.Layer = codes "E3 Layer\n"
+edit_word edits.Zoom = codes "E4 Zoom\n"
+edit_word edits.Geometry = codes "E5 Geometry\n"
+edit_word edits.Tags = codes "E6 Tags\n"
+edit_word edits.Value = codes "E7 Value\n"
+edit_word edits.Long = codes "E8 Long\n"
+edit_word edits.Reach = codes "E9 Reach\n"
+edit_word edits.Memory = codes "Memory\n"
+
+-- the word of what is full: its name, how many sectors are needed, and how many are free
+unfoldable pub full_word : List ℕ → ℕ → ℕ → List ℕ
+full_word name need free = (name ++ codes " need ") ++ ((decimal need ++ codes " free ") ++ (decimal free ++ codes "\n"))
+
+-- the word of a refusal by the service
+unfoldable pub service_word : ServiceFault → List ℕ
+service_word services.Broken = codes "Broken\n"
+service_word services.Busy = codes "Busy\n"
+service_word services.Idle = codes "Idle\n"
+service_word (services.Limit fault) = edit_word fault
+service_word services.NotFound = codes "NotFound\n"
+service_word services.NumbersSpent = codes "NumbersSpent\n"
+service_word services.Memory = codes "Memory\n"
+service_word services.TooManyTiles = codes "TooManyTiles\n"
+service_word (services.AreaFull need free) = full_word (codes "AreaFull") need free
+service_word (services.JournalFull need free) = full_word (codes "JournalFull") need free
+service_word services.Device = codes "Device\n"
+
+-- the word of a fault
+unfoldable pub fault_word : RequestFault → List ℕ
+fault_word NotFound = codes "NotFound\n"
+fault_word Json = codes "Json\n"
+fault_word (Edit fault) = edit_word fault
+fault_word Memory = codes "Memory\n"
+
+abbrev pub edit_status : EditFault → ℕ
+edit_status edits.Memory = 503
+edit_status fault = 400
+
+abbrev pub fault_status : RequestFault → ℕ
+fault_status NotFound = 404
+fault_status Json = 400
+fault_status (Edit fault) = edit_status fault
+fault_status Memory = 503
+
+abbrev pub service_status : ServiceFault → ℕ
+service_status services.Broken = 500
+service_status services.Busy = 409
+service_status services.Idle = 409
+service_status (services.Limit fault) = edit_status fault
+service_status services.NotFound = 404
+service_status services.NumbersSpent = 500
+service_status services.Memory = 503
+service_status services.TooManyTiles = 507
+service_status (services.AreaFull need free) = 507
+service_status (services.JournalFull need free) = 507
+service_status services.Device = 500
+
+-- a refusal: its word as a text
+abbrev pub refusal_of : RequestFault → ReplyView
+refusal_of fault = plain_reply (fault_status fault) (Some text_type) (fault_word fault)
+
+-- a refusal by the service
+abbrev pub service_refusal : ServiceFault → ReplyView
+service_refusal fault = plain_reply (service_status fault) (Some text_type) (service_word fault)
+
+-- the word of a method that a path doesn't allow
+unfoldable pub method_word : List ℕ
+method_word = codes "Method\n"
+
+-- 405 Method Not Allowed, with the methods that the path allows (RFC 9110, 15.5.6)
+abbrev pub not_allowed_reply : Asked → ReplyView
+not_allowed_reply asked = record { status = 405; kind = Some text_type; range = None; allow = Some (allow_of asked); content = method_word }
+
+-- ---- answers
+
+-- a text in JSON
+abbrev pub json_reply : List ℕ → ReplyView
+json_reply text = plain_reply 200 (Some json_type) text
+
+-- nothing to tell
+abbrev pub empty_reply : ReplyView
+empty_reply = plain_reply 204 None (codes "")
+
+-- the number of an edit that was made
+unfoldable pub edit_body : ℕ → List ℕ
+edit_body number = codes "{\"edit\":" ++ decimal number ++ codes "}"
+
+abbrev pub edit_reply : ℕ → ReplyView
+edit_reply number = json_reply (edit_body number)
+
+-- the outcome of an edit: its number, or why the service refuses it
+abbrev pub outcome_reply : Result ℕ ServiceFault → ReplyView
+outcome_reply (Ok number) = edit_reply number
+outcome_reply (Err fault) = service_refusal fault
+
+-- how much of a publication is left
+unfoldable pub left_body : ℕ → List ℕ
+left_body left = codes "{\"left\":" ++ decimal left ++ codes "}"
+
+-- the outcome of the beginning or of a step of a publication
+abbrev pub left_reply : Result ℕ ServiceFault → ReplyView
+left_reply (Ok left) = json_reply (left_body left)
+left_reply (Err fault) = service_refusal fault
+
+-- what was published: how many bytes the archive has, the number of the last edit in it, and the number of its generation
+unfoldable pub published_body : Published → List ℕ
+published_body p =
+    codes "{\"archive\":" ++ decimal p.archive_len ++ codes ",\"edits\":" ++ decimal p.edits ++ codes ",\"generation\":" ++ decimal p.generation
+    ++ codes "}"
+
+-- the outcome of a whole publication
+abbrev pub published_reply : Result Published ServiceFault → ReplyView
+published_reply (Ok p) = json_reply (published_body p)
+published_reply (Err fault) = service_refusal fault
+
+-- the outcome of giving a publication up
+abbrev pub cancel_reply : Result (Unit {0}) ServiceFault → ReplyView
+cancel_reply (Ok done) = empty_reply
+cancel_reply (Err fault) = service_refusal fault
+
+-- the feature of a number, or that there is none
+abbrev pub found_reply : Option FeatureData → ReplyView
+found_reply None = refusal_of NotFound
+found_reply (Some f) = json_reply (compact_text (json_of f))
+
+abbrev pub format_type : TileFormat → List ℕ
+format_type Mvt = tile_type
+format_type Hex = text_type
+
+abbrev pub format_content : TileFormat → List ℕ → List ℕ
+format_content Mvt bytes = bytes
+format_content Hex bytes = encode_lower bytes
+
+-- a tile
+abbrev pub tile_reply : TileFormat → List ℕ → ReplyView
+tile_reply format bytes = plain_reply 200 (Some (format_type format)) (format_content format bytes)
+
+-- what a tile has, or none where it shows nothing
+abbrev pub content_reply : TileFormat → Option (List ℕ) → ReplyView
+content_reply format None = empty_reply
+content_reply format (Some bytes) = tile_reply format bytes

@@ -1,0 +1,28 @@
+use feature_model::EditFault;
+
+/// Why a request is refused, other than by the service. Nothing is changed by it.
+#[derive(Clone, Copy, Debug, PartialEq, Eq)]
+pub enum RequestFault {
+    /// The path or the method is not served.
+    NotFound,
+    /// The body is no JSON text.
+    Json,
+    /// The body is no feature.
+    Edit(EditFault),
+    /// An allocation failed.
+    Memory,
+}
+
+impl From<EditFault> for RequestFault {
+    ghost use Rattle.std.specs.Prelude.{◌≡◌};
+    ghost use Rattle.map_replies.specs.Bodies.{told_as};
+
+    ghost from_gives = { λ edit fault. fault ≡ told_as edit };
+
+    fn from(fault: EditFault) -> RequestFault {
+        match fault {
+            EditFault::Memory => RequestFault::Memory,
+            fault => RequestFault::Edit(fault),
+        }
+    }
+}

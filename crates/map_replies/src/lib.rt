@@ -1,0 +1,18 @@
+//! A map on a disk behind HTTP/1.1 connections: a reply to each request.
+#![tactic(auto)]
+
+mod archives;
+mod bodies;
+mod editing;
+mod fault;
+mod parts;
+mod publishing;
+mod replies;
+mod service;
+mod showing;
+
+pub use fault::RequestFault;
+pub use service::{MapReplies, serve_map};
+
+#[cfg(test)]
+mod tests;

@@ -1,0 +1,106 @@
+//! Parts of the published archive, and the replies with them.
+ghost use Rattle.std.specs.Prelude.{◌≡◌, ◌<◌, [], option_map};
+ghost use Rattle.http_serve.specs.Reply.{reply_view, IsWritable};
+ghost use Rattle.tile_service.specs.declared.fault.ServiceFault.TheVariants.{Device};
+ghost use Rattle.map_replies.specs.Parts.{range_for, IsPart, octets_type, range_word, part_reply};
+ghost use Rattle.map_replies.specs.Words.{text_type, service_refusal};
+
+use byte_range::byte_range;
+use http::StatusCode;
+use http_serve::{Content, ContentRange, Reply};
+use tile_routes::Method;
+
+/// Which bytes of the archive are told.
+#[derive(Clone, Copy, Debug, PartialEq, Eq)]
+pub(crate) enum Part {
+    /// All of them.
+    Whole,
+    /// Those from the first to the last one, counted from 0.
+    Between { first: u64, last: u64 },
+    /// Bytes behind the last one, where there are none.
+    Beyond,
+}
+
+/// The range, where it counts: for GET alone (RFC 9110, 14.2).
+pub(crate) fn range_for(method: Method, range: Option<&[u8]>) -> Option<&[u8]>
+    ensures { option_map (λ value. value.now) result ≡ range_for method (option_map (λ value. value.now) range.entry) }
+{
+    match method {
+        Method::Get => range,
+        _ => None,
+    }
+}
+
+/// The part of so many bytes that a range asks for.
+pub(crate) fn part_of(range: Option<&[u8]>, total: u64) -> Part
+    requires { 0 < total }
+    ensures { IsPart (option_map (λ value. value.now) range.entry) total result }
+{
+    let Some(value) = range else {
+        return Part::Whole;
+    };
+    match byte_range(value) {
+        None => Part::Whole,
+        Some(range) if range.first >= total => Part::Beyond,
+        Some(range) => Part::Between {
+            first: range.first,
+            last: range.last.min(total - 1),
+        },
+    }
+}
+
+/// The reply with the whole archive.
+#[tactic(auto, unfolding(crate::specs::Parts::octets_type))]
+pub(crate) fn whole(content: Vec<u8>) -> Reply
+    ensures reply { reply_view [] result ≡ part_reply Part.Whole 0 content.items }
+    ensures writable { IsWritable [] result }
+{
+    Reply::plain(
+        StatusCode::OK,
+        Some("application/octet-stream"),
+        Content::Whole(content),
+    )
+}
+
+/// The reply with a part of so many bytes.
+#[tactic(auto, unfolding(crate::specs::Parts::octets_type))]
+pub(crate) fn between(first: u64, last: u64, total: u64, content: Vec<u8>) -> Reply
+    ensures reply { reply_view [] result ≡ part_reply (Part.Between first last) total content.items }
+    ensures writable { IsWritable [] result }
+{
+    Reply {
+        status: StatusCode::PARTIAL_CONTENT,
+        kind: Some("application/octet-stream"),
+        range: Some(ContentRange::Part { first, last, total }),
+        allow: None,
+        content: Content::Whole(content),
+    }
+}
+
+/// The reply that a range lies behind so many bytes.
+#[tactic(auto, unfolding(crate::specs::Words::text_type, crate::specs::Parts::range_word))]
+pub(crate) fn beyond(total: u64) -> Reply
+    ensures reply { reply_view [] result ≡ part_reply Part.Beyond total [] }
+    ensures writable { IsWritable [] result }
+{
+    Reply {
+        status: StatusCode::RANGE_NOT_SATISFIABLE,
+        kind: Some("text/plain"),
+        range: Some(ContentRange::Unsatisfied { total }),
+        allow: None,
+        content: Content::Fixed(b"Range\n"),
+    }
+}
+
+/// The reply that the archive couldn't be read.
+#[tactic(auto, unfolding(crate::specs::Words::text_type, crate::specs::Words::service_word))]
+pub(crate) fn unread() -> Reply
+    ensures reply { reply_view [] result ≡ service_refusal Device }
+    ensures writable { IsWritable [] result }
+{
+    Reply::plain(
+        StatusCode::INTERNAL_SERVER_ERROR,
+        Some("text/plain"),
+        Content::Fixed(b"Device\n"),
+    )
+}

@@ -1,0 +1,361 @@
+//! The replies of the service.
+ghost use Rattle.std.specs.Prelude.{◌≡◌, ◌≤◌, [], length, vec_capacity, IfOk, option_map};
+ghost use Rattle.http_serve.specs.Reply.{content_bytes, reply_view, FitsParts, IsWritable};
+ghost use Rattle.map_replies.specs.Words.{fault_word, service_word, edit_word, full_word, fault_status, service_status, edit_status, edit_body, edit_reply};
+ghost use Rattle.map_replies.specs.Words.{service_refusal, not_allowed_reply, json_reply, empty_reply, outcome_reply, left_body, left_reply};
+ghost use Rattle.map_replies.specs.Words.{published_body, published_reply, cancel_reply};
+ghost use Rattle.map_replies.specs.Words.{format_type, format_content, content_reply, tile_reply, refusal_of};
+ghost use Rattle.tile_routes.specs.Targets.{asked_of};
+ghost use Rattle.map_replies.specs.Words.{text_type, json_type, tile_type};
+ghost use Rattle.map_replies.specs.declared.replies.TheConstants.{MOST_TEXT};
+
+use crate::fault::RequestFault;
+use decimal_number::{MOST_DIGITS, push_number, push_text};
+use feature_model::EditFault;
+use http::StatusCode;
+use http_serve::{Content, Reply};
+use std::alloc::{AllocError, Global};
+use tile_routes::{Target, TileFormat};
+use tile_service::{Published, ServiceFault};
+
+/// Room for the longest text that tells an outcome: that of a publication, with three numbers.
+const MOST_TEXT: usize = 3 * MOST_DIGITS + 35;
+
+/// The word of a fault of an edit, with a line feed.
+#[tactic(auto, unfolding(crate::specs::Words::edit_word))]
+fn edit_word(fault: EditFault) -> &'static [u8]
+    ensures { result.now ≡ edit_word fault }
+{
+    match fault {
+        EditFault::Member => b"E1 Member\n",
+        EditFault::Number => b"E2 Number\n",
+        EditFault::Layer => b"E3 Layer\n",
+        EditFault::Zoom => b"E4 Zoom\n",
+        EditFault::Geometry => b"E5 Geometry\n",
+        EditFault::Tags => b"E6 Tags\n",
+        EditFault::Value => b"E7 Value\n",
+        EditFault::Long => b"E8 Long\n",
+        EditFault::Reach => b"E9 Reach\n",
+        EditFault::Memory => b"Memory\n",
+    }
+}
+
+/// The word of what is full, with a line feed: what it is, how many sectors are needed and how many are free.
+#[tactic(auto, unfolding(crate::specs::Words::full_word))]
+fn full_word(text: Vec<u8>, name: &[u8], need: u64, free: u64) -> Vec<u8>
+    requires name { length name.now ≤ 11 }
+    requires empty { text.items ≡ [] }
+    requires room { MOST_TEXT ≤ vec_capacity text }
+    ensures { result.items ≡ full_word name.now need free }
+{
+    let mut text = text;
+    push_text(&mut text, name);
+    push_text(&mut text, b" need ");
+    push_number(&mut text, need);
+    push_text(&mut text, b" free ");
+    push_number(&mut text, free);
+    push_text(&mut text, b"\n");
+    text
+}
+
+/// The word of a refusal by the service, with a line feed.
+#[tactic(auto, unfolding(crate::specs::Words::service_word))]
+fn service_word(text: Vec<u8>, fault: ServiceFault) -> Content
+    requires empty { text.items ≡ [] }
+    requires room { MOST_TEXT ≤ vec_capacity text }
+    ensures word { content_bytes [] result ≡ service_word fault }
+    ensures whole { FitsParts [] result }
+{
+    match fault {
+        ServiceFault::Broken => Content::Fixed(b"Broken\n"),
+        ServiceFault::Busy => Content::Fixed(b"Busy\n"),
+        ServiceFault::Idle => Content::Fixed(b"Idle\n"),
+        ServiceFault::Limit(fault) => Content::Fixed(edit_word(fault)),
+        ServiceFault::NotFound => Content::Fixed(b"NotFound\n"),
+        ServiceFault::NumbersSpent => Content::Fixed(b"NumbersSpent\n"),
+        ServiceFault::Memory => Content::Fixed(b"Memory\n"),
+        ServiceFault::TooManyTiles => Content::Fixed(b"TooManyTiles\n"),
+        ServiceFault::AreaFull { need, free } => Content::Whole(full_word(
+            text,
+            b"AreaFull",
+            need,
+            free,
+        )),
+        ServiceFault::JournalFull { need, free } => Content::Whole(full_word(
+            text,
+            b"JournalFull",
+            need,
+            free,
+        )),
+        ServiceFault::Device => Content::Fixed(b"Device\n"),
+    }
+}
+
+/// The word of a fault, with a line feed.
+#[tactic(auto, unfolding(crate::specs::Words::fault_word))]
+fn fault_word(fault: RequestFault) -> &'static [u8]
+    ensures { result.now ≡ fault_word fault }
+{
+    match fault {
+        RequestFault::NotFound => b"NotFound\n",
+        RequestFault::Json => b"Json\n",
+        RequestFault::Edit(fault) => edit_word(fault),
+        RequestFault::Memory => b"Memory\n",
+    }
+}
+
+/// The status of a fault of an edit.
+fn edit_status(fault: EditFault) -> StatusCode
+    ensures { result ≡ edit_status fault }
+{
+    match fault {
+        EditFault::Memory => StatusCode::SERVICE_UNAVAILABLE,
+        _ => StatusCode::BAD_REQUEST,
+    }
+}
+
+/// The status of a refusal by the service.
+fn service_status(fault: ServiceFault) -> StatusCode
+    ensures { result ≡ service_status fault }
+{
+    match fault {
+        ServiceFault::Limit(fault) => edit_status(fault),
+        ServiceFault::NotFound => StatusCode::NOT_FOUND,
+        ServiceFault::Memory => StatusCode::SERVICE_UNAVAILABLE,
+        ServiceFault::Busy | ServiceFault::Idle => StatusCode::CONFLICT,
+        ServiceFault::TooManyTiles
+        | ServiceFault::AreaFull { .. }
+        | ServiceFault::JournalFull { .. } => StatusCode::INSUFFICIENT_STORAGE,
+        ServiceFault::Broken | ServiceFault::NumbersSpent | ServiceFault::Device =>
+            StatusCode::INTERNAL_SERVER_ERROR,
+    }
+}
+
+/// The status of a fault.
+fn fault_status(fault: RequestFault) -> StatusCode
+    ensures { result ≡ fault_status fault }
+{
+    match fault {
+        RequestFault::NotFound => StatusCode::NOT_FOUND,
+        RequestFault::Json => StatusCode::BAD_REQUEST,
+        RequestFault::Edit(fault) => edit_status(fault),
+        RequestFault::Memory => StatusCode::SERVICE_UNAVAILABLE,
+    }
+}
+
+/// The reply that names a fault.
+#[tactic(auto, unfolding(crate::specs::Words::text_type))]
+pub(crate) fn refusal(fault: RequestFault) -> Reply
+    ensures reply { reply_view [] result ≡ refusal_of fault }
+    ensures writable { IsWritable [] result }
+{
+    Reply::plain(
+        fault_status(fault),
+        Some("text/plain"),
+        Content::Fixed(fault_word(fault)),
+    )
+}
+
+/// The reply that names a refusal by the service.
+#[tactic(auto, unfolding(crate::specs::Words::text_type))]
+fn service_refusal(text: Vec<u8>, fault: ServiceFault) -> Reply
+    requires empty { text.items ≡ [] }
+    requires room { MOST_TEXT ≤ vec_capacity text }
+    ensures reply { reply_view [] result ≡ service_refusal fault }
+    ensures writable { IsWritable [] result }
+{
+    Reply::plain(
+        service_status(fault),
+        Some("text/plain"),
+        service_word(text, fault),
+    )
+}
+
+/// The reply to a method that the path doesn't allow.
+#[tactic(auto, unfolding(crate::specs::Words::text_type, crate::specs::Words::method_word), using(crate::proofs::Texts::allow_short))]
+pub(crate) fn not_allowed(target: Target) -> Reply
+    ensures reply { reply_view [] result ≡ not_allowed_reply (asked_of target) }
+    ensures writable { IsWritable [] result }
+{
+    Reply {
+        status: StatusCode::METHOD_NOT_ALLOWED,
+        kind: Some("text/plain"),
+        range: None,
+        allow: Some(target.allow()),
+        content: Content::Fixed(b"Method\n"),
+    }
+}
+
+/// The reply with a text in JSON.
+#[tactic(auto, unfolding(crate::specs::Words::json_type))]
+pub(crate) fn json(text: Vec<u8>) -> Reply
+    ensures reply { reply_view [] result ≡ json_reply text.items }
+    ensures writable { IsWritable [] result }
+{
+    Reply::plain(
+        StatusCode::OK,
+        Some("application/json"),
+        Content::Whole(text),
+    )
+}
+
+/// The reply with nothing to tell.
+pub(crate) fn empty() -> Reply
+    ensures reply { reply_view [] result ≡ empty_reply }
+    ensures writable { IsWritable [] result }
+{
+    Reply::plain(StatusCode::NO_CONTENT, None, Content::Empty)
+}
+
+/// An empty text, with room for each outcome.
+pub(crate) fn outcome_space(alloc: Global) -> Result<Vec<u8>, AllocError>
+    ensures empty { IfOk result (λ text. text.items ≡ []) }
+    ensures room { IfOk result (λ text. MOST_TEXT ≤ vec_capacity text) }
+{
+    Vec::with_capacity(alloc, MOST_TEXT)
+}
+
+/// The text that tells the number of an edit.
+#[tactic(auto, unfolding(crate::specs::Words::edit_body))]
+fn edit_body(text: Vec<u8>, number: u64) -> Vec<u8>
+    requires empty { text.items ≡ [] }
+    requires room { MOST_TEXT ≤ vec_capacity text }
+    ensures { result.items ≡ edit_body number }
+{
+    let mut text = text;
+    push_text(&mut text, b"{\"edit\":");
+    push_number(&mut text, number);
+    push_text(&mut text, b"}");
+    text
+}
+
+/// The reply that tells the outcome of an edit. It takes no memory: an edit that was made is always told.
+pub(crate) fn outcome(text: Vec<u8>, outcome: Result<u64, ServiceFault>) -> Reply
+    requires empty { text.items ≡ [] }
+    requires room { MOST_TEXT ≤ vec_capacity text }
+    ensures reply { reply_view [] result ≡ outcome_reply outcome }
+    ensures writable { IsWritable [] result }
+{
+    match outcome {
+        Ok(number) => json(edit_body(text, number)),
+        Err(fault) => service_refusal(text, fault),
+    }
+}
+
+/// The text that tells how much of a publication is left.
+#[tactic(auto, unfolding(crate::specs::Words::left_body))]
+fn left_body(text: Vec<u8>, left: u64) -> Vec<u8>
+    requires empty { text.items ≡ [] }
+    requires room { MOST_TEXT ≤ vec_capacity text }
+    ensures { result.items ≡ left_body left }
+{
+    let mut text = text;
+    push_text(&mut text, b"{\"left\":");
+    push_number(&mut text, left);
+    push_text(&mut text, b"}");
+    text
+}
+
+/// The reply that tells the outcome of the beginning or of a step of a publication. It takes no memory.
+pub(crate) fn left(text: Vec<u8>, outcome: Result<u64, ServiceFault>) -> Reply
+    requires empty { text.items ≡ [] }
+    requires room { MOST_TEXT ≤ vec_capacity text }
+    ensures reply { reply_view [] result ≡ left_reply outcome }
+    ensures writable { IsWritable [] result }
+{
+    match outcome {
+        Ok(left) => json(left_body(text, left)),
+        Err(fault) => service_refusal(text, fault),
+    }
+}
+
+/// The text that tells what was published.
+#[tactic(auto, unfolding(crate::specs::Words::published_body))]
+fn published_body(text: Vec<u8>, published: Published) -> Vec<u8>
+    requires empty { text.items ≡ [] }
+    requires room { MOST_TEXT ≤ vec_capacity text }
+    ensures { result.items ≡ published_body published }
+{
+    let mut text = text;
+    push_text(&mut text, b"{\"archive\":");
+    push_number(&mut text, published.archive_len);
+    push_text(&mut text, b",\"edits\":");
+    push_number(&mut text, published.edits);
+    push_text(&mut text, b",\"generation\":");
+    push_number(&mut text, published.generation);
+    push_text(&mut text, b"}");
+    text
+}
+
+/// The reply that tells the outcome of a whole publication. It takes no memory.
+pub(crate) fn published(text: Vec<u8>, outcome: Result<Published, ServiceFault>) -> Reply
+    requires empty { text.items ≡ [] }
+    requires room { MOST_TEXT ≤ vec_capacity text }
+    ensures reply { reply_view [] result ≡ published_reply outcome }
+    ensures writable { IsWritable [] result }
+{
+    match outcome {
+        Ok(published) => json(published_body(text, published)),
+        Err(fault) => service_refusal(text, fault),
+    }
+}
+
+/// The reply that tells whether a publication was given up. It takes no memory.
+pub(crate) fn cancelled(text: Vec<u8>, outcome: Result<(), ServiceFault>) -> Reply
+    requires empty { text.items ≡ [] }
+    requires room { MOST_TEXT ≤ vec_capacity text }
+    ensures reply { reply_view [] result ≡ cancel_reply outcome }
+    ensures writable { IsWritable [] result }
+{
+    match outcome {
+        Ok(()) => empty(),
+        Err(fault) => service_refusal(text, fault),
+    }
+}
+
+/// The type of a tile's content.
+#[tactic(auto, unfolding(crate::specs::Words::text_type, crate::specs::Words::tile_type))]
+fn format_type(format: TileFormat) -> &'static str
+    ensures kind { result.now ≡ format_type format }
+    ensures short { length result.now ≤ 64 }
+{
+    match format {
+        TileFormat::Mvt => "application/vnd.mapbox-vector-tile",
+        TileFormat::Hex => "text/plain",
+    }
+}
+
+/// The bytes of a tile as they are sent.
+fn format_content(alloc: Global, format: TileFormat, bytes: Vec<u8>) -> Result<Vec<u8>, AllocError>
+    ensures { IfOk result (λ content. content.items ≡ format_content format bytes.items) }
+{
+    match format {
+        TileFormat::Mvt => Ok(bytes),
+        TileFormat::Hex => Ok(hex::encode(alloc, bytes.as_slice())?.into_bytes()),
+    }
+}
+
+/// The reply with the bytes of a tile.
+fn some_tile(alloc: Global, format: TileFormat, bytes: Vec<u8>) -> Result<Reply, AllocError>
+    ensures reply { IfOk result (λ reply. reply_view [] reply ≡ tile_reply format bytes.items) }
+    ensures writable { IfOk result (IsWritable []) }
+{
+    let kind = format_type(format);
+    let content = format_content(alloc, format, bytes)?;
+    Ok(Reply::plain(StatusCode::OK, Some(kind), Content::Whole(content)))
+}
+
+/// The reply with a tile, or the one where it shows nothing.
+pub(crate) fn tile(
+    alloc: Global,
+    format: TileFormat,
+    content: Option<Vec<u8>>,
+) -> Result<Reply, AllocError>
+    ensures reply { IfOk result (λ reply. reply_view [] reply ≡ content_reply format (option_map (λ bytes. bytes.items) content)) }
+    ensures writable { IfOk result (IsWritable []) }
+{
+    match content {
+        None => Ok(empty()),
+        Some(bytes) => some_tile(alloc, format, bytes),
+    }
+}

@@ -1,0 +1,158 @@
+//! The replies of a map.
+ghost use Rattle.std.specs.Prelude.{◌≡◌, [], IfOk, IfErr, option_map};
+ghost use Rattle.http_serve.specs.declared.connection.TheConstants.{MOST_READS};
+ghost use Rattle.http_serve.specs.Told.{IsServed, IsServedUpTo, HasContent, MeetsTurns, KeepsTurns, AnswersInput};
+ghost use Rattle.http_serve.specs.Reply.{reply_view, IsWritable};
+ghost use Rattle.tile_routes.specs.Targets.{asked_of};
+ghost use Rattle.tile_routes.specs.Wanted.{wanted_view};
+ghost use Rattle.tile_service.specs.Runs.{TakesRun};
+ghost use Rattle.map_replies.specs.Requests.{AnswersOnFeature, AnswersAllowed, Answers};
+ghost use Rattle.map_replies.specs.Connections.{Run, no_events, Tells};
+ghost use Rattle.map_replies.specs.State.{asked_service, ServiceReplies};
+ghost use Rattle.map_replies.specs.Words.{refusal_of};
+
+use crate::fault::RequestFault;
+use crate::parts::range_for;
+use crate::replies;
+use http_serve::{ContentFault, Handler, Reply, Request, ServeFault, Served, serve};
+use sector_disk::Sectors;
+use std::alloc::{AllocError, Global};
+use std::io::{Read, Write};
+use tile_routes::{Method, Routes, Target, Wanted};
+use tile_service::Service;
+
+/// A service, asked by requests.
+#[derive(Drop)]
+pub struct MapReplies<D: Sectors + Drop> {
+    pub(crate) alloc: Global,
+    routes: Routes,
+    pub(crate) service: Service<D>,
+}
+
+impl<D: Sectors + Drop> MapReplies<D> {
+    ghost use Rattle.map_replies.specs.State.{asked_service};
+
+    /// What answers requests by asking this service.
+    pub fn new(alloc: Global, service: Service<D>) -> Result<MapReplies<D>, AllocError>
+        ensures { IfOk result (λ replies. asked_service replies ≡ service) }
+    {
+        Ok(MapReplies {
+            alloc,
+            routes: Routes::new(alloc)?,
+            service,
+        })
+    }
+
+    /// What is wanted of a feature, by a method of its path.
+    fn on_feature(&mut self, id: u64, method: Method, body: &[u8]) -> Result<Reply, RequestFault>
+        ensures answered { IfOk result (λ reply. AnswersOnFeature D.sectors D.honest D.history
+            (asked_service self.old) id method body.now (reply_view [] reply) (asked_service self.new)) }
+        ensures writable { IfOk result (IsWritable []) }
+        ensures refused { IfErr result (λ fault. AnswersOnFeature D.sectors D.honest D.history
+            (asked_service self.old) id method body.now (refusal_of fault) (asked_service self.new)) }
+    {
+        match method {
+            Method::Put => self.put(id, body),
+            Method::Delete => self.delete(id),
+            Method::Get | Method::Head | Method::Post => self.feature(id),
+        }
+    }
+
+    /// What is wanted by a method that the path allows.
+    fn allowed(
+        &mut self,
+        target: Target,
+        method: Method,
+        range: Option<&[u8]>,
+        body: &[u8],
+    ) -> Result<Reply, RequestFault>
+        ensures answered { IfOk result (λ reply. AnswersAllowed D.sectors D.honest D.history (asked_service self.old) (asked_of target) method
+            (option_map (λ value. value.now) range.entry) body.now (reply_view [] reply) (asked_service self.new)) }
+        ensures writable { IfOk result (IsWritable []) }
+        ensures refused { IfErr result (λ fault. AnswersAllowed D.sectors D.honest D.history (asked_service self.old) (asked_of target) method
+            (option_map (λ value. value.now) range.entry) body.now (refusal_of fault) (asked_service self.new)) }
+    {
+        match target {
+            Target::Tile(at, format) => self.tile(at, format),
+            Target::Feature(id) => self.on_feature(id, method, body),
+            Target::Metadata => self.metadata(),
+            Target::Archive => self.archive(range_for(method, range)),
+            Target::Publish => self.publish(),
+            Target::PublishBegin => self.publish_begin(),
+            Target::PublishStep => self.publish_step(),
+            Target::PublishCancel => self.publish_cancel(),
+            Target::Nothing => Err(RequestFault::NotFound),
+        }
+    }
+
+    /// What is wanted.
+    fn respond(
+        &mut self,
+        wanted: Wanted,
+        range: Option<&[u8]>,
+        body: &[u8],
+    ) -> Result<Reply, RequestFault>
+        ensures answered { IfOk result (λ reply. Answers D.sectors D.honest D.history (asked_service self.old) (wanted_view wanted)
+            (option_map (λ value. value.now) range.entry) body.now (reply_view [] reply) (asked_service self.new)) }
+        ensures writable { IfOk result (IsWritable []) }
+        ensures refused { IfErr result (λ fault. Answers D.sectors D.honest D.history (asked_service self.old) (wanted_view wanted)
+            (option_map (λ value. value.now) range.entry) body.now (refusal_of fault) (asked_service self.new)) }
+    {
+        match wanted {
+            Wanted::NotFound => Err(RequestFault::NotFound),
+            Wanted::NotAllowed(target) => Ok(replies::not_allowed(target)),
+            Wanted::Allowed(target, method) => self.allowed(target, method, range, body),
+        }
+    }
+}
+
+impl<D: Sectors + Drop> Handler for MapReplies<D> {
+    ghost use Rattle.map_replies.specs.State.{ServiceReplies};
+
+    ghost replies = { ServiceReplies D.sectors D.honest D.history };
+
+    // No content is read in parts.
+    ghost content = { λ _. [] };
+
+    fn answer(&mut self, request: &Request<'_>) -> Reply {
+        let wanted = self.routes.wanted(request.method, request.path);
+        match self.respond(wanted, request.range, request.body) {
+            Ok(reply) => reply,
+            Err(fault) => replies::refusal(fault),
+        }
+    }
+
+    fn read_content(&mut self, _offset: u64, _part: &mut [u8]) -> Result<(), ContentFault> {
+        Err(ContentFault)
+    }
+}
+
+/// Serves a connection by at most `http_serve::MOST_READS` reads: one reply to each request, in order, and one to what is
+/// no request.
+pub fn serve_map<D: Sectors + Drop, R: Read, W: Write>(
+    alloc: Global,
+    reader: &mut R,
+    writer: &mut W,
+    service: &mut MapReplies<D>,
+) -> Result<Served, ServeFault>
+    ensures input { IfOk result (λ served. AnswersInput (ServiceReplies D.sectors D.honest D.history)
+        service.old (R.remaining reader.old) (W.contents writer.old) served service.new (W.contents writer.new)) }
+    ensures served { IfOk result (λ served. IsServed (ServiceReplies D.sectors D.honest D.history)
+        service.old (R.remaining reader.old) (W.contents writer.old) served service.new (R.remaining reader.new) (W.contents writer.new)) }
+    ensures fault { IfErr result (λ fault. IsServedUpTo (ServiceReplies D.sectors D.honest D.history)
+        service.old (R.remaining reader.old) (W.contents writer.old) fault service.new (R.remaining reader.new) (W.contents writer.new)) }
+    ensures whole { IfErr result (HasContent []) }
+    ensures turns { IfOk result (λ served. MeetsTurns MOST_READS (R.remaining reader.old) (R.remaining reader.new) served.end) }
+    ensures reads { KeepsTurns MOST_READS result (R.remaining reader.old) (R.remaining reader.new) }
+
+    // The replies tell a run of events. A crash at any moment of the connection leaves some first edits of it: all that were
+    // acknowledged by then, and none asked for later.
+    ensures any_moment { IfOk result (λ served. (run : Run)
+        × IsServed Tells no_events (R.remaining reader.old) (W.contents writer.old) served run (R.remaining reader.new) (W.contents writer.new)
+        × TakesRun D.sectors D.honest D.history (asked_service service.old) run.events run.answers (asked_service service.new)) }
+    ensures any_moment_of_fault { IfErr result (λ fault. (run : Run)
+        × IsServedUpTo Tells no_events (R.remaining reader.old) (W.contents writer.old) fault run (R.remaining reader.new) (W.contents writer.new)
+        × TakesRun D.sectors D.honest D.history (asked_service service.old) run.events run.answers (asked_service service.new)) }
+{
+    serve(alloc, reader, writer, service)
+}

@@ -1,3 +1,0 @@
-mod Along
-mod Connections
-mod Told

@@ -1,5 +1,0 @@
-pub mod Bodies
-pub mod Connections
-pub mod Requests
-pub mod State
-pub mod Words
