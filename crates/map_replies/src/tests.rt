@@ -1,4 +1,8 @@
 //! Connections from end to end. The tiles are those of `bench/model/tiles.py`, a second model that shares no code with this one.
+mod archives;
+mod publications;
+mod routes;
+
 use crate::{MapReplies, serve_map};
 use http_serve::End;
 use sector_disk::MemoryDisk;
@@ -91,6 +95,14 @@ fn tile_reply(alloc: Global, hex: &str) -> Result<String, AllocError> {
     format!(in alloc;
         "HTTP/1.1 200 OK\r\ncontent-type: text/plain\r\ncontent-length: {}\r\n\r\n{hex}",
         hex.len()
+    )
+}
+
+/// The reply with a text in JSON.
+fn json_reply(alloc: Global, text: &str) -> Result<String, AllocError> {
+    format!(in alloc;
+        "HTTP/1.1 200 OK\r\ncontent-type: application/json\r\ncontent-length: {}\r\n\r\n{text}",
+        text.len()
     )
 }
 
@@ -465,7 +477,7 @@ fn the_widest_reach(rt: HostRuntime) -> Result<(), Fail> {
 }
 
 #[test]
-fn paths_and_methods_that_are_not_served(rt: HostRuntime) -> Result<(), Fail> {
+fn paths_that_are_not_served(rt: HostRuntime) -> Result<(), Fail> {
     for (method, path) in [
         ("GET", "/"),
         ("GET", "/features/7"),
@@ -477,8 +489,6 @@ fn paths_and_methods_that_are_not_served(rt: HostRuntime) -> Result<(), Fail> {
         ("GET", "/map/0/1/0.mvt"),
         ("GET", "/map/0/0/0.png"),
         ("GET", "/map/0/0/0"),
-        ("PUT", "/map/0/0/0.mvt"),
-        ("POST", "/features/7"),
     ] {
         let asked = request(rt.alloc(), method, path, POINT)?;
         let reply = reply_behind(rt.alloc(), &[], asked.as_str())?;
@@ -486,7 +496,7 @@ fn paths_and_methods_that_are_not_served(rt: HostRuntime) -> Result<(), Fail> {
         assert_eq!(rt; reply.as_slice(), expected.as_bytes(), "{method} {path}");
     }
     // the reply to a HEAD is only a head
-    let asked = request(rt.alloc(), "HEAD", "/map/0/0/0.mvt", "")?;
+    let asked = request(rt.alloc(), "HEAD", "/map/17/0/0.mvt", "")?;
     let reply = reply_behind(rt.alloc(), &[], asked.as_str())?;
     let head = b"HTTP/1.1 404 Not Found\r\ncontent-type: text/plain\r\ncontent-length: 9\r\n\r\n";
     assert_eq!(rt; reply.as_slice(), head.as_slice());
