@@ -1,0 +1,36 @@
+-- The lines of the log.
+use Rattle.std.specs.Prelude.{ℕ, List, ◌++◌, ◌∷◌, [], codes, decimal, Result, Ok, Err}
+use Rattle.http_serve.specs.declared.connection.End.{End}
+use Rattle.http_serve.specs.declared.connection.End.TheVariants.{Closed, Asked, Refused, Turns}
+use Rattle.http_serve.specs.declared.connection.ServeFault.{ServeFault}
+use Rattle.http_serve.specs.declared.connection.ServeFault.TheVariants.{Memory, Read, Write, Content}
+use Rattle.http_serve.specs.declared.connection.Served.{Served}
+
+-- the word for an end
+abbrev pub end_word : End → List ℕ
+end_word Closed = codes "closed"
+end_word Asked = codes "asked"
+end_word Refused = codes "refused"
+end_word Turns = codes "turns"
+
+-- the word for what a connection came to
+abbrev pub result_word : Result Served ServeFault → List ℕ
+result_word (Ok served) = end_word served.end
+result_word (Err Memory) = codes "memory"
+result_word (Err (Read requests)) = codes "read"
+result_word (Err (Write requests)) = codes "write"
+result_word (Err (Content requests)) = codes "content"
+
+-- how many requests got a whole reply
+abbrev pub replied_requests : Result Served ServeFault → ℕ
+replied_requests (Ok served) = served.requests
+replied_requests (Err Memory) = 0
+replied_requests (Err (Read requests)) = requests
+replied_requests (Err (Write requests)) = requests
+replied_requests (Err (Content requests)) = requests
+
+-- the line of a connection: its number, its requests, its end
+unfoldable pub line_of : ℕ → Result Served ServeFault → List ℕ
+line_of number result =
+    codes "connection " ++ (decimal number ++ (codes ": " ++ (decimal (replied_requests result)
+    ++ (codes " requests, " ++ (result_word result ++ codes "\n")))))

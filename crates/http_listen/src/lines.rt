@@ -1,0 +1,53 @@
+//! The lines of the log.
+ghost use Rattle.std.specs.Prelude.{◌≡◌, OnOk};
+ghost use Rattle.std.specs.Io.KnownBytes.{Appends};
+ghost use Rattle.http_listen.specs.Lines.{result_word, replied_requests, line_of};
+
+use http_serve::{End, ServeFault, Served};
+use std::io::{self, Write};
+
+/// How many requests of a connection got a whole reply.
+fn replied_requests(outcome: Result<Served, ServeFault>) -> u64
+    ensures { result ≡ replied_requests outcome }
+{
+    match outcome {
+        Ok(served) => served.requests,
+        Err(ServeFault::Memory) => 0,
+        Err(
+            ServeFault::Read { requests }
+            | ServeFault::Write { requests }
+            | ServeFault::Content { requests },
+        ) => requests,
+    }
+}
+
+/// The word for what a connection came to.
+fn result_word(outcome: Result<Served, ServeFault>) -> &'static str
+    ensures { result.now ≡ result_word outcome }
+{
+    match outcome {
+        Ok(served) => match served.end {
+            End::Closed => "closed",
+            End::Asked => "asked",
+            End::Refused => "refused",
+            End::Turns => "turns",
+        },
+        Err(ServeFault::Memory) => "memory",
+        Err(ServeFault::Read { .. }) => "read",
+        Err(ServeFault::Write { .. }) => "write",
+        Err(ServeFault::Content { .. }) => "content",
+    }
+}
+
+/// Writes the line of a connection: its number, how many requests got a whole reply, and its end.
+pub(crate) fn write_line<W: Write>(
+    log: &mut W,
+    number: u64,
+    outcome: Result<Served, ServeFault>,
+) -> io::Result<()>
+    ensures { OnOk result (Appends (W.contents log.old) (W.contents log.new) (line_of number outcome)) }
+{
+    let requests = replied_requests(outcome);
+    let word = result_word(outcome);
+    writeln!(log, "connection {number}: {requests} requests, {word}")
+}

@@ -1,0 +1,39 @@
+//! Connections of peers on this machine, and of streams and listeners that fail.
+ghost use Rattle.std.specs.Prelude.{◌≡◌, []};
+
+mod fakes;
+mod lines;
+mod peers;
+
+use crate::{ListenFault, serve_on};
+use http::StatusCode;
+use http_serve::{Content, ContentFault, Handler, Reply, Request};
+
+/// Answers each request with how many there were before it: `0`, `1`, `2`, and then `many`.
+#[derive(Clone, Copy)]
+struct Counter {
+    before: usize,
+}
+
+impl Handler for Counter {
+    ghost replies = { λ _ _ _ _. Unit {0} };
+
+    ghost content = { λ _. [] };
+
+    fn answer(&mut self, _request: &Request<'_>) -> Reply {
+        let text: &'static [u8] = match self.before {
+            0 => b"0",
+            1 => b"1",
+            2 => b"2",
+            _ => b"many",
+        };
+        self.before = self.before.saturating_add(1);
+        Reply::plain(StatusCode::OK, None, Content::Fixed(text))
+    }
+
+    fn read_content(&mut self, _offset: u64, _part: &mut [u8]) -> Result<(), ContentFault> {
+        Err(ContentFault)
+    }
+}
+
+const GET: &str = "GET / HTTP/1.1\r\nhost: a\r\n\r\n";
