@@ -12,12 +12,14 @@ enum Words {
     Disk,
     /// The same, and a count of sectors by name.
     DiskAndSectors,
+    /// A path of a disk's file, a port and a count of connections by name.
+    DiskAndPort,
     /// A path of an archive's file.
     Archive,
 }
 
 /// Each command with what it takes and what it does.
-const COMMANDS: [(&str, Words, &str); 5] = [
+const COMMANDS: [(&str, Words, &str); 6] = [
     (
         "demo",
         Words::Sectors,
@@ -32,6 +34,11 @@ const COMMANDS: [(&str, Words, &str); 5] = [
         "pipe",
         Words::Disk,
         "Serves one connection on standard input and output, over the map on the disk in a file",
+    ),
+    (
+        "serve",
+        Words::DiskAndPort,
+        "Serves connections on a port of 127.0.0.1 one after the other, over the map on the disk in a file",
     ),
     (
         "show",
@@ -67,6 +74,26 @@ fn sectors<'a>(alloc: Global) -> Arg<'a> {
         .help("Sectors of 512 bytes, from 64 to 16777216")
 }
 
+/// A port.
+fn port<'a>(alloc: Global) -> Arg<'a> {
+    Arg::new(alloc, "P")
+        .long("port")
+        .required(true)
+        .action(ArgAction::Set)
+        .value_parser(clap::value_parser!(u16))
+        .help("A port of 127.0.0.1, from 1 to 65535")
+}
+
+/// A count of connections.
+fn connections<'a>(alloc: Global) -> Arg<'a> {
+    Arg::new(alloc, "K")
+        .long("connections")
+        .required(true)
+        .action(ArgAction::Set)
+        .value_parser(clap::value_parser!(u32))
+        .help("How many connections are served, from 1 to 4294967295")
+}
+
 /// A command that takes these words.
 fn with_words<'a>(
     alloc: Global,
@@ -79,6 +106,10 @@ fn with_words<'a>(
         Words::DiskAndSectors => command
             .arg(disk_path(alloc))?
             .arg(sectors(alloc).long("sectors")),
+        Words::DiskAndPort => command
+            .arg(disk_path(alloc))?
+            .arg(port(alloc))?
+            .arg(connections(alloc)),
         Words::Archive => command.arg(path(alloc, "A tile archive (PMTiles 3)")),
     }
 }
@@ -86,6 +117,7 @@ fn with_words<'a>(
 /// The command line of the program.
 pub(crate) fn command_line<'a>(alloc: Global) -> Result<Command<'a>, AllocError> {
     let mut command = Command::new(alloc, "vtserve")
+        .version("0.1.0")
         .about("A vector tile server whose map is edited while it serves")
         .subcommand_required(true);
     for (name, words, about) in COMMANDS {

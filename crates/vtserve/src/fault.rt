@@ -11,6 +11,8 @@ pub(crate) enum CommandFault {
     Store(StoreFault),
     /// What ended a connection.
     Connection(ServeFault),
+    /// The address can't be listened on, or a connection not be accepted.
+    Listen,
     /// Standard output didn't take all.
     Write,
 }
@@ -22,6 +24,7 @@ impl CommandFault {
             CommandFault::File => "File",
             CommandFault::Store(fault) => store_fault_name(fault),
             CommandFault::Connection(fault) => serve_fault_name(fault),
+            CommandFault::Listen => "Listen",
             CommandFault::Write => "Write",
         }
     }

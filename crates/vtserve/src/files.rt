@@ -21,7 +21,7 @@ pub(crate) fn format_file(rt: &HostRuntime, path: &str, sectors: u64) -> Result<
 
 /// Opens `/dev/null` three times. As long as these are kept, they stand for the standard streams that were closed, so that no
 /// disk gets the number of one, and no reply is written into it.
-fn closed_streams(rt: &HostRuntime) -> io::Result<[File; 3]> {
+pub(crate) fn closed_streams(rt: &HostRuntime) -> io::Result<[File; 3]> {
     let mut how = OpenOptions::new();
     how.read(true).write(true);
     let null = "/dev/null";

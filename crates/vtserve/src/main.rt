@@ -7,6 +7,7 @@ mod disks;
 mod fault;
 mod files;
 mod fresh;
+mod listening;
 mod serving;
 
 use archives::{show_file, verify_file};
@@ -15,6 +16,7 @@ use commands::command_line;
 use fault::CommandFault;
 use files::{format_file, serve_file};
 use fresh::fresh_service;
+use listening::{listening_of, serve_port};
 use sector_disk::Unknown;
 use serving::serve_over;
 use std::fmt::Display;
@@ -32,6 +34,12 @@ fn ended(rt: &HostRuntime, outcome: Result<(), CommandFault>) -> anyhow::Result<
         Ok(()) => Ok(ExitCode::SUCCESS),
         Err(fault) => refused(rt, fault.name()),
     }
+}
+
+/// Says that a port or a count is 0.
+fn out_of_range(rt: &HostRuntime) -> anyhow::Result<ExitCode> {
+    eprintln!(rt; "error: P and K are at least 1")?;
+    Ok(ExitCode::from(2))
 }
 
 /// Serves one connection on standard input and output, over the empty map on a disk in memory.
@@ -53,6 +61,10 @@ fn run(rt: &HostRuntime, matches: &ArgMatches<'_>) -> anyhow::Result<ExitCode> {
         "demo" => ended(rt, demo(rt, sectors)),
         "format" => ended(rt, format_file(rt, path, sectors)),
         "pipe" => ended(rt, serve_file(rt, path, Unknown)),
+        "serve" => match listening_of(words) {
+            Some(asked) => ended(rt, serve_port(rt, path, asked, Unknown)),
+            None => out_of_range(rt),
+        },
         "show" => show_file(rt, path),
         "verify" => verify_file(rt, path),
         _ => Ok(ExitCode::from(2)),

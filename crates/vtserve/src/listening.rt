@@ -1,0 +1,90 @@
+//! The command that serves the connections of a port.
+ghost use Rattle.std.specs.Prelude.{◌≡◌, ◌≤◌, List, length, IfSome, OnOk};
+ghost use Rattle.http_listen.specs.Connections.{Connection, Serves};
+
+use crate::disks::opened_service;
+use crate::fault::CommandFault;
+use crate::files::closed_streams;
+use clap::ArgMatches;
+use http_listen::{ListenFault, serve_on};
+use http_serve::Handler;
+use sector_disk::{FileDisk, Start};
+use std::io::{self, Write};
+use std::net::{Ipv4Addr, SocketAddr, TcpListener};
+
+/// Where connections come from, and how many.
+#[derive(Clone, Copy, Debug, PartialEq, Eq)]
+pub(crate) struct Listening {
+    /// A port of 127.0.0.1.
+    pub(crate) port: u16,
+    /// How many connections are served.
+    pub(crate) connections: u32,
+}
+
+/// What the words of the command ask for, unless a number is 0.
+pub(crate) fn listening_of(words: &ArgMatches<'_>) -> Option<Listening>
+    ensures { IfSome result (λ asked. (1 ≤ asked.port) × (1 ≤ asked.connections)) }
+{
+    let port = words.get_one::<u16>("P").unwrap_or(0);
+    let connections = words.get_one::<u32>("K").unwrap_or(0);
+    if port == 0 || connections == 0 {
+        return None;
+    }
+    Some(Listening { port, connections })
+}
+
+/// Says where connections are accepted.
+fn tell_port(rt: &HostRuntime, port: u16) -> io::Result<()> {
+    println!(rt; "serving on 127.0.0.1:{port}")?;
+    rt.stdout().flush()
+}
+
+/// Serves the connections one after the other, with their log on standard error.
+fn serve_connections<H: Handler>(
+    rt: &HostRuntime,
+    asked: Listening,
+    handler: &mut H,
+) -> Result<(), CommandFault>
+    ensures all { OnOk result ((served : List Connection) × Serves H.replies handler.old served handler.new × (length served ≡ asked.connections)) }
+{
+    let Ok(listener) = TcpListener::bind(rt, SocketAddr::from((Ipv4Addr::LOCALHOST, asked.port)))
+    else {
+        return Err(CommandFault::Listen);
+    };
+    let Ok(()) = tell_port(rt, asked.port) else {
+        return Err(CommandFault::Write);
+    };
+    let connections = u64::from(asked.connections);
+    match serve_on(
+        rt.alloc(),
+        &listener,
+        connections,
+        handler,
+        &mut rt.stderr(),
+    ) {
+        Ok(()) => Ok(()),
+        Err(ListenFault::Accept) => Err(CommandFault::Listen),
+    }
+}
+
+/// Serves so many connections of a port, over the map on the disk in a file, whatever the file had.
+pub(crate) fn serve_port<S: Start>(
+    rt: &HostRuntime,
+    path: &str,
+    asked: Listening,
+    start: S,
+) -> Result<(), CommandFault> {
+    let Ok(_streams) = closed_streams(rt) else {
+        return Err(CommandFault::File);
+    };
+    let Ok(disk) = FileDisk::open(rt, path, start) else {
+        return Err(CommandFault::File);
+    };
+    match opened_service(rt.alloc(), disk) {
+        Ok(service) => {
+            let mut service = service;
+            serve_connections(rt, asked, &mut service)
+        }
+        Err((_, fault)) => Err(CommandFault::Store(fault)),
+    }
+}
