@@ -1,5 +1,5 @@
-//! The calls of a service without their clauses: no test needs these, and its proof is much shorter without them. For the same reason
-//! tests ask for several events at once, and compare owned values: a comparison of what a service lends costs minutes.
+//! The calls of a service without their clauses: no test needs these, and its proof is much shorter without them. And rows of events with
+//! their answers, which a test asks for at once.
 
 use super::archives::{Point, shown};
 use super::point;
