@@ -1,4 +1,4 @@
-use Rattle.std.proofs.Common.{◌≡◌, ◌<◌, ◌≤◌, Err, List, ℕ, rules, ◌∙◌, sym, subst, arith, length, take, drop, length-append, length-drop}
+use Rattle.std.proofs.Common.{◌≡◌, ◌<◌, ◌≤◌, Err, ℕ, rules, ◌∙◌, sym, subst, arith, length, take, drop, length-append, length-drop}
 use Rattle.std.proofs.lemmas.List.{length-take-le}
 use Rattle.std.specs.Io.KnownBytes.{Appends}
 use Rattle.http_serve.proofs.PartLemmas.{sent_on, sent_cut}
