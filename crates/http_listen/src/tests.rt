@@ -1,5 +1,5 @@
 //! Connections of peers on this machine, and of streams and listeners that fail.
-ghost use Rattle.std.specs.Prelude.{◌≡◌, []};
+ghost use Rattle.http_serve.specs.Reply.{IsWhole};
 
 mod fakes;
 mod lines;
@@ -15,20 +15,29 @@ struct Counter {
     before: usize,
 }
 
+fn reply_after(before: usize) -> Reply
+    ensures { IsWhole result }
+{
+    let text: &'static [u8] = match before {
+        0 => b"0",
+        1 => b"1",
+        2 => b"2",
+        _ => b"many",
+    };
+    Reply::plain(StatusCode::OK, None, Content::Fixed(text))
+}
+
 impl Handler for Counter {
     ghost replies = { λ _ _ _ _. Unit {0} };
 
-    ghost content = { λ _. [] };
+    ghost sends = { λ _ _ _ _. ⊥ };
+
+    ghost size = { λ _. 0 };
 
     fn answer(&mut self, _request: &Request<'_>) -> Reply {
-        let text: &'static [u8] = match self.before {
-            0 => b"0",
-            1 => b"1",
-            2 => b"2",
-            _ => b"many",
-        };
-        self.before = self.before.saturating_add(1);
-        Reply::plain(StatusCode::OK, None, Content::Fixed(text))
+        let before = self.before;
+        self.before = before.saturating_add(1);
+        reply_after(before)
     }
 
     fn read_content(&mut self, _offset: u64, _part: &mut [u8]) -> Result<(), ContentFault> {

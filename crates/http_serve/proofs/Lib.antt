@@ -1,5 +1,6 @@
 pub mod CarryLemmas
 pub mod FieldLemmas
+pub mod HandlerLemmas
 pub mod HeadLemmas
 pub mod InputLemmas
 pub mod KnownLemmas

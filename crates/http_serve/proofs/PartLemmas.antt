@@ -1,25 +1,21 @@
 -- Contents part by part.
 use Rattle.std.proofs.Common.{◌≡◌, ℕ, ◌+◌, ◌-◌, ◌<◌, ◌≤◌, List, [], ◌++◌, Bool, true, false, Option, take, drop, length, refl, sym, ap, ◌∙◌, subst, arith}
-use Rattle.std.proofs.Common.{append_assoc, length-drop, zero, suc}
-use Rattle.std.specs.Prelude.{cond, ◌||◌}
+use Rattle.std.proofs.Common.{append_assoc, length-append, length-drop, Global}
+use Rattle.std.specs.Prelude.{cond, ◌||◌, Vec}
 use Rattle.std.proofs.Math.Seq.{take-add}
-use Rattle.std.proofs.lemmas.List.{append-nil, drop-drop, take-take, take-append-drop, length-take-le}
+use Rattle.std.proofs.lemmas.List.{append-nil, drop-drop, drop-take, drop_at, take-take, take_all, take_at, take-append-drop, length-take, length-take-le}
 use Rattle.std.specs.Io.KnownBytes.{Appends}
 use Rattle.http_serve.specs.declared.replies.Content.{Content}
 use Rattle.http_serve.specs.declared.replies.Content.TheVariants.{Empty, Fixed, Whole, Parts}
 use Rattle.http_serve.specs.declared.replies.Reply.{Reply}
-use Rattle.http_serve.specs.Parts.{front_content, rest_content, front_bytes, rest_bytes, IsCutIn, cut_after}
-use Rattle.http_serve.specs.Reply.{HeadView, head_of, head_view, reply_view, content_bytes, content_size, FitsParts, has_no_content, reply_head, reply_bytes}
+use Rattle.http_serve.specs.Parts.{front_content, rest_content, front_bytes, rest_bytes, IsLater, IsReadable, IsCutIn, cut_after}
+use Rattle.http_serve.specs.Reply.{ReplyView, HeadView, head_of, head_view, reply_view, content_bytes, content_size, FitsParts, IsReply, InParts, with_part}
+use Rattle.http_serve.specs.Reply.{has_no_content, reply_head, reply_bytes}
+use Rattle.http_serve.specs.Requests.{RequestView}
 use Rattle.http_serve.specs.declared.contents.SendFault.{SendFault}
 use Rattle.http_serve.specs.declared.contents.SendFault.TheVariants as cuts
 use Rattle.http_serve.specs.Told.{HasContent}
-use Rattle.http_serve.proofs.KnownLemmas.{Appends-then}
-
--- what a part has that is read into the first bytes of a buffer
-pub part_read : (now content buffer : List ℕ) (at count : ℕ) → count ≤ length buffer → now ≡ content
-    → take (length (take count buffer)) (drop at now) ≡ take count (drop at content)
-part_read now content buffer at count fits same =
-    ap (λ (n : ℕ). take n (drop at now)) (length-take-le count buffer fits) ∙ ap (λ (xs : List ℕ). take count (drop at xs)) same
+use Rattle.http_serve.proofs.KnownLemmas.{Appends-then, Appends_none}
 
 -- one more part behind those so far
 next_part : (xs : List ℕ) (offset at count : ℕ) → offset ≤ at
@@ -49,6 +45,114 @@ part_cut xs offset at count u v w n behind within so_far some more =
       part_sent xs offset at n u v w behind so_far
           (subst (λ (t : List ℕ). Appends v w t) (take-take n count (drop at xs) (omega (arith, size))) more),
     )
+
+-- ---- a reply whose content is being read
+
+-- a part that was read stands in it
+pub part_later : (reply : ReplyView) (offset : ℕ) (part : List ℕ) → offset + length part ≤ length reply.content
+    → IsLater offset reply (with_part offset part reply)
+part_later reply offset part within =
+    let kept : List ℕ = take offset reply.content in
+    let behind : List ℕ = drop (offset + length part) reply.content in
+    let kept_size : length kept ≡ offset = length-take-le offset reply.content (omega (arith, within)) in
+    record {
+      same = refl;
+      size = omega (
+        arith,
+        within,
+        kept_size,
+        length-append (kept ++ part) behind,
+        length-append kept part,
+        length-drop (offset + length part) reply.content,
+      );
+      front = ap (take offset) (append_assoc kept part behind) ∙ take_at kept (part ++ behind) offset kept_size;
+    }
+
+pub part_there : (reply : ReplyView) (offset : ℕ) (part : List ℕ) → offset + length part ≤ length reply.content
+    → take (length part) (drop offset (with_part offset part reply).content) ≡ part
+part_there reply offset part within =
+    let kept : List ℕ = take offset reply.content in
+    let behind : List ℕ = drop (offset + length part) reply.content in
+    let kept_size : length kept ≡ offset = length-take-le offset reply.content (omega (arith, within)) in
+    ap (λ (xs : List ℕ). take (length part) (drop offset xs)) (append_assoc kept part behind)
+    ∙ ap (take (length part)) (drop_at kept (part ++ behind) offset kept_size) ∙ take_at part behind (length part) refl
+
+-- what is later than a later reply is later
+pub later_then : (offset at : ℕ) (reply next later : ReplyView) → offset ≤ at → IsLater offset reply next → IsLater at next later → IsLater offset reply later
+later_then offset at reply next later before x y = record {
+  same = y.same ∙ ap (λ (r : ReplyView). record r { content = later.content }) x.same;
+  size = y.size ∙ x.size;
+  front =
+      sym (take-take offset at later.content before) ∙ ap (take offset) y.front ∙ take-take offset at next.content before ∙ x.front;
+}
+
+pub later_same : (offset : ℕ) (reply : ReplyView) → IsLater offset reply reply
+later_same offset reply = record { same = refl; size = refl; front = refl }
+
+-- what was written of it is the same of the later one
+pub written_later : (offset at : ℕ) (next later : ReplyView) → offset ≤ at → IsLater at next later
+    → take (at - offset) (drop offset next.content) ≡ take (at - offset) (drop offset later.content)
+written_later offset at next later before is =
+    let whole : offset + (at - offset) ≡ at = omega (arith, before) in
+    sym (drop-take offset (at - offset) next.content) ∙ ap (λ (n : ℕ). drop offset (take n next.content)) whole
+    ∙ sym (ap (drop offset) is.front) ∙ sym (ap (λ (n : ℕ). drop offset (take n later.content)) whole)
+    ∙ drop-take offset (at - offset) later.content
+
+module _ {S : Type 0} (replies sends : S → RequestView → ReplyView → S → Type 0) where
+  -- Of a reply that was being sent in a first state the bytes from an offset to a place are written, and it is being sent in the second.
+  abbrev pub IsSentTo : (offset at size : ℕ) (old new : S) (held holds : Option (List ℕ)) → Type 0
+  IsSentTo offset at size old new held holds = (first : S) (request : RequestView) (reply : ReplyView) → sends first request reply old
+      → replies first request reply old → length reply.content ≡ size → (later : ReplyView) × IsLater offset reply later × sends first request later new
+      × replies first request later new × Appends held holds (take (at - offset) (drop offset later.content))
+
+  pub sent_none : (offset size : ℕ) (old : S) (held : Option (List ℕ)) → IsSentTo offset offset size old old held held
+  sent_none offset size old held first request reply sent replied is =
+      let none : 0 ≡ offset - offset = omega arith in
+      (reply, later_same offset reply, sent, replied, subst (λ (n : ℕ). Appends held held (take n (drop offset reply.content))) none (Appends_none held))
+
+  module _ (offset at size count : ℕ) (old new newer : S) (held holds now : Option (List ℕ)) (before : offset ≤ at)
+      (so_far : IsSentTo offset at size old new held holds) where
+    -- one more part is written
+    pub sent_on : ((first : S) (request : RequestView) (reply : ReplyView) → sends first request reply new → length reply.content ≡ size
+        → (later : ReplyView) × IsLater at reply later × replies first request later newer × sends first request later newer
+        × Appends holds now (take count (drop at later.content)))
+        → IsSentTo offset (at + count) size old newer held now
+    sent_on part first request reply sent replied is =
+        let next = so_far first request reply sent replied is in
+        let last = part first request next.0 next.2 (next.1.size ∙ is) in
+        let written = subst (λ (xs : List ℕ). Appends held holds xs) (written_later offset at next.0 last.0 before last.1) next.4 in (
+          last.0,
+          later_then offset at reply next.0 last.0 before next.1 last.1,
+          last.3,
+          last.2,
+          part_sent last.0.content offset at count held holds now before written last.4,
+        )
+
+    -- one more part is written, and not whole
+    pub sent_cut : at + count ≤ size → ((first : S) (request : RequestView) (reply : ReplyView) → sends first request reply new
+        → length reply.content ≡ size → (later : ReplyView) × IsLater at reply later × replies first request later newer
+        × (n : ℕ) × (n < length (take count (drop at later.content))) × Appends holds now (take n (take count (drop at later.content))))
+        → (first : S) (request : RequestView) (reply : ReplyView) → sends first request reply old → replies first request reply old
+        → length reply.content ≡ size → (later : ReplyView) × IsLater offset reply later × replies first request later newer
+        × ((k : ℕ) × (k < length (drop offset later.content)) × Appends held now (take k (drop offset later.content)))
+    sent_cut within part first request reply sent replied is =
+        let next = so_far first request reply sent replied is in
+        let last = part first request next.0 next.2 (next.1.size ∙ is) in
+        let written = subst (λ (xs : List ℕ). Appends held holds xs) (written_later offset at next.0 last.0 before last.1) next.4 in
+        let cut = part_cut last.0.content offset at count held holds now last.3 before
+        (omega (arith, within, last.1.size, next.1.size, is)) written last.4 last.5 in
+        (last.0, later_then offset at reply next.0 last.0 before next.1 last.1, last.2, cut)
+
+  -- all of it is written
+  pub sent_whole : (offset at size : ℕ) (old new : S) (held holds : Option (List ℕ)) → size ≤ at → IsSentTo offset at size old new held holds
+      → (first : S) (request : RequestView) (reply : ReplyView) → sends first request reply old → replies first request reply old
+      → length reply.content ≡ size → (later : ReplyView) × IsLater offset reply later × replies first request later new
+      × Appends held holds (drop offset later.content)
+  sent_whole offset at size old new held holds over so_far first request reply sent replied is =
+      let last = so_far first request reply sent replied is in
+      let all : take (at - offset) (drop offset last.0.content) ≡ drop offset last.0.content =
+      take_all (at - offset) (drop offset last.0.content) (omega (arith, length-drop offset last.0.content, last.1.size, is, over)) in
+      (last.0, last.1, last.3, subst (λ (xs : List ℕ). Appends held holds xs) all last.4)
 
 -- ---- front and rest
 
@@ -88,29 +192,30 @@ front_rest close bare parts reply fits =
     (sent_both none (front_content reply.content) (rest_content parts reply.content) (content_bytes parts reply.content) (joined parts reply.content fits))
     ∙ ap (λ (head : HeadView). reply_head close head ++ cond none [] (content_bytes parts reply.content)) (same_head parts reply fits)
 
-drop_none : (n : ℕ) → drop {A = ℕ} n [] ≡ []
-drop_none zero = refl
-drop_none (suc n) = refl
+-- a reply whose content is read in parts says what it says with what was read of it
+pub later_reply : (reply : Reply) (view later : ReplyView) (first : Vec ℕ Global) (size : ℕ) → reply.content ≡ Parts first size
+    → IsReply reply view → IsLater (length first.items) view later → IsReply reply later
+later_reply reply view later first size parts is next =
+    let fits = subst (λ (c : Content). FitsParts view.content c) parts is.1 in (
+      next.same ∙ ap (λ (r : ReplyView). record r { content = later.content }) is.0
+          ∙ ap (λ (c : Content). record (reply_view view.content reply) { content = content_bytes later.content c }) (sym parts),
+      subst (λ (c : Content). FitsParts later.content c) (sym parts) (next.size ∙ fits.0, next.front ∙ fits.1),
+    )
 
-no_rest : (content : Content) → rest_content [] content ≡ []
-no_rest Empty = refl
-no_rest (Fixed text) = refl
-no_rest (Whole bytes) = refl
-no_rest (Parts first size) = drop_none (length first.items)
+-- what is said where a content is read in parts
+pub in_parts : (content : Content) (A B : Type 0) → (A → B) → InParts content A → InParts content B
+in_parts Empty A B f is = tt
+in_parts (Fixed text) A B f is = tt
+in_parts (Whole bytes) A B f is = tt
+in_parts (Parts first size) A B f is = f is
 
-none_sent : (none : Bool) (rest : List ℕ) → rest ≡ [] → cond none [] rest ≡ []
-none_sent true rest is = refl
-none_sent false rest is = is
-
--- where nothing is read in parts, the front is the whole reply
-pub front_alone : (close bare : Bool) (reply : Reply) → FitsParts [] reply.content → front_bytes close bare reply ≡ reply_bytes close bare (reply_view [] reply)
-front_alone close bare reply fits =
-    sym (append-nil (front_bytes close bare reply))
-    ∙ ap (λ (t : List ℕ). front_bytes close bare reply ++ t)
-    (sym (none_sent (bare || has_no_content reply.status) (rest_content [] reply.content) (no_rest reply.content)))
-    ∙ front_rest close bare [] reply fits
+pub readable : (size : ℕ) (content : Content) (parts : List ℕ) → FitsParts parts content → InParts content (size ≡ length parts) → IsReadable size content
+readable size Empty parts fits is = tt
+readable size (Fixed text) parts fits is = tt
+readable size (Whole bytes) parts fits is = tt
+readable size (Parts first total) parts fits is = (is ∙ fits.0, omega (arith, is, ap length fits.1, length-take (length first.items) parts))
 
 -- the fault that is told of a cut is the handler's only where a content is read in parts
-pub cut_content : (parts : List ℕ) (requests : ℕ) (fault : SendFault) → IsCutIn parts fault → HasContent parts (cut_after requests fault)
-cut_content parts requests cuts.Write is = tt
-cut_content parts requests cuts.Content is = is
+pub cut_content : (size requests : ℕ) (fault : SendFault) → IsCutIn size fault → HasContent size (cut_after requests fault)
+cut_content size requests cuts.Write is = tt
+cut_content size requests cuts.Content is = is

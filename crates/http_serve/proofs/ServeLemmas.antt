@@ -393,9 +393,9 @@ finished_reads turns input left waiting head reason held before (Err (Write n)) 
 finished_reads turns input left waiting head reason held before (Err (Content n)) holds so x = so
 
 -- what the input's end is answered with isn't read in parts
-pub unfinished_content : (parts : List ℕ) (waiting : List ℕ) (head : Option RequestHead) (reason : Refusal) (held : Option (List ℕ)) (before : ℕ)
-    (fault : ServeFault) (holds : Option (List ℕ)) → IsUnfinished waiting head reason held before fault holds → HasContent parts fault
-unfinished_content parts waiting head reason held before fault holds x = subst (λ (f : ServeFault). HasContent parts f) (sym x.told) tt
+pub unfinished_content : (size : ℕ) (waiting : List ℕ) (head : Option RequestHead) (reason : Refusal) (held : Option (List ℕ)) (before : ℕ)
+    (fault : ServeFault) (holds : Option (List ℕ)) → IsUnfinished waiting head reason held before fault holds → HasContent size fault
+unfinished_content size waiting head reason held before fault holds x = subst (λ (f : ServeFault). HasContent size f) (sym x.told) tt
 
 -- an end of another kind
 pub other_turns : (turns : ℕ) (input left : Option (List ℕ)) (end : End) → end ≢ Turns → MeetsTurns turns input left end

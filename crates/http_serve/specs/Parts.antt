@@ -1,5 +1,5 @@
 -- A reply in two: its front, which the reply has, and its rest, which is read in parts.
-use Rattle.std.specs.Prelude.{ℕ, ◌<◌, List, [], ◌++◌, ◌||◌, Bool, cond, drop, length, ⊤}
+use Rattle.std.specs.Prelude.{ℕ, ◌≡◌, ◌<◌, ◌≤◌, List, [], ◌++◌, ◌||◌, Bool, cond, take, drop, length, ⊤}
 use Rattle.http_serve.specs.declared.connection.ServeFault.{ServeFault}
 use Rattle.http_serve.specs.declared.connection.ServeFault.TheVariants as ends
 use Rattle.http_serve.specs.declared.contents.SendFault.{SendFault}
@@ -7,7 +7,7 @@ use Rattle.http_serve.specs.declared.contents.SendFault.TheVariants as cuts
 use Rattle.http_serve.specs.declared.replies.Content.{Content}
 use Rattle.http_serve.specs.declared.replies.Content.TheVariants.{Empty, Fixed, Whole, Parts}
 use Rattle.http_serve.specs.declared.replies.Reply.{Reply}
-use Rattle.http_serve.specs.Reply.{head_view, has_no_content, reply_head}
+use Rattle.http_serve.specs.Reply.{ReplyView, InParts, head_view, content_size, has_no_content, reply_head}
 
 -- the bytes of a content that a reply has: all of them, or the first ones
 abbrev pub front_content : Content → List ℕ
@@ -32,10 +32,20 @@ front_bytes close bare reply =
 abbrev pub rest_bytes : Bool → List ℕ → Reply → List ℕ
 rest_bytes bare parts reply = cond (bare || has_no_content reply.status) [] (rest_content parts reply.content)
 
+-- so many bytes are read in parts, as many as a content says that it has, and the first ones are among them
+abbrev pub IsReadable : ℕ → Content → Type 0
+IsReadable size content = InParts content ((size ≡ content_size content) × (length (front_content content) ≤ size))
+
+-- the same reply, of which the content before an offset is as it was, and is as long as it was
+pub record IsLater (offset : ℕ) (reply later : ReplyView) : Type 0 where
+  pub same : later ≡ record reply { content = later.content }
+  pub size : length later.content ≡ length reply.content
+  pub front : take offset later.content ≡ take offset reply.content
+
 -- a reply is cut for its content only where this is read in parts
-abbrev pub IsCutIn : List ℕ → SendFault → Type 0
-IsCutIn parts cuts.Write = ⊤
-IsCutIn parts cuts.Content = 0 < length parts
+abbrev pub IsCutIn : ℕ → SendFault → Type 0
+IsCutIn size cuts.Write = ⊤
+IsCutIn size cuts.Content = 0 < size
 
 -- how a connection ends on which so many replies were written whole, and the next one was cut
 abbrev pub cut_after : ℕ → SendFault → ServeFault

@@ -1,6 +1,6 @@
 -- Replies, and their bytes.
 use Rattle.std.specs.Prelude.{ℕ, List, [], ◌∷◌, ◌++◌, ◌==◌, ◌||◌, Bool, true, false, nat_eq, cond, length, codes, decimal, Option, Some, None, option_map}
-use Rattle.std.specs.Prelude.{unwrap_or, IfSome, ◌≤◌, ◌≡◌, take, ⊤}
+use Rattle.std.specs.Prelude.{unwrap_or, IfSome, ◌≤◌, ◌≡◌, ◌+◌, take, drop, ⊤}
 use Rattle.http.specs.StatusCode.{code_digits, reason_phrase}
 use Rattle.std.specs.Cmp.Lexicographic.{pointwise}
 use Rattle.httparse.specs.Grammar.{RequestHead}
@@ -86,9 +86,25 @@ head_view reply = record {
 abbrev pub HasShortWords : HeadView → Type 0
 HasShortWords head = IfSome head.kind (λ kind. length kind ≤ MOST_WORD) × IfSome head.allow (λ allow. length allow ≤ MOST_WORD)
 
--- a reply that can be written, where its content is read in parts as these bytes
-abbrev pub IsWritable : List ℕ → Reply → Type 0
-IsWritable parts reply = HasShortWords (head_view reply) × FitsParts parts reply.content
+-- what a reply says is this, where its content is read in parts too
+abbrev pub IsReply : Reply → ReplyView → Type 0
+IsReply reply view = (view ≡ reply_view view.content reply) × FitsParts view.content reply.content
+
+-- a fact that counts where a content is read in parts
+abbrev pub InParts : Content → Type 0 → Type 0
+InParts Empty fact = ⊤
+InParts (Fixed text) fact = ⊤
+InParts (Whole bytes) fact = ⊤
+InParts (Parts first size) fact = fact
+
+-- a reply that can be written, and whose content isn't read in parts
+abbrev pub IsWhole : Reply → Type 0
+IsWhole reply = HasShortWords (head_view reply) × InParts reply.content ⊥
+
+-- these bytes stand at an offset of the content
+abbrev pub with_part : (offset : ℕ) → List ℕ → ReplyView → ReplyView
+with_part offset part reply =
+    record reply { content = take offset reply.content ++ part ++ drop (offset + length part) reply.content }
 
 -- ---- bytes
 

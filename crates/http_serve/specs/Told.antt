@@ -55,9 +55,9 @@ abbrev pub KeepsTurns : ℕ → Result Served ServeFault → Option (List ℕ) �
 KeepsTurns turns result input left = LosesAtMost (giving_reads turns result * buffer_size) input left
 
 -- the fault is the handler's only where a content is read in parts
-abbrev pub HasContent : List ℕ → ServeFault → Type 0
-HasContent parts (Content requests) = 0 < length parts
-HasContent parts fault = ⊤
+abbrev pub HasContent : ℕ → ServeFault → Type 0
+HasContent size (Content requests) = 0 < size
+HasContent size fault = ⊤
 
 module _ {S : Type 0} (replies : S → RequestView → ReplyView → S → Type 0) where
   -- The bytes that were read are these requests up to an ending, whatever may follow, and the replies were

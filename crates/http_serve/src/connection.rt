@@ -108,7 +108,7 @@ fn answer_one<H: Handler, W: Write>(
     ensures room { 16384 ≤ vec_capacity out.new }
     ensures reply { (reply : ReplyView) × H.replies handler.old (request_view_at bytes.now frame.now) reply handler.new
         × Sends result (W.contents writer.old) (W.contents writer.new) (reply_at bytes.now frame.now reply) }
-    ensures cut { IfErr result (IsCutIn (H.content handler.new)) }
+    ensures cut { IfErr result (IsCutIn (H.size handler.new)) }
 {
     let method = frame.method.of(bytes);
     let request = Request {
@@ -160,7 +160,7 @@ fn answer_whole<H: Handler, W: Write>(
         handler.new session.new.input.waiting (W.contents writer.new)) }
     ensures err { IfErr result (λ fault. IsBroken H.replies handler.old session.old.input.waiting (W.contents writer.old) requests fault
         handler.new (W.contents writer.new)) }
-    ensures content { IfErr result (HasContent (H.content handler.new)) }
+    ensures content { IfErr result (HasContent (H.size handler.new)) }
 {
     'requests: loop {
         let frame = match find_next(session.input.waiting(), &mut session.search) {
@@ -237,7 +237,7 @@ pub fn serve_turns<R: Read, W: Write, H: Handler>(
         handler.new (R.remaining reader.new) (W.contents writer.new)) }
     ensures fault { IfErr result (λ fault. IsServedUpTo H.replies handler.old (R.remaining reader.old) (W.contents writer.old) fault
         handler.new (R.remaining reader.new) (W.contents writer.new)) }
-    ensures content { IfErr result (HasContent (H.content handler.new)) }
+    ensures content { IfErr result (HasContent (H.size handler.new)) }
     ensures turns { IfOk result (λ served. MeetsTurns turns (R.remaining reader.old) (R.remaining reader.new) served.end) }
     ensures reads { KeepsTurns turns result (R.remaining reader.old) (R.remaining reader.new) }
 {
@@ -292,7 +292,7 @@ pub fn serve<R: Read, W: Write, H: Handler>(
         handler.new (R.remaining reader.new) (W.contents writer.new)) }
     ensures fault { IfErr result (λ fault. IsServedUpTo H.replies handler.old (R.remaining reader.old) (W.contents writer.old) fault
         handler.new (R.remaining reader.new) (W.contents writer.new)) }
-    ensures content { IfErr result (HasContent (H.content handler.new)) }
+    ensures content { IfErr result (HasContent (H.size handler.new)) }
     ensures turns { IfOk result (λ served. MeetsTurns MOST_READS (R.remaining reader.old) (R.remaining reader.new) served.end) }
     ensures reads { KeepsTurns MOST_READS result (R.remaining reader.old) (R.remaining reader.new) }
 {

@@ -1,9 +1,9 @@
 //! Replies whose content is read from the handler in parts.
-ghost use Rattle.std.specs.Prelude.{◌≡◌, ◌≤◌, ◌<◌, ◌+◌, length, take, drop, vec_capacity, IfErr};
-ghost use Rattle.http_serve.specs.Parts.{rest_bytes, IsCutIn, cut_after};
+ghost use Rattle.std.specs.Prelude.{◌≡◌, ◌≤◌, ◌<◌, ◌+◌, length, take, drop, vec_capacity, IfErr, OnOk};
+ghost use Rattle.http_serve.specs.Parts.{IsCutIn, IsLater, IsReadable, cut_after, rest_bytes};
 ghost use Rattle.http_serve.specs.declared.handlers.TheConstants.{PART_SIZE};
 ghost use Rattle.http_serve.specs.Requests.{RequestView};
-ghost use Rattle.http_serve.specs.Reply.{ReplyView, IsWritable, FitsParts, reply_view, reply_bytes};
+ghost use Rattle.http_serve.specs.Reply.{ReplyView, IsReply, InParts, HasShortWords, head_view, reply_bytes};
 ghost use Rattle.http_serve.specs.Sent.{Sends};
 
 use crate::handlers::PART_SIZE;
@@ -40,13 +40,15 @@ fn send_part<H: Handler, W: Write>(
     offset: u64,
     part: &mut [u8],
 ) -> Result<(), SendFault>
-    requires within { offset + length part.old ≤ length (H.content handler.old) }
+    requires within { offset + length part.old ≤ H.size handler.old }
     requires some { 0 < length part.old }
     requires few { length part.old ≤ PART_SIZE }
-    ensures sent { Sends result (W.contents writer.old) (W.contents writer.new) (take (length part.old) (drop offset (H.content handler.old))) }
-    ensures cut { IfErr result (IsCutIn (H.content handler.new)) }
-    ensures content { H.content handler.new ≡ H.content handler.old }
-    ensures same { (old : H) (request : RequestView) (reply : ReplyView) → H.replies old request reply handler.old → H.replies old request reply handler.new }
+    ensures sent { (old : H) (request : RequestView) (reply : ReplyView) → H.sends old request reply handler.old
+        → length reply.content ≡ H.size handler.old → (later : ReplyView) × IsLater offset reply later × H.replies old request later handler.new
+        × OnOk result (H.sends old request later handler.new)
+        × Sends result (W.contents writer.old) (W.contents writer.new) (take (length part.old) (drop offset later.content)) }
+    ensures cut { IfErr result (IsCutIn (H.size handler.new)) }
+    ensures size { H.size handler.new ≡ H.size handler.old }
     ensures length { length part.new ≡ length part.old }
 {
     match handler.read_content(offset, part) {
@@ -66,12 +68,13 @@ fn send_parts<H: Handler, W: Write>(
     offset: u64,
     size: u64,
 ) -> Result<(), SendFault>
-    requires size { length (H.content handler.old) ≡ size }
+    requires size { H.size handler.old ≡ size }
     requires within { offset ≤ size }
-    ensures sent { Sends result (W.contents writer.old) (W.contents writer.new) (drop offset (H.content handler.old)) }
-    ensures cut { IfErr result (IsCutIn (H.content handler.new)) }
-    ensures content { H.content handler.new ≡ H.content handler.old }
-    ensures same { (old : H) (request : RequestView) (reply : ReplyView) → H.replies old request reply handler.old → H.replies old request reply handler.new }
+    ensures sent { (old : H) (request : RequestView) (reply : ReplyView) → H.sends old request reply handler.old
+        → H.replies old request reply handler.old → length reply.content ≡ size
+        → (later : ReplyView) × IsLater offset reply later × H.replies old request later handler.new
+        × Sends result (W.contents writer.old) (W.contents writer.new) (drop offset later.content) }
+    ensures cut { IfErr result (IsCutIn (H.size handler.new)) }
 {
     let mut buffer = [0; PART_SIZE];
     let mut at = offset;
@@ -90,11 +93,12 @@ fn send_rest<H: Handler, W: Write>(
     reply: &Reply,
     bare: bool,
 ) -> Result<(), SendFault>
-    requires fits { FitsParts (H.content handler.old) reply.now.content }
-    ensures sent { Sends result (W.contents writer.old) (W.contents writer.new) (rest_bytes bare (H.content handler.old) reply.now) }
-    ensures cut { IfErr result (IsCutIn (H.content handler.new)) }
-    ensures content { H.content handler.new ≡ H.content handler.old }
-    ensures same { (old : H) (request : RequestView) (reply : ReplyView) → H.replies old request reply handler.old → H.replies old request reply handler.new }
+    requires readable { IsReadable (H.size handler.old) reply.now.content }
+    ensures sent { (old : H) (request : RequestView) (view : ReplyView) → IsReply reply.now view → H.replies old request view handler.old
+        → InParts reply.now.content (H.sends old request view handler.old)
+        → (later : ReplyView) × IsReply reply.now later × H.replies old request later handler.new
+        × Sends result (W.contents writer.old) (W.contents writer.new) (rest_bytes bare later.content reply.now) }
+    ensures cut { IfErr result (IsCutIn (H.size handler.new)) }
 {
     if !reply.sends_content(bare) {
         return Ok(());
@@ -116,13 +120,15 @@ pub(crate) fn send_reply<H: Handler, W: Write>(
     close: bool,
     bare: bool,
 ) -> Result<(), SendFault>
-    requires writable { IsWritable (H.content handler.old) reply.now }
+    requires words { HasShortWords (head_view reply.now) }
+    requires readable { IsReadable (H.size handler.old) reply.now.content }
     requires room { 16384 ≤ vec_capacity out.old }
     ensures room { 16384 ≤ vec_capacity out.new }
-    ensures sent { Sends result (W.contents writer.old) (W.contents writer.new) (reply_bytes close bare (reply_view (H.content handler.old) reply.now)) }
-    ensures cut { IfErr result (IsCutIn (H.content handler.new)) }
-    ensures content { H.content handler.new ≡ H.content handler.old }
-    ensures same { (old : H) (request : RequestView) (reply : ReplyView) → H.replies old request reply handler.old → H.replies old request reply handler.new }
+    ensures sent { (old : H) (request : RequestView) (view : ReplyView) → IsReply reply.now view → H.replies old request view handler.old
+        → InParts reply.now.content (H.sends old request view handler.old)
+        → (later : ReplyView) × H.replies old request later handler.new
+        × Sends result (W.contents writer.old) (W.contents writer.new) (reply_bytes close bare later) }
+    ensures cut { IfErr result (IsCutIn (H.size handler.new)) }
 {
     match send_front(writer, out, reply, close, bare) {
         Ok(()) => send_rest(handler, writer, reply, bare),

@@ -1,15 +1,15 @@
 //! What answers the requests of a connection.
-ghost use Rattle.std.specs.Prelude.{◌≡◌, ◌≤◌, ◌+◌, ℕ, List, length, take, drop, OnOk};
+ghost use Rattle.std.specs.Prelude.{◌≡◌, ◌≤◌, ◌+◌, ℕ, length, OnOk, OnErr};
 ghost use Rattle.std.specs.Option.{option_map};
 ghost use Rattle.http_serve.specs.declared.handlers.TheConstants.{PART_SIZE};
 ghost use Rattle.http_serve.specs.Requests.{RequestView};
-ghost use Rattle.http_serve.specs.Reply.{ReplyView, IsWritable, reply_view};
+ghost use Rattle.http_serve.specs.Reply.{ReplyView, IsReply, InParts, HasShortWords, head_view, with_part};
 
 use crate::Reply;
 use thiserror::Error;
 
-/// The most bytes of a content that are read at once.
-pub const PART_SIZE: usize = 512;
+/// The most bytes of a content that are read and written at once.
+pub const PART_SIZE: usize = 65_536;
 
 /// Bytes of a content couldn't be read.
 #[derive(Clone, Copy, Debug, PartialEq, Eq, Error)]
@@ -36,28 +36,39 @@ pub trait Handler {
     // In the first state the request may get the reply, and the second state follows.
     ghost replies: { Self → RequestView → ReplyView → Self → Type 0 };
 
-    // The content of the last reply, where it is read in parts.
-    ghost content: { Self → List ℕ };
+    // The same of a reply whose content is being read in parts: what was read so far stands in it.
+    ghost sends: { Self → RequestView → ReplyView → Self → Type 0 };
+
+    // How many bytes the content of the last reply has, where it is read in parts.
+    ghost size: { Self → ℕ };
 
     /// Answers a request. The type of the content and the list of methods have at most `MOST_WORD` bytes.
     /// To a request whose method is HEAD the reply is written without its content.
     /// A content in parts whose first bytes can't be read gets another reply: behind the head that is too late.
     fn answer(&mut self, request: &Request<'_>) -> Reply
-        ensures replied { replies self.old (record {
+        ensures replied { (reply : ReplyView) × IsReply result reply × replies self.old (record {
           method = request.now.method.now;
           path = request.now.path.now;
           range = option_map (λ range. range.now) request.now.range;
           body = request.now.body.now;
           close = request.now.close;
-        }) (reply_view (content self.new) result) self.new }
-        ensures writable { IsWritable (content self.new) result };
+        }) reply self.new × InParts result.content (sends self.old (record {
+          method = request.now.method.now;
+          path = request.now.path.now;
+          range = option_map (λ range. range.now) request.now.range;
+          body = request.now.body.now;
+          close = request.now.close;
+        }) reply self.new × (size self.new ≡ length reply.content)) }
+        ensures writable { HasShortWords (head_view result) };
 
     /// Reads as many bytes as `part` has, and `PART_SIZE` at most, from an offset of the content of the last reply, which
-    /// is in parts. After a fault `part` has any bytes. Whatever reply led to the state before leads to the state behind.
+    /// is in parts. They are bytes of the reply from then on, whatever it was before. After a fault `part` has any bytes.
     fn read_content(&mut self, offset: u64, part: &mut [u8]) -> Result<(), ContentFault>
-        requires within { offset + length part.old ≤ length (content self.old) }
+        requires within { offset + length part.old ≤ size self.old }
         requires few { length part.old ≤ PART_SIZE }
-        ensures bytes { OnOk result (part.new ≡ take (length part.old) (drop offset (content self.old))) }
-        ensures content { content self.new ≡ content self.old }
-        ensures same { (old : Self) (request : RequestView) (reply : ReplyView) → replies old request reply self.old → replies old request reply self.new };
+        ensures size { size self.new ≡ size self.old }
+        ensures read { OnOk result ((old : Self) (request : RequestView) (reply : ReplyView) → sends old request reply self.old
+            → sends old request (with_part offset part.new reply) self.new × replies old request (with_part offset part.new reply) self.new) }
+        ensures unread { OnErr result ((old : Self) (request : RequestView) (reply : ReplyView) → sends old request reply self.old
+            → replies old request reply self.new) };
 }

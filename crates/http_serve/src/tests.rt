@@ -1,6 +1,6 @@
 //! Connections over bytes in pieces, with faults of reads and writes.
-ghost use Rattle.std.specs.Prelude.{◌≡◌, ◌≤◌, [], length};
-ghost use Rattle.http_serve.specs.Reply.{IsWritable};
+ghost use Rattle.std.specs.Prelude.{◌≡◌, ◌≤◌, length};
+ghost use Rattle.http_serve.specs.Reply.{IsWhole};
 
 mod bodies;
 mod clients;
@@ -37,32 +37,40 @@ fn echo_of(alloc: Global, request: &Request<'_>) -> Result<Vec<u8>, AllocError> 
 impl Handler for Echo {
     ghost replies = { λ old _ _ new. new ≡ old };
 
-    ghost content = { λ _. [] };
+    ghost sends = { λ _ _ _ _. ⊥ };
+
+    ghost size = { λ _. 0 };
 
     fn read_content(&mut self, _offset: u64, _part: &mut [u8]) -> Result<(), ContentFault> {
         Err(ContentFault)
     }
 
     fn answer(&mut self, request: &Request<'_>) -> Reply {
-        match request.range {
-            Some(b"bytes=42-") => return part_of_all(),
-            Some(b"bytes=1234-") => return outside_all(),
-            _ => {}
-        }
-        let kind = Some("text/plain");
-        if request.path == b"/none".as_slice() {
-            return Reply::plain(StatusCode::NO_CONTENT, kind, Content::Fixed(b"never sent"));
-        }
-        match echo_of(self.alloc, request) {
-            Ok(text) => Reply::plain(StatusCode::OK, kind, Content::Whole(text)),
-            Err(_) => Reply::plain(StatusCode::SERVICE_UNAVAILABLE, None, Content::Empty),
-        }
+        echo_reply(self.alloc, request)
+    }
+}
+
+fn echo_reply(alloc: Global, request: &Request<'_>) -> Reply
+    ensures { IsWhole result }
+{
+    match request.range {
+        Some(b"bytes=42-") => return part_of_all(),
+        Some(b"bytes=1234-") => return outside_all(),
+        _ => {}
+    }
+    let kind = Some("text/plain");
+    if request.path == b"/none".as_slice() {
+        return Reply::plain(StatusCode::NO_CONTENT, kind, Content::Fixed(b"never sent"));
+    }
+    match echo_of(alloc, request) {
+        Ok(text) => Reply::plain(StatusCode::OK, kind, Content::Whole(text)),
+        Err(_) => Reply::plain(StatusCode::SERVICE_UNAVAILABLE, None, Content::Empty),
     }
 }
 
 /// A part of 1,234 bytes.
 fn part_of_all() -> Reply
-    ensures { IsWritable [] result }
+    ensures { IsWhole result }
 {
     Reply {
         status: StatusCode::PARTIAL_CONTENT,
@@ -79,7 +87,7 @@ fn part_of_all() -> Reply
 
 /// No part of them.
 fn outside_all() -> Reply
-    ensures { IsWritable [] result }
+    ensures { IsWhole result }
 {
     Reply {
         status: StatusCode::RANGE_NOT_SATISFIABLE,

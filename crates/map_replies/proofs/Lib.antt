@@ -1,5 +1,6 @@
 mod Along
 mod Connections
 mod PartLemmas
+mod SendingLemmas
 mod Texts
 mod Told

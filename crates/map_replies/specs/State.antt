@@ -1,11 +1,13 @@
 -- What answers requests, without where it lies in memory.
-use Rattle.std.specs.Prelude.{ℕ}
+use Rattle.std.specs.Prelude.{ℕ, ◌-◌, min}
 use Rattle.http_serve.specs.Requests.{RequestView}
 use Rattle.http_serve.specs.Reply.{ReplyView}
 use Rattle.sector_disk.specs.Disk.{History}
 use Rattle.tile_service.specs.Service.{ServiceView}
 use Rattle.map_replies.specs.declared.service.MapReplies.{MapReplies}
 use Rattle.map_replies.specs.Requests.{Replies}
+use Rattle.map_replies.specs.Sending.{SendsWanted}
+use Rattle.tile_routes.specs.Methods.{wanted_by}
 
 -- the service that it asks
 abbrev pub asked_service : {D : Type 0} → MapReplies D → ServiceView D
@@ -14,3 +16,12 @@ asked_service s = s.service
 -- one reply to one request, over a disk with these sectors, this honesty and this history
 abbrev pub ServiceReplies : {D : Type 0} → (D → ℕ) → (D → Type 0) → (D → History) → MapReplies D → RequestView → ReplyView → MapReplies D → Type 0
 ServiceReplies sectors honest history old request reply new = Replies sectors honest history (asked_service old) request reply (asked_service new)
+
+-- how many bytes of the archive are being sent
+abbrev pub sending_size : {D : Type 0} → MapReplies D → ℕ
+sending_size s = min s.sending.length ((asked_service s).archive_len - s.sending.first)
+
+-- the same of a reply whose content is being read in parts: the request wants the archive
+abbrev pub ServiceSends : {D : Type 0} → (D → ℕ) → (D → Type 0) → (D → History) → MapReplies D → RequestView → ReplyView → MapReplies D → Type 0
+ServiceSends sectors honest history old request reply new =
+    SendsWanted sectors honest history (asked_service old) (wanted_by request.method request.path) request.range reply new.sending (asked_service new)

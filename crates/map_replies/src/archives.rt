@@ -1,16 +1,17 @@
 //! The archive that was published last.
-ghost use Rattle.std.specs.Prelude.{◌≡◌, ◌≢◌, ◌<◌, ◌≤◌, ◌+◌, ◌-◌, ◌⊎◌, [], length, slice_range, IfOk, IfErr, IfSome, option_map};
-ghost use Rattle.http_serve.specs.Reply.{reply_view, IsWritable};
+ghost use Rattle.std.specs.Prelude.{◌≡◌, ◌≢◌, ◌<◌, ◌≤◌, ◌+◌, ◌-◌, ◌⊎◌, length, slice_range, IfOk, IfErr, IfSome, OnOk, option_map};
+ghost use Rattle.http_serve.specs.Reply.{head_view, HasShortWords};
 ghost use Rattle.tile_service.specs.Service.{IsUp};
 ghost use Rattle.tile_service.specs.Stored.{Stored};
-ghost use Rattle.map_replies.specs.Requests.{ReadsOnly, AnswersPart, AnswersArchive, OrMemory};
-ghost use Rattle.map_replies.specs.State.{asked_service};
+ghost use Rattle.map_replies.specs.Requests.{ReadsOnly, AnswersArchive, OrMemory};
+ghost use Rattle.map_replies.specs.Sending.{Begins, ShowsReply, IsAnswer, IsSending};
+ghost use Rattle.map_replies.specs.State.{asked_service, sending_size};
 ghost use Rattle.map_replies.specs.Words.{refusal_of};
 
 use crate::fault::RequestFault;
-use crate::parts::{self, Part, part_of};
+use crate::parts::{self, Part, Sending, begin_size, part_of};
 use crate::service::MapReplies;
-use http_serve::Reply;
+use http_serve::{Content, ContentFault, Reply};
 use sector_disk::Sectors;
 use std::alloc::AllocError;
 
@@ -35,16 +36,38 @@ impl<D: Sectors + Drop> MapReplies<D> {
         }
     }
 
-    /// The whole archive, of so many bytes.
-    fn whole_archive(&mut self, total: u64) -> Result<Reply, RequestFault>
-        requires { total ≡ (asked_service self.old).archive_len }
-        ensures reads { IfOk result (λ reply. ReadsOnly D.sectors D.honest D.history (asked_service self.old) (asked_service self.new)) }
-        ensures answered { IfOk result (λ reply. AnswersPart D.sectors D.honest D.history
-            (asked_service self.old) Part.Whole (reply_view [] reply) (asked_service self.new)) }
-        ensures writable { IfOk result (IsWritable []) }
+    /// So many bytes of the archive from one on, as a content that is sent in parts. Those of the first sector are read at once,
+    /// if it is sent at all. None where a read of the disk fails.
+    fn send(&mut self, first: u64, length: u64, bare: bool) -> Result<Option<Content>, RequestFault>
+        requires { first + length ≤ (asked_service self.old).archive_len }
+        ensures reads { IfOk result (λ content. ReadsOnly D.sectors D.honest D.history (asked_service self.old) (asked_service self.new)) }
+        ensures begun { IfOk result (λ content. IfSome content (Begins D.sectors D.honest D.history
+            (asked_service self.old) first length (asked_service self.new))) }
+        ensures sending { IfOk result (λ content. IfSome content (λ _. self.new.sending ≡ record { first = first; length = length })) }
         ensures refused { IfErr result (λ fault. (asked_service self.new ≡ asked_service self.old) × (fault ≡ RequestFault.Memory)) }
     {
-        match self.archive_bytes(0, total) {
+        match self.archive_bytes(first, begin_size(first, length, bare)) {
+            Ok(Some(begun)) => {
+                self.sending = Sending { first, length };
+                Ok(Some(Content::Parts {
+                    first: begun,
+                    length,
+                }))
+            }
+            Ok(None) => Ok(None),
+            Err(fault) => Err(fault),
+        }
+    }
+
+    /// The whole archive, of so many bytes.
+    fn whole_archive(&mut self, total: u64, bare: bool) -> Result<Reply, RequestFault>
+        requires { total ≡ (asked_service self.old).archive_len }
+        ensures reads { IfOk result (λ reply. ReadsOnly D.sectors D.honest D.history (asked_service self.old) (asked_service self.new)) }
+        ensures answered { IfOk result (ShowsReply D.sectors D.honest D.history (asked_service self.old) Part.Whole self.new.sending (asked_service self.new)) }
+        ensures words { IfOk result (λ reply. HasShortWords (head_view reply)) }
+        ensures refused { IfErr result (λ fault. (asked_service self.new ≡ asked_service self.old) × (fault ≡ RequestFault.Memory)) }
+    {
+        match self.send(0, total, bare) {
             Ok(Some(content)) => Ok(parts::whole(content)),
             Ok(None) => Ok(parts::unread()),
             Err(fault) => Err(fault),
@@ -52,28 +75,41 @@ impl<D: Sectors + Drop> MapReplies<D> {
     }
 
     /// The bytes of the archive from the first to the last one, of so many in all.
-    fn archive_part(&mut self, first: u64, last: u64, total: u64) -> Result<Reply, RequestFault>
+    fn archive_part(
+        &mut self,
+        first: u64,
+        last: u64,
+        total: u64,
+        bare: bool,
+    ) -> Result<Reply, RequestFault>
         requires total { total ≡ (asked_service self.old).archive_len }
         requires order { first ≤ last }
         requires within { last < total }
         ensures reads { IfOk result (λ reply. ReadsOnly D.sectors D.honest D.history (asked_service self.old) (asked_service self.new)) }
-        ensures answered { IfOk result (λ reply. AnswersPart D.sectors D.honest D.history
-            (asked_service self.old) (Part.Between first last) (reply_view [] reply) (asked_service self.new)) }
-        ensures writable { IfOk result (IsWritable []) }
+        ensures answered { IfOk result (ShowsReply D.sectors D.honest D.history
+            (asked_service self.old) (Part.Between first last) self.new.sending (asked_service self.new)) }
+        ensures words { IfOk result (λ reply. HasShortWords (head_view reply)) }
         ensures refused { IfErr result (λ fault. (asked_service self.new ≡ asked_service self.old) × (fault ≡ RequestFault.Memory)) }
     {
-        match self.archive_bytes(first, last + 1 - first) {
+        match self.send(first, last + 1 - first, bare) {
             Ok(Some(content)) => Ok(parts::between(first, last, total, content)),
             Ok(None) => Ok(parts::unread()),
             Err(fault) => Err(fault),
         }
     }
 
-    /// The part of the archive that a range asks for.
-    pub(crate) fn archive(&mut self, range: Option<&[u8]>) -> Result<Reply, RequestFault>
-        ensures answered { IfOk result (λ reply. AnswersArchive D.sectors D.honest D.history (option_map (λ value. value.now) range.entry)
-            (asked_service self.old) (reply_view [] reply) (asked_service self.new)) }
-        ensures writable { IfOk result (IsWritable []) }
+    /// The part of the archive that a range asks for. Nothing is read for a reply that is only a head.
+    pub(crate) fn archive(
+        &mut self,
+        range: Option<&[u8]>,
+        bare: bool,
+    ) -> Result<Reply, RequestFault>
+        ensures answered { IfOk result (IsAnswer
+            (λ reply. AnswersArchive D.sectors D.honest D.history (option_map (λ value. value.now) range.entry)
+            (asked_service self.old) reply (asked_service self.new))
+            (λ reply. IsSending D.sectors D.honest D.history (option_map (λ value. value.now) range.entry)
+            (asked_service self.old) reply self.new.sending (asked_service self.new))) }
+        ensures words { IfOk result (λ reply. HasShortWords (head_view reply)) }
         ensures refused { IfErr result (λ fault. OrMemory (AnswersArchive D.sectors D.honest D.history (option_map (λ value. value.now) range.entry))
             (asked_service self.old) (refusal_of fault) (asked_service self.new)) }
     {
@@ -82,9 +118,31 @@ impl<D: Sectors + Drop> MapReplies<D> {
             return Err(RequestFault::NotFound);
         }
         match part_of(range, total) {
-            Part::Whole => self.whole_archive(total),
-            Part::Between { first, last } => self.archive_part(first, last, total),
+            Part::Whole => self.whole_archive(total, bare),
+            Part::Between { first, last } => self.archive_part(first, last, total, bare),
             Part::Beyond => Ok(parts::beyond(total)),
+        }
+    }
+
+    /// Reads more of what is being sent, from an offset on.
+    pub(crate) fn read_sent(&mut self, offset: u64, part: &mut [u8]) -> Result<(), ContentFault>
+        requires { offset + length part.old ≤ sending_size self.old }
+        ensures sending { self.new.sending ≡ self.old.sending }
+        ensures reads { ReadsOnly D.sectors D.honest D.history (asked_service self.old) (asked_service self.new) }
+        ensures size { sending_size self.new ≡ sending_size self.old }
+        ensures length { length part.new ≡ length part.old }
+        ensures bytes { (stored : Stored)
+            → IsUp (D.sectors (asked_service self.old).disk) (D.history (asked_service self.old).disk) stored (asked_service self.old)
+            → D.honest (asked_service self.new).disk → OnOk result (part.new
+            ≡ slice_range stored.archive (self.old.sending.first + offset) (self.old.sending.first + offset + length part.old)) }
+    {
+        if part.is_empty() {
+            return Ok(());
+        }
+        let _total = self.service.archive_len();
+        match self.service.archive_read(self.sending.first + offset, part) {
+            Ok(()) => Ok(()),
+            Err(_) => Err(ContentFault),
         }
     }
 }

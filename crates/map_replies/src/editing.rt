@@ -1,7 +1,7 @@
 //! Edits, as requests ask for them.
 ghost use Rattle.std.specs.Prelude.{◌≡◌, ◌⊎◌, [], IfOk, IfErr};
 ghost use Rattle.feature_model.specs.Data.{delete};
-ghost use Rattle.http_serve.specs.Reply.{reply_view, IsWritable};
+ghost use Rattle.http_serve.specs.Reply.{reply_view, IsWhole};
 ghost use Rattle.map_replies.specs.Bodies.{HasBodyFault};
 ghost use Rattle.map_replies.specs.Requests.{AnswersEdit, AnswersPut};
 ghost use Rattle.map_replies.specs.State.{asked_service};
@@ -18,7 +18,7 @@ impl<D: Sectors + Drop> MapReplies<D> {
     pub(crate) fn put(&mut self, id: u64, body: &[u8]) -> Result<Reply, RequestFault>
         ensures answered { IfOk result (λ reply. AnswersPut D.sectors D.honest D.history
             (asked_service self.old) id body.now (reply_view [] reply) (asked_service self.new)) }
-        ensures writable { IfOk result (IsWritable []) }
+        ensures writable { IfOk result IsWhole }
         ensures refused { IfErr result (λ fault. (asked_service self.new ≡ asked_service self.old)
             × ((fault ≡ RequestFault.Memory) ⊎ HasBodyFault body.now fault)) }
     {
@@ -37,7 +37,7 @@ impl<D: Sectors + Drop> MapReplies<D> {
     pub(crate) fn delete(&mut self, id: u64) -> Result<Reply, RequestFault>
         ensures answered { IfOk result (λ reply. AnswersEdit D.sectors D.honest D.history
             (delete id) (asked_service self.old) (reply_view [] reply) (asked_service self.new)) }
-        ensures writable { IfOk result (IsWritable []) }
+        ensures writable { IfOk result IsWhole }
         ensures refused { IfErr result (λ fault. (asked_service self.new ≡ asked_service self.old) × (fault ≡ RequestFault.Memory)) }
     {
         let Ok(text) = replies::outcome_space(self.alloc) else {

@@ -1,6 +1,6 @@
 //! Parts of the published archive, and the replies with them.
-ghost use Rattle.std.specs.Prelude.{◌≡◌, ◌<◌, [], option_map};
-ghost use Rattle.http_serve.specs.Reply.{reply_view, IsWritable};
+ghost use Rattle.std.specs.Prelude.{◌≡◌, ◌<◌, ◌≤◌, ℕ, List, [], option_map};
+ghost use Rattle.http_serve.specs.Reply.{content_bytes, reply_view, head_view, HasShortWords, IsWhole};
 ghost use Rattle.tile_service.specs.declared.fault.ServiceFault.TheVariants.{Device};
 ghost use Rattle.map_replies.specs.Parts.{range_for, IsPart, octets_type, range_word, part_reply};
 ghost use Rattle.map_replies.specs.Words.{text_type, service_refusal};
@@ -8,6 +8,7 @@ ghost use Rattle.map_replies.specs.Words.{text_type, service_refusal};
 use byte_range::byte_range;
 use http::StatusCode;
 use http_serve::{Content, ContentRange, Reply};
+use sector_disk::SECTOR_BYTES;
 use tile_routes::Method;
 
 /// Which bytes of the archive are told.
@@ -31,6 +32,11 @@ pub(crate) fn range_for(method: Method, range: Option<&[u8]>) -> Option<&[u8]>
     }
 }
 
+/// Whether a method is HEAD, whose replies are only heads.
+pub(crate) fn is_head(method: Method) -> bool {
+    matches!(method, Method::Head)
+}
+
 /// The part of so many bytes that a range asks for.
 pub(crate) fn part_of(range: Option<&[u8]>, total: u64) -> Part
     requires { 0 < total }
@@ -49,31 +55,49 @@ pub(crate) fn part_of(range: Option<&[u8]>, total: u64) -> Part
     }
 }
 
+/// Which bytes of the archive a reply has that is sent in parts.
+#[derive(Clone, Copy, Debug, PartialEq, Eq)]
+pub(crate) struct Sending {
+    /// The first one, counted from 0.
+    pub(crate) first: u64,
+    /// How many there are.
+    pub(crate) length: u64,
+}
+
+/// How many of so many bytes from an offset on are read before a reply is made: those of the first sector, if they are sent.
+pub(crate) fn begin_size(first: u64, length: u64, bare: bool) -> u64
+    ensures { result ≤ length }
+{
+    if bare {
+        return 0;
+    }
+    let sector = SECTOR_BYTES as u64;
+    (sector - first % sector).min(length)
+}
+
 /// The reply with the whole archive.
 #[tactic(auto, unfolding(crate::specs::Parts::octets_type))]
-pub(crate) fn whole(content: Vec<u8>) -> Reply
-    ensures reply { reply_view [] result ≡ part_reply Part.Whole 0 content.items }
-    ensures writable { IsWritable [] result }
+pub(crate) fn whole(content: Content) -> Reply
+    ensures reply { (bytes : List ℕ) → reply_view bytes result ≡ part_reply Part.Whole 0 (content_bytes bytes content) }
+    ensures content { result.content ≡ content }
+    ensures words { HasShortWords (head_view result) }
 {
-    Reply::plain(
-        StatusCode::OK,
-        Some("application/octet-stream"),
-        Content::Whole(content),
-    )
+    Reply::plain(StatusCode::OK, Some("application/octet-stream"), content)
 }
 
 /// The reply with a part of so many bytes.
 #[tactic(auto, unfolding(crate::specs::Parts::octets_type))]
-pub(crate) fn between(first: u64, last: u64, total: u64, content: Vec<u8>) -> Reply
-    ensures reply { reply_view [] result ≡ part_reply (Part.Between first last) total content.items }
-    ensures writable { IsWritable [] result }
+pub(crate) fn between(first: u64, last: u64, total: u64, content: Content) -> Reply
+    ensures reply { (bytes : List ℕ) → reply_view bytes result ≡ part_reply (Part.Between first last) total (content_bytes bytes content) }
+    ensures content { result.content ≡ content }
+    ensures words { HasShortWords (head_view result) }
 {
     Reply {
         status: StatusCode::PARTIAL_CONTENT,
         kind: Some("application/octet-stream"),
         range: Some(ContentRange::Part { first, last, total }),
         allow: None,
-        content: Content::Whole(content),
+        content,
     }
 }
 
@@ -81,7 +105,7 @@ pub(crate) fn between(first: u64, last: u64, total: u64, content: Vec<u8>) -> Re
 #[tactic(auto, unfolding(crate::specs::Words::text_type, crate::specs::Parts::range_word))]
 pub(crate) fn beyond(total: u64) -> Reply
     ensures reply { reply_view [] result ≡ part_reply Part.Beyond total [] }
-    ensures writable { IsWritable [] result }
+    ensures writable { IsWhole result }
 {
     Reply {
         status: StatusCode::RANGE_NOT_SATISFIABLE,
@@ -96,7 +120,7 @@ pub(crate) fn beyond(total: u64) -> Reply
 #[tactic(auto, unfolding(crate::specs::Words::text_type, crate::specs::Words::service_word))]
 pub(crate) fn unread() -> Reply
     ensures reply { reply_view [] result ≡ service_refusal Device }
-    ensures writable { IsWritable [] result }
+    ensures writable { IsWhole result }
 {
     Reply::plain(
         StatusCode::INTERNAL_SERVER_ERROR,

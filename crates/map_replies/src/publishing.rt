@@ -1,6 +1,6 @@
 //! Publications, as requests ask for them. Memory for the reply is taken first, so that what was done is always told.
 ghost use Rattle.std.specs.Prelude.{◌≡◌, [], IfOk, IfErr};
-ghost use Rattle.http_serve.specs.Reply.{reply_view, IsWritable};
+ghost use Rattle.http_serve.specs.Reply.{reply_view, IsWhole};
 ghost use Rattle.tile_service.specs.Machine.{begin, step};
 ghost use Rattle.map_replies.specs.Requests.{AnswersPublish, AnswersLeft, AnswersCancel};
 ghost use Rattle.map_replies.specs.State.{asked_service};
@@ -16,7 +16,7 @@ impl<D: Sectors + Drop> MapReplies<D> {
     pub(crate) fn publish(&mut self) -> Result<Reply, RequestFault>
         ensures answered { IfOk result (λ reply. AnswersPublish D.sectors D.honest D.history
             (asked_service self.old) (reply_view [] reply) (asked_service self.new)) }
-        ensures writable { IfOk result (IsWritable []) }
+        ensures writable { IfOk result IsWhole }
         ensures refused { IfErr result (λ fault. (asked_service self.new ≡ asked_service self.old) × (fault ≡ RequestFault.Memory)) }
     {
         let Ok(text) = replies::outcome_space(self.alloc) else {
@@ -30,7 +30,7 @@ impl<D: Sectors + Drop> MapReplies<D> {
     pub(crate) fn publish_begin(&mut self) -> Result<Reply, RequestFault>
         ensures answered { IfOk result (λ reply. AnswersLeft D.sectors D.honest D.history begin
             (asked_service self.old) (reply_view [] reply) (asked_service self.new)) }
-        ensures writable { IfOk result (IsWritable []) }
+        ensures writable { IfOk result IsWhole }
         ensures refused { IfErr result (λ fault. (asked_service self.new ≡ asked_service self.old) × (fault ≡ RequestFault.Memory)) }
     {
         let Ok(text) = replies::outcome_space(self.alloc) else {
@@ -44,7 +44,7 @@ impl<D: Sectors + Drop> MapReplies<D> {
     pub(crate) fn publish_step(&mut self) -> Result<Reply, RequestFault>
         ensures answered { IfOk result (λ reply. AnswersLeft D.sectors D.honest D.history step
             (asked_service self.old) (reply_view [] reply) (asked_service self.new)) }
-        ensures writable { IfOk result (IsWritable []) }
+        ensures writable { IfOk result IsWhole }
         ensures refused { IfErr result (λ fault. (asked_service self.new ≡ asked_service self.old) × (fault ≡ RequestFault.Memory)) }
     {
         let Ok(text) = replies::outcome_space(self.alloc) else {
@@ -58,7 +58,7 @@ impl<D: Sectors + Drop> MapReplies<D> {
     pub(crate) fn publish_cancel(&mut self) -> Result<Reply, RequestFault>
         ensures answered { IfOk result (λ reply. AnswersCancel D.sectors D.honest D.history
             (asked_service self.old) (reply_view [] reply) (asked_service self.new)) }
-        ensures writable { IfOk result (IsWritable []) }
+        ensures writable { IfOk result IsWhole }
         ensures refused { IfErr result (λ fault. (asked_service self.new ≡ asked_service self.old) × (fault ≡ RequestFault.Memory)) }
     {
         let Ok(text) = replies::outcome_space(self.alloc) else {

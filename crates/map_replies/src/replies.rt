@@ -1,6 +1,6 @@
 //! The replies of the service.
 ghost use Rattle.std.specs.Prelude.{◌≡◌, ◌≤◌, [], length, vec_capacity, IfOk, option_map};
-ghost use Rattle.http_serve.specs.Reply.{content_bytes, reply_view, FitsParts, IsWritable};
+ghost use Rattle.http_serve.specs.Reply.{content_bytes, reply_view, InParts, IsWhole};
 ghost use Rattle.map_replies.specs.Words.{fault_word, service_word, edit_word, full_word, fault_status, service_status, edit_status, edit_body, edit_reply};
 ghost use Rattle.map_replies.specs.Words.{service_refusal, not_allowed_reply, json_reply, empty_reply, outcome_reply, left_body, left_reply};
 ghost use Rattle.map_replies.specs.Words.{published_body, published_reply, cancel_reply};
@@ -64,7 +64,7 @@ fn service_word(text: Vec<u8>, fault: ServiceFault) -> Content
     requires empty { text.items ≡ [] }
     requires room { MOST_TEXT ≤ vec_capacity text }
     ensures word { content_bytes [] result ≡ service_word fault }
-    ensures whole { FitsParts [] result }
+    ensures whole { InParts result ⊥ }
 {
     match fault {
         ServiceFault::Broken => Content::Fixed(b"Broken\n"),
@@ -147,7 +147,7 @@ fn fault_status(fault: RequestFault) -> StatusCode
 #[tactic(auto, unfolding(crate::specs::Words::text_type))]
 pub(crate) fn refusal(fault: RequestFault) -> Reply
     ensures reply { reply_view [] result ≡ refusal_of fault }
-    ensures writable { IsWritable [] result }
+    ensures writable { IsWhole result }
 {
     Reply::plain(
         fault_status(fault),
@@ -162,7 +162,7 @@ fn service_refusal(text: Vec<u8>, fault: ServiceFault) -> Reply
     requires empty { text.items ≡ [] }
     requires room { MOST_TEXT ≤ vec_capacity text }
     ensures reply { reply_view [] result ≡ service_refusal fault }
-    ensures writable { IsWritable [] result }
+    ensures writable { IsWhole result }
 {
     Reply::plain(
         service_status(fault),
@@ -175,7 +175,7 @@ fn service_refusal(text: Vec<u8>, fault: ServiceFault) -> Reply
 #[tactic(auto, unfolding(crate::specs::Words::text_type, crate::specs::Words::method_word), using(crate::proofs::Texts::allow_short))]
 pub(crate) fn not_allowed(target: Target) -> Reply
     ensures reply { reply_view [] result ≡ not_allowed_reply (asked_of target) }
-    ensures writable { IsWritable [] result }
+    ensures writable { IsWhole result }
 {
     Reply {
         status: StatusCode::METHOD_NOT_ALLOWED,
@@ -190,7 +190,7 @@ pub(crate) fn not_allowed(target: Target) -> Reply
 #[tactic(auto, unfolding(crate::specs::Words::json_type))]
 pub(crate) fn json(text: Vec<u8>) -> Reply
     ensures reply { reply_view [] result ≡ json_reply text.items }
-    ensures writable { IsWritable [] result }
+    ensures writable { IsWhole result }
 {
     Reply::plain(
         StatusCode::OK,
@@ -202,7 +202,7 @@ pub(crate) fn json(text: Vec<u8>) -> Reply
 /// The reply with nothing to tell.
 pub(crate) fn empty() -> Reply
     ensures reply { reply_view [] result ≡ empty_reply }
-    ensures writable { IsWritable [] result }
+    ensures writable { IsWhole result }
 {
     Reply::plain(StatusCode::NO_CONTENT, None, Content::Empty)
 }
@@ -234,7 +234,7 @@ pub(crate) fn outcome(text: Vec<u8>, outcome: Result<u64, ServiceFault>) -> Repl
     requires empty { text.items ≡ [] }
     requires room { MOST_TEXT ≤ vec_capacity text }
     ensures reply { reply_view [] result ≡ outcome_reply outcome }
-    ensures writable { IsWritable [] result }
+    ensures writable { IsWhole result }
 {
     match outcome {
         Ok(number) => json(edit_body(text, number)),
@@ -261,7 +261,7 @@ pub(crate) fn left(text: Vec<u8>, outcome: Result<u64, ServiceFault>) -> Reply
     requires empty { text.items ≡ [] }
     requires room { MOST_TEXT ≤ vec_capacity text }
     ensures reply { reply_view [] result ≡ left_reply outcome }
-    ensures writable { IsWritable [] result }
+    ensures writable { IsWhole result }
 {
     match outcome {
         Ok(left) => json(left_body(text, left)),
@@ -292,7 +292,7 @@ pub(crate) fn published(text: Vec<u8>, outcome: Result<Published, ServiceFault>)
     requires empty { text.items ≡ [] }
     requires room { MOST_TEXT ≤ vec_capacity text }
     ensures reply { reply_view [] result ≡ published_reply outcome }
-    ensures writable { IsWritable [] result }
+    ensures writable { IsWhole result }
 {
     match outcome {
         Ok(published) => json(published_body(text, published)),
@@ -305,7 +305,7 @@ pub(crate) fn cancelled(text: Vec<u8>, outcome: Result<(), ServiceFault>) -> Rep
     requires empty { text.items ≡ [] }
     requires room { MOST_TEXT ≤ vec_capacity text }
     ensures reply { reply_view [] result ≡ cancel_reply outcome }
-    ensures writable { IsWritable [] result }
+    ensures writable { IsWhole result }
 {
     match outcome {
         Ok(()) => empty(),
@@ -338,7 +338,7 @@ fn format_content(alloc: Global, format: TileFormat, bytes: Vec<u8>) -> Result<V
 /// The reply with the bytes of a tile.
 fn some_tile(alloc: Global, format: TileFormat, bytes: Vec<u8>) -> Result<Reply, AllocError>
     ensures reply { IfOk result (λ reply. reply_view [] reply ≡ tile_reply format bytes.items) }
-    ensures writable { IfOk result (IsWritable []) }
+    ensures writable { IfOk result IsWhole }
 {
     let kind = format_type(format);
     let content = format_content(alloc, format, bytes)?;
@@ -352,7 +352,7 @@ pub(crate) fn tile(
     content: Option<Vec<u8>>,
 ) -> Result<Reply, AllocError>
     ensures reply { IfOk result (λ reply. reply_view [] reply ≡ content_reply format (option_map (λ bytes. bytes.items) content)) }
-    ensures writable { IfOk result (IsWritable []) }
+    ensures writable { IfOk result IsWhole }
 {
     match content {
         None => Ok(empty()),

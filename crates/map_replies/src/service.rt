@@ -1,18 +1,21 @@
 //! The replies of a map.
-ghost use Rattle.std.specs.Prelude.{◌≡◌, [], IfOk, IfErr, option_map};
+ghost use Rattle.std.specs.Prelude.{◌≡◌, ◌≢◌, ℕ, List, [], Option, IfOk, IfErr, option_map};
 ghost use Rattle.http_serve.specs.declared.connection.TheConstants.{MOST_READS};
 ghost use Rattle.http_serve.specs.Told.{IsServed, IsServedUpTo, HasContent, MeetsTurns, KeepsTurns, AnswersInput};
-ghost use Rattle.http_serve.specs.Reply.{reply_view, IsWritable};
+ghost use Rattle.http_serve.specs.Reply.{reply_view, head_view, HasShortWords, IsWhole};
+ghost use Rattle.tile_routes.specs.Paths.{asked_archive};
 ghost use Rattle.tile_routes.specs.Targets.{asked_of};
 ghost use Rattle.tile_routes.specs.Wanted.{wanted_view};
 ghost use Rattle.tile_service.specs.Runs.{TakesRun};
 ghost use Rattle.map_replies.specs.Requests.{AnswersOnFeature, AnswersAllowed, Answers};
 ghost use Rattle.map_replies.specs.Connections.{Run, no_events, Tells};
-ghost use Rattle.map_replies.specs.State.{asked_service, ServiceReplies};
+ghost use Rattle.map_replies.specs.Parts.{range_for};
+ghost use Rattle.map_replies.specs.Sending.{IsAnswer, IsSending, SendsWanted};
+ghost use Rattle.map_replies.specs.State.{asked_service, sending_size, ServiceReplies};
 ghost use Rattle.map_replies.specs.Words.{refusal_of};
 
 use crate::fault::RequestFault;
-use crate::parts::range_for;
+use crate::parts::{Sending, is_head, range_for};
 use crate::replies;
 use http_serve::{ContentFault, Handler, Reply, Request, ServeFault, Served, serve};
 use sector_disk::Sectors;
@@ -27,6 +30,8 @@ pub struct MapReplies<D: Sectors + Drop> {
     pub(crate) alloc: Global,
     routes: Routes,
     pub(crate) service: Service<D>,
+    /// What the last reply sends in parts.
+    pub(crate) sending: Sending,
 }
 
 impl<D: Sectors + Drop> MapReplies<D> {
@@ -40,6 +45,10 @@ impl<D: Sectors + Drop> MapReplies<D> {
             alloc,
             routes: Routes::new(alloc)?,
             service,
+            sending: Sending {
+                first: 0,
+                length: 0,
+            },
         })
     }
 
@@ -47,7 +56,7 @@ impl<D: Sectors + Drop> MapReplies<D> {
     fn on_feature(&mut self, id: u64, method: Method, body: &[u8]) -> Result<Reply, RequestFault>
         ensures answered { IfOk result (λ reply. AnswersOnFeature D.sectors D.honest D.history
             (asked_service self.old) id method body.now (reply_view [] reply) (asked_service self.new)) }
-        ensures writable { IfOk result (IsWritable []) }
+        ensures writable { IfOk result IsWhole }
         ensures refused { IfErr result (λ fault. AnswersOnFeature D.sectors D.honest D.history
             (asked_service self.old) id method body.now (refusal_of fault) (asked_service self.new)) }
     {
@@ -55,6 +64,32 @@ impl<D: Sectors + Drop> MapReplies<D> {
             Method::Put => self.put(id, body),
             Method::Delete => self.delete(id),
             Method::Get | Method::Head | Method::Post => self.feature(id),
+        }
+    }
+
+    /// What is wanted by a method that the path allows, where it isn't the archive.
+    fn allowed_but_archive(
+        &mut self,
+        target: Target,
+        method: Method,
+        body: &[u8],
+    ) -> Result<Reply, RequestFault>
+        requires other { asked_of target ≢ asked_archive }
+        ensures answered { IfOk result (λ reply. (range : Option (List ℕ)) → AnswersAllowed D.sectors D.honest D.history
+            (asked_service self.old) (asked_of target) method range body.now (reply_view [] reply) (asked_service self.new)) }
+        ensures writable { IfOk result IsWhole }
+        ensures refused { IfErr result (λ fault. (range : Option (List ℕ)) → AnswersAllowed D.sectors D.honest D.history
+            (asked_service self.old) (asked_of target) method range body.now (refusal_of fault) (asked_service self.new)) }
+    {
+        match target {
+            Target::Tile(at, format) => self.tile(at, format),
+            Target::Feature(id) => self.on_feature(id, method, body),
+            Target::Metadata => self.metadata(),
+            Target::Publish => self.publish(),
+            Target::PublishBegin => self.publish_begin(),
+            Target::PublishStep => self.publish_step(),
+            Target::PublishCancel => self.publish_cancel(),
+            Target::Archive | Target::Nothing => Err(RequestFault::NotFound),
         }
     }
 
@@ -66,22 +101,18 @@ impl<D: Sectors + Drop> MapReplies<D> {
         range: Option<&[u8]>,
         body: &[u8],
     ) -> Result<Reply, RequestFault>
-        ensures answered { IfOk result (λ reply. AnswersAllowed D.sectors D.honest D.history (asked_service self.old) (asked_of target) method
-            (option_map (λ value. value.now) range.entry) body.now (reply_view [] reply) (asked_service self.new)) }
-        ensures writable { IfOk result (IsWritable []) }
+        ensures answered { IfOk result (IsAnswer
+            (λ reply. AnswersAllowed D.sectors D.honest D.history (asked_service self.old) (asked_of target) method
+            (option_map (λ value. value.now) range.entry) body.now reply (asked_service self.new))
+            (λ reply. (asked_of target ≡ asked_archive) × IsSending D.sectors D.honest D.history
+            (range_for method (option_map (λ value. value.now) range.entry)) (asked_service self.old) reply self.new.sending (asked_service self.new))) }
+        ensures words { IfOk result (λ reply. HasShortWords (head_view reply)) }
         ensures refused { IfErr result (λ fault. AnswersAllowed D.sectors D.honest D.history (asked_service self.old) (asked_of target) method
             (option_map (λ value. value.now) range.entry) body.now (refusal_of fault) (asked_service self.new)) }
     {
         match target {
-            Target::Tile(at, format) => self.tile(at, format),
-            Target::Feature(id) => self.on_feature(id, method, body),
-            Target::Metadata => self.metadata(),
-            Target::Archive => self.archive(range_for(method, range)),
-            Target::Publish => self.publish(),
-            Target::PublishBegin => self.publish_begin(),
-            Target::PublishStep => self.publish_step(),
-            Target::PublishCancel => self.publish_cancel(),
-            Target::Nothing => Err(RequestFault::NotFound),
+            Target::Archive => self.archive(range_for(method, range), is_head(method)),
+            target => self.allowed_but_archive(target, method, body),
         }
     }
 
@@ -92,9 +123,12 @@ impl<D: Sectors + Drop> MapReplies<D> {
         range: Option<&[u8]>,
         body: &[u8],
     ) -> Result<Reply, RequestFault>
-        ensures answered { IfOk result (λ reply. Answers D.sectors D.honest D.history (asked_service self.old) (wanted_view wanted)
-            (option_map (λ value. value.now) range.entry) body.now (reply_view [] reply) (asked_service self.new)) }
-        ensures writable { IfOk result (IsWritable []) }
+        ensures answered { IfOk result (IsAnswer
+            (λ reply. Answers D.sectors D.honest D.history (asked_service self.old) (wanted_view wanted)
+            (option_map (λ value. value.now) range.entry) body.now reply (asked_service self.new))
+            (λ reply. SendsWanted D.sectors D.honest D.history (asked_service self.old) (wanted_view wanted)
+            (option_map (λ value. value.now) range.entry) reply self.new.sending (asked_service self.new))) }
+        ensures words { IfOk result (λ reply. HasShortWords (head_view reply)) }
         ensures refused { IfErr result (λ fault. Answers D.sectors D.honest D.history (asked_service self.old) (wanted_view wanted)
             (option_map (λ value. value.now) range.entry) body.now (refusal_of fault) (asked_service self.new)) }
     {
@@ -107,12 +141,13 @@ impl<D: Sectors + Drop> MapReplies<D> {
 }
 
 impl<D: Sectors + Drop> Handler for MapReplies<D> {
-    ghost use Rattle.map_replies.specs.State.{ServiceReplies};
+    ghost use Rattle.map_replies.specs.State.{ServiceReplies, ServiceSends, sending_size};
 
     ghost replies = { ServiceReplies D.sectors D.honest D.history };
 
-    // No content is read in parts.
-    ghost content = { λ _. [] };
+    ghost sends = { ServiceSends D.sectors D.honest D.history };
+
+    ghost size = { sending_size };
 
     fn answer(&mut self, request: &Request<'_>) -> Reply {
         let wanted = self.routes.wanted(request.method, request.path);
@@ -122,8 +157,8 @@ impl<D: Sectors + Drop> Handler for MapReplies<D> {
         }
     }
 
-    fn read_content(&mut self, _offset: u64, _part: &mut [u8]) -> Result<(), ContentFault> {
-        Err(ContentFault)
+    fn read_content(&mut self, offset: u64, part: &mut [u8]) -> Result<(), ContentFault> {
+        self.read_sent(offset, part)
     }
 }
 
@@ -141,7 +176,7 @@ pub fn serve_map<D: Sectors + Drop, R: Read, W: Write>(
         service.old (R.remaining reader.old) (W.contents writer.old) served service.new (R.remaining reader.new) (W.contents writer.new)) }
     ensures fault { IfErr result (λ fault. IsServedUpTo (ServiceReplies D.sectors D.honest D.history)
         service.old (R.remaining reader.old) (W.contents writer.old) fault service.new (R.remaining reader.new) (W.contents writer.new)) }
-    ensures whole { IfErr result (HasContent []) }
+    ensures content { IfErr result (HasContent (sending_size service.new)) }
     ensures turns { IfOk result (λ served. MeetsTurns MOST_READS (R.remaining reader.old) (R.remaining reader.new) served.end) }
     ensures reads { KeepsTurns MOST_READS result (R.remaining reader.old) (R.remaining reader.new) }
 

@@ -1,7 +1,7 @@
 //! What the map shows.
 ghost use Rattle.std.specs.Prelude.{◌≡◌, [], false, Some, IfOk, IfErr};
 ghost use Rattle.feature_model.specs.Data.{feature_data};
-ghost use Rattle.http_serve.specs.Reply.{reply_view, IsWritable};
+ghost use Rattle.http_serve.specs.Reply.{reply_view, IsWhole};
 ghost use Rattle.map_metadata.specs.Metadata.{IsMetadata};
 ghost use Rattle.serde_json.specs.Data.{Data};
 ghost use Rattle.serde_json.specs.View.{view};
@@ -26,7 +26,7 @@ use tile_routes::TileFormat;
 fn json_value(alloc: Global, value: &Value) -> Result<Reply, RequestFault>
     requires whole { has_float (view value.now) ≡ false }
     ensures reply { IfOk result (λ reply. reply_view [] reply ≡ json_reply (compact_text (view value.now))) }
-    ensures writable { IfOk result (IsWritable []) }
+    ensures writable { IfOk result IsWhole }
     ensures fault { IfErr result (λ fault. fault ≡ RequestFault.Memory) }
 {
     match value.to_vec(alloc) {
@@ -38,7 +38,7 @@ fn json_value(alloc: Global, value: &Value) -> Result<Reply, RequestFault>
 /// The reply with the feature of a number. Each feature of a map keeps the limits.
 fn feature_value(alloc: Global, id: u64, feature: &Feature) -> Result<Reply, RequestFault>
     ensures reply { IfOk result (λ reply. reply_view [] reply ≡ found_reply (Some (feature_data feature.now))) }
-    ensures writable { IfOk result (IsWritable []) }
+    ensures writable { IfOk result IsWhole }
     ensures fault { IfErr result (λ fault. fault ≡ RequestFault.Memory) }
 {
     let Ok(()) = check(id, feature) else {
@@ -55,7 +55,7 @@ impl<D: Sectors + Drop> MapReplies<D> {
     pub(crate) fn tile(&mut self, at: TileAt, format: TileFormat) -> Result<Reply, RequestFault>
         ensures answered { IfOk result (λ reply. AnswersTile
             (asked_service self.old) at.z at.x at.y format (reply_view [] reply) (asked_service self.new)) }
-        ensures writable { IfOk result (IsWritable []) }
+        ensures writable { IfOk result IsWhole }
         ensures refused { IfErr result (λ fault. (asked_service self.new ≡ asked_service self.old) × (fault ≡ RequestFault.Memory)) }
     {
         let Ok(content) = self.service.tile(at) else {
@@ -70,7 +70,7 @@ impl<D: Sectors + Drop> MapReplies<D> {
     /// The feature of a number.
     pub(crate) fn feature(&mut self, id: u64) -> Result<Reply, RequestFault>
         ensures answered { IfOk result (λ reply. AnswersFeature (asked_service self.old) id (reply_view [] reply) (asked_service self.new)) }
-        ensures writable { IfOk result (IsWritable []) }
+        ensures writable { IfOk result IsWhole }
         ensures refused { IfErr result (λ fault. OrMemory (λ before. AnswersFeature before id)
             (asked_service self.old) (refusal_of fault) (asked_service self.new)) }
     {
@@ -83,7 +83,7 @@ impl<D: Sectors + Drop> MapReplies<D> {
     /// The metadata of the map.
     pub(crate) fn metadata(&mut self) -> Result<Reply, RequestFault>
         ensures answered { IfOk result (λ reply. AnswersMetadata (asked_service self.old) (reply_view [] reply) (asked_service self.new)) }
-        ensures writable { IfOk result (IsWritable []) }
+        ensures writable { IfOk result IsWhole }
         ensures refused { IfErr result (λ fault. (asked_service self.new ≡ asked_service self.old) × (fault ≡ RequestFault.Memory)) }
     {
         match self.service.metadata() {

@@ -4,20 +4,26 @@ use Rattle.std.proofs.Common.{ap, subst, arith, append_assoc, length-append}
 use Rattle.std.proofs.lemmas.List.{append-nil}
 use Rattle.std.specs.Prelude.{IfSome, IfErr, OnOk}
 use Rattle.std.proofs.lemmas.Bool.{false≢true}
-use Rattle.sector_disk.specs.Disk.{History}
+use Rattle.sector_disk.specs.Disk.{History, seen}
 use Rattle.sector_disk.specs.Moments.{LeavesOnly}
 use Rattle.feature_model.specs.Data.{EditData}
 use Rattle.tile_service.specs.Machine.{EventData, edit, tile, begin, step, cancel, AnswerData, cancelled, refused, Steps, Runs}
 use Rattle.tile_service.specs.Runs.{all_edits, way_of, Way, Progress, starts, progress_of, NoneInDoubt, Reaches, TakesEvent, TakesEvents, TakesRun}
 use Rattle.tile_service.specs.Service.{PublicationView, ServiceView, Known, Publishes, IsUp, state_of, known_after, edit_answer, left_answer}
-use Rattle.tile_service.specs.Service.{EventLeaves, stored_after}
+use Rattle.tile_service.specs.Service.{EventLeaves, shown_archive, stored_after}
 use Rattle.tile_service.specs.Stored.{Stored, Keeps, last_of, with_edit}
 use Rattle.tile_service.specs.declared.fault.ServiceFault.{ServiceFault}
 use Rattle.tile_service.specs.declared.fault.ServiceFault.TheVariants.{Device}
+use Rattle.tile_service.proofs.Archives.{archive_is_shown}
 use Rattle.tile_service.proofs.Fits.{RunLeaves, IsHere, doubt_breaks, run_starts, run_goes_on, run_fits, reaches_on, published_within, sized_as}
 use Rattle.tile_service.proofs.Progress.{Within, IsSince, has_start, has_last, progress_on, progress_edits, way_seen, way_after}
 use Rattle.tile_service.proofs.Runs.{no_known, broken_stays, broken_halts, was_unbroken, kept_for, after_step, after_answer, broken_refuses}
 use Rattle.tile_service.proofs.Runs.{runs_on, writes_nothing}
+
+-- The image that is seen of a disk shows the archive of which the service goes on.
+pub archive_shown : {D : Type 0} (count : ℕ) (history : History) (stored : Stored) (service : ServiceView D) → IsUp count history stored service
+    → shown_archive (seen history) service ≡ stored.archive
+archive_shown count history stored service up = archive_is_shown count history stored service up
 
 module _ {D : Type 0} (sectors : D → ℕ) (honest : D → Type 0) (history : D → History) where
   -- What a service goes on from after a run: what is stored, and the publication that is under way.

@@ -1,10 +1,11 @@
 -- A service without where it lies in memory, and the disk that it stands on.
-use Rattle.std.specs.Prelude.{◌≡◌, ◌≢◌, ◌⊎◌, ◌<◌, ◌≤◌, ◌+◌, ◌-◌, ◌*◌, ◌^◌, ℕ, zero, suc, Bool, false, length, take}
+use Rattle.std.specs.Prelude.{◌≡◌, ◌≢◌, ◌⊎◌, ◌<◌, ◌≤◌, ◌+◌, ◌-◌, ◌*◌, ◌^◌, ℕ, zero, suc, List, Bool, false, length, take}
 use Rattle.std.specs.Prelude.{Option, Some, None, IfSome, option_map, Result, Ok, Err, Vec}
 use Rattle.std.proofs.Common.{Global}
 use Rattle.sector_disk.specs.Disk.{History, Image, HasFailed}
 use Rattle.sector_disk.specs.declared.disk.TheConstants.{SECTOR_BYTES}
-use Rattle.generations.specs.Areas.{area_sectors, sectors_of}
+use Rattle.sector_bytes.specs.Bytes.{bytes_from}
+use Rattle.generations.specs.Areas.{area_sectors, area_start, sectors_of}
 use Rattle.generations.specs.declared.root.Root.{Root}
 use Rattle.edit_journal.specs.Appends.{ring_of}
 use Rattle.edit_journal.specs.Releases.{IsCounted, IsBehind}
@@ -158,6 +159,12 @@ pub record IsUp {D : Type 0} (sectors : ℕ) (history : History) (stored : Store
   pub used_is : service.journal.used ≡ places_of (texts_of stored)
   pub last_is : service.journal.last ≡ last_of stored
   pub publication : IfSome service.publication (Publishes service.size stored history)
+
+-- the archive that an image shows for a service: so many bytes of the sectors behind the snapshot
+abbrev pub shown_archive : {D : Type 0} → Image → ServiceView D → List ℕ
+shown_archive image service =
+    take service.archive_len
+    (bytes_from image (area_start service.size service.generation + sectors_of service.snapshot_len) (sectors_of service.archive_len))
 
 -- ---- events and answers
 

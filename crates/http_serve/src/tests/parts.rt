@@ -1,14 +1,15 @@
 //! Contents that are read in parts.
 ghost use Rattle.std.specs.Prelude.{◌≡◌, ◌≤◌, ◌+◌, length, take, drop, OnOk, ⊤};
-ghost use Rattle.http_serve.specs.Reply.{IsWritable};
+ghost use Rattle.http_serve.specs.Reply.{FitsParts, HasShortWords, head_view};
 
 use super::Narrow;
-use crate::{
-    Content, ContentFault, End, Handler, PART_SIZE, Reply, Request, ServeFault, Served, serve,
-};
+use crate::{Content, ContentFault, End, Handler, Reply, Request, ServeFault, Served, serve};
 use http::StatusCode;
 use std::alloc::{AllocError, Global};
 use std::test::Fail;
+
+/// How many bytes of a content are read before its reply is made.
+const FIRST_SIZE: usize = 512;
 
 /// Answers each request with the same content, in parts. One read fails: the first one, or the one behind so many.
 #[derive(Drop)]
@@ -40,11 +41,12 @@ impl Download {
     /// The reply, whose first part is read now. A head is answered with no read.
     fn reply(&mut self, bare: bool) -> Reply
         ensures content { self.new.content ≡ self.old.content }
-        ensures writable { IsWritable self.new.content.items result }
+        ensures fits { FitsParts self.new.content.items result.content }
+        ensures writable { HasShortWords (head_view result) }
     {
         let kind = Some("text/plain");
         let length = self.content.len();
-        let size = if bare { 0 } else { length.min(PART_SIZE) };
+        let size = if bare { 0 } else { length.min(FIRST_SIZE) };
         let Ok(mut first) = vec![in self.alloc; 0; size] else {
             return Reply::plain(StatusCode::SERVICE_UNAVAILABLE, None, Content::Empty);
         };
@@ -59,7 +61,9 @@ impl Download {
 impl Handler for Download {
     ghost replies = { λ _ _ _ _. ⊤ };
 
-    ghost content = { λ download. download.content.items };
+    ghost sends = { λ _ _ _ _. ⊤ };
+
+    ghost size = { λ download. length download.content.items };
 
     fn answer(&mut self, request: &Request<'_>) -> Reply {
         self.reply(request.method == b"HEAD".as_slice())
@@ -73,14 +77,14 @@ impl Handler for Download {
 const GETS: &str = "GET /a HTTP/1.1\r\nhost: a\r\n\r\nGET /a HTTP/1.1\r\nhost: a\r\n\r\n";
 
 const LONG_HEAD: &str =
-    "HTTP/1.1 200 OK\r\ncontent-type: text/plain\r\ncontent-length: 1300\r\n\r\n";
+    "HTTP/1.1 200 OK\r\ncontent-type: text/plain\r\ncontent-length: 66560\r\n\r\n";
 
 const FAILED: &str = "HTTP/1.1 500 Internal Server Error\r\ncontent-length: 0\r\n\r\n";
 
-/// 1,300 bytes.
+/// 66,560 bytes.
 fn long_content(alloc: Global) -> Result<Vec<u8>, AllocError> {
     let mut content = Vec::new(alloc);
-    for i in 0..1_300u32 {
+    for i in 0..66_560u32 {
         content.push((i % 251) as u8)?;
     }
     Ok(content)
@@ -139,18 +143,18 @@ const DOWNLOADS: [(
     usize,
     Result<Served, ServeFault>,
 ); 4] = [
-    (None, [Some(1_300), Some(1_300)], 6, CLOSED),
-    (Some(0), [None, Some(1_300)], 4, CLOSED),
-    (Some(3), [Some(1_300), None], 4, CLOSED),
+    (None, [Some(66_560), Some(66_560)], 6, CLOSED),
+    (Some(0), [None, Some(66_560)], 4, CLOSED),
+    (Some(3), [Some(66_560), None], 4, CLOSED),
     (
         Some(5),
-        [Some(1_300), Some(1_024)],
+        [Some(66_560), Some(66_048)],
         6,
         Err(ServeFault::Content { requests: 1 }),
     ),
 ];
 
-/// Parts have 512 bytes, 512 and 276: three reads for each of two requests.
+/// Parts have 512 bytes, 65,536 and 512: three reads for each of two requests.
 #[test]
 fn contents_in_parts(rt: HostRuntime) -> Result<(), Fail> {
     for (fails, sizes, reads, result) in DOWNLOADS {
@@ -167,8 +171,8 @@ fn contents_in_parts(rt: HostRuntime) -> Result<(), Fail> {
 #[test]
 fn contents_that_are_cut(rt: HostRuntime) -> Result<(), Fail> {
     for (fails, room, size, result) in [
-        (Some(1), 9_999, 512, ServeFault::Content { requests: 0 }),
-        (Some(2), 9_999, 1_024, ServeFault::Content { requests: 0 }),
+        (Some(1), 99_999, 512, ServeFault::Content { requests: 0 }),
+        (Some(2), 99_999, 66_048, ServeFault::Content { requests: 0 }),
         (None, 1_000, 1_000, ServeFault::Write { requests: 0 }),
     ] {
         let room = LONG_HEAD.len().saturating_add(room);

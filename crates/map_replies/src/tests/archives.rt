@@ -1,9 +1,11 @@
 //! The published archive, whole and in parts.
-use super::{POINT, empty, exchange_with, refusal, request};
-use crate::MapReplies;
-use sector_disk::MemoryDisk;
+use super::{POINT, empty, exchange_with, refusal, request, tagged};
+use crate::{MapReplies, serve_map};
+use http_serve::{End, ServeFault, Served};
+use sector_disk::{FailingCalls, FaultyDisk, MemoryDisk, Sectors};
 use std::alloc::{AllocError, Global};
 use std::test::Fail;
+use tile_service::Service;
 
 /// A request for the archive with a field of a range.
 fn ranged(alloc: Global, method: &str, range: &str) -> Result<String, AllocError> {
@@ -103,5 +105,88 @@ fn a_range_behind_the_archive(rt: HostRuntime) -> Result<(), Fail> {
     let expected =
         b"HTTP/1.1 416 Range Not Satisfiable\r\ncontent-type: text/plain\r\ncontent-range: bytes */223\r\ncontent-length: 6\r\n\r\nRange\n";
     assert_eq!(rt; reply.as_slice(), expected.as_slice());
+    Ok(())
+}
+
+/// A service that was opened over a disk with an archive of two sectors, and of which these calls fail.
+fn opened(
+    alloc: Global,
+    failing: FailingCalls,
+) -> Result<MapReplies<FaultyDisk<MemoryDisk>>, Fail> {
+    let mut service = empty(alloc, 256)?;
+    reply_of(alloc, &mut service, tagged(alloc, 600)?.as_str())?;
+    reply_of(
+        alloc,
+        &mut service,
+        request(alloc, "POST", "/publish", "")?.as_str(),
+    )?;
+    let disk = FaultyDisk::new(service.service.into_disk(), failing);
+    let service = Service::open(alloc, disk).ok().ok_or("a service")?;
+    Ok(MapReplies::new(alloc, service)?)
+}
+
+/// What a service over any disk writes for a request, and how the connection ends.
+fn answers<D: Sectors + Drop>(
+    alloc: Global,
+    service: &mut MapReplies<D>,
+    asked: &str,
+) -> (Vec<u8>, Result<Served, ServeFault>) {
+    let mut out = Vec::new(alloc);
+    let mut reader = asked.as_bytes();
+    let result = serve_map(alloc, &mut reader, &mut out, service);
+    (out, result)
+}
+
+const NONE_FAIL: FailingCalls = FailingCalls::OneNotMade(0);
+
+const CLOSED: Result<Served, ServeFault> = Ok(Served {
+    requests: 1,
+    end: End::Closed,
+});
+
+/// The read that fails, counted from the download's first one, how many bytes of the archive are sent, and how it ends.
+const DOWNLOADS: [(u64, usize, Result<Served, ServeFault>); 2] = [
+    (2, 512, Err(ServeFault::Content { requests: 0 })),
+    (3, 838, CLOSED),
+];
+
+#[test]
+fn downloads_that_are_cut(rt: HostRuntime) -> Result<(), Fail> {
+    let alloc = rt.alloc();
+    let get = request(alloc, "GET", "/map.pmtiles", "")?;
+    let (whole, _) = answers(alloc, &mut opened(alloc, NONE_FAIL)?, get.as_str());
+    let before = opened(alloc, NONE_FAIL)?.service.into_disk().calls();
+    for (read, size, end) in DOWNLOADS {
+        let failing = FailingCalls::OneNotMade(before.saturating_add(read));
+        let (out, result) = answers(alloc, &mut opened(alloc, failing)?, get.as_str());
+        assert_eq!(rt; result, end, "read {read}");
+        let size = WHOLE.len().saturating_add(size);
+        assert_eq!(rt; Some(out.as_slice()), whole.get(..size), "read {read}");
+    }
+    Ok(())
+}
+
+#[test]
+fn downloads_that_do_not_begin(rt: HostRuntime) -> Result<(), Fail> {
+    let alloc = rt.alloc();
+    let get = request(alloc, "GET", "/map.pmtiles", "")?;
+    let before = opened(alloc, NONE_FAIL)?.service.into_disk().calls();
+    let failing = FailingCalls::OneNotMade(before.saturating_add(1));
+    let (out, result) = answers(alloc, &mut opened(alloc, failing)?, get.as_str());
+    let device = refusal(alloc, "500 Internal Server Error", "Device")?;
+    assert_eq!(rt; result, CLOSED);
+    assert_eq!(rt; out.as_slice(), device.as_bytes());
+    Ok(())
+}
+
+#[test]
+fn a_head_reads_nothing(rt: HostRuntime) -> Result<(), Fail> {
+    let alloc = rt.alloc();
+    let head = request(alloc, "HEAD", "/map.pmtiles", "")?;
+    let before = opened(alloc, NONE_FAIL)?.service.into_disk().calls();
+    let mut service = opened(alloc, NONE_FAIL)?;
+    let (out, _) = answers(alloc, &mut service, head.as_str());
+    assert_eq!(rt; out.len(), WHOLE.len());
+    assert_eq!(rt; service.service.into_disk().calls(), before);
     Ok(())
 }

@@ -68,8 +68,8 @@ returns-in-Err-answer_one-clause-err g c =
 
 pub returns-in-Err-answer_one-clause-content : goal.returns-in-Err-answer_one-clause-content
 returns-in-Err-answer_one-clause-content g c =
-    subst (λ (fault : ServeFault). HasContent (g.H.Handler.content c.answer_one.new.handler) fault) (sym c.after.ensures)
-    (cut_content (g.H.Handler.content c.answer_one.new.handler) c.requests.requests c.in-Err-answer_one.fault c.in-Err-answer_one.ensures.cut)
+    subst (λ (fault : ServeFault). HasContent (g.H.Handler.size c.answer_one.new.handler) fault) (sym c.after.ensures)
+    (cut_content (g.H.Handler.size c.answer_one.new.handler) c.requests.requests c.in-Err-answer_one.fault c.in-Err-answer_one.ensures.cut)
 
 pub returns-then-frame-clause-ok : goal.returns-then-frame-clause-ok
 returns-then-frame-clause-ok g c =

@@ -1,19 +1,16 @@
-use Rattle.std.proofs.Common.{◌-◌, ◌≡◌, ◌≤◌, length, take, drop}
-use Rattle.std.specs.Io.KnownBytes.{Appends}
-use Rattle.http_serve.specs.Requests.{RequestView}
-use Rattle.http_serve.specs.Reply.{ReplyView}
+use Rattle.std.proofs.Common.{◌-◌, ◌≡◌, ◌≤◌, length}
+use Rattle.http_serve.specs.declared.handlers.TheConstants.{PART_SIZE}
+use Rattle.http_serve.proofs.PartLemmas.{IsSentTo}
 use Rattle.http_serve.proofs.contents.send_parts.Given as goal
 
 abbrev pub invariant-loop-at : goal.invariant-loop-at
 invariant-loop-at g l = record {
   behind : l.offset ≤ l.at;
   within : l.at ≤ l.size;
-  length : length l.buffer ≡ 512;
-  content : g.H.Handler.content l.handler ≡ g.H.Handler.content l.fn.handler;
-  same : (old : g.row.H.Denot) (request : RequestView) (reply : ReplyView) → g.H.Handler.replies old request reply l.fn.handler
-      → g.H.Handler.replies old request reply l.handler;
-  written : Appends (g.W.Write.contents l.fn.writer) (g.W.Write.contents l.writer)
-      (take (l.at - l.offset) (drop l.offset (g.H.Handler.content l.fn.handler)));
+  length : length l.buffer ≡ PART_SIZE;
+  size : g.H.Handler.size l.handler ≡ l.size;
+  sent : IsSentTo g.H.Handler.replies g.H.Handler.sends l.offset l.at l.size l.fn.handler l.handler
+      (g.W.Write.contents l.fn.writer) (g.W.Write.contents l.writer);
 }
 
 abbrev pub decreases-loop-at : goal.decreases-loop-at
