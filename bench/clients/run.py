@@ -624,7 +624,7 @@ def in_front(cases, folder):
         cases.show("nginx: one of 65,537 doesn't", status_of(curl(url + "/features/9", "-X", "PUT", body="x" * 65537)), 413)
         reply = curl(url + "/publish", "-X", "POST")
         cases.show("nginx: a publication", (status_of(reply), reply[2]), (200, b'{"archive":223,"edits":5,"generation":1}'))
-        cases.show("nginx: the archive", curl(url + "/map.pmtiles")[2], archive())
+        cases.show("nginx: the archive", curl(url + "/map.pmtiles")[2] == archive(), True)
         reply = curl(url + "/map.pmtiles", "-H", "Range: bytes=0-6")
         cases.show("nginx: a part of it", (status_of(reply), field(reply, "content-range"), reply[2]), (206, "bytes 0-6/223", b"PMTiles"))
         reply = curl(url + "/map.pmtiles", "-X", "OPTIONS")
@@ -650,13 +650,15 @@ def crowd(cases, front, server):
     if not shutil.which("wrk"):
         cases.say("no wrk: fifty clients at once aren't tried")
         return
-    before = len(front.errors())
+    before, passed = len(front.errors()), len(server.lines())
     for name, path in [("a kept tile", "/map/0/0/0.mvt"), ("a feature, which is never kept", "/features/7")]:
         told = subprocess.run(["wrk", "-t", "2", "-c", "50", "-d", "3s", "--timeout", "10s", front.url + path], capture_output=True, text=True).stdout
         faults = [line.strip() for line in told.splitlines() if "Socket errors" in line or "Non-2xx" in line]
         count = re.search(r"(\d+) requests in", told)
         cases.show(f"wrk, fifty clients, {name}: no error", (faults, count is not None and int(count[1]) > 50), ([], True))
         cases.say(f"{count[1] if count else 'no'} requests in 3 seconds")
+        if path.startswith("/map/"):
+            cases.show("of those at most three reached the server", len(server.lines()) - passed <= 3, True)
     cases.show("nginx: no line in its log of errors meanwhile", front.errors()[before:], [])
     server.end(signal.SIGTERM)
     ends = {line.rpartition(", ")[2] for line in server.lines()[-1000:]}
