@@ -201,7 +201,8 @@ def routes(cases, folder):
         parts = [("0-6", 0, 7), ("0-126", 0, 127), ("00-000", 0, 1), ("200-999", 200, len(whole)), ("222-222", 222, 223)]
         for asked, first, end in parts:
             more = [("content-range", f"bytes {first}-{end - 1}/{len(whole)}")]
-            same(cases, f"bytes {asked} of it", curl(url + "/map.pmtiles", "-H", f"Range: bytes={asked}"), wanted(206, BYTES, whole[first:end], more=more))
+            reply = curl(url + "/map.pmtiles", "-H", f"Range: bytes={asked}")
+            same(cases, f"bytes {asked} of it", reply, wanted(206, BYTES, whole[first:end], more=more))
         beyond = refusal(416, "Range", more=[("content-range", f"bytes */{len(whole)}")])
         same(cases, "bytes behind its end", curl(url + "/map.pmtiles", "-H", f"Range: bytes={len(whole)}-999"), beyond)
         for asked in ["bytes=-5", "bytes=0-", "bytes=9-8", "bytes=0-1,3-4", "Bytes=0-1", "bytes = 0-1"]:
@@ -255,7 +256,9 @@ def refused_requests(cases, folder):
             ("two hosts", b"GET / HTTP/1.1\r\nhost: x\r\nhost: x\r\n\r\n", "Host"),
         ]:
             same(cases, f"{name} (a bare socket)", parsed(bare(server.port, sent)), refusal(400, word, closes=True))
-        for path in ["/", "/features", "/features/", "/features/07", "/features/9223372036854775808", "/map/17/0/0.mvt", "/map/1/2/0.mvt", "/map/0/0/0.png", "/map/00/0/0.mvt", "/features/%37", "/publish/"]:
+        features = ["/features", "/features/", "/features/07", "/features/9223372036854775808", "/features/%37"]
+        tiles = ["/map/17/0/0.mvt", "/map/1/2/0.mvt", "/map/0/0/0.png", "/map/00/0/0.mvt"]
+        for path in ["/", "/publish/", *features, *tiles]:
             same(cases, f"path {path}", curl(url + path), refusal(404, "NotFound"))
         for path, method, allowed in [
             ("/features/7", "POST", "DELETE, GET, HEAD, PUT"),
@@ -442,21 +445,24 @@ def gdal(cases, folder):
             kind, points, tags = made
             cases.show(f"feature {number}: its tags", shown["tags"], tags)
             cases.show(f"feature {number}: its {kind} to a unit of the world", near(shown["geometry"].get(kind), points, 1), True)
+        place = {"type": "Point", "coordinates": [1, 1]}
         unlike = {"type": "FeatureCollection", "features": [
             {"type": "Feature", "properties": {}, "geometry": None},
-            {"type": "Feature", "properties": {}, "geometry": {"type": "GeometryCollection", "geometries": [{"type": "Point", "coordinates": [1, 1]}]}},
+            {"type": "Feature", "properties": {}, "geometry": {"type": "GeometryCollection", "geometries": [place]}},
             {"type": "Feature", "properties": {}, "geometry": {"type": "Point", "coordinates": [0, 89]}},
-            {"type": "Feature", "properties": {"a": 1}, "geometry": {"type": "Point", "coordinates": [1, 1]}},
+            {"type": "Feature", "properties": {"a": 1}, "geometry": place},
         ]}
         path = os.path.join(folder, "unlike.geojson")
         with open(path, "w", encoding="utf-8") as file:
             json.dump(unlike, file)
         told = subprocess.run([*tool, path, "--layer", "more", "--first", "201", "--url", server.url], capture_output=True, text=True)
         lines = [line.split(":")[0] for line in told.stdout.splitlines()]
-        cases.show("import of what can't be put", (told.returncode, lines), (1, [f"feature {number} refused" for number in (201, 202, 203)] + ["1 taken, 3 refused"]))
+        refused = [f"feature {number} refused" for number in (201, 202, 203)]
+        cases.show("import of what can't be put", (told.returncode, lines), (1, [*refused, "1 taken, 3 refused"]))
         for kind, name in [("ESRI Shapefile", "lines.shp"), ("GPKG", "lines.gpkg")]:
             path = os.path.join(folder, name)
-            subprocess.run(["ogr2ogr", "-f", kind, "-t_srs", "EPSG:25832", path, survey, "-where", "name = 'a path'", "-nln", "lines"], check=True, capture_output=True)
+            made = ["ogr2ogr", "-f", kind, "-t_srs", "EPSG:25832", path, survey, "-where", "name = 'a path'", "-nln", "lines"]
+            subprocess.run(made, check=True, capture_output=True)
             told = subprocess.run([*tool, path, "--layer", "again", "--first", "301", "--url", server.url], capture_output=True, text=True)
             cases.show(f"import of {name}, in UTM", (told.returncode, told.stdout.splitlines()), (0, ["1 taken, 0 refused"]))
             shown = json.loads(curl(server.url + "/features/301")[2] or b"{}")
@@ -496,7 +502,8 @@ def read_by_gdal(cases, folder, server, layer, zoom, first):
     subprocess.run(["curl", "--silent", "--output", path, f"{server.url}/map/{zoom}/{column}/{row}.mvt"], check=True)
     place = ["-oo", f"X={column}", "-oo", f"Y={row}", "-oo", f"Z={zoom}"]
     listed = subprocess.run(["ogrinfo", "-ro", "-q", path, *place], capture_output=True, text=True)
-    cases.show(f"ogrinfo of tile {zoom}/{column}/{row} names the layer", (listed.returncode, re.search(rf"^\d+: {layer}\b", listed.stdout, re.M) is not None), (0, True))
+    named = re.search(rf"^\d+: {layer}\b", listed.stdout, re.M) is not None
+    cases.show(f"ogrinfo of tile {zoom}/{column}/{row} names the layer", (listed.returncode, named), (0, True))
     child = subprocess.run(["ogr2ogr", "-f", "GeoJSON", "/vsistdout/", path, layer, *place], capture_output=True, text=True)
     found = {row["properties"]["mvt_id"]: row for row in json.loads(child.stdout)["features"]} if child.returncode == 0 else {}
     seen = found.get(first, {"properties": {}, "geometry": {"coordinates": None}})
@@ -508,7 +515,7 @@ def read_by_gdal(cases, folder, server, layer, zoom, first):
     cases.show(f"ogr2ogr: the point to a step of zoom {zoom}, {step:.2f} m", near(place, metres, step), True)
     if zoom == 14:
         kinds = {number: row["geometry"]["type"].removeprefix("Multi") for number, row in found.items()}
-        cases.show("ogr2ogr: what is in the tile", {number: kinds.get(number) for number in (101, 103, 104, 105)}, {101: "Point", 103: "Point", 104: "LineString", 105: "Polygon"})
+        cases.show("ogr2ogr: what is in the tile", kinds, {101: "Point", 103: "Point", 104: "LineString", 105: "Polygon"})
         rings = found.get(105, {"geometry": {"coordinates": []}})["geometry"]["coordinates"]
         rings = rings[0] if rings and isinstance(rings[0][0][0], list) else rings
         cases.show("ogr2ogr: the polygon has its hole", [len(ring) for ring in rings], [5, 5])
@@ -524,7 +531,8 @@ def steps(cases, folder):
         same(cases, "a hundred features of 30 KB", reply, wanted(200, JSON, '{"edit":100}'))
         child = subprocess.Popen([*tool, server.url], stdout=subprocess.PIPE, stderr=subprocess.PIPE, text=True)
         first = [child.stdout.readline() for _ in range(3)]
-        same(cases, "an edit between two steps of publish.sh", curl(server.url + "/features/0", "-X", "PUT", body=feature(last=0)), wanted(200, JSON, '{"edit":101}'))
+        reply = curl(server.url + "/features/0", "-X", "PUT", body=feature(last=0))
+        same(cases, "an edit between two steps of publish.sh", reply, wanted(200, JSON, '{"edit":101}'))
         child.send_signal(signal.SIGTERM)
         rest, told = child.communicate(timeout=120)
         lines = "".join(first) + rest
