@@ -4,11 +4,11 @@ ghost use Rattle.http_listen.specs.Connections.{Connection, Serves};
 
 use crate::disks::opened_service;
 use crate::fault::CommandFault;
-use crate::files::closed_streams;
+use crate::files::{OpenedFile, opened_file};
 use clap::ArgMatches;
 use http_listen::{ListenFault, serve_on};
 use http_serve::Handler;
-use sector_disk::{FileDisk, Start};
+use sector_disk::Start;
 use std::io::{self, Write};
 use std::net::{Ipv4Addr, SocketAddr, TcpListener};
 
@@ -74,12 +74,7 @@ pub(crate) fn serve_port<S: Start>(
     asked: Listening,
     start: S,
 ) -> Result<(), CommandFault> {
-    let Ok(_streams) = closed_streams(rt) else {
-        return Err(CommandFault::File);
-    };
-    let Ok(disk) = FileDisk::open(rt, path, start) else {
-        return Err(CommandFault::File);
-    };
+    let OpenedFile { disk, held: _held } = opened_file(rt, path, start)?;
     match opened_service(rt.alloc(), disk) {
         Ok(service) => {
             let mut service = service;
