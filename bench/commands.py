@@ -1,5 +1,5 @@
 #!/usr/bin/env python3
-"""What the commands over a disk in a file do: `vtserve format` and `vtserve pipe`, each case by processes of its own.
+"""What the commands over a disk in a file do: `vtserve format`, `pipe`, `serve` and `export`, each case by processes of its own.
 
     python3 bench/commands.py [PROGRAM]       PROGRAM is crates/vtserve/out/vtserve, which `rt run` leaves there
 
@@ -11,6 +11,7 @@ import os
 import resource
 import shutil
 import signal
+import socket
 import subprocess
 import sys
 import tempfile
@@ -206,6 +207,121 @@ def fails(cases, folder):
     cases.show("another process: PUT", vtserve(["pipe", path], put(7)), (0, edit(1), b""))
 
 
+ARCHIVE = 223
+PUBLISH = b"POST /publish HTTP/1.1\r\nhost: x\r\n\r\n"
+DOWNLOAD = b"GET /map.pmtiles HTTP/1.1\r\nhost: x\r\n\r\n"
+
+
+def published(folder, name):
+    """A disk on which the map of one point is published, and its archive as a connection gives it."""
+    path = os.path.join(folder, name)
+    vtserve(["format", path, "--sectors", "64"])
+    vtserve(["pipe", path], put(7) + PUBLISH)
+    return path, vtserve(["pipe", path], DOWNLOAD)[1].partition(b"\r\n\r\n")[2]
+
+
+def exports(cases, folder):
+    """The archive into a file: whole, or not at all."""
+    disk, archive = published(folder, "published")
+    goal = os.path.join(folder, "map.pmtiles")
+    before = content(disk)[0]
+    cases.show("export of an archive", vtserve(["export", disk, goal]), (0, b"%d bytes\n" % ARCHIVE, b""))
+    cases.show("it is the one that a connection gives", (content(goal)[0], len(archive)), (archive, ARCHIVE))
+    cases.show("verify of it", vtserve(["verify", goal])[:2], (0, b"ok: 3 tiles, 2 entries, 1 contents\n"))
+    cases.show("the disk is left as it is", content(disk)[0] == before, True)
+    with open(goal, "wb") as file:
+        file.write(b"x" * 1000)
+    cases.show("export to a file that is there", vtserve(["export", disk, goal]), (0, b"%d bytes\n" % ARCHIVE, b""))
+    cases.show("it is replaced", content(goal)[0] == archive, True)
+    empty = os.path.join(folder, "unpublished")
+    vtserve(["format", empty, "--sectors", "64"])
+    lost = os.path.join(folder, "no", "map.pmtiles")
+    rows = [
+        ("of no archive, before the file is looked at", [empty, lost], b"NoArchive"),
+        ("of a missing disk", [os.path.join(folder, "none"), goal], b"File"),
+        ("into a folder that isn't there", [disk, lost], b"File"),
+        ("onto a folder", [disk, folder], b"File"),
+        ("onto the disk itself", [disk, disk], b"File"),
+        ("onto the disk itself by another path", [disk, os.path.join(folder, ".", "published")], b"File"),
+    ]
+    for name, names, fault in rows:
+        cases.show(f"export {name}", vtserve(["export", *names]), refusal(fault))
+    with open(goal + ".part", "wb") as file:
+        file.write(b"mine")
+    cases.show("export where a file has the name of its part", vtserve(["export", disk, goal]), refusal(b"File"))
+    cases.show("that file is left as it is", content(goal + ".part")[0], b"mine")
+    os.remove(goal + ".part")
+    cases.show("export where standard output is closed", vtserve(["export", disk, goal], preexec_fn=lambda: os.close(1)), refusal(b"Write"))
+    if shutil.which("strace"):
+        words = ["export", disk, goal]
+        with open(goal, "wb") as file:
+            file.write(b"old")
+        rows = [
+            ("write", goal + ".part", b"File", "a write"),
+            ("fsync", goal + ".part", b"File", "its sync"),
+            ("rename,renameat,renameat2", goal + ".part", b"File", "its renaming"),
+        ]
+        for call, at, fault, name in rows:
+            cases.show(f"export where {name} fails", failing(call, at, 1, words), refusal(fault))
+            cases.show("the goal is as it was, with nothing beside", (content(goal)[0], os.path.exists(goal + ".part")), (b"old", False))
+    cases.show("the disk is left as it is, and serves", (content(disk)[0] == before, vtserve(["pipe", disk], GET)), (True, (0, reply(TEXT, TILE), b"")))
+
+
+class Serving:
+    """A process that serves so many connections of a port."""
+
+    def __init__(self, disk, connections):
+        with socket.socket() as free:
+            free.bind(("127.0.0.1", 0))
+            self.port = free.getsockname()[1]
+        words = [PROGRAM, "serve", disk, "--port", str(self.port), "--connections", str(connections)]
+        self.child = subprocess.Popen(words, stdout=subprocess.PIPE, stderr=subprocess.PIPE)
+        self.line = self.child.stdout.readline()
+
+    def ask(self, requests, keeps_open=False):
+        """What a peer reads that sends these bytes, and then no more."""
+        with socket.create_connection(("127.0.0.1", self.port), timeout=60) as peer:
+            peer.sendall(requests)
+            if not keeps_open:
+                peer.shutdown(socket.SHUT_WR)
+            return b"".join(iter(lambda: peer.recv(65536), b""))
+
+    def end(self):
+        out, told = self.child.communicate(timeout=60)
+        return self.child.returncode, out, told
+
+
+def serves(cases, folder):
+    """Connections of a port."""
+    disk = os.path.join(folder, "served")
+    vtserve(["format", disk, "--sectors", "256"])
+    serving = Serving(disk, 4)
+    cases.show("serve says where it listens", serving.line, b"serving on 127.0.0.1:%d\n" % serving.port)
+    cases.show("a PUT of one connection", serving.ask(put(7)), edit(1))
+    cases.show("pipe of a disk that is served", vtserve(["pipe", disk], GET), refusal(b"File"))
+    cases.show("export of a disk that is served", vtserve(["export", disk, os.path.join(folder, "x.pmtiles")]), refusal(b"File"))
+    cases.show("serve of a disk that is served", vtserve(["serve", disk, "--port", "1", "--connections", "1"]), refusal(b"File"))
+    cases.show("the tile on the next", serving.ask(GET), reply(TEXT, TILE))
+    large = b"PUT /features/8 HTTP/1.1\r\nhost: x\r\ncontent-length: 3000000\r\n\r\n" + bytes(3000000)
+    cases.show("a body of 3 MB is refused, and the reply is read", serving.ask(large).split(b"\r\n")[0], b"HTTP/1.1 413 Payload Too Large")
+    cases.show("nothing on the last", serving.ask(b""), b"")
+    log = b"connection 1: 1 requests, closed\nconnection 2: 1 requests, closed\nconnection 3: 1 requests, refused\nconnection 4: 0 requests, closed\n"
+    cases.show("status 0, and a line for each connection", serving.end(), (0, b"", log))
+    cases.show("the edit is there", vtserve(["pipe", disk], GET), (0, reply(TEXT, TILE), b""))
+    with socket.socket() as taken:
+        taken.bind(("127.0.0.1", 0))
+        taken.listen()
+        words = ["serve", disk, "--port", str(taken.getsockname()[1]), "--connections", "1"]
+        cases.show("serve on a port in use", vtserve(words), refusal(b"Listen"))
+    serving = Serving(disk, 1)
+    with socket.create_connection(("127.0.0.1", serving.port), timeout=60) as peer:
+        peer.sendall(DELETE)
+        peer.recv(10)
+        serving.child.send_signal(signal.SIGKILL)
+    cases.show("DELETE, then killed", serving.end()[0], -signal.SIGKILL)
+    cases.show("it is gone", vtserve(["pipe", disk], GET), (0, EMPTY, b""))
+
+
 def words(cases, folder, disk):
     """Command lines that don't parse are status 2, before any file is touched."""
     path = os.path.join(folder, "unmade")
@@ -216,6 +332,12 @@ def words(cases, folder, disk):
         ["format", path, "--sectors", "x"],
         ["pipe"],
         ["pipe", disk, "64"],
+        ["export", disk],
+        ["export", disk, path, path],
+        ["serve", disk, "--port", "8080"],
+        ["serve", disk, "--port", "0", "--connections", "1"],
+        ["serve", disk, "--port", "65536", "--connections", "1"],
+        ["serve", disk, "--port", "8080", "--connections", "0"],
     ]
     for line in lines:
         status, out, told = vtserve(line)
@@ -233,6 +355,8 @@ def main():
         closed_streams(cases, folder)
         runs_out(cases, folder)
         fails(cases, folder)
+        exports(cases, folder)
+        serves(cases, folder)
         words(cases, folder, disk)
     return 1 if cases.differ else 0
 

@@ -62,7 +62,7 @@ module _ {D : Type 0} (sectors : D → ℕ) (honest : D → Type 0) (history : D
   -- since a first state of the service
   module _ (first : ServiceView D) where
     -- the service has come to this state by this run
-    abbrev GoesAlong : ServiceView D → Run → Type 0
+    abbrev pub GoesAlong : ServiceView D → Run → Type 0
     GoesAlong now run = HasRun sectors honest history first run.events run.answers now
 
     -- the run has gone on so, and the service with it
@@ -205,7 +205,8 @@ module _ {D : Type 0} (sectors : D → ℕ) (honest : D → Type 0) (history : D
     answered old told (not_allowed asked) range body reply new so is = stays old told _ new so is.0 is.1
     answered old told (allowed asked method) range body reply new so is = by_method old told asked method range body reply new so is
 
-  replied : (first old : MapReplies D) (told : Run) (request : RequestView) (reply : ReplyView) (new : MapReplies D)
+  -- one reply more
+  pub replied : (first old : MapReplies D) (told : Run) (request : RequestView) (reply : ReplyView) (new : MapReplies D)
       → GoesAlong (asked_service first) (asked_service old) told → ServiceReplies sectors honest history old request reply new
       → (run : Run) × Tells told request reply run × GoesAlong (asked_service first) (asked_service new) run
   replied first old told request reply new so is =

@@ -1,5 +1,5 @@
-mod Along
-mod Connections
+pub mod Along
+pub mod Connections
 mod PartLemmas
 mod SendingLemmas
 mod Texts

@@ -14,16 +14,23 @@ enum Words {
     DiskAndSectors,
     /// A path of a disk's file, a port and a count of connections by name.
     DiskAndPort,
+    /// The same, and a path of an archive's file.
+    DiskAndArchive,
     /// A path of an archive's file.
     Archive,
 }
 
 /// Each command with what it takes and what it does.
-const COMMANDS: [(&str, Words, &str); 6] = [
+const COMMANDS: [(&str, Words, &str); 7] = [
     (
         "demo",
         Words::Sectors,
         "Serves one connection on standard input and output, over an empty map in memory",
+    ),
+    (
+        "export",
+        Words::DiskAndArchive,
+        "Writes the archive that was published last on the disk in a file into another file",
     ),
     (
         "format",
@@ -63,6 +70,15 @@ fn path<'a>(alloc: Global, help: &'a str) -> Arg<'a> {
 /// A path of a disk's file.
 fn disk_path<'a>(alloc: Global) -> Arg<'a> {
     path(alloc, "A disk in a file").value_name("DISK")
+}
+
+/// A path of a file that is made or replaced.
+fn goal_path<'a>(alloc: Global) -> Arg<'a> {
+    Arg::new(alloc, "GOAL")
+        .value_name("FILE")
+        .required(true)
+        .action(ArgAction::Set)
+        .help("Where the tile archive (PMTiles 3) is written; a file that is there is replaced")
 }
 
 /// A count of sectors.
@@ -110,6 +126,7 @@ fn with_words<'a>(
             .arg(disk_path(alloc))?
             .arg(port(alloc))?
             .arg(connections(alloc)),
+        Words::DiskAndArchive => command.arg(disk_path(alloc))?.arg(goal_path(alloc)),
         Words::Archive => command.arg(path(alloc, "A tile archive (PMTiles 3)")),
     }
 }

@@ -69,7 +69,7 @@ fn check_size(sectors: u64) -> Result<(), StoreFault>
 }
 
 /// Syncs the folder of a path, so that the name outlives a crash.
-fn sync_folder<R: Files>(files: &R, path: &str) -> io::Result<()> {
+pub(crate) fn sync_folder<R: Files>(files: &R, path: &str) -> io::Result<()> {
     let folder = match Path::new(path).parent() {
         Some(folder) => folder.as_str(),
         None => "",

@@ -5,9 +5,11 @@ use http_serve::ServeFault;
 
 /// Why a command doesn't do what it was asked.
 pub(crate) enum CommandFault {
-    /// The file can't be opened or made, or its folder not be synced.
+    /// The file can't be opened or made, or its folder not be synced, or another process uses the disk in it.
     File,
-    /// The disk isn't ready for a service.
+    /// No archive was published.
+    NoArchive,
+    /// The disk isn't ready for a service, or can't be read.
     Store(StoreFault),
     /// What ended a connection.
     Connection(ServeFault),
@@ -22,6 +24,7 @@ impl CommandFault {
     pub(crate) fn name(self) -> &'static str {
         match self {
             CommandFault::File => "File",
+            CommandFault::NoArchive => "NoArchive",
             CommandFault::Store(fault) => store_fault_name(fault),
             CommandFault::Connection(fault) => serve_fault_name(fault),
             CommandFault::Listen => "Listen",

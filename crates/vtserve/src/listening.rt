@@ -1,14 +1,18 @@
 //! The command that serves the connections of a port.
 ghost use Rattle.std.specs.Prelude.{◌≡◌, ◌≤◌, List, length, IfSome, OnOk};
 ghost use Rattle.http_listen.specs.Connections.{Connection, Serves};
+ghost use Rattle.map_replies.specs.Connections.{Run, no_events, Tells};
+ghost use Rattle.map_replies.specs.State.{asked_service};
+ghost use Rattle.tile_service.specs.Runs.{TakesRun};
 
 use crate::disks::opened_service;
 use crate::fault::CommandFault;
-use crate::files::closed_streams;
+use crate::files::{OpenedFile, opened_file};
 use clap::ArgMatches;
-use http_listen::{ListenFault, serve_on};
-use http_serve::Handler;
-use sector_disk::{FileDisk, Start};
+use http_listen::ListenFault;
+use map_listen::serve_map_on;
+use map_replies::MapReplies;
+use sector_disk::{Sectors, Start};
 use std::io::{self, Write};
 use std::net::{Ipv4Addr, SocketAddr, TcpListener};
 
@@ -40,12 +44,13 @@ fn tell_port(rt: &HostRuntime, port: u16) -> io::Result<()> {
 }
 
 /// Serves the connections one after the other, with their log on standard error.
-fn serve_connections<H: Handler>(
+fn serve_connections<D: Sectors + Drop>(
     rt: &HostRuntime,
     asked: Listening,
-    handler: &mut H,
+    service: &mut MapReplies<D>,
 ) -> Result<(), CommandFault>
-    ensures all { OnOk result ((served : List Connection) × Serves H.replies handler.old served handler.new × (length served ≡ asked.connections)) }
+    ensures all { OnOk result ((served : List Connection) × (length served ≡ asked.connections) × (run : Run) × Serves Tells no_events served run
+        × TakesRun D.sectors D.honest D.history (asked_service service.old) run.events run.answers (asked_service service.new)) }
 {
     let Ok(listener) = TcpListener::bind(rt, SocketAddr::from((Ipv4Addr::LOCALHOST, asked.port)))
     else {
@@ -55,11 +60,11 @@ fn serve_connections<H: Handler>(
         return Err(CommandFault::Write);
     };
     let connections = u64::from(asked.connections);
-    match serve_on(
+    match serve_map_on(
         rt.alloc(),
         &listener,
         connections,
-        handler,
+        service,
         &mut rt.stderr(),
     ) {
         Ok(()) => Ok(()),
@@ -74,12 +79,7 @@ pub(crate) fn serve_port<S: Start>(
     asked: Listening,
     start: S,
 ) -> Result<(), CommandFault> {
-    let Ok(_streams) = closed_streams(rt) else {
-        return Err(CommandFault::File);
-    };
-    let Ok(disk) = FileDisk::open(rt, path, start) else {
-        return Err(CommandFault::File);
-    };
+    let OpenedFile { disk, held: _held } = opened_file(rt, path, start)?;
     match opened_service(rt.alloc(), disk) {
         Ok(service) => {
             let mut service = service;

@@ -4,6 +4,7 @@
 mod archives;
 mod commands;
 mod disks;
+mod exporting;
 mod fault;
 mod files;
 mod fresh;
@@ -13,6 +14,7 @@ mod serving;
 use archives::{show_file, verify_file};
 use clap::ArgMatches;
 use commands::command_line;
+use exporting::export_file;
 use fault::CommandFault;
 use files::{format_file, serve_file};
 use fresh::fresh_service;
@@ -59,6 +61,10 @@ fn run(rt: &HostRuntime, matches: &ArgMatches<'_>) -> anyhow::Result<ExitCode> {
     let sectors = words.get_one::<u64>("N").unwrap_or(0);
     match name {
         "demo" => ended(rt, demo(rt, sectors)),
+        "export" => ended(
+            rt,
+            export_file(rt, path, words.get_str("GOAL").unwrap_or(""), Unknown),
+        ),
         "format" => ended(rt, format_file(rt, path, sectors)),
         "pipe" => ended(rt, serve_file(rt, path, Unknown)),
         "serve" => match listening_of(words) {

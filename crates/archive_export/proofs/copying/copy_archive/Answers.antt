@@ -1,0 +1,26 @@
+use Rattle.std.proofs.Common.{◌≤◌, length, drop, arith, rules, ◌∙◌, length-append, length-drop}
+use Rattle.std.proofs.lemmas.List.{length-take-le}
+use Rattle.archive_export.proofs.Joined.{copies_more}
+use Rattle.archive_export.proofs.copying.copy_archive.Goals as goal
+
+pub loop-at-preserved : goal.loop-at-preserved
+loop-at-preserved g c =
+    let inv = c.loop-at.invariant in
+    let ok = c.in_ok-copy_piece.ensures in
+    let count = c.min-count.result in
+    let least = c.min-count.ensures in
+    let below = c.loop-at-test.true in
+    let fits : count ≤ length c.loop-at.piece = omega (arith, inv.length) in
+    let long = length-take-le count c.loop-at.piece fits in
+    record {
+      within = omega (arith, inv.within);
+      length = omega (arith, length-append c.copy_piece.new.piece (drop count c.loop-at.piece), length-drop count c.loop-at.piece, long, ok.length, inv.length);
+      same = search rules;
+      count = ok.count ∙ inv.count;
+      honest = λ honest. inv.honest (ok.honest honest);
+      history = λ honest. ok.history honest ∙ inv.history (ok.honest honest);
+      faults = ok.faults ∙ inv.faults;
+      copied = copies_more g.D.Sectors.sectors g.D.Sectors.honest g.D.Sectors.history c.args.service.now c.loop-at.service c.copy_piece.new.service
+          _ _ _ c.loop-at.at count _ long ok.honest inv.up inv.copied ok.copied;
+      up = λ stored was honest. ok.up stored (inv.up stored was (ok.honest honest)) honest;
+    }

@@ -1,0 +1,88 @@
+//! The archive, piece by piece.
+ghost use Rattle.std.specs.Prelude.{◌≡◌, ◌≤◌, ◌+◌, length, Ok, Err, OnOk};
+ghost use Rattle.archive_export.specs.Copies.{CopiesBytes, CopiesArchive};
+ghost use Rattle.archive_export.specs.declared.copying.CopyFault.TheVariants as faults;
+ghost use Rattle.sector_disk.specs.Disk.{HasFailed};
+ghost use Rattle.tile_service.specs.Service.{IsUp};
+ghost use Rattle.tile_service.specs.Stored.{Stored};
+
+use sector_disk::Sectors;
+use std::io::Write;
+use thiserror::Error;
+use tile_service::Service;
+
+/// How many bytes are read and written at once.
+const PIECE_SIZE: usize = 65_536;
+
+/// Why an archive wasn't copied whole.
+#[derive(Clone, Copy, Debug, PartialEq, Eq, Error)]
+pub enum CopyFault {
+    /// A read of the disk failed.
+    #[error("a read of the disk failed")]
+    Device,
+    /// A write failed.
+    #[error("a write failed")]
+    Write,
+}
+
+/// Reads the bytes of the archive from one on, as many as the piece has, and writes them.
+fn copy_piece<D: Sectors + Drop, W: Write>(
+    service: &mut Service<D>,
+    at: u64,
+    piece: &mut [u8],
+    into: &mut W,
+) -> Result<(), CopyFault>
+    requires within { at + length piece.old ≤ service.old.archive_len }
+    ensures same { service.new ≡ record service.old { disk = service.new.disk } }
+    ensures count { D.sectors service.new.disk ≡ D.sectors service.old.disk }
+    ensures honest { D.honest service.new.disk → D.honest service.old.disk }
+    ensures history { D.honest service.new.disk → D.history service.new.disk ≡ D.history service.old.disk }
+    ensures faults { OnOk result (D.faults service.new.disk ≡ D.faults service.old.disk) }
+    ensures failed { result ≡ Err faults.Device → HasFailed (D.faults service.old.disk) (D.faults service.new.disk) }
+    ensures length { length piece.new ≡ length piece.old }
+    ensures copied { OnOk result (CopiesBytes D.sectors D.honest D.history service.old at (length piece.old) service.new
+        (W.contents into.old) (W.contents into.new)) }
+    ensures up { (stored : Stored) → IsUp (D.sectors service.old.disk) (D.history service.old.disk) stored service.old → D.honest service.new.disk
+        → IsUp (D.sectors service.new.disk) (D.history service.new.disk) stored service.new }
+{
+    match service.archive_read(at, piece) {
+        Ok(()) => {}
+        Err(_) => return Err(CopyFault::Device),
+    }
+    match into.write_all(piece) {
+        Ok(()) => Ok(()),
+        Err(_) => Err(CopyFault::Write),
+    }
+}
+
+/// Writes the archive that was published last, and returns how many bytes it has: none where there is none. It takes no memory, writes
+/// nothing to the disk, and the service goes on as before.
+///
+/// # Errors
+///
+/// `Device` and `Write`. A first part of the archive may have been written then.
+pub fn copy_archive<D: Sectors + Drop, W: Write>(
+    service: &mut Service<D>,
+    into: &mut W,
+) -> Result<u64, CopyFault>
+    ensures size { OnOk result (result ≡ Ok service.old.archive_len) }
+    ensures copied { OnOk result (CopiesArchive D.sectors D.honest D.history service.old service.new (W.contents into.old) (W.contents into.new)) }
+    ensures same { service.new ≡ record service.old { disk = service.new.disk } }
+    ensures count { D.sectors service.new.disk ≡ D.sectors service.old.disk }
+    ensures honest { D.honest service.new.disk → D.honest service.old.disk }
+    ensures history { D.honest service.new.disk → D.history service.new.disk ≡ D.history service.old.disk }
+    ensures faults { OnOk result (D.faults service.new.disk ≡ D.faults service.old.disk) }
+    ensures failed { result ≡ Err faults.Device → HasFailed (D.faults service.old.disk) (D.faults service.new.disk) }
+    ensures up { (stored : Stored) → IsUp (D.sectors service.old.disk) (D.history service.old.disk) stored service.old → D.honest service.new.disk
+        → IsUp (D.sectors service.new.disk) (D.history service.new.disk) stored service.new }
+{
+    let size = service.archive_len();
+    let mut piece = [0; PIECE_SIZE];
+    let mut at = 0;
+    while at < size {
+        let count = (size - at).min(PIECE_SIZE as u64);
+        copy_piece(service, at, &mut piece[..count as usize], into)?;
+        at += count;
+    }
+    Ok(size)
+}

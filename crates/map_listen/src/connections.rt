@@ -1,0 +1,40 @@
+//! The connections of a listener to one map.
+ghost use Rattle.std.specs.Prelude.{◌≡◌, ◌<◌, List, length, OnOk, OnErr};
+ghost use Rattle.http_listen.specs.Connections.{Connection, Serves};
+ghost use Rattle.map_replies.specs.Connections.{Run, no_events, Tells};
+ghost use Rattle.map_replies.specs.State.{asked_service};
+ghost use Rattle.tile_service.specs.Runs.{TakesRun};
+
+use http_listen::{ListenFault, serve_on};
+use map_replies::MapReplies;
+use sector_disk::Sectors;
+use std::alloc::Global;
+use std::io::{Read, Write};
+use std::net::{OpenListener, OpenStream};
+
+/// Serves so many connections of a listener, one after the other, as `http_listen::serve_on` does.
+///
+/// # Errors
+///
+/// `Accept`, where a connection can't be accepted. Those before it were served.
+pub fn serve_map_on<D, L, W>(
+    alloc: Global,
+    listener: &L,
+    connections: u64,
+    service: &mut MapReplies<D>,
+    log: &mut W,
+) -> Result<(), ListenFault>
+where
+    D: Sectors + Drop,
+    L: OpenListener,
+    L::Stream: Read + Write + OpenStream,
+    W: Write,
+    // The replies of all connections, in order, tell one run of events. A crash at any moment leaves some first edits of it: all that
+    // were acknowledged by then, on whatever connection, and none asked for later.
+    ensures all { OnOk result ((served : List Connection) × (length served ≡ connections) × (run : Run) × Serves Tells no_events served run
+        × TakesRun D.sectors D.honest D.history (asked_service service.old) run.events run.answers (asked_service service.new)) }
+    ensures fewer { OnErr result ((served : List Connection) × (length served < connections) × (run : Run) × Serves Tells no_events served run
+        × TakesRun D.sectors D.honest D.history (asked_service service.old) run.events run.answers (asked_service service.new)) }
+{
+    serve_on(alloc, listener, connections, service, log)
+}

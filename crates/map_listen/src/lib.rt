@@ -1,0 +1,9 @@
+//! A map on a disk behind a listener: its connections, one after the other, are one run of events.
+#![tactic(auto)]
+
+mod connections;
+
+pub use connections::serve_map_on;
+
+#[cfg(test)]
+mod tests;

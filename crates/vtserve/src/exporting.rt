@@ -1,0 +1,90 @@
+//! The command that writes the published archive into a file.
+
+use crate::disks::sync_folder;
+use crate::fault::CommandFault;
+use crate::files::{OpenedFile, opened_file};
+use archive_export::{CopyFault, copy_archive};
+use generations::StoreFault;
+use sector_disk::{Sectors, Start};
+use std::fs::{self, File};
+use std::os::unix::fs::MetadataExt;
+use tile_service::Service;
+
+/// Whether two paths lead to one file.
+fn is_same_file(rt: &HostRuntime, path: &str, other: &str) -> bool {
+    match (fs::metadata(rt, path), fs::metadata(rt, other)) {
+        (Ok(file), Ok(other)) => file.dev() == other.dev() && file.ino() == other.ino(),
+        _ => false,
+    }
+}
+
+/// Copies the archive into a file, and syncs it: how many bytes it has.
+fn copy_into<D: Sectors + Drop>(service: &mut Service<D>, file: File) -> Result<u64, CommandFault> {
+    let mut file = file;
+    let size = match copy_archive(service, &mut file) {
+        Ok(size) => size,
+        Err(CopyFault::Device) => return Err(CommandFault::Store(StoreFault::Device)),
+        Err(CopyFault::Write) => return Err(CommandFault::File),
+    };
+    match file.sync_all() {
+        Ok(()) => Ok(size),
+        Err(_) => Err(CommandFault::File),
+    }
+}
+
+/// Gives a file another name, which outlives a crash. A file that has this name is replaced.
+fn rename(rt: &HostRuntime, part: &str, goal: &str) -> Result<(), CommandFault> {
+    if fs::rename(rt, part, goal).is_err() || sync_folder(rt, goal).is_err() {
+        return Err(CommandFault::File);
+    }
+    Ok(())
+}
+
+/// Writes the archive into a file beside its goal, where there is none, and then has it take the goal's name: how many bytes it
+/// has. A crash leaves what the goal was or the whole archive.
+fn write_beside<D: Sectors + Drop>(
+    rt: &HostRuntime,
+    service: &mut Service<D>,
+    goal: &str,
+) -> Result<u64, CommandFault> {
+    let Ok(part) = format!(in rt.alloc(); "{goal}.part") else {
+        return Err(CommandFault::Store(StoreFault::Memory));
+    };
+    let Ok(file) = File::create_new(rt, part.as_str()) else {
+        return Err(CommandFault::File);
+    };
+    let written = match copy_into(service, file) {
+        Ok(size) => rename(rt, part.as_str(), goal).map(|()| size),
+        Err(fault) => Err(fault),
+    };
+    if written.is_err() {
+        let _ = fs::remove_file(rt, part.as_str());
+    }
+    written
+}
+
+/// Writes the archive that was published last on the disk in a file, whatever the file had, into another file, and says how many
+/// bytes it has.
+pub(crate) fn export_file<S: Start>(
+    rt: &HostRuntime,
+    path: &str,
+    goal: &str,
+    start: S,
+) -> Result<(), CommandFault> {
+    let OpenedFile { disk, held: _held } = opened_file(rt, path, start)?;
+    let mut service = match Service::open(rt.alloc(), disk) {
+        Ok(service) => service,
+        Err((_, fault)) => return Err(CommandFault::Store(fault)),
+    };
+    if service.archive_len() == 0 {
+        return Err(CommandFault::NoArchive);
+    }
+    if is_same_file(rt, path, goal) {
+        return Err(CommandFault::File);
+    }
+    let size = write_beside(rt, &mut service, goal)?;
+    match println!(rt; "{size} bytes") {
+        Ok(()) => Ok(()),
+        Err(_) => Err(CommandFault::Write),
+    }
+}
