@@ -40,6 +40,7 @@ pub(crate) struct OpenedFile<S: Start> {
 }
 
 /// The files that stand for standard streams that were closed, and the one that is locked.
+#[derive(Drop)]
 pub(crate) struct Held {
     _streams: [File; 3],
     _lock: File,
