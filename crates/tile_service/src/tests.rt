@@ -9,6 +9,7 @@ mod openings;
 mod publication_stops;
 mod publications;
 mod published;
+mod rows;
 mod scripts;
 mod snapshots;
 mod stops;

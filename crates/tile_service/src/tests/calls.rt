@@ -1,10 +1,10 @@
-//! The calls of a service without their clauses: no test needs these, and its proof is much shorter without them. And rows of events with
-//! their answers, which a test asks for at once.
+//! The calls of a service without their clauses: no test needs these, and its proof is much shorter without them. And events with their
+//! answers, as tests write them.
 
-use super::archives::{Point, shown};
+use super::archives::{Point, points_to, shown};
 use super::point;
 use crate::{Answer, Event, Published, Service, ServiceFault};
-use feature_model::Feature;
+use feature_model::{Feature, Geometry, World};
 use hilbert_id::TileAt;
 use sector_disk::Sectors;
 use serde_json::Value;
@@ -15,6 +15,10 @@ use std::test::Fail;
 #[derive(Clone, Copy)]
 pub(crate) enum Ask {
     Put(u64, usize),
+    /// A point of zooms 0 to 16 with a tag of 1,000 letters: one tile of about 1,040 bytes for each zoom, 3 sectors and 17,949 bytes.
+    PutDeep(u64),
+    /// A line of 16,384 units up to zoom 5, which is shown from zoom 6 on.
+    PutHidden(u64),
     Delete(u64),
     Tile,
     Look(u64),
@@ -29,6 +33,8 @@ pub(crate) enum Told<'a> {
     Edited(u64),
     /// The tile of these points, or none where there is no point.
     Tile(&'a [Point]),
+    /// The tile of the points without a tag from 1 to a last number.
+    TileTo(u8),
     /// A point with so many letters.
     Point(usize),
     /// The number has no feature.
@@ -38,18 +44,39 @@ pub(crate) enum Told<'a> {
     Refused(ServiceFault),
 }
 
-/// The journal has too few places for an edit.
-pub(crate) fn full(need: u64, free: u64) -> Told<'static> {
-    Told::Refused(ServiceFault::JournalFull { need, free })
+fn deep_point(alloc: Global) -> Result<Feature, Fail> {
+    let mut deep = point(alloc, 1_000)?;
+    deep.maxzoom = 16;
+    let place = World {
+        x: 123_456_789,
+        y: 123_456_789,
+    };
+    deep.geometry = Geometry::Points(vec![in alloc; place]?);
+    Ok(deep)
+}
+
+fn hidden_line(alloc: Global) -> Result<Feature, Fail> {
+    let ends = [World { x: 0, y: 0 }, World { x: 16_384, y: 0 }];
+    let line = Vec::from_slice(alloc, &ends)?;
+    Ok(Feature {
+        layer: String::from_str(alloc, "l")?,
+        minzoom: 0,
+        maxzoom: 5,
+        geometry: Geometry::Lines(vec![in alloc; line]?),
+        tags: Vec::new(alloc),
+    })
+}
+
+fn put_event(id: u64, feature: Feature) -> Event {
+    Event::Put { id, feature }
 }
 
 fn event(alloc: Global, ask: Ask) -> Result<Event, Fail> {
     let at = TileAt::new(0, 0, 0).ok_or("a tile")?;
     match ask {
-        Ask::Put(id, letters) => {
-            let feature = point(alloc, letters)?;
-            Ok(Event::Put { id, feature })
-        }
+        Ask::Put(id, letters) => Ok(put_event(id, point(alloc, letters)?)),
+        Ask::PutDeep(id) => Ok(put_event(id, deep_point(alloc)?)),
+        Ask::PutHidden(id) => Ok(put_event(id, hidden_line(alloc)?)),
         Ask::Delete(id) => Ok(Event::Delete { id }),
         Ask::Tile => Ok(Event::Tile { at }),
         Ask::Look(id) => Ok(Event::Look { id }),
@@ -63,6 +90,7 @@ fn answer(alloc: Global, told: Told<'_>) -> Result<Answer, Fail> {
     match told {
         Told::Edited(number) => Ok(Answer::Edited(number)),
         Told::Tile(points) => Ok(Answer::Tile(shown(alloc, points)?)),
+        Told::TileTo(last) => Ok(Answer::Tile(shown(alloc, &points_to(alloc, last, 0)?)?)),
         Told::Point(letters) => Ok(Answer::Look(Some(point(alloc, letters)?))),
         Told::None => Ok(Answer::Look(None)),
         Told::Left(left) => Ok(Answer::Left(left)),

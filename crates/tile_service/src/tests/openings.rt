@@ -1,7 +1,8 @@
 //! Disks made ready and opened, and those that aren't.
 
-use super::calls::{Ask, Told, other_answer};
-use super::{begins, formatted, opened, root};
+use super::calls::{Ask, Told};
+use super::rows::{Row, other_row};
+use super::{begins, formatted, root};
 use crate::{Service, ServiceFault};
 use generations::{StoreFault, What, read_root};
 use sector_disk::{MemoryDisk, Sectors};
@@ -101,20 +102,20 @@ fn disks_that_are_no_service(rt: HostRuntime) -> Result<(), Fail> {
     Ok(())
 }
 
+const SPENT: &[Row] = &[
+    Row::Event(Ask::Put(1, 0), Told::Edited(u64::MAX)),
+    Row::Event(Ask::Put(2, 0), Told::Refused(ServiceFault::NumbersSpent)),
+    Row::Event(Ask::Delete(1), Told::Refused(ServiceFault::NumbersSpent)),
+    Row::Event(Ask::Delete(2), Told::Refused(ServiceFault::NotFound)),
+    Row::Crash,
+    Row::Event(Ask::Look(1), Told::Point(0)),
+];
+
 #[test]
 fn spent_numbers(rt: HostRuntime) -> Result<(), Fail> {
     let alloc = rt.alloc();
     let mut disk = formatted(alloc)?;
     let _ = disk.write(1, &root([0, u64::MAX - 1, 0, 0, 0]));
-    let mut service = opened(alloc, disk)?;
-    let rows = [
-        (Ask::Put(1, 0), Told::Edited(u64::MAX)),
-        (Ask::Put(2, 0), Told::Refused(ServiceFault::NumbersSpent)),
-        (Ask::Delete(1), Told::Refused(ServiceFault::NumbersSpent)),
-        (Ask::Delete(2), Told::Refused(ServiceFault::NotFound)),
-    ];
-    assert_eq!(rt; other_answer(alloc, &mut service, &rows)?, None);
-    let again = opened(alloc, service.into_disk())?;
-    assert!(rt; again.has(1));
+    assert_eq!(rt; other_row(alloc, disk, SPENT)?, None);
     Ok(())
 }

@@ -1,7 +1,6 @@
 //! A publication in which one call of the disk fails, and a crash after it.
 
 use super::archives::{archive_of, points_to, tile_of};
-use super::calls::{Ask, Told, other_answer};
 use super::publications::large_disk;
 use super::{archive, formatted, opened, point, publish};
 use crate::{Service, ServiceFault};
@@ -10,11 +9,21 @@ use sector_disk::{FailingCalls, FaultyDisk, MemoryDisk, Sectors};
 use std::alloc::Global;
 use std::test::Fail;
 
+/// Gives a number a point, and publishes the map.
+fn put_and_publish<D: Sectors + Drop>(
+    alloc: Global,
+    service: &mut Service<D>,
+    id: u64,
+) -> Result<(), Fail> {
+    let _ = service.ask_put(id, point(alloc, 0)?)?;
+    let _ = publish(alloc, service)?;
+    Ok(())
+}
+
 /// A disk on which feature 7 is published.
 fn with_archive(alloc: Global) -> Result<MemoryDisk, Fail> {
     let mut service = opened(alloc, formatted(alloc)?)?;
-    let _ = service.ask_put(7, point(alloc, 0)?)?;
-    let _ = publish(alloc, &mut service)?;
+    put_and_publish(alloc, &mut service, 7)?;
     Ok(service.into_disk())
 }
 
@@ -32,42 +41,63 @@ fn refused_by<D: Sectors + Drop>(
     ])
 }
 
+/// Adds feature 8, and publishes the map in one step: whether that fails as it should.
+fn step_fails<D: Sectors + Drop>(alloc: Global, service: &mut Service<D>) -> Result<bool, Fail> {
+    let _ = service.ask_put(8, point(alloc, 0)?)?;
+    let begun = service.ask_begin()?;
+    let step = service.ask_step();
+    Ok((begun, step) == (3, Err(ServiceFault::Device)))
+}
+
+/// Whether a service whose step failed has given the publication up, refuses what writes, and shows what it had.
+fn is_broken<D: Sectors + Drop>(alloc: Global, service: &mut Service<D>) -> Result<bool, Fail> {
+    let refused = refused_by(alloc, service)? == [Some(ServiceFault::Broken); 5];
+    Ok(refused && service.publication.is_none() && service.has(8) && service.archive_len() == 223)
+}
+
 /// The disk after feature 8 was added and published too, in one step that fails where these calls of the disk do. Opening takes calls
 /// 1 to 6, and the edit 7 and 8. The step writes a sector of the snapshot and one of the archive, syncs, writes the root, and syncs:
 /// these are 9 to 13.
 fn stopped(alloc: Global, failing_calls: FailingCalls) -> Result<MemoryDisk, Fail> {
     let faulty = FaultyDisk::new(with_archive(alloc)?, failing_calls);
     let mut service = opened(alloc, faulty)?;
-    let _ = service.ask_put(8, point(alloc, 0)?)?;
-    let begun = service.ask_begin()?;
-    let step = service.ask_step();
-    let broken = [Some(ServiceFault::Broken); 5];
-    if (begun, step) != (3, Err(ServiceFault::Device))
-        || service.publication.is_some()
-        || refused_by(alloc, &mut service)? != broken
-        || !service.has(8)
-        || service.archive_len() != 223
-    {
+    if !step_fails(alloc, &mut service)? || !is_broken(alloc, &mut service)? {
         return Err("the step doesn't break the service".into());
     }
     Ok(service.into_disk().into_disk())
 }
 
+/// Whether an archive is the new one, or else the old one.
+fn is_new_archive(alloc: Global, bytes: &[u8]) -> Result<bool, Fail> {
+    if bytes == archive_of(alloc, &[(7, 0), (8, 0)])?.as_slice() {
+        return Ok(true);
+    }
+    if bytes == archive_of(alloc, &[(7, 0)])?.as_slice() {
+        return Ok(false);
+    }
+    Err("neither archive".into())
+}
+
+/// Whether both features are there, and a publication brings the new archive.
+fn brings_the_new<D: Sectors + Drop>(
+    alloc: Global,
+    service: &mut Service<D>,
+) -> Result<bool, Fail> {
+    let both = service.has(7) && service.has(8);
+    let _ = publish(alloc, service)?;
+    let bytes = archive(alloc, service)?;
+    Ok(both && is_new_archive(alloc, &bytes)?)
+}
+
 /// Whether the new archive stands on a disk once it is opened again, or else the old one. Both features are there, and a publication
 /// brings the new archive.
 fn is_new(alloc: Global, disk: MemoryDisk) -> Result<bool, Fail> {
-    let old = archive_of(alloc, &[(7, 0)])?;
-    let new = archive_of(alloc, &[(7, 0), (8, 0)])?;
     let mut service = opened(alloc, disk)?;
-    if !service.has(7) || !service.has(8) {
+    let stands = archive(alloc, &mut service)?;
+    if !brings_the_new(alloc, &mut service)? {
         return Err("an edit is lost".into());
     }
-    let stands = archive(alloc, &mut service)?;
-    let _ = publish(alloc, &mut service)?;
-    if archive(alloc, &mut service)? != new || (stands != old && stands != new) {
-        return Err("neither archive".into());
-    }
-    Ok(stands == new)
+    is_new_archive(alloc, &stands)
 }
 
 /// For each unsynced sector, which of its writes a crash leaves. Two are unsynced at most.
@@ -117,15 +147,23 @@ fn stopped_at_each_call_of_a_step(rt: HostRuntime) -> Result<(), Fail> {
     Ok(())
 }
 
+/// Publishes the map with feature 8, and gives up a second publication.
+fn publish_and_cancel<D: Sectors + Drop>(
+    alloc: Global,
+    service: &mut Service<D>,
+) -> Result<(), Fail> {
+    put_and_publish(alloc, service, 8)?;
+    let _ = service.ask_begin()?;
+    service.ask_cancel()?;
+    Ok(())
+}
+
 #[test]
 fn calls_of_a_publication(rt: HostRuntime) -> Result<(), Fail> {
     let alloc = rt.alloc();
     let faulty = FaultyDisk::new(with_archive(alloc)?, FailingCalls::OneNotMade(14));
     let mut service = opened(alloc, faulty)?;
-    assert_eq!(rt; service.ask_put(8, point(alloc, 0)?), Ok(2));
-    assert_eq!(rt; publish(alloc, &mut service)?.as_slice(), [3, 0].as_slice());
-    let rows = [(Ask::Begin, Told::Left(3)), (Ask::Cancel, Told::Cancelled)];
-    assert_eq!(rt; other_answer(alloc, &mut service, &rows)?, None);
+    publish_and_cancel(alloc, &mut service)?;
     assert_eq!(rt; service.into_disk().calls(), 13);
     Ok(())
 }
@@ -151,13 +189,21 @@ fn stopped_from(alloc: Global, disk: MemoryDisk, call: u64) -> Result<(u64, Memo
     Err("no step fails".into())
 }
 
+fn corner_tile(service: &mut Service<MemoryDisk>) -> Result<Option<Vec<u8>>, Fail> {
+    let at = TileAt::new(0, 0, 0).ok_or("a tile")?;
+    Ok(service.ask_tile(at)?)
+}
+
+fn large_tile(alloc: Global) -> Result<Vec<u8>, Fail> {
+    tile_of(alloc, &points_to(alloc, 62, 1_000)?)
+}
+
 /// Whether the disk shows all points, and how many bytes its archive has.
 fn large_shown(alloc: Global, disk: MemoryDisk) -> Result<(bool, u64), Fail> {
-    let at = TileAt::new(0, 0, 0).ok_or("a tile")?;
     let mut service = opened(alloc, disk)?;
-    let tile = tile_of(alloc, &points_to(alloc, 62, 1_000)?)?;
-    let shown = service.ask_tile(at)? == Some(tile);
-    Ok((shown, service.archive_len()))
+    let tile = corner_tile(&mut service)?;
+    let len = service.archive_len();
+    Ok((tile == Some(large_tile(alloc)?), len))
 }
 
 /// Calls of the publication, the step that makes each, and how long the archive is where that call isn't made, by whether a crash

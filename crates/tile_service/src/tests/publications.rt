@@ -1,14 +1,27 @@
 //! Publications by steps, over disks in memory of 64 sectors: 16 of the journal, and two areas of 22, the second of them at 41.
 
-use super::archives::{Point, archive_of, points_to};
-use super::calls::{Ask, Told, full, other_answer};
+use super::archives::{Point, points_to};
+use super::calls::{Ask, Told};
+use super::rows::{Row, other_row, other_row_from_empty};
 use super::{archive, begins, formatted, opened, point, publish, root, sector_at};
 use crate::{Published, Service, ServiceFault};
 use feature_model::{Feature, Geometry, World};
-use pm_archive::{Archive, Report};
+use pm_archive::Archive;
 use sector_disk::{MemoryDisk, Sectors};
 use std::alloc::Global;
 use std::test::Fail;
+
+/// Adds these features, in this order.
+fn put_points<D: Sectors + Drop>(
+    alloc: Global,
+    service: &mut Service<D>,
+    points: &[Point],
+) -> Result<(), Fail> {
+    for (id, letters) in points {
+        let _ = service.ask_put(u64::from(*id), point(alloc, usize::from(*letters))?)?;
+    }
+    Ok(())
+}
 
 /// The service of a disk to which these features are added, in this order.
 pub(crate) fn with_points(
@@ -17,9 +30,7 @@ pub(crate) fn with_points(
     points: &[Point],
 ) -> Result<Service<MemoryDisk>, Fail> {
     let mut service = opened(alloc, disk)?;
-    for (id, letters) in points {
-        let _ = service.ask_put(u64::from(*id), point(alloc, usize::from(*letters))?)?;
-    }
+    put_points(alloc, &mut service, points)?;
     Ok(service)
 }
 
@@ -29,58 +40,14 @@ fn service_with(alloc: Global, points: &[Point]) -> Result<Service<MemoryDisk>, 
 }
 
 #[test]
-fn a_point_is_published(rt: HostRuntime) -> Result<(), Fail> {
+fn a_published_point_is_judged(rt: HostRuntime) -> Result<(), Fail> {
     let alloc = rt.alloc();
     let mut service = service_with(alloc, &[(7, 0)])?;
-    assert_eq!(rt; publish(alloc, &mut service)?.as_slice(), [3, 0].as_slice());
+    let _ = publish(alloc, &mut service)?;
     let bytes = archive(alloc, &mut service)?;
-    assert_eq!(rt; bytes.len(), 223);
-    assert_eq!(rt; bytes, archive_of(alloc, &[(7, 0)])?);
     let report = Archive::open(alloc, bytes.as_slice())?.verify(alloc)?;
-    assert_eq!(rt;
-        report,
-        Report {
-            tiles: 3,
-            entries: 2,
-            contents: 1
-        }
-    );
-    Ok(())
-}
-
-#[test]
-fn the_second_publication_takes_the_other_area(rt: HostRuntime) -> Result<(), Fail> {
-    let alloc = rt.alloc();
-    let mut service = service_with(alloc, &[(7, 0)])?;
-    let _ = publish(alloc, &mut service)?;
-    assert_eq!(rt; service.ask_put(8, point(alloc, 0)?), Ok(2));
-    let _ = publish(alloc, &mut service)?;
-    let both = archive_of(alloc, &[(7, 0), (8, 0)])?;
-    assert_eq!(rt; archive(alloc, &mut service)?, both);
-    let mut disk = service.into_disk();
-    assert_eq!(rt; sector_at(&mut disk, 2), root([1, 1, 1, 25, 223]));
-    assert_eq!(rt; sector_at(&mut disk, 1), root([2, 2, 2, 50, 234]));
-    Ok(())
-}
-
-#[test]
-fn a_publication_as_one_call(rt: HostRuntime) -> Result<(), Fail> {
-    let alloc = rt.alloc();
-    let mut service = service_with(alloc, &[(7, 0)])?;
-    let published = Published {
-        generation: 1,
-        edits: 1,
-        archive_len: 223,
-    };
-    assert_eq!(rt; service.ask_publish(), Ok(published));
-    assert_eq!(rt;
-        archive(alloc, &mut service)?,
-        archive_of(alloc, &[(7, 0)])?
-    );
-    // It leaves the one that is under way.
-    assert_eq!(rt; service.ask_begin(), Ok(3));
-    assert_eq!(rt; service.ask_publish(), Err(ServiceFault::Busy));
-    assert_eq!(rt; service.ask_step(), Ok(0));
+    let found = (report.tiles, report.entries, report.contents);
+    assert_eq!(rt; found, (3, 2, 1));
     Ok(())
 }
 
@@ -91,26 +58,6 @@ pub(crate) fn large_disk(alloc: Global) -> Result<MemoryDisk, Fail> {
     let _ = Service::format(&mut disk);
     let service = with_points(alloc, disk, &points_to(alloc, 62, 1_000)?)?;
     Ok(service.into_disk())
-}
-
-#[test]
-fn steps_of_64_sectors(rt: HostRuntime) -> Result<(), Fail> {
-    let alloc = rt.alloc();
-    let mut service = opened(alloc, large_disk(alloc)?)?;
-    assert_eq!(rt;
-        publish(alloc, &mut service)?.as_slice(),
-        [131, 67, 3, 0].as_slice()
-    );
-    let bytes = archive_of(alloc, &points_to(alloc, 62, 1_000)?)?;
-    assert_eq!(rt; archive(alloc, &mut service)?, bytes);
-    let left = service.into_disk().crash(&[])?;
-    let mut again = opened(alloc, left)?;
-    let rows = [(Ask::Look(62), Told::Point(1_000))];
-    assert_eq!(rt; other_answer(alloc, &mut again, &rows)?, None);
-    assert_eq!(rt; archive(alloc, &mut again)?, bytes);
-    let mut disk = again.into_disk();
-    assert_eq!(rt; sector_at(&mut disk, 2), root([1, 62, 186, 63_860, 2_166]));
-    Ok(())
 }
 
 /// The head and the body of edit 16, which gives the number 16 a point with 467 letters.
@@ -127,26 +74,18 @@ fn two_parts(alloc: Global) -> Result<([u8; 512], [u8; 512]), Fail> {
     Ok((begins(&head[..end]), begins(&body)))
 }
 
-#[test]
-fn a_publication_frees_the_journal(rt: HostRuntime) -> Result<(), Fail> {
-    let alloc = rt.alloc();
-    let points = points_to(alloc, 15, 0)?;
-    let mut service = service_with(alloc, &points)?;
-    let none = ServiceFault::JournalFull { need: 2, free: 1 };
-    assert_eq!(rt; service.ask_put(16, point(alloc, 467)?), Err(none));
-    assert_eq!(rt; publish(alloc, &mut service)?.as_slice(), [3, 0].as_slice());
-    let bytes = archive(alloc, &mut service)?;
-    assert_eq!(rt; bytes.len(), 380);
-    assert_eq!(rt; bytes, archive_of(alloc, &points)?);
-    assert_eq!(rt; service.ask_put(16, point(alloc, 467)?), Ok(16));
+/// Publishes the features 1 to 15, and adds 16 then.
+fn publish_and_put<D: Sectors + Drop>(alloc: Global, service: &mut Service<D>) -> Result<(), Fail> {
+    put_points(alloc, service, &points_to(alloc, 15, 0)?)?;
+    let _ = publish(alloc, service)?;
+    let _ = service.ask_put(16, point(alloc, 467)?)?;
     Ok(())
 }
 
-/// A disk on which the features 1 to 15 are published, and 16 was added then.
+/// The disk then.
 fn freed(alloc: Global) -> Result<MemoryDisk, Fail> {
-    let mut service = service_with(alloc, &points_to(alloc, 15, 0)?)?;
-    let _ = publish(alloc, &mut service)?;
-    let _ = service.ask_put(16, point(alloc, 467)?)?;
+    let mut service = opened(alloc, formatted(alloc)?)?;
+    publish_and_put(alloc, &mut service)?;
     Ok(service.into_disk())
 }
 
@@ -154,241 +93,247 @@ fn freed(alloc: Global) -> Result<MemoryDisk, Fail> {
 fn an_edit_at_the_end_of_the_ring(rt: HostRuntime) -> Result<(), Fail> {
     let alloc = rt.alloc();
     // The head of edit 16 stands at place 15 of the journal, and its body at place 0.
-    let (head, body) = two_parts(alloc)?;
     let mut disk = freed(alloc)?;
-    assert_eq!(rt; sector_at(&mut disk, 2), root([1, 15, 15, 375, 380]));
-    assert_eq!(rt; sector_at(&mut disk, 18), head);
-    assert_eq!(rt; sector_at(&mut disk, 3), body);
-    let mut again = opened(alloc, disk.crash(&[])?)?;
-    let rows = [
-        (Ask::Look(15), Told::Point(0)),
-        (Ask::Look(16), Told::Point(467)),
-        (Ask::Put(17, 0), Told::Edited(17)),
-    ];
-    assert_eq!(rt; other_answer(alloc, &mut again, &rows)?, None);
+    let stands = (sector_at(&mut disk, 18), sector_at(&mut disk, 3));
+    assert!(rt; stands == two_parts(alloc)?);
     Ok(())
 }
 
-#[test]
-fn an_edit_between(rt: HostRuntime) -> Result<(), Fail> {
-    let alloc = rt.alloc();
-    let mut service = service_with(alloc, &[(7, 0)])?;
-    assert_eq!(rt; service.ask_begin(), Ok(3));
-    assert_eq!(rt; service.ask_put(8, point(alloc, 0)?), Ok(2));
-    assert_eq!(rt; service.archive_len(), 0);
-    let rows = [
-        (Ask::Step, Told::Left(0)),
-        (Ask::Tile, Told::Tile(&[(7, 0), (8, 0)])),
-    ];
-    assert_eq!(rt; other_answer(alloc, &mut service, &rows)?, None);
-    assert_eq!(rt;
-        archive(alloc, &mut service)?,
-        archive_of(alloc, &[(7, 0)])?
-    );
-    Ok(())
-}
-
-#[test]
-fn an_edit_between_outlives_a_crash(rt: HostRuntime) -> Result<(), Fail> {
-    let alloc = rt.alloc();
-    let mut service = service_with(alloc, &[(7, 0)])?;
-    let _ = service.ask_begin()?;
-    let _ = service.ask_put(8, point(alloc, 0)?)?;
-    let _ = service.ask_step()?;
-    let mut again = opened(alloc, service.into_disk().crash(&[])?)?;
-    assert_eq!(rt; archive(alloc, &mut again)?, archive_of(alloc, &[(7, 0)])?);
-    let rows = [
-        (Ask::Tile, Told::Tile(&[(7, 0), (8, 0)])),
-        (Ask::Put(9, 0), Told::Edited(3)),
-    ];
-    assert_eq!(rt; other_answer(alloc, &mut again, &rows)?, None);
-    Ok(())
-}
-
-/// A disk on which a publication of the features 1 to 9 was begun and ended, with 10 to 14 added between and 15 to 25 behind.
-fn with_edits_between(alloc: Global) -> Result<MemoryDisk, Fail> {
-    let mut service = service_with(alloc, &points_to(alloc, 9, 0)?)?;
-    let _ = service.ask_begin()?;
-    for id in 10..15 {
-        let _ = service.ask_put(id, point(alloc, 0)?)?;
-    }
-    let _ = service.ask_step()?;
-    for id in 15..26 {
-        let _ = service.ask_put(id, point(alloc, 0)?)?;
-    }
-    Ok(service.into_disk())
-}
-
-#[test]
-fn edits_between_keep_their_places(rt: HostRuntime) -> Result<(), Fail> {
-    let alloc = rt.alloc();
-    // Of the 16 places five were still in use, and eleven were free.
-    let mut again = opened(alloc, with_edits_between(alloc)?.crash(&[])?)?;
-    let all = points_to(alloc, 25, 0)?;
-    let rows = [(Ask::Tile, Told::Tile(&all)), (Ask::Put(26, 0), full(1, 0))];
-    assert_eq!(rt; other_answer(alloc, &mut again, &rows)?, None);
-    assert_eq!(rt; publish(alloc, &mut again)?.as_slice(), [4, 0].as_slice());
-    assert_eq!(rt; again.ask_put(26, point(alloc, 0)?), Ok(26));
-    Ok(())
-}
-
-#[test]
-fn an_empty_map(rt: HostRuntime) -> Result<(), Fail> {
-    let alloc = rt.alloc();
-    let mut service = service_with(alloc, &[])?;
-    assert_eq!(rt; publish(alloc, &mut service)?.as_slice(), [1, 0].as_slice());
-    assert_eq!(rt; service.archive_len(), 0);
-    let mut disk = service.into_disk();
-    assert_eq!(rt; sector_at(&mut disk, 2), root([1, 0, 0, 0, 0]));
-    Ok(())
-}
-
-#[test]
-fn no_tiles(rt: HostRuntime) -> Result<(), Fail> {
-    let alloc = rt.alloc();
-    let mut service = service_with(alloc, &[])?;
-    // A line of 16,384 units is shown from zoom 6 on.
-    let mut line = vec![in alloc; World { x: 0, y: 0 }]?;
-    line.push(World { x: 16_384, y: 0 })?;
-    let hidden = Feature {
+/// A line from edge to edge of the world, which has 65,536 tiles of zoom 16, none like its neighbour's.
+fn row_of_tiles(alloc: Global, y: u32) -> Result<Feature, Fail> {
+    let line = Vec::from_slice(alloc, &[World { x: 0, y }, World { x: u32::MAX, y }])?;
+    Ok(Feature {
         layer: String::from_str(alloc, "l")?,
-        minzoom: 0,
-        maxzoom: 5,
+        minzoom: 16,
+        maxzoom: 16,
         geometry: Geometry::Lines(vec![in alloc; line]?),
         tags: Vec::new(alloc),
-    };
-    assert_eq!(rt; service.ask_put(7, hidden), Ok(1));
-    assert_eq!(rt; publish(alloc, &mut service)?.as_slice(), [2, 0].as_slice());
-    assert_eq!(rt; service.archive_len(), 0);
-    let mut disk = service.into_disk();
-    assert_eq!(rt; sector_at(&mut disk, 2), root([1, 1, 1, 35, 0]));
-    Ok(())
+    })
 }
 
-/// A point of zooms 0 to 16 with a tag of 1,000 letters: one tile of about 1,040 bytes for each zoom, 3 sectors and 17,949 bytes.
-fn deep_point(alloc: Global) -> Result<Feature, Fail> {
-    let mut deep = point(alloc, 1_000)?;
-    deep.maxzoom = 16;
-    let place = World {
-        x: 123_456_789,
-        y: 123_456_789,
-    };
-    deep.geometry = Geometry::Points(vec![in alloc; place]?);
-    Ok(deep)
-}
-
-#[test]
-fn an_area_is_full(rt: HostRuntime) -> Result<(), Fail> {
-    let alloc = rt.alloc();
-    let mut service = service_with(alloc, &[(7, 0)])?;
-    let _ = publish(alloc, &mut service)?;
-    let _ = service.ask_delete(7)?;
-    let _ = service.ask_put(1, deep_point(alloc)?)?;
-    let rows = [
-        (
-            Ask::Begin,
-            Told::Refused(ServiceFault::AreaFull { need: 39, free: 22 }),
-        ),
-        (Ask::Step, Told::Refused(ServiceFault::Idle)),
-        (Ask::Put(2, 0), Told::Edited(4)),
-    ];
-    assert_eq!(rt; other_answer(alloc, &mut service, &rows)?, None);
-    assert_eq!(rt;
-        archive(alloc, &mut service)?,
-        archive_of(alloc, &[(7, 0)])?
-    );
-    let mut disk = service.into_disk();
-    assert_eq!(rt; sector_at(&mut disk, 1), root([0, 0, 0, 0, 0]));
-    assert_eq!(rt; sector_at(&mut disk, 2), root([1, 1, 1, 25, 223]));
-    Ok(())
-}
-
-#[test]
-fn generations_are_spent(rt: HostRuntime) -> Result<(), Fail> {
-    let alloc = rt.alloc();
-    let mut disk = formatted(alloc)?;
-    let last = root([u64::MAX, 0, 0, 0, 0]);
-    let _ = disk.write(2, &last);
-    let mut service = opened(alloc, disk)?;
-    let rows = [
-        (Ask::Begin, Told::Refused(ServiceFault::NumbersSpent)),
-        (Ask::Step, Told::Refused(ServiceFault::Idle)),
-        (Ask::Put(7, 0), Told::Edited(1)),
-        (Ask::Begin, Told::Refused(ServiceFault::NumbersSpent)),
-    ];
-    assert_eq!(rt; other_answer(alloc, &mut service, &rows)?, None);
-    let mut disk = service.into_disk();
-    assert_eq!(rt; sector_at(&mut disk, 1), root([0, 0, 0, 0, 0]));
-    assert_eq!(rt; sector_at(&mut disk, 2), last);
+/// Gives three numbers such a line.
+fn put_rows<D: Sectors + Drop>(alloc: Global, service: &mut Service<D>) -> Result<(), Fail> {
+    for (id, y) in [(1, 32_768), (2, 1_073_774_592), (3, 2_147_516_416)] {
+        let _ = service.ask_put(id, row_of_tiles(alloc, y)?)?;
+    }
     Ok(())
 }
 
 #[test]
 fn three_rows_of_tiles(rt: HostRuntime) -> Result<(), Fail> {
     let alloc = rt.alloc();
-    let mut service = service_with(alloc, &[])?;
-    // A line from edge to edge of the world has 65,536 tiles of zoom 16, and none has a tile like its neighbour's.
-    for (id, y) in [(1, 32_768), (2, 1_073_774_592), (3, 2_147_516_416)] {
-        let mut line = vec![in alloc; World { x: 0, y }]?;
-        line.push(World { x: u32::MAX, y })?;
-        let feature = Feature {
-            layer: String::from_str(alloc, "l")?,
-            minzoom: 16,
-            maxzoom: 16,
-            geometry: Geometry::Lines(vec![in alloc; line]?),
-            tags: Vec::new(alloc),
-        };
-        assert_eq!(rt; service.ask_put(id, feature), Ok(id));
-    }
+    let mut service = opened(alloc, formatted(alloc)?)?;
+    put_rows(alloc, &mut service)?;
     assert_eq!(rt; service.ask_begin(), Err(ServiceFault::TooManyTiles));
-    assert_eq!(rt; service.ask_step(), Err(ServiceFault::Idle));
+    Ok(())
+}
+
+/// An area holds no map with a deep point beside its archive: nothing is changed, and edits go on.
+const AN_AREA_IS_FULL: &[Row] = &[
+    Row::Event(Ask::Put(7, 0), Told::Edited(1)),
+    Row::Publish(&[3, 0]),
+    Row::Event(Ask::Delete(7), Told::Edited(2)),
+    Row::Event(Ask::PutDeep(1), Told::Edited(3)),
+    Row::Event(
+        Ask::Begin,
+        Told::Refused(ServiceFault::AreaFull { need: 39, free: 22 }),
+    ),
+    Row::Event(Ask::Step, Told::Refused(ServiceFault::Idle)),
+    Row::Event(Ask::Put(2, 0), Told::Edited(4)),
+    Row::Archive(&[(7, 0)]),
+    Row::Root(1, [0, 0, 0, 0, 0]),
+    Row::Root(2, [1, 1, 1, 25, 223]),
+];
+
+/// The edit between is in no archive, and is shown; a crash behind the publication changes nothing.
+const AN_EDIT_BETWEEN: &[Row] = &[
+    Row::Event(Ask::Put(7, 0), Told::Edited(1)),
+    Row::Event(Ask::Begin, Told::Left(3)),
+    Row::Event(Ask::Put(8, 0), Told::Edited(2)),
+    Row::ArchiveLen(0),
+    Row::Event(Ask::Step, Told::Left(0)),
+    Row::Event(Ask::Tile, Told::Tile(&[(7, 0), (8, 0)])),
+    Row::Archive(&[(7, 0)]),
+    Row::Crash,
+    Row::Archive(&[(7, 0)]),
+    Row::Event(Ask::Tile, Told::Tile(&[(7, 0), (8, 0)])),
+    Row::Event(Ask::Put(9, 0), Told::Edited(3)),
+];
+
+/// Fifteen edits fill the journal but for one place, until they are published. Edit 16 then stands at places 15 and 0.
+const THE_JOURNAL_IS_FREED: &[Row] = &[
+    Row::PutEach(1, 15),
+    Row::Event(Ask::Put(16, 467), NO_TWO_PLACES),
+    Row::Publish(&[3, 0]),
+    Row::ArchiveLen(380),
+    Row::ArchiveTo(15, 0),
+    Row::Event(Ask::Put(16, 467), Told::Edited(16)),
+    Row::Root(2, [1, 15, 15, 375, 380]),
+    Row::Crash,
+    Row::Event(Ask::Look(15), Told::Point(0)),
+    Row::Event(Ask::Look(16), Told::Point(467)),
+    Row::Event(Ask::Put(17, 0), Told::Edited(17)),
+];
+
+const NO_TWO_PLACES: Told<'static> = Told::Refused(ServiceFault::JournalFull { need: 2, free: 1 });
+
+/// Of the 16 places five are still in use behind the publication, and eleven are free.
+const EDITS_BETWEEN_KEEP_THEIR_PLACES: &[Row] = &[
+    Row::PutEach(1, 9),
+    Row::Event(Ask::Begin, Told::Left(3)),
+    Row::PutEach(10, 14),
+    Row::Event(Ask::Step, Told::Left(0)),
+    Row::PutEach(15, 25),
+    Row::Crash,
+    Row::Event(Ask::Tile, Told::TileTo(25)),
+    Row::Event(
+        Ask::Put(26, 0),
+        Told::Refused(ServiceFault::JournalFull { need: 1, free: 0 }),
+    ),
+    Row::Publish(&[4, 0]),
+    Row::PutEach(26, 26),
+];
+
+const BUSY_AND_IDLE: &[Row] = &[
+    Row::Event(Ask::Put(7, 0), Told::Edited(1)),
+    Row::Event(Ask::Step, Told::Refused(ServiceFault::Idle)),
+    Row::Event(Ask::Begin, Told::Left(3)),
+    Row::Event(Ask::Begin, Told::Refused(ServiceFault::Busy)),
+    Row::Event(Ask::Cancel, Told::Cancelled),
+    Row::Event(Ask::Step, Told::Refused(ServiceFault::Idle)),
+    Row::Event(Ask::Cancel, Told::Refused(ServiceFault::Idle)),
+    Row::ArchiveLen(0),
+    Row::Event(Ask::Begin, Told::Left(3)),
+    Row::Event(Ask::Step, Told::Left(0)),
+    Row::Event(Ask::Step, Told::Refused(ServiceFault::Idle)),
+];
+
+/// What is told of the first publication of one point.
+const ONE_POINT: Published = Published {
+    generation: 1,
+    edits: 1,
+    archive_len: 223,
+};
+
+/// A publication as one call leaves the one that is under way.
+const ONE_CALL: &[Row] = &[
+    Row::Event(Ask::Put(7, 0), Told::Edited(1)),
+    Row::PublishWhole(Ok(ONE_POINT)),
+    Row::Archive(&[(7, 0)]),
+    Row::Event(Ask::Begin, Told::Left(3)),
+    Row::PublishWhole(Err(ServiceFault::Busy)),
+    Row::Event(Ask::Step, Told::Left(0)),
+];
+
+const NONE_IS_UNDER_WAY_AFTER_A_CRASH: &[Row] = &[
+    Row::Event(Ask::Put(7, 0), Told::Edited(1)),
+    Row::Publish(&[3, 0]),
+    Row::Event(Ask::Put(8, 0), Told::Edited(2)),
+    Row::Event(Ask::Begin, Told::Left(3)),
+    Row::Crash,
+    Row::Event(Ask::Step, Told::Refused(ServiceFault::Idle)),
+    Row::Event(Ask::Cancel, Told::Refused(ServiceFault::Idle)),
+    Row::Event(Ask::Look(8), Told::Point(0)),
+    Row::Archive(&[(7, 0)]),
+];
+
+/// Scripts over the empty map.
+const SCRIPTS: [(&str, &[Row]); 10] = [
+    (
+        "a point",
+        &[
+            Row::Event(Ask::Put(7, 0), Told::Edited(1)),
+            Row::Publish(&[3, 0]),
+            Row::ArchiveLen(223),
+            Row::Archive(&[(7, 0)]),
+        ],
+    ),
+    (
+        "the second publication takes the other area",
+        &[
+            Row::Event(Ask::Put(7, 0), Told::Edited(1)),
+            Row::Publish(&[3, 0]),
+            Row::Event(Ask::Put(8, 0), Told::Edited(2)),
+            Row::Publish(&[3, 0]),
+            Row::Archive(&[(7, 0), (8, 0)]),
+            Row::Root(2, [1, 1, 1, 25, 223]),
+            Row::Root(1, [2, 2, 2, 50, 234]),
+        ],
+    ),
+    (
+        "an empty map",
+        &[
+            Row::Publish(&[1, 0]),
+            Row::ArchiveLen(0),
+            Row::Root(2, [1, 0, 0, 0, 0]),
+        ],
+    ),
+    (
+        "a map without a tile",
+        &[
+            Row::Event(Ask::PutHidden(7), Told::Edited(1)),
+            Row::Publish(&[2, 0]),
+            Row::ArchiveLen(0),
+            Row::Root(2, [1, 1, 1, 35, 0]),
+        ],
+    ),
+    ("an area is full", AN_AREA_IS_FULL),
+    ("an edit between", AN_EDIT_BETWEEN),
+    ("the journal is freed", THE_JOURNAL_IS_FREED),
+    (
+        "edits between keep their places",
+        EDITS_BETWEEN_KEEP_THEIR_PLACES,
+    ),
+    ("busy and idle", BUSY_AND_IDLE),
+    ("one call", ONE_CALL),
+];
+
+#[test]
+fn publications(rt: HostRuntime) -> Result<(), Fail> {
+    for (name, rows) in SCRIPTS {
+        assert_eq!(rt; other_row_from_empty(rt.alloc(), rows)?, None, "{name}");
+    }
     Ok(())
 }
 
 #[test]
-fn busy_and_idle(rt: HostRuntime) -> Result<(), Fail> {
-    let alloc = rt.alloc();
-    let mut service = service_with(alloc, &[(7, 0)])?;
-    let rows = [
-        (Ask::Step, Told::Refused(ServiceFault::Idle)),
-        (Ask::Begin, Told::Left(3)),
-        (Ask::Begin, Told::Refused(ServiceFault::Busy)),
-        (Ask::Cancel, Told::Cancelled),
-        (Ask::Step, Told::Refused(ServiceFault::Idle)),
-        (Ask::Cancel, Told::Refused(ServiceFault::Idle)),
-        (Ask::Begin, Told::Left(3)),
-        (Ask::Step, Told::Left(0)),
-        (Ask::Step, Told::Refused(ServiceFault::Idle)),
-    ];
-    assert_eq!(rt; other_answer(alloc, &mut service, &rows)?, None);
+fn none_is_under_way_after_a_crash(rt: HostRuntime) -> Result<(), Fail> {
+    let other = other_row_from_empty(rt.alloc(), NONE_IS_UNDER_WAY_AFTER_A_CRASH)?;
+    assert_eq!(rt; other, None);
     Ok(())
 }
 
+/// A snapshot of 125 sectors and an archive of 5, and the root.
+const STEPS: &[Row] = &[
+    Row::Publish(&[131, 67, 3, 0]),
+    Row::ArchiveTo(62, 1_000),
+    Row::Crash,
+    Row::Event(Ask::Look(62), Told::Point(1_000)),
+    Row::ArchiveTo(62, 1_000),
+    Row::Root(2, [1, 62, 186, 63_860, 2_166]),
+];
+
 #[test]
-fn cancelled_publications(rt: HostRuntime) -> Result<(), Fail> {
+fn steps_of_64_sectors(rt: HostRuntime) -> Result<(), Fail> {
     let alloc = rt.alloc();
-    let mut service = service_with(alloc, &[(7, 0)])?;
-    assert_eq!(rt; service.ask_begin(), Ok(3));
-    assert_eq!(rt; service.ask_cancel(), Ok(()));
-    assert_eq!(rt; service.ask_cancel(), Err(ServiceFault::Idle));
-    assert_eq!(rt; service.archive_len(), 0);
+    assert_eq!(rt; other_row(alloc, large_disk(alloc)?, STEPS)?, None);
     Ok(())
 }
 
+const SPENT: &[Row] = &[
+    Row::Event(Ask::Begin, Told::Refused(ServiceFault::NumbersSpent)),
+    Row::Event(Ask::Step, Told::Refused(ServiceFault::Idle)),
+    Row::Event(Ask::Put(7, 0), Told::Edited(1)),
+    Row::Event(Ask::Begin, Told::Refused(ServiceFault::NumbersSpent)),
+    Row::Root(1, [0, 0, 0, 0, 0]),
+    Row::Root(2, [u64::MAX, 0, 0, 0, 0]),
+];
+
 #[test]
-fn no_publication_is_under_way_after_a_crash(rt: HostRuntime) -> Result<(), Fail> {
+fn generations_are_spent(rt: HostRuntime) -> Result<(), Fail> {
     let alloc = rt.alloc();
-    let mut service = service_with(alloc, &[(7, 0)])?;
-    let _ = publish(alloc, &mut service)?;
-    let _ = service.ask_put(8, point(alloc, 0)?)?;
-    let _ = service.ask_begin()?;
-    let mut again = opened(alloc, service.into_disk().crash(&[])?)?;
-    let rows = [
-        (Ask::Step, Told::Refused(ServiceFault::Idle)),
-        (Ask::Cancel, Told::Refused(ServiceFault::Idle)),
-        (Ask::Look(8), Told::Point(0)),
-    ];
-    assert_eq!(rt; other_answer(alloc, &mut again, &rows)?, None);
-    assert_eq!(rt; archive(alloc, &mut again)?, archive_of(alloc, &[(7, 0)])?);
+    let mut disk = formatted(alloc)?;
+    let _ = disk.write(2, &root([u64::MAX, 0, 0, 0, 0]));
+    assert_eq!(rt; other_row(alloc, disk, SPENT)?, None);
     Ok(())
 }

@@ -3,7 +3,7 @@ ghost use Rattle.std.specs.Prelude.{◌≡◌, ◌≤◌, IfOk};
 
 use super::calls::{Ask, Told, other_answer};
 use super::{begins, formatted, opened, point, read, root};
-use crate::ServiceFault;
+use crate::{Service, ServiceFault};
 use sector_disk::{FailingCalls, FaultyDisk, MemoryDisk, Sectors};
 use std::alloc::Global;
 use std::test::Fail;
@@ -101,14 +101,21 @@ fn no_archive(rt: HostRuntime) -> Result<(), Fail> {
     Ok(())
 }
 
+/// How many calls of the disk an opening takes, and the reading of so many bytes from an offset on, where some are read.
+fn calls_with(alloc: Global, part: Option<(u64, u64)>) -> Result<u64, Fail> {
+    let faulty = FaultyDisk::new(published(alloc)?, FailingCalls::OneNotMade(0));
+    let mut service = opened(alloc, faulty)?;
+    if let Some((at, count)) = part {
+        let _ = read(alloc, &mut service, at, count)?;
+    }
+    Ok(service.into_disk().calls())
+}
+
 /// How many calls of the disk an opening takes, and then a part of the archive.
 fn calls_of(alloc: Global, at: u64, count: u64) -> Result<(u64, u64), Fail> {
-    let none = FailingCalls::OneNotMade(0);
-    let service = opened(alloc, FaultyDisk::new(published(alloc)?, none))?;
-    let before = service.into_disk().calls();
-    let mut service = opened(alloc, FaultyDisk::new(published(alloc)?, none))?;
-    let _ = read(alloc, &mut service, at, count)?;
-    Ok((before, service.into_disk().calls().saturating_sub(before)))
+    let before = calls_with(alloc, None)?;
+    let all = calls_with(alloc, Some((at, count)))?;
+    Ok((before, all.saturating_sub(before)))
 }
 
 #[test]
@@ -124,6 +131,17 @@ fn each_sector_is_read_once(rt: HostRuntime) -> Result<(), Fail> {
     Ok(())
 }
 
+/// The fault of a read of the whole archive, the number of an edit behind it, and whether a second read is right.
+fn read_twice<D: Sectors + Drop>(
+    alloc: Global,
+    service: &mut Service<D>,
+) -> Result<(Option<ServiceFault>, u64, bool), Fail> {
+    let fault = read(alloc, service, 0, 1_100)?.err();
+    let number = service.ask_put(30, point(alloc, 0)?)?;
+    let again = read(alloc, service, 0, 1_100)?;
+    Ok((fault, number, again == Ok(part(alloc, 0, 1_100)?)))
+}
+
 #[test]
 fn service_goes_on_after_a_failed_read(rt: HostRuntime) -> Result<(), Fail> {
     let alloc = rt.alloc();
@@ -131,36 +149,38 @@ fn service_goes_on_after_a_failed_read(rt: HostRuntime) -> Result<(), Fail> {
     for call in 8..11 {
         let disk = FaultyDisk::new(published(alloc)?, FailingCalls::OneNotMade(call));
         let mut service = opened(alloc, disk)?;
-        assert_eq!(rt;
-            read(alloc, &mut service, 0, 1_100)?,
-            Err(ServiceFault::Device)
-        );
-        assert_eq!(rt; service.ask_put(30, point(alloc, 0)?), Ok(6));
-        assert_eq!(rt;
-            read(alloc, &mut service, 0, 1_100)?,
-            Ok(part(alloc, 0, 1_100)?)
-        );
-        let again = opened(alloc, service.into_disk().into_disk().crash(&[])?)?;
-        assert!(rt; again.has(30) && again.archive_len() == 1_100);
+        let told = read_twice(alloc, &mut service)?;
+        assert_eq!(rt; told, (Some(ServiceFault::Device), 6, true));
     }
     Ok(())
 }
 
-/// The metadata of a map with one point.
-const METADATA: &str = r#"{"vector_layers":[{"fields":{},"id":"p","maxzoom":2,"minzoom":0}]}"#;
+/// The metadata of a map with one point, 66 bytes, and of an empty one.
+const METADATA: [&str; 2] = [
+    r#"{"vector_layers":[{"fields":{},"id":"p","maxzoom":2,"minzoom":0}]}"#,
+    r#"{"vector_layers":[]}"#,
+];
+
+fn metadata<D: Sectors + Drop>(alloc: Global, service: &Service<D>) -> Result<String, Fail> {
+    Ok(service.ask_metadata()?.to_string(alloc)?)
+}
+
+/// The metadata of a map with a point, and once it is taken away.
+fn both_metadata<D: Sectors + Drop>(
+    alloc: Global,
+    service: &mut Service<D>,
+) -> Result<[String; 2], Fail> {
+    let _ = service.ask_put(7, point(alloc, 0)?);
+    let one = metadata(alloc, service)?;
+    let _ = service.ask_delete(7);
+    Ok([one, metadata(alloc, service)?])
+}
 
 #[test]
 fn metadata_of_the_map(rt: HostRuntime) -> Result<(), Fail> {
     let alloc = rt.alloc();
     let mut service = opened(alloc, formatted(alloc)?)?;
-    let _ = service.ask_put(7, point(alloc, 0)?);
-    let text = service.ask_metadata()?.to_string(alloc)?;
-    assert_eq!(rt; text.as_str(), METADATA);
-    assert_eq!(rt; text.len(), 66);
-    let _ = service.ask_delete(7);
-    assert_eq!(rt;
-        service.ask_metadata()?.to_string(alloc)?.as_str(),
-        r#"{"vector_layers":[]}"#
-    );
+    let told = both_metadata(alloc, &mut service)?;
+    assert_eq!(rt; [told[0].as_str(), told[1].as_str()], METADATA);
     Ok(())
 }

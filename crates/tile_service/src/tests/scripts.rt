@@ -2,7 +2,9 @@
 //! of maps: i edits are made, and the archive is that of the first j of them.
 
 use super::archives::{Point, archive_of, shown, tile_of};
-use super::{archive, formatted, opened, point, root, sector_at};
+use super::calls::{Ask, Told};
+use super::rows::{Row, other_row};
+use super::{archive, formatted, opened, point, sector_at};
 use crate::{Answer, Event, Service, ServiceFault};
 use hilbert_id::TileAt;
 use sector_disk::{FailingCalls, FaultyDisk, MemoryDisk, Sectors};
@@ -199,23 +201,36 @@ fn may_stand(failed: usize, found: (usize, usize)) -> bool {
     }
 }
 
+/// Whether by every choice of a crash a disk holds what may stand where the event of this index fails.
+fn all_may_stand(
+    alloc: Global,
+    disk: &MemoryDisk,
+    failed: usize,
+    expected: &Expected,
+) -> Result<bool, Fail> {
+    for choice in CHOICES {
+        let found = found_on(alloc, disk.crash(&choice)?, expected)?;
+        if !may_stand(failed, found) {
+            return Ok(false);
+        }
+    }
+    Ok(true)
+}
+
 #[test]
 fn stopped_script(rt: HostRuntime) -> Result<(), Fail> {
     let alloc = rt.alloc();
     let expected = what_is_expected(alloc)?;
     for call in 1..28 {
         let failed = event_of(call);
-        let kinds = [
+        for failing_calls in [
             FailingCalls::AllFrom(call),
             FailingCalls::OneNotMade(call),
             FailingCalls::OneMade(call),
-        ];
-        for failing_calls in kinds {
+        ] {
             let disk = run(alloc, failing_calls, failed)?;
-            for choice in CHOICES {
-                let found = found_on(alloc, disk.crash(&choice)?, &expected)?;
-                assert!(rt; may_stand(failed, found), "call {call}");
-            }
+            let all = all_may_stand(alloc, &disk, failed, &expected)?;
+            assert!(rt; all, "call {call}");
         }
     }
     Ok(())
@@ -269,29 +284,50 @@ const LAST: [Point; 10] = [
     (52, 467),
 ];
 
-#[test]
-fn five_rounds(rt: HostRuntime) -> Result<(), Fail> {
-    let alloc = rt.alloc();
+/// The events of the rounds, one behind the other.
+fn rounds(alloc: Global) -> Result<Vec<Event>, Fail> {
     let mut events = Vec::new(alloc);
     for numbers in NUMBERS {
         for event in round(alloc, numbers)? {
             events.push(event)?;
         }
     }
+    Ok(events)
+}
+
+/// The disk behind the rounds, of which no event is refused.
+fn behind_the_rounds(alloc: Global) -> Result<MemoryDisk, Fail> {
     let mut service = opened(alloc, formatted(alloc)?)?;
-    let answers = service.ask_run(events)?;
-    assert_eq!(rt; answers.len(), 40);
-    let refused = answers
-        .iter()
-        .any(|answer| matches!(answer, Answer::Refused(_)));
-    assert!(rt; !refused);
-    assert_eq!(rt; archive(alloc, &mut service)?, archive_of(alloc, &LAST)?);
-    // The records since the root: edit 19 at place 7, and edit 20 at place 8.
-    let mut disk = service.into_disk();
-    assert_eq!(rt; sector_at(&mut disk, 2), root([5, 18, 7, 2_610, 833]));
-    let mut again = opened(alloc, disk.crash(&[])?)?;
-    assert_eq!(rt; again.ask_put(9, point(alloc, 0)?), Ok(21));
-    let head = sector_at(&mut again.into_disk(), 12);
+    for answer in service.ask_run(rounds(alloc)?)? {
+        if let Answer::Refused(fault) = answer {
+            return Err(fault.into());
+        }
+    }
+    Ok(service.into_disk())
+}
+
+/// The records since the root: edit 19 at place 7, and edit 20 at place 8.
+const BEHIND: &[Row] = &[
+    Row::Archive(&LAST),
+    Row::Root(2, [5, 18, 7, 2_610, 833]),
+    Row::Crash,
+    Row::Event(Ask::Put(9, 0), Told::Edited(21)),
+];
+
+#[test]
+fn five_rounds(rt: HostRuntime) -> Result<(), Fail> {
+    let alloc = rt.alloc();
+    assert_eq!(rt; other_row(alloc, behind_the_rounds(alloc)?, BEHIND)?, None);
+    Ok(())
+}
+
+/// Edit 21 stands at place 9, in sector 12.
+#[test]
+fn the_edit_behind_the_rounds(rt: HostRuntime) -> Result<(), Fail> {
+    let alloc = rt.alloc();
+    let mut service = opened(alloc, behind_the_rounds(alloc)?)?;
+    let _ = service.ask_put(9, point(alloc, 0)?)?;
+    let head = sector_at(&mut service.into_disk(), 12);
     let begin = [1, 1, 1, 0, 21, 0, 0, 0, 0, 0, 0, 0];
     assert_eq!(rt; head.get(..12), Some(begin.as_slice()));
     Ok(())

@@ -118,19 +118,21 @@ fn a_failed_head_is_there_where_it_was_written(rt: HostRuntime) -> Result<(), Fa
     Ok(())
 }
 
-/// How many calls of the disk an opening takes, and then an edit of a feature with a tag of so many letters.
+/// How many calls of the disk an opening takes, and an edit behind it of a feature with a tag of so many letters, where one is made.
+fn calls_with(alloc: Global, letters: Option<usize>) -> Result<u64, Fail> {
+    let faulty = FaultyDisk::new(formatted(alloc)?, FailingCalls::OneNotMade(0));
+    let mut service = opened(alloc, faulty)?;
+    if let Some(letters) = letters {
+        let _ = service.ask_put(1, point(alloc, letters)?);
+    }
+    Ok(service.into_disk().calls())
+}
+
+/// How many calls of the disk an opening takes, and how many the edit.
 fn calls_of(alloc: Global, letters: usize) -> Result<(u64, u64), Fail> {
-    let opening = opened(
-        alloc,
-        FaultyDisk::new(formatted(alloc)?, FailingCalls::OneNotMade(0)),
-    )?;
-    let before = opening.into_disk().calls();
-    let mut service = opened(
-        alloc,
-        FaultyDisk::new(formatted(alloc)?, FailingCalls::OneNotMade(0)),
-    )?;
-    let _ = service.ask_put(1, point(alloc, letters)?);
-    Ok((before, service.into_disk().calls().saturating_sub(before)))
+    let before = calls_with(alloc, None)?;
+    let all = calls_with(alloc, Some(letters))?;
+    Ok((before, all.saturating_sub(before)))
 }
 
 #[test]
@@ -153,10 +155,11 @@ fn stopped_edit(
 ) -> Result<MemoryDisk, Fail> {
     let faulty = FaultyDisk::new(disk, FailingCalls::AllFrom(call));
     let mut service = opened(alloc, faulty)?;
-    match service.ask_put(id, point_of(alloc, letter, 963)?) {
-        Err(ServiceFault::Device) => Ok(service.into_disk().into_disk().crash(choice)?),
-        _ => Err("the edit isn't stopped".into()),
+    if service.ask_put(id, point_of(alloc, letter, 963)?) != Err(ServiceFault::Device) {
+        return Err("the edit isn't stopped".into());
     }
+    let left = service.into_disk().into_disk();
+    Ok(left.crash(choice)?)
 }
 
 /// Which of the numbers 1 to 3 have a feature on a disk, the number of a further edit of three sectors, which sets feature 3, and which
