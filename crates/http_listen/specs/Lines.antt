@@ -19,7 +19,7 @@ result_word (Ok served) = end_word served.end
 result_word (Err Memory) = codes "memory"
 result_word (Err (Read requests)) = codes "read"
 result_word (Err (Write requests)) = codes "write"
-result_word (Err (Content requests)) = codes "content"
+result_word (Err (Content requests)) = codes "device"
 
 -- how many requests got a whole reply
 abbrev pub replied_requests : Result Served ServeFault → ℕ

@@ -35,7 +35,7 @@ fn result_word(outcome: Result<Served, ServeFault>) -> &'static str
         Err(ServeFault::Memory) => "memory",
         Err(ServeFault::Read { .. }) => "read",
         Err(ServeFault::Write { .. }) => "write",
-        Err(ServeFault::Content { .. }) => "content",
+        Err(ServeFault::Content { .. }) => "device",
     }
 }
 

@@ -39,7 +39,7 @@ fn serve_fault_name(fault: ServeFault) -> &'static str {
         ServeFault::Memory => "Memory",
         ServeFault::Read { .. } => "Read",
         ServeFault::Write { .. } => "Write",
-        ServeFault::Content { .. } => "Content",
+        ServeFault::Content { .. } => "Device",
     }
 }
 

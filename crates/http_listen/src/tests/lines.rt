@@ -57,7 +57,7 @@ fn each_end_has_its_word(rt: HostRuntime) -> Result<(), Fail> {
         (
             5,
             Err(ServeFault::Content { requests: 6 }),
-            "connection 5: 6 requests, content\n",
+            "connection 5: 6 requests, device\n",
         ),
     ] {
         let mut log = Vec::new(rt.alloc());
