@@ -144,10 +144,11 @@ const CLOSED: Result<Served, ServeFault> = Ok(Served {
     end: End::Closed,
 });
 
-/// The read that fails, counted from the download's first one, how many bytes of the archive are sent, and how it ends.
-const DOWNLOADS: [(u64, usize, Result<Served, ServeFault>); 2] = [
-    (2, 512, Err(ServeFault::Content { requests: 0 })),
-    (3, 838, CLOSED),
+/// The read that fails, counted from the download's first one, how many bytes of the archive are sent where not all are, and how
+/// it ends.
+const DOWNLOADS: [(u64, Option<usize>, Result<Served, ServeFault>); 2] = [
+    (2, Some(512), Err(ServeFault::Content { requests: 0 })),
+    (3, None, CLOSED),
 ];
 
 #[test]
@@ -160,8 +161,11 @@ fn downloads_that_are_cut(rt: HostRuntime) -> Result<(), Fail> {
         let failing = FailingCalls::OneNotMade(before.saturating_add(read));
         let (out, result) = answers(alloc, &mut opened(alloc, failing)?, get.as_str());
         assert_eq!(rt; result, end, "read {read}");
-        let size = WHOLE.len().saturating_add(size);
-        assert_eq!(rt; Some(out.as_slice()), whole.get(..size), "read {read}");
+        let end = match size {
+            Some(size) => WHOLE.len().saturating_add(size),
+            None => whole.len(),
+        };
+        assert_eq!(rt; Some(out.as_slice()), whole.get(..end), "read {read}");
     }
     Ok(())
 }
