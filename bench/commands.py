@@ -251,7 +251,7 @@ def exports(cases, folder):
     cases.show("export where a file has the name of its part", vtserve(["export", disk, goal]), refusal(b"File"))
     cases.show("that file is left as it is", content(goal + ".part")[0], b"mine")
     os.remove(goal + ".part")
-    cases.show("export where standard output is closed", vtserve(["export", disk, goal], preexec_fn=lambda: os.close(1)), refusal(b"Write"))
+    cases.show("export where standard output is closed", vtserve(["export", disk, goal], preexec_fn=lambda: os.close(1)), (0, b"", b""))
     if shutil.which("strace"):
         words = ["export", disk, goal]
         with open(goal, "wb") as file:
