@@ -48,6 +48,9 @@ fn put_steps(out: &mut Vec<u32>, from: Pt, points: &[Pt]) -> Result<Pt, AllocErr
     Ok(at)
 }
 
+/// How many integers of a line are no coordinates: its commands.
+const LINE_INTEGERS: usize = 3;
+
 /// Appends a line, or a ring, which is closed, and returns where the cursor stands then.
 fn put_line(out: &mut Vec<u32>, closed: bool, from: Pt, line: &[Pt]) -> Result<Pt, AllocError>
     requires { CanSpellLine closed from line.now }
@@ -57,6 +60,7 @@ fn put_line(out: &mut Vec<u32>, closed: bool, from: Pt, line: &[Pt]) -> Result<P
 {
     let first = line[0];
     let others = &line[1..];
+    out.reserve(LINE_INTEGERS + 2 * line.len())?;
     out.push(CommandId::MoveTo.times(1))?;
     put_step(out, from, first)?;
     out.push(CommandId::LineTo.times(others.len() as u32))?;
@@ -91,7 +95,7 @@ pub fn encode_points(alloc: Global, points: &[Pt]) -> Result<Vec<u32>, AllocErro
     // The integers are these points.
     ensures shape { IfOk result (λ v. IsShape ShapeKind.Points v.items (shapes.points points.now)) }
 {
-    let mut out = Vec::new(alloc);
+    let mut out = Vec::with_capacity(alloc, 1 + 2 * points.len())?;
     out.push(CommandId::MoveTo.times(points.len() as u32))?;
     put_steps(&mut out, Pt::ORIGIN, points)?;
     Ok(out)

@@ -11,15 +11,16 @@ use crate::value::PoolValue;
 use pb_wire::zigzag;
 use std::alloc::AllocError;
 
-/// How many bytes of a text count for its code, from its end.
-const CODED: usize = 16;
-
-/// A number that mostly differs where texts differ in their length or their last bytes.
+/// A number that mostly differs where texts differ in their length, or in their first or their last bytes.
 fn text_code(text: &str) -> u64 {
     let bytes = text.as_bytes();
     let mut code = bytes.len() as u64;
-    for byte in &bytes[bytes.len().saturating_sub(CODED)..] {
-        code = code.rotate_left(5) ^ u64::from(*byte);
+    if let (Some(first), Some(last)) = (bytes.first_chunk(), bytes.last_chunk()) {
+        let first = u64::from_be_bytes(*first);
+        return code ^ first.rotate_left(24) ^ u64::from_be_bytes(*last);
+    }
+    for byte in bytes {
+        code = code.rotate_left(8) ^ u64::from(*byte);
     }
     code
 }

@@ -19,7 +19,7 @@ const RECENT: usize = 512;
 fn place_of(code: u64) -> usize
     ensures { result < RECENT }
 {
-    (code.wrapping_mul(0x9e37_79b9_7f4a_7c15) >> 40) as usize % RECENT
+    (code.wrapping_mul(0x9e37_79b9_7f4a_7c15) >> 55) as usize % RECENT
 }
 
 /// The number of a key, which is `next` where it had none. An `Err` changes nothing.

@@ -29,13 +29,17 @@ module _ {T : Type 0} (n : ℕ) where
       let at_least : (get_or es i d).0 ≤ (get_or es j d).0 = grind (arith, ascend_at es i j d s, λ (same : i ≡ j). ap (λ k. (get_or es k d).0) same) in
       grind (arith, nat_tests)
 
+  -- where an entry of an index has the number, it stands there
+  pub stands_there : (es : List (ℕ × T)) (i : ℕ) (d : ℕ × T) → Ascends es → i < length es → (get_or es i d).0 ≡ n → StandsAt es n i
+  stands_there [] i d s lt h = absurd (omega arith)
+  stands_there (e ∷ es) zero d s lt h = h
+  stands_there (e ∷ es) (suc i) d s lt h =
+      let before = first_below e es i d s (omega arith) in
+      (omega arith, stands_there es i d (ascends_tail e es s) (omega arith) h)
+
   stands_at : (es : List (ℕ × T)) (i : ℕ) → Ascends es → i < length es → ((d : ℕ × T) → (get_or es i d).0 ≡ n) → StandsAt es n i
   stands_at [] i s lt h = absurd (omega arith)
-  stands_at (e ∷ es) zero s lt h = h e
-  stands_at (e ∷ es) (suc i) s lt h =
-      let before = first_below e es i e s (omega arith) in
-      let same = h e in
-      (omega arith, stands_at es i (ascends_tail e es s) (omega arith) h)
+  stands_at (e ∷ es) i s lt h = stands_there (e ∷ es) i e s lt (h e)
 
   gap_for : (es : List (ℕ × T)) (i : ℕ) → i ≤ length es → ((k : ℕ) (d : ℕ × T) → k < i → (get_or es k d).0 < n)
       → ((d : ℕ × T) → i < length es → n < (get_or es i d).0) → IsGapFor es n i

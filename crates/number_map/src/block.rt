@@ -1,4 +1,4 @@
-ghost use Rattle.std.specs.Prelude.{◌≡◌, ◌+◌, ◌<◌, ◌≤◌, ◌++◌, [], length, None, IfOk, IfErr, IfNone, option_map, take, drop, vec_len, vec_capacity};
+ghost use Rattle.std.specs.Prelude.{◌≡◌, ◌+◌, ◌<◌, ◌≤◌, ◌++◌, [], length, None, IfOk, IfErr, IfNone, IfSome, option_map, take, drop, vec_len, vec_capacity};
 ghost use Rattle.std.specs.Bool.{OnTrue, OnFalse};
 ghost use Rattle.std.specs.Ordering.{nat_cmp};
 ghost use Rattle.std.specs.Map.{lookup, remove_entry};
@@ -68,7 +68,7 @@ impl<T> Block<T> {
         self.first
     }
 
-    /// The value of a number, by a binary search.
+    /// The value of a number.
     pub(crate) fn get(&self, number: u64) -> Option<&T>
         requires { Ascends self.now }
         ensures { option_map (λ v. v.now) result ≡ lookup (is_at (nat_cmp number)) self.now }
@@ -150,13 +150,32 @@ impl<T: Drop> Block<T> {
     }
 }
 
-/// Where the number stands, or where it would.
+/// Where a number stands that the numbers before it lead up to without a gap.
+fn place_in_row<T>(entries: &[Entry<T>], number: u64) -> Option<usize>
+    requires { Ascends entries.now }
+    ensures { IfSome result (StandsAt entries.now number) }
+{
+    let first = first_of(entries);
+    if number < first {
+        return None;
+    }
+    let at = number - first;
+    if at < entries.len() as u64 && entries[at as usize].0 == number {
+        return Some(at as usize);
+    }
+    None
+}
+
+/// Where the number stands, or where it would. Among numbers without gaps no search is needed.
 fn find<T>(entries: &[Entry<T>], number: u64) -> Result<usize, usize>
     requires { Ascends entries.now }
     ensures found { IfOk result (StandsAt entries.now number) }
     ensures absent { IfErr result (IsGapFor entries.now number) }
 {
-    entries.binary_search_by_key(&number, |entry| entry.0)
+    match place_in_row(entries, number) {
+        Some(at) => Ok(at),
+        None => entries.binary_search_by_key(&number, |entry| entry.0),
+    }
 }
 
 /// The first number, or 0 where there is none.

@@ -57,7 +57,7 @@ impl<T> NumberMap<T> {
         self.len == 0
     }
 
-    /// The value of a number, by a binary search among blocks and one in a block.
+    /// The value of a number, by a binary search among blocks, and one in a block where the block's numbers have gaps.
     pub fn get(&self, number: u64) -> Option<&T>
         ensures { option_map (λ v. v.now) result ≡ lookup (is_at (nat_cmp number)) self.now.entries }
     {

@@ -8,7 +8,7 @@ ghost use Rattle.tile_cutter.specs.Passes.{other_than, chain_after, chain_of, en
 ghost use Rattle.tile_cutter.specs.Range.{IsDrawable};
 
 use crate::bounds::{points_meet_box, segment_meets_box};
-use crate::coordinates::{position, repeats};
+use crate::coordinates::{FEW_POINTS, position, repeats};
 use feature_model::{GREATEST_ZOOM, World};
 use geometry_commands::{Pt, Shape};
 use hilbert_id::TileAt;
@@ -45,6 +45,7 @@ fn follow(
 {
     if segment_meets_box(from, to) {
         if chain.is_empty() {
+            chain.reserve(FEW_POINTS)?;
             chain.push(from)?;
         }
         chain.push(to)?;

@@ -8,7 +8,7 @@ ghost use Rattle.tile_cutter.specs.Passes.{returns_to_start, wound, shown_ring, 
 ghost use Rattle.tile_cutter.specs.Range.{IsWithin, IsSmall, IsOfTile, IsDrawable};
 
 use crate::bounds::points_meet_box;
-use crate::coordinates::{position, repeats};
+use crate::coordinates::{FEW_POINTS, position, repeats};
 use feature_model::{GREATEST_ZOOM, World};
 use geometry_commands::{Pt, Shape};
 use hilbert_id::TileAt;
@@ -39,7 +39,7 @@ fn tile_ring(alloc: Global, points: &[World], at: TileAt) -> Result<Vec<Pt>, All
     ensures ring { IfOk result (λ v. v.items ≡ tile_ring at.z at.x at.y points.now) }
     ensures of_tile { IfOk result (λ v. All (IsOfTile at.x at.y) v.items) }
 {
-    let mut ring = Vec::new(alloc);
+    let mut ring = Vec::with_capacity(alloc, points.len().min(FEW_POINTS))?;
     let mut before = None;
     for point in points {
         let here = position(*point, at);

@@ -12,7 +12,8 @@ returns-in_ok-push-3-clause-line c =
     let close : close_spelled c.args.closed ≡ command 7 1 ∷ [] = rw c.if-closed.true refl in
     let all = line_written c.args.closed c.args.from (get_or line 0 origin) (take (length line - 1) (drop 1 line))
     line c.times.result c.times-2.result c.args.out.now.items c.push.new.self.items c.put_step.new.out.items c.push-2.new.self.items others
-    (split_first line origin (omega arith)) c.times.ensures c.times-2.ensures c.in_ok-push.ensures.items c.in_ok-put_step.ensures.step
+    (split_first line origin (omega arith)) c.times.ensures c.times-2.ensures
+    (rw c.in_ok-reserve.ensures.items at c.in_ok-push.ensures.items) c.in_ok-put_step.ensures.step
     c.in_ok-push-2.ensures.items c.in_ok-last.ensures.steps in
     c.in_ok-push-3.ensures.items ∙ rw c.times-then-closed.ensures (rw close at all)
 
@@ -23,6 +24,7 @@ returns-else-closed-clause-line c =
     let close : close_spelled c.args.closed ≡ [] = rw c.if-closed.false refl in
     let all = line_written c.args.closed c.args.from (get_or line 0 origin) (take (length line - 1) (drop 1 line))
     line c.times.result c.times-2.result c.args.out.now.items c.push.new.self.items c.put_step.new.out.items c.push-2.new.self.items others
-    (split_first line origin (omega arith)) c.times.ensures c.times-2.ensures c.in_ok-push.ensures.items c.in_ok-put_step.ensures.step
+    (split_first line origin (omega arith)) c.times.ensures c.times-2.ensures
+    (rw c.in_ok-reserve.ensures.items at c.in_ok-push.ensures.items) c.in_ok-put_step.ensures.step
     c.in_ok-push-2.ensures.items c.in_ok-last.ensures.steps in
     sym (append-nil others) ∙ rw close at all

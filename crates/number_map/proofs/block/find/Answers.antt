@@ -4,14 +4,14 @@ use Rattle.number_map.proofs.Search.{searched}
 use Rattle.number_map.proofs.block.find.Goals as goal
 
 -- the closure gives an entry's number
-pub returns-clause-found : goal.returns-clause-found
-returns-clause-found g c =
+pub returns-in-None-clause-found : goal.returns-in-None-clause-found
+returns-in-None-clause-found g c =
     let facts = c.binary_search_by_key.ensures in
     let by_key = facts.position (λ entry. entry.0) (answers_always _ _ _ (λ f a r g called. search rules)) in
     (searched c.args.number _ _ c.requires facts.bound by_key).found
 
-pub returns-clause-absent : goal.returns-clause-absent
-returns-clause-absent g c =
+pub returns-in-None-clause-absent : goal.returns-in-None-clause-absent
+returns-in-None-clause-absent g c =
     let facts = c.binary_search_by_key.ensures in
     let by_key = facts.position (λ entry. entry.0) (answers_always _ _ _ (λ f a r g called. search rules)) in
     (searched c.args.number _ _ c.requires facts.bound by_key).absent

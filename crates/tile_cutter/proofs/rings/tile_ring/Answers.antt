@@ -12,7 +12,7 @@ use Rattle.tile_cutter.proofs.rings.tile_ring.Goals.{then-not-repeats+in_ok-push
 pub loop-point-init : goal.loop-point-init
 loop-point-init c =
     let at = c.args.at in
-    rw c.new-ring.ensures.items (pass_begins left_after at.z at.x at.y c.args.points.now _ (tile_points_are at.z at.x at.y c.args.points.now))
+    rw c.in_ok-ring.ensures.items (pass_begins left_after at.z at.x at.y c.args.points.now _ (tile_points_are at.z at.x at.y c.args.points.now))
 
 pub loop-point-preserved : goal.loop-point-preserved
 loop-point-preserved c =
