@@ -79,11 +79,6 @@ fn other_row(store: &mut Store, rows: &[Row]) -> Option<usize> {
     None
 }
 
-/// The same of a copy.
-fn other_row_of_copy(store: &Store, rows: &[Row]) -> Result<Option<usize>, Fail> {
-    Ok(other_row(&mut store.copy()?, rows))
-}
-
 const KEPT: [Row; 10] = [
     Row::Len(3),
     Row::Layer(3, Some("c")),
@@ -104,12 +99,16 @@ const COPIED: [Row; 3] = [
     Row::Layer(9, Some("a")),
 ];
 
+/// The first row of a map, and of its copy then, that doesn't hold, if one doesn't.
+fn other_rows(alloc: Global) -> Result<(Option<usize>, Option<usize>), Fail> {
+    let mut store = filled(alloc, &[(7, "b"), (3, "a"), (9, "a"), (3, "c")])?;
+    let other = other_row(&mut store, &KEPT);
+    Ok((other, other_row(&mut store.copy()?, &COPIED)))
+}
+
 #[test]
 fn keeps_features_by_number(rt: HostRuntime) -> Result<(), Fail> {
-    let mut store = filled(rt.alloc(), &[(7, "b"), (3, "a"), (9, "a"), (3, "c")])?;
-    let other = other_row(&mut store, &KEPT);
-    let others = (other, other_row_of_copy(&store, &COPIED)?);
-    assert_eq!(rt; others, (None, None));
+    assert_eq!(rt; other_rows(rt.alloc())?, (None, None));
     Ok(())
 }
 
@@ -145,14 +144,17 @@ fn has_layers(
 
 const IN_BYTE_ORDER: [Listed<'static>; 3] = [("B", &[8]), ("a", &[5]), ("b", &[7, 9])];
 
-#[test]
-fn layers_stand_in_byte_order(rt: HostRuntime) -> Result<(), Fail> {
-    let alloc = rt.alloc();
+/// Whether the tile of zoom 0 has these layers, and a tile elsewhere none.
+fn has_them_in_byte_order(alloc: Global) -> Result<(bool, bool), Fail> {
     let mut store = filled(alloc, &[(9, "b"), (7, "b"), (5, "a"), (8, "B")])?;
     put(alloc, &mut store, 6, corner(alloc, "c", 1)?)?;
     let here = has_layers(&store, (0, 0, 0), &IN_BYTE_ORDER)?;
-    let elsewhere = has_layers(&store, (1, 1, 1), &[])?;
-    assert_eq!(rt; (here, elsewhere), (true, true));
+    Ok((here, has_layers(&store, (1, 1, 1), &[])?))
+}
+
+#[test]
+fn layers_stand_in_byte_order(rt: HostRuntime) -> Result<(), Fail> {
+    assert_eq!(rt; has_them_in_byte_order(rt.alloc())?, (true, true));
     Ok(())
 }
 
@@ -178,12 +180,16 @@ fn has_tiles(store: &Store, ids: &[u64], bytes: &[u8]) -> Result<bool, Fail> {
     Ok(tiles.len() == ids.len())
 }
 
+/// Whether a point has its pairs, and its tiles.
+fn has_both(alloc: Global) -> Result<(bool, bool), Fail> {
+    let store = filled(alloc, &[(7, "p")])?;
+    let pairs = has_pairs(&store, &[(0, 7), (1, 7), (5, 7)])?;
+    Ok((pairs, has_tiles(&store, &[0, 1, 5], &POINT_TILE)?))
+}
+
 #[test]
 fn pairs_and_tiles_of_a_point(rt: HostRuntime) -> Result<(), Fail> {
-    let store = filled(rt.alloc(), &[(7, "p")])?;
-    let pairs = has_pairs(&store, &[(0, 7), (1, 7), (5, 7)])?;
-    let tiles = has_tiles(&store, &[0, 1, 5], &POINT_TILE)?;
-    assert_eq!(rt; (pairs, tiles), (true, true));
+    assert_eq!(rt; has_both(rt.alloc())?, (true, true));
     Ok(())
 }
 
@@ -202,13 +208,21 @@ fn layer_count(store: &Store, zoom: u8) -> Result<usize, Fail> {
     Ok(store.layers(at)?.len())
 }
 
+/// The first zoom whose first tile has another count of layers, if one has.
+fn other_zoom(alloc: Global) -> Result<Option<u8>, Fail> {
+    let store = shown_to_16(alloc)?;
+    for (zoom, count) in [(0, 1), (16, 1), (17, 0), (31, 0)] {
+        if layer_count(&store, zoom)? != count {
+            return Ok(Some(zoom));
+        }
+    }
+    Ok(None)
+}
+
 /// Above the greatest zoom of a feature there are no layers, whatever the map has.
 #[test]
 fn no_layers_above_the_greatest_zoom(rt: HostRuntime) -> Result<(), Fail> {
-    let store = shown_to_16(rt.alloc())?;
-    for (zoom, count) in [(0, 1), (16, 1), (17, 0), (31, 0)] {
-        assert_eq!(rt; layer_count(&store, zoom)?, count, "at zoom {zoom}");
-    }
+    assert_eq!(rt; other_zoom(rt.alloc())?, None);
     Ok(())
 }
 
@@ -278,26 +292,36 @@ fn is_read_back(alloc: Global, store: &Store, text: &[u8]) -> Result<bool, Fail>
     Ok(is_text_of(&again, text)? && again.len() == 3 && same_features(&again, store))
 }
 
-#[test]
-fn snapshots_both_ways(rt: HostRuntime) -> Result<(), Fail> {
-    let alloc = rt.alloc();
+/// The map of `THIRD`, `SEVENTH` and `LAST`.
+fn three(alloc: Global) -> Result<Store, Fail> {
     let mut store = filled(alloc, &[(258, "a"), (3, "a")])?;
     put(alloc, &mut store, 7, tagged(alloc)?)?;
+    Ok(store)
+}
+
+/// Whether they are its text, and whether it is read back from them.
+fn three_both_ways(alloc: Global) -> Result<(bool, bool), Fail> {
+    let store = three(alloc)?;
     let text = joined(alloc, &[&THIRD, &SEVENTH, &LAST])?;
-    let both = (
-        is_text_of(&store, &text)?,
-        is_read_back(alloc, &store, &text)?,
-    );
-    assert_eq!(rt; both, (true, true));
+    let is_text = is_text_of(&store, &text)?;
+    Ok((is_text, is_read_back(alloc, &store, &text)?))
+}
+
+#[test]
+fn snapshots_both_ways(rt: HostRuntime) -> Result<(), Fail> {
+    assert_eq!(rt; three_both_ways(rt.alloc())?, (true, true));
     Ok(())
+}
+
+/// Whether the empty map has no text, and no text is that of a map without features.
+fn none_both_ways(alloc: Global) -> Result<(bool, bool), Fail> {
+    let is_text = is_text_of(&Store::new(alloc), &[])?;
+    Ok((is_text, read_back(alloc, &[])??.is_empty()))
 }
 
 #[test]
 fn empty_snapshot_both_ways(rt: HostRuntime) -> Result<(), Fail> {
-    let alloc = rt.alloc();
-    let no_text = is_text_of(&Store::new(alloc), &[])?;
-    let no_feature = read_back(alloc, &[])??.is_empty();
-    assert_eq!(rt; (no_text, no_feature), (true, true));
+    assert_eq!(rt; none_both_ways(rt.alloc())?, (true, true));
     Ok(())
 }
 

@@ -131,12 +131,13 @@ fn one_point(alloc: Global, x: u32) -> Result<Store, Fail> {
     Ok(store)
 }
 
-/// Whether these columns of the first row show feature 7, the others nothing, and those of the last row nothing.
-fn is_in_columns(alloc: Global, store: &Store, columns: [bool; 4]) -> Result<bool, Fail> {
+/// Whether these columns of the first row show a point there, the others nothing, and those of the last row nothing.
+fn is_in_columns(alloc: Global, x: u32, columns: [bool; 4]) -> Result<bool, Fail> {
+    let store = one_point(alloc, x)?;
     for (column, is_shown) in columns.iter().enumerate() {
         let numbers = if *is_shown { [7].as_slice() } else { &[] };
-        let first = shows(alloc, store, (2, column as u32, 0), numbers)?;
-        let last = shows(alloc, store, (2, column as u32, 3), &[])?;
+        let first = shows(alloc, &store, (2, column as u32, 0), numbers)?;
+        let last = shows(alloc, &store, (2, column as u32, 3), &[])?;
         if !first || !last {
             return Ok(false);
         }
@@ -147,8 +148,7 @@ fn is_in_columns(alloc: Global, store: &Store, columns: [bool; 4]) -> Result<boo
 #[test]
 fn points_at_margins_and_at_the_edges_of_the_world(rt: HostRuntime) -> Result<(), Fail> {
     for (x, columns) in MARGINS {
-        let store = one_point(rt.alloc(), x)?;
-        assert!(rt; is_in_columns(rt.alloc(), &store, columns)?, "at {x}");
+        assert!(rt; is_in_columns(rt.alloc(), x, columns)?, "at {x}");
     }
     Ok(())
 }
@@ -174,12 +174,16 @@ fn has_each_tile(store: &Store) -> Result<bool, Fail> {
     Ok(tiles.len() == 84)
 }
 
-#[test]
-fn a_line_across_the_world_is_in_each_tile(rt: HostRuntime) -> Result<(), Fail> {
-    let alloc = rt.alloc();
+/// The map of such a line.
+fn one_line(alloc: Global) -> Result<Store, Fail> {
     let mut store = Store::new(alloc);
     put(alloc, &mut store, 7, across_the_world(alloc)?)?;
-    assert!(rt; has_each_tile(&store)?);
+    Ok(store)
+}
+
+#[test]
+fn a_line_across_the_world_is_in_each_tile(rt: HostRuntime) -> Result<(), Fail> {
+    assert!(rt; has_each_tile(&one_line(rt.alloc())?)?);
     Ok(())
 }
 
