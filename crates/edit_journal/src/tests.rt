@@ -41,13 +41,11 @@ fn wanted(kind: u8, part: [u8; 2], length: [u8; 4], text: (usize, u8, u8)) -> [u
     sector
 }
 
+/// The kind, bytes 2 to 3 and bytes 12 to 15.
+type Front = (u8, [u8; 2], [u8; 4]);
+
 /// The sector of a part, beside the one that is wanted.
-fn sectors(
-    length: usize,
-    part: u16,
-    front: (u8, [u8; 2], [u8; 4]),
-    text: (usize, u8, u8),
-) -> [[u8; 512]; 2]
+fn sectors(length: usize, part: u16, front: Front, text: (usize, u8, u8)) -> [[u8; 512]; 2]
     requires some { 1 ≤ length }
     requires few { length ≤ 993 }
     requires part { part < parts_of length }
@@ -74,28 +72,34 @@ fn sectors_as_bytes(rt: HostRuntime) {
     }
 }
 
+/// A front, whether it is a head of `NUMBER`, and what it says.
+const HEADS: [(Front, bool, Option<(u32, u16)>); 10] = [
+    ((1, [1, 0], [1, 0, 0, 0]), true, Some((1, 1))),
+    ((1, [1, 0], [0xf0, 1, 0, 0]), true, Some((496, 1))),
+    ((1, [2, 0], [0xf1, 1, 0, 0]), true, Some((497, 2))),
+    ((1, [67, 0], [0, 0x80, 0, 0]), true, Some((32_768, 67))),
+    ((1, [67, 0], [1, 0x80, 0, 0]), true, None),
+    ((1, [0, 0], [0, 0, 0, 0]), true, None),
+    ((1, [1, 0], [0xf1, 1, 0, 0]), true, None),
+    ((1, [2, 1], [0xf1, 1, 0, 0]), true, None),
+    ((2, [1, 0], [1, 0, 0, 0]), false, None),
+    ((0, [0, 0], [0, 0, 0, 0]), false, None),
+];
+
+/// Whether a sector is a head of a number, and what it says.
+fn told(sector: &[u8; 512], number: u64) -> (bool, Option<(u32, u16)>) {
+    let says = head_in(sector, number).map(|head| (head.length, head.parts));
+    (is_head(sector, number), says)
+}
+
 #[test]
 fn heads(rt: HostRuntime) {
-    // The kind, bytes 2 to 3 and bytes 12 to 15; whether it is a head of NUMBER; what it says.
-    let rows = [
-        (1, [1, 0], [1, 0, 0, 0], true, Some((1, 1))),
-        (1, [1, 0], [0xf0, 1, 0, 0], true, Some((496, 1))),
-        (1, [2, 0], [0xf1, 1, 0, 0], true, Some((497, 2))),
-        (1, [67, 0], [0, 0x80, 0, 0], true, Some((32_768, 67))),
-        (1, [67, 0], [1, 0x80, 0, 0], true, None),
-        (1, [0, 0], [0, 0, 0, 0], true, None),
-        (1, [1, 0], [0xf1, 1, 0, 0], true, None),
-        (1, [2, 1], [0xf1, 1, 0, 0], true, None),
-        (2, [1, 0], [1, 0, 0, 0], false, None),
-        (0, [0, 0], [0, 0, 0, 0], false, None),
-    ];
-    for (kind, part, length, is, says) in rows {
+    for ((kind, part, length), is, says) in HEADS {
         let sector = wanted(kind, part, length, (1, b'a', b'a'));
-        assert_eq!(rt; is_head(&sector, NUMBER), is);
-        assert_eq!(rt; is_head(&sector, NUMBER + 1), false);
-        let found = head_in(&sector, NUMBER);
-        assert_eq!(rt; found.map(|head| (head.length, head.parts)), says);
-        assert_eq!(rt; head_in(&sector, NUMBER - 1), None);
+        let behind = is_head(&sector, NUMBER + 1);
+        let before = head_in(&sector, NUMBER - 1).is_some();
+        let found = (told(&sector, NUMBER), behind, before);
+        assert_eq!(rt; found, ((is, says), false, false));
     }
 }
 

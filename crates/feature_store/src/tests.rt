@@ -4,7 +4,6 @@ use feature_model::{Edit, EditValue, Feature, Geometry, Tag, World, check};
 use hilbert_id::TileAt;
 use mvt_layer::Layer;
 use std::alloc::{AllocError, Global};
-use std::process::Abort;
 use std::test::Fail;
 
 mod tiles;
@@ -50,53 +49,112 @@ fn layer_at(store: &Store, id: u64) -> Option<&str> {
     store.get(id).map(|feature| feature.layer.as_str())
 }
 
+/// What is asked of a map, and its answer.
+#[derive(Clone, Copy)]
+enum Row {
+    /// How many features there are.
+    Len(usize),
+    /// The layer of a number's feature.
+    Layer(u64, Option<&'static str>),
+    /// Whether a number had a feature, which is taken away.
+    Remove(u64, bool),
+}
+
+/// Whether a row holds.
+fn holds(store: &mut Store, row: Row) -> bool {
+    match row {
+        Row::Len(len) => store.len() == len,
+        Row::Layer(id, layer) => layer_at(store, id) == layer,
+        Row::Remove(id, found) => store.remove(id) == found,
+    }
+}
+
+/// Which row is the first that doesn't hold, if one doesn't.
+fn other_row(store: &mut Store, rows: &[Row]) -> Option<usize> {
+    for (index, row) in rows.iter().enumerate() {
+        if !holds(store, *row) {
+            return Some(index);
+        }
+    }
+    None
+}
+
+const KEPT: [Row; 10] = [
+    Row::Len(3),
+    Row::Layer(3, Some("c")),
+    Row::Layer(7, Some("b")),
+    Row::Layer(8, None),
+    Row::Layer(9, Some("a")),
+    Row::Remove(7, true),
+    Row::Remove(7, false),
+    Row::Len(2),
+    Row::Layer(7, None),
+    Row::Layer(9, Some("a")),
+];
+
+/// What a copy then has.
+const COPIED: [Row; 3] = [
+    Row::Len(2),
+    Row::Layer(3, Some("c")),
+    Row::Layer(9, Some("a")),
+];
+
+/// The first row of a map, and of its copy then, that doesn't hold, if one doesn't.
+fn other_rows(alloc: Global) -> Result<(Option<usize>, Option<usize>), Fail> {
+    let mut store = filled(alloc, &[(7, "b"), (3, "a"), (9, "a"), (3, "c")])?;
+    let other = other_row(&mut store, &KEPT);
+    Ok((other, other_row(&mut store.copy()?, &COPIED)))
+}
+
 #[test]
 fn keeps_features_by_number(rt: HostRuntime) -> Result<(), Fail> {
-    let mut store = filled(rt.alloc(), &[(7, "b"), (3, "a"), (9, "a"), (3, "c")])?;
-    assert_eq!(rt; store.len(), 3);
-    assert_eq!(rt; layer_at(&store, 3), Some("c"));
-    assert_eq!(rt; layer_at(&store, 7), Some("b"));
-    assert_eq!(rt; layer_at(&store, 8), None);
-    assert_eq!(rt; layer_at(&store, 9), Some("a"));
-
-    assert!(rt; store.remove(7));
-    assert!(rt; !store.remove(7));
-    assert_eq!(rt; store.len(), 2);
-    assert_eq!(rt; layer_at(&store, 7), None);
-    assert_eq!(rt; layer_at(&store, 9), Some("a"));
-
-    let copy = store.copy()?;
-    assert_eq!(rt; copy.len(), 2);
-    assert_eq!(rt; layer_at(&copy, 3), Some("c"));
-    assert_eq!(rt; layer_at(&copy, 9), Some("a"));
+    assert_eq!(rt; other_rows(rt.alloc())?, (None, None));
     Ok(())
 }
 
-/// Asserts the name and the numbers of a layer.
-fn assert_layer(rt: &impl Abort, layer: &Layer<'_>, name: &str, ids: &[u64]) {
-    assert_eq!(rt; layer.name, name);
-    assert_eq!(rt; layer.version, 2);
-    assert_eq!(rt; layer.extent, 4096);
-    assert_eq!(rt; layer.features.len(), ids.len());
+/// The name of a layer, and the numbers of its features.
+type Listed<'a> = (&'a str, &'a [u64]);
+
+/// Whether a layer of version 2 and extent 4096 has this name and these numbers.
+fn is_listed(layer: &Layer<'_>, (name, ids): Listed<'_>) -> bool {
     for (feature, id) in layer.features.iter().zip(ids) {
-        assert_eq!(rt; feature.id, Some(*id));
+        if feature.id != Some(*id) {
+            return false;
+        }
     }
+    let found = (layer.name, layer.version, layer.extent);
+    found == (name, 2, 4096) && layer.features.len() == ids.len()
+}
+
+/// Whether a tile has these layers.
+fn has_layers(
+    store: &Store,
+    (z, x, y): (u8, u32, u32),
+    wanted: &[Listed<'_>],
+) -> Result<bool, Fail> {
+    let at = TileAt::new(z, x, y).ok_or("a place")?;
+    let layers = store.layers(at)?;
+    for (layer, listed) in layers.iter().zip(wanted) {
+        if !is_listed(layer, *listed) {
+            return Ok(false);
+        }
+    }
+    Ok(layers.len() == wanted.len())
+}
+
+const IN_BYTE_ORDER: [Listed<'static>; 3] = [("B", &[8]), ("a", &[5]), ("b", &[7, 9])];
+
+/// Whether the tile of zoom 0 has these layers, and a tile elsewhere none.
+fn has_them_in_byte_order(alloc: Global) -> Result<(bool, bool), Fail> {
+    let mut store = filled(alloc, &[(9, "b"), (7, "b"), (5, "a"), (8, "B")])?;
+    put(alloc, &mut store, 6, corner(alloc, "c", 1)?)?;
+    let here = has_layers(&store, (0, 0, 0), &IN_BYTE_ORDER)?;
+    Ok((here, has_layers(&store, (1, 1, 1), &[])?))
 }
 
 #[test]
 fn layers_stand_in_byte_order(rt: HostRuntime) -> Result<(), Fail> {
-    let alloc = rt.alloc();
-    let mut store = filled(alloc, &[(9, "b"), (7, "b"), (5, "a"), (8, "B")])?;
-    put(alloc, &mut store, 6, corner(alloc, "c", 1)?)?;
-    let at = TileAt::new(0, 0, 0).ok_or("a place")?;
-    let layers = store.layers(at)?;
-    assert_eq!(rt; layers.len(), 3);
-    assert_layer(&rt, &layers[0], "B", &[8]);
-    assert_layer(&rt, &layers[1], "a", &[5]);
-    assert_layer(&rt, &layers[2], "b", &[7, 9]);
-
-    let elsewhere = TileAt::new(1, 1, 1).ok_or("a place")?;
-    assert!(rt; store.layers(elsewhere)?.is_empty());
+    assert_eq!(rt; has_them_in_byte_order(rt.alloc())?, (true, true));
     Ok(())
 }
 
@@ -106,32 +164,65 @@ const POINT_TILE: [u8; 21] = [
     0x28, 0x80, 0x20, 0x78, 0x02,
 ];
 
+/// Whether a map has these pairs.
+fn has_pairs(store: &Store, wanted: &[(u64, u64)]) -> Result<bool, Fail> {
+    Ok(store.pairs()?.as_slice() == wanted)
+}
+
+/// Whether the tiles of a map have these ids, and the same bytes each.
+fn has_tiles(store: &Store, ids: &[u64], bytes: &[u8]) -> Result<bool, Fail> {
+    let tiles = store.tiles()?;
+    for (tile, id) in tiles.iter().zip(ids) {
+        if tile.0 != *id || tile.1.as_slice() != bytes {
+            return Ok(false);
+        }
+    }
+    Ok(tiles.len() == ids.len())
+}
+
+/// Whether a point has its pairs, and its tiles.
+fn has_both(alloc: Global) -> Result<(bool, bool), Fail> {
+    let store = filled(alloc, &[(7, "p")])?;
+    let pairs = has_pairs(&store, &[(0, 7), (1, 7), (5, 7)])?;
+    Ok((pairs, has_tiles(&store, &[0, 1, 5], &POINT_TILE)?))
+}
+
 #[test]
 fn pairs_and_tiles_of_a_point(rt: HostRuntime) -> Result<(), Fail> {
-    let store = filled(rt.alloc(), &[(7, "p")])?;
-    let pairs = store.pairs()?;
-    assert_eq!(rt; pairs.as_slice(), [(0, 7), (1, 7), (5, 7)].as_slice());
-    let tiles = store.tiles()?;
-    assert_eq!(rt; tiles.len(), 3);
-    for ((id, bytes), expected) in tiles.iter().zip([0, 1, 5]) {
-        assert_eq!(rt; *id, expected);
-        assert_eq!(rt; bytes.as_slice(), POINT_TILE.as_slice());
-    }
+    assert_eq!(rt; has_both(rt.alloc())?, (true, true));
     Ok(())
+}
+
+/// The map of a feature that zooms 0 to 16 show.
+fn shown_to_16(alloc: Global) -> Result<Store, Fail> {
+    let mut store = Store::new(alloc);
+    let mut feature = corner(alloc, "a", 0)?;
+    feature.maxzoom = 16;
+    put(alloc, &mut store, 1, feature)?;
+    Ok(store)
+}
+
+/// How many layers the first tile of a zoom has.
+fn layer_count(store: &Store, zoom: u8) -> Result<usize, Fail> {
+    let at = TileAt::new(zoom, 0, 0).ok_or("a place")?;
+    Ok(store.layers(at)?.len())
+}
+
+/// The first zoom whose first tile has another count of layers, if one has.
+fn other_zoom(alloc: Global) -> Result<Option<u8>, Fail> {
+    let store = shown_to_16(alloc)?;
+    for (zoom, count) in [(0, 1), (16, 1), (17, 0), (31, 0)] {
+        if layer_count(&store, zoom)? != count {
+            return Ok(Some(zoom));
+        }
+    }
+    Ok(None)
 }
 
 /// Above the greatest zoom of a feature there are no layers, whatever the map has.
 #[test]
 fn no_layers_above_the_greatest_zoom(rt: HostRuntime) -> Result<(), Fail> {
-    let alloc = rt.alloc();
-    let mut store = Store::new(alloc);
-    let mut feature = corner(alloc, "a", 0)?;
-    feature.maxzoom = 16;
-    put(alloc, &mut store, 1, feature)?;
-    for (zoom, count) in [(0, 1), (16, 1), (17, 0), (31, 0)] {
-        let at = TileAt::new(zoom, 0, 0).ok_or("a place")?;
-        assert_eq!(rt; store.layers(at)?.len(), count, "at zoom {zoom}");
-    }
+    assert_eq!(rt; other_zoom(rt.alloc())?, None);
     Ok(())
 }
 
@@ -170,55 +261,97 @@ fn read_back(alloc: Global, text: &[u8]) -> Result<Result<Store, SnapshotFault>,
     Ok(Store::from_snapshot(alloc, text))
 }
 
-#[test]
-fn snapshots_both_ways(rt: HostRuntime) -> Result<(), Fail> {
-    let alloc = rt.alloc();
-    let mut store = filled(alloc, &[(258, "a"), (3, "a")])?;
-    let mut tagged = corner(alloc, "b", 0)?;
-    tagged.tags.push(Tag {
+/// The feature of `SEVENTH`.
+fn tagged(alloc: Global) -> Result<Feature, Fail> {
+    let mut feature = corner(alloc, "b", 0)?;
+    feature.tags.push(Tag {
         key: String::from_str(alloc, "k")?,
         value: EditValue::Truth(true),
     })?;
-    put(alloc, &mut store, 7, tagged)?;
+    Ok(feature)
+}
 
-    let text = store.snapshot_text()?;
-    let expected = joined(alloc, &[&THIRD, &SEVENTH, &LAST])?;
-    assert_eq!(rt; text, expected);
-
-    let again = read_back(alloc, &text)??;
-    assert_eq!(rt; again.len(), 3);
+/// Whether the numbers 3, 7 and 258 have the same features in two maps.
+fn same_features(store: &Store, other: &Store) -> bool {
     for id in [3, 7, 258] {
-        assert_eq!(rt; again.get(id), store.get(id), "number {id}");
+        if store.get(id) != other.get(id) {
+            return false;
+        }
     }
-    assert_eq!(rt; again.snapshot_text()?, expected);
+    true
+}
+
+/// Whether this is the text of a map.
+fn is_text_of(store: &Store, text: &[u8]) -> Result<bool, Fail> {
+    Ok(store.snapshot_text()?.as_slice() == text)
+}
+
+/// Whether a map is read back from this text, and has it again. The map has three features.
+fn is_read_back(alloc: Global, store: &Store, text: &[u8]) -> Result<bool, Fail> {
+    let again = read_back(alloc, text)??;
+    Ok(is_text_of(&again, text)? && again.len() == 3 && same_features(&again, store))
+}
+
+/// The map of `THIRD`, `SEVENTH` and `LAST`.
+fn three(alloc: Global) -> Result<Store, Fail> {
+    let mut store = filled(alloc, &[(258, "a"), (3, "a")])?;
+    put(alloc, &mut store, 7, tagged(alloc)?)?;
+    Ok(store)
+}
+
+/// Whether they are its text, and whether it is read back from them.
+fn three_both_ways(alloc: Global) -> Result<(bool, bool), Fail> {
+    let store = three(alloc)?;
+    let text = joined(alloc, &[&THIRD, &SEVENTH, &LAST])?;
+    let is_text = is_text_of(&store, &text)?;
+    Ok((is_text, is_read_back(alloc, &store, &text)?))
+}
+
+#[test]
+fn snapshots_both_ways(rt: HostRuntime) -> Result<(), Fail> {
+    assert_eq!(rt; three_both_ways(rt.alloc())?, (true, true));
     Ok(())
+}
+
+/// Whether the empty map has no text, and no text is that of a map without features.
+fn none_both_ways(alloc: Global) -> Result<(bool, bool), Fail> {
+    let is_text = is_text_of(&Store::new(alloc), &[])?;
+    Ok((is_text, read_back(alloc, &[])??.is_empty()))
 }
 
 #[test]
 fn empty_snapshot_both_ways(rt: HostRuntime) -> Result<(), Fail> {
-    let alloc = rt.alloc();
-    assert!(rt; Store::new(alloc).snapshot_text()?.is_empty());
-    assert!(rt; read_back(alloc, &[])??.is_empty());
+    assert_eq!(rt; none_both_ways(rt.alloc())?, (true, true));
     Ok(())
 }
 
-/// A cut text, numbers that descend, one number twice, an edit that takes a feature away, and a byte too many.
+/// A cut text, numbers that descend, one number twice, an edit that takes a feature away, and a byte too many. Each has how many
+/// bytes are cut off at its end.
+const NO_MAPS: [(&[&[u8]], usize); 8] = [
+    (&[&THIRD], 1),
+    (&[&THIRD, &SEVENTH], 1),
+    (&[&SEVENTH, &THIRD], 0),
+    (&[&LAST, &SEVENTH], 0),
+    (&[&THIRD, &THIRD], 0),
+    (&[&DELETE], 0),
+    (&[&THIRD, &DELETE], 0),
+    (&[&THIRD, &[1]], 0),
+];
+
+/// Why there is no map of these texts but for so many bytes at their end.
+fn fault_of(alloc: Global, texts: &[&[u8]], cut: usize) -> Result<Option<SnapshotFault>, Fail> {
+    let mut text = joined(alloc, texts)?;
+    for _ in 0..cut {
+        let _last = text.pop();
+    }
+    Ok(read_back(alloc, &text)?.err())
+}
+
 #[test]
 fn snapshots_of_no_map(rt: HostRuntime) -> Result<(), Fail> {
-    let alloc = rt.alloc();
-    let texts = [
-        joined(alloc, &[&THIRD[..24]])?,
-        joined(alloc, &[&THIRD, &SEVENTH[..27]])?,
-        joined(alloc, &[&SEVENTH, &THIRD])?,
-        joined(alloc, &[&LAST, &SEVENTH])?,
-        joined(alloc, &[&THIRD, &THIRD])?,
-        joined(alloc, &[&DELETE])?,
-        joined(alloc, &[&THIRD, &DELETE])?,
-        joined(alloc, &[&THIRD, &[1]])?,
-    ];
-    for text in &texts {
-        let fault = read_back(alloc, text)?.err();
-        assert_eq!(rt; fault, Some(SnapshotFault::Bad), "{text:?}");
+    for (texts, cut) in NO_MAPS {
+        let fault = fault_of(rt.alloc(), texts, cut)?;
+        assert_eq!(rt; fault, Some(SnapshotFault::Bad), "{texts:?} without {cut}");
     }
     Ok(())
 }
