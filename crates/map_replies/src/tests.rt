@@ -65,26 +65,54 @@ fn exchange_with(
     Ok((out, served.end))
 }
 
-/// What is written for these bytes, read in pieces, by a service with the empty map.
+/// What is written for these bytes, read in pieces, by a service with the empty map, and how the connection ends.
 fn exchange(alloc: Global, input: &str, size: usize) -> Result<(Vec<u8>, End), Fail> {
     let mut service = empty(alloc, 256)?;
     exchange_with(alloc, &mut service, input, size)
 }
 
-/// The reply to a request behind a PUT of each of these features.
-fn reply_behind(alloc: Global, puts: &[(u64, &str)], last: &str) -> Result<Vec<u8>, Fail> {
-    let mut input = String::new(alloc);
-    for (id, feature) in puts {
-        let path = format!(in alloc; "/features/{id}")?;
-        input.push_str(request(alloc, "PUT", path.as_str(), feature)?.as_str())?;
+/// What a service writes for these bytes, read in pieces of 4,096.
+fn reply_of(
+    alloc: Global,
+    service: &mut MapReplies<MemoryDisk>,
+    asked: &str,
+) -> Result<Vec<u8>, Fail> {
+    let (reply, _) = exchange_with(alloc, service, asked, 4096)?;
+    Ok(reply)
+}
+
+/// A reply, as the tests write it.
+#[derive(Clone, Copy)]
+enum Told<'a> {
+    /// A tile as hex text, or 204 where there is none.
+    Tile(&'a str),
+    /// A text in JSON.
+    Json(&'a str),
+    /// The number of an edit that was made.
+    Made(u64),
+    /// The status and the word of a fault.
+    Refused(&'a str, &'a str),
+    /// The methods that the path allows.
+    NotAllowed(&'a str),
+    /// The type and the length of content that isn't sent.
+    Head(&'a str, u64),
+    /// This text, whole.
+    Text(&'a str),
+}
+
+const NOT_FOUND: Told<'static> = Told::Refused("404 Not Found", "NotFound");
+
+/// The text of a reply.
+fn text_of(alloc: Global, told: Told<'_>) -> Result<String, AllocError> {
+    match told {
+        Told::Tile(hex) => tile_reply(alloc, hex),
+        Told::Json(text) => json_reply(alloc, text),
+        Told::Made(number) => made(alloc, number),
+        Told::Refused(status, word) => refusal(alloc, status, word),
+        Told::NotAllowed(allow) => not_allowed(alloc, allow),
+        Told::Head(kind, length) => head(alloc, kind, length),
+        Told::Text(text) => String::from_str(alloc, text),
     }
-    let (before, _) = exchange(alloc, input.as_str(), 4096)?;
-    input.push_str(last)?;
-    let (after, _) = exchange(alloc, input.as_str(), 4096)?;
-    let reply = after
-        .strip_prefix(before.as_slice())
-        .ok_or("the replies to the features")?;
-    Ok(reply.to_vec(alloc)?)
 }
 
 /// The reply with a tile as hex text, or 204 where there is none.
@@ -106,11 +134,104 @@ fn json_reply(alloc: Global, text: &str) -> Result<String, AllocError> {
     )
 }
 
+/// The reply to an edit that was made.
+fn made(alloc: Global, number: u64) -> Result<String, AllocError> {
+    let body = format!(in alloc; "{{\"edit\":{number}}}")?;
+    json_reply(alloc, body.as_str())
+}
+
 /// The reply that names a fault.
 fn refusal(alloc: Global, status: &str, word: &str) -> Result<String, AllocError> {
     format!(in alloc;
         "HTTP/1.1 {status}\r\ncontent-type: text/plain\r\ncontent-length: {}\r\n\r\n{word}\n",
         word.len() + 1
+    )
+}
+
+/// The reply to a method that the path doesn't allow.
+fn not_allowed(alloc: Global, allow: &str) -> Result<String, AllocError> {
+    format!(in alloc;
+        "HTTP/1.1 405 Method Not Allowed\r\ncontent-type: text/plain\r\nallow: {allow}\r\ncontent-length: 7\r\n\r\nMethod\n"
+    )
+}
+
+/// The reply that is only a head.
+fn head(alloc: Global, kind: &str, length: u64) -> Result<String, AllocError> {
+    format!(in alloc; "HTTP/1.1 200 OK\r\ncontent-type: {kind}\r\ncontent-length: {length}\r\n\r\n")
+}
+
+/// Whether a service tells this where it is asked so.
+fn tells(
+    alloc: Global,
+    service: &mut MapReplies<MemoryDisk>,
+    asked: &str,
+    told: Told<'_>,
+) -> Result<bool, Fail> {
+    let expected = text_of(alloc, told)?;
+    Ok(reply_of(alloc, service, asked)?.as_slice() == expected.as_bytes())
+}
+
+/// A request with the body of a point, by its method and its path, and what is told.
+type Row = (&'static str, &'static str, Told<'static>);
+
+/// Which row is the first that a service with the empty map answers otherwise, if it does.
+fn other_row(alloc: Global, rows: &[Row]) -> Result<Option<usize>, Fail> {
+    let mut service = empty(alloc, 256)?;
+    for (index, (method, path, told)) in rows.iter().enumerate() {
+        let asked = request(alloc, method, path, POINT)?;
+        if !tells(alloc, &mut service, asked.as_str(), *told)? {
+            return Ok(Some(index));
+        }
+    }
+    Ok(None)
+}
+
+/// A PUT of each of these features.
+fn puts_of(alloc: Global, puts: &[(u64, &str)]) -> Result<String, AllocError> {
+    let mut input = String::new(alloc);
+    for (id, feature) in puts {
+        let path = format!(in alloc; "/features/{id}")?;
+        input.push_str(request(alloc, "PUT", path.as_str(), feature)?.as_str())?;
+    }
+    Ok(input)
+}
+
+/// The reply to a request behind a PUT of each of these features.
+fn reply_behind(alloc: Global, puts: &[(u64, &str)], last: &str) -> Result<Vec<u8>, Fail> {
+    let mut input = puts_of(alloc, puts)?;
+    let (before, _) = exchange(alloc, input.as_str(), 4096)?;
+    input.push_str(last)?;
+    let (after, _) = exchange(alloc, input.as_str(), 4096)?;
+    let reply = after
+        .strip_prefix(before.as_slice())
+        .ok_or("the replies to the features")?;
+    Ok(reply.to_vec(alloc)?)
+}
+
+/// Whether a request behind a PUT of each of these features is told this.
+fn tells_behind(
+    alloc: Global,
+    puts: &[(u64, &str)],
+    last: &str,
+    told: Told<'_>,
+) -> Result<bool, Fail> {
+    let expected = text_of(alloc, told)?;
+    Ok(reply_behind(alloc, puts, last)?.as_slice() == expected.as_bytes())
+}
+
+/// The same of a request by its method, its path and its body.
+fn tells_asked(
+    alloc: Global,
+    puts: &[(u64, &str)],
+    asked: (&str, &str, &str),
+    told: Told<'_>,
+) -> Result<bool, Fail> {
+    let (method, path, body) = asked;
+    tells_behind(
+        alloc,
+        puts,
+        request(alloc, method, path, body)?.as_str(),
+        told,
     )
 }
 
@@ -368,60 +489,61 @@ const TILES: [(&[(u64, &str)], &str, &str); 28] = [
 #[test]
 fn tiles_of_the_second_model(rt: HostRuntime) -> Result<(), Fail> {
     for (puts, path, tile) in TILES {
-        let get = request(rt.alloc(), "GET", path, "")?;
-        let reply = reply_behind(rt.alloc(), puts, get.as_str())?;
-        let expected = tile_reply(rt.alloc(), tile)?;
-        assert_eq!(rt; reply.as_slice(), expected.as_bytes(), "{path}");
+        let told = Told::Tile(tile);
+        assert!(rt;
+            tells_asked(rt.alloc(), puts, ("GET", path, ""), told)?,
+            "{path}"
+        );
     }
     Ok(())
 }
+
+const TILE_AS_BYTES: &[u8] =
+    b"HTTP/1.1 200 OK\r\ncontent-type: application/vnd.mapbox-vector-tile\r\ncontent-length: 21\r\n\r\n\
+    \x1a\x13\x0a\x01\x70\x12\x09\x08\x07\x18\x01\x22\x03\x09\x00\x00\x28\x80\x20\x78\x02";
 
 #[test]
 fn a_tile_as_bytes(rt: HostRuntime) -> Result<(), Fail> {
     let get = request(rt.alloc(), "GET", "/map/0/0/0.mvt?v=1", "")?;
     let reply = reply_behind(rt.alloc(), &[(7, POINT)], get.as_str())?;
-    let mut expected = Vec::from_slice(
-        rt.alloc(),
-        b"HTTP/1.1 200 OK\r\ncontent-type: application/vnd.mapbox-vector-tile\r\ncontent-length: 21\r\n\r\n",
-    )?;
-    expected.extend_from_slice(&[
-        0x1a, 0x13, 0x0a, 0x01, 0x70, 0x12, 0x09, 0x08, 0x07, 0x18, 0x01, 0x22, 0x03, 0x09, 0, 0,
-        0x28, 0x80, 0x20, 0x78, 0x02,
-    ])?;
-    assert_eq!(rt; reply.as_slice(), expected.as_slice());
+    assert_eq!(rt; reply.as_slice(), TILE_AS_BYTES);
     Ok(())
 }
 
+/// The bodies of features, and the words of their faults.
+const REFUSED: [(&str, &str); 7] = [
+    ("{", "Json"),
+    ("[]", "E1 Member"),
+    (
+        r#"{"layer":"p","minzoom":3,"maxzoom":2,"geometry":{"points":[[0,0]]},"tags":{}}"#,
+        "E4 Zoom",
+    ),
+    (
+        r#"{"layer":"","minzoom":3,"maxzoom":2,"geometry":{"points":[[0,0]]},"tags":{}}"#,
+        "E3 Layer",
+    ),
+    (
+        r#"{"layer":"p","minzoom":0,"maxzoom":2,"geometry":{"points":[[0,4294967296]]},"tags":{}}"#,
+        "E5 Geometry",
+    ),
+    (
+        r#"{"layer":"p","minzoom":0,"maxzoom":2,"geometry":{"points":[[0,0]]},"tags":{"":1}}"#,
+        "E6 Tags",
+    ),
+    (
+        r#"{"layer":"p","minzoom":0,"maxzoom":2,"geometry":{"points":[[0,0]]},"tags":{"k":null}}"#,
+        "E7 Value",
+    ),
+];
+
 #[test]
 fn refused_features(rt: HostRuntime) -> Result<(), Fail> {
-    for (body, word) in [
-        ("{", "Json"),
-        ("[]", "E1 Member"),
-        (
-            r#"{"layer":"p","minzoom":3,"maxzoom":2,"geometry":{"points":[[0,0]]},"tags":{}}"#,
-            "E4 Zoom",
-        ),
-        (
-            r#"{"layer":"","minzoom":3,"maxzoom":2,"geometry":{"points":[[0,0]]},"tags":{}}"#,
-            "E3 Layer",
-        ),
-        (
-            r#"{"layer":"p","minzoom":0,"maxzoom":2,"geometry":{"points":[[0,4294967296]]},"tags":{}}"#,
-            "E5 Geometry",
-        ),
-        (
-            r#"{"layer":"p","minzoom":0,"maxzoom":2,"geometry":{"points":[[0,0]]},"tags":{"":1}}"#,
-            "E6 Tags",
-        ),
-        (
-            r#"{"layer":"p","minzoom":0,"maxzoom":2,"geometry":{"points":[[0,0]]},"tags":{"k":null}}"#,
-            "E7 Value",
-        ),
-    ] {
-        let put = request(rt.alloc(), "PUT", "/features/7", body)?;
-        let reply = reply_behind(rt.alloc(), &[], put.as_str())?;
-        let expected = refusal(rt.alloc(), "400 Bad Request", word)?;
-        assert_eq!(rt; reply.as_slice(), expected.as_bytes(), "{body}");
+    for (body, word) in REFUSED {
+        let told = Told::Refused("400 Bad Request", word);
+        assert!(rt;
+            tells_asked(rt.alloc(), &[], ("PUT", "/features/7", body), told)?,
+            "{body}"
+        );
     }
     Ok(())
 }
@@ -441,13 +563,18 @@ fn many_points(alloc: Global, count: usize) -> Result<String, AllocError> {
 
 #[test]
 fn the_longest_text(rt: HostRuntime) -> Result<(), Fail> {
-    let mut service = empty(rt.alloc(), 512)?;
     let longest = many_points(rt.alloc(), 4_093)?;
+    let mut service = empty(rt.alloc(), 512)?;
     let (fits, _) = exchange_with(rt.alloc(), &mut service, longest.as_str(), 65_536)?;
     assert_eq!(rt; fits.as_slice(), MADE.as_bytes());
-    let long = reply_behind(rt.alloc(), &[], many_points(rt.alloc(), 4_094)?.as_str())?;
-    let expected = refusal(rt.alloc(), "400 Bad Request", "E8 Long")?;
-    assert_eq!(rt; long.as_slice(), expected.as_bytes());
+    Ok(())
+}
+
+#[test]
+fn a_text_that_is_too_long(rt: HostRuntime) -> Result<(), Fail> {
+    let long = many_points(rt.alloc(), 4_094)?;
+    let told = Told::Refused("400 Bad Request", "E8 Long");
+    assert!(rt; tells_behind(rt.alloc(), &[], long.as_str(), told)?);
     Ok(())
 }
 
@@ -455,69 +582,85 @@ fn the_longest_text(rt: HostRuntime) -> Result<(), Fail> {
 const MADE: &str =
     "HTTP/1.1 200 OK\r\ncontent-type: application/json\r\ncontent-length: 10\r\n\r\n{\"edit\":1}";
 
+const REACHES: [(&str, Told<'static>); 2] = [
+    (
+        r#"{"layer":"p","minzoom":0,"maxzoom":7,"tags":{},"geometry":{"polygons":[[[[0,0],[4294967295,0],[4294967295,4294967295],[0,4294967295]]]]}}"#,
+        Told::Text(MADE),
+    ),
+    (
+        r#"{"layer":"p","minzoom":0,"maxzoom":8,"tags":{},"geometry":{"polygons":[[[[0,0],[4294967295,0],[4294967295,4294967295],[0,4294967295]]]]}}"#,
+        Told::Refused("400 Bad Request", "E9 Reach"),
+    ),
+];
+
 #[test]
 fn the_widest_reach(rt: HostRuntime) -> Result<(), Fail> {
-    for (body, fits) in [
-        (
-            r#"{"layer":"p","minzoom":0,"maxzoom":7,"tags":{},"geometry":{"polygons":[[[[0,0],[4294967295,0],[4294967295,4294967295],[0,4294967295]]]]}}"#,
-            true,
-        ),
-        (
-            r#"{"layer":"p","minzoom":0,"maxzoom":8,"tags":{},"geometry":{"polygons":[[[[0,0],[4294967295,0],[4294967295,4294967295],[0,4294967295]]]]}}"#,
-            false,
-        ),
-    ] {
-        let put = request(rt.alloc(), "PUT", "/features/7", body)?;
-        let reply = reply_behind(rt.alloc(), &[], put.as_str())?;
-        let far = refusal(rt.alloc(), "400 Bad Request", "E9 Reach")?;
-        let expected = if fits { MADE } else { far.as_str() };
-        assert_eq!(rt; reply.as_slice(), expected.as_bytes());
+    for (body, told) in REACHES {
+        assert!(rt;
+            tells_asked(rt.alloc(), &[], ("PUT", "/features/7", body), told)?,
+            "{body}"
+        );
     }
     Ok(())
 }
 
+const NOT_SERVED: [(&str, &str, &str, Told<'static>); 11] = [
+    ("GET", "/", POINT, NOT_FOUND),
+    ("GET", "/features/7", POINT, NOT_FOUND),
+    ("PUT", "/features/07", POINT, NOT_FOUND),
+    ("PUT", "/features/9223372036854775808", POINT, NOT_FOUND),
+    ("PUT", "/features/x", POINT, NOT_FOUND),
+    ("GET", "/map/17/0/0.mvt", POINT, NOT_FOUND),
+    ("GET", "/map/00/0/0.mvt", POINT, NOT_FOUND),
+    ("GET", "/map/0/1/0.mvt", POINT, NOT_FOUND),
+    ("GET", "/map/0/0/0.png", POINT, NOT_FOUND),
+    ("GET", "/map/0/0/0", POINT, NOT_FOUND),
+    // the reply to a HEAD is only a head
+    (
+        "HEAD",
+        "/map/17/0/0.mvt",
+        "",
+        Told::Text(
+            "HTTP/1.1 404 Not Found\r\ncontent-type: text/plain\r\ncontent-length: 9\r\n\r\n",
+        ),
+    ),
+];
+
 #[test]
 fn paths_that_are_not_served(rt: HostRuntime) -> Result<(), Fail> {
-    for (method, path) in [
-        ("GET", "/"),
-        ("GET", "/features/7"),
-        ("PUT", "/features/07"),
-        ("PUT", "/features/9223372036854775808"),
-        ("PUT", "/features/x"),
-        ("GET", "/map/17/0/0.mvt"),
-        ("GET", "/map/00/0/0.mvt"),
-        ("GET", "/map/0/1/0.mvt"),
-        ("GET", "/map/0/0/0.png"),
-        ("GET", "/map/0/0/0"),
-    ] {
-        let asked = request(rt.alloc(), method, path, POINT)?;
-        let reply = reply_behind(rt.alloc(), &[], asked.as_str())?;
-        let expected = refusal(rt.alloc(), "404 Not Found", "NotFound")?;
-        assert_eq!(rt; reply.as_slice(), expected.as_bytes(), "{method} {path}");
+    for (method, path, body, told) in NOT_SERVED {
+        assert!(rt;
+            tells_asked(rt.alloc(), &[], (method, path, body), told)?,
+            "{method} {path}"
+        );
     }
-    // the reply to a HEAD is only a head
-    let asked = request(rt.alloc(), "HEAD", "/map/17/0/0.mvt", "")?;
-    let reply = reply_behind(rt.alloc(), &[], asked.as_str())?;
-    let head = b"HTTP/1.1 404 Not Found\r\ncontent-type: text/plain\r\ncontent-length: 9\r\n\r\n";
-    assert_eq!(rt; reply.as_slice(), head.as_slice());
     Ok(())
+}
+
+/// Requests with what follows them, of which some are refused.
+fn five_requests(alloc: Global) -> Result<String, AllocError> {
+    let mut input = puts_of(alloc, &[(7, POINT)])?;
+    input.push_str(request(alloc, "GET", "/map/0/0/0.hex", "")?.as_str())?;
+    input.push_str(puts_of(alloc, &[(8, "{"), (8, POINT)])?.as_str())?;
+    input.push_str("GET /map/1/0/0.hex HTTP/1.0\r\n\r\nand what follows")?;
+    Ok(input)
+}
+
+/// How the connection ends that is read in large pieces, and at which other size of the pieces the exchange is another one, if at one.
+fn other_size(alloc: Global, input: &str) -> Result<(End, Option<usize>), Fail> {
+    let whole = exchange(alloc, input, 65_536)?;
+    for size in [1, 2, 7, 100] {
+        if exchange(alloc, input, size)? != whole {
+            return Ok((whole.1, Some(size)));
+        }
+    }
+    Ok((whole.1, None))
 }
 
 #[test]
 fn the_pieces_do_not_matter(rt: HostRuntime) -> Result<(), Fail> {
-    let alloc = rt.alloc();
-    let mut input = request(alloc, "PUT", "/features/7", POINT)?;
-    input.push_str(request(alloc, "GET", "/map/0/0/0.hex", "")?.as_str())?;
-    input.push_str(request(alloc, "PUT", "/features/8", "{")?.as_str())?;
-    input.push_str(request(alloc, "PUT", "/features/8", POINT)?.as_str())?;
-    input.push_str("GET /map/1/0/0.hex HTTP/1.0\r\n\r\nand what follows")?;
-    let (whole, end) = exchange(alloc, input.as_str(), 65_536)?;
-    assert_eq!(rt; end, End::Asked);
-    for size in [1, 2, 7, 100] {
-        let (out, end) = exchange(alloc, input.as_str(), size)?;
-        assert_eq!(rt; out.as_slice(), whole.as_slice(), "pieces of {size}");
-        assert_eq!(rt; end, End::Asked);
-    }
+    let input = five_requests(rt.alloc())?;
+    assert_eq!(rt; other_size(rt.alloc(), input.as_str())?, (End::Asked, None));
     Ok(())
 }
 
@@ -534,68 +677,61 @@ fn tagged(alloc: Global, letters: usize) -> Result<String, AllocError> {
     request(alloc, "PUT", "/features/7", body.as_str())
 }
 
-/// The reply to an edit that was made.
-fn made(alloc: Global, number: u64) -> Result<String, AllocError> {
-    let body = format!(in alloc; "{{\"edit\":{number}}}")?;
-    format!(in alloc;
-        "HTTP/1.1 200 OK\r\ncontent-type: application/json\r\ncontent-length: {}\r\n\r\n{body}",
-        body.len()
-    )
+/// Puts a point at each number from 1 to 15: whether each of these edits has the number of its feature.
+fn put_fifteen(alloc: Global, service: &mut MapReplies<MemoryDisk>) -> Result<bool, Fail> {
+    for number in 1..16 {
+        let put = puts_of(alloc, &[(number, POINT)])?;
+        if !tells(alloc, service, put.as_str(), Told::Made(number))? {
+            return Ok(false);
+        }
+    }
+    Ok(true)
+}
+
+/// What is told behind these of points with so many letters.
+const NEARLY_FULL: [(usize, Told<'static>); 3] = [
+    (
+        467,
+        Told::Refused("507 Insufficient Storage", "JournalFull need 2 free 1"),
+    ),
+    (466, Told::Made(16)),
+    (
+        0,
+        Told::Refused("507 Insufficient Storage", "JournalFull need 1 free 0"),
+    ),
+];
+
+/// Which of these is told otherwise first, if one is.
+fn other_letters(
+    alloc: Global,
+    service: &mut MapReplies<MemoryDisk>,
+) -> Result<Option<usize>, Fail> {
+    for (letters, told) in NEARLY_FULL {
+        if !tells(alloc, service, tagged(alloc, letters)?.as_str(), told)? {
+            return Ok(Some(letters));
+        }
+    }
+    Ok(None)
 }
 
 #[test]
 fn a_journal_that_is_nearly_full(rt: HostRuntime) -> Result<(), Fail> {
     let alloc = rt.alloc();
     let mut service = empty(alloc, 64)?;
-    for number in 1..16 {
-        let path = format!(in alloc; "/features/{number}")?;
-        let put = request(alloc, "PUT", path.as_str(), POINT)?;
-        let (reply, _) = exchange_with(alloc, &mut service, put.as_str(), 4096)?;
-        assert_eq!(rt; reply.as_slice(), made(alloc, number)?.as_bytes());
-    }
-    for (letters, expected) in [
-        (
-            467,
-            refusal(
-                alloc,
-                "507 Insufficient Storage",
-                "JournalFull need 2 free 1",
-            )?,
-        ),
-        (466, made(alloc, 16)?),
-        (
-            0,
-            refusal(
-                alloc,
-                "507 Insufficient Storage",
-                "JournalFull need 1 free 0",
-            )?,
-        ),
-    ] {
-        let put = tagged(alloc, letters)?;
-        let (reply, _) = exchange_with(alloc, &mut service, put.as_str(), 4096)?;
-        assert_eq!(rt; reply.as_slice(), expected.as_bytes(), "{letters}");
-    }
+    let put = put_fifteen(alloc, &mut service)?;
+    assert_eq!(rt; (put, other_letters(alloc, &mut service)?), (true, None));
     Ok(())
 }
 
+const DELETED: [Row; 4] = [
+    ("DELETE", "/features/7", NOT_FOUND),
+    ("PUT", "/features/7", Told::Made(1)),
+    ("DELETE", "/features/7", Told::Made(2)),
+    ("GET", "/map/0/0/0.hex", Told::Tile("")),
+];
+
 #[test]
 fn deleted_features(rt: HostRuntime) -> Result<(), Fail> {
-    let alloc = rt.alloc();
-    let mut service = empty(alloc, 256)?;
-    for (method, path, expected) in [
-        (
-            "DELETE",
-            "/features/7",
-            refusal(alloc, "404 Not Found", "NotFound")?,
-        ),
-        ("PUT", "/features/7", made(alloc, 1)?),
-        ("DELETE", "/features/7", made(alloc, 2)?),
-        ("GET", "/map/0/0/0.hex", tile_reply(alloc, "")?),
-    ] {
-        let asked = request(alloc, method, path, POINT)?;
-        let (reply, _) = exchange_with(alloc, &mut service, asked.as_str(), 4096)?;
-        assert_eq!(rt; reply.as_slice(), expected.as_bytes(), "{method} {path}");
-    }
+    assert_eq!(rt; other_row(rt.alloc(), &DELETED)?, None);
     Ok(())
 }

@@ -53,26 +53,42 @@ fn fault(alloc: Global, bytes: &[u8]) -> Option<ArchiveFault> {
 #[test]
 fn refused_bytes(rt: HostRuntime) {
     let alloc = rt.alloc();
-    assert_eq!(rt;
-        fault(alloc, &TILES[..222]),
-        Some(ArchiveFault::Section(Section::Tiles))
-    );
-    assert_eq!(rt; fault(alloc, &TILES[..126]), Some(ArchiveFault::Short));
     let mut compressed = TILES;
     compressed[97] = 2;
-    assert_eq!(rt;
+    let faults = [
+        fault(alloc, &TILES[..222]),
+        fault(alloc, &TILES[..126]),
         fault(alloc, &compressed),
-        Some(ArchiveFault::Compressed(2))
+    ];
+    assert_eq!(rt;
+        faults,
+        [
+            Some(ArchiveFault::Section(Section::Tiles)),
+            Some(ArchiveFault::Short),
+            Some(ArchiveFault::Compressed(2)),
+        ]
     );
+}
+
+// Ids, and whether they have the one content.
+const CONTENTS: [(u64, bool); 3] = [(1, true), (5, true), (2, false)];
+
+// Which id is the first with another content, if one is.
+fn other_content(alloc: Global) -> Result<Option<u64>, Fail> {
+    let mut archive = Archive::open(alloc, TILES.as_slice())?;
+    for (id, has) in CONTENTS {
+        let told = archive.tile(alloc, id)?;
+        let content = if has { Some(&TILES[202..]) } else { None };
+        if told.as_deref() != content {
+            return Ok(Some(id));
+        }
+    }
+    Ok(None)
 }
 
 #[test]
 fn contents_of_ids(rt: HostRuntime) -> Result<(), Fail> {
-    let alloc = rt.alloc();
-    let mut archive = Archive::open(alloc, TILES.as_slice())?;
-    assert_eq!(rt; archive.tile(alloc, 1)?.as_deref(), Some(&TILES[202..]));
-    assert_eq!(rt; archive.tile(alloc, 5)?.as_deref(), Some(&TILES[202..]));
-    assert_eq!(rt; archive.tile(alloc, 2)?.as_deref(), None);
+    assert_eq!(rt; other_content(rt.alloc())?, None);
     Ok(())
 }
 
@@ -86,6 +102,11 @@ fn fault_of_tile(alloc: Global, bytes: &[u8], id: u64) -> Option<ArchiveFault> {
 fn fault_of_list(alloc: Global, bytes: &[u8]) -> Option<ArchiveFault> {
     let mut archive = Archive::open(alloc, bytes).ok()?;
     archive.list(alloc).err()
+}
+
+// Both.
+fn faults_of(alloc: Global, bytes: &[u8], id: u64) -> [Option<ArchiveFault>; 2] {
+    [fault_of_tile(alloc, bytes, id), fault_of_list(alloc, bytes)]
 }
 
 #[test]
@@ -122,27 +143,27 @@ fn faults_of_directories(rt: HostRuntime) {
         ),
         (low.as_slice(), 4, None, ArchiveFault::Order(0)),
     ] {
-        assert_eq!(rt; fault_of_tile(alloc, bytes, id), looked, "{id}");
-        assert_eq!(rt; fault_of_list(alloc, bytes), Some(listed), "{id}");
+        assert_eq!(rt; faults_of(alloc, bytes, id), [looked, Some(listed)], "{id}");
     }
+}
+
+// The verdict on the archive in these bytes.
+fn verdict(alloc: Global, bytes: &[u8]) -> Result<Result<Report, ArchiveFault>, Fail> {
+    Ok(Archive::open(alloc, bytes)?.verify(alloc))
 }
 
 #[test]
 fn verdicts(rt: HostRuntime) -> Result<(), Fail> {
     let alloc = rt.alloc();
-    let report = Archive::open(alloc, TILES.as_slice())?.verify(alloc)?;
-    assert_eq!(rt;
-        report,
-        Report {
-            tiles: 3,
-            entries: 2,
-            contents: 1,
-        }
-    );
     // No tile begins with this byte.
     let mut other = TILES;
     other[202] = 0;
-    let fault = Archive::open(alloc, other.as_slice())?.verify(alloc).err();
-    assert_eq!(rt; fault, Some(ArchiveFault::Tile(0)));
+    let verdicts = [verdict(alloc, &TILES)?, verdict(alloc, &other)?];
+    let report = Report {
+        tiles: 3,
+        entries: 2,
+        contents: 1,
+    };
+    assert_eq!(rt; verdicts, [Ok(report), Err(ArchiveFault::Tile(0))]);
     Ok(())
 }

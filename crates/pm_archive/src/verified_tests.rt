@@ -11,15 +11,29 @@ use pm_header::{HEADER_BYTES, Header, HeaderFault, Part};
 use std::alloc::Global;
 use std::test::Fail;
 
+// Texts, and whether they are metadata.
+const TEXTS: [(&[u8], bool); 6] = [
+    (b"{}", true),
+    (br#" {"name": "x", "fields": []} "#, true),
+    (b"[]", false),
+    (b"", false),
+    (b"{", false),
+    (b"{\"\xff\":1}", false),
+];
+
+// Which text is the first of which the other is told, if one is.
+fn other_text(alloc: Global) -> Result<Option<usize>, Fail> {
+    for (index, (text, is)) in TEXTS.iter().enumerate() {
+        if is_metadata(alloc, text)? != *is {
+            return Ok(Some(index));
+        }
+    }
+    Ok(None)
+}
+
 #[test]
 fn metadata_is_an_object(rt: HostRuntime) -> Result<(), Fail> {
-    let alloc = rt.alloc();
-    assert!(rt; is_metadata(alloc, b"{}")?);
-    assert!(rt; is_metadata(alloc, br#" {"name": "x", "fields": []} "#)?);
-    assert!(rt; !is_metadata(alloc, b"[]")?);
-    assert!(rt; !is_metadata(alloc, b"")?);
-    assert!(rt; !is_metadata(alloc, b"{")?);
-    assert!(rt; !is_metadata(alloc, b"{\"\xff\":1}")?);
+    assert_eq!(rt; other_text(rt.alloc())?, None);
     Ok(())
 }
 
@@ -31,35 +45,42 @@ fn unknown() -> Result<Header, HeaderFault> {
     Header::from_bytes(&bytes)
 }
 
+// What is counted of two runs of one content, and another content behind it.
+const COUNTED: Report = Report {
+    tiles: 6,
+    entries: 3,
+    contents: 2,
+};
+
 #[test]
 fn counts_entries(rt: HostRuntime) -> Result<(), Fail> {
-    // Two runs of one content, and another content behind it.
     let tiles = [entry(0, 2, 21, 0), entry(5, 1, 21, 0), entry(7, 3, 9, 21)];
-    let report = told(rt.alloc(), &tiles)?;
-    assert_eq!(rt;
-        report,
-        Report {
-            tiles: 6,
-            entries: 3,
-            contents: 2,
-        }
-    );
+    assert_eq!(rt; told(rt.alloc(), &tiles)?, COUNTED);
+    Ok(())
+}
+
+// What is told of a header with another count each: of contents, of entries then, and of addressed ids.
+fn counts_told() -> Result<[Result<(), ArchiveFault>; 4], HeaderFault> {
     let mut header = unknown()?;
-    assert_eq!(rt; check_counts(&header, report), Ok(()));
+    let first = check_counts(&header, COUNTED);
     header.contents = 3;
-    assert_eq!(rt;
-        check_counts(&header, report),
-        Err(ArchiveFault::Count(Count::Contents))
-    );
+    let contents = check_counts(&header, COUNTED);
     header.entries = 2;
-    assert_eq!(rt;
-        check_counts(&header, report),
-        Err(ArchiveFault::Count(Count::Entries))
-    );
+    let entries = check_counts(&header, COUNTED);
     header.addressed = 3;
+    Ok([first, contents, entries, check_counts(&header, COUNTED)])
+}
+
+#[test]
+fn counts_of_headers(rt: HostRuntime) -> Result<(), Fail> {
     assert_eq!(rt;
-        check_counts(&header, report),
-        Err(ArchiveFault::Count(Count::Addressed))
+        counts_told()?,
+        [
+            Ok(()),
+            Err(ArchiveFault::Count(Count::Contents)),
+            Err(ArchiveFault::Count(Count::Entries)),
+            Err(ArchiveFault::Count(Count::Addressed)),
+        ]
     );
     Ok(())
 }
@@ -93,15 +114,27 @@ fn checked(alloc: Global, tiles: &[Entry]) -> Result<Result<(), ArchiveFault>, H
     Ok(check_tiles(alloc, &mut source, &header, tiles))
 }
 
+// What becomes of four rows of them.
+fn checked_each(alloc: Global) -> Result<[Result<(), ArchiveFault>; 4], HeaderFault> {
+    let tiles = [tile(0, 7, 0), tile(1, 7, 0), tile(2, 3, 0), tile(3, 7, 0)];
+    Ok([
+        checked(alloc, &tiles[..2])?,
+        checked(alloc, &tiles)?,
+        checked(alloc, &[tile(0, 7, 0), tile(4, 4, 7)])?,
+        checked(alloc, &[tile(5, 5, 7)])?,
+    ])
+}
+
 #[test]
 fn each_tile_is_read(rt: HostRuntime) -> Result<(), Fail> {
-    let alloc = rt.alloc();
-    let tiles = [tile(0, 7, 0), tile(1, 7, 0), tile(2, 3, 0), tile(3, 7, 0)];
-    assert_eq!(rt; checked(alloc, &tiles[..2])?, Ok(()));
-    assert_eq!(rt; checked(alloc, &tiles)?, Err(ArchiveFault::Tile(2)));
-    let last = checked(alloc, &[tile(0, 7, 0), tile(4, 4, 7)])?;
-    assert_eq!(rt; last, Err(ArchiveFault::Tile(4)));
-    let outside = checked(alloc, &[tile(5, 5, 7)])?;
-    assert_eq!(rt; outside, Err(ArchiveFault::Place(5)));
+    assert_eq!(rt;
+        checked_each(rt.alloc())?,
+        [
+            Ok(()),
+            Err(ArchiveFault::Tile(2)),
+            Err(ArchiveFault::Tile(4)),
+            Err(ArchiveFault::Place(5)),
+        ]
+    );
     Ok(())
 }

@@ -1,5 +1,5 @@
 //! The published archive, whole and in parts.
-use super::{POINT, empty, exchange_with, refusal, request, tagged};
+use super::{NOT_FOUND, POINT, empty, reply_of, request, tagged, tells};
 use crate::{MapReplies, serve_map};
 use http_serve::{End, ServeFault, Served};
 use sector_disk::{FailingCalls, FaultyDisk, MemoryDisk, Sectors};
@@ -10,16 +10,6 @@ use tile_service::Service;
 /// A request for the archive with a field of a range.
 fn ranged(alloc: Global, method: &str, range: &str) -> Result<String, AllocError> {
     format!(in alloc; "{method} /map.pmtiles HTTP/1.1\r\nhost: x\r\nrange: {range}\r\n\r\n")
-}
-
-/// What a service answers.
-fn reply_of(
-    alloc: Global,
-    service: &mut MapReplies<MemoryDisk>,
-    asked: &str,
-) -> Result<Vec<u8>, Fail> {
-    let (reply, _) = exchange_with(alloc, service, asked, 4096)?;
-    Ok(reply)
 }
 
 /// The head of the reply with the whole archive of one point.
@@ -56,71 +46,108 @@ const RANGES: [(&str, &str, &str, usize, usize); 8] = [
     ("HEAD", "bytes=223-300", WHOLE, 0, 0),
 ];
 
-#[test]
-fn parts_of_the_archive(rt: HostRuntime) -> Result<(), Fail> {
-    let alloc = rt.alloc();
+/// A service with the empty map, asked to put a point and to publish. The body of the second request may be any.
+fn published(alloc: Global, body: &str) -> Result<MapReplies<MemoryDisk>, Fail> {
     let mut service = empty(alloc, 256)?;
+    let put = request(alloc, "PUT", "/features/7", POINT)?;
+    put_and_publish(alloc, &mut service, put.as_str(), body)?;
+    Ok(service)
+}
+
+/// Asks a service to put and to publish.
+fn put_and_publish(
+    alloc: Global,
+    service: &mut MapReplies<MemoryDisk>,
+    put: &str,
+    body: &str,
+) -> Result<(), Fail> {
+    let publish = request(alloc, "POST", "/publish", body)?;
+    reply_of(alloc, service, put)?;
+    reply_of(alloc, service, publish.as_str())?;
+    Ok(())
+}
+
+#[test]
+fn no_archive_before_a_publication(rt: HostRuntime) -> Result<(), Fail> {
+    let get = request(rt.alloc(), "GET", "/map.pmtiles", "")?;
+    let mut service = empty(rt.alloc(), 256)?;
+    assert!(rt; tells(rt.alloc(), &mut service, get.as_str(), NOT_FOUND)?);
+    Ok(())
+}
+
+/// The archive of a service, asked for as a whole.
+fn whole_of(alloc: Global, service: &mut MapReplies<MemoryDisk>) -> Result<Vec<u8>, Fail> {
     let get = request(alloc, "GET", "/map.pmtiles", "")?;
-    let none = reply_of(alloc, &mut service, get.as_str())?;
-    let not_found = refusal(alloc, "404 Not Found", "NotFound")?;
-    assert_eq!(rt; none.as_slice(), not_found.as_bytes());
-    reply_of(
-        alloc,
-        &mut service,
-        request(alloc, "PUT", "/features/7", POINT)?.as_str(),
-    )?;
-    reply_of(
-        alloc,
-        &mut service,
-        request(alloc, "POST", "/publish", "")?.as_str(),
-    )?;
-    let reply = reply_of(alloc, &mut service, get.as_str())?;
+    let reply = reply_of(alloc, service, get.as_str())?;
     let whole = reply
         .strip_prefix(WHOLE.as_bytes())
         .ok_or("the whole archive")?;
-    assert_eq!(rt; whole.get(..8), Some(b"PMTiles\x03".as_slice()));
-    for (method, range, head, from, to) in RANGES {
+    Ok(whole.to_vec(alloc)?)
+}
+
+/// Whether the reply to a range is this head with this part.
+fn is_part(
+    alloc: Global,
+    service: &mut MapReplies<MemoryDisk>,
+    asked: &str,
+    head: &str,
+    part: Option<&[u8]>,
+) -> Result<bool, Fail> {
+    let reply = reply_of(alloc, service, asked)?;
+    Ok(part.is_some() && reply.strip_prefix(head.as_bytes()) == part)
+}
+
+/// Which range is the first with another reply, if one is.
+fn other_range(
+    alloc: Global,
+    service: &mut MapReplies<MemoryDisk>,
+    whole: &[u8],
+) -> Result<Option<usize>, Fail> {
+    for (index, (method, range, head, from, to)) in RANGES.iter().enumerate() {
         let asked = ranged(alloc, method, range)?;
-        let part = reply_of(alloc, &mut service, asked.as_str())?;
-        let mut expected = Vec::from_slice(alloc, head.as_bytes())?;
-        expected.extend_from_slice(whole.get(from..to).ok_or("a part")?)?;
-        assert_eq!(rt; part.as_slice(), expected.as_slice(), "{method} {range}");
+        let part = whole.get(*from..*to);
+        if !is_part(alloc, service, asked.as_str(), head, part)? {
+            return Ok(Some(index));
+        }
     }
+    Ok(None)
+}
+
+#[test]
+fn parts_of_the_archive(rt: HostRuntime) -> Result<(), Fail> {
+    let alloc = rt.alloc();
+    let mut service = published(alloc, "")?;
+    let whole = whole_of(alloc, &mut service)?;
+    let begins = whole.starts_with(b"PMTiles\x03");
+    let other = other_range(alloc, &mut service, whole.as_slice())?;
+    assert_eq!(rt; (begins, other), (true, None));
     Ok(())
 }
 
 #[test]
 fn a_range_behind_the_archive(rt: HostRuntime) -> Result<(), Fail> {
-    let alloc = rt.alloc();
-    let mut service = empty(alloc, 256)?;
-    for (method, path) in [("PUT", "/features/7"), ("POST", "/publish")] {
-        reply_of(
-            alloc,
-            &mut service,
-            request(alloc, method, path, POINT)?.as_str(),
-        )?;
-    }
-    let asked = ranged(alloc, "GET", "bytes=223-300")?;
-    let reply = reply_of(alloc, &mut service, asked.as_str())?;
+    let asked = ranged(rt.alloc(), "GET", "bytes=223-300")?;
+    let mut service = published(rt.alloc(), POINT)?;
+    let reply = reply_of(rt.alloc(), &mut service, asked.as_str())?;
     let expected =
         b"HTTP/1.1 416 Range Not Satisfiable\r\ncontent-type: text/plain\r\ncontent-range: bytes */223\r\ncontent-length: 6\r\n\r\nRange\n";
     assert_eq!(rt; reply.as_slice(), expected.as_slice());
     Ok(())
 }
 
-/// A service that was opened over a disk with an archive of two sectors, and of which these calls fail.
+/// A disk with an archive of two sectors.
+fn disk_with_archive(alloc: Global) -> Result<MemoryDisk, Fail> {
+    let mut service = empty(alloc, 256)?;
+    put_and_publish(alloc, &mut service, tagged(alloc, 600)?.as_str(), "")?;
+    Ok(service.service.into_disk())
+}
+
+/// A service that was opened over it, and of which these calls fail.
 fn opened(
     alloc: Global,
     failing: FailingCalls,
 ) -> Result<MapReplies<FaultyDisk<MemoryDisk>>, Fail> {
-    let mut service = empty(alloc, 256)?;
-    reply_of(alloc, &mut service, tagged(alloc, 600)?.as_str())?;
-    reply_of(
-        alloc,
-        &mut service,
-        request(alloc, "POST", "/publish", "")?.as_str(),
-    )?;
-    let disk = FaultyDisk::new(service.service.into_disk(), failing);
+    let disk = FaultyDisk::new(disk_with_archive(alloc)?, failing);
     let service = Service::open(alloc, disk).ok().ok_or("a service")?;
     Ok(MapReplies::new(alloc, service)?)
 }
@@ -144,6 +171,27 @@ const CLOSED: Result<Served, ServeFault> = Ok(Served {
     end: End::Closed,
 });
 
+/// How many calls of the disk come before the first request.
+fn calls_before(alloc: Global) -> Result<u64, Fail> {
+    Ok(opened(alloc, NONE_FAIL)?.service.into_disk().calls())
+}
+
+/// What is written for a GET of the archive where these calls fail, and how the connection ends.
+fn download(
+    alloc: Global,
+    failing: FailingCalls,
+) -> Result<(Vec<u8>, Result<Served, ServeFault>), Fail> {
+    let get = request(alloc, "GET", "/map.pmtiles", "")?;
+    let mut service = opened(alloc, failing)?;
+    Ok(answers(alloc, &mut service, get.as_str()))
+}
+
+/// The same where one read fails, counted from the download's first one.
+fn cut_download(alloc: Global, read: u64) -> Result<(Vec<u8>, Result<Served, ServeFault>), Fail> {
+    let call = calls_before(alloc)?.saturating_add(read);
+    download(alloc, FailingCalls::OneNotMade(call))
+}
+
 /// The read that fails, counted from the download's first one, how many bytes of the archive are sent where not all are, and how
 /// it ends.
 const DOWNLOADS: [(u64, Option<usize>, Result<Served, ServeFault>); 2] = [
@@ -151,46 +199,49 @@ const DOWNLOADS: [(u64, Option<usize>, Result<Served, ServeFault>); 2] = [
     (3, None, CLOSED),
 ];
 
+/// Whether a download of which this read fails has the first bytes of the whole one, and how it ends.
+fn is_cut(
+    alloc: Global,
+    read: u64,
+    size: Option<usize>,
+) -> Result<(bool, Result<Served, ServeFault>), Fail> {
+    let (whole, _) = download(alloc, NONE_FAIL)?;
+    let (out, result) = cut_download(alloc, read)?;
+    let end = match size {
+        Some(size) => WHOLE.len().saturating_add(size),
+        None => whole.len(),
+    };
+    Ok((Some(out.as_slice()) == whole.get(..end), result))
+}
+
 #[test]
 fn downloads_that_are_cut(rt: HostRuntime) -> Result<(), Fail> {
-    let alloc = rt.alloc();
-    let get = request(alloc, "GET", "/map.pmtiles", "")?;
-    let (whole, _) = answers(alloc, &mut opened(alloc, NONE_FAIL)?, get.as_str());
-    let before = opened(alloc, NONE_FAIL)?.service.into_disk().calls();
     for (read, size, end) in DOWNLOADS {
-        let failing = FailingCalls::OneNotMade(before.saturating_add(read));
-        let (out, result) = answers(alloc, &mut opened(alloc, failing)?, get.as_str());
-        assert_eq!(rt; result, end, "read {read}");
-        let end = match size {
-            Some(size) => WHOLE.len().saturating_add(size),
-            None => whole.len(),
-        };
-        assert_eq!(rt; Some(out.as_slice()), whole.get(..end), "read {read}");
+        assert_eq!(rt; is_cut(rt.alloc(), read, size)?, (true, end), "read {read}");
     }
     Ok(())
 }
 
 #[test]
 fn downloads_that_do_not_begin(rt: HostRuntime) -> Result<(), Fail> {
-    let alloc = rt.alloc();
-    let get = request(alloc, "GET", "/map.pmtiles", "")?;
-    let before = opened(alloc, NONE_FAIL)?.service.into_disk().calls();
-    let failing = FailingCalls::OneNotMade(before.saturating_add(1));
-    let (out, result) = answers(alloc, &mut opened(alloc, failing)?, get.as_str());
-    let device = refusal(alloc, "500 Internal Server Error", "Device")?;
-    assert_eq!(rt; result, CLOSED);
-    assert_eq!(rt; out.as_slice(), device.as_bytes());
+    let (out, result) = cut_download(rt.alloc(), 1)?;
+    let device =
+        b"HTTP/1.1 500 Internal Server Error\r\ncontent-type: text/plain\r\ncontent-length: 7\r\n\r\nDevice\n";
+    assert_eq!(rt; (out.as_slice(), result), (device.as_slice(), CLOSED));
     Ok(())
+}
+
+/// How many bytes are written for a HEAD of the archive, and how many calls of the disk were made then.
+fn seen_by_a_head(alloc: Global) -> Result<(usize, u64), Fail> {
+    let head = request(alloc, "HEAD", "/map.pmtiles", "")?;
+    let mut service = opened(alloc, NONE_FAIL)?;
+    let (out, _) = answers(alloc, &mut service, head.as_str());
+    Ok((out.len(), service.service.into_disk().calls()))
 }
 
 #[test]
 fn a_head_reads_nothing(rt: HostRuntime) -> Result<(), Fail> {
-    let alloc = rt.alloc();
-    let head = request(alloc, "HEAD", "/map.pmtiles", "")?;
-    let before = opened(alloc, NONE_FAIL)?.service.into_disk().calls();
-    let mut service = opened(alloc, NONE_FAIL)?;
-    let (out, _) = answers(alloc, &mut service, head.as_str());
-    assert_eq!(rt; out.len(), WHOLE.len());
-    assert_eq!(rt; service.service.into_disk().calls(), before);
+    let before = calls_before(rt.alloc())?;
+    assert_eq!(rt; seen_by_a_head(rt.alloc())?, (WHOLE.len(), before));
     Ok(())
 }

@@ -139,8 +139,8 @@ const ASKED: [Option<Asked>; 7] = [
 fn asks_its_file(rt: HostRuntime) -> Result<(), Fail> {
     let file = NotedFile::new(0, sector_from(7));
     let mut disk = FileDisk::new(SystemFile::new(&file), 2048, Unknown);
-    assert_eq!(rt; used(&mut disk), ([true; 6], [true; 2]));
-    assert_eq!(rt; file.asked.get(), ASKED);
+    let seen = (used(&mut disk), file.asked.get());
+    assert_eq!(rt; seen, (([true; 6], [true; 2]), ASKED));
     Ok(())
 }
 
@@ -154,24 +154,33 @@ fn done<D: Sectors>(disk: &mut D) -> [bool; 3]
     [read, written, disk.sync().is_ok()]
 }
 
+/// What is done where one call fails, how many sectors the disk has then, what is done after that, and what the file was asked.
+fn done_twice(failing_call: usize) -> ([bool; 3], u64, [bool; 3], Asks) {
+    let file = NotedFile::new(failing_call, [0; 512]);
+    let mut disk = FileDisk::new(SystemFile::new(&file), 512, Unknown);
+    let before = done(&mut disk);
+    let count = disk.count();
+    (before, count, done(&mut disk), file.asked.get())
+}
+
+const ASKED_TWICE: Asks = [
+    Some(Asked::Read(0)),
+    Some(Asked::Write(0, 1)),
+    Some(Asked::Sync),
+    Some(Asked::Read(0)),
+    Some(Asked::Write(0, 1)),
+    Some(Asked::Sync),
+    None,
+];
+
 #[test]
 fn reports_a_fault_once(rt: HostRuntime) -> Result<(), Fail> {
-    let rows = [
-        [false, true, true],
-        [true, false, true],
-        [true, true, false],
-    ];
-    let read = Some(Asked::Read(0));
-    let write = Some(Asked::Write(0, 1));
-    let sync = Some(Asked::Sync);
-    let asked = [read, write, sync, read, write, sync, None];
-    for (failing_call, row) in (1..=3).zip(rows) {
-        let file = NotedFile::new(failing_call, [0; 512]);
-        let mut disk = FileDisk::new(SystemFile::new(&file), 512, Unknown);
-        assert_eq!(rt; done(&mut disk), row);
-        assert_eq!(rt; disk.count(), 1);
-        assert_eq!(rt; done(&mut disk), [true; 3]);
-        assert_eq!(rt; file.asked.get(), asked);
+    for (failing_call, row) in [
+        (1, [false, true, true]),
+        (2, [true, false, true]),
+        (3, [true, true, false]),
+    ] {
+        assert_eq!(rt; done_twice(failing_call), (row, 1, [true; 3], ASKED_TWICE));
     }
     Ok(())
 }
@@ -226,6 +235,46 @@ impl OpenFile for &ShortFile {
     }
 }
 
+impl ShortFile {
+    /// Its length, that at the last `sync_all`, how often its data was synced, and where the last write ended.
+    fn state(&self) -> [u64; 4] {
+        [
+            self.length.get(),
+            self.synced_length.get(),
+            self.data_syncs.get(),
+            self.end.get(),
+        ]
+    }
+}
+
+/// The bytes 0, 199, 200, 399, 400 and 511 of those that are read at 1024.
+fn read_bytes<F: SectorFile>(file: &mut F) -> io::Result<[u8; 6]> {
+    let mut into = [0; 512];
+    file.read_at(&mut into, 1024)?;
+    Ok([
+        into[0], into[199], into[200], into[399], into[400], into[511],
+    ])
+}
+
+/// The bytes that are read, and the file's state once it was filled, written and synced.
+fn states(file: &ShortFile) -> io::Result<([u8; 6], [[u64; 4]; 3])> {
+    fill(&file, 1536)?;
+    let filled = file.state();
+    let mut system = SystemFile::new(file);
+    let bytes = read_bytes(&mut system)?;
+    system.write_at(&[7; 512], 512)?;
+    file.synced_length.set(0);
+    let written = file.state();
+    system.sync_data()?;
+    Ok((bytes, [filled, written, file.state()]))
+}
+
+/// Reads at 1024, 1224 and 1424, which are 20 + 4 * 251, 220 + 4 * 251 and 169 + 5 * 251.
+const BYTES: [u8; 6] = [20, 20, 220, 220, 169, 169];
+
+/// A sync is of the data alone, and there is none but those asked for.
+const STATES: [[u64; 4]; 3] = [[1536, 1536, 0, 512], [1536, 0, 0, 1024], [1536, 0, 1, 1024]];
+
 #[test]
 fn asks_the_system(rt: HostRuntime) -> Result<(), Fail> {
     let file = ShortFile {
@@ -234,32 +283,7 @@ fn asks_the_system(rt: HostRuntime) -> Result<(), Fail> {
         synced_length: Cell::new(0),
         data_syncs: Cell::new(0),
     };
-    fill(&&file, 1536)?;
-    assert_eq!(rt; file.length.get(), 1536);
-    assert_eq!(rt; file.synced_length.get(), 1536);
-    assert_eq!(rt; file.data_syncs.get(), 0);
-    let mut system = SystemFile::new(&file);
-    let mut into = [0; 512];
-    system.read_at(&mut into, 1024)?;
-    // Reads at 1024, 1224 and 1424, which are 20 + 4 * 251, 220 + 4 * 251 and 169 + 5 * 251.
-    for (at, byte) in [
-        (0, 20),
-        (199, 20),
-        (200, 220),
-        (399, 220),
-        (400, 169),
-        (511, 169),
-    ] {
-        assert_eq!(rt; into[at], byte);
-    }
-    system.write_at(&[7; 512], 512)?;
-    assert_eq!(rt; file.end.get(), 1024);
-    // A sync is of the data alone, and there is none but those asked for.
-    file.synced_length.set(0);
-    assert_eq!(rt; file.data_syncs.get(), 0);
-    system.sync_data()?;
-    assert_eq!(rt; file.data_syncs.get(), 1);
-    assert_eq!(rt; file.synced_length.get(), 0);
+    assert_eq!(rt; states(&file)?, (BYTES, STATES));
     Ok(())
 }
 
@@ -285,40 +309,90 @@ fn set_len(rt: &HostRuntime, path: &str, bytes: u64) -> io::Result<()> {
         .set_len(bytes)
 }
 
+/// How many sectors a disk has, how sector 2 begins, and whether it is filled with 7s and synced.
+fn begun<D: Sectors>(disk: &mut D) -> (u64, u8, [bool; 2])
+    requires { 2 < D.sectors disk.old }
+{
+    let count = disk.count();
+    let byte = first(disk, 2);
+    (count, byte, [put(disk, 2, 7), disk.sync().is_ok()])
+}
+
+/// How the sectors 1 and 2 begin, where there are three.
+fn kept<D: Sectors>(disk: &mut D) -> Option<[u8; 2]> {
+    if disk.count() == 3 {
+        Some([first(disk, 1), first(disk, 2)])
+    } else {
+        None
+    }
+}
+
+/// What is read of sector 2, how sector 1 begins, whether sector 2 is filled with 8s, and how it begins then, where there are three.
+fn mended<D: Sectors>(disk: &mut D) -> Option<(Result<(), DiskFault>, u8, bool, u8)> {
+    if disk.count() != 3 {
+        return None;
+    }
+    let read = disk.read(2, &mut [0; 512]);
+    let byte = first(disk, 1);
+    let written = put(disk, 2, 8);
+    Some((read, byte, written, first(disk, 2)))
+}
+
+/// What a disk that is opened again keeps, and what is mended where someone cut off a part of sector 2.
+fn opened_again(rt: &HostRuntime, path: &str) -> Result<Again, Fail> {
+    let mut again = FileDisk::open(rt, path, Unknown)?;
+    let kept = kept(&mut again);
+    set_len(rt, path, 1500)?;
+    Ok((kept, mended(&mut again)))
+}
+
+type Again = (
+    Option<[u8; 2]>,
+    Option<(Result<(), DiskFault>, u8, bool, u8)>,
+);
+
+/// What is seen of a new disk, and of the same one opened again.
+fn seen_at(rt: &HostRuntime, path: &str) -> Result<((u64, u8, [bool; 2]), Again), Fail> {
+    let mut disk = FileDisk::create(rt, path, 3, Zeros)?;
+    let begun = begun(&mut disk);
+    Ok((begun, opened_again(rt, path)?))
+}
+
+/// A sector that someone cut off can't be read, not even in part, until there is one again.
+const AGAIN: Again = (Some([0, 7]), Some((Err(DiskFault), 0, true, 8)));
+
 #[test]
 fn keeps_what_was_synced(rt: HostRuntime) -> Result<(), Fail> {
     let path = free_path(&rt)?;
-    let mut disk = FileDisk::create(&rt, path.as_str(), 3, Zeros)?;
-    assert_eq!(rt; disk.count(), 3);
-    assert_eq!(rt; first(&mut disk, 2), 0);
-    assert!(rt; put(&mut disk, 2, 7));
-    assert!(rt; disk.sync().is_ok());
-    let mut again = FileDisk::open(&rt, path.as_str(), Unknown)?;
-    assert_eq!(rt; again.count(), 3);
-    assert_eq!(rt; first(&mut again, 1), 0);
-    assert_eq!(rt; first(&mut again, 2), 7);
-    // A sector that someone cut off can't be read, not even in part, until there is one again.
-    set_len(&rt, path.as_str(), 1500)?;
-    assert_eq!(rt; again.read(2, &mut [0; 512]), Err(DiskFault));
-    assert_eq!(rt; first(&mut again, 1), 0);
-    assert!(rt; put(&mut again, 2, 8));
-    assert_eq!(rt; first(&mut again, 2), 8);
+    let seen = seen_at(&rt, path.as_str())?;
     fs::remove_file(&rt, path.as_str())?;
+    assert_eq!(rt; seen, ((3, 0, [true; 2]), AGAIN));
     Ok(())
+}
+
+/// How many sectors a disk has in a file of so many bytes.
+fn count_of(rt: &HostRuntime, path: &str, bytes: u64) -> Result<u64, Fail> {
+    set_len(rt, path, bytes)?;
+    Ok(FileDisk::open(rt, path, Unknown)?.count())
+}
+
+/// At which length of the file the count is another one first, if at one.
+fn other_length(rt: &HostRuntime, path: &str) -> Result<Option<u64>, Fail> {
+    for (bytes, sectors) in [(0, 0), (511, 0), (512, 1), (1600, 3)] {
+        if count_of(rt, path, bytes)? != sectors {
+            return Ok(Some(bytes));
+        }
+    }
+    Ok(None)
 }
 
 #[test]
 fn counts_whole_sectors(rt: HostRuntime) -> Result<(), Fail> {
     let path = free_path(&rt)?;
     fs::write(&rt, path.as_str(), "")?;
-    for (bytes, sectors) in [(0, 0), (511, 0), (512, 1), (1600, 3)] {
-        set_len(&rt, path.as_str(), bytes)?;
-        assert_eq!(rt;
-            FileDisk::open(&rt, path.as_str(), Unknown)?.count(),
-            sectors
-        );
-    }
+    let other = other_length(&rt, path.as_str())?;
     fs::remove_file(&rt, path.as_str())?;
+    assert_eq!(rt; other, None);
     Ok(())
 }
 
@@ -340,25 +414,60 @@ fn name(rt: &HostRuntime, fault: Option<FileFault>) -> Result<&'static str, Fail
     }
 }
 
+/// How opening a disk fails, if it does.
+fn open_fault(rt: &HostRuntime, path: &str) -> Result<&'static str, Fail> {
+    name(rt, FileDisk::open(rt, path, Unknown).err())
+}
+
+/// How making a disk fails, if it does, and whether there is a file at its path then.
+fn create_fault(rt: &HostRuntime, path: &str, count: u64) -> Result<(&'static str, bool), Fail> {
+    let made = FileDisk::create(rt, path, count, Zeros).err();
+    Ok((name(rt, made)?, fs::exists(rt, path)?))
+}
+
+/// The faults of two disks that are larger than files are.
+fn create_faults(
+    rt: &HostRuntime,
+    path: &str,
+) -> Result<((&'static str, bool), (&'static str, bool)), Fail> {
+    // No system has a file of 2^63 bytes, and 2^64 aren't a u64.
+    let first = create_fault(rt, path, 1 << 54)?;
+    Ok((first, create_fault(rt, path, 1 << 55)?))
+}
+
 #[test]
 fn names_its_faults(rt: HostRuntime) -> Result<(), Fail> {
     let path = free_path(&rt)?;
-    let path = path.as_str();
-    let opened = FileDisk::open(&rt, path, Unknown).err();
-    assert_eq!(rt; name(&rt, opened)?, "Open");
-    // No system has a file of 2^63 bytes, and 2^64 aren't a u64.
-    for count in [1 << 54, 1 << 55] {
-        let made = FileDisk::create(&rt, path, count, Zeros).err();
-        assert_eq!(rt; name(&rt, made)?, "Grow");
-        assert!(rt; !fs::exists(&rt, path)?);
-    }
-    let inside = format!(in rt.alloc(); "{path}/disk")?;
-    let made = FileDisk::create(&rt, inside.as_str(), 3, Zeros).err();
-    assert_eq!(rt; name(&rt, made)?, "Create");
-    fs::write(&rt, path, "as before")?;
-    let made = FileDisk::create(&rt, path, 3, Zeros).err();
-    assert_eq!(rt; name(&rt, made)?, "Create");
-    assert_eq!(rt; fs::read(&rt, path)?.as_slice(), b"as before".as_slice());
-    fs::remove_file(&rt, path)?;
+    let opened = open_fault(&rt, path.as_str())?;
+    let made = create_faults(&rt, path.as_str())?;
+    assert_eq!(rt;
+        (opened, made),
+        ("Open", (("Grow", false), ("Grow", false)))
+    );
+    Ok(())
+}
+
+#[test]
+fn names_its_fault_in_no_folder(rt: HostRuntime) -> Result<(), Fail> {
+    let path = format!(in rt.alloc(); "{}/disk", free_path(&rt)?)?;
+    let made = create_fault(&rt, path.as_str(), 3)?;
+    assert_eq!(rt; made, ("Create", false));
+    Ok(())
+}
+
+/// How making a disk fails at the path of a file, and whether the file holds what it did.
+fn made_over(rt: &HostRuntime, path: &str) -> Result<(&'static str, bool), Fail> {
+    fs::write(rt, path, "as before")?;
+    let (name, _) = create_fault(rt, path, 3)?;
+    let held = fs::read(rt, path)?;
+    fs::remove_file(rt, path)?;
+    Ok((name, held.as_slice() == b"as before".as_slice()))
+}
+
+#[test]
+fn leaves_another_file_as_it_is(rt: HostRuntime) -> Result<(), Fail> {
+    let path = free_path(&rt)?;
+    let made = made_over(&rt, path.as_str())?;
+    assert_eq!(rt; made, ("Create", true));
     Ok(())
 }
