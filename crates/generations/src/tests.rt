@@ -6,7 +6,7 @@ mod crashes;
 mod disks;
 mod installs;
 
-use crate::Root;
+use crate::{Root, StoreFault, read_root};
 use sector_disk::{MemoryDisk, Sectors};
 use std::alloc::{AllocError, Global};
 
@@ -46,6 +46,15 @@ fn numbers_of(root: Root) -> [u64; 5] {
         root.snapshot_len,
         root.archive_len,
     ]
+}
+
+/// The sectors of a disk, of its journal and of an area, and the numbers of the root that counts.
+type Found = ([u64; 3], [u64; 5]);
+
+fn read(disk: &mut MemoryDisk) -> Result<Found, StoreFault> {
+    let (layout, root) = read_root(disk)?;
+    let parts = [layout.sectors, layout.journal, layout.area];
+    Ok((parts, numbers_of(root)))
 }
 
 /// A disk in memory with these first sectors, synced.

@@ -1,7 +1,7 @@
 //! A format that ends after each of its calls, and then a crash.
 ghost use Rattle.std.specs.Prelude.{◌≡◌, ◌<◌, IfOk};
 
-use super::{FORMAT_64, begins, disk_with, numbers_of, root};
+use super::{FORMAT_64, Found, begins, disk_with, read, root};
 use crate::{StoreFault, What, format, read_root};
 use sector_disk::{FailingCalls, FaultyDisk, MemoryDisk, Sectors};
 use std::alloc::{AllocError, Global};
@@ -84,53 +84,73 @@ fn wanted(calls: u64, first_choice: u32) -> Left {
     }
 }
 
+/// The fault of a format, if there is one, and how many calls it made.
+type Told = (Option<StoreFault>, u64);
+
+/// What is told of a format of which so many calls pass, and the disk.
+fn stopped(alloc: Global, passes: u64) -> Result<(Told, MemoryDisk), Fail>
+    ensures { IfOk result (λ told. ⟦<MemoryDisk as Sectors>⟧.sectors told.1 ≡ 64) }
+{
+    let failing = FailingCalls::AllFrom(passes.saturating_add(1));
+    let mut disk = FaultyDisk::new(old_disk(alloc)?, failing);
+    let fault = format(&mut disk).err();
+    Ok(((fault, disk.calls()), disk.into_disk()))
+}
+
+/// What is told of it, and the first choice by which a crash leaves anything else than is wanted, if there is one.
+fn crashed(alloc: Global, passes: u64) -> Result<(Told, Option<[u32; 4]>), Fail> {
+    let (told, disk) = stopped(alloc, passes)?;
+    for choice in CHOICES {
+        if left_by(disk.crash(&choice)?) != wanted(passes, choice[0]) {
+            return Ok((told, Some(choice)));
+        }
+    }
+    Ok((told, None))
+}
+
 #[test]
 fn crashes_after_each_call(rt: HostRuntime) -> Result<(), Fail> {
     for passes in 0..30 {
-        let mut disk = FaultyDisk::new(old_disk(rt.alloc())?, FailingCalls::AllFrom(passes + 1));
-        let outcome = format(&mut disk);
         let fault = if passes == 29 {
             None
         } else {
             Some(StoreFault::Device)
         };
-        assert_eq!(rt; (outcome.err(), disk.calls()), (fault, 29.min(passes + 1)));
-        let disk = disk.into_disk();
-        for choice in CHOICES {
-            let left = left_by(disk.crash(&choice)?);
-            assert_eq!(rt;
-                left,
-                wanted(passes, choice[0]),
-                "{passes} calls, {choice:?}"
-            );
-        }
+        let told = (fault, 29.min(passes + 1));
+        assert_eq!(rt;
+            crashed(rt.alloc(), passes)?,
+            (told, None),
+            "{passes} calls"
+        );
     }
     Ok(())
+}
+
+/// What is told of the format of a disk of zeros, whose calls fail from one on.
+fn told_of_zeros(alloc: Global, count: u64, first: u64) -> Result<Told, Fail> {
+    let zeros = MemoryDisk::new(alloc, count)?;
+    let mut disk = FaultyDisk::new(zeros, FailingCalls::AllFrom(first));
+    let fault = format(&mut disk).err();
+    Ok((fault, disk.calls()))
 }
 
 /// On a disk of zeros the sectors 1 to 18 are read and not written: 25 calls in all, with these 18 reads.
 #[test]
 fn zeros_are_not_written_again(rt: HostRuntime) -> Result<(), Fail> {
-    let mut disk = FaultyDisk::new(MemoryDisk::new(rt.alloc(), 64)?, FailingCalls::AllFrom(26));
-    let outcome = format(&mut disk);
-    assert_eq!(rt; (outcome.err(), disk.calls()), (None, 25));
+    assert_eq!(rt; told_of_zeros(rt.alloc(), 64, 26)?, (None, 25));
     Ok(())
+}
+
+/// What is read of a disk of 256 sectors that was formatted.
+fn formatted(alloc: Global) -> Result<Found, Fail> {
+    let mut disk = MemoryDisk::new(alloc, 256)?;
+    format(&mut disk)?;
+    Ok(read(&mut disk)?)
 }
 
 #[test]
 fn formats_and_reads(rt: HostRuntime) -> Result<(), Fail> {
-    let mut disk = MemoryDisk::new(rt.alloc(), 256)?;
-    format(&mut disk)?;
-    let (layout, root) = read_root(&mut disk)?;
-    assert_eq!(rt;
-        (
-            layout.sectors,
-            layout.journal,
-            layout.area,
-            numbers_of(root)
-        ),
-        (256, 64, 94, [0; 5])
-    );
+    assert_eq!(rt; formatted(rt.alloc())?, ([256, 64, 94], [0; 5]));
     Ok(())
 }
 
@@ -142,12 +162,7 @@ fn other_sizes_are_left(rt: HostRuntime) -> Result<(), Fail> {
         (16_777_217, StoreFault::Damaged(What::Size)),
     ];
     for (count, fault) in rows {
-        let mut disk = FaultyDisk::new(
-            MemoryDisk::new(rt.alloc(), count)?,
-            FailingCalls::AllFrom(101),
-        );
-        let outcome = format(&mut disk);
-        assert_eq!(rt; (outcome.err(), disk.calls()), (Some(fault), 0));
+        assert_eq!(rt; told_of_zeros(rt.alloc(), count, 101)?, (Some(fault), 0));
     }
     Ok(())
 }

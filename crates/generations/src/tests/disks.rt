@@ -1,7 +1,10 @@
 //! What is read of disks, whole and damaged.
-use super::{FORMAT_64, begins, disk_with, numbers_of, root};
-use crate::{StoreFault, What, read_root};
+ghost use Rattle.std.specs.Prelude.{◌≤◌};
+
+use super::{FORMAT_64, Found, begins, disk_with, read, root};
+use crate::{StoreFault, What};
 use sector_disk::MemoryDisk;
+use std::alloc::Global;
 use std::test::Fail;
 
 /// Roots that can stand on a disk of 64 sectors, whose journal has 16 and whose areas have 22.
@@ -30,12 +33,13 @@ const IMPOSSIBLE: [[u64; 5]; 11] = [
     [4, 0, 0, u64::MAX - 511, 512],
 ];
 
-/// The generation of the even root, that of the odd one, and the greater.
-const GENERATIONS: [(u64, u64, u64); 4] = [
-    (4, 3, 4),
-    (4, 5, 5),
-    (0, 1, 1),
-    (u64::MAX - 1, u64::MAX, u64::MAX),
+/// The generation of the even root, if there is one, that of the odd one, and the greater.
+const GENERATIONS: [(Option<u64>, u64, u64); 5] = [
+    (Some(4), 3, 4),
+    (Some(4), 5, 5),
+    (Some(0), 1, 1),
+    (Some(u64::MAX - 1), u64::MAX, u64::MAX),
+    (None, 7, 7),
 ];
 
 /// The first bytes of sector 0 that are no format of a disk of 64 sectors, and the fault.
@@ -71,62 +75,55 @@ const FORMATS: [([u8; 21], StoreFault); 8] = [
     ),
 ];
 
+/// What is read of a disk with these first sectors.
+fn read_with(
+    alloc: Global,
+    count: u64,
+    sectors: [[u8; 512]; 3],
+) -> Result<Result<Found, StoreFault>, Fail>
+    requires { 3 ≤ count }
+{
+    let mut disk = disk_with(alloc, count, sectors)?;
+    Ok(read(&mut disk))
+}
+
 #[test]
 fn roots_that_can_stand(rt: HostRuntime) -> Result<(), Fail> {
     for numbers in POSSIBLE {
-        let mut disk = disk_with(
-            rt.alloc(),
-            64,
-            [begins(&FORMAT_64), root(numbers), [0; 512]],
-        )?;
-        let (layout, root) = read_root(&mut disk)?;
-        assert_eq!(rt;
-            (
-                layout.sectors,
-                layout.journal,
-                layout.area,
-                numbers_of(root)
-            ),
-            (64, 16, 22, numbers)
-        );
+        let sectors = [begins(&FORMAT_64), root(numbers), [0; 512]];
+        let found = read_with(rt.alloc(), 64, sectors)?;
+        assert_eq!(rt; found, Ok(([64, 16, 22], numbers)));
     }
     Ok(())
 }
 
 #[test]
 fn roots_that_can_not(rt: HostRuntime) -> Result<(), Fail> {
+    let fault = StoreFault::Damaged(What::RootSector);
     for numbers in IMPOSSIBLE {
-        let mut disk = disk_with(
-            rt.alloc(),
-            64,
-            [begins(&FORMAT_64), root(numbers), root([1, 0, 0, 0, 0])],
-        )?;
-        let fault = read_root(&mut disk).err();
-        assert_eq!(rt;
-            fault,
-            Some(StoreFault::Damaged(What::RootSector)),
-            "{numbers:?}"
-        );
+        let sectors = [begins(&FORMAT_64), root(numbers), root([1, 0, 0, 0, 0])];
+        let found = read_with(rt.alloc(), 64, sectors)?;
+        assert_eq!(rt; found, Err(fault), "{numbers:?}");
     }
     Ok(())
+}
+
+/// The generation that is found where the roots have these.
+fn generation(alloc: Global, even: Option<u64>, odd: u64) -> Result<u64, Fail> {
+    let first = match even {
+        Some(even) => root([even, 0, 0, 0, 0]),
+        None => [0; 512],
+    };
+    let sectors = [begins(&FORMAT_64), first, root([odd, 0, 0, 0, 0])];
+    let (_, numbers) = read_with(alloc, 64, sectors)??;
+    Ok(numbers[0])
 }
 
 #[test]
 fn greater_generation_counts(rt: HostRuntime) -> Result<(), Fail> {
     for (even, odd, live) in GENERATIONS {
-        let first = root([even, 0, 0, 0, 0]);
-        let second = root([odd, 0, 0, 0, 0]);
-        let mut disk = disk_with(rt.alloc(), 64, [begins(&FORMAT_64), first, second])?;
-        let (_, found) = read_root(&mut disk)?;
-        assert_eq!(rt; found.generation, live);
+        assert_eq!(rt; generation(rt.alloc(), even, odd)?, live);
     }
-    let mut disk = disk_with(
-        rt.alloc(),
-        64,
-        [begins(&FORMAT_64), [0; 512], root([7, 0, 0, 0, 0])],
-    )?;
-    let (_, found) = read_root(&mut disk)?;
-    assert_eq!(rt; found.generation, 7);
     Ok(())
 }
 
@@ -152,46 +149,59 @@ fn bad_sectors_of_roots(rt: HostRuntime) -> Result<(), Fail> {
         ([1; 512], odd),
     ];
     for (even, odd) in rows {
-        let mut disk = disk_with(rt.alloc(), 64, [begins(&FORMAT_64), even, odd])?;
-        assert_eq!(rt;
-            read_root(&mut disk).err(),
-            Some(StoreFault::Damaged(What::RootSector))
-        );
+        let found = read_with(rt.alloc(), 64, [begins(&FORMAT_64), even, odd])?;
+        assert_eq!(rt; found, Err(StoreFault::Damaged(What::RootSector)));
     }
     Ok(())
+}
+
+/// The fault of a disk with this first sector.
+fn fault_of(alloc: Global, first: [u8; 512]) -> Result<Option<StoreFault>, Fail> {
+    Ok(read_with(alloc, 64, [first, root([0; 5]), [0; 512]])?.err())
 }
 
 #[test]
 fn sectors_of_no_format(rt: HostRuntime) -> Result<(), Fail> {
     for (bytes, fault) in FORMATS {
-        let mut disk = disk_with(rt.alloc(), 64, [begins(&bytes), root([0; 5]), [0; 512]])?;
-        assert_eq!(rt; read_root(&mut disk).err(), Some(fault), "{bytes:?}");
+        let found = fault_of(rt.alloc(), begins(&bytes))?;
+        assert_eq!(rt; found, Some(fault), "{bytes:?}");
     }
     let mut last = begins(&FORMAT_64);
     last[511] = 1;
-    let mut disk = disk_with(rt.alloc(), 64, [last, root([0; 5]), [0; 512]])?;
-    assert_eq!(rt;
-        read_root(&mut disk).err(),
-        Some(StoreFault::Damaged(What::Size))
-    );
+    let found = fault_of(rt.alloc(), last)?;
+    assert_eq!(rt; found, Some(StoreFault::Damaged(What::Size)));
     Ok(())
+}
+
+/// How many sectors are read of the format of 64 sectors on a disk of so many.
+fn sectors_of(alloc: Global, count: u64) -> Result<Option<u64>, Fail>
+    requires { 3 ≤ count }
+{
+    let sectors = [begins(&FORMAT_64), root([0; 5]), [0; 512]];
+    match read_with(alloc, count, sectors)? {
+        Ok(found) => {
+            let parts = found.0;
+            Ok(Some(parts[0]))
+        }
+        Err(_) => Ok(None),
+    }
+}
+
+/// The fault of a disk of zeros.
+fn fault_of_zeros(alloc: Global, count: u64) -> Result<Option<StoreFault>, Fail> {
+    let mut zeros = MemoryDisk::new(alloc, count)?;
+    Ok(read(&mut zeros).err())
 }
 
 #[test]
 fn disks_of_other_sizes(rt: HostRuntime) -> Result<(), Fail> {
     // One sector fewer than the format says, as many, and more.
     for (count, wanted) in [(63, None), (64, Some(64)), (70, Some(64))] {
-        let mut disk = disk_with(
-            rt.alloc(),
-            count,
-            [begins(&FORMAT_64), root([0; 5]), [0; 512]],
-        )?;
-        let found = read_root(&mut disk).ok();
-        assert_eq!(rt; found.map(|(layout, _)| layout.sectors), wanted);
+        assert_eq!(rt; sectors_of(rt.alloc(), count)?, wanted);
     }
     for count in [0, 1, 64] {
-        let mut empty = MemoryDisk::new(rt.alloc(), count)?;
-        assert_eq!(rt; read_root(&mut empty).err(), Some(StoreFault::NotFormatted));
+        let found = fault_of_zeros(rt.alloc(), count)?;
+        assert_eq!(rt; found, Some(StoreFault::NotFormatted));
     }
     Ok(())
 }

@@ -39,17 +39,35 @@ const AREA_SECTORS: [(u64, u64, u64); 6] = [
     (u64::MAX, 1, 42),
 ];
 
+/// The same disk once a sector of an area has sevens.
+fn written(alloc: Global, generation: u64, index: u64) -> Result<MemoryDisk, Fail>
+    ensures { IfOk result (λ disk. ⟦<MemoryDisk as Sectors>⟧.sectors disk ≡ 64) }
+{
+    let layout = Layout::of(64).ok_or("a layout")?;
+    let mut disk = fifth(alloc)?;
+    if index >= layout.area || layout.sectors > disk.count() {
+        return Err("no such sector".into());
+    }
+    write_area(&mut disk, layout, generation, index, &[7; 512])?;
+    Ok(disk)
+}
+
+/// The first sector behind the roots that has sevens and isn't this one, or is it and has none, if there is one.
+fn other_sector(disk: &mut MemoryDisk, at: u64) -> Option<u64> {
+    for sector in 3..64 {
+        let byte = if sector == at { 7 } else { 0 };
+        if first_byte(disk, sector) != Some(byte) {
+            return Some(sector);
+        }
+    }
+    None
+}
+
 #[test]
 fn sectors_of_areas(rt: HostRuntime) -> Result<(), Fail> {
-    let layout = Layout::of(64).ok_or("a layout")?;
     for (generation, index, at) in AREA_SECTORS {
-        let mut disk = fifth(rt.alloc())?;
-        assert!(rt; index < layout.area && layout.sectors <= disk.count());
-        write_area(&mut disk, layout, generation, index, &[7; 512])?;
-        for sector in 3..64 {
-            let byte = if sector == at { 7 } else { 0 };
-            assert_eq!(rt; first_byte(&mut disk, sector), Some(byte));
-        }
+        let other = other_sector(&mut written(rt.alloc(), generation, index)?, at);
+        assert_eq!(rt; other, None);
     }
     Ok(())
 }
@@ -66,31 +84,43 @@ const STOPS: [(u64, u32, u64, Option<u8>); 7] = [
     (3, 1, 6, Some(7)),
 ];
 
+/// The root that is installed.
+const NEXT: Root = Root {
+    generation: 6,
+    edits: 9,
+    journal_at: 3,
+    snapshot_len: 512,
+    archive_len: 0,
+};
+
+/// Whether it is told to be installed where so many calls pass, and the disk.
+fn installed(alloc: Global, calls: u64) -> Result<(bool, MemoryDisk), Fail> {
+    let failing = FailingCalls::AllFrom(calls.saturating_add(1));
+    let mut disk = FaultyDisk::new(written(alloc, 6, 0)?, failing);
+    let is_installed = install(&mut disk, NEXT).is_ok();
+    Ok((is_installed, disk.into_disk()))
+}
+
+/// The same, and of what a crash leaves the generation that counts, whether its root is the one that was installed, and the first
+/// byte of the area.
+fn crashed(
+    alloc: Global,
+    calls: u64,
+    choice: u32,
+) -> Result<(bool, (u64, bool), Option<u8>), Fail> {
+    let (is_installed, disk) = installed(alloc, calls)?;
+    let mut left = disk.crash(&[choice])?;
+    let (_, found) = read_root(&mut left)?;
+    let byte = first_byte(&mut left, 19);
+    Ok((is_installed, (found.generation, found == NEXT), byte))
+}
+
 #[test]
 fn an_installation_after_each_call(rt: HostRuntime) -> Result<(), Fail> {
-    let layout = Layout::of(64).ok_or("a layout")?;
-    let next = Root {
-        generation: 6,
-        edits: 9,
-        journal_at: 3,
-        snapshot_len: 512,
-        archive_len: 0,
-    };
     for (calls, choice, generation, area) in STOPS {
-        let mut disk = fifth(rt.alloc())?;
-        assert!(rt; layout.sectors <= disk.count());
-        write_area(&mut disk, layout, 6, 0, &[7; 512])?;
-        let mut faulty = FaultyDisk::new(disk, FailingCalls::AllFrom(calls.saturating_add(1)));
-        assert_eq!(rt; install(&mut faulty, next).is_ok(), calls == 3);
-        let mut left = faulty.into_disk().crash(&[choice])?;
-        let (_, found) = read_root(&mut left)?;
-        assert_eq!(rt;
-            (found.generation, found == next),
-            (generation, generation == 6)
-        );
-        if area.is_some() {
-            assert_eq!(rt; first_byte(&mut left, 19), area);
-        }
+        let (is_installed, root, byte) = crashed(rt.alloc(), calls, choice)?;
+        let found = (is_installed, root, if area.is_some() { byte } else { None });
+        assert_eq!(rt; found, (calls == 3, (generation, generation == 6), area));
     }
     Ok(())
 }
