@@ -113,14 +113,25 @@ fn other_range(
     Ok(None)
 }
 
+/// Whether the archive of a service begins as one, and which of its ranges is the first with another reply, if one is.
+fn parts_of(
+    alloc: Global,
+    service: &mut MapReplies<MemoryDisk>,
+) -> Result<(bool, Option<usize>), Fail> {
+    let whole = whole_of(alloc, service)?;
+    let begins = whole.starts_with(b"PMTiles\x03");
+    Ok((begins, other_range(alloc, service, whole.as_slice())?))
+}
+
+/// The same of one that was published.
+fn parts_of_one(alloc: Global) -> Result<(bool, Option<usize>), Fail> {
+    let mut service = published(alloc, "")?;
+    parts_of(alloc, &mut service)
+}
+
 #[test]
 fn parts_of_the_archive(rt: HostRuntime) -> Result<(), Fail> {
-    let alloc = rt.alloc();
-    let mut service = published(alloc, "")?;
-    let whole = whole_of(alloc, &mut service)?;
-    let begins = whole.starts_with(b"PMTiles\x03");
-    let other = other_range(alloc, &mut service, whole.as_slice())?;
-    assert_eq!(rt; (begins, other), (true, None));
+    assert_eq!(rt; parts_of_one(rt.alloc())?, (true, None));
     Ok(())
 }
 
