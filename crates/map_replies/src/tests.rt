@@ -574,11 +574,17 @@ fn many_points(alloc: Global, count: usize) -> Result<String, AllocError> {
     request(alloc, "PUT", "/features/7", body.as_str())
 }
 
+/// The reply to a PUT of the most points that fit, read in large pieces.
+fn reply_to_longest(alloc: Global) -> Result<Vec<u8>, Fail> {
+    let longest = many_points(alloc, 4_093)?;
+    let mut service = empty(alloc, 512)?;
+    let (fits, _) = exchange_with(alloc, &mut service, longest.as_str(), 65_536)?;
+    Ok(fits)
+}
+
 #[test]
 fn the_longest_text(rt: HostRuntime) -> Result<(), Fail> {
-    let longest = many_points(rt.alloc(), 4_093)?;
-    let mut service = empty(rt.alloc(), 512)?;
-    let (fits, _) = exchange_with(rt.alloc(), &mut service, longest.as_str(), 65_536)?;
+    let fits = reply_to_longest(rt.alloc())?;
     assert_eq!(rt; fits.as_slice(), MADE.as_bytes());
     Ok(())
 }
@@ -617,7 +623,7 @@ fn the_widest_reach(rt: HostRuntime) -> Result<(), Fail> {
     Ok(())
 }
 
-const NOT_SERVED: [(&str, &str, &str, Told<'static>); 11] = [
+const NOT_SERVED: &[(&str, &str, &str, Told<'static>)] = &[
     ("GET", "/", POINT, NOT_FOUND),
     ("GET", "/features/7", POINT, NOT_FOUND),
     ("PUT", "/features/07", POINT, NOT_FOUND),
@@ -639,14 +645,22 @@ const NOT_SERVED: [(&str, &str, &str, Told<'static>); 11] = [
     ),
 ];
 
+/// Which request is the first with another reply, if one is.
+fn other_request(
+    alloc: Global,
+    rows: &[(&str, &str, &str, Told<'static>)],
+) -> Result<Option<usize>, Fail> {
+    for (index, (method, path, body, told)) in rows.iter().enumerate() {
+        if !tells_asked(alloc, &[], (method, path, body), *told)? {
+            return Ok(Some(index));
+        }
+    }
+    Ok(None)
+}
+
 #[test]
 fn paths_that_are_not_served(rt: HostRuntime) -> Result<(), Fail> {
-    for (method, path, body, told) in NOT_SERVED {
-        assert!(rt;
-            tells_asked(rt.alloc(), &[], (method, path, body), told)?,
-            "{method} {path}"
-        );
-    }
+    assert_eq!(rt; other_request(rt.alloc(), NOT_SERVED)?, None);
     Ok(())
 }
 

@@ -67,11 +67,16 @@ fn put_and_publish(
     Ok(())
 }
 
+/// Whether none is found on the empty map.
+fn tells_of_none(alloc: Global) -> Result<bool, Fail> {
+    let get = request(alloc, "GET", "/map.pmtiles", "")?;
+    let mut service = empty(alloc, 256)?;
+    tells(alloc, &mut service, get.as_str(), NOT_FOUND)
+}
+
 #[test]
 fn no_archive_before_a_publication(rt: HostRuntime) -> Result<(), Fail> {
-    let get = request(rt.alloc(), "GET", "/map.pmtiles", "")?;
-    let mut service = empty(rt.alloc(), 256)?;
-    assert!(rt; tells(rt.alloc(), &mut service, get.as_str(), NOT_FOUND)?);
+    assert!(rt; tells_of_none(rt.alloc())?);
     Ok(())
 }
 
@@ -135,11 +140,16 @@ fn parts_of_the_archive(rt: HostRuntime) -> Result<(), Fail> {
     Ok(())
 }
 
+/// The reply to a GET of this range.
+fn reply_to_range(alloc: Global, range: &str) -> Result<Vec<u8>, Fail> {
+    let asked = ranged(alloc, "GET", range)?;
+    let mut service = published(alloc, POINT)?;
+    reply_of(alloc, &mut service, asked.as_str())
+}
+
 #[test]
 fn a_range_behind_the_archive(rt: HostRuntime) -> Result<(), Fail> {
-    let asked = ranged(rt.alloc(), "GET", "bytes=223-300")?;
-    let mut service = published(rt.alloc(), POINT)?;
-    let reply = reply_of(rt.alloc(), &mut service, asked.as_str())?;
+    let reply = reply_to_range(rt.alloc(), "bytes=223-300")?;
     let expected =
         b"HTTP/1.1 416 Range Not Satisfiable\r\ncontent-type: text/plain\r\ncontent-range: bytes */223\r\ncontent-length: 6\r\n\r\nRange\n";
     assert_eq!(rt; reply.as_slice(), expected.as_slice());
