@@ -67,11 +67,16 @@ fn put_and_publish(
     Ok(())
 }
 
+/// Whether none is found on the empty map.
+fn tells_of_none(alloc: Global) -> Result<bool, Fail> {
+    let get = request(alloc, "GET", "/map.pmtiles", "")?;
+    let mut service = empty(alloc, 256)?;
+    tells(alloc, &mut service, get.as_str(), NOT_FOUND)
+}
+
 #[test]
 fn no_archive_before_a_publication(rt: HostRuntime) -> Result<(), Fail> {
-    let get = request(rt.alloc(), "GET", "/map.pmtiles", "")?;
-    let mut service = empty(rt.alloc(), 256)?;
-    assert!(rt; tells(rt.alloc(), &mut service, get.as_str(), NOT_FOUND)?);
+    assert!(rt; tells_of_none(rt.alloc())?);
     Ok(())
 }
 
@@ -113,22 +118,38 @@ fn other_range(
     Ok(None)
 }
 
+/// Whether the archive of a service begins as one, and which of its ranges is the first with another reply, if one is.
+fn parts_of(
+    alloc: Global,
+    service: &mut MapReplies<MemoryDisk>,
+) -> Result<(bool, Option<usize>), Fail> {
+    let whole = whole_of(alloc, service)?;
+    let begins = whole.starts_with(b"PMTiles\x03");
+    Ok((begins, other_range(alloc, service, whole.as_slice())?))
+}
+
+/// The same of one that was published.
+fn parts_of_one(alloc: Global) -> Result<(bool, Option<usize>), Fail> {
+    let mut service = published(alloc, "")?;
+    parts_of(alloc, &mut service)
+}
+
 #[test]
 fn parts_of_the_archive(rt: HostRuntime) -> Result<(), Fail> {
-    let alloc = rt.alloc();
-    let mut service = published(alloc, "")?;
-    let whole = whole_of(alloc, &mut service)?;
-    let begins = whole.starts_with(b"PMTiles\x03");
-    let other = other_range(alloc, &mut service, whole.as_slice())?;
-    assert_eq!(rt; (begins, other), (true, None));
+    assert_eq!(rt; parts_of_one(rt.alloc())?, (true, None));
     Ok(())
+}
+
+/// The reply to a GET of this range.
+fn reply_to_range(alloc: Global, range: &str) -> Result<Vec<u8>, Fail> {
+    let asked = ranged(alloc, "GET", range)?;
+    let mut service = published(alloc, POINT)?;
+    reply_of(alloc, &mut service, asked.as_str())
 }
 
 #[test]
 fn a_range_behind_the_archive(rt: HostRuntime) -> Result<(), Fail> {
-    let asked = ranged(rt.alloc(), "GET", "bytes=223-300")?;
-    let mut service = published(rt.alloc(), POINT)?;
-    let reply = reply_of(rt.alloc(), &mut service, asked.as_str())?;
+    let reply = reply_to_range(rt.alloc(), "bytes=223-300")?;
     let expected =
         b"HTTP/1.1 416 Range Not Satisfiable\r\ncontent-type: text/plain\r\ncontent-range: bytes */223\r\ncontent-length: 6\r\n\r\nRange\n";
     assert_eq!(rt; reply.as_slice(), expected.as_slice());

@@ -10,7 +10,7 @@ const BUSY: Told<'static> = Told::Refused("409 Conflict", "Busy");
 
 const IDLE: Told<'static> = Told::Refused("409 Conflict", "Idle");
 
-const STEPS_AND_ENDS: [Row; 11] = [
+const STEPS_AND_ENDS: &[Row] = &[
     ("POST", "/publish/step", IDLE),
     ("PUT", "/features/7", Told::Made(1)),
     ("POST", "/publish/begin", THREE_LEFT),
@@ -26,7 +26,7 @@ const STEPS_AND_ENDS: [Row; 11] = [
 
 #[test]
 fn steps_and_ends_of_publications(rt: HostRuntime) -> Result<(), Fail> {
-    assert_eq!(rt; other_row(rt.alloc(), &STEPS_AND_ENDS)?, None);
+    assert_eq!(rt; other_row(rt.alloc(), STEPS_AND_ENDS)?, None);
     Ok(())
 }
 

@@ -4,7 +4,7 @@ use std::alloc::Global;
 use std::test::Fail;
 
 /// Methods that a path doesn't allow, and those that it does.
-const METHODS: [(&str, &str, &str); 9] = [
+const METHODS: &[(&str, &str, &str)] = &[
     ("POST", "/features/7", "GET, HEAD, PUT, DELETE"),
     ("PATCH", "/features/7", "GET, HEAD, PUT, DELETE"),
     ("PUT", "/map/0/0/0.mvt", "GET, HEAD"),
@@ -16,16 +16,20 @@ const METHODS: [(&str, &str, &str); 9] = [
     ("DELETE", "/publish/cancel", "POST"),
 ];
 
+/// Which row is the first with another reply, if one is.
+fn other_method(alloc: Global, rows: &[(&str, &str, &str)]) -> Result<Option<usize>, Fail> {
+    for (index, (method, path, allow)) in rows.iter().enumerate() {
+        let told = Told::NotAllowed(allow);
+        if !tells_asked(alloc, &[(7, POINT)], (method, path, POINT), told)? {
+            return Ok(Some(index));
+        }
+    }
+    Ok(None)
+}
+
 #[test]
 fn methods_that_are_not_allowed(rt: HostRuntime) -> Result<(), Fail> {
-    for (method, path, allow) in METHODS {
-        let asked = (method, path, POINT);
-        let told = Told::NotAllowed(allow);
-        assert!(rt;
-            tells_asked(rt.alloc(), &[(7, POINT)], asked, told)?,
-            "{method} {path}"
-        );
-    }
+    assert_eq!(rt; other_method(rt.alloc(), METHODS)?, None);
     Ok(())
 }
 
