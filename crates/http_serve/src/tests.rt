@@ -157,6 +157,18 @@ struct Narrow {
     taken: Vec<u8>,
 }
 
+impl Narrow {
+    fn new(alloc: Global, size: usize, room: usize, fails: bool) -> Narrow {
+        Narrow {
+            size,
+            room,
+            fails,
+            failed: 0,
+            taken: Vec::new(alloc),
+        }
+    }
+}
+
 impl Write for Narrow {
     fn write(&mut self, buf: &[u8]) -> io::Result<usize> {
         let count = self.room.min(self.size).min(buf.len());
@@ -207,10 +219,35 @@ const HEAD: &str =
 const TWO: &str =
     "GET /a HTTP/1.1\r\nhost: a\r\n\r\nPUT /b?c HTTP/1.1\r\nhost: a\r\nContent-Length: 002\r\n\r\nhi";
 
-/// Serves these bytes in pieces of this size.
-fn talk(alloc: Global, input: &[u8], size: usize) -> Result<(Vec<u8>, Served), ServeFault> {
+/// These texts, one behind the other.
+fn joined(alloc: Global, texts: &[&str]) -> Result<Vec<u8>, AllocError> {
+    let mut bytes = Vec::new(alloc);
+    for text in texts {
+        bytes.extend_from_slice(text.as_bytes())?;
+    }
+    Ok(bytes)
+}
+
+/// Serves what a reader gives.
+fn talk_with(alloc: Global, reader: &mut Pieces<'_>) -> Result<(Vec<u8>, Served), ServeFault> {
     let mut out = Vec::new(alloc);
-    let mut reader = Pieces::new(input, size);
-    let served = serve(alloc, &mut reader, &mut out, &mut Echo { alloc })?;
+    let served = serve(alloc, reader, &mut out, &mut Echo { alloc })?;
     Ok((out, served))
+}
+
+/// At which of these sizes of the pieces these bytes are the first time answered otherwise, if at one.
+fn other_size(
+    alloc: Global,
+    input: &[u8],
+    sizes: &[usize],
+    reply: &[u8],
+    told: Served,
+) -> Result<Option<usize>, ServeFault> {
+    for size in sizes {
+        let (out, served) = talk_with(alloc, &mut Pieces::new(input, *size))?;
+        if out.as_slice() != reply || served != told {
+            return Ok(Some(*size));
+        }
+    }
+    Ok(None)
 }

@@ -1,6 +1,7 @@
 //! A client that waits for its replies, and the bound on reads.
 use super::{A, B, Counter, Echo, Pieces, TWO, take_from};
-use crate::{End, Served, serve, serve_turns};
+use crate::{End, ServeFault, Served, serve, serve_turns};
+use std::alloc::Global;
 use std::cell::Cell;
 use std::io;
 use std::io::{ErrorKind, Read};
@@ -28,10 +29,10 @@ impl Read for Client<'_> {
     }
 }
 
-#[test]
-fn a_client_that_waits_is_answered(rt: HostRuntime) -> Result<(), Fail> {
+/// What the client sends, and how many bytes of replies it has got then.
+fn steps() -> [(&'static str, usize); 14] {
     let (a, b) = (A.len(), B.len());
-    let steps = [
+    [
         ("GET /a HT", 0),
         ("TP/1.1\r\nhost: a\r\nx", 0),
         (": y\r\n", 0),
@@ -49,47 +50,54 @@ fn a_client_that_waits_is_answered(rt: HostRuntime) -> Result<(), Fail> {
         ("ET /a HTTP/1.0\n", a + b + a + a + a),
         ("\nGET", a + b + a + a + a),
         ("never read", 0),
-    ];
+    ]
+}
+
+/// What is told to a client that takes these steps, and how many it leaves.
+fn waited(alloc: Global, steps: &[(&str, usize)]) -> Result<(Served, usize), ServeFault> {
     let got = Cell::new(0);
-    let mut client = Client {
-        steps: &steps,
-        got: &got,
-    };
-    let alloc = rt.alloc();
-    let served = serve(
-        alloc,
-        &mut client,
-        &mut Counter { got: &got },
-        &mut Echo { alloc },
-    )?;
-    assert_eq!(rt;
-        served,
-        Served {
-            requests: 6,
-            end: End::Asked
-        }
-    );
-    assert_eq!(rt; client.steps.len(), 1);
+    let mut client = Client { steps, got: &got };
+    let mut writer = Counter { got: &got };
+    let served = serve(alloc, &mut client, &mut writer, &mut Echo { alloc })?;
+    Ok((served, client.steps.len()))
+}
+
+const SIX: Served = Served {
+    requests: 6,
+    end: End::Asked,
+};
+
+#[test]
+fn a_client_that_waits_is_answered(rt: HostRuntime) -> Result<(), Fail> {
+    assert_eq!(rt; waited(rt.alloc(), &steps())?, (SIX, 1));
     Ok(())
+}
+
+/// How many bytes are read one by one, and how many requests are answered.
+const TURNS: [(u64, u64); 5] = [(0, 0), (27, 0), (28, 1), (78, 1), (81, 2)];
+
+/// What so many reads come to, how many bytes are left, and how many reads fail.
+fn turned(alloc: Global, turns: u64) -> Result<(Served, u64, usize), ServeFault> {
+    let mut out = Vec::new(alloc);
+    let mut reader = Pieces::failing(TWO.as_bytes(), 1);
+    let served = serve_turns(alloc, &mut reader, &mut out, &mut Echo { alloc }, turns)?;
+    Ok((served, reader.rest.len() as u64, reader.failed))
+}
+
+/// Behind how many reads it is first otherwise, if it is.
+fn other_turns(alloc: Global) -> Result<Option<u64>, ServeFault> {
+    let end = End::Turns;
+    for (turns, requests) in TURNS {
+        let left = (TWO.len() as u64).saturating_sub(turns);
+        if turned(alloc, turns)? != (Served { requests, end }, left, 0) {
+            return Ok(Some(turns));
+        }
+    }
+    Ok(None)
 }
 
 #[test]
 fn stops_at_its_turns(rt: HostRuntime) -> Result<(), Fail> {
-    let alloc = rt.alloc();
-    for (turns, requests) in [(0, 0), (27, 0), (28, 1), (78, 1), (81, 2)] {
-        let mut out = Vec::new(alloc);
-        let mut reader = Pieces::failing(TWO.as_bytes(), 1);
-        let served = serve_turns(alloc, &mut reader, &mut out, &mut Echo { alloc }, turns)?;
-        assert_eq!(rt;
-            served,
-            Served {
-                requests,
-                end: End::Turns
-            },
-            "after {turns}"
-        );
-        assert_eq!(rt; reader.rest.len() as u64, TWO.len() as u64 - turns);
-        assert_eq!(rt; reader.failed, 0, "after {turns}");
-    }
+    assert_eq!(rt; other_turns(rt.alloc())?, None);
     Ok(())
 }

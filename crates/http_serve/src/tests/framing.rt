@@ -1,6 +1,7 @@
 //! Heads that are refused for their fields or their body, and heads beside them that aren't.
-use super::{A, A_LAST, B, Echo, HEAD, Pieces, talk};
-use crate::{End, Served, serve};
+use super::{A, A_LAST, B, HEAD, Pieces, other_size, talk_with};
+use crate::{End, ServeFault, Served};
+use std::alloc::Global;
 use std::test::Fail;
 
 const HOST: &str =
@@ -40,7 +41,7 @@ const BARE_SHORT: &str =
     "HTTP/1.1 400 Bad Request\r\ncontent-type: text/plain\r\ncontent-length: 6\r\nconnection: close\r\n\r\n";
 
 /// Heads, and the one reply to each.
-const REFUSED: [(&str, &str); 28] = [
+const REFUSED: &[(&str, &str)] = &[
     ("GET /a HTTP/1.1\r\n\r\n", HOST),
     ("GET /a HTTP/1.1\r\nhost: a\r\nHost: a\r\n\r\n", HOST),
     ("GET /a HTTP/1.1\r\nhosts: a\r\nx: host\r\n\r\n", HOST),
@@ -138,7 +139,7 @@ const REFUSED: [(&str, &str); 28] = [
 ];
 
 /// All that is read, the one reply, and how it ends.
-const ENDED: [(&str, &str, End); 9] = [
+const ENDED: &[(&str, &str, End)] = &[
     (
         "PUT /b HTTP/1.1\r\nhost: a\r\ncontent-length: 3\r\n\r\nhi",
         SHORT,
@@ -174,31 +175,50 @@ const ENDED: [(&str, &str, End); 9] = [
     ),
 ];
 
+/// At which size of the pieces a head is first not refused so, if at one.
+fn other_refusal(alloc: Global, head: &str, reply: &str) -> Result<Option<usize>, ServeFault> {
+    for size in [1, 7, 4_096] {
+        let (out, served) = talk_with(alloc, &mut Pieces::failing(head.as_bytes(), size))?;
+        if out.as_slice() != reply.as_bytes() || served.end != End::Refused {
+            return Ok(Some(size));
+        }
+    }
+    Ok(None)
+}
+
+/// Which head is the first that isn't refused so, and at which size of the pieces, if one isn't.
+fn other_refused(alloc: Global) -> Result<Option<(usize, usize)>, ServeFault> {
+    for (index, (head, reply)) in REFUSED.iter().enumerate() {
+        if let Some(size) = other_refusal(alloc, head, reply)? {
+            return Ok(Some((index, size)));
+        }
+    }
+    Ok(None)
+}
+
 /// A head is refused at its last byte, though the input is open behind it.
 #[test]
 fn heads_are_refused_by_the_first_rule(rt: HostRuntime) -> Result<(), Fail> {
-    let alloc = rt.alloc();
-    for (input, reply) in REFUSED {
-        for size in [1, 7, 4_096] {
-            let mut out = Vec::new(alloc);
-            let mut reader = Pieces::failing(input.as_bytes(), size);
-            let served = serve(alloc, &mut reader, &mut out, &mut Echo { alloc })?;
-            assert_eq!(rt; out.as_slice(), reply.as_bytes(), "of {input} by {size}");
-            assert_eq!(rt; served.end, End::Refused, "of {input} by {size}");
+    assert_eq!(rt; other_refused(rt.alloc())?, None);
+    Ok(())
+}
+
+/// Which input is the first that ends otherwise, and at which size of the pieces, if one does.
+fn other_ended(alloc: Global) -> Result<Option<(usize, usize)>, ServeFault> {
+    for (index, (input, reply, end)) in ENDED.iter().enumerate() {
+        let (end, requests) = (*end, 1);
+        let told = Served { requests, end };
+        let sizes = [1, 7, 4_096];
+        if let Some(size) = other_size(alloc, input.as_bytes(), &sizes, reply.as_bytes(), told)? {
+            return Ok(Some((index, size)));
         }
     }
-    Ok(())
+    Ok(None)
 }
 
 /// A body that isn't whole is refused at the end of the input.
 #[test]
 fn bodies_are_waited_for(rt: HostRuntime) -> Result<(), Fail> {
-    for (input, reply, end) in ENDED {
-        for size in [1, 7, 4_096] {
-            let (out, served) = talk(rt.alloc(), input.as_bytes(), size)?;
-            assert_eq!(rt; out.as_slice(), reply.as_bytes(), "of {input} by {size}");
-            assert_eq!(rt; served, Served { requests: 1, end }, "of {input} by {size}");
-        }
-    }
+    assert_eq!(rt; other_ended(rt.alloc())?, None);
     Ok(())
 }

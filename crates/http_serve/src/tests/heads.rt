@@ -1,8 +1,8 @@
 //! Heads at their limits, and heads at fault.
 
-use super::{A, Echo, HEAD, Pieces, talk};
+use super::{A, HEAD, Pieces, other_size, talk_with};
 use crate::searches::{START, known_missing, parse_now};
-use crate::{End, Served, serve};
+use crate::{End, ServeFault, Served};
 use httparse::Error;
 use httparse::spans::{EMPTY_HEADER_SPAN, parse_request};
 use std::alloc::{AllocError, Global};
@@ -22,61 +22,97 @@ fn head_of(alloc: Global, size: usize, fields: usize) -> Result<Vec<u8>, AllocEr
     Ok(head)
 }
 
+/// The size and the fields of a head, its reply, and how the connection ends.
+const LIMITS: [(usize, usize, &str, End); 5] = [
+    (8_192, 2, A, End::Closed),
+    (8_193, 2, HEAD, End::Refused),
+    (1_000, 30, A, End::Closed),
+    (1_000, 31, HEAD, End::Refused),
+    (8_190, 40, HEAD, End::Refused),
+];
+
+/// Whether a head is answered so in pieces of each size.
+fn is_answered(alloc: Global, head: &[u8], reply: &str, end: End) -> Result<bool, ServeFault> {
+    let told = Served { requests: 1, end };
+    let sizes = [1, 100, 8_192, 10_000];
+    Ok(other_size(alloc, head, &sizes, reply.as_bytes(), told)?.is_none())
+}
+
+/// Whether a head is refused where its last byte is cut off.
+fn is_refused_cut(alloc: Global, head: &[u8]) -> Result<bool, ServeFault> {
+    let cut = head.len().saturating_sub(1);
+    let (out, served) = talk_with(alloc, &mut Pieces::new(&head[..cut], 100))?;
+    Ok(out.as_slice() == HEAD.as_bytes() && served.end == End::Refused)
+}
+
+/// The size and the fields of the first head of another size or another answer, if there is one.
+fn other_limit(alloc: Global) -> Result<Option<(usize, usize)>, Fail> {
+    for (size, fields, reply, end) in LIMITS {
+        let head = head_of(alloc, size, fields)?;
+        let head = head.as_slice();
+        let answered = is_answered(alloc, head, reply, end)? && is_refused_cut(alloc, head)?;
+        if head.len() != size || !answered {
+            return Ok(Some((size, fields)));
+        }
+    }
+    Ok(None)
+}
+
 #[test]
 fn heads_have_limits(rt: HostRuntime) -> Result<(), Fail> {
-    let alloc = rt.alloc();
-    for (size, fields, reply, end) in [
-        (8_192, 2, A, End::Closed),
-        (8_193, 2, HEAD, End::Refused),
-        (1_000, 30, A, End::Closed),
-        (1_000, 31, HEAD, End::Refused),
-        (8_190, 40, HEAD, End::Refused),
-    ] {
-        let head = head_of(alloc, size, fields)?;
-        assert_eq!(rt; head.len(), size);
-        for piece in [1, 100, 8_192, 10_000] {
-            let (out, served) = talk(alloc, head.as_slice(), piece)?;
-            assert_eq!(rt; out.as_slice(), reply.as_bytes(), "{size} by {piece}");
-            assert_eq!(rt; served, Served { requests: 1, end });
-        }
-        let cut = head.len().saturating_sub(1);
-        let (out, served) = talk(alloc, &head[..cut], 100)?;
-        assert_eq!(rt; out.as_slice(), HEAD.as_bytes(), "{size} cut off");
-        assert_eq!(rt; served.end, End::Refused);
-    }
+    assert_eq!(rt; other_limit(rt.alloc())?, None);
     Ok(())
+}
+
+/// Whether the refusal of a head is written, what the connection comes to, and how many bytes are read.
+fn refused(alloc: Global, reader: &mut Pieces<'_>) -> Result<(bool, Served, usize), ServeFault> {
+    let size = reader.rest.len();
+    let (out, served) = talk_with(alloc, reader)?;
+    let read = size.saturating_sub(reader.rest.len());
+    Ok((out.as_slice() == HEAD.as_bytes(), served, read))
+}
+
+const ONE_REFUSED: Served = Served {
+    requests: 1,
+    end: End::Refused,
+};
+
+/// Whether a head whose bytes come one by one is refused behind so many.
+fn is_refused_behind(alloc: Global, head: &[u8], read: usize) -> Result<bool, ServeFault> {
+    Ok(refused(alloc, &mut Pieces::new(head, 1))? == (true, ONE_REFUSED, read))
+}
+
+/// The same of a head of so many bytes and fields with the beginning of another request behind it.
+fn is_refused_before(
+    alloc: Global,
+    size: usize,
+    fields: usize,
+    behind: &[u8],
+    read: usize,
+) -> Result<bool, Fail> {
+    let mut head = head_of(alloc, size, fields)?;
+    head.extend_from_slice(behind)?;
+    Ok(is_refused_behind(alloc, head.as_slice(), read)?)
+}
+
+/// Which of a head that never ends, one of too many fields, and what is no head are refused where they are to be.
+fn refused_in_time(alloc: Global) -> Result<[bool; 3], Fail> {
+    Ok([
+        is_refused_before(alloc, 9_000, 40, b"", 8_192)?,
+        is_refused_before(alloc, 1_000, 31, b"GET /a", 1_000)?,
+        is_refused_behind(alloc, b"GET\r\n\r\nGET /a", 4)?,
+    ])
 }
 
 /// A head that never ends is refused at 8,192 bytes, one of too many fields at its empty line, and what is no head at once.
 #[test]
 fn refusals_wait_for_no_more(rt: HostRuntime) -> Result<(), Fail> {
-    let alloc = rt.alloc();
-    let long = head_of(alloc, 9_000, 40)?;
-    let mut fields = head_of(alloc, 1_000, 31)?;
-    fields.extend_from_slice(b"GET /a")?;
-    for (input, read) in [
-        (long.as_slice(), 8_192),
-        (fields.as_slice(), 1_000),
-        (b"GET\r\n\r\nGET /a".as_slice(), 4),
-    ] {
-        let mut out = Vec::new(alloc);
-        let mut reader = Pieces::new(input, 1);
-        let served = serve(alloc, &mut reader, &mut out, &mut Echo { alloc })?;
-        assert_eq!(rt;
-            served,
-            Served {
-                requests: 1,
-                end: End::Refused
-            }
-        );
-        assert_eq!(rt; out.as_slice(), HEAD.as_bytes());
-        assert_eq!(rt; input.len().saturating_sub(reader.rest.len()), read);
-    }
+    assert_eq!(rt; refused_in_time(rt.alloc())?, [true; 3]);
     Ok(())
 }
 
 /// Heads at fault, at each position of a head.
-const FAULTS: [&[u8]; 34] = [
+const FAULTS: &[&[u8]] = &[
     b"\r\rGET /a HTTP/1.1\r\n",
     b"\n\rGET /a HTTP/1.1\r\n",
     b" GET /a HTTP/1.1\r\n",
@@ -125,23 +161,21 @@ fn first_fault(head: &[u8]) -> Option<usize> {
     None
 }
 
+/// Which head is the first that isn't refused at its fault, if one isn't.
+fn other_fault(alloc: Global) -> Result<Option<usize>, ServeFault> {
+    for (index, head) in FAULTS.iter().enumerate() {
+        let (written, served, read) = refused(alloc, &mut Pieces::failing(head, 1))?;
+        if !written || served.end != End::Refused || first_fault(head) != Some(read) {
+            return Ok(Some(index));
+        }
+    }
+    Ok(None)
+}
+
 /// The byte at fault is answered, though the input is open behind it.
 #[test]
 fn a_head_at_fault_is_refused_at_its_fault(rt: HostRuntime) -> Result<(), Fail> {
-    let alloc = rt.alloc();
-    for (i, head) in FAULTS.iter().enumerate() {
-        let fault = first_fault(head).ok_or("a fault")?;
-        let mut out = Vec::new(alloc);
-        let mut reader = Pieces::failing(head, 1);
-        let served = serve(alloc, &mut reader, &mut out, &mut Echo { alloc })?;
-        assert_eq!(rt; served.end, End::Refused, "head {i}");
-        assert_eq!(rt; out.as_slice(), HEAD.as_bytes(), "head {i}");
-        assert_eq!(rt;
-            head.len().saturating_sub(reader.rest.len()),
-            fault,
-            "head {i}"
-        );
-    }
+    assert_eq!(rt; other_fault(rt.alloc())?, None);
     Ok(())
 }
 
@@ -159,20 +193,31 @@ fn count_parses(bytes: &[u8]) -> usize {
     parses
 }
 
-#[test]
-fn a_head_is_parsed_a_few_times(rt: HostRuntime) -> Result<(), Fail> {
-    let alloc = rt.alloc();
-    let whole = head_of(alloc, 8_000, 3)?;
-    assert_eq!(rt; count_parses(whole.as_slice()), 1);
-    // too many fields: at the empty line
-    let fields = head_of(alloc, 8_000, 1_000)?;
-    assert_eq!(rt; count_parses(fields.as_slice()), 1);
-    // a target that isn't ASCII: behind it, and at the empty line
+/// How often a head of so many bytes and fields is parsed.
+fn parses_of(alloc: Global, size: usize, fields: usize) -> Result<usize, AllocError> {
+    let head = head_of(alloc, size, fields)?;
+    Ok(count_parses(head.as_slice()))
+}
+
+/// How often a head is parsed whose target isn't ASCII.
+fn parses_of_target(alloc: Global) -> Result<usize, AllocError> {
     let mut target = Vec::from_slice(alloc, b"GET /")?;
     for _ in 0..3_900 {
         target.extend_from_slice("\u{e9}".as_bytes())?;
     }
     target.extend_from_slice(b" HTTP/1.1\r\nhost: a\r\n\r\n")?;
-    assert_eq!(rt; count_parses(target.as_slice()), 2);
+    Ok(count_parses(target.as_slice()))
+}
+
+/// Once, with too many fields once at the empty line, and with a target that isn't ASCII behind it and at the empty line.
+#[test]
+fn a_head_is_parsed_a_few_times(rt: HostRuntime) -> Result<(), Fail> {
+    let alloc = rt.alloc();
+    let parses = [
+        parses_of(alloc, 8_000, 3)?,
+        parses_of(alloc, 8_000, 1_000)?,
+        parses_of_target(alloc)?,
+    ];
+    assert_eq!(rt; parses, [1, 1, 2]);
     Ok(())
 }

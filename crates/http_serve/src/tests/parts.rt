@@ -90,18 +90,25 @@ fn long_content(alloc: Global) -> Result<Vec<u8>, AllocError> {
     Ok(content)
 }
 
+/// Adds the reply with so many of these bytes, or the one where the first part couldn't be read.
+fn push_reply(
+    replies: &mut Vec<u8>,
+    content: &[u8],
+    size: Option<usize>,
+) -> Result<(), AllocError> {
+    let Some(size) = size else {
+        return replies.extend_from_slice(FAILED.as_bytes());
+    };
+    replies.extend_from_slice(LONG_HEAD.as_bytes())?;
+    replies.extend_from_slice(&content[..content.len().min(size)])
+}
+
 /// The replies with so many of these bytes, and where a first part couldn't be read another one.
 fn long_replies(alloc: Global, sizes: &[Option<usize>]) -> Result<Vec<u8>, AllocError> {
     let content = long_content(alloc)?;
     let mut replies = Vec::new(alloc);
     for size in sizes {
-        match size {
-            Some(size) => {
-                replies.extend_from_slice(LONG_HEAD.as_bytes())?;
-                replies.extend_from_slice(&content[..content.len().min(*size)])?;
-            }
-            None => replies.extend_from_slice(FAILED.as_bytes())?,
-        }
+        push_reply(&mut replies, content.as_slice(), *size)?;
     }
     Ok(replies)
 }
@@ -119,16 +126,23 @@ fn serve_download(
         reads: 0,
         fails,
     };
-    let mut writer = Narrow {
-        size: usize::MAX,
-        room,
-        fails: true,
-        failed: 0,
-        taken: Vec::new(alloc),
-    };
+    let mut writer = Narrow::new(alloc, usize::MAX, room, true);
     let mut reader = input.as_bytes();
     let result = serve(alloc, &mut reader, &mut writer, &mut handler);
     Ok((writer.taken, handler.reads, result))
+}
+
+/// Whether the replies with so many bytes are written then, how many reads are made, and how it ends.
+fn downloaded(
+    alloc: Global,
+    input: &str,
+    fails: Option<usize>,
+    room: usize,
+    sizes: &[Option<usize>],
+) -> Result<(bool, usize, Result<Served, ServeFault>), AllocError> {
+    let want = long_replies(alloc, sizes)?;
+    let (out, reads, end) = serve_download(alloc, input, fails, room)?;
+    Ok((out.as_slice() == want.as_slice(), reads, end))
 }
 
 const CLOSED: Result<Served, ServeFault> = Ok(Served {
@@ -154,44 +168,55 @@ const DOWNLOADS: [(
     ),
 ];
 
+/// Which of these is the first that is otherwise, if one is.
+fn other_download(alloc: Global) -> Result<Option<usize>, AllocError> {
+    for (index, (fails, sizes, reads, end)) in DOWNLOADS.iter().enumerate() {
+        if downloaded(alloc, GETS, *fails, usize::MAX, sizes)? != (true, *reads, *end) {
+            return Ok(Some(index));
+        }
+    }
+    Ok(None)
+}
+
 /// Parts have 512 bytes, 65,536 and 512: three reads for each of two requests.
 #[test]
 fn contents_in_parts(rt: HostRuntime) -> Result<(), Fail> {
-    for (fails, sizes, reads, result) in DOWNLOADS {
-        let (out, made, end) = serve_download(rt.alloc(), GETS, fails, usize::MAX)?;
-        let want = long_replies(rt.alloc(), &sizes)?;
-        assert_eq!(rt; end, result, "{fails:?}");
-        assert_eq!(rt; made, reads, "{fails:?}");
-        assert_eq!(rt; out.as_slice(), want.as_slice(), "{fails:?}");
-    }
+    assert_eq!(rt; other_download(rt.alloc())?, None);
     Ok(())
+}
+
+/// The read that fails, how many bytes the writer takes behind the head, how many of the content are written, and the fault.
+const CUTS: [(Option<usize>, usize, usize, ServeFault); 3] = [
+    (Some(1), 99_999, 512, ServeFault::Content { requests: 0 }),
+    (Some(2), 99_999, 66_048, ServeFault::Content { requests: 0 }),
+    (None, 1_000, 1_000, ServeFault::Write { requests: 0 }),
+];
+
+/// Which of these is the first that is otherwise, if one is.
+fn other_cut(alloc: Global) -> Result<Option<usize>, AllocError> {
+    for (index, (fails, room, size, fault)) in CUTS.iter().enumerate() {
+        let room = LONG_HEAD.len().saturating_add(*room);
+        let (written, _, end) = downloaded(alloc, GETS, *fails, room, &[Some(*size)])?;
+        if !written || end != Err(*fault) {
+            return Ok(Some(index));
+        }
+    }
+    Ok(None)
 }
 
 /// A part that can't be read ends the connection, and so does one that can't be written.
 #[test]
 fn contents_that_are_cut(rt: HostRuntime) -> Result<(), Fail> {
-    for (fails, room, size, result) in [
-        (Some(1), 99_999, 512, ServeFault::Content { requests: 0 }),
-        (Some(2), 99_999, 66_048, ServeFault::Content { requests: 0 }),
-        (None, 1_000, 1_000, ServeFault::Write { requests: 0 }),
-    ] {
-        let room = LONG_HEAD.len().saturating_add(room);
-        let (out, _, end) = serve_download(rt.alloc(), GETS, fails, room)?;
-        let want = long_replies(rt.alloc(), &[Some(size)])?;
-        assert_eq!(rt; end, Err(result), "{fails:?}");
-        assert_eq!(rt; out.as_slice(), want.as_slice(), "{fails:?}");
-    }
+    assert_eq!(rt; other_cut(rt.alloc())?, None);
     Ok(())
 }
+
+const HEADS: &str = "HEAD /a HTTP/1.1\r\nhost: a\r\n\r\nHEAD /a HTTP/1.1\r\nhost: a\r\n\r\n";
 
 /// For a head no part is read.
 #[test]
 fn a_head_has_no_parts(rt: HostRuntime) -> Result<(), Fail> {
-    let input = "HEAD /a HTTP/1.1\r\nhost: a\r\n\r\nHEAD /a HTTP/1.1\r\nhost: a\r\n\r\n";
-    let (out, reads, end) = serve_download(rt.alloc(), input, Some(0), usize::MAX)?;
-    let want = long_replies(rt.alloc(), &[Some(0), Some(0)])?;
-    assert_eq!(rt; end, CLOSED);
-    assert_eq!(rt; reads, 0);
-    assert_eq!(rt; out.as_slice(), want.as_slice());
+    let seen = downloaded(rt.alloc(), HEADS, Some(0), usize::MAX, &[Some(0); 2])?;
+    assert_eq!(rt; seen, (true, 0, CLOSED));
     Ok(())
 }
