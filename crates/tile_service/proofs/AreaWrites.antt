@@ -1,13 +1,14 @@
 -- The writes of a step of a publication into the area of the next generation.
-use Rattle.std.proofs.Common.{◌≡◌, inl, inr, ℕ, suc, ◌<◌, ◌≤◌, ◌+◌, List, Result, ap, subst, arith}
-use Rattle.sector_disk.specs.Disk.{History, moment, FailedWrite, Writes}
+use Rattle.std.proofs.Common.{◌≡◌, ◌⊎◌, inl, inr, ⊎_elim, ℕ, suc, ◌<◌, ◌≤◌, ◌+◌, List, Result, ap, sym, subst, arith}
+use Rattle.sector_disk.specs.Disk.{History, Image, MayHold, MayLeave, seen, moment, FailedWrite, Writes}
+use Rattle.sector_disk.specs.Disk.History.{synced}
 use Rattle.sector_disk.specs.Moments.{LeavesOnly}
 use Rattle.sector_disk.specs.declared.disk.DiskFault.{DiskFault}
-use Rattle.sector_disk.proofs.History.{then_leaves}
+use Rattle.sector_disk.proofs.History.{seen_may, sync_leaves, then_leaves}
 use Rattle.generations.specs.Areas.{area_sectors, area_start}
 use Rattle.area_content.specs.Content.{ContentView, sector_at}
 use Rattle.area_content.proofs.Laws.{snapshot_sector, archive_sector}
-use Rattle.tile_service.specs.Publishing.{IsContentSector, IsInArea}
+use Rattle.tile_service.specs.Publishing.{IsContentSector, IsInArea, HasFirst}
 use Rattle.tile_service.specs.Stored.{Stored, Holds, Keeps}
 use Rattle.tile_service.proofs.Contents.{content_sector}
 use Rattle.tile_service.proofs.Publishes.{write_area_keeps, write_area_leaves}
@@ -17,6 +18,28 @@ pub write_moment : (at : ℕ) (bytes : List ℕ) (old new : History) → FailedW
 write_moment at bytes old new (inl is) = omega (arith, ap moment is)
 write_moment at bytes old new (inr (inl is)) = omega (arith, ap moment is)
 write_moment at bytes old new (inr (inr is)) = omega (arith, ap moment is)
+
+-- a sync, reported as done or as failed, takes one moment at most, changes nothing that a read gives, and leaves what is stored
+module _ (old new : History) (syncs : (new ≡ old) ⊎ (new ≡ synced old)) where
+  pub sync_moment : moment new ≤ moment old + 1
+  sync_moment = ⊎_elim (λ same. omega (arith, ap moment same)) (λ is. omega (arith, ap moment is)) syncs
+
+  pub sync_first : (n generation : ℕ) (snapshot archive : List ℕ) (written : ℕ) → HasFirst n generation snapshot archive written (seen old)
+      → HasFirst n generation snapshot archive written (seen new)
+  sync_first n generation snapshot archive written first = ⊎_elim
+      (λ same. subst (λ (h : History). HasFirst n generation snapshot archive written (seen h)) (sym same) first)
+      (λ is. subst (λ (h : History). HasFirst n generation snapshot archive written (seen h)) (sym is) first) syncs
+
+  pub sync_keeps : (count n : ℕ) (stored : Stored) → Keeps count n stored old → Keeps count n stored new
+  sync_keeps count n stored keeps = ⊎_elim
+      (λ same. subst (λ (h : History). Keeps count n stored h) (sym same) keeps)
+      (λ is. subst (λ (h : History). Keeps count n stored h) (sym is)
+      (λ (image : Image) (may : MayLeave (synced old) image).
+      keeps image (λ (at : ℕ). subst (λ (x : List ℕ). MayHold old at x) (sym (may at)) (seen_may old at)))) syncs
+
+  pub sync_holds : (count n : ℕ) (stored : Stored) (start : History) → LeavesOnly start old (Holds count n stored) → Keeps count n stored old
+      → LeavesOnly start new (Holds count n stored)
+  sync_holds count n stored start so_far keeps = sync_leaves start old new (Holds count n stored) syncs so_far (sync_keeps count n stored keeps)
 
 -- what is written of a content is its sectors
 pub is_content_sector : (c : ContentView) (index : ℕ) → IsContentSector c.snapshot c.archive index (sector_at c index)

@@ -80,7 +80,8 @@ fn content_for(alloc: Global, store: &Store, area: u64) -> Result<AreaContent, S
     }
 }
 
-/// Writes sectors of the content into the area of a generation, from one index to another.
+/// Writes sectors of the content into the area of a generation, from one index to another. Where they aren't the last they are synced,
+/// so that the sync of an edit in between doesn't have them to write.
 fn write_sectors<D: Sectors>(
     disk: &mut D,
     layout: Layout,
@@ -97,7 +98,9 @@ fn write_sectors<D: Sectors>(
     ensures honest { D.honest disk.new → D.honest disk.old }
     ensures faults { OnOk result (D.faults disk.new ≡ D.faults disk.old) }
     ensures failed { OnErr result (HasFailed (D.faults disk.old) (D.faults disk.new)) }
-    ensures steps { D.honest disk.new → moment (D.history disk.new) + from ≤ moment (D.history disk.old) + to }
+    ensures steps { D.honest disk.new → moment (D.history disk.new) + from ≤ moment (D.history disk.old) + to + 1 }
+    ensures last { to ≡ sectors_taken content.now → D.honest disk.new
+        → moment (D.history disk.new) + from ≤ moment (D.history disk.old) + to }
 
     // What is stored is of the generation before it, and stays.
     ensures leaves { (stored : Stored) → D.honest disk.new → generation ≡ suc stored.generation
@@ -114,6 +117,9 @@ fn write_sectors<D: Sectors>(
 {
     for index in from..to {
         write_area(disk, layout, generation, index, &content.sector(index))?;
+    }
+    if to < content.sectors() {
+        disk.sync()?;
     }
     Ok(())
 }

@@ -1,8 +1,8 @@
 use Rattle.std.proofs.Common.{◌∙◌, ℕ, List, Ok, refl, sym, subst, arith}
-use Rattle.sector_disk.proofs.History.{started, any_write}
+use Rattle.sector_disk.proofs.History.{started, any_write, any_sync}
 use Rattle.tile_service.specs.Publishing.{IsContentSector}
 use Rattle.tile_service.specs.Stored.{Holds}
-use Rattle.tile_service.proofs.AreaWrites.{write_moment, is_content_sector, next_area_keeps, next_area_leaves}
+use Rattle.tile_service.proofs.AreaWrites.{write_moment, is_content_sector, next_area_keeps, next_area_leaves, sync_keeps, sync_holds}
 use Rattle.tile_service.proofs.Contents.{write_stands}
 use Rattle.tile_service.proofs.publishing.write_sectors.Goals as goal
 
@@ -55,3 +55,25 @@ loop-index-preserved g c =
           (is_content_sector c.args.content.now c.loop-index.index))
           (ok.writes honest);
     }
+
+pub returns-in_err-sync-clause-leaves : goal.returns-in_err-sync-clause-leaves
+returns-in_err-sync-clause-leaves g c stored honest next keeps =
+    let before = c.sync.ensures.honest honest in
+    sync_holds _ _ (any_sync c.sync.result _ _ (c.sync.ensures.syncs honest)) _ _ stored _
+    (c.loop-index.invariant.leaves stored before next keeps) (c.loop-index.invariant.keeps stored before next keeps)
+
+pub returns-in_err-sync-clause-keeps : goal.returns-in_err-sync-clause-keeps
+returns-in_err-sync-clause-keeps g c stored honest next keeps =
+    sync_keeps _ _ (any_sync c.sync.result _ _ (c.sync.ensures.syncs honest)) _ _ stored
+    (c.loop-index.invariant.keeps stored (c.sync.ensures.honest honest) next keeps)
+
+pub returns-in_ok-sync-clause-leaves : goal.returns-in_ok-sync-clause-leaves
+returns-in_ok-sync-clause-leaves g c stored honest next keeps =
+    let before = c.sync.ensures.honest honest in
+    sync_holds _ _ (any_sync c.sync.result _ _ (c.sync.ensures.syncs honest)) _ _ stored _
+    (c.loop-index.invariant.leaves stored before next keeps) (c.loop-index.invariant.keeps stored before next keeps)
+
+pub returns-in_ok-sync-clause-keeps : goal.returns-in_ok-sync-clause-keeps
+returns-in_ok-sync-clause-keeps g c stored honest next keeps =
+    sync_keeps _ _ (any_sync c.sync.result _ _ (c.sync.ensures.syncs honest)) _ _ stored
+    (c.loop-index.invariant.keeps stored (c.sync.ensures.honest honest) next keeps)
