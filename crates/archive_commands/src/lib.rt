@@ -9,6 +9,3 @@ mod verifying;
 pub use showing::{ShowFault, show};
 pub use verdict::Verdict;
 pub use verifying::verify;
-
-#[cfg(test)]
-mod tests;

@@ -4,6 +4,3 @@
 mod copying;
 
 pub use copying::{CopyFault, copy_archive};
-
-#[cfg(test)]
-mod tests;

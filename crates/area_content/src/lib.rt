@@ -10,6 +10,3 @@ mod making;
 pub use content::AreaContent;
 pub use fault::ContentFault;
 pub use making::content_of;
-
-#[cfg(test)]
-mod tests;

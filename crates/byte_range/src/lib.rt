@@ -6,6 +6,3 @@ mod ranges;
 
 pub use positions::MOST_POSITION_DIGITS;
 pub use ranges::{ByteRange, at_most_one_range, byte_range};
-
-#[cfg(test)]
-mod tests;

@@ -9,9 +9,6 @@ ghost use Rattle.decimal_number.specs.declared.TheConstants.{MOST_DIGITS};
 
 use itoa::Buffer;
 
-#[cfg(test)]
-mod tests;
-
 /// The most digits of a number below 2^64.
 pub const MOST_DIGITS: usize = 20;
 

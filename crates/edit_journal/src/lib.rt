@@ -15,6 +15,3 @@ pub use fault::JournalFault;
 pub use head::{Head, head_in, is_head};
 pub use journal::{Journal, Start};
 pub use sizes::{PART_BYTES, RECORD_VERSION};
-
-#[cfg(test)]
-mod tests;

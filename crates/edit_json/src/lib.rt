@@ -15,6 +15,3 @@ mod writer;
 
 pub use reading::feature_from_json;
 pub use writer::feature_to_json;
-
-#[cfg(test)]
-mod tests;

@@ -12,6 +12,3 @@ mod tags;
 pub use decoding::decode;
 pub use encoding::{append_put, delete_text, encode};
 pub use fault::TextFault;
-
-#[cfg(test)]
-mod tests;

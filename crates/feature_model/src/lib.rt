@@ -16,6 +16,3 @@ pub use limits::{
     MOST_TAGS, MOST_TEXT_BYTES, NUMBER_END, check, count_fits, is_name, is_tag_text,
     tag_count_fits, zooms_fit,
 };
-
-#[cfg(test)]
-mod tests;

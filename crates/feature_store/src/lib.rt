@@ -16,6 +16,3 @@ pub use all_tiles::Tile;
 pub use fault::SnapshotFault;
 pub use limit::TEXTS_END;
 pub use store::Store;
-
-#[cfg(test)]
-mod tests;

@@ -11,6 +11,3 @@ pub use decoding::{GeometryFault, decode};
 pub use encode::{encode_lines, encode_points, encode_rings};
 pub use kinds::{Shape, ShapeKind};
 pub use point::Pt;
-
-#[cfg(test)]
-mod tests;

@@ -9,6 +9,3 @@ mod tile_at;
 
 pub use number::{TILE_IDS, id_of, tile_of};
 pub use tile_at::TileAt;
-
-#[cfg(test)]
-mod tests;

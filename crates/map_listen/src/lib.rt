@@ -4,6 +4,3 @@
 mod connections;
 
 pub use connections::serve_map_on;
-
-#[cfg(test)]
-mod tests;

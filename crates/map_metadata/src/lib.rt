@@ -10,6 +10,3 @@ mod summary;
 mod writer;
 
 pub use writer::{metadata, metadata_text};
-
-#[cfg(test)]
-mod tests;

@@ -13,6 +13,3 @@ mod showing;
 
 pub use fault::RequestFault;
 pub use service::{MapReplies, serve_map};
-
-#[cfg(test)]
-mod tests;

@@ -52,6 +52,13 @@ impl<D: Sectors + Drop> MapReplies<D> {
         })
     }
 
+    /// The service that is asked.
+    pub fn into_service(self) -> Service<D>
+        ensures { result ≡ asked_service self }
+    {
+        self.service
+    }
+
     /// What is wanted of a feature, by a method of its path.
     fn on_feature(&mut self, id: u64, method: Method, body: &[u8]) -> Result<Reply, RequestFault>
         ensures answered { IfOk result (λ reply. AnswersOnFeature D.sectors D.honest D.history

@@ -15,6 +15,3 @@ mod values;
 pub use fault::TileFault;
 pub use layers::{CURRENT_VERSION, DEFAULT_EXTENT, DEFAULT_VERSION, read_tile};
 pub use tile::{Layer, TagValue, TileFeature};
-
-#[cfg(test)]
-mod tests;

@@ -12,6 +12,3 @@ mod tile;
 mod value;
 
 pub use tile::write_tile;
-
-#[cfg(test)]
-mod tests;

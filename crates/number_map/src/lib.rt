@@ -10,6 +10,3 @@ mod number_map;
 
 pub use block::{Block, Entry};
 pub use number_map::NumberMap;
-
-#[cfg(test)]
-mod tests;

@@ -12,6 +12,3 @@ pub use fault::{FaultKind, WireFault};
 pub use fields::{Field, FieldValue, Fields};
 pub use signed::{unzigzag, zigzag};
 pub use varint::{get_varint, put_varint};
-
-#[cfg(test)]
-mod tests;

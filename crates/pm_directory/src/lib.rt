@@ -13,6 +13,3 @@ pub use fault::DirectoryFault;
 pub use lookup::find;
 pub use reading::read_directory;
 pub use writing::write_directory;
-
-#[cfg(test)]
-mod tests;

@@ -10,6 +10,3 @@ mod writing;
 pub use fault::HeaderFault;
 pub use header::{HEADER_BYTES, Header, NOT_COMPRESSED, VECTOR_TILES};
 pub use part::Part;
-
-#[cfg(test)]
-mod tests;

@@ -6,6 +6,3 @@ mod source;
 
 pub use reading::read_bytes;
 pub use source::SectorBytes;
-
-#[cfg(test)]
-mod tests;

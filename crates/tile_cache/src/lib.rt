@@ -10,6 +10,3 @@ pub use kept_tiles::{MOST_TILES_KEPT, TileCache};
 #[doc(hidden)]
 pub use kept_tiles::{KeptTile, Place};
 pub use touch_grid::TouchGrid;
-
-#[cfg(test)]
-mod tests;

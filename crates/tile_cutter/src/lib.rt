@@ -16,6 +16,3 @@ pub use cutting::cut;
 pub use pairing::pairs;
 pub use reach::{Corners, MOST_TILES, TileRange, check_reach, cover_count, covers};
 pub use world_box::{bounding_box, tile_box};
-
-#[cfg(test)]
-mod tests;

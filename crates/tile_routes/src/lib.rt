@@ -11,6 +11,3 @@ pub use method::Method;
 pub use routes::{Route, Routes};
 pub use target::{Target, TileFormat};
 pub use wanted::Wanted;
-
-#[cfg(test)]
-mod tests;

@@ -20,6 +20,3 @@ pub use event::{Answer, Event};
 pub use fault::ServiceFault;
 pub use publishing_whole::Published;
 pub use service::Service;
-
-#[cfg(test)]
-mod tests;

@@ -8,6 +8,3 @@ mod source;
 
 pub use device::{Device, DeviceFault};
 pub use looking::look_up;
-
-#[cfg(test)]
-mod tests;
