@@ -345,6 +345,23 @@ def words(cases, folder, disk):
     cases.show("no file is made", os.path.exists(path), False)
 
 
+def foreign_paths(cases, folder, disk):
+    """A path that isn't UTF-8 is refused as one that leads to no file."""
+    path = os.fsencode(folder) + b"/\xff"
+    lines = [
+        ["format", path, "--sectors", "64"],
+        ["pipe", path],
+        ["serve", path, "--port", "8080", "--connections", "1"],
+        ["export", path, disk],
+        ["export", disk, path],
+        ["show", path],
+        ["verify", path],
+    ]
+    for line in lines:
+        cases.show(f"{line[0]} and a path that isn't UTF-8", vtserve(line), (1, b"", b"vtserve: File\n"))
+    cases.show("no file of that name is made", os.path.exists(path), False)
+
+
 def main():
     cases = Cases()
     with tempfile.TemporaryDirectory() as scratch:
@@ -358,6 +375,7 @@ def main():
         exports(cases, folder)
         serves(cases, folder)
         words(cases, folder, disk)
+        foreign_paths(cases, folder, disk)
     return 1 if cases.differ else 0
 
 

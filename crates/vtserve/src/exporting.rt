@@ -1,4 +1,5 @@
 //! The command that writes the published archive into a file.
+ghost use Rattle.std.specs.Prelude.{◌≡◌, IfOk};
 
 use crate::disks::sync_folder;
 use crate::fault::CommandFault;
@@ -19,7 +20,9 @@ fn is_same_file(rt: &HostRuntime, path: &str, other: &str) -> bool {
 }
 
 /// Copies the archive into a file, and syncs it: how many bytes it has.
-fn copy_into<D: Sectors + Drop>(service: &mut Service<D>, file: File) -> Result<u64, CommandFault> {
+fn copy_into<D: Sectors + Drop>(service: &mut Service<D>, file: File) -> Result<u64, CommandFault>
+    ensures size { IfOk result (λ size. size ≡ service.old.archive_len) }
+{
     let mut file = file;
     let size = match copy_archive(service, &mut file) {
         Ok(size) => size,
@@ -46,7 +49,9 @@ fn write_beside<D: Sectors + Drop>(
     rt: &HostRuntime,
     service: &mut Service<D>,
     goal: &str,
-) -> Result<u64, CommandFault> {
+) -> Result<u64, CommandFault>
+    ensures size { IfOk result (λ size. size ≡ service.old.archive_len) }
+{
     let Ok(part) = format!(in rt.alloc(); "{goal}.part") else {
         return Err(CommandFault::Store(StoreFault::Memory));
     };

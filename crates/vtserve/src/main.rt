@@ -18,10 +18,13 @@ use exporting::export_file;
 use fault::CommandFault;
 use files::{format_file, serve_file};
 use fresh::fresh_service;
+use generations::StoreFault;
 use listening::{listening_of, serve_port};
 use sector_disk::Unknown;
 use serving::serve_over;
+use std::alloc::AllocError;
 use std::fmt::Display;
+use std::io::ErrorKind;
 use std::process::ExitCode;
 
 /// Prints a fault's name.
@@ -77,10 +80,29 @@ fn run(rt: &HostRuntime, matches: &ArgMatches<'_>) -> anyhow::Result<ExitCode> {
     }
 }
 
+/// The words of the command line. One that isn't UTF-8 is taken for a path that leads to no file.
+fn command_words(rt: &HostRuntime) -> Result<Vec<String>, CommandFault> {
+    let words = match std::env::args(rt) {
+        Ok(words) => words,
+        Err(error) if error.kind() == ErrorKind::OutOfMemory => {
+            return Err(CommandFault::Store(StoreFault::Memory));
+        }
+        Err(_) => return Err(CommandFault::File),
+    };
+    match words.collect(rt.alloc()) {
+        Ok(words) => Ok(words),
+        Err(AllocError) => Err(CommandFault::Store(StoreFault::Memory)),
+    }
+}
+
 fn main(rt: HostRuntime) -> anyhow::Result<ExitCode> {
-    let alloc = rt.alloc();
-    let words: Vec<String> = std::env::args(&rt)?.collect(alloc)?;
-    let command = command_line(alloc)?;
+    let words = match command_words(&rt) {
+        Ok(words) => words,
+        Err(fault) => return refused(&rt, fault.name()),
+    };
+    let Ok(command) = command_line(rt.alloc()) else {
+        return refused(&rt, CommandFault::Store(StoreFault::Memory).name());
+    };
     let matches = match command.try_get_matches_from(words.as_slice()) {
         Ok(matches) => matches,
         Err(error) => {
