@@ -1,6 +1,7 @@
 //! The archive that was published last.
-ghost use Rattle.std.specs.Prelude.{◌≡◌, ◌≢◌, ◌<◌, ◌≤◌, ◌+◌, ◌-◌, ◌⊎◌, length, slice_range, IfOk, IfErr, IfSome, OnOk, option_map};
+ghost use Rattle.std.specs.Prelude.{◌≡◌, ◌≢◌, ◌<◌, ◌≤◌, ◌+◌, ◌-◌, ◌⊎◌, length, slice_range, IfOk, IfErr, IfSome, OnOk, None, option_map};
 ghost use Rattle.http_serve.specs.Reply.{head_view, HasShortWords};
+ghost use Rattle.sector_disk.specs.Disk.{HasFailed};
 ghost use Rattle.tile_service.specs.Service.{IsUp};
 ghost use Rattle.tile_service.specs.Stored.{Stored};
 ghost use Rattle.map_replies.specs.Requests.{ReadsOnly, AnswersArchive, OrMemory};
@@ -20,6 +21,8 @@ impl<D: Sectors + Drop> MapReplies<D> {
     fn archive_bytes(&mut self, at: u64, count: u64) -> Result<Option<Vec<u8>>, RequestFault>
         requires { at + count ≤ (asked_service self.old).archive_len }
         ensures reads { IfOk result (λ content. ReadsOnly D.sectors D.honest D.history (asked_service self.old) (asked_service self.new)) }
+        ensures failed { IfOk result (λ content. content ≡ None
+            → HasFailed (D.faults (asked_service self.old).disk) (D.faults (asked_service self.new).disk)) }
         ensures length { IfOk result (λ content. IfSome content (λ bytes. length bytes.items ≡ count)) }
         ensures bytes { (stored : Stored)
             → IsUp (D.sectors (asked_service self.old).disk) (D.history (asked_service self.old).disk) stored (asked_service self.old)
@@ -41,6 +44,8 @@ impl<D: Sectors + Drop> MapReplies<D> {
     fn send(&mut self, first: u64, length: u64, bare: bool) -> Result<Option<Content>, RequestFault>
         requires { first + length ≤ (asked_service self.old).archive_len }
         ensures reads { IfOk result (λ content. ReadsOnly D.sectors D.honest D.history (asked_service self.old) (asked_service self.new)) }
+        ensures failed { IfOk result (λ content. content ≡ None
+            → HasFailed (D.faults (asked_service self.old).disk) (D.faults (asked_service self.new).disk)) }
         ensures begun { IfOk result (λ content. IfSome content (Begins D.sectors D.honest D.history
             (asked_service self.old) first length (asked_service self.new))) }
         ensures sending { IfOk result (λ content. IfSome content (λ _. self.new.sending ≡ record { first = first; length = length })) }
@@ -128,6 +133,7 @@ impl<D: Sectors + Drop> MapReplies<D> {
     pub(crate) fn read_sent(&mut self, offset: u64, part: &mut [u8]) -> Result<(), ContentFault>
         requires { offset + length part.old ≤ sending_size self.old }
         ensures sending { self.new.sending ≡ self.old.sending }
+        ensures failed { IfErr result (λ fault. HasFailed (D.faults (asked_service self.old).disk) (D.faults (asked_service self.new).disk)) }
         ensures reads { ReadsOnly D.sectors D.honest D.history (asked_service self.old) (asked_service self.new) }
         ensures size { sending_size self.new ≡ sending_size self.old }
         ensures length { length part.new ≡ length part.old }
