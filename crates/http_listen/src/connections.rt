@@ -50,7 +50,7 @@ fn serve_stream<S: Read + Write + OpenStream + Drop, H: Handler>(
 
 /// Serves so many connections of a listener one after the other, and writes a line to the log behind each:
 /// `connection I: R requests, END`. I counts the connections from 1, R the requests that got a whole reply, and END is `closed`,
-/// `asked`, `refused` or `turns`, or at a fault `memory`, `read`, `write` or `content`: what `http_serve::serve` answered.
+/// `asked`, `refused` or `turns`, or at a fault `memory`, `read`, `write` or `device`: what `http_serve::serve` answered.
 ///
 /// A connection's fault ends that connection alone. Of a peer that doesn't read or write for `WAIT_SECONDS` the connection
 /// is given up. A line that can't be written is left out.
