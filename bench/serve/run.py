@@ -1,0 +1,202 @@
+#!/usr/bin/env python3
+"""How long replies of `vtserve serve` take beside those of nginx with the same bytes as files: tiles, the archive whole and in parts;
+and a durable edit beside a bare write and sync of a sector.
+
+    python3 bench/serve/run.py [PROGRAM [FOLDER]]    PROGRAM is crates/vtserve/out/vtserve, which `rt run` leaves there
+
+Each server has one connection, which is kept, and both share one processor; the client (client.cpp, g++) asks them by turns from
+another one, in rounds. A figure is the median of the rounds' medians, with the least and the greatest; the ratio is that of the rounds'
+ratios, and above 1 vtserve is the slower one. Disks and files lie in FOLDER, or in a scratch folder. Needs nginx (Debian: nginx-light).
+"""
+import http.client
+import json
+import os
+import shutil
+import socket
+import statistics
+import subprocess
+import sys
+import tempfile
+import time
+
+HERE = os.path.dirname(os.path.abspath(__file__))
+PROGRAM = os.path.abspath(sys.argv[1] if len(sys.argv) > 1 else os.path.join(HERE, "..", "..", "crates", "vtserve", "out", "vtserve"))
+ROUNDS = 9
+SERVERS, CLIENT = "1", "2"
+# Zoom and column of each tile, with how many features it shows.
+TILES = [(8, 10, 18), (8, 20, 520), (8, 30, 6200)]
+CONFIGURATION = """
+worker_processes 1;
+pid nginx.pid;
+error_log error.log;
+events { worker_connections 64; }
+http {
+    access_log off;
+    sendfile on;
+    tcp_nopush on;
+    keepalive_timeout 600;
+    keepalive_requests 1000000000;
+    client_body_temp_path body;
+    proxy_temp_path proxy;
+    fastcgi_temp_path fastcgi;
+    scgi_temp_path scgi;
+    uwsgi_temp_path uwsgi;
+    server { listen 127.0.0.1:PORT; root FOLDER/files; }
+}
+"""
+
+
+def free_port():
+    with socket.socket() as probe:
+        probe.bind(("127.0.0.1", 0))
+        return probe.getsockname()[1]
+
+
+def feature(layer, zoom, points, tags):
+    return json.dumps({"layer": layer, "minzoom": zoom, "maxzoom": zoom, "geometry": {"points": points}, "tags": tags})
+
+
+def place(zoom, column, row, step):
+    """A point inside of a tile, another for each step."""
+    side = 2 ** (32 - zoom)
+    return [column * side + side // 8 + (step * 7919) % (side // 2), row * side + side // 8 + (step * 104729) % (side // 2)]
+
+
+class Vtserve:
+    def __init__(self, folder, name, sectors):
+        disk = os.path.join(folder, name)
+        subprocess.run([PROGRAM, "format", disk, "--sectors", str(sectors)], check=True, stdout=subprocess.DEVNULL)
+        self.port = free_port()
+        words = ["taskset", "-c", SERVERS, PROGRAM, "serve", disk, "--port", str(self.port), "--connections", "1000000"]
+        self.child = subprocess.Popen(words, stdout=subprocess.PIPE, stderr=subprocess.DEVNULL)
+        self.child.stdout.readline()
+        self.disk = disk
+
+    def put(self, features):
+        """Puts these features, on one connection."""
+        link = http.client.HTTPConnection("127.0.0.1", self.port)
+        for number, body in features:
+            link.request("PUT", f"/features/{number}", body)
+            reply = link.getresponse()
+            said = reply.read()
+            if reply.status != 200:
+                sys.exit(f"PUT: {reply.status} {said!r}")
+        link.close()
+
+    def bytes_of(self, path, method="GET"):
+        link = http.client.HTTPConnection("127.0.0.1", self.port)
+        link.request(method, path)
+        reply = link.getresponse()
+        content = reply.read()
+        link.close()
+        if reply.status != 200:
+            sys.exit(f"{path}: {reply.status} {content!r}")
+        return content
+
+    def end(self):
+        self.child.kill()
+        self.child.wait()
+
+
+class Nginx:
+    def __init__(self, folder):
+        self.files = os.path.join(folder, "files")
+        os.mkdir(self.files)
+        self.port = free_port()
+        configuration = os.path.join(folder, "nginx.conf")
+        with open(configuration, "w", encoding="utf-8") as file:
+            file.write(CONFIGURATION.replace("PORT", str(self.port)).replace("FOLDER", folder))
+        words = ["taskset", "-c", SERVERS, "nginx", "-p", folder, "-c", configuration, "-g", "daemon off;"]
+        self.child = subprocess.Popen(words, stderr=subprocess.DEVNULL)
+        for _ in range(100):
+            with socket.socket() as probe:
+                if probe.connect_ex(("127.0.0.1", self.port)) == 0:
+                    return
+            time.sleep(0.05)
+        sys.exit("nginx doesn't listen")
+
+    def keep(self, name, content):
+        with open(os.path.join(self.files, name), "wb") as file:
+            file.write(content)
+
+    def end(self):
+        self.child.terminate()
+        self.child.wait()
+
+
+def told(values):
+    """The median in microseconds, with the least and the greatest."""
+    return f"{statistics.median(values) / 1000:.1f} us ({min(values) / 1000:.1f} to {max(values) / 1000:.1f})"
+
+
+def show(name, client, words, peer):
+    """Runs the client, and prints what its rounds told."""
+    command = ["taskset", "-c", CLIENT, client, *[str(word) for word in words]]
+    printed = subprocess.run(command, check=True, stdout=subprocess.PIPE, text=True).stdout
+    rounds = [[int(number) for number in line.split()] for line in printed.splitlines()]
+    ratios = [first / second for first, second in rounds]
+    ratio = f"{statistics.median(ratios):.2f} ({min(ratios):.2f} to {max(ratios):.2f})"
+    first, second = [told([pair[at] for pair in rounds]) for at in (0, 1)]
+    print(f"{name}: {first}; {peer} {second}; ratio {ratio}", flush=True)
+
+
+def tiles(folder, client, nginx):
+    """Hot tiles of three sizes."""
+    server = Vtserve(folder, "tiles", 131072)
+    number = 0
+    for zoom, column, count in TILES:
+        rows = []
+        for step in range(count):
+            number += 1
+            rows.append((number, feature("towns", zoom, [place(zoom, column, column, step)], {"name": f"town number {number}", "people": number * 17})))
+        server.put(rows)
+    for zoom, column, _ in TILES:
+        path = f"/map/{zoom}/{column}/{column}.mvt"
+        content = server.bytes_of(path)
+        name = f"{column}.mvt"
+        nginx.keep(name, content)
+        show(f"a hot tile of {len(content)} bytes", client, ["get", ROUNDS, 300, server.port, path, nginx.port, "/" + name], "nginx")
+    body = os.path.join(folder, "body.json")
+    with open(body, "w", encoding="utf-8") as file:
+        file.write(feature("towns", 3, [[5, 5]], {"name": "a town that moves"}))
+    plain = os.path.join(folder, "plain")
+    with open(plain, "wb") as file:
+        file.write(bytes(512 * 8192))
+        file.flush()
+        os.fsync(file.fileno())
+    show("a durable edit", client, ["put", ROUNDS, 300, server.port, "/features/1000000", body, plain], "a write and a sync of a sector")
+    server.end()
+
+
+def archive(folder, client, nginx):
+    """The archive, whole and in parts."""
+    server = Vtserve(folder, "archive", 393216)
+    text = "abcdefghij" * 100
+    rows = []
+    for number in range(1, 2001):
+        tags = {f"k{key}": f"{number} {key} {text}" for key in range(10)}
+        rows.append((number, feature("texts", 12, [place(12, number % 64, number // 64, 1)], tags)))
+    server.put(rows)
+    server.bytes_of("/publish", "POST")
+    content = server.bytes_of("/map.pmtiles")
+    nginx.keep("map.pmtiles", content)
+    show(f"the archive of {len(content)} bytes, whole", client, ["get", ROUNDS, 5, server.port, "/map.pmtiles", nginx.port, "/map.pmtiles"], "nginx")
+    show("the same in ranges of 4,096 bytes", client, ["range", ROUNDS, 4096, server.port, "/map.pmtiles", nginx.port, "/map.pmtiles"], "nginx")
+    server.end()
+
+
+def main():
+    folder = tempfile.mkdtemp(dir=sys.argv[2] if len(sys.argv) > 2 else None)
+    os.chmod(folder, 0o755)
+    client = os.path.join(folder, "client")
+    subprocess.run(["g++", "-O2", "-std=c++17", "-o", client, os.path.join(HERE, "client.cpp")], check=True)
+    nginx = Nginx(folder)
+    try:
+        tiles(folder, client, nginx)
+        archive(folder, client, nginx)
+    finally:
+        nginx.end()
+        shutil.rmtree(folder)
+
+
+main()
