@@ -4,7 +4,7 @@ mod Entries
 mod Kept
 pub mod Laws
 mod Listed
-mod Maps
+pub mod Maps
 mod Names
 mod Near
 mod Pairs

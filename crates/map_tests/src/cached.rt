@@ -160,7 +160,8 @@ fn is_there(
     told: Option<u8>,
 ) -> Result<bool, Fail> {
     let at = tile(z, x, y)?;
-    match (cache.get(at, newest), told) {
+    cache.promote(at);
+    match (cache.peek(at, newest), told) {
         (Some(bytes), Some(first)) => Ok(bytes == [first, 1, 2].as_slice()),
         (None, None) => Ok(true),
         _ => Ok(false),

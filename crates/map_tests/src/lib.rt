@@ -4,6 +4,8 @@
 #[cfg(test)]
 mod cached;
 #[cfg(test)]
+mod cached_maps;
+#[cfg(test)]
 mod cuts;
 #[cfg(test)]
 mod features;

@@ -157,12 +157,12 @@ fn numbers_up_and_down(rt: HostRuntime) -> Result<(), Fail> {
 
 /// Marsaglia's generator of random numbers (xorshift64, 2003).
 #[derive(Drop)]
-struct Random {
-    state: u64,
+pub(crate) struct Random {
+    pub(crate) state: u64,
 }
 
 impl Random {
-    fn below(&mut self, count: u64) -> u64 {
+    pub(crate) fn below(&mut self, count: u64) -> u64 {
         self.state ^= self.state << 13;
         self.state ^= self.state >> 7;
         self.state ^= self.state << 17;

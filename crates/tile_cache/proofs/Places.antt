@@ -108,7 +108,7 @@ both false b h = cc
 place_here : (p : Place) → is_place p p ≡ true
 place_here p = rw (eq-eqb p.z p.z refl, eq-eqb p.x p.x refl, eq-eqb p.y p.y refl) refl
 
-place_is : (p q : Place) → is_place p q ≡ true → p ≡ q
+pub place_is : (p q : Place) → is_place p q ≡ true → p ≡ q
 place_is p q same =
     let z = both _ _ same in let rest = both _ _ z.1 in
     λ i. record { z = eqb-true p.z q.z z.0 i; x = eqb-true p.x q.x rest.0 i; y = eqb-true p.y q.y rest.1 i }

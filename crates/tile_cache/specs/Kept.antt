@@ -1,13 +1,10 @@
 -- What a cache of tiles keeps.
-use Rattle.std.specs.Prelude.{◌≡◌, ℕ, Bool, false, cond, ◌&&◌, ◌⊎◌, List, length, Option, Some, None, nat_le, nat_eq, option_map, ⊤}
-use Rattle.std.specs.Borrow.{Fml, MutBor, follows_so}
+use Rattle.std.specs.Prelude.{◌≡◌, ℕ, Bool, false, cond, ◌&&◌, ◌⊎◌, List, length, Option, Some, None, nat_le, nat_eq, option_map}
 use Rattle.std.specs.Map.{lookup}
-use mathlib.Core.Option.{none}
 use Rattle.tile_cache.specs.declared.kept_tiles.TheConstants.{MOST_TILES_KEPT}
 use Rattle.tile_cache.specs.declared.kept_tiles.Place.{Place}
 use Rattle.tile_cache.specs.declared.kept_tiles.KeptTile.{KeptTile}
 use Rattle.tile_cache.specs.declared.kept_tiles.TileCache.{TileCache}
-use Rattle.tile_cache.specs.contracts.kept_tiles.TileCache.{the_row}
 
 -- a number and the bytes of a tile
 abbrev pub Tile : Type 0
@@ -48,10 +45,6 @@ pub record KeepsSame (old new : TileCache) : Type 0 where
   pub tiles : (z x y : ℕ) → kept_at new z x y ≡ kept_at old z x y
   pub count : count_kept new ≡ count_kept old
   pub most : most_kept new ≡ most_kept old
-
--- once the borrow has ended, the same is kept at each place
-abbrev pub EndsWithSame : MutBor TileCache → Fml
-EndsWithSame c = follows_so the_row the_row c.ghost_name none (λ _ _. ⊤) (KeepsSame c.now)
 
 -- another place
 abbrev pub IsOtherPlace : ℕ → ℕ → ℕ → ℕ → ℕ → ℕ → Type 0

@@ -1,5 +1,4 @@
 ghost use Rattle.std.specs.Prelude.{◌≡◌, ◌+◌, ◌<◌, ◌≤◌, Some, OnOk, OnErr, IfOk, option_map};
-ghost use Rattle.std.specs.Borrow.{sem};
 
 use hilbert_id::TileAt;
 use lru::LruCache;
@@ -42,7 +41,7 @@ fn place_of(at: TileAt) -> Place
 }
 
 impl TileCache {
-    ghost use Rattle.tile_cache.specs.Kept.{kept_at, fresh, count_kept, most_kept, KeepsNothing, KeepsSame, KeepsOthers, KeepsFewer, EndsWithSame};
+    ghost use Rattle.tile_cache.specs.Kept.{kept_at, fresh, count_kept, most_kept, KeepsNothing, KeepsSame, KeepsOthers, KeepsFewer};
 
     /// Keeps nothing yet.
     pub fn new(alloc: Global) -> Result<TileCache, AllocError>
@@ -54,13 +53,19 @@ impl TileCache {
         })
     }
 
-    /// The bytes kept for a place, if they were kept with a number of at least `newest`.
-    pub fn get(&mut self, at: TileAt, newest: u64) -> Option<&[u8]>
-        ensures* same { sem 𝓛 (EndsWithSame self.entry) }
-        ensures found { option_map (λ b. b.now) result ≡ fresh newest (kept_at self.old at.z at.x at.y) }
+    /// Notes that the tile of a place was asked for: others give way first.
+    pub fn promote(&mut self, at: TileAt)
+        ensures { KeepsSame self.old self.new }
     {
         let place = place_of(at);
         self.tiles.promote(&place);
+    }
+
+    /// The bytes kept for a place, if they were kept with a number of at least `newest`.
+    pub fn peek(&self, at: TileAt, newest: u64) -> Option<&[u8]>
+        ensures { option_map (λ b. b.now) result ≡ fresh newest (kept_at self.now at.z at.x at.y) }
+    {
+        let place = place_of(at);
         match self.tiles.peek(&place) {
             Some(kept) => {
                 if kept.number < newest {

@@ -1,0 +1,52 @@
+-- A map with tiles that were made of it, and which of them are still its tiles.
+use Rattle.std.specs.Prelude.{◌≡◌, ℕ, ◌<◌, ◌≤◌, List, [], ◌∷◌, length, All, Option, Some, None}
+use Rattle.box_index.specs.declared.span.WorldBox.{WorldBox}
+use Rattle.feature_model.specs.Data.{FeatureData}
+use Rattle.feature_store.specs.Indexed.{world_box}
+use Rattle.feature_store.specs.Layers.{layers}
+use Rattle.feature_store.specs.Store.{FeatureMap}
+use Rattle.mvt_layer.specs.Reads.{ReadsAs}
+use Rattle.mvt_layer.specs.Tile.{LayerView}
+use Rattle.tile_cache.specs.Kept.{kept_at}
+use Rattle.tile_cache.specs.Touched.{Mark, Reaches, Remembers}
+use Rattle.tile_cache.specs.declared.kept_tiles.TileCache.{TileCache}
+use Rattle.tile_cutter.specs.WorldBox.{bounding_box}
+
+-- the content of a tile with these layers: bytes that read as them, and none where there are none
+abbrev pub IsTileContent : List LayerView → Option (List ℕ) → Type 0
+IsTileContent ls None = ls ≡ []
+IsTileContent ls (Some bytes) = (0 < length ls) × ReadsAs bytes ls
+
+-- what contracts see: the map, how many features it takes without memory, and the number of its last edit
+pub record CachedView : Type 0 where
+  pub features : FeatureMap
+  pub spare : ℕ
+  pub last : ℕ
+
+-- ---- what edits touch
+
+-- the bounding box of a feature
+abbrev pub box_of : FeatureData → WorldBox
+box_of f = world_box (bounding_box f.geometry)
+
+-- these marks, and that of an edit with this number that touches a feature, if there is one
+abbrev pub with_mark : Option FeatureData → ℕ → List Mark → List Mark
+with_mark None number marks = marks
+with_mark (Some f) number marks = (box_of f, number) ∷ marks
+
+-- no edit behind this number can have touched what the tile shows
+abbrev pub IsUntouched : List Mark → (z x y number : ℕ) → Type 0
+IsUntouched marks z x y number = All (λ m. Reaches m.0 z x y → m.1 ≤ number) marks
+
+-- ---- what is kept
+
+-- bytes that were kept with this number are the tile of the map, unless an edit behind it may have touched it
+pub record IsKept (m : FeatureMap) (marks : List Mark) (last z x y n : ℕ) (bytes : List ℕ) : Type 0 where
+  pub number : n ≤ last
+  pub tile : IsUntouched marks z x y n → IsTileContent (layers m z x y) (Some bytes)
+
+-- that is so of each kept tile, for edits that the numbers of these cells remember
+pub record IsCached (m : FeatureMap) (cells : List ℕ) (kept : TileCache) (last : ℕ) : Type 0 where
+  pub marks : List Mark
+  pub remembers : Remembers cells marks
+  pub tiles : (z x y number : ℕ) (bytes : List ℕ) → kept_at kept z x y ≡ Some (number, bytes) → IsKept m marks last z x y number bytes

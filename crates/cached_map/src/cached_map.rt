@@ -1,0 +1,176 @@
+ghost use Rattle.std.specs.Prelude.{◌≡◌, ◌↔◌, ◌≢◌, ◌<◌, ◌≤◌, ◌+◌, ℕ, List, ◌∷◌, length, IsSome, IsTrue, Some, None, IfOk, OnOk, OnErr, option_map};
+ghost use Rattle.feature_model.specs.Data.{feature_data, put};
+ghost use Rattle.feature_model.specs.Types.{IsEdit};
+ghost use Rattle.feature_store.specs.Layers.{layers};
+ghost use Rattle.feature_store.specs.Store.{feature_at, with_feature, without_feature, snapshot};
+ghost use Rattle.feature_store.specs.declared.limit.TheConstants.{TEXTS_END};
+ghost use Rattle.tile_cache.specs.Touched.{Mark, Remembers};
+ghost use Rattle.cached_map.specs.Cached.{IsTileContent, box_of, with_mark};
+
+use box_index::WorldBox;
+use feature_model::Feature;
+use feature_store::Store;
+use hilbert_id::TileAt;
+use mvt_write::write_tile;
+use std::alloc::{AllocError, Global};
+use std::marker::Model;
+use tile_cache::{TileCache, TouchGrid};
+use tile_cutter::bounding_box;
+
+/// A map, the newest edit of each part of the world, and tiles that were made of it.
+#[derive(Drop)]
+pub struct CachedMap {
+    alloc: Global,
+    store: Store,
+    touched: TouchGrid,
+    kept: TileCache,
+    last: u64,
+}
+
+impl Model for CachedMap {
+    ghost use Rattle.cached_map.specs.Cached.{CachedView, IsCached};
+
+    ghost Value = { CachedView };
+
+    ghost view = { λ m. record { features = m.store.features; spare = m.store.spare; last = m.last } };
+
+    ghost invariant = { λ m. IsCached m.store.features m.touched m.kept m.last };
+}
+
+/// Notes that an edit of this number touches a feature.
+fn mark(touched: &mut TouchGrid, feature: &Feature, number: u64)
+    ensures { (marks : List Mark) → Remembers touched.old marks → Remembers touched.new ((box_of (feature_data feature.now), number) ∷ marks) }
+{
+    let corners = bounding_box(feature);
+    let bounds = WorldBox {
+        x0: corners.least.x,
+        x1: corners.greatest.x,
+        y0: corners.least.y,
+        y1: corners.greatest.y,
+    };
+    touched.mark(&bounds, number);
+}
+
+/// The same, where there is a feature.
+fn mark_some(touched: &mut TouchGrid, feature: Option<&Feature>, number: u64)
+    ensures { (marks : List Mark) → Remembers touched.old marks
+        → Remembers touched.new (with_mark (option_map (λ f. feature_data f.now) feature.entry) number marks) }
+{
+    if let Some(feature) = feature {
+        mark(touched, feature, number);
+    }
+}
+
+impl CachedMap {
+    /// A map whose last edit has this number, and of which no tile is kept.
+    pub fn new(alloc: Global, store: Store, last: u64) -> Result<CachedMap, AllocError>
+        ensures { IfOk result (λ m. m ≡ record { features = store.features; spare = store.spare; last = last }) }
+    {
+        let kept = TileCache::new(alloc)?;
+        Ok(CachedMap {
+            alloc,
+            store,
+            touched: TouchGrid::new(),
+            kept,
+            last,
+        })
+    }
+
+    /// The map.
+    pub fn store(&self) -> &Store
+        ensures features { result.now.features ≡ self.now.features }
+        ensures spare { result.now.spare ≡ self.now.spare }
+    {
+        &self.store
+    }
+
+    /// The number of the last edit.
+    pub fn last(&self) -> u64
+        ensures { result ≡ self.now.last }
+    {
+        self.last
+    }
+
+    /// Makes room for one feature of any number, so that the next `place` allocates nothing.
+    pub fn room(&mut self) -> Result<(), AllocError>
+        ensures same { self.new ≡ record self.old { spare = self.new.spare } }
+        ensures room { OnOk result (0 < self.new.spare) }
+        ensures kept { self.old.spare ≤ self.new.spare }
+        ensures missing { OnErr result (self.old.spare ≡ 0) }
+        ensures unchanged { OnErr result (self.new ≡ self.old) }
+    {
+        self.store.room()
+    }
+
+    /// Gives the number this feature, whatever feature it had, by an edit of this number. It allocates nothing.
+    pub fn place(&mut self, id: u64, feature: Feature, number: u64)
+        requires edit { IsEdit (put id (feature_data feature)) }
+        requires room { 0 < self.old.spare }
+        requires texts { length (snapshot (with_feature self.old.features id (feature_data feature))) < TEXTS_END }
+        requires later { self.old.last < number }
+        ensures map { self.new.features ≡ with_feature self.old.features id (feature_data feature) }
+        ensures spare { self.old.spare ≤ self.new.spare + 1 }
+        ensures last { self.new.last ≡ number }
+    {
+        let _count = self.store.len();
+        mark_some(&mut self.touched, self.store.get(id), number);
+        mark(&mut self.touched, &feature, number);
+        self.store.place(id, feature);
+        self.last = number;
+    }
+
+    /// Takes the number's feature away, by an edit of this number, and says whether it had one. It allocates nothing, and room stays.
+    pub fn remove(&mut self, id: u64, number: u64) -> bool
+        requires later { self.old.last < number }
+        ensures found { IsTrue result ↔ IsSome (feature_at self.old.features id) }
+        ensures map { self.new.features ≡ without_feature self.old.features id }
+        ensures spare { self.old.spare ≤ self.new.spare }
+        ensures last { self.new.last ≡ number }
+    {
+        let _count = self.store.len();
+        mark_some(&mut self.touched, self.store.get(id), number);
+        let found = self.store.remove(id);
+        self.last = number;
+        found
+    }
+
+    /// Keeps the bytes of a tile, if memory is there for it.
+    fn keep(&mut self, at: TileAt, bytes: &[u8])
+        requires content { IsTileContent (layers self.old.features at.z at.x at.y) (Some bytes.now) }
+        ensures same { self.new ≡ self.old }
+    {
+        if let Ok(bytes) = Vec::from_slice(self.alloc, bytes) {
+            let _ = self.kept.keep(at, self.last, bytes);
+        }
+    }
+
+    /// The bytes of a tile, cut anew.
+    fn cut_tile(&self, at: TileAt) -> Result<Option<Vec<u8>>, AllocError>
+        ensures tile { IfOk result (λ content. IsTileContent (layers self.now.features at.z at.x at.y) (option_map (λ b. b.items) content)) }
+    {
+        let layers = self.store.layers(at)?;
+        if layers.len() == 0 {
+            return Ok(None);
+        }
+        let bytes = write_tile(self.alloc, &layers)?;
+        Ok(Some(bytes))
+    }
+
+    /// The bytes of a tile (Mapbox Vector Tile 2.1): none where it shows nothing, so above the greatest zoom too. One that was asked
+    /// for before, and that no edit can have touched since, is a copy of what was kept. The only error is out of memory.
+    pub fn tile(&mut self, at: TileAt) -> Result<Option<Vec<u8>>, AllocError>
+        ensures tile { IfOk result (λ content. IsTileContent (layers self.old.features at.z at.x at.y) (option_map (λ b. b.items) content)) }
+        ensures same { self.new ≡ self.old }
+    {
+        let newest = self.touched.newest(at);
+        self.kept.promote(at);
+        if let Some(bytes) = self.kept.peek(at, newest) {
+            return Ok(Some(Vec::from_slice(self.alloc, bytes)?));
+        }
+        let content = self.cut_tile(at)?;
+        if let Some(bytes) = &content {
+            self.keep(at, bytes);
+        }
+        Ok(content)
+    }
+}

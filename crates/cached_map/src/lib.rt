@@ -1,0 +1,6 @@
+//! A map that keeps the tiles made of it: a tile that was asked for before, and that no edit can have touched since, isn't cut again.
+#![tactic(auto)]
+
+mod cached_map;
+
+pub use cached_map::CachedMap;
