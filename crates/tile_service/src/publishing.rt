@@ -284,7 +284,7 @@ impl<D: Sectors + Drop> Service<D> {
         ensures failed { IfErr result (λ fault. CountsDevice fault (D.faults self.old.disk) (D.faults self.new.disk)) }
         ensures refused { IfErr result (λ fault. fault ≢ Device → self.new ≡ self.old) }
 
-        // It makes at most 64 writes and those of an installation: two syncs and a write.
+        // It makes at most 64 writes and a sync, or as the last step those writes and an installation's: two syncs and a write.
         ensures steps { D.honest self.new.disk → moment (D.history self.new.disk) ≤ moment (D.history self.old.disk) + 67 }
 
         // A crash at any moment of the call leaves what was stored, or where the step is the last one what it installs.
