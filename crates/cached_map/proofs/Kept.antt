@@ -72,7 +72,8 @@ module _ (m : FeatureMap) (old_cells new_cells : List ℕ) (kept : TileCache) (l
           tile = λ all.
               let rest : IsUntouched (with_mark (feature_at m id) number before.marks) z x y n =
               All-tail (λ (k : Mark). Reaches k.0 z x y → k.1 ≤ n) (box_of f, number) (with_mark (feature_at m id) number before.marks) all in
-              subst (λ ls. IsTileContent ls (Some bytes)) (sym (same z x y n was.number all rest)) (was.tile (rest_of (feature_at m id) number n z x y before.marks rest));
+              subst (λ ls. IsTileContent ls (Some bytes)) (sym (same z x y n was.number all rest))
+              (was.tile (rest_of (feature_at m id) number n z x y before.marks rest));
         };
   }
     where
