@@ -4,6 +4,9 @@
 //     client get ROUNDS COUNT PORT PATH PORT PATH           COUNT requests of each
 //     client range ROUNDS BYTES PORT PATH PORT PATH         the whole content in parts of so many bytes: the time of all together
 //     client put ROUNDS COUNT PORT PATH BODY FILE           COUNT times a PUT of the body, and a write and a sync of 512 bytes of FILE
+//     client list ROUNDS PERCENT PORT FILE PORT PREFIX      each line of FILE in turn: `GET PATH` of the first server, and of the second
+//                                                           one with the prefix; `PUT PATH BODY` of the first one alone, which isn't
+//                                                           timed; PERCENT of the replies took no longer than is told
 #include <algorithm>
 #include <arpa/inet.h>
 #include <chrono>
@@ -109,6 +112,32 @@ std::int64_t in_parts(Peer &peer, const string &path, std::size_t whole, std::si
     return since(start);
 }
 
+std::int64_t percentile(std::vector<std::int64_t> times, int percent) {
+    std::sort(times.begin(), times.end());
+    return times[(times.size() - 1) * static_cast<std::size_t>(percent) / 100];
+}
+
+string put(const string &path, const string &body) {
+    return "PUT " + path + " HTTP/1.1\r\nhost: localhost\r\ncontent-length: " + std::to_string(body.size()) + "\r\n\r\n" + body;
+}
+
+void ask_list(Peer &one, Peer &other, const string &file, const string &prefix, int percent) {
+    std::ifstream lines(file);
+    std::vector<std::int64_t> first, second;
+    std::size_t length = 0;
+    string method, path, body;
+    while (lines >> method >> path) {
+        std::getline(lines, body);
+        if (method == "PUT") {
+            one.ask(put(path, body), "HTTP/1.1 200", &length);
+            continue;
+        }
+        first.push_back(one.ask(get(path), "HTTP/1.1 200", &length));
+        second.push_back(other.ask(get(prefix + path), "HTTP/1.1 200", &length));
+    }
+    tell(percentile(first, percent), percentile(second, percent));
+}
+
 int main(int count, char **words) {
     if (count != 8) return 2;
     const string mode = words[1], path = words[5];
@@ -118,7 +147,7 @@ int main(int count, char **words) {
     if (mode == "put") {
         std::ifstream file(words[6], std::ios::binary);
         const string body((std::istreambuf_iterator<char>(file)), std::istreambuf_iterator<char>());
-        const string request = "PUT " + path + " HTTP/1.1\r\nhost: localhost\r\ncontent-length: " + std::to_string(body.size()) + "\r\n\r\n" + body;
+        const string request = put(path, body);
         const int plain = open(words[7], O_RDWR);
         if (plain < 0) fail("open");
         const std::vector<char> sector(512, 'x');
@@ -136,6 +165,10 @@ int main(int count, char **words) {
     }
     Peer other(words[6]);
     const string beside = words[7];
+    if (mode == "list") {
+        for (int round = 0; round < rounds; ++round) ask_list(one, other, path, beside, many);
+        return 0;
+    }
     one.ask(get(path), "HTTP/1.1 200", &length);
     std::size_t same = 0;
     other.ask(get(beside), "HTTP/1.1 200", &same);

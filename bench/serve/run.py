@@ -1,6 +1,7 @@
 #!/usr/bin/env python3
-"""How long replies of `vtserve serve` take beside those of nginx with the same bytes as files: tiles, the archive whole and in parts;
-and a durable edit beside a bare write and sync of a sector.
+"""How long replies of `vtserve serve` take beside those of nginx with the same bytes as files: tiles, one after the other and on a
+viewer's walk, the archive whole and in parts; a durable edit beside a bare write and sync of a sector; and what a tile that is kept
+costs the processor as the map grows.
 
     python3 bench/serve/run.py [PROGRAM [FOLDER]]    PROGRAM is crates/vtserve/out/vtserve, which `rt run` leaves there
 
@@ -25,6 +26,10 @@ ROUNDS = 9
 SERVERS, CLIENT = "1", "2"
 # Zoom and column of each tile, with how many features it shows.
 TILES = [(8, 10, 18), (8, 20, 520), (8, 30, 6200)]
+# A viewer's walk over a city: steps to the east, west, south and north by one tile, and in (i) and out (o) by one zoom.
+WALK = "eeseeswwinneessooiissweeneoowwnniieesswwoossenniwwssoeenn" * 2
+VIEW = (4, 3)
+KEPT = 256
 CONFIGURATION = """
 worker_processes 1;
 pid nginx.pid;
@@ -93,6 +98,12 @@ class Vtserve:
             sys.exit(f"{path}: {reply.status} {content!r}")
         return content
 
+    def processor(self):
+        """The seconds of processor time that the server has taken so far."""
+        with open(f"/proc/{self.child.pid}/stat", encoding="utf-8") as file:
+            words = file.read().rpartition(")")[2].split()
+        return (int(words[11]) + int(words[12])) / os.sysconf("SC_CLK_TCK")
+
     def end(self):
         self.child.kill()
         self.child.wait()
@@ -118,6 +129,23 @@ class Nginx:
     def keep(self, name, content):
         with open(os.path.join(self.files, name), "wb") as file:
             file.write(content)
+
+    def keep_all(self, folder, name, server, paths):
+        """Keeps what a server answers to these, below a folder of this name, and gives the file with the list of them."""
+        link = http.client.HTTPConnection("127.0.0.1", server.port)
+        for path in paths:
+            link.request("GET", path)
+            reply = link.getresponse()
+            content = reply.read()
+            if reply.status != 200:
+                sys.exit(f"{path}: {reply.status}")
+            os.makedirs(os.path.dirname(self.files + "/" + name + path), exist_ok=True)
+            self.keep(name + path, content)
+        link.close()
+        listed = os.path.join(folder, name + ".list")
+        with open(listed, "w", encoding="utf-8") as file:
+            file.write("".join(f"GET {path}\n" for path in paths))
+        return listed
 
     def end(self):
         self.child.terminate()
@@ -168,6 +196,116 @@ def tiles(folder, client, nginx):
     server.end()
 
 
+def in_turn(folder, client, nginx):
+    """Many tiles of a published map, one after the other: more than are kept."""
+    server = Vtserve(folder, "turn", 131072)
+    zoom, side = 13, 71
+    rows = []
+    for number in range(1, 4 * side * side + 1):
+        column, row = 1000 + number // 4 % side, 3000 + number // 4 // side % side
+        rows.append((number, feature("towns", zoom, [place(zoom, column, row, number)], {"name": f"town number {number}", "people": number * 17})))
+    server.put(rows)
+    server.bytes_of("/publish", "POST")
+    paths = [f"/map/{zoom}/{1000 + at % side}/{3000 + at // side}.mvt" for at in range(5000)]
+    listed = nginx.keep_all(folder, "turn", server, paths)
+    show("5,000 published tiles in turn", client, ["list", 3, 50, server.port, listed, nginx.port, "/turn"], "nginx")
+    server.end()
+
+
+def walked():
+    """The tiles that a viewer's walk asks for: at each step all that the view shows."""
+    zoom, column, row, tiles = 12, 2000, 1500, []
+    for step in WALK:
+        column += {"e": 1, "w": -1}.get(step, 0)
+        row += {"s": 1, "n": -1}.get(step, 0)
+        if step == "i" and zoom < 14:
+            zoom, column, row = zoom + 1, 2 * column + 2, 2 * row + 1
+        if step == "o" and zoom > 11:
+            zoom, column, row = zoom - 1, column // 2, row // 2
+        tiles += [(zoom, column + across, row + down) for down in range(VIEW[1]) for across in range(VIEW[0])]
+    return tiles
+
+
+def hits(asked):
+    """How many of these tiles a server that keeps 256 of them, and the newest edit of each of 32 by 32 cells, needn't cut: a model."""
+    kept, cells, last, found = {}, {}, 0, 0
+    for what in asked:
+        if what[0] == "edit":
+            last += 1
+            cells.update({tuple(at >> 27 for at in point): last for point in what[1]})
+            continue
+        zoom, column, row = what
+        side, margin = 2 ** (32 - zoom), 2 ** (32 - zoom) // 64
+        reach = [[max(0, at * side - margin) >> 27, min(2 ** 32 - 1, (at + 1) * side + margin) >> 27] for at in (column, row)]
+        newest = max(cells.get((x, y), 0) for x in range(reach[0][0], reach[0][1] + 1) for y in range(reach[1][0], reach[1][1] + 1))
+        number = kept.pop(what, -1)
+        found += number >= newest
+        kept[what] = number if number >= newest else last
+        if len(kept) > KEPT:
+            del kept[next(iter(kept))]
+    return found
+
+
+def walk(folder, client, nginx):
+    """A viewer's walk, while edits come in between: far from the city after each view, or in it after each tenth."""
+    server = Vtserve(folder, "walk", 131072)
+    tiles = walked()
+    city = sorted({(column >> zoom - 11, row >> zoom - 11) for zoom, column, row in tiles})
+    rows = []
+    for number in range(1, 20001):
+        column, row = city[number % len(city)]
+        rows.append((number, json.dumps({"layer": "towns", "minzoom": 11, "maxzoom": 14, "geometry": {"points": [spread(column, row, number)]},
+            "tags": {"name": f"town number {number}", "people": number * 17}})))
+    server.put(rows)
+    paths = [f"/map/{zoom}/{column}/{row}.mvt" for zoom, column, row in tiles]
+    nginx.keep_all(folder, "walk", server, sorted(set(paths)))
+    far, near = [1, 1], spread(*city[0], 7)
+    for name, point, every in (("far from it after each view", far, 12), ("in it after each tenth view", near, 120)):
+        server.put([(30000, feature("towns", 3, [point], {}))])
+        lines, asked = [], []
+        for at, path in enumerate(paths):
+            lines.append("GET " + path)
+            asked.append(tiles[at])
+            if at % every == every - 1:
+                lines.append("PUT /features/30000 " + feature("towns", 3, [point], {"at": at}))
+                asked.append(("edit", [point]))
+        listed = os.path.join(folder, "walk.list")
+        with open(listed, "w", encoding="utf-8") as file:
+            file.write("\n".join(lines) + "\n")
+        share = hits(asked * 3) / (3 * len(paths))
+        for percent in (50, 99):
+            show(f"a walk over {len(set(paths))} tiles, {len(paths)} asked for, an edit {name}, {share:.0%} kept, {percent} of 100 by", client,
+                ["list", 3, percent, server.port, listed, nginx.port, "/walk"], "nginx")
+    server.end()
+
+
+def spread(column, row, step):
+    """A point anywhere in a tile of zoom 11."""
+    side = 2 ** 21
+    return [column * side + (step * 7919 * 64) % side, row * side + (step * 104729 * 64) % side]
+
+
+def growth(folder, client):
+    """A tile that is kept, of a map of 1,000 features and of one of 100,000."""
+    servers = []
+    for count in (1000, 100000):
+        server = Vtserve(folder, f"growth{count}", 262144)
+        rows = []
+        for step in range(count):
+            zoom, column = (8, 10) if step < 18 else (12, 700 + step % 1000)
+            rows.append((step + 1, feature("towns", zoom, [place(zoom, column, column, step)], {"people": step * 17})))
+        server.put(rows)
+        servers.append(server)
+    small, large = servers
+    path = "/map/8/10/10.mvt"
+    before = [server.processor() for server in servers]
+    show("a tile that is kept, of 100,000 features", client, ["get", ROUNDS, 4000, large.port, path, small.port, path], "of 1,000")
+    spent = [server.processor() - was for server, was in zip(servers, before)]
+    print(f"processor time of the same: {spent[1]:.2f} s and {spent[0]:.2f} s, ratio {spent[1] / spent[0]:.2f}", flush=True)
+    small.end()
+    large.end()
+
+
 def archive(folder, client, nginx):
     """The archive, whole and in parts."""
     server = Vtserve(folder, "archive", 393216)
@@ -193,6 +331,9 @@ def main():
     nginx = Nginx(folder)
     try:
         tiles(folder, client, nginx)
+        in_turn(folder, client, nginx)
+        walk(folder, client, nginx)
+        growth(folder, client)
         archive(folder, client, nginx)
     finally:
         nginx.end()

@@ -29,7 +29,8 @@ use Rattle.pm_build.specs.Built.{tile_content}
 use Rattle.pm_build.specs.Tiles.{Tile, IdsAscend}
 use Rattle.pm_build.specs.Tiles as build
 use Rattle.area_content.specs.Faults.{IsShort}
-use Rattle.area_content.specs.Tiles.{IsTileContent, AreTilesOf, HasNoTile, IsArchiveOfMap}
+use Rattle.feature_store.specs.Content.{IsTileContent}
+use Rattle.area_content.specs.Tiles.{AreTilesOf, HasNoTile, IsArchiveOfMap}
 
 -- ---- ids and contents as an archive wants them
 

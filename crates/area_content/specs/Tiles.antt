@@ -1,16 +1,10 @@
 -- The tiles of a map, and archives of them.
-use Rattle.std.specs.Prelude.{◌≡◌, ◌⊎◌, ◌<◌, ℕ, List, [], length, Option, Some, None}
+use Rattle.std.specs.Prelude.{◌≡◌, ◌⊎◌, ℕ, List, [], Option, Some}
+use Rattle.feature_store.specs.Content.{IsTileContent}
 use Rattle.feature_store.specs.Layers.{layers}
 use Rattle.feature_store.specs.Store.{FeatureMap}
 use Rattle.hilbert_id.specs.Curve.{IsTileId}
-use Rattle.mvt_layer.specs.Reads.{ReadsAs}
-use Rattle.mvt_layer.specs.Tile.{LayerView}
 use Rattle.pm_archive.specs.Archive.{IsArchiveOf}
-
--- what is stored for these layers: nothing where there are none, else bytes that read as them
-abbrev pub IsTileContent : List LayerView → Option (List ℕ) → Type 0
-IsTileContent ls None = ls ≡ []
-IsTileContent ls (Some bytes) = (0 < length ls) × ReadsAs bytes ls
 
 -- the contents of tile ids are the tiles of the map, and no other id has one
 pub record AreTilesOf (m : FeatureMap) (content : ℕ → Option (List ℕ)) : Type 0 where

@@ -16,7 +16,8 @@ use Rattle.tile_cache.specs.Touched.{Mark, Reaches, Remembers, IsNewest}
 use Rattle.tile_cache.specs.declared.kept_tiles.Place.{Place}
 use Rattle.tile_cache.specs.declared.kept_tiles.TileCache.{TileCache}
 use Rattle.tile_cache.proofs.Places.{place_is}
-use Rattle.cached_map.specs.Cached.{IsTileContent, box_of, with_mark, IsUntouched, IsKept, IsCached}
+use Rattle.feature_store.specs.Content.{IsTileContent}
+use Rattle.cached_map.specs.Cached.{box_of, with_mark, IsUntouched, IsKept, IsCached}
 use Rattle.cached_map.proofs.Unreached.{IsHidden, layers_put, layers_removed, unreached}
 
 -- ---- features of a map

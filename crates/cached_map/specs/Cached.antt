@@ -1,21 +1,15 @@
 -- A map with tiles that were made of it, and which of them are still its tiles.
-use Rattle.std.specs.Prelude.{◌≡◌, ℕ, ◌<◌, ◌≤◌, List, [], ◌∷◌, length, All, Option, Some, None}
+use Rattle.std.specs.Prelude.{◌≡◌, ℕ, ◌≤◌, List, ◌∷◌, All, Option, Some, None}
 use Rattle.box_index.specs.declared.span.WorldBox.{WorldBox}
 use Rattle.feature_model.specs.Data.{FeatureData}
+use Rattle.feature_store.specs.Content.{IsTileContent}
 use Rattle.feature_store.specs.Indexed.{world_box}
 use Rattle.feature_store.specs.Layers.{layers}
 use Rattle.feature_store.specs.Store.{FeatureMap}
-use Rattle.mvt_layer.specs.Reads.{ReadsAs}
-use Rattle.mvt_layer.specs.Tile.{LayerView}
 use Rattle.tile_cache.specs.Kept.{kept_at}
 use Rattle.tile_cache.specs.Touched.{Mark, Reaches, Remembers}
 use Rattle.tile_cache.specs.declared.kept_tiles.TileCache.{TileCache}
 use Rattle.tile_cutter.specs.WorldBox.{bounding_box}
-
--- the content of a tile with these layers: bytes that read as them, and none where there are none
-abbrev pub IsTileContent : List LayerView → Option (List ℕ) → Type 0
-IsTileContent ls None = ls ≡ []
-IsTileContent ls (Some bytes) = (0 < length ls) × ReadsAs bytes ls
 
 -- what contracts see: the map, how many features it takes without memory, and the number of its last edit
 pub record CachedView : Type 0 where

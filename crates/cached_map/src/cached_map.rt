@@ -1,11 +1,12 @@
 ghost use Rattle.std.specs.Prelude.{◌≡◌, ◌↔◌, ◌≢◌, ◌<◌, ◌≤◌, ◌+◌, ℕ, List, ◌∷◌, length, IsSome, IsTrue, Some, None, IfOk, OnOk, OnErr, option_map};
 ghost use Rattle.feature_model.specs.Data.{feature_data, put};
 ghost use Rattle.feature_model.specs.Types.{IsEdit};
+ghost use Rattle.feature_store.specs.Content.{IsTileContent};
 ghost use Rattle.feature_store.specs.Layers.{layers};
 ghost use Rattle.feature_store.specs.Store.{feature_at, with_feature, without_feature, snapshot};
 ghost use Rattle.feature_store.specs.declared.limit.TheConstants.{TEXTS_END};
 ghost use Rattle.tile_cache.specs.Touched.{Mark, Remembers};
-ghost use Rattle.cached_map.specs.Cached.{IsTileContent, box_of, with_mark};
+ghost use Rattle.cached_map.specs.Cached.{box_of, with_mark};
 
 use box_index::WorldBox;
 use feature_model::Feature;

@@ -1,3 +1,4 @@
+pub mod Content
 pub mod Gathered
 pub mod Indexed
 pub mod Inside

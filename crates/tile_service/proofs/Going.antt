@@ -9,6 +9,7 @@ use Rattle.edit_journal.specs.Records.{IsEditLength, parts_of}
 use Rattle.edit_journal.specs.declared.journal.Journal.{Journal}
 use Rattle.edit_journal.specs.declared.sizes.TheConstants.{PART_BYTES}
 use Rattle.edit_journal.proofs.Releases.{append_is_behind, append_counted}
+use Rattle.cached_map.specs.Cached.{CachedView}
 use Rattle.feature_store.specs.Store.{FeatureMap, snapshot}
 use Rattle.tile_service.specs.Service.{PublicationView, IsGoing, IsService}
 
@@ -18,14 +19,14 @@ AreShort m area places = length (snapshot m) ≤ area + PART_BYTES * places
 
 -- The record has so many bytes, and the map after the edit is longer by no more than its places.
 module _ (size : ℕ) (root : Root) (old new : Journal) (ring : ring_of new ≡ ring_of old) (from : start_of new.place new.edits ≡ start_of old.place old.edits)
-    (bytes : ℕ) (fits : IsEditLength bytes) (used : new.used ≡ old.used + parts_of bytes) (last : new.last ≡ old.last + 1) (features later : FeatureMap)
-    (longer : (area places : ℕ) → AreShort features area places → AreShort later area (places + parts_of bytes)) where
-  texts_on : (some next : ℕ) → some + parts_of bytes ≡ next → AreShort features (SECTOR_BYTES * area_sectors size) some
-      → AreShort later (SECTOR_BYTES * area_sectors size) next
-  texts_on some next is was = subst (AreShort later (SECTOR_BYTES * area_sectors size)) is (longer (SECTOR_BYTES * area_sectors size) some was)
+    (bytes : ℕ) (fits : IsEditLength bytes) (used : new.used ≡ old.used + parts_of bytes) (last : new.last ≡ old.last + 1) (map later : CachedView) (numbered : later.last ≡ new.last)
+    (longer : (area places : ℕ) → AreShort map.features area places → AreShort later.features area (places + parts_of bytes)) where
+  texts_on : (some next : ℕ) → some + parts_of bytes ≡ next → AreShort map.features (SECTOR_BYTES * area_sectors size) some
+      → AreShort later.features (SECTOR_BYTES * area_sectors size) next
+  texts_on some next is was = subst (AreShort later.features (SECTOR_BYTES * area_sectors size)) is (longer (SECTOR_BYTES * area_sectors size) some was)
 
-  going_on : (publication : Option PublicationView) → IfSome publication (IsGoing size root old features)
-      → IfSome publication (IsGoing size root new later)
+  going_on : (publication : Option PublicationView) → IfSome publication (IsGoing size root old map.features)
+      → IfSome publication (IsGoing size root new later.features)
   going_on None was = tt
   going_on (Some p) was = record {
     behind = append_is_behind old new ring from bytes fits used last p.start p.places was.behind;
@@ -35,7 +36,7 @@ module _ (size : ℕ) (root : Root) (old new : Journal) (ring : ring_of new ≡ 
     texts = texts_on (old.used - p.places) (new.used - p.places) (omega (arith, used, was.behind.in_use)) was.texts;
   }
 
-  pub service_on : (sectors now : ℕ) (publication : Option PublicationView) → now ≡ sectors → IsService sectors size root old features publication
+  pub service_on : (sectors now : ℕ) (publication : Option PublicationView) → now ≡ sectors → IsService sectors size root old map publication
       → IsService now size root new later publication
   service_on sectors now publication same was = record {
     within = omega (arith, was.within, same);
@@ -43,5 +44,6 @@ module _ (size : ℕ) (root : Root) (old new : Journal) (ring : ring_of new ≡ 
     area = was.area;
     texts = texts_on old.used new.used (omega (arith, used)) was.texts;
     counted = append_counted old new ring from bytes fits used last was.counted;
+    last_is = numbered;
     going = going_on publication was.going;
   }

@@ -10,7 +10,8 @@ use Rattle.map_metadata.specs.Metadata.{IsMetadata}
 use Rattle.serde_json.specs.Data.{Data}
 use Rattle.serde_json.specs.Written.{compact_text}
 use Rattle.area_content.specs.Faults.{HasManyTiles, IsFull}
-use Rattle.area_content.specs.Tiles.{IsTileContent, IsArchiveOfMap}
+use Rattle.feature_store.specs.Content.{IsTileContent}
+use Rattle.area_content.specs.Tiles.{IsArchiveOfMap}
 use Rattle.tile_service.specs.declared.fault.ServiceFault.{ServiceFault}
 use Rattle.tile_service.specs.declared.fault.ServiceFault.TheVariants.{Broken, Busy, Idle, Limit, NotFound, NumbersSpent, Memory}
 use Rattle.tile_service.specs.declared.fault.ServiceFault.TheVariants.{TooManyTiles, AreaFull, JournalFull, Device}

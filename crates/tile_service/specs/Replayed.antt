@@ -5,7 +5,6 @@ use Rattle.edit_text.specs.Decoding.{BeginsAsPut}
 use Rattle.feature_model.specs.Data.{EditData, put, delete}
 use Rattle.feature_model.specs.Spelled.{spelled}
 use Rattle.feature_model.specs.Types.{IsEdit}
-use Rattle.feature_store.specs.Store.{StoreView, HasRoom}
 use Rattle.generations.specs.declared.fault.StoreFault.{StoreFault}
 use Rattle.generations.specs.declared.fault.StoreFault.TheVariants.{Damaged, Memory}
 use Rattle.generations.specs.declared.fault.What.TheVariants.{Text}
@@ -20,10 +19,10 @@ abbrev pub IsPut : EditData → Type 0
 IsPut (put id f) = Unit {0}
 IsPut (delete id) = ⊥
 
--- the edit can be made without memory
-abbrev pub HasRoomFor : StoreView → EditData → Type 0
-HasRoomFor s (put id f) = HasRoom s
-HasRoomFor s (delete id) = Unit {0}
+-- the edit can be made without memory where there is room for so many features
+abbrev pub HasRoomFor : ℕ → EditData → Type 0
+HasRoomFor spare (put id f) = 0 < spare
+HasRoomFor spare (delete id) = Unit {0}
 
 -- the texts are those of these edits
 pub record AreTextsOf (texts : List (List ℕ)) (edits : List EditData) : Type 0 where

@@ -15,6 +15,7 @@ use Rattle.edit_journal.specs.declared.fault.JournalFault.TheVariants as journal
 use Rattle.edit_journal.specs.declared.journal.Journal.{Journal}
 use Rattle.edit_journal.specs.declared.journal.Start.{Start}
 use Rattle.edit_journal.specs.declared.sizes.TheConstants.{PART_BYTES}
+use Rattle.cached_map.specs.Cached.{CachedView}
 use Rattle.area_content.specs.Content.{ContentView, sectors_taken}
 use Rattle.feature_model.specs.Data.{EditData}
 use Rattle.feature_store.specs.Store.{FeatureMap, snapshot}
@@ -67,16 +68,18 @@ pub record IsGoing (size : ℕ) (root : Root) (journal : Journal) (features : Fe
   pub texts : length (snapshot features) ≤ SECTOR_BYTES * area_sectors size + PART_BYTES * (journal.used - p.places)
 
 -- what always holds of one whose disk has so many sectors
-pub record IsService (sectors size : ℕ) (root : Root) (journal : Journal) (features : FeatureMap) (publication : Option PublicationView) : Type 0 where
+pub record IsService (sectors size : ℕ) (root : Root) (journal : Journal) (map : CachedView) (publication : Option PublicationView) : Type 0 where
   pub within : size ≤ sectors
   pub ring : ring_of journal ≡ journal_ring size
   -- an area holds the snapshot and the archive
   pub area : sectors_of root.snapshot_len + sectors_of root.archive_len ≤ area_sectors size
   -- the texts of the features are short together: they came from an area and from the journal
-  pub texts : length (snapshot features) ≤ SECTOR_BYTES * area_sectors size + PART_BYTES * journal.used
+  pub texts : length (snapshot map.features) ≤ SECTOR_BYTES * area_sectors size + PART_BYTES * journal.used
   -- the records in use have the places in use
   pub counted : IsCounted journal
-  pub going : IfSome publication (IsGoing size root journal features)
+  -- the last edit of the journal is that of the map
+  pub last_is : map.last ≡ journal.last
+  pub going : IfSome publication (IsGoing size root journal map.features)
 
 -- the service with this publication under way
 abbrev pub with_publication : {D : Type 0} → ServiceView D → PublicationView → ServiceView D

@@ -125,13 +125,13 @@ impl<D: Sectors + Drop> Service<D> {
             Ok(text) => text,
             Err(AllocError) => return Err(ServiceFault::Memory),
         };
-        match self.store.room() {
+        match self.map.room() {
             Ok(()) => {}
             Err(AllocError) => return Err(ServiceFault::Memory),
         }
         match self.journal.append(&mut self.disk, &text) {
             Ok(number) => {
-                apply(&mut self.store, edit);
+                apply(&mut self.map, edit, number);
                 Ok(number)
             }
             Err(fault) => Err(self.fail(fault)),
@@ -169,12 +169,12 @@ impl<D: Sectors + Drop> Service<D> {
         if self.broken {
             return Err(ServiceFault::Broken);
         }
-        if !has(&self.store, id) {
+        if !has(self.map.store(), id) {
             return Err(ServiceFault::NotFound);
         }
         match self.journal.append(&mut self.disk, &delete_text(id)) {
             Ok(number) => {
-                self.store.remove(id);
+                self.map.remove(id, number);
                 Ok(number)
             }
             Err(fault) => Err(self.fail(fault)),

@@ -18,11 +18,12 @@ ghost use Rattle.tile_service.specs.Stored.{Stored, Holds, journal_ring};
 use crate::replaying::replay;
 use crate::service::Service;
 use crate::snapshot_reading::read_snapshot;
+use cached_map::CachedMap;
 use edit_journal::{Journal, JournalFault, Start};
 use feature_store::Store;
 use generations::{Layout, Root, StoreFault, What, read_root};
 use sector_disk::{DiskFault, Sectors};
-use std::alloc::Global;
+use std::alloc::{AllocError, Global};
 
 /// What the fault of a recovery is told as. A recovery refuses neither for numbers nor for room.
 fn told(fault: JournalFault) -> StoreFault
@@ -42,7 +43,7 @@ struct Found {
     layout: Layout,
     root: Root,
     journal: Journal,
-    store: Store,
+    map: CachedMap,
 }
 
 /// Reads the journal that a root names, and makes the edits of its texts in the map of the root's snapshot.
@@ -52,7 +53,7 @@ fn read_edits<D: Sectors>(
     layout: Layout,
     root: Root,
     store: Store,
-) -> Result<(Journal, Store), StoreFault>
+) -> Result<(Journal, CachedMap), StoreFault>
     requires within { layout.sectors ≤ D.sectors disk.old }
     requires can { CanStand layout.sectors root }
     requires texts { length (snapshot store.features) ≤ SECTOR_BYTES * area_sectors layout.sectors }
@@ -65,6 +66,7 @@ fn read_edits<D: Sectors>(
     ensures texts { IfOk result (λ found.
         length (snapshot found.1.features) ≤ SECTOR_BYTES * area_sectors layout.sectors + PART_BYTES * found.0.used) }
     ensures counted { IfOk result (λ found. IsCounted found.0) }
+    ensures last { IfOk result (λ found. found.1.last ≡ found.0.last) }
     ensures found { D.honest disk.new → HasSnapshot layout.sectors root store.features (seen (D.history disk.old))
         → IfOk result (λ found. IsReplayed layout.sectors root (seen (D.history disk.old)) found.0 found.1.features) }
     ensures fault { D.honest disk.new → HasSnapshot layout.sectors root store.features (seen (D.history disk.old))
@@ -78,9 +80,12 @@ fn read_edits<D: Sectors>(
         Ok(found) => found,
         Err(fault) => return Err(told(fault)),
     };
-    let mut store = store;
-    match replay(alloc, &mut store, texts) {
-        Ok(()) => Ok((journal, store)),
+    let mut map = match CachedMap::new(alloc, store, root.edits) {
+        Ok(map) => map,
+        Err(AllocError) => return Err(StoreFault::Memory),
+    };
+    match replay(alloc, &mut map, texts) {
+        Ok(()) => Ok((journal, map)),
         Err(fault) => Err(fault),
     }
 }
@@ -91,7 +96,7 @@ fn read_map<D: Sectors>(
     disk: &mut D,
     layout: Layout,
     root: Root,
-) -> Result<(Journal, Store), StoreFault>
+) -> Result<(Journal, CachedMap), StoreFault>
     requires within { layout.sectors ≤ D.sectors disk.old }
     requires can { CanStand layout.sectors root }
     ensures count { D.sectors disk.new ≡ D.sectors disk.old }
@@ -103,6 +108,7 @@ fn read_map<D: Sectors>(
     ensures texts { IfOk result (λ found.
         length (snapshot found.1.features) ≤ SECTOR_BYTES * area_sectors layout.sectors + PART_BYTES * found.0.used) }
     ensures counted { IfOk result (λ found. IsCounted found.0) }
+    ensures last { IfOk result (λ found. found.1.last ≡ found.0.last) }
     ensures found { D.honest disk.new
         → IfOk result (λ found. IsReplayed layout.sectors root (seen (D.history disk.old)) found.0 found.1.features) }
     ensures fault { D.honest disk.new
@@ -130,10 +136,11 @@ fn load<D: Sectors>(alloc: Global, disk: &mut D) -> Result<Found, StoreFault>
     ensures can { IfOk result (λ found. CanStand found.layout.sectors found.root) }
     ensures ring { IfOk result (λ found. ring_of found.journal ≡ journal_ring found.layout.sectors) }
     ensures texts { IfOk result (λ found.
-        length (snapshot found.store.features) ≤ SECTOR_BYTES * area_sectors found.layout.sectors + PART_BYTES * found.journal.used) }
+        length (snapshot found.map.features) ≤ SECTOR_BYTES * area_sectors found.layout.sectors + PART_BYTES * found.journal.used) }
     ensures counted { IfOk result (λ found. IsCounted found.journal) }
+    ensures last { IfOk result (λ found. found.map.last ≡ found.journal.last) }
     ensures found { D.honest disk.new → IfOk result (λ found.
-        IsRead (D.sectors disk.old) found.layout.sectors (seen (D.history disk.old)) found.root found.journal found.store.features) }
+        IsRead (D.sectors disk.old) found.layout.sectors (seen (D.history disk.old)) found.root found.journal found.map.features) }
     ensures fault { D.honest disk.new
         → IfErr result (λ fault. (fault ≡ Device) ⊎ (fault ≡ Memory) ⊎ IsOpenFault (D.sectors disk.old) (seen (D.history disk.old)) fault) }
 {
@@ -146,11 +153,11 @@ fn load<D: Sectors>(alloc: Global, disk: &mut D) -> Result<Found, StoreFault>
         Err(fault) => return Err(fault),
     };
     match read_map(alloc, disk, layout, root) {
-        Ok((journal, store)) => Ok(Found {
+        Ok((journal, map)) => Ok(Found {
             layout,
             root,
             journal,
-            store,
+            map,
         }),
         Err(fault) => Err(fault),
     }
@@ -188,7 +195,7 @@ impl<D: Sectors + Drop> Service<D> {
                 disk,
                 layout: found.layout,
                 journal: found.journal,
-                store: found.store,
+                map: found.map,
                 root: found.root,
                 publication: None,
                 broken: false,

@@ -251,7 +251,7 @@ impl<D: Sectors + Drop> Service<D> {
         if self.root.generation == u64::MAX {
             return Err(ServiceFault::NumbersSpent);
         }
-        match content_for(self.alloc, &self.store, self.layout.area) {
+        match content_for(self.alloc, self.map.store(), self.layout.area) {
             Ok(content) => {
                 let left = content.sectors() + 1;
                 self.publication = Some(Publication {

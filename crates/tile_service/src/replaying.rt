@@ -1,5 +1,5 @@
 //! The map after the edits whose texts stand in the journal.
-ghost use Rattle.std.specs.Prelude.{◌≡◌, ◌⊎◌, ◌<◌, ◌+◌, List, length, IfOk, IfErr, OnOk};
+ghost use Rattle.std.specs.Prelude.{◌≡◌, ◌⊎◌, ◌<◌, ◌+◌, ◌^◌, List, length, IfOk, IfErr, OnOk};
 ghost use Rattle.feature_model.specs.Data.{EditData, edit_data};
 ghost use Rattle.feature_model.specs.Spelled.{spelled};
 ghost use Rattle.feature_model.specs.Types.{IsEdit};
@@ -9,9 +9,9 @@ ghost use Rattle.generations.specs.declared.fault.StoreFault.TheVariants.{Damage
 ghost use Rattle.generations.specs.declared.fault.What.TheVariants.{Text};
 ghost use Rattle.tile_service.specs.Replayed.{IsTextOf, IsPut, HasRoomFor, AreTextsOf, IsTextFault, IsReplayFault, bytes_of, views_of};
 
+use cached_map::CachedMap;
 use edit_text::{TextFault, decode};
 use feature_model::Edit;
-use feature_store::Store;
 use generations::{StoreFault, What};
 use std::alloc::{AllocError, Global};
 
@@ -28,62 +28,71 @@ fn edit_in(alloc: Global, text: &[u8]) -> Result<Edit, StoreFault>
     }
 }
 
-/// Makes an edit of the map, which has room for it. It takes no memory.
-pub(crate) fn apply(store: &mut Store, edit: Edit)
+/// Makes an edit of this number in the map, which has room for it. It takes no memory.
+pub(crate) fn apply(map: &mut CachedMap, edit: Edit, number: u64)
     requires edit { IsEdit (edit_data edit) }
-    requires room { HasRoomFor store.old (edit_data edit) }
-    requires texts { length (snapshot (changed store.old.features (edit_data edit))) < TEXTS_END }
-    ensures { store.new.features ≡ changed store.old.features (edit_data edit) }
+    requires room { HasRoomFor map.old.spare (edit_data edit) }
+    requires texts { length (snapshot (changed map.old.features (edit_data edit))) < TEXTS_END }
+    requires later { map.old.last < number }
+    ensures map { map.new.features ≡ changed map.old.features (edit_data edit) }
+    ensures last { map.new.last ≡ number }
 {
     match edit {
-        Edit::Put { id, feature } => store.place(id, feature),
+        Edit::Put { id, feature } => map.place(id, feature, number),
         Edit::Delete { id } => {
-            store.remove(id);
+            map.remove(id, number);
         }
     }
 }
 
-/// Makes an edit of the map.
-fn make(store: &mut Store, edit: Edit) -> Result<(), StoreFault>
+/// Makes the next edit of the map.
+fn make(map: &mut CachedMap, edit: Edit) -> Result<(), StoreFault>
     requires edit { IsEdit (edit_data edit) }
-    requires texts { length (snapshot store.old.features) + length (spelled (edit_data edit)) < TEXTS_END }
-    ensures map { OnOk result (store.new.features ≡ changed store.old.features (edit_data edit)) }
+    requires texts { length (snapshot map.old.features) + length (spelled (edit_data edit)) < TEXTS_END }
+    requires number { map.old.last + 1 < 2 ^ 64 }
+    ensures map { OnOk result (map.new.features ≡ changed map.old.features (edit_data edit)) }
+    ensures last { OnOk result (map.new.last ≡ map.old.last + 1) }
     ensures fault { IfErr result (λ fault. (fault ≡ Memory) × IsPut (edit_data edit)) }
 {
+    let number = map.last() + 1;
     if let Edit::Put { .. } = &edit {
-        match store.room() {
+        match map.room() {
             Ok(()) => {}
             Err(AllocError) => return Err(StoreFault::Memory),
         }
     }
-    apply(store, edit);
+    apply(map, edit, number);
     Ok(())
 }
 
 /// Makes the edit of a text.
-fn replay_one(alloc: Global, store: &mut Store, text: &[u8]) -> Result<(), StoreFault>
-    requires texts { length (snapshot store.old.features) + length text.now < TEXTS_END }
-    ensures made { OnOk result ((edit : EditData) × IsTextOf text.now edit × (store.new.features ≡ changed store.old.features edit)) }
+fn replay_one(alloc: Global, map: &mut CachedMap, text: &[u8]) -> Result<(), StoreFault>
+    requires texts { length (snapshot map.old.features) + length text.now < TEXTS_END }
+    requires number { map.old.last + 1 < 2 ^ 64 }
+    ensures made { OnOk result ((edit : EditData) × IsTextOf text.now edit × (map.new.features ≡ changed map.old.features edit)) }
+    ensures last { OnOk result (map.new.last ≡ map.old.last + 1) }
     ensures fault { IfErr result (IsTextFault text.now) }
 {
     let edit = edit_in(alloc, text)?;
-    make(store, edit)
+    make(map, edit)
 }
 
-/// Makes the edits of texts in the map, from the first to the last. `Damaged(Text)`: one of them is the text of no edit. `Memory`: an
-/// allocation failed, at one that sets a feature. After an error the edits before the faulty text are made. The memory of a text is
-/// given back as soon as its edit is made.
+/// Makes the edits of texts in the map, from the first to the last, each with the number behind that of the one before it.
+/// `Damaged(Text)`: one of them is the text of no edit. `Memory`: an allocation failed, at one that sets a feature. After an error the
+/// edits before the faulty text are made. The memory of a text is given back as soon as its edit is made.
 pub(crate) fn replay(
     alloc: Global,
-    store: &mut Store,
+    map: &mut CachedMap,
     texts: Vec<Vec<u8>>,
 ) -> Result<(), StoreFault>
-    requires texts { length (snapshot store.old.features) + bytes_of (views_of texts.items) < TEXTS_END }
-    ensures made { OnOk result ((edits : List EditData) × AreTextsOf (views_of texts.items) edits × (store.new.features ≡ after store.old.features edits)) }
+    requires texts { length (snapshot map.old.features) + bytes_of (views_of texts.items) < TEXTS_END }
+    requires numbers { map.old.last + length texts.items < 2 ^ 64 }
+    ensures made { OnOk result ((edits : List EditData) × AreTextsOf (views_of texts.items) edits × (map.new.features ≡ after map.old.features edits)) }
+    ensures last { OnOk result (map.new.last ≡ map.old.last + length texts.items) }
     ensures fault { IfErr result (IsReplayFault (views_of texts.items)) }
 {
     for text in texts {
-        replay_one(alloc, store, &text)?;
+        replay_one(alloc, map, &text)?;
     }
     Ok(())
 }

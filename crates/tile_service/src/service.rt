@@ -2,8 +2,8 @@
 ghost use Rattle.std.specs.Prelude.{◌≡◌};
 
 use crate::publishing::Publication;
+use cached_map::CachedMap;
 use edit_journal::Journal;
-use feature_store::Store;
 use generations::{Layout, Root};
 use sector_disk::Sectors;
 use std::alloc::Global;
@@ -16,7 +16,7 @@ pub struct Service<D: Sectors + Drop> {
     pub(crate) disk: D,
     pub(crate) layout: Layout,
     pub(crate) journal: Journal,
-    pub(crate) store: Store,
+    pub(crate) map: CachedMap,
     pub(crate) root: Root,
     pub(crate) publication: Option<Publication>,
     pub(crate) broken: bool,
@@ -30,7 +30,7 @@ impl<D: Sectors + Drop> Model for Service<D> {
     ghost view = { λ s. record {
       disk = s.disk;
       size = s.layout.sectors;
-      features = s.store.features;
+      features = s.map.features;
       journal = s.journal;
       generation = s.root.generation;
       snapshot_len = s.root.snapshot_len;
@@ -39,7 +39,7 @@ impl<D: Sectors + Drop> Model for Service<D> {
       broken = s.broken;
     } };
 
-    ghost invariant = { λ s. IsService (D.sectors s.disk) s.layout.sectors s.root s.journal s.store.features s.publication };
+    ghost invariant = { λ s. IsService (D.sectors s.disk) s.layout.sectors s.root s.journal s.map s.publication };
 }
 
 impl<D: Sectors + Drop> Service<D> {
@@ -52,7 +52,7 @@ impl<D: Sectors + Drop> Service<D> {
             disk,
             layout: _,
             journal: _,
-            store: _,
+            map: _,
             root: _,
             publication: _,
             broken: _,

@@ -13,7 +13,6 @@ use crate::service::Service;
 use feature_model::Feature;
 use hilbert_id::TileAt;
 use map_metadata::metadata;
-use mvt_write::write_tile;
 use sector_disk::Sectors;
 use serde_json::Value;
 use std::alloc::AllocError;
@@ -23,25 +22,19 @@ impl<D: Sectors + Drop> Service<D> {
     pub fn feature(&self, id: u64) -> Option<&Feature>
         ensures { option_map (λ f. feature_data f.now) result ≡ feature_at self.now.features id }
     {
-        self.store.get(id)
+        self.map.store().get(id)
     }
 
     /// The bytes of a tile (Mapbox Vector Tile 2.1), after the last acknowledged edit: none where it shows nothing, so above the
-    /// greatest zoom too. The only error is `Memory`.
+    /// greatest zoom too. One that was asked for before, and that no edit can have touched since, isn't cut again. The only error is
+    /// `Memory`.
     pub fn tile(&mut self, at: TileAt) -> Result<Option<Vec<u8>>, ServiceFault>
         ensures machine { (known : Known)
             → Steps (state_of known self.old) (tile at.z at.x at.y) (tile_answer result) (state_of known self.new) }
         ensures same { self.new ≡ self.old }
     {
-        let layers = match self.store.layers(at) {
-            Ok(layers) => layers,
-            Err(AllocError) => return Err(ServiceFault::Memory),
-        };
-        if layers.len() == 0 {
-            return Ok(None);
-        }
-        match write_tile(self.alloc, &layers) {
-            Ok(bytes) => Ok(Some(bytes)),
+        match self.map.tile(at) {
+            Ok(content) => Ok(content),
             Err(AllocError) => Err(ServiceFault::Memory),
         }
     }
@@ -52,7 +45,7 @@ impl<D: Sectors + Drop> Service<D> {
         ensures metadata { IfOk result (λ v. IsMetadata self.now.features (view v)) }
         ensures fault { IfErr result (λ fault. fault ≡ Memory) }
     {
-        match metadata(self.alloc, &self.store) {
+        match metadata(self.alloc, self.map.store()) {
             Ok(value) => Ok(value),
             Err(AllocError) => Err(ServiceFault::Memory),
         }

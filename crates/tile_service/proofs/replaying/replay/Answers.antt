@@ -19,9 +19,9 @@ loop-text-preserved c =
     let text = c.in-Some.text in
     let rest = into_iter_items c.next.new.self in
     let steps = c.in-Some.ensures.steps in
-    let old = c.loop-text.store.features in
+    let old = c.loop-text.map.features in
     let made = c.in_ok-replay_one.ensures.made in
-    let edit : (edit : EditData) × IsTextOf text.items edit × (c.replay_one.new.store.features ≡ changed old edit) =
+    let edit : (edit : EditData) × IsTextOf text.items edit × (c.replay_one.new.map.features ≡ changed old edit) =
     (made.0, subst (λ (bytes : List ℕ). IsTextOf bytes made.0) c.deref.ensures.value made.1, made.2) in
     record {
       can_next = tt;
@@ -29,10 +29,11 @@ loop-text-preserved c =
       items = append_assoc yielded (text ∷ []) rest ∙ ap (λ l. yielded ++ l) (sym steps.0) ∙ inv.items;
       left = omega (arith, steps.1, ap length steps.0, inv.left);
       made = subst (λ (l : List (List ℕ)). (edits : List EditData) × AreTextsOf l edits
-          × (c.replay_one.new.store.features ≡ after c.args.store.now.features edits))
+          × (c.replay_one.new.map.features ≡ after c.args.map.now.features edits))
           (sym (views_append yielded (text ∷ [])))
-          (replayed_one (views_of yielded) text.items c.args.store.now.features old c.replay_one.new.store.features inv.made edit);
-      short = short_one (views_of rest) text.items TEXTS_END old c.replay_one.new.store.features
+          (replayed_one (views_of yielded) text.items c.args.map.now.features old c.replay_one.new.map.features inv.made edit);
+      last = omega (arith, c.in_ok-replay_one.ensures.last, ap length steps.0, inv.last);
+      short = short_one (views_of rest) text.items TEXTS_END old c.replay_one.new.map.features
           (subst (λ (l : List (Vec ℕ Global)). length (snapshot old) + bytes_of (views_of l) < TEXTS_END) steps.0 inv.short)
           edit;
     }

@@ -12,6 +12,7 @@ invariant-loop-text l = record {
   is_finite : goal.iterator-loop-text.is_finite l.text-iterator;
   items : l.yielded ++ into_iter_items l.text-iterator ≡ l.fn.texts.items;
   left : into_iter_len l.text-iterator ≡ length (into_iter_items l.text-iterator);
-  made : (edits : List EditData) × AreTextsOf (views_of l.yielded) edits × (l.store.features ≡ after l.fn.store.features edits);
-  short : length (snapshot l.store.features) + bytes_of (views_of (into_iter_items l.text-iterator)) < TEXTS_END;
+  made : (edits : List EditData) × AreTextsOf (views_of l.yielded) edits × (l.map.features ≡ after l.fn.map.features edits);
+  last : l.map.last + length (into_iter_items l.text-iterator) ≡ l.fn.map.last + length l.fn.texts.items;
+  short : length (snapshot l.map.features) + bytes_of (views_of (into_iter_items l.text-iterator)) < TEXTS_END;
 }

@@ -1,6 +1,6 @@
 use Rattle.std.proofs.Common.{Some, sym, subst}
 use Rattle.feature_store.specs.Layers.{layers}
-use Rattle.cached_map.specs.Cached.{IsTileContent}
+use Rattle.feature_store.specs.Content.{IsTileContent}
 use Rattle.cached_map.proofs.Kept.{kept_or_not}
 use Rattle.cached_map.proofs.cached_map.CachedMap.keep.Goals as goal
 

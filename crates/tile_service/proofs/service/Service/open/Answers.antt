@@ -10,7 +10,7 @@ returns-in-Ok-clause-opened g c n stored holds honest =
     (record {
       disk = c.load.new.disk;
       size = c.in-Ok.found.layout.sectors;
-      features = c.in-Ok.found.store.features;
+      features = c.in-Ok.found.map.features;
       journal = c.in-Ok.found.journal;
       generation = c.in-Ok.found.root.generation;
       snapshot_len = c.in-Ok.found.root.snapshot_len;

@@ -1,5 +1,7 @@
-use Rattle.std.proofs.Common.{◌≡◌, ◌+◌, refl, arith, rules, Some}
+use Rattle.std.proofs.Common.{◌≡◌, ◌+◌, ◌∙◌, refl, ap, subst, arith, rules, Some}
 use Rattle.std.specs.Prelude.{None}
+use Rattle.area_content.specs.Tiles.{IsArchiveOfMap}
+use Rattle.feature_store.specs.Store.{IsMap, snapshot}
 use Rattle.tile_service.specs.Service.{PublicationView}
 use Rattle.tile_service.proofs.PublishSteps.{up_with, begins_publishing, begins_told}
 use Rattle.tile_service.proofs.service.Service.publish_begin.Goals as goal
@@ -10,7 +12,7 @@ returns-in-Ok-clause-machine g c = rw (← c.self.view_is) (λ known.
     begins_told {D = g.row.D.Denot} known (record {
       disk = c.self.inside.disk;
       size = c.self.inside.layout.sectors;
-      features = c.self.inside.store.features;
+      features = c.self.inside.map.features;
       journal = c.self.inside.journal;
       generation = c.self.inside.root.generation;
       snapshot_len = c.self.inside.root.snapshot_len;
@@ -18,12 +20,16 @@ returns-in-Ok-clause-machine g c = rw (← c.self.view_is) (λ known.
       publication = c.self.inside.publication;
       broken = c.self.inside.broken;
     }) (record { content = c.in-Ok.content; start = c.next.result; places = c.self.inside.journal.used; written = 0 })
-    (c.sectors-left.result + 1) (search rules) none (omega arith) c.in-Ok.ensures.archive c.in-Ok.ensures.snapshot
+    (c.sectors-left.result + 1) (search rules) none (omega arith)
+    (subst (λ m. IsArchiveOfMap m c.in-Ok.content.archive) c.store.ensures.features c.in-Ok.ensures.archive)
+    (c.in-Ok.ensures.snapshot ∙ ap (λ m. snapshot m) c.store.ensures.features)
     (omega (arith, c.in-Ok.ensures.fits, c.self.inside.layout.area_is)) c.self.invariant.ring c.next.ensures.1 refl refl
     (omega (arith, c.sectors-left.ensures)))
 
 pub returns-in-Ok-clause-up : goal.returns-in-Ok-clause-up
 returns-in-Ok-clause-up g c = rw (← c.self.view_is) (λ stored up.
     let p : PublicationView = record { content = c.in-Ok.content; start = c.next.result; places = c.self.inside.journal.used; written = 0 } in
-    up_with _ _ stored _ up (Some p) (begins_publishing _ _ stored _ up p c.content_for.ensures.map c.in-Ok.ensures.archive c.in-Ok.ensures.snapshot
+    up_with _ _ stored _ up (Some p) (begins_publishing _ _ stored _ up p (subst (λ m. IsMap m) c.store.ensures.features c.content_for.ensures.map)
+    (subst (λ m. IsArchiveOfMap m c.in-Ok.content.archive) c.store.ensures.features c.in-Ok.ensures.archive)
+    (c.in-Ok.ensures.snapshot ∙ ap (λ m. snapshot m) c.store.ensures.features)
     (omega (arith, c.in-Ok.ensures.fits, c.self.inside.layout.area_is)) (omega arith) c.self.invariant.ring c.next.ensures.0 c.next.ensures.1 refl refl))

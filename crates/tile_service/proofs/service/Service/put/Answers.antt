@@ -38,23 +38,24 @@ append-requires-clause-text g c = subst (λ (t : List ℕ). IsEditLength (length
     (put_length c.args.id (feature_data c.args.feature) c.in-Ok.ensures.ok.allowed)
 
 pub apply-requires-clause-texts : goal.apply-requires-clause-texts
-apply-requires-clause-texts g c = rw c.room.ensures.map (short_enough c.self.inside.store.features c.args.id (feature_data c.args.feature)
+apply-requires-clause-texts g c = rw (ap (λ m. m.features) c.room.ensures.same) (short_enough c.self.inside.map.features c.args.id (feature_data c.args.feature)
     c.self.inside.layout.sectors c.self.inside.journal.used c.self.inside.layout.size.1
     (omega (arith, c.self.inside.journal.room, ap (λ (r : Ring). r.places) c.self.invariant.ring)) c.self.invariant.texts c.in-Ok.ensures.ok.allowed)
 
 pub invariant_of-self-in-Ok-append : goal.invariant_of-self-in-Ok-append
 invariant_of-self-in-Ok-append g c =
     let text : c.deref.result.now ≡ spelled (put c.args.id (feature_data c.args.feature)) = c.deref.ensures.value ∙ c.in-Ok-encode.ensures.text in
-    let later = c.apply.ensures ∙ ap (λ m. with_feature m c.args.id (feature_data c.args.feature)) c.room.ensures.map in
+    let later = c.apply.ensures.map ∙ ap (λ m. with_feature m.features c.args.id (feature_data c.args.feature)) c.room.ensures.same in
     service_on c.self.inside.layout.sectors c.self.inside.root c.self.inside.journal c.append.new.self c.append.ensures.same.0 c.append.ensures.same.1
     (length c.deref.result.now)
     (subst (λ (t : List ℕ). IsEditLength (length t)) (sym text) (put_length c.args.id (feature_data c.args.feature) c.in-Ok.ensures.ok.allowed))
-    c.in-Ok-append.ensures.used c.in-Ok-append.ensures.last c.self.inside.store.features c.apply.new.store.features
+    c.in-Ok-append.ensures.used c.in-Ok-append.ensures.last c.self.inside.map c.apply.new.map
+    (omega (arith, c.apply.ensures.last, c.in-Ok-append.ensures.number, c.in-Ok-append.ensures.last))
     (λ area places was. omega (
       arith,
       ap (λ m. length (snapshot m)) later,
       ap (λ (t : List ℕ). parts_of (length t)) text,
-      short_after_put c.self.inside.store.features c.args.id (feature_data c.args.feature) area places was,
+      short_after_put c.self.inside.map.features c.args.id (feature_data c.args.feature) area places was,
     ))
     _ _ _ c.append.ensures.count c.self.invariant
 
@@ -71,7 +72,7 @@ returns-in-Ok-append-clause-acknowledged g c = rw (← c.self.view_is) (λ store
     up_with_edit g.D.Sectors.sectors g.D.Sectors.history stored _ c.self.invariant.ring up (put c.args.id (feature_data c.args.feature))
     c.in-Ok-encode.ensures.edit _ (c.deref.ensures.value ∙ c.in-Ok-encode.ensures.text) c.append.new.disk (c.append.ensures.frame honest)
     _ refl c.append.ensures.count refl c.append.ensures.same (c.in-Ok-append.ensures.acknowledged (texts_of stored) honest at)
-    (c.apply.ensures ∙ ap (λ m. with_feature m c.args.id (feature_data c.args.feature)) c.room.ensures.map) refl refl refl refl refl
+    (c.apply.ensures.map ∙ ap (λ m. with_feature m.features c.args.id (feature_data c.args.feature)) c.room.ensures.same) refl refl refl refl refl
     (c.append.ensures.reads honest))
 
 pub returns-in-Err-append-clause-any_moment : goal.returns-in-Err-append-clause-any_moment
