@@ -14,6 +14,7 @@ short old new edit same texts = omega (arith, texts, changed_short new edit, ap 
 
 pub apply-requires-clause-texts : goal.apply-requires-clause-texts
 apply-requires-clause-texts c = elim c.match-edit.branch [
-  | in-Put+in-Ok w ↦ short _ c.match-edit.map.features (edit_data c.args.edit) (ap (λ s. s.features) w.map-is ∙ ap (λ s. s.features) w.room.ensures.same) c.requires.texts
+  | in-Put+in-Ok w ↦ short _ c.match-edit.map.features (edit_data c.args.edit)
+      (ap (λ s. s.features) w.map-is ∙ ap (λ s. s.features) w.room.ensures.same) c.requires.texts
   | in_default w ↦ short _ c.match-edit.map.features (edit_data c.args.edit) (ap (λ s. s.features) w.map-is) c.requires.texts
 ]

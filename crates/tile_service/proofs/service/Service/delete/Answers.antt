@@ -19,7 +19,8 @@ pub invariant_of-self : goal.invariant_of-self
 invariant_of-self g c =
     service_on c.self.inside.layout.sectors c.self.inside.root c.self.inside.journal c.append.new.self c.append.ensures.same.0 c.append.ensures.same.1
     (length c.delete_text.result) (subst (λ (t : List ℕ). IsEditLength (length t)) (sym c.delete_text.ensures) (delete_length c.args.id))
-    c.in-Ok.ensures.used c.in-Ok.ensures.last c.self.inside.map c.remove.new.self (omega (arith, c.remove.ensures.last, c.in-Ok.ensures.number, c.in-Ok.ensures.last))
+    c.in-Ok.ensures.used c.in-Ok.ensures.last c.self.inside.map c.remove.new.self
+    (omega (arith, c.remove.ensures.last, c.in-Ok.ensures.number, c.in-Ok.ensures.last))
     (λ area places was. omega (
       arith,
       ap (λ m. length (snapshot m)) c.remove.ensures.map,
