@@ -289,7 +289,7 @@ def growth(folder, client):
     """A tile that is kept, of a map of 1,000 features and of one of 100,000."""
     servers = []
     for count in (1000, 100000):
-        server = Vtserve(folder, f"growth{count}", 262144)
+        server = Vtserve(folder, f"growth{count}", 1048576)
         rows = []
         for step in range(count):
             zoom, column = (8, 10) if step < 18 else (12, 700 + step % 1000)
