@@ -7,6 +7,7 @@ pub mod ListedLaws
 pub mod ListedSteps
 pub mod LookedLaws
 pub mod LookedSteps
+pub mod LookupLaws
 pub mod OpenedLaws
 pub mod VerifiedFaults
 pub mod VerifiedLaws

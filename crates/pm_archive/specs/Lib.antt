@@ -3,6 +3,7 @@ pub mod Archive
 pub mod Entries
 pub mod Listing
 pub mod Looked
+pub mod Lookup
 pub mod Reading
 pub mod Sections
 pub mod Source

@@ -23,7 +23,7 @@ use std::alloc::Global;
 
 // The entry of a directory that leads to an id.
 #[tactic(auto, unfolding(crate::specs::Looked::leading_of))]
-fn leading(entries: &[Entry], id: u64) -> Option<Entry>
+pub(crate) fn leading(entries: &[Entry], id: u64) -> Option<Entry>
     requires { IsAscending entries.now }
     ensures { result ≡ leading_of id entries.now }
 {
@@ -85,7 +85,7 @@ fn tile_entry<B: Bytes>(
 
 // The content of a tile entry, if there is one.
 #[tactic(auto, unfolding(crate::specs::Looked::content_at, crate::specs::Reading::content_of_tile))]
-fn content_in<B: Bytes>(
+pub(crate) fn content_in<B: Bytes>(
     alloc: Global,
     source: &mut B,
     header: &Header,

@@ -34,6 +34,21 @@ const CIRCLE: [u8; 139] = *b"PMTiles\x03\
     {}\
     \x01\0\0\x05\x01";
 
+// Six contents of one byte in two leaf directories below the root, from bytes 142 and 151 on, and in one below a third.
+const LEAVES: [u8; 176] = *b"PMTiles\x03\
+    \x7f\0\0\0\0\0\0\0\x0d\0\0\0\0\0\0\0\x8c\0\0\0\0\0\0\0\x02\0\0\0\0\0\0\0\
+    \x8e\0\0\0\0\0\0\0\x1c\0\0\0\0\0\0\0\xaa\0\0\0\0\0\0\0\x06\0\0\0\0\0\0\0\
+    \0\0\0\0\0\0\0\0\0\0\0\0\0\0\0\0\0\0\0\0\0\0\0\0\
+    \x01\x01\x01\0\0\x02\
+    \0\0\0\0\0\0\0\0\0\0\0\0\0\0\0\0\0\0\0\0\0\0\0\0\0\
+    \x03\0\x03\x09\0\0\0\x09\x09\x05\x01\0\0\
+    {}\
+    \x02\0\x02\x01\x01\x01\x01\x01\0\
+    \x02\x03\x06\x02\x01\x01\x01\x03\0\
+    \x01\x0c\0\x05\x18\
+    \x01\x0c\x01\x02\x05\
+    abcdef";
+
 #[test]
 fn tile_entries_are_listed(rt: HostRuntime) -> Result<(), Fail> {
     let mut archive = Archive::open(rt.alloc(), TILES.as_slice())?;
@@ -165,5 +180,65 @@ fn verdicts(rt: HostRuntime) -> Result<(), Fail> {
         contents: 1,
     };
     assert_eq!(rt; verdicts, [Ok(report), Err(ArchiveFault::Tile(0))]);
+    Ok(())
+}
+
+// Ids in turn, and their contents, none where there is none: each leaf directory again behind another one.
+const LOOKS: [(u64, &[u8]); 12] = [
+    (0, b"a"),
+    (1, b""),
+    (2, b"b"),
+    (3, b"c"),
+    (4, b"c"),
+    (5, b""),
+    (9, b"d"),
+    (2, b"b"),
+    (12, b"ef"),
+    (13, b""),
+    (12, b"ef"),
+    (0, b"a"),
+];
+
+// Which id is the first of which a look-up tells something else than the table or the archive, if one is.
+fn other_look(alloc: Global) -> Result<Option<u64>, Fail> {
+    let mut bytes = LEAVES.as_slice();
+    let mut lookup = Lookup::open(alloc, &mut bytes)?;
+    let mut archive = Archive::open(alloc, LEAVES.as_slice())?;
+    for (id, content) in LOOKS {
+        let told = lookup.tile(alloc, &mut bytes, id)?;
+        if told != archive.tile(alloc, id)? || told.as_deref().unwrap_or(b"") != content {
+            return Ok(Some(id));
+        }
+    }
+    Ok(None)
+}
+
+#[test]
+fn looks_in_turn(rt: HostRuntime) -> Result<(), Fail> {
+    assert_eq!(rt; other_look(rt.alloc())?, None);
+    Ok(())
+}
+
+// Ids in turn in an archive whose second leaf directory isn't one, and whether that is told.
+const FAULTS: [(u64, bool); 4] = [(0, false), (3, true), (2, false), (9, true)];
+
+// Which id is the first of which something else is told, if one is.
+fn other_fault(alloc: Global) -> Result<Option<u64>, Fail> {
+    let mut cut = LEAVES;
+    cut[151] = 3;
+    let mut bytes = cut.as_slice();
+    let mut lookup = Lookup::open(alloc, &mut bytes)?;
+    for (id, fails) in FAULTS {
+        let fault = lookup.tile(alloc, &mut bytes, id).err();
+        if fault != fails.then_some(ArchiveFault::Directory(151)) {
+            return Ok(Some(id));
+        }
+    }
+    Ok(None)
+}
+
+#[test]
+fn looks_beside_a_fault(rt: HostRuntime) -> Result<(), Fail> {
+    assert_eq!(rt; other_fault(rt.alloc())?, None);
     Ok(())
 }

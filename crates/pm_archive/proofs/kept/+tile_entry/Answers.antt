@@ -1,0 +1,10 @@
+use Rattle.std.proofs.lemmas.Result.{err_from_is_err_and}
+use Rattle.pm_archive.proofs.LookedSteps.{reached_fault}
+use Rattle.pm_archive.proofs.kept.+tile_entry.Goals as goal
+
+pub returns-in_err-below-clause-first : goal.returns-in_err-below-clause-first
+returns-in_err-below-clause-first g t c =
+    let p = err_from_is_err_and c.from_residual.result c.from_residual.ensures.1 in
+    rw (p.1, p.2) (λ bytes holds kept. rw c.in-Some.is
+    (reached_fault bytes c.args.header.now c.args.id c.args.more c.in-Some.entry c.in_err-below.field-0.0 c.if-entry-gt0.false c.if-more-eq0.false
+    (c.in_err-below.ensures.first bytes holds kept)))

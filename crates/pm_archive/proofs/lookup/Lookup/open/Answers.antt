@@ -1,0 +1,10 @@
+use Rattle.pm_archive.proofs.OpenedLaws.{opened_once, opened_unless}
+use Rattle.pm_archive.proofs.lookup.Lookup.open.Goals as goal
+
+pub returns-in-Ok-clause-only : goal.returns-in-Ok-clause-only
+returns-in-Ok-clause-only g c = λ bytes h root has dir holds.
+    let found = c.in-Ok.ensures.found bytes holds in
+    opened_once bytes c.in-Ok.header h c.in-Ok.root.items root found.0 found.1 has dir
+
+pub returns-in-Err-clause-only : goal.returns-in-Err-clause-only
+returns-in-Err-clause-only g c = λ bytes h root has dir holds. opened_unless bytes h root c.in-Err.fault (c.in-Err.ensures.fault bytes holds) has dir

@@ -1,0 +1,100 @@
+//! Look-ups of tiles in an archive whose source is passed to each.
+
+ghost use Rattle.std.specs.Prelude.{◌≡◌, ℕ, List, Option, None, Err, IfOk, IfErr, MatchResult, option_map};
+ghost use Rattle.reader.specs.Reading.{GivesUnless};
+ghost use Rattle.pm_header.specs.declared.header.Header.{Header};
+ghost use Rattle.pm_directory.specs.declared.entry.Entry.{Entry};
+ghost use Rattle.pm_directory.specs.Directory.{IsAscending, IsDirectory};
+ghost use Rattle.pm_archive.specs.Source.{Keeps};
+ghost use Rattle.pm_archive.specs.Sections.{HasSections, section_bytes};
+ghost use Rattle.pm_archive.specs.Archive.{IsArchiveOf};
+ghost use Rattle.pm_archive.specs.Reading.{ArePlaced, OpeningHas};
+ghost use Rattle.pm_archive.specs.Looked.{looked_at};
+ghost use Rattle.pm_archive.specs.Lookup.{LookupView, IsLookupOf, IsSmall};
+ghost use Rattle.pm_archive.specs.Answers.{IsOutside, UnlessOutside};
+
+use crate::fault::ArchiveFault;
+use crate::kept::{Leaf, content_by};
+use crate::opening::header_and_root;
+use crate::source::Bytes;
+use pm_directory::Entry;
+use pm_header::Header;
+use std::alloc::Global;
+use std::marker::Model;
+
+/// What is kept of an archive between look-ups: its header, its root directory, and the leaf directory that was read last,
+/// where that has at most `KEPT_LEAF_BYTES` bytes. It owns no source: each call is passed it.
+#[derive(Drop)]
+pub struct Lookup {
+    count: u64,
+    header: Header,
+    root: Vec<Entry>,
+    leaf: Option<Leaf>,
+}
+
+impl Model for Lookup {
+    ghost Value = { LookupView };
+
+    ghost view = { λ l. record { count = l.count; header = l.header; root = l.root.items; leaf = l.leaf } };
+
+    ghost invariant = { λ l. ArePlaced l.count l.header × IsAscending l.root.items × IsSmall l.leaf };
+}
+
+impl Lookup {
+    /// Reads the header and the root directory of the archive in a source, and nothing else.
+    ///
+    /// # Errors
+    ///
+    /// `Short`, `Magic`, `Version`, `Section`, `Compressed`, `Directory` of the root, the first that there is in this order.
+    /// The source is as it was.
+    pub fn open<B: Bytes>(alloc: Global, source: &mut B) -> Result<Lookup, ArchiveFault>
+        ensures source { Keeps B.count B.holds B.fails B.unchanged source.old source.new }
+        ensures count { IfOk result (λ l. l.count ≡ B.count source.old) }
+        ensures leaf { IfOk result (λ l. l.leaf ≡ None) }
+        ensures found { (bytes : List ℕ) → B.holds source.new bytes → IfOk result (IsLookupOf bytes) }
+        ensures only { (bytes : List ℕ) (h : Header) (root : List Entry) → HasSections bytes h → IsDirectory (section_bytes h.root bytes) root
+            → B.holds source.new bytes → MatchResult result (λ l. (l.header ≡ h) × (l.root ≡ root)) IsOutside }
+        ensures fault { (bytes : List ℕ) → B.holds source.new bytes → IfErr result (UnlessOutside (OpeningHas bytes)) }
+        ensures read { result ≡ Err ArchiveFault.Read → B.fails source.old }
+        ensures memory { (bytes : List ℕ) → B.holds source.new bytes → result ≡ Err ArchiveFault.Memory → (h : Header) × HasSections bytes h }
+    {
+        match header_and_root(alloc, source) {
+            Ok((header, root)) => Ok(Lookup {
+                count: source.len(),
+                header,
+                root,
+                leaf: None,
+            }),
+            Err(fault) => Err(fault),
+        }
+    }
+
+    /// The content of a tile id, `None` where no entry has it. Reads the content, and of the directories on the way to its
+    /// entry those that aren't kept. The source has as many bytes as the one that was opened.
+    ///
+    /// # Errors
+    ///
+    /// `Directory`, `Depth`, `Place`, the first on the way. None of an archive. What is kept is still of the source, and the
+    /// source as it was.
+    pub fn tile<B: Bytes>(
+        &mut self,
+        alloc: Global,
+        source: &mut B,
+        id: u64,
+    ) -> Result<Option<Vec<u8>>, ArchiveFault>
+        requires { self.old.count ≡ B.count source.old }
+        ensures source { Keeps B.count B.holds B.fails B.unchanged source.old source.new }
+        ensures count { self.new.count ≡ self.old.count }
+        ensures header { self.new.header ≡ self.old.header }
+        ensures root { self.new.root ≡ self.old.root }
+        ensures still { (bytes : List ℕ) → B.holds source.new bytes → IsLookupOf bytes self.old → IsLookupOf bytes self.new }
+        ensures room { IsSmall self.new.leaf }
+        ensures content { (bytes : List ℕ) (content : ℕ → Option (List ℕ)) → B.holds source.new bytes → IsLookupOf bytes self.old
+            → IsArchiveOf bytes content → MatchResult result (λ found. option_map (λ v. v.items) found ≡ content id) IsOutside }
+        ensures first { (bytes : List ℕ) → B.holds source.new bytes → IsLookupOf bytes self.old
+            → GivesUnless IsOutside (option_map (λ v. v.items)) result (looked_at bytes self.old.header self.old.root id) }
+        ensures read { result ≡ Err ArchiveFault.Read → B.fails source.old }
+    {
+        content_by(alloc, source, &self.header, &self.root, &mut self.leaf, id)
+    }
+}
