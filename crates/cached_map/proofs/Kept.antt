@@ -1,114 +1,18 @@
 -- Kept tiles stay those of the map.
-use Rattle.std.proofs.Common.{◌≡◌, ◌≢◌, ℕ, ◌<◌, ◌≤◌, ◌⊎◌, inl, inr, Bool, true, false, cond, List, [], ◌∷◌, All}
-use Rattle.std.proofs.Common.{Option, Some, None, refl, sym, subst, ◌∙◌, arith}
+use Rattle.std.proofs.Common.{◌≡◌, ℕ, ◌≤◌, ◌⊎◌, inl, inr, Bool, true, false, cond, List, [], All}
+use Rattle.std.proofs.Common.{Option, Some, None, refl, sym, subst, ◌∙◌, arith, map}
 use Rattle.std.specs.Prelude.{nat_le, Result, Ok, Err, OnOk, OnErr}
 use Rattle.std.proofs.lemmas.Bool.{leb-true}
-use Rattle.std.proofs.lemmas.List.Elements.{All-head, All-tail, All-weaker}
-use Rattle.number_map.proofs.Numbers.{by_order}
-use Rattle.number_map.proofs.Entries.{lookup_here, lookup_on}
-use Rattle.feature_model.specs.Data.{FeatureData, put}
-use Rattle.feature_model.specs.Types.{IsEdit, LiesInWorld}
-use Rattle.feature_store.specs.Layers.{is_tile, layers}
-use Rattle.feature_store.specs.Store.{FeatureMap, IsMap, feature_at, with_feature, without_feature}
-use Rattle.feature_store.proofs.Laws.{layers_outside}
+use Rattle.std.proofs.lemmas.List.Elements.{All-nil, All-contains, All-map, All-weaker}
+use Rattle.feature_store.specs.Content.{IsTileContent}
+use Rattle.feature_store.specs.Layers.{layers}
+use Rattle.feature_store.specs.Store.{FeatureMap}
 use Rattle.tile_cache.specs.Kept.{is_place, kept_at, fresh, KeepsNothing, KeepsSame, KeepsFewer}
-use Rattle.tile_cache.specs.Touched.{Mark, Reaches, Remembers, IsNewest}
+use Rattle.tile_cache.specs.Touched.{Mark, Reaches, Remembers, IsNewest, IsZeroOrMarked}
 use Rattle.tile_cache.specs.declared.kept_tiles.Place.{Place}
 use Rattle.tile_cache.specs.declared.kept_tiles.TileCache.{TileCache}
 use Rattle.tile_cache.proofs.Places.{place_is}
-use Rattle.feature_store.specs.Content.{IsTileContent}
-use Rattle.cached_map.specs.Cached.{box_of, with_mark, IsUntouched, IsKept, IsCached}
-use Rattle.cached_map.proofs.Unreached.{IsHidden, layers_put, layers_removed, unreached}
-
--- ---- features of a map
-
-lies_at : (m : FeatureMap) (id : ℕ) (f : FeatureData) → All (λ e. LiesInWorld e.1.geometry) m → feature_at m id ≡ Some f → LiesInWorld f.geometry
-unfolding feature_at
-lies_at [] id f all is = cc
-lies_at (e ∷ m) id f all is =
-    let P : ℕ × FeatureData → Type 0 = λ d. LiesInWorld d.1.geometry in
-    let on : (id ≢ e.0) → LiesInWorld f.geometry =
-    λ h. lies_at m id f (All-tail P e m all) (sym (lookup_on id e m h) ∙ is) in
-    by_order id e.0 (λ h. on (λ s. omega (arith, h, s)))
-    (λ h. let same : e.1 ≡ f = cc' (sym (lookup_here id e m h) ∙ is) in subst (λ d. LiesInWorld d.geometry) same (All-head P e m all))
-    (λ h. on (λ s. omega (arith, h, s)))
-  where
-    cc' : {a b : FeatureData} → Some a ≡ Some b → a ≡ b
-    cc' same = cc
-
-in_world : (m : FeatureMap) → IsMap m → All (λ e. LiesInWorld e.1.geometry) m
-in_world m is = All-weaker (λ e. IsEdit (put e.0 e.1)) (λ e. LiesInWorld e.1.geometry) (λ e edit. edit.1.geometry) m is.edits
-
--- ---- an edit
-
--- a mark with a greater number doesn't reach an untouched tile
-beyond : (f : FeatureData) (number last n z x y : ℕ) (marks : List Mark) → last < number → n ≤ last → IsUntouched ((box_of f, number) ∷ marks) z x y n
-    → ¬ Reaches (box_of f) z x y
-beyond f number last n z x y marks later below all reaches =
-    absurd (omega (arith, later, below, All-head (λ (m : Mark). Reaches m.0 z x y → m.1 ≤ n) (box_of f, number) marks all reaches))
-
-rest_of : (old : Option FeatureData) (number n z x y : ℕ) (marks : List Mark) → IsUntouched (with_mark old number marks) z x y n → IsUntouched marks z x y n
-rest_of None number n z x y marks all = all
-rest_of (Some f) number n z x y marks all = All-tail (λ (m : Mark). Reaches m.0 z x y → m.1 ≤ n) (box_of f, number) marks all
-
-module _ (m : FeatureMap) (old_cells new_cells : List ℕ) (kept : TileCache) (last number id : ℕ) (is_map : IsMap m) (later : last < number)
-    (before : IsCached m old_cells kept last) where
-  -- what the tile shows of the number's feature, once an edit with a greater number is known not to reach it
-  hidden_before : (z x y n : ℕ) (marks : List Mark) → is_tile z x y ≡ true → n ≤ last → IsUntouched (with_mark (feature_at m id) number marks) z x y n
-      → (f : FeatureData) → feature_at m id ≡ Some f → IsHidden z x y f
-  hidden_before z x y n marks tile below all f is =
-      unreached f z x y tile (lies_at m id f (in_world m is_map) is)
-      (beyond f number last n z x y marks later below (subst (λ o. IsUntouched (with_mark o number marks) z x y n) is all))
-
-  pub placed : (f : FeatureData) → LiesInWorld f.geometry
-      → ((marks : List Mark) → Remembers old_cells marks → Remembers new_cells ((box_of f, number) ∷ with_mark (feature_at m id) number marks))
-      → IsCached (with_feature m id f) new_cells kept number
-  placed f lies marked = record {
-    marks = (box_of f, number) ∷ with_mark (feature_at m id) number before.marks;
-    remembers = marked before.marks before.remembers;
-    tiles = λ z x y n bytes is.
-        let was = before.tiles z x y n bytes is in
-        record {
-          number = omega (arith, was.number, later);
-          tile = λ all.
-              let rest : IsUntouched (with_mark (feature_at m id) number before.marks) z x y n =
-              All-tail (λ (k : Mark). Reaches k.0 z x y → k.1 ≤ n) (box_of f, number) (with_mark (feature_at m id) number before.marks) all in
-              subst (λ ls. IsTileContent ls (Some bytes)) (sym (same z x y n was.number all rest))
-              (was.tile (rest_of (feature_at m id) number n z x y before.marks rest));
-        };
-  }
-    where
-      same : (z x y n : ℕ) → n ≤ last → IsUntouched ((box_of f, number) ∷ with_mark (feature_at m id) number before.marks) z x y n
-          → IsUntouched (with_mark (feature_at m id) number before.marks) z x y n → layers (with_feature m id f) z x y ≡ layers m z x y
-      same z x y n below all rest = go (is_tile z x y) refl
-        where
-          go : (b : Bool) → is_tile z x y ≡ b → layers (with_feature m id f) z x y ≡ layers m z x y
-          go false none = layers_outside (with_feature m id f) z x y none ∙ sym (layers_outside m z x y none)
-          go true tile = layers_put z x y m id f
-              (unreached f z x y tile lies (beyond f number last n z x y (with_mark (feature_at m id) number before.marks) later below all))
-              (hidden_before z x y n before.marks tile below rest)
-
-  pub removed : ((marks : List Mark) → Remembers old_cells marks → Remembers new_cells (with_mark (feature_at m id) number marks))
-      → IsCached (without_feature m id) new_cells kept number
-  removed marked = record {
-    marks = with_mark (feature_at m id) number before.marks;
-    remembers = marked before.marks before.remembers;
-    tiles = λ z x y n bytes is.
-        let was = before.tiles z x y n bytes is in
-        record {
-          number = omega (arith, was.number, later);
-          tile = λ all. subst (λ ls. IsTileContent ls (Some bytes)) (sym (same z x y n was.number all))
-              (was.tile (rest_of (feature_at m id) number n z x y before.marks all));
-        };
-  }
-    where
-      same : (z x y n : ℕ) → n ≤ last → IsUntouched (with_mark (feature_at m id) number before.marks) z x y n
-          → layers (without_feature m id) z x y ≡ layers m z x y
-      same z x y n below all = go (is_tile z x y) refl
-        where
-          go : (b : Bool) → is_tile z x y ≡ b → layers (without_feature m id) z x y ≡ layers m z x y
-          go false none = layers_outside (without_feature m id) z x y none ∙ sym (layers_outside m z x y none)
-          go true tile = layers_removed z x y m id (hidden_before z x y n before.marks tile below all)
+use Rattle.cached_map.specs.Cached.{IsUntouched, IsKept, IsCached, WasMap}
 
 -- ---- what is kept
 
@@ -116,6 +20,7 @@ pub nothing_kept : (m : FeatureMap) (cells : List ℕ) (kept : TileCache) (last 
 nothing_kept m cells kept last none nothing = record {
   marks = [];
   remembers = none;
+  numbers = All-nil (λ (k : Mark). k.1 ≤ last);
   tiles = λ z x y n bytes is. absurd (never (sym (nothing.tiles z x y) ∙ is));
 }
   where
@@ -126,6 +31,7 @@ pub same_kept : (m : FeatureMap) (cells : List ℕ) (old new : TileCache) (last 
 same_kept m cells old new last same before = record {
   marks = before.marks;
   remembers = before.remembers;
+  numbers = before.numbers;
   tiles = λ z x y n bytes is. before.tiles z x y n bytes (sym (same.tiles z x y) ∙ is);
 }
 
@@ -135,6 +41,7 @@ pub one_kept : (m : FeatureMap) (cells : List ℕ) (old new : TileCache) (last z
 one_kept m cells old new last z x y bytes content here others before = record {
   marks = before.marks;
   remembers = before.remembers;
+  numbers = before.numbers;
   tiles = λ z' x' y' n b is. go z' x' y' n b is (is_place (record { z = z; x = x; y = y }) (record { z = z'; x = x'; y = y' })) refl;
 }
   where
@@ -168,6 +75,31 @@ pub kept_or_not : {T E : Type 0} (r : Result T E) (m : FeatureMap) (cells : List
 kept_or_not (Ok done) m cells old new last z x y bytes content here others same before = one_kept m cells old new last z x y bytes content here others before
 kept_or_not (Err fault) m cells old new last z x y bytes content here others same before = same_kept m cells old new last same before
 
+-- ---- the newest edit that reaches a tile
+
+-- no edit behind it reaches the tile
+untouched_behind : (marks : List Mark) (z x y newest n : ℕ) → IsNewest marks z x y newest → newest ≤ n → IsUntouched marks z x y n
+untouched_behind marks z x y newest n is le =
+    All-weaker (λ (k : Mark). Reaches k.0 z x y → k.1 ≤ newest) (λ (k : Mark). Reaches k.0 z x y → k.1 ≤ n)
+    (λ k h reaches. omega (arith, h reaches, le)) marks is.reached
+
+at_most : (marks : List Mark) (n last : ℕ) → All (λ k. k.1 ≤ last) marks → IsZeroOrMarked marks n → n ≤ last
+at_most marks n last all (inl none) = omega (arith, none)
+at_most marks n last all (inr has) =
+    All-contains (λ k. k ≤ last) (map (λ (k : Mark). k.1) marks) n (All-map (λ k. k ≤ last) (λ (k : Mark). k.1) marks all) has
+
+module _ (z x y newest : ℕ) where
+  -- an earlier map whose number isn't below it has the same layers
+  pub same_since : (m : FeatureMap) (cells : List ℕ) (last n : ℕ) (was : FeatureMap)
+      → ((marks : List Mark) → Remembers cells marks → IsNewest marks z x y newest) → WasMap m cells last n was → newest ≤ n
+      → layers m z x y ≡ layers was z x y
+  same_since m cells last n was newest_is h le = h.tiles z x y (untouched_behind h.marks z x y newest n (newest_is h.marks h.remembers) le)
+
+  pub newest_most : (m : FeatureMap) (cells : List ℕ) (kept : TileCache) (last : ℕ) → IsCached m cells kept last
+      → ((marks : List Mark) → Remembers cells marks → IsNewest marks z x y newest) → newest ≤ last
+  newest_most m cells kept last cached newest_is =
+      at_most cached.marks newest last cached.numbers (newest_is cached.marks cached.remembers).only
+
 -- ---- what is found
 
 -- a tile that is new enough is that of the map
@@ -185,11 +117,9 @@ found_is m cells kept last z x y newest bytes cached newest_is is = go (kept_at 
         by true new is =
             let le = leb-true newest t.0 new in
             let same : t.1 ≡ bytes = of_some (sym is) in
-            let reached = (newest_is cached.marks cached.remembers).reached in
             subst (λ b. IsTileContent (layers m z x y) (Some b)) same
             ((cached.tiles z x y t.0 t.1 here).tile
-            (All-weaker (λ (k : Mark). Reaches k.0 z x y → k.1 ≤ newest) (λ (k : Mark). Reaches k.0 z x y → k.1 ≤ t.0)
-            (λ k h reaches. omega (arith, h reaches, le)) cached.marks reached))
+            (untouched_behind cached.marks z x y newest t.0 (newest_is cached.marks cached.remembers) le))
           where
             of_some : {a b : List ℕ} → Some a ≡ Some b → a ≡ b
             of_some same = cc

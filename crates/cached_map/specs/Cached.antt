@@ -11,11 +11,12 @@ use Rattle.tile_cache.specs.Touched.{Mark, Reaches, Remembers}
 use Rattle.tile_cache.specs.declared.kept_tiles.TileCache.{TileCache}
 use Rattle.tile_cutter.specs.WorldBox.{bounding_box}
 
--- what contracts see: the map, how many features it takes without memory, and the number of its last edit
+-- what contracts see: the map, how many features it takes without memory, the number of its last edit, and the newest edit of each cell of the world
 pub record CachedView : Type 0 where
   pub features : FeatureMap
   pub spare : ℕ
   pub last : ℕ
+  pub touched : List ℕ
 
 -- ---- what edits touch
 
@@ -32,6 +33,16 @@ with_mark (Some f) number marks = (box_of f, number) ∷ marks
 abbrev pub IsUntouched : List Mark → (z x y number : ℕ) → Type 0
 IsUntouched marks z x y number = All (λ m. Reaches m.0 z x y → m.1 ≤ number) marks
 
+-- ---- earlier maps
+
+-- Of a map whose last edit has a number, and of which cells of the world have the newest edits: after the edit of number n it was this
+-- one, as far as tiles tell that no edit behind that can have touched.
+pub record WasMap (m : FeatureMap) (cells : List ℕ) (last n : ℕ) (was : FeatureMap) : Type 0 where
+  pub marks : List Mark
+  pub remembers : Remembers cells marks
+  pub number : n ≤ last
+  pub tiles : (z x y : ℕ) → IsUntouched marks z x y n → layers m z x y ≡ layers was z x y
+
 -- ---- what is kept
 
 -- bytes that were kept with this number are the tile of the map, unless an edit behind it may have touched it
@@ -39,8 +50,9 @@ pub record IsKept (m : FeatureMap) (marks : List Mark) (last z x y n : ℕ) (byt
   pub number : n ≤ last
   pub tile : IsUntouched marks z x y n → IsTileContent (layers m z x y) (Some bytes)
 
--- that is so of each kept tile, for edits that the numbers of these cells remember
+-- that is so of each kept tile, for edits up to the last that the numbers of these cells remember
 pub record IsCached (m : FeatureMap) (cells : List ℕ) (kept : TileCache) (last : ℕ) : Type 0 where
   pub marks : List Mark
   pub remembers : Remembers cells marks
+  pub numbers : All (λ m. m.1 ≤ last) marks
   pub tiles : (z x y number : ℕ) (bytes : List ℕ) → kept_at kept z x y ≡ Some (number, bytes) → IsKept m marks last z x y number bytes

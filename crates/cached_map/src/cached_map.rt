@@ -1,12 +1,12 @@
-ghost use Rattle.std.specs.Prelude.{◌≡◌, ◌↔◌, ◌≢◌, ◌<◌, ◌≤◌, ◌+◌, ℕ, List, ◌∷◌, length, IsSome, IsTrue, Some, None, IfOk, OnOk, OnErr, option_map};
+ghost use Rattle.std.specs.Prelude.{◌≡◌, ◌↔◌, ◌≢◌, ◌<◌, ◌≤◌, ◌+◌, ℕ, List, [], ◌∷◌, length, IsSome, IsTrue, Some, None, IfOk, IfSome, OnOk, OnErr, option_map};
 ghost use Rattle.feature_model.specs.Data.{feature_data, put};
 ghost use Rattle.feature_model.specs.Types.{IsEdit};
 ghost use Rattle.feature_store.specs.Content.{IsTileContent};
 ghost use Rattle.feature_store.specs.Layers.{layers};
-ghost use Rattle.feature_store.specs.Store.{feature_at, with_feature, without_feature, snapshot};
+ghost use Rattle.feature_store.specs.Store.{FeatureMap, feature_at, with_feature, without_feature, snapshot};
 ghost use Rattle.feature_store.specs.declared.limit.TheConstants.{TEXTS_END};
-ghost use Rattle.tile_cache.specs.Touched.{Mark, Remembers};
-ghost use Rattle.cached_map.specs.Cached.{box_of, with_mark};
+ghost use Rattle.tile_cache.specs.Touched.{Mark, Remembers, IsNewest};
+ghost use Rattle.cached_map.specs.Cached.{box_of, with_mark, WasMap};
 
 use box_index::WorldBox;
 use feature_model::Feature;
@@ -33,7 +33,7 @@ impl Model for CachedMap {
 
     ghost Value = { CachedView };
 
-    ghost view = { λ m. record { features = m.store.features; spare = m.store.spare; last = m.last } };
+    ghost view = { λ m. record { features = m.store.features; spare = m.store.spare; last = m.last; touched = m.touched } };
 
     ghost invariant = { λ m. IsCached m.store.features m.touched m.kept m.last };
 }
@@ -65,7 +65,11 @@ fn mark_some(touched: &mut TouchGrid, feature: Option<&Feature>, number: u64)
 impl CachedMap {
     /// A map whose last edit has this number, and of which no tile is kept.
     pub fn new(alloc: Global, store: Store, last: u64) -> Result<CachedMap, AllocError>
-        ensures { IfOk result (λ m. m ≡ record { features = store.features; spare = store.spare; last = last }) }
+        ensures features { IfOk result (λ m. m.features ≡ store.features) }
+        ensures spare { IfOk result (λ m. m.spare ≡ store.spare) }
+        ensures last { IfOk result (λ m. m.last ≡ last) }
+        ensures untouched { IfOk result (λ m. Remembers m.touched []) }
+        ensures now { IfOk result (λ m. WasMap m.features m.touched m.last m.last m.features) }
     {
         let kept = TileCache::new(alloc)?;
         Ok(CachedMap {
@@ -92,6 +96,17 @@ impl CachedMap {
         self.last
     }
 
+    /// The number of the newest edit that can have touched a tile, or of a later one; 0 where there was none since the map was made. So a tile
+    /// has the layers that it had after any edit whose number isn't below this one.
+    pub fn newest(&self, at: TileAt) -> u64
+        ensures marked { (marks : List Mark) → Remembers self.now.touched marks → IsNewest marks at.z at.x at.y result }
+        ensures since { (n : ℕ) (was : FeatureMap) → WasMap self.now.features self.now.touched self.now.last n was → result ≤ n
+            → layers self.now.features at.z at.x at.y ≡ layers was at.z at.x at.y }
+        ensures most { result ≤ self.now.last }
+    {
+        self.touched.newest(at)
+    }
+
     /// Makes room for one feature of any number, so that the next `place` allocates nothing.
     pub fn room(&mut self) -> Result<(), AllocError>
         ensures same { self.new ≡ record self.old { spare = self.new.spare } }
@@ -112,6 +127,9 @@ impl CachedMap {
         ensures map { self.new.features ≡ with_feature self.old.features id (feature_data feature) }
         ensures spare { self.old.spare ≤ self.new.spare + 1 }
         ensures last { self.new.last ≡ number }
+        ensures now { WasMap self.new.features self.new.touched self.new.last self.new.last self.new.features }
+        ensures since { (n : ℕ) (was : FeatureMap) → WasMap self.old.features self.old.touched self.old.last n was
+            → WasMap self.new.features self.new.touched self.new.last n was }
     {
         let _count = self.store.len();
         mark_some(&mut self.touched, self.store.get(id), number);
@@ -127,6 +145,9 @@ impl CachedMap {
         ensures map { self.new.features ≡ without_feature self.old.features id }
         ensures spare { self.old.spare ≤ self.new.spare }
         ensures last { self.new.last ≡ number }
+        ensures now { WasMap self.new.features self.new.touched self.new.last self.new.last self.new.features }
+        ensures since { (n : ℕ) (was : FeatureMap) → WasMap self.old.features self.old.touched self.old.last n was
+            → WasMap self.new.features self.new.touched self.new.last n was }
     {
         let _count = self.store.len();
         mark_some(&mut self.touched, self.store.get(id), number);
@@ -157,17 +178,26 @@ impl CachedMap {
         Ok(Some(bytes))
     }
 
-    /// The bytes of a tile (Mapbox Vector Tile 2.1): none where it shows nothing, so above the greatest zoom too. One that was asked
-    /// for before, and that no edit can have touched since, is a copy of what was kept. The only error is out of memory.
-    pub fn tile(&mut self, at: TileAt) -> Result<Option<Vec<u8>>, AllocError>
-        ensures tile { IfOk result (λ content. IsTileContent (layers self.old.features at.z at.x at.y) (option_map (λ b. b.items) content)) }
+    /// A copy of the bytes of a tile (Mapbox Vector Tile 2.1) that was made before, and that no edit can have touched since, if they are
+    /// kept. The only error is out of memory.
+    pub fn kept(&mut self, at: TileAt) -> Result<Option<Vec<u8>>, AllocError>
+        ensures tile { IfOk result (λ found. IfSome found (λ bytes. IsTileContent (layers self.old.features at.z at.x at.y) (Some bytes.items))) }
         ensures same { self.new ≡ self.old }
     {
-        let newest = self.touched.newest(at);
+        let newest = self.newest(at);
         self.kept.promote(at);
         if let Some(bytes) = self.kept.peek(at, newest) {
             return Ok(Some(Vec::from_slice(self.alloc, bytes)?));
         }
+        Ok(None)
+    }
+
+    /// The bytes of a tile, cut anew: none where it shows nothing, so above the greatest zoom too. They are kept where memory is there
+    /// for them. The only error is out of memory.
+    pub fn make(&mut self, at: TileAt) -> Result<Option<Vec<u8>>, AllocError>
+        ensures tile { IfOk result (λ content. IsTileContent (layers self.old.features at.z at.x at.y) (option_map (λ b. b.items) content)) }
+        ensures same { self.new ≡ self.old }
+    {
         let content = self.cut_tile(at)?;
         if let Some(bytes) = &content {
             self.keep(at, bytes);

@@ -67,16 +67,32 @@ enum Turn {
     Remove(u64, bool),
     /// A tile has these bytes, or shows nothing.
     Tile(Place, Option<&'static [u8]>),
+    /// The newest edit that can have touched a tile has this number.
+    Newest(Place, u64),
+}
+
+/// A tile: as it is kept, or made.
+fn tile(map: &mut CachedMap, at: TileAt) -> Result<Option<Vec<u8>>, AllocError> {
+    match map.kept(at)? {
+        Some(bytes) => Ok(Some(bytes)),
+        None => map.make(at),
+    }
 }
 
 /// Whether a tile is as told.
 fn is_told(map: &mut CachedMap, (z, x, y): Place, told: Option<&[u8]>) -> Result<bool, Fail> {
     let at = TileAt::new(z, x, y).ok_or("a place")?;
-    match (map.tile(at)?, told) {
+    match (tile(map, at)?, told) {
         (Some(bytes), Some(told)) => Ok(bytes.as_slice() == told),
         (None, None) => Ok(true),
         _ => Ok(false),
     }
+}
+
+/// Whether the newest edit that can have touched a tile is as told.
+fn is_newest(map: &CachedMap, (z, x, y): Place, told: u64) -> Result<bool, Fail> {
+    let at = TileAt::new(z, x, y).ok_or("a place")?;
+    Ok(map.newest(at) == told)
 }
 
 /// Whether a turn goes as told.
@@ -88,6 +104,7 @@ fn goes(alloc: Global, map: &mut CachedMap, turn: Turn) -> Result<bool, Fail> {
         }
         Turn::Remove(id, found) => Ok(remove(map, id)? == found),
         Turn::Tile(at, told) => is_told(map, at, told),
+        Turn::Newest(at, told) => is_newest(map, at, told),
     }
 }
 
@@ -113,14 +130,20 @@ const LAST_CORNER: Option<&[u8]> = Some(&[
     26, 21, 10, 1, 112, 18, 11, 8, 7, 24, 1, 34, 5, 9, 254, 63, 254, 63, 40, 128, 32, 120, 2,
 ]);
 
+/// Turns with a map whose last edit has the number 5.
 const MOVES: &[Turn] = &[
+    Turn::Newest((0, 0, 0), 0),
     Turn::Tile((1, 0, 0), None),
     Turn::Put(7, (0, 0)),
+    Turn::Newest((10, 0, 0), 6),
+    Turn::Newest((10, 1023, 1023), 0),
     Turn::Tile((1, 0, 0), FIRST_CORNER),
     Turn::Tile((1, 0, 0), FIRST_CORNER),
     Turn::Tile((1, 1, 1), None),
     // From one corner of the world to the other.
     Turn::Put(7, (LAST, LAST)),
+    Turn::Newest((10, 0, 0), 7),
+    Turn::Newest((10, 1023, 1023), 7),
     Turn::Tile((1, 0, 0), None),
     Turn::Tile((1, 1, 1), LAST_CORNER),
     Turn::Tile((0, 0, 0), LAST_CORNER),
@@ -155,7 +178,7 @@ fn cut_anew(alloc: Global, store: &Store, at: TileAt) -> Result<Vec<u8>, Fail> {
 /// Whether a tile is as it would be cut anew.
 fn is_as_cut(alloc: Global, map: &mut CachedMap, (z, x, y): Place) -> Result<bool, Fail> {
     let at = TileAt::new(z, x, y).ok_or("a place")?;
-    let content = map.tile(at)?.unwrap_or(Vec::new(alloc));
+    let content = tile(map, at)?.unwrap_or(Vec::new(alloc));
     let cut = cut_anew(alloc, map.store(), at)?;
     Ok(content.as_slice() == cut.as_slice())
 }

@@ -1,13 +1,34 @@
-use Rattle.std.proofs.Common.{sym, subst}
+use Rattle.std.proofs.Common.{subst}
 use Rattle.tile_cache.specs.Touched.{Remembers}
-use Rattle.cached_map.specs.Cached.{with_mark, IsCached}
-use Rattle.cached_map.proofs.Kept.{removed}
+use Rattle.cached_map.specs.Cached.{CachedView, with_mark}
+use Rattle.cached_map.proofs.Edits.{IsEdited, removal, removed, still_cached, still_was}
 use Rattle.cached_map.proofs.cached_map.CachedMap.remove.Goals as goal
+use Rattle.cached_map.proofs.cached_map.CachedMap.remove.Goals.{After-remove-found}
+
+abbrev before : After-remove-found → CachedView
+before c =
+    let inside = c.self.inside in
+    record { features = inside.store.features; spare = inside.store.spare; last = inside.last; touched = inside.touched }
+
+abbrev after : After-remove-found → CachedView
+after c =
+    record {
+      features = c.remove-found.new.self.features;
+      spare = c.remove-found.new.self.spare;
+      last = c.args.number;
+      touched = c.mark_some.new.touched;
+    }
+
+edited : (c : After-remove-found) → IsEdited (before c) (after c) (removal (before c) (after c) c.args.id)
+edited c = removed (before c) (after c) c.args.id c.len-count.ensures.map (rw (← c.self.view_is) at c.requires.later) c.remove-found.ensures.map
+    (λ marks remembers. subst (λ o. Remembers c.mark_some.new.touched (with_mark o c.args.number marks)) c.get.ensures (c.mark_some.ensures marks remembers))
 
 pub invariant_of-self : goal.invariant_of-self
 invariant_of-self c =
-    let inside = c.self.inside in
-    subst (λ m. IsCached m c.mark_some.new.touched inside.kept c.args.number) (sym c.remove-found.ensures.map)
-    (removed inside.store.features inside.touched c.mark_some.new.touched inside.kept inside.last c.args.number c.args.id c.len-count.ensures.map
-    (rw (← c.self.view_is) at c.requires.later) c.self.invariant
-    (λ marks remembers. subst (λ o. Remembers c.mark_some.new.touched (with_mark o c.args.number marks)) c.get.ensures (c.mark_some.ensures marks remembers)))
+    let at = (goal.at.invariant_of-self c).After-remove-found in
+    still_cached (before at) (after at) (removal (before at) (after at) c.args.id) (edited at) c.self.inside.kept c.self.invariant
+
+pub returns-clause-since : goal.returns-clause-since
+returns-clause-since c =
+    let at = (goal.at.returns-clause-since c).After-remove-found in
+    rw (← c.self.view_is) (still_was (before at) (after at) (removal (before at) (after at) c.args.id) (edited at))

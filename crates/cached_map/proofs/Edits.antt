@@ -1,0 +1,152 @@
+-- What an edit leaves: the layers of the tiles that it doesn't reach, so tiles that were kept, and earlier maps.
+use Rattle.std.proofs.Common.{◌≡◌, ◌≢◌, ℕ, ◌<◌, ◌≤◌, Bool, true, false, List, [], ◌∷◌, All}
+use Rattle.std.proofs.Common.{Option, Some, None, refl, sym, subst, ◌∙◌, arith}
+use Rattle.std.proofs.lemmas.List.Elements.{All-cons, All-head, All-tail, All-weaker}
+use Rattle.number_map.proofs.Numbers.{by_order}
+use Rattle.number_map.proofs.Entries.{lookup_here, lookup_on}
+use Rattle.feature_model.specs.Data.{FeatureData, put}
+use Rattle.feature_model.specs.Types.{IsEdit, LiesInWorld}
+use Rattle.feature_store.specs.Content.{IsTileContent}
+use Rattle.feature_store.specs.Layers.{is_tile, layers}
+use Rattle.feature_store.specs.Store.{FeatureMap, IsMap, feature_at, with_feature, without_feature}
+use Rattle.feature_store.proofs.Laws.{layers_outside}
+use Rattle.tile_cache.specs.Touched.{Mark, Reaches, Remembers}
+use Rattle.tile_cache.specs.declared.kept_tiles.TileCache.{TileCache}
+use Rattle.cached_map.specs.Cached.{CachedView, box_of, with_mark, IsUntouched, IsCached, WasMap}
+use Rattle.cached_map.proofs.Unreached.{IsHidden, layers_put, layers_removed, unreached}
+
+-- ---- features of a map
+
+lies_at : (m : FeatureMap) (id : ℕ) (f : FeatureData) → All (λ e. LiesInWorld e.1.geometry) m → feature_at m id ≡ Some f → LiesInWorld f.geometry
+unfolding feature_at
+lies_at [] id f all is = cc
+lies_at (e ∷ m) id f all is =
+    let P : ℕ × FeatureData → Type 0 = λ d. LiesInWorld d.1.geometry in
+    let on : (id ≢ e.0) → LiesInWorld f.geometry =
+    λ h. lies_at m id f (All-tail P e m all) (sym (lookup_on id e m h) ∙ is) in
+    by_order id e.0 (λ h. on (λ s. omega (arith, h, s)))
+    (λ h. let same : e.1 ≡ f = cc' (sym (lookup_here id e m h) ∙ is) in subst (λ d. LiesInWorld d.geometry) same (All-head P e m all))
+    (λ h. on (λ s. omega (arith, h, s)))
+  where
+    cc' : {a b : FeatureData} → Some a ≡ Some b → a ≡ b
+    cc' same = cc
+
+in_world : (m : FeatureMap) → IsMap m → All (λ e. LiesInWorld e.1.geometry) m
+in_world m is = All-weaker (λ e. IsEdit (put e.0 e.1)) (λ e. LiesInWorld e.1.geometry) (λ e edit. edit.1.geometry) m is.edits
+
+-- ---- the marks of an edit
+
+-- a mark with a greater number doesn't reach an untouched tile
+beyond : (f : FeatureData) (number last n z x y : ℕ) (marks : List Mark) → last < number → n ≤ last → IsUntouched ((box_of f, number) ∷ marks) z x y n
+    → ¬ Reaches (box_of f) z x y
+beyond f number last n z x y marks later below all reaches =
+    absurd (omega (arith, later, below, All-head (λ (m : Mark). Reaches m.0 z x y → m.1 ≤ n) (box_of f, number) marks all reaches))
+
+rest_of : (old : Option FeatureData) (number n z x y : ℕ) (marks : List Mark) → IsUntouched (with_mark old number marks) z x y n → IsUntouched marks z x y n
+rest_of None number n z x y marks all = all
+rest_of (Some f) number n z x y marks all = All-tail (λ (m : Mark). Reaches m.0 z x y → m.1 ≤ n) (box_of f, number) marks all
+
+numbers_on : (last number : ℕ) (marks : List Mark) → last < number → All (λ m. m.1 ≤ last) marks → All (λ m. m.1 ≤ number) marks
+numbers_on last number marks later all =
+    All-weaker (λ (m : Mark). m.1 ≤ last) (λ (m : Mark). m.1 ≤ number) (λ m below. omega (arith, below, later)) marks all
+
+numbers_with : (old : Option FeatureData) (last number : ℕ) (marks : List Mark) → last < number → All (λ m. m.1 ≤ last) marks
+    → All (λ m. m.1 ≤ number) (with_mark old number marks)
+numbers_with None last number marks later all = numbers_on last number marks later all
+numbers_with (Some f) last number marks later all =
+    All-cons (λ (m : Mark). m.1 ≤ number) (box_of f, number) marks (omega arith) (numbers_on last number marks later all)
+
+-- ---- what an edit leaves
+
+-- an edit with a later number, that marks what it touches, leaves the layers of each tile that it doesn't reach
+pub record IsEdited (old new : CachedView) (marked : List Mark → List Mark) : Type 0 where
+  pub later : old.last < new.last
+  pub remembers : (marks : List Mark) → Remembers old.touched marks → Remembers new.touched (marked marks)
+  pub numbers : (marks : List Mark) → All (λ m. m.1 ≤ old.last) marks → All (λ m. m.1 ≤ new.last) (marked marks)
+  pub before : (marks : List Mark) (z x y n : ℕ) → IsUntouched (marked marks) z x y n → IsUntouched marks z x y n
+  pub leaves : (marks : List Mark) (z x y n : ℕ) → n ≤ old.last → IsUntouched (marked marks) z x y n → layers new.features z x y ≡ layers old.features z x y
+
+module _ (old new : CachedView) (id : ℕ) where
+  -- the marks of what the number had, and of the feature that it gets
+  abbrev pub removal : List Mark → List Mark
+  removal marks = with_mark (feature_at old.features id) new.last marks
+
+  abbrev pub placement : FeatureData → List Mark → List Mark
+  placement f marks = (box_of f, new.last) ∷ removal marks
+
+  -- what the tile shows of the number's feature, once an edit with a greater number is known not to reach it
+  hidden_before : IsMap old.features → old.last < new.last → (z x y n : ℕ) (marks : List Mark) → is_tile z x y ≡ true → n ≤ old.last
+      → IsUntouched (removal marks) z x y n → (f : FeatureData) → feature_at old.features id ≡ Some f → IsHidden z x y f
+  hidden_before is_map later z x y n marks tile below all f is =
+      unreached f z x y tile (lies_at old.features id f (in_world old.features is_map) is)
+      (beyond f new.last old.last n z x y marks later below (subst (λ o. IsUntouched (with_mark o new.last marks) z x y n) is all))
+
+  pub placed : (f : FeatureData) → LiesInWorld f.geometry → IsMap old.features → old.last < new.last → new.features ≡ with_feature old.features id f
+      → ((marks : List Mark) → Remembers old.touched marks → Remembers new.touched (placement f marks)) → IsEdited old new (placement f)
+  placed f lies is_map later is remembers = record {
+    later = later;
+    remembers = remembers;
+    numbers = λ marks all. All-cons (λ (m : Mark). m.1 ≤ new.last) (box_of f, new.last) (removal marks) (omega arith)
+        (numbers_with (feature_at old.features id) old.last new.last marks later all);
+    before = λ marks z x y n all. rest_of (feature_at old.features id) new.last n z x y marks (rest marks z x y n all);
+    leaves = λ marks z x y n below all.
+        subst (λ m. layers m z x y ≡ layers old.features z x y) (sym is) (go marks z x y n below all (is_tile z x y) refl);
+  }
+    where
+      rest : (marks : List Mark) (z x y n : ℕ) → IsUntouched (placement f marks) z x y n → IsUntouched (removal marks) z x y n
+      rest marks z x y n all = All-tail (λ (m : Mark). Reaches m.0 z x y → m.1 ≤ n) (box_of f, new.last) (removal marks) all
+
+      go : (marks : List Mark) (z x y n : ℕ) → n ≤ old.last → IsUntouched (placement f marks) z x y n
+          → (b : Bool) → is_tile z x y ≡ b → layers (with_feature old.features id f) z x y ≡ layers old.features z x y
+      go marks z x y n below all false none = layers_outside (with_feature old.features id f) z x y none ∙ sym (layers_outside old.features z x y none)
+      go marks z x y n below all true tile = layers_put z x y old.features id f
+          (unreached f z x y tile lies (beyond f new.last old.last n z x y (removal marks) later below all))
+          (hidden_before is_map later z x y n marks tile below (rest marks z x y n all))
+
+  pub removed : IsMap old.features → old.last < new.last → new.features ≡ without_feature old.features id
+      → ((marks : List Mark) → Remembers old.touched marks → Remembers new.touched (removal marks)) → IsEdited old new removal
+  removed is_map later is remembers = record {
+    later = later;
+    remembers = remembers;
+    numbers = λ marks all. numbers_with (feature_at old.features id) old.last new.last marks later all;
+    before = λ marks z x y n all. rest_of (feature_at old.features id) new.last n z x y marks all;
+    leaves = λ marks z x y n below all.
+        subst (λ m. layers m z x y ≡ layers old.features z x y) (sym is) (go marks z x y n below all (is_tile z x y) refl);
+  }
+    where
+      go : (marks : List Mark) (z x y n : ℕ) → n ≤ old.last → IsUntouched (removal marks) z x y n
+          → (b : Bool) → is_tile z x y ≡ b → layers (without_feature old.features id) z x y ≡ layers old.features z x y
+      go marks z x y n below all false none = layers_outside (without_feature old.features id) z x y none ∙ sym (layers_outside old.features z x y none)
+      go marks z x y n below all true tile = layers_removed z x y old.features id (hidden_before is_map later z x y n marks tile below all)
+
+-- ---- what stays so over an edit
+
+module _ (old new : CachedView) (marked : List Mark → List Mark) (edited : IsEdited old new marked) where
+  pub still_cached : (kept : TileCache) → IsCached old.features old.touched kept old.last → IsCached new.features new.touched kept new.last
+  still_cached kept before = record {
+    marks = marked before.marks;
+    remembers = edited.remembers before.marks before.remembers;
+    numbers = edited.numbers before.marks before.numbers;
+    tiles = λ z x y n bytes is.
+        let was = before.tiles z x y n bytes is in
+        record {
+          number = omega (arith, was.number, edited.later);
+          tile = λ all. subst (λ ls. IsTileContent ls (Some bytes)) (sym (edited.leaves before.marks z x y n was.number all))
+              (was.tile (edited.before before.marks z x y n all));
+        };
+  }
+
+  pub still_was : (n : ℕ) (was : FeatureMap) → WasMap old.features old.touched old.last n was
+      → WasMap new.features new.touched new.last n was
+  still_was n was before = record {
+    marks = marked before.marks;
+    remembers = edited.remembers before.marks before.remembers;
+    number = omega (arith, before.number, edited.later);
+    tiles = λ z x y all. edited.leaves before.marks z x y n before.number all ∙ before.tiles z x y (edited.before before.marks z x y n all);
+  }
+
+-- ---- the map now
+
+-- the map of this moment, where some marks are remembered
+pub is_now : (m : FeatureMap) (cells : List ℕ) (last : ℕ) (marks : List Mark) → Remembers cells marks → WasMap m cells last last m
+is_now m cells last marks remembers = record { marks = marks; remembers = remembers; number = omega arith; tiles = λ z x y all. refl }
