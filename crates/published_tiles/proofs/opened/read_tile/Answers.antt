@@ -1,0 +1,15 @@
+use Rattle.std.proofs.Common.{rules}
+use Rattle.sector_bytes.proofs.Laws.{still_there}
+use Rattle.published_tiles.proofs.PublishedLaws.{made}
+use Rattle.published_tiles.proofs.opened.read_tile.Goals as goal
+
+pub returns-clause-content : goal.returns-clause-content
+returns-clause-content g c bytes content honest are opened archive =
+    let source = c.new-source.result in
+    let last = c.look_up-content.new.source in
+    let keeps = c.look_up-content.ensures.source in
+    let truthful : g.D.Sectors.honest last.disk.now = search (rules, honest) in
+    let had = made g.D.Sectors.history source c.args.disk.now c.args.archive.first c.args.archive.len bytes c.new-source.ensures.disk
+    c.new-source.ensures.first c.new-source.ensures.len are in
+    let has = still_there g.D.Sectors.sectors g.D.Sectors.honest g.D.Sectors.history source last bytes keeps.same_behind keeps.same_count truthful had in
+    c.look_up-content.ensures.content bytes content (truthful, has) opened archive

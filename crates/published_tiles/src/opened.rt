@@ -1,0 +1,127 @@
+//! The look-up that is kept of an archive.
+ghost use Rattle.std.specs.Prelude.{◌≡◌, ◌↔◌, ◌≤◌, ◌+◌, ℕ, List, Option, IfOk, IfErr, IsTrue, MatchResult, option_map};
+ghost use Rattle.generations.specs.Areas.{sectors_of};
+ghost use Rattle.pm_archive.specs.Answers.{IsOutside};
+ghost use Rattle.pm_archive.specs.Archive.{IsArchiveOf};
+ghost use Rattle.pm_archive.specs.Lookup.{IsLookupOf};
+ghost use Rattle.pm_archive.specs.Source.{Keeps};
+ghost use Rattle.sector_bytes.specs.Source.{AreItsBytes};
+ghost use Rattle.sector_disk.specs.Disk.{seen};
+ghost use Rattle.published_tiles.specs.Opened.{OpenedView, IsOpenedOf, IsOpenedUpTo};
+
+use crate::place::ArchivePlace;
+use pm_archive::{ArchiveFault, Bytes, Lookup};
+use sector_bytes::SectorBytes;
+use sector_disk::Sectors;
+use std::alloc::Global;
+use std::marker::Model;
+
+// What is kept of an archive, and where that stands.
+#[derive(Drop)]
+pub(crate) struct Opened {
+    archive: ArchivePlace,
+    lookup: Lookup,
+}
+
+impl Model for Opened {
+    ghost Value = { OpenedView };
+
+    ghost view = { λ o. record { archive = o.archive; lookup = o.lookup } };
+
+    ghost invariant = { λ o. o.lookup.count ≡ o.archive.len };
+}
+
+impl Opened {
+    // It is of the archive at this place.
+    fn is_of(&self, archive: ArchivePlace) -> bool
+        ensures { IsTrue result ↔ (self.now.archive ≡ archive) }
+    {
+        self.archive == archive
+    }
+
+    // Opens the archive in a source.
+    fn open<B: Bytes>(
+        alloc: Global,
+        source: &mut B,
+        archive: ArchivePlace,
+    ) -> Result<Opened, ArchiveFault>
+        requires { archive.len ≡ B.count source.old }
+        ensures source { Keeps B.count B.holds B.fails B.unchanged source.old source.new }
+        ensures archive { IfOk result (λ o. o.archive ≡ archive) }
+        ensures found { (bytes : List ℕ) → B.holds source.new bytes → IfOk result (λ o. IsLookupOf bytes o.lookup) }
+        ensures fault { (bytes : List ℕ) (content : ℕ → Option (List ℕ)) → B.holds source.new bytes → IsArchiveOf bytes content → IfErr result IsOutside }
+    {
+        match Lookup::open(alloc, source) {
+            Ok(lookup) => Ok(Opened { archive, lookup }),
+            Err(fault) => Err(fault),
+        }
+    }
+
+    // The content of a tile id.
+    fn tile<B: Bytes>(
+        &mut self,
+        alloc: Global,
+        source: &mut B,
+        id: u64,
+    ) -> Result<Option<Vec<u8>>, ArchiveFault>
+        requires { self.old.archive.len ≡ B.count source.old }
+        ensures source { Keeps B.count B.holds B.fails B.unchanged source.old source.new }
+        ensures archive { self.new.archive ≡ self.old.archive }
+        ensures still { (bytes : List ℕ) → B.holds source.new bytes → IsLookupOf bytes self.old.lookup → IsLookupOf bytes self.new.lookup }
+        ensures content { (bytes : List ℕ) (content : ℕ → Option (List ℕ)) → B.holds source.new bytes → IsLookupOf bytes self.old.lookup
+            → IsArchiveOf bytes content → MatchResult result (λ found. option_map (λ v. v.items) found ≡ content id) IsOutside }
+    {
+        self.lookup.tile(alloc, source, id)
+    }
+}
+
+// The content of a tile id of the archive in a source, by the look-up that is kept where it is of this archive, else by a new one.
+fn look_up<B: Bytes>(
+    alloc: Global,
+    source: &mut B,
+    archive: ArchivePlace,
+    opened: &mut Option<Opened>,
+    id: u64,
+) -> Result<Option<Vec<u8>>, ArchiveFault>
+    requires { archive.len ≡ B.count source.old }
+    ensures source { Keeps B.count B.holds B.fails B.unchanged source.old source.new }
+    ensures still { (bytes : List ℕ) → B.holds source.new bytes → IsOpenedOf archive bytes opened.old → IsOpenedOf archive bytes opened.new }
+    ensures up_to { (last : ℕ) → IsOpenedUpTo last opened.old → archive.generation ≤ last → IsOpenedUpTo last opened.new }
+    ensures content { (bytes : List ℕ) (content : ℕ → Option (List ℕ)) → B.holds source.new bytes → IsOpenedOf archive bytes opened.old
+        → IsArchiveOf bytes content → MatchResult result (λ found. option_map (λ v. v.items) found ≡ content id) IsOutside }
+{
+    if let Some(kept) = opened {
+        if kept.is_of(archive) {
+            return kept.tile(alloc, source, id);
+        }
+    }
+    let mut made = Opened::open(alloc, source, archive)?;
+    let content = made.tile(alloc, source, id);
+    *opened = Some(made);
+    content
+}
+
+// The content of a tile id of the archive on a disk.
+pub(crate) fn read_tile<D: Sectors>(
+    alloc: Global,
+    disk: &mut D,
+    archive: ArchivePlace,
+    opened: &mut Option<Opened>,
+    id: u64,
+) -> Result<Option<Vec<u8>>, ArchiveFault>
+    requires on_disk { archive.first + sectors_of archive.len ≤ D.sectors disk.old }
+    ensures count { D.sectors disk.new ≡ D.sectors disk.old }
+    ensures honest { D.honest disk.new → D.honest disk.old }
+    ensures history { D.honest disk.new → D.history disk.new ≡ D.history disk.old }
+    ensures still { (bytes : List ℕ) → D.honest disk.new → AreItsBytes archive.first archive.len bytes (seen (D.history disk.old))
+        → IsOpenedOf archive bytes opened.old → IsOpenedOf archive bytes opened.new }
+    ensures up_to { (last : ℕ) → IsOpenedUpTo last opened.old → archive.generation ≤ last → IsOpenedUpTo last opened.new }
+    ensures content { (bytes : List ℕ) (content : ℕ → Option (List ℕ)) → D.honest disk.new
+        → AreItsBytes archive.first archive.len bytes (seen (D.history disk.old)) → IsOpenedOf archive bytes opened.old
+        → IsArchiveOf bytes content → MatchResult result (λ found. option_map (λ v. v.items) found ≡ content id) IsOutside }
+{
+    let mut source = SectorBytes::new(disk, archive.first, archive.len);
+    let content = look_up(alloc, &mut source, archive, opened, id);
+    let _disk = source.into_disk();
+    content
+}

@@ -1,0 +1,94 @@
+ghost use Rattle.std.specs.Prelude.{◌≡◌, ◌≤◌, ◌+◌, ℕ, List, IfOk, MatchResult, option_map};
+ghost use Rattle.area_content.specs.Tiles.{IsArchiveOfMap};
+ghost use Rattle.feature_store.specs.Content.{IsTileContent};
+ghost use Rattle.feature_store.specs.Layers.{layers};
+ghost use Rattle.feature_store.specs.Store.{FeatureMap};
+ghost use Rattle.generations.specs.Areas.{sectors_of};
+ghost use Rattle.pm_archive.specs.Answers.{IsOutside};
+ghost use Rattle.sector_bytes.specs.Source.{AreItsBytes};
+ghost use Rattle.sector_disk.specs.Disk.{seen};
+ghost use Rattle.published_tiles.specs.declared.place.ArchivePlace.{ArchivePlace};
+
+use crate::kept::{keep, kept_bytes, promote};
+use crate::opened::{Opened, read_tile};
+use crate::place::ArchivePlace;
+use hilbert_id::{TileAt, id_of};
+use pm_archive::ArchiveFault;
+use sector_disk::Sectors;
+use std::alloc::{AllocError, Global};
+use std::marker::Model;
+use tile_cache::TileCache;
+
+/// What is kept of the archives of a disk: a look-up of the one that was read last, and the tiles that were asked for.
+#[derive(Drop)]
+pub struct PublishedTiles {
+    alloc: Global,
+    opened: Option<Opened>,
+    kept: TileCache,
+}
+
+impl Model for PublishedTiles {
+    ghost use Rattle.published_tiles.specs.Published.{PublishedView};
+
+    ghost Value = { PublishedView };
+
+    ghost view = { λ t. record { opened = t.opened; kept = t.kept } };
+}
+
+impl PublishedTiles {
+    ghost use Rattle.published_tiles.specs.Published.{ArePublished};
+
+    /// Keeps nothing yet. The error: out of memory.
+    pub fn new(alloc: Global) -> Result<PublishedTiles, AllocError>
+        ensures { (place : ArchivePlace) (m : FeatureMap) (bytes : List ℕ) → IfOk result (λ t. ArePublished t place m bytes) }
+    {
+        let kept = TileCache::new(alloc)?;
+        Ok(PublishedTiles {
+            alloc,
+            opened: None,
+            kept,
+        })
+    }
+
+    /// The bytes of a tile in the archive that stands on a disk, none where it shows nothing. Nothing is written to the disk.
+    ///
+    /// # Errors
+    ///
+    /// Why no tile is known: `Read` or `Memory`, or where the bytes there are no archive the fault that was met. What is kept is
+    /// still of the archive.
+    pub fn tile<D: Sectors>(
+        &mut self,
+        disk: &mut D,
+        archive: ArchivePlace,
+        at: TileAt,
+    ) -> Result<Option<Vec<u8>>, ArchiveFault>
+        requires on_disk { archive.first + sectors_of archive.len ≤ D.sectors disk.old }
+        ensures count { D.sectors disk.new ≡ D.sectors disk.old }
+        ensures honest { D.honest disk.new → D.honest disk.old }
+        ensures history { D.honest disk.new → D.history disk.new ≡ D.history disk.old }
+        ensures tile { (m : FeatureMap) (bytes : List ℕ) → D.honest disk.new
+            → AreItsBytes archive.first archive.len bytes (seen (D.history disk.old)) → IsArchiveOfMap m bytes → ArePublished self.old archive m bytes
+            → MatchResult result (λ content. IsTileContent (layers m at.z at.x at.y) (option_map (λ b. b.items) content)) IsOutside }
+        ensures still { (m : FeatureMap) (bytes : List ℕ) → D.honest disk.new
+            → AreItsBytes archive.first archive.len bytes (seen (D.history disk.old)) → IsArchiveOfMap m bytes → ArePublished self.old archive m bytes
+            → ArePublished self.new archive m bytes }
+    {
+        if archive.len == 0 {
+            return Ok(None);
+        }
+        promote(&mut self.kept, at);
+        match kept_bytes(self.alloc, &self.kept, at, archive.generation) {
+            Ok(Some(bytes)) => return Ok(Some(bytes)),
+            Ok(None) => {}
+            Err(AllocError) => return Err(ArchiveFault::Memory),
+        }
+        let content = match read_tile(self.alloc, disk, archive, &mut self.opened, id_of(at)) {
+            Ok(content) => content,
+            Err(fault) => return Err(fault),
+        };
+        if let Some(bytes) = &content {
+            keep(self.alloc, &mut self.kept, at, archive.generation, bytes);
+        }
+        Ok(content)
+    }
+}
