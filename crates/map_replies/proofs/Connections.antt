@@ -20,11 +20,10 @@ use Rattle.feature_store.specs.Store.{feature_at}
 use Rattle.tile_service.specs.Machine as events
 use Rattle.tile_service.specs.Machine.{EventData, AnswerData, shown, found}
 use Rattle.tile_service.specs.Runs.{TakesEvent, TakesRun, EndsAs}
-use Rattle.tile_service.specs.Service.{ServiceView, IsUp, state_of, edit_answer, left_answer, cancel_answer}
+use Rattle.tile_service.specs.Service.{ServiceView, edit_answer, left_answer, cancel_answer}
 use Rattle.tile_service.specs.declared.fault.ServiceFault.{ServiceFault}
 use Rattle.tile_service.specs.declared.publishing_whole.Published.{Published}
-use Rattle.tile_service.proofs.Callers.{HasRun, run_begins, run_on, run_on_all, run_reads, tile_step, takes_run}
-use Rattle.tile_service.proofs.Runs.{writes_nothing}
+use Rattle.tile_service.proofs.Callers.{HasRun, run_begins, run_on, run_on_all, run_reads, look_step, takes_run}
 use Rattle.map_replies.specs.declared.fault.RequestFault.{RequestFault}
 use Rattle.map_replies.specs.declared.fault.RequestFault.TheVariants.{NotFound, Memory}
 use Rattle.map_replies.specs.declared.parts.Part.{Part}
@@ -35,7 +34,7 @@ use Rattle.map_replies.specs.Connections.{Run, no_events, with_events, with_even
 use Rattle.map_replies.specs.Connections.{TellsCancel, TellsPublish, TellsMetadata, IsArchiveReply, TellsArchive, TellsFault, TellsMethods}
 use Rattle.map_replies.specs.Connections.{TellsOnFeature, TellsAllowed, TellsOf, Tells}
 use Rattle.map_replies.specs.Parts.{range_for, IsPart}
-use Rattle.map_replies.specs.Requests.{AnswersTile, AnswersFeature, AnswersMetadata, Refuses, OrMemory, AnswersPart, AnswersArchive}
+use Rattle.map_replies.specs.Requests.{AnswersFeature, AnswersMetadata, Refuses, OrMemory, ReadsOnly, AnswersTile, AnswersPart, AnswersArchive}
 use Rattle.map_replies.specs.Requests.{AnswersEdit, AnswersLeft, AnswersCancel, AnswersPublish, AnswersOnFeature, AnswersAllowed, Answers}
 use Rattle.map_replies.specs.State.{asked_service, ServiceReplies}
 
@@ -46,19 +45,6 @@ ends_as (Ok p) old new last is = is.0
 ends_as (Err fault) old new last is = is
 
 module _ {D : Type 0} (sectors : D → ℕ) (honest : D → Type 0) (history : D → History) where
-  -- a look at a feature changes nothing
-  look_step : (old new : ServiceView D) (id : ℕ) → new ≡ old → TakesEvent sectors honest history old (events.look id) (found (feature_at old.features id)) new
-  look_step old new id same = record {
-    machine = λ known. (refl, ap (λ (s : ServiceView D). state_of known s) same);
-    size = ap (λ (s : ServiceView D). s.size) same;
-    count = ap (λ (s : ServiceView D). sectors s.disk) same;
-    stays_honest = λ is_honest. subst (λ (s : ServiceView D). honest s.disk) same is_honest;
-    untouched = λ broken. ap (λ (s : ServiceView D). s.disk) same;
-    any_moment = λ stored is_honest up. writes_nothing (sectors old.disk) old.size stored old.publication (events.look id)
-        (found (feature_at old.features id)) (history old.disk) (history new.disk) (ap (λ (s : ServiceView D). history s.disk) same) up.keeps;
-    after = λ stored is_honest up not. subst (λ (s : ServiceView D). IsUp (sectors s.disk) (history s.disk) stored s) (sym same) up;
-  }
-
   -- since a first state of the service
   module _ (first : ServiceView D) where
     -- the service has come to this state by this run
@@ -91,20 +77,29 @@ module _ {D : Type 0} (sectors : D → ℕ) (honest : D → Type 0) (history : D
       one_more old told (events.edit e) (edit_answer is.0) new so is.1,
     )
 
+    -- the disk is read, and the run stays
+    reads_on : (old : ServiceView D) (told : Run) (new : ServiceView D) → GoesAlong old told → ReadsOnly sectors honest history old new → GoesAlong new told
+    reads_on old told new so reads = run_reads sectors honest history first old new told.events told.answers so
+        reads.same reads.count reads.stays_honest reads.unwritten reads.still_up
+
     tile_event : (z x y : ℕ) (format : TileFormat) (old : ServiceView D) (told : Run) (reply : ReplyView) (new : ServiceView D) → GoesAlong old told
-        → AnswersTile old z x y format reply new → GoesOn new (λ run. TellsTile told z x y format reply run)
-    tile_event z x y format old told reply new so is = (
+        → AnswersTile sectors honest history old z x y format reply new
+        → GoesOn new (λ run. runs.OrMemory (λ before. TellsTile before z x y format) told reply run)
+    tile_event z x y format old told reply new so (inl is) = (
       with_event told (events.tile z x y) (shown is.0),
-      (is.0, is.2, refl),
-      one_more old told (events.tile z x y) (shown is.0) new so (tile_step sectors honest history old new z x y (shown is.0) is.1 is.3),
+      inl (is.0, is.2, refl),
+      one_more old told (events.tile z x y) (shown is.0) new so is.1,
     )
+    tile_event z x y format old told reply new so (inr is) = (told, inr (is.1, refl), reads_on old told new so is.0)
 
     feature_event : (id : ℕ) (old : ServiceView D) (told : Run) (reply : ReplyView) (new : ServiceView D) → GoesAlong old told
         → AnswersFeature old id reply new → GoesOn new (λ run. TellsFeature told id reply run)
     feature_event id old told reply new so is = (
       with_event told (events.look id) (found (feature_at old.features id)),
       (feature_at old.features id, is.0, refl),
-      one_more old told (events.look id) (found (feature_at old.features id)) new so (look_step old new id is.1),
+      one_more old told (events.look id) (found (feature_at old.features id)) new so
+          (subst (λ (s : ServiceView D). TakesEvent sectors honest history old (events.look id) (found (feature_at old.features id)) s) (sym is.1)
+          (look_step sectors honest history old id (found (feature_at old.features id)) (λ known. (refl, refl)))),
     )
 
     left_event : (event : EventData) (old : ServiceView D) (told : Run) (reply : ReplyView) (new : ServiceView D) → GoesAlong old told
@@ -159,7 +154,7 @@ module _ {D : Type 0} (sectors : D → ℕ) (honest : D → Type 0) (history : D
     no_archive_event range old told reply new so is = (
       told,
       (archive_told range old reply new is, refl),
-      run_reads sectors honest history first old new told.events told.answers so is.0.same is.0.count is.0.stays_honest is.0.unwritten is.0.still_up,
+      reads_on old told new so is.0,
     )
 
     -- what is asked for is told, or out of memory
@@ -187,8 +182,7 @@ module _ {D : Type 0} (sectors : D → ℕ) (honest : D → Type 0) (history : D
     by_method : (old : ServiceView D) (told : Run) (asked : Asked) (method : Method) (range : Option (List ℕ)) (body : List ℕ) (reply : ReplyView)
         (new : ServiceView D) → GoesAlong old told → AnswersAllowed sectors honest history old asked method range body reply new
         → GoesOn new (λ run. TellsAllowed told asked method range body reply run)
-    by_method old told (asked_tile z x y format) method range body reply new so is =
-        or_memory _ (λ before. TellsTile before z x y format) (tile_event z x y format) old told reply new so is
+    by_method old told (asked_tile z x y format) method range body reply new so is = tile_event z x y format old told reply new so is
     by_method old told (asked_feature id) method range body reply new so is = on_feature id method old told body reply new so is
     by_method old told asked_metadata method range body reply new so is = or_memory _ TellsMetadata no_metadata_event old told reply new so is
     by_method old told asked_archive method range body reply new so is =

@@ -180,7 +180,7 @@ module _ {D : Type 0} (sectors : D → ℕ) (honest : D → Type 0) (history : D
   reads_then : (old new next : ServiceView D) → ReadsOnly sectors honest history old new → ReadsOnly sectors honest history new next
       → ReadsOnly sectors honest history old next
   reads_then old new next x y = record {
-    same = y.same ∙ ap (λ (s : ServiceView D). record s { disk = next.disk }) x.same;
+    same = y.same ∙ ap (λ (s : ServiceView D). record s { disk = next.disk; published = next.published }) x.same;
     count = y.count ∙ x.count;
     stays_honest = λ is_honest. x.stays_honest (y.stays_honest is_honest);
     unwritten = λ is_honest. y.unwritten is_honest ∙ x.unwritten (y.stays_honest is_honest);

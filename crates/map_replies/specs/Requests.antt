@@ -16,9 +16,9 @@ use Rattle.feature_model.specs.Data.{FeatureData, EditData}
 use Rattle.feature_store.specs.Store.{feature_at}
 use Rattle.map_metadata.specs.Metadata.{IsMetadata}
 use Rattle.tile_service.specs.Machine as events
-use Rattle.tile_service.specs.Machine.{AnswerData, shown, Steps}
+use Rattle.tile_service.specs.Machine.{shown}
 use Rattle.tile_service.specs.Runs.{TakesEvent, TakesPublication}
-use Rattle.tile_service.specs.Service.{ServiceView, Known, IsUp, state_of, edit_answer, left_answer, cancel_answer}
+use Rattle.tile_service.specs.Service.{ServiceView, IsUp, edit_answer, left_answer, cancel_answer}
 use Rattle.tile_service.specs.Stored.{Stored}
 use Rattle.tile_service.specs.declared.publishing_whole.Published.{Published}
 use Rattle.tile_service.specs.declared.fault.ServiceFault.{ServiceFault}
@@ -33,15 +33,6 @@ use Rattle.map_replies.specs.Words.{json_reply, found_reply, content_reply}
 use Rattle.map_replies.specs.Bodies.{SaysFeature, HasBodyFault}
 
 -- ---- what changes nothing
-
--- the machine takes this step, whatever lies on the disk besides the map; it is no step of a publication
-abbrev pub TakesStep : {D : Type 0} → ServiceView D → events.EventData → AnswerData → ServiceView D → Type 0
-TakesStep old event answer new = (known : Known) → Steps (state_of known old) event answer (state_of known new)
-
--- the reply has the content that the machine gives, and nothing changes
-abbrev pub AnswersTile : {D : Type 0} → ServiceView D → ℕ → ℕ → ℕ → TileFormat → ReplyView → ServiceView D → Type 0
-AnswersTile old z x y format reply new =
-    (content : Option (List ℕ)) × TakesStep old (events.tile z x y) (shown content) new × (reply ≡ content_reply format content) × (new ≡ old)
 
 -- the reply has the feature of the number, or tells that it has none, and nothing changes
 abbrev pub AnswersFeature : {D : Type 0} → ServiceView D → ℕ → ReplyView → ServiceView D → Type 0
@@ -66,14 +57,20 @@ OrMemory Answered old reply new = Answered old reply new ⊎ Refuses old Memory 
 module _ {D : Type 0} (sectors : D → ℕ) (honest : D → Type 0) (history : D → History) where
   -- ---- what reads the disk
 
-  -- the disk is read and not written, and the service goes on from what is stored as before
+  -- the disk is read and not written, and the service goes on from what is stored as before, whatever it keeps of the archive
   pub record ReadsOnly (old new : ServiceView D) : Type 0 where
-    pub same : new ≡ record old { disk = new.disk }
+    pub same : new ≡ record old { disk = new.disk; published = new.published }
     pub count : sectors new.disk ≡ sectors old.disk
     pub stays_honest : honest new.disk → honest old.disk
     pub unwritten : honest new.disk → history new.disk ≡ history old.disk
     pub still_up : (stored : Stored) → IsUp (sectors old.disk) (history old.disk) stored old → honest new.disk
         → IsUp (sectors new.disk) (history new.disk) stored new
+
+  -- the reply has the content that the machine gives, or out of memory is told
+  abbrev pub AnswersTile : ServiceView D → ℕ → ℕ → ℕ → TileFormat → ReplyView → ServiceView D → Type 0
+  AnswersTile old z x y format reply new =
+      ((content : Option (List ℕ)) × TakesEvent sectors honest history old (events.tile z x y) (shown content) new × (reply ≡ content_reply format content))
+      ⊎ (ReadsOnly old new × (reply ≡ refusal_of Memory))
 
   -- the reply has these bytes of what is stored
   abbrev pub ShowsPart : ServiceView D → Part → ReplyView → ServiceView D → Type 0
@@ -133,7 +130,7 @@ module _ {D : Type 0} (sectors : D → ℕ) (honest : D → Type 0) (history : D
 
   -- by a method that the path allows; what is not served takes no memory
   abbrev pub AnswersAllowed : ServiceView D → Asked → Method → Option (List ℕ) → List ℕ → ReplyView → ServiceView D → Type 0
-  AnswersAllowed old (asked_tile z x y format) method range body reply new = OrMemory (λ before. AnswersTile before z x y format) old reply new
+  AnswersAllowed old (asked_tile z x y format) method range body reply new = AnswersTile old z x y format reply new
   AnswersAllowed old (asked_feature id) method range body reply new = AnswersOnFeature old id method body reply new
   AnswersAllowed old asked_metadata method range body reply new = OrMemory AnswersMetadata old reply new
   AnswersAllowed old asked_archive method range body reply new = OrMemory (AnswersArchive (range_for method range)) old reply new

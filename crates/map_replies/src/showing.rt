@@ -6,7 +6,7 @@ ghost use Rattle.map_metadata.specs.Metadata.{IsMetadata};
 ghost use Rattle.serde_json.specs.Data.{Data};
 ghost use Rattle.serde_json.specs.View.{view};
 ghost use Rattle.serde_json.specs.Written.{has_float, compact_text};
-ghost use Rattle.map_replies.specs.Requests.{AnswersTile, AnswersFeature, AnswersMetadata, OrMemory};
+ghost use Rattle.map_replies.specs.Requests.{AnswersTile, AnswersFeature, AnswersMetadata, OrMemory, ReadsOnly};
 ghost use Rattle.map_replies.specs.State.{asked_service};
 ghost use Rattle.map_replies.specs.Words.{refusal_of, json_reply, found_reply};
 
@@ -53,10 +53,11 @@ fn feature_value(alloc: Global, id: u64, feature: &Feature) -> Result<Reply, Req
 impl<D: Sectors + Drop> MapReplies<D> {
     /// The tile, as it is asked for.
     pub(crate) fn tile(&mut self, at: TileAt, format: TileFormat) -> Result<Reply, RequestFault>
-        ensures answered { IfOk result (λ reply. AnswersTile
+        ensures answered { IfOk result (λ reply. AnswersTile D.sectors D.honest D.history
             (asked_service self.old) at.z at.x at.y format (reply_view [] reply) (asked_service self.new)) }
         ensures writable { IfOk result IsWhole }
-        ensures refused { IfErr result (λ fault. (asked_service self.new ≡ asked_service self.old) × (fault ≡ RequestFault.Memory)) }
+        ensures refused { IfErr result (λ fault. ReadsOnly D.sectors D.honest D.history (asked_service self.old) (asked_service self.new)
+            × (fault ≡ RequestFault.Memory)) }
     {
         let Ok(content) = self.service.tile(at) else {
             return Err(RequestFault::Memory);

@@ -7,18 +7,21 @@ use Rattle.sector_disk.proofs.Laws.{seen_is_left}
 use Rattle.sector_bytes.specs.Bytes.{bytes_from, StandsIn}
 use Rattle.sector_bytes.proofs.Laws.{stands_read}
 use Rattle.generations.specs.Areas.{area_start, sectors_of}
-use Rattle.feature_store.specs.Store.{snapshot}
-use Rattle.tile_service.specs.Service.{ServiceView, Publishes, IsUp, shown_archive}
+use Rattle.sector_bytes.specs.Source.{AreItsBytes}
+use Rattle.area_content.specs.Tiles.{IsArchiveOfMap}
+use Rattle.cached_map.specs.Cached.{WasMap}
+use Rattle.feature_store.specs.Layers.{layers}
+use Rattle.feature_store.specs.Store.{FeatureMap, snapshot}
+use Rattle.published_tiles.specs.Published.{PublishedView, ArePublished}
+use Rattle.tile_service.specs.Service.{ServiceView, Publishes, IsUp, archive_of, shown_archive}
 use Rattle.tile_service.specs.Stored.{Stored, Keeps}
 use Rattle.tile_service.proofs.Bytes.{each_stands}
 
 module _ {D : Type 0} (count : ℕ) (history : History) (stored : Stored) (service : ServiceView D) (up : IsUp count history stored service) where
-  -- What is read of the sectors behind the snapshot is the archive that is stored.
-  pub archive_is_read : (first at n : ℕ) (into : List ℕ) → first ≡ area_start service.size service.generation + sectors_of service.snapshot_len
-      → at + n ≤ service.archive_len → into ≡ slice_range (bytes_from (seen history) first (sectors_of (at + n))) at (at + n)
-      → into ≡ slice_range stored.archive at (at + n)
-  archive_is_read first at n into is within read =
-      read ∙ stands_read (seen history) first at n stored.archive stands (omega (arith, within, up.archive_len_is))
+  archive_stands : (first : ℕ) → first ≡ area_start service.size service.generation + sectors_of service.snapshot_len
+      → StandsIn first stored.archive (seen history)
+  archive_stands first is = subst (λ (f : ℕ). StandsIn f stored.archive (seen history)) (sym begins) (each_stands (seen history) stored_at stored.archive
+      (λ at. ((up.keeps (seen history) (seen_is_left history)).sectors at).archive_bytes))
     where
       stored_at : ℕ
       stored_at = area_start service.size stored.generation + sectors_of (length (snapshot stored.snapshot_map))
@@ -26,9 +29,12 @@ module _ {D : Type 0} (count : ℕ) (history : History) (stored : Stored) (servi
       begins : first ≡ stored_at
       begins = is ∙ (λ i. area_start service.size (up.generation_is i) + sectors_of (up.snapshot_len_is i))
 
-      stands : StandsIn first stored.archive (seen history)
-      stands = subst (λ (f : ℕ). StandsIn f stored.archive (seen history)) (sym begins) (each_stands (seen history) stored_at stored.archive
-          (λ at. ((up.keeps (seen history) (seen_is_left history)).sectors at).archive_bytes))
+  -- What is read of the sectors behind the snapshot is the archive that is stored.
+  pub archive_is_read : (first at n : ℕ) (into : List ℕ) → first ≡ area_start service.size service.generation + sectors_of service.snapshot_len
+      → at + n ≤ service.archive_len → into ≡ slice_range (bytes_from (seen history) first (sectors_of (at + n))) at (at + n)
+      → into ≡ slice_range stored.archive at (at + n)
+  archive_is_read first at n into is within read =
+      read ∙ stands_read (seen history) first at n stored.archive (archive_stands first is) (omega (arith, within, up.archive_len_is))
 
   -- The seen image shows the archive that is stored.
   pub archive_is_shown : shown_archive (seen history) service ≡ stored.archive
@@ -41,11 +47,12 @@ module _ {D : Type 0} (count : ℕ) (history : History) (stored : Stored) (servi
       sym (λ i. take (size i) (bytes_from (seen history) first (sectors_of (same i)))) ∙ is
       ∙ ap (λ (k : ℕ). take k stored.archive) size ∙ take_all n stored.archive (omega (arith, up.archive_len_is))
 
-  -- The service goes on where nothing was written.
-  pub up_unwritten : (disk : D) (sectors : ℕ) (after : History) → sectors ≡ count → after ≡ history
-      → IsUp sectors after stored (record service { disk = disk })
-  up_unwritten disk sectors after same_count same_history = record {
-    keeps = subst (λ (c : ℕ). Keeps c service.size stored after) (sym same_count)
+  -- The service goes on where nothing was written, whatever it keeps of the archive.
+  pub up_read : (disk : D) (kept : PublishedView) (sectors : ℕ) (later : History) → sectors ≡ count → later ≡ history
+      → ArePublished kept (archive_of service) stored.snapshot_map stored.archive
+      → IsUp sectors later stored (record service { disk = disk; published = kept })
+  up_read disk kept sectors later same_count same_history archived = record {
+    keeps = subst (λ (c : ℕ). Keeps c service.size stored later) (sym same_count)
         (subst (λ (h : History). Keeps count service.size stored h) (sym same_history) up.keeps);
     unbroken = up.unbroken;
     generation_is = up.generation_is;
@@ -57,4 +64,27 @@ module _ {D : Type 0} (count : ℕ) (history : History) (stored : Stored) (servi
     used_is = up.used_is;
     last_is = up.last_is;
     publication = subst (λ (h : History). IfSome service.publication (Publishes service.size stored h)) (sym same_history) up.publication;
+    were = up.were;
+    archived = archived;
   }
+
+  pub up_unwritten : (disk : D) (sectors : ℕ) (later : History) → sectors ≡ count → later ≡ history
+      → IsUp sectors later stored (record service { disk = disk })
+  up_unwritten disk sectors later same_count same_history = up_read disk service.published sectors later same_count same_history up.archived
+
+  -- ---- tiles of the archive
+
+  -- it is one of the tiles of the snapshot's map
+  pub archive_of_map : IsArchiveOfMap stored.snapshot_map stored.archive
+  archive_of_map = (up.keeps (seen history) (seen_is_left history)).is_archive
+
+  -- and stands at its place
+  pub archive_there : AreItsBytes (archive_of service).first (archive_of service).len stored.archive (seen history)
+  archive_there = record { length_is = sym up.archive_len_is; stands = archive_stands (archive_of service).first refl }
+
+  -- A tile that no edit since the snapshot can have touched is that of the snapshot's map.
+  pub same_layers : (z x y newest edits : ℕ) → edits ≡ service.journal.edits → newest ≤ edits
+      → ((n : ℕ) (was : FeatureMap) → WasMap service.features service.touched service.journal.last n was → newest ≤ n
+      → layers service.features z x y ≡ layers was z x y)
+      → layers service.features z x y ≡ layers stored.snapshot_map z x y
+  same_layers z x y newest edits is older same = same (stored.edits + 0) stored.snapshot_map (up.were 0 (omega arith)) (omega (arith, is, older, up.edits_are))

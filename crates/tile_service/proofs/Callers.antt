@@ -7,8 +7,8 @@ use Rattle.std.proofs.lemmas.Bool.{false≢true}
 use Rattle.sector_disk.specs.Disk.{History, seen}
 use Rattle.sector_disk.specs.Moments.{LeavesOnly}
 use Rattle.feature_model.specs.Data.{EditData}
-use Rattle.tile_service.specs.Machine.{EventData, edit, tile, begin, step, cancel, AnswerData, cancelled, refused, Steps, Runs}
-use Rattle.tile_service.specs.Runs.{all_edits, way_of, Way, Progress, starts, progress_of, NoneInDoubt, Reaches, TakesEvent, TakesEvents, TakesRun}
+use Rattle.tile_service.specs.Machine.{EventData, edit, tile, look, begin, step, cancel, AnswerData, cancelled, refused, AsksTile, Steps, Runs}
+use Rattle.tile_service.specs.Runs.{all_edits, way_of, Way, Progress, starts, progress_of, NoneInDoubt, Reaches, IsTrusted, TakesEvent, TakesEvents, TakesRun}
 use Rattle.tile_service.specs.Service.{PublicationView, ServiceView, Known, Publishes, IsUp, state_of, known_after, edit_answer, left_answer}
 use Rattle.tile_service.specs.Service.{EventLeaves, shown_archive, stored_after}
 use Rattle.tile_service.specs.Stored.{Stored, Keeps, last_of, with_edit}
@@ -17,8 +17,8 @@ use Rattle.tile_service.specs.declared.fault.ServiceFault.TheVariants.{Device}
 use Rattle.tile_service.proofs.Archives.{archive_is_shown}
 use Rattle.tile_service.proofs.Fits.{RunLeaves, IsHere, doubt_breaks, run_starts, run_goes_on, run_fits, reaches_on, published_within, sized_as}
 use Rattle.tile_service.proofs.Progress.{Within, IsSince, has_start, has_last, progress_on, progress_edits, way_seen, way_after}
-use Rattle.tile_service.proofs.Runs.{no_known, broken_stays, broken_halts, was_unbroken, kept_for, after_step, after_answer, broken_refuses}
-use Rattle.tile_service.proofs.Runs.{runs_on, writes_nothing}
+use Rattle.tile_service.proofs.Runs.{no_known, clash, is_false, answer_breaks, asks_before, asks_last, IsQuiet, broken_stays, broken_halts, kept_for}
+use Rattle.tile_service.proofs.Runs.{after_step, after_answer, broken_refuses, runs_on, writes_nothing}
 
 -- The image that is seen of a disk shows the archive of which the service goes on.
 pub archive_shown : {D : Type 0} (count : ℕ) (history : History) (stored : Stored) (service : ServiceView D) → IsUp count history stored service
@@ -36,7 +36,9 @@ module _ {D : Type 0} (sectors : D → ℕ) (honest : D → Type 0) (history : D
   -- What some events have done so far, one after the other.
   pub record HasRun (old : ServiceView D) (events : List EventData) (answers : List AnswerData) (now : ServiceView D) : Type 0 where
     pub same : length events ≡ length answers
-    pub machine : (known : Known) → (then_known : Known) × Runs (state_of known old) events answers (state_of then_known now)
+    pub machine : (known : Known) → (AsksTile events → IsTrusted sectors honest history old now)
+        → (then_known : Known) × Runs (state_of known old) events answers (state_of then_known now)
+    pub unbroken : now.broken ≡ false → old.broken ≡ false
     pub size : now.size ≡ old.size
     pub count : sectors now.disk ≡ sectors old.disk
     pub stays_honest : honest now.disk → honest old.disk
@@ -64,7 +66,8 @@ module _ {D : Type 0} (sectors : D → ℕ) (honest : D → Type 0) (history : D
   pub run_begins : (old : ServiceView D) → HasRun old [] [] old
   run_begins old = record {
     same = refl;
-    machine = λ known. (known, refl);
+    machine = λ known trusted. (known, refl);
+    unbroken = λ is. is;
     size = refl;
     count = refl;
     stays_honest = λ is_honest. is_honest;
@@ -74,19 +77,39 @@ module _ {D : Type 0} (sectors : D → ℕ) (honest : D → Type 0) (history : D
         (within_of stored old.publication (up_since stored old up)) up.keeps;
   }
 
-  -- a tile that is shown changes nothing
+  -- a tile that is shown reads the disk at most
   pub tile_step : (old new : ServiceView D) (z x y : ℕ) (answer : AnswerData)
-      → ((known : Known) → Steps (state_of known old) (tile z x y) answer (state_of known new)) → new ≡ old
+      → ((known : Known) → IsTrusted sectors honest history old new → Steps (state_of known old) (tile z x y) answer (state_of known new))
+      → answer ≢ refused Device → new ≡ record old { disk = new.disk; published = new.published } → sectors new.disk ≡ sectors old.disk
+      → (honest new.disk → honest old.disk)
+      → (honest new.disk → history new.disk ≡ history old.disk) → (old.broken ≡ true → new.disk ≡ old.disk)
+      → ((stored : Stored) → IsUp (sectors old.disk) (history old.disk) stored old → honest new.disk → IsUp (sectors new.disk) (history new.disk) stored new)
       → TakesEvent sectors honest history old (tile z x y) answer new
-  tile_step old new z x y answer machine same = record {
-    machine = machine;
+  tile_step old new z x y answer machine not same count stays unwritten untouched still_up = record {
+    machine = λ known trusted. machine known (trusted tt);
+    doubt = λ is. absurd (not is);
     size = ap (λ (s : ServiceView D). s.size) same;
-    count = ap (λ (s : ServiceView D). sectors s.disk) same;
-    stays_honest = λ is_honest. subst (λ (s : ServiceView D). honest s.disk) same is_honest;
-    untouched = λ broken. ap (λ (s : ServiceView D). s.disk) same;
+    count = count;
+    stays_honest = stays;
+    untouched = untouched;
     any_moment = λ stored is_honest up. writes_nothing (sectors old.disk) old.size stored old.publication (tile z x y) answer
-        (history old.disk) (history new.disk) (ap (λ (s : ServiceView D). history s.disk) same) up.keeps;
-    after = λ stored is_honest up not. subst (λ (s : ServiceView D). IsUp (sectors s.disk) (history s.disk) stored s) (sym same) up;
+        (history old.disk) (history new.disk) (unwritten is_honest) up.keeps;
+    after = λ stored is_honest up not. still_up stored up is_honest;
+  }
+
+  -- a look at a feature changes nothing
+  pub look_step : (old : ServiceView D) (id : ℕ) (answer : AnswerData)
+      → ((known : Known) → Steps (state_of known old) (look id) answer (state_of known old)) → TakesEvent sectors honest history old (look id) answer old
+  look_step old id answer machine = record {
+    machine = λ known trusted. machine known;
+    doubt = answer_breaks (state_of no_known old) (state_of no_known old) (look id) answer (machine no_known);
+    size = refl;
+    count = refl;
+    stays_honest = λ is_honest. is_honest;
+    untouched = λ broken. refl;
+    any_moment = λ stored is_honest up.
+        writes_nothing (sectors old.disk) old.size stored old.publication (look id) answer (history old.disk) (history old.disk) refl up.keeps;
+    after = λ stored is_honest up not. up;
   }
 
   -- an edit, by what a call of the service with it says
@@ -102,7 +125,8 @@ module _ {D : Type 0} (sectors : D → ℕ) (honest : D → Type 0) (history : D
       → IfErr outcome (λ fault. fault ≢ Device → IsUp (sectors new.disk) (history new.disk) stored new))
       → TakesEvent sectors honest history old (edit e) (edit_answer outcome) new
   edit_step old new e outcome machine size count stays kept moments acknowledged refuses = record {
-    machine = machine;
+    machine = λ known trusted. machine known;
+    doubt = answer_breaks (state_of no_known old) (state_of no_known new) (edit e) (edit_answer outcome) (machine no_known);
     size = size;
     count = count;
     stays_honest = stays;
@@ -119,7 +143,9 @@ module _ {D : Type 0} (sectors : D → ℕ) (honest : D → Type 0) (history : D
       → ((stored : Stored) → IsUp (sectors old.disk) (history old.disk) stored old → IsUp (sectors new.disk) (history new.disk) stored new)
       → TakesEvent sectors honest history old begin (left_answer result) new
   begin_step old new result machine same up_still = record {
-    machine = machine;
+    machine = λ known trusted. machine known;
+    doubt = answer_breaks (state_of no_known old) (state_of (known_after no_known old begin (left_answer result)) new) begin (left_answer result)
+        (machine no_known);
     size = ap (λ (s : ServiceView D). s.size) same;
     count = ap (λ (s : ServiceView D). sectors s.disk) same;
     stays_honest = λ is_honest. subst (λ (d : D). honest d) (ap (λ (s : ServiceView D). s.disk) same) is_honest;
@@ -140,7 +166,9 @@ module _ {D : Type 0} (sectors : D → ℕ) (honest : D → Type 0) (history : D
       → OnOk result (IsUp (sectors new.disk) (history new.disk) (stored_after old.size stored old.publication step (left_answer result)) new))
       → TakesEvent sectors honest history old step (left_answer result) new
   step_step old new result machine size count stays same leaves up_after = record {
-    machine = machine;
+    machine = λ known trusted. machine known;
+    doubt = answer_breaks (state_of no_known old) (state_of (known_after no_known old step (left_answer result)) new) step (left_answer result)
+        (machine no_known);
     size = size;
     count = count;
     stays_honest = stays;
@@ -159,7 +187,8 @@ module _ {D : Type 0} (sectors : D → ℕ) (honest : D → Type 0) (history : D
       → ((stored : Stored) → IsUp (sectors old.disk) (history old.disk) stored old → IsUp (sectors new.disk) (history new.disk) stored new)
       → TakesEvent sectors honest history old cancel answer new
   cancel_step old new answer machine same up_still = record {
-    machine = machine;
+    machine = λ known trusted. machine known;
+    doubt = answer_breaks (state_of no_known old) (state_of no_known new) cancel answer (machine no_known);
     size = ap (λ (s : ServiceView D). s.size) same;
     count = ap (λ (s : ServiceView D). sectors s.disk) same;
     stays_honest = λ is_honest. subst (λ (d : D). honest d) (ap (λ (s : ServiceView D). s.disk) same) is_honest;
@@ -169,16 +198,26 @@ module _ {D : Type 0} (sectors : D → ℕ) (honest : D → Type 0) (history : D
     after = λ stored is_honest up not. up_still stored up;
   }
 
-  module _ (old now new : ServiceView D) (events : List EventData) (answers : List AnswerData) (event : EventData) (answer : AnswerData)
-      (so : HasRun old events answers now) (goes : TakesEvent sectors honest history now event answer new) where
+  module _ (now new : ServiceView D) (event : EventData) (answer : AnswerData) (goes : TakesEvent sectors honest history now event answer new) where
     abbrev known_then : Known
     known_then = known_after no_known now event answer
 
-    taken : Steps (state_of no_known now) event answer (state_of known_then new)
-    taken = goes.machine no_known
+    -- a broken service stays so, and does nothing
+    pub broken_on : now.broken ≡ true → (new.broken ≡ true) × IsQuiet event answer
+    broken_on broken = broken_stays (state_of no_known now) (state_of known_then new) event answer
+        (goes.machine no_known (λ asks unbroken. absurd (clash now.broken unbroken broken))) broken
 
+    -- one that isn't broken after an event wasn't before, and the disk didn't fail
+    pub was_before : new.broken ≡ false → (now.broken ≡ false) × (answer ≢ refused Device)
+    was_before unbroken = (
+      is_false now.broken (λ broken. clash new.broken unbroken (broken_on broken).0),
+      λ failed. clash new.broken unbroken (goes.doubt failed),
+    )
+
+  module _ (old now new : ServiceView D) (events : List EventData) (answers : List AnswerData) (event : EventData) (answer : AnswerData)
+      (so : HasRun old events answers now) (goes : TakesEvent sectors honest history now event answer new) where
     was : new.broken ≡ false → (now.broken ≡ false) × (answer ≢ refused Device)
-    was unbroken = was_unbroken (state_of no_known now) (state_of known_then new) event answer taken unbroken
+    was unbroken = was_before now new event answer goes unbroken
 
     abbrev way : Stored → Option Way
     way stored = way_of stored.edits old.publication
@@ -219,6 +258,9 @@ module _ {D : Type 0} (sectors : D → ℕ) (honest : D → Type 0) (history : D
         (published_within stored (way stored) leaves.within events answers) so_far.reaches in
         let counted : now.journal.last - stored.edits ≡ p.edits =
         omega (arith, so_far.is_up.last_is, last, progress_edits stored (way stored) events answers) in
+        let then_known : Known = known_after no_known now event answer in
+        let taken : Steps (state_of no_known now) event answer (state_of then_known new) =
+        goes.machine no_known (λ asks unbroken. (is_honest, (so_far.reached, so_far.is_up))) in
         record {
           reached = stored_after now.size so_far.reached now.publication event answer;
           is_up = goes.after so_far.reached is_honest so_far.is_up (was unbroken).1;
@@ -226,8 +268,8 @@ module _ {D : Type 0} (sectors : D → ℕ) (honest : D → Type 0) (history : D
               (stored_after n so_far.reached now.publication event answer)) (sym so.size)
               (reaches_on (sectors old.disk) old.size stored (way stored) events answers event answer (history old.disk) (history now.disk)
               (history new.disk) leaves is_here.call.follows (none (was unbroken).0) is_here);
-          way_is = sym (way_seen stored.edits known_then.publishing new.publication)
-              ∙ way_after stored.edits (state_of no_known now) (state_of known_then new) p
+          way_is = sym (way_seen stored.edits then_known.publishing new.publication)
+              ∙ way_after stored.edits (state_of no_known now) (state_of then_known new) p
               (way_seen stored.edits no_known.publishing now.publication ∙ so_far.way_is) event answer taken counted (was unbroken).1
               ∙ sym (ap (λ (q : Progress). q.under_way) (progress_on (starts stored (way stored)) events answers event answer so.same));
         }
@@ -238,7 +280,7 @@ module _ {D : Type 0} (sectors : D → ℕ) (honest : D → Type 0) (history : D
         run_goes_on (sectors old.disk) old.size stored (way stored) events answers event answer (history old.disk) (history now.disk) (history new.disk)
         (so.leaves stored (goes.stays_honest is_honest) up) now.broken
         (λ broken. (
-          (broken_stays (state_of no_known now) (state_of known_then new) event answer taken broken).1,
+          (broken_on now new event answer goes broken).1,
           ap (λ (d : D). history d) (goes.untouched broken),
         ))
         none (here stored is_honest up)
@@ -247,15 +289,21 @@ module _ {D : Type 0} (sectors : D → ℕ) (honest : D → Type 0) (history : D
     pub run_on : HasRun old (events ++ event ∷ []) (answers ++ answer ∷ []) new
     run_on = record {
       same = omega (arith, so.same, length-append events (event ∷ []), length-append answers (answer ∷ []));
-      machine = λ known. let so_far = so.machine known in (
-        known_after so_far.0 now event answer,
-        runs_on (state_of known old) (state_of so_far.0 now) (state_of (known_after so_far.0 now event answer) new) events answers event answer
-            so_far.1 (goes.machine so_far.0),
-      );
+      machine = λ known trusted.
+          let so_far = so.machine known (λ asks unbroken.
+          let then_trusted = trusted (asks_before events event asks) unbroken in (goes.stays_honest then_trusted.0, then_trusted.1)) in (
+            known_after so_far.0 now event answer,
+            runs_on (state_of known old) (state_of so_far.0 now) (state_of (known_after so_far.0 now event answer) new) events answers event answer
+                so_far.1 (goes.machine so_far.0 (λ asks unbroken.
+                let then_trusted = trusted (asks_last events event asks) (so.unbroken unbroken) in
+                let up = so.up then_trusted.1.0 (goes.stays_honest then_trusted.0) then_trusted.1.1 unbroken in
+                (then_trusted.0, (up.reached, up.is_up)))),
+          );
+      unbroken = λ is. so.unbroken (was is).0;
       size = goes.size ∙ so.size;
       count = goes.count ∙ so.count;
       stays_honest = λ is_honest. so.stays_honest (goes.stays_honest is_honest);
-      doubt = doubt_breaks answers event answer (state_of no_known now) (state_of known_then new) taken so.doubt;
+      doubt = doubt_breaks answers answer now.broken new.broken goes.doubt (λ broken. (broken_on now new event answer goes broken).0) so.doubt;
       up = up_on;
       leaves = leaves_on;
     }
@@ -287,7 +335,7 @@ module _ {D : Type 0} (sectors : D → ℕ) (honest : D → Type 0) (history : D
 
   -- reading the archive is no event: it leaves a run as it is
   pub run_reads : (old now new : ServiceView D) (events : List EventData) (answers : List AnswerData) → HasRun old events answers now
-      → new ≡ record now { disk = new.disk } → sectors new.disk ≡ sectors now.disk → (honest new.disk → honest now.disk)
+      → new ≡ record now { disk = new.disk; published = new.published } → sectors new.disk ≡ sectors now.disk → (honest new.disk → honest now.disk)
       → (honest new.disk → history new.disk ≡ history now.disk)
       → ((stored : Stored) → IsUp (sectors now.disk) (history now.disk) stored now → honest new.disk → IsUp (sectors new.disk) (history new.disk) stored new)
       → HasRun old events answers new
@@ -295,10 +343,11 @@ module _ {D : Type 0} (sectors : D → ℕ) (honest : D → Type 0) (history : D
       let broken : new.broken ≡ now.broken = ap (λ (s : ServiceView D). s.broken) same in
       record {
         same = so.same;
-        machine = λ known. let so_far = so.machine known in (
-          so_far.0,
-          subst (λ s. Runs (state_of known old) events answers s) (sym (ap (λ (s : ServiceView D). state_of so_far.0 s) same)) so_far.1,
-        );
+        machine = λ known trusted.
+            let so_far = so.machine known (λ asks unbroken.
+            let then_trusted = trusted asks unbroken in (stays then_trusted.0, then_trusted.1)) in
+            (so_far.0, subst (λ s. Runs (state_of known old) events answers s) (sym (ap (λ (s : ServiceView D). state_of so_far.0 s) same)) so_far.1);
+        unbroken = λ is. so.unbroken (sym broken ∙ is);
         size = ap (λ (s : ServiceView D). s.size) same ∙ so.size;
         count = count ∙ so.count;
         stays_honest = λ is_honest. so.stays_honest (stays is_honest);

@@ -1,6 +1,6 @@
 -- What an edit leaves of what a disk holds, and the service that it leaves.
 use Rattle.std.specs.Prelude.{Option, None, Some, IfSome}
-use Rattle.std.proofs.Common.{◌≡◌, ◌⊎◌, inl, inr, ⊎_elim, ℕ, suc, List, [], ◌∷◌, ◌++◌, sym, ◌∙◌, ap, subst, arith}
+use Rattle.std.proofs.Common.{◌≡◌, ◌⊎◌, inl, inr, ⊎_elim, ℕ, suc, List, [], ◌∷◌, ◌++◌, sym, ◌∙◌, ap, subst, arith, length-append}
 use Rattle.std.proofs.lemmas.List.{length-map}
 use Rattle.sector_disk.specs.Disk.{Image, History, seen, moment}
 use Rattle.sector_disk.specs.Moments.{LeavesOnly}
@@ -12,15 +12,20 @@ use Rattle.edit_journal.specs.declared.fault.JournalFault.{JournalFault}
 use Rattle.edit_journal.specs.declared.fault.JournalFault.TheVariants as journals
 use Rattle.edit_journal.specs.declared.journal.Journal.{Journal}
 use Rattle.edit_journal.specs.declared.sizes.TheConstants.{RECORD_VERSION}
+use Rattle.cached_map.specs.Cached.{WasMap}
 use Rattle.feature_model.specs.Data.{EditData}
 use Rattle.feature_model.specs.Spelled.{spelled}
 use Rattle.feature_model.specs.Types.{IsEdit}
 use Rattle.feature_store.specs.Store.{FeatureMap, changed, snapshot}
+use Rattle.published_tiles.specs.Published.{PublishedView, ArePublished}
+use Rattle.published_tiles.specs.declared.place.ArchivePlace.{ArchivePlace}
 use Rattle.tile_service.specs.Machine.{AnswerData, edit, refused}
-use Rattle.tile_service.specs.Service.{PublicationView, ServiceView, count_at, Publishes, IsUp, MayStand, EventLeaves, told_as}
-use Rattle.tile_service.specs.Stored.{Stored, Holds, Keeps, with_edit, texts_of, journal_ring, journal_start}
+use Rattle.tile_service.specs.Service.{PublicationView, ServiceView, count_at, Publishes, IsUp, MayStand, EventLeaves, told_as, archive_of}
+use Rattle.tile_service.specs.Stored.{Stored, Holds, Keeps, with_edit, map_of, texts_of, journal_ring, journal_start}
+use Rattle.tile_service.specs.Tiles.{archive_place}
 use Rattle.tile_service.specs.declared.fault.ServiceFault.{ServiceFault}
 use Rattle.tile_service.proofs.Appends.{append_leaves, append_made, texts_with}
+use Rattle.tile_service.proofs.Earlier.{were_one}
 use Rattle.tile_service.proofs.Installed.{map_stays, texts_stay, published_stays}
 use Rattle.tile_service.proofs.Publications.{goes_on_with_edit}
 use Rattle.tile_service.proofs.Replays.{after_one}
@@ -136,18 +141,21 @@ module _ {D : Type 0} (sectors : D → ℕ) (history : D → History) (stored : 
         → (ring_of after.journal ≡ ring_of service.journal)
         × (start_of after.journal.place after.journal.edits ≡ start_of service.journal.place service.journal.edits)
         → IsAt (texts_of stored ++ text ∷ []) after.journal (history new) → after.features ≡ changed service.features e
+        → ((n : ℕ) (was : FeatureMap) → WasMap service.features service.touched service.journal.last n was
+        → WasMap after.features after.touched after.journal.last n was)
+        → WasMap after.features after.touched after.journal.last after.journal.last after.features
         → after.generation ≡ service.generation → after.snapshot_len ≡ service.snapshot_len → after.archive_len ≡ service.archive_len
-        → after.publication ≡ service.publication → after.broken ≡ service.broken
+        → after.publication ≡ service.publication → after.published ≡ service.published → after.broken ≡ service.broken
         → ReadsAsBefore (ring_of service.journal) service.journal.place service.journal.used (seen (history service.disk)) (seen (history new))
         → IsUp (sectors new) (history new) (with_edit stored e) after
-    up_with_edit after disk count size same is features generation snapshot_len archive_len publication broken reads = record {
+    up_with_edit after disk count size same is features since now_is generation snapshot_len archive_len publication published broken reads = record {
       keeps = subst (λ (c : ℕ). Keeps c after.size (with_edit stored e) (history new)) (sym count)
           (subst (λ (n : ℕ). Keeps (sectors service.disk) n (with_edit stored e) (history new)) (sym size) (keeps_edit after.journal same.0 same.1 is));
       unbroken = broken ∙ up.unbroken;
       generation_is = generation ∙ up.generation_is;
       snapshot_len_is = snapshot_len ∙ up.snapshot_len_is;
       archive_len_is = archive_len ∙ up.archive_len_is;
-      map_is = features ∙ ap (λ (m : FeatureMap). changed m e) up.map_is ∙ sym (after_one stored.snapshot_map stored.since e);
+      map_is = map_is;
       place_is = ap (λ (s : Start). s.place) same.1 ∙ up.place_is;
       edits_are = edits;
       used_is = now.uses;
@@ -157,8 +165,17 @@ module _ {D : Type 0} (sectors : D → ℕ) (history : D → History) (stored : 
           (all_on service.size stored e service.journal.place service.journal.used (history service.disk) (history new)
           (subst (λ (r : Ring). ReadsAsBefore r service.journal.place service.journal.used (seen (history service.disk)) (seen (history new))) ring reads)
           service.publication up.publication));
+      were = were_one service.features service.touched service.journal.last after.features after.touched after.journal.last since now_is stored.edits
+          stored.snapshot_map stored.since e
+          (omega (arith, now.counts, edits, length-map (stored.since ++ e ∷ []) spelled, length-append stored.since (e ∷ []))) map_is up.were;
+      archived = subst (λ (t : PublishedView). ArePublished t (archive_of after) stored.snapshot_map stored.archive) (sym published)
+          (subst (λ (p : ArchivePlace). ArePublished service.published p stored.snapshot_map stored.archive)
+          (sym (λ i. archive_place (size i) (generation i) (snapshot_len i) (archive_len i))) up.archived);
     }
       where
+        map_is : after.features ≡ map_of (with_edit stored e)
+        map_is = features ∙ ap (λ (m : FeatureMap). changed m e) up.map_is ∙ sym (after_one stored.snapshot_map stored.since e)
+
         now : IsAt (texts_of (with_edit stored e)) after.journal (history new)
         now = subst (λ (texts : List (List ℕ)). IsAt texts after.journal (history new))
             (ap (λ (t : List ℕ). texts_of stored ++ t ∷ []) is_text ∙ sym (texts_with stored e)) is

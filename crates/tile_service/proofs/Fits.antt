@@ -10,8 +10,8 @@ use Rattle.sector_disk.specs.Moments.{Follows, LeavesOnly}
 use Rattle.sector_disk.proofs.History.{left_before}
 use Rattle.sector_disk.proofs.Moments.{since_now, only_now, is_later, follows_itself}
 use Rattle.feature_model.specs.Data.{EditData}
-use Rattle.tile_service.specs.Machine.{ServiceState, EventData, edit, tile, look, begin, step, cancel}
-use Rattle.tile_service.specs.Machine.{AnswerData, edited, shown, found, left, cancelled, refused, Steps}
+use Rattle.tile_service.specs.Machine.{EventData, edit, tile, look, begin, step, cancel}
+use Rattle.tile_service.specs.Machine.{AnswerData, edited, shown, found, left, cancelled, refused}
 use Rattle.tile_service.specs.Runs.{edits_by, all_edits, published_by, IsInDoubt, Way, way_of, Progress, starts, progress_after, progress_of}
 use Rattle.tile_service.specs.Runs.{IsStepInDoubt, fitting, Fits, ImageFits, NoneInDoubt, RunFits, Reaches}
 use Rattle.tile_service.specs.Service.{PublicationView, left_of, EventLeaves, IsLast, installed, stored_after}
@@ -20,7 +20,7 @@ use Rattle.tile_service.specs.declared.fault.ServiceFault.{ServiceFault}
 use Rattle.tile_service.specs.declared.fault.ServiceFault.TheVariants.{Device}
 use Rattle.tile_service.proofs.Progress.{Within, IsSince, Has, all_edits_on, progress_on, all_split_at, all_of_more, progress_edits, progress_within}
 use Rattle.tile_service.proofs.Progress.{fits_more, has_start, has_edit, has_published, has_on}
-use Rattle.tile_service.proofs.Runs.{device_or_not, device_breaks, broken_stays, IsQuiet}
+use Rattle.tile_service.proofs.Runs.{device_or_not, IsQuiet}
 
 -- ---- an event in doubt
 
@@ -39,15 +39,14 @@ one_more : {A : Type 0} (xs : List A) (x : A) → length (xs ++ x ∷ []) ≡ le
 one_more xs x = length-append xs (x ∷ [])
 
 -- The disk failed at one of the events says that the service is broken.
-pub doubt_breaks : (answers : List AnswerData) (event : EventData) (answer : AnswerData) (old new : ServiceState) → Steps old event answer new
-    → ((index : ℕ) → index < length answers → get_or answers index cancelled ≡ refused Device → old.broken ≡ true)
-    → (index : ℕ) → index < length (answers ++ answer ∷ []) → get_or (answers ++ answer ∷ []) index cancelled ≡ refused Device → new.broken ≡ true
-doubt_breaks answers event answer old new goes before index lt is = ⊎_elim
-    (λ (last : index ≡ length answers). device_breaks old new event
-    (subst (λ (a : AnswerData). Steps old event a new) (sym (last_is answers answer cancelled index last) ∙ is) goes))
+pub doubt_breaks : (answers : List AnswerData) (answer : AnswerData) (old new : Bool) → (answer ≡ refused Device → new ≡ true) → (old ≡ true → new ≡ true)
+    → ((index : ℕ) → index < length answers → get_or answers index cancelled ≡ refused Device → old ≡ true)
+    → (index : ℕ) → index < length (answers ++ answer ∷ []) → get_or (answers ++ answer ∷ []) index cancelled ≡ refused Device → new ≡ true
+doubt_breaks answers answer old new breaks stays before index lt is = ⊎_elim
+    (λ (last : index ≡ length answers). breaks (sym (last_is answers answer cancelled index last) ∙ is))
     (λ (sooner : index ≡ length answers → ⊥).
     let lt' : index < length answers = omega (arith, sooner, lt, one_more answers answer) in
-    (broken_stays old new event answer goes (before index lt' (sym (below answers (answer ∷ []) index cancelled lt') ∙ is))).0)
+    stays (before index lt' (sym (below answers (answer ∷ []) index cancelled lt') ∙ is)))
     (cases_eq index (length answers))
 
 module _ (events : List EventData) (answers : List AnswerData) (event : EventData) (answer : AnswerData) (same : length events ≡ length answers) where

@@ -25,10 +25,12 @@ use Rattle.feature_model.specs.Data.{EditData}
 use Rattle.feature_model.specs.Spelled.{spelled}
 use Rattle.feature_model.specs.Types.{IsEdit}
 use Rattle.feature_store.specs.Store.{FeatureMap, IsMap, after, changed, snapshot}
+use Rattle.published_tiles.specs.Published.{ArePublished}
 use Rattle.tile_service.specs.Publishing.{map_at, published, CanPublish, HasArea}
-use Rattle.tile_service.specs.Service.{ServiceView, PublicationView, Publishes, IsUp}
+use Rattle.tile_service.specs.Service.{ServiceView, PublicationView, Publishes, IsUp, archive_of}
 use Rattle.tile_service.specs.Stored.{Stored, Holds, HasBytes, HasEarlierRoot, Keeps}
 use Rattle.tile_service.specs.Stored.{map_of, last_of, root_of, texts_of, with_edit, journal_ring, journal_start}
+use Rattle.tile_service.specs.Tiles.{WereMaps}
 use Rattle.area_content.specs.Tiles.{IsArchiveOfMap}
 use Rattle.tile_service.proofs.Appends.{texts_with}
 use Rattle.tile_service.proofs.Publishes.{same_ring, live_can}
@@ -238,8 +240,10 @@ module _ (n : ℕ) (stored : Stored) (taken : ℕ) (archive : List ℕ) (within 
       → service.journal.edits ≡ stored.edits + taken
       → service.journal.used + places_of (take taken (texts_of stored)) ≡ places_of (texts_of stored)
       → service.journal.last ≡ last_of stored → service.snapshot_len ≡ length (snapshot (map_at stored taken))
-      → service.archive_len ≡ length archive → service.publication ≡ None → IsUp count h (published n stored taken archive) service
-  up_published count h service size keeps unbroken generation features place edits used last snapshot_ archive_ publication = record {
+      → service.archive_len ≡ length archive → service.publication ≡ None
+      → WereMaps service.features service.touched service.journal.last (stored.edits + taken) (map_at stored taken) (drop taken stored.since)
+      → ArePublished service.published (archive_of service) (map_at stored taken) archive → IsUp count h (published n stored taken archive) service
+  up_published count h service size keeps unbroken generation features place edits used last snapshot_ archive_ publication were archived = record {
     keeps = subst (λ (k : ℕ). Keeps count k (published n stored taken archive) h) (sym size) keeps;
     unbroken = unbroken;
     generation_is = generation;
@@ -251,6 +255,8 @@ module _ (n : ℕ) (stored : Stored) (taken : ℕ) (archive : List ℕ) (within 
     snapshot_len_is = snapshot_;
     archive_len_is = archive_;
     publication = subst (λ (o : Option PublicationView). IfSome o (Publishes service.size (published n stored taken archive) h)) (sym publication) tt;
+    were = were;
+    archived = archived;
   }
     where
       left : service.journal.used ≡ places_of (drop taken (texts_of stored))

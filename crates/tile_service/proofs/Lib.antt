@@ -4,6 +4,7 @@ mod AreaWrites
 mod Bytes
 pub mod Callers
 pub mod Contents
+mod Earlier
 mod Edits
 pub mod Fits
 mod Fresh

@@ -28,10 +28,13 @@ use Rattle.feature_store.specs.Snapshots.{IsNoSnapshot}
 use Rattle.feature_store.specs.Store.{FeatureMap, changed, after, snapshot}
 use Rattle.feature_store.specs.declared.limit.TheConstants.{TEXTS_END}
 use Rattle.feature_store.proofs.Laws.{snapshot_of_one_map}
+use Rattle.published_tiles.specs.Published.{ArePublished}
+use Rattle.published_tiles.specs.declared.place.ArchivePlace.{ArchivePlace}
 use Rattle.tile_service.specs.Opening.{IsJournalOf, HasSnapshot, IsReplayed, IsRead, IsContentFault, IsOpenFault, recovery_told_as}
 use Rattle.tile_service.specs.Replayed.{AreTextsOf, IsReplayFault, bytes_of}
-use Rattle.tile_service.specs.Service.{PublicationView, ServiceView, Publishes, IsUp}
+use Rattle.tile_service.specs.Service.{PublicationView, ServiceView, Publishes, IsUp, archive_of}
 use Rattle.tile_service.specs.Stored.{Stored, Holds, Keeps, root_of, texts_of, map_of, journal_start, journal_ring}
+use Rattle.tile_service.specs.Tiles.{WereMaps}
 use Rattle.tile_service.proofs.Bytes.{one_stands, each_stands}
 use Rattle.tile_service.proofs.Laws.{one_run}
 use Rattle.tile_service.proofs.Replays.{changed_short}
@@ -122,11 +125,12 @@ pub live_before : (sectors count n : ℕ) (old new : History) (root : Root) → 
 live_before sectors count n old new root same is live =
     subst (λ (h : History). LiveRoot sectors (seen h) n root) is (subst (λ (c : ℕ). LiveRoot c (seen new) n root) same live)
 
-pub read_after : (sectors n : ℕ) (old new : History) (root : Root) (journal : journals.Journal) (features : FeatureMap) → new ≡ synced old
-    → LiveRoot sectors (seen old) n root → IsReplayed n root (seen new) journal features → IsRead sectors n (seen old) root journal features
-read_after sectors n old new root journal features is live replayed = record {
+pub read_after : (sectors n : ℕ) (old new : History) (root : Root) (journal : journals.Journal) (features : FeatureMap) (touched : List ℕ)
+    → new ≡ synced old → LiveRoot sectors (seen old) n root → IsReplayed n root (seen new) journal features touched
+    → IsRead sectors n (seen old) root journal features touched
+read_after sectors n old new root journal features touched is live replayed = record {
   live = live;
-  replayed = subst (λ (h : History). IsReplayed n root (seen h) journal features) is replayed;
+  replayed = subst (λ (h : History). IsReplayed n root (seen h) journal features touched) is replayed;
 }
 
 pub fault_after : (sectors n : ℕ) (old new : History) (root : Root) (fault : StoreFault) → new ≡ synced old → LiveRoot sectors (seen old) n root
@@ -191,13 +195,14 @@ module _ (sectors n : ℕ) (stored : Stored) (image : Image) (holds : Holds sect
       (same_image : seen old ≡ image) (same_count : count ≡ sectors) (after_sync : history ≡ synced old)
       (unbroken : service.broken ≡ false) (generation : service.generation ≡ root.generation)
       (snapshot_len : service.snapshot_len ≡ root.snapshot_len) (archive_len : service.archive_len ≡ root.archive_len)
-      (publication : service.publication ≡ None) (is : IsRead sectors service.size image root service.journal service.features) where
+      (publication : service.publication ≡ None) (is : IsRead sectors service.size image root service.journal service.features service.touched)
+      (nothing : (place : ArchivePlace) (m : FeatureMap) (bytes : List ℕ) → ArePublished service.published place m bytes) where
     same : (n ≡ service.size) × (root_of stored ≡ root)
     same = one_live sectors image n service.size (root_of stored) root live is.live
 
-    replayed : IsReplayed n (root_of stored) image service.journal service.features
-    replayed = subst (λ (m : ℕ). IsReplayed m (root_of stored) image service.journal service.features) (sym same.0)
-        (subst (λ (r : Root). IsReplayed service.size r image service.journal service.features) (sym same.1) is.replayed)
+    replayed : IsReplayed n (root_of stored) image service.journal service.features service.touched
+    replayed = subst (λ (m : ℕ). IsReplayed m (root_of stored) image service.journal service.features service.touched) (sym same.0)
+        (subst (λ (r : Root). IsReplayed service.size r image service.journal service.features service.touched) (sym same.1) is.replayed)
 
     texts_are : replayed.texts ≡ texts_of stored
     texts_are = one_texts replayed.texts replayed.are_texts
@@ -212,11 +217,20 @@ module _ (sectors n : ℕ) (stored : Stored) (image : Image) (holds : Holds sect
     keeps left may = subst (λ (c : ℕ). Holds c service.size stored left) (sym same_count) (subst (λ (m : ℕ). Holds sectors m stored left) same.0
         (subst (λ (i : Image). Holds sectors n stored i) (one_left left may) holds))
 
+    same_snapshot : replayed.snapshot_map ≡ stored.snapshot_map
+    same_snapshot = one_snapshot replayed.snapshot_map replayed.has_snapshot
+
+    same_edits : replayed.edits ≡ stored.since
+    same_edits = edits_there replayed.texts replayed.edits replayed.are_texts replayed.are_edits
+
     map_is : service.features ≡ map_of stored
-    map_is =
-        let same_map = one_snapshot replayed.snapshot_map replayed.has_snapshot in
-        let same_edits = edits_there replayed.texts replayed.edits replayed.are_texts replayed.are_edits in
-        replayed.map_is ∙ (λ i. after (same_map i) (same_edits i))
+    map_is = replayed.map_is ∙ (λ i. after (same_snapshot i) (same_edits i))
+
+    were : WereMaps service.features service.touched service.journal.last stored.edits stored.snapshot_map stored.since
+    were =
+        subst (λ (es : List EditData). WereMaps service.features service.touched service.journal.last stored.edits stored.snapshot_map es) same_edits
+        (subst (λ (m : FeatureMap). WereMaps service.features service.touched service.journal.last stored.edits m replayed.edits) same_snapshot
+        replayed.were)
 
     -- what is read of it is its map and its journal
     pub opens : (service.size ≡ n) × IsUp count history stored service
@@ -234,6 +248,8 @@ module _ (sectors n : ℕ) (stored : Stored) (image : Image) (holds : Holds sect
         used_is = replayed.used_is ∙ ap places_of texts_are;
         last_is = omega (arith, replayed.last_is, ap length texts_are, texts_count stored.since);
         publication = subst (λ (o : Option PublicationView). IfSome o (Publishes service.size stored history)) (sym publication) tt;
+        were = were;
+        archived = nothing (archive_of service) stored.snapshot_map stored.archive;
       },
     )
 

@@ -1,5 +1,5 @@
 -- The beginning of a publication, its steps and its end.
-use Rattle.std.proofs.Common.{◌≡◌, ◌⊎◌, inl, inr, ⊎_elim, ◌<◌, ◌≤◌, ◌+◌, ◌-◌, ◌^◌, ◌%◌, ℕ, zero, suc, false, true, List, length, take}
+use Rattle.std.proofs.Common.{◌≡◌, ◌⊎◌, inl, inr, ⊎_elim, ◌<◌, ◌≤◌, ◌+◌, ◌-◌, ◌^◌, ◌%◌, ℕ, zero, suc, false, true, List, length, take, drop}
 use Rattle.std.proofs.Common.{Result, Ok, Err, OnOk, Some, refl, sym, ◌∙◌, ap, subst, arith}
 use Rattle.std.proofs.lemmas.List.{length-map, take_all}
 use Rattle.std.proofs.lemmas.Str.{IsUtf8-string_bytes}
@@ -18,21 +18,26 @@ use Rattle.edit_journal.specs.Appends.{ring_of}
 use Rattle.edit_journal.specs.Ring.{Ring, places_of}
 use Rattle.area_content.specs.Content.{sectors_taken}
 use Rattle.area_content.specs.Tiles.{IsArchiveOfMap}
+use Rattle.feature_model.specs.Data.{EditData}
 use Rattle.feature_model.specs.Spelled.{spelled}
 use Rattle.feature_store.specs.Store.{FeatureMap, IsMap, snapshot}
 use Rattle.map_metadata.specs.Metadata.{IsMetadata}
 use Rattle.pm_archive.specs.Archive.{IsMetadata as IsMetadataText}
+use Rattle.published_tiles.specs.Published.{PublishedView, ArePublished}
+use Rattle.published_tiles.proofs.PublishedLaws.{published_next}
 use Rattle.serde_json.specs.Data.{Data}
 use Rattle.serde_json.specs.Read.{read}
 use Rattle.serde_json.specs.Written.{compact_text}
 use Rattle.tile_service.specs.Machine.{AnswerData, left, refused, step, Begins, Steps, HasPublication, after_install}
 use Rattle.tile_service.specs.Publishing.{map_at, published, CanPublish, HasFirst, HasArea, IsUnderWay}
-use Rattle.tile_service.specs.Service.{PublicationView, ServiceView, Known, Publishes, IsUp, EventLeaves, count_at, left_of, left_answer}
+use Rattle.tile_service.specs.Service.{PublicationView, ServiceView, Known, Publishes, IsUp, EventLeaves, count_at, left_of, left_answer, archive_of}
 use Rattle.tile_service.specs.Service.{going_of, state_of, known_after, known_installed, installed, stored_after, with_publication}
 use Rattle.tile_service.specs.Stored.{Stored, Holds, Keeps, root_of, journal_ring, texts_of}
+use Rattle.tile_service.specs.Tiles.{WereMaps}
 use Rattle.tile_service.specs.declared.fault.ServiceFault.{ServiceFault}
 use Rattle.tile_service.specs.declared.fault.ServiceFault.TheVariants.{Device}
 use Rattle.tile_service.specs.declared.publishing.TheConstants.{STEP_SECTORS}
+use Rattle.tile_service.proofs.Earlier.{were_published}
 use Rattle.tile_service.proofs.Installed.{all_taken, install_leaves, installed_keeps, up_published}
 use Rattle.tile_service.proofs.Publications.{begins, all_written}
 
@@ -63,6 +68,8 @@ module _ {D : Type 0} (sectors : ℕ) (h : History) (stored : Stored) (service :
     used_is = up.used_is;
     last_is = up.last_is;
     publication = publishes;
+    were = up.were;
+    archived = up.archived;
   }
 
   module _ (p : PublicationView) (is_map : IsMap service.features) (is_archive : IsArchiveOfMap service.features p.content.archive)
@@ -176,15 +183,36 @@ module _ {D : Type 0} (sectors : ℕ) (old : History) (stored : Stored) (service
         → after.journal.place ≡ p.start.place → after.journal.edits ≡ p.start.edits
         → after.journal.used + p.places ≡ service.journal.used → after.journal.last ≡ service.journal.last
         → after.snapshot_len ≡ length p.content.snapshot → after.archive_len ≡ length p.content.archive → after.publication ≡ None
-        → IsUp count new next after
-    up_installed count after same is size broken generation features place edits freed last text archive none =
+        → after.touched ≡ service.touched → after.published ≡ service.published → IsUp count new next after
+    up_installed count after same is size broken generation features place edits freed last text archive none touched published_is =
         subst (λ (k : ℕ). IsUp k new next after) (sym same)
         (up_published service.size stored (count_at stored p) p.content.archive going.under_way.can.within sectors new after size
         (installed_keeps sectors service.size stored (count_at stored p) p.content.archive going.under_way.can old new up.keeps area_stands
         (subst (λ (r : Root). new ≡ synced (wrote (root_at r.generation) (root_sector r) (synced old))) root_is is))
         (broken ∙ up.unbroken) (omega (arith, generation, up.generation_is)) (features ∙ up.map_is) (place ∙ going.place_is)
         (omega (arith, edits, going.later)) (omega (arith, freed, going.places_are, up.used_is)) (last ∙ up.last_is)
-        (text ∙ ap length going.snapshot_is) archive none)
+        (text ∙ ap length going.snapshot_is) archive none were archived)
+      where
+        map : FeatureMap
+        map = map_at stored (count_at stored p)
+
+        start : ℕ
+        start = stored.edits + count_at stored p
+
+        rest : List EditData
+        rest = drop (count_at stored p) stored.since
+
+        were : WereMaps after.features after.touched after.journal.last start map rest
+        were = subst (λ (m : FeatureMap). WereMaps m after.touched after.journal.last start map rest) (sym features)
+            (subst (λ (cells : List ℕ). WereMaps service.features cells after.journal.last start map rest) (sym touched)
+            (subst (λ (n : ℕ). WereMaps service.features service.touched n start map rest) (sym last)
+            (were_published service.features service.touched service.journal.last stored.edits stored.snapshot_map stored.since (count_at stored p)
+            going.under_way.can.within up.were)))
+
+        archived : ArePublished after.published (archive_of after) map p.content.archive
+        archived = subst (λ (t : PublishedView). ArePublished t (archive_of after) map p.content.archive) (sym published_is)
+            (published_next service.published (archive_of service) (archive_of after) stored.snapshot_map map stored.archive p.content.archive up.archived
+            (omega (arith, generation)))
 
 -- ---- its steps
 
@@ -219,6 +247,8 @@ up_further sectors count old new stored service p generation to disk up same nex
     place_is = was.place_is;
     places_are = was.places_are;
   };
+  were = up.were;
+  archived = up.archived;
 }
   where
     was : Publishes service.size stored old p

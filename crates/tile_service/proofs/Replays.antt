@@ -2,8 +2,10 @@
 use Rattle.std.proofs.Common.{◌≡◌, inl, inr, ℕ, zero, suc, ◌<◌, ◌≤◌, ◌+◌, List, [], ◌∷◌, ◌++◌, length, drop, get_or}
 use Rattle.std.proofs.Common.{Result, Ok, Err, IfErr, refl, sym, ◌∙◌, ap, subst, arith, append-nil, length-append}
 use Rattle.std.proofs.Math.Seq.{get_or-append_seam}
+use Rattle.std.proofs.lemmas.List.{length-map}
 use Rattle.std.proofs.lemmas.List.Elements.{All-nil, All-cons, All-append, All-head, All-tail}
 use Rattle.std.proofs.lemmas.List.Sums.{fold-append}
+use Rattle.cached_map.specs.Cached.{CachedView, WasMap}
 use Rattle.edit_text.specs.Decoding.{BeginsWith, BeginsAsPut}
 use Rattle.feature_model.specs.Data.{FeatureData, EditData, put, delete}
 use Rattle.feature_model.specs.Spelled.{spelled}
@@ -12,8 +14,9 @@ use Rattle.feature_store.specs.Store.{FeatureMap, changed, after, snapshot}
 use Rattle.feature_store.proofs.Laws.{snapshot_after_put, snapshot_after_delete}
 use Rattle.generations.specs.declared.fault.StoreFault.{StoreFault}
 use Rattle.generations.specs.declared.fault.StoreFault.TheVariants.{Memory}
-use Rattle.tile_service.specs.Replayed.{IsTextOf, IsPut, IsTextFault, AreTextsOf, IsReplayFault, bytes_of}
+use Rattle.tile_service.specs.Replayed.{IsTextOf, IsPut, IsTextFault, AreTextsOf, AreMade, IsReplayFault, bytes_of}
 use Rattle.tile_service.proofs.Appends.{spelled_with}
+use Rattle.tile_service.proofs.Earlier.{were_one}
 
 first_byte : (id : ℕ) (f : FeatureData) → spelled (put id f) ≡ 1 ∷ drop 1 (spelled (put id f))
 unfolding spelled
@@ -84,15 +87,21 @@ make_fault text edit (Ok done) is told = tt
 make_fault text edit (Err fault) is told = inl (told.0, begins_as_put text edit is told.1)
 
 -- the edits of the texts so far, with one more
-pub replayed_one : (texts : List (List ℕ)) (text : List ℕ) (first old new : FeatureMap)
-    → (edits : List EditData) × AreTextsOf texts edits × (old ≡ after first edits)
-    → (edit : EditData) × IsTextOf text edit × (new ≡ changed old edit)
-    → (edits : List EditData) × AreTextsOf (texts ++ text ∷ []) edits × (new ≡ after first edits)
-replayed_one texts text first old new made one = (
-  made.0 ++ one.0 ∷ [],
-  with_one texts made.0 text one.0 made.1 one.1,
-  one.2 ∙ ap (λ (m : FeatureMap). changed m one.0) made.2 ∙ sym (after_one first made.0 one.0),
-)
+pub replayed_one : (texts : List (List ℕ)) (text : List ℕ) (first old new : CachedView) → AreMade texts first old
+    → (edit : EditData) × IsTextOf text edit × (new.features ≡ changed old.features edit) → new.last ≡ first.last + suc (length texts)
+    → WasMap new.features new.touched new.last new.last new.features
+    → ((n : ℕ) (was : FeatureMap) → WasMap old.features old.touched old.last n was → WasMap new.features new.touched new.last n was)
+    → AreMade (texts ++ text ∷ []) first new
+replayed_one texts text first old new made one last now since = record {
+  edits = made.edits ++ one.0 ∷ [];
+  are_texts = with_one texts made.edits text one.0 made.are_texts one.1;
+  map_is = map_is;
+  were = were_one old.features old.touched old.last new.features new.touched new.last since now first.last first.features made.edits one.0
+      (omega (arith, last, ap length made.are_texts.are_texts, length-map made.edits spelled)) map_is made.were;
+}
+  where
+    map_is : new.features ≡ after first.features (made.edits ++ one.0 ∷ [])
+    map_is = one.2 ∙ ap (λ (m : FeatureMap). changed m one.0) made.map_is ∙ sym (after_one first.features made.edits one.0)
 
 pub short_one : (rest : List (List ℕ)) (text : List ℕ) (end : ℕ) (old new : FeatureMap) → length (snapshot old) + bytes_of (text ∷ rest) < end
     → (edit : EditData) × IsTextOf text edit × (new ≡ changed old edit) → length (snapshot new) + bytes_of rest < end

@@ -9,7 +9,7 @@ use Rattle.sector_disk.proofs.History.{started}
 use Rattle.feature_model.specs.Data.{EditData, put, delete}
 use Rattle.tile_service.specs.Machine.{ServiceState, EventData, edit, tile, look, begin, step, cancel}
 use Rattle.tile_service.specs.Machine.{AnswerData, edited, shown, found, left, cancelled, refused}
-use Rattle.tile_service.specs.Machine.{RefusesEdit, RefusesBegin, RefusesStep, RefusesCancel, Steps, Runs}
+use Rattle.tile_service.specs.Machine.{RefusesEdit, RefusesBegin, RefusesStep, RefusesCancel, IsTile, AsksTile, Steps, Runs}
 use Rattle.tile_service.specs.Runs.{Progress, edits_by, progress_after}
 use Rattle.tile_service.specs.Service.{PublicationView, Known, edit_answer, left_answer, CountsDevice, EventLeaves, stored_after}
 use Rattle.tile_service.specs.Stored.{Stored, Holds, Keeps, with_edit}
@@ -23,7 +23,7 @@ no_known = record { archive = record { bytes = []; features = [] }; publishing =
 
 -- ---- whether an answer is that the disk failed
 
-abbrev is_device : AnswerData → Bool
+abbrev pub is_device : AnswerData → Bool
 is_device (edited number) = false
 is_device (shown content) = false
 is_device (found f) = false
@@ -41,7 +41,7 @@ is_device (refused (AreaFull need free)) = false
 is_device (refused (JournalFull need free)) = false
 is_device (refused Device) = true
 
-not_device : (answer : AnswerData) → is_device answer ≡ false → answer ≢ refused Device
+pub not_device : (answer : AnswerData) → is_device answer ≡ false → answer ≢ refused Device
 not_device answer not is = false≢true (sym not ∙ ap is_device is)
 
 pub device_or_not : (answer : AnswerData) → (answer ≡ refused Device) ⊎ (answer ≢ refused Device)
@@ -77,7 +77,12 @@ device_breaks old new begin goes = absurd goes
 device_breaks old new step goes = ap (λ (s : ServiceState). s.broken) goes.1
 device_breaks old new cancel goes = absurd goes
 
-clash : (b : Bool) → b ≡ false → b ≡ true → ⊥
+-- so is the machine whose answer is that
+pub answer_breaks : (old new : ServiceState) (event : EventData) (answer : AnswerData) → Steps old event answer new → answer ≡ refused Device
+    → new.broken ≡ true
+answer_breaks old new event answer goes is = device_breaks old new event (subst (λ (a : AnswerData). Steps old event a new) is goes)
+
+pub clash : (b : Bool) → b ≡ false → b ≡ true → ⊥
 clash b not is = false≢true (sym not ∙ is)
 
 -- a broken one refuses each edit for that
@@ -216,7 +221,7 @@ broken_stays old new cancel cancelled goes broken = absurd (clash old.broken goe
 broken_stays old new cancel (refused fault) goes broken = let is = cancel_broken old new fault goes broken in
     (still_broken old new is.1 broken, quiet_fault cancel fault Broken is.0 refl refl (λ p. refl))
 
-is_false : (b : Bool) → (b ≡ true → ⊥) → b ≡ false
+pub is_false : (b : Bool) → (b ≡ true → ⊥) → b ≡ false
 is_false true not = absurd (not refl)
 is_false false not = refl
 
@@ -338,6 +343,17 @@ step_fails old new (Err fault) before after goes counts unbroken broken =
     fault_fails old new fault before after (step_stays old new fault goes) counts unbroken broken
 
 -- ---- a run
+
+-- with an event more, a run asks for the tiles that it asked for before,
+pub asks_before : (events : List EventData) (event : EventData) → AsksTile events → AsksTile (events ++ event ∷ [])
+asks_before [] event asks = absurd asks
+asks_before (e ∷ events) event (inl is) = inl is
+asks_before (e ∷ events) event (inr asks) = inr (asks_before events event asks)
+
+-- and for that of the event
+pub asks_last : (events : List EventData) (event : EventData) → IsTile event → AsksTile (events ++ event ∷ [])
+asks_last [] event is = inl is
+asks_last (e ∷ events) event is = inr (asks_last events event is)
 
 -- a run goes on by a step
 pub runs_on : (old between new : ServiceState) (events : List EventData) (answers : List AnswerData) (event : EventData) (answer : AnswerData)

@@ -7,3 +7,4 @@ pub mod Replayed
 pub mod Runs
 pub mod Service
 pub mod Stored
+pub mod Tiles

@@ -214,6 +214,20 @@ RefusesCancel old (AreaFull need free) new = ⊥
 RefusesCancel old (JournalFull need free) new = ⊥
 RefusesCancel old Device new = ⊥
 
+-- the event asks for a tile
+abbrev pub IsTile : EventData → Type 0
+IsTile (edit e) = ⊥
+IsTile (tile z x y) = Unit {0}
+IsTile (look id) = ⊥
+IsTile begin = ⊥
+IsTile step = ⊥
+IsTile cancel = ⊥
+
+-- one of the events does
+abbrev pub AsksTile : List EventData → Type 0
+AsksTile [] = ⊥
+AsksTile (event ∷ events) = IsTile event ⊎ AsksTile events
+
 -- ---- steps
 
 -- one event, its answer and the state after it

@@ -19,6 +19,7 @@ use Rattle.feature_model.specs.Data.{EditData}
 use Rattle.feature_store.specs.Store.{FeatureMap, IsMap, after, snapshot}
 use Rattle.tile_service.specs.Replayed.{AreTextsOf}
 use Rattle.tile_service.specs.Stored.{journal_ring}
+use Rattle.tile_service.specs.Tiles.{WereMaps}
 
 -- the texts are those of the journal that the root names
 abbrev pub IsJournalOf : (n : ℕ) → Root → List (List ℕ) → Image → Type 0
@@ -30,8 +31,9 @@ pub record HasSnapshot (n : ℕ) (root : Root) (m : FeatureMap) (image : Image) 
   pub len : length (snapshot m) ≡ root.snapshot_len
   pub stands : StandsIn (area_start n root.generation) (snapshot m) image
 
--- the snapshot and the journal that the root names, and the map after the journal's edits
-pub record IsReplayed (n : ℕ) (root : Root) (image : Image) (journal : journals.Journal) (features : FeatureMap) : Type 0 where
+-- The snapshot and the journal that the root names, and the map after the journal's edits, with the newest of them for each cell of the
+-- world.
+pub record IsReplayed (n : ℕ) (root : Root) (image : Image) (journal : journals.Journal) (features : FeatureMap) (touched : List ℕ) : Type 0 where
   pub snapshot_map : FeatureMap
   pub has_snapshot : HasSnapshot n root snapshot_map image
   pub texts : List (List ℕ)
@@ -43,11 +45,12 @@ pub record IsReplayed (n : ℕ) (root : Root) (image : Image) (journal : journal
   pub used_is : journal.used ≡ places_of texts
   pub last_is : journal.last ≡ root.edits + length texts
   pub map_is : features ≡ after snapshot_map edits
+  pub were : WereMaps features touched journal.last root.edits snapshot_map edits
 
 -- what a disk of so many sectors has: a root that counts, and the map after its journal
-pub record IsRead (sectors n : ℕ) (image : Image) (root : Root) (journal : journals.Journal) (features : FeatureMap) : Type 0 where
+pub record IsRead (sectors n : ℕ) (image : Image) (root : Root) (journal : journals.Journal) (features : FeatureMap) (touched : List ℕ) : Type 0 where
   pub live : LiveRoot sectors image n root
-  pub replayed : IsReplayed n root image journal features
+  pub replayed : IsReplayed n root image journal features touched
 
 -- What is wrong with what the root names, in the order of reading: there is no snapshot of a map; there is one, and a record of the
 -- journal isn't whole; there is one, and the journal has a text that is that of no edit.

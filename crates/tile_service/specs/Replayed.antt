@@ -1,13 +1,16 @@
 -- Edits and their texts.
 use Rattle.std.specs.Prelude.{◌≡◌, ◌⊎◌, ◌<◌, ◌+◌, ℕ, get_or, List, [], ◌∷◌, length, map, All, Vec}
 use Rattle.std.proofs.Common.{Global}
+use Rattle.cached_map.specs.Cached.{CachedView}
 use Rattle.edit_text.specs.Decoding.{BeginsAsPut}
 use Rattle.feature_model.specs.Data.{EditData, put, delete}
 use Rattle.feature_model.specs.Spelled.{spelled}
 use Rattle.feature_model.specs.Types.{IsEdit}
+use Rattle.feature_store.specs.Store.{after}
 use Rattle.generations.specs.declared.fault.StoreFault.{StoreFault}
 use Rattle.generations.specs.declared.fault.StoreFault.TheVariants.{Damaged, Memory}
 use Rattle.generations.specs.declared.fault.What.TheVariants.{Text}
+use Rattle.tile_service.specs.Tiles.{WereMaps}
 
 -- the bytes are the text of this edit
 pub record IsTextOf (text : List ℕ) (edit : EditData) : Type 0 where
@@ -28,6 +31,13 @@ HasRoomFor spare (delete id) = Unit {0}
 pub record AreTextsOf (texts : List (List ℕ)) (edits : List EditData) : Type 0 where
   pub are_edits : All IsEdit edits
   pub are_texts : texts ≡ map spelled edits
+
+-- The edits of texts were made in a map, from the first to the last, and the map after any first ones of them is known.
+pub record AreMade (texts : List (List ℕ)) (old new : CachedView) : Type 0 where
+  pub edits : List EditData
+  pub are_texts : AreTextsOf texts edits
+  pub map_is : new.features ≡ after old.features edits
+  pub were : WereMaps new.features new.touched new.last old.last old.features edits
 
 -- how many bytes texts have together
 abbrev pub bytes_of : List (List ℕ) → ℕ

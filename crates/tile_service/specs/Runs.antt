@@ -9,7 +9,8 @@ use Rattle.tile_service.specs.declared.fault.ServiceFault.{ServiceFault}
 use Rattle.tile_service.specs.declared.fault.ServiceFault.TheVariants.{Device}
 use Rattle.tile_service.specs.declared.publishing.TheConstants.{STEP_SECTORS}
 use Rattle.tile_service.specs.declared.publishing_whole.Published.{Published}
-use Rattle.tile_service.specs.Machine.{EventData, edit, tile, look, begin, step, cancel, AnswerData, edited, shown, found, left, cancelled, refused, Steps, Runs}
+use Rattle.tile_service.specs.Machine.{EventData, edit, tile, look, begin, step, cancel, AnswerData, edited, shown, found, left, cancelled, refused}
+use Rattle.tile_service.specs.Machine.{IsTile, AsksTile, Steps, Runs}
 use Rattle.tile_service.specs.Service.{PublicationView, ServiceView, Known, IsUp, state_of, known_after, left_of, EventLeaves, stored_after}
 use Rattle.tile_service.specs.Stored.{Stored, Holds}
 
@@ -204,10 +205,18 @@ EndsAs (Ok p) old new last =
 EndsAs (Err fault) old new last = last ≡ refused fault
 
 module _ {D : Type 0} (sectors : D → ℕ) (honest : D → Type 0) (history : D → History) where
+  -- The disk has kept to its history, and the service goes on from what is stored there: so much is asked for what a tile shows, which
+  -- may be read from the disk. A broken service reads no more.
+  abbrev pub IsTrusted : ServiceView D → ServiceView D → Type 0
+  IsTrusted old new = old.broken ≡ false → honest new.disk × ((stored : Stored) × IsUp (sectors old.disk) (history old.disk) stored old)
+
   -- The service answers one event, whatever call asks for it. A crash at any moment leaves what was stored, or what the event makes of
   -- it; afterwards what it makes of it is stored, unless the disk failed.
   pub record TakesEvent (old : ServiceView D) (event : EventData) (answer : AnswerData) (new : ServiceView D) : Type 0 where
-    pub machine : (known : Known) → Steps (state_of known old) event answer (state_of (known_after known old event answer) new)
+    pub machine : (known : Known) → (IsTile event → IsTrusted old new)
+        → Steps (state_of known old) event answer (state_of (known_after known old event answer) new)
+    -- after a fault of the disk it is broken
+    pub doubt : answer ≡ refused Device → new.broken ≡ true
     pub size : new.size ≡ old.size
     pub count : sectors new.disk ≡ sectors old.disk
     pub stays_honest : honest new.disk → honest old.disk
@@ -229,7 +238,8 @@ module _ {D : Type 0} (sectors : D → ℕ) (honest : D → Type 0) (history : D
   -- The service answers these events one after the other. A crash at any moment leaves some first edits of the run: all that were
   -- acknowledged by then, and none asked for later. A service that isn't broken at the end goes on from what was acknowledged.
   pub record TakesRun (old : ServiceView D) (events : List EventData) (answers : List AnswerData) (new : ServiceView D) : Type 0 where
-    pub machine : (known : Known) → (then_known : Known) × Runs (state_of known old) events answers (state_of then_known new)
+    pub machine : (known : Known) → (AsksTile events → IsTrusted old new)
+        → (then_known : Known) × Runs (state_of known old) events answers (state_of then_known new)
     pub any_moment : (stored : Stored) → honest new.disk → IsUp (sectors old.disk) (history old.disk) stored old
         → RunFits (sectors old.disk) old.size stored (way_of stored.edits old.publication) events answers (history old.disk) (history new.disk)
     pub after : (stored : Stored) → honest new.disk → IsUp (sectors old.disk) (history old.disk) stored old → new.broken ≡ false

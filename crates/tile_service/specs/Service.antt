@@ -19,6 +19,8 @@ use Rattle.cached_map.specs.Cached.{CachedView}
 use Rattle.area_content.specs.Content.{ContentView, sectors_taken}
 use Rattle.feature_model.specs.Data.{EditData}
 use Rattle.feature_store.specs.Store.{FeatureMap, snapshot}
+use Rattle.published_tiles.specs.Published.{PublishedView, ArePublished}
+use Rattle.published_tiles.specs.declared.place.ArchivePlace.{ArchivePlace}
 use Rattle.tile_service.specs.declared.fault.ServiceFault.{ServiceFault}
 use Rattle.tile_service.specs.declared.fault.ServiceFault.TheVariants.{NumbersSpent, Memory, JournalFull, Device}
 use Rattle.tile_service.specs.declared.publishing.TheConstants.{STEP_SECTORS}
@@ -26,6 +28,7 @@ use Rattle.tile_service.specs.Machine.{ArchiveState, Publication, ServiceState, 
 use Rattle.tile_service.specs.Machine.{AnswerData, edited, shown, found, left, cancelled, refused}
 use Rattle.tile_service.specs.Publishing.{map_at, published, IsUnderWay}
 use Rattle.tile_service.specs.Stored.{Stored, Holds, Keeps, map_of, last_of, texts_of, with_edit, journal_ring}
+use Rattle.tile_service.specs.Tiles.{WereMaps, archive_place}
 
 -- what contracts see of a publication under way
 pub record PublicationView : Type 0 where
@@ -47,6 +50,8 @@ pub record ServiceView (D : Type 0) : Type 0 where
   -- with how many sectors the disk was formatted
   pub size : ℕ
   pub features : FeatureMap
+  -- the newest edit of each cell of the world
+  pub touched : List ℕ
   -- where the records of the edits since the snapshot lie
   pub journal : Journal
   pub generation : ℕ
@@ -54,6 +59,8 @@ pub record ServiceView (D : Type 0) : Type 0 where
   pub snapshot_len : ℕ
   pub archive_len : ℕ
   pub publication : Option PublicationView
+  -- what is kept of the archive that was read last
+  pub published : PublishedView
   pub broken : Bool
 
 -- what always holds of a publication under way
@@ -148,6 +155,10 @@ pub record Publishes (n : ℕ) (stored : Stored) (history : History) (p : Public
   pub place_is : p.start.place ≡ (published n stored (count_at stored p) p.content.archive).journal_at
   pub places_are : p.places ≡ places_of (take (count_at stored p) (texts_of stored))
 
+-- where its archive stands
+abbrev pub archive_of : {D : Type 0} → ServiceView D → ArchivePlace
+archive_of service = archive_place service.size service.generation service.snapshot_len service.archive_len
+
 -- The service goes on from what is stored: every image that a crash now may leave of its disk holds that, and it has the map, the
 -- numbers and the places that go with it. The disk has so many sectors and this history.
 pub record IsUp {D : Type 0} (sectors : ℕ) (history : History) (stored : Stored) (service : ServiceView D) : Type 0 where
@@ -162,6 +173,10 @@ pub record IsUp {D : Type 0} (sectors : ℕ) (history : History) (stored : Store
   pub used_is : service.journal.used ≡ places_of (texts_of stored)
   pub last_is : service.journal.last ≡ last_of stored
   pub publication : IfSome service.publication (Publishes service.size stored history)
+  -- it knows the map after any first edits since the snapshot, as far as tiles tell that none since can have touched
+  pub were : WereMaps service.features service.touched service.journal.last stored.edits stored.snapshot_map stored.since
+  -- and what it keeps of the archive is of this one
+  pub archived : ArePublished service.published (archive_of service) stored.snapshot_map stored.archive
 
 -- the archive that an image shows for a service: so many bytes of the sectors behind the snapshot
 abbrev pub shown_archive : {D : Type 0} → Image → ServiceView D → List ℕ

@@ -1,5 +1,5 @@
 //! A service made from what a disk holds.
-ghost use Rattle.std.specs.Prelude.{◌≡◌, ◌⊎◌, ◌≤◌, ◌+◌, ◌*◌, false, ℕ, length, IfErr, IfOk, OnOk, MatchResult};
+ghost use Rattle.std.specs.Prelude.{◌≡◌, ◌⊎◌, ◌≤◌, ◌+◌, ◌*◌, false, ℕ, List, length, IfErr, IfOk, OnOk, MatchResult};
 ghost use Rattle.sector_disk.specs.Disk.{seen};
 ghost use Rattle.sector_disk.specs.Disk.History.{synced};
 ghost use Rattle.sector_disk.specs.declared.disk.TheConstants.{SECTOR_BYTES};
@@ -10,7 +10,9 @@ ghost use Rattle.generations.specs.declared.fault.StoreFault.TheVariants.{Device
 ghost use Rattle.edit_journal.specs.Appends.{ring_of};
 ghost use Rattle.edit_journal.specs.Releases.{IsCounted};
 ghost use Rattle.edit_journal.specs.declared.sizes.TheConstants.{PART_BYTES};
-ghost use Rattle.feature_store.specs.Store.{snapshot};
+ghost use Rattle.feature_store.specs.Store.{FeatureMap, snapshot};
+ghost use Rattle.published_tiles.specs.Published.{ArePublished};
+ghost use Rattle.published_tiles.specs.declared.place.ArchivePlace.{ArchivePlace};
 ghost use Rattle.tile_service.specs.Opening.{HasSnapshot, IsReplayed, IsRead, IsContentFault, IsOpenFault, recovery_told_as};
 ghost use Rattle.tile_service.specs.Service.{IsUp};
 ghost use Rattle.tile_service.specs.Stored.{Stored, Holds, journal_ring};
@@ -22,6 +24,7 @@ use cached_map::CachedMap;
 use edit_journal::{Journal, JournalFault, Start};
 use feature_store::Store;
 use generations::{Layout, Root, StoreFault, What, read_root};
+use published_tiles::PublishedTiles;
 use sector_disk::{DiskFault, Sectors};
 use std::alloc::{AllocError, Global};
 
@@ -44,6 +47,7 @@ struct Found {
     root: Root,
     journal: Journal,
     map: CachedMap,
+    published: PublishedTiles,
 }
 
 /// Reads the journal that a root names, and makes the edits of its texts in the map of the root's snapshot.
@@ -68,7 +72,7 @@ fn read_edits<D: Sectors>(
     ensures counted { IfOk result (λ found. IsCounted found.0) }
     ensures last { IfOk result (λ found. found.1.last ≡ found.0.last) }
     ensures found { D.honest disk.new → HasSnapshot layout.sectors root store.features (seen (D.history disk.old))
-        → IfOk result (λ found. IsReplayed layout.sectors root (seen (D.history disk.old)) found.0 found.1.features) }
+        → IfOk result (λ found. IsReplayed layout.sectors root (seen (D.history disk.old)) found.0 found.1.features found.1.touched) }
     ensures fault { D.honest disk.new → HasSnapshot layout.sectors root store.features (seen (D.history disk.old))
         → IfErr result (λ fault. (fault ≡ Device) ⊎ (fault ≡ Memory) ⊎ IsContentFault layout.sectors root (seen (D.history disk.old)) fault) }
 {
@@ -110,7 +114,7 @@ fn read_map<D: Sectors>(
     ensures counted { IfOk result (λ found. IsCounted found.0) }
     ensures last { IfOk result (λ found. found.1.last ≡ found.0.last) }
     ensures found { D.honest disk.new
-        → IfOk result (λ found. IsReplayed layout.sectors root (seen (D.history disk.old)) found.0 found.1.features) }
+        → IfOk result (λ found. IsReplayed layout.sectors root (seen (D.history disk.old)) found.0 found.1.features found.1.touched) }
     ensures fault { D.honest disk.new
         → IfErr result (λ fault. (fault ≡ Device) ⊎ (fault ≡ Memory) ⊎ IsContentFault layout.sectors root (seen (D.history disk.old)) fault) }
 {
@@ -140,7 +144,9 @@ fn load<D: Sectors>(alloc: Global, disk: &mut D) -> Result<Found, StoreFault>
     ensures counted { IfOk result (λ found. IsCounted found.journal) }
     ensures last { IfOk result (λ found. found.map.last ≡ found.journal.last) }
     ensures found { D.honest disk.new → IfOk result (λ found.
-        IsRead (D.sectors disk.old) found.layout.sectors (seen (D.history disk.old)) found.root found.journal found.map.features) }
+        IsRead (D.sectors disk.old) found.layout.sectors (seen (D.history disk.old)) found.root found.journal
+        found.map.features found.map.touched) }
+    ensures published { IfOk result (λ found. (place : ArchivePlace) (m : FeatureMap) (bytes : List ℕ) → ArePublished found.published place m bytes) }
     ensures fault { D.honest disk.new
         → IfErr result (λ fault. (fault ≡ Device) ⊎ (fault ≡ Memory) ⊎ IsOpenFault (D.sectors disk.old) (seen (D.history disk.old)) fault) }
 {
@@ -152,12 +158,17 @@ fn load<D: Sectors>(alloc: Global, disk: &mut D) -> Result<Found, StoreFault>
         Ok(found) => found,
         Err(fault) => return Err(fault),
     };
+    let published = match PublishedTiles::new(alloc) {
+        Ok(published) => published,
+        Err(AllocError) => return Err(StoreFault::Memory),
+    };
     match read_map(alloc, disk, layout, root) {
         Ok((journal, map)) => Ok(Found {
             layout,
             root,
             journal,
             map,
+            published,
         }),
         Err(fault) => Err(fault),
     }
@@ -198,6 +209,7 @@ impl<D: Sectors + Drop> Service<D> {
                 map: found.map,
                 root: found.root,
                 publication: None,
+                published: found.published,
                 broken: false,
             }),
             Err(fault) => Err((disk, fault)),

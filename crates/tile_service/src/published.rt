@@ -1,13 +1,14 @@
 //! The archive that was published last.
 ghost use Rattle.std.specs.Prelude.{◌≡◌, ◌≤◌, ◌+◌, length, slice_range, IfErr, OnOk};
 ghost use Rattle.generations.specs.Areas.{sectors_of};
-ghost use Rattle.tile_service.specs.Service.{IsUp, CountsDevice};
+ghost use Rattle.tile_service.specs.Service.{IsUp, CountsDevice, archive_of};
 ghost use Rattle.tile_service.specs.Stored.{Stored};
 ghost use Rattle.tile_service.specs.declared.fault.ServiceFault.TheVariants.{Device};
 
 use crate::fault::ServiceFault;
 use crate::service::Service;
 use crate::snapshot_reading::area_of;
+use published_tiles::ArchivePlace;
 use sector_bytes::read_bytes;
 use sector_disk::{DiskFault, SECTOR_BYTES, Sectors};
 
@@ -24,6 +25,17 @@ impl<D: Sectors + Drop> Service<D> {
         ensures { result ≡ self.now.archive_len }
     {
         self.root.archive_len
+    }
+
+    /// Where the published archive stands.
+    pub(crate) fn archive(&self) -> ArchivePlace
+        ensures { result ≡ archive_of self.now }
+    {
+        ArchivePlace {
+            generation: self.root.generation,
+            first: area_of(self.layout, self.root.generation) + sectors_for(self.root.snapshot_len),
+            len: self.root.archive_len,
+        }
     }
 
     /// Reads bytes of the published archive, as many as `into` has room for, from an offset on. It takes no memory, and writes nothing.
@@ -47,8 +59,7 @@ impl<D: Sectors + Drop> Service<D> {
         ensures up { (stored : Stored) → IsUp (D.sectors self.old.disk) (D.history self.old.disk) stored self.old → D.honest self.new.disk
             → IsUp (D.sectors self.new.disk) (D.history self.new.disk) stored self.new }
     {
-        let first = area_of(self.layout, self.root.generation)
-            + sectors_for(self.root.snapshot_len);
+        let first = self.archive().first;
         match read_bytes(&mut self.disk, first, at, into) {
             Ok(()) => Ok(()),
             Err(DiskFault) => Err(ServiceFault::Device),

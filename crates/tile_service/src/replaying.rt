@@ -1,13 +1,14 @@
 //! The map after the edits whose texts stand in the journal.
-ghost use Rattle.std.specs.Prelude.{◌≡◌, ◌⊎◌, ◌<◌, ◌+◌, ◌^◌, List, length, IfOk, IfErr, OnOk};
+ghost use Rattle.std.specs.Prelude.{◌≡◌, ◌⊎◌, ◌<◌, ◌+◌, ◌^◌, ℕ, length, IfOk, IfErr, OnOk};
+ghost use Rattle.cached_map.specs.Cached.{WasMap};
 ghost use Rattle.feature_model.specs.Data.{EditData, edit_data};
 ghost use Rattle.feature_model.specs.Spelled.{spelled};
 ghost use Rattle.feature_model.specs.Types.{IsEdit};
-ghost use Rattle.feature_store.specs.Store.{changed, after, snapshot};
+ghost use Rattle.feature_store.specs.Store.{FeatureMap, changed, snapshot};
 ghost use Rattle.feature_store.specs.declared.limit.TheConstants.{TEXTS_END};
 ghost use Rattle.generations.specs.declared.fault.StoreFault.TheVariants.{Damaged, Memory};
 ghost use Rattle.generations.specs.declared.fault.What.TheVariants.{Text};
-ghost use Rattle.tile_service.specs.Replayed.{IsTextOf, IsPut, HasRoomFor, AreTextsOf, IsTextFault, IsReplayFault, bytes_of, views_of};
+ghost use Rattle.tile_service.specs.Replayed.{IsTextOf, IsPut, HasRoomFor, AreMade, IsTextFault, IsReplayFault, bytes_of, views_of};
 
 use cached_map::CachedMap;
 use edit_text::{TextFault, decode};
@@ -36,6 +37,9 @@ pub(crate) fn apply(map: &mut CachedMap, edit: Edit, number: u64)
     requires later { map.old.last < number }
     ensures map { map.new.features ≡ changed map.old.features (edit_data edit) }
     ensures last { map.new.last ≡ number }
+    ensures now { WasMap map.new.features map.new.touched map.new.last map.new.last map.new.features }
+    ensures since { (n : ℕ) (was : FeatureMap) → WasMap map.old.features map.old.touched map.old.last n was
+        → WasMap map.new.features map.new.touched map.new.last n was }
 {
     match edit {
         Edit::Put { id, feature } => map.place(id, feature, number),
@@ -52,6 +56,9 @@ fn make(map: &mut CachedMap, edit: Edit) -> Result<(), StoreFault>
     requires number { map.old.last + 1 < 2 ^ 64 }
     ensures map { OnOk result (map.new.features ≡ changed map.old.features (edit_data edit)) }
     ensures last { OnOk result (map.new.last ≡ map.old.last + 1) }
+    ensures now { OnOk result (WasMap map.new.features map.new.touched map.new.last map.new.last map.new.features) }
+    ensures since { (n : ℕ) (was : FeatureMap) → WasMap map.old.features map.old.touched map.old.last n was
+        → OnOk result (WasMap map.new.features map.new.touched map.new.last n was) }
     ensures fault { IfErr result (λ fault. (fault ≡ Memory) × IsPut (edit_data edit)) }
 {
     let number = map.last() + 1;
@@ -71,6 +78,9 @@ fn replay_one(alloc: Global, map: &mut CachedMap, text: &[u8]) -> Result<(), Sto
     requires number { map.old.last + 1 < 2 ^ 64 }
     ensures made { OnOk result ((edit : EditData) × IsTextOf text.now edit × (map.new.features ≡ changed map.old.features edit)) }
     ensures last { OnOk result (map.new.last ≡ map.old.last + 1) }
+    ensures now { OnOk result (WasMap map.new.features map.new.touched map.new.last map.new.last map.new.features) }
+    ensures since { (n : ℕ) (was : FeatureMap) → WasMap map.old.features map.old.touched map.old.last n was
+        → OnOk result (WasMap map.new.features map.new.touched map.new.last n was) }
     ensures fault { IfErr result (IsTextFault text.now) }
 {
     let edit = edit_in(alloc, text)?;
@@ -87,7 +97,8 @@ pub(crate) fn replay(
 ) -> Result<(), StoreFault>
     requires texts { length (snapshot map.old.features) + bytes_of (views_of texts.items) < TEXTS_END }
     requires numbers { map.old.last + length texts.items < 2 ^ 64 }
-    ensures made { OnOk result ((edits : List EditData) × AreTextsOf (views_of texts.items) edits × (map.new.features ≡ after map.old.features edits)) }
+    requires now { WasMap map.old.features map.old.touched map.old.last map.old.last map.old.features }
+    ensures made { OnOk result (AreMade (views_of texts.items) map.old map.new) }
     ensures last { OnOk result (map.new.last ≡ map.old.last + length texts.items) }
     ensures fault { IfErr result (IsReplayFault (views_of texts.items)) }
 {

@@ -1,14 +1,11 @@
 //! Runs of events.
-ghost use Rattle.std.specs.Prelude.{◌≡◌, ◌≢◌, true, false, map, IfErr, IfOk};
+ghost use Rattle.std.specs.Prelude.{◌≡◌, true, false, map, IfErr, IfOk};
 ghost use Rattle.sector_disk.specs.Disk.{HasFailed};
-ghost use Rattle.sector_disk.specs.Moments.{LeavesOnly};
-ghost use Rattle.feature_model.specs.Data.{feature_data};
 ghost use Rattle.tile_service.specs.Events.{event_data, answer_data};
-ghost use Rattle.tile_service.specs.Machine.{look, refused, Steps};
-ghost use Rattle.tile_service.specs.Runs.{TakesRun};
-ghost use Rattle.tile_service.specs.Service.{Known, IsUp, state_of, known_after, edit_answer, left_answer, EventLeaves, stored_after};
-ghost use Rattle.tile_service.specs.Stored.{Stored};
-ghost use Rattle.tile_service.specs.declared.fault.ServiceFault.TheVariants.{Memory, Device};
+ghost use Rattle.tile_service.specs.Machine.{look, IsTile, AsksTile, Steps};
+ghost use Rattle.tile_service.specs.Runs.{TakesEvent, TakesRun};
+ghost use Rattle.tile_service.specs.Service.{Known, state_of, edit_answer, left_answer};
+ghost use Rattle.tile_service.specs.declared.fault.ServiceFault.TheVariants.{Memory};
 
 use crate::event::{Answer, Event};
 use crate::fault::ServiceFault;
@@ -53,20 +50,9 @@ impl<D: Sectors + Drop> Service<D> {
 
     /// Answers one event.
     fn answer(&mut self, event: Event) -> Answer
-        ensures machine { (known : Known) → Steps (state_of known self.old) (event_data event) (answer_data result)
-            (state_of (known_after known self.old (event_data event) (answer_data result)) self.new) }
-        ensures size { self.new.size ≡ self.old.size }
-        ensures count { D.sectors self.new.disk ≡ D.sectors self.old.disk }
-        ensures honest { D.honest self.new.disk → D.honest self.old.disk }
-        ensures faults { self.new.broken ≡ false → D.faults self.new.disk ≡ D.faults self.old.disk }
+        ensures takes { TakesEvent D.sectors D.honest D.history self.old (event_data event) (answer_data result) self.new }
+        ensures faults { ¬ IsTile (event_data event) → self.new.broken ≡ false → D.faults self.new.disk ≡ D.faults self.old.disk }
         ensures failed { self.old.broken ≡ false → self.new.broken ≡ true → HasFailed (D.faults self.old.disk) (D.faults self.new.disk) }
-        ensures untouched { self.old.broken ≡ true → self.new.disk ≡ self.old.disk }
-        ensures any_moment { (stored : Stored) → D.honest self.new.disk → IsUp (D.sectors self.old.disk) (D.history self.old.disk) stored self.old
-            → LeavesOnly (D.history self.old.disk) (D.history self.new.disk)
-            (EventLeaves (D.sectors self.old.disk) self.old.size stored self.old.publication (event_data event) (answer_data result)) }
-        ensures after { (stored : Stored) → D.honest self.new.disk → IsUp (D.sectors self.old.disk) (D.history self.old.disk) stored self.old
-            → answer_data result ≢ refused Device → IsUp (D.sectors self.new.disk) (D.history self.new.disk)
-            (stored_after self.old.size stored self.old.publication (event_data event) (answer_data result)) self.new }
     {
         match event {
             Event::Put { id, feature } => edited(self.put(id, feature)),
@@ -93,9 +79,12 @@ impl<D: Sectors + Drop> Service<D> {
         ensures size { self.new.size ≡ self.old.size }
         ensures count { D.sectors self.new.disk ≡ D.sectors self.old.disk }
         ensures honest { D.honest self.new.disk → D.honest self.old.disk }
-        ensures faults { self.new.broken ≡ false → D.faults self.new.disk ≡ D.faults self.old.disk }
-        ensures failed { self.old.broken ≡ false → self.new.broken ≡ true → HasFailed (D.faults self.old.disk) (D.faults self.new.disk) }
         ensures untouched { self.old.broken ≡ true → self.new.disk ≡ self.old.disk }
+
+        // A tile may meet a read that fails, and is cut then. A run without tiles has no call of the disk fail unless it breaks the service.
+        ensures faults { ¬ AsksTile (map event_data events.items) → self.new.broken ≡ false → D.faults self.new.disk ≡ D.faults self.old.disk }
+        ensures failed { ¬ AsksTile (map event_data events.items) → self.old.broken ≡ false → self.new.broken ≡ true
+            → HasFailed (D.faults self.old.disk) (D.faults self.new.disk) }
     {
         let mut answers = match Vec::with_capacity(self.alloc, events.len()) {
             Ok(answers) => answers,

@@ -5,6 +5,7 @@ use crate::publishing::Publication;
 use cached_map::CachedMap;
 use edit_journal::Journal;
 use generations::{Layout, Root};
+use published_tiles::PublishedTiles;
 use sector_disk::Sectors;
 use std::alloc::Global;
 use std::marker::Model;
@@ -19,6 +20,7 @@ pub struct Service<D: Sectors + Drop> {
     pub(crate) map: CachedMap,
     pub(crate) root: Root,
     pub(crate) publication: Option<Publication>,
+    pub(crate) published: PublishedTiles,
     pub(crate) broken: bool,
 }
 
@@ -31,11 +33,13 @@ impl<D: Sectors + Drop> Model for Service<D> {
       disk = s.disk;
       size = s.layout.sectors;
       features = s.map.features;
+      touched = s.map.touched;
       journal = s.journal;
       generation = s.root.generation;
       snapshot_len = s.root.snapshot_len;
       archive_len = s.root.archive_len;
       publication = s.publication;
+      published = s.published;
       broken = s.broken;
     } };
 
@@ -55,6 +59,7 @@ impl<D: Sectors + Drop> Service<D> {
             map: _,
             root: _,
             publication: _,
+            published: _,
             broken: _,
         } = self;
         disk

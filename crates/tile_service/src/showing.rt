@@ -1,11 +1,16 @@
 //! What a service shows.
-ghost use Rattle.std.specs.Prelude.{◌≡◌, IfErr, IfOk, option_map};
+ghost use Rattle.std.specs.Prelude.{◌≡◌, false, true, IfErr, IfOk, IfSome, MatchResult, option_map};
 ghost use Rattle.feature_model.specs.Data.{feature_data};
+ghost use Rattle.feature_store.specs.Content.{IsTileContent};
+ghost use Rattle.feature_store.specs.Layers.{layers};
 ghost use Rattle.feature_store.specs.Store.{feature_at};
 ghost use Rattle.map_metadata.specs.Metadata.{IsMetadata};
+ghost use Rattle.pm_archive.specs.Answers.{IsOutside};
 ghost use Rattle.serde_json.specs.View.{view};
 ghost use Rattle.tile_service.specs.Machine.{tile, Steps};
-ghost use Rattle.tile_service.specs.Service.{Known, state_of, tile_answer};
+ghost use Rattle.tile_service.specs.Runs.{IsTrusted};
+ghost use Rattle.tile_service.specs.Service.{Known, IsUp, state_of, tile_answer};
+ghost use Rattle.tile_service.specs.Stored.{Stored};
 ghost use Rattle.tile_service.specs.declared.fault.ServiceFault.TheVariants.{Memory};
 
 use crate::fault::ServiceFault;
@@ -13,6 +18,7 @@ use crate::service::Service;
 use feature_model::Feature;
 use hilbert_id::TileAt;
 use map_metadata::metadata;
+use pm_archive::ArchiveFault;
 use sector_disk::Sectors;
 use serde_json::Value;
 use std::alloc::AllocError;
@@ -25,15 +31,76 @@ impl<D: Sectors + Drop> Service<D> {
         self.map.store().get(id)
     }
 
+    /// The bytes of a tile in the archive that was published last, none where it shows nothing there.
+    ///
+    /// # Errors
+    ///
+    /// Why it can't be told: a read has failed, or there is no memory.
+    fn archived_tile(&mut self, at: TileAt) -> Result<Option<Vec<u8>>, ArchiveFault>
+        ensures same { self.new ≡ record self.old { disk = self.new.disk; published = self.new.published } }
+        ensures count { D.sectors self.new.disk ≡ D.sectors self.old.disk }
+        ensures honest { D.honest self.new.disk → D.honest self.old.disk }
+        ensures history { D.honest self.new.disk → D.history self.new.disk ≡ D.history self.old.disk }
+        ensures tile { (stored : Stored) → IsUp (D.sectors self.old.disk) (D.history self.old.disk) stored self.old → D.honest self.new.disk
+            → MatchResult result (λ content. IsTileContent (layers stored.snapshot_map at.z at.x at.y) (option_map (λ b. b.items) content)) IsOutside }
+        ensures up { (stored : Stored) → IsUp (D.sectors self.old.disk) (D.history self.old.disk) stored self.old → D.honest self.new.disk
+            → IsUp (D.sectors self.new.disk) (D.history self.new.disk) stored self.new }
+    {
+        let archive = self.archive();
+        self.published.tile(&mut self.disk, archive, at)
+    }
+
+    /// The bytes of a tile in the archive, where no edit since can have touched it; `None` where one may have, where the archive can't be
+    /// read, and of a broken service.
+    fn published_tile(&mut self, at: TileAt) -> Option<Option<Vec<u8>>>
+        ensures same { self.new ≡ record self.old { disk = self.new.disk; published = self.new.published } }
+        ensures count { D.sectors self.new.disk ≡ D.sectors self.old.disk }
+        ensures honest { D.honest self.new.disk → D.honest self.old.disk }
+        ensures history { D.honest self.new.disk → D.history self.new.disk ≡ D.history self.old.disk }
+        ensures untouched { self.old.broken ≡ true → self.new.disk ≡ self.old.disk }
+        ensures unbroken { IfSome result (λ content. self.old.broken ≡ false) }
+        ensures tile { (stored : Stored) → IsUp (D.sectors self.old.disk) (D.history self.old.disk) stored self.old → D.honest self.new.disk
+            → IfSome result (λ content. IsTileContent (layers self.old.features at.z at.x at.y) (option_map (λ b. b.items) content)) }
+        ensures up { (stored : Stored) → IsUp (D.sectors self.old.disk) (D.history self.old.disk) stored self.old → D.honest self.new.disk
+            → IsUp (D.sectors self.new.disk) (D.history self.new.disk) stored self.new }
+    {
+        if self.broken {
+            return None;
+        }
+        if self.map.newest(at) > self.journal.edits {
+            return None;
+        }
+        match self.archived_tile(at) {
+            Ok(content) => Some(content),
+            Err(_) => None,
+        }
+    }
+
     /// The bytes of a tile (Mapbox Vector Tile 2.1), after the last acknowledged edit: none where it shows nothing, so above the
-    /// greatest zoom too. One that was asked for before, and that no edit can have touched since, isn't cut again. The only error is
+    /// greatest zoom too. One that was made before and that no edit can have touched since is copied; else one that no edit can have
+    /// touched since the archive was published is read there; any other is cut, and so is one whose reading fails. The only error is
     /// `Memory`.
     pub fn tile(&mut self, at: TileAt) -> Result<Option<Vec<u8>>, ServiceFault>
-        ensures machine { (known : Known)
+        ensures machine { (known : Known) → IsTrusted D.sectors D.honest D.history self.old self.new
             → Steps (state_of known self.old) (tile at.z at.x at.y) (tile_answer result) (state_of known self.new) }
-        ensures same { self.new ≡ self.old }
+        ensures fault { IfErr result (λ fault. fault ≡ Memory) }
+        ensures same { self.new ≡ record self.old { disk = self.new.disk; published = self.new.published } }
+        ensures count { D.sectors self.new.disk ≡ D.sectors self.old.disk }
+        ensures honest { D.honest self.new.disk → D.honest self.old.disk }
+        ensures history { D.honest self.new.disk → D.history self.new.disk ≡ D.history self.old.disk }
+        ensures untouched { self.old.broken ≡ true → self.new.disk ≡ self.old.disk }
+        ensures up { (stored : Stored) → IsUp (D.sectors self.old.disk) (D.history self.old.disk) stored self.old → D.honest self.new.disk
+            → IsUp (D.sectors self.new.disk) (D.history self.new.disk) stored self.new }
     {
-        match self.map.tile(at) {
+        match self.map.kept(at) {
+            Ok(Some(bytes)) => return Ok(Some(bytes)),
+            Ok(None) => {}
+            Err(AllocError) => return Err(ServiceFault::Memory),
+        }
+        if let Some(content) = self.published_tile(at) {
+            return Ok(content);
+        }
+        match self.map.make(at) {
             Ok(content) => Ok(content),
             Err(AllocError) => Err(ServiceFault::Memory),
         }

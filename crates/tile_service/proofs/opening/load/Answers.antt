@@ -9,7 +9,7 @@ returns-in-Ok-read_map-clause-found g c honest =
     let before = live_before (g.D.Sectors.sectors c.args.disk.now) (g.D.Sectors.sectors c.sync.new.self) c.in-Ok-read_root.found.0.sectors
     (g.D.Sectors.history c.args.disk.now) (g.D.Sectors.history c.sync.new.self) c.in-Ok-read_root.found.1 c.in-Ok.ensures.count
     sync_is (c.in-Ok-read_root.ensures.root root_honest) in
-    read_after _ _ (g.D.Sectors.history c.args.disk.now) (g.D.Sectors.history c.read_root.new.disk) _ _ _
+    read_after _ _ (g.D.Sectors.history c.args.disk.now) (g.D.Sectors.history c.read_root.new.disk) _ _ _ _
     (c.in-Ok-read_root.ensures.history root_honest ∙ sync_is) before (c.in-Ok-read_map.ensures.found honest)
 
 pub returns-in-Err-read_map-clause-fault : goal.returns-in-Err-read_map-clause-fault

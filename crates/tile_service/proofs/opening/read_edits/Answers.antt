@@ -1,4 +1,4 @@
-use Rattle.std.proofs.Common.{ℕ, ap, ◌∙◌, ◌+◌, ◌*◌, ◌<◌, subst, sym, length, arith, Vec, Global}
+use Rattle.std.proofs.Common.{◌≡◌, ℕ, List, ap, ◌∙◌, ◌+◌, ◌*◌, ◌<◌, subst, sym, length, arith, Vec, Global}
 use Rattle.std.proofs.lemmas.List.{length-map}
 use Rattle.edit_journal.specs.Ring.{Ring, Start}
 use Rattle.edit_journal.specs.Appends.{start_of}
@@ -7,9 +7,11 @@ use Rattle.edit_journal.specs.declared.sizes.TheConstants.{RECORD_VERSION}
 use Rattle.generations.specs.Areas.{area_sectors}
 use Rattle.sector_disk.specs.Disk.{seen}
 use Rattle.sector_disk.specs.declared.disk.TheConstants.{SECTOR_BYTES}
+use Rattle.feature_model.specs.Data.{EditData}
 use Rattle.feature_store.specs.Store.{FeatureMap, after, snapshot}
 use Rattle.feature_store.specs.declared.limit.TheConstants.{TEXTS_END}
 use Rattle.tile_service.specs.Replayed.{bytes_of, views_of}
+use Rattle.tile_service.specs.Tiles.{WereMaps}
 use Rattle.tile_service.proofs.Opens.{recovery_counts, recovery_fault, text_fault, texts_short, replayed_short}
 use Rattle.tile_service.proofs.opening.read_edits.Goals as goal
 
@@ -28,33 +30,48 @@ returns-in-Err-clause-fault g c honest has =
 pub replay-requires : goal.replay-requires
 replay-requires g c = record {
   texts = subst (λ (m : FeatureMap). length (snapshot m) + bytes_of (views_of c.in-Ok.found.1.items) < TEXTS_END)
-      (sym (ap (λ m. m.features) c.in-Ok-new.ensures))
+      (sym c.in-Ok-new.ensures.features)
       (texts_short c.args.layout.sectors c.in-Ok.found.0.used c.in-Ok.found.0.places (length (snapshot c.args.store.features))
       (views_of c.in-Ok.found.1.items) c.args.layout.size c.requires.texts
       c.in-Ok.found.0.room (ap (λ (r : Ring). r.places) c.in-Ok.ensures.same.0 ∙ c.args.layout.journal_is) c.in-Ok.ensures.used);
-  numbers = omega (arith, c.in-Ok.ensures.last, ap (λ m. m.last) c.in-Ok-new.ensures);
+  numbers = omega (arith, c.in-Ok.ensures.last, c.in-Ok-new.ensures.last);
+  now = c.in-Ok-new.ensures.now;
 }
 
 pub returns-in-Ok-replay-clause-texts : goal.returns-in-Ok-replay-clause-texts
-returns-in-Ok-replay-clause-texts g c = replayed_short (views_of c.in-Ok.found.1.items) c.in-Ok-replay.ensures.made.0 c.args.store.features
-    c.replay.new.map.features (SECTOR_BYTES * area_sectors c.args.layout.sectors) c.in-Ok.found.0.used c.in-Ok-replay.ensures.made.1 c.requires.texts
-    (c.in-Ok-replay.ensures.made.2 ∙ ap (λ m. after m.features c.in-Ok-replay.ensures.made.0) c.in-Ok-new.ensures) c.in-Ok.ensures.used
+returns-in-Ok-replay-clause-texts g c = replayed_short (views_of c.in-Ok.found.1.items) c.in-Ok-replay.ensures.made.edits c.args.store.features
+    c.replay.new.map.features (SECTOR_BYTES * area_sectors c.args.layout.sectors) c.in-Ok.found.0.used c.in-Ok-replay.ensures.made.are_texts c.requires.texts
+    (c.in-Ok-replay.ensures.made.map_is ∙ ap (λ (m : FeatureMap). after m c.in-Ok-replay.ensures.made.edits) c.in-Ok-new.ensures.features) c.in-Ok.ensures.used
 
 pub returns-in-Ok-replay-clause-found : goal.returns-in-Ok-replay-clause-found
 returns-in-Ok-replay-clause-found g c honest has = record {
   snapshot_map = c.args.store.features;
   has_snapshot = has;
   texts = views_of c.in-Ok.found.1.items;
-  edits = c.in-Ok-replay.ensures.made.0;
+  edits = c.in-Ok-replay.ensures.made.edits;
   are_texts = subst (λ (places : ℕ). IsJournal RECORD_VERSION (record { first = 3; places = places }) (start_of c.args.root.journal_at c.args.root.edits)
       (views_of c.in-Ok.found.1.items) (seen (g.D.Sectors.history c.args.disk.now))) c.args.layout.journal_is (c.in-Ok.ensures.found honest);
-  are_edits = c.in-Ok-replay.ensures.made.1;
+  are_edits = c.in-Ok-replay.ensures.made.are_texts;
   place_is = ap (λ (s : Start). s.place) c.in-Ok.ensures.same.1;
   edits_are = omega (arith, ap (λ (s : Start). s.number) c.in-Ok.ensures.same.1);
   used_is = c.in-Ok.ensures.used;
   last_is = omega (arith, c.in-Ok.ensures.last, length-map c.in-Ok.found.1.items (λ (text : Vec ℕ Global). text.items));
-  map_is = c.in-Ok-replay.ensures.made.2 ∙ ap (λ m. after m.features c.in-Ok-replay.ensures.made.0) c.in-Ok-new.ensures;
+  map_is = c.in-Ok-replay.ensures.made.map_is ∙ ap (λ (m : FeatureMap). after m c.in-Ok-replay.ensures.made.edits) c.in-Ok-new.ensures.features;
+  were = were;
 }
+  where
+    edits : List EditData
+    edits = c.in-Ok-replay.ensures.made.edits
+
+    last : c.replay.new.map.last ≡ c.in-Ok.found.0.last
+    last = omega (arith, c.in-Ok.ensures.last, c.in-Ok-replay.ensures.last, c.in-Ok-new.ensures.last)
+
+    were : WereMaps c.replay.new.map.features c.replay.new.map.touched c.in-Ok.found.0.last c.args.root.edits c.args.store.features edits
+    were = subst (λ (n : ℕ). WereMaps c.replay.new.map.features c.replay.new.map.touched n c.args.root.edits c.args.store.features edits) last
+        (subst (λ (n : ℕ). WereMaps c.replay.new.map.features c.replay.new.map.touched c.replay.new.map.last n c.args.store.features edits)
+        c.in-Ok-new.ensures.last
+        (subst (λ (m : FeatureMap). WereMaps c.replay.new.map.features c.replay.new.map.touched c.replay.new.map.last c.in-Ok-new.map.last m edits)
+        c.in-Ok-new.ensures.features c.in-Ok-replay.ensures.made.were))
 
 pub returns-in-Err-replay-clause-fault : goal.returns-in-Err-replay-clause-fault
 returns-in-Err-replay-clause-fault g c honest has =

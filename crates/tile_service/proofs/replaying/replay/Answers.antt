@@ -1,11 +1,11 @@
-use Rattle.std.proofs.Common.{◌≡◌, ◌<◌, ◌+◌, List, [], ◌∷◌, ◌++◌, Vec, ℕ, Global, length, sym, ◌∙◌, ap, subst, arith, append_assoc}
-use Rattle.std.proofs.lemmas.List.{map-append}
+use Rattle.std.proofs.Common.{◌≡◌, ◌<◌, ◌+◌, List, [], ◌∷◌, ◌++◌, Vec, ℕ, Global, length, sym, ◌∙◌, ap, subst, arith, append_assoc, length-append}
+use Rattle.std.proofs.lemmas.List.{length-map, map-append}
 use Rattle.std.proofs.lemmas.Result.{err_from_is_err_and}
 use Rattle.std.specs.Vec.Iter.{into_iter_items}
 use Rattle.feature_model.specs.Data.{EditData}
-use Rattle.feature_store.specs.Store.{after, changed, snapshot}
+use Rattle.feature_store.specs.Store.{changed, snapshot}
 use Rattle.feature_store.specs.declared.limit.TheConstants.{TEXTS_END}
-use Rattle.tile_service.specs.Replayed.{AreTextsOf, IsReplayFault, IsTextOf, IsTextFault, bytes_of, views_of}
+use Rattle.tile_service.specs.Replayed.{AreMade, IsReplayFault, IsTextOf, IsTextFault, bytes_of, views_of}
 use Rattle.tile_service.proofs.Replays.{replay_fault, replayed_one, short_one}
 use Rattle.tile_service.proofs.replaying.replay.Goals as goal
 
@@ -28,10 +28,17 @@ loop-text-preserved c =
       is_finite = tt;
       items = append_assoc yielded (text ∷ []) rest ∙ ap (λ l. yielded ++ l) (sym steps.0) ∙ inv.items;
       left = omega (arith, steps.1, ap length steps.0, inv.left);
-      made = subst (λ (l : List (List ℕ)). (edits : List EditData) × AreTextsOf l edits
-          × (c.replay_one.new.map.features ≡ after c.args.map.now.features edits))
-          (sym (views_append yielded (text ∷ [])))
-          (replayed_one (views_of yielded) text.items c.args.map.now.features old c.replay_one.new.map.features inv.made edit);
+      made = subst (λ (l : List (List ℕ)). AreMade l c.args.map.now c.replay_one.new.map) (sym (views_append yielded (text ∷ [])))
+          (replayed_one (views_of yielded) text.items c.args.map.now c.loop-text.map c.replay_one.new.map inv.made edit
+          (omega (
+            arith,
+            c.in_ok-replay_one.ensures.last,
+            inv.last,
+            ap length inv.items,
+            length-append yielded (into_iter_items c.loop-text.text-iterator),
+            length-map yielded (λ (text : Vec ℕ Global). text.items),
+          ))
+          c.in_ok-replay_one.ensures.now c.in_ok-replay_one.ensures.since);
       last = omega (arith, c.in_ok-replay_one.ensures.last, ap length steps.0, inv.last);
       short = short_one (views_of rest) text.items TEXTS_END old c.replay_one.new.map.features
           (subst (λ (l : List (Vec ℕ Global)). length (snapshot old) + bytes_of (views_of l) < TEXTS_END) steps.0 inv.short)

@@ -1,9 +1,8 @@
-use Rattle.std.proofs.Common.{◌≡◌, ◌<◌, ◌+◌, ◌++◌, List, length}
+use Rattle.std.proofs.Common.{◌≡◌, ◌<◌, ◌+◌, ◌++◌, length}
 use Rattle.std.specs.Vec.Iter.{into_iter_items, into_iter_len}
-use Rattle.feature_model.specs.Data.{EditData}
-use Rattle.feature_store.specs.Store.{after, snapshot}
+use Rattle.feature_store.specs.Store.{snapshot}
 use Rattle.feature_store.specs.declared.limit.TheConstants.{TEXTS_END}
-use Rattle.tile_service.specs.Replayed.{AreTextsOf, bytes_of, views_of}
+use Rattle.tile_service.specs.Replayed.{AreMade, bytes_of, views_of}
 use Rattle.tile_service.proofs.replaying.replay.Given as goal
 
 abbrev pub invariant-loop-text : goal.invariant-loop-text
@@ -12,7 +11,7 @@ invariant-loop-text l = record {
   is_finite : goal.iterator-loop-text.is_finite l.text-iterator;
   items : l.yielded ++ into_iter_items l.text-iterator ≡ l.fn.texts.items;
   left : into_iter_len l.text-iterator ≡ length (into_iter_items l.text-iterator);
-  made : (edits : List EditData) × AreTextsOf (views_of l.yielded) edits × (l.map.features ≡ after l.fn.map.features edits);
+  made : AreMade (views_of l.yielded) l.fn.map l.map;
   last : l.map.last + length (into_iter_items l.text-iterator) ≡ l.fn.map.last + length l.fn.texts.items;
   short : length (snapshot l.map.features) + bytes_of (views_of (into_iter_items l.text-iterator)) < TEXTS_END;
 }

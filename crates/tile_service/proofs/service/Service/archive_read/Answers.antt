@@ -1,4 +1,6 @@
-use Rattle.std.proofs.Common.{◌≡◌, ◌+◌, length, slice_range, OnOk, sym, ap, subst, arith}
+use Rattle.std.proofs.Common.{◌≡◌, ◌+◌, length, slice_range, OnOk, sym, ap, ◌∙◌, subst, arith}
+use Rattle.published_tiles.specs.declared.place.ArchivePlace.{ArchivePlace}
+use Rattle.tile_service.specs.Service.{archive_of}
 use Rattle.tile_service.proofs.Archives.{archive_is_read, up_unwritten}
 use Rattle.tile_service.proofs.service.Service.archive_read.Goals as goal
 use Rattle.tile_service.proofs.service.Service.archive_read.Goals.{in-Ok, in-Err}
@@ -6,7 +8,7 @@ use Rattle.tile_service.proofs.service.Service.archive_read.Goals.{in-Ok, in-Err
 pub returns-clause-read : goal.returns-clause-read
 returns-clause-read g c = rw (← c.self.view_is) (λ stored up honest.
     let is = archive_is_read (g.D.Sectors.sectors c.self.inside.disk) (g.D.Sectors.history c.self.inside.disk) stored _ up
-    _ c.args.at (length c.args.into.now) c.read_bytes.new.into (λ i. c.area_of.ensures i + c.sectors_for.ensures i)
+    _ c.args.at (length c.args.into.now) c.read_bytes.new.into (ap (λ (p : ArchivePlace). p.first) (c.archive-first.ensures ∙ ap (λ s. archive_of s) (sym c.self.view_is)))
     (omega (arith, c.requires.within, ap (λ s. s.archive_len) c.self.view_is)) in
     elim c.match-read_bytes.branch [
       | in-Ok w ↦ subst (λ result. OnOk result (c.read_bytes.new.into ≡ slice_range stored.archive c.args.at (c.args.at + length c.args.into.now)))

@@ -12,11 +12,13 @@ returns-in-Ok-clause-any_moment g c = rw (← c.self.view_is) (λ stored honest 
       disk = c.self.inside.disk;
       size = c.self.inside.layout.sectors;
       features = c.self.inside.map.features;
+      touched = c.self.inside.map.touched;
       journal = c.self.inside.journal;
       generation = c.self.inside.root.generation;
       snapshot_len = c.self.inside.root.snapshot_len;
       archive_len = c.self.inside.root.archive_len;
       publication = c.self.inside.publication;
+      published = c.self.inside.published;
       broken = c.self.inside.broken;
     } in
     let root : Root = record {
@@ -37,11 +39,13 @@ returns-in-Ok-clause-after g c = rw (← c.self.view_is) (λ stored honest up.
       disk = c.self.inside.disk;
       size = c.self.inside.layout.sectors;
       features = c.self.inside.map.features;
+      touched = c.self.inside.map.touched;
       journal = c.self.inside.journal;
       generation = c.self.inside.root.generation;
       snapshot_len = c.self.inside.root.snapshot_len;
       archive_len = c.self.inside.root.archive_len;
       publication = c.self.inside.publication;
+      published = c.self.inside.published;
       broken = c.self.inside.broken;
     } in
     let root : Root = record {
@@ -63,7 +67,7 @@ returns-in-Ok-clause-after g c = rw (← c.self.view_is) (λ stored honest up.
     up_installed _ _ stored service c.args.publication up c.requires.written root is _ _ _ c.install.ensures.count (c.in-Ok.ensures.installed honest)
     refl refl refl refl (c.release.ensures.start.0 ∙ place) (c.release.ensures.start.1 ∙ edits)
     (c.release.ensures.freed c.args.publication.places behind) c.release.ensures.same.1 text archive
-    (ap (λ s. s.publication) c.self.view_is ∙ c.requires.none))
+    (ap (λ s. s.publication) c.self.view_is ∙ c.requires.none) refl refl)
 
 pub returns-clause-any_moment : goal.returns-clause-any_moment
 returns-clause-any_moment g c = rw (← c.self.view_is) (λ stored honest up.
@@ -71,11 +75,13 @@ returns-clause-any_moment g c = rw (← c.self.view_is) (λ stored honest up.
       disk = c.self.inside.disk;
       size = c.self.inside.layout.sectors;
       features = c.self.inside.map.features;
+      touched = c.self.inside.map.touched;
       journal = c.self.inside.journal;
       generation = c.self.inside.root.generation;
       snapshot_len = c.self.inside.root.snapshot_len;
       archive_len = c.self.inside.root.archive_len;
       publication = c.self.inside.publication;
+      published = c.self.inside.published;
       broken = c.self.inside.broken;
     } in
     let root : Root = record {

@@ -11,14 +11,17 @@ returns-in-Ok-clause-opened g c n stored holds honest =
       disk = c.load.new.disk;
       size = c.in-Ok.found.layout.sectors;
       features = c.in-Ok.found.map.features;
+      touched = c.in-Ok.found.map.touched;
       journal = c.in-Ok.found.journal;
       generation = c.in-Ok.found.root.generation;
       snapshot_len = c.in-Ok.found.root.snapshot_len;
       archive_len = c.in-Ok.found.root.archive_len;
       publication = None;
+      published = c.in-Ok.found.published;
       broken = false;
     })
     c.in-Ok.found.root refl c.load.ensures.count (c.in-Ok.ensures.synced honest) refl refl refl refl refl (c.in-Ok.ensures.found honest)
+    c.in-Ok.ensures.published
 
 pub returns-in-Err-clause-refused : goal.returns-in-Err-clause-refused
 returns-in-Err-clause-refused g c n stored holds honest =

@@ -13,11 +13,13 @@ returns-in-Ok-clause-machine g c = rw (← c.self.view_is) (λ known.
       disk = c.self.inside.disk;
       size = c.self.inside.layout.sectors;
       features = c.self.inside.map.features;
+      touched = c.self.inside.map.touched;
       journal = c.self.inside.journal;
       generation = c.self.inside.root.generation;
       snapshot_len = c.self.inside.root.snapshot_len;
       archive_len = c.self.inside.root.archive_len;
       publication = c.self.inside.publication;
+      published = c.self.inside.published;
       broken = c.self.inside.broken;
     }) (record { content = c.in-Ok.content; start = c.next.result; places = c.self.inside.journal.used; written = 0 })
     (c.sectors-left.result + 1) (search rules) none (omega arith)

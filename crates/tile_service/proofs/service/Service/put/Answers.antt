@@ -8,6 +8,7 @@ use Rattle.tile_service.specs.Machine.{edited, refused}
 use Rattle.tile_service.specs.Service.{IsUp}
 use Rattle.tile_service.specs.Stored.{texts_of}
 use Rattle.tile_service.specs.declared.fault.ServiceFault.TheVariants.{NumbersSpent, Memory, Device}
+use Rattle.tile_service.proofs.Earlier.{since_on, now_on}
 use Rattle.tile_service.proofs.Edits.{up_is_at, same_leaves, append_any_moment, refused_any_moment, up_with_edit}
 use Rattle.tile_service.proofs.Going.{service_on}
 use Rattle.tile_service.proofs.Steps.{put_length, short_after_put, short_enough}
@@ -69,11 +70,15 @@ returns-in-Ok-append-clause-any_moment g c = rw (← c.self.view_is) (λ stored 
 pub returns-in-Ok-append-clause-acknowledged : goal.returns-in-Ok-append-clause-acknowledged
 returns-in-Ok-append-clause-acknowledged g c = rw (← c.self.view_is) (λ stored honest up.
     let at = up_is_at g.D.Sectors.sectors g.D.Sectors.history stored _ c.self.invariant.ring up in
+    let last : c.apply.new.map.last ≡ c.append.new.self.last =
+    omega (arith, c.apply.ensures.last, c.in-Ok-append.ensures.number, c.in-Ok-append.ensures.last) in
     up_with_edit g.D.Sectors.sectors g.D.Sectors.history stored _ c.self.invariant.ring up (put c.args.id (feature_data c.args.feature))
     c.in-Ok-encode.ensures.edit _ (c.deref.ensures.value ∙ c.in-Ok-encode.ensures.text) c.append.new.disk (c.append.ensures.frame honest)
     _ refl c.append.ensures.count refl c.append.ensures.same (c.in-Ok-append.ensures.acknowledged (texts_of stored) honest at)
-    (c.apply.ensures.map ∙ ap (λ m. with_feature m.features c.args.id (feature_data c.args.feature)) c.room.ensures.same) refl refl refl refl refl
-    (c.append.ensures.reads honest))
+    (c.apply.ensures.map ∙ ap (λ m. with_feature m.features c.args.id (feature_data c.args.feature)) c.room.ensures.same)
+    (since_on c.self.inside.map c.room.new.self c.apply.new.map c.self.inside.journal.last c.append.new.self.last c.self.invariant.last_is
+    c.room.ensures.same last c.apply.ensures.since)
+    (now_on c.apply.new.map c.append.new.self.last last c.apply.ensures.now) refl refl refl refl refl refl (c.append.ensures.reads honest))
 
 pub returns-in-Err-append-clause-any_moment : goal.returns-in-Err-append-clause-any_moment
 returns-in-Err-append-clause-any_moment g c = rw (ap (λ s. s.disk) c.fail.ensures.same, ← c.self.view_is) (λ stored honest up.

@@ -6,11 +6,11 @@ use Rattle.std.specs.Vec.{vec_len}
 use Rattle.std.specs.Vec.Iter.{into_iter_items}
 use Rattle.sector_disk.specs.Disk.{HasFailed}
 use Rattle.tile_service.specs.Events.{event_data, answer_data}
-use Rattle.tile_service.specs.Machine.{EventData, AnswerData}
+use Rattle.tile_service.specs.Machine.{EventData, AnswerData, AsksTile}
 use Rattle.tile_service.specs.Runs.{TakesEvent, TakesRun}
-use Rattle.tile_service.proofs.Callers.{HasRun, run_begins, run_on, takes_run}
+use Rattle.tile_service.proofs.Callers.{HasRun, run_begins, run_on, takes_run, was_before, broken_on}
 use Rattle.tile_service.proofs.Fits.{told_as}
-use Rattle.tile_service.proofs.Runs.{no_known, broken_stays, true_or_false, was_unbroken}
+use Rattle.tile_service.proofs.Runs.{asks_before, asks_last, true_or_false}
 use Rattle.tile_service.proofs.service.Service.run.Goals as goal
 
 pub loop-event-init : goal.loop-event-init
@@ -21,8 +21,8 @@ loop-event-init g c = let none = c.in-Ok.ensures.items in record {
   left = search;
   capacity = let counted : vec_len c.args.events ≡ length c.args.events.items = search in omega (arith, c.in-Ok.ensures.capacity, c.len.ensures, counted);
   len = c.in-Ok.ensures.len;
-  faults = λ unbroken. refl;
-  failed = λ unbroken broken. absurd (false≢true (sym unbroken ∙ broken));
+  faults = λ none unbroken. refl;
+  failed = λ none unbroken broken. absurd (false≢true (sym unbroken ∙ broken));
   untouched = λ broken. (broken, refl);
   so = subst (λ l. HasRun g.D.Sectors.sectors g.D.Sectors.honest g.D.Sectors.history c.args.self.now [] (map answer_data l) c.args.self.now) (sym none)
       (run_begins g.D.Sectors.sectors g.D.Sectors.honest g.D.Sectors.history c.args.self.now);
@@ -44,17 +44,13 @@ loop-event-preserved g c =
     let answers_are : map answer_data c.push.new.self.items ≡ answers ++ answer_data answer ∷ [] =
     ap (λ l. map answer_data l) pushed ∙ map-append answer_data given (answer ∷ []) in
     let steps = c.in-Some.ensures.steps in
-    let taken = call.machine no_known in
     let new = c.answer-answer.new.self in
-    let goes : TakesEvent g.D.Sectors.sectors g.D.Sectors.honest g.D.Sectors.history c.loop-event.self (event_data event) (answer_data answer) new = record {
-      machine = call.machine;
-      size = call.size;
-      count = call.count;
-      stays_honest = call.honest;
-      untouched = call.untouched;
-      any_moment = call.any_moment;
-      after = call.after;
-    } in
+    let goes : TakesEvent g.D.Sectors.sectors g.D.Sectors.honest g.D.Sectors.history c.loop-event.self (event_data event) (answer_data answer) new =
+    call.takes in
+    let before = was_before g.D.Sectors.sectors g.D.Sectors.honest g.D.Sectors.history c.loop-event.self new (event_data event) (answer_data answer) goes in
+    let broken_still = broken_on g.D.Sectors.sectors g.D.Sectors.honest g.D.Sectors.history c.loop-event.self new (event_data event) (answer_data answer) goes in
+    let none_of : ¬ AsksTile (map event_data (yielded ++ event ∷ [])) → ¬ AsksTile (events ++ event_data event ∷ []) =
+    (λ none asks. none (subst AsksTile (sym events_are) asks)) in
     record {
       can_next = tt;
       is_finite = tt;
@@ -63,13 +59,15 @@ loop-event-preserved g c =
       capacity = omega (arith, inv.capacity, c.push.ensures.capacity);
       len = c.push.ensures.len ∙ ap (λ r. if is_ok r then vec_len c.loop-event.answers + 1 else vec_len c.loop-event.answers) c.unwrap.ensures
           ∙ ap (λ (n : ℕ). n + 1) inv.len ∙ sym (length-append yielded (event ∷ []));
-      faults = λ unbroken. call.faults unbroken ∙ inv.faults (was_unbroken _ _ _ _ taken unbroken).0;
-      failed = λ unbroken broken. ⊎_elim
+      faults = λ none unbroken. call.faults (λ asks. none_of none (asks_last events (event_data event) asks)) unbroken
+          ∙ inv.faults (λ asks. none_of none (asks_before events (event_data event) asks)) (before unbroken).0;
+      failed = λ none unbroken broken. ⊎_elim
           (λ (was : c.loop-event.self.broken ≡ true). subst (λ d. HasFailed (g.D.Sectors.faults c.args.self.now.disk) (g.D.Sectors.faults d))
-          (sym (call.untouched was)) (inv.failed unbroken was))
-          (λ (not : c.loop-event.self.broken ≡ false). subst (λ count. HasFailed count (g.D.Sectors.faults new.disk)) (inv.faults not) (call.failed not broken))
+          (sym (goes.untouched was)) (inv.failed (λ asks. none_of none (asks_before events (event_data event) asks)) unbroken was))
+          (λ (not : c.loop-event.self.broken ≡ false). subst (λ count. HasFailed count (g.D.Sectors.faults new.disk))
+          (inv.faults (λ asks. none_of none (asks_before events (event_data event) asks)) not) (call.failed not broken))
           (true_or_false c.loop-event.self.broken);
-      untouched = λ broken. let was = inv.untouched broken in ((broken_stays _ _ _ _ taken was.0).0, call.untouched was.0 ∙ was.1);
+      untouched = λ broken. let was = inv.untouched broken in ((broken_still was.0).0, goes.untouched was.0 ∙ was.1);
       so = told_as (λ asked told. HasRun g.D.Sectors.sectors g.D.Sectors.honest g.D.Sectors.history c.args.self.now asked told new) events_are answers_are
           (run_on g.D.Sectors.sectors g.D.Sectors.honest g.D.Sectors.history c.args.self.now c.loop-event.self new events answers
           (event_data event) (answer_data answer) inv.so goes);

@@ -3,6 +3,7 @@ use Rattle.std.specs.Vec.{vec_len, vec_capacity}
 use Rattle.std.specs.Vec.Iter.{into_iter_items, into_iter_len}
 use Rattle.sector_disk.specs.Disk.{HasFailed}
 use Rattle.tile_service.specs.Events.{event_data, answer_data}
+use Rattle.tile_service.specs.Machine.{AsksTile}
 use Rattle.tile_service.proofs.Callers.{HasRun}
 use Rattle.tile_service.proofs.service.Service.run.Given as goal
 
@@ -14,8 +15,8 @@ invariant-loop-event g l = record {
   left : into_iter_len l.event-iterator ≡ length (into_iter_items l.event-iterator);
   capacity : length l.fn.events.items ≤ vec_capacity l.answers;
   len : vec_len l.answers ≡ length l.yielded;
-  faults : l.self.broken ≡ false → g.D.Sectors.faults l.self.disk ≡ g.D.Sectors.faults l.initial.self.disk;
-  failed : l.initial.self.broken ≡ false → l.self.broken ≡ true
+  faults : ¬ AsksTile (map event_data l.yielded) → l.self.broken ≡ false → g.D.Sectors.faults l.self.disk ≡ g.D.Sectors.faults l.initial.self.disk;
+  failed : ¬ AsksTile (map event_data l.yielded) → l.initial.self.broken ≡ false → l.self.broken ≡ true
       → HasFailed (g.D.Sectors.faults l.initial.self.disk) (g.D.Sectors.faults l.self.disk);
   untouched : l.initial.self.broken ≡ true → (l.self.broken ≡ true) × (l.self.disk ≡ l.initial.self.disk);
   so : HasRun g.D.Sectors.sectors g.D.Sectors.honest g.D.Sectors.history
