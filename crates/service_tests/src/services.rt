@@ -9,10 +9,12 @@ mod openings;
 mod publication_stops;
 mod publications;
 mod published;
+mod random;
 mod rows;
 mod scripts;
 mod snapshots;
 mod stops;
+mod tiles;
 
 use calls::Asks;
 use feature_model::{EditValue, Feature, Geometry, Tag, World};
