@@ -71,11 +71,15 @@ class Vtserve:
     def __init__(self, folder, name, sectors):
         disk = os.path.join(folder, name)
         subprocess.run([PROGRAM, "format", disk, "--sectors", str(sectors)], check=True, stdout=subprocess.DEVNULL)
+        self.disk = disk
+        self.begin()
+
+    def begin(self):
+        """Opens the disk and serves it."""
         self.port = free_port()
-        words = ["taskset", "-c", SERVERS, PROGRAM, "serve", disk, "--port", str(self.port), "--connections", "1000000"]
+        words = ["taskset", "-c", SERVERS, PROGRAM, "serve", self.disk, "--port", str(self.port), "--connections", "1000000"]
         self.child = subprocess.Popen(words, stdout=subprocess.PIPE, stderr=subprocess.DEVNULL)
         self.child.stdout.readline()
-        self.disk = disk
 
     def put(self, features):
         """Puts these features, on one connection."""
@@ -209,6 +213,9 @@ def in_turn(folder, client, nginx):
     paths = [f"/map/{zoom}/{1000 + at % side}/{3000 + at // side}.mvt" for at in range(5000)]
     listed = nginx.keep_all(folder, "turn", server, paths)
     show("5,000 published tiles in turn", client, ["list", 3, 50, server.port, listed, nginx.port, "/turn"], "nginx")
+    server.end()
+    server.begin()
+    show("the same right after opening", client, ["list", 1, 50, server.port, listed, nginx.port, "/turn"], "nginx")
     server.end()
 
 

@@ -6,8 +6,6 @@ mod areas;
 #[cfg(test)]
 mod bytes;
 #[cfg(test)]
-mod devices;
-#[cfg(test)]
 mod directories;
 #[cfg(test)]
 mod headers;
