@@ -267,8 +267,11 @@ def walk(folder, client, nginx):
     paths = [f"/map/{zoom}/{column}/{row}.mvt" for zoom, column, row in tiles]
     nginx.keep_all(folder, "walk", server, sorted(set(paths)))
     far, near = [1, 1], spread(*city[0], 7)
-    for name, point, every in (("far from it after each view", far, 12), ("in it after each tenth view", near, 120)):
+    edits = (("far from it after each view", far, 12), ("in it after each tenth view", near, 120))
+    for is_published, (name, point, every) in [(False, edit) for edit in edits] + [(True, edit) for edit in edits]:
         server.put([(30000, feature("towns", 3, [point], {}))])
+        if is_published:
+            server.bytes_of("/publish", "POST")
         lines, asked = [], []
         for at, path in enumerate(paths):
             lines.append("GET " + path)
@@ -279,9 +282,9 @@ def walk(folder, client, nginx):
         listed = os.path.join(folder, "walk.list")
         with open(listed, "w", encoding="utf-8") as file:
             file.write("\n".join(lines) + "\n")
-        share = hits(asked * 3) / (3 * len(paths))
+        share = "published before" if is_published else f"{hits(asked * 3) / (3 * len(paths)):.0%} kept"
         for percent in (50, 99):
-            show(f"a walk over {len(set(paths))} tiles, {len(paths)} asked for, an edit {name}, {share:.0%} kept, {percent} of 100 by", client,
+            show(f"a walk over {len(set(paths))} tiles, {len(paths)} asked for, an edit {name}, {share}, {percent} of 100 by", client,
                 ["list", 3, percent, server.port, listed, nginx.port, "/walk"], "nginx")
     server.end()
 
