@@ -56,8 +56,11 @@ fn place_in(
     check(id, &feature)?;
     let edit = Edit::Put { id, feature };
     let _text = encode(alloc, &edit)?;
-    if map.store().len() > 8 || map.last() >= number {
-        return Err("another map".into());
+    if map.store().len() > 8 {
+        return Err("too many features".into());
+    }
+    if map.last() >= number {
+        return Err("an earlier number".into());
     }
     map.room()?;
     if let Edit::Put { id, feature } = edit {
