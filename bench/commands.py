@@ -175,7 +175,9 @@ def runs_out(cases, folder):
 
 
 def failing(call, at, number, words, requests=b""):
-    """What the program does where the call of the system of this name and number fails, of those on the file or folder at a path."""
+    """What the program does where the call of the system of this name and number fails, of those on the file or folder at a path.
+
+    A number with a plus stands for that call and all later ones."""
     trace = ["strace", "-qq", "-o", os.devnull, "-P", at, "-e", f"trace={call}", "-e", f"inject={call}:error=EIO:when={number}"]
     child = subprocess.run([*trace, PROGRAM, *words], input=requests, capture_output=True, timeout=60)
     return child.returncode, child.stdout, child.stderr
@@ -201,10 +203,15 @@ def fails(cases, folder):
         cases.show("the file is taken away", os.path.exists(path), False)
     cases.show("the same command again", vtserve(make), (0, b"formatted 64 sectors\n", b""))
     cases.show("pipe where its sync fails", failing("fdatasync", path, 1, ["pipe", path], GET), refusal(b"Device"))
-    cases.show("pipe where a read fails", failing("pread64", path, 2, ["pipe", path], GET), refusal(b"Device"))
+    # Where a read of 64 sectors fails, the sector is read alone. So all reads from the second one on fail.
+    cases.show("pipe where a read fails", failing("pread64", path, "2+", ["pipe", path], GET), refusal(b"Device"))
     told = error(b"Device") + error(b"Broken") + EMPTY
     cases.show("PUT where its write fails, PUT, GET", failing("pwrite64", path, 1, ["pipe", path], put(7) + put(7) + GET), (0, told, b""))
     cases.show("another process: PUT", vtserve(["pipe", path], put(7)), (0, edit(1), b""))
+    large = os.path.join(folder, "large")
+    cases.show("format of 256 sectors", vtserve(["format", large, "--sectors", "256"]), (0, b"formatted 256 sectors\n", b""))
+    cases.show("pipe where a read ahead fails", failing("pread64", large, 2, ["pipe", large], GET), (0, EMPTY, b""))
+    cases.show("pipe where all reads but the first fail", failing("pread64", large, "2+", ["pipe", large], GET), refusal(b"Device"))
 
 
 ARCHIVE = 223

@@ -1,19 +1,18 @@
 -- Laws of disks, for the crates above.
-use Rattle.std.proofs.Common.{◌≡◌, ◌⊎◌, ◌∙◌, ◌/◌, ◌==◌, ◌∷◌, ◌≤◌, ℕ, List, inl, inr, ap, refl, rules, sym, if◌then◌else◌, Result}
+use Rattle.std.proofs.Common.{◌≡◌, ◌⊎◌, ◌/◌, ◌∷◌, ◌≤◌, ℕ, List, length, refl, Result}
 use Rattle.std.specs.Prelude.{◌↔◌}
 use Rattle.std.specs.List.{IsAmong}
-use Rattle.sector_disk.specs.Calls.{Call, Fate, replayed, IsUsable, IsHonest}
-use Rattle.sector_disk.specs.Calls.Call.{gave, gave_none, took, refused, flushed, not_flushed}
-use Rattle.sector_disk.specs.Calls.Fate.{old_bytes, new_bytes}
+use Rattle.sector_disk.specs.Calls.{Call, replayed, IsUsable, IsHonest}
+use Rattle.sector_disk.specs.Calls.Call.{gave, gave_run, gave_none, took, refused, flushed, not_flushed}
 use Rattle.sector_disk.specs.Crash.{settled, written_since, chosen, IsChoice}
 use Rattle.sector_disk.specs.Disk.{History, Image, seen, MayHold, MayLeave, moment, LeftSince, Writes, Syncs}
-use Rattle.sector_disk.specs.Disk.History.{wrote, synced}
+use Rattle.sector_disk.specs.Disk.History.{synced}
 use Rattle.sector_disk.specs.Moments.{Follows}
+use Rattle.sector_disk.specs.Runs.{Shows}
 use Rattle.sector_disk.specs.declared.disk.DiskFault.{DiskFault}
 use Rattle.sector_disk.specs.declared.disk.TheConstants.{SECTOR_BYTES}
 use Rattle.sector_disk.proofs.Choices.{some_choice}
 use Rattle.sector_disk.proofs.Chosen.{chosen_may, held_is, is_held}
-use Rattle.sector_disk.proofs.FileCalls.{same_history, same_honest}
 use Rattle.sector_disk.proofs.History.{seen_may, any_write, any_sync}
 use Rattle.sector_disk.proofs.Moments.{write_follows, sync_follows, follows_on, goes_by}
 
@@ -70,72 +69,33 @@ left_is_chosen = some_choice
 -- ---- a file stays honest while its answers are what its history says
 
 -- A read that gives what the history says keeps it so, whatever was asked before.
-pub read_stays_honest : (found : History) (fate : Fate) (calls : List Call) (offset : ℕ) (bytes : List ℕ) → IsHonest found fate calls
-    → bytes ≡ seen (replayed found fate calls) (offset / SECTOR_BYTES) → IsHonest found fate (gave offset bytes ∷ calls)
-read_stays_honest found fate calls offset bytes honest is = (honest, is)
+pub read_stays_honest : (found : History) (calls : List Call) (offset : ℕ) (bytes : List ℕ) → IsHonest found calls
+    → bytes ≡ seen (replayed found calls) (offset / SECTOR_BYTES) → IsHonest found (gave offset bytes ∷ calls)
+read_stays_honest found calls offset bytes honest is = (honest, is)
+
+-- So does one of several sectors.
+pub run_stays_honest : (found : History) (calls : List Call) (offset : ℕ) (sectors : List (List ℕ)) → IsHonest found calls
+    → Shows (seen (replayed found calls)) (offset / SECTOR_BYTES) (length sectors) sectors → IsHonest found (gave_run offset sectors ∷ calls)
+run_stays_honest found calls offset sectors honest is = (honest, is)
 
 -- A read that fails does too.
-pub failed_read_stays_honest : (found : History) (fate : Fate) (calls : List Call) (offset : ℕ) → IsHonest found fate calls
-    → IsHonest found fate (gave_none offset ∷ calls)
-failed_read_stays_honest found fate calls offset honest = (honest, tt)
+pub failed_read_stays_honest : (found : History) (calls : List Call) (offset : ℕ) → IsHonest found calls → IsHonest found (gave_none offset ∷ calls)
+failed_read_stays_honest found calls offset honest = (honest, tt)
 
 -- A write keeps it so where no write and no sync has failed before.
-pub write_stays_honest : (found : History) (fate : Fate) (calls : List Call) (offset : ℕ) (bytes : List ℕ) → IsHonest found fate calls
-    → IsUsable calls → IsHonest found fate (took offset bytes ∷ calls)
-write_stays_honest found fate calls offset bytes honest usable = (honest, usable)
+pub write_stays_honest : (found : History) (calls : List Call) (offset : ℕ) (sectors : List (List ℕ)) → IsHonest found calls
+    → IsUsable calls → IsHonest found (took offset sectors ∷ calls)
+write_stays_honest found calls offset sectors honest usable = (honest, usable)
 
 -- A write that fails does too, where it is the first call to fail of those.
-pub failed_write_stays_honest : (found : History) (fate : Fate) (calls : List Call) (offset : ℕ) (bytes : List ℕ) → IsHonest found fate calls
-    → IsUsable calls → IsHonest found fate (refused offset bytes ∷ calls)
-failed_write_stays_honest found fate calls offset bytes honest usable = (honest, usable)
+pub failed_write_stays_honest : (found : History) (calls : List Call) (offset : ℕ) (sectors : List (List ℕ)) → IsHonest found calls
+    → IsUsable calls → IsHonest found (refused offset sectors ∷ calls)
+failed_write_stays_honest found calls offset sectors honest usable = (honest, usable)
 
 -- The same of a sync.
-pub sync_stays_honest : (found : History) (fate : Fate) (calls : List Call) → IsHonest found fate calls
-    → IsUsable calls → IsHonest found fate (flushed ∷ calls)
-sync_stays_honest found fate calls honest usable = (honest, usable)
+pub sync_stays_honest : (found : History) (calls : List Call) → IsHonest found calls → IsUsable calls → IsHonest found (flushed ∷ calls)
+sync_stays_honest found calls honest usable = (honest, usable)
 
 -- The same of a sync that fails.
-pub failed_sync_stays_honest : (found : History) (fate : Fate) (calls : List Call) → IsHonest found fate calls
-    → IsUsable calls → IsHonest found fate (not_flushed ∷ calls)
-failed_sync_stays_honest found fate calls honest usable = (honest, usable)
-
--- ---- the fate of a write that fails
-
--- Until a write fails, its fate makes no difference.
-pub fate_undecided : (found : History) (one other : Fate) (calls : List Call) → IsUsable calls
-    → (replayed found one calls ≡ replayed found other calls) × (IsHonest found one calls → IsHonest found other calls)
-fate_undecided found one other calls usable = (same_history found one other calls usable, same_honest found one other calls usable)
-
--- a read of the sector that was written gives the write
-seen_wrote : (sector : ℕ) (bytes : List ℕ) (before : History) → seen (wrote sector bytes before) sector ≡ bytes
-seen_wrote sector bytes before = search rules
-
--- A file that then gives the old bytes of the sector, or the new ones, is honest by one of the two fates.
-pub fate_either : (found : History) (one : Fate) (calls : List Call) (offset : ℕ) (bytes given : List ℕ)
-    → IsHonest found one calls → IsUsable calls → (given ≡ seen (replayed found one calls) (offset / SECTOR_BYTES)) ⊎ (given ≡ bytes)
-    → (fate : Fate) × IsHonest found fate (gave offset given ∷ refused offset bytes ∷ calls)
-fate_either found one calls offset bytes given honest usable (inl is) = (
-  old_bytes,
-  (
-    (same_honest found one old_bytes calls usable honest, usable),
-    is ∙ ap (λ (h : History). seen h (offset / SECTOR_BYTES)) (same_history found one old_bytes calls usable),
-  ),
-)
-fate_either found one calls offset bytes given honest usable (inr is) = (
-  new_bytes,
-  (
-    (same_honest found one new_bytes calls usable honest, usable),
-    is ∙ sym (seen_wrote (offset / SECTOR_BYTES) bytes (replayed found new_bytes calls)),
-  ),
-)
-
--- By the one fate a read gives what it gave before.
-pub fate_old : (found : History) (calls : List Call) (offset : ℕ) (bytes : List ℕ) (at : ℕ)
-    → seen (replayed found old_bytes (refused offset bytes ∷ calls)) at ≡ seen (replayed found old_bytes calls) at
-fate_old found calls offset bytes at = refl
-
--- By the other it gives the new bytes.
-pub fate_new : (found : History) (calls : List Call) (offset : ℕ) (bytes : List ℕ) (at : ℕ)
-    → seen (replayed found new_bytes (refused offset bytes ∷ calls)) at
-    ≡ (if at == offset / SECTOR_BYTES then bytes else seen (replayed found new_bytes calls) at)
-fate_new found calls offset bytes at = refl
+pub failed_sync_stays_honest : (found : History) (calls : List Call) → IsHonest found calls → IsUsable calls → IsHonest found (not_flushed ∷ calls)
+failed_sync_stays_honest found calls honest usable = (honest, usable)

@@ -1,13 +1,21 @@
 //! A disk in a file.
-ghost use Rattle.std.specs.Prelude.{[], ◌≡◌, ◌<◌, ◌≤◌, ◌*◌, ◌/◌, ◌^◌, List, IfOk, IfErr, IsErrAnd, OnOk};
-ghost use Rattle.sector_disk.specs.Calls.{Call, NotesRead, NotesWrite, NotesSync};
-ghost use Rattle.sector_disk.specs.Disk.{all_zeros, seen, Writes, Syncs, CountsFault};
+ghost use Rattle.std.specs.Prelude.{[], ◌≡◌, ◌<◌, ◌≤◌, ◌+◌, ◌*◌, ◌/◌, ◌^◌, ◌⊎◌, ◌∷◌, take, IfOk, IfErr, IsErrAnd, IsTrue, IsOk, OnOk, OnErr, false};
+ghost use Rattle.std.proofs.Props.{props};
+ghost use Rattle.sector_disk.specs.Calls.{replayed, IsHonest, UpToDate, NewestFits, GaveRun, WritesBack, AsksToRead, AsksToWrite, AsksToSync};
+ghost use Rattle.sector_disk.specs.Calls.Call.{gave_none};
+ghost use Rattle.sector_disk.specs.Disk.{History, all_zeros, seen, Writes, Syncs, CountsFault};
 ghost use Rattle.sector_disk.specs.Disk.History.{begun};
 ghost use Rattle.sector_disk.specs.declared.disk.TheConstants.{SECTOR_BYTES};
 ghost use Rattle.sector_disk.specs.Files.{IsOpen, IsGrow, IsOfCreate};
+ghost use Rattle.sector_disk.specs.Notes.{recorded_calls};
+ghost use Rattle.sector_disk.specs.Runs.{Apart};
+ghost use Rattle.sector_disk.specs.declared.run.TheConstants.{RUN_SECTORS};
 
+use crate::ahead::ReadAhead;
+use crate::behind::WriteBehind;
 use crate::faults::Faults;
-use crate::record::Record;
+use crate::recorded::RecordedFile;
+use crate::run::{RUN_SECTORS, Run};
 use crate::{DiskFault, SECTOR_BYTES, Sectors, Start};
 use std::fs::{OpenFile, OpenOptions};
 use std::io::{self, Read, Seek, Write};
@@ -16,64 +24,49 @@ use std::os::unix::fs::FileExt;
 use std::rt::Files;
 use thiserror::Error;
 
-/// What a disk asks of its file. Offsets are bytes from the file's start.
+/// What a disk asks of its file. Offsets are in bytes from the file's start.
 pub trait SectorFile {
-    /// Each call so far with its answer, the newest first.
-    ghost calls: { Self → List Call };
-
     /// Fills the buffer with the bytes from the offset on.
-    fn read_at(&mut self, into: &mut [u8; SECTOR_BYTES], offset: u64) -> io::Result<()>
-        ensures { NotesRead result offset into.new (calls self.old) (calls self.new) };
+    fn read_at(&mut self, into: &mut [u8; SECTOR_BYTES], offset: u64) -> io::Result<()>;
 
-    /// Writes all bytes from the offset on.
-    fn write_at(&mut self, from: &[u8; SECTOR_BYTES], offset: u64) -> io::Result<()>
-        ensures { NotesWrite result offset from.now (calls self.old) (calls self.new) };
+    /// Fills the whole run with the bytes from the offset on.
+    fn read_run_at(&mut self, into: &mut Run, offset: u64) -> io::Result<()>;
+
+    /// Writes all bytes of the sectors from the offset on.
+    fn write_at(&mut self, from: &[[u8; SECTOR_BYTES]], offset: u64) -> io::Result<()>;
 
     /// Has the system put what was written on its medium, as `fdatasync` does.
-    fn sync_data(&mut self) -> io::Result<()>
-        ensures { NotesSync result (calls self.old) (calls self.new) };
+    fn sync_data(&mut self) -> io::Result<()>;
 }
 
-/// A file of the system, and the record of its calls. The process buffers nothing of the file.
+/// A file of the system.
 #[derive(Drop)]
 pub struct SystemFile<F> {
     file: F,
-    record: Record,
 }
 
 impl<F> SystemFile<F> {
-    ghost use Rattle.sector_disk.specs.Views.{system_calls};
-
-    /// An open file, of which no call is noted yet.
-    pub fn new(file: F) -> SystemFile<F>
-        ensures { system_calls result ≡ [] }
-    {
-        SystemFile {
-            file,
-            record: Record::new(),
-        }
+    /// An open file.
+    pub fn new(file: F) -> SystemFile<F> {
+        SystemFile { file }
     }
 }
 
-/// Each method makes the call that it notes, which no clause can see to.
 impl<F: FileExt + OpenFile> SectorFile for SystemFile<F> {
-    ghost use Rattle.sector_disk.specs.Views.{system_calls};
-
-    ghost calls = { system_calls };
-
     fn read_at(&mut self, into: &mut [u8; SECTOR_BYTES], offset: u64) -> io::Result<()> {
-        let outcome = self.file.read_exact_at(into, offset);
-        self.record.note_read(outcome, offset, into)
+        self.file.read_exact_at(into, offset)
     }
 
-    fn write_at(&mut self, from: &[u8; SECTOR_BYTES], offset: u64) -> io::Result<()> {
-        let outcome = self.file.write_all_at(from, offset);
-        self.record.note_write(outcome, offset, from)
+    fn read_run_at(&mut self, into: &mut Run, offset: u64) -> io::Result<()> {
+        self.file.read_exact_at(into.as_flattened_mut(), offset)
+    }
+
+    fn write_at(&mut self, from: &[[u8; SECTOR_BYTES]], offset: u64) -> io::Result<()> {
+        self.file.write_all_at(from.as_flattened(), offset)
     }
 
     fn sync_data(&mut self) -> io::Result<()> {
-        let outcome = OpenFile::sync_data(&self.file);
-        self.record.note_sync(outcome)
+        OpenFile::sync_data(&self.file)
     }
 }
 
@@ -91,18 +84,30 @@ pub enum FileFault {
     Grow(io::Error),
 }
 
-/// A disk in a file, in which sector n lies from byte `n * SECTOR_BYTES` on. `S` says what the file had as it was opened, and the
-/// history goes on from there by the file's calls. The disk is `honest` as long as each read that succeeded gave what the
-/// history says, and no write and no sync was asked for after one that failed. So a client that stops writing at the first
-/// failure loses it by a false answer alone, and its later reads still count. That a crash leaves what the history says is
-/// the system's word.
+/// A disk in a file, which stores sector n from byte `n * SECTOR_BYTES` on. `S` says what the file had as it was opened, and the
+/// history continues from there by the writes and syncs.
+///
+/// Up to `RUN_SECTORS` consecutive sectors are read or written by one call of the file. The second of two consecutive reads reads
+/// ahead. Writes are buffered until a write of another sector than the next one, until the buffer is full, or until a sync. Sectors
+/// that the file fails to write stay buffered. Reads of buffered sectors are answered from the buffer, and the file isn't asked for
+/// them. What is buffered when the value is dropped is lost.
+///
+/// The disk is `honest` as long as each read of the file that succeeded gave what the history says, and no write and no sync was
+/// asked for after one that failed. So a client that stops writing at the first failure loses it by a false answer alone, and its
+/// later reads still count. That a crash leaves what the history says is the system's word.
 #[derive(Drop)]
 pub struct FileDisk<F, S> {
-    file: F,
+    file: RecordedFile<F>,
     count: u64,
     faults: Faults,
+    /// The sector after the one that was read last, where a read is consecutive.
+    next: Option<u64>,
+    ahead: ReadAhead,
+    behind: WriteBehind,
     start: PhantomData<S>,
     ghost fits: { count * SECTOR_BYTES < 2 ^ 64 },
+    ghost on_disk: { behind.first + behind.len ≤ count },
+    ghost up_to_date: { UpToDate (recorded_calls file) ahead.first ahead.len ahead.sectors } by { Prim.hlevel props },
 }
 
 /// Makes a new file this long, with zeros, and syncs it.
@@ -117,24 +122,26 @@ impl<F: SectorFile + Drop, S: Start> FileDisk<F, S> {
     /// A disk over an open file of so many bytes, to read and to write, of which no call is noted yet. It has the whole
     /// sectors among them. The start is used up, so that code over any `S` opens one disk for each that it is given.
     pub fn new(file: F, bytes: u64, _start: S) -> FileDisk<F, S>
-        requires { F.calls file ≡ [] }
         ensures count { ⟦<FileDisk<F, S> as Sectors>⟧.sectors result ≡ bytes / SECTOR_BYTES }
         ensures faults { ⟦<FileDisk<F, S> as Sectors>⟧.faults result ≡ 0 }
         ensures honest { ⟦<FileDisk<F, S> as Sectors>⟧.honest result }
         ensures found { ⟦<FileDisk<F, S> as Sectors>⟧.history result ≡ S.found }
-        ensures calls { file_calls F.calls result ≡ F.calls file }
+        ensures calls { file_calls result ≡ [] }
     {
         FileDisk {
-            file,
+            file: RecordedFile::new(file),
             count: bytes / SECTOR_BYTES as u64,
             faults: Faults::none(),
+            next: None,
+            ahead: ReadAhead::none(),
+            behind: WriteBehind::none(),
             start: PhantomData,
         }
     }
 }
 
 impl<F: FileExt + OpenFile + Read + Write + Seek + Drop, S: Start> FileDisk<SystemFile<F>, S> {
-    ghost use Rattle.sector_disk.specs.Views.{file_calls, system_calls};
+    ghost use Rattle.sector_disk.specs.Views.{file_calls};
 
     /// Opens the file at a path, to read and to write it. The disk has the whole sectors that the file now holds,
     /// which may be none. No call of the file is noted yet. The error is `Open`.
@@ -146,7 +153,7 @@ impl<F: FileExt + OpenFile + Read + Write + Seek + Drop, S: Start> FileDisk<Syst
         ensures faults { IfOk result (λ disk. ⟦<FileDisk<SystemFile<F>, S> as Sectors>⟧.faults disk ≡ 0) }
         ensures honest { IfOk result ⟦<FileDisk<SystemFile<F>, S> as Sectors>⟧.honest }
         ensures found { IfOk result (λ disk. ⟦<FileDisk<SystemFile<F>, S> as Sectors>⟧.history disk ≡ S.found) }
-        ensures calls { IfOk result (λ disk. file_calls system_calls disk ≡ []) }
+        ensures calls { IfOk result (λ disk. file_calls disk ≡ []) }
         ensures named { IfErr result IsOpen }
     {
         let file = OpenOptions::new()
@@ -173,7 +180,7 @@ impl<F: FileExt + OpenFile + Read + Write + Seek + Drop, S: Start> FileDisk<Syst
         ensures faults { IfOk result (λ disk. ⟦<FileDisk<SystemFile<F>, S> as Sectors>⟧.faults disk ≡ 0) }
         ensures honest { IfOk result ⟦<FileDisk<SystemFile<F>, S> as Sectors>⟧.honest }
         ensures found { IfOk result (λ disk. ⟦<FileDisk<SystemFile<F>, S> as Sectors>⟧.history disk ≡ begun all_zeros) }
-        ensures calls { IfOk result (λ disk. file_calls system_calls disk ≡ []) }
+        ensures calls { IfOk result (λ disk. file_calls disk ≡ []) }
         ensures named { IfErr result IsOfCreate }
         ensures too_long { 2 ^ 64 ≤ count * SECTOR_BYTES → IsErrAnd result IsGrow }
     {
@@ -196,12 +203,93 @@ impl<F: FileExt + OpenFile + Read + Write + Seek + Drop, S: Start> FileDisk<Syst
     }
 }
 
+impl<F: SectorFile + Drop, S: Start> FileDisk<F, S> {
+    ghost use Rattle.sector_disk.specs.Views.{file_sectors, file_faults, file_calls, file_history};
+
+    /// Reads a whole run from this sector on, and gives this sector. It says whether the file's read succeeded.
+    fn read_ahead(&mut self, at: u64, into: &mut [u8; SECTOR_BYTES]) -> bool
+        requires fits { at + RUN_SECTORS ≤ file_sectors self.old }
+        requires apart { Apart at RUN_SECTORS self.old.behind.first self.old.behind.len }
+        ensures count { file_sectors self.new ≡ file_sectors self.old }
+        ensures faults { file_faults self.new ≡ file_faults self.old }
+        ensures behind { self.new.behind ≡ self.old.behind }
+        ensures given { IsTrue result → (found : History) → IsHonest found (file_calls self.new) → into.new ≡ seen (replayed found (file_calls self.new)) at }
+        ensures asks { IsTrue result → GaveRun at self.old.behind.first self.old.behind.len (file_calls self.old) (file_calls self.new) }
+        ensures failed { result ≡ false → file_calls self.new ≡ gave_none (at * SECTOR_BYTES) ∷ file_calls self.old }
+    {
+        self.ahead.len = 0;
+        let offset = at * SECTOR_BYTES as u64;
+        match self.file.read_run(&mut self.ahead.sectors, offset) {
+            Ok(()) => {
+                self.ahead.first = at;
+                self.ahead.len = RUN_SECTORS;
+                *into = self.ahead.sectors[0];
+                true
+            }
+            Err(_) => false,
+        }
+    }
+
+    /// Gives a sector that was read ahead, or reads ahead from it on where the reads are sequential. It says whether it gave the
+    /// sector. It doesn't read ahead over buffered sectors: after a write that failed nobody knows what the file has there.
+    fn get_ahead(&mut self, at: u64, sequential: bool, into: &mut [u8; SECTOR_BYTES]) -> bool
+        requires { at < file_sectors self.old }
+        ensures count { file_sectors self.new ≡ file_sectors self.old }
+        ensures faults { file_faults self.new ≡ file_faults self.old }
+        ensures behind { self.new.behind ≡ self.old.behind }
+        ensures given { IsTrue result → (found : History) → IsHonest found (file_calls self.new) → into.new ≡ seen (replayed found (file_calls self.new)) at }
+        ensures asks { IsTrue result → (file_calls self.new ≡ file_calls self.old)
+            ⊎ GaveRun at self.old.behind.first self.old.behind.len (file_calls self.old) (file_calls self.new) }
+        ensures cached { self.old.ahead.first ≤ at → at < self.old.ahead.first + self.old.ahead.len
+            → IsTrue result × (file_calls self.new ≡ file_calls self.old) }
+        ensures failed { result ≡ false → (file_calls self.new ≡ file_calls self.old)
+            ⊎ (file_calls self.new ≡ gave_none (at * SECTOR_BYTES) ∷ file_calls self.old) }
+    {
+        if self.ahead.get(at, into) {
+            return true;
+        }
+        if !sequential || self.count - at < RUN_SECTORS as u64 {
+            return false;
+        }
+        if self.behind.overlaps(at, RUN_SECTORS) {
+            return false;
+        }
+        self.read_ahead(at, into)
+    }
+
+    /// Writes the buffered sectors to the file, if there are any. If that fails, they stay buffered.
+    fn write_back(&mut self) -> Result<(), DiskFault>
+        ensures count { file_sectors self.new ≡ file_sectors self.old }
+        ensures faults { file_faults self.new ≡ file_faults self.old }
+        ensures empty { OnOk result (self.new.behind.len ≡ 0) }
+        ensures history { (found : History) → file_history found self.new ≡ file_history found self.old }
+        ensures asks { WritesBack result (self.old.behind.first * SECTOR_BYTES) self.old.behind.len
+            (take self.old.behind.len self.old.behind.sectors) (file_calls self.old) (file_calls self.new) }
+    {
+        if self.behind.len == 0 {
+            return Ok(());
+        }
+        self.ahead.invalidate(self.behind.first, self.behind.len);
+        let offset = self.behind.first * SECTOR_BYTES as u64;
+        match self
+            .file
+            .write_run(&self.behind.sectors, self.behind.len, offset)
+        {
+            Ok(()) => {
+                self.behind.len = 0;
+                Ok(())
+            }
+            Err(_) => Err(DiskFault),
+        }
+    }
+}
+
 impl<F: SectorFile + Drop, S: Start> Sectors for FileDisk<F, S> {
     ghost use Rattle.sector_disk.specs.Views.{file_sectors, file_faults, file_calls, file_history, FileIsHonest, FileIsUsable};
 
-    ghost honest = { FileIsHonest F.calls S.found S.fate };
+    ghost honest = { FileIsHonest S.found };
 
-    ghost history = { file_history F.calls S.found S.fate };
+    ghost history = { file_history S.found };
 
     ghost sectors = { file_sectors };
 
@@ -215,16 +303,24 @@ impl<F: SectorFile + Drop, S: Start> Sectors for FileDisk<F, S> {
         requires { at < file_sectors self.old }
         ensures count { file_sectors self.new ≡ file_sectors self.old }
         ensures faults { CountsFault result (file_faults self.old) (file_faults self.new) }
-        ensures honest { FileIsHonest F.calls S.found S.fate self.new → FileIsHonest F.calls S.found S.fate self.old }
-        ensures history { FileIsHonest F.calls S.found S.fate self.new
-            → file_history F.calls S.found S.fate self.new ≡ file_history F.calls S.found S.fate self.old }
-        ensures gives { FileIsHonest F.calls S.found S.fate self.new
-            → OnOk result (into.new ≡ seen (file_history F.calls S.found S.fate self.old) at) }
-        ensures stays { FileIsHonest F.calls S.found S.fate self.old
-            → OnOk result (into.new ≡ seen (file_history F.calls S.found S.fate self.old) at) → FileIsHonest F.calls S.found S.fate self.new }
-        ensures asks { NotesRead result (at * SECTOR_BYTES) into.new (file_calls F.calls self.old) (file_calls F.calls self.new) }
+        ensures honest { FileIsHonest S.found self.new → FileIsHonest S.found self.old }
+        ensures history { FileIsHonest S.found self.new → file_history S.found self.new ≡ file_history S.found self.old }
+        ensures gives { FileIsHonest S.found self.new → OnOk result (into.new ≡ seen (file_history S.found self.old) at) }
+        ensures stays { FileIsHonest S.found self.old → NewestFits (replayed S.found (file_calls self.old)) (file_calls self.new)
+            → FileIsHonest S.found self.new }
+        ensures cached { self.old.ahead.first ≤ at → at < self.old.ahead.first + self.old.ahead.len
+            → IsOk result × (file_calls self.new ≡ file_calls self.old) }
+        ensures asks { AsksToRead result at into.new self.old.behind.first self.old.behind.len (file_calls self.old) (file_calls self.new) }
     {
-        let outcome = self.file.read_at(into, at * SECTOR_BYTES as u64);
+        let sequential = self.next == Some(at);
+        self.next = Some(at + 1);
+        if self.behind.get(at, into) {
+            return Ok(());
+        }
+        if self.get_ahead(at, sequential, into) {
+            return Ok(());
+        }
+        let outcome = self.file.read(into, at * SECTOR_BYTES as u64);
         self.faults.record(outcome.map_err(|_| DiskFault))
     }
 
@@ -232,26 +328,43 @@ impl<F: SectorFile + Drop, S: Start> Sectors for FileDisk<F, S> {
         requires { at < file_sectors self.old }
         ensures count { file_sectors self.new ≡ file_sectors self.old }
         ensures faults { CountsFault result (file_faults self.old) (file_faults self.new) }
-        ensures honest { FileIsHonest F.calls S.found S.fate self.new → FileIsHonest F.calls S.found S.fate self.old }
-        ensures writes { FileIsHonest F.calls S.found S.fate self.new → Writes result at from.now
-            (file_history F.calls S.found S.fate self.old) (file_history F.calls S.found S.fate self.new) }
-        ensures stays { FileIsHonest F.calls S.found S.fate self.old → FileIsUsable F.calls self.old → FileIsHonest F.calls S.found S.fate self.new }
-        ensures asks { NotesWrite result (at * SECTOR_BYTES) from.now (file_calls F.calls self.old) (file_calls F.calls self.new) }
+        ensures honest { FileIsHonest S.found self.new → FileIsHonest S.found self.old }
+        ensures writes { FileIsHonest S.found self.new → Writes result at from.now (file_history S.found self.old) (file_history S.found self.new) }
+        ensures stays { FileIsHonest S.found self.old → FileIsUsable self.old → FileIsHonest S.found self.new }
+        ensures buffers { self.old.behind.len < RUN_SECTORS → at ≡ self.old.behind.first + self.old.behind.len
+            → IsOk result × (file_calls self.new ≡ file_calls self.old) }
+        ensures refused { OnErr result ((found : History) → file_history found self.new ≡ file_history found self.old) }
+        ensures asks { AsksToWrite result (self.old.behind.first * SECTOR_BYTES)
+            (take self.old.behind.len self.old.behind.sectors) (file_calls self.old) (file_calls self.new) }
     {
-        let outcome = self.file.write_at(from, at * SECTOR_BYTES as u64);
-        self.faults.record(outcome.map_err(|_| DiskFault))
+        if self.behind.can_append(at) {
+            self.behind.append(at, from);
+            return Ok(());
+        }
+        match self.write_back() {
+            Ok(()) => {
+                self.behind.start(at, from);
+                Ok(())
+            }
+            Err(fault) => self.faults.record(Err(fault)),
+        }
     }
 
     fn sync(&mut self) -> Result<(), DiskFault>
         ensures count { file_sectors self.new ≡ file_sectors self.old }
         ensures faults { CountsFault result (file_faults self.old) (file_faults self.new) }
-        ensures honest { FileIsHonest F.calls S.found S.fate self.new → FileIsHonest F.calls S.found S.fate self.old }
-        ensures syncs { FileIsHonest F.calls S.found S.fate self.new
-            → Syncs result (file_history F.calls S.found S.fate self.old) (file_history F.calls S.found S.fate self.new) }
-        ensures stays { FileIsHonest F.calls S.found S.fate self.old → FileIsUsable F.calls self.old → FileIsHonest F.calls S.found S.fate self.new }
-        ensures asks { NotesSync result (file_calls F.calls self.old) (file_calls F.calls self.new) }
+        ensures honest { FileIsHonest S.found self.new → FileIsHonest S.found self.old }
+        ensures syncs { FileIsHonest S.found self.new
+            → Syncs result (file_history S.found self.old) (file_history S.found self.new) }
+        ensures stays { FileIsHonest S.found self.old → FileIsUsable self.old → FileIsHonest S.found self.new }
+        ensures asks { AsksToSync result (self.old.behind.first * SECTOR_BYTES) self.old.behind.len
+            (take self.old.behind.len self.old.behind.sectors) (file_calls self.old) (file_calls self.new) }
     {
-        let outcome = self.file.sync_data();
+        match self.write_back() {
+            Ok(()) => {}
+            Err(fault) => return self.faults.record(Err(fault)),
+        }
+        let outcome = self.file.sync();
         self.faults.record(outcome.map_err(|_| DiskFault))
     }
 }

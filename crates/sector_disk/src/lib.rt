@@ -1,6 +1,8 @@
 //! A disk of sectors, and what a crash may leave of it.
 #![tactic(auto)]
 
+mod ahead;
+mod behind;
 mod disk;
 mod faults;
 mod faulty;
@@ -8,13 +10,13 @@ mod file;
 mod kept;
 mod memory;
 mod record;
+mod recorded;
+mod run;
 mod start;
 
 pub use disk::{DiskFault, SECTOR_BYTES, Sectors};
 pub use faulty::{FailingCalls, FaultyDisk};
 pub use file::{FileDisk, FileFault, SectorFile, SystemFile};
 pub use memory::MemoryDisk;
+pub use run::{RUN_SECTORS, Run};
 pub use start::{Start, Unknown, Zeros};
-
-#[cfg(test)]
-mod tests;

@@ -1,0 +1,57 @@
+//! The read-ahead buffer.
+ghost use Rattle.std.specs.Prelude.{◌≡◌, ◌+◌, ◌<◌, ◌≤◌, ◌⊎◌, ℕ, IsTrue, false};
+ghost use Rattle.sector_disk.specs.Disk.{Image};
+ghost use Rattle.sector_disk.specs.Runs.{Shows};
+ghost use Rattle.sector_disk.specs.declared.run.TheConstants.{RUN_SECTORS};
+
+use crate::SECTOR_BYTES;
+use crate::run::{RUN_SECTORS, Run, index_in};
+
+/// The consecutive sectors that the file's last read ahead gave, of which the first is sector `first`. It is empty where `len` is 0.
+#[derive(Drop)]
+pub(crate) struct ReadAhead {
+    pub first: u64,
+    pub len: usize,
+    pub sectors: Run,
+    ghost short: { len ≤ RUN_SECTORS },
+}
+
+impl ReadAhead {
+    /// An empty buffer.
+    pub fn none() -> ReadAhead
+        ensures { result.len ≡ 0 }
+    {
+        ReadAhead {
+            first: 0,
+            len: 0,
+            sectors: [[0; SECTOR_BYTES]; RUN_SECTORS],
+        }
+    }
+
+    /// Gives the sector, if it is in the buffer, and says whether it is.
+    pub fn get(&self, at: u64, into: &mut [u8; SECTOR_BYTES]) -> bool
+        ensures given { IsTrue result → (image : Image) → Shows image self.now.first self.now.len self.now.sectors → into.new ≡ image at }
+        ensures other { result ≡ false → (at < self.now.first) ⊎ (self.now.first + self.now.len ≤ at) }
+    {
+        match index_in(self.first, self.len, at) {
+            Some(index) => {
+                *into = self.sectors[index];
+                true
+            }
+            None => false,
+        }
+    }
+
+    /// Empties the buffer if it has one of these sectors.
+    pub fn invalidate(&mut self, first: u64, len: usize)
+        ensures { (old new : Image) → Shows old self.old.first self.old.len self.old.sectors
+            → ((at : ℕ) → (at < first) ⊎ (first + len ≤ at) → new at ≡ old at)
+            → Shows new self.new.first self.new.len self.new.sectors }
+    {
+        let before = first < self.first && self.first - first >= len as u64;
+        let after = first >= self.first && first - self.first >= self.len as u64;
+        if !before && !after {
+            self.len = 0;
+        }
+    }
+}
