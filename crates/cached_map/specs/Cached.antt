@@ -1,11 +1,11 @@
 -- A map with tiles that were made of it, and which of them are still its tiles.
-use Rattle.std.specs.Prelude.{◌≡◌, ℕ, ◌≤◌, List, ◌∷◌, All, Option, Some, None}
+use Rattle.std.specs.Prelude.{◌≡◌, ℕ, ◌≤◌, List, [], ◌∷◌, All, Option, Some, None}
 use Rattle.box_index.specs.declared.span.WorldBox.{WorldBox}
-use Rattle.feature_model.specs.Data.{FeatureData}
+use Rattle.feature_model.specs.Data.{FeatureData, ChangeData, put, delete}
 use Rattle.feature_store.specs.Content.{IsTileContent}
 use Rattle.feature_store.specs.Indexed.{world_box}
 use Rattle.feature_store.specs.Layers.{layers}
-use Rattle.feature_store.specs.Store.{FeatureMap}
+use Rattle.feature_store.specs.Store.{FeatureMap, feature_at, changed}
 use Rattle.tile_cache.specs.Kept.{kept_at}
 use Rattle.tile_cache.specs.Touched.{Mark, Reaches, Remembers}
 use Rattle.tile_cache.specs.declared.kept_tiles.TileCache.{TileCache}
@@ -28,6 +28,16 @@ box_of f = world_box (bounding_box f.geometry)
 abbrev pub with_mark : Option FeatureData → ℕ → List Mark → List Mark
 with_mark None number marks = marks
 with_mark (Some f) number marks = (box_of f, number) ∷ marks
+
+-- these marks, and those of a change by an edit with this number
+abbrev pub marks_of : FeatureMap → ChangeData → ℕ → List Mark → List Mark
+marks_of m (put id f) number marks = (box_of f, number) ∷ with_mark (feature_at m id) number marks
+marks_of m (delete id) number marks = with_mark (feature_at m id) number marks
+
+-- the same of changes, from the first to the last
+abbrev pub marks_after : FeatureMap → List ChangeData → ℕ → List Mark → List Mark
+marks_after m [] number marks = marks
+marks_after m (c ∷ cs) number marks = marks_after (changed m c) cs number (marks_of m c number marks)
 
 -- no edit behind this number can have touched what the tile shows
 abbrev pub IsUntouched : List Mark → (z x y number : ℕ) → Type 0

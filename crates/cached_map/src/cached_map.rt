@@ -1,15 +1,16 @@
-ghost use Rattle.std.specs.Prelude.{◌≡◌, ◌↔◌, ◌≢◌, ◌<◌, ◌≤◌, ◌+◌, ℕ, List, [], ◌∷◌, length, IsSome, IsTrue, Some, None, IfOk, IfSome, OnOk, OnErr, option_map};
-ghost use Rattle.feature_model.specs.Data.{feature_data, put};
-ghost use Rattle.feature_model.specs.Types.{IsEdit};
+ghost use Rattle.std.specs.Prelude.{◌≡◌, ◌↔◌, ◌≢◌, ◌<◌, ◌≤◌, ◌+◌, ℕ, List, [], ◌∷◌, length, map, All, IsSome, IsTrue, Some, None, IfOk, IfSome, OnOk, OnErr, option_map};
+ghost use Rattle.feature_model.specs.Data.{feature_data, put, change_data};
+ghost use Rattle.feature_model.specs.Spelled.{spelled_changes};
+ghost use Rattle.feature_model.specs.Types.{IsChange};
 ghost use Rattle.feature_store.specs.Content.{IsTileContent};
 ghost use Rattle.feature_store.specs.Layers.{layers};
-ghost use Rattle.feature_store.specs.Store.{FeatureMap, feature_at, with_feature, without_feature, snapshot};
+ghost use Rattle.feature_store.specs.Store.{FeatureMap, feature_at, with_feature, without_feature, changed, edited, snapshot, puts_in};
 ghost use Rattle.feature_store.specs.declared.limit.TheConstants.{TEXTS_END};
 ghost use Rattle.tile_cache.specs.Touched.{Mark, Remembers, IsNewest};
-ghost use Rattle.cached_map.specs.Cached.{box_of, with_mark, WasMap};
+ghost use Rattle.cached_map.specs.Cached.{box_of, with_mark, marks_of, marks_after, WasMap};
 
 use box_index::WorldBox;
-use feature_model::Feature;
+use feature_model::{Change, Feature};
 use feature_store::Store;
 use hilbert_id::TileAt;
 use mvt_write::write_tile;
@@ -59,6 +60,43 @@ fn mark_some(touched: &mut TouchGrid, feature: Option<&Feature>, number: u64)
 {
     if let Some(feature) = feature {
         mark(touched, feature, number);
+    }
+}
+
+/// Makes a change by an edit of this number, and notes what it touches. It allocates nothing.
+fn make_one(store: &mut Store, touched: &mut TouchGrid, change: Change, number: u64)
+    requires change { IsChange (change_data change) }
+    requires room { puts_in (change_data change ∷ []) ≤ store.old.spare }
+    requires texts { length (snapshot (changed store.old.features (change_data change))) < TEXTS_END }
+    ensures map { store.new.features ≡ changed store.old.features (change_data change) }
+    ensures spare { store.old.spare ≤ store.new.spare + puts_in (change_data change ∷ []) }
+    ensures marks { (marks : List Mark) → Remembers touched.old marks
+        → Remembers touched.new (marks_of store.old.features (change_data change) number marks) }
+{
+    match change {
+        Change::Put { id, feature } => {
+            mark_some(touched, store.get(id), number);
+            mark(touched, &feature, number);
+            store.place(id, feature);
+        }
+        Change::Delete { id } => {
+            mark_some(touched, store.get(id), number);
+            store.remove(id);
+        }
+    }
+}
+
+/// The same of changes, from the first to the last.
+fn make_each(store: &mut Store, touched: &mut TouchGrid, changes: Vec<Change>, number: u64)
+    requires changes { All IsChange (map change_data changes.items) }
+    requires room { puts_in (map change_data changes.items) ≤ store.old.spare }
+    requires texts { length (snapshot store.old.features) + length (spelled_changes (map change_data changes.items)) < TEXTS_END }
+    ensures map { store.new.features ≡ edited store.old.features (map change_data changes.items) }
+    ensures marks { (marks : List Mark) → Remembers touched.old marks
+        → Remembers touched.new (marks_after store.old.features (map change_data changes.items) number marks) }
+{
+    for change in changes {
+        make_one(store, touched, change, number);
     }
 }
 
@@ -118,9 +156,36 @@ impl CachedMap {
         self.store.room()
     }
 
+    /// Makes room for each feature that the changes set, so that an edit of them allocates nothing.
+    pub fn room_all(&mut self, changes: &[Change]) -> Result<(), AllocError>
+        ensures same { self.new ≡ record self.old { spare = self.new.spare } }
+        ensures room { OnOk result (puts_in (map change_data changes.now) ≤ self.new.spare) }
+        ensures kept { self.old.spare ≤ self.new.spare }
+        ensures missing { OnErr result (self.new.spare < puts_in (map change_data changes.now)) }
+    {
+        self.store.room_all(changes)
+    }
+
+    /// Makes the changes of an edit of this number, from the first to the last. It allocates nothing.
+    pub fn make_edit(&mut self, changes: Vec<Change>, number: u64)
+        requires changes { All IsChange (map change_data changes.items) }
+        requires room { puts_in (map change_data changes.items) ≤ self.old.spare }
+        requires texts { length (snapshot self.old.features) + length (spelled_changes (map change_data changes.items)) < TEXTS_END }
+        requires later { self.old.last < number }
+        ensures map { self.new.features ≡ edited self.old.features (map change_data changes.items) }
+        ensures last { self.new.last ≡ number }
+        ensures now { WasMap self.new.features self.new.touched self.new.last self.new.last self.new.features }
+        ensures since { (n : ℕ) (was : FeatureMap) → WasMap self.old.features self.old.touched self.old.last n was
+            → WasMap self.new.features self.new.touched self.new.last n was }
+    {
+        let _count = self.store.len();
+        make_each(&mut self.store, &mut self.touched, changes, number);
+        self.last = number;
+    }
+
     /// Gives the number this feature, whatever feature it had, by an edit of this number. It allocates nothing.
     pub fn place(&mut self, id: u64, feature: Feature, number: u64)
-        requires edit { IsEdit (put id (feature_data feature)) }
+        requires edit { IsChange (put id (feature_data feature)) }
         requires room { 0 < self.old.spare }
         requires texts { length (snapshot (with_feature self.old.features id (feature_data feature))) < TEXTS_END }
         requires later { self.old.last < number }

@@ -3,10 +3,10 @@ use Rattle.std.proofs.Common.{◌≡◌, ◌≢◌, ℕ, zero, suc, ◌==◌, Bo
 use Rattle.std.specs.Prelude.{nat_lt}
 use Rattle.edit_text.specs.declared.fault.TextFault.TheVariants.{Cut, Bad, Memory}
 use Rattle.reader.proofs.Steps.{then_never, same_fault, not_both}
-use Rattle.feature_model.specs.Data.{TagData}
-use Rattle.edit_text.specs.Decoding.{BeginsAsPut}
+use Rattle.feature_model.specs.Data.{TagData, ChangeData}
+use Rattle.edit_text.specs.Decoding.{BeginsAsPut, BeginsAsEdit}
 use Rattle.edit_text.specs.Reading.{Part, then_read, read_as, read_if, byte_at, front_at, two_at, eight_at}
-use Rattle.edit_text.specs.Reading.{number_at, text_at, name_at, long_text_at, negative_at, value_behind, value_at, tag_at}
+use Rattle.edit_text.specs.Reading.{number_at, text_at, name_at, long_text_at, negative_at, value_behind, value_at, tag_at, next_number_at, change_count_at}
 
 -- ---- steps that allocate nothing
 
@@ -43,6 +43,10 @@ pub number_no_memory : (bytes : List ℕ) → number_at bytes ≢ Err Memory
 unfolding number_at eight_at
 number_no_memory bytes = if_no_memory _ _ (as_no_memory _ _ (front_no_memory 8 bytes))
 
+pub next_number_no_memory : (done : List ChangeData) (bytes : List ℕ) → next_number_at done bytes ≢ Err Memory
+unfolding next_number_at
+next_number_no_memory done bytes = if_no_memory _ _ (number_no_memory bytes)
+
 pub byte_no_memory : (bytes : List ℕ) → byte_at bytes ≢ Err Memory
 unfolding byte_at
 byte_no_memory [] is = cc
@@ -61,6 +65,9 @@ bad_no_memory is = cc
 text_no_memory : (len : ℕ) (bytes : List ℕ) → text_at len bytes ≢ Err Memory
 unfolding text_at
 text_no_memory len bytes = if_no_memory _ _ (front_no_memory len bytes)
+
+pub count_no_memory : (bytes : List ℕ) → change_count_at bytes ≢ Err Memory
+count_no_memory bytes = if_no_memory _ _ (byte_no_memory bytes)
 
 name_no_memory : (bytes : List ℕ) → name_at bytes ≢ Err Memory
 unfolding name_at
@@ -110,3 +117,12 @@ take_front (suc n) [] put = put
 take_front (suc n) (x ∷ bytes) put =
     let first : x ≡ 1 = ap (λ (xs : List ℕ). get_or xs 0 0) put.1 in
     (bytes, λ i. first i ∷ bytes)
+
+-- ---- what begins as an edit
+
+pub take_edit_front : (n : ℕ) (bytes : List ℕ) → BeginsAsEdit (take n bytes) → BeginsAsEdit bytes
+take_edit_front zero bytes begins = absurd (cc)
+take_edit_front (suc n) [] begins = begins
+take_edit_front (suc n) (x ∷ bytes) begins =
+    let first : x ≡ begins.0 = ap (λ (xs : List ℕ). get_or xs 0 0) begins.2 in
+    (begins.0, bytes, ap (λ b. b ∷ bytes) first, begins.3)

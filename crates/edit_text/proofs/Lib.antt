@@ -1,3 +1,4 @@
+pub mod ChangeCodecs
 pub mod Codecs
 pub mod Decoded
 pub mod EditCodecs
@@ -10,8 +11,10 @@ pub mod KindCodecs
 pub mod Laws
 pub mod Many
 pub mod ManyCodec
+pub mod NewNumbers
 pub mod NextKey
 pub mod PointLists
+pub mod Recorded
 pub mod ShapeCodecs
 pub mod TagCodecs
 pub mod Texts

@@ -4,8 +4,8 @@ use Rattle.std.specs.List.{flat_map}
 use Rattle.std.proofs.lemmas.List.{take_all, take_more, flat_map_more, length-map, map-id}
 use Rattle.std.proofs.lemmas.List.Elements.{All-map, All-more}
 use Rattle.feature_model.specs.declared.feature.World.{World}
-use Rattle.feature_model.specs.Data.{TagData}
-use Rattle.feature_model.specs.Spelled.{two_bytes, spelled_list, spelled_point, spelled_line, spelled_tag, spelled_tags}
+use Rattle.feature_model.specs.Data.{TagData, ChangeData}
+use Rattle.feature_model.specs.Spelled.{two_bytes, spelled_list, spelled_point, spelled_line, spelled_tag, spelled_tags, spelled_change, spelled_changes}
 
 flat_map-map : {X A : Type 0} (spell : A → List ℕ) (f : X → A) (xs : List X) → flat_map spell (map f xs) ≡ flat_map (λ x. spell (f x)) xs
 flat_map-map spell f [] = refl
@@ -43,6 +43,10 @@ unfolding spelled_tags
 tags_all P f xs i front counted out h count put =
     put.text ∙ ap (λ r. r ++ flat_map (λ x. spelled_tag (f x)) (take i xs)) count ∙ append_assoc front (length xs ∷ []) _
     ∙ rw (length-map xs f, flat_map-map spelled_tag f xs, take_all i xs h) refl
+
+pub changes_all : {X : Type 0} (P : ChangeData → Type 0) (f : X → ChangeData) (xs : List X) (i : ℕ) (front out : List ℕ)
+    → length xs ≤ i → IsPut spelled_change P f xs i front out → out ≡ front ++ spelled_changes (map f xs)
+changes_all P f xs i front out h put = put.text ∙ rw (flat_map-map spelled_change f xs, take_all i xs h) refl
 
 -- the fact holds of all of them
 pub types_all : {X A : Type 0} (spell : A → List ℕ) (P : A → Type 0) (f : X → A) (xs : List X) (i : ℕ) (front out : List ℕ) → length xs ≤ i

@@ -1,4 +1,4 @@
--- Bytes that end before the text of an edit does, where each field that is whole is allowed.
+-- Bytes that end before the text of a change or of an edit does, where each field that is whole is allowed.
 use Rattle.std.specs.Prelude.{◌≡◌, ℕ, ◌<◌, ◌≤◌, ◌⊎◌, List, [], ◌∷◌, ◌++◌, length, All}
 use Rattle.std.specs.Ordering.{nat_cmp}
 use Rattle.std.specs.Cmp.Lexicographic.{slice_cmp}
@@ -7,10 +7,11 @@ use Rattle.std.specs.List.Sorted.{IsStrictlySortedBy}
 use Rattle.std.specs.Str.{IsUtf8}
 use Rattle.feature_model.specs.declared.limits.TheConstants.{GREATEST_ZOOM, MOST_NAME_BYTES, LEAST_LINE, LEAST_RING, MOST_TAGS, MOST_TEXT_BYTES}
 use Rattle.feature_model.specs.declared.feature.World.{World}
-use Rattle.feature_model.specs.Data.{TagData}
+use Rattle.feature_model.specs.Data.{TagData, ChangeData}
 use Rattle.feature_model.specs.Limits.{IsName, IsCount, AreZooms, CountFits, NumberFits, GeometryFits, ValueFits, HasAscendingKeys, keys_of}
-use Rattle.feature_model.specs.Spelled.{two_bytes, eight_bytes, spelled_list, spelled_point, spelled_line, spelled_geometry, spelled_name, spelled_tag}
-use Rattle.feature_model.specs.Types.{IsOfWorld, LiesInWorld, TagFitsTypes}
+use Rattle.feature_model.specs.Limits.{AreEnough, IsNew, AreDistinct, ChangeFits}
+use Rattle.feature_model.specs.Spelled.{two_bytes, eight_bytes, spelled_list, spelled_point, spelled_line, spelled_geometry, spelled_name, spelled_tag, spelled_change}
+use Rattle.feature_model.specs.Types.{IsOfWorld, LiesInWorld, TagFitsTypes, ChangeFitsTypes}
 
 -- ---- ends
 
@@ -90,7 +91,7 @@ AreTags tags = All (λ t. IsName t.key × ValueFits t.value × TagFitsTypes t) t
 abbrev pub EndsInTags : List ℕ → Type 0
 EndsInTags bytes = EndsWithin 1 bytes ⊎ EndsBehind one_byte (λ count. count ≤ MOST_TAGS) (EndsAmong spelled_tag AreTags EndsInTag) bytes
 
--- ---- features and edits
+-- ---- features, changes and edits
 
 abbrev pub EndsInZooms : List ℕ → Type 0
 EndsInZooms bytes = EndsWithin 1 bytes ⊎ EndsBehind one_byte (λ zoom. zoom ≤ GREATEST_ZOOM) (λ _. EndsWithin 1) bytes
@@ -107,8 +108,20 @@ EndsInBody bytes = EndsInZooms bytes
 abbrev pub EndsInFeature : List ℕ → Type 0
 EndsInFeature bytes = EndsInName bytes ⊎ EndsBehind spelled_name (λ layer. IsName layer × IsUtf8 layer) (λ _. EndsInBody) bytes
 
-abbrev pub EndsInPut : List ℕ → Type 0
-EndsInPut bytes = EndsWithin 8 bytes ⊎ EndsBehind eight_bytes NumberFits (λ _. EndsInFeature) bytes
+-- the number of a change behind these
+abbrev pub IsNextNumber : List ChangeData → ℕ → Type 0
+IsNextNumber done id = NumberFits id × IsNew done id
+
+-- inside a change behind these, where it sets a feature
+abbrev pub EndsInPut : List ChangeData → List ℕ → Type 0
+EndsInPut done bytes = EndsWithin 8 bytes ⊎ EndsBehind eight_bytes (IsNextNumber done) (λ _. EndsInFeature) bytes
+
+-- inside the change behind these
+abbrev pub EndsInChange : List ChangeData → List ℕ → Type 0
+EndsInChange done bytes = EndsWithin 1 bytes ⊎ EndsBehindKind 1 (EndsInPut done) bytes ⊎ EndsBehindKind 2 (EndsWithin 8) bytes
+
+abbrev pub AreChanges : List ChangeData → Type 0
+AreChanges cs = All (λ c. ChangeFits c × ChangeFitsTypes c) cs × AreDistinct cs
 
 abbrev pub EndsInEdit : List ℕ → Type 0
-EndsInEdit bytes = EndsWithin 1 bytes ⊎ EndsBehindKind 1 EndsInPut bytes ⊎ EndsBehindKind 2 (EndsWithin 8) bytes
+EndsInEdit bytes = EndsWithin 1 bytes ⊎ EndsBehind one_byte AreEnough (EndsAmong spelled_change AreChanges EndsInChange) bytes

@@ -1,14 +1,14 @@
 -- Reading from left to right: what stands in front and the bytes behind it, or the first fault that is met.
-use Rattle.std.specs.Prelude.{◌≡◌, ℕ, ◌^◌, ◌==◌, ◌&&◌, Bool, true, false, List, [], ◌∷◌, ◌++◌, length, take, drop, Ok, Err, IsOk, nat_lt, nat_le, if◌then◌else◌}
+use Rattle.std.specs.Prelude.{◌≡◌, ℕ, ◌+◌, ◌^◌, ◌==◌, ◌&&◌, Bool, true, false, List, [], ◌∷◌, ◌++◌, length, take, drop, Ok, Err, IsOk, nat_lt, nat_le, if◌then◌else◌}
 use Rattle.std.specs.Ordering.{nat_cmp, is_lt}
 use Rattle.std.specs.Cmp.Lexicographic.{slice_cmp}
 use Rattle.std.specs.Int.{w16, w32, w64, from_le_bytes, cast_signed}
 use Rattle.std.specs.Str.{is_utf8}
 use Rattle.feature_model.specs.declared.limits.TheConstants.{LEAST_LINE, LEAST_RING, MOST_TAGS, MOST_TEXT_BYTES, MOST_EDIT_BYTES}
-use Rattle.feature_model.specs.declared.limits.TheConstants.{NUMBER_END, GREATEST_ZOOM, MOST_NAME_BYTES}
+use Rattle.feature_model.specs.declared.limits.TheConstants.{NUMBER_END, GREATEST_ZOOM, MOST_NAME_BYTES, MOST_CHANGES}
 use Rattle.feature_model.specs.declared.feature.World.{World}
 use Rattle.feature_model.specs.Data.{GeometryData, world_points, world_lines, world_polygons, ValueData, text_value, natural_value}
-use Rattle.feature_model.specs.Data.{negative_value, truth_value, TagData, FeatureData, EditData, put, delete}
+use Rattle.feature_model.specs.Data.{negative_value, truth_value, TagData, FeatureData, ChangeData, put, delete, EditData, number_of}
 use Rattle.feature_model.specs.Limits.{is_count}
 use Rattle.edit_text.specs.declared.fault.TextFault.{TextFault}
 use Rattle.edit_text.specs.declared.fault.TextFault.TheVariants.{Cut, Bad}
@@ -152,23 +152,50 @@ feature_at bytes = then_read (name_at bytes) (λ layer behind_layer.
 unfoldable pub number_at : List ℕ → Part ℕ
 number_at bytes = read_if (λ id. nat_lt id NUMBER_END) (eight_at bytes)
 
-unfoldable pub put_at : List ℕ → Part EditData
-put_at bytes = then_read (number_at bytes) (λ id rest. read_as (put id) (feature_at rest))
+-- none of these changes is of the number
+unfoldable pub is_new : List ChangeData → ℕ → Bool
+is_new [] id = true
+is_new (c ∷ cs) id = if number_of c == id then false else is_new cs id
 
-unfoldable pub edit_behind : ℕ → List ℕ → Part EditData
-edit_behind kind bytes =
-    if kind == 1 then put_at bytes
-    else (if kind == 2 then read_as delete (number_at bytes)
+-- the number of a change behind these
+unfoldable pub next_number_at : List ChangeData → List ℕ → Part ℕ
+next_number_at done bytes = read_if (is_new done) (number_at bytes)
+
+unfoldable pub put_at : List ChangeData → List ℕ → Part ChangeData
+put_at done bytes = then_read (next_number_at done bytes) (λ id rest. read_as (put id) (feature_at rest))
+
+unfoldable pub change_behind : List ChangeData → ℕ → List ℕ → Part ChangeData
+change_behind done kind bytes =
+    if kind == 1 then put_at done bytes
+    else (if kind == 2 then read_as delete (next_number_at done bytes)
     else Err Bad)
 
+-- the change behind these
+unfoldable pub change_at : List ChangeData → List ℕ → Part ChangeData
+change_at done bytes = then_read (byte_at bytes) (change_behind done)
+
+abbrev pub change_count_at : List ℕ → Part ℕ
+change_count_at bytes = read_if (λ count. nat_le 1 count && nat_le count MOST_CHANGES) (byte_at bytes)
+
 unfoldable pub edit_at : List ℕ → Part EditData
-edit_at bytes = then_read (byte_at bytes) edit_behind
+edit_at bytes = then_read (change_count_at bytes) (λ count. many_at change_at count [])
 
 -- bytes that end too early are bad where there is no room for more
 abbrev pub cut_as_bad : {A : Type 0} → Part A → Part A
 cut_as_bad (Err Cut) = Err Bad
 cut_as_bad part = part
 
--- the edit in front, whose text is no longer than the longest
+-- what stands in front, in a text of at most so many bytes
+abbrev pub read_within : {A : Type 0} → ℕ → (List ℕ → Part A) → List ℕ → Part A
+read_within most read bytes = if nat_lt (length bytes) most then read bytes else cut_as_bad (read (take most bytes))
+
+-- the most bytes of the text of an edit: its count, and the longest texts
+abbrev pub edit_most : ℕ
+edit_most = 1 + MOST_EDIT_BYTES
+
+-- the change in front, and the edit in front, whose text is no longer than the longest
+unfoldable pub decode_change_at : List ℕ → Part ChangeData
+decode_change_at bytes = read_within MOST_EDIT_BYTES (change_at []) bytes
+
 unfoldable pub decode_at : List ℕ → Part EditData
-decode_at bytes = if nat_lt (length bytes) MOST_EDIT_BYTES then edit_at bytes else cut_as_bad (edit_at (take MOST_EDIT_BYTES bytes))
+decode_at bytes = read_within edit_most edit_at bytes

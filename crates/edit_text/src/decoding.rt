@@ -1,25 +1,67 @@
-//! Texts to edits.
+//! Texts to changes and edits.
 
 ghost use Rattle.std.specs.Prelude.{◌≡◌, ℕ, ◌<◌, ◌⊎◌, List, length, IfOk, MatchResult};
-ghost use Rattle.feature_model.specs.Data.{EditData, edit_data};
-ghost use Rattle.feature_model.specs.Spelled.{spelled};
-ghost use Rattle.edit_text.specs.Decoding.{BeginsWith, BeginsAsPut, IsCut};
+ghost use Rattle.feature_model.specs.Data.{ChangeData, change_data, EditData, edit_data};
+ghost use Rattle.feature_model.specs.Spelled.{spelled_change, spelled};
+ghost use Rattle.edit_text.specs.Decoding.{BeginsWithChange, BeginsWith, BeginsAsPut, BeginsAsEdit, IsCutChange, IsCut};
 ghost use Rattle.reader.specs.Reading.{Gives};
-ghost use Rattle.edit_text.specs.Reading.{decode_at};
+ghost use Rattle.edit_text.specs.Reading.{decode_change_at, decode_at};
 
+use crate::changes::read_change;
 use crate::edits::read_edit;
 use crate::fault::TextFault;
-use feature_model::{Edit, MOST_EDIT_BYTES};
+use feature_model::{Change, Edit, MOST_EDIT_BYTES};
 use std::alloc::Global;
 
-/// The most bytes of the text of an edit.
-const MOST_BYTES: usize = MOST_EDIT_BYTES as usize;
+/// The most bytes of the text of a change.
+const MOST_CHANGE_BYTES: usize = MOST_EDIT_BYTES as usize;
+
+/// The most bytes of the text of an edit: its count, and the texts of its changes.
+const MOST_BYTES: usize = 1 + MOST_CHANGE_BYTES;
+
+/// The change in front, whose text is no longer than the longest, and the bytes up to there that are behind it.
+#[tactic(auto, unfolding(crate::specs::Reading::decode_change_at))]
+fn read_short_change(alloc: Global, bytes: &[u8]) -> Result<(Change, &[u8]), TextFault>
+    ensures change { Gives TextFault.Memory (λ r. (change_data r.0, r.1.now)) result (decode_change_at bytes.now) }
+    ensures memory { result ≡ Err TextFault.Memory → BeginsAsPut bytes.now }
+{
+    if bytes.len() < MOST_CHANGE_BYTES {
+        return read_change(alloc, &[], bytes);
+    }
+    match read_change(alloc, &[], &bytes[..MOST_CHANGE_BYTES]) {
+        Ok((change, rest)) => Ok((change, rest)),
+        Err(TextFault::Cut | TextFault::Bad) => Err(TextFault::Bad),
+        Err(TextFault::Memory) => Err(TextFault::Memory),
+    }
+}
+
+/// The change whose text stands in front, and how many bytes the text has. Bytes may follow it.
+pub fn decode_change(alloc: Global, bytes: &[u8]) -> Result<(Change, usize), TextFault>
+    // What is found stands there, and its text has this length.
+    ensures found { IfOk result (λ r. BeginsWithChange (change_data r.0) bytes.now) }
+    ensures len { IfOk result (λ r. r.1 ≡ length (spelled_change (change_data r.0))) }
+    // What stands there is found, whatever follows it, out of memory aside.
+    ensures only { (c : ChangeData) → BeginsWithChange c bytes.now
+        → MatchResult result (λ r. change_data r.0 ≡ c) (λ fault. fault ≡ TextFault.Memory) }
+    // `Cut` is returned exactly where the bytes are cut, out of memory aside.
+    ensures cut { result ≡ Err TextFault.Cut → IsCutChange bytes.now }
+    ensures only_cut { IsCutChange bytes.now
+        → (result ≡ Err TextFault.Cut) ⊎ (result ≡ Err TextFault.Memory) }
+    // An allocation fails only at what begins as a Put.
+    ensures memory { result ≡ Err TextFault.Memory → BeginsAsPut bytes.now }
+    // All other bytes are bad, out of memory aside.
+    ensures bad { result ≡ Err TextFault.Bad → ¬ IsCutChange bytes.now × ((c : ChangeData) → ¬ BeginsWithChange c bytes.now) }
+{
+    let (change, rest) = read_short_change(alloc, bytes)?;
+    let len = bytes.len().min(MOST_CHANGE_BYTES) - rest.len();
+    Ok((change, len))
+}
 
 /// The edit in front, whose text is no longer than the longest, and the bytes up to there that are behind it.
 #[tactic(auto, unfolding(crate::specs::Reading::decode_at))]
 fn read_short(alloc: Global, bytes: &[u8]) -> Result<(Edit, &[u8]), TextFault>
     ensures edit { Gives TextFault.Memory (λ r. (edit_data r.0, r.1.now)) result (decode_at bytes.now) }
-    ensures memory { result ≡ Err TextFault.Memory → BeginsAsPut bytes.now }
+    ensures memory { result ≡ Err TextFault.Memory → BeginsAsEdit bytes.now }
 {
     if bytes.len() < MOST_BYTES {
         return read_edit(alloc, bytes);
@@ -33,19 +75,16 @@ fn read_short(alloc: Global, bytes: &[u8]) -> Result<(Edit, &[u8]), TextFault>
 
 /// The edit whose text stands in front, and how many bytes the text has. Bytes may follow it.
 pub fn decode(alloc: Global, bytes: &[u8]) -> Result<(Edit, usize), TextFault>
-    // What is found stands there, and its text has this length.
+    // The clauses are those of `decode_change`.
     ensures found { IfOk result (λ r. BeginsWith (edit_data r.0) bytes.now) }
     ensures len { IfOk result (λ r. r.1 ≡ length (spelled (edit_data r.0))) }
-    // What stands there is found, whatever follows it, out of memory aside.
     ensures only { (e : EditData) → BeginsWith e bytes.now
         → MatchResult result (λ r. edit_data r.0 ≡ e) (λ fault. fault ≡ TextFault.Memory) }
-    // `Cut` is returned exactly where the bytes are cut, out of memory aside.
     ensures cut { result ≡ Err TextFault.Cut → IsCut bytes.now }
     ensures only_cut { IsCut bytes.now
         → (result ≡ Err TextFault.Cut) ⊎ (result ≡ Err TextFault.Memory) }
-    // An allocation fails only at what begins as a Put.
-    ensures memory { result ≡ Err TextFault.Memory → BeginsAsPut bytes.now }
-    // All other bytes are bad, out of memory aside.
+    // An allocation fails only behind a count of changes.
+    ensures memory { result ≡ Err TextFault.Memory → BeginsAsEdit bytes.now }
     ensures bad { result ≡ Err TextFault.Bad → ¬ IsCut bytes.now × ((e : EditData) → ¬ BeginsWith e bytes.now) }
 {
     let (edit, rest) = read_short(alloc, bytes)?;

@@ -1,15 +1,17 @@
-//! Edits to texts.
+//! Changes and edits to texts.
 
-ghost use Rattle.std.specs.Prelude.{◌≡◌, ℕ, ◌<◌, ◌≤◌, ◌^◌, ◌++◌, length, map, All, OnOk, IfOk};
+ghost use Rattle.std.specs.Prelude.{◌≡◌, ℕ, ◌<◌, ◌≤◌, ◌^◌, [], ◌∷◌, ◌++◌, length, map, All, OnOk, IfOk};
 ghost use Rattle.std.specs.Str.{IsUtf8};
 ghost use Rattle.feature_model.specs.declared.limits.TheConstants.{MOST_ELEMENTS, MOST_TEXT_BYTES};
-ghost use Rattle.feature_model.specs.Data.{put, delete, feature_data, geometry_data, value_data, tag_data, edit_data};
-ghost use Rattle.feature_model.specs.Limits.{IsName, LayerFits, GeometryFits, TagsFit, ValueFits, ValuesFit, IsAllowed, IsAllowedEdit, NumberFits};
+ghost use Rattle.feature_model.specs.Data.{put, delete, feature_data, geometry_data, value_data, tag_data, change_data, edit_data};
+ghost use Rattle.feature_model.specs.Limits.{IsName, LayerFits, GeometryFits, TagsFit, ValueFits, ValuesFit, IsAllowed, IsAllowedChange, IsAllowedEdit, NumberFits};
 ghost use Rattle.feature_model.specs.Spelled.{two_bytes, eight_bytes, spelled_name, spelled_list, spelled_point, spelled_line};
-ghost use Rattle.feature_model.specs.Spelled.{spelled_geometry, spelled_value, spelled_tag, spelled_tags, spelled_feature, spelled};
-ghost use Rattle.feature_model.specs.Types.{IsOfWorld, LiesInWorld, ValueFitsTypes, TagFitsTypes, FeatureFitsTypes, IsEdit};
+ghost use Rattle.feature_model.specs.Spelled.{spelled_geometry, spelled_value, spelled_tag, spelled_tags, spelled_feature, spelled_change, spelled_changes, spelled};
+ghost use Rattle.feature_model.specs.Types.{IsOfWorld, LiesInWorld, ValueFitsTypes, TagFitsTypes, FeatureFitsTypes, IsChange, IsEdit};
 
-use feature_model::{Edit, EditValue, Feature, Geometry, Tag, World, put_text_len};
+use feature_model::{
+    Change, Edit, EditValue, Feature, Geometry, Tag, World, change_text_len, put_text_len,
+};
 use std::alloc::{AllocError, Global};
 
 #[tactic(auto, unfolding(feature_model::specs::Spelled::two_bytes))]
@@ -188,20 +190,30 @@ fn put_feature(out: &mut Vec<u8>, feature: &Feature) -> Result<(), AllocError>
 }
 
 /// The text that takes the number's feature away: nine bytes. The number is below `NUMBER_END`.
-#[tactic(auto, unfolding(feature_model::specs::Spelled::spelled, feature_model::specs::Spelled::eight_bytes))]
+#[tactic(auto, unfolding(feature_model::specs::Spelled::spelled_change, feature_model::specs::Spelled::eight_bytes))]
 pub fn delete_text(id: u64) -> [u8; 9]
     requires { NumberFits id }
-    ensures { result ≡ spelled (delete id) }
+    ensures { result ≡ spelled_change (delete id) }
 {
     let [a, b, c, d, e, f, g, h] = id.to_le_bytes();
     [2, a, b, c, d, e, f, g, h]
 }
 
-/// Adds the text that gives a number this feature to the end of a vector.
+/// The text of the edit that takes the number's feature away, and does no more: ten bytes. The number is below `NUMBER_END`.
 #[tactic(auto, unfolding(feature_model::specs::Spelled::spelled))]
+pub fn delete_edit_text(id: u64) -> [u8; 10]
+    requires { NumberFits id }
+    ensures { result ≡ spelled (delete id ∷ []) }
+{
+    let [a, b, c, d, e, f, g, h, i] = delete_text(id);
+    [1, a, b, c, d, e, f, g, h, i]
+}
+
+/// Adds the text that gives a number this feature to the end of a vector.
+#[tactic(auto, unfolding(feature_model::specs::Spelled::spelled_change))]
 pub fn append_put(out: &mut Vec<u8>, id: u64, feature: &Feature) -> Result<(), AllocError>
     requires { IsAllowed id (feature_data feature.now) }
-    ensures text { OnOk result (out.new.items ≡ out.old.items ++ spelled (put id (feature_data feature.now))) }
+    ensures text { OnOk result (out.new.items ≡ out.old.items ++ spelled_change (put id (feature_data feature.now))) }
     ensures types { OnOk result (FeatureFitsTypes (feature_data feature.now)) }
 {
     out.push(1)?;
@@ -209,26 +221,52 @@ pub fn append_put(out: &mut Vec<u8>, id: u64, feature: &Feature) -> Result<(), A
     put_feature(out, feature)
 }
 
-/// The text that gives a number this feature.
-fn encode_put(alloc: Global, id: u64, feature: &Feature) -> Result<Vec<u8>, AllocError>
-    requires { IsAllowed id (feature_data feature.now) }
-    ensures text { IfOk result (λ v. v.items ≡ spelled (put id (feature_data feature.now))) }
-    ensures types { OnOk result (FeatureFitsTypes (feature_data feature.now)) }
+/// Adds the text of a change to the end of a vector.
+fn append_change(out: &mut Vec<u8>, change: &Change) -> Result<(), AllocError>
+    requires { IsAllowedChange (change_data change.now) }
+    ensures text { OnOk result (out.new.items ≡ out.old.items ++ spelled_change (change_data change.now)) }
+    ensures change { OnOk result (IsChange (change_data change.now)) }
 {
-    let mut out = Vec::with_capacity(alloc, put_text_len(feature) as usize)?;
-    append_put(&mut out, id, feature)?;
+    match change {
+        Change::Put { id, feature } => append_put(out, *id, feature),
+        Change::Delete { id } => out.extend_from_slice(&delete_text(*id)),
+    }
+}
+
+/// The text of a change that is within the limits.
+pub fn encode_change(alloc: Global, change: &Change) -> Result<Vec<u8>, AllocError>
+    requires { IsAllowedChange (change_data change.now) }
+    ensures text { IfOk result (λ v. v.items ≡ spelled_change (change_data change.now)) }
+    // It is the text of a change, so it can be decoded.
+    ensures change { OnOk result (IsChange (change_data change.now)) }
+{
+    let mut out = Vec::with_capacity(alloc, change_text_len(change) as usize)?;
+    append_change(&mut out, change)?;
     Ok(out)
 }
 
+/// Adds the texts of changes to the end of a vector.
+fn append_changes(out: &mut Vec<u8>, changes: &[Change]) -> Result<(), AllocError>
+    requires { All IsAllowedChange (map change_data changes.now) }
+    ensures text { OnOk result (out.new.items ≡ out.old.items ++ spelled_changes (map change_data changes.now)) }
+    ensures changes { OnOk result (All IsChange (map change_data changes.now)) }
+{
+    for change in changes {
+        append_change(out, change)?;
+    }
+    Ok(())
+}
+
 /// The text of an edit that is within the limits.
+#[tactic(auto, unfolding(feature_model::specs::Spelled::spelled))]
 pub fn encode(alloc: Global, edit: &Edit) -> Result<Vec<u8>, AllocError>
     requires { IsAllowedEdit (edit_data edit.now) }
     ensures text { IfOk result (λ v. v.items ≡ spelled (edit_data edit.now)) }
     // It is the text of an edit, so it can be decoded.
     ensures edit { OnOk result (IsEdit (edit_data edit.now)) }
 {
-    match edit {
-        Edit::Put { id, feature } => encode_put(alloc, *id, feature),
-        Edit::Delete { id } => Vec::from_slice(alloc, &delete_text(*id)),
-    }
+    let mut out = Vec::new(alloc);
+    out.push(edit.changes.len() as u8)?;
+    append_changes(&mut out, &edit.changes)?;
+    Ok(out)
 }

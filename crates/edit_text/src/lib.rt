@@ -1,6 +1,7 @@
-//! The text of an edit, both ways.
+//! The texts of changes and of edits, both ways.
 #![tactic(auto)]
 
+mod changes;
 mod decoding;
 mod edits;
 mod encoding;
@@ -9,6 +10,6 @@ mod fields;
 mod shapes;
 mod tags;
 
-pub use decoding::decode;
-pub use encoding::{append_put, delete_text, encode};
+pub use decoding::{decode, decode_change};
+pub use encoding::{append_put, delete_edit_text, delete_text, encode, encode_change};
 pub use fault::TextFault;

@@ -1,3 +1,4 @@
 pub mod Ascending
+pub mod Changes
 pub mod Mapped
 pub mod TextLengths

@@ -8,11 +8,11 @@ use Rattle.feature_model.specs.declared.feature.World.{World}
 use Rattle.feature_model.specs.declared.feature.Geometry.{Geometry}
 use Rattle.feature_model.specs.declared.feature.Geometry.TheVariants as kinds
 use Rattle.feature_model.specs.Data.{world_points, world_lines, world_polygons, geometry_data, text_value, natural_value}
-use Rattle.feature_model.specs.Data.{negative_value, truth_value, TagData, FeatureData, put}
+use Rattle.feature_model.specs.Data.{negative_value, truth_value, TagData, FeatureData, put, delete}
 use Rattle.feature_model.specs.Limits.{CountFits, RingsFit, GeometryFits}
 use Rattle.feature_model.proofs.Mapped.{All-from_map}
 use Rattle.feature_model.specs.Spelled.{two_bytes, four_bytes, eight_bytes, spelled_list, spelled_point, spelled_line, spelled_geometry}
-use Rattle.feature_model.specs.Spelled.{spelled_name, spelled_value, spelled_tag, spelled_tags, spelled_feature, spelled}
+use Rattle.feature_model.specs.Spelled.{spelled_name, spelled_value, spelled_tag, spelled_tags, spelled_feature, spelled_change}
 
 pub length-two_bytes : (n : ℕ) → length (two_bytes n) ≡ 2
 unfolding two_bytes
@@ -99,10 +99,10 @@ pub ruleset tags = (length-spelled_tag, length-spelled_tags)
 
 -- ---- features
 
-pub length-spelled : (id : ℕ) (f : FeatureData) → length (spelled (put id f))
+pub length-spelled_change : (id : ℕ) (f : FeatureData) → length (spelled_change (put id f))
     ≡ 12 + length f.layer + length (spelled_geometry f.geometry) + length (spelled_tags f.tags)
-unfolding spelled spelled_feature
-length-spelled id f =
+unfolding spelled_change spelled_feature
+length-spelled_change id f =
     omega (
       arith,
       length-eight_bytes id,
@@ -112,7 +112,13 @@ length-spelled id f =
       length-append (spelled_geometry f.geometry) (spelled_tags f.tags),
     )
 
-pub ruleset features = (length-spelled)
+pub length-spelled_delete : (id : ℕ) → length (spelled_change (delete id)) ≡ 9
+unfolding spelled_change
+length-spelled_delete id = omega (arith, length-eight_bytes id)
+
+pub ruleset features = (length-spelled_change)
+
+pub ruleset changes = (length-spelled_delete)
 
 -- ---- whole lists
 

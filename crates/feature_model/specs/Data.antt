@@ -1,4 +1,4 @@
--- Features and edits without where they lie in memory.
+-- Features, changes and edits without where they lie in memory.
 use Rattle.std.specs.Prelude.{ℕ, ℤ, Bool, List, map}
 use Rattle.std.specs.String.{string_bytes}
 use Rattle.feature_model.specs.declared.feature.World.{World}
@@ -8,8 +8,9 @@ use Rattle.feature_model.specs.declared.feature.EditValue.{EditValue}
 use Rattle.feature_model.specs.declared.feature.EditValue.TheVariants as values
 use Rattle.feature_model.specs.declared.feature.Tag.{Tag}
 use Rattle.feature_model.specs.declared.feature.Feature.{Feature}
+use Rattle.feature_model.specs.declared.feature.Change.{Change}
+use Rattle.feature_model.specs.declared.feature.Change.TheVariants as changes
 use Rattle.feature_model.specs.declared.feature.Edit.{Edit}
-use Rattle.feature_model.specs.declared.feature.Edit.TheVariants as edits
 
 pub data GeometryData : Type 0 where
   world_points : List World → GeometryData
@@ -33,9 +34,18 @@ pub record FeatureData : Type 0 where
   pub geometry : GeometryData
   pub tags : List TagData
 
-pub data EditData : Type 0 where
-  put : ℕ → FeatureData → EditData
-  delete : ℕ → EditData
+pub data ChangeData : Type 0 where
+  put : ℕ → FeatureData → ChangeData
+  delete : ℕ → ChangeData
+
+-- an edit: changes that are made together
+abbrev pub EditData : Type 0
+EditData = List ChangeData
+
+-- the number that a change is of
+abbrev pub number_of : ChangeData → ℕ
+number_of (put id f) = id
+number_of (delete id) = id
 
 abbrev pub geometry_data : Geometry → GeometryData
 geometry_data (geometries.Points ps) = world_points ps.items
@@ -60,6 +70,9 @@ feature_data f = record {
   tags = map tag_data f.tags.items;
 }
 
+abbrev pub change_data : Change → ChangeData
+change_data (changes.Put id feature) = put id (feature_data feature)
+change_data (changes.Delete id) = delete id
+
 abbrev pub edit_data : Edit → EditData
-edit_data (edits.Put id feature) = put id (feature_data feature)
-edit_data (edits.Delete id) = delete id
+edit_data edit = map change_data edit.changes.items

@@ -1,4 +1,4 @@
--- The most bytes of the parts of a text.
+-- The most bytes of a text and of its parts, as far as they follow from the counts alone.
 use Rattle.std.specs.Prelude.{ℕ, ◌+◌, ◌*◌}
 use Rattle.feature_model.specs.declared.limits.TheConstants.{MOST_NAME_BYTES, MOST_ELEMENTS, MOST_TAGS, MOST_TEXT_BYTES}
 
@@ -25,3 +25,7 @@ tag_most = 1 + MOST_NAME_BYTES + value_most
 -- the count of tags, and the tags
 abbrev pub tags_most : ℕ
 tags_most = 1 + tag_most * MOST_TAGS
+
+-- a change: its kind, its number, the name of a layer, two zooms, the kind of a geometry and its lists, and tags
+abbrev pub change_most : ℕ
+change_most = 13 + MOST_NAME_BYTES + polygons_most + tags_most

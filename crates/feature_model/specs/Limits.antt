@@ -1,16 +1,16 @@
 -- The limits of a feature and its number, one for each fault, in the order in which faults are returned.
-use Rattle.std.specs.Prelude.{ℕ, pos, ◌&&◌, Bool, nat_le, ◌<◌, ◌≤◌, ◌<ℤ◌, List, length, map, All}
+use Rattle.std.specs.Prelude.{◌≡◌, ◌≢◌, ℕ, pos, ◌&&◌, Bool, nat_le, ◌<◌, ◌≤◌, ◌<ℤ◌, List, length, get_or, map, take, All}
 use Rattle.std.specs.Ordering.{nat_cmp}
 use Rattle.std.specs.Cmp.Lexicographic.{slice_cmp}
 use Rattle.std.specs.List.Sorted.{IsStrictlySortedBy}
 use Rattle.feature_model.specs.declared.feature.World.{World}
 use Rattle.feature_model.specs.declared.limits.TheConstants.{NUMBER_END, GREATEST_ZOOM, MOST_NAME_BYTES, MOST_ELEMENTS}
-use Rattle.feature_model.specs.declared.limits.TheConstants.{LEAST_LINE, LEAST_RING, MOST_TAGS, MOST_TEXT_BYTES, MOST_EDIT_BYTES}
+use Rattle.feature_model.specs.declared.limits.TheConstants.{LEAST_LINE, LEAST_RING, MOST_TAGS, MOST_TEXT_BYTES, MOST_EDIT_BYTES, MOST_CHANGES}
 use Rattle.feature_model.specs.declared.fault.EditFault.{EditFault}
 use Rattle.feature_model.specs.declared.fault.EditFault.TheVariants as faults
 use Rattle.feature_model.specs.Data.{GeometryData, world_points, world_lines, world_polygons, ValueData, text_value, natural_value}
-use Rattle.feature_model.specs.Data.{negative_value, truth_value, TagData, FeatureData, EditData, put, delete}
-use Rattle.feature_model.specs.Spelled.{spelled}
+use Rattle.feature_model.specs.Data.{negative_value, truth_value, TagData, FeatureData, ChangeData, put, delete, EditData, number_of}
+use Rattle.feature_model.specs.Spelled.{spelled_change, spelled_changes}
 
 -- a name has a byte, and not too many
 abbrev pub IsName : List ℕ → Type 0
@@ -81,7 +81,7 @@ ValuesFit tags = All (λ t. ValueFits t.value) tags
 
 -- the text that sets the number's feature is short
 abbrev pub TextFits : ℕ → FeatureData → Type 0
-TextFits id f = length (spelled (put id f)) ≤ MOST_EDIT_BYTES
+TextFits id f = length (spelled_change (put id f)) ≤ MOST_EDIT_BYTES
 
 -- ---- all of them
 
@@ -99,10 +99,10 @@ pub record IsAllowed (id : ℕ) (f : FeatureData) : Type 0 where
   pub feature : FeatureFits f
   pub text : TextFits id f
 
--- an edit within the limits
-abbrev pub IsAllowedEdit : EditData → Type 0
-IsAllowedEdit (put id f) = IsAllowed id f
-IsAllowedEdit (delete id) = NumberFits id
+-- a change within the limits
+abbrev pub IsAllowedChange : ChangeData → Type 0
+IsAllowedChange (put id f) = IsAllowed id f
+IsAllowedChange (delete id) = NumberFits id
 
 -- the fault's limit is broken, and those before it are kept
 abbrev pub IsFirstFault : ℕ → FeatureData → EditFault → Type 0
@@ -115,3 +115,58 @@ IsFirstFault id f faults.Value = NumberFits id × LayerFits f × ZoomsFit f × G
 IsFirstFault id f faults.Long = NumberFits id × LayerFits f × ZoomsFit f × GeometryFits f.geometry × TagsFit f.tags × ValuesFit f.tags × ¬ TextFits id f
 -- no other fault is returned
 IsFirstFault id f _ = ⊥
+
+-- ---- the limits of an edit, in the order in which its faults are returned
+
+-- so many changes are one at least, and not too many
+abbrev pub AreEnough : ℕ → Type 0
+AreEnough count = (1 ≤ count) × (count ≤ MOST_CHANGES)
+
+abbrev pub HasChanges : EditData → Type 0
+HasChanges cs = AreEnough (length cs)
+
+-- none of the changes is of this number
+abbrev pub IsNew : List ChangeData → ℕ → Type 0
+IsNew cs id = All (λ c. number_of c ≢ id) cs
+
+-- no change is of the number of one before it
+abbrev pub AreDistinct : List ChangeData → Type 0
+AreDistinct cs = (k : ℕ) (d : ChangeData) → k < length cs → IsNew (take k cs) (number_of (get_or cs k d))
+
+-- a change keeps its own limits, whatever the length of its text
+abbrev pub ChangeFits : ChangeData → Type 0
+ChangeFits (put id f) = NumberFits id × FeatureFits f
+ChangeFits (delete id) = NumberFits id
+
+-- the texts of the changes are short together
+abbrev pub TextsFit : EditData → Type 0
+TextsFit cs = length (spelled_changes cs) ≤ MOST_EDIT_BYTES
+
+pub record IsAllowedEdit (cs : EditData) : Type 0 where
+  pub count : HasChanges cs
+  pub distinct : AreDistinct cs
+  pub changes : All IsAllowedChange cs
+  pub text : TextsFit cs
+
+-- the first limit that the change breaks, but for that of its text
+abbrev pub IsFirstOf : ChangeData → EditFault → Type 0
+IsFirstOf (put id f) faults.Long = ⊥
+IsFirstOf (put id f) fault = IsFirstFault id f fault
+IsFirstOf (delete id) faults.Number = ¬ NumberFits id
+IsFirstOf (delete id) fault = ⊥
+
+-- the first change that breaks such a limit breaks this one
+pub record IsFirstWithin (cs : EditData) (fault : EditFault) : Type 0 where
+  pub index : ℕ
+  pub change : ChangeData
+  pub within : index < length cs
+  pub is : get_or cs index change ≡ change
+  pub before : All ChangeFits (take index cs)
+  pub fault_is : IsFirstOf change fault
+
+-- the edit breaks this limit, and those before it are kept
+abbrev pub IsFirstEditFault : EditData → EditFault → Type 0
+IsFirstEditFault cs faults.Batch = ¬ HasChanges cs
+IsFirstEditFault cs faults.Twice = HasChanges cs × ¬ AreDistinct cs
+IsFirstEditFault cs faults.Long = HasChanges cs × AreDistinct cs × All ChangeFits cs × ¬ TextsFit cs
+IsFirstEditFault cs fault = HasChanges cs × AreDistinct cs × IsFirstWithin cs fault

@@ -1,10 +1,10 @@
--- The text of an edit: one spelling for each.
+-- The texts of changes and of edits: one spelling for each.
 use Rattle.std.specs.Prelude.{ℕ, true, false, List, [], ◌∷◌, ◌++◌, length}
 use Rattle.std.specs.List.{flat_map}
 use Rattle.std.specs.Int.{w16, w32, w64, to_le_bytes, cast_unsigned}
 use Rattle.feature_model.specs.declared.feature.World.{World}
 use Rattle.feature_model.specs.Data.{GeometryData, world_points, world_lines, world_polygons, ValueData, text_value, natural_value}
-use Rattle.feature_model.specs.Data.{negative_value, truth_value, TagData, FeatureData, EditData, put, delete}
+use Rattle.feature_model.specs.Data.{negative_value, truth_value, TagData, FeatureData, ChangeData, put, delete, EditData}
 
 -- a number in two, four or eight bytes, the lowest first
 unfoldable pub two_bytes : ℕ → List ℕ
@@ -52,6 +52,14 @@ spelled_tags tags = length tags ∷ flat_map spelled_tag tags
 unfoldable pub spelled_feature : FeatureData → List ℕ
 spelled_feature f = spelled_name f.layer ++ (f.minzoom ∷ f.maxzoom ∷ spelled_geometry f.geometry ++ spelled_tags f.tags)
 
+unfoldable pub spelled_change : ChangeData → List ℕ
+spelled_change (put id f) = 1 ∷ eight_bytes id ++ spelled_feature f
+spelled_change (delete id) = 2 ∷ eight_bytes id
+
+-- the texts of changes, one behind the other
+abbrev pub spelled_changes : List ChangeData → List ℕ
+spelled_changes cs = flat_map spelled_change cs
+
+-- the text of an edit: how many changes it has, and theirs
 unfoldable pub spelled : EditData → List ℕ
-spelled (put id f) = 1 ∷ eight_bytes id ++ spelled_feature f
-spelled (delete id) = 2 ∷ eight_bytes id
+spelled cs = length cs ∷ spelled_changes cs

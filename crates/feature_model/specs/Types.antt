@@ -1,11 +1,11 @@
--- What the types of a feature promise of its values, and the edits that keep the limits too.
+-- What the types of a feature promise of its values, and the changes and edits that keep the limits too.
 use Rattle.std.specs.Prelude.{◌<◌, ◌^◌, All, FitsSigned}
 use Rattle.std.specs.Int.{w64}
 use Rattle.std.specs.Str.{IsUtf8}
 use Rattle.feature_model.specs.declared.feature.World.{World}
 use Rattle.feature_model.specs.Data.{GeometryData, world_points, world_lines, world_polygons, ValueData, text_value, natural_value, negative_value, truth_value}
-use Rattle.feature_model.specs.Data.{TagData, FeatureData, EditData, put, delete}
-use Rattle.feature_model.specs.Limits.{NumberFits, IsAllowed}
+use Rattle.feature_model.specs.Data.{TagData, FeatureData, ChangeData, put, delete, EditData}
+use Rattle.feature_model.specs.Limits.{NumberFits, IsAllowed, IsAllowedEdit}
 
 -- a point of the world, which is 2^32 wide and high
 abbrev pub IsOfWorld : World → Type 0
@@ -34,7 +34,16 @@ pub record FeatureFitsTypes (f : FeatureData) : Type 0 where
   pub geometry : LiesInWorld f.geometry
   pub tags : All TagFitsTypes f.tags
 
--- an edit within the limits, as its types promise
-abbrev pub IsEdit : EditData → Type 0
-IsEdit (put id f) = IsAllowed id f × FeatureFitsTypes f
-IsEdit (delete id) = NumberFits id
+abbrev pub ChangeFitsTypes : ChangeData → Type 0
+ChangeFitsTypes (put id f) = FeatureFitsTypes f
+ChangeFitsTypes (delete id) = Unit {0}
+
+-- a change within the limits, as its types promise
+abbrev pub IsChange : ChangeData → Type 0
+IsChange (put id f) = IsAllowed id f × FeatureFitsTypes f
+IsChange (delete id) = NumberFits id
+
+-- the same of an edit
+pub record IsEdit (cs : EditData) : Type 0 where
+  pub allowed : IsAllowedEdit cs
+  pub changes : All IsChange cs

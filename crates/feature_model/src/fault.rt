@@ -4,7 +4,7 @@ ghost use Rattle.std.specs.Prelude.{◌≡◌};
 use std::alloc::{AllocError, AllocFailed};
 use thiserror::Error;
 
-/// Why a feature is no feature of a map, in the order in which faults are returned.
+/// Why a feature is no feature of a map, or an edit no edit of it. Of a feature the faults are returned in this order.
 #[derive(Clone, Copy, Debug, PartialEq, Eq, Error)]
 pub enum EditFault {
     /// E1: no object; a member missing, unknown or of another JSON kind; a zoom that is no whole number of 0 to 255.
@@ -28,12 +28,18 @@ pub enum EditFault {
     /// E7: a value that no tag has.
     #[error("E7 Value")]
     Value,
-    /// E8: a text of over `MOST_EDIT_BYTES` bytes.
+    /// E8: a text of over `MOST_EDIT_BYTES` bytes, of an edit's changes together.
     #[error("E8 Long")]
     Long,
     /// E9: a reach over the most tiles that a feature may cover.
     #[error("E9 Reach")]
     Reach,
+    /// E10: an edit not of 1 to `MOST_CHANGES` changes.
+    #[error("E10 Batch")]
+    Batch,
+    /// E11: an edit of which two changes are of one number.
+    #[error("E11 Twice")]
+    Twice,
     /// Out of memory.
     #[error("out of memory")]
     Memory,

@@ -49,9 +49,15 @@ pub struct Feature {
 
 /// A change of the map.
 #[derive(Debug, PartialEq, Eq, Drop)]
-pub enum Edit {
+pub enum Change {
     /// The number has this feature from now on.
     Put { id: u64, feature: Feature },
     /// The number has no feature from now on.
     Delete { id: u64 },
+}
+
+/// Changes of the map that are made together: all of them, or none.
+#[derive(Debug, PartialEq, Eq, Drop)]
+pub struct Edit {
+    pub changes: Vec<Change>,
 }

@@ -1,13 +1,13 @@
 //! The lengths of texts, without building them.
 
 ghost use Rattle.std.specs.Prelude.{◌≡◌, ℕ, ◌+◌, ◌*◌, ◌<◌, ◌≤◌, length, map, All};
-ghost use Rattle.feature_model.specs.declared.limits.TheConstants.{MOST_ELEMENTS};
-ghost use Rattle.feature_model.specs.Lengths.{line_most, lines_most, polygons_most, value_most, tag_most, tags_most};
-ghost use Rattle.feature_model.specs.Data.{feature_data, geometry_data, value_data, tag_data, put};
-ghost use Rattle.feature_model.specs.Limits.{LayerFits, GeometryFits, TagsFit, ValueFits, ValuesFit, IsName};
-ghost use Rattle.feature_model.specs.Spelled.{spelled_list, spelled_line, spelled_geometry, spelled_value, spelled_tag, spelled_tags, spelled};
+ghost use Rattle.feature_model.specs.declared.limits.TheConstants.{MOST_ELEMENTS, MOST_CHANGES};
+ghost use Rattle.feature_model.specs.Lengths.{line_most, lines_most, polygons_most, value_most, tag_most, tags_most, change_most};
+ghost use Rattle.feature_model.specs.Data.{feature_data, geometry_data, value_data, tag_data, put, change_data};
+ghost use Rattle.feature_model.specs.Limits.{LayerFits, GeometryFits, TagsFit, ValueFits, ValuesFit, IsName, ChangeFits};
+ghost use Rattle.feature_model.specs.Spelled.{spelled_list, spelled_line, spelled_geometry, spelled_value, spelled_tag, spelled_tags, spelled_change, spelled_changes};
 
-use crate::feature::{EditValue, Feature, Geometry, Tag, World};
+use crate::feature::{Change, EditValue, Feature, Geometry, Tag, World};
 
 /// How many bytes a list of points takes.
 #[tactic(auto, using(crate::proofs::TextLengths::lines))]
@@ -112,7 +112,34 @@ pub fn put_text_len(feature: &Feature) -> u64
     requires geometry { GeometryFits (geometry_data feature.now.geometry) }
     requires keys { TagsFit (map tag_data feature.now.tags.items) }
     requires values { ValuesFit (map tag_data feature.now.tags.items) }
-    ensures { (id : ℕ) → result ≡ length (spelled (put id (feature_data feature.now))) }
+    ensures exact { (id : ℕ) → result ≡ length (spelled_change (put id (feature_data feature.now))) }
+    ensures small { result ≤ change_most }
 {
     12 + feature.layer.len() as u64 + geometry_len(&feature.geometry) + tags_len(&feature.tags)
+}
+
+/// How many bytes the text of a change takes.
+#[tactic(auto, using(crate::proofs::TextLengths::changes))]
+pub fn change_text_len(change: &Change) -> u64
+    requires { ChangeFits (change_data change.now) }
+    ensures exact { result ≡ length (spelled_change (change_data change.now)) }
+    ensures small { result ≤ change_most }
+{
+    match change {
+        Change::Put { id: _, feature } => put_text_len(feature),
+        Change::Delete { .. } => 9,
+    }
+}
+
+/// How many bytes the texts of changes take together.
+pub(crate) fn changes_len(changes: &[Change]) -> u64
+    requires count { length changes.now ≤ MOST_CHANGES }
+    requires each { All ChangeFits (map change_data changes.now) }
+    ensures { result ≡ length (spelled_changes (map change_data changes.now)) }
+{
+    let mut len = 0;
+    for change in changes {
+        len += change_text_len(change);
+    }
+    len
 }

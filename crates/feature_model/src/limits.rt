@@ -1,18 +1,19 @@
-//! The limits of a feature and its number.
+//! The limits of a feature and its number, and those of an edit.
 
-ghost use Rattle.std.specs.Prelude.{◌≡◌, ℕ, ◌+◌, ◌<◌, ◌≤◌, ◌↔◌, length, map, All, IsTrue, IsOk, IfErr};
+ghost use Rattle.std.specs.Prelude.{◌≡◌, ℕ, ◌+◌, ◌<◌, ◌≤◌, ◌↔◌, length, map, All, IsTrue, IsOk, IfErr, OnOk};
 ghost use Rattle.std.specs.Ordering.{nat_cmp, is_lt};
 ghost use Rattle.std.specs.Cmp.Lexicographic.{slice_cmp};
 ghost use Rattle.std.specs.List.Sorted.{IsStrictlySortedBy};
 ghost use Rattle.std.specs.String.{string_bytes};
 ghost use Rattle.feature_model.specs.declared.limits.TheConstants.{MOST_TAGS};
-ghost use Rattle.feature_model.specs.Data.{world_polygons, feature_data, geometry_data, value_data, tag_data};
+ghost use Rattle.feature_model.specs.Data.{put, world_polygons, feature_data, geometry_data, value_data, tag_data, change_data, number_of};
 ghost use Rattle.feature_model.specs.Limits.{IsName, AreZooms, IsCount, IsTagText, CountFits, RingsFit, GeometryFits};
 ghost use Rattle.feature_model.specs.Limits.{TagsFit, ValueFits, ValuesFit, HasAscendingKeys, keys_of, IsAllowed, IsFirstFault};
+ghost use Rattle.feature_model.specs.Limits.{ChangeFits, AreEnough, IsNew, AreDistinct, IsAllowedEdit, IsFirstOf, IsFirstWithin, IsFirstEditFault};
 
 use crate::fault::EditFault;
-use crate::feature::{EditValue, Feature, Geometry, Tag, World};
-use crate::lengths::put_text_len;
+use crate::feature::{Change, EditValue, Feature, Geometry, Tag, World};
+use crate::lengths::{changes_len, put_text_len};
 
 /// One above the greatest number of a feature.
 pub const NUMBER_END: u64 = 1 << 63;
@@ -30,8 +31,10 @@ pub const LEAST_RING: usize = 3;
 pub const MOST_TAGS: usize = 64;
 /// The most bytes of a tag's text, below 65,536, since two bytes count them in a text.
 pub const MOST_TEXT_BYTES: usize = 1024;
-/// The most bytes of an edit's text.
+/// The most bytes of the texts of an edit's changes together.
 pub const MOST_EDIT_BYTES: u64 = 32_768;
+/// The most changes of an edit, below 256, since one byte counts them in a text.
+pub const MOST_CHANGES: usize = 64;
 
 /// Whether a name of a layer or a key of a tag has 1 to `MOST_NAME_BYTES` bytes.
 pub fn is_name(name: &str) -> bool
@@ -154,11 +157,10 @@ fn values_fit(tags: &[Tag]) -> bool
     tags.iter().all(|tag| value_fits(&tag.value))
 }
 
-/// Tests the limits of a feature of this number. The fault of the first that is broken is returned: `Number`, `Layer`, `Zoom`,
-/// `Geometry`, `Tags`, `Value` or `Long`, in this order. Nothing else is an error, and nothing is allocated.
-pub fn check(id: u64, feature: &Feature) -> Result<(), EditFault>
-    ensures ok { IsOk result ↔ IsAllowed id (feature_data feature.now) }
-    ensures first { IfErr result (IsFirstFault id (feature_data feature.now)) }
+/// Tests the limits of a feature of this number, but for that of its text.
+fn check_fields(id: u64, feature: &Feature) -> Result<(), EditFault>
+    ensures ok { IsOk result ↔ ChangeFits (put id (feature_data feature.now)) }
+    ensures first { IfErr result (IsFirstOf (put id (feature_data feature.now))) }
 {
     if id >= NUMBER_END {
         return Err(EditFault::Number);
@@ -178,7 +180,106 @@ pub fn check(id: u64, feature: &Feature) -> Result<(), EditFault>
     if !values_fit(&feature.tags) {
         return Err(EditFault::Value);
     }
+    Ok(())
+}
+
+/// Tests the limits of a feature of this number. The fault of the first that is broken is returned: `Number`, `Layer`, `Zoom`,
+/// `Geometry`, `Tags`, `Value` or `Long`, in this order. Nothing else is an error, and nothing is allocated.
+pub fn check(id: u64, feature: &Feature) -> Result<(), EditFault>
+    ensures ok { IsOk result ↔ IsAllowed id (feature_data feature.now) }
+    ensures first { IfErr result (IsFirstFault id (feature_data feature.now)) }
+{
+    match check_fields(id, feature) {
+        Ok(()) => {}
+        Err(fault) => return Err(fault),
+    }
     if put_text_len(feature) > MOST_EDIT_BYTES {
+        return Err(EditFault::Long);
+    }
+    Ok(())
+}
+
+impl Change {
+    /// The number that it is of.
+    pub fn number(&self) -> u64
+        ensures { result ≡ number_of (change_data self.now) }
+    {
+        match self {
+            Change::Put { id, .. } | Change::Delete { id } => *id,
+        }
+    }
+}
+
+/// Whether an edit may have so many changes: one, and at most `MOST_CHANGES`.
+pub fn change_count_fits(count: usize) -> bool
+    ensures { IsTrue result ↔ AreEnough count }
+{
+    count >= 1 && count <= MOST_CHANGES
+}
+
+/// Whether none of the changes is of this number.
+pub fn is_new(changes: &[Change], number: u64) -> bool
+    ensures { IsTrue result ↔ IsNew (map change_data changes.now) number }
+{
+    changes.iter().all(|change| change.number() != number)
+}
+
+/// Whether no change is of the number of one before it.
+fn are_distinct(changes: &[Change]) -> bool
+    ensures { IsTrue result ↔ AreDistinct (map change_data changes.now) }
+{
+    for i in 0..changes.len() {
+        if !is_new(&changes[..i], changes[i].number()) {
+            return false;
+        }
+    }
+    true
+}
+
+/// Tests the limits of a change, but for that of its text.
+fn check_change(change: &Change) -> Result<(), EditFault>
+    ensures ok { IsOk result ↔ ChangeFits (change_data change.now) }
+    ensures first { IfErr result (IsFirstOf (change_data change.now)) }
+{
+    match change {
+        Change::Put { id, feature } => check_fields(*id, feature),
+        Change::Delete { id } if *id >= NUMBER_END => Err(EditFault::Number),
+        Change::Delete { .. } => Ok(()),
+    }
+}
+
+/// The same of each change, from the first to the last.
+fn check_each(changes: &[Change]) -> Result<(), EditFault>
+    ensures ok { OnOk result (All ChangeFits (map change_data changes.now)) }
+    ensures first { IfErr result (IsFirstWithin (map change_data changes.now)) }
+{
+    for change in changes {
+        match check_change(change) {
+            Ok(()) => {}
+            Err(fault) => return Err(fault),
+        }
+    }
+    Ok(())
+}
+
+/// Tests the limits of an edit of these changes. The fault of the first that is broken is returned: `Batch`, `Twice`, that of the
+/// first change that breaks one of its own from `Number` to `Value`, or `Long`, in this order. Nothing else is an error, and nothing
+/// is allocated.
+pub fn check_batch(changes: &[Change]) -> Result<(), EditFault>
+    ensures ok { IsOk result ↔ IsAllowedEdit (map change_data changes.now) }
+    ensures first { IfErr result (IsFirstEditFault (map change_data changes.now)) }
+{
+    if !change_count_fits(changes.len()) {
+        return Err(EditFault::Batch);
+    }
+    if !are_distinct(changes) {
+        return Err(EditFault::Twice);
+    }
+    match check_each(changes) {
+        Ok(()) => {}
+        Err(fault) => return Err(fault),
+    }
+    if changes_len(changes) > MOST_EDIT_BYTES {
         return Err(EditFault::Long);
     }
     Ok(())

@@ -1,10 +1,10 @@
 -- Laws of maps, their snapshots and their tiles, for the crates above.
 use Rattle.std.proofs.Common.{◌≡◌, ◌+◌, ◌*◌, ◌<◌, ◌≤◌, ℕ, true, false, List, [], length}
 use Rattle.std.specs.Prelude.{◌↔◌}
-use Rattle.feature_model.specs.Data.{FeatureData, EditData, put}
+use Rattle.feature_model.specs.Data.{FeatureData, ChangeData, put}
 use Rattle.feature_model.specs.declared.limits.TheConstants.{MOST_EDIT_BYTES}
-use Rattle.feature_model.specs.Spelled.{spelled}
-use Rattle.feature_model.specs.Types.{IsEdit}
+use Rattle.feature_model.specs.Spelled.{spelled_change}
+use Rattle.feature_model.specs.Types.{IsChange}
 use Rattle.mvt_layer.specs.Reads.{ReadsAs}
 use Rattle.mvt_layer.specs.Tile.{LayerView}
 use Rattle.mvt_write.specs.Written.{written}
@@ -47,12 +47,12 @@ snapshot_of_many m is_map = snapshot_short m is_map.edits
 -- ---- edits
 
 -- A map after an edit is a map, where its texts are short together.
-pub map_after_edit : (m : FeatureMap) (e : EditData) → IsMap m → IsEdit e → length (snapshot (changed m e)) < TEXTS_END → IsMap (changed m e)
-map_after_edit = map_changed
+pub map_after_change : (m : FeatureMap) (e : ChangeData) → IsMap m → IsChange e → length (snapshot (changed m e)) < TEXTS_END → IsMap (changed m e)
+map_after_change = map_changed
 
 -- The texts grow by the text of the edit at most.
 pub snapshot_after_put : (m : FeatureMap) (id : ℕ) (f : FeatureData)
-    → length (snapshot (with_feature m id f)) ≤ length (snapshot m) + length (spelled (put id f))
+    → length (snapshot (with_feature m id f)) ≤ length (snapshot m) + length (spelled_change (put id f))
 snapshot_after_put = with_takes
 
 -- An edit that takes a feature away makes them no longer.

@@ -2,17 +2,18 @@ mod Chosen
 mod Covered
 mod Entries
 mod Kept
-pub mod Laws
 mod Listed
-pub mod Maps
 mod Names
 mod Near
 mod Pairs
 mod Shown
 mod Sizes
-pub mod Snapshots
-pub mod Texts
 mod Tiles
 mod TilesRead
-pub mod Unique
 mod Walk
+pub mod Laws
+pub mod Maps
+pub mod Puts
+pub mod Snapshots
+pub mod Texts
+pub mod Unique

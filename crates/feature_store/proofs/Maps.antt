@@ -11,7 +11,7 @@ use Rattle.number_map.proofs.Numbers.{less, equal, greater, by_order}
 use Rattle.number_map.proofs.Entries.{ascends_head, ascends_tail, lookup_here, lookup_on, lookup_above}
 use Rattle.number_map.proofs.Entries.{removed_here, removed_on, set_step, ascends_set, ascends_removed}
 use Rattle.feature_model.specs.Data.{FeatureData, put}
-use Rattle.feature_model.specs.Types.{IsEdit}
+use Rattle.feature_model.specs.Types.{IsChange}
 use Rattle.feature_store.specs.declared.limit.TheConstants.{TEXTS_END}
 use Rattle.feature_store.specs.Store.{FeatureMap, IsMap, feature_at, with_feature, without_feature, snapshot}
 
@@ -83,12 +83,12 @@ lookup_removed_other (e ∷ m) id n d =
 -- ---- the words of the store
 
 -- a feature is set, and the texts are short together then
-pub IsMap-with_feature : (m : FeatureMap) (id : ℕ) (f : FeatureData) → IsMap m → IsEdit (put id f) → length (snapshot (with_feature m id f)) < TEXTS_END
+pub IsMap-with_feature : (m : FeatureMap) (id : ℕ) (f : FeatureData) → IsMap m → IsChange (put id f) → length (snapshot (with_feature m id f)) < TEXTS_END
     → IsMap (with_feature m id f)
 unfolding with_feature
 IsMap-with_feature m id f is_map edit short = record {
   ascending = ascends_set m id f is_map.ascending;
-  edits = All-set_entry (λ e. IsEdit (put e.0 e.1)) m id f edit is_map.edits;
+  edits = All-set_entry (λ e. IsChange (put e.0 e.1)) m id f edit is_map.edits;
   short = short;
 }
 
@@ -96,7 +96,7 @@ pub IsMap-without_feature : (m : FeatureMap) (id : ℕ) → IsMap m → length (
 unfolding without_feature
 IsMap-without_feature m id is_map short = record {
   ascending = ascends_removed m id is_map.ascending;
-  edits = All-removed_entry (λ e. IsEdit (put e.0 e.1)) m id is_map.edits;
+  edits = All-removed_entry (λ e. IsChange (put e.0 e.1)) m id is_map.edits;
   short = short;
 }
 

@@ -15,7 +15,7 @@ use Rattle.number_map.proofs.Entries.{ascends_head, ascends_tail}
 use Rattle.box_index.specs.declared.entry.Entry.{Entry}
 use Rattle.box_index.specs.Shown.{shows, ids_shown}
 use Rattle.feature_model.specs.Data.{FeatureData, put}
-use Rattle.feature_model.specs.Types.{IsEdit, LiesInWorld}
+use Rattle.feature_model.specs.Types.{IsChange, LiesInWorld}
 use Rattle.tile_cutter.specs.declared.reach.Corners.{Corners}
 use Rattle.tile_cutter.specs.Cut.{has_zoom, geometry_cut, shown_with, feature_cut}
 use Rattle.tile_cutter.specs.WorldBox.{bounding_box, Meets}
@@ -107,7 +107,7 @@ module _ (corners : Corners) (z x y : ℕ) where
 
     near_shows : (m : FeatureMap) (numbers : List ℕ) → IsMap m → numbers ≡ near m → ShowsAll m z x y numbers
     near_shows m numbers is_map is =
-        let lies = All-weaker (λ e. IsEdit (put e.0 e.1)) (λ e. LiesInWorld e.1.geometry) (λ e edit. edit.1.geometry) m is_map.edits in
+        let lies = All-weaker (λ e. IsChange (put e.0 e.1)) (λ e. LiesInWorld e.1.geometry) (λ e edit. edit.1.geometry) m is_map.edits in
         subst (ShowsAll m z x y) (sym is) (record { ascending = near_ascend m is_map.ascending; every = every_near m lies })
 
     -- what is found in the index

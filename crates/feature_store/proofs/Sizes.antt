@@ -15,7 +15,7 @@ use Rattle.std.proofs.lemmas.Slice.Eq.{bytes_eq-Decides}
 use Rattle.feature_model.specs.Data.{FeatureData, TagData, ValueData, text_value, natural_value, negative_value, truth_value}
 use Rattle.feature_model.specs.Spelled.{spelled_value, spelled_tag}
 use Rattle.feature_model.proofs.TextLengths.{length-text, length-natural, length-negative, length-truth, length-spelled_tag, length-spelled_tags}
-use Rattle.feature_model.proofs.TextLengths.{length-spelled}
+use Rattle.feature_model.proofs.TextLengths.{length-spelled_change}
 use Rattle.mvt_layer.specs.Tile.{FeatureView, LayerView}
 use Rattle.mvt_write.specs.Written.{value_written, written}
 use Rattle.mvt_write.proofs.Lengths.{total, tag_size, feature_size, layer_size, length_value, length_written}
@@ -48,7 +48,7 @@ module _ (z x y : ℕ) where
   entry_size e v cut =
       let f = e.1 in
       let shown = ap (λ tags. total tag_size tags) (tags_shown f z x y v cut) in
-      omega (arith, integers_in_text z x y f v cut, shown, tags_size f.tags, length-spelled e.0 f, length-spelled_tags f.tags)
+      omega (arith, integers_in_text z x y f v cut, shown, tags_size f.tags, length-spelled_change e.0 f, length-spelled_tags f.tags)
 
 -- ---- a layer, by the entries that have its name
 

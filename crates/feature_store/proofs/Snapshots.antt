@@ -8,14 +8,14 @@ use Rattle.std.specs.declared.cmp.Ordering.TheVariants.{Greater}
 use Rattle.std.specs.BTreeMap.{insert_entry}
 use Rattle.std.proofs.lemmas.List.{append-nil, length-append, length-drop, take_all, drop_at, flat_map_more, nil_from_length}
 use Rattle.std.proofs.lemmas.List.Elements.{All-nil, All-cons, All-head, All-tail, All-push}
-use Rattle.feature_model.specs.Data.{FeatureData, EditData, put, delete}
-use Rattle.feature_model.specs.Spelled.{spelled}
-use Rattle.feature_model.specs.Types.{IsEdit}
-use Rattle.edit_text.specs.Decoding.{BeginsWith}
+use Rattle.feature_model.specs.Data.{FeatureData, ChangeData, put, delete}
+use Rattle.feature_model.specs.Spelled.{spelled_change}
+use Rattle.feature_model.specs.Types.{IsChange}
+use Rattle.edit_text.specs.Decoding.{BeginsWithChange}
 use Rattle.std.specs.Prelude.{◌↔◌}
 use Rattle.std.proofs.lemmas.Grind.{get_or_at_push}
 use Rattle.std.proofs.lemmas.List.Concat.{flat_map-append}
-use Rattle.edit_text.proofs.Laws.{long_from, one_edit}
+use Rattle.edit_text.proofs.Laws.{long_from, one_change}
 use Rattle.feature_store.specs.declared.fault.SnapshotFault.{SnapshotFault}
 use Rattle.feature_store.specs.declared.fault.SnapshotFault.TheVariants.{Bad, Memory}
 use Rattle.feature_store.specs.declared.limit.TheConstants.{TEXTS_END}
@@ -28,7 +28,7 @@ use Rattle.feature_store.proofs.Maps.{IsMap-with_feature, IsMap-without_feature}
 use Rattle.feature_store.proofs.Texts.{none_takes, snapshot_on, without_takes}
 
 -- the number and the feature of an edit that sets one
-abbrev set_by : ℕ × FeatureData → EditData → ℕ × FeatureData
+abbrev set_by : ℕ × FeatureData → ChangeData → ℕ × FeatureData
 set_by d (put id f) = (id, f)
 set_by d (delete id) = d
 
@@ -45,7 +45,7 @@ one_map [] [] ms ns same = refl
 one_map [] (f ∷ n) ms ns same = absurd (none_is_one f n same)
 one_map (e ∷ m) [] ms ns same = absurd (none_is_one e m (sym same))
 one_map (e ∷ m) (f ∷ n) ms ns same =
-    let both = one_edit (put e.0 e.1) (put f.0 f.1) (snapshot m) (snapshot n) (All-head IsEditOf e m ms) (All-head IsEditOf f n ns)
+    let both = one_change (put e.0 e.1) (put f.0 f.1) (snapshot m) (snapshot n) (All-head IsEditOf e m ms) (All-head IsEditOf f n ns)
     (texts_of_two e f m n same) in
     let first : e ≡ f = ap (set_by e) both.0 in
     let rest : m ≡ n = one_map m n (All-tail IsEditOf e m ms) (All-tail IsEditOf f n ns) both.1 in
@@ -55,7 +55,7 @@ pub map_without : (m : FeatureMap) (id : ℕ) → IsMap m → IsMap (without_fea
 map_without m id is_map = IsMap-without_feature m id is_map (omega (arith, without_takes m id, is_map.short))
 
 -- a map after an edit is a map, where its texts are short together
-pub map_changed : (m : FeatureMap) (e : EditData) → IsMap m → IsEdit e → length (snapshot (changed m e)) < TEXTS_END → IsMap (changed m e)
+pub map_changed : (m : FeatureMap) (e : ChangeData) → IsMap m → IsChange e → length (snapshot (changed m e)) < TEXTS_END → IsMap (changed m e)
 map_changed m (put id f) is_map edit short = IsMap-with_feature m id f is_map edit short
 map_changed m (delete id) is_map edit short = map_without m id is_map
 
@@ -169,31 +169,31 @@ end_behind m e behind id = (
 
 -- ---- what a text begins with
 
-pub text_within : (e : EditData) (text : List ℕ) → BeginsWith e text → length (spelled e) ≤ length text
-text_within e text begins = omega (arith, ap length begins.1.1, length-append (spelled e) begins.1.0)
+pub text_within : (e : ChangeData) (text : List ℕ) → BeginsWithChange e text → length (spelled_change e) ≤ length text
+text_within e text begins = omega (arith, ap length begins.1.1, length-append (spelled_change e) begins.1.0)
 
 -- what stands behind the text of an edit
-pub text_behind : (e : EditData) (text : List ℕ) (len : ℕ) → BeginsWith e text → len ≡ length (spelled e)
-    → text ≡ spelled e ++ take (length text - len) (drop len text)
+pub text_behind : (e : ChangeData) (text : List ℕ) (len : ℕ) → BeginsWithChange e text → len ≡ length (spelled_change e)
+    → text ≡ spelled_change e ++ take (length text - len) (drop len text)
 text_behind e text len begins long =
-    let behind : drop len text ≡ begins.1.0 = ap (drop len) begins.1.1 ∙ drop_at (spelled e) begins.1.0 len (sym long) in
+    let behind : drop len text ≡ begins.1.0 = ap (drop len) begins.1.1 ∙ drop_at (spelled_change e) begins.1.0 len (sym long) in
     let all = take_all (length text - len) (drop len text) (omega (arith, length-drop len text)) in
-    begins.1.1 ∙ ap (λ r. spelled e ++ r) (sym (all ∙ behind))
+    begins.1.1 ∙ ap (λ r. spelled_change e ++ r) (sym (all ∙ behind))
 
 -- what is told of a text, for the edit in front takes a feature away
-pub deleted_in_front : (id : ℕ) (text : List ℕ) → BeginsWith (delete id) text
-    → (Bad ≡ Memory) ⊎ ((Bad ≡ Bad) × ((e : ℕ × FeatureData) → BeginsWith (put e.0 e.1) text → ⊥))
+pub deleted_in_front : (id : ℕ) (text : List ℕ) → BeginsWithChange (delete id) text
+    → (Bad ≡ Memory) ⊎ ((Bad ≡ Bad) × ((e : ℕ × FeatureData) → BeginsWithChange (put e.0 e.1) text → ⊥))
 deleted_in_front id text deleted = inr (
   refl,
   λ e begins.
-      let both = one_edit (delete id) (put e.0 e.1) deleted.1.0 begins.1.0 deleted.0 begins.0 (sym deleted.1.1 ∙ begins.1.1) in
+      let both = one_change (delete id) (put e.0 e.1) deleted.1.0 begins.1.0 deleted.0 begins.0 (sym deleted.1.1 ∙ begins.1.1) in
       let same : delete id ≡ put e.0 e.1 = both.0 in cc,
 )
 
 -- what is told of a text that isn't decoded
 pub not_decoded : {T : Type 0} (d memory : T) (r : SnapshotFault) (text : List ℕ) → (r ≡ Memory) ⊎ (r ≡ Bad) → (d ≡ memory → r ≡ Memory)
-    → ((e : EditData) → BeginsWith e text → d ≡ memory)
-    → (r ≡ Memory) ⊎ ((r ≡ Bad) × ((e : ℕ × FeatureData) → BeginsWith (put e.0 e.1) text → ⊥))
+    → ((e : ChangeData) → BeginsWithChange e text → d ≡ memory)
+    → (r ≡ Memory) ⊎ ((r ≡ Bad) × ((e : ℕ × FeatureData) → BeginsWithChange (put e.0 e.1) text → ⊥))
 not_decoded d memory r text (inl out) told only = inl out
 not_decoded d memory r text (inr bad) told only = inr (bad, λ e begins. let out = told (only (put e.0 e.1) begins) in cc)
 
@@ -241,14 +241,14 @@ goes_on (e ∷ m) [] rest ms ns same =
     absurd (omega (arith, ap length same, none_takes, length-append (snapshot (e ∷ m)) rest, snapshot_on e m, long_from (put e.0 e.1)))
 goes_on (e ∷ m) (f ∷ n) rest ms ns same =
     let texts = sym (snapshot_of_first f n) ∙ same ∙ ap (λ t. t ++ rest) (snapshot_of_first e m) ∙ append_assoc (entry_text e) (snapshot m) rest in
-    let both = one_edit (put f.0 f.1) (put e.0 e.1) (snapshot n) (snapshot m ++ rest) (All-head IsEditOf f n ns) (All-head IsEditOf e m ms) texts in
+    let both = one_change (put f.0 f.1) (put e.0 e.1) (snapshot n) (snapshot m ++ rest) (All-head IsEditOf f n ns) (All-head IsEditOf e m ms) texts in
     let first : f ≡ e = ap (set_by e) both.0 in
     let on = goes_on m n rest (All-tail IsEditOf e m ms) (All-tail IsEditOf f n ns) both.1 in
     (on.0, λ i. first i ∷ on.1 i, on.2)
 
 -- what is left isn't empty, and begins with the text of no edit that sets a feature
 pub no_text : (m : FeatureMap) (rest text : List ℕ) → IsRead m rest text → 0 < length rest
-    → ((e : ℕ × FeatureData) → BeginsWith (put e.0 e.1) rest → ⊥) → IsNoSnapshot text
+    → ((e : ℕ × FeatureData) → BeginsWithChange (put e.0 e.1) rest → ⊥) → IsNoSnapshot text
 no_text m rest text read some none n is_map same =
     let on = goes_on m n rest read.edits is_map.edits (same ∙ read.whole) in
     by on.0 on.2 (All-behind m on.0 (subst (All IsEditOf) on.1 is_map.edits))
@@ -259,7 +259,7 @@ no_text m rest text read some none n is_map same =
 
 -- what is told of what is left is told of the whole
 pub not_read : (m : FeatureMap) (rest text : List ℕ) (d : SnapshotFault) → IsRead m rest text → 0 < length rest
-    → (d ≡ Memory) ⊎ ((d ≡ Bad) × ((e : ℕ × FeatureData) → BeginsWith (put e.0 e.1) rest → ⊥)) → (d ≡ Memory) ⊎ ((d ≡ Bad) × IsNoSnapshot text)
+    → (d ≡ Memory) ⊎ ((d ≡ Bad) × ((e : ℕ × FeatureData) → BeginsWithChange (put e.0 e.1) rest → ⊥)) → (d ≡ Memory) ⊎ ((d ≡ Bad) × IsNoSnapshot text)
 not_read m rest text d read some (inl out) = inl out
 not_read m rest text d read some (inr bad) = inr (bad.0, no_text m rest text read some bad.1)
 
@@ -274,7 +274,7 @@ not_behind m e rest behind text read is begins low n is_map same =
     by [] left all ascends =
         omega (arith, ap length left, none_takes, ap length begins, length-append (entry_text e) behind, long_from (put e.0 e.1))
     by (f ∷ tail) left all ascends =
-        let both = one_edit (put f.0 f.1) (put e.0 e.1) (snapshot tail) behind (All-head IsEditOf f tail all) is
+        let both = one_change (put f.0 f.1) (put e.0 e.1) (snapshot tail) behind (All-head IsEditOf f tail all) is
         (sym (snapshot_of_first f tail) ∙ left ∙ begins) in
         let first : f ≡ e = ap (set_by e) both.0 in
         low (ascends_behind m e tail (subst (λ x. Ascends (m ++ x ∷ tail)) first ascends))

@@ -9,8 +9,8 @@ use Rattle.std.proofs.lemmas.List.{length-append}
 use Rattle.std.proofs.lemmas.List.Elements.{All-head, All-tail}
 use Rattle.feature_model.specs.Data.{ValueData, text_value, natural_value, negative_value, truth_value, TagData, FeatureData, put}
 use Rattle.feature_model.specs.Limits.{IsName, keys_of}
-use Rattle.feature_model.specs.Spelled.{spelled, spelled_feature, spelled_name, spelled_value, spelled_tag, spelled_tags, eight_bytes, spelled_geometry}
-use Rattle.feature_model.specs.Types.{IsEdit}
+use Rattle.feature_model.specs.Spelled.{spelled_change, spelled_feature, spelled_name, spelled_value, spelled_tag, spelled_tags, eight_bytes, spelled_geometry}
+use Rattle.feature_model.specs.Types.{IsChange}
 use Rattle.edit_text.proofs.Laws.{short_from}
 use Rattle.feature_model.specs.declared.limits.TheConstants.{MOST_EDIT_BYTES}
 use Rattle.feature_store.specs.declared.limit.TheConstants.{TEXTS_END}
@@ -41,8 +41,8 @@ tags_take (t ∷ tags) names =
     )
 
 -- a tag takes three bytes of its feature's text
-feature_takes : (id : ℕ) (f : FeatureData) → All IsName (keys_of f.tags) → 3 * length f.tags ≤ length (spelled (put id f))
-unfolding spelled spelled_feature spelled_tags
+feature_takes : (id : ℕ) (f : FeatureData) → All IsName (keys_of f.tags) → 3 * length f.tags ≤ length (spelled_change (put id f))
+unfolding spelled_change spelled_feature spelled_tags
 feature_takes id f names =
     omega (
       arith,
@@ -64,10 +64,10 @@ pub snapshot_on : (e : ℕ × FeatureData) (m : FeatureMap) → length (snapshot
 unfolding snapshot
 snapshot_on e m = length-append (entry_text e) (snapshot m)
 
-pub tags_in_snapshot : (m : FeatureMap) → All (λ e. IsEdit (put e.0 e.1)) m → 3 * length (all_tags m) ≤ length (snapshot m)
+pub tags_in_snapshot : (m : FeatureMap) → All (λ e. IsChange (put e.0 e.1)) m → 3 * length (all_tags m) ≤ length (snapshot m)
 tags_in_snapshot [] edits = omega arith
 tags_in_snapshot (e ∷ m) edits =
-    let P : ℕ × FeatureData → Type 0 = λ d. IsEdit (put d.0 d.1) in
+    let P : ℕ × FeatureData → Type 0 = λ d. IsChange (put d.0 d.1) in
     omega (
       arith,
       length-append e.1.tags (all_tags m),
@@ -77,22 +77,22 @@ tags_in_snapshot (e ∷ m) edits =
     )
 
 -- each text is short
-pub snapshot_short : (m : FeatureMap) → All (λ e. IsEdit (put e.0 e.1)) m → length (snapshot m) ≤ MOST_EDIT_BYTES * length m
+pub snapshot_short : (m : FeatureMap) → All (λ e. IsChange (put e.0 e.1)) m → length (snapshot m) ≤ MOST_EDIT_BYTES * length m
 snapshot_short [] edits = omega (arith, none_takes)
 snapshot_short (e ∷ m) edits =
-    let P : ℕ × FeatureData → Type 0 = λ d. IsEdit (put d.0 d.1) in
+    let P : ℕ × FeatureData → Type 0 = λ d. IsChange (put d.0 d.1) in
     omega (arith, snapshot_on e m, short_from (put e.0 e.1) (All-head P e m edits), snapshot_short m (All-tail P e m edits))
 
 -- ---- with an edit more
 
-set_takes : (m : FeatureMap) (id : ℕ) (f : FeatureData) → length (snapshot (insert_entry nat_cmp m id f)) ≤ length (snapshot m) + length (spelled (put id f))
+set_takes : (m : FeatureMap) (id : ℕ) (f : FeatureData) → length (snapshot (insert_entry nat_cmp m id f)) ≤ length (snapshot m) + length (spelled_change (put id f))
 set_takes [] id f = omega (arith, snapshot_on (id, f) [])
 set_takes (e ∷ m) id f =
-    let Q : FeatureMap → Type 0 = λ n. length (snapshot n) ≤ length (snapshot (e ∷ m)) + length (spelled (put id f)) in
+    let Q : FeatureMap → Type 0 = λ n. length (snapshot n) ≤ length (snapshot (e ∷ m)) + length (spelled_change (put id f)) in
     by_order id e.0
     (λ h. subst Q (sym (set_step id f e m Less (less id e.0 h))) (omega (arith, snapshot_on (id, f) (e ∷ m))))
     (λ h. subst Q (sym (set_step id f e m Equal (equal id e.0 h)))
-    (omega (arith, snapshot_on (e.0, f) m, snapshot_on e m, ap (λ n. length (spelled (put n f))) h)))
+    (omega (arith, snapshot_on (e.0, f) m, snapshot_on e m, ap (λ n. length (spelled_change (put n f))) h)))
     (λ h. subst Q (sym (set_step id f e m Greater (greater id e.0 h)))
     (omega (arith, snapshot_on e (insert_entry nat_cmp m id f), snapshot_on e m, set_takes m id f)))
 
@@ -104,7 +104,7 @@ removed_takes (e ∷ m) id =
     subst Q (sym (removed_on id e m h)) (omega (arith, snapshot_on e (remove_entry (is_at (nat_cmp id)) m), snapshot_on e m, removed_takes m id)) in
     by_order id e.0 (λ h. on (λ t. omega arith)) (λ h. subst Q (sym (removed_here id e m h)) (omega (arith, snapshot_on e m))) (λ h. on (λ t. omega arith))
 
-pub with_takes : (m : FeatureMap) (id : ℕ) (f : FeatureData) → length (snapshot (with_feature m id f)) ≤ length (snapshot m) + length (spelled (put id f))
+pub with_takes : (m : FeatureMap) (id : ℕ) (f : FeatureData) → length (snapshot (with_feature m id f)) ≤ length (snapshot m) + length (spelled_change (put id f))
 unfolding with_feature
 with_takes m id f = set_takes m id f
 
@@ -113,7 +113,7 @@ unfolding without_feature
 without_takes m id = removed_takes m id
 
 -- room for one more text is left where there are few features
-pub few_are_short : (m : FeatureMap) (id : ℕ) (f : FeatureData) → IsMap m → IsEdit (put id f) → MOST_EDIT_BYTES * (length m + 1) < TEXTS_END
+pub few_are_short : (m : FeatureMap) (id : ℕ) (f : FeatureData) → IsMap m → IsChange (put id f) → MOST_EDIT_BYTES * (length m + 1) < TEXTS_END
     → length (snapshot (with_feature m id f)) < TEXTS_END
 few_are_short m id f is_map edit few =
     omega (arith, with_takes m id f, snapshot_short m is_map.edits, short_from (put id f) edit)

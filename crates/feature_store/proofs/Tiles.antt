@@ -8,7 +8,7 @@ use Rattle.std.proofs.lemmas.Int.{ints}
 use Rattle.std.proofs.lemmas.List.Elements.{All-nil, All-cons, All-head, All-tail, All-map, All-weaker}
 use Rattle.std.proofs.lemmas.Slice.Eq.{bytes_eq-Decides}
 use Rattle.feature_model.specs.Data.{FeatureData, TagData, ValueData, text_value, natural_value, negative_value, truth_value, put}
-use Rattle.feature_model.specs.Types.{IsEdit, ValueFitsTypes, TagFitsTypes}
+use Rattle.feature_model.specs.Types.{IsChange, ValueFitsTypes, TagFitsTypes}
 use Rattle.feature_model.specs.declared.limits.TheConstants.{GREATEST_ZOOM}
 use Rattle.geometry_commands.specs.Encodable.{CanSpell, FitsShape}
 use Rattle.geometry_commands.proofs.Laws.{spelled_is}
@@ -41,13 +41,13 @@ tags_keep tags all =
     (All-weaker TagFitsTypes (λ t. FitsTag (shown_tag t)) (λ t fits. record { key = fits.key; value = value_keeps t.value fits.value }) tags all)
 
 -- with its number, what is shown of an edit's feature keeps it
-kept : (id : ℕ) (f : FeatureData) (z x y : ℕ) (v : FeatureView) → IsEdit (put id f) → feature_cut f z x y ≡ Some v → CanSpell v.shape × FitsShape v.shape
+kept : (id : ℕ) (f : FeatureData) (z x y : ℕ) (v : FeatureView) → IsChange (put id f) → feature_cut f z x y ≡ Some v → CanSpell v.shape × FitsShape v.shape
     → FitsFeature (record v { id = Some id })
-kept id f z x y v edit cut spelled = record {
+kept id f z x y v edit cut spelled_change = record {
   id = omega (arith, edit.0.number);
   tags = subst (All FitsTag) (sym (tags_shown f z x y v cut)) (tags_keep f.tags edit.1.tags);
-  integers = integers_small v.shape spelled.0;
-  shape = spelled_is v.shape spelled.0 spelled.1;
+  integers = integers_small v.shape spelled_change.0;
+  shape = spelled_is v.shape spelled_change.0 spelled_change.1;
 }
 
 -- ---- the cuts of a layer
@@ -78,14 +78,14 @@ module _ (z x y : ℕ) where
       by false differs some rest = rest some
 
   module _ (allowed : z ≤ GREATEST_ZOOM) (across : x < 2 ^ z) (down : y < 2 ^ z) (m : FeatureMap) (is_map : IsMap m) where
-    spelled : (e : ℕ × FeatureData) (v : FeatureView) → IsEditOf e → feature_cut e.1 z x y ≡ Some v → CanSpell v.shape × FitsShape v.shape
-    spelled e v edit cut = feature_shown e.1 z x y v allowed across down edit.0.feature.geometry edit.1.geometry cut
+    spelled_change : (e : ℕ × FeatureData) (v : FeatureView) → IsEditOf e → feature_cut e.1 z x y ≡ Some v → CanSpell v.shape × FitsShape v.shape
+    spelled_change e v edit cut = feature_shown e.1 z x y v allowed across down edit.0.feature.geometry edit.1.geometry cut
 
     cuts_can : (name : List ℕ) → All CanWriteFeature (cuts_of m name z x y)
-    cuts_can name = all_cuts CanWriteFeature (λ e v edit cut. writable e.0 e.1 z x y v edit.0 cut (spelled e v edit cut).0) name m is_map.edits
+    cuts_can name = all_cuts CanWriteFeature (λ e v edit cut. writable e.0 e.1 z x y v edit.0 cut (spelled_change e v edit cut).0) name m is_map.edits
 
     cuts_keep : (name : List ℕ) → All FitsFeature (cuts_of m name z x y)
-    cuts_keep name = all_cuts FitsFeature (λ e v edit cut. kept e.0 e.1 z x y v edit cut (spelled e v edit cut)) name m is_map.edits
+    cuts_keep name = all_cuts FitsFeature (λ e v edit cut. kept e.0 e.1 z x y v edit cut (spelled_change e v edit cut)) name m is_map.edits
 
     -- ---- layers
 

@@ -1,8 +1,8 @@
 //! Features put behind all others of a map.
 ghost use Rattle.std.specs.Prelude.{◌≡◌, ◌+◌, ◌<◌, ◌++◌, ◌∷◌, [], length, OnOk};
 ghost use Rattle.feature_model.specs.Data.{feature_data, put};
-ghost use Rattle.feature_model.specs.Spelled.{spelled};
-ghost use Rattle.feature_model.specs.Types.{IsEdit};
+ghost use Rattle.feature_model.specs.Spelled.{spelled_change};
+ghost use Rattle.feature_model.specs.Types.{IsChange};
 ghost use Rattle.number_map.specs.Blocks.{joined};
 ghost use Rattle.feature_store.specs.Inside.{entries_data};
 ghost use Rattle.feature_store.specs.Snapshots.{IsBehind};
@@ -17,9 +17,9 @@ use std::alloc::{AllocError, Global};
 
 /// Gives a feature to a number above all others.
 pub(crate) fn append(store: &mut Store, id: u64, feature: Feature) -> Result<(), AllocError>
-    requires edit { IsEdit (put id (feature_data feature)) }
+    requires edit { IsChange (put id (feature_data feature)) }
     requires behind { IsBehind store.old.features id }
-    requires texts { length (snapshot store.old.features) + length (spelled (put id (feature_data feature))) < TEXTS_END }
+    requires texts { length (snapshot store.old.features) + length (spelled_change (put id (feature_data feature))) < TEXTS_END }
     ensures { OnOk result (store.new.features ≡ store.old.features ++ (id, feature_data feature) ∷ []) }
 {
     store.room()?;

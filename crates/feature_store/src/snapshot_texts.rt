@@ -1,7 +1,7 @@
 //! The snapshot of a map: the texts of its features, by ascending number.
 ghost use Rattle.std.specs.Prelude.{◌≡◌, ◌⊎◌, ◌<◌, ◌↔◌, ◌++◌, ℕ, All, IfOk, IfErr, OnOk, length};
 ghost use Rattle.feature_model.specs.Data.{FeatureData, feature_data, put};
-ghost use Rattle.edit_text.specs.Decoding.{BeginsWith};
+ghost use Rattle.edit_text.specs.Decoding.{BeginsWithChange};
 ghost use Rattle.number_map.specs.Blocks.{joined};
 ghost use Rattle.feature_store.specs.Inside.{entry_data, entries_data};
 ghost use Rattle.feature_store.specs.Snapshots.{IsEditOf, IsNoSnapshot};
@@ -13,8 +13,8 @@ use crate::appended::append;
 use crate::fault::SnapshotFault;
 use crate::limit::TEXTS_END;
 use crate::store::Store;
-use edit_text::{TextFault, append_put, decode};
-use feature_model::{Edit, Feature};
+use edit_text::{TextFault, append_put, decode_change};
+use feature_model::{Change, Feature};
 use number_map::{Block, Entry};
 use std::alloc::{AllocError, Global};
 
@@ -60,12 +60,12 @@ fn read_entry(alloc: Global, text: &[u8]) -> Result<(Entry<Feature>, &[u8]), Sna
     ensures edit { IfOk result (λ r. IsEditOf (entry_data r.0)) }
     ensures text { IfOk result (λ r. text.now ≡ entry_text (entry_data r.0) ++ r.1.now) }
     ensures fault { IfErr result (λ fault. (fault ≡ Memory)
-        ⊎ ((fault ≡ Bad) × ((e : ℕ × FeatureData) → BeginsWith (put e.0 e.1) text.now → ⊥))) }
+        ⊎ ((fault ≡ Bad) × ((e : ℕ × FeatureData) → BeginsWithChange (put e.0 e.1) text.now → ⊥))) }
 {
-    match decode(alloc, text) {
+    match decode_change(alloc, text) {
         Ok((edit, len)) => match edit {
-            Edit::Put { id, feature } => Ok(((id, feature), &text[len..])),
-            Edit::Delete { .. } => Err(SnapshotFault::Bad),
+            Change::Put { id, feature } => Ok(((id, feature), &text[len..])),
+            Change::Delete { .. } => Err(SnapshotFault::Bad),
         },
         Err(fault) => Err(told(fault)),
     }

@@ -1,6 +1,6 @@
-ghost use Rattle.std.specs.Prelude.{◌≡◌, ◌⊎◌, ℕ, [], ◌+◌, ◌*◌, ◌<◌, ◌≤◌, ◌≢◌, ◌↔◌, length, Some, IsSome, None, IfOk, IfErr, OnOk, OnErr, IsTrue, option_map};
-ghost use Rattle.feature_model.specs.Data.{feature_data, put};
-ghost use Rattle.feature_model.specs.Types.{IsEdit};
+ghost use Rattle.std.specs.Prelude.{◌≡◌, ◌⊎◌, ℕ, [], ◌∷◌, ◌+◌, ◌*◌, ◌<◌, ◌≤◌, ◌≢◌, ◌↔◌, length, map, Some, IsSome, None, IfOk, IfErr, OnOk, OnErr, IsTrue, option_map};
+ghost use Rattle.feature_model.specs.Data.{feature_data, put, change_data};
+ghost use Rattle.feature_model.specs.Types.{IsChange};
 ghost use Rattle.mvt_layer.specs.Tile.{layer_views};
 ghost use Rattle.mvt_write.specs.CanWrite.{CanWriteAll};
 ghost use Rattle.number_map.specs.Blocks.{joined};
@@ -10,7 +10,7 @@ ghost use Rattle.feature_store.specs.Pairs.{ArePairsOfMap};
 ghost use Rattle.feature_store.specs.Snapshots.{IsNoSnapshot};
 ghost use Rattle.feature_store.specs.Tiles.{AreTiles, tile_views};
 ghost use Rattle.feature_store.specs.declared.fault.SnapshotFault.TheVariants.{Bad, Memory};
-ghost use Rattle.feature_store.specs.Store.{IsMap, HasRoom, feature_at, with_feature, without_feature, snapshot};
+ghost use Rattle.feature_store.specs.Store.{IsMap, HasRoom, feature_at, with_feature, without_feature, snapshot, puts_in};
 
 use crate::all_pairs::all_pairs;
 use crate::all_tiles::{Tile, tile_layers, tiles_of};
@@ -20,7 +20,7 @@ use crate::indexed::{index_entry, numbers_near, take_entry};
 use crate::limit::TEXTS_END;
 use crate::snapshot_texts::{append_block_texts, read_map};
 use box_index::BoxIndex;
-use feature_model::{Feature, GREATEST_ZOOM};
+use feature_model::{Change, Feature, GREATEST_ZOOM};
 use hilbert_id::TileAt;
 use mvt_layer::Layer;
 use number_map::{Block, NumberMap};
@@ -48,6 +48,28 @@ impl Model for Store {
     ghost view = { store_view };
 
     ghost invariant = { IsStore };
+}
+
+/// 1 for a change that sets a feature, else 0.
+fn puts_of(change: &Change) -> usize
+    ensures exact { result ≡ puts_in (change_data change.now ∷ []) }
+    ensures most { result ≤ 1 }
+{
+    match change {
+        Change::Put { .. } => 1,
+        Change::Delete { .. } => 0,
+    }
+}
+
+/// How many of the changes set a feature.
+fn count_puts(changes: &[Change]) -> usize
+    ensures { result ≡ puts_in (map change_data changes.now) }
+{
+    let mut count = 0;
+    for change in changes {
+        count += puts_of(change);
+    }
+    count
 }
 
 impl Store {
@@ -103,9 +125,30 @@ impl Store {
         self.index.room()
     }
 
+    /// Makes room for so many features more, of whatever numbers. It fails only where there is room for fewer.
+    fn room_for(&mut self, count: usize) -> Result<(), AllocError>
+        ensures map { self.new.features ≡ self.old.features }
+        ensures room { OnOk result (count ≤ self.new.spare) }
+        ensures kept { self.old.spare ≤ self.new.spare }
+        ensures missing { OnErr result (self.new.spare < count) }
+    {
+        self.features.room_for(count)?;
+        self.index.room_for(count)
+    }
+
+    /// Makes room for each feature that the changes set, so that they can be made without memory, one after the other.
+    pub fn room_all(&mut self, changes: &[Change]) -> Result<(), AllocError>
+        ensures map { self.new.features ≡ self.old.features }
+        ensures room { OnOk result (puts_in (map change_data changes.now) ≤ self.new.spare) }
+        ensures kept { self.old.spare ≤ self.new.spare }
+        ensures missing { OnErr result (self.new.spare < puts_in (map change_data changes.now)) }
+    {
+        self.room_for(count_puts(changes))
+    }
+
     /// Gives the number this feature, whatever feature it had. It allocates nothing.
     pub fn place(&mut self, id: u64, feature: Feature)
-        requires edit { IsEdit (put id (feature_data feature)) }
+        requires edit { IsChange (put id (feature_data feature)) }
         requires room { HasRoom self.old }
         requires texts { length (snapshot (with_feature self.old.features id (feature_data feature))) < TEXTS_END }
         ensures map { self.new.features ≡ with_feature self.old.features id (feature_data feature) }

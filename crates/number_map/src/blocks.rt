@@ -1,10 +1,11 @@
-ghost use Rattle.std.specs.Prelude.{◌≡◌, ℕ, ◌+◌, ◌<◌, ◌≤◌, ◌++◌, [], length, IfNone, slice_index_or, vec_len, vec_capacity};
+ghost use Rattle.std.specs.Prelude.{◌≡◌, ℕ, ◌+◌, ◌<◌, ◌≤◌, ◌++◌, [], length, All, IfNone, OnOk, OnErr, slice_index_or, vec_len, vec_capacity};
 ghost use Rattle.std.specs.Ordering.{nat_cmp};
 ghost use Rattle.std.specs.Map.{lookup, remove_entry};
 ghost use Rattle.std.specs.BTreeMap.{insert_entry, is_at};
 ghost use Rattle.number_map.specs.Blocks.{joined, Ascends, Accepts, AreFilled, AreFilledBut, AreInOrder, IsHome};
 
 use crate::block::{Block, CAPACITY};
+use std::alloc::{AllocError, Global};
 
 /// Two neighbours of so few entries together become one block, so that memory stays in proportion to the entries.
 const FEW: usize = CAPACITY / 2;
@@ -139,4 +140,23 @@ fn join_next<T: Drop>(blocks: &mut Vec<Block<T>>, at: usize)
     }
     let next = blocks.remove(at + 1);
     blocks[at].append(next);
+}
+
+/// Adds empty blocks until there are so many. The only error: an allocation fails, and there are fewer then.
+pub(crate) fn add_empty<T: Drop>(
+    alloc: Global,
+    blocks: &mut Vec<Block<T>>,
+    count: usize,
+) -> Result<(), AllocError>
+    requires { All (λ b. b ≡ []) blocks.old.items }
+    ensures empty { All (λ b. b ≡ []) blocks.new.items }
+    ensures kept { vec_len blocks.old ≤ vec_len blocks.new }
+    ensures enough { OnOk result (count ≤ vec_len blocks.new) }
+    ensures missing { OnErr result (vec_len blocks.new < count) }
+{
+    for _ in blocks.len()..count {
+        let block = Block::new(alloc)?;
+        blocks.push(block)?;
+    }
+    Ok(())
 }

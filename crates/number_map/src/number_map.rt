@@ -5,7 +5,7 @@ ghost use Rattle.std.specs.BTreeMap.{insert_entry, is_at};
 ghost use Rattle.number_map.specs.Blocks.{joined, Ascends};
 
 use crate::block::Block;
-use crate::blocks::{home_of, put, put_beside, take_out};
+use crate::blocks::{add_empty, home_of, put, put_beside, take_out};
 use std::alloc::{AllocError, Global};
 use std::marker::Model;
 
@@ -86,14 +86,21 @@ impl<T: Drop> NumberMap<T> {
         ensures missing { OnErr result (self.old.spare ≡ 0) }
         ensures unchanged { OnErr result (self.new ≡ self.old) }
     {
-        if self.len == usize::MAX {
+        self.room_for(1)
+    }
+
+    /// Makes room for so many numbers more, whichever they are. The only error: an allocation fails, and there is room for fewer then.
+    pub fn room_for(&mut self, count: usize) -> Result<(), AllocError>
+        ensures entries { self.new.entries ≡ self.old.entries }
+        ensures room { OnOk result (count ≤ self.new.spare) }
+        ensures kept { self.old.spare ≤ self.new.spare }
+        ensures missing { OnErr result (self.new.spare < count) }
+    {
+        if usize::MAX - self.len < count {
             return Err(AllocError);
         }
-        if self.spare.is_empty() {
-            let block = Block::new(*self.blocks.allocator())?;
-            self.spare.push(block)?;
-        }
-        self.blocks.reserve(1)
+        self.blocks.reserve(count)?;
+        add_empty(*self.blocks.allocator(), &mut self.spare, count)
     }
 
     /// Gives a number this value, and returns the one that it had. It takes no memory.

@@ -1,49 +1,50 @@
 use Rattle.std.proofs.Common.{◌≡◌, Err, rules, arith}
 use Rattle.feature_model.specs.Data.{edit_data}
 use Rattle.edit_text.proofs.Codecs.{AreBytes}
-use Rattle.edit_text.proofs.Decoded.{decoded_found, ok_only, ok_not_cut, err_only, err_cut, err_only_cut, err_bad, told_either}
+use Rattle.edit_text.proofs.Decoded.{ok_only, ok_not_cut, err_only, err_cut, err_only_cut, err_bad, told_either}
+use Rattle.edit_text.proofs.Laws.{limited_edit}
 use Rattle.edit_text.proofs.decoding.decode.Goals as goal
 
 pub returns-in_err-edit-clause-only : goal.returns-in_err-edit-clause-only
 returns-in_err-edit-clause-only c = λ e begins.
     let same : c.from_residual.result ≡ Err c.in_err-edit.field-0.0 = search rules in
-    rw same (err_only c.args.bytes.now c.in_err-edit.field-0.0 c.in_err-edit.ensures.edit e begins)
+    rw same (err_only limited_edit c.args.bytes.now c.in_err-edit.field-0.0 c.in_err-edit.ensures.edit e begins)
 
 pub returns-in_err-edit-clause-cut : goal.returns-in_err-edit-clause-cut
 returns-in_err-edit-clause-cut c = λ is.
     let same : c.from_residual.result ≡ Err c.in_err-edit.field-0.0 = search rules in
     let bytes : AreBytes c.args.bytes.now = λ i. omega (arith, c.type_inv.bytes i) in
-    err_cut c.args.bytes.now c.in_err-edit.field-0.0 bytes c.in_err-edit.ensures.edit (cc)
+    err_cut limited_edit c.args.bytes.now c.in_err-edit.field-0.0 c.in_err-edit.ensures.edit bytes (cc)
 
 pub returns-in_err-edit-clause-only_cut : goal.returns-in_err-edit-clause-only_cut
 returns-in_err-edit-clause-only_cut c = λ cut.
     let same : c.from_residual.result ≡ Err c.in_err-edit.field-0.0 = search rules in
-    told_either c.from_residual.result c.in_err-edit.field-0.0 same (err_only_cut c.args.bytes.now c.in_err-edit.field-0.0 c.in_err-edit.ensures.edit cut)
+    told_either c.from_residual.result c.in_err-edit.field-0.0 same (err_only_cut limited_edit c.args.bytes.now c.in_err-edit.field-0.0 c.in_err-edit.ensures.edit cut)
 
 pub returns-in_err-edit-clause-bad : goal.returns-in_err-edit-clause-bad
 returns-in_err-edit-clause-bad c = λ is.
     let same : c.from_residual.result ≡ Err c.in_err-edit.field-0.0 = search rules in
-    err_bad c.args.bytes.now c.in_err-edit.field-0.0 c.in_err-edit.ensures.edit (cc)
+    err_bad limited_edit c.args.bytes.now c.in_err-edit.field-0.0 c.in_err-edit.ensures.edit (cc)
 
 pub overflow_sub-len : goal.overflow_sub-len
 overflow_sub-len c =
     let bytes : AreBytes c.args.bytes.now = λ i. omega (arith, c.type_inv.bytes i) in
-    let found = decoded_found c.args.bytes.now (edit_data c.in_ok-edit.edit) c.in_ok-edit.rest.now bytes c.in_ok-edit.ensures.edit in
+    let found = limited_edit.found c.args.bytes.now (edit_data c.in_ok-edit.edit) c.in_ok-edit.rest.now bytes c.in_ok-edit.ensures.edit in
     omega (arith, found.1, c.min.ensures)
 
 pub returns-clause-found : goal.returns-clause-found
 returns-clause-found c =
     let bytes : AreBytes c.args.bytes.now = λ i. omega (arith, c.type_inv.bytes i) in
-    (decoded_found c.args.bytes.now (edit_data c.in_ok-edit.edit) c.in_ok-edit.rest.now bytes c.in_ok-edit.ensures.edit).0
+    (limited_edit.found c.args.bytes.now (edit_data c.in_ok-edit.edit) c.in_ok-edit.rest.now bytes c.in_ok-edit.ensures.edit).0
 
 pub returns-clause-len : goal.returns-clause-len
 returns-clause-len c =
     let bytes : AreBytes c.args.bytes.now = λ i. omega (arith, c.type_inv.bytes i) in
-    let found = decoded_found c.args.bytes.now (edit_data c.in_ok-edit.edit) c.in_ok-edit.rest.now bytes c.in_ok-edit.ensures.edit in
+    let found = limited_edit.found c.args.bytes.now (edit_data c.in_ok-edit.edit) c.in_ok-edit.rest.now bytes c.in_ok-edit.ensures.edit in
     omega (arith, found.1, c.min.ensures)
 
 pub returns-clause-only : goal.returns-clause-only
-returns-clause-only c = λ e begins. ok_only c.args.bytes.now (edit_data c.in_ok-edit.edit) c.in_ok-edit.rest.now c.in_ok-edit.ensures.edit e begins
+returns-clause-only c = λ e begins. ok_only limited_edit c.args.bytes.now (edit_data c.in_ok-edit.edit) c.in_ok-edit.rest.now c.in_ok-edit.ensures.edit e begins
 
 pub returns-clause-only_cut : goal.returns-clause-only_cut
-returns-clause-only_cut c = λ cut. absurd (ok_not_cut c.args.bytes.now (edit_data c.in_ok-edit.edit) c.in_ok-edit.rest.now c.in_ok-edit.ensures.edit cut)
+returns-clause-only_cut c = λ cut. absurd (ok_not_cut limited_edit c.args.bytes.now (edit_data c.in_ok-edit.edit) c.in_ok-edit.rest.now c.in_ok-edit.ensures.edit cut)

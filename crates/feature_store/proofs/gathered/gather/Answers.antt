@@ -3,7 +3,7 @@ use Rattle.std.proofs.lemmas.List.{take_all}
 use Rattle.std.proofs.lemmas.List.Elements.{All-weaker}
 use Rattle.feature_model.specs.Data.{put}
 use Rattle.feature_model.specs.Limits.{IsAllowed}
-use Rattle.feature_model.specs.Types.{IsEdit}
+use Rattle.feature_model.specs.Types.{IsChange}
 use Rattle.feature_store.specs.Inside.{entries_data}
 use Rattle.feature_store.specs.Layers.{cuts_of}
 use Rattle.feature_store.specs.Store.{entry_at}
@@ -14,7 +14,7 @@ use Rattle.feature_store.proofs.gathered.gather.Goals as goal
 pub add_number-requires-clause-allowed : goal.add_number-requires-clause-allowed
 add_number-requires-clause-allowed c =
     All-entries (λ e. IsAllowed e.0 e.1) c.args.features.now.entries
-    (All-weaker (λ e. IsEdit (put e.0 e.1)) (λ e. IsAllowed e.0 e.1) (λ e edit. edit.0) (entries_data c.args.features.now.entries) c.requires.map.edits)
+    (All-weaker (λ e. IsChange (put e.0 e.1)) (λ e. IsAllowed e.0 e.1) (λ e edit. edit.0) (entries_data c.args.features.now.entries) c.requires.map.edits)
 
 pub loop-number-preserved : goal.loop-number-preserved
 loop-number-preserved c = record {

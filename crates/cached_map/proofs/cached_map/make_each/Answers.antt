@@ -1,0 +1,64 @@
+use Rattle.std.proofs.Common.{◌≡◌, ◌+◌, ◌∙◌, List, [], ◌∷◌, ◌++◌, length, map, All, sym, ap, subst, append_assoc, arith}
+use Rattle.std.proofs.lemmas.List.{map-append}
+use Rattle.std.proofs.lemmas.List.Elements.{All-tail}
+use Rattle.std.specs.Vec.Iter.{into_iter_items}
+use Rattle.feature_model.specs.Data.{change_data}
+use Rattle.feature_model.specs.Spelled.{spelled_changes}
+use Rattle.feature_model.specs.Types.{IsChange}
+use Rattle.feature_store.specs.Store.{changed, edited, snapshot, puts_in}
+use Rattle.tile_cache.specs.Touched.{Remembers}
+use Rattle.cached_map.specs.Cached.{marks_of, marks_after}
+use Rattle.cached_map.proofs.Edits.{changed_short, texts_on, puts_first, marks_push, edited_push}
+use Rattle.cached_map.proofs.cached_map.make_each.Goals as goal
+
+pub make_one-requires-clause-texts : goal.make_one-requires-clause-texts
+make_one-requires-clause-texts c =
+    let change = change_data c.in-Some.change in
+    let rest = map change_data (into_iter_items c.next.new.self) in
+    omega (
+      arith,
+      c.loop-change.invariant.short,
+      changed_short c.loop-change.store.features change,
+      texts_on change rest,
+      ap (λ l. length (spelled_changes (map change_data l))) c.in-Some.ensures.steps.0,
+    )
+
+pub loop-change-preserved : goal.loop-change-preserved
+loop-change-preserved c =
+    let inv = c.loop-change.invariant in
+    let steps = c.in-Some.ensures.steps in
+    let yielded = c.loop-change.yielded in
+    let done = map change_data yielded in
+    let change = change_data c.in-Some.change in
+    let left = into_iter_items c.next.new.self in
+    let rest = map change_data left in
+    let first = c.args.store.now.features in
+    let number = c.args.number in
+    let one_more = sym (map-append change_data yielded (c.in-Some.change ∷ [])) in
+    record {
+      can_next = tt;
+      is_finite = tt;
+      items = append_assoc yielded (c.in-Some.change ∷ []) left ∙ ap (λ l. yielded ++ l) (sym steps.0) ∙ inv.items;
+      left = omega (arith, steps.1, ap length steps.0, inv.left);
+      map_is = c.make_one.ensures.map ∙ ap (λ m. changed m change) inv.map_is ∙ sym (edited_push first done change) ∙ ap (edited first) one_more;
+      marks = λ marks remembers. subst (Remembers c.make_one.new.touched)
+          (ap (λ m. marks_of m change number (marks_after first done number marks)) inv.map_is ∙ sym (marks_push first done change number marks)
+          ∙ ap (λ cs. marks_after first cs number marks) one_more)
+          (c.make_one.ensures.marks (marks_after first done number marks) (inv.marks marks remembers));
+      are = All-tail IsChange change rest (subst (λ l. All IsChange (map change_data l)) steps.0 inv.are);
+      room = omega (
+        arith,
+        inv.room,
+        c.make_one.ensures.spare,
+        puts_first change rest,
+        ap (λ l. puts_in (map change_data l)) steps.0,
+      );
+      short = omega (
+        arith,
+        inv.short,
+        changed_short c.loop-change.store.features change,
+        texts_on change rest,
+        ap (λ l. length (spelled_changes (map change_data l))) steps.0,
+        ap (λ m. length (snapshot m)) c.make_one.ensures.map,
+      );
+    }
