@@ -43,6 +43,8 @@ pub(crate) fn write_and_sync<D: Sectors>(
     ensures leaves { D.honest disk.new → LeavesOnly (D.history disk.old) (D.history disk.new)
         (λ image. (index : ℕ) → IsOldOr (D.history disk.old) at sector.now index (image index)) }
     ensures stands { D.honest disk.new → OnOk result (D.history disk.new ≡ synced (wrote at sector.now (D.history disk.old))) }
+    ensures others { D.honest disk.new
+        → (index : ℕ) → (index ≡ at → ⊥) → seen (D.history disk.new) index ≡ seen (D.history disk.old) index }
     ensures steps { D.honest disk.new → moment (D.history disk.new) ≤ moment (D.history disk.old) + 2 }
 {
     disk.write(at, sector)?;

@@ -1,6 +1,6 @@
 //! The next generation: first its area, and then its root.
-ghost use Rattle.std.specs.Prelude.{◌≡◌, ◌≤◌, ◌<◌, ◌+◌, OnOk, OnErr};
-ghost use Rattle.sector_disk.specs.Disk.{moment, Writes, HasFailed};
+ghost use Rattle.std.specs.Prelude.{◌≡◌, ◌≤◌, ◌<◌, ◌+◌, ℕ, OnOk, OnErr};
+ghost use Rattle.sector_disk.specs.Disk.{moment, seen, Writes, HasFailed};
 ghost use Rattle.sector_disk.specs.Disk.History.{wrote, synced};
 ghost use Rattle.sector_disk.specs.Moments.{LeavesOnly};
 ghost use Rattle.generations.specs.Areas.{area_start};
@@ -48,6 +48,9 @@ pub fn install<D: Sectors>(disk: &mut D, root: Root) -> Result<(), DiskFault>
     ensures any_moment { D.honest disk.new → LeavesOnly (D.history disk.old) (D.history disk.new) (Installs root (D.history disk.old)) }
     ensures installed { D.honest disk.new
         → OnOk result (D.history disk.new ≡ synced (wrote (root_at root.generation) (root_sector root) (synced (D.history disk.old)))) }
+    // Whatever it answers, a read gives of each other sector what it gave.
+    ensures others { D.honest disk.new → (at : ℕ)
+        → (at ≡ root_at root.generation → ⊥) → seen (D.history disk.new) at ≡ seen (D.history disk.old) at }
 {
     disk.sync()?;
     let sector = root_bytes(root);

@@ -19,6 +19,3 @@ pub use layout::Layout;
 pub use reading::read_root;
 pub use root::Root;
 pub use sizes::{LEAST_SECTORS, MOST_SECTORS};
-
-#[cfg(test)]
-mod tests;

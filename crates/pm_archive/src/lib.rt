@@ -28,8 +28,3 @@ pub use lookup::Lookup;
 pub use metadata::is_metadata;
 pub use report::Report;
 pub use source::{Bytes, ReadFault};
-
-#[cfg(test)]
-mod tests;
-#[cfg(test)]
-mod verified_tests;

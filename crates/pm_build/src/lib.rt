@@ -18,6 +18,3 @@ pub use building::build;
 pub use checks::are_tiles;
 pub use fault::BuildFault;
 pub use limit::MAX_ENTRIES;
-
-#[cfg(test)]
-mod tests;
