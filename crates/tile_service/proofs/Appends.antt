@@ -11,9 +11,9 @@ use Rattle.generations.specs.Areas.{journal_sectors}
 use Rattle.edit_journal.specs.Ring.{IsInRing, HoldsTexts}
 use Rattle.edit_journal.specs.Appends.{IsFree, AsBefore, HoldsOneMore}
 use Rattle.edit_journal.specs.declared.sizes.TheConstants.{RECORD_VERSION}
-use Rattle.feature_model.specs.Data.{EditData}
-use Rattle.feature_model.specs.Spelled.{spelled}
-use Rattle.feature_model.specs.Types.{IsEdit}
+use Rattle.feature_model.specs.Data.{ChangeData}
+use Rattle.feature_model.specs.Spelled.{spelled_change}
+use Rattle.feature_model.specs.Types.{IsChange}
 use Rattle.tile_service.specs.Stored.{Stored, Holds, HoldsAt, Keeps, with_edit, texts_of, journal_ring, journal_start}
 
 -- what might have stood in a sector has its part, where all that a crash left held it
@@ -63,14 +63,14 @@ decided n at = ⊎_elim
 free_inside : (n place used at : ℕ) → IsFree (journal_ring n) place used at → IsInRing (journal_ring n) at
 free_inside n place used at free = (omega (arith, free.3), omega (arith, free.3, mod_below (place + free.0) (journal_sectors n) (omega (arith, free.2))))
 
-pub spelled_with : (edits : List EditData) (edit : EditData) → map spelled (edits ++ edit ∷ []) ≡ map spelled edits ++ spelled edit ∷ []
+pub spelled_with : (edits : List ChangeData) (edit : ChangeData) → map spelled_change (edits ++ edit ∷ []) ≡ map spelled_change edits ++ spelled_change edit ∷ []
 spelled_with [] edit = refl
-spelled_with (first ∷ edits) edit = ap (λ (texts : List (List ℕ)). spelled first ∷ texts) (spelled_with edits edit)
+spelled_with (first ∷ edits) edit = ap (λ (texts : List (List ℕ)). spelled_change first ∷ texts) (spelled_with edits edit)
 
-pub texts_with : (stored : Stored) (edit : EditData) → texts_of (with_edit stored edit) ≡ texts_of stored ++ spelled edit ∷ []
+pub texts_with : (stored : Stored) (edit : ChangeData) → texts_of (with_edit stored edit) ≡ texts_of stored ++ spelled_change edit ∷ []
 texts_with stored edit = spelled_with stored.since edit
 
-module _ (count n : ℕ) (stored : Stored) (edit : EditData) (old : History) (place used : ℕ) (keeps : Keeps count n stored old) (is_edit : IsEdit edit)
+module _ (count n : ℕ) (stored : Stored) (edit : ChangeData) (old : History) (place used : ℕ) (keeps : Keeps count n stored old) (is_edit : IsChange edit)
     (image : Image) (as_before : AsBefore (journal_ring n) place used old image) where
   sectors : (at : ℕ) → HoldsAt count n stored at (image at)
   sectors at = ⊎_elim
@@ -86,19 +86,19 @@ module _ (count n : ℕ) (stored : Stored) (edit : EditData) (old : History) (pl
   with_one is = record { format = is.format; live = is.live; other = is.other; snapshot_bytes = is.snapshot_bytes; archive_bytes = is.archive_bytes }
 
   -- Where the journal has the edit too, it holds the same with the edit.
-  pub append_made : HoldsTexts RECORD_VERSION (journal_ring n) (journal_start stored) (texts_of stored ++ spelled edit ∷ []) image
+  pub append_made : HoldsTexts RECORD_VERSION (journal_ring n) (journal_start stored) (texts_of stored ++ spelled_change edit ∷ []) image
       → Holds count n (with_edit stored edit) image
   append_made more = record {
     sectors = λ at. with_one (sectors at);
     journal = subst (λ (texts : List (List ℕ)). HoldsTexts RECORD_VERSION (journal_ring n) (journal_start stored) texts image)
         (sym (texts_with stored edit)) more;
     is_map = before.is_map;
-    are_edits = All-append IsEdit stored.since (edit ∷ []) before.are_edits (All-cons IsEdit edit [] is_edit (All-nil IsEdit));
+    are_edits = All-append IsChange stored.since (edit ∷ []) before.are_edits (All-cons IsChange edit [] is_edit (All-nil IsChange));
     is_archive = before.is_archive;
   }
 
   -- It holds the same, or the same with the edit.
-  pub append_leaves : HoldsOneMore (journal_ring n) (journal_start stored) (texts_of stored) (spelled edit) image
+  pub append_leaves : HoldsOneMore (journal_ring n) (journal_start stored) (texts_of stored) (spelled_change edit) image
       → Holds count n stored image ⊎ Holds count n (with_edit stored edit) image
   append_leaves (inl same) = inl (record {
     sectors = sectors;

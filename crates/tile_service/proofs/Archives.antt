@@ -13,9 +13,30 @@ use Rattle.cached_map.specs.Cached.{WasMap}
 use Rattle.feature_store.specs.Layers.{layers}
 use Rattle.feature_store.specs.Store.{FeatureMap, snapshot}
 use Rattle.published_tiles.specs.Published.{PublishedView, ArePublished}
-use Rattle.tile_service.specs.Service.{ServiceView, Publishes, IsUp, archive_of, shown_archive}
+use Rattle.tile_service.specs.Service.{ServiceView, Publishes, IsUp, archive_of, shown_archive, ShowsArchive}
 use Rattle.tile_service.specs.Stored.{Stored, Keeps}
 use Rattle.tile_service.proofs.Bytes.{each_stands}
+
+-- What is read in the archive's place is of the archive that stands there.
+pub shown_is_read : (history : History) (place len : ℕ) (archive : List ℕ) → AreItsBytes place len archive (seen history)
+    → (first at n : ℕ) (into : List ℕ) → first ≡ place → at + n ≤ len
+    → into ≡ slice_range (bytes_from (seen history) first (sectors_of (at + n))) at (at + n) → into ≡ slice_range archive at (at + n)
+shown_is_read history place len archive shows first at n into is within read =
+    read ∙ stands_read (seen history) first at n archive (subst (λ (f : ℕ). StandsIn f archive (seen history)) (sym is) shows.stands)
+    (omega (arith, within, shows.length_is))
+
+-- The archive that a service shows is the one in the image that is seen.
+pub shown_is_seen : {D : Type 0} (history : History) (service : ServiceView D) (archive : List ℕ) → ShowsArchive history service archive
+    → shown_archive (seen history) service ≡ archive
+shown_is_seen history service archive shows =
+    let n : ℕ = service.archive_len in
+    let first : ℕ = (archive_of service).first in
+    let same : 0 + n ≡ n = omega arith in
+    let size : 0 + n - 0 ≡ n = omega arith in
+    let is = shown_is_read history first n archive shows first 0 n (slice_range (bytes_from (seen history) first (sectors_of (0 + n))) 0 (0 + n))
+    refl (omega arith) refl in
+    sym (λ i. take (size i) (bytes_from (seen history) first (sectors_of (same i)))) ∙ is
+    ∙ ap (λ (k : ℕ). take k archive) size ∙ take_all n archive (omega (arith, shows.length_is))
 
 module _ {D : Type 0} (count : ℕ) (history : History) (stored : Stored) (service : ServiceView D) (up : IsUp count history stored service) where
   archive_stands : (first : ℕ) → first ≡ area_start service.size service.generation + sectors_of service.snapshot_len
@@ -35,17 +56,6 @@ module _ {D : Type 0} (count : ℕ) (history : History) (stored : Stored) (servi
       → into ≡ slice_range stored.archive at (at + n)
   archive_is_read first at n into is within read =
       read ∙ stands_read (seen history) first at n stored.archive (archive_stands first is) (omega (arith, within, up.archive_len_is))
-
-  -- The seen image shows the archive that is stored.
-  pub archive_is_shown : shown_archive (seen history) service ≡ stored.archive
-  archive_is_shown =
-      let n : ℕ = service.archive_len in
-      let first : ℕ = area_start service.size service.generation + sectors_of service.snapshot_len in
-      let same : 0 + n ≡ n = omega arith in
-      let size : 0 + n - 0 ≡ n = omega arith in
-      let is = archive_is_read first 0 n (slice_range (bytes_from (seen history) first (sectors_of (0 + n))) 0 (0 + n)) refl (omega arith) refl in
-      sym (λ i. take (size i) (bytes_from (seen history) first (sectors_of (same i)))) ∙ is
-      ∙ ap (λ (k : ℕ). take k stored.archive) size ∙ take_all n stored.archive (omega (arith, up.archive_len_is))
 
   -- The service goes on where nothing was written, whatever it keeps of the archive.
   pub up_read : (disk : D) (kept : PublishedView) (sectors : ℕ) (later : History) → sectors ≡ count → later ≡ history
@@ -81,6 +91,10 @@ module _ {D : Type 0} (count : ℕ) (history : History) (stored : Stored) (servi
   -- and stands at its place
   pub archive_there : AreItsBytes (archive_of service).first (archive_of service).len stored.archive (seen history)
   archive_there = record { length_is = sym up.archive_len_is; stands = archive_stands (archive_of service).first refl }
+
+  -- The seen image shows the archive that is stored.
+  pub archive_is_shown : shown_archive (seen history) service ≡ stored.archive
+  archive_is_shown = shown_is_seen history service stored.archive archive_there
 
   -- A tile that no edit since the snapshot can have touched is that of the snapshot's map.
   pub same_layers : (z x y newest edits : ℕ) → edits ≡ service.journal.edits → newest ≤ edits

@@ -1,14 +1,14 @@
 -- The writes of a step of a publication into the area of the next generation.
-use Rattle.std.proofs.Common.{◌≡◌, ◌⊎◌, inl, inr, ⊎_elim, ℕ, suc, ◌<◌, ◌≤◌, ◌+◌, List, Result, ap, sym, subst, arith}
+use Rattle.std.proofs.Common.{◌≡◌, ◌⊎◌, inl, inr, ⊎_elim, ℕ, suc, ◌<◌, ◌≤◌, ◌+◌, List, Result, ap, sym, ◌∙◌, subst, arith}
 use Rattle.sector_disk.specs.Disk.{History, Image, MayHold, MayLeave, seen, moment, FailedWrite, Writes}
 use Rattle.sector_disk.specs.Disk.History.{synced}
 use Rattle.sector_disk.specs.Moments.{LeavesOnly}
 use Rattle.sector_disk.specs.declared.disk.DiskFault.{DiskFault}
-use Rattle.sector_disk.proofs.History.{seen_may, sync_leaves, then_leaves}
+use Rattle.sector_disk.proofs.History.{seen_other, seen_may, sync_leaves, then_leaves}
 use Rattle.generations.specs.Areas.{area_sectors, area_start}
 use Rattle.area_content.specs.Content.{ContentView, sector_at}
 use Rattle.area_content.proofs.Laws.{snapshot_sector, archive_sector}
-use Rattle.tile_service.specs.Publishing.{IsContentSector, IsInArea, HasFirst}
+use Rattle.tile_service.specs.Publishing.{IsContentSector, IsInArea, IsBeside, HasFirst}
 use Rattle.tile_service.specs.Stored.{Stored, Holds, Keeps}
 use Rattle.tile_service.proofs.Contents.{content_sector}
 use Rattle.tile_service.proofs.Publishes.{write_area_keeps, write_area_leaves}
@@ -61,3 +61,16 @@ module _ (count n : ℕ) (stored : Stored) (generation index : ℕ) (sector : Li
   pub next_area_leaves : (start : History) → LeavesOnly start old (Holds count n stored) → LeavesOnly start new (Holds count n stored)
   next_area_leaves start so_far = then_leaves start old new (Holds count n stored) so_far
       (write_area_leaves count n stored old new (area_start n (suc stored.generation) + index) sector result written inside keeps)
+
+-- Nor does it change what a read gives outside of that area.
+module _ (n generation : ℕ) (start old new : History) (beside : IsBeside n generation (seen start) (seen old)) where
+  pub write_beside : (index : ℕ) (sector : List ℕ) → index < area_sectors n → FailedWrite (area_start n generation + index) sector old new
+      → IsBeside n generation (seen start) (seen new)
+  write_beside index sector lt (inl same) = subst (λ (h : History). IsBeside n generation (seen start) (seen h)) (sym same) beside
+  write_beside index sector lt (inr (inl is)) = subst (λ (h : History). IsBeside n generation (seen start) (seen h)) (sym is)
+      (λ at out. seen_other (area_start n generation + index) sector old at (λ same. out (omega (arith, same), omega (arith, same, lt))) ∙ beside at out)
+  write_beside index sector lt (inr (inr is)) = subst (λ (h : History). IsBeside n generation (seen start) (seen h)) (sym is) beside
+
+  pub sync_beside : (new ≡ old) ⊎ (new ≡ synced old) → IsBeside n generation (seen start) (seen new)
+  sync_beside (inl same) = subst (λ (h : History). IsBeside n generation (seen start) (seen h)) (sym same) beside
+  sync_beside (inr is) = subst (λ (h : History). IsBeside n generation (seen start) (seen h)) (sym is) beside

@@ -1,5 +1,5 @@
 -- What an edit leaves of what a disk holds, and the service that it leaves.
-use Rattle.std.specs.Prelude.{Option, None, Some, IfSome}
+use Rattle.std.specs.Prelude.{Option, None, Some, IfSome, Result, Err}
 use Rattle.std.proofs.Common.{◌≡◌, ◌⊎◌, inl, inr, ⊎_elim, ℕ, suc, List, [], ◌∷◌, ◌++◌, sym, ◌∙◌, ap, subst, arith, length-append}
 use Rattle.std.proofs.lemmas.List.{length-map}
 use Rattle.sector_disk.specs.Disk.{Image, History, seen, moment}
@@ -13,13 +13,13 @@ use Rattle.edit_journal.specs.declared.fault.JournalFault.TheVariants as journal
 use Rattle.edit_journal.specs.declared.journal.Journal.{Journal}
 use Rattle.edit_journal.specs.declared.sizes.TheConstants.{RECORD_VERSION}
 use Rattle.cached_map.specs.Cached.{WasMap}
-use Rattle.feature_model.specs.Data.{EditData}
-use Rattle.feature_model.specs.Spelled.{spelled}
-use Rattle.feature_model.specs.Types.{IsEdit}
+use Rattle.feature_model.specs.Data.{ChangeData}
+use Rattle.feature_model.specs.Spelled.{spelled_change}
+use Rattle.feature_model.specs.Types.{IsChange}
 use Rattle.feature_store.specs.Store.{FeatureMap, changed, snapshot}
 use Rattle.published_tiles.specs.Published.{PublishedView, ArePublished}
 use Rattle.published_tiles.specs.declared.place.ArchivePlace.{ArchivePlace}
-use Rattle.tile_service.specs.Machine.{AnswerData, edit, refused}
+use Rattle.tile_service.specs.Machine.{edit}
 use Rattle.tile_service.specs.Service.{PublicationView, ServiceView, count_at, Publishes, IsUp, MayStand, EventLeaves, told_as, archive_of}
 use Rattle.tile_service.specs.Stored.{Stored, Holds, Keeps, with_edit, map_of, texts_of, journal_ring, journal_start}
 use Rattle.tile_service.specs.Tiles.{archive_place}
@@ -31,7 +31,7 @@ use Rattle.tile_service.proofs.Publications.{goes_on_with_edit}
 use Rattle.tile_service.proofs.Replays.{after_one}
 
 -- A publication under way goes on to be one of the same with the edit, where a read gives what it gave of all but free places.
-module _ (n : ℕ) (stored : Stored) (e : EditData) (place used : ℕ) (old new : History)
+module _ (n : ℕ) (stored : Stored) (e : ChangeData) (place used : ℕ) (old new : History)
     (reads : ReadsAsBefore (journal_ring n) place used (seen old) (seen new)) where
   publishes_on : (p : PublicationView) → Publishes n stored old p → Publishes n (with_edit stored e) new p
   publishes_on p was = record {
@@ -54,8 +54,8 @@ module _ {D : Type 0} (sectors : D → ℕ) (history : D → History) (stored : 
   start = λ i. record { place = up.place_is i; number = suc (up.edits_are i) }
 
   -- what each image of an event with this answer holds
-  abbrev leaves_by : EditData → AnswerData → Image → Type 0
-  leaves_by e answer = EventLeaves (sectors service.disk) service.size stored service.publication (edit e) answer
+  abbrev leaves_by : ChangeData → Result ℕ ServiceFault → Image → Type 0
+  leaves_by e outcome = EventLeaves (sectors service.disk) service.size stored service.publication (edit e outcome)
 
   -- the append's own words for the sectors that it leaves alone, and for those of the journal
   abbrev pub Alone : D → Type 0
@@ -80,13 +80,13 @@ module _ {D : Type 0} (sectors : D → ℕ) (history : D → History) (stored : 
         (sym ring) (subst (λ (s : Start). HoldsTexts RECORD_VERSION (journal_ring service.size) s (texts_of stored) image)
         (sym start) (up.keeps image may).journal);
     uses = up.used_is;
-    counts = omega (arith, up.last_is, up.edits_are, length-map stored.since spelled);
+    counts = omega (arith, up.last_is, up.edits_are, length-map stored.since spelled_change);
   }
 
   -- Where the disk isn't touched, a crash leaves what was stored.
-  pub same_leaves : (e : EditData) (answer : AnswerData) (new : D) → new ≡ service.disk
-      → LeavesOnly (history service.disk) (history new) (leaves_by e answer)
-  same_leaves e answer new same = subst (λ (d : D). LeavesOnly (history service.disk) (history d) (leaves_by e answer)) (sym same)
+  pub same_leaves : (e : ChangeData) (outcome : Result ℕ ServiceFault) (new : D) → new ≡ service.disk
+      → LeavesOnly (history service.disk) (history new) (leaves_by e outcome)
+  same_leaves e outcome new same = subst (λ (d : D). LeavesOnly (history service.disk) (history d) (leaves_by e outcome)) (sym same)
       (started (history service.disk) _ (λ image may. inl (up.keeps image may)))
 
   as_before : (image : Image) → AsBefore (ring_of service.journal) service.journal.place service.journal.used (history service.disk) image
@@ -94,18 +94,18 @@ module _ {D : Type 0} (sectors : D → ℕ) (history : D → History) (stored : 
   as_before image is =
       subst (λ (r : Ring). AsBefore r service.journal.place service.journal.used (history service.disk) image) ring is
 
-  module _ (e : EditData) (is_edit : IsEdit e) (text : List ℕ) (is_text : text ≡ spelled e) (new : D) (alone : Alone new) where
+  module _ (e : ChangeData) (is_edit : IsChange e) (text : List ℕ) (is_text : text ≡ spelled_change e) (new : D) (alone : Alone new) where
     -- with the text there, the edit's is there
     with_text : (image : Image) → HoldsTexts RECORD_VERSION (ring_of service.journal) (start_of service.journal.place service.journal.edits)
         (texts_of stored ++ text ∷ []) image
-        → HoldsTexts RECORD_VERSION (journal_ring service.size) (journal_start stored) (texts_of stored ++ spelled e ∷ []) image
+        → HoldsTexts RECORD_VERSION (journal_ring service.size) (journal_start stored) (texts_of stored ++ spelled_change e ∷ []) image
     with_text image is = subst (λ (t : List ℕ). HoldsTexts RECORD_VERSION (journal_ring service.size) (journal_start stored) (texts_of stored ++ t ∷ []) image)
         is_text (there (texts_of stored ++ text ∷ []) image is)
 
     -- An append that is made, or in doubt, leaves what was stored, or the same with the edit.
-    pub append_any_moment : (answer : AnswerData) → MayStand answer → OneMore new text
-        → LeavesOnly (history service.disk) (history new) (leaves_by e answer)
-    append_any_moment answer may leaves = record {
+    pub append_any_moment : (outcome : Result ℕ ServiceFault) → MayStand outcome → OneMore new text
+        → LeavesOnly (history service.disk) (history new) (leaves_by e outcome)
+    append_any_moment outcome may leaves = record {
       follows = leaves.follows;
       each = λ image left. ⊎_elim
           (λ (same : Holds (sectors service.disk) service.size stored image). inl same)
@@ -119,9 +119,9 @@ module _ {D : Type 0} (sectors : D → ℕ) (history : D → History) (stored : 
 
     -- An append that fails leaves what was stored, and in doubt the same with the edit.
     pub refused_any_moment : (fault : JournalFault) (told : ServiceFault) → told ≡ told_as fault → (fault ≡ journals.Device) ⊎ (new ≡ service.disk)
-        → OneMore new text → LeavesOnly (history service.disk) (history new) (leaves_by e (refused told))
-    refused_any_moment fault told is (inl device) leaves = append_any_moment (refused told) (is ∙ ap told_as device) leaves
-    refused_any_moment fault told is (inr same) leaves = same_leaves e (refused told) new same
+        → OneMore new text → LeavesOnly (history service.disk) (history new) (leaves_by e (Err told))
+    refused_any_moment fault told is (inl device) leaves = append_any_moment (Err told) (is ∙ ap told_as device) leaves
+    refused_any_moment fault told is (inr same) leaves = same_leaves e (Err told) new same
 
     -- Where the journal has the edit, every image that is left now holds the same with the edit.
     keeps_edit : (journal : Journal) → ring_of journal ≡ ring_of service.journal
@@ -159,7 +159,7 @@ module _ {D : Type 0} (sectors : D → ℕ) (history : D → History) (stored : 
       place_is = ap (λ (s : Start). s.place) same.1 ∙ up.place_is;
       edits_are = edits;
       used_is = now.uses;
-      last_is = omega (arith, now.counts, edits, length-map (stored.since ++ e ∷ []) spelled);
+      last_is = omega (arith, now.counts, edits, length-map (stored.since ++ e ∷ []) spelled_change);
       publication = subst (λ (k : ℕ). IfSome after.publication (Publishes k (with_edit stored e) (history new))) (sym size)
           (subst (λ (o : Option PublicationView). IfSome o (Publishes service.size (with_edit stored e) (history new))) (sym publication)
           (all_on service.size stored e service.journal.place service.journal.used (history service.disk) (history new)
@@ -167,7 +167,7 @@ module _ {D : Type 0} (sectors : D → ℕ) (history : D → History) (stored : 
           service.publication up.publication));
       were = were_one service.features service.touched service.journal.last after.features after.touched after.journal.last since now_is stored.edits
           stored.snapshot_map stored.since e
-          (omega (arith, now.counts, edits, length-map (stored.since ++ e ∷ []) spelled, length-append stored.since (e ∷ []))) map_is up.were;
+          (omega (arith, now.counts, edits, length-map (stored.since ++ e ∷ []) spelled_change, length-append stored.since (e ∷ []))) map_is up.were;
       archived = subst (λ (t : PublishedView). ArePublished t (archive_of after) stored.snapshot_map stored.archive) (sym published)
           (subst (λ (p : ArchivePlace). ArePublished service.published p stored.snapshot_map stored.archive)
           (sym (λ i. archive_place (size i) (generation i) (snapshot_len i) (archive_len i))) up.archived);

@@ -21,10 +21,11 @@ use Rattle.edit_journal.specs.Releases.{MayTake}
 use Rattle.edit_journal.specs.Ring.{Ring, AreEdits, places_of, HoldsTexts}
 use Rattle.edit_journal.specs.declared.sizes.TheConstants.{RECORD_VERSION}
 use Rattle.edit_journal.proofs.Releases.{edits_take, keeps_behind}
-use Rattle.feature_model.specs.Data.{EditData}
-use Rattle.feature_model.specs.Spelled.{spelled}
-use Rattle.feature_model.specs.Types.{IsEdit}
-use Rattle.feature_store.specs.Store.{FeatureMap, IsMap, after, changed, snapshot}
+use Rattle.feature_model.specs.Data.{ChangeData}
+use Rattle.feature_model.specs.Spelled.{spelled_change}
+use Rattle.feature_model.specs.Types.{IsChange}
+use Rattle.feature_store.specs.Store.{FeatureMap, IsMap, changed, snapshot}
+use Rattle.tile_service.specs.After.{after}
 use Rattle.published_tiles.specs.Published.{ArePublished}
 use Rattle.tile_service.specs.Publishing.{map_at, published, CanPublish, HasArea}
 use Rattle.tile_service.specs.Service.{ServiceView, PublicationView, Publishes, IsUp, archive_of}
@@ -90,7 +91,7 @@ module _ (count n : ℕ) (stored : Stored) (taken : ℕ) (archive : List ℕ) (c
   numbers : AreNumbers (root_of next)
   numbers = record {
     generation = can.generation;
-    edits = omega (arith, holds.journal.records.numbers, length-map stored.since spelled, can.within);
+    edits = omega (arith, holds.journal.records.numbers, length-map stored.since spelled_change, can.within);
     journal_at = omega (arith, place_below, format.size.1);
     snapshot_len = omega (arith, can.is_map.short);
     archive_len = omega (arith, can.area, format.size.1);
@@ -130,9 +131,9 @@ module _ (count n : ℕ) (stored : Stored) (taken : ℕ) (archive : List ℕ) (c
 
     journal : HoldsTexts RECORD_VERSION (journal_ring n) (journal_start next) (texts_of next) image
     journal = subst (λ (texts : List (List ℕ)). HoldsTexts RECORD_VERSION (journal_ring n) (journal_start next) texts image)
-        (drop-map spelled taken stored.since)
+        (drop-map spelled_change taken stored.since)
         (holds_later (journal_ring n) stored.journal_at stored.edits taken (texts_of stored) image (live_can count n stored before holds).journal
-        (omega (arith, can.within, length-map stored.since spelled))
+        (omega (arith, can.within, length-map stored.since spelled_change))
         (same_ring RECORD_VERSION (journal_ring n) (journal_start stored) (texts_of stored) before image some_place
         (λ at inside. with_root.others at (λ root. omega (arith, inside.0, root))) holds.journal))
 
@@ -149,7 +150,7 @@ module _ (count n : ℕ) (stored : Stored) (taken : ℕ) (archive : List ℕ) (c
       };
       journal = journal;
       is_map = can.is_map;
-      are_edits = All-drop IsEdit taken stored.since holds.are_edits;
+      are_edits = All-drop IsChange taken stored.since holds.are_edits;
       is_archive = can.is_archive;
     }
 
@@ -183,14 +184,14 @@ module _ (count n : ℕ) (stored : Stored) (taken : ℕ) (archive : List ℕ) (c
 
 -- ---- edits while a publication goes on
 
-module _ (n : ℕ) (stored : Stored) (taken : ℕ) (archive : List ℕ) (edit : EditData) (within : taken ≤ length stored.since) where
+module _ (n : ℕ) (stored : Stored) (taken : ℕ) (archive : List ℕ) (edit : ChangeData) (within : taken ≤ length stored.since) where
   -- The map that is published stays the same.
   pub map_stays : map_at (with_edit stored edit) taken ≡ map_at stored taken
-  map_stays = ap (λ (edits : List EditData). after stored.snapshot_map edits) (take-append-le taken stored.since (edit ∷ []) within)
+  map_stays = ap (λ (edits : List ChangeData). after stored.snapshot_map edits) (take-append-le taken stored.since (edit ∷ []) within)
 
   pub texts_stay : take taken (texts_of (with_edit stored edit)) ≡ take taken (texts_of stored)
   texts_stay = ap (take taken) (texts_with stored edit)
-      ∙ take-append-le taken (texts_of stored) (spelled edit ∷ []) (omega (arith, within, length-map stored.since spelled))
+      ∙ take-append-le taken (texts_of stored) (spelled_change edit ∷ []) (omega (arith, within, length-map stored.since spelled_change))
 
   -- So it goes on to be one that can be published,
   pub can_still : CanPublish n stored taken archive → CanPublish n (with_edit stored edit) taken archive
@@ -217,9 +218,9 @@ module _ (n : ℕ) (stored : Stored) (taken : ℕ) (archive : List ℕ) (edit : 
 
 -- The map after all edits is what is published, where all are taken.
 pub all_taken : (stored : Stored) → map_at stored (length stored.since) ≡ map_of stored
-all_taken stored = ap (λ (edits : List EditData). after stored.snapshot_map edits) (take_all (length stored.since) stored.since (omega arith))
+all_taken stored = ap (λ (edits : List ChangeData). after stored.snapshot_map edits) (take_all (length stored.since) stored.since (omega arith))
 
-after_both : (m : FeatureMap) (edits : List EditData) (taken : ℕ) → after (after m (take taken edits)) (drop taken edits) ≡ after m edits
+after_both : (m : FeatureMap) (edits : List ChangeData) (taken : ℕ) → after (after m (take taken edits)) (drop taken edits) ≡ after m edits
 after_both m edits zero = refl
 after_both m [] (suc taken) = refl
 after_both m (edit ∷ edits) (suc taken) = after_both (changed m edit) edits taken
@@ -250,7 +251,7 @@ module _ (n : ℕ) (stored : Stored) (taken : ℕ) (archive : List ℕ) (within 
     map_is = features ∙ sym same_map;
     place_is = place;
     edits_are = edits;
-    used_is = left ∙ ap places_of (drop-map spelled taken stored.since);
+    used_is = left ∙ ap places_of (drop-map spelled_change taken stored.since);
     last_is = last ∙ sym same_last;
     snapshot_len_is = snapshot_;
     archive_len_is = archive_;

@@ -9,10 +9,10 @@ use Rattle.generations.proofs.Laws.{one_live}
 use Rattle.edit_journal.specs.Ring.{Ring, Start, HoldsTexts}
 use Rattle.edit_journal.specs.declared.sizes.TheConstants.{RECORD_VERSION}
 use Rattle.edit_journal.proofs.Laws.{one_list}
-use Rattle.edit_text.proofs.Laws.{one_edit}
-use Rattle.feature_model.specs.Data.{EditData}
-use Rattle.feature_model.specs.Spelled.{spelled}
-use Rattle.feature_model.specs.Types.{IsEdit}
+use Rattle.edit_text.proofs.Laws.{one_change}
+use Rattle.feature_model.specs.Data.{ChangeData}
+use Rattle.feature_model.specs.Spelled.{spelled_change}
+use Rattle.feature_model.specs.Types.{IsChange}
 use Rattle.feature_store.specs.Store.{snapshot}
 use Rattle.feature_store.proofs.Laws.{snapshot_of_one_map}
 use Rattle.tile_service.specs.Stored.{Stored, Holds, root_of, HasBytes, texts_of, journal_ring, journal_start}
@@ -30,14 +30,14 @@ rest_of [] = []
 rest_of (text ∷ texts) = texts
 
 -- edits with the same texts are the same
-pub one_run : (edits others : List EditData) → All IsEdit edits → All IsEdit others → map spelled edits ≡ map spelled others → edits ≡ others
+pub one_run : (edits others : List ChangeData) → All IsChange edits → All IsChange others → map spelled_change edits ≡ map spelled_change others → edits ≡ others
 one_run [] [] are too same = refl
 one_run [] (other ∷ others) are too same = absurd (omega (arith, ap length same))
 one_run (edit ∷ edits) [] are too same = absurd (omega (arith, ap length same))
 one_run (edit ∷ edits) (other ∷ others) are too same =
     let first : edit ≡ other =
-    (one_edit edit other [] [] (All-head IsEdit edit edits are) (All-head IsEdit other others too) (ap (λ (ts : List (List ℕ)). head ts ++ []) same)).0 in
-    let rest : edits ≡ others = one_run edits others (All-tail IsEdit edit edits are) (All-tail IsEdit other others too) (ap rest_of same) in
+    (one_change edit other [] [] (All-head IsChange edit edits are) (All-head IsChange other others too) (ap (λ (ts : List (List ℕ)). head ts ++ []) same)).0 in
+    let rest : edits ≡ others = one_run edits others (All-tail IsChange edit edits are) (All-tail IsChange other others too) (ap rest_of same) in
     λ i. first i ∷ rest i
 
 -- An image holds at most one state, on at most one count of sectors.

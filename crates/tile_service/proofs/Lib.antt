@@ -19,5 +19,7 @@ pub mod Publishes
 mod Replays
 mod Roots
 pub mod Runs
+mod Shown
 mod Steps
+mod Tellings
 mod Whole

@@ -22,10 +22,11 @@ use Rattle.edit_journal.specs.declared.fault.JournalFault.TheVariants as faults
 use Rattle.edit_journal.specs.declared.journal.Journal as journals
 use Rattle.edit_journal.specs.declared.sizes.TheConstants.{PART_BYTES, RECORD_VERSION}
 use Rattle.edit_journal.proofs.Recovers.{held_is_journal, one_journal}
-use Rattle.feature_model.specs.Data.{EditData}
-use Rattle.feature_model.specs.Spelled.{spelled}
+use Rattle.feature_model.specs.Data.{ChangeData}
+use Rattle.feature_model.specs.Spelled.{spelled_change}
 use Rattle.feature_store.specs.Snapshots.{IsNoSnapshot}
-use Rattle.feature_store.specs.Store.{FeatureMap, changed, after, snapshot}
+use Rattle.feature_store.specs.Store.{FeatureMap, changed, snapshot}
+use Rattle.tile_service.specs.After.{after}
 use Rattle.feature_store.specs.declared.limit.TheConstants.{TEXTS_END}
 use Rattle.feature_store.proofs.Laws.{snapshot_of_one_map}
 use Rattle.published_tiles.specs.Published.{ArePublished}
@@ -57,12 +58,12 @@ pub texts_short : (n used places len : ℕ) (texts : List (List ℕ)) → IsSize
 texts_short n used places len texts size short room is uses = omega (arith, places_hold texts, size.1, short, room, is, uses)
 
 -- the texts of a map grow by those of the edits at most
-pub after_short : (m : FeatureMap) (edits : List EditData) → length (snapshot (after m edits)) ≤ length (snapshot m) + bytes_of (map spelled edits)
+pub after_short : (m : FeatureMap) (edits : List ChangeData) → length (snapshot (after m edits)) ≤ length (snapshot m) + bytes_of (map spelled_change edits)
 after_short m [] = omega arith
 after_short m (edit ∷ edits) = omega (arith, after_short (changed m edit) edits, changed_short m edit)
 
 -- and those of the map after the texts of a journal by what its places hold
-pub replayed_short : (texts : List (List ℕ)) (edits : List EditData) (first m : FeatureMap) (area used : ℕ) → AreTextsOf texts edits
+pub replayed_short : (texts : List (List ℕ)) (edits : List ChangeData) (first m : FeatureMap) (area used : ℕ) → AreTextsOf texts edits
     → length (snapshot first) ≤ area → m ≡ after first edits → used ≡ places_of texts → length (snapshot m) ≤ area + PART_BYTES * used
 replayed_short texts edits first m area used are short is uses =
     omega (
@@ -143,7 +144,7 @@ fault_after sectors n old new root fault is live (inr (inr content)) =
 
 -- ---- what a disk that holds a state has
 
-texts_count : (edits : List EditData) → length (map spelled edits) ≡ length edits
+texts_count : (edits : List ChangeData) → length (map spelled_change edits) ≡ length edits
 texts_count [] = refl
 texts_count (edit ∷ edits) = ap suc (texts_count edits)
 
@@ -187,7 +188,7 @@ module _ (sectors n : ℕ) (stored : Stored) (image : Image) (holds : Holds sect
       no_content_fault fault (subst (λ (m : ℕ). IsContentFault m (root_of stored) image fault) (sym same.0)
       (subst (λ (r : Root). IsContentFault is.0 r image fault) (sym same.1) is.3))
 
-  edits_there : (texts : List (List ℕ)) (edits : List EditData) → IsJournalOf n (root_of stored) texts image → AreTextsOf texts edits
+  edits_there : (texts : List (List ℕ)) (edits : List ChangeData) → IsJournalOf n (root_of stored) texts image → AreTextsOf texts edits
       → edits ≡ stored.since
   edits_there texts edits is are = one_run edits stored.since are.are_edits holds.are_edits (sym are.are_texts ∙ one_texts texts is)
 
@@ -228,7 +229,7 @@ module _ (sectors n : ℕ) (stored : Stored) (image : Image) (holds : Holds sect
 
     were : WereMaps service.features service.touched service.journal.last stored.edits stored.snapshot_map stored.since
     were =
-        subst (λ (es : List EditData). WereMaps service.features service.touched service.journal.last stored.edits stored.snapshot_map es) same_edits
+        subst (λ (es : List ChangeData). WereMaps service.features service.touched service.journal.last stored.edits stored.snapshot_map es) same_edits
         (subst (λ (m : FeatureMap). WereMaps service.features service.touched service.journal.last stored.edits m replayed.edits) same_snapshot
         replayed.were)
 

@@ -18,8 +18,8 @@ use Rattle.edit_journal.specs.Appends.{ring_of}
 use Rattle.edit_journal.specs.Ring.{Ring, places_of}
 use Rattle.area_content.specs.Content.{sectors_taken}
 use Rattle.area_content.specs.Tiles.{IsArchiveOfMap}
-use Rattle.feature_model.specs.Data.{EditData}
-use Rattle.feature_model.specs.Spelled.{spelled}
+use Rattle.feature_model.specs.Data.{ChangeData}
+use Rattle.feature_model.specs.Spelled.{spelled_change}
 use Rattle.feature_store.specs.Store.{FeatureMap, IsMap, snapshot}
 use Rattle.map_metadata.specs.Metadata.{IsMetadata}
 use Rattle.pm_archive.specs.Archive.{IsMetadata as IsMetadataText}
@@ -28,9 +28,9 @@ use Rattle.published_tiles.proofs.PublishedLaws.{published_next}
 use Rattle.serde_json.specs.Data.{Data}
 use Rattle.serde_json.specs.Read.{read}
 use Rattle.serde_json.specs.Written.{compact_text}
-use Rattle.tile_service.specs.Machine.{AnswerData, left, refused, step, Begins, Steps, HasPublication, after_install}
+use Rattle.tile_service.specs.Machine.{step, Begins, AnswersStep, HasPublication, after_install}
 use Rattle.tile_service.specs.Publishing.{map_at, published, CanPublish, HasFirst, HasArea, IsUnderWay}
-use Rattle.tile_service.specs.Service.{PublicationView, ServiceView, Known, Publishes, IsUp, EventLeaves, count_at, left_of, left_answer, archive_of}
+use Rattle.tile_service.specs.Service.{PublicationView, ServiceView, Known, Publishes, IsUp, EventLeaves, count_at, left_of, archive_of}
 use Rattle.tile_service.specs.Service.{going_of, state_of, known_after, known_installed, installed, stored_after, with_publication}
 use Rattle.tile_service.specs.Stored.{Stored, Holds, Keeps, root_of, journal_ring, texts_of}
 use Rattle.tile_service.specs.Tiles.{WereMaps}
@@ -87,7 +87,7 @@ module _ {D : Type 0} (sectors : ℕ) (h : History) (stored : Stored) (service :
     map = ap (map_at stored) count_is ∙ all_taken stored ∙ sym up.map_is
 
     used : service.journal.used ≡ places_of (take count (texts_of stored))
-    used = up.used_is ∙ ap places_of (sym (take_all count (texts_of stored) (omega (arith, count_is, length-map stored.since spelled))))
+    used = up.used_is ∙ ap places_of (sym (take_all count (texts_of stored) (omega (arith, count_is, length-map stored.since spelled_change))))
 
     can : CanPublish service.size stored count p.content.archive
     can = record {
@@ -117,7 +117,8 @@ pub begins_told : {D : Type 0} (known : Known) (service : ServiceView D) (p : Pu
     → told ≡ sectors_taken p.content + 1
     → Begins (state_of known service) told (state_of (record known { publishing = service.features }) (record service { publication = Some p }))
 begins_told known service p told unbroken none generation is_archive text area ring edits places written told_is = record {
-  can = record { unbroken = unbroken; none = ap (option_map (going_of known.publishing)) none; generation = generation };
+  unbroken = unbroken;
+  can = record { none = ap (option_map (going_of known.publishing)) none; generation = generation };
   archive = p.content.archive;
   is_archive = is_archive;
   room = omega (arith, area, ap length text);
@@ -199,7 +200,7 @@ module _ {D : Type 0} (sectors : ℕ) (old : History) (stored : Stored) (service
         start : ℕ
         start = stored.edits + count_at stored p
 
-        rest : List EditData
+        rest : List ChangeData
         rest = drop (count_at stored p) stored.since
 
         were : WereMaps after.features after.touched after.journal.last start map rest
@@ -267,25 +268,25 @@ next_is sectors h stored service up generation is = omega (arith, is, up.generat
 
 module _ (sectors n : ℕ) (stored : Stored) (p : PublicationView) (old new : History) where
   -- A step that only writes into the area leaves what was stored.
-  pub step_leaves : (answer : AnswerData) → LeavesOnly old new (Holds sectors n stored)
-      → LeavesOnly old new (EventLeaves sectors n stored (Some p) step answer)
-  step_leaves answer leaves = weaken old new (Holds sectors n stored) (EventLeaves sectors n stored (Some p) step answer) leaves (λ image is. inl is)
+  pub step_leaves : (outcome : Result ℕ ServiceFault) → LeavesOnly old new (Holds sectors n stored)
+      → LeavesOnly old new (EventLeaves sectors n stored (Some p) (step outcome))
+  step_leaves outcome leaves = weaken old new (Holds sectors n stored) (EventLeaves sectors n stored (Some p) (step outcome)) leaves (λ image is. inl is)
 
   may_install : (r : Result ℕ ServiceFault) → IfOk r (λ told. told ≡ 0) → IfErr r (λ fault. fault ≡ Device)
-      → (left_answer r ≡ left 0) ⊎ (left_answer r ≡ refused Device)
-  may_install (Ok told) is fault = inl (ap left is)
-  may_install (Err fault) is device = inr (ap refused device)
+      → (r ≡ Ok 0) ⊎ (r ≡ Err Device)
+  may_install (Ok told) is fault = inl (ap (λ (m : ℕ). Ok m) is)
+  may_install (Err fault) is device = inr (ap (λ (f : ServiceFault). Err f) device)
 
   -- One that installs it leaves that, or what it installs.
   pub last_step_leaves : (between : History) (there : ℕ) (r : Result ℕ ServiceFault) → there ≡ sectors → IfOk r (λ told. told ≡ 0)
       → IfErr r (λ fault. fault ≡ Device) → left_of p ≤ STEP_SECTORS + 1 → LeavesOnly old between (Holds sectors n stored)
       → LeavesOnly between new (λ image. Holds there n stored image ⊎ Holds there n (installed n stored (Some p)) image)
-      → LeavesOnly old new (EventLeaves sectors n stored (Some p) step (left_answer r))
+      → LeavesOnly old new (EventLeaves sectors n stored (Some p) (step r))
   last_step_leaves between there r same told fault last first second =
-      then_leaves old between new (EventLeaves sectors n stored (Some p) step (left_answer r))
-      (weaken old between (Holds sectors n stored) (EventLeaves sectors n stored (Some p) step (left_answer r)) first (λ image is. inl is))
+      then_leaves old between new (EventLeaves sectors n stored (Some p) (step r))
+      (weaken old between (Holds sectors n stored) (EventLeaves sectors n stored (Some p) (step r)) first (λ image is. inl is))
       (weaken between new (λ image. Holds sectors n stored image ⊎ Holds sectors n (installed n stored (Some p)) image)
-      (EventLeaves sectors n stored (Some p) step (left_answer r))
+      (EventLeaves sectors n stored (Some p) (step r))
       (subst (λ (k : ℕ). LeavesOnly between new (λ image. Holds k n stored image ⊎ Holds k n (installed n stored (Some p)) image)) same second)
       (λ image. ⊎_elim (λ (is : Holds sectors n stored image). inl is)
       (λ (is : Holds sectors n (installed n stored (Some p)) image). inr ((last, may_install r told fault), is))))
@@ -293,14 +294,14 @@ module _ (sectors n : ℕ) (stored : Stored) (p : PublicationView) (old new : Hi
 module _ {D : Type 0} (n : ℕ) (stored : Stored) (p : PublicationView) (sectors : ℕ) (h : History) (after : ServiceView D) where
   -- what goes on after a step
   pub up_after_step : (told : ℕ) → 0 < told → IsUp sectors h stored after
-      → IsUp sectors h (stored_after n stored (Some p) step (left told)) after
+      → IsUp sectors h (stored_after n stored (Some p) (step (Ok told))) after
   up_after_step zero pos up = absurd (omega (arith, pos))
   up_after_step (suc told) pos up = up
 
   pub up_after_last : (r : Result ℕ ServiceFault) → IfOk r (λ told. told ≡ 0) → OnOk r (IsUp sectors h (installed n stored (Some p)) after)
-      → OnOk r (IsUp sectors h (stored_after n stored (Some p) step (left_answer r)) after)
+      → OnOk r (IsUp sectors h (stored_after n stored (Some p) (step r)) after)
   up_after_last (Ok told) is up =
-      subst (λ (t : ℕ). IsUp sectors h (stored_after n stored (Some p) step (left t)) after) (sym is) up
+      subst (λ (t : ℕ). IsUp sectors h (stored_after n stored (Some p) (step (Ok t))) after) (sym is) up
   up_after_last (Err fault) is up = tt
 
 module _ {D : Type 0} (known : Known) (service : ServiceView D) (p : PublicationView) (unbroken : service.broken ≡ false) where
@@ -312,8 +313,8 @@ module _ {D : Type 0} (known : Known) (service : ServiceView D) (p : Publication
 
   -- What the machine says of a step with more to write,
   pub step_told : (to told : ℕ) (disk : D) → STEP_SECTORS + 1 < left_of p → told ≡ left_of p - STEP_SECTORS → to ≡ p.written + STEP_SECTORS
-      → Steps (state_of known was) step (left told)
-      (state_of (known_after known was step (left told)) (with_publication (record service { disk = disk }) (record p { written = to })))
+      → AnswersStep (state_of known was) (Ok told)
+      (state_of (known_after known was (step (Ok told))) (with_publication (record service { disk = disk }) (record p { written = to })))
   step_told to zero disk more told_is to_is = absurd (omega (arith, more, told_is))
   step_told to (suc told) disk more told_is to_is = (
     under_way,
@@ -335,12 +336,13 @@ module _ {D : Type 0} (known : Known) (service : ServiceView D) (p : Publication
       → OnErr r (after ≡ record service { disk = disk; broken = true })
       → OnOk r (state_of (known_installed known (Some (record p { written = to }))) after
       ≡ after_install (state_of known (with_publication service (record p { written = to }))) (going_of known.publishing (record p { written = to })))
-      → Steps (state_of known was) step (left_answer r) (state_of (known_after known was step (left_answer r)) after)
+      → AnswersStep (state_of known was) r (state_of (known_after known was (step r)) after)
   last_step_told to (Ok told) disk after none is fault last broken installs =
-      subst (λ (t : ℕ). Steps (state_of known was) step (left t) (state_of (known_after known was step (left t)) after)) (sym is)
+      subst (λ (t : ℕ). AnswersStep (state_of known was) (Ok t) (state_of (known_after known was (step (Ok t))) after)) (sym is)
       (under_way, inr (last, refl, installs))
   last_step_told to (Err fault) disk after none is device last broken installs =
-      subst (λ (f : ServiceFault). Steps (state_of known was) step (refused f) (state_of known after)) (sym device) (
+      subst (λ (f : ServiceFault). AnswersStep (state_of known was) (Err f) (state_of known after)) (sym device) (
+        unbroken,
         under_way,
         ap (state_of known) broken ∙ (λ i. record (state_of known service) {
           publication = option_map (going_of known.publishing) (none i);

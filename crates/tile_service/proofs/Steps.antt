@@ -15,8 +15,8 @@ use Rattle.edit_journal.specs.Records.{IsEditLength, parts_of}
 use Rattle.edit_journal.specs.declared.sizes.TheConstants.{PART_BYTES}
 use Rattle.feature_model.specs.Data.{FeatureData, put, delete}
 use Rattle.feature_model.specs.Limits.{NumberFits, IsAllowed}
-use Rattle.feature_model.specs.Spelled.{eight_bytes, spelled}
-use Rattle.feature_model.specs.Types.{IsEdit}
+use Rattle.feature_model.specs.Spelled.{eight_bytes, spelled_change}
+use Rattle.feature_model.specs.Types.{IsChange}
 use Rattle.feature_store.specs.Store.{FeatureMap, IsMap, feature_at, with_feature, without_feature, snapshot}
 use Rattle.feature_store.specs.declared.limit.TheConstants.{TEXTS_END}
 use Rattle.feature_store.proofs.Laws.{snapshot_after_put, snapshot_after_delete}
@@ -26,11 +26,11 @@ use Rattle.feature_store.proofs.Laws.{snapshot_after_put, snapshot_after_delete}
 at_other : (id other : ℕ) → (id ≡ other → ⊥) → is_at (nat_cmp id) other ≡ false
 at_other id other apart = grind (arith, nat_tests)
 
-looked_up : (m : FeatureMap) (id : ℕ) → All (λ e. IsEdit (put e.0 e.1)) m → IsSome (lookup (is_at (nat_cmp id)) m) → NumberFits id
+looked_up : (m : FeatureMap) (id : ℕ) → All (λ e. IsChange (put e.0 e.1)) m → IsSome (lookup (is_at (nat_cmp id)) m) → NumberFits id
 looked_up [] id edits is = absurd (false≢true is)
 looked_up (e ∷ m) id edits is = ⊎_elim
-    (λ (same : id ≡ e.0). subst NumberFits (sym same) (All-head (λ e. IsEdit (put e.0 e.1)) e m edits).0.number)
-    (λ (apart : id ≡ e.0 → ⊥). looked_up m id (All-tail (λ e. IsEdit (put e.0 e.1)) e m edits)
+    (λ (same : id ≡ e.0). subst NumberFits (sym same) (All-head (λ e. IsChange (put e.0 e.1)) e m edits).0.number)
+    (λ (apart : id ≡ e.0 → ⊥). looked_up m id (All-tail (λ e. IsChange (put e.0 e.1)) e m edits)
     (subst (λ (b : Bool). IsSome (cond b (Some e.1) (lookup (is_at (nat_cmp id)) m))) (at_other id e.0 apart) is))
     (cases_eq id e.0)
 
@@ -41,15 +41,15 @@ number_there m id is_map is = looked_up m id is_map.edits is
 
 -- ---- lengths
 
-some_byte : (id : ℕ) (f : FeatureData) → 1 ≤ length (spelled (put id f))
-unfolding spelled
+some_byte : (id : ℕ) (f : FeatureData) → 1 ≤ length (spelled_change (put id f))
+unfolding spelled_change
 some_byte id f = omega arith
 
-pub put_length : (id : ℕ) (f : FeatureData) → IsAllowed id f → IsEditLength (length (spelled (put id f)))
+pub put_length : (id : ℕ) (f : FeatureData) → IsAllowed id f → IsEditLength (length (spelled_change (put id f)))
 put_length id f is = (some_byte id f, is.text)
 
-pub delete_length : (id : ℕ) → IsEditLength (length (spelled (delete id)))
-unfolding spelled eight_bytes
+pub delete_length : (id : ℕ) → IsEditLength (length (spelled_change (delete id)))
+unfolding spelled_change eight_bytes
 delete_length id = (omega arith, omega arith)
 
 -- the parts of a text have room for it
@@ -58,9 +58,9 @@ parts_hold bytes = omega arith
 
 -- After an edit a map's texts take the bytes of an area and of the places in use, if they did before it.
 pub short_after_put : (m : FeatureMap) (id : ℕ) (f : FeatureData) (area used : ℕ) → length (snapshot m) ≤ area + PART_BYTES * used
-    → length (snapshot (with_feature m id f)) ≤ area + PART_BYTES * (used + parts_of (length (spelled (put id f))))
+    → length (snapshot (with_feature m id f)) ≤ area + PART_BYTES * (used + parts_of (length (spelled_change (put id f))))
 short_after_put m id f area used short =
-    omega (arith, short, snapshot_after_put m id f, parts_hold (length (spelled (put id f))))
+    omega (arith, short, snapshot_after_put m id f, parts_hold (length (spelled_change (put id f))))
 
 pub short_after_delete : (m : FeatureMap) (id area used more : ℕ) → length (snapshot m) ≤ area + PART_BYTES * used
     → length (snapshot (without_feature m id)) ≤ area + PART_BYTES * (used + more)

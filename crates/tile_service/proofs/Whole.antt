@@ -1,16 +1,17 @@
 -- A publication from its beginning to its end, step by step.
-use Rattle.std.proofs.Common.{◌≡◌, ◌⊎◌, inl, inr, ⊎_elim, ℕ, zero, suc, ◌<◌, ◌+◌, ◌-◌, Bool, true, false}
-use Rattle.std.proofs.Common.{List, [], ◌∷◌, ◌++◌, replicate, Option, Some, None, refl, sym, ◌∙◌, ap, subst, arith}
+use Rattle.std.proofs.Common.{◌≡◌, ◌⊎◌, inl, inr, ⊎_elim, ℕ, zero, suc, ◌<◌, ◌-◌, Bool, true, false}
+use Rattle.std.proofs.Common.{List, [], ◌∷◌, ◌++◌, Option, Some, None, Result, Err, refl, sym, ◌∙◌, ap, subst, arith}
 use Rattle.std.specs.Prelude.{option_map}
 use Rattle.std.proofs.lemmas.Bool.{false≢true}
-use Rattle.std.proofs.lemmas.List.{replicate_more}
+use Rattle.std.proofs.lemmas.List.{map-append}
 use Rattle.generations.specs.Areas.{journal_sectors}
 use Rattle.feature_store.specs.Store.{FeatureMap}
-use Rattle.tile_service.specs.Machine.{Publication, ServiceState, EventData, begin, step, Begins, GoesOn, HasPublication, RefusesBegin, RefusesStep}
+use Rattle.tile_service.specs.Machine.{Publication, ServiceState, Happening, begin, step, Begins, GoesOn, HasPublication, AnswersBegin, AnswersStep}
+use Rattle.tile_service.specs.Runs.{begin_and_steps}
 use Rattle.tile_service.specs.Service.{PublicationView, ServiceView, Known, state_of, going_of, CountsDevice}
 use Rattle.tile_service.specs.declared.fault.ServiceFault.{ServiceFault}
-use Rattle.tile_service.specs.declared.fault.ServiceFault.TheVariants.{Broken, Busy, Idle, Limit, NotFound, NumbersSpent, Memory}
-use Rattle.tile_service.specs.declared.fault.ServiceFault.TheVariants.{TooManyTiles, AreaFull, JournalFull, Device}
+use Rattle.tile_service.specs.declared.fault.ServiceFault.TheVariants.{Broken, Busy, Idle, NumbersSpent, Memory}
+use Rattle.tile_service.specs.declared.fault.ServiceFault.TheVariants.{TooManyTiles, AreaFull, Device}
 
 -- ---- how much is left
 
@@ -34,7 +35,7 @@ pub begun_stands : (old new : ServiceState) (told : ℕ) → Begins old told new
 begun_stands old new zero goes = absurd (omega (arith, goes.told_is))
 begun_stands old new (suc more) goes = (
   record {
-    unbroken = ap (λ (s : ServiceState). s.broken) goes.begun ∙ goes.can.unbroken;
+    unbroken = ap (λ (s : ServiceState). s.broken) goes.begun ∙ goes.unbroken;
     publication = record {
       archive = record { bytes = goes.archive; features = old.features };
       last = old.last;
@@ -74,44 +75,33 @@ clash : (b : Bool) → b ≡ false → b ≡ true → ⊥
 clash b not is = false≢true (sym not ∙ is)
 
 -- a step of one that is under way fails for the disk alone
-pub only_device : (old new : ServiceState) (rest : ℕ) (fault : ServiceFault) → 0 < rest → Stands old rest → RefusesStep old fault new → fault ≡ Device
+pub only_device : (old new : ServiceState) (rest : ℕ) (fault : ServiceFault) → 0 < rest → Stands old rest → AnswersStep old (Err fault) new → fault ≡ Device
 only_device old new zero fault lt stands goes = absurd (omega (arith, lt))
 only_device old new (suc more) Broken lt stands goes = absurd (clash old.broken stands.0.unbroken goes.0)
-only_device old new (suc more) Busy lt stands goes = absurd goes
 only_device old new (suc more) Idle lt stands goes = absurd (not_both old.publication stands.0.publication goes.1 stands.0.is)
-only_device old new (suc more) (Limit limit) lt stands goes = absurd goes
-only_device old new (suc more) NotFound lt stands goes = absurd goes
-only_device old new (suc more) NumbersSpent lt stands goes = absurd goes
-only_device old new (suc more) Memory lt stands goes = absurd goes
-only_device old new (suc more) TooManyTiles lt stands goes = absurd goes
-only_device old new (suc more) (AreaFull need free) lt stands goes = absurd goes
-only_device old new (suc more) (JournalFull need free) lt stands goes = absurd goes
 only_device old new (suc more) Device lt stands goes = refl
+only_device old new (suc more) fault lt stands goes = absurd goes.1
 
 -- and then it is given up
-pub device_gives_up : (old new : ServiceState) (fault : ServiceFault) → fault ≡ Device → RefusesStep old fault new → new.publication ≡ None
+pub device_gives_up : (old new : ServiceState) (fault : ServiceFault) → fault ≡ Device → AnswersStep old (Err fault) new → new.publication ≡ None
 device_gives_up old new fault is goes =
-    ap (λ (s : ServiceState). s.publication) (subst (λ (x : ServiceFault). RefusesStep old x new) is goes).1
+    ap (λ (s : ServiceState). s.publication) (subst (λ (x : ServiceFault). AnswersStep old (Err x) new) is goes).2
 
 -- where none begins, there was one, or none is under way, or the service was broken
-pub begin_gives_up : (old new : ServiceState) (fault : ServiceFault) → RefusesBegin old fault new
+pub begin_gives_up : (old new : ServiceState) (fault : ServiceFault) → AnswersBegin old (Err fault) new
     → (fault ≡ Broken) ⊎ (fault ≡ Busy) ⊎ (old.publication ≡ None)
 begin_gives_up old new Broken goes = inl refl
 begin_gives_up old new Busy goes = inr (inl refl)
-begin_gives_up old new Idle goes = absurd goes
-begin_gives_up old new (Limit limit) goes = absurd goes
-begin_gives_up old new NotFound goes = absurd goes
-begin_gives_up old new NumbersSpent goes = inr (inr goes.1)
-begin_gives_up old new Memory goes = inr (inr goes.0.none)
-begin_gives_up old new TooManyTiles goes = inr (inr goes.0.none)
-begin_gives_up old new (AreaFull need free) goes = inr (inr goes.0.none)
-begin_gives_up old new (JournalFull need free) goes = absurd goes
-begin_gives_up old new Device goes = absurd goes
+begin_gives_up old new NumbersSpent goes = inr (inr goes.1.0)
+begin_gives_up old new Memory goes = inr (inr goes.1.none)
+begin_gives_up old new TooManyTiles goes = inr (inr goes.1.0.none)
+begin_gives_up old new (AreaFull need free) goes = inr (inr goes.1.0.none)
+begin_gives_up old new fault goes = absurd goes.1
 
 -- a beginning counts no fault of the disk
-pub begin_counts : (old new : ServiceState) (fault : ServiceFault) (before after : ℕ) → RefusesBegin old fault new → after ≡ before
+pub begin_counts : (old new : ServiceState) (fault : ServiceFault) (before after : ℕ) → AnswersBegin old (Err fault) new → after ≡ before
     → CountsDevice fault before after
-begin_counts old new fault before after goes same = inr ((λ device. subst (λ (x : ServiceFault). RefusesBegin old x new) device goes), same)
+begin_counts old new fault before after goes same = inr ((λ device. (subst (λ (x : ServiceFault). AnswersBegin old (Err x) new) device goes).1), same)
 
 -- the view has none where the machine has none
 pub none_seen : (m : FeatureMap) (publication : Option PublicationView) → option_map (going_of m) publication ≡ None → publication ≡ None
@@ -119,7 +109,7 @@ none_seen m None is = refl
 none_seen m (Some p) is = absurd (not_both (Some (going_of m p)) (going_of m p) is refl)
 
 pub begin_given_up : {D : Type 0} (known known' : Known) (old new : ServiceView D) (fault : ServiceFault)
-    → RefusesBegin (state_of known old) fault (state_of known' new) → new ≡ old → (fault ≡ Broken) ⊎ (fault ≡ Busy) ⊎ (new.publication ≡ None)
+    → AnswersBegin (state_of known old) (Err fault) (state_of known' new) → new ≡ old → (fault ≡ Broken) ⊎ (fault ≡ Busy) ⊎ (new.publication ≡ None)
 begin_given_up {D} known known' old new fault goes same = ⊎_elim
     (λ (broken : fault ≡ Broken). inl broken)
     (λ (rest : (fault ≡ Busy) ⊎ ((state_of known old).publication ≡ None)). ⊎_elim
@@ -130,5 +120,11 @@ begin_given_up {D} known known' old new fault goes same = ⊎_elim
     (begin_gives_up (state_of known old) (state_of known' new) fault goes)
 
 -- one step more
-pub steps_more : (P : List EventData → Type 0) (steps : ℕ) → P ((begin ∷ replicate steps step) ++ step ∷ []) → P (begin ∷ replicate (steps + 1) step)
-steps_more P steps holds = subst (λ (l : List EventData). P (begin ∷ l)) (replicate_more steps step) holds
+steps_on : (before : List (Result ℕ ServiceFault)) (last next : Result ℕ ServiceFault)
+    → begin_and_steps ((before ++ last ∷ []) ++ next ∷ []) ≡ begin_and_steps (before ++ last ∷ []) ++ step next ∷ []
+steps_on [] last next = refl
+steps_on (first ∷ before) last next = ap (λ (l : List Happening). begin first ∷ l) (map-append step (before ++ last ∷ []) (next ∷ []))
+
+pub steps_more : (P : List Happening → Type 0) (before : List (Result ℕ ServiceFault)) (last next : Result ℕ ServiceFault)
+    → P (begin_and_steps (before ++ last ∷ []) ++ step next ∷ []) → P (begin_and_steps ((before ++ last ∷ []) ++ next ∷ []))
+steps_more P before last next holds = subst P (sym (steps_on before last next)) holds

@@ -1,3 +1,4 @@
+pub mod After
 pub mod Events
 pub mod Limits
 pub mod Machine

@@ -1,9 +1,10 @@
--- The service as a machine: its state, the events, their answers, and the state after each.
+-- The service as a machine: its state, what happens to it, and the state after that.
 use Rattle.std.specs.Prelude.{◌≡◌, ◌⊎◌, ◌<◌, ◌≤◌, ◌+◌, ◌-◌, ◌^◌, ℕ, Bool, true, false, List, [], ◌∷◌, length, Option, Some, None, IsSome}
+use Rattle.std.specs.Prelude.{Result, Ok, Err}
 use Rattle.generations.specs.Areas.{journal_sectors, area_sectors, sectors_of}
 use Rattle.edit_journal.specs.Records.{parts_of}
-use Rattle.feature_model.specs.Data.{FeatureData, EditData, put, delete}
-use Rattle.feature_model.specs.Spelled.{spelled}
+use Rattle.feature_model.specs.Data.{FeatureData, ChangeData, put, delete}
+use Rattle.feature_model.specs.Spelled.{spelled_change}
 use Rattle.feature_store.specs.Layers.{layers}
 use Rattle.feature_store.specs.Store.{FeatureMap, feature_at, changed, snapshot}
 use Rattle.map_metadata.specs.Metadata.{IsMetadata}
@@ -52,77 +53,82 @@ pub record ServiceState : Type 0 where
   -- a write or a sync of the disk has failed
   pub broken : Bool
 
--- ---- events and answers
+-- ---- what happens
 
-pub data EventData : Type 0 where
-  edit : EditData → EventData
-  -- the tile of a zoom, a column and a row
-  tile : ℕ → ℕ → ℕ → EventData
+-- what is told, or that there is no memory for it
+pub data OrMemory (A : Type 0) : Type 0 where
+  got : A → OrMemory A
+  no_memory : OrMemory A
+
+-- a call, and how it ended
+pub data Happening : Type 0 where
+  -- an edit, and its number
+  edit : ChangeData → Result ℕ ServiceFault → Happening
+  -- a publication begins, and so much of it is left
+  begin : Result ℕ ServiceFault → Happening
+  -- its next sectors are written, and so much of it is left, 0 once it is installed
+  step : Result ℕ ServiceFault → Happening
+  -- it is given up
+  cancel : Result (Unit {0}) ServiceFault → Happening
+  -- the tile of a zoom, a column and a row: its bytes, or none where it shows nothing
+  tile : ℕ → ℕ → ℕ → OrMemory (Option (List ℕ)) → Happening
   -- the feature of a number
-  look : ℕ → EventData
-  -- a publication is to begin
-  begin : EventData
-  -- the next sectors of it are to be written
-  step : EventData
-  -- it is to be given up
-  cancel : EventData
+  look : ℕ → OrMemory (Option FeatureData) → Happening
+  -- the metadata of the map
+  metadata : OrMemory Data → Happening
+  -- the bytes of the archive from an offset on, or none where the disk failed
+  read : ℕ → Option (List ℕ) → Happening
 
-pub data AnswerData : Type 0 where
-  -- the number of an edit that was made
-  edited : ℕ → AnswerData
-  -- the bytes of a tile, or none where it shows nothing
-  shown : Option (List ℕ) → AnswerData
-  found : Option FeatureData → AnswerData
-  -- how much of the publication is left, 0 once it is installed
-  left : ℕ → AnswerData
-  cancelled : AnswerData
-  refused : ServiceFault → AnswerData
+-- ---- what is refused
+
+-- the state after a fault: one of the disk breaks the service and ends its publication, any other leaves the state
+abbrev pub after_fault : ServiceState → ServiceFault → ServiceState
+after_fault s Device = record s { broken = true; publication = None }
+after_fault s fault = s
+
+-- A broken service refuses whatever would write for that, and another one for a fault that is there.
+abbrev pub Refuses : (is_there : Type 0) → ServiceState → ServiceFault → ServiceState → Type 0
+Refuses is_there old Broken new = (old.broken ≡ true) × (new ≡ old)
+Refuses is_there old fault new = (old.broken ≡ false) × is_there × (new ≡ after_fault old fault)
 
 -- ---- edits
 
 -- a feature is within the limits, and one that is to go is there
-abbrev pub IsWanted : FeatureMap → EditData → Type 0
+abbrev pub IsWanted : FeatureMap → ChangeData → Type 0
 IsWanted m (put id f) = KeepsLimits id f
 IsWanted m (delete id) = IsSome (feature_at m id)
 
 -- how many places the record of an edit needs
-abbrev pub places_for : EditData → ℕ
-places_for e = parts_of (length (spelled e))
+abbrev pub places_for : ChangeData → ℕ
+places_for e = parts_of (length (spelled_change e))
 
 -- nothing but the journal's room speaks against the edit
-pub record CanMake (s : ServiceState) (e : EditData) : Type 0 where
-  pub unbroken : s.broken ≡ false
+pub record CanMake (s : ServiceState) (e : ChangeData) : Type 0 where
   pub wanted : IsWanted s.features e
   pub number : s.last < 2 ^ 64 - 1
 
 -- the state after an edit
-abbrev pub after_edit : ServiceState → EditData → ServiceState
+abbrev pub after_edit : ServiceState → ChangeData → ServiceState
 after_edit s e = record s { features = changed s.features e; last = s.last + 1; free = s.free - places_for e }
 
 -- the edit is made, and its number told
-pub record MakesEdit (old : ServiceState) (e : EditData) (number : ℕ) (new : ServiceState) : Type 0 where
+pub record MakesEdit (old : ServiceState) (e : ChangeData) (number : ℕ) (new : ServiceState) : Type 0 where
+  pub unbroken : old.broken ≡ false
   pub can : CanMake old e
   pub room : places_for e ≤ old.free
   pub told : number ≡ old.last + 1
   pub made : new ≡ after_edit old e
 
--- Why an edit is refused, in the order of the faults: of several the first is told. Out of memory is told only of one that sets a
--- feature, and only where no fault before it is there. A fault of the disk breaks the service, any other leaves the state.
-abbrev pub RefusesEdit : ServiceState → EditData → ServiceFault → ServiceState → Type 0
-RefusesEdit old e Broken new = (old.broken ≡ true) × (new ≡ old)
-RefusesEdit old e Busy new = ⊥
-RefusesEdit old e Idle new = ⊥
-RefusesEdit old (put id f) (Limit fault) new = (old.broken ≡ false) × BreaksLimit id f fault × (new ≡ old)
-RefusesEdit old (delete id) (Limit fault) new = ⊥
-RefusesEdit old (put id f) NotFound new = ⊥
-RefusesEdit old (delete id) NotFound new = (old.broken ≡ false) × (feature_at old.features id ≡ None) × (new ≡ old)
-RefusesEdit old e NumbersSpent new = (old.broken ≡ false) × IsWanted old.features e × (old.last ≡ 2 ^ 64 - 1) × (new ≡ old)
-RefusesEdit old (put id f) Memory new = CanMake old (put id f) × (new ≡ old)
-RefusesEdit old (delete id) Memory new = ⊥
-RefusesEdit old e TooManyTiles new = ⊥
-RefusesEdit old e (AreaFull need free) new = ⊥
-RefusesEdit old e (JournalFull need free) new = CanMake old e × (need ≡ places_for e) × (free ≡ old.free) × (free < need) × (new ≡ old)
-RefusesEdit old e Device new = CanMake old e × (places_for e ≤ old.free) × (new ≡ record old { broken = true; publication = None })
+-- What speaks against an edit, in the order of the faults: of several the first is told. Out of memory is told only of one that sets a
+-- feature, and only where no fault before it is there.
+abbrev pub EditFault : ServiceState → ServiceFault → ChangeData → Type 0
+EditFault s (Limit fault) (put id f) = BreaksLimit id f fault
+EditFault s NotFound (delete id) = feature_at s.features id ≡ None
+EditFault s NumbersSpent e = IsWanted s.features e × (s.last ≡ 2 ^ 64 - 1)
+EditFault s Memory (put id f) = CanMake s (put id f)
+EditFault s (JournalFull need free) e = CanMake s e × (need ≡ places_for e) × (free ≡ s.free) × (free < need)
+EditFault s Device e = CanMake s e × (places_for e ≤ s.free)
+EditFault s fault e = ⊥
 
 -- ---- publications
 
@@ -132,12 +138,12 @@ sectors_for m archive = sectors_of (length (snapshot m)) + sectors_of (length ar
 
 -- nothing but memory, the tiles and the room speaks against a publication
 pub record CanBegin (s : ServiceState) : Type 0 where
-  pub unbroken : s.broken ≡ false
   pub none : s.publication ≡ None
   pub generation : s.generation < 2 ^ 64 - 1
 
 -- A publication of the map begins, and what is left is told: its sectors, and one for the root.
 pub record Begins (old : ServiceState) (told : ℕ) (new : ServiceState) : Type 0 where
+  pub unbroken : old.broken ≡ false
   pub can : CanBegin old
   pub archive : List ℕ
   pub is_archive : IsArchiveOfMap old.features archive
@@ -156,19 +162,14 @@ pub record Begins (old : ServiceState) (told : ℕ) (new : ServiceState) : Type 
 abbrev pub IsAreaFull : ServiceState → (need free : ℕ) → Type 0
 IsAreaFull s need free = (d : Data) × IsMetadata s.features d × IsFull s.features (length (compact_text d)) (area_sectors s.size) need free
 
--- Why a publication doesn't begin, in the order of the faults, but for a tile of 2^32 bytes: it is AreaFull, before TooManyTiles.
-abbrev pub RefusesBegin : ServiceState → ServiceFault → ServiceState → Type 0
-RefusesBegin old Broken new = (old.broken ≡ true) × (new ≡ old)
-RefusesBegin old Busy new = (old.broken ≡ false) × IsSome old.publication × (new ≡ old)
-RefusesBegin old Idle new = ⊥
-RefusesBegin old (Limit fault) new = ⊥
-RefusesBegin old NotFound new = ⊥
-RefusesBegin old NumbersSpent new = (old.broken ≡ false) × (old.publication ≡ None) × (old.generation ≡ 2 ^ 64 - 1) × (new ≡ old)
-RefusesBegin old Memory new = CanBegin old × (new ≡ old)
-RefusesBegin old TooManyTiles new = CanBegin old × HasManyTiles old.features × (new ≡ old)
-RefusesBegin old (AreaFull need free) new = CanBegin old × IsAreaFull old need free × (new ≡ old)
-RefusesBegin old (JournalFull need free) new = ⊥
-RefusesBegin old Device new = ⊥
+-- What speaks against a beginning, in the order of the faults, but for a tile of 2^32 bytes: it is AreaFull, before TooManyTiles.
+abbrev pub BeginFault : ServiceState → ServiceFault → Type 0
+BeginFault s Busy = IsSome s.publication
+BeginFault s NumbersSpent = (s.publication ≡ None) × (s.generation ≡ 2 ^ 64 - 1)
+BeginFault s Memory = CanBegin s
+BeginFault s TooManyTiles = CanBegin s × HasManyTiles s.features
+BeginFault s (AreaFull need free) = CanBegin s × IsAreaFull s need free
+BeginFault s fault = ⊥
 
 -- the state after the installation of a publication
 abbrev pub after_install : ServiceState → Publication → ServiceState
@@ -186,92 +187,57 @@ pub record HasPublication (s : ServiceState) : Type 0 where
   pub publication : Publication
   pub is : s.publication ≡ Some publication
 
--- why a publication doesn't go on; a fault of the disk ends it
-abbrev pub RefusesStep : ServiceState → ServiceFault → ServiceState → Type 0
-RefusesStep old Broken new = (old.broken ≡ true) × (new ≡ old)
-RefusesStep old Busy new = ⊥
-RefusesStep old Idle new = (old.broken ≡ false) × (old.publication ≡ None) × (new ≡ old)
-RefusesStep old (Limit fault) new = ⊥
-RefusesStep old NotFound new = ⊥
-RefusesStep old NumbersSpent new = ⊥
-RefusesStep old Memory new = ⊥
-RefusesStep old TooManyTiles new = ⊥
-RefusesStep old (AreaFull need free) new = ⊥
-RefusesStep old (JournalFull need free) new = ⊥
-RefusesStep old Device new = HasPublication old × (new ≡ record old { broken = true; publication = None })
+-- what speaks against its end before it is done,
+abbrev pub CancelFault : ServiceState → ServiceFault → Type 0
+CancelFault s Idle = s.publication ≡ None
+CancelFault s fault = ⊥
 
--- why a publication isn't given up
-abbrev pub RefusesCancel : ServiceState → ServiceFault → ServiceState → Type 0
-RefusesCancel old Broken new = (old.broken ≡ true) × (new ≡ old)
-RefusesCancel old Busy new = ⊥
-RefusesCancel old Idle new = (old.broken ≡ false) × (old.publication ≡ None) × (new ≡ old)
-RefusesCancel old (Limit fault) new = ⊥
-RefusesCancel old NotFound new = ⊥
-RefusesCancel old NumbersSpent new = ⊥
-RefusesCancel old Memory new = ⊥
-RefusesCancel old TooManyTiles new = ⊥
-RefusesCancel old (AreaFull need free) new = ⊥
-RefusesCancel old (JournalFull need free) new = ⊥
-RefusesCancel old Device new = ⊥
+-- and against a step of it
+abbrev pub StepFault : ServiceState → ServiceFault → Type 0
+StepFault s Device = HasPublication s
+StepFault s fault = CancelFault s fault
 
--- the event asks for a tile
-abbrev pub IsTile : EventData → Type 0
-IsTile (edit e) = ⊥
-IsTile (tile z x y) = Unit {0}
-IsTile (look id) = ⊥
-IsTile begin = ⊥
-IsTile step = ⊥
-IsTile cancel = ⊥
+-- ---- the state after each
 
--- one of the events does
-abbrev pub AsksTile : List EventData → Type 0
-AsksTile [] = ⊥
-AsksTile (event ∷ events) = IsTile event ⊎ AsksTile events
+-- after an edit with this outcome
+abbrev pub AnswersEdit : ServiceState → ChangeData → Result ℕ ServiceFault → ServiceState → Type 0
+AnswersEdit old e (Ok number) new = MakesEdit old e number new
+AnswersEdit old e (Err fault) new = Refuses (EditFault old fault e) old fault new
 
--- ---- steps
+-- after a beginning of a publication,
+abbrev pub AnswersBegin : ServiceState → Result ℕ ServiceFault → ServiceState → Type 0
+AnswersBegin old (Ok left) new = Begins old left new
+AnswersBegin old (Err fault) new = Refuses (BeginFault old fault) old fault new
 
--- one event, its answer and the state after it
-abbrev pub Steps : ServiceState → EventData → AnswerData → ServiceState → Type 0
-Steps old (edit e) (edited number) new = MakesEdit old e number new
-Steps old (edit e) (shown content) new = ⊥
-Steps old (edit e) (found f) new = ⊥
-Steps old (edit e) (left told) new = ⊥
-Steps old (edit e) cancelled new = ⊥
-Steps old (edit e) (refused fault) new = RefusesEdit old e fault new
-Steps old (tile z x y) (edited number) new = ⊥
-Steps old (tile z x y) (shown content) new = IsTileContent (layers old.features z x y) content × (new ≡ old)
-Steps old (tile z x y) (found f) new = ⊥
-Steps old (tile z x y) (left told) new = ⊥
-Steps old (tile z x y) cancelled new = ⊥
-Steps old (tile z x y) (refused fault) new = (fault ≡ Memory) × (new ≡ old)
-Steps old (look id) (edited number) new = ⊥
-Steps old (look id) (shown content) new = ⊥
-Steps old (look id) (found f) new = (f ≡ feature_at old.features id) × (new ≡ old)
-Steps old (look id) (left told) new = ⊥
-Steps old (look id) cancelled new = ⊥
-Steps old (look id) (refused fault) new = (fault ≡ Memory) × (new ≡ old)
-Steps old begin (edited number) new = ⊥
-Steps old begin (shown content) new = ⊥
-Steps old begin (found f) new = ⊥
-Steps old begin (left told) new = Begins old told new
-Steps old begin cancelled new = ⊥
-Steps old begin (refused fault) new = RefusesBegin old fault new
-Steps old step (edited number) new = ⊥
-Steps old step (shown content) new = ⊥
-Steps old step (found f) new = ⊥
-Steps old step (left told) new = (under_way : HasPublication old) × GoesOn old under_way.publication told new
-Steps old step cancelled new = ⊥
-Steps old step (refused fault) new = RefusesStep old fault new
-Steps old cancel (edited number) new = ⊥
-Steps old cancel (shown content) new = ⊥
-Steps old cancel (found f) new = ⊥
-Steps old cancel (left told) new = ⊥
-Steps old cancel cancelled new = HasPublication old × (new ≡ record old { publication = None })
-Steps old cancel (refused fault) new = RefusesCancel old fault new
+-- a step
+abbrev pub AnswersStep : ServiceState → Result ℕ ServiceFault → ServiceState → Type 0
+AnswersStep old (Ok left) new = (under_way : HasPublication old) × GoesOn old under_way.publication left new
+AnswersStep old (Err fault) new = Refuses (StepFault old fault) old fault new
 
--- one answer to each event, from the first to the last
-abbrev pub Runs : ServiceState → List EventData → List AnswerData → ServiceState → Type 0
-Runs old [] [] new = new ≡ old
-Runs old [] (answer ∷ answers) new = ⊥
-Runs old (event ∷ events) [] new = ⊥
-Runs old (event ∷ events) (answer ∷ answers) new = (between : ServiceState) × Steps old event answer between × Runs between events answers new
+-- or its end before it is done
+abbrev pub AnswersCancel : ServiceState → Result (Unit {0}) ServiceFault → ServiceState → Type 0
+AnswersCancel old (Ok done) new = HasPublication old × (new ≡ record old { publication = None })
+AnswersCancel old (Err fault) new = Refuses (CancelFault old fault) old fault new
+
+-- what is told is this, if it is told
+abbrev pub IfTold : {A : Type 0} → OrMemory A → (A → Type 0) → Type 0
+IfTold (got a) Is = Is a
+IfTold no_memory Is = Unit {0}
+
+-- One happening, and the state after it. A tile may be read from the disk: its content is that of the map where the disk is trusted.
+-- What the bytes of the archive are is said of the disk, since the machine of a broken service doesn't know them.
+abbrev pub Happens : (trusted : Type 0) → ServiceState → Happening → ServiceState → Type 0
+Happens trusted old (edit e outcome) new = AnswersEdit old e outcome new
+Happens trusted old (begin outcome) new = AnswersBegin old outcome new
+Happens trusted old (step outcome) new = AnswersStep old outcome new
+Happens trusted old (cancel outcome) new = AnswersCancel old outcome new
+Happens trusted old (tile z x y outcome) new = IfTold outcome (λ content. trusted → IsTileContent (layers old.features z x y) content) × (new ≡ old)
+Happens trusted old (look id outcome) new = IfTold outcome (λ f. f ≡ feature_at old.features id) × (new ≡ old)
+Happens trusted old (metadata outcome) new = IfTold outcome (λ d. IsMetadata old.features d) × (new ≡ old)
+Happens trusted old (read at outcome) new = new ≡ old
+
+-- one after the other, from the first to the last
+abbrev pub Runs : (trusted : Type 0) → ServiceState → List Happening → ServiceState → Type 0
+Runs trusted old [] new = new ≡ old
+Runs trusted old (happening ∷ happenings) new =
+    (between : ServiceState) × Happens trusted old happening between × Runs trusted between happenings new

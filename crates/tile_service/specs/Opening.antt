@@ -15,8 +15,9 @@ use Rattle.edit_journal.specs.declared.fault.JournalFault.{JournalFault}
 use Rattle.edit_journal.specs.declared.fault.JournalFault.TheVariants as faults
 use Rattle.edit_journal.specs.declared.journal.Journal as journals
 use Rattle.edit_journal.specs.declared.sizes.TheConstants.{RECORD_VERSION}
-use Rattle.feature_model.specs.Data.{EditData}
-use Rattle.feature_store.specs.Store.{FeatureMap, IsMap, after, snapshot}
+use Rattle.feature_model.specs.Data.{ChangeData}
+use Rattle.feature_store.specs.Store.{FeatureMap, IsMap, snapshot}
+use Rattle.tile_service.specs.After.{after}
 use Rattle.tile_service.specs.Replayed.{AreTextsOf}
 use Rattle.tile_service.specs.Stored.{journal_ring}
 use Rattle.tile_service.specs.Tiles.{WereMaps}
@@ -37,7 +38,7 @@ pub record IsReplayed (n : ℕ) (root : Root) (image : Image) (journal : journal
   pub snapshot_map : FeatureMap
   pub has_snapshot : HasSnapshot n root snapshot_map image
   pub texts : List (List ℕ)
-  pub edits : List EditData
+  pub edits : List ChangeData
   pub are_texts : IsJournalOf n root texts image
   pub are_edits : AreTextsOf texts edits
   pub place_is : journal.place ≡ root.journal_at
@@ -64,7 +65,7 @@ IsContentFault n root image (Damaged Journal) =
     (m : FeatureMap) × HasSnapshot n root m image × ((texts : List (List ℕ)) → IsJournalOf n root texts image → ⊥)
 IsContentFault n root image (Damaged Text) =
     (m : FeatureMap) × HasSnapshot n root m image × (texts : List (List ℕ)) × IsJournalOf n root texts image
-    × ((edits : List EditData) → AreTextsOf texts edits → ⊥)
+    × ((edits : List ChangeData) → AreTextsOf texts edits → ⊥)
 IsContentFault n root image Device = ⊥
 IsContentFault n root image Memory = ⊥
 

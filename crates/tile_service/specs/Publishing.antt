@@ -5,7 +5,8 @@ use Rattle.sector_disk.specs.Disk.{Image, History, seen}
 use Rattle.sector_bytes.specs.Bytes.{sector_piece}
 use Rattle.generations.specs.Areas.{journal_sectors, area_sectors, area_start, sectors_of}
 use Rattle.edit_journal.specs.Ring.{places_of}
-use Rattle.feature_store.specs.Store.{FeatureMap, IsMap, after, snapshot}
+use Rattle.feature_store.specs.Store.{FeatureMap, IsMap, snapshot}
+use Rattle.tile_service.specs.After.{after}
 use Rattle.tile_service.specs.Stored.{Stored, HasBytes, texts_of}
 use Rattle.area_content.specs.Tiles.{IsArchiveOfMap}
 use Rattle.area_content.specs.Faults.{HasManyTiles, IsFull}

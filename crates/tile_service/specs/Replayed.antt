@@ -3,38 +3,38 @@ use Rattle.std.specs.Prelude.{◌≡◌, ◌⊎◌, ◌<◌, ◌+◌, ℕ, get_o
 use Rattle.std.proofs.Common.{Global}
 use Rattle.cached_map.specs.Cached.{CachedView}
 use Rattle.edit_text.specs.Decoding.{BeginsAsPut}
-use Rattle.feature_model.specs.Data.{EditData, put, delete}
-use Rattle.feature_model.specs.Spelled.{spelled}
-use Rattle.feature_model.specs.Types.{IsEdit}
-use Rattle.feature_store.specs.Store.{after}
+use Rattle.feature_model.specs.Data.{ChangeData, put, delete}
+use Rattle.feature_model.specs.Spelled.{spelled_change}
+use Rattle.feature_model.specs.Types.{IsChange}
+use Rattle.tile_service.specs.After.{after}
 use Rattle.generations.specs.declared.fault.StoreFault.{StoreFault}
 use Rattle.generations.specs.declared.fault.StoreFault.TheVariants.{Damaged, Memory}
 use Rattle.generations.specs.declared.fault.What.TheVariants.{Text}
 use Rattle.tile_service.specs.Tiles.{WereMaps}
 
 -- the bytes are the text of this edit
-pub record IsTextOf (text : List ℕ) (edit : EditData) : Type 0 where
-  pub is_edit : IsEdit edit
-  pub is_text : text ≡ spelled edit
+pub record IsTextOf (text : List ℕ) (edit : ChangeData) : Type 0 where
+  pub is_edit : IsChange edit
+  pub is_text : text ≡ spelled_change edit
 
 -- the edit sets a feature
-abbrev pub IsPut : EditData → Type 0
+abbrev pub IsPut : ChangeData → Type 0
 IsPut (put id f) = Unit {0}
 IsPut (delete id) = ⊥
 
 -- the edit can be made without memory where there is room for so many features
-abbrev pub HasRoomFor : ℕ → EditData → Type 0
+abbrev pub HasRoomFor : ℕ → ChangeData → Type 0
 HasRoomFor spare (put id f) = 0 < spare
 HasRoomFor spare (delete id) = Unit {0}
 
 -- the texts are those of these edits
-pub record AreTextsOf (texts : List (List ℕ)) (edits : List EditData) : Type 0 where
-  pub are_edits : All IsEdit edits
-  pub are_texts : texts ≡ map spelled edits
+pub record AreTextsOf (texts : List (List ℕ)) (edits : List ChangeData) : Type 0 where
+  pub are_edits : All IsChange edits
+  pub are_texts : texts ≡ map spelled_change edits
 
 -- The edits of texts were made in a map, from the first to the last, and the map after any first ones of them is known.
 pub record AreMade (texts : List (List ℕ)) (old new : CachedView) : Type 0 where
-  pub edits : List EditData
+  pub edits : List ChangeData
   pub are_texts : AreTextsOf texts edits
   pub map_is : new.features ≡ after old.features edits
   pub were : WereMaps new.features new.touched new.last old.last old.features edits
@@ -50,7 +50,7 @@ views_of texts = map (λ text. text.items) texts
 
 -- why the edit of a text isn't made: an allocation fails at what begins as a Put, or the text is no edit's
 abbrev pub IsTextFault : List ℕ → StoreFault → Type 0
-IsTextFault text fault = ((fault ≡ Memory) × BeginsAsPut text) ⊎ ((fault ≡ Damaged Text) × ((edit : EditData) → IsTextOf text edit → ⊥))
+IsTextFault text fault = ((fault ≡ Memory) × BeginsAsPut text) ⊎ ((fault ≡ Damaged Text) × ((edit : ChangeData) → IsTextOf text edit → ⊥))
 
 -- one of the texts begins as that of a Put
 abbrev pub HasPut : List (List ℕ) → Type 0
@@ -58,4 +58,4 @@ HasPut texts = (index : ℕ) × (index < length texts) × BeginsAsPut (get_or te
 
 -- why texts aren't replayed: an allocation fails at one that begins as a Put, or one of them is no edit's
 abbrev pub IsReplayFault : List (List ℕ) → StoreFault → Type 0
-IsReplayFault texts fault = ((fault ≡ Memory) × HasPut texts) ⊎ ((fault ≡ Damaged Text) × ((edits : List EditData) → AreTextsOf texts edits → ⊥))
+IsReplayFault texts fault = ((fault ≡ Memory) × HasPut texts) ⊎ ((fault ≡ Damaged Text) × ((edits : List ChangeData) → AreTextsOf texts edits → ⊥))

@@ -1,61 +1,54 @@
--- What a disk may hold during a run of events.
-use Rattle.std.specs.Prelude.{◌≡◌, ◌≢◌, ◌⊎◌, ◌<◌, ◌≤◌, ◌+◌, ◌-◌, ℕ, zero, suc, true, false, List, [], ◌∷◌, ◌++◌, length, take, drop, get_or}
-use Rattle.std.specs.Prelude.{Option, Some, None, option_map, Result, Ok, Err, replicate}
+-- What a disk may hold during a run of calls.
+use Rattle.std.specs.Prelude.{◌≡◌, ◌⊎◌, ◌<◌, ◌≤◌, ◌+◌, ◌-◌, ℕ, zero, suc, true, false, List, [], ◌∷◌, ◌++◌, length, take, drop, get_or}
+use Rattle.std.specs.Prelude.{map, Option, Some, None, option_map, Result, Ok, Err}
 use Rattle.sector_disk.specs.Disk.{History, Image, MayLeave, moment, LeftSince}
 use Rattle.sector_disk.specs.Moments.{Follows, LeavesOnly}
-use Rattle.feature_model.specs.Data.{EditData}
-use Rattle.feature_store.specs.Store.{after}
+use Rattle.feature_model.specs.Data.{ChangeData}
+use Rattle.tile_service.specs.After.{after}
 use Rattle.tile_service.specs.declared.fault.ServiceFault.{ServiceFault}
 use Rattle.tile_service.specs.declared.fault.ServiceFault.TheVariants.{Device}
 use Rattle.tile_service.specs.declared.publishing.TheConstants.{STEP_SECTORS}
 use Rattle.tile_service.specs.declared.publishing_whole.Published.{Published}
-use Rattle.tile_service.specs.Machine.{EventData, edit, tile, look, begin, step, cancel, AnswerData, edited, shown, found, left, cancelled, refused}
-use Rattle.tile_service.specs.Machine.{IsTile, AsksTile, Steps, Runs}
-use Rattle.tile_service.specs.Service.{PublicationView, ServiceView, Known, IsUp, state_of, known_after, left_of, EventLeaves, stored_after}
+use Rattle.tile_service.specs.Machine.{no_memory, Happening, edit, begin, step, cancel, tile, look, metadata, read, Happens, Runs}
+use Rattle.tile_service.specs.Service.{PublicationView, ServiceView, Known, IsUp, state_of, known_after, left_of, ShowsArchive, KeepsArchive, ReadsFrom, EventLeaves, stored_after}
 use Rattle.tile_service.specs.Stored.{Stored, Holds}
 
 -- ---- the edits of a run
 
--- an edit with this answer: one that was acknowledged, or none
-abbrev pub acknowledged_by : EditData → AnswerData → List EditData
-acknowledged_by e (edited number) = e ∷ []
-acknowledged_by e (shown content) = []
-acknowledged_by e (found f) = []
-acknowledged_by e (left told) = []
-acknowledged_by e cancelled = []
-acknowledged_by e (refused fault) = []
-
--- the edits of an event with this answer
-abbrev pub edits_by : EventData → AnswerData → List EditData
-edits_by (edit e) answer = acknowledged_by e answer
-edits_by (tile z x y) answer = []
-edits_by (look id) answer = []
-edits_by begin answer = []
-edits_by step answer = []
-edits_by cancel answer = []
+-- the edit that was acknowledged, or none
+abbrev pub edits_by : Happening → List ChangeData
+edits_by (edit e (Ok number)) = e ∷ []
+edits_by happening = []
 
 -- the acknowledged edits, in their order
-abbrev pub acknowledged : List EventData → List AnswerData → List EditData
-acknowledged [] answers = []
-acknowledged (event ∷ events) [] = []
-acknowledged (event ∷ events) (answer ∷ answers) = edits_by event answer ++ acknowledged events answers
+abbrev pub acknowledged : List Happening → List ChangeData
+acknowledged [] = []
+acknowledged (happening ∷ happenings) = edits_by happening ++ acknowledged happenings
 
--- the disk failed during this edit, so that it may stand there or not
-pub record IsInDoubt (events : List EventData) (answers : List AnswerData) (e : EditData) : Type 0 where
+-- the disk failed meanwhile, so that what was asked for may stand there or not
+abbrev pub IsDoubtful : Happening → Type 0
+IsDoubtful (edit e (Err Device)) = Unit {0}
+IsDoubtful (step (Err Device)) = Unit {0}
+IsDoubtful happening = ⊥
+
+-- the happening with this index
+abbrev pub happening_at : List Happening → ℕ → Happening
+happening_at happenings index = get_or happenings index (look 0 no_memory)
+
+-- the edit is in doubt
+pub record IsInDoubt (happenings : List Happening) (e : ChangeData) : Type 0 where
   pub index : ℕ
-  pub in_events : index < length events
-  pub in_answers : index < length answers
-  pub event_is : get_or events index (look 0) ≡ edit e
-  pub answer_is : get_or answers index cancelled ≡ refused Device
+  pub within : index < length happenings
+  pub is : happening_at happenings index ≡ edit e (Err Device)
 
 -- all edits there are: those stored before the run, and the acknowledged ones
-abbrev pub all_edits : Stored → List EventData → List AnswerData → List EditData
-all_edits start events answers = start.since ++ acknowledged events answers
+abbrev pub all_edits : Stored → List Happening → List ChangeData
+all_edits start happenings = start.since ++ acknowledged happenings
 
 -- the edits of the run: these, and perhaps one more that is in doubt
-abbrev pub AreEditsOf : Stored → List EventData → List AnswerData → List EditData → Type 0
-AreEditsOf start events answers edits = (edits ≡ all_edits start events answers)
-    ⊎ ((e : EditData) × IsInDoubt events answers e × (edits ≡ all_edits start events answers ++ e ∷ []))
+abbrev pub AreEditsOf : Stored → List Happening → List ChangeData → Type 0
+AreEditsOf start happenings edits = (edits ≡ all_edits start happenings)
+    ⊎ ((e : ChangeData) × IsInDoubt happenings e × (edits ≡ all_edits start happenings ++ e ∷ []))
 
 -- ---- the publications of a run
 
@@ -84,58 +77,39 @@ stepped p None told = p
 stepped p (Some way) zero = record p { published = way.edits; under_way = None }
 stepped p (Some way) (suc told) = record p { under_way = Some (record way { left = suc told }) }
 
--- after an event with this answer
-abbrev pub progress_after : Progress → EventData → AnswerData → Progress
-progress_after p (edit e) answer = record p { edits = p.edits + length (acknowledged_by e answer) }
-progress_after p (tile z x y) answer = p
-progress_after p (look id) answer = p
-progress_after p begin (edited number) = p
-progress_after p begin (shown content) = p
-progress_after p begin (found f) = p
-progress_after p begin (left told) = record p { under_way = Some (record { edits = p.edits; left = told }) }
-progress_after p begin cancelled = p
-progress_after p begin (refused fault) = p
-progress_after p step (edited number) = p
-progress_after p step (shown content) = p
-progress_after p step (found f) = p
-progress_after p step (left told) = stepped p p.under_way told
-progress_after p step cancelled = p
-progress_after p step (refused fault) = p
-progress_after p cancel (edited number) = p
-progress_after p cancel (shown content) = p
-progress_after p cancel (found f) = p
-progress_after p cancel (left told) = p
-progress_after p cancel cancelled = record p { under_way = None }
-progress_after p cancel (refused fault) = p
+-- after one happening
+abbrev pub progress_after : Progress → Happening → Progress
+progress_after p (edit e (Ok number)) = record p { edits = p.edits + 1 }
+progress_after p (begin (Ok left)) = record p { under_way = Some (record { edits = p.edits; left = left }) }
+progress_after p (step (Ok left)) = stepped p p.under_way left
+progress_after p (cancel (Ok done)) = record p { under_way = None }
+progress_after p happening = p
 
 -- after all of them
-abbrev pub progress_of : Progress → List EventData → List AnswerData → Progress
-progress_of p [] answers = p
-progress_of p (event ∷ events) [] = p
-progress_of p (event ∷ events) (answer ∷ answers) = progress_of (progress_after p event answer) events answers
+abbrev pub progress_of : Progress → List Happening → Progress
+progress_of p [] = p
+progress_of p (happening ∷ happenings) = progress_of (progress_after p happening) happenings
 
 -- The disk failed during this step, which could have been the last one, so that the publication of so many edits may stand there or not.
-pub record IsStepInDoubt (start : Progress) (events : List EventData) (answers : List AnswerData) (index edits : ℕ) : Type 0 where
-  pub in_events : index < length events
-  pub in_answers : index < length answers
-  pub event_is : get_or events index (look 0) ≡ step
-  pub answer_is : get_or answers index cancelled ≡ refused Device
+pub record IsStepInDoubt (start : Progress) (happenings : List Happening) (index edits : ℕ) : Type 0 where
+  pub within : index < length happenings
+  pub is : happening_at happenings index ≡ step (Err Device)
   pub way : Way
-  pub under_way : (progress_of start (take index events) (take index answers)).under_way ≡ Some way
+  pub under_way : (progress_of start (take index happenings)).under_way ≡ Some way
   pub last : way.left ≤ STEP_SECTORS + 1
   pub edits_are : edits ≡ way.edits
 
--- How many edits the snapshot may have from the time on at which the first k events had returned: those of the publication that was
+-- How many edits the snapshot may have from the time on at which the first k calls had returned: those of the publication that was
 -- installed last at some time since then, or those of one in doubt.
-abbrev pub IsPublished : Progress → List EventData → List AnswerData → (k j : ℕ) → Type 0
-IsPublished start events answers k j =
-    ((index : ℕ) × (k ≤ index) × (index ≤ length answers) × (j ≡ (progress_of start (take index events) (take index answers)).published))
-    ⊎ ((index : ℕ) × IsStepInDoubt start events answers index j)
+abbrev pub IsPublished : Progress → List Happening → (k j : ℕ) → Type 0
+IsPublished start happenings k j =
+    ((index : ℕ) × (k ≤ index) × (index ≤ length happenings) × (j ≡ (progress_of start (take index happenings)).published))
+    ⊎ ((index : ℕ) × IsStepInDoubt start happenings index j)
 
 -- ---- images
 
 -- what has the first i of the edits since a start: the first j of them in its snapshot, and the others behind it
-abbrev pub fitting : Stored → List EditData → (i j generation journal_at : ℕ) → (archive : List ℕ) → Stored
+abbrev pub fitting : Stored → List ChangeData → (i j generation journal_at : ℕ) → (archive : List ℕ) → Stored
 fitting start edits i j generation journal_at archive = record {
   generation = generation;
   snapshot_map = after start.snapshot_map (take j edits);
@@ -146,63 +120,71 @@ fitting start edits i j generation journal_at archive = record {
 }
 
 -- The image holds the first i of the edits, the first j of them in its snapshot.
-abbrev pub Fits : (sectors n : ℕ) → Stored → List EditData → (i j : ℕ) → Image → Type 0
+abbrev pub Fits : (sectors n : ℕ) → Stored → List ChangeData → (i j : ℕ) → Image → Type 0
 Fits sectors n start edits i j image =
     (generation : ℕ) × (journal_at : ℕ) × (archive : List ℕ) × Holds sectors n (fitting start edits i j generation journal_at archive) image
 
--- An image from the time on at which the first k events had returned: it has some first edits of the run, all that were acknowledged
+-- An image from the time on at which the first k calls had returned: it has some first edits of the run, all that were acknowledged
 -- by then among them, and in its snapshot those of a publication, of none before the last one that was installed by then.
-pub record ImageFits (sectors n : ℕ) (start : Stored) (way : Option Way) (events : List EventData) (answers : List AnswerData) (k : ℕ)
-    (image : Image) : Type 0 where
-  pub edits : List EditData
-  pub are_edits : AreEditsOf start events answers edits
+pub record ImageFits (sectors n : ℕ) (start : Stored) (way : Option Way) (happenings : List Happening) (k : ℕ) (image : Image) : Type 0 where
+  pub edits : List ChangeData
+  pub are_edits : AreEditsOf start happenings edits
   pub i : ℕ
   pub j : ℕ
   pub within : i ≤ length edits
   pub order : j ≤ i
-  pub acknowledged_then : length (all_edits start (take k events) (take k answers)) ≤ i
-  pub published : IsPublished (starts start way) events answers k j
+  pub acknowledged_then : length (all_edits start (take k happenings)) ≤ i
+  pub published : IsPublished (starts start way) happenings k j
   pub fits : Fits sectors n start edits i j image
 
--- No event was left in doubt.
-abbrev pub NoneInDoubt : List AnswerData → Type 0
-NoneInDoubt answers = (index : ℕ) → index < length answers → get_or answers index cancelled ≢ refused Device
+-- Nothing was left in doubt.
+abbrev pub NoneInDoubt : List Happening → Type 0
+NoneInDoubt happenings = (index : ℕ) → index < length happenings → ¬ IsDoubtful (happening_at happenings index)
 
--- how many edits the snapshot has after these events
-abbrev pub published_by : Stored → Option Way → List EventData → List AnswerData → ℕ
-published_by start way events answers = (progress_of (starts start way) events answers).published
+-- how many edits the snapshot has after these
+abbrev pub published_by : Stored → Option Way → List Happening → ℕ
+published_by start way happenings = (progress_of (starts start way) happenings).published
 
 -- What a run leaves of a disk, from one history to another.
-pub record RunFits (sectors n : ℕ) (start : Stored) (way : Option Way) (events : List EventData) (answers : List AnswerData)
-    (old new : History) : Type 0 where
-  -- the history when the first k events had returned
+pub record RunFits (sectors n : ℕ) (start : Stored) (way : Option Way) (happenings : List Happening) (old new : History) : Type 0 where
+  -- the history when the first k calls had returned
   pub by : ℕ → History
   pub begins : by 0 ≡ old
-  pub goes_on : (k : ℕ) → k < length answers → Follows (by k) (by (suc k))
-  pub ends : by (length answers) ≡ new
-  -- then a crash leaves all edits that were acknowledged by then, and the snapshot of the last publication, unless an event was in doubt
-  pub settled : (k : ℕ) → k ≤ length answers → NoneInDoubt (take k answers) → (image : Image) → MayLeave (by k) image
-      → Fits sectors n start (all_edits start (take k events) (take k answers)) (length (all_edits start (take k events) (take k answers)))
-      (published_by start way (take k events) (take k answers)) image
-  -- and at any moment between then and the time at which the first m events had returned, it leaves that and some of what was asked
+  pub goes_on : (k : ℕ) → k < length happenings → Follows (by k) (by (suc k))
+  pub ends : by (length happenings) ≡ new
+  -- then a crash leaves all edits that were acknowledged by then, and the snapshot of the last publication, unless something was in doubt
+  pub settled : (k : ℕ) → k ≤ length happenings → NoneInDoubt (take k happenings) → (image : Image) → MayLeave (by k) image
+      → Fits sectors n start (all_edits start (take k happenings)) (length (all_edits start (take k happenings)))
+      (published_by start way (take k happenings)) image
+  -- and at any moment between then and the time at which the first m calls had returned, it leaves that and some of what was asked
   -- for by then
-  pub fits : (k m : ℕ) → k ≤ m → m ≤ length answers → (image : Image) → LeftSince (by m) (moment (by k)) image
-      → ImageFits sectors n start way (take m events) (take m answers) k image
+  pub fits : (k m : ℕ) → k ≤ m → m ≤ length happenings → (image : Image) → LeftSince (by m) (moment (by k)) image
+      → ImageFits sectors n start way (take m happenings) k image
 
 -- what is stored after a run without doubt
-abbrev pub Reaches : Stored → Option Way → List EventData → List AnswerData → Stored → Type 0
-Reaches start way events answers s = (generation : ℕ) × (journal_at : ℕ) × (archive : List ℕ)
-    × (s ≡ fitting start (all_edits start events answers) (length (all_edits start events answers)) (published_by start way events answers)
+abbrev pub Reaches : Stored → Option Way → List Happening → Stored → Type 0
+Reaches start way happenings s = (generation : ℕ) × (journal_at : ℕ) × (archive : List ℕ)
+    × (s ≡ fitting start (all_edits start happenings) (length (all_edits start happenings)) (published_by start way happenings)
     generation journal_at archive)
 
 -- ---- what a service makes of a run
 
+-- bytes of the archive are asked for
+abbrev pub IsRead : Happening → Type 0
+IsRead (read at outcome) = Unit {0}
+IsRead happening = ⊥
+
+-- a beginning and then steps, with these outcomes
+abbrev pub begin_and_steps : List (Result ℕ ServiceFault) → List Happening
+begin_and_steps [] = []
+begin_and_steps (first ∷ outcomes) = begin first ∷ map step outcomes
+
 -- How a whole publication ends: with a step that installs it, and then the generation, the last edit before its beginning and the
 -- archive's length are told; or with a beginning or a step that is refused, and then the fault is told.
-abbrev pub EndsAs : {D : Type 0} → Result Published ServiceFault → (old new : ServiceView D) → (last : AnswerData) → Type 0
+abbrev pub EndsAs : {D : Type 0} → Result Published ServiceFault → (old new : ServiceView D) → (last : Result ℕ ServiceFault) → Type 0
 EndsAs (Ok p) old new last =
-    (last ≡ left 0) × (p.generation ≡ new.generation) × (p.edits ≡ old.journal.last) × (p.archive_len ≡ new.archive_len)
-EndsAs (Err fault) old new last = last ≡ refused fault
+    (last ≡ Ok 0) × (p.generation ≡ new.generation) × (p.edits ≡ old.journal.last) × (p.archive_len ≡ new.archive_len)
+EndsAs (Err fault) old new last = last ≡ Err fault
 
 module _ {D : Type 0} (sectors : D → ℕ) (honest : D → Type 0) (history : D → History) where
   -- The disk has kept to its history, and the service goes on from what is stored there: so much is asked for what a tile shows, which
@@ -210,47 +192,59 @@ module _ {D : Type 0} (sectors : D → ℕ) (honest : D → Type 0) (history : D
   abbrev pub IsTrusted : ServiceView D → ServiceView D → Type 0
   IsTrusted old new = old.broken ≡ false → honest new.disk × ((stored : Stored) × IsUp (sectors old.disk) (history old.disk) stored old)
 
-  -- The service answers one event, whatever call asks for it. A crash at any moment leaves what was stored, or what the event makes of
-  -- it; afterwards what it makes of it is stored, unless the disk failed.
-  pub record TakesEvent (old : ServiceView D) (event : EventData) (answer : AnswerData) (new : ServiceView D) : Type 0 where
-    pub machine : (known : Known) → (IsTile event → IsTrusted old new)
-        → Steps (state_of known old) event answer (state_of (known_after known old event answer) new)
+  -- The disk is read and not written, and the service is as before, whatever it keeps of the archive.
+  pub record OnlyReads (old new : ServiceView D) : Type 0 where
+    pub same : new ≡ record old { disk = new.disk; published = new.published }
+    pub unwritten : honest new.disk → history new.disk ≡ history old.disk
+
+  -- what changes at most where something is only shown
+  abbrev pub ChangesOnly : Happening → ServiceView D → ServiceView D → Type 0
+  ChangesOnly (tile z x y outcome) old new = OnlyReads old new
+  ChangesOnly (read at outcome) old new = OnlyReads old new
+  ChangesOnly (look id outcome) old new = new ≡ old
+  ChangesOnly (metadata outcome) old new = new ≡ old
+  ChangesOnly happening old new = Unit {0}
+
+  -- One happening, whatever call it is. A crash at any moment leaves what was stored, or what it makes of that; afterwards what it makes
+  -- of it is stored, unless the disk failed.
+  pub record Takes (old : ServiceView D) (happening : Happening) (new : ServiceView D) : Type 0 where
+    pub machine : (known : Known) → Happens (IsTrusted old new) (state_of known old) happening (state_of (known_after known old happening) new)
+    -- bytes of the archive are those that the disk has there, of a broken service too
+    pub archive : (archive : List ℕ) → ShowsArchive (history old.disk) old archive → honest new.disk → ReadsFrom archive happening
+    -- of that which it shows, until another one is installed
+    pub keeps_archive : (happening ≡ step (Ok 0) → ⊥) → KeepsArchive honest history old new
     -- after a fault of the disk it is broken
-    pub doubt : answer ≡ refused Device → new.broken ≡ true
+    pub doubt : IsDoubtful happening → new.broken ≡ true
     pub size : new.size ≡ old.size
     pub count : sectors new.disk ≡ sectors old.disk
     pub stays_honest : honest new.disk → honest old.disk
-    -- a broken service writes no more
-    pub untouched : old.broken ≡ true → new.disk ≡ old.disk
+    pub changes : ChangesOnly happening old new
+    -- a broken service writes no more, and reads the archive alone
+    pub untouched : old.broken ≡ true → ¬ IsRead happening → new.disk ≡ old.disk
     pub any_moment : (stored : Stored) → honest new.disk → IsUp (sectors old.disk) (history old.disk) stored old
-        → LeavesOnly (history old.disk) (history new.disk) (EventLeaves (sectors old.disk) old.size stored old.publication event answer)
-    pub after : (stored : Stored) → honest new.disk → IsUp (sectors old.disk) (history old.disk) stored old → answer ≢ refused Device
-        → IsUp (sectors new.disk) (history new.disk) (stored_after old.size stored old.publication event answer) new
+        → LeavesOnly (history old.disk) (history new.disk) (EventLeaves (sectors old.disk) old.size stored old.publication happening)
+    pub after : (stored : Stored) → honest new.disk → IsUp (sectors old.disk) (history old.disk) stored old → ¬ IsDoubtful happening
+        → IsUp (sectors new.disk) (history new.disk) (stored_after old.size stored old.publication happening) new
 
-  -- It answers these, from the first to the last.
-  abbrev pub TakesEvents : ServiceView D → List EventData → List AnswerData → ServiceView D → Type 0
-  TakesEvents old [] [] new = new ≡ old
-  TakesEvents old [] (answer ∷ answers) new = ⊥
-  TakesEvents old (event ∷ events) [] new = ⊥
-  TakesEvents old (event ∷ events) (answer ∷ answers) new =
-      (between : ServiceView D) × TakesEvent old event answer between × TakesEvents between events answers new
+  -- one after the other, from the first to the last
+  abbrev pub TakesAll : ServiceView D → List Happening → ServiceView D → Type 0
+  TakesAll old [] new = new ≡ old
+  TakesAll old (happening ∷ happenings) new = (between : ServiceView D) × Takes old happening between × TakesAll between happenings new
 
-  -- The service answers these events one after the other. A crash at any moment leaves some first edits of the run: all that were
-  -- acknowledged by then, and none asked for later. A service that isn't broken at the end goes on from what was acknowledged.
-  pub record TakesRun (old : ServiceView D) (events : List EventData) (answers : List AnswerData) (new : ServiceView D) : Type 0 where
-    pub machine : (known : Known) → (AsksTile events → IsTrusted old new)
-        → (then_known : Known) × Runs (state_of known old) events answers (state_of then_known new)
+  -- These happen one after the other. A crash at any moment leaves some first edits of the run: all that were acknowledged by then, and
+  -- none asked for later. A service that isn't broken at the end goes on from what was acknowledged.
+  pub record TakesRun (old : ServiceView D) (happenings : List Happening) (new : ServiceView D) : Type 0 where
+    pub machine : (known : Known) → (then_known : Known) × Runs (IsTrusted old new) (state_of known old) happenings (state_of then_known new)
     pub any_moment : (stored : Stored) → honest new.disk → IsUp (sectors old.disk) (history old.disk) stored old
-        → RunFits (sectors old.disk) old.size stored (way_of stored.edits old.publication) events answers (history old.disk) (history new.disk)
+        → RunFits (sectors old.disk) old.size stored (way_of stored.edits old.publication) happenings (history old.disk) (history new.disk)
     pub after : (stored : Stored) → honest new.disk → IsUp (sectors old.disk) (history old.disk) stored old → new.broken ≡ false
         → (reached : Stored) × IsUp (sectors new.disk) (history new.disk) reached new
-        × Reaches stored (way_of stored.edits old.publication) events answers reached
+        × Reaches stored (way_of stored.edits old.publication) happenings reached
 
-  -- The service begins a publication and goes on with it, until it is installed or an event is refused.
+  -- The service begins a publication and goes on with it, until it is installed or a call is refused.
   pub record TakesPublication (old : ServiceView D) (result : Result Published ServiceFault) (new : ServiceView D) : Type 0 where
-    pub steps : ℕ
-    pub before : List AnswerData
-    pub last : AnswerData
-    pub events : TakesEvents old (begin ∷ replicate steps step) (before ++ last ∷ []) new
-    pub run : TakesRun old (begin ∷ replicate steps step) (before ++ last ∷ []) new
+    pub before : List (Result ℕ ServiceFault)
+    pub last : Result ℕ ServiceFault
+    pub takes : TakesAll old (begin_and_steps (before ++ last ∷ [])) new
+    pub run : TakesRun old (begin_and_steps (before ++ last ∷ [])) new
     pub ends : EndsAs result old new last

@@ -1,10 +1,11 @@
 -- A service without where it lies in memory, and the disk that it stands on.
-use Rattle.std.specs.Prelude.{◌≡◌, ◌≢◌, ◌⊎◌, ◌<◌, ◌≤◌, ◌+◌, ◌-◌, ◌*◌, ◌^◌, ℕ, zero, suc, List, Bool, false, length, take}
+use Rattle.std.specs.Prelude.{◌≡◌, ◌≢◌, ◌⊎◌, ◌<◌, ◌≤◌, ◌+◌, ◌-◌, ◌*◌, ◌^◌, ℕ, zero, List, Bool, false, length, take, slice_range}
 use Rattle.std.specs.Prelude.{Option, Some, None, IfSome, option_map, Result, Ok, Err, Vec}
 use Rattle.std.proofs.Common.{Global}
-use Rattle.sector_disk.specs.Disk.{History, Image, HasFailed}
+use Rattle.sector_disk.specs.Disk.{History, Image, seen, HasFailed}
 use Rattle.sector_disk.specs.declared.disk.TheConstants.{SECTOR_BYTES}
 use Rattle.sector_bytes.specs.Bytes.{bytes_from}
+use Rattle.sector_bytes.specs.Source.{AreItsBytes}
 use Rattle.generations.specs.Areas.{area_sectors, area_start, sectors_of}
 use Rattle.generations.specs.declared.root.Root.{Root}
 use Rattle.edit_journal.specs.Appends.{ring_of}
@@ -17,15 +18,13 @@ use Rattle.edit_journal.specs.declared.journal.Start.{Start}
 use Rattle.edit_journal.specs.declared.sizes.TheConstants.{PART_BYTES}
 use Rattle.cached_map.specs.Cached.{CachedView}
 use Rattle.area_content.specs.Content.{ContentView, sectors_taken}
-use Rattle.feature_model.specs.Data.{EditData}
 use Rattle.feature_store.specs.Store.{FeatureMap, snapshot}
 use Rattle.published_tiles.specs.Published.{PublishedView, ArePublished}
 use Rattle.published_tiles.specs.declared.place.ArchivePlace.{ArchivePlace}
 use Rattle.tile_service.specs.declared.fault.ServiceFault.{ServiceFault}
 use Rattle.tile_service.specs.declared.fault.ServiceFault.TheVariants.{NumbersSpent, Memory, JournalFull, Device}
 use Rattle.tile_service.specs.declared.publishing.TheConstants.{STEP_SECTORS}
-use Rattle.tile_service.specs.Machine.{ArchiveState, Publication, ServiceState, EventData, edit, tile, look, begin, step, cancel}
-use Rattle.tile_service.specs.Machine.{AnswerData, edited, shown, found, left, cancelled, refused}
+use Rattle.tile_service.specs.Machine.{ArchiveState, Publication, ServiceState, OrMemory, got, no_memory, Happening, edit, begin, step, read}
 use Rattle.tile_service.specs.Publishing.{map_at, published, IsUnderWay}
 use Rattle.tile_service.specs.Stored.{Stored, Holds, Keeps, map_of, last_of, texts_of, with_edit, journal_ring}
 use Rattle.tile_service.specs.Tiles.{WereMaps, archive_place}
@@ -121,25 +120,16 @@ abbrev pub known_installed : Known → Option PublicationView → Known
 known_installed known None = known
 known_installed known (Some p) = record known { archive = record { bytes = p.content.archive; features = known.publishing } }
 
--- what is known after an event with this answer
-abbrev pub known_after : {D : Type 0} → Known → ServiceView D → EventData → AnswerData → Known
-known_after known service (edit e) answer = known
-known_after known service (tile z x y) answer = known
-known_after known service (look id) answer = known
-known_after known service begin (edited number) = known
-known_after known service begin (shown content) = known
-known_after known service begin (found f) = known
-known_after known service begin (left told) = record known { publishing = service.features }
-known_after known service begin cancelled = known
-known_after known service begin (refused fault) = known
-known_after known service step (edited number) = known
-known_after known service step (shown content) = known
-known_after known service step (found f) = known
-known_after known service step (left zero) = known_installed known service.publication
-known_after known service step (left (suc told)) = known
-known_after known service step cancelled = known
-known_after known service step (refused fault) = known
-known_after known service cancel answer = known
+-- what is known after a step
+abbrev pub known_stepped : Known → Option PublicationView → Result ℕ ServiceFault → Known
+known_stepped known publication (Ok zero) = known_installed known publication
+known_stepped known publication outcome = known
+
+-- what is known after each happening
+abbrev pub known_after : {D : Type 0} → Known → ServiceView D → Happening → Known
+known_after known service (begin (Ok left)) = record known { publishing = service.features }
+known_after known service (step outcome) = known_stepped known service.publication outcome
+known_after known service happening = known
 
 -- ---- the service and its disk
 
@@ -184,36 +174,34 @@ shown_archive image service =
     take service.archive_len
     (bytes_from image (area_start service.size service.generation + sectors_of service.snapshot_len) (sectors_of service.archive_len))
 
--- ---- events and answers
+-- ---- what happens
 
--- what an edit answers
-abbrev pub edit_answer : Result ℕ ServiceFault → AnswerData
-edit_answer (Ok number) = edited number
-edit_answer (Err fault) = refused fault
+-- The archive that a service shows, a broken one too: what its disk has in the archive's place. One that goes on from what is stored
+-- shows the archive that is stored.
+abbrev pub ShowsArchive : {D : Type 0} → History → ServiceView D → List ℕ → Type 0
+ShowsArchive history service archive = AreItsBytes (archive_of service).first (archive_of service).len archive (seen history)
 
--- what the beginning and the steps of a publication answer
-abbrev pub left_answer : Result ℕ ServiceFault → AnswerData
-left_answer (Ok told) = left told
-left_answer (Err fault) = refused fault
+-- The archive that is shown stays: it has its place and its lengths, and a disk that tells the truth still has it there.
+pub record KeepsArchive {D : Type 0} (honest : D → Type 0) (history : D → History) (old new : ServiceView D) : Type 0 where
+  pub generation : new.generation ≡ old.generation
+  pub snapshot_len : new.snapshot_len ≡ old.snapshot_len
+  pub archive_len : new.archive_len ≡ old.archive_len
+  pub shows : (archive : List ℕ) → ShowsArchive (history old.disk) old archive → honest new.disk → ShowsArchive (history new.disk) new archive
 
--- what the end of a publication that is given up answers
-abbrev pub cancel_answer : Result (Unit {0}) ServiceFault → AnswerData
-cancel_answer (Ok done) = cancelled
-cancel_answer (Err fault) = refused fault
+-- bytes of the archive that were read are those of this one
+abbrev pub ReadsFrom : List ℕ → Happening → Type 0
+ReadsFrom archive (read at (Some bytes)) = bytes ≡ slice_range archive at (at + length bytes)
+ReadsFrom archive happening = Unit {0}
 
--- what a tile answers
-abbrev pub tile_answer : Result (Option (Vec ℕ Global)) ServiceFault → AnswerData
-tile_answer (Ok content) = shown (option_map (λ bytes. bytes.items) content)
-tile_answer (Err fault) = refused fault
+-- what became of a tile
+abbrev pub tile_outcome : Result (Option (Vec ℕ Global)) ServiceFault → OrMemory (Option (List ℕ))
+tile_outcome (Ok content) = got (option_map (λ bytes. bytes.items) content)
+tile_outcome (Err fault) = no_memory
 
--- an edit with this answer stands on the disk, or may do so
-abbrev pub MayStand : AnswerData → Type 0
-MayStand (edited number) = Unit {0}
-MayStand (shown content) = ⊥
-MayStand (found f) = ⊥
-MayStand (left told) = ⊥
-MayStand cancelled = ⊥
-MayStand (refused fault) = fault ≡ Device
+-- an edit stands on the disk, or may do so
+abbrev pub MayStand : Result ℕ ServiceFault → Type 0
+MayStand (Ok number) = Unit {0}
+MayStand (Err fault) = fault ≡ Device
 
 -- what is stored once the publication is installed
 abbrev pub installed : (n : ℕ) → Stored → Option PublicationView → Stored
@@ -225,49 +213,29 @@ abbrev pub IsLast : Option PublicationView → Type 0
 IsLast None = ⊥
 IsLast (Some p) = left_of p ≤ STEP_SECTORS + 1
 
--- a step with this answer has installed the publication, or may have done so
-abbrev pub MayInstall : Option PublicationView → AnswerData → Type 0
-MayInstall publication answer = IsLast publication × ((answer ≡ left 0) ⊎ (answer ≡ refused Device))
+-- a step has installed the publication, or may have done so
+abbrev pub MayInstall : Option PublicationView → Result ℕ ServiceFault → Type 0
+MayInstall publication outcome = IsLast publication × ((outcome ≡ Ok 0) ⊎ (outcome ≡ Err Device))
 
--- An image that a crash during an event leaves holds what was stored; or the same with the edit that is made or in doubt; or what the
--- step installs.
-abbrev pub EventLeaves : (sectors n : ℕ) → Stored → Option PublicationView → EventData → AnswerData → Image → Type 0
-EventLeaves sectors n stored publication (edit e) answer image =
-    Holds sectors n stored image ⊎ (MayStand answer × Holds sectors n (with_edit stored e) image)
-EventLeaves sectors n stored publication (tile z x y) answer image = Holds sectors n stored image
-EventLeaves sectors n stored publication (look id) answer image = Holds sectors n stored image
-EventLeaves sectors n stored publication begin answer image = Holds sectors n stored image
-EventLeaves sectors n stored publication step answer image =
-    Holds sectors n stored image ⊎ (MayInstall publication answer × Holds sectors n (installed n stored publication) image)
-EventLeaves sectors n stored publication cancel answer image = Holds sectors n stored image
-
--- what is stored after an edit
-abbrev pub edited_by : Stored → EditData → AnswerData → Stored
-edited_by stored e (edited number) = with_edit stored e
-edited_by stored e (shown content) = stored
-edited_by stored e (found f) = stored
-edited_by stored e (left told) = stored
-edited_by stored e cancelled = stored
-edited_by stored e (refused fault) = stored
+-- An image that a crash meanwhile leaves holds what was stored; or the same with the edit that is made or in doubt; or what the step
+-- installs.
+abbrev pub EventLeaves : (sectors n : ℕ) → Stored → Option PublicationView → Happening → Image → Type 0
+EventLeaves sectors n stored publication (edit e outcome) image =
+    Holds sectors n stored image ⊎ (MayStand outcome × Holds sectors n (with_edit stored e) image)
+EventLeaves sectors n stored publication (step outcome) image =
+    Holds sectors n stored image ⊎ (MayInstall publication outcome × Holds sectors n (installed n stored publication) image)
+EventLeaves sectors n stored publication happening image = Holds sectors n stored image
 
 -- what is stored after a step
-abbrev pub stepped_by : (n : ℕ) → Stored → Option PublicationView → AnswerData → Stored
-stepped_by n stored publication (edited number) = stored
-stepped_by n stored publication (shown content) = stored
-stepped_by n stored publication (found f) = stored
-stepped_by n stored publication (left zero) = installed n stored publication
-stepped_by n stored publication (left (suc told)) = stored
-stepped_by n stored publication cancelled = stored
-stepped_by n stored publication (refused fault) = stored
+abbrev pub stepped_by : (n : ℕ) → Stored → Option PublicationView → Result ℕ ServiceFault → Stored
+stepped_by n stored publication (Ok zero) = installed n stored publication
+stepped_by n stored publication outcome = stored
 
--- what is stored after an event
-abbrev pub stored_after : (n : ℕ) → Stored → Option PublicationView → EventData → AnswerData → Stored
-stored_after n stored publication (edit e) answer = edited_by stored e answer
-stored_after n stored publication (tile z x y) answer = stored
-stored_after n stored publication (look id) answer = stored
-stored_after n stored publication begin answer = stored
-stored_after n stored publication step answer = stepped_by n stored publication answer
-stored_after n stored publication cancel answer = stored
+-- what is stored after each happening
+abbrev pub stored_after : (n : ℕ) → Stored → Option PublicationView → Happening → Stored
+stored_after n stored publication (edit e (Ok number)) = with_edit stored e
+stored_after n stored publication (step outcome) = stepped_by n stored publication outcome
+stored_after n stored publication happening = stored
 
 -- what the fault of an append to the journal is told as
 abbrev pub told_as : JournalFault → ServiceFault

@@ -8,10 +8,11 @@ use Rattle.generations.specs.Sectors.{IsFormat, IsRootOf, IsNoRoot}
 use Rattle.generations.specs.declared.root.Root.{Root}
 use Rattle.edit_journal.specs.Ring.{Ring, Start, HoldsTexts}
 use Rattle.edit_journal.specs.declared.sizes.TheConstants.{RECORD_VERSION}
-use Rattle.feature_model.specs.Data.{EditData}
-use Rattle.feature_model.specs.Spelled.{spelled}
-use Rattle.feature_model.specs.Types.{IsEdit}
-use Rattle.feature_store.specs.Store.{FeatureMap, IsMap, after, snapshot}
+use Rattle.feature_model.specs.Data.{ChangeData}
+use Rattle.feature_model.specs.Spelled.{spelled_change}
+use Rattle.feature_model.specs.Types.{IsChange}
+use Rattle.feature_store.specs.Store.{FeatureMap, IsMap, snapshot}
+use Rattle.tile_service.specs.After.{after}
 use Rattle.area_content.specs.Tiles.{IsArchiveOfMap}
 
 -- what a disk holds for a service
@@ -23,7 +24,7 @@ pub record Stored : Type 0 where
   -- how many edits are in it
   pub edits : ℕ
   -- the edits since
-  pub since : List EditData
+  pub since : List ChangeData
   -- the place of the journal where the first of their records stands
   pub journal_at : ℕ
   -- the bytes of the archive
@@ -71,7 +72,7 @@ pub record HoldsAt (count n : ℕ) (stored : Stored) (at : ℕ) (sector : List �
 
 -- the texts of the edits since the snapshot
 abbrev pub texts_of : Stored → List (List ℕ)
-texts_of stored = map spelled stored.since
+texts_of stored = map spelled_change stored.since
 
 -- where the journal begins for it
 abbrev pub journal_start : Stored → Start
@@ -82,7 +83,7 @@ pub record Holds (count n : ℕ) (stored : Stored) (image : Image) : Type 0 wher
   pub sectors : (at : ℕ) → HoldsAt count n stored at (image at)
   pub journal : HoldsTexts RECORD_VERSION (journal_ring n) (journal_start stored) (texts_of stored) image
   pub is_map : IsMap stored.snapshot_map
-  pub are_edits : All IsEdit stored.since
+  pub are_edits : All IsChange stored.since
   pub is_archive : IsArchiveOfMap stored.snapshot_map stored.archive
 
 -- what nobody has edited since the format
@@ -90,7 +91,7 @@ abbrev pub first_state : Stored
 first_state = record { generation = 0; snapshot_map = []; edits = 0; since = []; journal_at = 0; archive = [] }
 
 -- the same with one more edit
-abbrev pub with_edit : Stored → EditData → Stored
+abbrev pub with_edit : Stored → ChangeData → Stored
 with_edit stored edit = record stored { since = stored.since ++ edit ∷ [] }
 
 -- whatever a crash now leaves holds it

@@ -7,8 +7,8 @@ ghost use Rattle.feature_model.specs.Data.{feature_data, put, delete};
 ghost use Rattle.feature_model.specs.Limits.{NumberFits};
 ghost use Rattle.feature_store.specs.Store.{feature_at};
 ghost use Rattle.tile_service.specs.Limits.{KeepsLimits, BreaksLimit};
-ghost use Rattle.tile_service.specs.Machine.{edit, places_for, Steps};
-ghost use Rattle.tile_service.specs.Service.{Known, IsUp, state_of, edit_answer, EventLeaves, CountsDevice, told_as};
+ghost use Rattle.tile_service.specs.Machine.{edit, places_for, AnswersEdit};
+ghost use Rattle.tile_service.specs.Service.{Known, IsUp, state_of, KeepsArchive, EventLeaves, CountsDevice, told_as};
 ghost use Rattle.tile_service.specs.Stored.{Stored, with_edit};
 ghost use Rattle.tile_service.specs.declared.fault.ServiceFault.TheVariants.{Limit, Device};
 
@@ -16,8 +16,8 @@ use crate::fault::ServiceFault;
 use crate::replaying::apply;
 use crate::service::Service;
 use edit_journal::JournalFault;
-use edit_text::{delete_text, encode};
-use feature_model::{Edit, EditFault, Feature, check};
+use edit_text::{delete_text, encode_change};
+use feature_model::{Change, EditFault, Feature, check};
 use feature_store::Store;
 use sector_disk::Sectors;
 use std::alloc::AllocError;
@@ -84,10 +84,8 @@ impl<D: Sectors + Drop> Service<D> {
     /// `Broken`, `Limit`, `NumbersSpent`, `Memory`, `JournalFull`, `Device`, the first that there is in this order.
     pub fn put(&mut self, id: u64, feature: Feature) -> Result<u64, ServiceFault>
         ensures machine { (known : Known)
-            → Steps (state_of known self.old) (edit (put id (feature_data feature))) (edit_answer result) (state_of known self.new) }
+            → AnswersEdit (state_of known self.old) (put id (feature_data feature)) result (state_of known self.new) }
         ensures size { self.new.size ≡ self.old.size }
-        ensures snapshot_len { self.new.snapshot_len ≡ self.old.snapshot_len }
-        ensures archive_len { self.new.archive_len ≡ self.old.archive_len }
         ensures publication { OnOk result (self.new.publication ≡ self.old.publication) }
         ensures count { D.sectors self.new.disk ≡ D.sectors self.old.disk }
         ensures honest { D.honest self.new.disk → D.honest self.old.disk }
@@ -95,11 +93,12 @@ impl<D: Sectors + Drop> Service<D> {
         ensures failed { IfErr result (λ fault. CountsDevice fault (D.faults self.old.disk) (D.faults self.new.disk)) }
         ensures untouched { IfErr result (λ fault. fault ≢ Device → self.new.disk ≡ self.old.disk) }
         ensures kept { IfErr result (λ fault. fault ≢ Device → self.new ≡ self.old) }
+        ensures archive { KeepsArchive D.honest D.history self.old self.new }
 
         // A crash at any moment of the call leaves what was stored, or the same with the edit.
         ensures any_moment { (stored : Stored) → D.honest self.new.disk → IsUp (D.sectors self.old.disk) (D.history self.old.disk) stored self.old
             → LeavesOnly (D.history self.old.disk) (D.history self.new.disk)
-            (EventLeaves (D.sectors self.old.disk) self.old.size stored self.old.publication (edit (put id (feature_data feature))) (edit_answer result)) }
+            (EventLeaves (D.sectors self.old.disk) self.old.size stored self.old.publication (edit (put id (feature_data feature)) result)) }
         // And after it: the same with the edit where it was acknowledged, and what was stored where it was refused.
         ensures acknowledged { (stored : Stored) → D.honest self.new.disk → IsUp (D.sectors self.old.disk) (D.history self.old.disk) stored self.old
             → OnOk result (IsUp (D.sectors self.new.disk) (D.history self.new.disk) (with_edit stored (put id (feature_data feature))) self.new) }
@@ -120,8 +119,8 @@ impl<D: Sectors + Drop> Service<D> {
         if self.journal.last == u64::MAX {
             return Err(ServiceFault::NumbersSpent);
         }
-        let edit = Edit::Put { id, feature };
-        let text = match encode(self.alloc, &edit) {
+        let edit = Change::Put { id, feature };
+        let text = match encode_change(self.alloc, &edit) {
             Ok(text) => text,
             Err(AllocError) => return Err(ServiceFault::Memory),
         };
@@ -145,10 +144,8 @@ impl<D: Sectors + Drop> Service<D> {
     /// `Broken`, `NotFound`, `NumbersSpent`, `JournalFull`, `Device`, the first that there is in this order.
     pub fn delete(&mut self, id: u64) -> Result<u64, ServiceFault>
         ensures machine { (known : Known)
-            → Steps (state_of known self.old) (edit (delete id)) (edit_answer result) (state_of known self.new) }
+            → AnswersEdit (state_of known self.old) (delete id) result (state_of known self.new) }
         ensures size { self.new.size ≡ self.old.size }
-        ensures snapshot_len { self.new.snapshot_len ≡ self.old.snapshot_len }
-        ensures archive_len { self.new.archive_len ≡ self.old.archive_len }
         ensures publication { OnOk result (self.new.publication ≡ self.old.publication) }
         ensures count { D.sectors self.new.disk ≡ D.sectors self.old.disk }
         ensures honest { D.honest self.new.disk → D.honest self.old.disk }
@@ -156,9 +153,10 @@ impl<D: Sectors + Drop> Service<D> {
         ensures failed { IfErr result (λ fault. CountsDevice fault (D.faults self.old.disk) (D.faults self.new.disk)) }
         ensures untouched { IfErr result (λ fault. fault ≢ Device → self.new.disk ≡ self.old.disk) }
         ensures kept { IfErr result (λ fault. fault ≢ Device → self.new ≡ self.old) }
+        ensures archive { KeepsArchive D.honest D.history self.old self.new }
         ensures any_moment { (stored : Stored) → D.honest self.new.disk → IsUp (D.sectors self.old.disk) (D.history self.old.disk) stored self.old
             → LeavesOnly (D.history self.old.disk) (D.history self.new.disk)
-            (EventLeaves (D.sectors self.old.disk) self.old.size stored self.old.publication (edit (delete id)) (edit_answer result)) }
+            (EventLeaves (D.sectors self.old.disk) self.old.size stored self.old.publication (edit (delete id) result)) }
         ensures acknowledged { (stored : Stored) → D.honest self.new.disk → IsUp (D.sectors self.old.disk) (D.history self.old.disk) stored self.old
             → OnOk result (IsUp (D.sectors self.new.disk) (D.history self.new.disk) (with_edit stored (delete id)) self.new) }
         ensures refused { (stored : Stored) → D.honest self.new.disk → IsUp (D.sectors self.old.disk) (D.history self.old.disk) stored self.old

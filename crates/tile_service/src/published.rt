@@ -1,7 +1,7 @@
 //! The archive that was published last.
-ghost use Rattle.std.specs.Prelude.{◌≡◌, ◌≤◌, ◌+◌, length, slice_range, IfErr, OnOk};
+ghost use Rattle.std.specs.Prelude.{◌≡◌, ◌≤◌, ◌+◌, ℕ, List, length, slice_range, IfErr, OnOk};
 ghost use Rattle.generations.specs.Areas.{sectors_of};
-ghost use Rattle.tile_service.specs.Service.{IsUp, CountsDevice, archive_of};
+ghost use Rattle.tile_service.specs.Service.{IsUp, ShowsArchive, CountsDevice, archive_of};
 ghost use Rattle.tile_service.specs.Stored.{Stored};
 ghost use Rattle.tile_service.specs.declared.fault.ServiceFault.TheVariants.{Device};
 
@@ -54,6 +54,9 @@ impl<D: Sectors + Drop> Service<D> {
         ensures failed { IfErr result (λ fault. CountsDevice fault (D.faults self.old.disk) (D.faults self.new.disk)) }
         ensures fault { IfErr result (λ fault. fault ≡ Device) }
         ensures length { length into.new ≡ length into.old }
+        // Of a broken service too: what the disk has in the archive's place.
+        ensures shown { (archive : List ℕ) → ShowsArchive (D.history self.old.disk) self.old archive → D.honest self.new.disk
+            → OnOk result (into.new ≡ slice_range archive at (at + length into.old)) }
         ensures read { (stored : Stored) → IsUp (D.sectors self.old.disk) (D.history self.old.disk) stored self.old → D.honest self.new.disk
             → OnOk result (into.new ≡ slice_range stored.archive at (at + length into.old)) }
         ensures up { (stored : Stored) → IsUp (D.sectors self.old.disk) (D.history self.old.disk) stored self.old → D.honest self.new.disk

@@ -1,15 +1,15 @@
 //! Publications: the snapshot of the map and the archive of its tiles, written by steps into the area of the next generation.
-ghost use Rattle.std.specs.Prelude.{◌≡◌, ◌≢◌, ◌⊎◌, ◌<◌, ◌≤◌, ◌+◌, ◌^◌, false, true, None, Some, IfOk, IfErr, OnOk, OnErr};
+ghost use Rattle.std.specs.Prelude.{◌≡◌, ◌≢◌, ◌⊎◌, ◌<◌, ◌≤◌, ◌+◌, ◌^◌, false, true, None, Some, Ok, IfOk, IfErr, OnOk, OnErr};
 ghost use Rattle.std.proofs.Common.{suc};
 ghost use Rattle.sector_disk.specs.Disk.{moment, seen, HasFailed};
 ghost use Rattle.sector_disk.specs.Moments.{LeavesOnly};
 ghost use Rattle.feature_store.specs.Store.{IsMap, snapshot};
 ghost use Rattle.area_content.specs.Content.{sectors_taken};
 ghost use Rattle.area_content.specs.Tiles.{IsArchiveOfMap};
-ghost use Rattle.tile_service.specs.Publishing.{HasFirst, HasNoContent, told_content};
-ghost use Rattle.tile_service.specs.Machine.{begin, step, cancel, Steps, after_install};
-ghost use Rattle.tile_service.specs.Service.{IsGoing, with_publication, going_of, known_installed, installed};
-ghost use Rattle.tile_service.specs.Service.{Known, IsUp, state_of, known_after, left_answer, cancel_answer, EventLeaves, stored_after, CountsDevice};
+ghost use Rattle.tile_service.specs.Publishing.{HasFirst, HasNoContent, IsBeside, told_content};
+ghost use Rattle.tile_service.specs.Machine.{begin, step, AnswersBegin, AnswersStep, AnswersCancel, after_install};
+ghost use Rattle.tile_service.specs.Service.{IsGoing, with_publication, going_of, known_installed, installed, KeepsArchive};
+ghost use Rattle.tile_service.specs.Service.{Known, IsUp, state_of, known_after, EventLeaves, stored_after, CountsDevice};
 ghost use Rattle.tile_service.specs.Stored.{Stored, Holds, Keeps};
 ghost use Rattle.tile_service.specs.declared.fault.ServiceFault.TheVariants.{Device};
 
@@ -110,6 +110,9 @@ fn write_sectors<D: Sectors>(
         → Keeps (D.sectors disk.old) layout.sectors stored (D.history disk.old)
         → Keeps (D.sectors disk.old) layout.sectors stored (D.history disk.new) }
 
+    // Whatever it answers, a read gives of the sectors outside of that area what it gave.
+    ensures beside { D.honest disk.new → IsBeside layout.sectors generation (seen (D.history disk.old)) (seen (D.history disk.new)) }
+
     // With the sectors before it there, those before the end are there.
     ensures first { D.honest disk.new
         → HasFirst layout.sectors generation content.now.snapshot content.now.archive from (seen (D.history disk.old))
@@ -142,6 +145,7 @@ impl<D: Sectors + Drop> Service<D> {
         ensures honest { D.honest self.new.disk → D.honest self.old.disk }
         ensures faults { OnOk result (D.faults self.new.disk ≡ D.faults self.old.disk) }
         ensures failed { OnErr result (HasFailed (D.faults self.old.disk) (D.faults self.new.disk)) }
+        ensures archive { OnErr result (KeepsArchive D.honest D.history self.old self.new) }
         ensures steps { D.honest self.new.disk → moment (D.history self.new.disk) ≤ moment (D.history self.old.disk) + 3 }
         ensures any_moment { (stored : Stored) → D.honest self.new.disk
             → IsUp (D.sectors self.old.disk) (D.history self.old.disk) stored (with_publication self.old publication)
@@ -178,23 +182,24 @@ impl<D: Sectors + Drop> Service<D> {
         requires unbroken { self.old.broken ≡ false }
         requires going { (root : Root) × (root.generation ≡ self.old.generation)
             × IsGoing self.old.size root self.old.journal self.old.features publication }
-        ensures machine { (known : Known) → Steps (state_of known (with_publication self.old publication)) step (left_answer result)
-            (state_of (known_after known (with_publication self.old publication) step (left_answer result)) self.new) }
+        ensures machine { (known : Known) → AnswersStep (state_of known (with_publication self.old publication)) result
+            (state_of (known_after known (with_publication self.old publication) (step result)) self.new) }
         ensures fault { IfErr result (λ fault. fault ≡ Device) }
         ensures size { self.new.size ≡ self.old.size }
         ensures count { D.sectors self.new.disk ≡ D.sectors self.old.disk }
         ensures honest { D.honest self.new.disk → D.honest self.old.disk }
         ensures faults { OnOk result (D.faults self.new.disk ≡ D.faults self.old.disk) }
         ensures failed { OnErr result (HasFailed (D.faults self.old.disk) (D.faults self.new.disk)) }
+        ensures archive { (result ≡ Ok 0 → ⊥) → KeepsArchive D.honest D.history self.old self.new }
         ensures steps { D.honest self.new.disk → moment (D.history self.new.disk) ≤ moment (D.history self.old.disk) + 67 }
         ensures any_moment { (stored : Stored) → D.honest self.new.disk
             → IsUp (D.sectors self.old.disk) (D.history self.old.disk) stored (with_publication self.old publication)
             → LeavesOnly (D.history self.old.disk) (D.history self.new.disk)
-            (EventLeaves (D.sectors self.old.disk) self.old.size stored (Some publication) step (left_answer result)) }
+            (EventLeaves (D.sectors self.old.disk) self.old.size stored (Some publication) (step result)) }
         ensures after { (stored : Stored) → D.honest self.new.disk
             → IsUp (D.sectors self.old.disk) (D.history self.old.disk) stored (with_publication self.old publication)
             → OnOk result (IsUp (D.sectors self.new.disk) (D.history self.new.disk)
-            (stored_after self.old.size stored (Some publication) step (left_answer result)) self.new) }
+            (stored_after self.old.size stored (Some publication) (step result)) self.new) }
     {
         let left = publication.content.sectors() - publication.written;
         let more = left.min(STEP_SECTORS);
@@ -235,8 +240,8 @@ impl<D: Sectors + Drop> Service<D> {
     /// `AreaFull`, the first that there is in this order, but that `AreaFull` for a tile of 2^32 bytes comes before `TooManyTiles`.
     /// Nothing changes then.
     pub fn publish_begin(&mut self) -> Result<u64, ServiceFault>
-        ensures machine { (known : Known) → Steps (state_of known self.old) begin (left_answer result)
-            (state_of (known_after known self.old begin (left_answer result)) self.new) }
+        ensures machine { (known : Known) → AnswersBegin (state_of known self.old) result
+            (state_of (known_after known self.old (begin result)) self.new) }
         ensures same { self.new ≡ record self.old { publication = self.new.publication } }
         ensures refused { OnErr result (self.new ≡ self.old) }
         ensures up { (stored : Stored) → IsUp (D.sectors self.old.disk) (D.history self.old.disk) stored self.old
@@ -275,8 +280,8 @@ impl<D: Sectors + Drop> Service<D> {
     /// `Broken`, `Idle` where no publication is under way, `Device`, the first that there is in this order. After `Device` the
     /// service is broken, and the publication given up.
     pub fn publish_step(&mut self) -> Result<u64, ServiceFault>
-        ensures machine { (known : Known) → Steps (state_of known self.old) step (left_answer result)
-            (state_of (known_after known self.old step (left_answer result)) self.new) }
+        ensures machine { (known : Known) → AnswersStep (state_of known self.old) result
+            (state_of (known_after known self.old (step result)) self.new) }
         ensures size { self.new.size ≡ self.old.size }
         ensures count { D.sectors self.new.disk ≡ D.sectors self.old.disk }
         ensures honest { D.honest self.new.disk → D.honest self.old.disk }
@@ -284,17 +289,20 @@ impl<D: Sectors + Drop> Service<D> {
         ensures failed { IfErr result (λ fault. CountsDevice fault (D.faults self.old.disk) (D.faults self.new.disk)) }
         ensures refused { IfErr result (λ fault. fault ≢ Device → self.new ≡ self.old) }
 
+        // The archive that it shows stays at every answer but 0, after a fault of the disk too.
+        ensures archive { (result ≡ Ok 0 → ⊥) → KeepsArchive D.honest D.history self.old self.new }
+
         // It makes at most 64 writes and a sync, or as the last step those writes and an installation's: two syncs and a write.
         ensures steps { D.honest self.new.disk → moment (D.history self.new.disk) ≤ moment (D.history self.old.disk) + 67 }
 
         // A crash at any moment of the call leaves what was stored, or where the step is the last one what it installs.
         ensures any_moment { (stored : Stored) → D.honest self.new.disk → IsUp (D.sectors self.old.disk) (D.history self.old.disk) stored self.old
             → LeavesOnly (D.history self.old.disk) (D.history self.new.disk)
-            (EventLeaves (D.sectors self.old.disk) self.old.size stored self.old.publication step (left_answer result)) }
+            (EventLeaves (D.sectors self.old.disk) self.old.size stored self.old.publication (step result)) }
         // And after it: what it installs where it answers 0, and else what was stored.
         ensures after { (stored : Stored) → D.honest self.new.disk → IsUp (D.sectors self.old.disk) (D.history self.old.disk) stored self.old
             → OnOk result (IsUp (D.sectors self.new.disk) (D.history self.new.disk)
-            (stored_after self.old.size stored self.old.publication step (left_answer result)) self.new) }
+            (stored_after self.old.size stored self.old.publication (step result)) self.new) }
     {
         if self.broken {
             return Err(ServiceFault::Broken);
@@ -311,7 +319,7 @@ impl<D: Sectors + Drop> Service<D> {
     ///
     /// `Broken`, `Idle` where no publication is under way. Nothing changes then.
     pub fn publish_cancel(&mut self) -> Result<(), ServiceFault>
-        ensures machine { (known : Known) → Steps (state_of known self.old) cancel (cancel_answer result) (state_of known self.new) }
+        ensures machine { (known : Known) → AnswersCancel (state_of known self.old) result (state_of known self.new) }
         ensures same { self.new ≡ record self.old { publication = self.new.publication } }
         ensures refused { OnErr result (self.new ≡ self.old) }
         ensures up { (stored : Stored) → IsUp (D.sectors self.old.disk) (D.history self.old.disk) stored self.old

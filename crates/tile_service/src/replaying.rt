@@ -1,9 +1,9 @@
 //! The map after the edits whose texts stand in the journal.
 ghost use Rattle.std.specs.Prelude.{◌≡◌, ◌⊎◌, ◌<◌, ◌+◌, ◌^◌, ℕ, length, IfOk, IfErr, OnOk};
 ghost use Rattle.cached_map.specs.Cached.{WasMap};
-ghost use Rattle.feature_model.specs.Data.{EditData, edit_data};
-ghost use Rattle.feature_model.specs.Spelled.{spelled};
-ghost use Rattle.feature_model.specs.Types.{IsEdit};
+ghost use Rattle.feature_model.specs.Data.{ChangeData, change_data};
+ghost use Rattle.feature_model.specs.Spelled.{spelled_change};
+ghost use Rattle.feature_model.specs.Types.{IsChange};
 ghost use Rattle.feature_store.specs.Store.{FeatureMap, changed, snapshot};
 ghost use Rattle.feature_store.specs.declared.limit.TheConstants.{TEXTS_END};
 ghost use Rattle.generations.specs.declared.fault.StoreFault.TheVariants.{Damaged, Memory};
@@ -11,17 +11,17 @@ ghost use Rattle.generations.specs.declared.fault.What.TheVariants.{Text};
 ghost use Rattle.tile_service.specs.Replayed.{IsTextOf, IsPut, HasRoomFor, AreMade, IsTextFault, IsReplayFault, bytes_of, views_of};
 
 use cached_map::CachedMap;
-use edit_text::{TextFault, decode};
-use feature_model::Edit;
+use edit_text::{TextFault, decode_change};
+use feature_model::Change;
 use generations::{StoreFault, What};
 use std::alloc::{AllocError, Global};
 
 /// The edit of a text.
-fn edit_in(alloc: Global, text: &[u8]) -> Result<Edit, StoreFault>
-    ensures edit { IfOk result (λ edit. IsTextOf text.now (edit_data edit)) }
+fn edit_in(alloc: Global, text: &[u8]) -> Result<Change, StoreFault>
+    ensures edit { IfOk result (λ edit. IsTextOf text.now (change_data edit)) }
     ensures fault { IfErr result (IsTextFault text.now) }
 {
-    match decode(alloc, text) {
+    match decode_change(alloc, text) {
         Ok((edit, bytes)) if bytes == text.len() => Ok(edit),
         Ok(_) => Err(StoreFault::Damaged(What::Text)),
         Err(TextFault::Memory) => Err(StoreFault::Memory),
@@ -30,39 +30,39 @@ fn edit_in(alloc: Global, text: &[u8]) -> Result<Edit, StoreFault>
 }
 
 /// Makes an edit of this number in the map, which has room for it. It takes no memory.
-pub(crate) fn apply(map: &mut CachedMap, edit: Edit, number: u64)
-    requires edit { IsEdit (edit_data edit) }
-    requires room { HasRoomFor map.old.spare (edit_data edit) }
-    requires texts { length (snapshot (changed map.old.features (edit_data edit))) < TEXTS_END }
+pub(crate) fn apply(map: &mut CachedMap, edit: Change, number: u64)
+    requires edit { IsChange (change_data edit) }
+    requires room { HasRoomFor map.old.spare (change_data edit) }
+    requires texts { length (snapshot (changed map.old.features (change_data edit))) < TEXTS_END }
     requires later { map.old.last < number }
-    ensures map { map.new.features ≡ changed map.old.features (edit_data edit) }
+    ensures map { map.new.features ≡ changed map.old.features (change_data edit) }
     ensures last { map.new.last ≡ number }
     ensures now { WasMap map.new.features map.new.touched map.new.last map.new.last map.new.features }
     ensures since { (n : ℕ) (was : FeatureMap) → WasMap map.old.features map.old.touched map.old.last n was
         → WasMap map.new.features map.new.touched map.new.last n was }
 {
     match edit {
-        Edit::Put { id, feature } => map.place(id, feature, number),
-        Edit::Delete { id } => {
+        Change::Put { id, feature } => map.place(id, feature, number),
+        Change::Delete { id } => {
             map.remove(id, number);
         }
     }
 }
 
 /// Makes the next edit of the map.
-fn make(map: &mut CachedMap, edit: Edit) -> Result<(), StoreFault>
-    requires edit { IsEdit (edit_data edit) }
-    requires texts { length (snapshot map.old.features) + length (spelled (edit_data edit)) < TEXTS_END }
+fn make(map: &mut CachedMap, edit: Change) -> Result<(), StoreFault>
+    requires edit { IsChange (change_data edit) }
+    requires texts { length (snapshot map.old.features) + length (spelled_change (change_data edit)) < TEXTS_END }
     requires number { map.old.last + 1 < 2 ^ 64 }
-    ensures map { OnOk result (map.new.features ≡ changed map.old.features (edit_data edit)) }
+    ensures map { OnOk result (map.new.features ≡ changed map.old.features (change_data edit)) }
     ensures last { OnOk result (map.new.last ≡ map.old.last + 1) }
     ensures now { OnOk result (WasMap map.new.features map.new.touched map.new.last map.new.last map.new.features) }
     ensures since { (n : ℕ) (was : FeatureMap) → WasMap map.old.features map.old.touched map.old.last n was
         → OnOk result (WasMap map.new.features map.new.touched map.new.last n was) }
-    ensures fault { IfErr result (λ fault. (fault ≡ Memory) × IsPut (edit_data edit)) }
+    ensures fault { IfErr result (λ fault. (fault ≡ Memory) × IsPut (change_data edit)) }
 {
     let number = map.last() + 1;
-    if let Edit::Put { .. } = &edit {
+    if let Change::Put { .. } = &edit {
         match map.room() {
             Ok(()) => {}
             Err(AllocError) => return Err(StoreFault::Memory),
@@ -76,7 +76,7 @@ fn make(map: &mut CachedMap, edit: Edit) -> Result<(), StoreFault>
 fn replay_one(alloc: Global, map: &mut CachedMap, text: &[u8]) -> Result<(), StoreFault>
     requires texts { length (snapshot map.old.features) + length text.now < TEXTS_END }
     requires number { map.old.last + 1 < 2 ^ 64 }
-    ensures made { OnOk result ((edit : EditData) × IsTextOf text.now edit × (map.new.features ≡ changed map.old.features edit)) }
+    ensures made { OnOk result ((edit : ChangeData) × IsTextOf text.now edit × (map.new.features ≡ changed map.old.features edit)) }
     ensures last { OnOk result (map.new.last ≡ map.old.last + 1) }
     ensures now { OnOk result (WasMap map.new.features map.new.touched map.new.last map.new.last map.new.features) }
     ensures since { (n : ℕ) (was : FeatureMap) → WasMap map.old.features map.old.touched map.old.last n was

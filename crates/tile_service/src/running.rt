@@ -1,10 +1,11 @@
 //! Runs of events.
-ghost use Rattle.std.specs.Prelude.{◌≡◌, true, false, map, IfErr, IfOk};
+ghost use Rattle.std.specs.Prelude.{◌≡◌, true, false, List, IfErr, IfOk};
 ghost use Rattle.sector_disk.specs.Disk.{HasFailed};
-ghost use Rattle.tile_service.specs.Events.{event_data, answer_data};
-ghost use Rattle.tile_service.specs.Machine.{look, IsTile, AsksTile, Steps};
-ghost use Rattle.tile_service.specs.Runs.{TakesEvent, TakesRun};
-ghost use Rattle.tile_service.specs.Service.{Known, state_of, edit_answer, left_answer};
+ghost use Rattle.feature_store.specs.Store.{feature_at};
+ghost use Rattle.tile_service.specs.Events.{Tells, AreTold, IsTile, AsksTile, edit_answer, left_answer};
+ghost use Rattle.tile_service.specs.Machine.{OrMemory, Happening, look, IfTold};
+ghost use Rattle.tile_service.specs.Runs.{Takes, TakesRun};
+ghost use Rattle.tile_service.specs.declared.event.Event.TheVariants as events;
 ghost use Rattle.tile_service.specs.declared.fault.ServiceFault.TheVariants.{Memory};
 
 use crate::event::{Answer, Event};
@@ -16,7 +17,7 @@ use std::alloc::AllocError;
 
 /// The answer to an edit.
 fn edited(outcome: Result<u64, ServiceFault>) -> Answer
-    ensures { answer_data result ≡ edit_answer outcome }
+    ensures { result ≡ edit_answer outcome }
 {
     match outcome {
         Ok(number) => Answer::Edited(number),
@@ -26,7 +27,7 @@ fn edited(outcome: Result<u64, ServiceFault>) -> Answer
 
 /// The answer to the beginning or a step of a publication.
 fn left(outcome: Result<u64, ServiceFault>) -> Answer
-    ensures { answer_data result ≡ left_answer outcome }
+    ensures { result ≡ left_answer outcome }
 {
     match outcome {
         Ok(told) => Answer::Left(told),
@@ -37,7 +38,8 @@ fn left(outcome: Result<u64, ServiceFault>) -> Answer
 impl<D: Sectors + Drop> Service<D> {
     /// The answer with the feature of a number.
     fn look(&self, id: u64) -> Answer
-        ensures { (known : Known) → Steps (state_of known self.now) (look id) (answer_data result) (state_of known self.now) }
+        ensures { (outcome : OrMemory _) × Tells (events.Look id) result (look id outcome)
+            × IfTold outcome (λ f. f ≡ feature_at self.now.features id) }
     {
         match self.feature(id) {
             None => Answer::Look(None),
@@ -50,8 +52,8 @@ impl<D: Sectors + Drop> Service<D> {
 
     /// Answers one event.
     fn answer(&mut self, event: Event) -> Answer
-        ensures takes { TakesEvent D.sectors D.honest D.history self.old (event_data event) (answer_data result) self.new }
-        ensures faults { ¬ IsTile (event_data event) → self.new.broken ≡ false → D.faults self.new.disk ≡ D.faults self.old.disk }
+        ensures takes { (happening : Happening) × Tells event result happening × Takes D.sectors D.honest D.history self.old happening self.new }
+        ensures faults { ¬ IsTile event → self.new.broken ≡ false → D.faults self.new.disk ≡ D.faults self.old.disk }
         ensures failed { self.old.broken ≡ false → self.new.broken ≡ true → HasFailed (D.faults self.old.disk) (D.faults self.new.disk) }
     {
         match event {
@@ -74,7 +76,8 @@ impl<D: Sectors + Drop> Service<D> {
     /// Answers events one after the other. `Memory` is the only error, told before the first event and with nothing changed.
     pub fn run(&mut self, events: Vec<Event>) -> Result<Vec<Answer>, ServiceFault>
         ensures run { IfOk result (λ answers.
-            TakesRun D.sectors D.honest D.history self.old (map event_data events.items) (map answer_data answers.items) self.new) }
+            (happenings : List Happening) × AreTold events.items answers.items happenings
+            × TakesRun D.sectors D.honest D.history self.old happenings self.new) }
         ensures memory { IfErr result (λ fault. (fault ≡ Memory) × (self.new ≡ self.old)) }
         ensures size { self.new.size ≡ self.old.size }
         ensures count { D.sectors self.new.disk ≡ D.sectors self.old.disk }
@@ -82,8 +85,8 @@ impl<D: Sectors + Drop> Service<D> {
         ensures untouched { self.old.broken ≡ true → self.new.disk ≡ self.old.disk }
 
         // A tile may meet a read that fails, and is cut then. A run without tiles has no call of the disk fail unless it breaks the service.
-        ensures faults { ¬ AsksTile (map event_data events.items) → self.new.broken ≡ false → D.faults self.new.disk ≡ D.faults self.old.disk }
-        ensures failed { ¬ AsksTile (map event_data events.items) → self.old.broken ≡ false → self.new.broken ≡ true
+        ensures faults { ¬ AsksTile events.items → self.new.broken ≡ false → D.faults self.new.disk ≡ D.faults self.old.disk }
+        ensures failed { ¬ AsksTile events.items → self.old.broken ≡ false → self.new.broken ≡ true
             → HasFailed (D.faults self.old.disk) (D.faults self.new.disk) }
     {
         let mut answers = match Vec::with_capacity(self.alloc, events.len()) {

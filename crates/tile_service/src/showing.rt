@@ -7,9 +7,9 @@ ghost use Rattle.feature_store.specs.Store.{feature_at};
 ghost use Rattle.map_metadata.specs.Metadata.{IsMetadata};
 ghost use Rattle.pm_archive.specs.Answers.{IsOutside};
 ghost use Rattle.serde_json.specs.View.{view};
-ghost use Rattle.tile_service.specs.Machine.{tile, Steps};
+ghost use Rattle.tile_service.specs.Machine.{tile, Happens};
 ghost use Rattle.tile_service.specs.Runs.{IsTrusted};
-ghost use Rattle.tile_service.specs.Service.{Known, IsUp, state_of, tile_answer};
+ghost use Rattle.tile_service.specs.Service.{Known, IsUp, state_of, tile_outcome};
 ghost use Rattle.tile_service.specs.Stored.{Stored};
 ghost use Rattle.tile_service.specs.declared.fault.ServiceFault.TheVariants.{Memory};
 
@@ -81,8 +81,8 @@ impl<D: Sectors + Drop> Service<D> {
     /// touched since the archive was published is read there; any other is cut, and so is one whose reading fails. The only error is
     /// `Memory`.
     pub fn tile(&mut self, at: TileAt) -> Result<Option<Vec<u8>>, ServiceFault>
-        ensures machine { (known : Known) → IsTrusted D.sectors D.honest D.history self.old self.new
-            → Steps (state_of known self.old) (tile at.z at.x at.y) (tile_answer result) (state_of known self.new) }
+        ensures machine { (known : Known) → Happens (IsTrusted D.sectors D.honest D.history self.old self.new)
+            (state_of known self.old) (tile at.z at.x at.y (tile_outcome result)) (state_of known self.new) }
         ensures fault { IfErr result (λ fault. fault ≡ Memory) }
         ensures same { self.new ≡ record self.old { disk = self.new.disk; published = self.new.published } }
         ensures count { D.sectors self.new.disk ≡ D.sectors self.old.disk }

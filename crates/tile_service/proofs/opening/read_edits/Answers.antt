@@ -7,8 +7,9 @@ use Rattle.edit_journal.specs.declared.sizes.TheConstants.{RECORD_VERSION}
 use Rattle.generations.specs.Areas.{area_sectors}
 use Rattle.sector_disk.specs.Disk.{seen}
 use Rattle.sector_disk.specs.declared.disk.TheConstants.{SECTOR_BYTES}
-use Rattle.feature_model.specs.Data.{EditData}
-use Rattle.feature_store.specs.Store.{FeatureMap, after, snapshot}
+use Rattle.feature_model.specs.Data.{ChangeData}
+use Rattle.feature_store.specs.Store.{FeatureMap, snapshot}
+use Rattle.tile_service.specs.After.{after}
 use Rattle.feature_store.specs.declared.limit.TheConstants.{TEXTS_END}
 use Rattle.tile_service.specs.Replayed.{bytes_of, views_of}
 use Rattle.tile_service.specs.Tiles.{WereMaps}
@@ -60,7 +61,7 @@ returns-in-Ok-replay-clause-found g c honest has = record {
   were = were;
 }
   where
-    edits : List EditData
+    edits : List ChangeData
     edits = c.in-Ok-replay.ensures.made.edits
 
     last : c.replay.new.map.last ≡ c.in-Ok.found.0.last

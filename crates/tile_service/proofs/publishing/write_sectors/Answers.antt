@@ -2,7 +2,7 @@ use Rattle.std.proofs.Common.{◌∙◌, ℕ, List, Ok, refl, sym, subst, arith}
 use Rattle.sector_disk.proofs.History.{started, any_write, any_sync}
 use Rattle.tile_service.specs.Publishing.{IsContentSector}
 use Rattle.tile_service.specs.Stored.{Holds}
-use Rattle.tile_service.proofs.AreaWrites.{write_moment, is_content_sector, next_area_keeps, next_area_leaves, sync_keeps, sync_holds}
+use Rattle.tile_service.proofs.AreaWrites.{write_moment, is_content_sector, next_area_keeps, next_area_leaves, sync_keeps, sync_holds, write_beside, sync_beside}
 use Rattle.tile_service.proofs.Contents.{write_stands}
 use Rattle.tile_service.proofs.publishing.write_sectors.Goals as goal
 
@@ -15,6 +15,7 @@ loop-index-init g c = record {
   leaves = λ stored honest next keeps. started (g.D.Sectors.history c.args.disk.now)
       (Holds (g.D.Sectors.sectors c.args.disk.now) c.args.layout.sectors stored) keeps;
   keeps = λ stored honest next keeps. keeps;
+  beside = λ honest at out. refl;
   first = λ honest first. first;
 }
 
@@ -49,6 +50,9 @@ loop-index-preserved g c =
       keeps = λ stored honest next keeps.
           next_area_keeps _ c.args.layout.sectors stored c.args.generation c.loop-index.index _ _ _ _ (c.write_area.ensures.writes honest) next
           (omega arith) (inv.keeps stored (ok.honest honest) next keeps);
+      beside = λ honest. write_beside c.args.layout.sectors c.args.generation (g.D.Sectors.history c.args.disk.now) (g.D.Sectors.history c.loop-index.disk)
+          (g.D.Sectors.history c.write_area.new.disk) (inv.beside (ok.honest honest)) c.loop-index.index _ (omega arith)
+          (any_write c.write_area.result _ _ _ _ (c.write_area.ensures.writes honest));
       first = λ honest first. write_stands c.args.content.now.snapshot c.args.content.now.archive c.args.layout.sectors c.args.generation
           (Ok tt) c.loop-index.index _ _ _ (inv.first (ok.honest honest) first)
           (subst (λ (s : List ℕ). IsContentSector c.args.content.now.snapshot c.args.content.now.archive c.loop-index.index s) (sym c.sector.ensures)
@@ -77,3 +81,24 @@ pub returns-in_ok-sync-clause-keeps : goal.returns-in_ok-sync-clause-keeps
 returns-in_ok-sync-clause-keeps g c stored honest next keeps =
     sync_keeps _ _ (any_sync c.sync.result _ _ (c.sync.ensures.syncs honest)) _ _ stored
     (c.loop-index.invariant.keeps stored (c.sync.ensures.honest honest) next keeps)
+
+pub returns-in_err-write_area-clause-beside : goal.returns-in_err-write_area-clause-beside
+returns-in_err-write_area-clause-beside g c honest =
+    write_beside c.args.layout.sectors c.args.generation (g.D.Sectors.history c.args.disk.now) (g.D.Sectors.history c.loop-index.disk)
+    (g.D.Sectors.history c.write_area.new.disk) (c.loop-index.invariant.beside (c.write_area.ensures.honest honest)) c.loop-index.index _
+    (omega arith) (any_write c.write_area.result _ _ _ _ (c.write_area.ensures.writes honest))
+
+pub returns-in_err-sync-clause-beside : goal.returns-in_err-sync-clause-beside
+returns-in_err-sync-clause-beside g c honest =
+    sync_beside c.args.layout.sectors c.args.generation (g.D.Sectors.history c.args.disk.now) (g.D.Sectors.history c.loop-index.disk)
+    (g.D.Sectors.history c.sync.new.self) (c.loop-index.invariant.beside (c.sync.ensures.honest honest))
+    (any_sync c.sync.result _ _ (c.sync.ensures.syncs honest))
+
+pub returns-in_ok-sync-clause-beside : goal.returns-in_ok-sync-clause-beside
+returns-in_ok-sync-clause-beside g c honest =
+    sync_beside c.args.layout.sectors c.args.generation (g.D.Sectors.history c.args.disk.now) (g.D.Sectors.history c.loop-index.disk)
+    (g.D.Sectors.history c.sync.new.self) (c.loop-index.invariant.beside (c.sync.ensures.honest honest))
+    (any_sync c.sync.result _ _ (c.sync.ensures.syncs honest))
+
+pub returns-else-to-sectors-clause-beside : goal.returns-else-to-sectors-clause-beside
+returns-else-to-sectors-clause-beside g c honest = c.loop-index.invariant.beside honest

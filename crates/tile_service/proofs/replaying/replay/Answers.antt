@@ -2,7 +2,7 @@ use Rattle.std.proofs.Common.{◌≡◌, ◌<◌, ◌+◌, List, [], ◌∷◌, 
 use Rattle.std.proofs.lemmas.List.{length-map, map-append}
 use Rattle.std.proofs.lemmas.Result.{err_from_is_err_and}
 use Rattle.std.specs.Vec.Iter.{into_iter_items}
-use Rattle.feature_model.specs.Data.{EditData}
+use Rattle.feature_model.specs.Data.{ChangeData}
 use Rattle.feature_store.specs.Store.{changed, snapshot}
 use Rattle.feature_store.specs.declared.limit.TheConstants.{TEXTS_END}
 use Rattle.tile_service.specs.Replayed.{AreMade, IsReplayFault, IsTextOf, IsTextFault, bytes_of, views_of}
@@ -21,7 +21,7 @@ loop-text-preserved c =
     let steps = c.in-Some.ensures.steps in
     let old = c.loop-text.map.features in
     let made = c.in_ok-replay_one.ensures.made in
-    let edit : (edit : EditData) × IsTextOf text.items edit × (c.replay_one.new.map.features ≡ changed old edit) =
+    let edit : (edit : ChangeData) × IsTextOf text.items edit × (c.replay_one.new.map.features ≡ changed old edit) =
     (made.0, subst (λ (bytes : List ℕ). IsTextOf bytes made.0) c.deref.ensures.value made.1, made.2) in
     record {
       can_next = tt;

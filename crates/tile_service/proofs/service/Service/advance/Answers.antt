@@ -1,8 +1,8 @@
-use Rattle.std.proofs.Common.{◌+◌, ◌-◌, ◌≤◌, refl, sym, ◌∙◌, ap, subst, arith}
+use Rattle.std.proofs.Common.{true, Ok, Err, ◌+◌, ◌-◌, ◌≤◌, refl, sym, ◌∙◌, ap, subst, arith}
 use Rattle.area_content.specs.Content.{sectors_taken}
-use Rattle.tile_service.specs.Machine.{left, refused}
 use Rattle.tile_service.specs.Service.{ServiceView, PublicationView, IsUp, with_publication}
 use Rattle.tile_service.specs.declared.fault.ServiceFault.TheVariants.{Device}
+use Rattle.tile_service.proofs.Shown.{beside_keeps, install_keeps}
 use Rattle.tile_service.proofs.PublishSteps.{up_further, step_leaves, last_step_leaves, up_after_step, up_after_last, step_told, last_step_told}
 use Rattle.tile_service.proofs.service.Service.advance.Goals as goal
 
@@ -14,7 +14,7 @@ returns-in-Err-clause-any_moment g c = rw (← c.self.view_is, ← c.publication
       places = c.publication.inside.places;
       written = c.publication.inside.written;
     } in
-    step_leaves _ _ stored p _ _ (refused Device)
+    step_leaves _ _ stored p _ _ (Err Device)
     (c.write_sectors.ensures.leaves stored honest (omega (arith, up.generation_is)) up.keeps))
 
 pub returns-then-left-le-STEP_SECTORS-clause-machine : goal.returns-then-left-le-STEP_SECTORS-clause-machine
@@ -141,7 +141,7 @@ returns-clause-any_moment g c = rw (← c.self.view_is, ← c.publication.view_i
       places = c.publication.inside.places;
       written = c.publication.inside.written;
     } in
-    step_leaves _ _ stored p _ _ (left (c.sectors.result - c.publication.inside.written - c.min-more.result + 1))
+    step_leaves _ _ stored p _ _ (Ok (c.sectors.result - c.publication.inside.written - c.min-more.result + 1))
     (c.write_sectors.ensures.leaves stored honest (omega (arith, up.generation_is)) up.keeps))
 
 pub returns-clause-after : goal.returns-clause-after
@@ -171,3 +171,20 @@ returns-clause-after g c = rw (← c.self.view_is, ← c.publication.view_is) (�
     c.write_sectors.ensures.count refl (c.write_sectors.ensures.keeps stored written (omega (arith, up.generation_is)) up.keeps)
     (c.in-Ok.ensures.first written) in
     up_after_step _ stored p _ _ _ (c.sectors.result - c.publication.inside.written - c.min-more.result + 1) (omega arith) between)
+
+pub returns-in-Err-clause-archive : goal.returns-in-Err-clause-archive
+returns-in-Err-clause-archive g c other =
+    beside_keeps g.D.Sectors.honest g.D.Sectors.history _ _ (sym c.self.view_is) c.write_sectors.new.disk c.self.inside.publication true
+    (c.self.inside.root.generation + 1) c.self.invariant.area (omega arith) c.write_sectors.ensures.beside
+
+pub returns-then-left-le-STEP_SECTORS-clause-archive : goal.returns-then-left-le-STEP_SECTORS-clause-archive
+returns-then-left-le-STEP_SECTORS-clause-archive g c = install_keeps g.D.Sectors.honest g.D.Sectors.history _ _ c.install_now.new.self
+    c.install_now.result
+    (beside_keeps g.D.Sectors.honest g.D.Sectors.history _ _ (sym c.self.view_is) c.write_sectors.new.disk c.self.inside.publication c.self.inside.broken
+    (c.self.inside.root.generation + 1) c.self.invariant.area (omega arith) c.write_sectors.ensures.beside)
+    c.install_now.ensures.honest c.install_now.ensures.told c.install_now.ensures.archive
+
+pub returns-clause-archive : goal.returns-clause-archive
+returns-clause-archive g c other =
+    beside_keeps g.D.Sectors.honest g.D.Sectors.history _ _ (sym c.self.view_is) c.write_sectors.new.disk _ c.self.inside.broken
+    (c.self.inside.root.generation + 1) c.self.invariant.area (omega arith) c.write_sectors.ensures.beside

@@ -1,19 +1,21 @@
-use Rattle.std.proofs.Common.{◌∙◌, refl, sym, ap, subst}
+use Rattle.std.proofs.Common.{◌∙◌, Ok, Err, option_map, refl, sym, ap, subst}
 use Rattle.std.proofs.lemmas.Bool.{false≢true}
 use Rattle.feature_model.specs.Data.{put, delete, feature_data}
-use Rattle.tile_service.specs.Events.{event_data}
-use Rattle.tile_service.specs.Machine.{IsTile, refused}
-use Rattle.tile_service.specs.Runs.{TakesEvent}
+use Rattle.tile_service.specs.Events.{IsTile}
+use Rattle.tile_service.specs.Machine.{got, no_memory, edit, begin, step, cancel, tile, look}
 use Rattle.tile_service.proofs.Callers.{edit_step, tile_step, look_step, begin_step, step_step, cancel_step}
-use Rattle.tile_service.proofs.Runs.{no_known, told_step, is_device, not_device, edit_faults, edit_fails, step_faults, step_fails}
+use Rattle.tile_service.proofs.Runs.{no_known, edit_faults, edit_fails, step_faults, step_fails}
+use Rattle.tile_service.proofs.Tellings.{told_step, put_told, delete_told, begin_told, step_told}
 use Rattle.tile_service.proofs.service.Service.answer.Goals as goal
 
 pub returns-in-Put-clause-takes : goal.returns-in-Put-clause-takes
-returns-in-Put-clause-takes g c =
-    told_step (λ event answer. TakesEvent g.D.Sectors.sectors g.D.Sectors.honest g.D.Sectors.history c.args.self.now event answer c.put.new.self)
-    (ap event_data c.in-Put.is) c.edited.ensures
-    (edit_step g.D.Sectors.sectors g.D.Sectors.honest g.D.Sectors.history _ _ (put c.in-Put.id (feature_data c.in-Put.feature)) c.put.result
-    c.put.ensures.machine c.put.ensures.size c.put.ensures.count c.put.ensures.honest c.put.ensures.untouched c.put.ensures.any_moment c.put.ensures.acknowledged c.put.ensures.refused)
+returns-in-Put-clause-takes g c = (
+  edit (put c.in-Put.id (feature_data c.in-Put.feature)) c.put.result,
+  told_step _ c.in-Put.is c.edited.ensures (put_told c.in-Put.id c.in-Put.feature c.put.result),
+  (edit_step g.D.Sectors.sectors g.D.Sectors.honest g.D.Sectors.history _ _ (put c.in-Put.id (feature_data c.in-Put.feature)) c.put.result
+      c.put.ensures.machine c.put.ensures.size c.put.ensures.count c.put.ensures.honest c.put.ensures.untouched c.put.ensures.any_moment c.put.ensures.acknowledged c.put.ensures.refused
+      c.put.ensures.archive),
+)
 
 pub returns-in-Put-clause-faults : goal.returns-in-Put-clause-faults
 returns-in-Put-clause-faults g c none =
@@ -24,11 +26,13 @@ returns-in-Put-clause-failed g c =
     edit_fails _ _ _ c.put.result _ _ (c.put.ensures.machine no_known) c.put.ensures.failed
 
 pub returns-in-Delete-clause-takes : goal.returns-in-Delete-clause-takes
-returns-in-Delete-clause-takes g c =
-    told_step (λ event answer. TakesEvent g.D.Sectors.sectors g.D.Sectors.honest g.D.Sectors.history c.args.self.now event answer c.delete.new.self)
-    (ap event_data c.in-Delete.is) c.edited-in-Delete.ensures
-    (edit_step g.D.Sectors.sectors g.D.Sectors.honest g.D.Sectors.history _ _ (delete c.in-Delete.id) c.delete.result
-    c.delete.ensures.machine c.delete.ensures.size c.delete.ensures.count c.delete.ensures.honest c.delete.ensures.untouched c.delete.ensures.any_moment c.delete.ensures.acknowledged c.delete.ensures.refused)
+returns-in-Delete-clause-takes g c = (
+  edit (delete c.in-Delete.id) c.delete.result,
+  told_step _ c.in-Delete.is c.edited-in-Delete.ensures (delete_told c.in-Delete.id c.delete.result),
+  (edit_step g.D.Sectors.sectors g.D.Sectors.honest g.D.Sectors.history _ _ (delete c.in-Delete.id) c.delete.result
+      c.delete.ensures.machine c.delete.ensures.size c.delete.ensures.count c.delete.ensures.honest c.delete.ensures.untouched c.delete.ensures.any_moment c.delete.ensures.acknowledged c.delete.ensures.refused
+      c.delete.ensures.archive),
+)
 
 pub returns-in-Delete-clause-faults : goal.returns-in-Delete-clause-faults
 returns-in-Delete-clause-faults g c none =
@@ -39,50 +43,52 @@ returns-in-Delete-clause-failed g c =
     edit_fails _ _ _ c.delete.result _ _ (c.delete.ensures.machine no_known) c.delete.ensures.failed
 
 pub returns-in-Ok-clause-takes : goal.returns-in-Ok-clause-takes
-returns-in-Ok-clause-takes g c =
-    told_step (λ event answer. TakesEvent g.D.Sectors.sectors g.D.Sectors.honest g.D.Sectors.history c.args.self.now event answer c.tile.new.self)
-    (ap event_data c.in-Tile.is) refl
-    (tile_step g.D.Sectors.sectors g.D.Sectors.honest g.D.Sectors.history _ _ c.in-Tile.at.z c.in-Tile.at.x c.in-Tile.at.y _
-    c.in-Ok.ensures.machine (not_device _ refl) c.tile.ensures.same c.tile.ensures.count c.tile.ensures.honest c.tile.ensures.history c.tile.ensures.untouched c.tile.ensures.up)
+returns-in-Ok-clause-takes g c = (
+  tile c.in-Tile.at.z c.in-Tile.at.x c.in-Tile.at.y (got (option_map (λ bytes. bytes.items) c.in-Ok.content)),
+  told_step _ c.in-Tile.is refl refl,
+  (tile_step g.D.Sectors.sectors g.D.Sectors.honest g.D.Sectors.history _ _ c.tile.ensures.same c.tile.ensures.count c.tile.ensures.honest c.tile.ensures.history c.tile.ensures.untouched c.tile.ensures.up c.in-Tile.at.z c.in-Tile.at.x c.in-Tile.at.y _ c.in-Ok.ensures.machine),
+)
 
 pub returns-in-Ok-clause-faults : goal.returns-in-Ok-clause-faults
 returns-in-Ok-clause-faults g c none unbroken =
-    absurd (none (subst IsTile (sym (ap event_data c.in-Tile.is)) tt))
+    absurd (none (subst IsTile (sym c.in-Tile.is) tt))
 
 pub returns-in-Ok-clause-failed : goal.returns-in-Ok-clause-failed
 returns-in-Ok-clause-failed g c unbroken broken =
     absurd (false≢true (sym unbroken ∙ sym (ap (λ s. s.broken) c.tile.ensures.same) ∙ broken))
 
 pub returns-in-Err-clause-takes : goal.returns-in-Err-clause-takes
-returns-in-Err-clause-takes g c =
-    told_step (λ event answer. TakesEvent g.D.Sectors.sectors g.D.Sectors.honest g.D.Sectors.history c.args.self.now event answer c.tile.new.self)
-    (ap event_data c.in-Tile.is) refl
-    (tile_step g.D.Sectors.sectors g.D.Sectors.honest g.D.Sectors.history _ _ c.in-Tile.at.z c.in-Tile.at.x c.in-Tile.at.y _
-    c.in-Err.ensures.machine (not_device _ (ap (λ fault. is_device (refused fault)) c.in-Err.ensures.fault)) c.tile.ensures.same c.tile.ensures.count c.tile.ensures.honest c.tile.ensures.history c.tile.ensures.untouched c.tile.ensures.up)
+returns-in-Err-clause-takes g c = (
+  tile c.in-Tile.at.z c.in-Tile.at.x c.in-Tile.at.y no_memory,
+  told_step _ c.in-Tile.is refl (c.in-Err.ensures.fault, refl),
+  (tile_step g.D.Sectors.sectors g.D.Sectors.honest g.D.Sectors.history _ _ c.tile.ensures.same c.tile.ensures.count c.tile.ensures.honest c.tile.ensures.history c.tile.ensures.untouched c.tile.ensures.up c.in-Tile.at.z c.in-Tile.at.x c.in-Tile.at.y _ c.in-Err.ensures.machine),
+)
 
 pub returns-in-Err-clause-faults : goal.returns-in-Err-clause-faults
 returns-in-Err-clause-faults g c none unbroken =
-    absurd (none (subst IsTile (sym (ap event_data c.in-Tile.is)) tt))
+    absurd (none (subst IsTile (sym c.in-Tile.is) tt))
 
 pub returns-in-Err-clause-failed : goal.returns-in-Err-clause-failed
 returns-in-Err-clause-failed g c unbroken broken =
     absurd (false≢true (sym unbroken ∙ sym (ap (λ s. s.broken) c.tile.ensures.same) ∙ broken))
 
 pub returns-in-Look-clause-takes : goal.returns-in-Look-clause-takes
-returns-in-Look-clause-takes g c =
-    told_step (λ event answer. TakesEvent g.D.Sectors.sectors g.D.Sectors.honest g.D.Sectors.history c.args.self.now event answer c.args.self.now)
-    (ap event_data c.in-Look.is) refl
-    (look_step g.D.Sectors.sectors g.D.Sectors.honest g.D.Sectors.history _ c.in-Look.id _ c.look.ensures)
+returns-in-Look-clause-takes g c = (
+  look c.in-Look.id c.look.ensures.0,
+  told_step _ c.in-Look.is refl c.look.ensures.1,
+  (look_step g.D.Sectors.sectors g.D.Sectors.honest g.D.Sectors.history _ c.in-Look.id c.look.ensures.0 c.look.ensures.2),
+)
 
 pub returns-in-Look-clause-failed : goal.returns-in-Look-clause-failed
 returns-in-Look-clause-failed g c unbroken broken =
     absurd (false≢true (sym unbroken ∙ broken))
 
 pub returns-in-Begin-clause-takes : goal.returns-in-Begin-clause-takes
-returns-in-Begin-clause-takes g c =
-    told_step (λ event answer. TakesEvent g.D.Sectors.sectors g.D.Sectors.honest g.D.Sectors.history c.args.self.now event answer c.publish_begin.new.self)
-    (ap event_data c.in-Begin.is) c.left.ensures
-    (begin_step g.D.Sectors.sectors g.D.Sectors.honest g.D.Sectors.history _ _ c.publish_begin.result c.publish_begin.ensures.machine c.publish_begin.ensures.same c.publish_begin.ensures.up)
+returns-in-Begin-clause-takes g c = (
+  begin c.publish_begin.result,
+  told_step _ c.in-Begin.is c.left.ensures (begin_told c.publish_begin.result),
+  (begin_step g.D.Sectors.sectors g.D.Sectors.honest g.D.Sectors.history _ _ c.publish_begin.result c.publish_begin.ensures.machine c.publish_begin.ensures.same c.publish_begin.ensures.up),
+)
 
 pub returns-in-Begin-clause-faults : goal.returns-in-Begin-clause-faults
 returns-in-Begin-clause-faults g c none unbroken =
@@ -93,10 +99,11 @@ returns-in-Begin-clause-failed g c unbroken broken =
     absurd (false≢true (sym unbroken ∙ sym (ap (λ s. s.broken) c.publish_begin.ensures.same) ∙ broken))
 
 pub returns-in-Ok-publish_cancel-clause-takes : goal.returns-in-Ok-publish_cancel-clause-takes
-returns-in-Ok-publish_cancel-clause-takes g c =
-    told_step (λ event answer. TakesEvent g.D.Sectors.sectors g.D.Sectors.honest g.D.Sectors.history c.args.self.now event answer c.publish_cancel.new.self)
-    (ap event_data c.in-Cancel.is) refl
-    (cancel_step g.D.Sectors.sectors g.D.Sectors.honest g.D.Sectors.history _ _ _ c.in-Ok-publish_cancel.ensures.machine c.publish_cancel.ensures.same c.publish_cancel.ensures.up)
+returns-in-Ok-publish_cancel-clause-takes g c = (
+  cancel (Ok tt),
+  told_step _ c.in-Cancel.is refl refl,
+  (cancel_step g.D.Sectors.sectors g.D.Sectors.honest g.D.Sectors.history _ _ _ c.in-Ok-publish_cancel.ensures.machine c.publish_cancel.ensures.same c.publish_cancel.ensures.up),
+)
 
 pub returns-in-Ok-publish_cancel-clause-faults : goal.returns-in-Ok-publish_cancel-clause-faults
 returns-in-Ok-publish_cancel-clause-faults g c none unbroken =
@@ -107,10 +114,11 @@ returns-in-Ok-publish_cancel-clause-failed g c unbroken broken =
     absurd (false≢true (sym unbroken ∙ sym (ap (λ s. s.broken) c.publish_cancel.ensures.same) ∙ broken))
 
 pub returns-in-Err-publish_cancel-clause-takes : goal.returns-in-Err-publish_cancel-clause-takes
-returns-in-Err-publish_cancel-clause-takes g c =
-    told_step (λ event answer. TakesEvent g.D.Sectors.sectors g.D.Sectors.honest g.D.Sectors.history c.args.self.now event answer c.publish_cancel.new.self)
-    (ap event_data c.in-Cancel.is) refl
-    (cancel_step g.D.Sectors.sectors g.D.Sectors.honest g.D.Sectors.history _ _ _ c.in-Err-publish_cancel.ensures.machine c.publish_cancel.ensures.same c.publish_cancel.ensures.up)
+returns-in-Err-publish_cancel-clause-takes g c = (
+  cancel (Err c.in-Err-publish_cancel.fault),
+  told_step _ c.in-Cancel.is refl refl,
+  (cancel_step g.D.Sectors.sectors g.D.Sectors.honest g.D.Sectors.history _ _ _ c.in-Err-publish_cancel.ensures.machine c.publish_cancel.ensures.same c.publish_cancel.ensures.up),
+)
 
 pub returns-in-Err-publish_cancel-clause-faults : goal.returns-in-Err-publish_cancel-clause-faults
 returns-in-Err-publish_cancel-clause-faults g c none unbroken =
@@ -121,11 +129,12 @@ returns-in-Err-publish_cancel-clause-failed g c unbroken broken =
     absurd (false≢true (sym unbroken ∙ sym (ap (λ s. s.broken) c.publish_cancel.ensures.same) ∙ broken))
 
 pub returns-in-Step-clause-takes : goal.returns-in-Step-clause-takes
-returns-in-Step-clause-takes g c =
-    told_step (λ event answer. TakesEvent g.D.Sectors.sectors g.D.Sectors.honest g.D.Sectors.history c.args.self.now event answer c.publish_step.new.self)
-    (ap event_data c.in-Step.is) c.left-in-Step.ensures
-    (step_step g.D.Sectors.sectors g.D.Sectors.honest g.D.Sectors.history _ _ c.publish_step.result
-    c.publish_step.ensures.machine c.publish_step.ensures.size c.publish_step.ensures.count c.publish_step.ensures.honest c.publish_step.ensures.refused c.publish_step.ensures.any_moment c.publish_step.ensures.after)
+returns-in-Step-clause-takes g c = (
+  step c.publish_step.result,
+  told_step _ c.in-Step.is c.left-in-Step.ensures (step_told c.publish_step.result),
+  (step_step g.D.Sectors.sectors g.D.Sectors.honest g.D.Sectors.history _ _ c.publish_step.result
+      c.publish_step.ensures.machine c.publish_step.ensures.size c.publish_step.ensures.count c.publish_step.ensures.honest c.publish_step.ensures.refused c.publish_step.ensures.any_moment c.publish_step.ensures.after c.publish_step.ensures.archive),
+)
 
 pub returns-in-Step-clause-faults : goal.returns-in-Step-clause-faults
 returns-in-Step-clause-faults g c none =

@@ -1,9 +1,8 @@
-use Rattle.std.proofs.Common.{◌≡◌, ℕ, List, refl, sym, ap, subst, arith, rules, length}
+use Rattle.std.proofs.Common.{◌≡◌, Ok, Err, ℕ, List, refl, sym, ap, subst, arith, rules, length}
 use Rattle.edit_journal.specs.Records.{IsEditLength, parts_of}
 use Rattle.feature_model.specs.Data.{delete}
 use Rattle.feature_model.specs.Limits.{NumberFits}
 use Rattle.feature_store.specs.Store.{snapshot}
-use Rattle.tile_service.specs.Machine.{edited, refused}
 use Rattle.tile_service.specs.Stored.{texts_of}
 use Rattle.tile_service.specs.declared.fault.ServiceFault.TheVariants.{NotFound}
 use Rattle.tile_service.proofs.Earlier.{since_on, now_on}
@@ -14,7 +13,7 @@ use Rattle.tile_service.proofs.service.Service.delete.Goals as goal
 
 pub returns-then-not-has-clause-any_moment : goal.returns-then-not-has-clause-any_moment
 returns-then-not-has-clause-any_moment g c = rw (← c.self.view_is)
-    (λ stored honest up. same_leaves g.D.Sectors.sectors g.D.Sectors.history stored _ c.self.invariant.ring up (delete c.args.id) (refused NotFound) _ refl)
+    (λ stored honest up. same_leaves g.D.Sectors.sectors g.D.Sectors.history stored _ c.self.invariant.ring up (delete c.args.id) (Err NotFound) _ refl)
 
 pub invariant_of-self : goal.invariant_of-self
 invariant_of-self g c =
@@ -34,7 +33,7 @@ returns-in-Ok-clause-any_moment g c = rw (← c.self.view_is) (λ stored honest 
     let fits : NumberFits c.args.id = search rules in
     let at = up_is_at g.D.Sectors.sectors g.D.Sectors.history stored _ c.self.invariant.ring up in
     append_any_moment g.D.Sectors.sectors g.D.Sectors.history stored _ c.self.invariant.ring up (delete c.args.id) fits _ c.delete_text.ensures
-    c.append.new.disk (c.append.ensures.frame honest) (edited c.in-Ok.number) tt (c.append.ensures.any_moment (texts_of stored) honest at))
+    c.append.new.disk (c.append.ensures.frame honest) (Ok c.in-Ok.number) tt (c.append.ensures.any_moment (texts_of stored) honest at))
 
 pub returns-in-Ok-clause-acknowledged : goal.returns-in-Ok-clause-acknowledged
 returns-in-Ok-clause-acknowledged g c = rw (← c.self.view_is) (λ stored honest up.

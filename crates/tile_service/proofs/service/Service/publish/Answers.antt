@@ -1,6 +1,7 @@
-use Rattle.std.proofs.Common.{◌≡◌, inr, ℕ, ◌+◌, [], ◌∷◌, ◌++◌, Ok, Err, replicate, refl, ◌∙◌, ap, subst, arith}
-use Rattle.tile_service.specs.Machine.{begin, step, left, refused}
-use Rattle.tile_service.specs.Runs.{TakesEvent, TakesEvents}
+use Rattle.std.proofs.Common.{◌≡◌, inr, ℕ, [], ◌∷◌, ◌++◌, Result, Ok, Err, refl, ◌∙◌, ap, subst, arith}
+use Rattle.tile_service.specs.Machine.{begin, step}
+use Rattle.tile_service.specs.Runs.{begin_and_steps, Takes, TakesAll}
+use Rattle.tile_service.specs.declared.fault.ServiceFault.{ServiceFault}
 use Rattle.tile_service.specs.Service.{state_of, known_after, CountsDevice}
 use Rattle.tile_service.proofs.Callers.{HasRun, begin_step, step_step, run_begins, run_on, events_on, takes_run}
 use Rattle.tile_service.proofs.Runs.{no_known}
@@ -12,19 +13,16 @@ loop-rest-init g c =
     let call = c.in-Ok.ensures in
     let old = c.args.self.now in
     let new = c.publish_begin.new.self in
-    let goes : TakesEvent g.D.Sectors.sectors g.D.Sectors.honest g.D.Sectors.history old begin (left c.in-Ok.told) new =
-    begin_step g.D.Sectors.sectors g.D.Sectors.honest g.D.Sectors.history old new (Ok c.in-Ok.told) call.machine call.same call.up in
-    let run : HasRun g.D.Sectors.sectors g.D.Sectors.honest g.D.Sectors.history old (begin ∷ []) (left c.in-Ok.told ∷ []) new =
-    run_on g.D.Sectors.sectors g.D.Sectors.honest g.D.Sectors.history old old new [] [] begin (left c.in-Ok.told)
-    (run_begins g.D.Sectors.sectors g.D.Sectors.honest g.D.Sectors.history old) goes in
+    let goes = begin_step g.D.Sectors.sectors g.D.Sectors.honest g.D.Sectors.history old new (Ok c.in-Ok.told) call.machine call.same call.up in
+    let run = run_on g.D.Sectors.sectors g.D.Sectors.honest g.D.Sectors.history old old new [] (begin (Ok c.in-Ok.told)) (run_begins g.D.Sectors.sectors g.D.Sectors.honest g.D.Sectors.history old) goes in
     record {
       stands = (
-        known_after no_known old begin (left c.in-Ok.told),
-        begun_stands (state_of no_known old) (state_of (known_after no_known old begin (left c.in-Ok.told)) new) c.in-Ok.told (call.machine no_known),
+        known_after no_known old (begin (Ok c.in-Ok.told)),
+        begun_stands (state_of no_known old) (state_of (known_after no_known old (begin (Ok c.in-Ok.told))) new) c.in-Ok.told (call.machine no_known),
       );
       edits = ap (λ s. s.journal.last) c.self.view_is;
       faults = ap (λ s. g.D.Sectors.faults s.disk) call.same;
-      run = (0, [], run, (new, goes, refl));
+      run = ([], run, (new, goes, refl));
     }
 
 pub loop-rest-preserved : goal.loop-rest-preserved
@@ -34,32 +32,27 @@ loop-rest-preserved g c =
     let old = c.loop-rest.self in
     let new = c.publish_step.new.self in
     let rest = c.loop-rest.rest in
-    let goes : TakesEvent g.D.Sectors.sectors g.D.Sectors.honest g.D.Sectors.history old step (left c.in-Ok-publish_step.told) new =
-    step_step g.D.Sectors.sectors g.D.Sectors.honest g.D.Sectors.history old new (Ok c.in-Ok-publish_step.told)
-    call.machine call.size call.count call.honest call.refused call.any_moment call.after in
-    let run : HasRun g.D.Sectors.sectors g.D.Sectors.honest g.D.Sectors.history c.args.self.now
-    (begin ∷ replicate (inv.run.0 + 1) step) ((inv.run.1 ++ left rest ∷ []) ++ left c.in-Ok-publish_step.told ∷ []) new =
-    steps_more (λ events. HasRun g.D.Sectors.sectors g.D.Sectors.honest g.D.Sectors.history c.args.self.now
-    events ((inv.run.1 ++ left rest ∷ []) ++ left c.in-Ok-publish_step.told ∷ []) new) inv.run.0
-    (run_on g.D.Sectors.sectors g.D.Sectors.honest g.D.Sectors.history c.args.self.now old new
-    (begin ∷ replicate inv.run.0 step) (inv.run.1 ++ left rest ∷ []) step (left c.in-Ok-publish_step.told) inv.run.2 goes) in
-    let taken : TakesEvents g.D.Sectors.sectors g.D.Sectors.honest g.D.Sectors.history c.args.self.now
-    (begin ∷ replicate (inv.run.0 + 1) step) ((inv.run.1 ++ left rest ∷ []) ++ left c.in-Ok-publish_step.told ∷ []) new =
-    steps_more (λ events. TakesEvents g.D.Sectors.sectors g.D.Sectors.honest g.D.Sectors.history c.args.self.now
-    events ((inv.run.1 ++ left rest ∷ []) ++ left c.in-Ok-publish_step.told ∷ []) new) inv.run.0
-    (events_on g.D.Sectors.sectors g.D.Sectors.honest g.D.Sectors.history c.args.self.now old new
-    (begin ∷ replicate inv.run.0 step) (inv.run.1 ++ left rest ∷ []) step (left c.in-Ok-publish_step.told) inv.run.3 goes) in
+    let outcome : Result ℕ ServiceFault = Ok c.in-Ok-publish_step.told in
+    let goes : Takes g.D.Sectors.sectors g.D.Sectors.honest g.D.Sectors.history old (step outcome) new =
+    step_step g.D.Sectors.sectors g.D.Sectors.honest g.D.Sectors.history old new outcome
+    call.machine call.size call.count call.honest call.refused call.any_moment call.after call.archive in
+    let run : HasRun g.D.Sectors.sectors g.D.Sectors.honest g.D.Sectors.history c.args.self.now (begin_and_steps ((inv.run.0 ++ Ok rest ∷ []) ++ outcome ∷ [])) new =
+    steps_more (λ happenings. HasRun g.D.Sectors.sectors g.D.Sectors.honest g.D.Sectors.history c.args.self.now happenings new) inv.run.0 (Ok rest) outcome
+    (run_on g.D.Sectors.sectors g.D.Sectors.honest g.D.Sectors.history c.args.self.now old new (begin_and_steps (inv.run.0 ++ Ok rest ∷ [])) (step outcome) inv.run.1 goes) in
+    let taken : TakesAll g.D.Sectors.sectors g.D.Sectors.honest g.D.Sectors.history c.args.self.now (begin_and_steps ((inv.run.0 ++ Ok rest ∷ []) ++ outcome ∷ [])) new =
+    steps_more (λ happenings. TakesAll g.D.Sectors.sectors g.D.Sectors.honest g.D.Sectors.history c.args.self.now happenings new) inv.run.0 (Ok rest) outcome
+    (events_on g.D.Sectors.sectors g.D.Sectors.honest g.D.Sectors.history c.args.self.now old new (begin_and_steps (inv.run.0 ++ Ok rest ∷ [])) (step outcome) inv.run.2 goes) in
     let known = inv.stands.0 in
     let moved = call.machine known in
     record {
       stands = (
-        known_after known old step (left c.in-Ok-publish_step.told),
-        on_stands (state_of known old) (state_of (known_after known old step (left c.in-Ok-publish_step.told)) new) moved.0
+        known_after known old (step (Ok c.in-Ok-publish_step.told)),
+        on_stands (state_of known old) (state_of (known_after known old (step (Ok c.in-Ok-publish_step.told))) new) moved.0
             c.in-Ok-publish_step.told moved.1,
       );
       edits = inv.edits;
       faults = call.faults ∙ inv.faults;
-      run = (inv.run.0 + 1, inv.run.1 ++ left rest ∷ [], run, taken);
+      run = (inv.run.0 ++ Ok rest ∷ [], run, taken);
     }
 
 pub loop-rest-smaller : goal.loop-rest-smaller
@@ -67,7 +60,7 @@ loop-rest-smaller g c =
     let inv = c.loop-rest.invariant in
     let moved = c.in-Ok-publish_step.ensures.machine inv.stands.0 in
     falls (state_of inv.stands.0 c.loop-rest.self)
-    (state_of (known_after inv.stands.0 c.loop-rest.self step (left c.in-Ok-publish_step.told)) c.publish_step.new.self)
+    (state_of (known_after inv.stands.0 c.loop-rest.self (step (Ok c.in-Ok-publish_step.told))) c.publish_step.new.self)
     c.loop-rest.rest moved.0 c.in-Ok-publish_step.told inv.stands.1 moved.1
 
 pub returns-in-Err-clause-run : goal.returns-in-Err-clause-run
@@ -75,17 +68,13 @@ returns-in-Err-clause-run g c =
     let call = c.in-Err.ensures in
     let old = c.args.self.now in
     let new = c.publish_begin.new.self in
-    let goes : TakesEvent g.D.Sectors.sectors g.D.Sectors.honest g.D.Sectors.history old begin (refused c.in-Err.fault) new =
-    begin_step g.D.Sectors.sectors g.D.Sectors.honest g.D.Sectors.history old new (Err c.in-Err.fault) call.machine call.same call.up in
-    let run : HasRun g.D.Sectors.sectors g.D.Sectors.honest g.D.Sectors.history old (begin ∷ []) (refused c.in-Err.fault ∷ []) new =
-    run_on g.D.Sectors.sectors g.D.Sectors.honest g.D.Sectors.history old old new [] [] begin (refused c.in-Err.fault)
-    (run_begins g.D.Sectors.sectors g.D.Sectors.honest g.D.Sectors.history old) goes in
+    let goes = begin_step g.D.Sectors.sectors g.D.Sectors.honest g.D.Sectors.history old new (Err c.in-Err.fault) call.machine call.same call.up in
+    let run = run_on g.D.Sectors.sectors g.D.Sectors.honest g.D.Sectors.history old old new [] (begin (Err c.in-Err.fault)) (run_begins g.D.Sectors.sectors g.D.Sectors.honest g.D.Sectors.history old) goes in
     record {
-      steps = 0;
       before = [];
-      last = refused c.in-Err.fault;
-      events = (new, goes, refl);
-      run = takes_run g.D.Sectors.sectors g.D.Sectors.honest g.D.Sectors.history old (begin ∷ []) (refused c.in-Err.fault ∷ []) new run;
+      last = Err c.in-Err.fault;
+      takes = (new, goes, refl);
+      run = takes_run g.D.Sectors.sectors g.D.Sectors.honest g.D.Sectors.history old (begin (Err c.in-Err.fault) ∷ []) new run;
       ends = refl;
     }
 
@@ -120,42 +109,35 @@ returns-in-Err-publish_step-clause-run g c =
     let old = c.loop-rest.self in
     let new = c.publish_step.new.self in
     let rest = c.loop-rest.rest in
-    let goes : TakesEvent g.D.Sectors.sectors g.D.Sectors.honest g.D.Sectors.history old step (refused c.in-Err-publish_step.fault) new =
-    step_step g.D.Sectors.sectors g.D.Sectors.honest g.D.Sectors.history old new (Err c.in-Err-publish_step.fault)
-    call.machine call.size call.count call.honest call.refused call.any_moment call.after in
-    let run : HasRun g.D.Sectors.sectors g.D.Sectors.honest g.D.Sectors.history c.args.self.now
-    (begin ∷ replicate (inv.run.0 + 1) step) ((inv.run.1 ++ left rest ∷ []) ++ refused c.in-Err-publish_step.fault ∷ []) new =
-    steps_more (λ events. HasRun g.D.Sectors.sectors g.D.Sectors.honest g.D.Sectors.history c.args.self.now
-    events ((inv.run.1 ++ left rest ∷ []) ++ refused c.in-Err-publish_step.fault ∷ []) new) inv.run.0
-    (run_on g.D.Sectors.sectors g.D.Sectors.honest g.D.Sectors.history c.args.self.now old new
-    (begin ∷ replicate inv.run.0 step) (inv.run.1 ++ left rest ∷ []) step (refused c.in-Err-publish_step.fault) inv.run.2 goes) in
-    let taken : TakesEvents g.D.Sectors.sectors g.D.Sectors.honest g.D.Sectors.history c.args.self.now
-    (begin ∷ replicate (inv.run.0 + 1) step) ((inv.run.1 ++ left rest ∷ []) ++ refused c.in-Err-publish_step.fault ∷ []) new =
-    steps_more (λ events. TakesEvents g.D.Sectors.sectors g.D.Sectors.honest g.D.Sectors.history c.args.self.now
-    events ((inv.run.1 ++ left rest ∷ []) ++ refused c.in-Err-publish_step.fault ∷ []) new) inv.run.0
-    (events_on g.D.Sectors.sectors g.D.Sectors.honest g.D.Sectors.history c.args.self.now old new
-    (begin ∷ replicate inv.run.0 step) (inv.run.1 ++ left rest ∷ []) step (refused c.in-Err-publish_step.fault) inv.run.3 goes) in
+    let outcome : Result ℕ ServiceFault = Err c.in-Err-publish_step.fault in
+    let goes : Takes g.D.Sectors.sectors g.D.Sectors.honest g.D.Sectors.history old (step outcome) new =
+    step_step g.D.Sectors.sectors g.D.Sectors.honest g.D.Sectors.history old new outcome
+    call.machine call.size call.count call.honest call.refused call.any_moment call.after call.archive in
+    let run : HasRun g.D.Sectors.sectors g.D.Sectors.honest g.D.Sectors.history c.args.self.now (begin_and_steps ((inv.run.0 ++ Ok rest ∷ []) ++ outcome ∷ [])) new =
+    steps_more (λ happenings. HasRun g.D.Sectors.sectors g.D.Sectors.honest g.D.Sectors.history c.args.self.now happenings new) inv.run.0 (Ok rest) outcome
+    (run_on g.D.Sectors.sectors g.D.Sectors.honest g.D.Sectors.history c.args.self.now old new (begin_and_steps (inv.run.0 ++ Ok rest ∷ [])) (step outcome) inv.run.1 goes) in
+    let taken : TakesAll g.D.Sectors.sectors g.D.Sectors.honest g.D.Sectors.history c.args.self.now (begin_and_steps ((inv.run.0 ++ Ok rest ∷ []) ++ outcome ∷ [])) new =
+    steps_more (λ happenings. TakesAll g.D.Sectors.sectors g.D.Sectors.honest g.D.Sectors.history c.args.self.now happenings new) inv.run.0 (Ok rest) outcome
+    (events_on g.D.Sectors.sectors g.D.Sectors.honest g.D.Sectors.history c.args.self.now old new (begin_and_steps (inv.run.0 ++ Ok rest ∷ [])) (step outcome) inv.run.2 goes) in
     record {
-      steps = inv.run.0 + 1;
-      before = inv.run.1 ++ left rest ∷ [];
-      last = refused c.in-Err-publish_step.fault;
-      events = taken;
-      run = takes_run g.D.Sectors.sectors g.D.Sectors.honest g.D.Sectors.history c.args.self.now (begin ∷ replicate (inv.run.0 + 1) step)
-          ((inv.run.1 ++ left rest ∷ []) ++ refused c.in-Err-publish_step.fault ∷ []) new run;
+      before = inv.run.0 ++ Ok rest ∷ [];
+      last = outcome;
+      takes = taken;
+      run = takes_run g.D.Sectors.sectors g.D.Sectors.honest g.D.Sectors.history c.args.self.now (begin_and_steps ((inv.run.0 ++ Ok rest ∷ []) ++ outcome ∷ [])) new run;
       ends = refl;
     }
 
 pub returns-in-Err-publish_step-clause-size : goal.returns-in-Err-publish_step-clause-size
 returns-in-Err-publish_step-clause-size g c =
-    c.in-Err-publish_step.ensures.size ∙ c.loop-rest.invariant.run.2.size
+    c.in-Err-publish_step.ensures.size ∙ c.loop-rest.invariant.run.1.size
 
 pub returns-in-Err-publish_step-clause-count : goal.returns-in-Err-publish_step-clause-count
 returns-in-Err-publish_step-clause-count g c =
-    c.in-Err-publish_step.ensures.count ∙ c.loop-rest.invariant.run.2.count
+    c.in-Err-publish_step.ensures.count ∙ c.loop-rest.invariant.run.1.count
 
 pub returns-in-Err-publish_step-clause-honest : goal.returns-in-Err-publish_step-clause-honest
 returns-in-Err-publish_step-clause-honest g c honest =
-    c.loop-rest.invariant.run.2.stays_honest (c.in-Err-publish_step.ensures.honest honest)
+    c.loop-rest.invariant.run.1.stays_honest (c.in-Err-publish_step.ensures.honest honest)
 
 pub returns-in-Err-publish_step-clause-failed : goal.returns-in-Err-publish_step-clause-failed
 returns-in-Err-publish_step-clause-failed g c =
@@ -186,14 +168,12 @@ returns-clause-run g c =
     let inv = c.loop-rest.invariant in
     let done : c.loop-rest.rest ≡ 0 = omega (arith, c.loop-rest-test.false) in
     record {
-      steps = inv.run.0;
-      before = inv.run.1;
-      last = left c.loop-rest.rest;
-      events = inv.run.3;
-      run = takes_run g.D.Sectors.sectors g.D.Sectors.honest g.D.Sectors.history c.args.self.now (begin ∷ replicate inv.run.0 step)
-          (inv.run.1 ++ left c.loop-rest.rest ∷ []) c.loop-rest.self inv.run.2;
+      before = inv.run.0;
+      last = Ok c.loop-rest.rest;
+      takes = inv.run.2;
+      run = takes_run g.D.Sectors.sectors g.D.Sectors.honest g.D.Sectors.history c.args.self.now (begin_and_steps (inv.run.0 ++ Ok c.loop-rest.rest ∷ [])) c.loop-rest.self inv.run.1;
       ends = (
-        ap (λ (n : ℕ). left n) done,
+        ap (λ (n : ℕ). Ok n) done,
         ap (λ s. s.generation) c.self-2.view_is,
         inv.edits,
         ap (λ s. s.archive_len) c.self-2.view_is,
@@ -202,15 +182,15 @@ returns-clause-run g c =
 
 pub returns-clause-size : goal.returns-clause-size
 returns-clause-size g c =
-    c.loop-rest.invariant.run.2.size
+    c.loop-rest.invariant.run.1.size
 
 pub returns-clause-count : goal.returns-clause-count
 returns-clause-count g c =
-    c.loop-rest.invariant.run.2.count
+    c.loop-rest.invariant.run.1.count
 
 pub returns-clause-honest : goal.returns-clause-honest
 returns-clause-honest g c =
-    c.loop-rest.invariant.run.2.stays_honest
+    c.loop-rest.invariant.run.1.stays_honest
 
 pub returns-clause-faults : goal.returns-clause-faults
 returns-clause-faults g c =

@@ -1,6 +1,6 @@
-use Rattle.std.proofs.Common.{◌≡◌, ℕ, List, [], ◌∷◌, ◌++◌, replicate}
-use Rattle.tile_service.specs.Machine.{AnswerData, begin, step, left}
-use Rattle.tile_service.specs.Runs.{TakesEvents}
+use Rattle.std.proofs.Common.{◌≡◌, ℕ, List, [], ◌∷◌, ◌++◌, Result, Ok}
+use Rattle.tile_service.specs.Runs.{begin_and_steps, TakesAll}
+use Rattle.tile_service.specs.declared.fault.ServiceFault.{ServiceFault}
 use Rattle.tile_service.specs.Service.{Known, state_of}
 use Rattle.tile_service.proofs.Callers.{HasRun}
 use Rattle.tile_service.proofs.Whole.{Stands}
@@ -11,10 +11,9 @@ invariant-loop-rest g l = record {
   stands : (known : Known) × Stands (state_of known l.self) l.rest;
   edits : l.edits ≡ l.fn.self.journal.last;
   faults : g.D.Sectors.faults l.self.disk ≡ g.D.Sectors.faults l.fn.self.disk;
-  run : (steps : ℕ) × (before : List AnswerData) × HasRun g.D.Sectors.sectors g.D.Sectors.honest g.D.Sectors.history l.fn.self
-      (begin ∷ replicate steps step) (before ++ left l.rest ∷ []) l.self
-      × TakesEvents g.D.Sectors.sectors g.D.Sectors.honest g.D.Sectors.history l.fn.self
-      (begin ∷ replicate steps step) (before ++ left l.rest ∷ []) l.self;
+  run : (before : List (Result ℕ ServiceFault)) × HasRun g.D.Sectors.sectors g.D.Sectors.honest g.D.Sectors.history l.fn.self
+      (begin_and_steps (before ++ Ok l.rest ∷ [])) l.self
+      × TakesAll g.D.Sectors.sectors g.D.Sectors.honest g.D.Sectors.history l.fn.self (begin_and_steps (before ++ Ok l.rest ∷ [])) l.self;
 }
 
 abbrev pub decreases-loop-rest : goal.decreases-loop-rest

@@ -1,10 +1,9 @@
-use Rattle.std.proofs.Common.{◌≡◌, ◌≢◌, ◌∙◌, ℕ, List, refl, sym, ap, subst, arith, rules, length}
+use Rattle.std.proofs.Common.{◌≡◌, Ok, Err, ◌≢◌, ◌∙◌, ℕ, List, refl, sym, ap, subst, arith, rules, length}
 use Rattle.edit_journal.specs.Records.{IsEditLength, parts_of}
 use Rattle.edit_journal.specs.Ring.{Ring}
 use Rattle.feature_model.specs.Data.{put, feature_data}
-use Rattle.feature_model.specs.Spelled.{spelled}
+use Rattle.feature_model.specs.Spelled.{spelled_change}
 use Rattle.feature_store.specs.Store.{with_feature, snapshot}
-use Rattle.tile_service.specs.Machine.{edited, refused}
 use Rattle.tile_service.specs.Service.{IsUp}
 use Rattle.tile_service.specs.Stored.{texts_of}
 use Rattle.tile_service.specs.declared.fault.ServiceFault.TheVariants.{NumbersSpent, Memory, Device}
@@ -17,25 +16,25 @@ use Rattle.tile_service.proofs.service.Service.put.Goals as goal
 pub returns-in-Err-clause-any_moment : goal.returns-in-Err-clause-any_moment
 returns-in-Err-clause-any_moment g c = rw (← c.self.view_is) (λ stored honest up.
     same_leaves g.D.Sectors.sectors g.D.Sectors.history stored _ c.self.invariant.ring up (put c.args.id (feature_data c.args.feature))
-    (refused c.in-Err.fault) _ refl)
+    (Err c.in-Err.fault) _ refl)
 
 pub returns-then-self-2-clause-any_moment : goal.returns-then-self-2-clause-any_moment
 returns-then-self-2-clause-any_moment g c = rw (← c.self.view_is) (λ stored honest up.
     same_leaves g.D.Sectors.sectors g.D.Sectors.history stored _ c.self.invariant.ring up (put c.args.id (feature_data c.args.feature))
-    (refused NumbersSpent) _ refl)
+    (Err NumbersSpent) _ refl)
 
-pub returns-in-Err-encode-clause-any_moment : goal.returns-in-Err-encode-clause-any_moment
-returns-in-Err-encode-clause-any_moment g c = rw (← c.self.view_is) (λ stored honest up.
+pub returns-in-Err-encode_change-clause-any_moment : goal.returns-in-Err-encode_change-clause-any_moment
+returns-in-Err-encode_change-clause-any_moment g c = rw (← c.self.view_is) (λ stored honest up.
     same_leaves g.D.Sectors.sectors g.D.Sectors.history stored _ c.self.invariant.ring up (put c.args.id (feature_data c.args.feature))
-    (refused Memory) _ refl)
+    (Err Memory) _ refl)
 
 pub returns-in-Err-room-clause-any_moment : goal.returns-in-Err-room-clause-any_moment
 returns-in-Err-room-clause-any_moment g c = rw (← c.self.view_is) (λ stored honest up.
     same_leaves g.D.Sectors.sectors g.D.Sectors.history stored _ c.self.invariant.ring up (put c.args.id (feature_data c.args.feature))
-    (refused Memory) _ refl)
+    (Err Memory) _ refl)
 
 pub append-requires-clause-text : goal.append-requires-clause-text
-append-requires-clause-text g c = subst (λ (t : List ℕ). IsEditLength (length t)) (sym (c.deref.ensures.value ∙ c.in-Ok-encode.ensures.text))
+append-requires-clause-text g c = subst (λ (t : List ℕ). IsEditLength (length t)) (sym (c.deref.ensures.value ∙ c.in-Ok-encode_change.ensures.text))
     (put_length c.args.id (feature_data c.args.feature) c.in-Ok.ensures.ok.allowed)
 
 pub apply-requires-clause-texts : goal.apply-requires-clause-texts
@@ -45,7 +44,7 @@ apply-requires-clause-texts g c = rw (ap (λ m. m.features) c.room.ensures.same)
 
 pub invariant_of-self-in-Ok-append : goal.invariant_of-self-in-Ok-append
 invariant_of-self-in-Ok-append g c =
-    let text : c.deref.result.now ≡ spelled (put c.args.id (feature_data c.args.feature)) = c.deref.ensures.value ∙ c.in-Ok-encode.ensures.text in
+    let text : c.deref.result.now ≡ spelled_change (put c.args.id (feature_data c.args.feature)) = c.deref.ensures.value ∙ c.in-Ok-encode_change.ensures.text in
     let later = c.apply.ensures.map ∙ ap (λ m. with_feature m.features c.args.id (feature_data c.args.feature)) c.room.ensures.same in
     service_on c.self.inside.layout.sectors c.self.inside.root c.self.inside.journal c.append.new.self c.append.ensures.same.0 c.append.ensures.same.1
     (length c.deref.result.now)
@@ -64,8 +63,8 @@ pub returns-in-Ok-append-clause-any_moment : goal.returns-in-Ok-append-clause-an
 returns-in-Ok-append-clause-any_moment g c = rw (← c.self.view_is) (λ stored honest up.
     let at = up_is_at g.D.Sectors.sectors g.D.Sectors.history stored _ c.self.invariant.ring up in
     append_any_moment g.D.Sectors.sectors g.D.Sectors.history stored _ c.self.invariant.ring up (put c.args.id (feature_data c.args.feature))
-    c.in-Ok-encode.ensures.edit _ (c.deref.ensures.value ∙ c.in-Ok-encode.ensures.text) c.append.new.disk (c.append.ensures.frame honest)
-    (edited c.in-Ok-append.number) tt (c.append.ensures.any_moment (texts_of stored) honest at))
+    c.in-Ok-encode_change.ensures.change _ (c.deref.ensures.value ∙ c.in-Ok-encode_change.ensures.text) c.append.new.disk (c.append.ensures.frame honest)
+    (Ok c.in-Ok-append.number) tt (c.append.ensures.any_moment (texts_of stored) honest at))
 
 pub returns-in-Ok-append-clause-acknowledged : goal.returns-in-Ok-append-clause-acknowledged
 returns-in-Ok-append-clause-acknowledged g c = rw (← c.self.view_is) (λ stored honest up.
@@ -73,7 +72,7 @@ returns-in-Ok-append-clause-acknowledged g c = rw (← c.self.view_is) (λ store
     let last : c.apply.new.map.last ≡ c.append.new.self.last =
     omega (arith, c.apply.ensures.last, c.in-Ok-append.ensures.number, c.in-Ok-append.ensures.last) in
     up_with_edit g.D.Sectors.sectors g.D.Sectors.history stored _ c.self.invariant.ring up (put c.args.id (feature_data c.args.feature))
-    c.in-Ok-encode.ensures.edit _ (c.deref.ensures.value ∙ c.in-Ok-encode.ensures.text) c.append.new.disk (c.append.ensures.frame honest)
+    c.in-Ok-encode_change.ensures.change _ (c.deref.ensures.value ∙ c.in-Ok-encode_change.ensures.text) c.append.new.disk (c.append.ensures.frame honest)
     _ refl c.append.ensures.count refl c.append.ensures.same (c.in-Ok-append.ensures.acknowledged (texts_of stored) honest at)
     (c.apply.ensures.map ∙ ap (λ m. with_feature m.features c.args.id (feature_data c.args.feature)) c.room.ensures.same)
     (since_on c.self.inside.map c.room.new.self c.apply.new.map c.self.inside.journal.last c.append.new.self.last c.self.invariant.last_is
@@ -84,7 +83,7 @@ pub returns-in-Err-append-clause-any_moment : goal.returns-in-Err-append-clause-
 returns-in-Err-append-clause-any_moment g c = rw (ap (λ s. s.disk) c.fail.ensures.same, ← c.self.view_is) (λ stored honest up.
     let at = up_is_at g.D.Sectors.sectors g.D.Sectors.history stored _ c.self.invariant.ring up in
     refused_any_moment g.D.Sectors.sectors g.D.Sectors.history stored _ c.self.invariant.ring up (put c.args.id (feature_data c.args.feature))
-    c.in-Ok-encode.ensures.edit _ (c.deref.ensures.value ∙ c.in-Ok-encode.ensures.text) c.append.new.disk (c.append.ensures.frame honest)
+    c.in-Ok-encode_change.ensures.change _ (c.deref.ensures.value ∙ c.in-Ok-encode_change.ensures.text) c.append.new.disk (c.append.ensures.frame honest)
     c.in-Err-append.fault c.fail.result c.fail.ensures.told c.in-Err-append.ensures.refused (c.append.ensures.any_moment (texts_of stored) honest at))
 
 pub returns-in-Err-append-clause-refused : goal.returns-in-Err-append-clause-refused

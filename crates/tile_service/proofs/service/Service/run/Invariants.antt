@@ -1,9 +1,9 @@
-use Rattle.std.proofs.Common.{◌≡◌, ◌≤◌, ◌++◌, length, map, true, false}
+use Rattle.std.proofs.Common.{◌≡◌, ◌≤◌, ◌++◌, List, length, true, false}
 use Rattle.std.specs.Vec.{vec_len, vec_capacity}
 use Rattle.std.specs.Vec.Iter.{into_iter_items, into_iter_len}
 use Rattle.sector_disk.specs.Disk.{HasFailed}
-use Rattle.tile_service.specs.Events.{event_data, answer_data}
-use Rattle.tile_service.specs.Machine.{AsksTile}
+use Rattle.tile_service.specs.Events.{AreTold, AsksTile}
+use Rattle.tile_service.specs.Machine.{Happening}
 use Rattle.tile_service.proofs.Callers.{HasRun}
 use Rattle.tile_service.proofs.service.Service.run.Given as goal
 
@@ -15,10 +15,10 @@ invariant-loop-event g l = record {
   left : into_iter_len l.event-iterator ≡ length (into_iter_items l.event-iterator);
   capacity : length l.fn.events.items ≤ vec_capacity l.answers;
   len : vec_len l.answers ≡ length l.yielded;
-  faults : ¬ AsksTile (map event_data l.yielded) → l.self.broken ≡ false → g.D.Sectors.faults l.self.disk ≡ g.D.Sectors.faults l.initial.self.disk;
-  failed : ¬ AsksTile (map event_data l.yielded) → l.initial.self.broken ≡ false → l.self.broken ≡ true
+  faults : ¬ AsksTile l.yielded → l.self.broken ≡ false → g.D.Sectors.faults l.self.disk ≡ g.D.Sectors.faults l.initial.self.disk;
+  failed : ¬ AsksTile l.yielded → l.initial.self.broken ≡ false → l.self.broken ≡ true
       → HasFailed (g.D.Sectors.faults l.initial.self.disk) (g.D.Sectors.faults l.self.disk);
   untouched : l.initial.self.broken ≡ true → (l.self.broken ≡ true) × (l.self.disk ≡ l.initial.self.disk);
-  so : HasRun g.D.Sectors.sectors g.D.Sectors.honest g.D.Sectors.history
-      l.initial.self (map event_data l.yielded) (map answer_data l.answers.items) l.self;
+  so : (happenings : List Happening) × AreTold l.yielded l.answers.items happenings
+      × HasRun g.D.Sectors.sectors g.D.Sectors.honest g.D.Sectors.history l.initial.self happenings l.self;
 }

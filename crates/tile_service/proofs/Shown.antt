@@ -1,0 +1,94 @@
+-- The archive that a service shows, where a read gives of its sectors what it gave.
+use Rattle.std.proofs.Common.{◌≡◌, ⊎_elim, ℕ, ◌<◌, ◌≤◌, ◌+◌, ◌-◌, suc, Bool, List, [], length, take, Option, Result, Ok, Err, refl, sym, ap, ◌∙◌, subst, arith}
+use Rattle.std.specs.Prelude.{IfOk, OnErr}
+use Rattle.std.proofs.lemmas.Bool.{cases_lt}
+use Rattle.std.proofs.lemmas.Nat.{mod_below}
+use Rattle.sector_disk.specs.Disk.{Image, History, seen}
+use Rattle.sector_bytes.specs.Bytes.{sector_piece}
+use Rattle.sector_bytes.specs.Source.{AreItsBytes}
+use Rattle.generations.specs.Areas.{journal_sectors, area_sectors, area_start, sectors_of}
+use Rattle.edit_journal.specs.Appends.{IsFree, ReadsAsBefore}
+use Rattle.tile_service.specs.Publishing.{IsBeside}
+use Rattle.tile_service.specs.Service.{PublicationView, ServiceView, KeepsArchive}
+use Rattle.tile_service.specs.Stored.{journal_ring}
+use Rattle.tile_service.specs.declared.fault.ServiceFault.{ServiceFault}
+use Rattle.tile_service.proofs.Publishes.{no_piece_behind, areas_apart}
+
+-- a generation's area holds a snapshot and an archive of these lengths
+module _ (n generation snapshot_len archive_len : ℕ) (fits : sectors_of snapshot_len + sectors_of archive_len ≤ area_sectors n) (archive : List ℕ)
+    (old new : Image) where
+  -- the archive is read behind the snapshot
+  abbrev pub IsRead : Image → Type 0
+  IsRead image = AreItsBytes (area_start n generation + sectors_of snapshot_len) archive_len archive image
+
+  piece_same : (index : ℕ) → archive_len ≡ length archive
+      → ((at : ℕ) → area_start n generation ≤ at → at < area_start n generation + area_sectors n → new at ≡ old at)
+      → take (length (sector_piece archive index)) (old (area_start n generation + sectors_of snapshot_len + index)) ≡ sector_piece archive index
+      → take (length (sector_piece archive index)) (new (area_start n generation + sectors_of snapshot_len + index)) ≡ sector_piece archive index
+  piece_same index len same is = ⊎_elim
+      (λ (lt : index < sectors_of archive_len).
+      ap (λ (sector : List ℕ). take (length (sector_piece archive index)) sector)
+      (same (area_start n generation + sectors_of snapshot_len + index) (omega arith) (omega (arith, lt, fits))) ∙ is)
+      (λ (past : sectors_of archive_len ≤ index).
+      subst (λ (piece : List ℕ). take (length piece) (new (area_start n generation + sectors_of snapshot_len + index)) ≡ piece)
+      (sym (no_piece_behind archive index (subst (λ (l : ℕ). sectors_of l ≤ index) len past))) refl)
+      (cases_lt index (sectors_of archive_len))
+
+  -- It stays where the area is read as before,
+  pub area_shown : ((at : ℕ) → area_start n generation ≤ at → at < area_start n generation + area_sectors n → new at ≡ old at) → IsRead old → IsRead new
+  area_shown same shown = record {
+    length_is = shown.length_is;
+    stands = λ index. piece_same index (sym shown.length_is) same (shown.stands index);
+  }
+
+  -- so after an append to the journal, done or failed,
+  pub append_shown : (place used : ℕ) → ReadsAsBefore (journal_ring n) place used old new → IsRead old → IsRead new
+  append_shown place used reads = area_shown (λ at from to. reads at (λ free. in_journal at from free))
+    where
+      in_journal : (at : ℕ) → area_start n generation ≤ at → IsFree (journal_ring n) place used at → ⊥
+      in_journal at from free = omega (arith, from, free.3, mod_below (place + free.0) (journal_sectors n) (omega (arith, free.2)))
+
+  -- after writes into the area of the next generation,
+  pub beside_shown : IsBeside n (suc generation) old new → IsRead old → IsRead new
+  beside_shown beside = area_shown (λ at from to. beside at (λ inside.
+      areas_apart n generation at (at - area_start n generation) inside (omega (arith, from, to)) (omega (arith, from))))
+
+  -- and after the write of a root.
+  pub root_shown : (root : ℕ) → root < 3 → ((at : ℕ) → (at ≡ root → ⊥) → new at ≡ old at) → IsRead old → IsRead new
+  root_shown root low others = area_shown (λ at from to. others at (λ is. omega (arith, from, is, low)))
+
+-- ---- of a service
+
+module _ {D : Type 0} (honest : D → Type 0) (history : D → History) where
+  -- writes into the area of the next generation leave what is shown
+  pub beside_keeps : (old inside : ServiceView D) → old ≡ inside → (disk : D) (publication : Option PublicationView) (broken : Bool) (next : ℕ)
+      → sectors_of inside.snapshot_len + sectors_of inside.archive_len ≤ area_sectors inside.size → next ≡ suc inside.generation
+      → (honest disk → IsBeside inside.size next (seen (history inside.disk)) (seen (history disk)))
+      → KeepsArchive honest history old (record inside { disk = disk; publication = publication; broken = broken })
+  beside_keeps old inside is disk publication broken next fits next_is beside =
+      subst (λ (s : ServiceView D). KeepsArchive honest history s (record inside { disk = disk; publication = publication; broken = broken })) (sym is)
+      (record {
+        generation = refl;
+        snapshot_len = refl;
+        archive_len = refl;
+        shows = λ archive shown is_honest. beside_shown inside.size inside.generation inside.snapshot_len inside.archive_len fits archive
+            (seen (history inside.disk)) (seen (history disk))
+            (subst (λ (g : ℕ). IsBeside inside.size g (seen (history inside.disk)) (seen (history disk))) next_is (beside is_honest)) shown;
+      })
+
+  -- what stays shown from one service to another, and to a third
+  pub keeps_on : (old middle new : ServiceView D) → KeepsArchive honest history old middle → (honest new.disk → honest middle.disk)
+      → KeepsArchive honest history middle new → KeepsArchive honest history old new
+  keeps_on old middle new first stays second = record {
+    generation = second.generation ∙ first.generation;
+    snapshot_len = second.snapshot_len ∙ first.snapshot_len;
+    archive_len = second.archive_len ∙ first.archive_len;
+    shows = λ archive shown is_honest. second.shows archive (first.shows archive shown (stays is_honest)) is_honest;
+  }
+
+  -- an installation that fails leaves it, behind such writes too
+  pub install_keeps : (old middle new : ServiceView D) (result : Result ℕ ServiceFault) → KeepsArchive honest history old middle
+      → (honest new.disk → honest middle.disk) → IfOk result (λ told. told ≡ 0) → OnErr result (KeepsArchive honest history middle new)
+      → (result ≡ Ok 0 → ⊥) → KeepsArchive honest history old new
+  install_keeps old middle new (Ok told) first stays done second other = absurd (other (ap (λ (n : ℕ). Ok n) done))
+  install_keeps old middle new (Err fault) first stays done second other = keeps_on old middle new first stays second
