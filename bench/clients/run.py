@@ -388,6 +388,47 @@ def restarts(cases, folder):
         cases.show("a line for each connection", server.lines(), lines)
 
 
+ASKS = b"GET /map/metadata HTTP/1.1\r\nhost: a\r\n\r\n"
+
+
+def peer_of(port):
+    """A connection that is kept open."""
+    return socket.create_connection(("127.0.0.1", port), timeout=100)
+
+
+def answered(peer):
+    """Whether a request on a kept connection gets its whole reply, and after how many seconds."""
+    began = time.monotonic()
+    peer.sendall(ASKS)
+    read = b""
+    while True:
+        piece = peer.recv(65536)
+        read += piece
+        if piece and b"\r\n\r\n" not in read:
+            continue
+        _, fields, content = parsed(read)
+        if not piece or len(content) == int(dict(fields)["content-length"]):
+            return read.startswith(b"HTTP/1.1 200 "), time.monotonic() - began
+
+
+def kept_connections(cases, folder):
+    """As a browser does it: six connections that are kept open, and a seventh; and one that connects and is silent."""
+    with Server(folder, "kept") as server:
+        kept = [peer_of(server.port) for _ in range(6)]
+        replies = [answered(peer) for peer in kept]
+        cases.show("six connections that are kept open get their replies", [whole for whole, _ in replies], [True] * 6)
+        seventh = peer_of(server.port)
+        whole, seconds = answered(seventh)
+        cases.show("a seventh gets its reply, within five seconds", (whole, seconds < 5), (True, True))
+        cases.say(f"the slowest of the six took {max(took for _, took in replies):.2f} s, the seventh {seconds:.2f} s")
+        silent, behind = peer_of(server.port), peer_of(server.port)
+        whole, seconds = answered(behind)
+        cases.show("one behind a silent connection gets its reply, within five seconds", (whole, seconds < 5), (True, True))
+        cases.show("a connection that yielded has ended, with nothing behind its reply", kept[0].recv(65536), b"")
+        for peer in [*kept, seventh, silent, behind]:
+            peer.close()
+
+
 def world(longitude, latitude):
     """The point of the world of a place on earth, by the formula of Web Mercator."""
     down = 0.5 - math.asinh(math.tan(math.radians(latitude))) / (2 * math.pi)
@@ -679,7 +720,7 @@ def main():
     cases = Cases()
     with tempfile.TemporaryDirectory() as scratch:
         os.chmod(scratch, 0o755)
-        for part in (routes, refused_requests, refused_features, full, restarts, gdal, steps, in_front):
+        for part in (routes, refused_requests, refused_features, full, restarts, kept_connections, gdal, steps, in_front):
             part(cases, os.path.realpath(scratch))
     print(f"{cases.seen} cases, {cases.differ} differ")
     return 1 if cases.differ else 0

@@ -2,14 +2,16 @@
 ghost use Rattle.std.specs.Prelude.{◌≡◌, ◌<◌, List, length, IfOk, IfErr, OnOk, OnErr};
 ghost use Rattle.http_listen.specs.Connections.{Connection, Serves, CameTo, unknown_stream};
 
+use crate::doors::Door;
 use crate::ends::end_connection;
 use crate::lines::write_line;
 use crate::shared::Shared;
+use crate::turns::{ROUND_MILLISECONDS, Turns};
 use http_serve::{Handler, ServeFault, Served, serve};
 use std::alloc::Global;
 use std::cell::RefCell;
 use std::io::{Read, Write};
-use std::net::{OpenListener, OpenStream};
+use std::net::{OpenListener, OpenStream, Shutdown};
 use std::time::Duration;
 use thiserror::Error;
 
@@ -24,33 +26,62 @@ pub enum ListenFault {
 /// How many seconds a read or a write of a connection waits at most for its peer.
 pub const WAIT_SECONDS: u64 = 60;
 
-/// Sets what a new connection has: no delay of small replies, and a bound on how long its peer is waited for. What the system
+/// How many yielded connections are kept open for their last replies.
+const MOST_LINGERING: usize = 16;
+
+/// Sets what a new connection has: no delay of small replies, and bounds on how long its peer is waited for. What the system
 /// doesn't let be set is left as it is.
 fn prepare<S: OpenStream>(stream: &S) {
-    let wait = Duration::from_secs(WAIT_SECONDS);
     let _ = stream.set_nodelay(true);
-    let _ = stream.set_read_timeout(Some(wait));
-    let _ = stream.set_write_timeout(Some(wait));
+    let _ = stream.set_read_timeout(Some(Duration::from_millis(ROUND_MILLISECONDS)));
+    let _ = stream.set_write_timeout(Some(Duration::from_secs(WAIT_SECONDS)));
+}
+
+/// Ends a connection that has yielded: nothing more is sent. Its stream is kept for a while, so that a request that it sends
+/// just then doesn't cut off its last reply. The oldest of those that are kept is dropped where there are too many.
+fn linger<S: OpenStream + Drop>(kept: &mut Vec<S>, stream: S) {
+    let _ = stream.shutdown(Shutdown::Write);
+    if kept.len() >= MOST_LINGERING {
+        drop(kept.remove(0));
+    }
+    let _ = kept.push(stream);
 }
 
 /// Serves the connection of a stream, and ends it.
-fn serve_stream<S: Read + Write + OpenStream + Drop, H: Handler>(
+fn serve_stream<L, H>(
     alloc: Global,
-    stream: S,
+    door: &Door<'_, L>,
+    stream: L::Stream,
+    kept: &mut Vec<L::Stream>,
+    last: bool,
     handler: &mut H,
 ) -> Result<Served, ServeFault>
+where
+    L: OpenListener,
+    L::Stream: Read + Write + OpenStream,
+    H: Handler,
     ensures { CameTo H.replies result handler.old (unknown_stream result) handler.new }
 {
     prepare(&stream);
     let stream = RefCell::new(stream);
-    let outcome = serve(alloc, &mut Shared(&stream), &mut Shared(&stream), handler);
-    end_connection(&mut stream.into_inner());
+    let mut reader = Turns::new(&stream, door, last);
+    let outcome = serve(alloc, &mut reader, &mut Shared(&stream), handler);
+    let yielded = reader.has_yielded();
+    let mut stream = stream.into_inner();
+    if yielded {
+        linger(kept, stream);
+    } else {
+        end_connection(&mut stream);
+    }
     outcome
 }
 
 /// Serves so many connections of a listener one after the other, and writes a line to the log behind each:
 /// `connection I: R requests, END`. I counts the connections from 1, R the requests that got a whole reply, and END is `closed`,
 /// `asked`, `refused` or `turns`, or at a fault `memory`, `read`, `write` or `device`: what `http_serve::serve` answered.
+///
+/// A connection on which nothing comes for 100 ms between two requests, or for a second before the first, yields to one that
+/// waits to be accepted: it is ended, and told as `closed`. The last one of all yields to none.
 ///
 /// A connection's fault ends that connection alone. Of a peer that doesn't read or write for `WAIT_SECONDS` the connection
 /// is given up. A line that can't be written is left out.
@@ -73,11 +104,14 @@ where
     ensures all { OnOk result ((served : List Connection) × Serves H.replies handler.old served handler.new × (length served ≡ connections)) }
     ensures fewer { OnErr result ((served : List Connection) × Serves H.replies handler.old served handler.new × (length served < connections)) }
 {
+    let door = Door::new(listener);
+    let mut kept = Vec::new(alloc);
     for before in 0..connections {
-        let Ok((stream, _)) = listener.accept() else {
+        let Ok(stream) = door.next() else {
             return Err(ListenFault::Accept);
         };
-        let outcome = serve_stream(alloc, stream, handler);
+        let last = before + 1 >= connections;
+        let outcome = serve_stream(alloc, &door, stream, &mut kept, last, handler);
         let _ = write_line(log, before + 1, outcome);
     }
     Ok(())

@@ -2,12 +2,12 @@
 #![tactic(auto)]
 
 mod connections;
+mod doors;
 mod ends;
 mod lines;
 mod shared;
+mod turns;
 
 pub use connections::{ListenFault, WAIT_SECONDS, serve_on};
 pub use ends::{LAST_WAIT_SECONDS, MOST_DROPPED};
-
-#[cfg(test)]
-mod tests;
+pub use lines::write_line;

@@ -40,7 +40,7 @@ fn result_word(outcome: Result<Served, ServeFault>) -> &'static str
 }
 
 /// Writes the line of a connection: its number, how many requests got a whole reply, and its end.
-pub(crate) fn write_line<W: Write>(
+pub fn write_line<W: Write>(
     log: &mut W,
     number: u64,
     outcome: Result<Served, ServeFault>,

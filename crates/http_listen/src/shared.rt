@@ -1,20 +1,11 @@
-//! A stream that is read and written by turns.
+//! The writer of a stream that a reader shares.
 
 use std::cell::RefCell;
-use std::io::{self, ErrorKind, Read, Write};
+use std::io::{self, ErrorKind, Write};
 
-/// A reader or a writer of a stream that both share.
+/// A writer of a stream that it shares with a reader.
 #[derive(Clone, Copy)]
 pub(crate) struct Shared<'a, S>(pub(crate) &'a RefCell<S>);
-
-impl<S: Read> Read for Shared<'_, S> {
-    fn read(&mut self, buf: &mut [u8]) -> io::Result<usize> {
-        match self.0.try_borrow_mut() {
-            Ok(mut stream) => stream.read(buf),
-            Err(_) => Err(ErrorKind::WouldBlock.into()),
-        }
-    }
-}
 
 impl<S: Write> Write for Shared<'_, S> {
     fn write(&mut self, buf: &[u8]) -> io::Result<usize> {

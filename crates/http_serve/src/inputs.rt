@@ -15,7 +15,8 @@ pub(crate) struct ReadFault;
 
 /// How many bytes the buffer has. Where it is used up and less than one request waits, more bytes were
 /// answered than wait, so that moving those that wait to its front costs less than reading the others did.
-const SPACE: usize = 2 * MOST_REQUEST;
+/// A read that has room for so many bytes is made where none wait: before the first request, or between two.
+pub const READ_SPACE: usize = 2 * MOST_REQUEST;
 
 /// Makes one read into the buffer, from an offset on.
 fn read_behind<R: Read>(reader: &mut R, buffer: &mut [u8], end: usize) -> Result<usize, ReadFault>
@@ -54,7 +55,7 @@ impl Input {
     pub(crate) fn new(alloc: Global) -> Result<Self, AllocError>
         ensures { IfOk result (λ input. input.waiting ≡ []) }
     {
-        let buffer = vec![in alloc; 0; SPACE]?;
+        let buffer = vec![in alloc; 0; READ_SPACE]?;
         Ok(Input {
             buffer,
             start: 0,
@@ -69,12 +70,16 @@ impl Input {
         &self.buffer[self.start..self.end]
     }
 
-    /// Drops the first of the bytes that wait.
+    /// Drops the first of the bytes that wait. Where none wait then, the whole buffer is free again.
     pub(crate) fn drop_front(&mut self, count: usize)
         requires { count ≤ length self.old.waiting }
         ensures { self.new.waiting ≡ drop count self.old.waiting }
     {
         self.start += count;
+        if self.start == self.end {
+            self.start = 0;
+            self.end = 0;
+        }
     }
 
     /// Moves the bytes that wait to the front of the buffer, where it is used up. Returns how many bytes it moved.

@@ -3,8 +3,8 @@ use Rattle.http_serve.specs.Input.{InputView}
 use Rattle.http_serve.proofs.InputLemmas.{range_from, range_length}
 use Rattle.http_serve.proofs.inputs.Input.drop_front.Goals as goal
 
-pub returns : goal.returns
-returns c =
+pub returns-else-self : goal.returns-else-self
+returns-else-self c =
     let i = c.self.inside in
     let ordered = c.self.invariant.0 in
     let size = ap (λ (v : InputView). length v.waiting) c.self.view_is in

@@ -1,0 +1,102 @@
+//! A reader that yields between two requests.
+ghost use Rattle.std.specs.Io.{ReadsAtMost};
+
+use crate::connections::WAIT_SECONDS;
+use crate::doors::Door;
+use http_serve::READ_SPACE;
+use std::cell::RefCell;
+use std::io::{self, ErrorKind, Read};
+use std::net::OpenListener;
+
+/// How many milliseconds a round of a read waits at most.
+pub(crate) const ROUND_MILLISECONDS: u64 = 100;
+
+/// How many rounds a read has at most.
+const MOST_ROUNDS: u64 = WAIT_SECONDS * 1_000 / ROUND_MILLISECONDS;
+
+/// How many rounds a peer that has sent nothing yet is waited for where another one waits.
+const FIRST_ROUNDS: u64 = 10;
+
+/// How many rounds a peer is waited for between two requests where another one waits.
+const IDLE_ROUNDS: u64 = 1;
+
+/// The reader of a connection.
+#[derive(Drop)]
+pub(crate) struct Turns<'a, L: OpenListener> {
+    stream: &'a RefCell<L::Stream>,
+    door: &'a Door<'a, L>,
+    /// Whether it is the last connection of all, which yields to none.
+    last: bool,
+    /// Whether something was read.
+    begun: bool,
+    yielded: bool,
+}
+
+impl<'a, L: OpenListener> Turns<'a, L> {
+    /// The reader of a connection on which nothing was read.
+    pub(crate) fn new(stream: &'a RefCell<L::Stream>, door: &'a Door<'a, L>, last: bool) -> Self {
+        Turns {
+            stream,
+            door,
+            last,
+            begun: false,
+            yielded: false,
+        }
+    }
+
+    /// Whether its input was ended for a connection that waits.
+    pub(crate) fn has_yielded(&self) -> bool {
+        self.yielded
+    }
+
+    /// Whether it is to yield behind so many rounds of a read in which nothing has come.
+    fn yields(&self, rounds: u64) -> bool {
+        let patience = if self.begun {
+            IDLE_ROUNDS
+        } else {
+            FIRST_ROUNDS
+        };
+        !self.last && rounds >= patience && self.door.has_next()
+    }
+}
+
+impl<L> Turns<'_, L>
+where
+    L: OpenListener,
+    L::Stream: Read,
+{
+    /// One round of a read.
+    fn read_round(&self, buf: &mut [u8]) -> io::Result<usize>
+        ensures { ReadsAtMost result buf.new }
+    {
+        match self.stream.try_borrow_mut() {
+            Ok(mut stream) => stream.read(buf),
+            Err(_) => Err(ErrorKind::WouldBlock.into()),
+        }
+    }
+}
+
+impl<L> Read for Turns<'_, L>
+where
+    L: OpenListener,
+    L::Stream: Read,
+{
+    fn read(&mut self, buf: &mut [u8]) -> io::Result<usize> {
+        let idle = buf.len() >= READ_SPACE;
+        for before in 0..MOST_ROUNDS {
+            match self.read_round(buf) {
+                Err(e) if e.kind() == ErrorKind::WouldBlock => {}
+                Ok(count) => {
+                    self.begun = true;
+                    return Ok(count);
+                }
+                Err(e) => return Err(e),
+            }
+            if idle && self.yields(before + 1) {
+                self.yielded = true;
+                return Ok(0);
+            }
+        }
+        Err(ErrorKind::WouldBlock.into())
+    }
+}
