@@ -1,4 +1,5 @@
 pub mod Along
+mod Answering
 pub mod Connections
 mod PartLemmas
 mod SendingLemmas

@@ -1,8 +1,9 @@
 -- An archive that is sent in parts.
-use Rattle.std.proofs.Common.{◌≡◌, inl, inr, ℕ, ◌+◌, ◌-◌, ◌≤◌, List, [], ◌++◌, length, take, drop, replicate, slice_range, Option, min}
+use Rattle.std.proofs.Common.{◌≡◌, inl, inr, ℕ, ◌<◌, ◌+◌, ◌-◌, ◌≤◌, List, [], ◌∷◌, ◌++◌, length, take, drop, replicate, slice_range, Option, Some, None, min}
 use Rattle.std.proofs.Common.{refl, sym, ap, ◌∙◌, subst, arith, append_assoc, length-append, length-drop}
 use Rattle.std.proofs.lemmas.List.{drop-drop, drop-take, take_all, take-take, take_at, take-append-le, take-append-drop, length-replicate, length-take-le}
-use Rattle.std.specs.Prelude.{Result, Ok, Err, IfOk, OnOk, OnErr}
+use Rattle.std.proofs.Common.{Global}
+use Rattle.std.specs.Prelude.{Vec, Result, Ok, Err, IfOk, IfErr, OnOk, OnErr}
 use Rattle.http_serve.specs.declared.replies.Content.{Content}
 use Rattle.http_serve.specs.declared.replies.Content.TheVariants as contents
 use Rattle.http_serve.specs.declared.replies.Reply.{Reply}
@@ -10,16 +11,23 @@ use Rattle.http_serve.specs.Reply.{ReplyView, IsWhole, InParts, FitsParts, conte
 use Rattle.http_serve.proofs.HandlerLemmas.{shown_reply, whole_reply, none_in_parts}
 use Rattle.http_serve.proofs.PartLemmas.{in_parts}
 use Rattle.sector_disk.specs.Disk.{History, seen}
-use Rattle.tile_service.specs.Service.{ServiceView, IsUp, shown_archive}
+use Rattle.tile_service.specs.Machine.{read}
+use Rattle.tile_service.specs.Runs.{Takes}
+use Rattle.tile_service.specs.Service.{ServiceView, IsUp, ShowsArchive, ReadsFrom, shown_archive}
 use Rattle.tile_service.specs.Stored.{Stored}
-use Rattle.tile_service.proofs.Callers.{archive_shown}
+use Rattle.tile_service.proofs.Callers.{read_step, shown_seen}
+use Rattle.tile_service.specs.declared.fault.ServiceFault.TheVariants.{Device}
 use Rattle.tile_routes.specs.Methods.{Wanted}
+use Rattle.map_replies.specs.declared.fault.RequestFault.{RequestFault}
+use Rattle.map_replies.specs.declared.fault.RequestFault.TheVariants.{Memory}
 use Rattle.map_replies.specs.declared.parts.Part.{Part}
 use Rattle.map_replies.specs.declared.parts.Part.TheVariants.{Whole, Between, Beyond}
 use Rattle.map_replies.specs.declared.parts.Sending.{Sending}
-use Rattle.map_replies.specs.Parts.{range_for, size_of, bytes_of, part_reply}
-use Rattle.map_replies.specs.Requests.{ReadsOnly, ShowsPart, AnswersPart, AnswersArchive, Answers}
-use Rattle.map_replies.specs.Sending.{IsAnswer, start_of, IsInside, HasStored, Begins, ShowsReply, IsSending, SendsWanted}
+use Rattle.map_replies.specs.Meanings.{OrNoMemory, MeansPart, MeansArchive, Answers, AnswersWanted}
+use Rattle.map_replies.specs.Parts.{range_for, IsPart, start_of, size_of, part_reply}
+use Rattle.map_replies.specs.Sending.{IsAnswered, IsAnswer, IsAnsweredInParts, IsInside, read_outcome, Begins, SendsPart, AnswersPart, IsSending, SendsWanted}
+use Rattle.map_replies.specs.Words.{refusal_of, service_refusal}
+use Rattle.map_replies.proofs.Answering.{no_memory_first}
 
 -- ---- lists
 
@@ -54,20 +62,43 @@ part_same xs part offset is =
     drop_sum : (a n : ℕ) (xs : List ℕ) → drop (a + n) xs ≡ drop n (drop a xs)
     drop_sum a n xs = sym (drop-drop n a xs)
 
+-- a piece of a slice
+slice_inner : (xs piece : List ℕ) (a size offset : ℕ) → offset + length piece ≤ size
+    → piece ≡ slice_range xs (a + offset) (a + offset + length piece)
+    → piece ≡ take (length piece) (drop offset (slice_range xs a (a + size)))
+slice_inner xs piece a size offset within is =
+    let n : ℕ = length piece in
+    let rest : ℕ = size - offset in
+    let count : a + offset + n - (a + offset) ≡ n = omega arith in
+    let split : a + size - a ≡ offset + rest = omega (arith, within) in
+    let inside : drop offset (take (a + size - a) (drop a xs)) ≡ take rest (drop offset (drop a xs)) =
+    ap (λ (k : ℕ). drop offset (take k (drop a xs))) split ∙ drop-take offset rest (drop a xs) in
+    is ∙ ap (λ (k : ℕ). take k (drop (a + offset) xs)) count ∙ ap (take n) (sym (drop-drop offset a xs))
+    ∙ sym (take-take n rest (drop offset (drop a xs)) (omega (arith, within))) ∙ ap (take n) (sym inside)
+
+-- no bytes are those from an offset on
+no_slice : (xs part : List ℕ) (at : ℕ) → length part ≡ 0 → part ≡ slice_range xs at (at + length part)
+no_slice xs [] at none = let size : at + 0 - at ≡ 0 = omega arith in ap (λ (n : ℕ). take n (drop at xs)) (sym size)
+no_slice xs (x ∷ part) at none = absurd (omega (arith, none))
+
 -- ---- answers
 
 pub answer_on : (P Q P' Q' : ReplyView → Type 0) (reply : Reply) → ((view : ReplyView) → P view → P' view) → ((view : ReplyView) → Q view → Q' view)
     → IsAnswer P Q reply → IsAnswer P' Q' reply
 answer_on P Q P' Q' reply f g is = (is.0, is.1, f is.0 is.2, in_parts reply.content (Q is.0) (Q' is.0) (g is.0) is.3)
 
+pub answered_on : (P Q P' Q' : ReplyView → Type 0) (r : Result Reply RequestFault) → ((view : ReplyView) → P view → P' view)
+    → ((view : ReplyView) → Q view → Q' view) → IsAnsweredInParts P Q r → IsAnsweredInParts P' Q' r
+answered_on P Q P' Q' (Ok reply) f g is = answer_on P Q P' Q' reply f g is
+answered_on P Q P' Q' (Err fault) f g is = f (refusal_of fault) is
+
 -- a reply whose content isn't read in parts
 pub whole_is : (P Q : ReplyView → Type 0) (reply : Reply) → IsWhole reply → P (reply_view [] reply) → IsAnswer P Q reply
-whole_is P Q reply is told = (reply_view [] reply, whole_reply reply is.1, told, none_in_parts reply.content (Q (reply_view [] reply)) is.1)
+whole_is P Q reply is meant = (reply_view [] reply, whole_reply reply is.1, meant, none_in_parts reply.content (Q (reply_view [] reply)) is.1)
 
-pub whole_answer : {F : Type 0} (r : Result Reply F) (P Q : ReplyView → Type 0) → IfOk r (λ reply. P (reply_view [] reply)) → IfOk r IsWhole
-    → IfOk r (IsAnswer P Q)
-whole_answer (Ok reply) P Q told is = whole_is P Q reply is told
-whole_answer (Err fault) P Q told is = tt
+pub whole_answer : (P Q : ReplyView → Type 0) (r : Result Reply RequestFault) → IsAnswered P r → IfOk r IsWhole → IsAnsweredInParts P Q r
+whole_answer P Q (Ok reply) meant is = whole_is P Q reply is meant
+whole_answer P Q (Err fault) meant is = meant
 
 all_in_parts : (content : Content) (fact : Type 0) → fact → InParts content fact
 all_in_parts contents.Empty fact is = tt
@@ -76,30 +107,6 @@ all_in_parts (contents.Whole bytes) fact is = tt
 all_in_parts (contents.Parts first size) fact is = is
 
 -- ---- parts of an archive
-
-bytes_are : (part : Part) (archive : List ℕ) (total : ℕ) → IsInside part total → length archive ≡ total
-    → slice_range archive (start_of part) (start_of part + size_of part total) ≡ bytes_of part archive
-bytes_are Whole archive total inside is = take_all (0 + total - 0) archive (omega (arith, is))
-bytes_are (Between first last) archive total inside is =
-    let end : first + (last + 1 - first) ≡ last + 1 = omega (arith, inside.0) in ap (λ (e : ℕ). slice_range archive first e) end
-bytes_are Beyond archive total inside is = absurd inside
-
--- a part of what is sent
-piece_is : (part : Part) (archive piece : List ℕ) (total offset : ℕ) → IsInside part total → length archive ≡ total
-    → offset + length piece ≤ size_of part total → piece ≡ slice_range archive (start_of part + offset) (start_of part + offset + length piece)
-    → piece ≡ take (length piece) (drop offset (bytes_of part archive))
-piece_is part archive piece total offset inside is within read =
-    let n : ℕ = length piece in
-    let start : ℕ = start_of part in
-    let size : ℕ = size_of part total in
-    let rest : ℕ = start + size - start - offset in
-    let count : start + offset + n - (start + offset) ≡ n = omega arith in
-    let split : start + size - start ≡ offset + rest = omega (arith, within) in
-    let behind : drop offset (take (start + size - start) (drop start archive)) ≡ take rest (drop offset (drop start archive)) =
-    ap (λ (k : ℕ). drop offset (take k (drop start archive))) split ∙ drop-take offset rest (drop start archive) in
-    read ∙ ap (λ (k : ℕ). take k (drop (start + offset) archive)) count ∙ ap (take n) (sym (drop-drop offset start archive))
-    ∙ sym (take-take n rest (drop offset (drop start archive)) (omega (arith, within)))
-    ∙ ap (take n) (sym behind) ∙ ap (λ (xs : List ℕ). take n (drop offset xs)) (bytes_are part archive total inside is)
 
 inside_end : (part : Part) (total : ℕ) → IsInside part total → start_of part + size_of part total ≤ total
 inside_end Whole total inside = omega arith
@@ -117,178 +124,251 @@ with_content (Between first last) total a b inside = refl
 with_content Beyond total a b inside = absurd inside
 
 module _ {D : Type 0} (sectors : D → ℕ) (honest : D → Type 0) (history : D → History) where
-  pub answers_part : (old new : ServiceView D) (part : Part) (reply : ReplyView) → ShowsPart sectors honest history old part reply new
-      → AnswersPart sectors honest history old part reply new
-  answers_part old new Whole reply shows = inl shows
-  answers_part old new (Between first last) reply shows = inl shows
-  answers_part old new Beyond reply shows = shows
+  -- ---- reads
 
-  -- the first bytes are read, and the others are any
-  pub begins : (old new : ServiceView D) (first size count : ℕ) (begun : List ℕ) → first + size ≤ old.archive_len → count ≤ size → length begun ≡ count
-      → ((stored : Stored) → IsUp (sectors old.disk) (history old.disk) stored old → honest new.disk
-      → begun ≡ slice_range stored.archive first (first + count))
-      → (bytes : List ℕ) × ((length bytes ≡ size) × (take (length begun) bytes ≡ begun)) × HasStored sectors honest history old first size bytes new
-  begins old new first size count begun within few long read =
-      let archive : List ℕ = filled old.archive_len (shown_archive (seen (history old.disk)) old) in
-      let base : List ℕ = slice_range archive first (first + size) in
-      let all : length base ≡ size = slice_size archive first size (omega (arith, within, filled_size old.archive_len (shown_archive (seen (history old.disk)) old))) in
+  -- two reads are one, of whatever bytes
+  reads_on : (old new next : ServiceView D) (a b at : ℕ) (x y outcome : Option (List ℕ)) → Takes sectors honest history old (read a x) new
+      → Takes sectors honest history new (read b y) next
+      → ((archive : List ℕ) → ShowsArchive (history old.disk) old archive → honest next.disk → ReadsFrom archive (read at outcome))
+      → Takes sectors honest history old (read at outcome) next
+  reads_on old new next a b at x y outcome first second from = read_step sectors honest history old next
+      (second.changes.same ∙ ap (λ (s : ServiceView D). record s { disk = next.disk; published = next.published }) first.changes.same)
+      (second.count ∙ first.count)
+      (λ is_honest. first.stays_honest (second.stays_honest is_honest))
+      (λ is_honest. second.changes.unwritten is_honest ∙ first.changes.unwritten (second.stays_honest is_honest))
+      (λ stored up is_honest. second.after stored is_honest (first.after stored (second.stays_honest is_honest) up (λ is. is)) (λ is. is))
+      at outcome from
+
+  -- a call that reads the archive: it gives bytes, or fails
+  module _ (old new : ServiceView D) (same : new ≡ record old { disk = new.disk }) (count : sectors new.disk ≡ sectors old.disk)
+      (stays : honest new.disk → honest old.disk) (unwritten : honest new.disk → history new.disk ≡ history old.disk)
+      (up : (stored : Stored) → IsUp (sectors old.disk) (history old.disk) stored old → honest new.disk
+      → IsUp (sectors new.disk) (history new.disk) stored new) where
+    read_as : (at : ℕ) (outcome : Option (List ℕ))
+        → ((archive : List ℕ) → ShowsArchive (history old.disk) old archive → honest new.disk → ReadsFrom archive (read at outcome))
+        → Takes sectors honest history old (read at outcome) new
+    read_as at outcome from = read_step sectors honest history old new
+        (same ∙ ap (λ p. record old { disk = new.disk; published = p }) (sym (ap (λ (s : ServiceView D). s.published) same)))
+        count stays unwritten up at outcome from
+
+    pub gives_bytes : (at size : ℕ) (bytes : List ℕ) → length bytes ≡ size
+        → ((archive : List ℕ) → ShowsArchive (history old.disk) old archive → honest new.disk → bytes ≡ slice_range archive at (at + size))
+        → Takes sectors honest history old (read at (Some bytes)) new
+    gives_bytes at size bytes long given = read_as at (Some bytes) (λ archive shows is_honest.
+        given archive shows is_honest ∙ ap (λ (n : ℕ). slice_range archive at (at + n)) (sym long))
+
+    pub gives_none : (at : ℕ) → Takes sectors honest history old (read at None) new
+    gives_none at = read_as at None (λ archive shows is_honest. tt)
+
+  -- no bytes are read
+  pub reads_nothing : (old : ServiceView D) (at : ℕ) (part : List ℕ) → length part ≡ 0 → Takes sectors honest history old (read at (Some part)) old
+  reads_nothing old at part none = read_step sectors honest history old old refl refl (λ is_honest. is_honest) (λ is_honest. refl)
+      (λ stored up is_honest. up) at (Some part) (λ archive shows is_honest. no_slice archive part at none)
+
+  -- the same archive is shown after a read
+  shows_on : (old new : ServiceView D) (at : ℕ) (outcome : Option (List ℕ)) (archive : List ℕ) → Takes sectors honest history old (read at outcome) new
+      → honest new.disk → ShowsArchive (history old.disk) old archive → ShowsArchive (history new.disk) new archive
+  shows_on old new at outcome archive takes is_honest shows =
+      subst (λ (h : History). ShowsArchive h new archive) (sym (takes.changes.unwritten is_honest))
+      (subst (λ (s : ServiceView D). ShowsArchive (history old.disk) s archive) (sym takes.changes.same) shows)
+
+  -- the first bytes are read, and the others are those that a read would give
+  begun_bytes : (old new : ServiceView D) (first size : ℕ) (begun : List ℕ) → first + size ≤ old.archive_len → length begun ≤ size
+      → Takes sectors honest history old (read first (Some begun)) new
+      → (bytes : List ℕ) × (length bytes ≡ size) × (take (length begun) bytes ≡ begun) × Takes sectors honest history old (read first (Some bytes)) new
+  begun_bytes old new first size begun within few takes =
+      let count : ℕ = length begun in
+      let all : List ℕ = filled old.archive_len (shown_archive (seen (history old.disk)) old) in
+      let base : List ℕ = slice_range all first (first + size) in
+      let base_size : length base ≡ size =
+      slice_size all first size (omega (arith, within, filled_size old.archive_len (shown_archive (seen (history old.disk)) old))) in
       let bytes : List ℕ = begun ++ drop count base in
-      let long_is : length bytes ≡ size = omega (arith, length-append begun (drop count base), length-drop count base, all, long, few) in (
+      let long : length bytes ≡ size = omega (arith, length-append begun (drop count base), length-drop count base, base_size, few) in (
         bytes,
-        (long_is, take_at begun (drop count base) (length begun) refl),
-        (
-          long_is,
-          λ stored up is_honest.
-              let shown = archive_shown (sectors old.disk) (history old.disk) stored old up in
-              let is : archive ≡ stored.archive =
-              ap (filled old.archive_len) shown ∙ filled_same old.archive_len stored.archive (sym up.archive_len_is) in
-              let whole : base ≡ slice_range stored.archive first (first + size) = ap (λ (xs : List ℕ). slice_range xs first (first + size)) is in
-              let front : begun ≡ take count base =
-              read stored up is_honest ∙ slice_front stored.archive first size count few ∙ ap (take count) (sym whole) in
-              ap (λ (xs : List ℕ). xs ++ drop count base) front ∙ take-append-drop count base ∙ whole,
-        ),
+        long,
+        take_at begun (drop count base) count refl,
+        read_step sectors honest history old new takes.changes.same takes.count takes.stays_honest takes.changes.unwritten
+            (λ stored up is_honest. takes.after stored is_honest up (λ is. is)) first (Some bytes) (λ archive shows is_honest.
+            let is : all ≡ archive =
+            ap (filled old.archive_len) (shown_seen (history old.disk) old archive shows) ∙ filled_same old.archive_len archive shows.length_is in
+            let whole : base ≡ slice_range archive first (first + size) = ap (λ (xs : List ℕ). slice_range xs first (first + size)) is in
+            let front : begun ≡ take count base =
+            takes.archive archive shows is_honest ∙ slice_front archive first size count few ∙ ap (take count) (sym whole) in
+            ap (λ (xs : List ℕ). xs ++ drop count base) front ∙ take-append-drop count base ∙ whole
+            ∙ ap (λ (n : ℕ). slice_range archive first (first + n)) (sym long)),
       )
+
+  pub begins : (old new : ServiceView D) (first size : ℕ) (begun : Vec ℕ Global) → first + size ≤ old.archive_len → length begun.items ≤ size
+      → Takes sectors honest history old (read first (Some begun.items)) new → Begins sectors honest history old new first size (contents.Parts begun size)
+  begins old new first size begun within few takes = let bytes = begun_bytes old new first size begun.items within few takes in
+      (bytes.0, (bytes.1, bytes.2), refl, bytes.1, bytes.3)
+
+  -- ---- a part that is sent
+
+  answers_part : (part : Part) (old : ServiceView D) (sending : Sending) (new : ServiceView D) (reply : ReplyView)
+      → SendsPart sectors honest history part old sending new reply → Answers sectors honest history (MeansPart old.archive_len part) old new reply
+  answers_part Whole old sending new reply sends =
+      (read 0 (Some sends.content) ∷ [], (Some sends.content, sends.long, sends.shows, refl), (new, sends.reads, refl))
+  answers_part (Between first last) old sending new reply sends =
+      (read first (Some sends.content) ∷ [], (Some sends.content, sends.long, sends.shows, refl), (new, sends.reads, refl))
+  answers_part Beyond old sending new reply sends = absurd sends.sent.0
 
   -- the reply with such a content
-  pub shows_reply : (old new : ServiceView D) (part : Part) (sending : Sending) (reply : Reply) (content : Content) → IsInside part old.archive_len
-      → Begins sectors honest history old (start_of part) (size_of part old.archive_len) new content → reply.content ≡ content
+  pub part_sent : (old new : ServiceView D) (part : Part) (sending : Sending) (reply : Reply) (content : Content) → IsInside part old.archive_len
+      → Begins sectors honest history old new (start_of part) (size_of part old.archive_len) content → reply.content ≡ content
       → ((bytes : List ℕ) → reply_view bytes reply ≡ part_reply part old.archive_len (content_bytes bytes content))
-      → sending ≡ record { first = start_of part; length = size_of part old.archive_len } → ShowsReply sectors honest history old part sending new reply
-  shows_reply old new part sending reply content inside begun is told sent =
+      → sending ≡ record { first = start_of part; length = size_of part old.archive_len } → AnswersPart sectors honest history part old sending new reply
+  part_sent old new part sending reply content inside begun is shows sent =
       let bytes : List ℕ = begun.0 in
-      let shows : ShowsPart sectors honest history old part (reply_view bytes reply) new = (
-        bytes,
-        told bytes ∙ ap (part_reply part old.archive_len) begun.2,
-        begun.3.0,
-        λ stored up is_honest. begun.3.1 stored up is_honest ∙ bytes_are part stored.archive old.archive_len inside (sym up.archive_len_is),
-      ) in (
+      let sends : SendsPart sectors honest history part old sending new (reply_view bytes reply) = record {
+        sent = (inside, sent);
+        content = bytes;
+        long = begun.3;
+        shows = shows bytes ∙ ap (part_reply part old.archive_len) begun.2;
+        reads = begun.4;
+      } in (
         reply_view bytes reply,
         shown_reply reply bytes (subst (λ (c : Content). FitsParts bytes c) (sym is) begun.1),
-        answers_part old new part (reply_view bytes reply) shows,
-        all_in_parts reply.content _ (shows, (inside, sent)),
+        answers_part part old sending new (reply_view bytes reply) sends,
+        all_in_parts reply.content _ sends,
       )
 
-  pub reads_same : (old : ServiceView D) → ReadsOnly sectors honest history old old
-  reads_same old = record {
-    same = refl;
-    count = refl;
-    stays_honest = λ is_honest. is_honest;
-    unwritten = λ is_honest. refl;
-    still_up = λ stored up is_honest. up;
-  }
+  -- the reply where the disk failed
+  pub part_failed : (old new : ServiceView D) (part : Part) (sending : Sending) (reply : Reply) → IsInside part old.archive_len → IsWhole reply
+      → reply_view [] reply ≡ service_refusal Device → Takes sectors honest history old (read (start_of part) None) new
+      → AnswersPart sectors honest history part old sending new reply
+  part_failed old new Whole sending reply inside whole is takes =
+      whole_is _ _ reply whole (read 0 None ∷ [], (None, tt, is, refl), (new, takes, refl))
+  part_failed old new (Between first last) sending reply inside whole is takes =
+      whole_is _ _ reply whole (read first None ∷ [], (None, tt, is, refl), (new, takes, refl))
+  part_failed old new Beyond sending reply inside whole is takes = absurd inside
 
-  reads_then : (old new next : ServiceView D) → ReadsOnly sectors honest history old new → ReadsOnly sectors honest history new next
-      → ReadsOnly sectors honest history old next
-  reads_then old new next x y = record {
-    same = y.same ∙ ap (λ (s : ServiceView D). record s { disk = next.disk; published = next.published }) x.same;
-    count = y.count ∙ x.count;
-    stays_honest = λ is_honest. x.stays_honest (y.stays_honest is_honest);
-    unwritten = λ is_honest. y.unwritten is_honest ∙ x.unwritten (y.stays_honest is_honest);
-    still_up = λ stored up is_honest. y.still_up stored (x.still_up stored up (y.stays_honest is_honest)) is_honest;
-  }
+  -- ---- the archive
 
-  module _ (range : Option (List ℕ)) (old : ServiceView D) (reply : ReplyView) (sending : Sending) (new : ServiceView D)
-      (is : IsSending sectors honest history range old reply sending new) where
+  module _ (range : Option (List ℕ)) (old : ServiceView D) (sending : Sending) (new : ServiceView D) where
+    abbrev AnswersArchive : ReplyView → Type 0
+    AnswersArchive reply = Answers sectors honest history (OrNoMemory (MeansArchive old.archive_len range)) old new reply
+
+    -- a part of it
+    asked_part : (part : Part) (reply : ReplyView) → 0 < old.archive_len → IsPart range old.archive_len part
+        → Answers sectors honest history (MeansPart old.archive_len part) old new reply → AnswersArchive reply
+    asked_part part reply some asked is = (is.0, inl (inr (some, part, asked, is.1)), is.2)
+
+    pub archive_answered : (part : Part) (r : Result Reply RequestFault) → 0 < old.archive_len → IsPart range old.archive_len part
+        → IfOk r (AnswersPart sectors honest history part old sending new) → IfErr r (λ fault. (new ≡ old) × (fault ≡ Memory))
+        → IsAnsweredInParts AnswersArchive (IsSending sectors honest history range old sending new) r
+    archive_answered part (Ok reply) some asked is refused = answer_on _ _ _ _ reply (λ view. asked_part part view some asked)
+        (λ view sends. record { some = some; part = part; asked = asked; sends = sends }) is
+    archive_answered part (Err fault) some asked is refused = subst (λ (f : RequestFault). AnswersArchive (refusal_of f)) (sym refused.1)
+        (no_memory_first sectors honest history (MeansArchive old.archive_len range) old new refused.0)
+
+  module _ (range : Option (List ℕ)) (old : ServiceView D) (sending : Sending) (new : ServiceView D) (reply : ReplyView)
+      (is : IsSending sectors honest history range old sending new reply) where
+    abbrev total : ℕ
+    total = old.archive_len
+
     -- all of what is sent lies in the archive
     pub sent_size : min sending.length (new.archive_len - sending.first) ≡ length reply.content
     sent_size =
-        let same : new.archive_len ≡ old.archive_len = ap (λ (s : ServiceView D). s.archive_len) is.reads.same in
-        let first : sending.first ≡ start_of is.part = ap (λ (s : Sending). s.first) is.sent.1 in
-        let size : sending.length ≡ size_of is.part old.archive_len = ap (λ (s : Sending). s.length) is.sent.1 in
-        let long : length reply.content ≡ length is.shows.0 =
-        ap length (ap (λ (r : ReplyView). r.content) is.shows.1 ∙ content_of is.part old.archive_len is.shows.0 is.sent.0) in
-        omega (arith, same, first, size, long, is.shows.2, inside_end is.part old.archive_len is.sent.0)
+        let same : new.archive_len ≡ total = ap (λ (s : ServiceView D). s.archive_len) is.sends.reads.changes.same in
+        let first : sending.first ≡ start_of is.part = ap (λ (s : Sending). s.first) is.sends.sent.1 in
+        let size : sending.length ≡ size_of is.part total = ap (λ (s : Sending). s.length) is.sends.sent.1 in
+        let long : length reply.content ≡ length is.sends.content =
+        ap length (ap (λ (r : ReplyView). r.content) is.sends.shows ∙ content_of is.part total is.sends.content is.sends.sent.0) in
+        omega (arith, same, first, size, long, is.sends.long, inside_end is.part total is.sends.sent.0)
 
-    pub sent_answers : AnswersArchive sectors honest history range old reply new
-    sent_answers = (is.reads, inr (is.some, is.part, is.asked, answers_part old new is.part reply is.shows))
+    pub sent_answers : AnswersArchive range old sending new reply
+    sent_answers =
+        asked_part range old sending new is.part reply is.some is.asked (answers_part is.part old sending new reply is.sends)
 
-    module _ (next : ServiceView D) (reads : ReadsOnly sectors honest history new next) where
+    module _ (next : ServiceView D) (at : ℕ) (outcome : Option (List ℕ)) (takes : Takes sectors honest history new (read at outcome) next) where
       -- nothing more is known of it
-      pub sent_still : IsSending sectors honest history range old reply sending next
+      pub sent_still : IsSending sectors honest history range old sending next reply
       sent_still = record {
         some = is.some;
         part = is.part;
         asked = is.asked;
-        sent = is.sent;
-        reads = reads_then old new next is.reads reads;
-        shows = (is.shows.0, is.shows.1, is.shows.2, λ stored up is_honest. is.shows.3 stored up (reads.stays_honest is_honest));
+        sends = record {
+          sent = is.sends.sent;
+          content = is.sends.content;
+          long = is.sends.long;
+          shows = is.sends.shows;
+          reads = reads_on old new next (start_of is.part) at (start_of is.part) (Some is.sends.content) outcome (Some is.sends.content) is.sends.reads takes
+              (λ archive shows is_honest. is.sends.reads.archive archive shows (takes.stays_honest is_honest));
+        };
       }
 
-      -- more of it is read
-      pub sent_more : (offset : ℕ) (piece : List ℕ) → offset + length piece ≤ min sending.length (new.archive_len - sending.first)
-          → ((stored : Stored) → IsUp (sectors new.disk) (history new.disk) stored new → honest next.disk
-          → piece ≡ slice_range stored.archive (sending.first + offset) (sending.first + offset + length piece))
-          → IsSending sectors honest history range old (with_part offset piece reply) sending next
-      sent_more offset piece within read =
-          let total : ℕ = old.archive_len in
-          let content : List ℕ = is.shows.0 in
-          let more : List ℕ = take offset content ++ piece ++ drop (offset + length piece) content in
-          let content_is : reply.content ≡ content =
-          ap (λ (r : ReplyView). r.content) is.shows.1 ∙ content_of is.part total content is.sent.0 in
-          let first : sending.first ≡ start_of is.part = ap (λ (s : Sending). s.first) is.sent.1 in
-          let size : sending.length ≡ size_of is.part total = ap (λ (s : Sending). s.length) is.sent.1 in
-          let fits : offset + length piece ≤ size_of is.part total = omega (arith, within, size) in
-          let told : with_part offset piece reply ≡ part_reply is.part total more =
-          (λ i. record (is.shows.1 i) { content = take offset (content_is i) ++ piece ++ drop (offset + length piece) (content_is i) })
-          ∙ with_content is.part total content more is.sent.0 in
-          let long : length more ≡ length content = omega (
-            arith,
-            fits,
-            is.shows.2,
-            length-append (take offset content ++ piece) (drop (offset + length piece) content),
-            length-append (take offset content) piece,
-            length-take-le offset content (omega (arith, fits, is.shows.2)),
-            length-drop (offset + length piece) content,
-          ) in
-          record {
-            some = is.some;
-            part = is.part;
-            asked = is.asked;
-            sent = is.sent;
-            reads = reads_then old new next is.reads reads;
-            shows = (
-              more,
-              told,
-              long ∙ is.shows.2,
-              λ stored up is_honest.
-                  let was = reads.stays_honest is_honest in
-                  let whole = is.shows.3 stored up was in
-                  let got = subst (λ (f : ℕ). piece ≡ slice_range stored.archive (f + offset) (f + offset + length piece)) first
-                  (read stored (is.reads.still_up stored up was) is_honest) in
-                  let there = piece_is is.part stored.archive piece total offset is.sent.0 (sym up.archive_len_is) fits got in
-                  part_same content piece offset (there ∙ ap (λ (xs : List ℕ). take (length piece) (drop offset xs)) (sym whole)) ∙ whole,
-            );
-          }
+    -- more of it is read
+    pub sent_more : (next : ServiceView D) (offset : ℕ) (piece : List ℕ) → Takes sectors honest history new (read (sending.first + offset) (Some piece)) next
+        → offset + length piece ≤ min sending.length (new.archive_len - sending.first)
+        → IsSending sectors honest history range old sending next (with_part offset piece reply)
+    sent_more next offset piece takes within =
+        let content : List ℕ = is.sends.content in
+        let start : ℕ = start_of is.part in
+        let more : List ℕ = take offset content ++ piece ++ drop (offset + length piece) content in
+        let content_is : reply.content ≡ content =
+        ap (λ (r : ReplyView). r.content) is.sends.shows ∙ content_of is.part total content is.sends.sent.0 in
+        let first : sending.first ≡ start = ap (λ (s : Sending). s.first) is.sends.sent.1 in
+        let size : sending.length ≡ size_of is.part total = ap (λ (s : Sending). s.length) is.sends.sent.1 in
+        let fits : offset + length piece ≤ length content = omega (arith, within, size, is.sends.long) in
+        let long : length more ≡ length content = omega (
+          arith,
+          fits,
+          length-append (take offset content ++ piece) (drop (offset + length piece) content),
+          length-append (take offset content) piece,
+          length-take-le offset content (omega (arith, fits)),
+          length-drop (offset + length piece) content,
+        ) in
+        record {
+          some = is.some;
+          part = is.part;
+          asked = is.asked;
+          sends = record {
+            sent = is.sends.sent;
+            content = more;
+            long = long ∙ is.sends.long;
+            shows = (λ i. record (is.sends.shows i) {
+              content = take offset (content_is i) ++ piece ++ drop (offset + length piece) (content_is i);
+            }) ∙ with_content is.part total content more is.sends.sent.0;
+            reads = reads_on old new next start (sending.first + offset) start (Some content) (Some piece) (Some more) is.sends.reads takes
+                (λ archive shows is_honest.
+                let was = takes.stays_honest is_honest in
+                let whole = is.sends.reads.archive archive shows was in
+                let got = takes.archive archive (shows_on old new start (Some content) archive is.sends.reads was shows) is_honest in
+                let there = slice_inner archive piece start (length content) offset fits
+                (subst (λ (f : ℕ). piece ≡ slice_range archive (f + offset) (f + offset + length piece)) first got) in
+                part_same content piece offset (there ∙ ap (λ (xs : List ℕ). take (length piece) (drop offset xs)) (sym whole)) ∙ whole
+                ∙ ap (λ (n : ℕ). slice_range archive start (start + n)) (sym long));
+          };
+        }
 
-  module _ (old : ServiceView D) (wanted : Wanted) (range : Option (List ℕ)) (body : List ℕ) (reply : ReplyView) (sending : Sending) (new next : ServiceView D)
-      (is : SendsWanted sectors honest history old wanted range reply sending new) (reads : ReadsOnly sectors honest history new next) where
-    told_of : (view : ReplyView) → IsSending sectors honest history (range_for is.0 range) old view sending next
-        → Answers sectors honest history old wanted range body view next
-    told_of view sent = subst (λ (w : Wanted). Answers sectors honest history old w range body view next) (sym is.1)
-        (inl (sent_answers (range_for is.0 range) old view sending next sent))
+  module _ (wanted : Wanted) (range : Option (List ℕ)) (body : List ℕ) (old : ServiceView D) (sending : Sending) (new next : ServiceView D)
+      (reply : ReplyView) (is : SendsWanted sectors honest history wanted range old sending new reply) where
+    answers_wanted : (view : ReplyView) → IsSending sectors honest history (range_for is.0 range) old sending next view
+        → AnswersWanted sectors honest history wanted range body old next view
+    answers_wanted view sent = subst (λ (w : Wanted). AnswersWanted sectors honest history w range body old next view) (sym is.1)
+        (sent_answers (range_for is.0 range) old sending next view sent)
 
-    pub sends_still : Answers sectors honest history old wanted range body reply next
-    sends_still = told_of reply (sent_still (range_for is.0 range) old reply sending new is.2 next reads)
+    pub sends_still : (at : ℕ) (outcome : Option (List ℕ)) → Takes sectors honest history new (read at outcome) next
+        → AnswersWanted sectors honest history wanted range body old next reply
+    sends_still at outcome takes = answers_wanted reply (sent_still (range_for is.0 range) old sending new reply is.2 next at outcome takes)
 
     pub sends_more : (now : Sending) (offset n : ℕ) (piece : List ℕ) → now ≡ sending → length piece ≡ n
         → offset + n ≤ min sending.length (new.archive_len - sending.first)
-        → ((stored : Stored) → IsUp (sectors new.disk) (history new.disk) stored new → honest next.disk
-        → piece ≡ slice_range stored.archive (sending.first + offset) (sending.first + offset + n))
-        → SendsWanted sectors honest history old wanted range (with_part offset piece reply) now next
-        × Answers sectors honest history old wanted range body (with_part offset piece reply) next
-    sends_more now offset n piece same long within read =
-        let more = sent_more (range_for is.0 range) old reply sending new is.2 next reads offset piece (omega (arith, long, within))
-        (λ stored up is_honest. read stored up is_honest
-        ∙ ap (λ (k : ℕ). slice_range stored.archive (sending.first + offset) (sending.first + offset + k)) (sym long)) in (
-          (is.0, is.1, subst (λ (s : Sending). IsSending sectors honest history (range_for is.0 range) old (with_part offset piece reply) s next) (sym same) more),
-          told_of (with_part offset piece reply) more,
+        → Takes sectors honest history new (read (sending.first + offset) (Some piece)) next
+        → SendsWanted sectors honest history wanted range old now next (with_part offset piece reply)
+        × AnswersWanted sectors honest history wanted range body old next (with_part offset piece reply)
+    sends_more now offset n piece same long within takes =
+        let more = sent_more (range_for is.0 range) old sending new reply is.2 next offset piece takes (omega (arith, long, within)) in (
+          (is.0, is.1, subst (λ (s : Sending). IsSending sectors honest history (range_for is.0 range) old s next (with_part offset piece reply)) (sym same) more),
+          answers_wanted (with_part offset piece reply) more,
         )
 
 -- what follows of what was read
-pub read_on : {A E : Type 0} (r : Result A E) (Up Read : Stored → Type 0) (is_honest X : Type 0)
-    → ((stored : Stored) → Up stored → is_honest → OnOk r (Read stored)) → (((stored : Stored) → Up stored → is_honest → Read stored) → X) → OnOk r X
-read_on (Ok a) Up Read is_honest X given f = f given
-read_on (Err e) Up Read is_honest X given f = tt
+pub read_on : {E : Type 0} (r : Result (Unit {0}) E) (bytes : List ℕ) (Read : Option (List ℕ) → Type 0) (X : Type 0) → Read (read_outcome r bytes)
+    → (Read (Some bytes) → X) → OnOk r X
+read_on (Ok done) bytes Read X is f = f is
+read_on (Err e) bytes Read X is f = tt
 
 pub on_err : {A E : Type 0} (r : Result A E) (X : Type 0) → X → OnErr r X
 on_err (Ok a) X is = tt

@@ -20,6 +20,8 @@ told P edits.Tags is = inr (λ e. cc, is)
 told P edits.Value is = inr (λ e. cc, is)
 told P edits.Long is = inr (λ e. cc, is)
 told P edits.Reach is = inr (λ e. cc, is)
+told P edits.Batch is = inr (λ e. cc, is)
+told P edits.Twice is = inr (λ e. cc, is)
 
 -- a value in a body that is no feature
 pub value_fault : (body : List ℕ) (d : Data) (fault : RequestFault) → IsJson body d → IsEditFault (IsFirstJsonFault d) fault → HasBodyFault body fault

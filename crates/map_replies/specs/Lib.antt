@@ -1,7 +1,6 @@
 pub mod Bodies
-pub mod Connections
+pub mod Meanings
 pub mod Parts
-pub mod Requests
 pub mod Sending
 pub mod State
 pub mod Words

@@ -1,13 +1,14 @@
 -- Parts of the published archive, as the field range asks for them (RFC 9110, 14), and the replies with them.
-use Rattle.std.specs.Prelude.{◌≡◌, ◌<◌, ◌≤◌, ◌+◌, ◌-◌, ℕ, min, List, [], codes, slice_range, Option, Some, None}
+use Rattle.std.specs.Prelude.{◌≡◌, ◌<◌, ◌≤◌, ◌+◌, ◌-◌, ℕ, min, List, codes, Option, Some, None}
 use Rattle.byte_range.specs.Ranges.{IsRange}
 use Rattle.http_serve.specs.Reply.{ReplyView, plain_reply}
 use Rattle.http_serve.specs.declared.replies.ContentRange.TheVariants as ranges
 use Rattle.tile_routes.specs.declared.method.Method.{Method}
 use Rattle.tile_routes.specs.declared.method.Method.TheVariants.{Get}
+use Rattle.tile_service.specs.declared.fault.ServiceFault.TheVariants.{Device}
 use Rattle.map_replies.specs.declared.parts.Part.{Part}
 use Rattle.map_replies.specs.declared.parts.Part.TheVariants.{Whole, Between, Beyond}
-use Rattle.map_replies.specs.Words.{text_type}
+use Rattle.map_replies.specs.Words.{text_type, service_refusal}
 
 -- a range counts for GET alone (RFC 9110, 14.2)
 abbrev pub range_for : Method → Option (List ℕ) → Option (List ℕ)
@@ -31,11 +32,11 @@ size_of Whole total = total
 size_of (Between first last) total = last + 1 - first
 size_of Beyond total = 0
 
--- the bytes of a part
-abbrev pub bytes_of : Part → List ℕ → List ℕ
-bytes_of Whole archive = archive
-bytes_of (Between first last) archive = slice_range archive first (last + 1)
-bytes_of Beyond archive = []
+-- where it begins
+abbrev pub start_of : Part → ℕ
+start_of Whole = 0
+start_of (Between first last) = first
+start_of Beyond = 0
 
 unfoldable pub octets_type : List ℕ
 octets_type = codes "application/octet-stream"
@@ -51,3 +52,8 @@ part_reply (Between first last) total content =
     record { status = 206; kind = Some octets_type; range = Some (ranges.Part first last total); allow = None; content = content }
 part_reply Beyond total content =
     record { status = 416; kind = Some text_type; range = Some (ranges.Unsatisfied total); allow = None; content = range_word }
+
+-- the same where its bytes were read, or the disk failed
+abbrev pub bytes_reply : Part → (total : ℕ) → Option (List ℕ) → ReplyView
+bytes_reply part total None = service_refusal Device
+bytes_reply part total (Some content) = part_reply part total content

@@ -1,29 +1,36 @@
 -- Replies of which the archive is sent in parts.
-use Rattle.std.specs.Prelude.{◌≡◌, ◌<◌, ◌≤◌, ◌+◌, ℕ, List, length, slice_range, Option, ⊤}
-use Rattle.http_serve.specs.Reply.{ReplyView, IsReply, InParts, FitsParts, content_bytes}
+use Rattle.std.specs.Prelude.{◌≡◌, ◌<◌, ◌≤◌, ℕ, List, [], length, Option, Some, None, Result, Ok, Err, ⊤}
+use Rattle.http_serve.specs.Reply.{ReplyView, IsReply, InParts, FitsParts, content_bytes, reply_view}
 use Rattle.http_serve.specs.declared.replies.Content.{Content}
 use Rattle.http_serve.specs.declared.replies.Reply.{Reply}
 use Rattle.sector_disk.specs.Disk.{History}
 use Rattle.tile_routes.specs.declared.method.Method.{Method}
 use Rattle.tile_routes.specs.Methods.{Wanted, allowed}
 use Rattle.tile_routes.specs.Paths.{asked_archive}
-use Rattle.tile_service.specs.Service.{ServiceView, IsUp}
-use Rattle.tile_service.specs.Stored.{Stored}
+use Rattle.tile_service.specs.Machine.{read}
+use Rattle.tile_service.specs.Runs.{Takes}
+use Rattle.tile_service.specs.Service.{ServiceView}
+use Rattle.map_replies.specs.declared.fault.RequestFault.{RequestFault}
 use Rattle.map_replies.specs.declared.parts.Part.{Part}
 use Rattle.map_replies.specs.declared.parts.Part.TheVariants.{Whole, Between, Beyond}
 use Rattle.map_replies.specs.declared.parts.Sending.{Sending}
-use Rattle.map_replies.specs.Parts.{range_for, IsPart, size_of}
-use Rattle.map_replies.specs.Requests.{ReadsOnly, ShowsPart, AnswersPart}
+use Rattle.map_replies.specs.Meanings.{MeansPart, Answers}
+use Rattle.map_replies.specs.Parts.{range_for, IsPart, start_of, size_of, part_reply}
+use Rattle.map_replies.specs.Words.{refusal_of}
+
+-- a result is a reply that is not sent in parts, or the fault of a refusal, with P
+abbrev pub IsAnswered : (P : ReplyView → Type 0) → Result Reply RequestFault → Type 0
+IsAnswered P (Ok reply) = P (reply_view [] reply)
+IsAnswered P (Err fault) = P (refusal_of fault)
 
 -- a reply says what P tells, and what Q tells where its content is read in parts
 abbrev pub IsAnswer : (P Q : ReplyView → Type 0) → Reply → Type 0
 IsAnswer P Q reply = (view : ReplyView) × IsReply reply view × P view × InParts reply.content (Q view)
 
--- where a part begins
-abbrev pub start_of : Part → ℕ
-start_of Whole = 0
-start_of (Between first last) = first
-start_of Beyond = 0
+-- a result is such a reply, or the fault of a refusal with P
+abbrev pub IsAnsweredInParts : (P Q : ReplyView → Type 0) → Result Reply RequestFault → Type 0
+IsAnsweredInParts P Q (Ok reply) = IsAnswer P Q reply
+IsAnsweredInParts P Q (Err fault) = P (refusal_of fault)
 
 -- a part has bytes of the archive, which has so many
 abbrev pub IsInside : Part → (total : ℕ) → Type 0
@@ -35,33 +42,43 @@ IsInside Beyond total = ⊥
 abbrev pub IsSent : Part → (total : ℕ) → Sending → Type 0
 IsSent part total sending = IsInside part total × (sending ≡ record { first = start_of part; length = size_of part total })
 
+-- what a read gave, or that it failed
+abbrev pub read_outcome : {E : Type 0} → Result (Unit {0}) E → (bytes : List ℕ) → Option (List ℕ)
+read_outcome (Ok done) bytes = Some bytes
+read_outcome (Err fault) bytes = None
+
 module _ {D : Type 0} (sectors : D → ℕ) (honest : D → Type 0) (history : D → History) where
-  -- these are so many bytes of what is stored, from an offset of the archive on
-  abbrev pub HasStored : ServiceView D → (first size : ℕ) → List ℕ → ServiceView D → Type 0
-  HasStored old first size bytes new = (length bytes ≡ size)
-      × ((stored : Stored) → IsUp (sectors old.disk) (history old.disk) stored old → honest new.disk
-      → bytes ≡ slice_range stored.archive first (first + size))
+  -- a content that is read in parts begins with bytes that were read, of so many from an offset of the archive on
+  abbrev pub Begins : (old new : ServiceView D) → (first size : ℕ) → Content → Type 0
+  Begins old new first size content = (bytes : List ℕ) × FitsParts bytes content × (content_bytes bytes content ≡ bytes) × (length bytes ≡ size)
+      × Takes sectors honest history old (read first (Some bytes)) new
 
-  -- a content that is read in parts begins so
-  abbrev pub Begins : ServiceView D → (first size : ℕ) → ServiceView D → Content → Type 0
-  Begins old first size new content = (bytes : List ℕ) × FitsParts bytes content × (content_bytes bytes content ≡ bytes) × HasStored old first size bytes new
+  -- or the disk failed
+  abbrev pub BeginsOrFails : (old new : ServiceView D) → (first size : ℕ) → Option Content → Type 0
+  BeginsOrFails old new first size (Some content) = Begins old new first size content
+  BeginsOrFails old new first size None = Takes sectors honest history old (read first None) new
 
-  -- the part is shown and is being sent, or a read of the disk has failed
-  abbrev pub ShowsReply : ServiceView D → Part → Sending → ServiceView D → Reply → Type 0
-  ShowsReply old part sending new =
-      IsAnswer (λ reply. AnswersPart sectors honest history old part reply new)
-      (λ reply. ShowsPart sectors honest history old part reply new × IsSent part old.archive_len sending)
+  -- a part is being sent: what was read so far stands in the reply
+  pub record SendsPart (part : Part) (old : ServiceView D) (sending : Sending) (new : ServiceView D) (reply : ReplyView) : Type 0 where
+    pub sent : IsSent part old.archive_len sending
+    pub content : List ℕ
+    pub long : length content ≡ size_of part old.archive_len
+    pub shows : reply ≡ part_reply part old.archive_len content
+    pub reads : Takes sectors honest history old (read (start_of part) (Some content)) new
 
-  -- the part that a range asks for is being sent: what was read so far stands in the reply
-  pub record IsSending (range : Option (List ℕ)) (old : ServiceView D) (reply : ReplyView) (sending : Sending) (new : ServiceView D) : Type 0 where
+  -- a part is read, and is being sent, or the disk failed
+  abbrev pub AnswersPart : Part → (old : ServiceView D) → Sending → (new : ServiceView D) → Reply → Type 0
+  AnswersPart part old sending new =
+      IsAnswer (Answers sectors honest history (MeansPart old.archive_len part) old new) (SendsPart part old sending new)
+
+  -- the part that a range asks for is being sent
+  pub record IsSending (range : Option (List ℕ)) (old : ServiceView D) (sending : Sending) (new : ServiceView D) (reply : ReplyView) : Type 0 where
     pub some : 0 < old.archive_len
     pub part : Part
     pub asked : IsPart range old.archive_len part
-    pub sent : IsSent part old.archive_len sending
-    pub reads : ReadsOnly sectors honest history old new
-    pub shows : ShowsPart sectors honest history old part reply new
+    pub sends : SendsPart part old sending new reply
 
   -- where the archive is wanted
-  abbrev pub SendsWanted : ServiceView D → Wanted → Option (List ℕ) → ReplyView → Sending → ServiceView D → Type 0
-  SendsWanted old wanted range reply sending new =
-      (method : Method) × (wanted ≡ allowed asked_archive method) × IsSending (range_for method range) old reply sending new
+  abbrev pub SendsWanted : Wanted → Option (List ℕ) → (old : ServiceView D) → Sending → (new : ServiceView D) → ReplyView → Type 0
+  SendsWanted wanted range old sending new reply =
+      (method : Method) × (wanted ≡ allowed asked_archive method) × IsSending (range_for method range) old sending new reply

@@ -5,7 +5,7 @@ use Rattle.http_serve.specs.Reply.{ReplyView}
 use Rattle.sector_disk.specs.Disk.{History}
 use Rattle.tile_service.specs.Service.{ServiceView}
 use Rattle.map_replies.specs.declared.service.MapReplies.{MapReplies}
-use Rattle.map_replies.specs.Requests.{Replies}
+use Rattle.map_replies.specs.Meanings.{Replies}
 use Rattle.map_replies.specs.Sending.{SendsWanted}
 use Rattle.tile_routes.specs.Methods.{wanted_by}
 
@@ -24,4 +24,4 @@ sending_size s = min s.sending.length ((asked_service s).archive_len - s.sending
 -- the same of a reply whose content is being read in parts: the request wants the archive
 abbrev pub ServiceSends : {D : Type 0} → (D → ℕ) → (D → Type 0) → (D → History) → MapReplies D → RequestView → ReplyView → MapReplies D → Type 0
 ServiceSends sectors honest history old request reply new =
-    SendsWanted sectors honest history (asked_service old) (wanted_by request.method request.path) request.range reply new.sending (asked_service new)
+    SendsWanted sectors honest history (wanted_by request.method request.path) request.range (asked_service old) new.sending (asked_service new) reply

@@ -1,6 +1,7 @@
 -- The replies of the service.
 use Rattle.std.specs.Prelude.{ℕ, List, ◌++◌, codes, decimal, Option, Some, None, Result, Ok, Err}
 use Rattle.hex.specs.Hex.{encode_lower}
+use Rattle.serde_json.specs.Data.{Data}
 use Rattle.serde_json.specs.Written.{compact_text}
 use Rattle.http_serve.specs.Reply.{ReplyView, plain_reply}
 use Rattle.feature_model.specs.Data.{FeatureData}
@@ -11,6 +12,7 @@ use Rattle.tile_routes.specs.declared.target.TileFormat.{TileFormat}
 use Rattle.tile_routes.specs.declared.target.TileFormat.TheVariants.{Mvt, Hex}
 use Rattle.tile_routes.specs.Methods.{allow_of}
 use Rattle.tile_routes.specs.Paths.{Asked}
+use Rattle.tile_service.specs.Machine.{OrMemory, got, no_memory}
 use Rattle.tile_service.specs.declared.publishing_whole.Published.{Published}
 use Rattle.tile_service.specs.declared.fault.ServiceFault.{ServiceFault}
 use Rattle.tile_service.specs.declared.fault.ServiceFault.TheVariants as services
@@ -39,6 +41,8 @@ edit_word edits.Tags = codes "E6 Tags\n"
 edit_word edits.Value = codes "E7 Value\n"
 edit_word edits.Long = codes "E8 Long\n"
 edit_word edits.Reach = codes "E9 Reach\n"
+edit_word edits.Batch = codes "E10 Batch\n"
+edit_word edits.Twice = codes "E11 Twice\n"
 edit_word edits.Memory = codes "Memory\n"
 
 -- the word of what is full: its name, how many sectors are needed, and how many are free
@@ -151,6 +155,15 @@ published_reply (Err fault) = service_refusal fault
 abbrev pub cancel_reply : Result (Unit {0}) ServiceFault → ReplyView
 cancel_reply (Ok done) = empty_reply
 cancel_reply (Err fault) = service_refusal fault
+
+-- what is shown, or out of memory
+abbrev pub shown_reply : {A : Type 0} → (reply_of : A → ReplyView) → OrMemory A → ReplyView
+shown_reply reply_of (got a) = reply_of a
+shown_reply reply_of no_memory = refusal_of Memory
+
+-- the metadata of the map
+abbrev pub metadata_reply : Data → ReplyView
+metadata_reply d = json_reply (compact_text d)
 
 -- the feature of a number, or that there is none
 abbrev pub found_reply : Option FeatureData → ReplyView

@@ -1,13 +1,12 @@
 //! The archive that was published last.
-ghost use Rattle.std.specs.Prelude.{◌≡◌, ◌≢◌, ◌<◌, ◌≤◌, ◌+◌, ◌-◌, ◌⊎◌, length, slice_range, IfOk, IfErr, IfSome, OnOk, None, option_map};
+ghost use Rattle.std.specs.Prelude.{◌≡◌, ◌<◌, ◌≤◌, ◌+◌, length, IfOk, IfErr, IfSome, None, option_map};
 ghost use Rattle.http_serve.specs.Reply.{head_view, HasShortWords};
 ghost use Rattle.sector_disk.specs.Disk.{HasFailed};
-ghost use Rattle.tile_service.specs.Service.{IsUp};
-ghost use Rattle.tile_service.specs.Stored.{Stored};
-ghost use Rattle.map_replies.specs.Requests.{ReadsOnly, AnswersArchive, OrMemory};
-ghost use Rattle.map_replies.specs.Sending.{Begins, ShowsReply, IsAnswer, IsSending};
+ghost use Rattle.tile_service.specs.Machine.{read};
+ghost use Rattle.tile_service.specs.Runs.{Takes};
+ghost use Rattle.map_replies.specs.Meanings.{OrNoMemory, MeansArchive, Answers};
+ghost use Rattle.map_replies.specs.Sending.{IsAnsweredInParts, read_outcome, BeginsOrFails, AnswersPart, IsSending};
 ghost use Rattle.map_replies.specs.State.{asked_service, sending_size};
-ghost use Rattle.map_replies.specs.Words.{refusal_of};
 
 use crate::fault::RequestFault;
 use crate::parts::{self, Part, Sending, begin_size, part_of};
@@ -20,14 +19,11 @@ impl<D: Sectors + Drop> MapReplies<D> {
     /// So many bytes of the archive from one on, or none where a read of the disk fails.
     fn archive_bytes(&mut self, at: u64, count: u64) -> Result<Option<Vec<u8>>, RequestFault>
         requires { at + count ≤ (asked_service self.old).archive_len }
-        ensures reads { IfOk result (λ content. ReadsOnly D.sectors D.honest D.history (asked_service self.old) (asked_service self.new)) }
+        ensures read { IfOk result (λ content. Takes D.sectors D.honest D.history (asked_service self.old)
+            (read at (option_map (λ bytes. bytes.items) content)) (asked_service self.new)) }
         ensures failed { IfOk result (λ content. content ≡ None
             → HasFailed (D.faults (asked_service self.old).disk) (D.faults (asked_service self.new).disk)) }
         ensures length { IfOk result (λ content. IfSome content (λ bytes. length bytes.items ≡ count)) }
-        ensures bytes { (stored : Stored)
-            → IsUp (D.sectors (asked_service self.old).disk) (D.history (asked_service self.old).disk) stored (asked_service self.old)
-            → D.honest (asked_service self.new).disk
-            → IfOk result (λ content. IfSome content (λ bytes. bytes.items ≡ slice_range stored.archive at (at + count))) }
         ensures refused { IfErr result (λ fault. (asked_service self.new ≡ asked_service self.old) × (fault ≡ RequestFault.Memory)) }
     {
         let Ok(mut bytes) = vec![in self.alloc; 0; count as usize] else {
@@ -43,11 +39,9 @@ impl<D: Sectors + Drop> MapReplies<D> {
     /// if it is sent at all. None where a read of the disk fails.
     fn send(&mut self, first: u64, length: u64, bare: bool) -> Result<Option<Content>, RequestFault>
         requires { first + length ≤ (asked_service self.old).archive_len }
-        ensures reads { IfOk result (λ content. ReadsOnly D.sectors D.honest D.history (asked_service self.old) (asked_service self.new)) }
+        ensures begun { IfOk result (BeginsOrFails D.sectors D.honest D.history (asked_service self.old) (asked_service self.new) first length) }
         ensures failed { IfOk result (λ content. content ≡ None
             → HasFailed (D.faults (asked_service self.old).disk) (D.faults (asked_service self.new).disk)) }
-        ensures begun { IfOk result (λ content. IfSome content (Begins D.sectors D.honest D.history
-            (asked_service self.old) first length (asked_service self.new))) }
         ensures sending { IfOk result (λ content. IfSome content (λ _. self.new.sending ≡ record { first = first; length = length })) }
         ensures refused { IfErr result (λ fault. (asked_service self.new ≡ asked_service self.old) × (fault ≡ RequestFault.Memory)) }
     {
@@ -67,8 +61,8 @@ impl<D: Sectors + Drop> MapReplies<D> {
     /// The whole archive, of so many bytes.
     fn whole_archive(&mut self, total: u64, bare: bool) -> Result<Reply, RequestFault>
         requires { total ≡ (asked_service self.old).archive_len }
-        ensures reads { IfOk result (λ reply. ReadsOnly D.sectors D.honest D.history (asked_service self.old) (asked_service self.new)) }
-        ensures answered { IfOk result (ShowsReply D.sectors D.honest D.history (asked_service self.old) Part.Whole self.new.sending (asked_service self.new)) }
+        ensures answered { IfOk result (AnswersPart D.sectors D.honest D.history Part.Whole
+            (asked_service self.old) self.new.sending (asked_service self.new)) }
         ensures words { IfOk result (λ reply. HasShortWords (head_view reply)) }
         ensures refused { IfErr result (λ fault. (asked_service self.new ≡ asked_service self.old) × (fault ≡ RequestFault.Memory)) }
     {
@@ -90,9 +84,8 @@ impl<D: Sectors + Drop> MapReplies<D> {
         requires total { total ≡ (asked_service self.old).archive_len }
         requires order { first ≤ last }
         requires within { last < total }
-        ensures reads { IfOk result (λ reply. ReadsOnly D.sectors D.honest D.history (asked_service self.old) (asked_service self.new)) }
-        ensures answered { IfOk result (ShowsReply D.sectors D.honest D.history
-            (asked_service self.old) (Part.Between first last) self.new.sending (asked_service self.new)) }
+        ensures answered { IfOk result (AnswersPart D.sectors D.honest D.history (Part.Between first last)
+            (asked_service self.old) self.new.sending (asked_service self.new)) }
         ensures words { IfOk result (λ reply. HasShortWords (head_view reply)) }
         ensures refused { IfErr result (λ fault. (asked_service self.new ≡ asked_service self.old) × (fault ≡ RequestFault.Memory)) }
     {
@@ -109,14 +102,13 @@ impl<D: Sectors + Drop> MapReplies<D> {
         range: Option<&[u8]>,
         bare: bool,
     ) -> Result<Reply, RequestFault>
-        ensures answered { IfOk result (IsAnswer
-            (λ reply. AnswersArchive D.sectors D.honest D.history (option_map (λ value. value.now) range.entry)
-            (asked_service self.old) reply (asked_service self.new))
-            (λ reply. IsSending D.sectors D.honest D.history (option_map (λ value. value.now) range.entry)
-            (asked_service self.old) reply self.new.sending (asked_service self.new))) }
+        ensures answered { IsAnsweredInParts
+            (Answers D.sectors D.honest D.history
+            (OrNoMemory (MeansArchive (asked_service self.old).archive_len (option_map (λ value. value.now) range.entry)))
+            (asked_service self.old) (asked_service self.new))
+            (IsSending D.sectors D.honest D.history (option_map (λ value. value.now) range.entry)
+            (asked_service self.old) self.new.sending (asked_service self.new)) result }
         ensures words { IfOk result (λ reply. HasShortWords (head_view reply)) }
-        ensures refused { IfErr result (λ fault. OrMemory (AnswersArchive D.sectors D.honest D.history (option_map (λ value. value.now) range.entry))
-            (asked_service self.old) (refusal_of fault) (asked_service self.new)) }
     {
         let total = self.service.archive_len();
         if total == 0 {
@@ -134,13 +126,10 @@ impl<D: Sectors + Drop> MapReplies<D> {
         requires { offset + length part.old ≤ sending_size self.old }
         ensures sending { self.new.sending ≡ self.old.sending }
         ensures failed { IfErr result (λ fault. HasFailed (D.faults (asked_service self.old).disk) (D.faults (asked_service self.new).disk)) }
-        ensures reads { ReadsOnly D.sectors D.honest D.history (asked_service self.old) (asked_service self.new) }
+        ensures read { Takes D.sectors D.honest D.history (asked_service self.old)
+            (read (self.old.sending.first + offset) (read_outcome result part.new)) (asked_service self.new) }
         ensures size { sending_size self.new ≡ sending_size self.old }
         ensures length { length part.new ≡ length part.old }
-        ensures bytes { (stored : Stored)
-            → IsUp (D.sectors (asked_service self.old).disk) (D.history (asked_service self.old).disk) stored (asked_service self.old)
-            → D.honest (asked_service self.new).disk → OnOk result (part.new
-            ≡ slice_range stored.archive (self.old.sending.first + offset) (self.old.sending.first + offset + length part.old)) }
     {
         if part.is_empty() {
             return Ok(());

@@ -1,9 +1,11 @@
 //! Publications, as requests ask for them. Memory for the reply is taken first, so that what was done is always told.
-ghost use Rattle.std.specs.Prelude.{◌≡◌, [], IfOk, IfErr};
-ghost use Rattle.http_serve.specs.Reply.{reply_view, IsWhole};
-ghost use Rattle.tile_service.specs.Machine.{begin, step};
-ghost use Rattle.map_replies.specs.Requests.{AnswersPublish, AnswersLeft, AnswersCancel};
+ghost use Rattle.std.specs.Prelude.{IfOk};
+ghost use Rattle.http_serve.specs.Reply.{IsWhole};
+ghost use Rattle.tile_service.specs.Machine.{begin, step, cancel};
+ghost use Rattle.map_replies.specs.Meanings.{numbers_of, MeansCall, OrNoMemory, MeansPublish, Answers};
+ghost use Rattle.map_replies.specs.Sending.{IsAnswered};
 ghost use Rattle.map_replies.specs.State.{asked_service};
+ghost use Rattle.map_replies.specs.Words.{left_reply, cancel_reply};
 
 use crate::fault::RequestFault;
 use crate::replies;
@@ -14,10 +16,10 @@ use sector_disk::Sectors;
 impl<D: Sectors + Drop> MapReplies<D> {
     /// Publishes the map, whole.
     pub(crate) fn publish(&mut self) -> Result<Reply, RequestFault>
-        ensures answered { IfOk result (λ reply. AnswersPublish D.sectors D.honest D.history
-            (asked_service self.old) (reply_view [] reply) (asked_service self.new)) }
+        ensures answered { IsAnswered (Answers D.sectors D.honest D.history
+            (OrNoMemory (MeansPublish (numbers_of (asked_service self.old)) (numbers_of (asked_service self.new))))
+            (asked_service self.old) (asked_service self.new)) result }
         ensures writable { IfOk result IsWhole }
-        ensures refused { IfErr result (λ fault. (asked_service self.new ≡ asked_service self.old) × (fault ≡ RequestFault.Memory)) }
     {
         let Ok(text) = replies::outcome_space(self.alloc) else {
             return Err(RequestFault::Memory);
@@ -28,10 +30,9 @@ impl<D: Sectors + Drop> MapReplies<D> {
 
     /// Begins a publication.
     pub(crate) fn publish_begin(&mut self) -> Result<Reply, RequestFault>
-        ensures answered { IfOk result (λ reply. AnswersLeft D.sectors D.honest D.history begin
-            (asked_service self.old) (reply_view [] reply) (asked_service self.new)) }
+        ensures answered { IsAnswered (Answers D.sectors D.honest D.history (OrNoMemory (MeansCall begin left_reply))
+            (asked_service self.old) (asked_service self.new)) result }
         ensures writable { IfOk result IsWhole }
-        ensures refused { IfErr result (λ fault. (asked_service self.new ≡ asked_service self.old) × (fault ≡ RequestFault.Memory)) }
     {
         let Ok(text) = replies::outcome_space(self.alloc) else {
             return Err(RequestFault::Memory);
@@ -42,10 +43,9 @@ impl<D: Sectors + Drop> MapReplies<D> {
 
     /// Goes on with a publication.
     pub(crate) fn publish_step(&mut self) -> Result<Reply, RequestFault>
-        ensures answered { IfOk result (λ reply. AnswersLeft D.sectors D.honest D.history step
-            (asked_service self.old) (reply_view [] reply) (asked_service self.new)) }
+        ensures answered { IsAnswered (Answers D.sectors D.honest D.history (OrNoMemory (MeansCall step left_reply))
+            (asked_service self.old) (asked_service self.new)) result }
         ensures writable { IfOk result IsWhole }
-        ensures refused { IfErr result (λ fault. (asked_service self.new ≡ asked_service self.old) × (fault ≡ RequestFault.Memory)) }
     {
         let Ok(text) = replies::outcome_space(self.alloc) else {
             return Err(RequestFault::Memory);
@@ -56,10 +56,9 @@ impl<D: Sectors + Drop> MapReplies<D> {
 
     /// Gives a publication up.
     pub(crate) fn publish_cancel(&mut self) -> Result<Reply, RequestFault>
-        ensures answered { IfOk result (λ reply. AnswersCancel D.sectors D.honest D.history
-            (asked_service self.old) (reply_view [] reply) (asked_service self.new)) }
+        ensures answered { IsAnswered (Answers D.sectors D.honest D.history (OrNoMemory (MeansCall cancel cancel_reply))
+            (asked_service self.old) (asked_service self.new)) result }
         ensures writable { IfOk result IsWhole }
-        ensures refused { IfErr result (λ fault. (asked_service self.new ≡ asked_service self.old) × (fault ≡ RequestFault.Memory)) }
     {
         let Ok(text) = replies::outcome_space(self.alloc) else {
             return Err(RequestFault::Memory);

@@ -36,6 +36,8 @@ fn edit_word(fault: EditFault) -> &'static [u8]
         EditFault::Value => b"E7 Value\n",
         EditFault::Long => b"E8 Long\n",
         EditFault::Reach => b"E9 Reach\n",
+        EditFault::Batch => b"E10 Batch\n",
+        EditFault::Twice => b"E11 Twice\n",
         EditFault::Memory => b"Memory\n",
     }
 }

@@ -2,17 +2,16 @@
 ghost use Rattle.std.specs.Prelude.{◌≡◌, ◌≢◌, ℕ, List, [], Option, IfOk, IfErr, option_map};
 ghost use Rattle.http_serve.specs.declared.connection.TheConstants.{MOST_READS};
 ghost use Rattle.http_serve.specs.Told.{IsServed, IsServedUpTo, HasContent, MeetsTurns, KeepsTurns, AnswersInput};
-ghost use Rattle.http_serve.specs.Reply.{reply_view, head_view, HasShortWords, IsWhole};
+ghost use Rattle.http_serve.specs.Reply.{head_view, HasShortWords, IsWhole};
 ghost use Rattle.tile_routes.specs.Paths.{asked_archive};
 ghost use Rattle.tile_routes.specs.Targets.{asked_of};
 ghost use Rattle.tile_routes.specs.Wanted.{wanted_view};
+ghost use Rattle.tile_service.specs.Machine.{Happening};
 ghost use Rattle.tile_service.specs.Runs.{TakesRun};
-ghost use Rattle.map_replies.specs.Requests.{AnswersOnFeature, AnswersAllowed, Answers};
-ghost use Rattle.map_replies.specs.Connections.{Run, no_events, Tells};
+ghost use Rattle.map_replies.specs.Meanings.{MeansOnFeature, Answers, AnswersAllowed, AnswersWanted, Tells};
 ghost use Rattle.map_replies.specs.Parts.{range_for};
-ghost use Rattle.map_replies.specs.Sending.{IsAnswer, IsSending, SendsWanted};
+ghost use Rattle.map_replies.specs.Sending.{IsAnswered, IsAnsweredInParts, IsSending, SendsWanted};
 ghost use Rattle.map_replies.specs.State.{asked_service, sending_size, ServiceReplies};
-ghost use Rattle.map_replies.specs.Words.{refusal_of};
 
 use crate::fault::RequestFault;
 use crate::parts::{Sending, is_head, range_for};
@@ -61,11 +60,9 @@ impl<D: Sectors + Drop> MapReplies<D> {
 
     /// What is wanted of a feature, by a method of its path.
     fn on_feature(&mut self, id: u64, method: Method, body: &[u8]) -> Result<Reply, RequestFault>
-        ensures answered { IfOk result (λ reply. AnswersOnFeature D.sectors D.honest D.history
-            (asked_service self.old) id method body.now (reply_view [] reply) (asked_service self.new)) }
+        ensures answered { IsAnswered (Answers D.sectors D.honest D.history (MeansOnFeature id method body.now)
+            (asked_service self.old) (asked_service self.new)) result }
         ensures writable { IfOk result IsWhole }
-        ensures refused { IfErr result (λ fault. AnswersOnFeature D.sectors D.honest D.history
-            (asked_service self.old) id method body.now (refusal_of fault) (asked_service self.new)) }
     {
         match method {
             Method::Put => self.put(id, body),
@@ -82,11 +79,9 @@ impl<D: Sectors + Drop> MapReplies<D> {
         body: &[u8],
     ) -> Result<Reply, RequestFault>
         requires other { asked_of target ≢ asked_archive }
-        ensures answered { IfOk result (λ reply. (range : Option (List ℕ)) → AnswersAllowed D.sectors D.honest D.history
-            (asked_service self.old) (asked_of target) method range body.now (reply_view [] reply) (asked_service self.new)) }
+        ensures answered { (range : Option (List ℕ)) → IsAnswered (AnswersAllowed D.sectors D.honest D.history
+            (asked_of target) method range body.now (asked_service self.old) (asked_service self.new)) result }
         ensures writable { IfOk result IsWhole }
-        ensures refused { IfErr result (λ fault. (range : Option (List ℕ)) → AnswersAllowed D.sectors D.honest D.history
-            (asked_service self.old) (asked_of target) method range body.now (refusal_of fault) (asked_service self.new)) }
     {
         match target {
             Target::Tile(at, format) => self.tile(at, format),
@@ -108,14 +103,13 @@ impl<D: Sectors + Drop> MapReplies<D> {
         range: Option<&[u8]>,
         body: &[u8],
     ) -> Result<Reply, RequestFault>
-        ensures answered { IfOk result (IsAnswer
-            (λ reply. AnswersAllowed D.sectors D.honest D.history (asked_service self.old) (asked_of target) method
-            (option_map (λ value. value.now) range.entry) body.now reply (asked_service self.new))
+        ensures answered { IsAnsweredInParts
+            (AnswersAllowed D.sectors D.honest D.history (asked_of target) method
+            (option_map (λ value. value.now) range.entry) body.now (asked_service self.old) (asked_service self.new))
             (λ reply. (asked_of target ≡ asked_archive) × IsSending D.sectors D.honest D.history
-            (range_for method (option_map (λ value. value.now) range.entry)) (asked_service self.old) reply self.new.sending (asked_service self.new))) }
+            (range_for method (option_map (λ value. value.now) range.entry)) (asked_service self.old) self.new.sending (asked_service self.new) reply)
+            result }
         ensures words { IfOk result (λ reply. HasShortWords (head_view reply)) }
-        ensures refused { IfErr result (λ fault. AnswersAllowed D.sectors D.honest D.history (asked_service self.old) (asked_of target) method
-            (option_map (λ value. value.now) range.entry) body.now (refusal_of fault) (asked_service self.new)) }
     {
         match target {
             Target::Archive => self.archive(range_for(method, range), is_head(method)),
@@ -130,14 +124,12 @@ impl<D: Sectors + Drop> MapReplies<D> {
         range: Option<&[u8]>,
         body: &[u8],
     ) -> Result<Reply, RequestFault>
-        ensures answered { IfOk result (IsAnswer
-            (λ reply. Answers D.sectors D.honest D.history (asked_service self.old) (wanted_view wanted)
-            (option_map (λ value. value.now) range.entry) body.now reply (asked_service self.new))
-            (λ reply. SendsWanted D.sectors D.honest D.history (asked_service self.old) (wanted_view wanted)
-            (option_map (λ value. value.now) range.entry) reply self.new.sending (asked_service self.new))) }
+        ensures answered { IsAnsweredInParts
+            (AnswersWanted D.sectors D.honest D.history (wanted_view wanted)
+            (option_map (λ value. value.now) range.entry) body.now (asked_service self.old) (asked_service self.new))
+            (SendsWanted D.sectors D.honest D.history (wanted_view wanted)
+            (option_map (λ value. value.now) range.entry) (asked_service self.old) self.new.sending (asked_service self.new)) result }
         ensures words { IfOk result (λ reply. HasShortWords (head_view reply)) }
-        ensures refused { IfErr result (λ fault. Answers D.sectors D.honest D.history (asked_service self.old) (wanted_view wanted)
-            (option_map (λ value. value.now) range.entry) body.now (refusal_of fault) (asked_service self.new)) }
     {
         match wanted {
             Wanted::NotFound => Err(RequestFault::NotFound),
@@ -187,14 +179,14 @@ pub fn serve_map<D: Sectors + Drop, R: Read, W: Write>(
     ensures turns { IfOk result (λ served. MeetsTurns MOST_READS (R.remaining reader.old) (R.remaining reader.new) served.end) }
     ensures reads { KeepsTurns MOST_READS result (R.remaining reader.old) (R.remaining reader.new) }
 
-    // The replies tell a run of events. A crash at any moment of the connection leaves some first edits of it: all that were
-    // acknowledged by then, and none asked for later.
-    ensures any_moment { IfOk result (λ served. (run : Run)
-        × IsServed Tells no_events (R.remaining reader.old) (W.contents writer.old) served run (R.remaining reader.new) (W.contents writer.new)
-        × TakesRun D.sectors D.honest D.history (asked_service service.old) run.events run.answers (asked_service service.new)) }
-    ensures any_moment_of_fault { IfErr result (λ fault. (run : Run)
-        × IsServedUpTo Tells no_events (R.remaining reader.old) (W.contents writer.old) fault run (R.remaining reader.new) (W.contents writer.new)
-        × TakesRun D.sectors D.honest D.history (asked_service service.old) run.events run.answers (asked_service service.new)) }
+    // The replies report what happens to the service, one after the other. A crash at any moment of the connection leaves some first
+    // edits of this run: all that were acknowledged by then, and none asked for later.
+    ensures any_moment { IfOk result (λ served. (run : List Happening)
+        × IsServed Tells [] (R.remaining reader.old) (W.contents writer.old) served run (R.remaining reader.new) (W.contents writer.new)
+        × TakesRun D.sectors D.honest D.history (asked_service service.old) run (asked_service service.new)) }
+    ensures any_moment_of_fault { IfErr result (λ fault. (run : List Happening)
+        × IsServedUpTo Tells [] (R.remaining reader.old) (W.contents writer.old) fault run (R.remaining reader.new) (W.contents writer.new)
+        × TakesRun D.sectors D.honest D.history (asked_service service.old) run (asked_service service.new)) }
 {
     serve(alloc, reader, writer, service)
 }

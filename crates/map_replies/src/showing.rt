@@ -2,13 +2,13 @@
 ghost use Rattle.std.specs.Prelude.{◌≡◌, [], false, Some, IfOk, IfErr};
 ghost use Rattle.feature_model.specs.Data.{feature_data};
 ghost use Rattle.http_serve.specs.Reply.{reply_view, IsWhole};
-ghost use Rattle.map_metadata.specs.Metadata.{IsMetadata};
-ghost use Rattle.serde_json.specs.Data.{Data};
 ghost use Rattle.serde_json.specs.View.{view};
 ghost use Rattle.serde_json.specs.Written.{has_float, compact_text};
-ghost use Rattle.map_replies.specs.Requests.{AnswersTile, AnswersFeature, AnswersMetadata, OrMemory, ReadsOnly};
+ghost use Rattle.tile_service.specs.Machine.{tile, look, metadata};
+ghost use Rattle.map_replies.specs.Meanings.{MeansCall, Answers};
+ghost use Rattle.map_replies.specs.Sending.{IsAnswered};
 ghost use Rattle.map_replies.specs.State.{asked_service};
-ghost use Rattle.map_replies.specs.Words.{refusal_of, json_reply, found_reply};
+ghost use Rattle.map_replies.specs.Words.{json_reply, shown_reply, content_reply, found_reply, metadata_reply};
 
 use crate::fault::RequestFault;
 use crate::replies;
@@ -53,11 +53,9 @@ fn feature_value(alloc: Global, id: u64, feature: &Feature) -> Result<Reply, Req
 impl<D: Sectors + Drop> MapReplies<D> {
     /// The tile, as it is asked for.
     pub(crate) fn tile(&mut self, at: TileAt, format: TileFormat) -> Result<Reply, RequestFault>
-        ensures answered { IfOk result (λ reply. AnswersTile D.sectors D.honest D.history
-            (asked_service self.old) at.z at.x at.y format (reply_view [] reply) (asked_service self.new)) }
+        ensures answered { IsAnswered (Answers D.sectors D.honest D.history
+            (MeansCall (tile at.z at.x at.y) (shown_reply (content_reply format))) (asked_service self.old) (asked_service self.new)) result }
         ensures writable { IfOk result IsWhole }
-        ensures refused { IfErr result (λ fault. ReadsOnly D.sectors D.honest D.history (asked_service self.old) (asked_service self.new)
-            × (fault ≡ RequestFault.Memory)) }
     {
         let Ok(content) = self.service.tile(at) else {
             return Err(RequestFault::Memory);
@@ -70,10 +68,9 @@ impl<D: Sectors + Drop> MapReplies<D> {
 
     /// The feature of a number.
     pub(crate) fn feature(&mut self, id: u64) -> Result<Reply, RequestFault>
-        ensures answered { IfOk result (λ reply. AnswersFeature (asked_service self.old) id (reply_view [] reply) (asked_service self.new)) }
+        ensures answered { IsAnswered (Answers D.sectors D.honest D.history (MeansCall (look id) (shown_reply found_reply))
+            (asked_service self.old) (asked_service self.new)) result }
         ensures writable { IfOk result IsWhole }
-        ensures refused { IfErr result (λ fault. OrMemory (λ before. AnswersFeature before id)
-            (asked_service self.old) (refusal_of fault) (asked_service self.new)) }
     {
         match self.service.feature(id) {
             Some(feature) => feature_value(self.alloc, id, feature),
@@ -83,9 +80,9 @@ impl<D: Sectors + Drop> MapReplies<D> {
 
     /// The metadata of the map.
     pub(crate) fn metadata(&mut self) -> Result<Reply, RequestFault>
-        ensures answered { IfOk result (λ reply. AnswersMetadata (asked_service self.old) (reply_view [] reply) (asked_service self.new)) }
+        ensures answered { IsAnswered (Answers D.sectors D.honest D.history (MeansCall metadata (shown_reply metadata_reply))
+            (asked_service self.old) (asked_service self.new)) result }
         ensures writable { IfOk result IsWhole }
-        ensures refused { IfErr result (λ fault. (asked_service self.new ≡ asked_service self.old) × (fault ≡ RequestFault.Memory)) }
     {
         match self.service.metadata() {
             Ok(value) => json_value(self.alloc, &value),

@@ -3,58 +3,62 @@
 use clap::{Arg, ArgAction, Command};
 use std::alloc::{AllocError, Global};
 
-/// What a command takes.
+/// A word that a command takes.
 #[derive(Clone, Copy)]
-enum Words {
+enum Word {
     /// A count of sectors.
     Sectors,
+    /// The same by name.
+    NamedSectors,
     /// A path of a disk's file.
     Disk,
-    /// The same, and a count of sectors by name.
-    DiskAndSectors,
-    /// A path of a disk's file, a port and a count of connections by name.
-    DiskAndPort,
-    /// The same, and a path of an archive's file.
-    DiskAndArchive,
+    /// A port by name.
+    Port,
+    /// A count of connections by name.
+    Connections,
     /// A path of an archive's file.
     Archive,
+    /// The same of one that is written.
+    Goal,
 }
 
-/// Each command with what it takes and what it does.
-const COMMANDS: [(&str, Words, &str); 7] = [
+/// A command: its name, what it takes, and what it does.
+type Row = (&'static str, &'static [Word], &'static str);
+
+const COMMANDS: [Row; 7] = [
     (
         "demo",
-        Words::Sectors,
+        &[Word::Sectors],
         "Serves one connection on standard input and output, over an empty map in memory",
     ),
     (
         "export",
-        Words::DiskAndArchive,
+        &[Word::Disk, Word::Goal],
         "Writes the archive that was published last on the disk in a file into another file",
     ),
     (
         "format",
-        Words::DiskAndSectors,
+        &[Word::Disk, Word::NamedSectors],
         "Makes a file, where there is nothing, that holds the empty map on a disk",
     ),
     (
         "pipe",
-        Words::Disk,
+        &[Word::Disk],
         "Serves one connection on standard input and output, over the map on the disk in a file",
     ),
     (
         "serve",
-        Words::DiskAndPort,
+        &[Word::Disk, Word::Port, Word::Connections],
         "Serves connections on a port of 127.0.0.1 one after the other, over the map on the disk in a file",
     ),
     (
         "show",
-        Words::Archive,
+        &[Word::Archive],
         "Prints the header and the metadata of a tile archive",
     ),
     (
         "verify",
-        Words::Archive,
+        &[Word::Archive],
         "Judges a tile archive: prints what it has, or its first fault",
     ),
 ];
@@ -110,24 +114,43 @@ fn connections<'a>(alloc: Global) -> Arg<'a> {
         .help("How many connections are served, from 1 to 4294967295")
 }
 
+/// What a word is on the command line.
+fn arg_of<'a>(alloc: Global, word: Word) -> Arg<'a> {
+    match word {
+        Word::Sectors => sectors(alloc),
+        Word::NamedSectors => sectors(alloc).long("sectors"),
+        Word::Disk => disk_path(alloc),
+        Word::Port => port(alloc),
+        Word::Connections => connections(alloc),
+        Word::Archive => path(alloc, "A tile archive (PMTiles 3)"),
+        Word::Goal => goal_path(alloc),
+    }
+}
+
 /// A command that takes these words.
 fn with_words<'a>(
     alloc: Global,
     command: Command<'a>,
-    words: Words,
+    words: &[Word],
 ) -> Result<Command<'a>, AllocError> {
-    match words {
-        Words::Sectors => command.arg(sectors(alloc)),
-        Words::Disk => command.arg(disk_path(alloc)),
-        Words::DiskAndSectors => command
-            .arg(disk_path(alloc))?
-            .arg(sectors(alloc).long("sectors")),
-        Words::DiskAndPort => command
-            .arg(disk_path(alloc))?
-            .arg(port(alloc))?
-            .arg(connections(alloc)),
-        Words::DiskAndArchive => command.arg(disk_path(alloc))?.arg(goal_path(alloc)),
-        Words::Archive => command.arg(path(alloc, "A tile archive (PMTiles 3)")),
+    let mut command = command;
+    for word in words {
+        command = command.arg(arg_of(alloc, *word))?;
+    }
+    Ok(command)
+}
+
+/// The command of a row.
+fn command_of<'a>(alloc: Global, row: Row) -> Result<Command<'a>, AllocError> {
+    let (name, words, about) = row;
+    with_words(alloc, Command::new(alloc, name).about(about), words)
+}
+
+/// A command with the one of a row below it.
+fn with_row<'a>(alloc: Global, command: Command<'a>, row: Row) -> Result<Command<'a>, AllocError> {
+    match command_of(alloc, row) {
+        Ok(below) => command.subcommand(below),
+        Err(fault) => Err(fault),
     }
 }
 
@@ -137,9 +160,8 @@ pub(crate) fn command_line<'a>(alloc: Global) -> Result<Command<'a>, AllocError>
         .version("0.1.0")
         .about("A vector tile server whose map is edited while it serves")
         .subcommand_required(true);
-    for (name, words, about) in COMMANDS {
-        let named = Command::new(alloc, name).about(about);
-        command = command.subcommand(with_words(alloc, named, words)?)?;
+    for row in COMMANDS {
+        command = with_row(alloc, command, row)?;
     }
     Ok(command)
 }

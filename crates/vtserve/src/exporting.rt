@@ -1,11 +1,11 @@
 //! The command that writes the published archive into a file.
 ghost use Rattle.std.specs.Prelude.{◌≡◌, IfOk};
 
-use crate::disks::sync_folder;
 use crate::fault::CommandFault;
 use crate::files::{OpenedFile, opened_file};
 use archive_export::{CopyFault, copy_archive};
 use generations::StoreFault;
+use map_disks::sync_folder;
 use sector_disk::{Sectors, Start};
 use std::fs::{self, File};
 use std::os::unix::fs::MetadataExt;
@@ -68,6 +68,37 @@ fn write_beside<D: Sectors + Drop>(
     written
 }
 
+/// Writes the archive of a service into a file, unless that is the file at this path, and says how many bytes it has.
+fn export_lent<D: Sectors + Drop>(
+    rt: &HostRuntime,
+    service: &mut Service<D>,
+    path: &str,
+    goal: &str,
+) -> Result<(), CommandFault> {
+    if service.archive_len() == 0 {
+        return Err(CommandFault::NoArchive);
+    }
+    if is_same_file(rt, path, goal) {
+        return Err(CommandFault::File);
+    }
+    let size = write_beside(rt, service, goal)?;
+    match println!(rt; "{size} bytes") {
+        Ok(()) => Ok(()),
+        Err(_) => Err(CommandFault::Write),
+    }
+}
+
+/// The same of a service that ends then.
+fn export_from<D: Sectors + Drop>(
+    rt: &HostRuntime,
+    service: Service<D>,
+    path: &str,
+    goal: &str,
+) -> Result<(), CommandFault> {
+    let mut service = service;
+    export_lent(rt, &mut service, path, goal)
+}
+
 /// Writes the archive that was published last on the disk in a file, whatever the file had, into another file, and says how many
 /// bytes it has.
 pub(crate) fn export_file<S: Start>(
@@ -77,19 +108,8 @@ pub(crate) fn export_file<S: Start>(
     start: S,
 ) -> Result<(), CommandFault> {
     let OpenedFile { disk, held: _held } = opened_file(rt, path, start)?;
-    let mut service = match Service::open(rt.alloc(), disk) {
-        Ok(service) => service,
-        Err((_, fault)) => return Err(CommandFault::Store(fault)),
-    };
-    if service.archive_len() == 0 {
-        return Err(CommandFault::NoArchive);
-    }
-    if is_same_file(rt, path, goal) {
-        return Err(CommandFault::File);
-    }
-    let size = write_beside(rt, &mut service, goal)?;
-    match println!(rt; "{size} bytes") {
-        Ok(()) => Ok(()),
-        Err(_) => Err(CommandFault::Write),
+    match Service::open(rt.alloc(), disk) {
+        Ok(service) => export_from(rt, service, path, goal),
+        Err((_, fault)) => Err(CommandFault::Store(fault)),
     }
 }

@@ -2,6 +2,7 @@
 
 use generations::StoreFault;
 use http_serve::ServeFault;
+use map_disks::FileFault;
 
 /// Why a command doesn't do what it was asked.
 pub(crate) enum CommandFault {
@@ -17,6 +18,15 @@ pub(crate) enum CommandFault {
     Listen,
     /// Standard output didn't take all.
     Write,
+}
+
+impl From<FileFault> for CommandFault {
+    fn from(fault: FileFault) -> CommandFault {
+        match fault {
+            FileFault::File => CommandFault::File,
+            FileFault::Store(fault) => CommandFault::Store(fault),
+        }
+    }
 }
 
 impl CommandFault {
@@ -44,7 +54,7 @@ fn serve_fault_name(fault: ServeFault) -> &'static str {
 }
 
 /// The name of why a disk isn't ready.
-pub(crate) fn store_fault_name(fault: StoreFault) -> &'static str {
+fn store_fault_name(fault: StoreFault) -> &'static str {
     match fault {
         StoreFault::NotFormatted => "NotFormatted",
         StoreFault::TooSmall => "TooSmall",

@@ -1,8 +1,8 @@
 //! The commands over a disk in a file.
 
-use crate::disks::{formatted_file, opened_service};
 use crate::fault::CommandFault;
-use crate::serving::serve_over;
+use crate::serving::{Peers, serve};
+use map_disks::{formatted_file, opened_service};
 use sector_disk::{FileDisk, Start, SystemFile, Zeros};
 use std::fs::{File, OpenOptions, TryLockError};
 use std::io;
@@ -11,7 +11,7 @@ use std::io;
 pub(crate) fn format_file(rt: &HostRuntime, path: &str, sectors: u64) -> Result<(), CommandFault> {
     match formatted_file(rt, path, sectors, Zeros) {
         Ok(_) => {}
-        Err(fault) => return Err(fault),
+        Err(fault) => return Err(CommandFault::from(fault)),
     }
     match println!(rt; "formatted {sectors} sectors") {
         Ok(()) => Ok(()),
@@ -77,15 +77,16 @@ pub(crate) fn opened_file<S: Start>(
     }
 }
 
-/// Serves one connection over the map on the disk in a file, whatever the file had.
+/// Serves the map on the disk in a file, whatever the file had.
 pub(crate) fn serve_file<S: Start>(
     rt: &HostRuntime,
     path: &str,
+    peers: Peers,
     start: S,
 ) -> Result<(), CommandFault> {
     let OpenedFile { disk, held: _held } = opened_file(rt, path, start)?;
     match opened_service(rt.alloc(), disk) {
-        Ok(service) => serve_over(rt, service),
+        Ok(map) => serve(rt, map, peers),
         Err((_, fault)) => Err(CommandFault::Store(fault)),
     }
 }

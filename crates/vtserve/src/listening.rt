@@ -1,18 +1,17 @@
-//! The command that serves the connections of a port.
-ghost use Rattle.std.specs.Prelude.{◌≡◌, ◌≤◌, List, length, IfSome, OnOk};
+//! The connections of a port.
+ghost use Rattle.std.specs.Prelude.{◌≡◌, ◌≤◌, List, [], length, IfSome, OnOk};
 ghost use Rattle.http_listen.specs.Connections.{Connection, Serves};
-ghost use Rattle.map_replies.specs.Connections.{Run, no_events, Tells};
+ghost use Rattle.map_replies.specs.Meanings.{Tells};
 ghost use Rattle.map_replies.specs.State.{asked_service};
+ghost use Rattle.tile_service.specs.Machine.{Happening};
 ghost use Rattle.tile_service.specs.Runs.{TakesRun};
 
-use crate::disks::opened_service;
 use crate::fault::CommandFault;
-use crate::files::{OpenedFile, opened_file};
 use clap::ArgMatches;
 use http_listen::ListenFault;
 use map_listen::serve_map_on;
 use map_replies::MapReplies;
-use sector_disk::{Sectors, Start};
+use sector_disk::Sectors;
 use std::io::{self, Write};
 use std::net::{Ipv4Addr, SocketAddr, TcpListener};
 
@@ -44,13 +43,13 @@ fn tell_port(rt: &HostRuntime, port: u16) -> io::Result<()> {
 }
 
 /// Serves the connections one after the other, with their log on standard error.
-fn serve_connections<D: Sectors + Drop>(
+pub(crate) fn serve_connections<D: Sectors + Drop>(
     rt: &HostRuntime,
     asked: Listening,
     service: &mut MapReplies<D>,
 ) -> Result<(), CommandFault>
-    ensures all { OnOk result ((served : List Connection) × (length served ≡ asked.connections) × (run : Run) × Serves Tells no_events served run
-        × TakesRun D.sectors D.honest D.history (asked_service service.old) run.events run.answers (asked_service service.new)) }
+    ensures all { OnOk result ((served : List Connection) × (length served ≡ asked.connections) × (run : List Happening) × Serves Tells [] served run
+        × TakesRun D.sectors D.honest D.history (asked_service service.old) run (asked_service service.new)) }
 {
     let Ok(listener) = TcpListener::bind(rt, SocketAddr::from((Ipv4Addr::LOCALHOST, asked.port)))
     else {
@@ -69,22 +68,5 @@ fn serve_connections<D: Sectors + Drop>(
     ) {
         Ok(()) => Ok(()),
         Err(ListenFault::Accept) => Err(CommandFault::Listen),
-    }
-}
-
-/// Serves so many connections of a port, over the map on the disk in a file, whatever the file had.
-pub(crate) fn serve_port<S: Start>(
-    rt: &HostRuntime,
-    path: &str,
-    asked: Listening,
-    start: S,
-) -> Result<(), CommandFault> {
-    let OpenedFile { disk, held: _held } = opened_file(rt, path, start)?;
-    match opened_service(rt.alloc(), disk) {
-        Ok(service) => {
-            let mut service = service;
-            serve_connections(rt, asked, &mut service)
-        }
-        Err((_, fault)) => Err(CommandFault::Store(fault)),
     }
 }

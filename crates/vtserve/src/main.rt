@@ -3,11 +3,9 @@
 
 mod archives;
 mod commands;
-mod disks;
 mod exporting;
 mod fault;
 mod files;
-mod fresh;
 mod listening;
 mod serving;
 
@@ -17,11 +15,11 @@ use commands::command_line;
 use exporting::export_file;
 use fault::CommandFault;
 use files::{format_file, serve_file};
-use fresh::fresh_service;
 use generations::StoreFault;
-use listening::{listening_of, serve_port};
+use listening::listening_of;
+use map_disks::fresh_service;
 use sector_disk::Unknown;
-use serving::serve_over;
+use serving::{Peers, serve};
 use std::alloc::AllocError;
 use std::fmt::Display;
 use std::io::ErrorKind;
@@ -50,7 +48,7 @@ fn out_of_range(rt: &HostRuntime) -> anyhow::Result<ExitCode> {
 /// Serves one connection on standard input and output, over the empty map on a disk in memory.
 fn demo(rt: &HostRuntime, sectors: u64) -> Result<(), CommandFault> {
     match fresh_service(rt.alloc(), sectors) {
-        Ok(service) => serve_over(rt, service),
+        Ok(map) => serve(rt, map, Peers::Streams),
         Err(fault) => Err(CommandFault::Store(fault)),
     }
 }
@@ -69,9 +67,9 @@ fn run(rt: &HostRuntime, matches: &ArgMatches<'_>) -> anyhow::Result<ExitCode> {
             export_file(rt, path, words.get_str("GOAL").unwrap_or(""), Unknown),
         ),
         "format" => ended(rt, format_file(rt, path, sectors)),
-        "pipe" => ended(rt, serve_file(rt, path, Unknown)),
+        "pipe" => ended(rt, serve_file(rt, path, Peers::Streams, Unknown)),
         "serve" => match listening_of(words) {
-            Some(asked) => ended(rt, serve_port(rt, path, asked, Unknown)),
+            Some(asked) => ended(rt, serve_file(rt, path, Peers::Port(asked), Unknown)),
             None => out_of_range(rt),
         },
         "show" => show_file(rt, path),
@@ -112,6 +110,3 @@ fn main(rt: HostRuntime) -> anyhow::Result<ExitCode> {
     };
     run(&rt, &matches)
 }
-
-#[cfg(test)]
-mod tests;

@@ -1,17 +1,39 @@
-//! The connection on standard input and output.
+//! Connections to a map.
 
 use crate::fault::CommandFault;
+use crate::listening::{Listening, serve_connections};
 use map_replies::{MapReplies, serve_map};
 use sector_disk::Sectors;
 
+/// Where connections come from.
+#[derive(Clone, Copy, Debug, PartialEq, Eq)]
+pub(crate) enum Peers {
+    /// One, from standard input and output.
+    Streams,
+    /// Several, from a port.
+    Port(Listening),
+}
+
 /// Serves one connection on standard input and output.
-pub(crate) fn serve_over<D: Sectors + Drop>(
+fn serve_streams<D: Sectors + Drop>(
     rt: &HostRuntime,
-    service: MapReplies<D>,
+    map: &mut MapReplies<D>,
 ) -> Result<(), CommandFault> {
-    let mut service = service;
-    match serve_map(rt.alloc(), &mut rt.stdin(), &mut rt.stdout(), &mut service) {
+    match serve_map(rt.alloc(), &mut rt.stdin(), &mut rt.stdout(), map) {
         Ok(_) => Ok(()),
         Err(fault) => Err(CommandFault::Connection(fault)),
+    }
+}
+
+/// Serves a map.
+pub(crate) fn serve<D: Sectors + Drop>(
+    rt: &HostRuntime,
+    map: MapReplies<D>,
+    peers: Peers,
+) -> Result<(), CommandFault> {
+    let mut map = map;
+    match peers {
+        Peers::Streams => serve_streams(rt, &mut map),
+        Peers::Port(asked) => serve_connections(rt, asked, &mut map),
     }
 }

@@ -1,9 +1,9 @@
-use Rattle.std.proofs.Common.{◌∙◌, ℕ, inr, ap, arith}
+use Rattle.std.proofs.Common.{◌∙◌, ℕ, ap, arith}
 use Rattle.http_serve.specs.Reply.{content_bytes}
 use Rattle.map_replies.specs.declared.parts.Part.TheVariants.{Between}
 use Rattle.map_replies.specs.Parts.{part_reply}
 use Rattle.map_replies.specs.State.{asked_service}
-use Rattle.map_replies.proofs.SendingLemmas.{shows_reply, whole_is}
+use Rattle.map_replies.proofs.SendingLemmas.{part_sent, part_failed}
 use Rattle.map_replies.proofs.service.MapReplies.archive_part.Goals as goal
 
 pub returns-in-Ok-Some-clause-answered : goal.returns-in-Ok-Some-clause-answered
@@ -11,10 +11,13 @@ returns-in-Ok-Some-clause-answered g c =
     let begun = rw c.in-Ok-Some.field-0-is at c.in-Ok-Some.ensures.begun in
     let sending = rw c.in-Ok-Some.field-0-is at c.in-Ok-Some.ensures.sending in
     let part = Between c.args.first c.args.last in
-    shows_reply g.D.Sectors.sectors g.D.Sectors.honest g.D.Sectors.history (asked_service c.args.self.now) (asked_service c.send.new.self) part _ c.between.result c.in-Ok-Some.content
+    part_sent g.D.Sectors.sectors g.D.Sectors.honest g.D.Sectors.history (asked_service c.args.self.now) (asked_service c.send.new.self) part _ c.between.result c.in-Ok-Some.content
     (c.requires.order, omega (arith, c.requires.within, c.requires.total)) begun c.between.ensures.content
     (λ bytes. c.between.ensures.reply bytes ∙ ap (λ (n : ℕ). part_reply part n (content_bytes bytes c.in-Ok-Some.content)) c.requires.total)
     sending
 
 pub returns-in-Ok-None-clause-answered : goal.returns-in-Ok-None-clause-answered
-returns-in-Ok-None-clause-answered g c = whole_is _ _ c.unread.result c.unread.ensures.writable (inr c.unread.ensures.reply)
+returns-in-Ok-None-clause-answered g c =
+    part_failed g.D.Sectors.sectors g.D.Sectors.honest g.D.Sectors.history (asked_service c.args.self.now) (asked_service c.send.new.self) (Between c.args.first c.args.last) _
+    c.unread.result (c.requires.order, omega (arith, c.requires.within, c.requires.total))
+    c.unread.ensures.writable c.unread.ensures.reply (rw c.in-Ok-None.field-0-is at c.in-Ok-None.ensures.begun)

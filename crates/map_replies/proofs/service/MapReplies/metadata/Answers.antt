@@ -1,6 +1,27 @@
+use Rattle.std.proofs.Common.{refl}
 use Rattle.serde_json.specs.View.{view}
+use Rattle.tile_service.specs.Machine.{got, no_memory, metadata}
+use Rattle.tile_service.proofs.Callers.{metadata_step}
+use Rattle.map_replies.specs.State.{asked_service}
+use Rattle.map_replies.specs.Words.{shown_reply, metadata_reply}
+use Rattle.map_replies.proofs.Answering.{called, shown}
 use Rattle.map_replies.proofs.Texts.{metadata_whole}
 use Rattle.map_replies.proofs.service.MapReplies.metadata.Goals as goal
 
 pub json_value-requires : goal.json_value-requires
 json_value-requires g c = record { whole = metadata_whole _ (view c.in-Ok.value) c.in-Ok.ensures.metadata }
+
+pub returns-in-Ok-clause-answered : goal.returns-in-Ok-clause-answered
+returns-in-Ok-clause-answered g c =
+    let old = asked_service c.args.self.now in
+    let d = view c.in-Ok.value in
+    shown g.D.Sectors.sectors g.D.Sectors.honest g.D.Sectors.history metadata metadata_reply old old d c.json_value.result
+    c.json_value.ensures.reply c.json_value.ensures.fault
+    (metadata_step g.D.Sectors.sectors g.D.Sectors.honest g.D.Sectors.history old (got d) c.in-Ok.ensures.metadata)
+    (metadata_step g.D.Sectors.sectors g.D.Sectors.honest g.D.Sectors.history old no_memory tt)
+
+pub returns-in-Err-clause-answered : goal.returns-in-Err-clause-answered
+returns-in-Err-clause-answered g c =
+    let old = asked_service c.args.self.now in
+    called g.D.Sectors.sectors g.D.Sectors.honest g.D.Sectors.history metadata (shown_reply metadata_reply) old old no_memory _ refl
+    (metadata_step g.D.Sectors.sectors g.D.Sectors.honest g.D.Sectors.history old no_memory tt)

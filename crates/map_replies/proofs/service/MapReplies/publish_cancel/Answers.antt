@@ -1,10 +1,11 @@
-use Rattle.tile_service.specs.Service.{cancel_answer}
+use Rattle.tile_service.specs.Machine.{cancel}
 use Rattle.tile_service.proofs.Callers.{cancel_step}
+use Rattle.map_replies.specs.Words.{cancel_reply}
+use Rattle.map_replies.proofs.Answering.{called_first}
 use Rattle.map_replies.proofs.service.MapReplies.publish_cancel.Goals as goal
 
 pub returns-clause-answered : goal.returns-clause-answered
-returns-clause-answered g c = let call = c.publish_cancel-outcome.ensures in (
-  c.publish_cancel-outcome.result,
-  cancel_step g.D.Sectors.sectors g.D.Sectors.honest g.D.Sectors.history _ _ (cancel_answer c.publish_cancel-outcome.result) call.machine call.same call.up,
-  c.cancelled.ensures.reply,
-)
+returns-clause-answered g c =
+    let call = c.publish_cancel-outcome.ensures in
+    called_first g.D.Sectors.sectors g.D.Sectors.honest g.D.Sectors.history cancel cancel_reply _ _ c.publish_cancel-outcome.result _ c.cancelled.ensures.reply
+    (cancel_step g.D.Sectors.sectors g.D.Sectors.honest g.D.Sectors.history _ _ c.publish_cancel-outcome.result call.machine call.same call.up)

@@ -1,4 +1,4 @@
-use Rattle.std.proofs.Common.{refl}
+use Rattle.std.proofs.Common.{◌≤◌, length, arith}
 use Rattle.map_replies.specs.State.{asked_service}
 use Rattle.map_replies.proofs.SendingLemmas.{begins}
 use Rattle.map_replies.proofs.service.MapReplies.send.Goals as goal
@@ -6,8 +6,7 @@ use Rattle.map_replies.proofs.service.MapReplies.send.Goals as goal
 pub returns-in-Ok-Some-clause-begun : goal.returns-in-Ok-Some-clause-begun
 returns-in-Ok-Some-clause-begun g c =
     let long = rw c.in-Ok-Some.field-0-is at c.in-Ok-Some.ensures.length in
-    let read = rw c.in-Ok-Some.field-0-is at c.in-Ok-Some.ensures.bytes in
-    let begun = begins g.D.Sectors.sectors g.D.Sectors.honest g.D.Sectors.history (asked_service c.args.self.now)
-    (asked_service c.archive_bytes.new.self) c.args.first c.args.length c.begin_size.result c.in-Ok-Some.begun.items
-    c.requires c.begin_size.ensures long read in
-    (begun.0, begun.1, refl, begun.2)
+    let read = rw c.in-Ok-Some.field-0-is at c.in-Ok-Some.ensures.read in
+    let few : length c.in-Ok-Some.begun.items ≤ c.args.length = omega (arith, long, c.begin_size.ensures) in
+    begins g.D.Sectors.sectors g.D.Sectors.honest g.D.Sectors.history (asked_service c.args.self.now)
+    (asked_service c.archive_bytes.new.self) c.args.first c.args.length c.in-Ok-Some.begun c.requires few read

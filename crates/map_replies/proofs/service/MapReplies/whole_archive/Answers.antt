@@ -1,18 +1,20 @@
-use Rattle.std.proofs.Common.{◌∙◌, ℕ, inr, ap, subst}
+use Rattle.std.proofs.Common.{◌∙◌, ℕ, ap, subst}
 use Rattle.map_replies.specs.declared.parts.Part.TheVariants.{Whole}
 use Rattle.map_replies.specs.Sending.{Begins}
 use Rattle.map_replies.specs.State.{asked_service}
-use Rattle.map_replies.proofs.SendingLemmas.{shows_reply, whole_is}
+use Rattle.map_replies.proofs.SendingLemmas.{part_sent, part_failed}
 use Rattle.map_replies.proofs.service.MapReplies.whole_archive.Goals as goal
 
 pub returns-in-Ok-Some-clause-answered : goal.returns-in-Ok-Some-clause-answered
 returns-in-Ok-Some-clause-answered g c =
     let begun = rw c.in-Ok-Some.field-0-is at c.in-Ok-Some.ensures.begun in
     let sending = rw c.in-Ok-Some.field-0-is at c.in-Ok-Some.ensures.sending in
-    shows_reply g.D.Sectors.sectors g.D.Sectors.honest g.D.Sectors.history (asked_service c.args.self.now) (asked_service c.send.new.self) Whole _ c.whole.result c.in-Ok-Some.content tt
-    (subst (λ (n : ℕ). Begins g.D.Sectors.sectors g.D.Sectors.honest g.D.Sectors.history (asked_service c.args.self.now) 0 n (asked_service c.send.new.self) c.in-Ok-Some.content) c.requires begun)
+    part_sent g.D.Sectors.sectors g.D.Sectors.honest g.D.Sectors.history (asked_service c.args.self.now) (asked_service c.send.new.self) Whole _ c.whole.result c.in-Ok-Some.content tt
+    (subst (λ (n : ℕ). Begins g.D.Sectors.sectors g.D.Sectors.honest g.D.Sectors.history (asked_service c.args.self.now) (asked_service c.send.new.self) 0 n c.in-Ok-Some.content) c.requires begun)
     c.whole.ensures.content c.whole.ensures.reply
     (sending ∙ ap (λ (n : ℕ). record { first = 0; length = n }) c.requires)
 
 pub returns-in-Ok-None-clause-answered : goal.returns-in-Ok-None-clause-answered
-returns-in-Ok-None-clause-answered g c = whole_is _ _ c.unread.result c.unread.ensures.writable (inr c.unread.ensures.reply)
+returns-in-Ok-None-clause-answered g c =
+    part_failed g.D.Sectors.sectors g.D.Sectors.honest g.D.Sectors.history (asked_service c.args.self.now) (asked_service c.send.new.self) Whole _ c.unread.result tt
+    c.unread.ensures.writable c.unread.ensures.reply (rw c.in-Ok-None.field-0-is at c.in-Ok-None.ensures.begun)

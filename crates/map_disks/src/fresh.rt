@@ -1,4 +1,4 @@
-//! A service over the empty map.
+//! The empty map on a disk in memory.
 ghost use Rattle.std.specs.Prelude.{◌≡◌, ◌<◌, ◌⊎◌, Err, IfErr, IfOk};
 ghost use Rattle.sector_disk.specs.Views.{memory_history, memory_sectors};
 ghost use Rattle.generations.specs.Areas.{IsSize};
@@ -9,7 +9,7 @@ ghost use Rattle.map_replies.specs.State.{asked_service};
 ghost use Rattle.tile_service.specs.Service.{IsUp};
 ghost use Rattle.tile_service.specs.Stored.{Keeps, first_state};
 
-use crate::disks::opened_service;
+use crate::opening::opened_service;
 use generations::StoreFault;
 use map_replies::MapReplies;
 use sector_disk::MemoryDisk;
@@ -35,10 +35,7 @@ fn fresh_disk(alloc: Global, sectors: u64) -> Result<MemoryDisk, StoreFault>
 }
 
 /// A service over the empty map on a disk in memory.
-pub(crate) fn fresh_service(
-    alloc: Global,
-    sectors: u64,
-) -> Result<MapReplies<MemoryDisk>, StoreFault>
+pub fn fresh_service(alloc: Global, sectors: u64) -> Result<MapReplies<MemoryDisk>, StoreFault>
     ensures small { sectors < LEAST_SECTORS → result ≡ Err TooSmall }
     ensures large { MOST_SECTORS < sectors → result ≡ Err (Damaged Size) }
     ensures only { IsSize sectors → IfErr result (λ fault. (fault ≡ Device) ⊎ (fault ≡ Memory)) }

@@ -1,6 +1,6 @@
 use Rattle.std.proofs.Common.{◌≡◌, subst, sym}
 use Rattle.tile_service.specs.Service.{IsUp}
-use Rattle.vtserve.proofs.disks.opened_service.Goals as goal
+use Rattle.map_disks.proofs.opening.opened_service.Goals as goal
 
 pub returns-in-Ok-new-clause-opened : goal.returns-in-Ok-new-clause-opened
 returns-in-Ok-new-clause-opened g c n stored holds honest =

@@ -1,57 +1,23 @@
-//! Services over disks, and disks in new files: for every disk, and for all that a file may have had.
-ghost use Rattle.std.specs.Prelude.{◌≡◌, ◌<◌, ◌⊎◌, ℕ, Err, IfErr, IfOk, IfSome, IsOk};
-ghost use Rattle.sector_disk.specs.Disk.{all_zeros, seen};
-ghost use Rattle.sector_disk.specs.Disk.History.{begun, synced};
+//! Disks in new files: for every file system.
+ghost use Rattle.std.specs.Prelude.{◌≡◌, ◌<◌, ◌⊎◌, Err, IfErr, IfOk, IsOk};
+ghost use Rattle.sector_disk.specs.Disk.{all_zeros};
+ghost use Rattle.sector_disk.specs.Disk.History.{begun};
 ghost use Rattle.generations.specs.Areas.{IsSize};
-ghost use Rattle.generations.specs.declared.fault.StoreFault.TheVariants.{TooSmall, Damaged, Device, Memory};
+ghost use Rattle.generations.specs.declared.fault.StoreFault.TheVariants.{TooSmall, Damaged, Device};
 ghost use Rattle.generations.specs.declared.fault.What.TheVariants.{Size};
 ghost use Rattle.generations.specs.declared.sizes.TheConstants.{LEAST_SECTORS, MOST_SECTORS};
-ghost use Rattle.map_replies.specs.State.{asked_service};
-ghost use Rattle.tile_service.specs.Opening.{IsOpenFault};
-ghost use Rattle.tile_service.specs.Service.{IsUp};
-ghost use Rattle.tile_service.specs.Stored.{Stored, Holds, Keeps, first_state};
-ghost use Rattle.vtserve.specs.declared.fault.CommandFault.TheVariants.{File, Store};
+ghost use Rattle.tile_service.specs.Stored.{Keeps, first_state};
+ghost use Rattle.map_disks.specs.declared.fault.FileFault.TheVariants.{File, Store};
 
-use crate::fault::CommandFault;
+use crate::fault::FileFault;
 use generations::{LEAST_SECTORS, MOST_SECTORS, StoreFault, What};
-use map_replies::MapReplies;
 use sector_disk::{FileDisk, Sectors, Start, SystemFile};
-use std::alloc::{AllocError, Global};
 use std::fs::OpenFile;
 use std::io::{self, Read, Seek, Write};
 use std::os::unix::fs::FileExt;
 use std::path::Path;
 use std::rt::Files;
 use tile_service::Service;
-
-/// A service that goes on from what a disk holds, to which nothing is written. A disk that can't be opened is handed back.
-pub(crate) fn opened_service<D: Sectors + Drop>(
-    alloc: Global,
-    disk: D,
-) -> Result<MapReplies<D>, (Option<D>, StoreFault)>
-    ensures count { IfOk result (λ replies. D.sectors (asked_service replies).disk ≡ D.sectors disk) }
-    ensures honest { IfOk result (λ replies. D.honest (asked_service replies).disk → D.honest disk) }
-    ensures history { IfOk result (λ replies. D.honest (asked_service replies).disk → D.history (asked_service replies).disk ≡ synced (D.history disk)) }
-    ensures fault { IfErr result (λ e. IfSome e.0 D.honest
-        → (e.1 ≡ Device) ⊎ (e.1 ≡ Memory) ⊎ IsOpenFault (D.sectors disk) (seen (D.history disk)) e.1) }
-
-    // Every state that the disk holds is what the service goes on from, and only a call of the disk or an
-    // allocation can fail.
-    ensures opened { (n : ℕ) (stored : Stored) → Holds (D.sectors disk) n stored (seen (D.history disk))
-        → IfOk result (λ replies. D.honest (asked_service replies).disk → ((asked_service replies).size ≡ n)
-        × IsUp (D.sectors disk) (D.history (asked_service replies).disk) stored (asked_service replies)) }
-    ensures refused { (n : ℕ) (stored : Stored) → Holds (D.sectors disk) n stored (seen (D.history disk))
-        → IfErr result (λ e. IfSome e.0 D.honest → (e.1 ≡ Device) ⊎ (e.1 ≡ Memory)) }
-{
-    let service = match Service::open(alloc, disk) {
-        Ok(service) => service,
-        Err((disk, fault)) => return Err((Some(disk), fault)),
-    };
-    match MapReplies::new(alloc, service) {
-        Ok(service) => Ok(service),
-        Err(AllocError) => Err((None, StoreFault::Memory)),
-    }
-}
 
 /// Whether a disk may be formatted with so many sectors.
 fn check_size(sectors: u64) -> Result<(), StoreFault>
@@ -69,7 +35,7 @@ fn check_size(sectors: u64) -> Result<(), StoreFault>
 }
 
 /// Syncs the folder of a path, so that the name outlives a crash.
-pub(crate) fn sync_folder<R: Files>(files: &R, path: &str) -> io::Result<()> {
+pub fn sync_folder<R: Files>(files: &R, path: &str) -> io::Result<()> {
     let folder = match Path::new(path).parent() {
         Some(folder) => folder.as_str(),
         None => "",
@@ -80,11 +46,7 @@ pub(crate) fn sync_folder<R: Files>(files: &R, path: &str) -> io::Result<()> {
 }
 
 /// Has a disk hold the empty map, in a file whose name outlives a crash.
-fn settle<D: Sectors + Drop, R: Files>(
-    files: &R,
-    path: &str,
-    disk: &mut D,
-) -> Result<(), CommandFault>
+fn settle<D: Sectors + Drop, R: Files>(files: &R, path: &str, disk: &mut D) -> Result<(), FileFault>
     ensures count { D.sectors disk.new ≡ D.sectors disk.old }
     ensures honest { D.honest disk.new → D.honest disk.old }
     ensures only { IsSize (D.sectors disk.old) → IfErr result (λ fault. (fault ≡ File) ⊎ (fault ≡ Store Device)) }
@@ -92,21 +54,21 @@ fn settle<D: Sectors + Drop, R: Files>(
 {
     match Service::format(disk) {
         Ok(()) => {}
-        Err(fault) => return Err(CommandFault::Store(fault)),
+        Err(fault) => return Err(FileFault::Store(fault)),
     }
     match sync_folder(files, path) {
         Ok(()) => Ok(()),
-        Err(_) => Err(CommandFault::File),
+        Err(_) => Err(FileFault::File),
     }
 }
 
 /// A new file of so many sectors at a path where there is nothing, and its disk, which holds the empty map. For a count outside
 /// the limits no file is touched. Where the format fails, the file is removed, if the system lets it.
-pub(crate) fn formatted_file<
+pub fn formatted_file<
     F: FileExt + OpenFile + Read + Write + Seek + Drop,
     R: Files<File = F>,
     S: Start,
->(files: &R, path: &str, sectors: u64, start: S) -> Result<FileDisk<SystemFile<F>, S>, CommandFault>
+>(files: &R, path: &str, sectors: u64, start: S) -> Result<FileDisk<SystemFile<F>, S>, FileFault>
     requires zeros { S.found ≡ begun all_zeros }
     ensures small { sectors < LEAST_SECTORS → result ≡ Err (Store TooSmall) }
     ensures large { MOST_SECTORS < sectors → result ≡ Err (Store (Damaged Size)) }
@@ -117,10 +79,10 @@ pub(crate) fn formatted_file<
 {
     match check_size(sectors) {
         Ok(()) => {}
-        Err(fault) => return Err(CommandFault::Store(fault)),
+        Err(fault) => return Err(FileFault::Store(fault)),
     }
     let Ok(mut disk) = FileDisk::create(files, path, sectors, start) else {
-        return Err(CommandFault::File);
+        return Err(FileFault::File);
     };
     match settle(files, path, &mut disk) {
         Ok(()) => Ok(disk),

@@ -1,0 +1,44 @@
+//! A map opened on a disk: for every disk, and for all that it may have had.
+ghost use Rattle.std.specs.Prelude.{◌≡◌, ◌⊎◌, ℕ, IfErr, IfOk, IfSome};
+ghost use Rattle.sector_disk.specs.Disk.{seen};
+ghost use Rattle.sector_disk.specs.Disk.History.{synced};
+ghost use Rattle.generations.specs.declared.fault.StoreFault.TheVariants.{Device, Memory};
+ghost use Rattle.map_replies.specs.State.{asked_service};
+ghost use Rattle.tile_service.specs.Opening.{IsOpenFault};
+ghost use Rattle.tile_service.specs.Service.{IsUp};
+ghost use Rattle.tile_service.specs.Stored.{Stored, Holds};
+
+use generations::StoreFault;
+use map_replies::MapReplies;
+use sector_disk::Sectors;
+use std::alloc::{AllocError, Global};
+use tile_service::Service;
+
+/// A service that goes on from what a disk holds, to which nothing is written. A disk that can't be opened is handed back.
+pub fn opened_service<D: Sectors + Drop>(
+    alloc: Global,
+    disk: D,
+) -> Result<MapReplies<D>, (Option<D>, StoreFault)>
+    ensures count { IfOk result (λ replies. D.sectors (asked_service replies).disk ≡ D.sectors disk) }
+    ensures honest { IfOk result (λ replies. D.honest (asked_service replies).disk → D.honest disk) }
+    ensures history { IfOk result (λ replies. D.honest (asked_service replies).disk → D.history (asked_service replies).disk ≡ synced (D.history disk)) }
+    ensures fault { IfErr result (λ e. IfSome e.0 D.honest
+        → (e.1 ≡ Device) ⊎ (e.1 ≡ Memory) ⊎ IsOpenFault (D.sectors disk) (seen (D.history disk)) e.1) }
+
+    // Every state that the disk holds is what the service goes on from, and only a call of the disk or an
+    // allocation can fail.
+    ensures opened { (n : ℕ) (stored : Stored) → Holds (D.sectors disk) n stored (seen (D.history disk))
+        → IfOk result (λ replies. D.honest (asked_service replies).disk → ((asked_service replies).size ≡ n)
+        × IsUp (D.sectors disk) (D.history (asked_service replies).disk) stored (asked_service replies)) }
+    ensures refused { (n : ℕ) (stored : Stored) → Holds (D.sectors disk) n stored (seen (D.history disk))
+        → IfErr result (λ e. IfSome e.0 D.honest → (e.1 ≡ Device) ⊎ (e.1 ≡ Memory)) }
+{
+    let service = match Service::open(alloc, disk) {
+        Ok(service) => service,
+        Err((disk, fault)) => return Err((Some(disk), fault)),
+    };
+    match MapReplies::new(alloc, service) {
+        Ok(service) => Ok(service),
+        Err(AllocError) => Err((None, StoreFault::Memory)),
+    }
+}

@@ -1,0 +1,76 @@
+-- Replies that report what a call of the service did.
+use Rattle.std.proofs.Common.{◌≡◌, ◌⊎◌, inl, inr, ℕ, List, [], ◌∷◌, ◌++◌, Result, Ok, Err, refl, ap}
+use Rattle.std.specs.Prelude.{IfOk, IfErr}
+use Rattle.http_serve.specs.Reply.{ReplyView, reply_view}
+use Rattle.http_serve.specs.declared.replies.Reply.{Reply}
+use Rattle.sector_disk.specs.Disk.{History}
+use Rattle.tile_service.specs.Machine.{OrMemory, got, no_memory, Happening}
+use Rattle.tile_service.specs.Runs.{begin_and_steps, Takes, TakesPublication}
+use Rattle.tile_service.specs.Service.{ServiceView}
+use Rattle.tile_service.specs.declared.publishing_whole.Published.{Published}
+use Rattle.tile_service.specs.declared.fault.ServiceFault.{ServiceFault}
+use Rattle.map_replies.specs.Bodies.{HasBodyFault}
+use Rattle.map_replies.specs.Meanings.{numbers_of, MeansCall, OrNoMemory, MeansPut, MeansPublish, Answers}
+use Rattle.map_replies.specs.Sending.{IsAnswered}
+use Rattle.map_replies.specs.Words.{refusal_of, shown_reply, published_reply}
+use Rattle.map_replies.specs.declared.fault.RequestFault.{RequestFault}
+use Rattle.map_replies.specs.declared.fault.RequestFault.TheVariants.{Memory}
+
+module _ {D : Type 0} (sectors : D → ℕ) (honest : D → Type 0) (history : D → History) where
+  -- one call was made
+  pub called : {A : Type 0} (call : A → Happening) (reply_of : A → ReplyView) (old new : ServiceView D) (outcome : A) (reply : ReplyView)
+      → reply ≡ reply_of outcome → Takes sectors honest history old (call outcome) new
+      → Answers sectors honest history (MeansCall call reply_of) old new reply
+  called call reply_of old new outcome reply is takes = (call outcome ∷ [], (outcome, is, refl), (new, takes, refl))
+
+  -- there was memory for it
+  pub called_first : {A : Type 0} (call : A → Happening) (reply_of : A → ReplyView) (old new : ServiceView D) (outcome : A) (reply : ReplyView)
+      → reply ≡ reply_of outcome → Takes sectors honest history old (call outcome) new
+      → Answers sectors honest history (OrNoMemory (MeansCall call reply_of)) old new reply
+  called_first call reply_of old new outcome reply is takes = (call outcome ∷ [], inl (outcome, is, refl), (new, takes, refl))
+
+  -- something is shown, if there is memory for the reply
+  pub shown : {A : Type 0} (call : OrMemory A → Happening) (reply_of : A → ReplyView) (old new : ServiceView D) (a : A) (r : Result Reply RequestFault)
+      → IfOk r (λ reply. reply_view [] reply ≡ reply_of a) → IfErr r (λ fault. fault ≡ Memory)
+      → Takes sectors honest history old (call (got a)) new → Takes sectors honest history old (call no_memory) new
+      → IsAnswered (Answers sectors honest history (MeansCall call (shown_reply reply_of)) old new) r
+  shown call reply_of old new a (Ok reply) is fault takes takes_none = called call (shown_reply reply_of) old new (got a) (reply_view [] reply) is takes
+  shown call reply_of old new a (Err fault) is same takes takes_none =
+      called call (shown_reply reply_of) old new no_memory (refusal_of fault) (ap refusal_of same) takes_none
+
+  -- the body has a fault, or there is no memory
+  pub body_refused : (id : ℕ) (body : List ℕ) (fault : RequestFault) (old : ServiceView D) → (fault ≡ Memory) ⊎ HasBodyFault body fault
+      → Answers sectors honest history (MeansPut id body) old old (refusal_of fault)
+  body_refused id body fault old (inl is) = ([], inr (inr (ap refusal_of is, refl)), refl)
+  body_refused id body fault old (inr is) = ([], inr (inl (fault, is, (refl, refl))), refl)
+
+  pub no_memory_first : (IsMeant : ReplyView → List Happening → Type 0) (old new : ServiceView D) → new ≡ old
+      → Answers sectors honest history (OrNoMemory IsMeant) old new (refusal_of Memory)
+  no_memory_first IsMeant old new same = ([], inr (refl, refl), same)
+
+  -- a whole publication was made
+  pub published : (old new : ServiceView D) (outcome : Result Published ServiceFault) (reply : ReplyView) → reply ≡ published_reply outcome
+      → TakesPublication sectors honest history old outcome new
+      → Answers sectors honest history (OrNoMemory (MeansPublish (numbers_of old) (numbers_of new))) old new reply
+  published old new (Ok p) reply is takes = (
+    begin_and_steps (takes.before ++ takes.last ∷ []),
+    inl (
+      Ok p,
+      is,
+      λ i. record { generation = takes.ends.1 i; edits = takes.ends.2 i; archive_len = takes.ends.3 i },
+      takes.before,
+      ap (λ (last : Result ℕ ServiceFault). begin_and_steps (takes.before ++ last ∷ [])) takes.ends.0,
+    ),
+    takes.takes,
+  )
+  published old new (Err fault) reply is takes = (
+    begin_and_steps (takes.before ++ takes.last ∷ []),
+    inl (
+      Err fault,
+      is,
+      tt,
+      takes.before,
+      ap (λ (last : Result ℕ ServiceFault). begin_and_steps (takes.before ++ last ∷ [])) takes.ends,
+    ),
+    takes.takes,
+  )
