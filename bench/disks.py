@@ -22,6 +22,7 @@ from commands import Cases, vtserve
 sys.path.append(str(Path(__file__).resolve().parent / "model"))
 import disk as model
 from disk import Edit, Root
+from map_archive import archive_of
 from tiles import feature, tile
 
 WORLD = 2**32
@@ -524,11 +525,13 @@ def in_journal(text):
     return bytes(disk)
 
 
-def in_snapshot(text):
-    """A disk whose snapshot is a text."""
+def in_snapshot(text, archive=b""):
+    """A disk whose snapshot is a text, with an archive behind it."""
     disk = bytearray(model.write_disk(256, 2, {}, [], b"", 62, 0, other_bytes))
-    model.put_at(disk, 1, model.root_sector(Root(2, 0, 62, len(text), 0)))
-    model.put_at(disk, model.Layout(256).area_at(2), text)
+    model.put_at(disk, 1, model.root_sector(Root(2, 0, 62, len(text), len(archive))))
+    area = model.Layout(256).area_at(2)
+    model.put_at(disk, area, text)
+    model.put_at(disk, area + -(-len(text) // model.SECTOR), archive)
     return bytes(disk)
 
 
@@ -538,7 +541,9 @@ def misspelled(cases, folder, mark, disk_of, fault):
     tags = {"a": "text", "b": -1, "c": 1, "d": True}
     good = Edit(7, feature({"polygons": [[square(5, 6, 2**30)]]}, tags=tags))
     text = model.text_of(good)
-    cases.show(f"{mark}a text", judged(path, disk_of(text), {7: good.feature}), [])
+    whole_map = {7: good.feature}
+    held = in_snapshot(text, archive_of(whole_map)) if disk_of == in_snapshot else disk_of(text)
+    cases.show(f"{mark}a text", judged(path, held, whole_map), [])
     for name, other in no_texts():
         cases.show(f"{mark}{name}", judged(path, disk_of(other), fault), [])
     cut = [told for size in range(1, len(text)) for told in judged(path, disk_of(text[:size]), fault)]

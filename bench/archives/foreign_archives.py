@@ -6,238 +6,23 @@
 Nothing here is taken from the product. The writer follows the PMTiles specification, version 3, and takes the freedom
 that it leaves: sections in any order with gaps between them, contents in any order, leaf directories below leaf
 directories, numbers longer than need be. What is expected comes from the same page, twice: it is written beside each
-archive, and `judged` reads it from the archive's bytes. Where the two differ, the script stops before it runs anything.
+archive, and `judged` (`bench/model/archives.py`, as the writer) reads it from the archive's bytes. Where the two differ, the script stops before it runs anything.
 
 A last part changes bytes of headers and directories at random, with a fixed seed, and compares what `judged` reads
 with what the program prints.
 """
 
 import gzip
-import json
 import random
-import struct
 import subprocess
 import sys
 import tempfile
-from collections import namedtuple
 from pathlib import Path
 
 sys.path.append(str(Path(__file__).resolve().parents[1] / "model"))
+from archives import FIELDS, HEADER, IMAGE, SECTIONS, A, B, BAD, C, D, Entry, Maker, changed, directory, header_lines, header_of, judged
+from ids import ALL_IDS
 from wire import varint
-
-# ---- the format
-
-HEADER = struct.Struct("<7sB8Q3Q6B4iB2i")
-FIELDS = ("magic version root_at root metadata_at metadata leaves_at leaves tiles_at tiles addressed entries contents "
-          "clustered internal compression kind min_zoom max_zoom west south east north centre_zoom centre_lon "
-          "centre_lat").split()
-SECTIONS = ["root", "metadata", "leaves", "tiles"]
-
-# How many ids the zooms 0 to 31 have.
-ALL_IDS = sum(4**zoom for zoom in range(32))
-
-# A run of 0 makes the entry one of a leaf directory.
-Entry = namedtuple("Entry", "id run length offset")
-
-
-def directory(entries, longer=0, each_offset=False):
-    """The bytes of a directory: how many entries, then ids, runs, lengths and offsets, each as one column.
-
-    With `each_offset` an offset stands there also where 0 would say that the content follows the one before.
-    """
-    numbers = [len(entries)]
-    numbers += [e.id - before for e, before in zip(entries, [0] + [e.id for e in entries])]
-    numbers += [e.run for e in entries]
-    numbers += [e.length for e in entries]
-    end = None
-    for e in entries:
-        numbers.append(0 if e.offset == end and not each_offset else e.offset + 1)
-        end = e.offset + e.length
-    return b"".join(varint(n, longer) for n in numbers)
-
-
-class Maker:
-    """Contents and leaf directories, as they are put one behind the other."""
-
-    def __init__(self):
-        self.tiles = b""
-        self.leaves = b""
-
-    def tile(self, first, run, content):
-        """An entry with a content of its own."""
-        self.tiles += content
-        return Entry(first, run, len(content), len(self.tiles) - len(content))
-
-    def leaf(self, first, entries, longer=0):
-        data = entries if isinstance(entries, bytes) else directory(entries, longer)
-        self.leaves += data
-        return Entry(first, 0, len(data), len(self.leaves) - len(data))
-
-    def archive(self, root, order=SECTIONS, gaps={}, metadata=b"{}", **fields):
-        """The archive with its sections in this order, and in front of each as many bytes of no section as `gaps` says."""
-        data = {"root": root if isinstance(root, bytes) else directory(root), "metadata": metadata,
-                "leaves": self.leaves, "tiles": self.tiles}
-        body = b""
-        said = dict.fromkeys(FIELDS, 0) | {"magic": b"PMTiles", "version": 3, "internal": 1, "compression": 1, "kind": 1}
-        for name in order:
-            body += b"\xee" * gaps.get(name, 0)
-            said |= {name + "_at": 127 + len(body), name: len(data[name])}
-            body += data[name]
-        said |= fields
-        return HEADER.pack(*(said[name] for name in FIELDS)) + body
-
-
-def changed(archive, **fields):
-    """The archive with other fields in its header."""
-    said = dict(zip(FIELDS, HEADER.unpack(archive[:127]))) | fields
-    return HEADER.pack(*(said[name] for name in FIELDS)) + archive[127:]
-
-
-# ---- tiles: one layer of this name with one point (Mapbox Vector Tile 2.1)
-
-
-def part(field, data):
-    return varint(8 * field + 2) + varint(len(data)) + data
-
-
-def vector_tile(name, version=2):
-    feature = varint(8 * 3) + varint(1) + part(4, bytes([9, 2, 4]))
-    return part(3, varint(8 * 15) + varint(version) + part(2, feature) + part(1, name.encode()))
-
-
-A, B, C, D = (vector_tile(name) for name in ["a", "bb", "ccc", "dddd"])
-GOOD_TILES = {A, B, C, D}
-# There is no version 3.
-BAD = vector_tile("bad", version=3)
-IMAGE = b"\x89PNG\r\n\x1a\n and no more"
-
-
-# ---- reading: the one line that an archive deserves
-
-
-class Fault(Exception):
-    pass
-
-
-def numbers_of(data):
-    """The numbers that the bytes spell: at most ten bytes and 64 bits each."""
-    numbers, at = [], 0
-    while at < len(data):
-        n = 0
-        for k in range(10):
-            if at == len(data):
-                raise Fault
-            n += data[at] % 128 * 128**k
-            at += 1
-            if data[at - 1] < 128:
-                break
-        else:
-            raise Fault
-        if n >= 2**64:
-            raise Fault
-        numbers.append(n)
-    return numbers
-
-
-def entries_of(data):
-    """The entries of a directory, or None where the bytes are no directory."""
-    try:
-        numbers = numbers_of(data)
-    except Fault:
-        return None
-    if not numbers or len(numbers) != 1 + 4 * numbers[0]:
-        return None
-    count = numbers[0]
-    columns = [numbers[1 + k * count:1 + (k + 1) * count] for k in range(4)]
-    entries, before = [], None
-    for delta, run, length, place in zip(*columns):
-        if before and delta < max(1, before.run):
-            return None
-        if place == 0 and not before:
-            return None
-        first = before.id + delta if before else delta
-        offset = place - 1 if place else before.offset + before.length
-        if run >= 2**32 or not 0 < length < 2**32 or first + run > ALL_IDS or offset >= 2**64:
-            return None
-        before = Entry(first, run, length, offset)
-        entries.append(before)
-    return entries
-
-
-def is_object(metadata):
-    def refuse(word):
-        raise ValueError(word)
-    try:
-        return isinstance(json.loads(metadata.decode("utf-8"), parse_constant=refuse), dict)
-    except ValueError:
-        return False
-
-
-def tiles_below(archive, said, entries, bound, depth):
-    """The tile entries in order, or the first fault. Ids have to be below the bound."""
-    for k, e in enumerate(entries):
-        up_to = entries[k + 1].id if k + 1 < len(entries) else bound
-        if e.run > 0:
-            if e.offset + e.length > said["tiles"]:
-                raise Fault(f"place: {e.id}")
-            yield e
-            continue
-        if depth == 3:
-            raise Fault("leaf depth")
-        if e.offset + e.length > said["leaves"]:
-            raise Fault(f"place: {e.id}")
-        place = said["leaves_at"] + e.offset
-        inner = entries_of(archive[place:place + e.length])
-        if inner is None:
-            raise Fault(f"bad directory at: {place}")
-        for f in inner:
-            if f.id < e.id:
-                raise Fault(f"order: {f.id}")
-            if f.id + max(1, f.run) > up_to:
-                raise Fault(f"order: {max(f.id, up_to)}")
-        yield from tiles_below(archive, said, inner, up_to, depth + 1)
-
-
-def report(archive):
-    """How many tiles, entries and contents there are, or the first fault."""
-    if len(archive) < 127:
-        raise Fault("short header")
-    if archive[:7] != b"PMTiles":
-        raise Fault("bad magic")
-    if archive[7] != 3:
-        raise Fault(f"version: {archive[7]}")
-    said = dict(zip(FIELDS, HEADER.unpack(archive[:127])))
-    for name in SECTIONS:
-        if said[name + "_at"] + said[name] > (min(16384, len(archive)) if name == "root" else len(archive)):
-            raise Fault(f"section: {name}")
-    if said["internal"] >= 2:
-        raise Fault(f"compressed directories: {said['internal']}")
-    data = {name: archive[said[name + "_at"]:said[name + "_at"] + said[name]] for name in SECTIONS}
-    root = entries_of(data["root"])
-    if root is None:
-        raise Fault(f"bad directory at: {said['root_at']}")
-    if not is_object(data["metadata"]):
-        raise Fault("bad metadata")
-    tiles = list(tiles_below(archive, said, root, ALL_IDS, 0))
-    counts = {"addressed": sum(e.run for e in tiles), "entries": len(tiles),
-              "contents": len({(e.offset, e.length) for e in tiles})}
-    for name, count in counts.items():
-        if said[name] not in (0, count):
-            raise Fault(f"count: {name}")
-    if said["kind"] == 1 and said["compression"] == 1:
-        for e in tiles:
-            if data["tiles"][e.offset:e.offset + e.length] not in GOOD_TILES:
-                raise Fault(f"bad tile: {e.id}")
-    return counts
-
-
-def judged(archive):
-    try:
-        counts = report(archive)
-    except Fault as fault:
-        return str(fault)
-    return f"ok: {counts['addressed']} tiles, {counts['entries']} entries, {counts['contents']} contents"
-
 
 # ---- archives without a fault
 
@@ -431,16 +216,6 @@ def bad_archives():
 # ---- what `show` prints
 
 
-def header_lines(archive, metadata):
-    said = dict(zip(FIELDS, HEADER.unpack(archive[:127])))
-    return "".join(line + "\n" for line in [
-        f"version: {said['version']}", f"tile type: {said['kind']}", f"tile compression: {said['compression']}",
-        f"internal compression: {said['internal']}", f"clustered: {said['clustered']}",
-        f"zooms: {said['min_zoom']} to {said['max_zoom']}", f"addressed tiles: {said['addressed']}",
-        f"tile entries: {said['entries']}", f"tile contents: {said['contents']}", f"metadata: {metadata}",
-    ])
-
-
 def shown():
     m = Maker()
     text = '{"name":"Überall","vector_layers":[]}'
@@ -536,7 +311,8 @@ def main():
         whole = runs.told("archives of other makers, verify")
 
         for name, archive, metadata in shown():
-            runs.over(name, "show", archive, 0, header_lines(archive, metadata))
+            lines = header_lines(header_of(archive), metadata)
+            runs.over(name, "show", archive, 0, "".join(line + "\n" for line in lines))
         plain = Maker().archive([])
         for name, archive in [("Short", plain[:126]), ("Magic", b"Q" + plain[1:]), ("Version", changed(plain, version=1))]:
             runs.over(name, "show", archive, 1, "", f"vtserve: {name}\n")

@@ -307,10 +307,13 @@ def record_text(held, layout, place, left, number):
     length = int.from_bytes(sector_of(held, layout.place(place))[12:16], "little")
     if not 1 <= length <= LONGEST or parts_of(length) > left:
         raise Fault("Damaged(Journal)")
-    sectors = [sector_of(held, layout.place(place + part)) for part in range(parts_of(length))]
-    if any(sector[:16] != front(part, number, length) for part, sector in enumerate(sectors)):
-        raise Fault("Damaged(Journal)")
-    return b"".join(sector[16:] for sector in sectors)[:length]
+    text = b""
+    for part in range(parts_of(length)):
+        sector = sector_of(held, layout.place(place + part))
+        if sector[:16] != front(part, number, length):
+            raise Fault("Damaged(Journal)")
+        text += sector[16:]
+    return text[:length]
 
 
 def texts_of(held, layout, root):

@@ -6,28 +6,12 @@ It shares no code with the product. Its answers are the expected values of tests
 """
 import json
 
+from ids import id_of, tile_of
+from wire import number, part, varint, zigzag
+
 LIMIT = 4294967296
-
-
-def varint(n):
-    out = bytearray()
-    while n >= 128:
-        out.append(n % 128 + 128)
-        n //= 128
-    out.append(n)
-    return bytes(out)
-
-
-def zigzag(v):
-    return 2 * v if v >= 0 else -2 * v - 1
-
-
-def number(field, n):
-    return varint(field * 8) + varint(n)
-
-
-def part(field, data):
-    return varint(field * 8 + 2) + varint(len(data)) + data
+# The greatest zoom of a tile of the map.
+GREATEST_ZOOM = 16
 
 
 def quantised(z, points, ring=False):
@@ -156,6 +140,72 @@ def tile(features, z, c, r):
             layer += b"".join(part(4, v) for v in values)
             out += part(3, layer + number(5, 4096) + number(15, 2))
     return out
+
+
+def layers(features, z, c, r):
+    """The layers of a tile in the order of their names' bytes, each with the ascending numbers of its features."""
+    shown = {}
+    if z > GREATEST_ZOOM:
+        return shown
+    for id in sorted(features):
+        if cut(features[id], z, c, r):
+            shown.setdefault(features[id]["layer"], []).append(id)
+    return dict(sorted(shown.items(), key=lambda layer: layer[0].encode()))
+
+
+def points_of(lists):
+    """All points of lists of any depth."""
+    if lists and isinstance(lists[0], int):
+        return [lists]
+    return [point for inner in lists for point in points_of(inner)]
+
+
+def corners(feature):
+    """The least and the greatest column and row of a feature's points."""
+    (lists,) = feature["geometry"].values()
+    xs, ys = zip(*points_of(lists))
+    return (min(xs), max(xs)), (min(ys), max(ys))
+
+
+def met(z, least, greatest):
+    """The first and the last column, or row, of a zoom whose box reaches something from one coordinate of the world to another."""
+    first = -(-((least >> (20 - z)) - 4160) // 4096)
+    last = ((greatest >> (20 - z)) + 64) // 4096
+    return max(first, 0), min(last, 2**z - 1)
+
+
+def covered(feature, z):
+    """The columns and the rows of a zoom whose boxes the bounding box of a feature meets: first and last of each."""
+    across, down = corners(feature)
+    return met(z, *across), met(z, *down)
+
+
+def reach(feature):
+    """How many tiles a feature covers at all its zooms together."""
+    count = 0
+    for z in range(feature["minzoom"], feature["maxzoom"] + 1):
+        (x0, x1), (y0, y1) = covered(feature, z)
+        count += (x1 - x0 + 1) * (y1 - y0 + 1)
+    return count
+
+
+def pairs(id, feature):
+    """The ids of the tiles that a feature covers, zoom by zoom and row by row, each beside the feature's number."""
+    for z in range(feature["minzoom"], feature["maxzoom"] + 1):
+        (x0, x1), (y0, y1) = covered(feature, z)
+        yield from ((id_of(z, x, y), id) for y in range(y0, y1 + 1) for x in range(x0, x1 + 1))
+
+
+def all_pairs(features):
+    return sorted(pair for id, feature in features.items() for pair in pairs(id, feature))
+
+
+def all_tiles(features):
+    """Each tile that shows something, after its id, in the order of ids."""
+    for tile_id in sorted({pair[0] for pair in all_pairs(features)}):
+        content = tile(features, *tile_of(tile_id))
+        if content:
+            yield tile_id, content
 
 
 def feature(geometry, minzoom=0, maxzoom=2, layer="p", tags=None):

@@ -1,13 +1,9 @@
-//! Tests of archives: headers, directories, what a publication writes into an area, and what is printed of one.
+//! Tests of archives that need writers, disks or faults of their own: what is printed by writers that fail, and bytes in sectors.
 #![tactic(auto)]
 
 #[cfg(test)]
-mod areas;
-#[cfg(test)]
 mod bytes;
 #[cfg(test)]
-mod directories;
-#[cfg(test)]
-mod headers;
+mod faults;
 #[cfg(test)]
 mod printed;

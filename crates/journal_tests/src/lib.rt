@@ -1,5 +1,5 @@
-//! Tests of a journal of edits: what is appended, recovered and released, also after a crash.
+//! Tests of disks: in memory, in files, and with calls that fail.
 #![tactic(auto)]
 
 #[cfg(test)]
-mod journals;
+mod disks;

@@ -1,13 +1,8 @@
-//! Tests of the replies of a map's service, over connections.
+//! Tests of connections and listeners that need readers, writers, streams and listeners of their own. What is written for what is read is
+//! shown by the script of `reply_runs`.
 #![tactic(auto)]
 
 #[cfg(test)]
-mod decimals;
+mod connections;
 #[cfg(test)]
 mod listeners;
-#[cfg(test)]
-mod paths;
-#[cfg(test)]
-mod ranges;
-#[cfg(test)]
-mod replies;

@@ -1,59 +1,49 @@
-//! Peers on this machine that edit one map.
-use http_listen::ListenFault;
-use map_listen::serve_map_on;
-use map_replies::MapReplies;
-use sector_disk::MemoryDisk;
-use std::alloc::Global;
-use std::io::{self, Read, Write};
-use std::net::{Ipv4Addr, Shutdown, SocketAddr, TcpListener, TcpStream};
-use std::test::Fail;
-use tile_service::Service;
+//! Connections of peers on this machine, and of streams and listeners that fail.
+ghost use Rattle.http_serve.specs.Reply.{IsWhole};
 
-const PUT: &str = "PUT /features/7 HTTP/1.1\r\nhost: x\r\ncontent-length: 77\r\n\r\n\
-    {\"layer\":\"p\",\"minzoom\":0,\"maxzoom\":2,\"geometry\":{\"points\":[[0,0]]},\"tags\":{}}";
+mod fakes;
+mod lines;
+mod maps;
+mod peers;
+mod yields;
 
-const GET: &str = "GET /map/0/0/0.hex HTTP/1.1\r\nhost: x\r\n\r\n";
+use http::StatusCode;
+use http_serve::{Content, ContentFault, Handler, Reply, Request};
 
-const TILE: &str = "HTTP/1.1 200 OK\r\ncontent-type: text/plain\r\ncontent-length: 42\r\n\r\n\
-    1a130a017012090807180122030900002880207802";
-
-/// What answers for the empty map, on a disk of 64 sectors.
-fn empty(alloc: Global) -> Result<MapReplies<MemoryDisk>, Fail> {
-    let mut disk = MemoryDisk::new(alloc, 64)?;
-    Service::format(&mut disk).ok().ok_or("a format")?;
-    let service = Service::open(alloc, disk).ok().ok_or("a service")?;
-    Ok(MapReplies::new(alloc, service)?)
+/// Answers each request with how many there were before it: `0`, `1`, `2`, and then `many`.
+#[derive(Clone, Copy)]
+struct Counter {
+    before: usize,
 }
 
-/// A peer that has sent all that it sends.
-fn peer(rt: &HostRuntime, listener: &TcpListener, sent: &str) -> io::Result<TcpStream> {
-    let mut stream = TcpStream::connect(rt, listener.local_addr()?)?;
-    stream.write_all(sent.as_bytes())?;
-    stream.shutdown(Shutdown::Write)?;
-    Ok(stream)
+fn reply_after(before: usize) -> Reply
+    ensures { IsWhole result }
+{
+    let text: &'static [u8] = match before {
+        0 => b"0",
+        1 => b"1",
+        2 => b"2",
+        _ => b"many",
+    };
+    Reply::plain(StatusCode::OK, None, Content::Fixed(text))
 }
 
-/// Serves the connections that wait: what came of it.
-fn served(
-    alloc: Global,
-    listener: &TcpListener,
-    count: u64,
-) -> Result<Result<(), ListenFault>, Fail> {
-    let mut service = empty(alloc)?;
-    let mut log = Vec::new(alloc);
-    Ok(serve_map_on(alloc, listener, count, &mut service, &mut log))
+impl Handler for Counter {
+    ghost replies = { λ _ _ _ _. Unit {0} };
+
+    ghost sends = { λ _ _ _ _. ⊥ };
+
+    ghost size = { λ _. 0 };
+
+    fn answer(&mut self, _request: &Request<'_>) -> Reply {
+        let before = self.before;
+        self.before = before.saturating_add(1);
+        reply_after(before)
+    }
+
+    fn read_content(&mut self, _offset: u64, _part: &mut [u8]) -> Result<(), ContentFault> {
+        Err(ContentFault)
+    }
 }
 
-#[test]
-fn an_edit_of_one_connection_shows_on_the_next(rt: HostRuntime) -> Result<(), Fail> {
-    let alloc = rt.alloc();
-    let listener = TcpListener::bind(&rt, SocketAddr::from((Ipv4Addr::LOCALHOST, 0)))?;
-    let edits = peer(&rt, &listener, PUT)?;
-    let mut looks = peer(&rt, &listener, GET)?;
-    let outcome = served(alloc, &listener, 2)?;
-    let mut read = Vec::new(alloc);
-    looks.read_to_end(&mut read)?;
-    assert_eq!(rt; (outcome, read.as_slice()), (Ok(()), TILE.as_bytes()));
-    drop(edits);
-    Ok(())
-}
+const GET: &str = "GET / HTTP/1.1\r\nhost: a\r\n\r\n";

@@ -1,0 +1,54 @@
+"""The calls of the disk that formatting, an edit and a publication make, in order, from docs/FORMATS.md and docs/DECISIONS.md. It shares no
+code with the product."""
+from disk import LEAST, MOST, SECTOR, TEXT_OF_PART, Fault, Layout, Root, format_sector, front, parts_of, root_sector, sector_of
+
+ZEROS = bytes(SECTOR)
+FIRST_ROOT = Root(0, 0, 0, 0, 0)
+
+
+def write_and_sync(disk, at, sector):
+    disk.write(at, sector)
+    disk.sync()
+
+
+def format_disk(disk):
+    """Clears the mark, then the root sectors and the journal where they are not zeros, then writes the first root, then the mark."""
+    if disk.count < LEAST:
+        raise Fault("TooSmall")
+    if disk.count > MOST:
+        raise Fault("Damaged(Size)")
+    write_and_sync(disk, 0, ZEROS)
+    for at in range(1, 3 + Layout(disk.count).places):
+        if disk.read(at) != ZEROS:
+            disk.write(at, ZEROS)
+    disk.sync()
+    write_and_sync(disk, 1, root_sector(FIRST_ROOT))
+    write_and_sync(disk, 0, format_sector(disk.count))
+
+
+def install(disk, root):
+    """Syncs what was written before, then writes and syncs the root."""
+    disk.sync()
+    write_and_sync(disk, 1 + root.generation % 2, root_sector(root))
+
+
+def part_sector(text, part, number):
+    """The sector of a part of a record, padded with zeros."""
+    piece = text[TEXT_OF_PART * part : TEXT_OF_PART * (part + 1)]
+    return (front(part, number, len(text)) + piece).ljust(SECTOR, b"\0")
+
+
+def append(disk, place_of, place, number, text):
+    """Writes a record from a place on: its bodies, a sync if there are any, its head, a sync."""
+    bodies = range(1, parts_of(len(text)))
+    for part in bodies:
+        disk.write(place_of(place + part), part_sector(text, part, number))
+    if bodies:
+        disk.sync()
+    write_and_sync(disk, place_of(place), part_sector(text, 0, number))
+
+
+def write_area(disk, layout, generation, held, sectors):
+    """Writes these sectors of the content of an area."""
+    for at in sectors:
+        disk.write(layout.area_at(generation) + at, sector_of(held, at).ljust(SECTOR, b"\0"))

@@ -1,0 +1,418 @@
+"""Connections to a map: the replies to the bytes that a peer sends, from docs/HTTP.md and RFC 9112. It shares no code with the product.
+
+The bytes of a head are those that RFC 9112 allows, with the freedoms of the parser that the product stands on: a line may end in LF alone,
+and a target may have bytes beyond ASCII that are UTF-8.
+"""
+import re
+from collections import namedtuple
+
+import features
+from disk import SECTOR, in_order
+from machine import Refused
+
+MOST_HEAD = 8192
+MOST_FIELDS = 32
+MOST_BODY = 65536
+MOST_OF_A_PART = 65536
+CR, LF = 13, 10
+TOKEN = frozenset(b"!#$%&'*+-.^_`|~0123456789abcdefghijklmnopqrstuvwxyzABCDEFGHIJKLMNOPQRSTUVWXYZ")
+TARGET = frozenset(range(0x21, 0x100)) - {0x7F}
+VALUE = TARGET | frozenset(b" \t")
+PHRASES = {
+    200: "OK",
+    204: "No Content",
+    206: "Partial Content",
+    400: "Bad Request",
+    404: "Not Found",
+    405: "Method Not Allowed",
+    409: "Conflict",
+    413: "Payload Too Large",
+    416: "Range Not Satisfiable",
+    417: "Expectation Failed",
+    500: "Internal Server Error",
+    501: "Not Implemented",
+    507: "Insufficient Storage",
+}
+TEXT, JSON = "text/plain", "application/json"
+STATUS_OF = {"Head": 400, "Host": 400, "Coding": 501, "Expect": 417, "Length": 400, "Body": 413, "Short": 400}
+
+# A head: its version as its last digit, its fields as pairs of a name in lower case and a value, and how many bytes it has.
+Head = namedtuple("Head", "method target minor fields size")
+Request = namedtuple("Request", "method path range body close size")
+
+
+class Fault(Exception):
+    """The byte at which bytes become no head, whatever follows: how many bytes it takes to see it."""
+
+
+class More(Exception):
+    """Bytes that a head may begin with."""
+
+
+class Rejected(Exception):
+    """Why bytes begin with no request: the word, whether the reply is a head alone, and how many bytes it takes to see it."""
+
+
+# ---- heads
+
+
+class Bytes:
+    """Bytes that are taken from the front, one by one."""
+
+    def __init__(self, held):
+        self.held, self.at = held, 0
+
+    def take(self):
+        if self.at == len(self.held):
+            raise More
+        self.at += 1
+        return self.held[self.at - 1]
+
+    def want(self, allowed):
+        """The next byte, which is one of these."""
+        byte = self.take()
+        if byte not in allowed:
+            raise Fault(self.at)
+        return byte
+
+    def word(self, allowed, end, least=1):
+        """The bytes of a kind, up to a byte that ends them."""
+        found = bytearray()
+        while (byte := self.take()) in allowed:
+            found.append(byte)
+        if byte not in end or len(found) < least:
+            raise Fault(self.at)
+        return bytes(found), byte
+
+    def line_end(self, byte):
+        """The rest of the end of a line."""
+        if byte == CR:
+            self.want({LF})
+
+
+def field_in(taken, first):
+    """A field whose name begins with this byte."""
+    if first not in TOKEN:
+        raise Fault(taken.at)
+    name, _ = taken.word(TOKEN, b":", 0)
+    value, end = taken.word(VALUE, {CR, LF}, 0)
+    taken.line_end(end)
+    return (bytes([first]) + name).lower(), value.strip(b" \t")
+
+
+def target_in(taken):
+    target, _ = taken.word(TARGET, b" ")
+    try:
+        target.decode()
+    except UnicodeDecodeError as error:
+        raise Fault(taken.at) from error
+    return target
+
+
+def head_in(held):
+    """The head that bytes begin with."""
+    taken = Bytes(held[:MOST_HEAD])
+    while (byte := taken.take()) in (CR, LF):
+        taken.line_end(byte)
+    if byte not in TOKEN:
+        raise Fault(taken.at)
+    method, _ = taken.word(TOKEN, b" ", 0)
+    target = target_in(taken)
+    for byte_of_version in b"HTTP/1.":
+        taken.want({byte_of_version})
+    minor = taken.want(b"01") - ord("0")
+    taken.line_end(taken.want({CR, LF}))
+    fields = []
+    while (first := taken.take()) not in (CR, LF):
+        fields.append(field_in(taken, first))
+    taken.line_end(first)
+    if len(fields) > MOST_FIELDS:
+        raise Fault(taken.at)
+    return Head(bytes([byte]) + method, target, minor, fields, taken.at)
+
+
+# ---- requests
+
+
+def values(head, name):
+    return [value for field, value in head.fields if field == name]
+
+
+def body_size(head):
+    """How many bytes the body has, or the word of the first rule that the fields break."""
+    if head.minor == 1 and len(values(head, b"host")) != 1:
+        raise Rejected("Host")
+    for name, word in [(b"transfer-encoding", "Coding"), (b"expect", "Expect")]:
+        if values(head, name):
+            raise Rejected(word)
+    lengths = values(head, b"content-length")
+    if len(lengths) > 1 or lengths and not re.fullmatch(rb"[0-9]+", lengths[0]):
+        raise Rejected("Length")
+    size = int(lengths[0]) if lengths else 0
+    if size > MOST_BODY:
+        raise Rejected("Body")
+    return size
+
+
+def asks_to_close(head):
+    options = [option.strip(b" \t").lower() for value in values(head, b"connection") for option in value.split(b",")]
+    return head.minor == 0 or b"close" in options
+
+
+def request_in(held):
+    """The request that bytes begin with. Where there is none: why, and behind how many bytes that is seen, or None where more may come."""
+    try:
+        head = head_in(held)
+    except Fault as fault:
+        raise Rejected("Head", False, fault.args[0]) from fault
+    except More:
+        raise Rejected("Head", False, MOST_HEAD if len(held) >= MOST_HEAD else None) from None
+    bare = head.method == b"HEAD"
+    try:
+        size = head.size + body_size(head)
+    except Rejected as rejected:
+        raise Rejected(rejected.args[0], bare, head.size) from None
+    if size > len(held):
+        raise Rejected("Short", bare, None)
+    ranges = values(head, b"range")
+    path = head.target.split(b"?")[0]
+    return Request(head.method, path, ranges[0] if len(ranges) == 1 else None, held[head.size : size], asks_to_close(head), size)
+
+
+# ---- replies
+
+
+class Reply:
+    """A reply. `parts` is the content as it is sent; they end early where a read fails."""
+
+    def __init__(self, status, kind=None, content=b"", content_range=None, allow=None, parts=None, length=None):
+        self.status, self.kind, self.content_range, self.allow = status, kind, content_range, allow
+        self.parts = [content] if parts is None else parts
+        self.length = len(content) if length is None else length
+
+    def front(self, close):
+        """Its head."""
+        fields = [("content-type", self.kind), ("content-range", self.content_range), ("allow", self.allow)]
+        fields += [("content-length", self.length if self.status != 204 else None), ("connection", "close" if close else None)]
+        lines = [f"HTTP/1.1 {self.status} {PHRASES[self.status]}"] + [f"{name}: {value}" for name, value in fields if value is not None]
+        return "".join(line + "\r\n" for line in lines + [""]).encode()
+
+    def bytes(self, close, bare):
+        return self.front(close) + (b"" if bare else b"".join(self.parts))
+
+    def is_cut(self, bare):
+        return not bare and sum(map(len, self.parts)) < self.length
+
+
+def refusal(status, word, content_range=None, allow=None):
+    return Reply(status, TEXT, word.encode() + b"\n", content_range, allow)
+
+
+def json_reply(value):
+    return Reply(200, JSON, features.compact(value).encode())
+
+
+STATUS_OF_REFUSAL = {"NotFound": 404, "Busy": 409, "Idle": 409, "Device": 500, "Broken": 500, "JournalFull": 507, "AreaFull": 507}
+WORD_OF_LIMIT = {"Long": "E8 Long", "Reach": "E9 Reach"}
+
+
+def refused_by(refused):
+    """The reply that says why the service refused what it was asked."""
+    if refused.name == "Limit":
+        return refusal(400, WORD_OF_LIMIT[refused.numbers[0]])
+    needed = " need {} free {}".format(*refused.numbers) if refused.numbers else ""
+    return refusal(STATUS_OF_REFUSAL[refused.name], refused.name + needed)
+
+
+NUMBER = rb"(0|[1-9][0-9]*)"
+ROUTES = [
+    (rb"/features/" + NUMBER, "feature", "GET, HEAD, PUT, DELETE"),
+    (rb"/map/" + NUMBER + rb"/" + NUMBER + rb"/" + NUMBER + rb"\.(mvt|hex)", "tile", "GET, HEAD"),
+    (rb"/map/metadata", "metadata", "GET, HEAD"),
+    (rb"/map\.pmtiles", "archive", "GET, HEAD"),
+    (rb"/publish", "publish", "POST"),
+    (rb"/publish/begin", "begin", "POST"),
+    (rb"/publish/step", "step", "POST"),
+    (rb"/publish/cancel", "cancel", "POST"),
+]
+
+
+def is_in_range(name, numbers):
+    if name == "feature":
+        return numbers[0] < 2**63
+    return name != "tile" or numbers[0] <= 16 and max(numbers[1:]) < 2 ** numbers[0]
+
+
+def route_of(path):
+    """What a path asks for, its numbers and its ending, and its methods, or None."""
+    for pattern, name, allow in ROUTES:
+        match = re.fullmatch(pattern, path)
+        if match:
+            words = match.groups()
+            numbers = [int(word) for word in words if word.isdigit()]
+            return (name, numbers, words[-1] if words else None, allow) if is_in_range(name, numbers) else None
+    return None
+
+
+def put(service, number, body):
+    try:
+        feature = features.feature_of(body.decode())
+    except UnicodeDecodeError:
+        return refusal(400, "Json")
+    except features.Fault as fault:
+        return refusal(400, fault.args[0])
+    return json_reply({"edit": service.put(number, {**feature, "tags": dict(in_order(feature["tags"]))})})
+
+
+def tile_reply(service, at, ending):
+    content = service.tile(*at)
+    if not content:
+        return Reply(204)
+    if ending == b"hex":
+        return Reply(200, TEXT, content.hex().encode())
+    return Reply(200, "application/vnd.mapbox-vector-tile", content)
+
+
+def parts_read(service, first, count):
+    """The bytes of the archive from one on, in the parts in which they are sent: those of the first sector, then 65,536 at most each. They
+    end where a read fails."""
+    at, end = first, first + count
+    size = SECTOR - first % SECTOR
+    parts = []
+    while at < end:
+        try:
+            parts.append(service.read(at, min(size, end - at)))
+        except Refused:
+            break
+        at, size = at + size, MOST_OF_A_PART
+    return parts
+
+
+def archive_reply(service, request):
+    """The archive or the part of it that a GET asks for. A HEAD reads nothing."""
+    total = service.root.archive_len
+    if total == 0:
+        raise Refused("NotFound")
+    kind = "application/octet-stream"
+    if request.method == b"HEAD":
+        return Reply(200, kind, length=total)
+    asked = re.fullmatch(rb"bytes=([0-9]{1,18})-([0-9]{1,18})", request.range or b"")
+    first, last = (int(asked[1]), int(asked[2])) if asked else (0, total - 1)
+    if asked is None or first > last:
+        status, first, last, said = 200, 0, total - 1, None
+    elif first >= total:
+        return refusal(416, "Range", f"bytes */{total}")
+    else:
+        last = min(last, total - 1)
+        status, said = 206, f"bytes {first}-{last}/{total}"
+    parts = parts_read(service, first, last - first + 1)
+    if not parts:
+        raise Refused("Device")
+    return Reply(status, kind, content_range=said, parts=parts, length=last - first + 1)
+
+
+def on_feature(service, number, request):
+    if request.method == b"PUT":
+        return put(service, number, request.body)
+    if request.method == b"DELETE":
+        return json_reply({"edit": service.delete(number)})
+    if number not in service.map:
+        raise Refused("NotFound")
+    return json_reply(service.map[number])
+
+
+def on_publication(service, name):
+    if name == "publish":
+        generation, edits, archive = service.publish()
+        return json_reply({"archive": archive, "edits": edits, "generation": generation})
+    if name == "cancel":
+        service.cancel()
+        return Reply(204)
+    return json_reply({"left": service.begin() if name == "begin" else service.step()})
+
+
+def reply_to(service, request):
+    """The reply of a service to a request."""
+    route = route_of(request.path)
+    if route is None:
+        return refusal(404, "NotFound")
+    name, numbers, ending, allow = route
+    if request.method not in allow.encode().split(b", "):
+        return refusal(405, "Method", allow=allow)
+    try:
+        if name == "feature":
+            return on_feature(service, numbers[0], request)
+        if name == "tile":
+            return tile_reply(service, numbers, ending)
+        if name == "metadata":
+            return Reply(200, JSON, service.metadata())
+        return archive_reply(service, request) if name == "archive" else on_publication(service, name)
+    except Refused as refused:
+        return refused_by(refused)
+
+
+# ---- a connection
+
+# What it came to, how many bytes were read, how many reads failed, and all that was written.
+Outcome = namedtuple("Outcome", "result read failed written")
+
+
+def served(requests, end):
+    return f"Ok(Served {{ requests: {requests}, end: {end} }})"
+
+
+def broken_off(kind, requests):
+    return f"Err({kind} {{ requests: {requests} }})"
+
+
+class Connection:
+    """A connection whose input ends behind these bytes or stays open, and whose output takes so many bytes at most."""
+
+    def __init__(self, service, given, is_open=False, room=None):
+        self.service, self.given, self.is_open, self.room = service, given, is_open, room
+        self.at, self.requests, self.written = 0, 0, b""
+
+    def write(self, reply, close, bare):
+        """Writes a reply: how the connection is broken off by that, or None."""
+        self.written += reply.bytes(close, bare)
+        if self.room is not None and len(self.written) > self.room:
+            self.written = self.written[: self.room]
+            return broken_off("Write", self.requests)
+        if reply.is_cut(bare):
+            return broken_off("Content", self.requests)
+        self.requests += 1
+        return None
+
+    def refuse(self, word, bare):
+        """Refuses what comes."""
+        return self.write(refusal(STATUS_OF[word], word), True, bare) or served(self.requests, "Refused")
+
+    def end(self, word, bare):
+        """What the connection comes to where no more bytes come: its result, and how many reads failed."""
+        if self.is_open:
+            return broken_off("Read", self.requests), 1
+        if self.at == len(self.given):
+            return served(self.requests, "Closed"), 0
+        return self.refuse(word, bare), 0
+
+    def run(self):
+        """What it comes to, behind how many bytes, and how many reads failed."""
+        while True:
+            try:
+                request = request_in(self.given[self.at :])
+            except Rejected as rejected:
+                word, bare, need = rejected.args
+                if need is None:
+                    return *self.end(word, bare), len(self.given)
+                return self.refuse(word, bare), 0, self.at + need
+            self.at += request.size
+            broken = self.write(reply_to(self.service, request), request.close, request.method == b"HEAD")
+            if broken or request.close:
+                return broken or served(self.requests, "Asked"), 0, self.at
+
+
+def outcome(service, given, size, is_open=False, room=None):
+    """What a connection comes to that is read in pieces of a size."""
+    connection = Connection(service, given, is_open, room)
+    result, failed, needed = connection.run()
+    return Outcome(result, min(len(given), -(-needed // size) * size), failed, connection.written)

@@ -1,0 +1,231 @@
+"""Features as JSON, their limits and faults (docs/HTTP.md), and the metadata of a map (docs/FORMATS.md).
+
+A feature is a dict of its five members. Its tags are a dict from keys to values, or a list of pairs where their order is to be wrong.
+It shares no code with the product.
+"""
+import json
+import math
+
+import tiles
+from disk import LONGEST, Edit, text_of
+
+# A number that isn't whole: one with a fraction or an exponent, -0, or one outside of -2^63 to 2^64 - 1.
+NOT_WHOLE = object()
+GEOMETRIES = ("points", "lines", "polygons")
+
+
+class Fault(Exception):
+    """Why a text is no feature, by the word that is told."""
+
+
+# ---- reading
+
+
+def whole_or_not(text):
+    value = int(text)
+    if math.isinf(float(text)):
+        raise ValueError("a number past a double")
+    return NOT_WHOLE if text == "-0" or not -(2**63) <= value < 2**64 else value
+
+
+def fraction(text):
+    if math.isinf(float(text)):
+        raise ValueError("a number past a double")
+    return NOT_WHOLE
+
+
+def refused(word):
+    raise ValueError(word)
+
+
+def texts_in(value):
+    """The texts in a value, keys among them."""
+    if isinstance(value, dict):
+        return [text for key, inner in value.items() for text in [key, *texts_in(inner)]]
+    if isinstance(value, list):
+        return [text for inner in value for text in texts_in(inner)]
+    return [value] if isinstance(value, str) else []
+
+
+def value_of(text):
+    """The JSON value of a text; of a key that is repeated the last value counts. Half of a pair of surrogates is no text."""
+    try:
+        value = json.loads(text, parse_int=whole_or_not, parse_float=fraction, parse_constant=refused)
+        "".join(texts_in(value)).encode()
+        return value
+    except (ValueError, OverflowError) as error:
+        raise Fault("Json") from error
+
+
+def is_whole(value):
+    return isinstance(value, int) and not isinstance(value, bool)
+
+
+def check_members(value):
+    """E1: an object with exactly the five members, each of its kind."""
+    members = {"layer", "minzoom", "maxzoom", "geometry", "tags"}
+    if not isinstance(value, dict) or set(value) != members:
+        raise Fault("E1 Member")
+    geometry = value["geometry"]
+    kinds = [
+        isinstance(value["layer"], str),
+        all(is_whole(value[zoom]) and 0 <= value[zoom] <= 255 for zoom in ("minzoom", "maxzoom")),
+        isinstance(geometry, dict) and len(geometry) == 1 and set(geometry) <= set(GEOMETRIES) and isinstance([*geometry.values()][0], list),
+        isinstance(value["tags"], dict),
+    ]
+    if not all(kinds):
+        raise Fault("E1 Member")
+
+
+def is_list(value, least, is_item):
+    return isinstance(value, list) and least <= len(value) <= 65535 and all(is_item(item) for item in value)
+
+
+def is_point(value):
+    return isinstance(value, list) and len(value) == 2 and all(is_whole(w) and 0 <= w < 2**32 for w in value)
+
+
+def is_line(value):
+    return is_list(value, 2, is_point)
+
+
+def is_ring(value):
+    return is_list(value, 3, is_point)
+
+
+def is_polygon(value):
+    return is_list(value, 1, is_ring)
+
+
+ITEMS = {"points": is_point, "lines": is_line, "polygons": is_polygon}
+
+
+def is_name(text):
+    return 1 <= len(text.encode()) <= 64
+
+
+def check_geometry(geometry):
+    ((kind, items),) = geometry.items()
+    if not is_list(items, 1, ITEMS[kind]):
+        raise Fault("E5 Geometry")
+
+
+def check_layer_and_zooms(feature):
+    if not is_name(feature["layer"]):
+        raise Fault("E3 Layer")
+    if not feature["minzoom"] <= feature["maxzoom"] <= tiles.GREATEST_ZOOM:
+        raise Fault("E4 Zoom")
+
+
+def tag_pairs(feature):
+    """The tags in their order; those of a dict in the order of their keys' bytes."""
+    tags = feature["tags"]
+    return tags if isinstance(tags, list) else sorted(tags.items(), key=lambda tag: tag[0].encode())
+
+
+def check_keys(feature):
+    keys = [key.encode() for key, _ in tag_pairs(feature)]
+    if len(keys) > 64 or not all(1 <= len(key) <= 64 for key in keys) or any(a >= b for a, b in zip(keys, keys[1:])):
+        raise Fault("E6 Tags")
+
+
+def is_value(value):
+    if isinstance(value, str):
+        return len(value.encode()) <= 1024
+    return isinstance(value, bool) or is_whole(value)
+
+
+def check_values(feature):
+    if not all(is_value(value) for _, value in tag_pairs(feature)):
+        raise Fault("E7 Value")
+
+
+def check_fields(feature):
+    """E3 to E7, the first in this order."""
+    check_layer_and_zooms(feature)
+    check_geometry(feature["geometry"])
+    check_keys(feature)
+    check_values(feature)
+
+
+def feature_of(text):
+    """The feature of a JSON text, or its first fault: `Json`, E1, and E3 to E7."""
+    value = value_of(text)
+    check_members(value)
+    check_fields(value)
+    return value
+
+
+# ---- limits
+
+
+def check(number, feature):
+    """E2 to E8, the first in this order."""
+    if number >= 2**63:
+        raise Fault("E2 Number")
+    check_fields(feature)
+    tags = dict(tag_pairs(feature))
+    if len(text_of(Edit(number, feature | {"tags": tags}))) > LONGEST:
+        raise Fault("E8 Long")
+
+
+def check_reach(feature):
+    if tiles.reach(feature) > 65536:
+        raise Fault("E9 Reach")
+
+
+def check_batch(edits):
+    """E10, E11, of each edit E2 to E7, and E8 of their texts together, the first in this order."""
+    numbers = [edit.number for edit in edits]
+    if not 1 <= len(edits) <= 64:
+        raise Fault("E10 Batch")
+    if len(set(numbers)) < len(numbers):
+        raise Fault("E11 Twice")
+    for edit in edits:
+        if edit.number >= 2**63:
+            raise Fault("E2 Number")
+        if edit.feature:
+            check_fields(edit.feature)
+    if sum(len(text_of(edit)) for edit in edits) > LONGEST:
+        raise Fault("E8 Long")
+
+
+# ---- writing
+
+
+def compact(value):
+    """JSON without blanks, the members of an object in the order of their keys' bytes."""
+    if isinstance(value, dict):
+        members = sorted(value.items(), key=lambda member: member[0].encode())
+        return "{" + ",".join(f"{compact(key)}:{compact(inner)}" for key, inner in members) + "}"
+    if isinstance(value, list):
+        return "[" + ",".join(compact(inner) for inner in value) + "]"
+    return json.dumps(value, ensure_ascii=False)
+
+
+def field_kind(value):
+    if isinstance(value, str):
+        return "String"
+    return "Boolean" if isinstance(value, bool) else "Number"
+
+
+def layer_metadata(name, features):
+    fields = {}
+    for feature in features:
+        for key, value in feature["tags"].items():
+            fields[key] = field_kind(value) if fields.get(key, field_kind(value)) == field_kind(value) else "String"
+    return {
+        "id": name,
+        "fields": fields,
+        "minzoom": min(feature["minzoom"] for feature in features),
+        "maxzoom": max(feature["maxzoom"] for feature in features),
+    }
+
+
+def metadata(features):
+    """The metadata of a map from numbers to features."""
+    by_layer = {}
+    for feature in features.values():
+        by_layer.setdefault(feature["layer"], []).append(feature)
+    names = sorted(by_layer, key=str.encode)
+    return compact({"vector_layers": [layer_metadata(name, by_layer[name]) for name in names]})

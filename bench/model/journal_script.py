@@ -1,0 +1,480 @@
+"""The script of `journal_runs` and its expected output: a model of a disk with its generations and its journal answers each line."""
+from collections import namedtuple
+
+import words
+from calls import append, format_disk, install, write_area
+from crashes import FROM, MADE, NONE, NOT_MADE, Failed, Faulty, Memory, Seen
+from disk import LAST_NUMBER, LONGEST, SECTOR, Fault, Layout, Root, front, is_head, layout_of, parts_of, root_of, texts_of
+from words import Fields, Variant, briefly, debug, err, ok, read, some, spelled
+
+CRATE = "journal_runs"
+
+Start = namedtuple("Start", "place edits")
+Head = namedtuple("Head", "number length parts")
+
+
+class Ring:
+    """The sectors of a journal, with the members of a `Layout` that `disk.texts_of` uses."""
+
+    def __init__(self, first, places):
+        self.first, self.places = first, places
+
+    def place(self, number):
+        return self.first + number % self.places
+
+
+def head_of(sector, number):
+    """The head of a record that a sector is, or None."""
+    length = int.from_bytes(sector[12:16], "little")
+    if not 1 <= length <= LONGEST or sector[:16] != front(0, number, length):
+        return None
+    return Head(number, length, parts_of(length))
+
+
+class Trial:
+    """The state of a script, and the answer to each command."""
+
+    def __init__(self):
+        self.disk = Faulty(Memory(0))
+        self.stopped = Memory(0)
+        self.ring, self.start, self.used, self.last = Ring(0, 1), Start(0, 0), 0, 0
+        self.mark = Start(0, 0)
+
+    def counted(self, call, device):
+        """The outcome of a call, with the number of calls of the disk. `device` is the fault that a failed call of the disk is reported as."""
+        before = self.disk.calls
+        try:
+            outcome = ok(call())
+        except Failed:
+            outcome = err(device)
+        except Fault as fault:
+            outcome = err(Variant(str(fault)))
+        return f"{debug(outcome)} in {self.disk.calls - before}"
+
+    # ---- the disk
+
+    def do_disk(self, sectors):
+        self.disk = Faulty(Memory(sectors))
+        return "made"
+
+    def do_write(self, at, held=b""):
+        if at >= self.disk.count or len(held) > SECTOR:
+            return "no sector"
+        return self.counted(lambda: self.disk.write(at, held.ljust(SECTOR, b"\0")) or (), Variant("DiskFault"))
+
+    def do_sync(self):
+        return self.counted(lambda: self.disk.sync() or (), Variant("DiskFault"))
+
+    def do_sector(self, at):
+        if at >= self.disk.count:
+            return "no sector"
+        try:
+            return spelled(self.disk.read(at).rstrip(b"\0"))
+        except Failed:
+            return "DiskFault"
+
+    def do_sectors(self):
+        held = [at for at in range(self.disk.count) if any(self.disk.disk.read(at))]
+        self.disk.calls += self.disk.count
+        return " ".join(str(at) for at in held)
+
+    def fail(self, kind, call, shown):
+        self.disk = Faulty(self.disk.disk, kind, call)
+        return f"{shown}({call})"
+
+    def do_fail_from(self, call):
+        return self.fail(FROM, call, "AllFrom")
+
+    def do_fail_not_made(self, call):
+        return self.fail(NOT_MADE, call, "OneNotMade")
+
+    def do_fail_made(self, call):
+        return self.fail(MADE, call, "OneMade")
+
+    def do_fail_none(self):
+        return self.fail(NONE, 0, "OneNotMade")
+
+    def do_stop(self):
+        self.stopped, self.disk = self.disk.disk, Faulty(Memory(0))
+        return "stopped"
+
+    def do_crash(self, *choice):
+        self.disk = Faulty(self.stopped.crash(choice))
+        return "crashed"
+
+    # ---- its generations
+
+    def do_layout(self, sectors):
+        if not 64 <= sectors <= 16777216:
+            return "None"
+        return debug(some(layout_shown(Layout(sectors))))
+
+    def do_format(self):
+        return self.counted(lambda: format_disk(self.disk) or (), Variant("Device"))
+
+    def do_root(self):
+        return self.counted(self.root, Variant("Device"))
+
+    def root(self):
+        seen = Seen(self.disk)
+        layout = layout_of(seen)
+        return layout_shown(layout), root_of(seen, layout)
+
+    def do_area(self, generation, index, held=b""):
+        if not 64 <= self.disk.count <= 16777216 or index >= Layout(self.disk.count).area or len(held) > SECTOR:
+            return "no sector"
+        held = held.rjust(SECTOR * index + len(held), b"\0")
+        return self.counted(lambda: write_area(self.disk, Layout(self.disk.count), generation, held, [index]) or (), Variant("DiskFault"))
+
+    def do_install(self, *numbers):
+        if self.disk.count < 3:
+            return "no sector"
+        return self.counted(lambda: install(self.disk, Root(*numbers)) or (), Variant("DiskFault"))
+
+    # ---- its journal
+
+    def do_ring(self, first, places, place, edits):
+        if first + places > self.disk.count or place >= places:
+            return "no ring"
+        ring, start, before = Ring(first, places), Start(place, edits), self.disk.calls
+        try:
+            texts, used = texts_of(Seen(self.disk), ring, Root(0, edits, place, 0, 0))
+        except Failed:
+            return f"Device in {self.disk.calls - before}"
+        except Fault:
+            return f"Damaged in {self.disk.calls - before}"
+        self.ring, self.start, self.used, self.last = ring, start, used, edits + len(texts)
+        shown = "".join(" " + briefly(text) for text in texts)
+        return f"used {used} last {self.last}:{shown} in {self.disk.calls - before}"
+
+    def do_append(self, text):
+        if self.ring.first + self.ring.places > self.disk.count:
+            return "no ring"
+        if not 1 <= len(text) <= LONGEST:
+            return "no text"
+        need, free = parts_of(len(text)), self.ring.places - self.used
+        if self.last == LAST_NUMBER:
+            return "Err(NumbersSpent) in 0"
+        if need > free:
+            return f"{debug(err(Fields('Full', need=need, free=free)))} in 0"
+        return self.counted(lambda: self.appended(text), Variant("Device"))
+
+    def appended(self, text):
+        append(self.disk, self.ring.place, self.start.place + self.used, self.last + 1, text)
+        self.used, self.last = self.used + parts_of(len(text)), self.last + 1
+        return self.last
+
+    def next(self):
+        return Start((self.start.place + self.used) % self.ring.places, self.last)
+
+    def do_next(self):
+        return f"free {self.ring.places - self.used} {debug(self.next())}"
+
+    def do_mark(self):
+        self.mark = self.next()
+        return debug(self.mark)
+
+    def do_release(self, behind):
+        before, after = self.mark.edits - self.start.edits, self.last - self.mark.edits
+        may = [0 <= before <= behind <= 67 * before, 0 <= after <= self.used - behind <= 67 * after]
+        if not all(may) or self.mark.place != (self.start.place + behind) % self.ring.places:
+            return "no such places"
+        self.start, self.used = self.mark, self.used - behind
+        return self.do_next()
+
+    def do_head(self, at, number):
+        sector = self.disk.read(at)
+        says = head_of(sector, number)
+        return f"{debug(is_head(sector, number))} {debug(some(says) if says else None)}"
+
+    def do_part(self, head_at, number, at, part):
+        head, sector = head_of(self.disk.read(head_at), number), self.disk.read(at)
+        has = head and sector[:16] == front(part, number, head.length)
+        return debug(some(has) if head else None)
+
+    def answer(self, line):
+        if not line or line.startswith("#"):
+            return line
+        front_words, _, spelled_words = line.partition("=")
+        verb, *numbers = front_words.split()
+        numbers = [int(number) for number in numbers]
+        if spelled_words or verb == "append":
+            numbers.append(read(spelled_words))
+        return getattr(self, f"do_{verb}")(*numbers)
+
+
+def layout_shown(layout):
+    return Fields("Layout", sectors=layout.sectors, journal=layout.places, area=layout.area)
+
+
+# ---- the lines
+
+# A number whose bytes are all different, lowest first 1 to 8.
+NUMBER = 0x0807060504030201
+LAST = 2**64 - 1
+FORMAT_64 = "'VTILEDSK 1:4 64:8"
+# Texts with letters at the bounds of their parts.
+LETTERS = {1: "'a", 496: "'a*495 'b", 497: "'a*495 'b 'c", 992: "'a*495 'b 'c 'a*494 'd", 993: "'a*495 'b 'c 'a*494 'd 'e"}
+
+
+def heading(*texts):
+    return ["", *(f"# {text}" for text in texts)]
+
+
+def root_words(*numbers):
+    return "'VTROOT01 " + " ".join(f"{number}:8" for number in numbers)
+
+
+def three(first, even, odd, sectors=64):
+    """Lines that make a disk with these first three sectors."""
+    return [f"disk {sectors}"] + [f"write {at} = {held}" for at, held in enumerate([first, even, odd]) if held is not None]
+
+
+def choices(sectors):
+    """All choices of a crash if `sectors` sectors are unsynced, each written once."""
+    return [[number >> bit & 1 for bit in reversed(range(sectors))] for number in range(2**sectors)]
+
+
+def words_of(numbers):
+    return " ".join(str(number) for number in numbers)
+
+
+def stops(calls):
+    """Lines that make calls fail: for each call and one more, all from it on, only it before its work is done, only it after."""
+    return [f"{word} {call}" for word in ("fail_from", "fail_not_made", "fail_made") for call in range(1, calls + 2)]
+
+
+def layouts():
+    yield from heading("Layouts: the two documented examples, the smallest and the largest disk, and sizes out of range.")
+    yield from (f"layout {sectors}" for sectors in (64, 256, 65, 67, 16777216, 0, 63, 16777217, LAST))
+
+
+def formats():
+    yield from heading("A disk of zeros is formatted. Sectors that are zeros already are not written, so it takes 25 calls.")
+    yield from ["disk 64", "root", "format", "sectors", "sector 0", "sector 1", "root"]
+    yield from ["disk 256", "format", "sector 0", "root"]
+    yield from heading("Disks that are too small or too large are refused without a call; one of 64 sectors is formatted.")
+    for sectors in (0, 63, 64, 16777217):
+        yield from [f"disk {sectors}", "format"]
+    yield from heading("On a disk that was used before, format clears both roots and the journal (sectors 1 to 18) and nothing else.")
+    yield from [*old_disk(), "sectors", "format", "sectors", "root"]
+
+
+def old_disk():
+    """A disk of 64 sectors with roots of generations 4 and 5, and with sevens at both ends of the journal and in an area."""
+    yield from three(FORMAT_64, root_words(4, 0, 0, 0, 0), root_words(5, 0, 0, 0, 0))
+    yield from ["write 3 = 07*512", "write 18 = 07*512", "write 19 = 07*512", "sync"]
+
+
+def format_crashes():
+    yield from heading(
+        "A format of a used disk fails at each of its 29 calls, then crashes: the old disk, an unformatted one or a fresh one is left. Calls 1 and 2",
+        "are zeros in sector 0 and a sync, 3 to 24 reads and zeros of sectors 1 to 18, 25 a sync, 26 and 27 the root and a sync, 28 and 29 the",
+        "mark and a sync.",
+    )
+    for stop in stops(29):
+        yield from [*old_disk(), stop, "format", "stop"]
+        for choice in ("", " 1 1 1 1", " 1 0 1 0", " 0 1 0 1", " 1", " 0 1 1 1"):
+            yield from [f"crash{choice}", "root", "sectors"]
+
+
+def possible_roots():
+    yield from heading("Valid roots on a disk of 64 sectors, whose journal has 16 and whose areas have 22.")
+    roots = [[0, 0, 0, 0, 0], [2, 7, 15, 100, 200], [LAST - 1, LAST, 0, 0, 0], [4, 0, 0, 11264, 0]]
+    for root in [*roots, [4, 0, 0, 0, 11264], [4, 0, 0, 512, 10752], [4, 0, 0, 1, 10752]]:
+        yield from [*three(FORMAT_64, root_words(*root), None), "root"]
+    yield from heading("Invalid roots: of the other parity, past the journal, past the area.")
+    roots = [[1, 0, 0, 0, 0], [LAST, 0, 0, 0, 0], [2, 0, 16, 0, 0], [2, 0, LAST, 0, 0], [4, 0, 0, 11265, 0], [4, 0, 0, 0, 11265]]
+    for root in [*roots, [4, 0, 0, 1, 10753], [4, 0, 0, LAST, 0], [4, 0, 0, 0, LAST], [4, 0, 0, LAST, LAST], [4, 0, 0, LAST - 511, 512]]:
+        yield from [*three(FORMAT_64, root_words(*root), root_words(1, 0, 0, 0, 0)), "root"]
+    yield from heading("Of two roots the one of greater generation is live.")
+    for even, odd in [(4, 3), (4, 5), (0, 1), (LAST - 1, LAST), (None, 7), (6, None)]:
+        sectors = [None if generation is None else root_words(generation, 9, 0, 0, 0) for generation in (even, odd)]
+        yield from [*three(FORMAT_64, *sectors), "root"]
+
+
+def bad_roots():
+    yield from heading(
+        "Damaged root sectors: both zeros, both of one parity, each in the other's sector, a nonzero byte after the numbers, one at the end, another",
+        "mark, a sector of ones.",
+    )
+    whole, odd = root_words(2, 0, 0, 0, 0), root_words(1, 0, 0, 0, 0)
+    mark = "'VTROOT02 2:8"
+    rows = [(None, None), (odd, None), (whole, whole), (None, whole), (odd, whole), (f"{whole} 01", odd), (f"{whole} 00*463 01", odd)]
+    for even, second in [*rows, (mark, odd), (whole, mark), ("01*512", odd)]:
+        yield from [*three(FORMAT_64, even, second), "root"]
+    yield from heading("A fault of sector 0 is reported first, and one of sector 1 before one of sector 2: the number of calls shows how far it read.")
+    yield from [*three(None, "01", "01"), "root", *three(FORMAT_64, "01", "01"), "root", *three(FORMAT_64, None, "01"), "root"]
+
+
+def bad_formats():
+    yield from heading("Damaged format sectors: another version, too few sectors, more than the disk has, a nonzero byte after the count, another mark.")
+    for first in [
+        "'VTILEDSKxxxxxxxxxxxxx",
+        "'VTILEDSK 2:4 64:8",
+        "'VTILEDSK 1:4 63:8",
+        "'VTILEDSK 1:4 65:8",
+        "'VTILEDSK 1:4 16777217:8",
+        f"'VTILEDSK 1:4 {2**63 + 64}:8",
+        f"{FORMAT_64} 01",
+        f"{FORMAT_64} 00*491 01",
+        "'VTILEDSL 1:4 64:8",
+        "'vTILEDSK 1:4 64:8",
+        "00",
+    ]:
+        yield from [*three(first, root_words(0, 0, 0, 0, 0), None), "root"]
+    yield from heading("Disks with one sector fewer than their format says, as many, and more; and disks of zeros.")
+    for sectors in (63, 64, 70):
+        yield from [*three(FORMAT_64, root_words(0, 0, 0, 0, 0), None, sectors), "root"]
+    for sectors in (0, 1, 64):
+        yield from [f"disk {sectors}", "root"]
+
+
+def reads_that_fail():
+    yield from heading("Each read of the format and root sectors fails in turn.")
+    for stop in stops(3):
+        yield from [*three(FORMAT_64, root_words(4, 0, 0, 0, 0), root_words(5, 0, 0, 0, 0)), stop, "root", "root"]
+
+
+def installs():
+    yield from heading("The areas of a disk of 64 sectors begin at 19 and 41: their first and last sectors, for even and odd generations.")
+    for generation, index in [(0, 0), (0, 21), (1, 0), (1, 21), (6, 3), (LAST, 1), (0, 22)]:
+        yield from ["disk 64", f"area {generation} {index} = 07*512", "sectors"]
+    yield from heading("Roots whose bytes are all different: an invalid one, and a valid one on the largest disk.")
+    numbers = [NUMBER + 0x1010101010101010 * ten for ten in range(5)]
+    yield from ["disk 16777216", "write 0 = 'VTILEDSK 1:4 16777216:8", f"install {words_of(numbers)}", "sector 2", "root"]
+    numbers[2:] = [number % 2**bits for number, bits in zip(numbers[2:], (22, 32, 32))]
+    yield from [f"install {words_of(numbers)}", "sector 2", "sector 1", "root"]
+    yield from heading("Generation 6 is installed after 5, and each call fails in turn: a sync, the root, a sync. Where the root is left, its area is too.")
+    for stop in stops(3):
+        yield from three(FORMAT_64, root_words(4, 0, 0, 0, 0), root_words(5, 0, 0, 0, 0))
+        yield from ["sync", "area 6 0 = 07*512", stop, "install 6 9 3 512 0", "stop"]
+        for choice in choices(2):
+            yield from [f"crash {words_of(choice)}", "root", "sector 19", "sector 2"]
+
+
+def part_sectors():
+    yield from heading("The bytes of records: texts of one byte, of one part, of two and of three. The bytes of their number are all different.")
+    for words in LETTERS.values():
+        yield from ["disk 8", f"ring 2 4 0 {NUMBER - 1}", f"append = {words}", "sectors", "sector 2", "sector 3", "sector 4"]
+
+
+def heads():
+    yield from heading("Heads: valid ones, wrong lengths and counts of parts, another kind, another version, another number.")
+    rows = [(1, 1, 1, 1), (1, 1, 1, 496), (1, 1, 2, 497), (1, 1, 67, 32768), (1, 1, 67, 32769), (1, 1, 0, 0), (1, 1, 1, 497), (1, 1, 258, 497)]
+    for kind, version, parts, length in [*rows, (1, 1, 2, 2**16 + 497), (2, 1, 1, 1), (0, 0, 0, 0), (1, 2, 1, 1), (1, 0, 1, 1)]:
+        yield from ["disk 1", f"write 0 = {kind}:1 {version}:1 {parts}:2 {NUMBER}:8 {length}:4 'a"]
+        yield from [f"head 0 {number}" for number in (NUMBER, NUMBER + 1, NUMBER - 1)]
+    yield from heading("The parts of a record of three: sectors 0 to 2. Sector 3 is a body of a shorter text, 4 one of zeros, 5 one of another version.")
+    yield from ["disk 6", f"ring 0 3 0 {NUMBER - 1}", f"append = {LETTERS[993]}", f"write 3 = 2:1 1:1 1:2 {NUMBER}:8 992:4 'a"]
+    yield from [f"write 4 = 2:1 1:1 1:2 {NUMBER}:8 993:4", f"write 5 = 2:1 2:1 1:2 {NUMBER}:8 993:4"]
+    yield from [f"part 0 {NUMBER} {at} {part}" for at in range(6) for part in range(4)]
+
+
+def append_crashes():
+    yield from heading(
+        "A text of two parts after one of two bytes, in a ring of four sectors from sector 2 on, from place 2 on: the body goes into place 0. Each of",
+        "the four calls fails in turn (the body, a sync, the head, a sync), and a crash leaves each unsynced sector or not.",
+    )
+    for stop in stops(4):
+        yield from ["disk 8", "ring 2 4 2 6", "append = 'xx", stop, "append = 'y*497", "next", "fail_none", "ring 2 4 2 6", "stop"]
+        for choice in choices(2):
+            yield from [f"crash {words_of(choice)}", "ring 2 4 2 6", "sectors"]
+    yield from heading("The same with three parts, from place 3 on in a ring of five: the bodies go into places 4 and 0.")
+    for stop in stops(5):
+        yield from ["disk 8", "ring 2 5 3 41", stop, "append = 'z*993", "stop"]
+        for choice in choices(3):
+            yield from [f"crash {words_of(choice)}", "ring 2 5 3 41", "sectors"]
+    yield from heading(
+        "An append of three parts is stopped after one of its bodies, and another of the same number before its head: whichever bodies a crash leaves,",
+        "there is no record. A third append of that number is recovered whole.",
+    )
+    for first in ("", " 1"):
+        for calls in (2, 3, 4):
+            for second in choices(2):
+                yield from ["disk 8", "ring 2 5 3 41", "fail_from 2", "append = 'x*993", "stop", f"crash{first}", "ring 2 5 3 41"]
+                yield from [f"fail_from {calls}", "append = 'y*993", "stop", f"crash {words_of(second)}", "ring 2 5 3 41", "append = 'z*993"]
+                yield from ["stop", "crash", "ring 2 5 3 41"]
+
+
+def full_rings():
+    yield from heading("A ring of four places fills: a text that needs more places than are free is refused without a call, and the last place is used.")
+    yield from ["disk 6", "ring 2 4 2 6", "next", "append = 'y*497", "next", "append = 'y*993", "append = 'y*992", "next", "append = 'x", "ring 2 4 2 6"]
+    yield from heading("The last number: NumbersSpent is reported before Full.")
+    yield from ["disk 6", f"ring 2 4 3 {LAST - 1}", "append = 'x", "append = 'y*993", "append = 'y*32768", "append = 'x", f"ring 2 4 3 {LAST - 1}"]
+    yield from heading("Texts that are no edit's: of no bytes, and of 32,769.")
+    yield from ["disk 82", "ring 2 80 75 6", "append =", "append = 'x*32769"]
+
+
+def releases():
+    yield from heading("In a ring of four places, the first of three records is released; two more take the free place and the released one.")
+    yield from ["disk 6", "ring 2 4 2 6", "append = 'a", "mark", "append = 'bb", "append = 'ccc", "next", "release 2", "release 1"]
+    yield from ["append = 'dddd", "append = 'eeeee", "append = 'f", "next", "stop", "crash", "ring 2 4 3 7", "ring 2 4 2 6"]
+    yield from heading("Records of several parts: none is released, then two across the end of the ring, then all. A mark can be released once.")
+    yield from ["disk 8", "ring 2 5 3 41", "mark", "release 0", "append = 'x*497", "append = 'y", "mark", "append = 'z*497", "release 3", "release 3"]
+    yield from ["ring 2 5 1 43", "append = 'u*993", "mark", "release 4", "release 5", "append = 'v*2480", "mark", "release 5", "ring 2 5 1 45", "ring 2 5 1 46"]
+
+
+def recoveries():
+    pattern = "".join(f"{byte:02x}" for byte in range(251))
+    yield from heading("Texts of 1, 2 and 67 parts from place 75 on: the third begins in place 78 and continues in place 0. A crash keeps them all.")
+    yield from ["disk 82", "ring 2 80 75 6", "append = 'x*496", "append = 'y*497", f"append = {pattern}*130 {pattern[:276]}", "next"]
+    yield from ["stop", "crash", "ring 2 80 75 6", "append = 'z"]
+    yield from heading("Recovery from a later record, from starts without a record, and with each of the first reads failing.")
+    yield from ["ring 2 80 76 7", "ring 2 80 77 8", "ring 2 80 78 8", "ring 2 80 0 9", "ring 2 80 75 5"]
+    for call in range(1, 6):
+        yield from [f"fail_not_made {call}", "ring 2 80 75 6"]
+    yield from heading("Rings that don't fit the disk.")
+    yield from ["disk 6", "ring 2 5 0 0", "ring 7 0 0 0", "ring 2 4 4 0", "ring 6 0 0 0"]
+
+
+# Sectors of a ring, by kind, part, length and byte of the text.
+ZERO = None
+SHORT = (1, 1, 2, 97)
+TWO = (1, 2, 497, 97)
+BODY = (2, 1, 497, 98)
+
+
+def pair_words(sector, number=NUMBER):
+    kind, part, length, byte = sector
+    return f"{kind}:1 1:1 {part}:2 {number}:8 {length}:4 {byte}:1*496"
+
+
+def pair(first, second, start=f"0 {NUMBER - 1}"):
+    yield "disk 2"
+    yield from (f"write {at} = {pair_words(sector)}" for at, sector in enumerate([first, second]) if sector)
+    yield f"ring 0 2 {start}"
+
+
+def pairs():
+    yield from heading("Rings of two sectors: empty; a text with other bytes after its end; a second head of the same number; a text of two parts.")
+    for both in [(ZERO, ZERO), (SHORT, ZERO), (SHORT, SHORT), (TWO, BODY)]:
+        yield from pair(*both)
+    yield from heading("A body without a head; a head in the second place.")
+    for both in [(BODY, ZERO), (ZERO, SHORT)]:
+        yield from pair(*both)
+    yield from heading("A head whose body is missing, or of another part, another length, another kind.")
+    for body in [ZERO, (2, 2, 497, 98), (2, 1, 498, 98), (1, 1, 497, 98)]:
+        yield from pair(TWO, body)
+    yield from heading("Heads with a length of 0, one past the limit, counts of parts that don't match, and more parts than the ring has places.")
+    for head in [(1, 0, 0, 97), (1, 67, 32769, 97), (1, 2, 2, 97), (1, 1, 497, 97), (1, 3, 993, 97)]:
+        yield from pair(head, BODY)
+    yield from heading("A second record: whole, and one with more parts than places are left; no body of it is read.")
+    for second in [SHORT, TWO]:
+        yield from ["disk 2", f"write 0 = {pair_words(SHORT)}", f"write 1 = {pair_words(second, NUMBER + 1)}", f"ring 0 2 0 {NUMBER - 1}"]
+    yield from heading("From place 1 on, the body is in place 0. After the last number there is no record.")
+    yield from pair(BODY, TWO, f"1 {NUMBER - 1}")
+    yield from pair(SHORT, ZERO, f"0 {LAST}")
+    yield from ["disk 1", f"write 0 = 1:1 1:1 1:2 {LAST}:8 1:4 'a", f"ring 0 1 0 {LAST - 1}", "append = 'b"]
+
+
+def lines():
+    yield from ["# Disks, their generations and their journals. Written by bench/model/journal_script.py, with the answers."]
+    for block in (layouts, formats, format_crashes, possible_roots, bad_roots, bad_formats, reads_that_fail, installs):
+        yield from block()
+    for block in (part_sectors, heads, append_crashes, full_rings, releases, recoveries, pairs):
+        yield from block()
+
+
+def files():
+    return words.files(lines(), Trial().answer)

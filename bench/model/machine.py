@@ -1,0 +1,350 @@
+"""A model of a service on a disk: the answer to each call and the calls of the disk that it makes, from docs/FORMATS.md, docs/HTTP.md and
+docs/DECISIONS.md. It shares no code with the product."""
+from calls import append, install, write_area
+from crashes import Failed, Seen
+from disk import LAST_NUMBER, LONGEST, SECTOR, Edit, Root, in_order, parts_of, read_disk, snapshot_text, text_of, whole_sectors
+from map_archive import archive_of, id_of, metadata, points_of, reach
+from tiles import tile
+
+NUMBER_END = 2**63
+GREATEST_ZOOM = 16
+MOST_REACH = 65536
+MOST_ELEMENTS = 65535
+STEP_SECTORS = 64
+
+
+class Refused(Exception):
+    """A refused event: the name of its fault, and the details."""
+
+    def __init__(self, name, *numbers):
+        super().__init__(name)
+        self.name, self.numbers = name, numbers
+
+
+# ---- the limits of an edit
+
+
+def is_list(items, least=1):
+    return least <= len(items) <= MOST_ELEMENTS
+
+
+def fits_geometry(geometry):
+    (kind, lists), = geometry.items()
+    if kind == "points":
+        return is_list(lists)
+    if kind == "lines":
+        return is_list(lists) and all(is_list(line, 2) for line in lists)
+    return is_list(lists) and all(is_list(rings) and all(is_list(ring, 3) for ring in rings) for rings in lists)
+
+
+def fits_name(name):
+    return 1 <= len(name.encode()) <= 64
+
+
+# The value `Negative(0)`, which no integer stands for.
+NO_NEGATIVE = -0.0
+
+
+def fits_value(value):
+    if value is NO_NEGATIVE:
+        return False
+    if isinstance(value, bool):
+        return True
+    if isinstance(value, str):
+        return len(value.encode()) <= 1024
+    return -NUMBER_END <= value < 2**64
+
+
+def limit(number, feature):
+    """The first limit that a feature breaks, or None."""
+    keys = [key.encode() for key in feature["tags"]]
+    rows = [
+        ("Number", number < NUMBER_END),
+        ("Layer", fits_name(feature["layer"])),
+        ("Zoom", feature["minzoom"] <= feature["maxzoom"] <= GREATEST_ZOOM),
+        ("Geometry", fits_geometry(feature["geometry"])),
+        ("Tags", len(keys) <= 64 and all(fits_name(key) for key in feature["tags"]) and all(a < b for a, b in zip(keys, keys[1:]))),
+        ("Value", all(fits_value(value) for value in feature["tags"].values())),
+    ]
+    broken = [name for name, holds in rows if not holds]
+    if broken:
+        return broken[0]
+    if len(text_of(Edit(number, feature))) > LONGEST:
+        return "Long"
+    return "Reach" if reach(feature) > MOST_REACH else None
+
+
+# ---- the service
+
+
+class Publication:
+    """A publication: the content of its area, and the end of the journal when it began."""
+
+    def __init__(self, service):
+        snapshot, archive = snapshot_text(service.map), archive_of(service.map)
+        if archive is None:
+            raise Refused("TooManyTiles")
+        self.lengths = len(snapshot), len(archive)
+        self.sectors = whole_sectors(len(snapshot)) + whole_sectors(len(archive))
+        if self.sectors > service.layout.area:
+            raise Refused("AreaFull", self.sectors, service.layout.area)
+        self.held = snapshot.ljust(SECTOR * whole_sectors(len(snapshot)), b"\0") + archive
+        self.edits, self.place, self.used, self.written = service.last, service.next_place(), service.used, 0
+        self.map = dict(service.map)
+
+
+class Service:
+    """A map on a disk. Opening it may raise `Fault` or `Failed`."""
+
+    def __init__(self, disk):
+        disk.sync()
+        found = read_disk(Seen(disk))
+        self.disk, self.layout, self.root, self.used = disk, found.layout, found.root, found.used
+        self.publication, self.broken = None, False
+        self.snapshot, self.map, self.last, self.cells = found.snapshot, dict(found.snapshot), found.root.edits, {}
+        self.kept, self.directories, self.published = {}, None, {}
+        for edit in found.edits:
+            self.apply(edit)
+
+    def next_place(self):
+        return (self.root.journal_at + self.used) % self.layout.places
+
+    def changed(self, call):
+        """Makes calls that write. If one fails, the service is broken and its publication is dropped."""
+        try:
+            return call()
+        except Failed as failed:
+            self.broken, self.publication = True, None
+            raise Refused("Device") from failed
+
+    # ---- edits
+
+    def apply(self, edit):
+        """Applies the next edit to the map, and records its number in the cells of the feature that it removes and the one that it adds."""
+        self.last += 1
+        before = self.map.pop(edit.number, None)
+        if edit.feature is not None:
+            self.map[edit.number] = edit.feature
+        for feature in filter(None, (before, edit.feature)):
+            self.cells.update({cell: self.last for cell in cells_of_feature(feature)})
+
+    def edit(self, edit):
+        if self.last == LAST_NUMBER:
+            raise Refused("NumbersSpent")
+        text = text_of(edit)
+        need, free = parts_of(len(text)), self.layout.places - self.used
+        if need > free:
+            raise Refused("JournalFull", need, free)
+        self.changed(lambda: append(self.disk, self.layout.place, self.next_place(), self.last + 1, text))
+        self.used += need
+        self.apply(edit)
+        return self.last
+
+    def put(self, number, feature):
+        if self.broken:
+            raise Refused("Broken")
+        broken = limit(number, feature)
+        if broken:
+            raise Refused("Limit", broken)
+        return self.edit(Edit(number, {**feature, "tags": dict(in_order(feature["tags"]))}))
+
+    def delete(self, number):
+        if self.broken:
+            raise Refused("Broken")
+        if number not in self.map:
+            raise Refused("NotFound")
+        return self.edit(Edit(number, None))
+
+    # ---- publications
+
+    def begin(self):
+        if self.broken:
+            raise Refused("Broken")
+        if self.publication:
+            raise Refused("Busy")
+        if self.root.generation == LAST_NUMBER:
+            raise Refused("NumbersSpent")
+        self.publication = Publication(self)
+        return self.publication.sectors + 1
+
+    def going(self):
+        if self.broken:
+            raise Refused("Broken")
+        if not self.publication:
+            raise Refused("Idle")
+        return self.publication
+
+    def step(self):
+        going = self.going()
+        left = going.sectors - going.written
+        self.changed(lambda: self.advance(going, min(left, STEP_SECTORS)))
+        return left - STEP_SECTORS + 1 if left > STEP_SECTORS else 0
+
+    def advance(self, going, more):
+        """Writes the next `more` sectors and syncs; after the last one it installs the root, and reclaims the places of its edits."""
+        generation = self.root.generation + 1
+        write_area(self.disk, self.layout, generation, going.held, range(going.written, going.written + more))
+        going.written += more
+        if going.written < going.sectors:
+            self.disk.sync()
+            return
+        root = Root(generation, going.edits, going.place, *going.lengths)
+        install(self.disk, root)
+        self.root, self.snapshot, self.used = root, going.map, self.used - going.used
+        self.publication, self.directories, self.published = None, None, {}
+
+    def cancel(self):
+        self.going()
+        self.publication = None
+
+    def publish(self):
+        left = self.begin()
+        edits = self.publication.edits
+        while left:
+            left = self.step()
+        return self.root.generation, edits, self.root.archive_len
+
+    # ---- what it shows
+
+    def archive_at(self):
+        return self.layout.area_at(self.root.generation) + whole_sectors(self.root.snapshot_len)
+
+    def read(self, at, count):
+        """Bytes of the archive. Each sector is read once."""
+        first, end = at // SECTOR, whole_sectors(at + count)
+        try:
+            held = b"".join(self.disk.read(self.archive_at() + sector) for sector in range(first, end if count else first))
+        except Failed as failed:
+            raise Refused("Device") from failed
+        return held[at - SECTOR * first :][:count]
+
+    def newest(self, place):
+        """The number of the newest edit in the cells of a tile."""
+        return max((self.cells.get(cell, 0) for cell in cells_of_tile(*place)), default=0)
+
+    def tile(self, *place):
+        """The bytes of a tile: cached if no edit touched its cells since it was cut; read from the archive if none touched them since it was
+        published; cut otherwise, and if it can't be read."""
+        newest = self.newest(place)
+        number, held = self.kept.get(place, (-1, b""))
+        if number >= newest:
+            return held
+        held = tile(self.map, *place) if place[0] <= GREATEST_ZOOM else b""
+        if newest <= self.root.edits and not self.broken and self.is_looked_up(place, held):
+            return held
+        if held:
+            self.kept[place] = (self.last, held)
+        return held
+
+    def is_looked_up(self, place, held):
+        """Looks a tile up in the archive, and returns whether that succeeded. Directories are cached."""
+        if not self.root.archive_len or place in self.published:
+            return True
+        sectors = Consecutive(self.disk, self.archive_at())
+        try:
+            if not self.directories:
+                self.directories = Directories(sectors)
+            at = self.directories.find(sectors, id_of(*place))
+            if at:
+                sectors.read(*at)
+                self.published[place] = held
+        except Failed:
+            return False
+        return True
+
+    def metadata(self):
+        return metadata(self.map)
+
+
+# ---- cells: the world is 32 of them wide and high
+CELL_BITS = 27
+WORLD_END = 2**32
+
+
+def cells_between(xs, ys):
+    """The cells of a box of the world."""
+    columns, rows = ([max(0, min(WORLD_END - 1, number)) >> CELL_BITS for number in (min(span), max(span))] for span in (xs, ys))
+    return [(x, y) for x in range(columns[0], columns[1] + 1) for y in range(rows[0], rows[1] + 1)]
+
+
+def cells_of_feature(feature):
+    points = points_of(feature["geometry"])
+    return cells_between([x for x, _ in points], [y for _, y in points])
+
+
+def cells_of_tile(zoom, x, y):
+    """The cells of a tile with its margin; all cells for a zoom that no feature is shown on."""
+    if zoom > GREATEST_ZOOM:
+        return cells_between([0, WORLD_END], [0, WORLD_END])
+    spans = [[(4096 * number - 64) << (20 - zoom), ((4096 * number + 4161) << (20 - zoom)) - 1] for number in (x, y)]
+    return cells_between(*spans)
+
+
+# ---- tiles in an archive
+
+
+class Consecutive:
+    """Bytes of consecutive sectors. The sector that was read last is cached."""
+
+    def __init__(self, disk, first):
+        self.disk, self.first, self.last, self.held = disk, first, None, b""
+
+    def sector(self, at):
+        if at != self.last:
+            self.last = None
+            self.held = self.disk.read(self.first + at)
+            self.last = at
+        return self.held
+
+    def read(self, at, count):
+        held = b"".join(self.sector(sector) for sector in range(at // SECTOR, whole_sectors(at + count)))
+        return held[at % SECTOR :][:count]
+
+
+def varints(held):
+    numbers, number, shift = [], 0, 0
+    for byte in held:
+        number |= (byte & 127) << shift
+        shift = shift + 7 if byte & 128 else 0
+        if not byte & 128:
+            numbers.append(number)
+            number = 0
+    return numbers
+
+
+def entries_of(held):
+    """The entries of a directory: id, run, length and offset."""
+    numbers = varints(held)
+    count = numbers[0]
+    columns = [numbers[1 + count * column : 1 + count * (column + 1)] for column in range(4)]
+    entries, number, end = [], 0, 0
+    for delta, run, length, offset in zip(*columns):
+        number += delta
+        at = end if offset == 0 else offset - 1
+        entries.append((number, run, length, at))
+        end = at + length
+    return entries
+
+
+def find(entries, number):
+    """The entry of an id: a tile entry, or that of the leaf directory with it."""
+    before = [entry for entry in entries if entry[0] <= number]
+    return before[-1] if before and (before[-1][1] == 0 or number < before[-1][0] + before[-1][1]) else None
+
+
+class Directories:
+    """The cached directories of an archive: the root, and the leaf that was read last."""
+
+    def __init__(self, sectors):
+        header = sectors.read(0, 127)
+        root_at, root_len, _, _, self.leaves_at, _, self.contents_at = (int.from_bytes(header[at : at + 8], "little") for at in range(8, 64, 8))
+        self.root, self.leaf_at, self.leaf = entries_of(sectors.read(root_at, root_len)), None, []
+
+    def find(self, sectors, number):
+        """The offset and length of the content of a tile id, or None."""
+        entry = find(self.root, number)
+        if entry and entry[1] == 0:
+            if entry[3] != self.leaf_at:
+                self.leaf_at, self.leaf = entry[3], entries_of(sectors.read(self.leaves_at + entry[3], entry[2]))
+            entry = find(self.leaf, number)
+        return (self.contents_at + entry[3], entry[2]) if entry else None

@@ -1,0 +1,449 @@
+"""What `map_runs` has to answer to a line: a second implementation of a map, its tiles, texts and metadata, from the documents alone.
+
+It shares no code with the product. `crates/map_runs/src/main.rt` says what each command does.
+"""
+import re
+from collections import OrderedDict
+
+import archives
+import features
+import texts
+import tiles
+from disk import Edit, NoEdit, snapshot_of, snapshot_text, text_of, whole_sectors
+from ids import is_tile
+from rust_text import clipped, debug, option
+
+LAST = 2**32 - 1
+SECTOR = 512
+POINT = {"layer": "p", "minzoom": 0, "maxzoom": 2, "geometry": {"points": [[0, 0]]}, "tags": {}}
+
+
+def expanded(text):
+    """`<COUNT:TEXT>` stands for the text so many times."""
+    return re.sub(r"<(\d+):([^<>]*)>", lambda found: found[2] * int(found[1]), text)
+
+
+def numbers_in(rest):
+    words = [int(word) if word.isdigit() else 0 for word in rest.split()]
+    return (words + [0] * 8)[:8]
+
+
+def shown(number, feature):
+    features.check(number, feature)
+    return features.compact(feature)
+
+
+# ---- one feature
+
+
+def json(rest):
+    return features.compact(features.feature_of(expanded(rest)))
+
+
+def numbered(rest):
+    word, _, text = rest.partition(" ")
+    return int(word), features.feature_of(expanded(text))
+
+
+def text(rest):
+    number, feature = numbered(rest)
+    features.check(number, feature)
+    return text_of(Edit(number, feature)).hex()
+
+
+def reach(rest):
+    feature = features.feature_of(expanded(rest))
+    count = tiles.reach(feature)
+    try:
+        features.check_reach(feature)
+    except features.Fault as fault:
+        return f"{count}: {fault}"
+    return str(count)
+
+
+def covers(rest):
+    zoom, feature = numbered(rest)
+    if zoom > tiles.GREATEST_ZOOM:
+        raise features.Fault("E4 Zoom")
+    (x0, x1), (y0, y1) = tiles.covered(feature, zoom)
+    return f"{x0} to {x1}, {y0} to {y1}"
+
+
+def pairs(rest):
+    return debug([(9, 9), *tiles.pairs(*numbered(rest))])
+
+
+# ---- limits
+
+
+def checked(feature, number=7):
+    features.check(number, feature)
+    return "ok"
+
+
+def sizes(rest):
+    number, layer, minzoom, maxzoom, points, tags, key, length = numbers_in(rest)
+    named = [("t" if length else "") + "e" * (length - 1)] * tags
+    keyed = [(chr(33 + index) if key else "") + "e" * (key - 1) for index in range(tags)]
+    feature = {
+        "layer": ("l" if layer else "") + "e" * (layer - 1), "minzoom": minzoom, "maxzoom": maxzoom,
+        "geometry": {"points": [[0, 0]] * points}, "tags": [*zip(keyed, named)]}
+    return checked(feature, number)
+
+
+def lines(rest):
+    count, points, *_ = numbers_in(rest)
+    return checked(POINT | {"geometry": {"lines": [[[0, 0]] * points] * count}})
+
+
+def polygons(rest):
+    count, rings, points, *_ = numbers_in(rest)
+    return checked(POINT | {"geometry": {"polygons": [[[[0, 0]] * points] * rings] * count}})
+
+
+def keys(rest):
+    return checked(POINT | {"tags": [(key, True) for key in rest.split()]})
+
+
+def negative(rest):
+    # A number of 0 or more has another spelling.
+    return checked(POINT) if int(rest) < 0 else "E7 Value"
+
+
+def deleted(rest):
+    number = int(rest)
+    if number >= 2**63:
+        raise features.Fault("E2 Number")
+    edit = Edit(number, None)
+    return f"{text_of(edit).hex()} {texts.edit_text([edit]).hex()}"
+
+
+def batch(rest):
+    edits = [Edit(int(word[:-1]), POINT if word.endswith("+") else None) for word in rest.split()]
+    features.check_batch(edits)
+    return texts.edit_text(edits).hex()
+
+
+ALONE = {
+    "json": json, "text": text, "reach": reach, "covers": covers, "pairs": pairs, "sizes": sizes, "lines": lines, "polygons": polygons,
+    "keys": keys, "negative": negative, "deleted": deleted, "batch": batch}
+
+
+# ---- the newest edits of the world's cells, and tiles that are kept
+
+
+def axis_cells(z, at):
+    """The first and the last of 32 cells of an axis that the box of a tile's column, or row, touches."""
+    if z > tiles.GREATEST_ZOOM:
+        return 0, 31
+    side = 2 ** (20 - z)
+    first, behind = (4096 * at - 64) * side, (4096 * at + 4161) * side
+    return max(first, 0) >> 27, min(behind - 1, LAST) >> 27
+
+
+class Grid:
+    """The number of the newest edit of each of 32 by 32 cells of the world."""
+
+    def __init__(self):
+        self.cells = {}
+
+    def mark(self, across, down, number):
+        for x in range(across[0] >> 27, (across[1] >> 27) + 1) if across[0] <= across[1] and down[0] <= down[1] else []:
+            for y in range(down[0] >> 27, (down[1] >> 27) + 1):
+                self.cells[x, y] = max(number, self.cells.get((x, y), 0))
+
+    def newest(self, z, x, y):
+        (x0, x1), (y0, y1) = axis_cells(z, x), axis_cells(z, y)
+        return max(self.cells.get((i, j), 0) for i in range(x0, x1 + 1) for j in range(y0, y1 + 1))
+
+
+class Cache:
+    """The 256 tiles that were asked for last, each with the number of the last edit when it was made."""
+
+    def __init__(self):
+        self.held = OrderedDict()
+
+    def hold(self, place, number, content):
+        self.held[place] = number, content
+        self.held.move_to_end(place)
+        if len(self.held) > 256:
+            self.held.popitem(last=False)
+
+    def get(self, place, newest):
+        if place not in self.held:
+            return None
+        self.held.move_to_end(place)
+        number, content = self.held[place]
+        return content if number >= newest else None
+
+
+# ---- the map
+
+
+class Map:
+    def __init__(self, last, held=None):
+        self.last, self.held = last, held or {}
+        self.grid, self.cache = Grid(), Cache()
+
+    def change(self, edit):
+        for feature in [self.held.pop(edit.number, None), edit.feature]:
+            if feature:
+                self.grid.mark(*tiles.corners(feature), self.last)
+        if edit.feature:
+            self.held[edit.number] = edit.feature
+
+    def edited(self):
+        return f"edit {self.last}: {len(self.held)} features"
+
+    def put(self, rest):
+        number, feature = numbered(rest)
+        features.check(number, feature)
+        self.last += 1
+        self.change(Edit(number, feature))
+        return self.edited()
+
+    def delete(self, rest):
+        number = int(rest)
+        found = number in self.held
+        self.last += 1
+        self.change(Edit(number, None))
+        return f"{self.edited()}, was there {debug(found)}"
+
+    def make(self, rest):
+        found = texts.read_edit(bytes.fromhex(rest))
+        if isinstance(found, str):
+            return found
+        self.last += 1
+        for edit in found[0]:
+            self.change(edit)
+        return self.edited()
+
+    def restore(self, rest):
+        try:
+            self.__init__(self.last, snapshot_of(bytes.fromhex(rest)))
+        except NoEdit:
+            return "the snapshot of no map"
+        return f"{len(self.held)} features"
+
+    def tile(self, place):
+        content = self.cache.get(place, self.grid.newest(*place))
+        if content:
+            return f"kept {content.hex()}"
+        content = tiles.tile(self.held, *place) if place[0] <= tiles.GREATEST_ZOOM else b""
+        if not content:
+            return "nothing"
+        self.cache.hold(place, self.last, content)
+        return f"made {content.hex()}"
+
+    def anew(self, place):
+        return tiles.tile(self.held, *place).hex() if place[0] <= tiles.GREATEST_ZOOM else ""
+
+    def layers(self, place):
+        return debug([(name, 2, 4096, numbers) for name, numbers in tiles.layers(self.held, *place).items()])
+
+    def newest(self, place):
+        return str(self.grid.newest(*place))
+
+    def look(self, rest):
+        number = int(rest)
+        return shown(number, self.held[number]) if number in self.held else "none"
+
+    def tiles(self, _):
+        return debug([(tile_id, content.hex()) for tile_id, content in tiles.all_tiles(self.held)])
+
+    def allpairs(self, _):
+        return debug(tiles.all_pairs(self.held))
+
+    def snapshot(self, _):
+        return snapshot_text(self.held).hex()
+
+    def metadata(self, _):
+        return features.metadata(self.held)
+
+    def area(self, rest):
+        free = int(rest)
+        snapshot = snapshot_text(self.held)
+        shown_tiles = [*tiles.all_tiles(self.held)]
+        archive = archives.built(shown_tiles, features.metadata(self.held).encode()) if shown_tiles else b""
+        need = whole_sectors(len(snapshot)) + whole_sectors(len(archive))
+        if need > free:
+            return f"an area has {free} sectors, and {need} are needed"
+        held = b"".join(part.ljust(SECTOR * whole_sectors(len(part)), b"\0") for part in (snapshot, archive))
+        return f"{len(snapshot)} {len(archive)} {need} {held.hex()}"
+
+    PLACES = {"tile": tile, "anew": anew, "layers": layers, "newest": newest}
+    LINES = {
+        "put": put, "delete": delete, "make": make, "restore": restore, "look": look, "tiles": tiles, "allpairs": allpairs,
+        "snapshot": snapshot, "metadata": metadata, "area": area}
+
+
+# ---- numbers with values
+
+
+class Numbers:
+    def __init__(self):
+        self.held = {}
+
+    def set(self, number, value, *_):
+        before = self.held.get(number)
+        self.held[number] = value
+        return debug(option(before))
+
+    def unset(self, number, *_):
+        return debug(option(self.held.pop(number, None)))
+
+    def get(self, number, *_):
+        return debug(option(self.held.get(number)))
+
+    def fill(self, count, step, *_):
+        self.held |= {(index * step) % 2**64: index for index in range(count)}
+        return "filled"
+
+    def thin(self, count, step, one_in, *_):
+        taken = [self.held.pop(index * step, None) for index in range(count) if one_in == 0 or index % one_in != 1]
+        return f"{sum(value is not None for value in taken)} taken"
+
+    def serve(self, number, *_):
+        was_there = self.held.pop(number, None) is not None
+        return f"{debug(was_there)} None Some(1) Some(1)"
+
+    def entries(self, *_):
+        digest = 0
+        for number in sorted(self.held):
+            digest = (digest * 31 + number * 7 + self.held[number]) % 2**64
+        count = len(self.held)
+        return f"{count} entries, {count} by count, empty {debug(count == 0)}, each found, digest {digest}"
+
+    def blocks(self, most, *_):
+        return f"at most {most} blocks"
+
+    LINES = {
+        "set": set, "unset": unset, "get": get, "fillup": fill, "filldown": fill, "thin": thin, "serve": serve, "entries": entries,
+        "blocks": blocks}
+
+
+# ---- boxes
+
+
+def meets(a, b):
+    return a[0] <= b[1] and b[0] <= a[1] and a[2] <= b[3] and b[2] <= a[3]
+
+
+def nth(index, across, down):
+    x, y = index * across % 2**32, index * down % 2**32
+    return index, x, min(x + 2, LAST), y, min(y + 2, LAST), 3, 7
+
+
+class Boxes:
+    def __init__(self):
+        self.held, self.kept = [], []
+
+    def add(self, *numbers):
+        self.held.append(numbers[:7])
+        return "added"
+
+    def take(self, *numbers):
+        if numbers[:7] not in self.held:
+            return "not there"
+        self.held.remove(numbers[:7])
+        return "taken"
+
+    def query(self, *numbers):
+        zoom = numbers[4]
+        return debug(sorted(e[0] for e in self.held if e[5] <= zoom <= e[6] and meets(e[1:5], numbers[:4])))
+
+    def scatter(self, count, across, down, *_):
+        self.held += [nth(index, across, down) for index in range(count)]
+        return "added"
+
+    def gather(self, count, across, down, one_in, *_):
+        due = {nth(index, across, down) for index in range(count) if one_in == 0 or index % one_in != 0}
+        left = [entry for entry in self.held if entry not in due]
+        taken = len(self.held) - len(left)
+        self.held = left
+        return f"{taken} taken"
+
+    def blocks(self, most, *_):
+        return f"at most {most} blocks"
+
+    def keep(self, *_):
+        self.kept = [*self.held]
+        return "kept"
+
+    def swap(self, *_):
+        self.held, self.kept = self.kept, self.held
+        return "swapped"
+
+    LINES = {
+        "add": add, "take": take, "query": query, "scatter": scatter, "gather": gather, "boxblocks": blocks, "keep": keep, "swap": swap}
+
+
+# ---- a grid and a cache by themselves
+
+
+class Caches:
+    def __init__(self):
+        self.grid, self.cache = Grid(), Cache()
+
+    def mark(self, x0, x1, y0, y1, number, *_):
+        self.grid.mark((x0, x1), (y0, y1), number)
+        return "marked"
+
+    def hold(self, z, x, y, number, first, *_):
+        self.cache.hold((z, x, y), number, bytes([first, 1, 2]))
+        return "held"
+
+    def held(self, z, x, y, newest, *_):
+        content = self.cache.get((z, x, y), newest)
+        return content.hex() if content else "none"
+
+    def touched(self, z, x, y, *_):
+        return str(self.grid.newest(z, x, y))
+
+    LINES = {"mark": mark, "hold": hold, "held": held, "touched": touched}
+
+
+class Stand:
+    """What lines work on."""
+
+    def __init__(self):
+        self.map, self.numbers, self.boxes, self.caches = Map(0), Numbers(), Boxes(), Caches()
+
+    def begin(self, word, rest):
+        if word == "map":
+            self.map = Map(int(rest))
+        elif word == "numbers":
+            self.numbers = Numbers()
+        elif word == "boxes":
+            self.boxes = Boxes()
+        elif word == "caches":
+            self.caches = Caches()
+        else:
+            return f"? {word}"
+        return "new"
+
+    def command(self, word, rest):
+        if word in ALONE:
+            return ALONE[word](rest)
+        if word in Map.LINES:
+            return Map.LINES[word](self.map, rest)
+        numbers = numbers_in(rest)
+        if word in Map.PLACES or word in ("hold", "held", "touched"):
+            if not is_tile(*numbers[:3]):
+                return "no tile"
+        if word in Map.PLACES:
+            return Map.PLACES[word](self.map, tuple(numbers[:3]))
+        for part in (self.numbers, self.boxes, self.caches):
+            if word in part.LINES:
+                return part.LINES[word](part, *numbers)
+        return self.begin(word, rest)
+
+    def answer(self, line):
+        """What is printed of a line."""
+        if not line or line.startswith("#"):
+            return line
+        word, _, rest = line.partition(" ")
+        try:
+            return clipped(self.command(word, rest))
+        except features.Fault as fault:
+            return str(fault)

@@ -1,0 +1,101 @@
+//! Commands on the sectors of a disk.
+use crate::lines::{DiskVerb, Line};
+use crate::trial::{Trial, fixed_text, outcome_text};
+use script_bytes::{choices_of, push_number, sector_of, spelled, used_part};
+use sector_disk::{FailingCalls, FaultyDisk, MemoryDisk, Sectors};
+use std::alloc::{AllocError, Global};
+
+fn make(alloc: Global, trial: &mut Trial, sectors: u64) -> Result<Option<String>, AllocError> {
+    trial.replace(MemoryDisk::new(alloc, sectors)?);
+    fixed_text(alloc, "made")
+}
+
+fn write(
+    alloc: Global,
+    trial: &mut Trial,
+    at: u64,
+    bytes: &[u8],
+) -> Result<Option<String>, AllocError> {
+    match sector_of(bytes) {
+        Some(sector) if at < trial.disk.count() => {
+            let outcome = trial.disk.write(at, &sector);
+            outcome_text(alloc, outcome, 1)
+        }
+        _ => fixed_text(alloc, "no sector"),
+    }
+}
+
+fn sector(alloc: Global, trial: &mut Trial, at: u64) -> Result<Option<String>, AllocError> {
+    if at >= trial.disk.count() {
+        return fixed_text(alloc, "no sector");
+    }
+    let mut sector = [0; 512];
+    match trial.disk.read(at, &mut sector) {
+        Ok(()) => Ok(Some(spelled(alloc, used_part(&sector))?)),
+        Err(fault) => outcome_text(alloc, fault, 1),
+    }
+}
+
+/// Whether a sector is not all zeros.
+fn is_used(disk: &mut FaultyDisk<MemoryDisk>, at: u64) -> bool {
+    let mut sector = [0; 512];
+    if at < disk.count() {
+        let _ = disk.read(at, &mut sector);
+    }
+    !used_part(&sector).is_empty()
+}
+
+fn sectors(alloc: Global, trial: &mut Trial) -> Result<Option<String>, AllocError> {
+    let mut text = String::new(alloc);
+    for at in 0..trial.disk.count() {
+        if is_used(&mut trial.disk, at) {
+            push_number(&mut text, at)?;
+        }
+    }
+    Ok(Some(text))
+}
+
+fn fail(
+    alloc: Global,
+    trial: &mut Trial,
+    failing: FailingCalls,
+) -> Result<Option<String>, AllocError> {
+    let disk = trial.take(alloc)?;
+    trial.disk = FaultyDisk::new(disk, failing);
+    Ok(Some(format!(in alloc; "{failing:?}")?))
+}
+
+fn stop(alloc: Global, trial: &mut Trial) -> Result<Option<String>, AllocError> {
+    trial.stopped = trial.take(alloc)?;
+    fixed_text(alloc, "stopped")
+}
+
+fn crash(alloc: Global, trial: &mut Trial, numbers: &[u64]) -> Result<Option<String>, AllocError> {
+    let choices = choices_of(alloc, numbers)?;
+    let left = trial.stopped.crash(&choices)?;
+    trial.replace(left);
+    fixed_text(alloc, "crashed")
+}
+
+/// The answer to a command on sectors. `None` if its numbers don't fit.
+pub(crate) fn answered(
+    alloc: Global,
+    trial: &mut Trial,
+    verb: DiskVerb,
+    line: &Line,
+) -> Result<Option<String>, AllocError> {
+    match (verb, line.numbers.as_slice()) {
+        (DiskVerb::Disk, [sectors]) => make(alloc, trial, *sectors),
+        (DiskVerb::Write, [at]) => write(alloc, trial, *at, &line.bytes),
+        (DiskVerb::Sync, []) => outcome_text(alloc, trial.disk.sync(), 1),
+        (DiskVerb::Sector, [at]) => sector(alloc, trial, *at),
+        (DiskVerb::Sectors, []) => sectors(alloc, trial),
+        (DiskVerb::FailFrom, [call]) => fail(alloc, trial, FailingCalls::AllFrom(*call)),
+        (DiskVerb::FailNotMade, [call]) => fail(alloc, trial, FailingCalls::OneNotMade(*call)),
+        (DiskVerb::FailMade, [call]) => fail(alloc, trial, FailingCalls::OneMade(*call)),
+        (DiskVerb::FailNone, []) => fail(alloc, trial, FailingCalls::OneNotMade(0)),
+        (DiskVerb::Stop, []) => stop(alloc, trial),
+        (DiskVerb::Crash, numbers) => crash(alloc, trial, numbers),
+        _ => Ok(None),
+    }
+}

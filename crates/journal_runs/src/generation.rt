@@ -1,0 +1,85 @@
+//! Commands on the generations of a disk.
+use crate::lines::{GenerationVerb, Line};
+use crate::trial::{Trial, fixed_text, outcome_text};
+use generations::{Layout, Root, format, install, read_root, write_area};
+use script_bytes::sector_of;
+use sector_disk::Sectors;
+use std::alloc::{AllocError, Global};
+
+fn layout(alloc: Global, sectors: u64) -> Result<Option<String>, AllocError> {
+    let layout = Layout::of(sectors);
+    Ok(Some(format!(in alloc; "{layout:?}")?))
+}
+
+fn format_disk(alloc: Global, trial: &mut Trial) -> Result<Option<String>, AllocError> {
+    let before = trial.disk.calls();
+    let outcome = format(&mut trial.disk);
+    outcome_text(alloc, outcome, trial.disk.calls().saturating_sub(before))
+}
+
+fn root(alloc: Global, trial: &mut Trial) -> Result<Option<String>, AllocError> {
+    let before = trial.disk.calls();
+    let outcome = read_root(&mut trial.disk);
+    outcome_text(alloc, outcome, trial.disk.calls().saturating_sub(before))
+}
+
+fn area(
+    alloc: Global,
+    trial: &mut Trial,
+    [generation, index]: [u64; 2],
+    bytes: &[u8],
+) -> Result<Option<String>, AllocError> {
+    let sectors = trial.disk.count();
+    let (Some(sector), Some(layout)) = (sector_of(bytes), Layout::of(sectors)) else {
+        return fixed_text(alloc, "no sector");
+    };
+    if index >= layout.area || layout.sectors > sectors {
+        return fixed_text(alloc, "no sector");
+    }
+    let outcome = write_area(&mut trial.disk, layout, generation, index, &sector);
+    outcome_text(alloc, outcome, 1)
+}
+
+fn install_root(
+    alloc: Global,
+    trial: &mut Trial,
+    root: Root,
+) -> Result<Option<String>, AllocError> {
+    if trial.disk.count() < 3 {
+        return fixed_text(alloc, "no sector");
+    }
+    let before = trial.disk.calls();
+    let outcome = install(&mut trial.disk, root);
+    outcome_text(alloc, outcome, trial.disk.calls().saturating_sub(before))
+}
+
+/// The answer to a command on generations. `None` if its numbers don't fit.
+pub(crate) fn answered(
+    alloc: Global,
+    trial: &mut Trial,
+    verb: GenerationVerb,
+    line: &Line,
+) -> Result<Option<String>, AllocError> {
+    match (verb, line.numbers.as_slice()) {
+        (GenerationVerb::Layout, [sectors]) => layout(alloc, *sectors),
+        (GenerationVerb::Format, []) => format_disk(alloc, trial),
+        (GenerationVerb::Root, []) => root(alloc, trial),
+        (GenerationVerb::Area, [generation, index]) => area(
+            alloc,
+            trial,
+            [*generation, *index],
+            &line.bytes,
+        ),
+        (GenerationVerb::Install, [generation, edits, journal_at, snapshot_len, archive_len]) => {
+            let root = Root {
+                generation: *generation,
+                edits: *edits,
+                journal_at: *journal_at,
+                snapshot_len: *snapshot_len,
+                archive_len: *archive_len,
+            };
+            install_root(alloc, trial, root)
+        }
+        _ => Ok(None),
+    }
+}

@@ -1,0 +1,82 @@
+//! Runs a script over a disk in memory: its sectors and what a crash leaves of them, its generations, and its journal of edits.
+//!
+//! Line k of standard output answers line k of standard input. Empty lines and lines that begin with `#` are echoed. A command has its numbers
+//! first and its bytes after `=`, spelled as `script_bytes` reads them. Answers are in the form of `{:?}`; `in N` is the number of calls of the
+//! disk. The call numbers of `fail_..` start at 1, after the last command that made a disk or set failing calls.
+//!
+//! | Command | Action |
+//! |---|---|
+//! | `disk N` | makes a disk of N sectors of zeros |
+//! | `write AT = BYTES` | writes a sector: these bytes, padded with zeros |
+//! | `sync` | syncs the disk |
+//! | `sector AT` | prints a sector up to its last nonzero byte |
+//! | `sectors` | prints the numbers of the sectors that are not all zeros |
+//! | `fail_from N`, `fail_not_made N`, `fail_made N` | makes calls fail: all from number N on, or only call N, before or after its work is done |
+//! | `fail_none` | no call fails |
+//! | `stop` | takes the disk away with its unsynced writes |
+//! | `crash C C ..` | makes the disk that a crash leaves of the stopped one: for the i-th unsynced sector its C-th write, or 0 for none |
+//! | `layout N` | prints the layout of a disk of N sectors |
+//! | `format` | formats the disk |
+//! | `root` | reads the live root |
+//! | `area G I = BYTES` | writes sector I of the area of generation G |
+//! | `install G E J S A` | installs a root: generation, edits, journal place, lengths of snapshot and archive |
+//! | `ring FIRST PLACES PLACE EDITS` | recovers the journal in PLACES sectors from FIRST on: EDITS edits came before the record at PLACE |
+//! | `append = BYTES` | appends a text to the journal |
+//! | `next` | prints the free places and the start of the next record |
+//! | `mark` | remembers the start of the next record |
+//! | `release N` | releases the N places before the mark |
+//! | `head AT NUMBER` | prints whether a sector is the head of record NUMBER, and what it says |
+//! | `part HEAD NUMBER AT PART` | prints whether sector AT is this part of record NUMBER, whose head is in sector HEAD |
+#![tactic(auto)]
+
+mod disks;
+mod generation;
+mod lines;
+mod rings;
+mod trial;
+
+use lines::{Line, Verb, line_in};
+use std::alloc::{AllocError, Global};
+use std::io;
+use std::io::{BufRead, BufReader};
+use trial::Trial;
+
+/// The answer to a command. `None` if its numbers don't fit.
+fn answered(alloc: Global, trial: &mut Trial, line: &Line) -> Result<Option<String>, AllocError> {
+    match line.verb {
+        Verb::Disk(verb) => disks::answered(alloc, trial, verb, line),
+        Verb::Generation(verb) => generation::answered(alloc, trial, verb, line),
+        Verb::Ring(verb) => rings::answered(alloc, trial, verb, line),
+    }
+}
+
+fn answer_command(rt: &HostRuntime, trial: &mut Trial, text: &str) -> io::Result<()> {
+    let alloc = rt.alloc();
+    let Some(line) = line_in(alloc, text)? else {
+        return println!(rt; "? {text}");
+    };
+    match answered(alloc, trial, &line)? {
+        Some(answer) => println!(rt; "{answer}"),
+        None => println!(rt; "? {text}"),
+    }
+}
+
+fn answer_line(rt: &HostRuntime, trial: &mut Trial, text: &str) -> io::Result<()> {
+    if text.is_empty() || text.starts_with('#') {
+        return println!(rt; "{text}");
+    }
+    answer_command(rt, trial, text)
+}
+
+/// Answers each line. The trial is borrowed, so that no way out of the loop drops a disk.
+fn answer_lines(rt: &HostRuntime, trial: &mut Trial) -> io::Result<()> {
+    for line in BufReader::new(rt.alloc(), rt.reader())?.lines(rt.alloc()) {
+        answer_line(rt, trial, line?.as_str())?;
+    }
+    Ok(())
+}
+
+fn main(rt: HostRuntime) -> io::Result<()> {
+    let mut trial = Trial::new(rt.alloc())?;
+    answer_lines(&rt, &mut trial)
+}

@@ -1,0 +1,92 @@
+//! Lines over the newest edits of the world's cells, and over tiles that are kept.
+use crate::lines::{Line, byte, short};
+use box_index::WorldBox;
+use hilbert_id::TileAt;
+use std::alloc::{AllocError, Global};
+use tile_cache::{TileCache, TouchGrid};
+
+/// A grid of cells, and a cache of tiles.
+#[derive(Drop)]
+pub(crate) struct Caches {
+    grid: TouchGrid,
+    cache: TileCache,
+}
+
+impl Caches {
+    pub(crate) fn new(alloc: Global) -> Result<Caches, AllocError> {
+        Ok(Caches {
+            grid: TouchGrid::new(),
+            cache: TileCache::new(alloc)?,
+        })
+    }
+
+    /// Notes that an edit touched a box.
+    fn mark(&mut self, alloc: Global, numbers: [u64; 8]) -> Result<String, AllocError> {
+        let [x0, x1, y0, y1, number, ..] = numbers;
+        let bounds = WorldBox {
+            x0: short(x0),
+            x1: short(x1),
+            y0: short(y0),
+            y1: short(y1),
+        };
+        self.grid.mark(&bounds, number);
+        String::from_str(alloc, "marked")
+    }
+
+    /// Keeps a tile of three bytes: this one, 1 and 2.
+    fn hold(
+        &mut self,
+        alloc: Global,
+        at: TileAt,
+        number: u64,
+        first: u64,
+    ) -> Result<String, AllocError> {
+        let bytes = Vec::from_array(alloc, [byte(first), 1, 2])?;
+        self.cache.keep(at, number, bytes)?;
+        String::from_str(alloc, "held")
+    }
+
+    /// The tile that is kept for a place, if it is as new as this number.
+    fn held(&mut self, alloc: Global, at: TileAt, newest: u64) -> Result<String, AllocError> {
+        self.cache.promote(at);
+        match self.cache.peek(at, newest) {
+            Some(bytes) => hex::encode(alloc, bytes),
+            None => String::from_str(alloc, "none"),
+        }
+    }
+
+    fn place_answer(
+        &mut self,
+        alloc: Global,
+        line: Line<'_>,
+        at: TileAt,
+    ) -> Result<String, AllocError> {
+        let [_, _, _, fourth, fifth, ..] = line.numbers;
+        match line.word {
+            "hold" => self.hold(alloc, at, fourth, fifth),
+            "held" => self.held(alloc, at, fourth),
+            _ => format!(in alloc; "{}", self.grid.newest(at)),
+        }
+    }
+
+    fn tile_answer(&mut self, alloc: Global, line: Line<'_>) -> Result<String, AllocError> {
+        let [zoom, column, row, ..] = line.numbers;
+        match TileAt::new(byte(zoom), short(column), short(row)) {
+            Some(at) => self.place_answer(alloc, line, at),
+            None => String::from_str(alloc, "no tile"),
+        }
+    }
+
+    /// What a line over these comes to.
+    pub(crate) fn answer(
+        &mut self,
+        alloc: Global,
+        line: Line<'_>,
+    ) -> Option<Result<String, AllocError>> {
+        match line.word {
+            "mark" => Some(self.mark(alloc, line.numbers)),
+            "hold" | "held" | "touched" => Some(self.tile_answer(alloc, line)),
+            _ => None,
+        }
+    }
+}

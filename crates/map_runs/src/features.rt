@@ -1,0 +1,156 @@
+//! Lines about one feature.
+use crate::lines::{Line, expanded, number_in, parted};
+use edit_json::{feature_from_json, feature_to_json};
+use edit_text::encode_change;
+use feature_model::{Change, EditFault, Feature, GREATEST_ZOOM, check, copy};
+use serde_json::Value;
+use std::alloc::{AllocError, Global};
+use std::fmt;
+use tile_cutter::{check_reach, cover_count, covers, pairs};
+
+/// Why a text is no feature.
+#[derive(Clone, Copy)]
+pub(crate) enum Refusal {
+    /// It is no JSON.
+    Json,
+    Edit(EditFault),
+}
+
+impl fmt::Display for Refusal {
+    fn fmt<W: fmt::Write>(&self, f: &mut fmt::Formatter<W>) -> fmt::Result {
+        match self {
+            Refusal::Json => f.write_str("Json"),
+            Refusal::Edit(fault) => write!(f, "{fault}"),
+        }
+    }
+}
+
+/// The JSON value of a text, in which `<COUNT:TEXT>` stands for that text so many times.
+fn value_in(alloc: Global, text: &str) -> Result<Value, Refusal> {
+    let Ok(text) = expanded(alloc, text) else {
+        return Err(Refusal::Edit(EditFault::Memory));
+    };
+    match Value::from_str(alloc, text.as_str()) {
+        Ok(value) => Ok(value),
+        Err(_) => Err(Refusal::Json),
+    }
+}
+
+/// The feature of a JSON text.
+pub(crate) fn feature_in(alloc: Global, text: &str) -> Result<Feature, Refusal> {
+    let value = value_in(alloc, text)?;
+    match feature_from_json(alloc, &value) {
+        Ok(feature) => Ok(feature),
+        Err(fault) => Err(Refusal::Edit(fault)),
+    }
+}
+
+/// A feature's copy as JSON, or the limit that it breaks.
+pub(crate) fn shown(alloc: Global, id: u64, feature: &Feature) -> Result<String, AllocError> {
+    if let Err(fault) = check(id, feature) {
+        return fault.to_string(alloc);
+    }
+    let same = copy(alloc, feature)?;
+    feature_to_json(alloc, &same)?.to_string(alloc)
+}
+
+/// What is written of a JSON value that is read.
+fn rewritten(alloc: Global, value: &Value) -> Result<String, AllocError> {
+    match feature_from_json(alloc, value) {
+        Ok(feature) => feature_to_json(alloc, &feature)?.to_string(alloc),
+        Err(fault) => fault.to_string(alloc),
+    }
+}
+
+fn json(alloc: Global, text: &str) -> Result<String, AllocError> {
+    match value_in(alloc, text) {
+        Ok(value) => rewritten(alloc, &value),
+        Err(refusal) => refusal.to_string(alloc),
+    }
+}
+
+/// The text that gives a number a feature.
+fn put_text(alloc: Global, id: u64, feature: Feature) -> Result<String, AllocError> {
+    if let Err(fault) = check(id, &feature) {
+        return fault.to_string(alloc);
+    }
+    let text = encode_change(alloc, &Change::Put { id, feature })?;
+    hex::encode(alloc, text.as_slice())
+}
+
+fn text(alloc: Global, rest: &str) -> Result<String, AllocError> {
+    let (id, json) = parted(rest);
+    match feature_in(alloc, json) {
+        Ok(feature) => put_text(alloc, number_in(id), feature),
+        Err(refusal) => refusal.to_string(alloc),
+    }
+}
+
+/// How many tiles a feature covers, and whether these are too many.
+fn reach_of(alloc: Global, feature: &Feature) -> Result<String, AllocError> {
+    if feature.maxzoom > GREATEST_ZOOM {
+        return EditFault::Zoom.to_string(alloc);
+    }
+    let count = cover_count(feature);
+    match check_reach(feature) {
+        Ok(()) => format!(in alloc; "{count}"),
+        Err(fault) => format!(in alloc; "{count}: {fault}"),
+    }
+}
+
+fn reach(alloc: Global, text: &str) -> Result<String, AllocError> {
+    match feature_in(alloc, text) {
+        Ok(feature) => reach_of(alloc, &feature),
+        Err(refusal) => refusal.to_string(alloc),
+    }
+}
+
+/// The columns and rows of a zoom that a feature covers.
+fn covered(alloc: Global, zoom: u64, feature: &Feature) -> Result<String, AllocError> {
+    if zoom > u64::from(GREATEST_ZOOM) {
+        return EditFault::Zoom.to_string(alloc);
+    }
+    let range = covers(feature, zoom as u8);
+    format!(in alloc;
+        "{} to {}, {} to {}",
+        range.x0, range.x1, range.y0, range.y1
+    )
+}
+
+fn cover(alloc: Global, rest: &str) -> Result<String, AllocError> {
+    let (zoom, json) = parted(rest);
+    match feature_in(alloc, json) {
+        Ok(feature) => covered(alloc, number_in(zoom), &feature),
+        Err(refusal) => refusal.to_string(alloc),
+    }
+}
+
+/// The pairs of a feature's tiles and a number, behind one that was there.
+fn paired(alloc: Global, id: u64, feature: &Feature) -> Result<String, AllocError> {
+    if feature.maxzoom > GREATEST_ZOOM {
+        return EditFault::Zoom.to_string(alloc);
+    }
+    let mut list = vec![in alloc; (9, 9)]?;
+    pairs(feature, id, &mut list)?;
+    format!(in alloc; "{list:?}")
+}
+
+fn pair(alloc: Global, rest: &str) -> Result<String, AllocError> {
+    let (id, json) = parted(rest);
+    match feature_in(alloc, json) {
+        Ok(feature) => paired(alloc, number_in(id), &feature),
+        Err(refusal) => refusal.to_string(alloc),
+    }
+}
+
+/// What a line about a feature comes to.
+pub(crate) fn answer(alloc: Global, line: Line<'_>) -> Option<Result<String, AllocError>> {
+    match line.word {
+        "json" => Some(json(alloc, line.rest)),
+        "text" => Some(text(alloc, line.rest)),
+        "reach" => Some(reach(alloc, line.rest)),
+        "covers" => Some(cover(alloc, line.rest)),
+        "pairs" => Some(pair(alloc, line.rest)),
+        _ => None,
+    }
+}

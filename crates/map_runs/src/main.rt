@@ -1,0 +1,93 @@
+//! Runs a script over a map and its parts: a line on standard input, its answer on standard output.
+//!
+//! A line is a word and what stands behind it. An empty line and one that begins with `#` are repeated; the answer to an unknown word
+//! is `?` and the word. FEATURE is a feature as JSON (`docs/HTTP.md`) in which `<COUNT:TEXT>` stands for a text that is repeated; all
+//! else are decimal numbers, 0 where they are left out. BOX is the first and the last column and the first and the last row of a box
+//! of the world. In place of an answer stands the word of a fault. An answer of over 10,000 bytes is told by its first ones, its length
+//! and a digest. What is wanted of each line is in `bench/model/map_stand.py`.
+//!
+//! A feature alone, and limits:
+//!
+//! | Line | Answer |
+//! |---|---|
+//! | `json FEATURE` | the JSON that is written of it |
+//! | `text ID FEATURE` | the text of the change that gives the number this feature |
+//! | `reach FEATURE` | how many tiles it covers, and the fault where these are too many |
+//! | `covers ZOOM FEATURE` | the columns and the rows of a zoom that it covers |
+//! | `pairs ID FEATURE` | the pairs of its tiles' ids and the number, behind a pair that was there |
+//! | `sizes ID LAYER MINZOOM MAXZOOM POINTS TAGS KEY TEXT` | the limits of a feature by its lengths, names and texts in bytes |
+//! | `lines COUNT POINTS`, `polygons COUNT RINGS POINTS` | the limits of a feature of so many of these |
+//! | `keys KEY ..`, `negative N` | the limits of a feature with these keys in this order, or with this number as a negative one |
+//! | `deleted ID` | the texts of the change and of the edit that take a feature away |
+//! | `batch 7+ 9- ..` | the text of an edit that gives numbers a point at the world's corner (+) and takes features away (-) |
+//!
+//! A map that keeps tiles (`map LAST`: the empty one, whose last edit has this number):
+//!
+//! | Line | Answer |
+//! |---|---|
+//! | `put ID FEATURE`, `delete ID`, `make TEXT` | the number of the edit, and how many features there are; `make` has the edit by its text |
+//! | `look ID` | the copy of a number's feature |
+//! | `tile Z X Y` | a tile's bytes, as they are kept or made |
+//! | `anew Z X Y` | its bytes, cut anew, none where it shows nothing |
+//! | `layers Z X Y` | its layers: name, version, extent, numbers of features |
+//! | `newest Z X Y` | the number of the newest edit that can have touched it |
+//! | `tiles`, `allpairs` | all tiles with their ids; all pairs of a tile's id and a feature's number |
+//! | `snapshot`, `restore TEXT` | the map's snapshot; the map of a snapshot takes the place of this one |
+//! | `metadata` | its metadata |
+//! | `area FREE` | what a publication writes into an area of so many sectors: lengths of snapshot and archive, sectors, and these |
+//!
+//! A map from numbers to numbers (`numbers`: an empty one):
+//!
+//! | Line | Answer |
+//! |---|---|
+//! | `set N VALUE`, `unset N`, `get N` | the value before, or now |
+//! | `fillup COUNT STEP`, `filldown COUNT STEP` | 0, STEP, 2 STEP .. get the values 0, 1, 2 .., in this order or from the last one down |
+//! | `thin COUNT STEP ONE_IN` | how many of such numbers were there and are taken out: all but the second of each so many |
+//! | `serve N` | with room made once: whether it was there; its value before it gets 1, then, and as it is taken out |
+//! | `entries` | how many entries there are, and a digest of them |
+//! | `blocks MOST` | whether there are at most so many blocks |
+//!
+//! An index of boxes (`boxes`: an empty one), a grid of the newest edits and a cache of tiles (`caches`: empty ones):
+//!
+//! | Line | Answer |
+//! |---|---|
+//! | `add ID BOX MINZOOM MAXZOOM`, `take ..` | an entry is added, or taken out |
+//! | `query BOX ZOOM` | the numbers of the entries that show there |
+//! | `scatter COUNT ACROSS DOWN`, `gather COUNT ACROSS DOWN ONE_IN` | so many boxes, each so far from the one before; all but one of each so many |
+//! | `boxblocks MOST` | whether there are at most so many blocks |
+//! | `keep`, `swap` | a copy is kept; the index and the copy that was kept change places |
+//! | `mark BOX NUMBER`, `touched Z X Y` | an edit touched a box; the newest edit that can have touched a tile |
+//! | `hold Z X Y NUMBER BYTE`, `held Z X Y NUMBER` | a tile is held with an edit's number; its bytes, if they are held with this number or a later one |
+#![tactic(auto)]
+
+mod areas;
+mod boxes;
+mod caches;
+mod features;
+mod limits;
+mod lines;
+mod maps;
+mod numbers;
+mod stands;
+
+use stands::Stand;
+use std::io::{self, BufRead, BufReader};
+
+/// Answers a line.
+fn answer_line(rt: &HostRuntime, stand: &mut Stand, line: &str) -> io::Result<()> {
+    let text = stand.answer(rt.alloc(), line)?;
+    println!(rt; "{text}")
+}
+
+/// Answers each line. The stand is lent, so that no way out of the loop has it to drop.
+fn answer_lines(rt: &HostRuntime, stand: &mut Stand) -> io::Result<()> {
+    for line in BufReader::new(rt.alloc(), rt.reader())?.lines(rt.alloc()) {
+        answer_line(rt, stand, line?.as_str())?;
+    }
+    Ok(())
+}
+
+fn main(rt: HostRuntime) -> io::Result<()> {
+    let mut stand = Stand::new(rt.alloc())?;
+    answer_lines(&rt, &mut stand)
+}

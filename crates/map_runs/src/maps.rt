@@ -1,0 +1,245 @@
+//! Lines over a map.
+ghost use Rattle.feature_model.specs.Data.{edit_data};
+ghost use Rattle.feature_model.specs.Types.{IsEdit};
+
+use crate::features::{feature_in, shown};
+use crate::lines::{Line, byte, number_in, parted, short};
+use cached_map::CachedMap;
+use edit_text::{decode, encode_change};
+use feature_model::{Change, Edit, Feature, check};
+use feature_store::Store;
+use hilbert_id::TileAt;
+use map_metadata::{metadata, metadata_text};
+use mvt_layer::Layer;
+use mvt_write::write_tile;
+use std::alloc::{AllocError, Global};
+
+/// The most features of a map, and the most bytes of a snapshot that is read.
+const MOST: usize = 100_000;
+
+/// The empty map, whose last edit has this number.
+pub(crate) fn empty_map(alloc: Global, last: u64) -> Result<CachedMap, AllocError> {
+    CachedMap::new(alloc, Store::new(alloc), last)
+}
+
+/// What is told of the edit of this number.
+fn edited(alloc: Global, number: u64, map: &CachedMap) -> Result<String, AllocError> {
+    let count = map.store().len();
+    format!(in alloc; "edit {number}: {count} features")
+}
+
+/// Gives a number a feature.
+fn put(
+    alloc: Global,
+    map: &mut CachedMap,
+    id: u64,
+    feature: Feature,
+) -> Result<String, AllocError> {
+    if let Err(fault) = check(id, &feature) {
+        return fault.to_string(alloc);
+    }
+    let change = Change::Put { id, feature };
+    let _text = encode_change(alloc, &change)?;
+    let Some(number) = map.last().checked_add(1) else {
+        return String::from_str(alloc, "numbers spent");
+    };
+    if map.store().len() > MOST {
+        return String::from_str(alloc, "too many features");
+    }
+    map.room()?;
+    if let Change::Put { id, feature } = change {
+        map.place(id, feature, number);
+    }
+    edited(alloc, number, map)
+}
+
+fn put_json(alloc: Global, map: &mut CachedMap, rest: &str) -> Result<String, AllocError> {
+    let (id, json) = parted(rest);
+    match feature_in(alloc, json) {
+        Ok(feature) => put(alloc, map, number_in(id), feature),
+        Err(refusal) => refusal.to_string(alloc),
+    }
+}
+
+/// Takes the feature of a number away.
+fn delete(alloc: Global, map: &mut CachedMap, id: u64) -> Result<String, AllocError> {
+    let Some(number) = map.last().checked_add(1) else {
+        return String::from_str(alloc, "numbers spent");
+    };
+    let found = map.remove(id, number);
+    let count = map.store().len();
+    format!(in alloc; "edit {number}: {count} features, was there {found}")
+}
+
+/// Makes the changes of an edit together.
+fn make(alloc: Global, map: &mut CachedMap, edit: Edit) -> Result<String, AllocError>
+    requires { IsEdit (edit_data edit) }
+{
+    let Some(number) = map.last().checked_add(1) else {
+        return String::from_str(alloc, "numbers spent");
+    };
+    if map.store().len() > MOST {
+        return String::from_str(alloc, "too many features");
+    }
+    map.room_all(&edit.changes)?;
+    map.make_edit(edit.changes, number);
+    edited(alloc, number, map)
+}
+
+fn make_text(alloc: Global, map: &mut CachedMap, text: &str) -> Result<String, AllocError> {
+    let Ok(bytes) = hex::decode(alloc, text) else {
+        return String::from_str(alloc, "no hex");
+    };
+    match decode(alloc, &bytes) {
+        Ok((edit, _)) => make(alloc, map, edit),
+        Err(fault) => format!(in alloc; "{fault:?}"),
+    }
+}
+
+/// The feature of a number.
+fn look(alloc: Global, store: &Store, id: u64) -> Result<String, AllocError> {
+    match store.get(id) {
+        Some(feature) => shown(alloc, id, feature),
+        None => String::from_str(alloc, "none"),
+    }
+}
+
+/// A tile: as it is kept, or made.
+fn tile(alloc: Global, map: &mut CachedMap, at: TileAt) -> Result<String, AllocError> {
+    if let Some(bytes) = map.kept(at)? {
+        let text = hex::encode(alloc, bytes.as_slice())?;
+        return format!(in alloc; "kept {text}");
+    }
+    match map.make(at)? {
+        Some(bytes) => {
+            let text = hex::encode(alloc, bytes.as_slice())?;
+            format!(in alloc; "made {text}")
+        }
+        None => String::from_str(alloc, "nothing"),
+    }
+}
+
+/// A tile that is cut anew, kept or not: no bytes where it shows nothing.
+fn anew(alloc: Global, store: &Store, at: TileAt) -> Result<String, AllocError> {
+    let layers = store.layers(at)?;
+    let bytes = write_tile(alloc, &layers)?;
+    hex::encode(alloc, bytes.as_slice())
+}
+
+/// A layer's name, version, extent, and the numbers of its features.
+type Listed<'a> = (&'a str, u32, u32, Vec<u64>);
+
+fn listed<'a>(alloc: Global, layer: &Layer<'a>) -> Result<Listed<'a>, AllocError> {
+    let mut ids = Vec::new(alloc);
+    for feature in &layer.features {
+        ids.push(feature.id.unwrap_or(0))?;
+    }
+    Ok((layer.name, layer.version, layer.extent, ids))
+}
+
+fn layers(alloc: Global, store: &Store, at: TileAt) -> Result<String, AllocError> {
+    let mut all = Vec::new(alloc);
+    for layer in &store.layers(at)? {
+        all.push(listed(alloc, layer)?)?;
+    }
+    format!(in alloc; "{all:?}")
+}
+
+/// All tiles, each with its id.
+fn tiles(alloc: Global, store: &Store) -> Result<String, AllocError> {
+    let mut all = Vec::new(alloc);
+    for tile in &store.tiles()? {
+        all.push((tile.0, hex::encode(alloc, tile.1.as_slice())?))?;
+    }
+    format!(in alloc; "{all:?}")
+}
+
+fn all_pairs(alloc: Global, store: &Store) -> Result<String, AllocError> {
+    let pairs = store.pairs()?;
+    format!(in alloc; "{pairs:?}")
+}
+
+/// The snapshot of a map's copy.
+fn snapshot(alloc: Global, store: &Store) -> Result<String, AllocError> {
+    let text = store.copy()?.snapshot_text()?;
+    hex::encode(alloc, text.as_slice())
+}
+
+/// Takes the map of a snapshot in the map's place. Its last edit keeps the number.
+fn restore(alloc: Global, map: &mut CachedMap, text: &str) -> Result<String, AllocError> {
+    let Ok(bytes) = hex::decode(alloc, text) else {
+        return String::from_str(alloc, "no hex");
+    };
+    if bytes.len() > MOST {
+        return String::from_str(alloc, "too many bytes");
+    }
+    match Store::from_snapshot(alloc, &bytes) {
+        Ok(store) => {
+            let count = store.len();
+            *map = CachedMap::new(alloc, store, map.last())?;
+            format!(in alloc; "{count} features")
+        }
+        Err(fault) => fault.to_string(alloc),
+    }
+}
+
+/// The metadata as text, and as a value where that has another one.
+fn described(alloc: Global, store: &Store) -> Result<String, AllocError> {
+    let text = metadata_text(alloc, store)?;
+    let value = metadata(alloc, store)?.to_string(alloc)?;
+    if text == value {
+        return Ok(text);
+    }
+    format!(in alloc; "{text}, and as a value {value}")
+}
+
+/// What a line about a tile comes to.
+fn tile_answer(
+    alloc: Global,
+    map: &mut CachedMap,
+    line: Line<'_>,
+    at: TileAt,
+) -> Result<String, AllocError> {
+    match line.word {
+        "tile" => tile(alloc, map, at),
+        "anew" => anew(alloc, map.store(), at),
+        "layers" => layers(alloc, map.store(), at),
+        _ => format!(in alloc; "{}", map.newest(at)),
+    }
+}
+
+fn place_answer(alloc: Global, map: &mut CachedMap, line: Line<'_>) -> Result<String, AllocError> {
+    let [zoom, column, row, ..] = line.numbers;
+    match TileAt::new(byte(zoom), short(column), short(row)) {
+        Some(at) => tile_answer(alloc, map, line, at),
+        None => String::from_str(alloc, "no tile"),
+    }
+}
+
+/// What a line about what a map holds comes to.
+fn held_answer(alloc: Global, store: &Store, line: Line<'_>) -> Option<Result<String, AllocError>> {
+    match line.word {
+        "look" => Some(look(alloc, store, line.numbers[0])),
+        "tiles" => Some(tiles(alloc, store)),
+        "allpairs" => Some(all_pairs(alloc, store)),
+        "snapshot" => Some(snapshot(alloc, store)),
+        "metadata" => Some(described(alloc, store)),
+        _ => None,
+    }
+}
+
+/// What a line over a map comes to.
+pub(crate) fn answer(
+    alloc: Global,
+    map: &mut CachedMap,
+    line: Line<'_>,
+) -> Option<Result<String, AllocError>> {
+    match line.word {
+        "put" => Some(put_json(alloc, map, line.rest)),
+        "delete" => Some(delete(alloc, map, line.numbers[0])),
+        "make" => Some(make_text(alloc, map, line.rest)),
+        "restore" => Some(restore(alloc, map, line.rest)),
+        "tile" | "anew" | "layers" | "newest" => Some(place_answer(alloc, map, line)),
+        _ => held_answer(alloc, map.store(), line),
+    }
+}

@@ -1,0 +1,82 @@
+//! What lines work on.
+use crate::boxes::Boxes;
+use crate::caches::Caches;
+use crate::lines::{Line, clipped, line_in};
+use crate::{areas, features, limits, maps, numbers};
+use cached_map::CachedMap;
+use number_map::NumberMap;
+use std::alloc::{AllocError, Global};
+
+/// A map, and parts of maps.
+#[derive(Drop)]
+pub(crate) struct Stand {
+    map: CachedMap,
+    numbers: NumberMap<u64>,
+    boxes: Boxes,
+    caches: Caches,
+}
+
+impl Stand {
+    pub(crate) fn new(alloc: Global) -> Result<Stand, AllocError> {
+        Ok(Stand {
+            map: maps::empty_map(alloc, 0)?,
+            numbers: NumberMap::new(alloc),
+            boxes: Boxes::new(alloc),
+            caches: Caches::new(alloc)?,
+        })
+    }
+
+    /// Begins anew with the map, or with what is as dear.
+    fn begin(&mut self, alloc: Global, line: Line<'_>) -> Result<(), AllocError> {
+        match line.word {
+            "map" => self.map = maps::empty_map(alloc, line.numbers[0])?,
+            "numbers" => self.numbers = NumberMap::new(alloc),
+            "boxes" => self.boxes = Boxes::new(alloc),
+            _ => self.caches = Caches::new(alloc)?,
+        }
+        Ok(())
+    }
+
+    /// Of a line that begins anew, or of one that is unknown.
+    fn other_answer(&mut self, alloc: Global, line: Line<'_>) -> Result<String, AllocError> {
+        if !matches!(line.word, "map" | "numbers" | "boxes" | "caches") {
+            return format!(in alloc; "? {}", line.word);
+        }
+        self.begin(alloc, line)?;
+        String::from_str(alloc, "new")
+    }
+
+    fn line_answer(&mut self, alloc: Global, line: Line<'_>) -> Result<String, AllocError> {
+        if let Some(told) = features::answer(alloc, line) {
+            return told;
+        }
+        if let Some(told) = limits::answer(alloc, line) {
+            return told;
+        }
+        if let Some(told) = maps::answer(alloc, &mut self.map, line) {
+            return told;
+        }
+        if let Some(told) = areas::answer(alloc, self.map.store(), line) {
+            return told;
+        }
+        if let Some(told) = numbers::answer(alloc, &mut self.numbers, line) {
+            return told;
+        }
+        if let Some(told) = self.boxes.answer(alloc, line) {
+            return told;
+        }
+        if let Some(told) = self.caches.answer(alloc, line) {
+            return told;
+        }
+        self.other_answer(alloc, line)
+    }
+
+    /// What a line comes to. A remark is repeated.
+    pub(crate) fn answer(&mut self, alloc: Global, text: &str) -> Result<String, AllocError> {
+        if text.is_empty() || text.starts_with('#') {
+            return String::from_str(alloc, text);
+        }
+        let told = self.line_answer(alloc, line_in(text))?;
+        clipped(alloc, told)
+    }
+}

@@ -1,0 +1,108 @@
+//! Lines about archives that are built.
+use crate::lines::{Line, number_in, parted, place};
+use archive_commands::{Verdict, verify};
+use pm_archive::is_metadata;
+use pm_build::{BuildFault, are_tiles, build};
+use std::alloc::{AllocError, Global};
+
+/// The metadata of a map of one point.
+const METADATA: &[u8] = br#"{"vector_layers":[{"fields":{},"id":"p","maxzoom":2,"minzoom":0}]}"#;
+
+/// The id of a tile, and its content.
+type Tile = (u64, Vec<u8>);
+
+/// The archive of tiles; none where they are no tiles.
+fn built(alloc: Global, tiles: &[Tile]) -> Result<Option<Result<Vec<u8>, BuildFault>>, AllocError> {
+    if tiles.is_empty() || !are_tiles(tiles) || !is_metadata(alloc, METADATA)? {
+        return Ok(None);
+    }
+    Ok(Some(build(alloc, tiles, METADATA)))
+}
+
+/// The bytes of an archive.
+fn told(alloc: Global, built: Option<Result<Vec<u8>, BuildFault>>) -> Result<String, AllocError> {
+    match built {
+        None => String::from_str(alloc, "no tiles"),
+        Some(Err(fault)) => fault.to_string(alloc),
+        Some(Ok(bytes)) => hex::encode(alloc, bytes.as_slice()),
+    }
+}
+
+/// The line of `verify` about an archive.
+fn judged(alloc: Global, built: Option<Result<Vec<u8>, BuildFault>>) -> Result<String, AllocError> {
+    match built {
+        None => String::from_str(alloc, "no tiles"),
+        Some(Err(fault)) => fault.to_string(alloc),
+        Some(Ok(bytes)) => Verdict::of(verify(alloc, &bytes)).to_string(alloc),
+    }
+}
+
+/// A content in hexadecimal digits; no bytes where it is none.
+fn content(alloc: Global, text: &str) -> Vec<u8> {
+    hex::decode(alloc, text).unwrap_or(Vec::new(alloc))
+}
+
+/// The tiles of words: an id, `:`, and the content.
+fn tiles_in(alloc: Global, rest: &str) -> Result<Vec<Tile>, AllocError> {
+    let mut tiles = Vec::new(alloc);
+    for word in rest.split_whitespace() {
+        let (id, text) = word.split_once(':').unwrap_or((word, ""));
+        tiles.push((number_in(id), content(alloc, text)))?;
+    }
+    Ok(tiles)
+}
+
+/// So many tiles of even ids, all with this content.
+fn even_tiles(alloc: Global, rest: &str) -> Result<Vec<Tile>, AllocError> {
+    let (count, text) = parted(rest);
+    let content = content(alloc, text);
+    let mut tiles = Vec::new(alloc);
+    for index in 0..number_in(count).min(1 << 20) {
+        tiles.push((2 * index, Vec::from_slice(alloc, &content)?))?;
+    }
+    Ok(tiles)
+}
+
+/// So many tiles of even ids, each with a content of so many bytes of its own: its number, lowest byte first, and zeros.
+fn apart_tiles(alloc: Global, rest: &str) -> Result<Vec<Tile>, AllocError> {
+    let (count, len) = parted(rest);
+    let len = place(number_in(len)).min(1_000);
+    let mut tiles = Vec::new(alloc);
+    for index in 0..number_in(count).min(1 << 20) {
+        let mut content = Vec::from_slice(alloc, &index.to_le_bytes())?;
+        content.resize(len, 0)?;
+        tiles.push((2 * index, content))?;
+    }
+    Ok(tiles)
+}
+
+fn some(alloc: Global, rest: &str) -> Result<String, AllocError> {
+    let tiles = tiles_in(alloc, rest)?;
+    told(alloc, built(alloc, &tiles)?)
+}
+
+fn even(alloc: Global, rest: &str) -> Result<String, AllocError> {
+    let tiles = even_tiles(alloc, rest)?;
+    told(alloc, built(alloc, &tiles)?)
+}
+
+fn apart(alloc: Global, rest: &str) -> Result<String, AllocError> {
+    let tiles = apart_tiles(alloc, rest)?;
+    told(alloc, built(alloc, &tiles)?)
+}
+
+fn even_judged(alloc: Global, rest: &str) -> Result<String, AllocError> {
+    let tiles = even_tiles(alloc, rest)?;
+    judged(alloc, built(alloc, &tiles)?)
+}
+
+/// What a line about an archive that is built comes to.
+pub(crate) fn answer(alloc: Global, line: Line<'_>) -> Option<Result<String, AllocError>> {
+    match line.word {
+        "build" => Some(some(alloc, line.rest)),
+        "even" => Some(even(alloc, line.rest)),
+        "apart" => Some(apart(alloc, line.rest)),
+        "evenjudged" => Some(even_judged(alloc, line.rest)),
+        _ => None,
+    }
+}

@@ -1,0 +1,122 @@
+//! What a line of a script asks for.
+use crate::streams::{Narrowness, WIDE};
+use sector_disk::FailingCalls;
+
+/// Which calls of a disk fail, counted from its opening.
+#[derive(Clone, Copy)]
+pub(crate) enum Failing {
+    None,
+    /// Each from this number on.
+    From(u64),
+    /// The one of this number, which isn't made.
+    Lost(u64),
+    /// The one of this number, which is made.
+    Made(u64),
+}
+
+impl Failing {
+    /// The same, counted on behind so many calls.
+    pub(crate) fn behind(self, calls: u64) -> FailingCalls {
+        match self {
+            Failing::None => FailingCalls::OneNotMade(0),
+            Failing::From(number) => FailingCalls::AllFrom(calls.saturating_add(number)),
+            Failing::Lost(number) => FailingCalls::OneNotMade(calls.saturating_add(number)),
+            Failing::Made(number) => FailingCalls::OneMade(calls.saturating_add(number)),
+        }
+    }
+}
+
+/// A line of a script.
+#[derive(Clone, Copy)]
+pub(crate) enum Line<'a> {
+    /// A remark, which is repeated.
+    Remark,
+    /// A disk of so many sectors.
+    Disk(u64),
+    /// A disk of so many sectors of zeros, which isn't opened.
+    Zeros(u64),
+    /// The disk is closed, and a sector of it gets this byte and zeros behind it.
+    Sector(u64, u8),
+    /// The disk is opened again.
+    Again(Failing),
+    /// What the writer takes from now on.
+    Writer(Narrowness),
+    /// A connection: whether its input stays open, the sizes of the pieces, and the text of the bytes.
+    Connection {
+        open: bool,
+        sizes: &'a str,
+        text: &'a str,
+    },
+}
+
+/// The first word of a line, and what stands behind the space that ends it.
+fn split_word(line: &str) -> (&str, &str) {
+    line.split_once(' ').unwrap_or((line, ""))
+}
+
+/// Which calls a text says that fail.
+fn failing_in(text: &str) -> Option<Failing> {
+    let (word, number) = split_word(text);
+    if word.is_empty() {
+        return Some(Failing::None);
+    }
+    let number = number_in(number)?;
+    match word {
+        "from" => Some(Failing::From(number)),
+        "lost" => Some(Failing::Lost(number)),
+        "made" => Some(Failing::Made(number)),
+        _ => None,
+    }
+}
+
+/// What a text says that the writer takes.
+fn narrowness_in(text: &str) -> Option<Narrowness> {
+    let (size, rest) = split_word(text);
+    if size.is_empty() {
+        return Some(WIDE);
+    }
+    let (room, end) = split_word(rest);
+    let size = size.parse::<usize>().ok()?;
+    let room = room.parse::<usize>().ok()?;
+    let fails = match end {
+        "fails" => true,
+        "full" => false,
+        _ => return None,
+    };
+    Some(Narrowness { size, room, fails })
+}
+
+/// The connection of a text: the sizes of its pieces, and its bytes.
+fn connection_in(open: bool, text: &str) -> Line<'_> {
+    let (sizes, text) = split_word(text);
+    Line::Connection { open, sizes, text }
+}
+
+/// A number.
+fn number_in(text: &str) -> Option<u64> {
+    text.parse::<u64>().ok()
+}
+
+/// The place of a sector, and its first byte.
+fn sector_in(text: &str) -> Option<Line<'_>> {
+    let (at, first) = split_word(text);
+    Some(Line::Sector(number_in(at)?, first.parse::<u8>().ok()?))
+}
+
+/// What a line asks for, if anything.
+pub(crate) fn line_in(text: &str) -> Option<Line<'_>> {
+    if text.is_empty() || text.starts_with('#') {
+        return Some(Line::Remark);
+    }
+    let (word, rest) = split_word(text);
+    match word {
+        "disk" => Some(Line::Disk(number_in(rest)?)),
+        "zeros" => Some(Line::Zeros(number_in(rest)?)),
+        "sector" => sector_in(rest),
+        "again" => Some(Line::Again(failing_in(rest)?)),
+        "writer" => Some(Line::Writer(narrowness_in(rest)?)),
+        "ask" => Some(connection_in(false, rest)),
+        "wait" => Some(connection_in(true, rest)),
+        _ => None,
+    }
+}

@@ -1,0 +1,122 @@
+//! A disk, and what answers over it while it is open.
+use crate::lines::Failing;
+use generations::StoreFault;
+use map_disks::{fresh_service, opened_service};
+use map_replies::MapReplies;
+use sector_disk::{FailingCalls, FaultyDisk, MemoryDisk, SECTOR_BYTES, Sectors};
+use std::alloc::{AllocError, Global};
+use std::mem;
+use tile_service::Service;
+
+/// What answers.
+pub(crate) type Map = MapReplies<FaultyDisk<MemoryDisk>>;
+
+/// A disk, or what answers over it.
+#[derive(Drop)]
+pub(crate) enum Stand {
+    Closed(MemoryDisk),
+    Open(Map),
+}
+
+/// The disk below.
+fn disk_of(map: Map) -> MemoryDisk {
+    map.into_service().into_disk().into_disk()
+}
+
+/// Takes the disk out.
+fn taken(alloc: Global, stand: &mut Stand) -> Result<MemoryDisk, AllocError> {
+    let empty = Stand::Closed(MemoryDisk::new(alloc, 1)?);
+    match mem::replace(stand, empty) {
+        Stand::Closed(disk) => Ok(disk),
+        Stand::Open(map) => Ok(disk_of(map)),
+    }
+}
+
+/// How many calls of a disk its opening makes, and the disk.
+fn counted(alloc: Global, disk: MemoryDisk) -> (u64, MemoryDisk) {
+    match Service::open(alloc, FaultyDisk::new(disk, FailingCalls::OneNotMade(0))) {
+        Ok(service) => {
+            let disk = service.into_disk();
+            (disk.calls(), disk.into_disk())
+        }
+        Err((disk, _)) => (0, disk.into_disk()),
+    }
+}
+
+/// The disk that couldn't be opened. It is lost only where memory ran out.
+fn handed_back(disk: Option<FaultyDisk<MemoryDisk>>) -> Result<Stand, AllocError> {
+    match disk {
+        Some(disk) => Ok(Stand::Closed(disk.into_disk())),
+        None => Err(AllocError),
+    }
+}
+
+/// What answers over a disk of which some calls fail, or the disk and why it can't be opened.
+fn opened(
+    alloc: Global,
+    disk: MemoryDisk,
+    failing: FailingCalls,
+) -> Result<(Stand, Option<StoreFault>), AllocError> {
+    match opened_service(alloc, FaultyDisk::new(disk, failing)) {
+        Ok(map) => Ok((Stand::Open(map), None)),
+        Err((disk, fault)) => Ok((handed_back(disk)?, Some(fault))),
+    }
+}
+
+/// What is told of an opening.
+fn told(alloc: Global, fault: Option<StoreFault>) -> Result<String, AllocError> {
+    match fault {
+        None => String::from_str(alloc, "open"),
+        Some(fault) => format!(in alloc; "{fault:?}"),
+    }
+}
+
+/// Opens the disk, so that these calls behind its opening fail.
+pub(crate) fn open_again(
+    alloc: Global,
+    stand: &mut Stand,
+    failing: Failing,
+) -> Result<String, AllocError> {
+    let (calls, disk) = counted(alloc, taken(alloc, stand)?);
+    let (next, fault) = opened(alloc, disk, failing.behind(calls))?;
+    *stand = next;
+    told(alloc, fault)
+}
+
+/// A disk of zeros.
+pub(crate) fn zeros(alloc: Global, stand: &mut Stand, sectors: u64) -> Result<String, AllocError> {
+    *stand = Stand::Closed(MemoryDisk::new(alloc, sectors)?);
+    String::from_str(alloc, "closed")
+}
+
+/// Makes a disk of so many sectors that holds the empty map, and opens it.
+pub(crate) fn begin(alloc: Global, stand: &mut Stand, sectors: u64) -> Result<String, AllocError> {
+    *stand = Stand::Closed(MemoryDisk::new(alloc, 1)?);
+    match fresh_service(alloc, sectors) {
+        Ok(map) => {
+            *stand = Stand::Closed(map.into_service().into_disk());
+            open_again(alloc, stand, Failing::None)
+        }
+        Err(fault) => told(alloc, Some(fault)),
+    }
+}
+
+/// Writes a sector of zeros behind this byte, if the disk has it.
+fn write(disk: &mut MemoryDisk, at: u64, first: u8) -> bool {
+    let mut sector = [0; SECTOR_BYTES];
+    sector[0] = first;
+    at < disk.count() && disk.write(at, &sector).is_ok()
+}
+
+/// Closes the disk, and writes a sector of zeros behind this byte.
+pub(crate) fn overwrite(
+    alloc: Global,
+    stand: &mut Stand,
+    at: u64,
+    first: u8,
+) -> Result<String, AllocError> {
+    let mut disk = taken(alloc, stand)?;
+    let written = write(&mut disk, at, first);
+    *stand = Stand::Closed(disk);
+    String::from_str(alloc, if written { "closed" } else { "not written" })
+}

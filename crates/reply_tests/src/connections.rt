@@ -1,0 +1,149 @@
+//! Connections to a handler that echoes, with readers and writers that count and fail.
+ghost use Rattle.std.specs.Prelude.{◌≡◌, ◌≤◌, length};
+ghost use Rattle.http_serve.specs.Reply.{IsWhole};
+
+mod clients;
+mod costs;
+mod faults;
+mod fields;
+
+use http::StatusCode;
+use http_serve::{Content, ContentFault, ContentRange, Handler, Reply, Request};
+use std::alloc::{AllocError, Global};
+use std::cell::Cell;
+use std::io::{self, ErrorKind, Read, Write};
+
+/// Answers with the method and the path on a line, and the body.
+#[derive(Drop)]
+struct Echo {
+    alloc: Global,
+}
+
+fn echo_of(alloc: Global, request: &Request<'_>) -> Result<Vec<u8>, AllocError> {
+    let mut text = Vec::from_slice(alloc, request.method)?;
+    text.push(b' ')?;
+    text.extend_from_slice(request.path)?;
+    text.push(b'\n')?;
+    text.extend_from_slice(request.body)?;
+    Ok(text)
+}
+
+impl Handler for Echo {
+    ghost replies = { λ old _ _ new. new ≡ old };
+
+    ghost sends = { λ _ _ _ _. ⊥ };
+
+    ghost size = { λ _. 0 };
+
+    fn read_content(&mut self, _offset: u64, _part: &mut [u8]) -> Result<(), ContentFault> {
+        Err(ContentFault)
+    }
+
+    fn answer(&mut self, request: &Request<'_>) -> Reply {
+        echo_reply(self.alloc, request)
+    }
+}
+
+fn echo_reply(alloc: Global, request: &Request<'_>) -> Reply
+    ensures { IsWhole result }
+{
+    match request.range {
+        Some(b"bytes=42-") => return part_of_all(),
+        Some(b"bytes=1234-") => return outside_all(),
+        _ => {}
+    }
+    let kind = Some("text/plain");
+    if request.path == b"/none".as_slice() {
+        return Reply::plain(StatusCode::NO_CONTENT, kind, Content::Fixed(b"never sent"));
+    }
+    match echo_of(alloc, request) {
+        Ok(text) => Reply::plain(StatusCode::OK, kind, Content::Whole(text)),
+        Err(_) => Reply::plain(StatusCode::SERVICE_UNAVAILABLE, None, Content::Empty),
+    }
+}
+
+/// A part of 1,234 bytes.
+fn part_of_all() -> Reply
+    ensures { IsWhole result }
+{
+    Reply {
+        status: StatusCode::PARTIAL_CONTENT,
+        kind: None,
+        range: Some(ContentRange::Part {
+            first: 42,
+            last: 43,
+            total: 1_234,
+        }),
+        allow: None,
+        content: Content::Fixed(b"42"),
+    }
+}
+
+/// No part of them.
+fn outside_all() -> Reply
+    ensures { IsWhole result }
+{
+    Reply {
+        status: StatusCode::RANGE_NOT_SATISFIABLE,
+        kind: Some("text/plain"),
+        range: Some(ContentRange::Unsatisfied { total: 1_234 }),
+        allow: Some("GET, HEAD"),
+        content: Content::Empty,
+    }
+}
+
+/// Gives so many bytes of what it is to give.
+fn take_from<'a>(rest: &mut &'a [u8], size: usize, buf: &mut [u8]) -> usize
+    ensures { result ≤ length buf.new }
+{
+    let count = size.min(buf.len()).min(rest.len());
+    let (given, behind) = rest.split_at(count);
+    buf[..count].copy_from_slice(given);
+    *rest = behind;
+    count
+}
+
+/// Gives its bytes one by one, and fails behind them. Counts the calls that failed.
+#[derive(Clone, Copy)]
+struct OneByOne<'a> {
+    rest: &'a [u8],
+    failed: usize,
+}
+
+impl Read for OneByOne<'_> {
+    fn read(&mut self, buf: &mut [u8]) -> io::Result<usize> {
+        if self.rest.is_empty() {
+            self.failed = self.failed.saturating_add(1);
+            return Err(ErrorKind::ConnectionReset.into());
+        }
+        Ok(take_from(&mut self.rest, 1, buf))
+    }
+}
+
+/// Counts the bytes that are written.
+#[derive(Clone, Copy)]
+struct Counter<'a> {
+    got: &'a Cell<usize>,
+}
+
+impl Write for Counter<'_> {
+    fn write(&mut self, buf: &[u8]) -> io::Result<usize> {
+        self.got.set(self.got.get().saturating_add(buf.len()));
+        Ok(buf.len())
+    }
+
+    fn flush(&mut self) -> io::Result<()> {
+        Ok(())
+    }
+}
+
+const A: &str = "HTTP/1.1 200 OK\r\ncontent-type: text/plain\r\ncontent-length: 7\r\n\r\nGET /a\n";
+
+const B: &str =
+    "HTTP/1.1 200 OK\r\ncontent-type: text/plain\r\ncontent-length: 9\r\n\r\nPUT /b\nhi";
+
+const HEAD: &str =
+    "HTTP/1.1 400 Bad Request\r\ncontent-type: text/plain\r\ncontent-length: 5\r\nconnection: close\r\n\r\nHead\n";
+
+const TWO: &str =
+    "GET /a HTTP/1.1\r\nhost: a\r\n\r\nPUT /b?c HTTP/1.1\r\nhost: a\r\nContent-Length: 002\r\n\r\nhi";

@@ -1,0 +1,106 @@
+//! A client that waits for its replies, and the bound on reads.
+use super::{A, B, Counter, Echo, OneByOne, TWO, take_from};
+use http_serve::{End, ServeFault, Served, serve, serve_turns};
+use std::alloc::Global;
+use std::cell::Cell;
+use std::io;
+use std::io::{ErrorKind, Read};
+use std::test::Fail;
+
+/// A client that sends its next bytes only once it has got so many bytes of replies.
+#[derive(Clone, Copy)]
+struct Client<'a> {
+    steps: &'a [(&'a str, usize)],
+    got: &'a Cell<usize>,
+}
+
+impl Read for Client<'_> {
+    fn read(&mut self, buf: &mut [u8]) -> io::Result<usize> {
+        let steps = self.steps;
+        let [(text, wants), rest @ ..] = steps else {
+            return Ok(0);
+        };
+        if self.got.get() != *wants {
+            return Err(ErrorKind::TimedOut.into());
+        }
+        self.steps = rest;
+        let mut bytes = text.as_bytes();
+        Ok(take_from(&mut bytes, usize::MAX, buf))
+    }
+}
+
+/// What the client sends, and how many bytes of replies it has got then.
+fn steps() -> [(&'static str, usize); 14] {
+    let (a, b) = (A.len(), B.len());
+    [
+        ("GET /a HT", 0),
+        ("TP/1.1\r\nhost: a\r\nx", 0),
+        (": y\r\n", 0),
+        ("\r", 0),
+        ("\nPUT /b HTTP/1.1\r\nhost: a\r\ncontent-length: 2\r\n\r", 0),
+        ("\n", a),
+        ("h", a),
+        ("iGET /a HTTP/1.1\nhost: a\n\r", a),
+        ("\n", a + b),
+        ("\r\n", a + b + a),
+        (
+            "\nGET /a HTTP/1.1\nhost: a\n\nGET /a HTTP/1.1\nhost: a\n\nG",
+            a + b + a,
+        ),
+        ("ET /a HTTP/1.0\n", a + b + a + a + a),
+        ("\nGET", a + b + a + a + a),
+        ("never read", 0),
+    ]
+}
+
+/// What is told to a client that takes these steps, and how many it leaves.
+fn waited(alloc: Global, steps: &[(&str, usize)]) -> Result<(Served, usize), ServeFault> {
+    let got = Cell::new(0);
+    let mut client = Client { steps, got: &got };
+    let mut writer = Counter { got: &got };
+    let served = serve(alloc, &mut client, &mut writer, &mut Echo { alloc })?;
+    Ok((served, client.steps.len()))
+}
+
+const SIX: Served = Served {
+    requests: 6,
+    end: End::Asked,
+};
+
+#[test]
+fn a_client_that_waits_is_answered(rt: HostRuntime) -> Result<(), Fail> {
+    assert_eq!(rt; waited(rt.alloc(), &steps())?, (SIX, 1));
+    Ok(())
+}
+
+/// How many bytes are read one by one, and how many requests are answered.
+const TURNS: [(u64, u64); 5] = [(0, 0), (27, 0), (28, 1), (78, 1), (81, 2)];
+
+/// What so many reads come to, how many bytes are left, and how many reads fail.
+fn turned(alloc: Global, turns: u64) -> Result<(Served, u64, usize), ServeFault> {
+    let mut out = Vec::new(alloc);
+    let mut reader = OneByOne {
+        rest: TWO.as_bytes(),
+        failed: 0,
+    };
+    let served = serve_turns(alloc, &mut reader, &mut out, &mut Echo { alloc }, turns)?;
+    Ok((served, reader.rest.len() as u64, reader.failed))
+}
+
+/// Behind how many reads it is first otherwise, if it is.
+fn other_turns(alloc: Global) -> Result<Option<u64>, ServeFault> {
+    let end = End::Turns;
+    for (turns, requests) in TURNS {
+        let left = (TWO.len() as u64).saturating_sub(turns);
+        if turned(alloc, turns)? != (Served { requests, end }, left, 0) {
+            return Ok(Some(turns));
+        }
+    }
+    Ok(None)
+}
+
+#[test]
+fn stops_at_its_turns(rt: HostRuntime) -> Result<(), Fail> {
+    assert_eq!(rt; other_turns(rt.alloc())?, None);
+    Ok(())
+}

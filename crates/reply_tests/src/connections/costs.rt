@@ -1,0 +1,131 @@
+//! What bytes cost that come in small pieces.
+use super::{Echo, OneByOne, take_from};
+use http_serve::{READ_SPACE, serve};
+use std::alloc::{AllocError, Global};
+use std::io::{self, Read};
+use std::test::Fail;
+use std::time::CpuClock;
+
+/// A text, one that is repeated behind it, and one behind them: a head.
+type Form = (&'static str, &'static str, &'static str);
+
+/// The head of a form with at least so many bytes.
+fn head_of(alloc: Global, form: Form, size: usize) -> Result<Vec<u8>, AllocError> {
+    let (front, middle, end) = form;
+    let mut head = Vec::from_slice(alloc, front.as_bytes())?;
+    for _ in 0..size {
+        if head.len() + end.len() >= size {
+            break;
+        }
+        head.extend_from_slice(middle.as_bytes())?;
+    }
+    head.extend_from_slice(end.as_bytes())?;
+    Ok(head)
+}
+
+/// One long field.
+const LONG: Form = ("GET /a HTTP/1.1\r\nhost: a\r\nz: ", "z", "\r\n\r\n");
+
+/// Gives bytes in pieces, and sees how much room each read has: where it isn't what the read before left, the bytes that waited were moved to
+/// the front, if some waited.
+#[derive(Clone, Copy)]
+struct Watching<'a> {
+    rest: &'a [u8],
+    size: usize,
+    room: usize,
+    /// How many bytes were moved.
+    moved: usize,
+}
+
+impl Read for Watching<'_> {
+    fn read(&mut self, buf: &mut [u8]) -> io::Result<usize> {
+        let room = buf.len();
+        if room != self.room {
+            self.moved = self.moved.saturating_add(READ_SPACE.saturating_sub(room));
+        }
+        let count = take_from(&mut self.rest, self.size, buf);
+        self.room = room.saturating_sub(count);
+        Ok(count)
+    }
+}
+
+/// How many bytes come, in requests of 8,000 bytes each, and in pieces of which size.
+const COMING: [(usize, usize); 3] = [(8_000, 1), (320_000, 100), (320_000, 300)];
+
+/// How many bytes are moved where so many come, in pieces of this size.
+fn moved_of(alloc: Global, count: usize, size: usize) -> Result<usize, Fail> {
+    let head = head_of(alloc, LONG, 8_000)?;
+    let mut bytes = Vec::new(alloc);
+    for _ in 0..count / 8_000 {
+        bytes.extend_from_slice(&head)?;
+    }
+    let mut reader = Watching {
+        rest: &bytes,
+        size,
+        room: READ_SPACE,
+        moved: 0,
+    };
+    let mut out = Vec::new(alloc);
+    serve(alloc, &mut reader, &mut out, &mut Echo { alloc })?;
+    Ok(reader.moved)
+}
+
+/// The size of the pieces, and how many bytes are moved, where these are first more than come, if they are.
+fn moved_too_often(alloc: Global) -> Result<Option<(usize, usize)>, Fail> {
+    for (count, size) in COMING {
+        let moved = moved_of(alloc, count, size)?;
+        if moved > count {
+            return Ok(Some((size, moved)));
+        }
+    }
+    Ok(None)
+}
+
+#[test]
+fn waiting_bytes_are_seldom_moved(rt: HostRuntime) -> Result<(), Fail> {
+    assert_eq!(rt; moved_too_often(rt.alloc())?, None);
+    Ok(())
+}
+
+/// Heads of one long field, of many short ones, and with a target that isn't ASCII.
+const FORMS: [Form; 3] = [
+    LONG,
+    ("GET /a HTTP/1.1\r\nhost: a\r\n", "x: y\r\n", "\r\n"),
+    ("GET /", "\u{e9}", " HTTP/1.1\r\nhost: a\r\n\r\n"),
+];
+
+/// The microseconds of the processor for so many connections of one head each, of so many bytes, which come one by one.
+fn time_of(rt: &HostRuntime, form: Form, size: usize, count: u64) -> Result<u64, Fail> {
+    let alloc = rt.alloc();
+    let head = head_of(alloc, form, size)?;
+    let start = rt.thread_cpu_time()?;
+    for _ in 0..count {
+        let mut reader = OneByOne {
+            rest: &head,
+            failed: 0,
+        };
+        let mut out = Vec::new(alloc);
+        let _ = serve(alloc, &mut reader, &mut out, &mut Echo { alloc });
+    }
+    let time = rt.thread_cpu_time()?.saturating_sub(start);
+    Ok(u64::try_from(time.as_micros()).unwrap_or(u64::MAX))
+}
+
+/// The form of which as many bytes take much longer in long heads than in short ones, if there is one. Were a head parsed for each byte, they
+/// would take eight times as long.
+fn slow_form(rt: &HostRuntime) -> Result<Option<usize>, Fail> {
+    for (index, form) in FORMS.iter().enumerate() {
+        let short = time_of(rt, *form, 1_000, 200)?;
+        let long = time_of(rt, *form, 8_000, 25)?;
+        if long / 4 > short {
+            return Ok(Some(index));
+        }
+    }
+    Ok(None)
+}
+
+#[test]
+fn long_heads_take_no_longer_by_the_byte(rt: HostRuntime) -> Result<(), Fail> {
+    assert_eq!(rt; slow_form(&rt)?, None);
+    Ok(())
+}

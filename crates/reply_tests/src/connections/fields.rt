@@ -1,0 +1,33 @@
+//! Replies with every field that one may have, and one that has no content.
+use super::Echo;
+use http_serve::{End, ServeFault, Served, serve};
+use std::alloc::Global;
+use std::test::Fail;
+
+const ASKED: &str = "GET /none HTTP/1.1\r\nhost: a\r\n\r\n\
+    GET /a HTTP/1.1\r\nhost: a\r\nRange: \tbytes=42- \r\n\r\n\
+    GET /a HTTP/1.1\r\nhost: a\r\nrange: bytes=1234-\r\nconnection: close\r\n\r\n";
+
+const TOLD: &str = "HTTP/1.1 204 No Content\r\n\r\n\
+    HTTP/1.1 206 Partial Content\r\ncontent-range: bytes 42-43/1234\r\ncontent-length: 2\r\n\r\n42\
+    HTTP/1.1 416 Range Not Satisfiable\r\ncontent-type: text/plain\r\ncontent-range: bytes */1234\r\nallow: GET, HEAD\r\ncontent-length: 0\r\nconnection: close\r\n\r\n";
+
+const THREE: Served = Served {
+    requests: 3,
+    end: End::Asked,
+};
+
+/// What is written, and what the connection comes to.
+fn answered(alloc: Global) -> Result<(Vec<u8>, Served), ServeFault> {
+    let mut out = Vec::new(alloc);
+    let mut reader = ASKED.as_bytes();
+    let served = serve(alloc, &mut reader, &mut out, &mut Echo { alloc })?;
+    Ok((out, served))
+}
+
+#[test]
+fn replies_have_their_fields_in_order(rt: HostRuntime) -> Result<(), Fail> {
+    let (told, served) = answered(rt.alloc())?;
+    assert_eq!(rt; (told.as_slice(), served), (TOLD.as_bytes(), THREE));
+    Ok(())
+}

@@ -1,0 +1,260 @@
+//! Streams that say what was asked of them, and listeners, streams and logs that fail.
+use super::Counter;
+use http_listen::{LAST_WAIT_SECONDS, ListenFault, WAIT_SECONDS, serve_on};
+use std::cell::Cell;
+use std::io::{self, ErrorKind, Read, Write};
+use std::net::{Ipv4Addr, OpenListener, OpenStream, Shutdown, SocketAddr};
+use std::test::Fail;
+use std::time::Duration;
+
+/// How many milliseconds a round of a read waits.
+const ROUND_MILLISECONDS: u64 = 100;
+
+/// What streams were asked.
+#[derive(Clone, Copy, Debug, PartialEq, Eq)]
+struct Asked {
+    /// How many more can be accepted.
+    accepts: u64,
+    /// Whether small replies go out at once.
+    no_delay: bool,
+    /// For how many milliseconds a read waits, and a write.
+    read_wait: u64,
+    write_wait: u64,
+    /// Whether the sending side is shut.
+    shut: bool,
+    /// How many bytes were read after that.
+    dropped: usize,
+    /// How many reads found other than the wanted waits.
+    wrong: u64,
+}
+
+const NOTHING: Asked = Asked {
+    accepts: 0,
+    no_delay: false,
+    read_wait: 0,
+    write_wait: 0,
+    shut: false,
+    dropped: 0,
+    wrong: 0,
+};
+
+/// A stream that gives one request, and then bytes without end. Where it is stubborn, nothing can be set.
+#[derive(Clone, Copy)]
+struct Stream<'a> {
+    request: &'a [u8],
+    stubborn: bool,
+    asked: &'a Cell<Asked>,
+}
+
+impl Read for Stream<'_> {
+    fn read(&mut self, buf: &mut [u8]) -> io::Result<usize> {
+        let mut asked = self.asked.get();
+        let wait = if asked.shut {
+            LAST_WAIT_SECONDS * 1_000
+        } else {
+            ROUND_MILLISECONDS
+        };
+        if !asked.no_delay || asked.read_wait != wait || asked.write_wait != WAIT_SECONDS * 1_000 {
+            asked.wrong = asked.wrong.saturating_add(1);
+        }
+        let mut count = buf.len();
+        if self.request.is_empty() {
+            asked.dropped = asked.dropped.saturating_add(count);
+        } else {
+            count = count.min(self.request.len());
+            let (front, rest) = self.request.split_at(count);
+            buf[..count].copy_from_slice(front);
+            self.request = rest;
+        }
+        self.asked.set(asked);
+        Ok(count)
+    }
+}
+
+impl Write for Stream<'_> {
+    fn write(&mut self, buf: &[u8]) -> io::Result<usize> {
+        Ok(buf.len())
+    }
+
+    fn flush(&mut self) -> io::Result<()> {
+        Ok(())
+    }
+}
+
+/// The milliseconds of a wait, or 0 where there is no bound.
+fn milliseconds(wait: Option<Duration>) -> u64 {
+    match wait {
+        Some(wait) => u64::try_from(wait.as_millis()).unwrap_or(0),
+        None => 0,
+    }
+}
+
+impl Stream<'_> {
+    /// Sets what is asked, unless it is stubborn.
+    fn set(&self, asked: Asked) -> io::Result<()> {
+        if self.stubborn {
+            return Err(ErrorKind::PermissionDenied.into());
+        }
+        self.asked.set(asked);
+        Ok(())
+    }
+}
+
+impl OpenStream for Stream<'_> {
+    fn shutdown(&self, how: Shutdown) -> io::Result<()> {
+        let mut asked = self.asked.get();
+        asked.shut = how == Shutdown::Write;
+        self.set(asked)
+    }
+
+    fn set_nodelay(&self, nodelay: bool) -> io::Result<()> {
+        let mut asked = self.asked.get();
+        asked.no_delay = nodelay;
+        self.set(asked)
+    }
+
+    fn set_read_timeout(&self, dur: Option<Duration>) -> io::Result<()> {
+        let mut asked = self.asked.get();
+        asked.read_wait = milliseconds(dur);
+        self.set(asked)
+    }
+
+    fn set_write_timeout(&self, dur: Option<Duration>) -> io::Result<()> {
+        let mut asked = self.asked.get();
+        asked.write_wait = milliseconds(dur);
+        self.set(asked)
+    }
+}
+
+/// A listener of such streams, which accepts so many.
+#[derive(Clone, Copy)]
+struct Listener<'a> {
+    request: &'a [u8],
+    stubborn: bool,
+    asked: &'a Cell<Asked>,
+}
+
+impl<'a> OpenListener for Listener<'a> {
+    type Stream = Stream<'a>;
+
+    fn accept(&self) -> io::Result<(Stream<'a>, SocketAddr)> {
+        let mut asked = self.asked.get();
+        let Some(accepts) = asked.accepts.checked_sub(1) else {
+            return Err(ErrorKind::ConnectionAborted.into());
+        };
+        asked.accepts = accepts;
+        self.asked.set(asked);
+        let stream = Stream {
+            request: self.request,
+            stubborn: self.stubborn,
+            asked: self.asked,
+        };
+        Ok((stream, SocketAddr::from((Ipv4Addr::LOCALHOST, 1))))
+    }
+}
+
+/// A log that takes nothing.
+#[derive(Drop)]
+struct Full;
+
+impl Write for Full {
+    fn write(&mut self, _buf: &[u8]) -> io::Result<usize> {
+        Err(ErrorKind::StorageFull.into())
+    }
+
+    fn flush(&mut self) -> io::Result<()> {
+        Ok(())
+    }
+}
+
+const LAST: &str = "GET / HTTP/1.1\r\nhost: a\r\nconnection: close\r\n\r\n";
+
+/// So many streams can be accepted.
+fn accepting(accepts: u64) -> Asked {
+    Asked { accepts, ..NOTHING }
+}
+
+#[test]
+fn a_peer_that_sends_on_is_read_for_a_while(rt: HostRuntime) -> Result<(), Fail> {
+    let asked = Cell::new(accepting(1));
+    let listener = Listener {
+        request: LAST.as_bytes(),
+        stubborn: false,
+        asked: &asked,
+    };
+    let mut log = Vec::new(rt.alloc());
+    let mut handler = Counter { before: 0 };
+    serve_on(rt.alloc(), &listener, 1, &mut handler, &mut log)?;
+    let want = Asked {
+        accepts: 0,
+        no_delay: true,
+        read_wait: 2_000,
+        write_wait: 60_000,
+        shut: true,
+        dropped: 16_777_216,
+        wrong: 0,
+    };
+    assert_eq!(rt; asked.get(), want);
+    assert_eq!(rt;
+        log.as_slice(),
+        b"connection 1: 1 requests, asked\n".as_slice()
+    );
+    Ok(())
+}
+
+/// What can't be set is left, and what is sent on isn't read then.
+#[test]
+fn a_stubborn_stream_is_served(rt: HostRuntime) -> Result<(), Fail> {
+    let asked = Cell::new(accepting(1));
+    let listener = Listener {
+        request: LAST.as_bytes(),
+        stubborn: true,
+        asked: &asked,
+    };
+    let mut log = Vec::new(rt.alloc());
+    let mut handler = Counter { before: 0 };
+    serve_on(rt.alloc(), &listener, 1, &mut handler, &mut log)?;
+    assert_eq!(rt;
+        asked.get(),
+        Asked {
+            wrong: 1,
+            ..NOTHING
+        }
+    );
+    assert_eq!(rt;
+        log.as_slice(),
+        b"connection 1: 1 requests, asked\n".as_slice()
+    );
+    Ok(())
+}
+
+#[test]
+fn an_accept_that_fails_ends_it(rt: HostRuntime) -> Result<(), Fail> {
+    let asked = Cell::new(accepting(2));
+    let listener = Listener {
+        request: LAST.as_bytes(),
+        stubborn: true,
+        asked: &asked,
+    };
+    let mut log = Vec::new(rt.alloc());
+    let mut handler = Counter { before: 0 };
+    let ended = serve_on(rt.alloc(), &listener, 4, &mut handler, &mut log);
+    assert_eq!(rt; ended, Err(ListenFault::Accept));
+    let lines = "connection 1: 1 requests, asked\nconnection 2: 1 requests, asked\n";
+    assert_eq!(rt; log.as_slice(), lines.as_bytes());
+    Ok(())
+}
+
+#[test]
+fn a_full_log_is_passed_over(rt: HostRuntime) -> Result<(), Fail> {
+    let asked = Cell::new(accepting(3));
+    let listener = Listener {
+        request: LAST.as_bytes(),
+        stubborn: true,
+        asked: &asked,
+    };
+    let mut handler = Counter { before: 0 };
+    serve_on(rt.alloc(), &listener, 3, &mut handler, &mut Full)?;
+    assert_eq!(rt; handler.before, 3);
+    Ok(())
+}

@@ -1,0 +1,92 @@
+//! Peers that connect to a listener on this machine.
+use super::{Counter, GET};
+use http_listen::serve_on;
+use std::io::{self, Read, Write};
+use std::net::{Ipv4Addr, Shutdown, SocketAddr, TcpListener, TcpStream};
+use std::test::Fail;
+
+const FIRST: &str = "HTTP/1.1 200 OK\r\ncontent-length: 1\r\n\r\n0";
+
+const SECOND: &str = "HTTP/1.1 200 OK\r\ncontent-length: 1\r\n\r\n1";
+
+const THIRD_LAST: &str = "HTTP/1.1 200 OK\r\ncontent-length: 1\r\nconnection: close\r\n\r\n2";
+
+fn listen(rt: &HostRuntime) -> io::Result<TcpListener> {
+    TcpListener::bind(rt, SocketAddr::from((Ipv4Addr::LOCALHOST, 0)))
+}
+
+/// A peer that has sent all that it sends.
+fn peer(rt: &HostRuntime, listener: &TcpListener, sent: &str) -> io::Result<TcpStream> {
+    let mut stream = TcpStream::connect(rt, listener.local_addr()?)?;
+    stream.write_all(sent.as_bytes())?;
+    stream.shutdown(Shutdown::Write)?;
+    Ok(stream)
+}
+
+#[test]
+fn a_peer_reads_its_replies(rt: HostRuntime) -> Result<(), Fail> {
+    let alloc = rt.alloc();
+    let listener = listen(&rt)?;
+    let two = [GET, GET].concat(alloc)?;
+    let mut first = peer(&rt, &listener, two.as_str())?;
+    let mut handler = Counter { before: 0 };
+    let mut log = Vec::new(alloc);
+    serve_on(alloc, &listener, 1, &mut handler, &mut log)?;
+    let mut read = Vec::new(alloc);
+    first.read_to_end(&mut read)?;
+    let want = [FIRST, SECOND].concat(alloc)?;
+    assert_eq!(rt; read.as_slice(), want.as_bytes());
+    assert_eq!(rt;
+        log.as_slice(),
+        b"connection 1: 2 requests, closed\n".as_slice()
+    );
+    Ok(())
+}
+
+/// One that sends nothing, one that asks twice, one that asks for the end and sends on, one that is refused.
+#[test]
+fn peers_one_after_the_other(rt: HostRuntime) -> Result<(), Fail> {
+    let alloc = rt.alloc();
+    let listener = listen(&rt)?;
+    let two = [GET, GET].concat(alloc)?;
+    let more = "GET / HTTP/1.1\r\nhost: a\r\nconnection: close\r\n\r\nGET / HTTP/1.1\r\n";
+    let silent = peer(&rt, &listener, "")?;
+    let asks = peer(&rt, &listener, two.as_str())?;
+    let mut last = peer(&rt, &listener, more)?;
+    let refused = peer(&rt, &listener, "GET / HTTP/1.1\r\n\r\n")?;
+    let mut handler = Counter { before: 0 };
+    let mut log = Vec::new(alloc);
+    serve_on(alloc, &listener, 4, &mut handler, &mut log)?;
+    let mut read = Vec::new(alloc);
+    last.read_to_end(&mut read)?;
+    assert_eq!(rt; read.as_slice(), THIRD_LAST.as_bytes());
+    let lines = "connection 1: 0 requests, closed\nconnection 2: 2 requests, closed\n\
+        connection 3: 1 requests, asked\nconnection 4: 1 requests, refused\n";
+    assert_eq!(rt; log.as_slice(), lines.as_bytes());
+    drop(silent);
+    drop(asks);
+    drop(refused);
+    Ok(())
+}
+
+/// A peer that keeps its connection yields to one that waits, and reads its reply and the end.
+#[test]
+fn a_kept_connection_yields(rt: HostRuntime) -> Result<(), Fail> {
+    let alloc = rt.alloc();
+    let listener = listen(&rt)?;
+    let mut kept = TcpStream::connect(&rt, listener.local_addr()?)?;
+    kept.write_all(GET.as_bytes())?;
+    let mut waits = peer(&rt, &listener, GET)?;
+    let mut handler = Counter { before: 0 };
+    let mut log = Vec::new(alloc);
+    serve_on(alloc, &listener, 2, &mut handler, &mut log)?;
+    let mut read = Vec::new(alloc);
+    kept.read_to_end(&mut read)?;
+    assert_eq!(rt; read.as_slice(), FIRST.as_bytes());
+    let mut read = Vec::new(alloc);
+    waits.read_to_end(&mut read)?;
+    assert_eq!(rt; read.as_slice(), SECOND.as_bytes());
+    let lines = "connection 1: 1 requests, closed\nconnection 2: 1 requests, closed\n";
+    assert_eq!(rt; log.as_slice(), lines.as_bytes());
+    Ok(())
+}

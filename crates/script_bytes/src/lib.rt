@@ -1,0 +1,14 @@
+//! How the scripts of test programs spell numbers, bytes and sectors.
+//!
+//! The functions have no contracts: each answer of a script is compared with the answer that a model in `bench/model` wrote for it.
+#![tactic(auto)]
+
+mod numbers;
+mod reading;
+mod sectors;
+mod writing;
+
+pub use numbers::{choices_of, numbers_in, push_number};
+pub use reading::add_bytes;
+pub use sectors::{sector_of, used_part};
+pub use writing::{digest, spelled, spelled_briefly};

@@ -1,0 +1,71 @@
+//! Events as words of a line.
+use crate::features::feature_in;
+use hilbert_id::TileAt;
+use std::alloc::{AllocError, Global};
+use tile_service::Event;
+
+/// Parses the number and the feature of a put.
+fn put_in(alloc: Global, text: &str) -> Result<Option<Event>, AllocError> {
+    let Some((number, words)) = text.split_once(' ') else {
+        return Ok(None);
+    };
+    let Ok(id) = number.parse::<u64>() else {
+        return Ok(None);
+    };
+    match feature_in(alloc, words)? {
+        Some(feature) => Ok(Some(Event::Put { id, feature })),
+        None => Ok(None),
+    }
+}
+
+/// Parses the coordinates of a tile. `None` if there is no such tile.
+fn tile_in(text: &str) -> Option<Event> {
+    let (z, rest) = text.split_once(' ')?;
+    let (x, y) = rest.split_once(' ')?;
+    let at = TileAt::new(
+        z.parse::<u8>().ok()?,
+        x.parse::<u32>().ok()?,
+        y.parse::<u32>().ok()?,
+    )?;
+    Some(Event::Tile { at })
+}
+
+fn delete_in(text: &str) -> Option<Event> {
+    let id = text.parse::<u64>().ok()?;
+    Some(Event::Delete { id })
+}
+
+fn look_in(text: &str) -> Option<Event> {
+    let id = text.parse::<u64>().ok()?;
+    Some(Event::Look { id })
+}
+
+/// Parses an event. `None` if the text is none.
+fn event_in(alloc: Global, text: &str) -> Result<Option<Event>, AllocError> {
+    let (word, rest) = text.split_once(' ').unwrap_or((text, ""));
+    match word {
+        "put" => put_in(alloc, rest),
+        "delete" => Ok(delete_in(rest)),
+        "tile" => Ok(tile_in(rest)),
+        "look" => Ok(look_in(rest)),
+        "begin" => Ok(Some(Event::Begin)),
+        "step" => Ok(Some(Event::Step)),
+        "cancel" => Ok(Some(Event::Cancel)),
+        _ => Ok(None),
+    }
+}
+
+/// Parses a run of events. `None` if one can't be parsed; `nothing` is a run of none.
+pub(crate) fn events_in(alloc: Global, line: &str) -> Result<Option<Vec<Event>>, AllocError> {
+    let mut events = Vec::new(alloc);
+    if line == "nothing" {
+        return Ok(Some(events));
+    }
+    for text in line.split("; ") {
+        match event_in(alloc, text)? {
+            Some(event) => events.push(event)?,
+            None => return Ok(None),
+        }
+    }
+    Ok(Some(events))
+}

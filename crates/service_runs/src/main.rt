@@ -1,0 +1,90 @@
+//! Runs a script over a map on a disk in memory: edits, tiles and publications of a service, failing calls of its disk, and what opens again
+//! after a crash.
+//!
+//! Line k of standard output answers line k of standard input. Empty lines and lines that begin with `#` are echoed. A command has its numbers
+//! first and its bytes after `=`, spelled as `script_bytes` reads them. Answers are in the form of `{:?}`, long ones as a count and a hash;
+//! `in N` is the number of calls of the disk.
+//!
+//! | Command | Action |
+//! |---|---|
+//! | `disk N` | makes a disk of N sectors of zeros |
+//! | `write AT = BYTES` | writes a sector: these bytes, padded with zeros |
+//! | `sector AT`, `sectors` | prints a sector up to its last nonzero byte; the numbers of the sectors that are not all zeros |
+//! | `fail_from N`, `fail_not_made N`, `fail_made N` | makes calls of the disk fail after the next `format` or `open`: all from number N on, or only call N, before or after its work is done |
+//! | `format` | formats the disk for the empty map |
+//! | `open` | opens the disk as a service |
+//! | `stop` | takes the disk away with its unsynced writes, and prints the number of calls since it was opened |
+//! | `resume` | brings the stopped disk back |
+//! | `crash C C ..` | makes the disk that a crash leaves of the stopped one: for the i-th unsynced sector its C-th write, or 0 for none |
+//! | `put ID FEATURE`, `delete ID`, `tile Z X Y`, `look ID`, `begin`, `step`, `cancel` | runs an event, or several with `; ` between them; `features` has the form of a feature |
+//! | `nothing` | runs no event |
+//! | `publish` | publishes the map by one call |
+//! | `archive`, `archive AT N` | reads the published archive, or N bytes of it |
+//! | `verify` | verifies the published archive |
+//! | `export`, `export N` | copies the archive, to a writer that has room for N bytes |
+//! | `metadata` | prints the metadata of the map |
+#![tactic(auto)]
+
+mod answers;
+mod calls;
+mod disks;
+mod events;
+mod features;
+mod lines;
+mod sessions;
+
+use lines::{Line, Verb, line_in};
+use sector_disk::MemoryDisk;
+use sessions::Trial;
+use std::alloc::{AllocError, Global};
+use std::io;
+use std::io::{BufRead, BufReader};
+
+/// The answer to a command. `None` if it does not fit or no service is open.
+fn answered(
+    alloc: Global,
+    trial: &mut Trial,
+    line: &Line,
+    text: &str,
+) -> Result<Option<String>, AllocError> {
+    match line.verb {
+        Verb::Disk(verb) => disks::answered(alloc, trial, verb, line),
+        Verb::Session(verb) => sessions::answered(alloc, trial, verb, line),
+        Verb::Call(verb) => calls::answered(alloc, trial, verb, &line.numbers),
+        Verb::Events => calls::run_answered(alloc, trial, text),
+    }
+}
+
+fn answer_command(rt: &HostRuntime, trial: &mut Trial, text: &str) -> io::Result<()> {
+    let alloc = rt.alloc();
+    let Some(line) = line_in(alloc, text)? else {
+        return println!(rt; "? {text}");
+    };
+    match answered(alloc, trial, &line, text)? {
+        Some(answer) => println!(rt; "{answer}"),
+        None => println!(rt; "? {text}"),
+    }
+}
+
+fn answer_line(rt: &HostRuntime, trial: &mut Trial, text: &str) -> io::Result<()> {
+    if text.is_empty() || text.starts_with('#') {
+        return println!(rt; "{text}");
+    }
+    answer_command(rt, trial, text)
+}
+
+/// Answers each line. The service is borrowed, so that no way out of the loop drops it.
+fn answer_lines(rt: &HostRuntime, trial: &mut Trial) -> io::Result<()> {
+    for line in BufReader::new(rt.alloc(), rt.reader())?.lines(rt.alloc()) {
+        answer_line(rt, trial, line?.as_str())?;
+    }
+    Ok(())
+}
+
+fn main(rt: HostRuntime) -> io::Result<()> {
+    let mut trial = Trial::new(
+        MemoryDisk::new(rt.alloc(), 0)?,
+        MemoryDisk::new(rt.alloc(), 0)?,
+    );
+    answer_lines(&rt, &mut trial)
+}
