@@ -4,15 +4,20 @@
     /usr/bin/python3 examples/import_features.py examples/survey.geojson --layer survey --minzoom 10 --maxzoom 16 --first 1 \\
         --url http://127.0.0.1:8080
 
-It needs GDAL's Python module (Debian: `python3-gdal`). Features get the numbers from --first on, in the order of the file; one that
-is refused leaves its number free, so that the same command again gives each feature the same number. The layers of a file are read
-one after the other, or the one that --source names. A layer without a coordinate system is read in that of --crs (`EPSG:4326`).
+It needs GDAL's Python module (Debian: `python3-gdal`). Features get the numbers from --first on, in the order of the file. A refused
+feature leaves its number free, so the same command run again gives each feature the same number. The layers of a file are read one
+after the other, or only the one that --source names. --crs names the coordinate system of a layer that has none (`EPSG:4326`).
 
-Attributes become tags: texts, whole numbers and truth values as they are, all else as text; those without a value are left out. With
---publish a publication by steps frees the journal whenever it is full, and the feature is put again.
+Attributes become tags: texts, integers and booleans as they are, everything else as text; null attributes are left out. With
+--layer-field the attribute of that name is the layer's name instead of a tag. With --publish a publication by steps frees the journal
+whenever it is full, and the feature is put again.
 
-It prints a line for each thousand features, a line for each that was refused, with the server's word or with why GDAL couldn't give
-it, and at the end how many were taken and refused. It ends with 1 if one was refused, or where the server doesn't answer.
+With --split Z lines and polygons are cut at the tile boundaries of zoom Z, and each piece becomes a feature with a number of its own
+and the same tags. The server doesn't clip features, and some renderers misdraw those that reach far outside of a tile: see "Large
+features" in docs/HTTP.md. Z is at least --maxzoom for correct drawing at every zoom.
+
+It prints a line for each thousand features, a line for each refused one with the server's error or GDAL's, and at the end the counts.
+It ends with 1 if a feature was refused or the server didn't answer.
 """
 import argparse
 import http.client
@@ -89,8 +94,8 @@ def parts(geometry):
     return [geometry]
 
 
-def shape(geometry, projection):
-    """The geometry as the member of a feature."""
+def projected(geometry, projection):
+    """The name of the geometry's kind, and the geometry in Web Mercator."""
     if geometry is None or geometry.IsEmpty():
         raise Unfit("it has no geometry")
     geometry = geometry.GetLinearGeometry()
@@ -100,11 +105,70 @@ def shape(geometry, projection):
         raise Unfit(f"a {geometry.GetGeometryName()} is no kind of geometry that a feature has")
     if geometry.Transform(projection) != ogr.OGRERR_NONE:
         raise Unfit("it can't be projected to Web Mercator")
+    return name, geometry
+
+
+def shape(name, geometry):
+    """The geometry as the member of a feature."""
     if name == "points":
         return {name: [place(*part.GetPoint_2D(0)) for part in parts(geometry)]}
     if name == "lines":
         return {name: [places(part) for part in parts(geometry)]}
     return {name: [[ring(part.GetGeometryRef(at)) for at in range(part.GetGeometryCount())] for part in parts(geometry)]}
+
+
+def cuts(name, geometry, zoom):
+    """The geometry cut at the tile boundaries of a zoom: for each tile that it meets, the part inside."""
+    if name == "points":
+        return [geometry]
+    if name == "polygons" and not geometry.IsValid():
+        geometry = geometry.MakeValid()
+        if geometry is None:
+            raise Unfit("it is no valid polygon, and can't be cut")
+    found = []
+    cut_into(found, name, geometry, zoom, 0, 0, 0)
+    if not found:
+        raise Unfit("nothing of it lies inside of the world (180 degrees east and west, 85.05 north and south)")
+    return found
+
+
+def cut_into(found, name, geometry, zoom, level, column, row):
+    """Adds the parts of a geometry inside of a tile of a level: quarter by quarter, down to the zoom."""
+    side = 2 * HALF / 2 ** level
+    left, top = column * side - HALF, HALF - row * side
+    west, east, south, north = geometry.GetEnvelope()
+    if west > left + side or east < left or south > top or north < top - side:
+        return
+    if west < left or east > left + side or south < top - side or north > top:
+        corners = [(left, top), (left + side, top), (left + side, top - side), (left, top - side), (left, top)]
+        box = ogr.CreateGeometryFromWkt(f"POLYGON (({', '.join(f'{x!r} {y!r}' for x, y in corners)}))")
+        geometry = whole_part(name, geometry.Intersection(box))
+        if geometry is None:
+            return
+    if level == zoom:
+        found.append(geometry)
+        return
+    for quarter in range(4):
+        cut_into(found, name, geometry, zoom, level + 1, 2 * column + quarter % 2, 2 * row + quarter // 2)
+
+
+def whole_part(name, geometry):
+    """The lines of a cut line, or the polygons of a cut polygon: where it only touches a tile's edge, nothing."""
+    kept = ogr.Geometry(ogr.wkbMultiLineString if name == "lines" else ogr.wkbMultiPolygon)
+    gathered(kept, "LINESTRING" if name == "lines" else "POLYGON", geometry)
+    return None if kept.IsEmpty() else kept
+
+
+def gathered(kept, kind, geometry):
+    """Adds the parts of a kind."""
+    if geometry is None:
+        return
+    if geometry.GetGeometryName() == kind:
+        kept.AddGeometry(geometry)
+        return
+    for at in range(geometry.GetGeometryCount()):
+        if kind == "POLYGON" or geometry.GetGeometryName() != "POLYGON":
+            gathered(kept, kind, geometry.GetGeometryRef(at))
 
 
 def tag(feature, at):
@@ -127,6 +191,18 @@ def tags(feature):
     return {feature.GetFieldDefnRef(at).GetName(): tag(feature, at) for at in range(feature.GetFieldCount()) if feature.IsFieldSetAndNotNull(at)}
 
 
+def bodies(feature, projection, words):
+    """The features to put: one, or with --split one for each piece."""
+    name, geometry = projected(feature.GetGeometryRef(), projection)
+    told = tags(feature)
+    layer = told.pop(words.layer_field, None) if words.layer_field else words.layer
+    if layer is None:
+        raise Unfit(f"it has no attribute {words.layer_field}")
+    pieces = [geometry] if words.split is None else cuts(name, geometry, words.split)
+    rest = {"layer": str(layer), "minzoom": words.minzoom, "maxzoom": words.maxzoom, "tags": told}
+    return [{**rest, "geometry": shape(name, piece)} for piece in pieces]
+
+
 def ask(url, method, path, body=b""):
     """The status and the content of the reply to one request, on a connection of its own: the server has others to serve."""
     kind = http.client.HTTPSConnection if url.scheme == "https" else http.client.HTTPConnection
@@ -142,7 +218,7 @@ def ask(url, method, path, body=b""):
 
 
 def publish(url):
-    """Publishes by steps, so that the journal's places come free. Gives the refusal where there is one."""
+    """Publishes by steps, which frees the journal. Returns the refusal, or an empty text."""
     status, content = ask(url, "POST", "/publish/begin")
     while status == 200 and json.loads(content)["left"] > 0:
         status, content = ask(url, "POST", "/publish/step")
@@ -150,7 +226,7 @@ def publish(url):
 
 
 def put(url, number, body, publishes):
-    """Puts one feature. Gives the refusal where there is one."""
+    """Puts one feature. Returns the refusal, or an empty text."""
     status, content = ask(url, "PUT", f"/features/{number}", body)
     if status == 507 and content.startswith("JournalFull") and publishes:
         print("        the journal is full: a publication", flush=True)
@@ -199,15 +275,62 @@ def asked():
     """What the command line asks."""
     parser = argparse.ArgumentParser(description="Puts the features of a file into the map of a running vtserve.")
     parser.add_argument("file", help="a GeoJSON, Shapefile or GeoPackage file, or another one that GDAL reads")
-    parser.add_argument("--layer", required=True, help="the name of their layer in the map")
+    parser.add_argument("--layer", help="the name of their layer in the map")
+    parser.add_argument("--layer-field", help="the attribute that holds the name of the layer, instead of --layer")
     parser.add_argument("--minzoom", type=int, default=0, help="the first zoom that shows them (0)")
     parser.add_argument("--maxzoom", type=int, default=16, help="the last zoom that shows them (16)")
     parser.add_argument("--first", type=int, default=1, help="the number of the first feature (1)")
     parser.add_argument("--url", default="http://127.0.0.1:8080", help="the server (http://127.0.0.1:8080)")
     parser.add_argument("--source", help="the one layer of the file to read (all)")
     parser.add_argument("--crs", help="the coordinate system of a layer that names none")
+    parser.add_argument("--split", type=int, metavar="Z", help="cut lines and polygons at the tile boundaries of zoom Z")
     parser.add_argument("--publish", action="store_true", help="publish by steps when the journal is full")
-    return parser.parse_args()
+    words = parser.parse_args()
+    if (words.layer is None) == (words.layer_field is None):
+        parser.error("give one of --layer and --layer-field")
+    if words.split is not None and not 0 <= words.split <= 20:
+        parser.error("--split takes a zoom from 0 to 20")
+    return words
+
+
+class Numbers:
+    """The next number, and how many features were taken and refused so far."""
+
+    def __init__(self, first):
+        self.first = self.next = first
+        self.taken = self.refused = 0
+
+    def count(self, refusal):
+        """Counts the feature of the next number."""
+        if refusal:
+            self.refused += 1
+            print(f"feature {self.next} refused: {refusal}", flush=True)
+        else:
+            self.taken += 1
+        self.next += 1
+        if (self.next - self.first) % 1000 == 0:
+            print(f"        {self} so far", flush=True)
+
+    def __str__(self):
+        return f"{self.taken} taken, {self.refused} refused"
+
+
+def put_all(url, layer, words, numbers):
+    """Puts the features of a layer."""
+    projection = projection_of(layer, words.crs)
+    for feature in layer:
+        try:
+            made = bodies(feature, projection, words)
+        except (Unfit, RuntimeError) as fault:
+            numbers.count(f"not sent: {fault}")
+            continue
+        for body in made:
+            try:
+                text = json.dumps(body, ensure_ascii=False, separators=(",", ":")).encode()
+            except UnicodeError as fault:
+                numbers.count(f"not sent: {fault}")
+                continue
+            numbers.count(put(url, numbers.next, text, words.publish))
 
 
 def main():
@@ -219,36 +342,17 @@ def main():
         file, layers = layers_of(words.file, words.source)
     except RuntimeError as fault:
         sys.exit(f"GDAL can't read {words.file}: {fault}")
-    number, taken, refused = words.first, 0, 0
+    numbers = Numbers(words.first)
     for layer in layers:
-        projection = projection_of(layer, words.crs)
-        for feature in layer:
-            try:
-                body = {
-                    "layer": words.layer,
-                    "minzoom": words.minzoom,
-                    "maxzoom": words.maxzoom,
-                    "geometry": shape(feature.GetGeometryRef(), projection),
-                    "tags": tags(feature),
-                }
-                refusal = put(url, number, json.dumps(body, ensure_ascii=False, separators=(",", ":")).encode(), words.publish)
-            except (Unfit, RuntimeError, UnicodeError) as fault:
-                refusal = f"not sent: {fault}"
-            except NoAnswer as fault:
-                print(f"feature {number}: {fault}")
-                print(f"{taken} taken, {refused} refused, then the server didn't answer: run the same command again")
-                return 1
-            if refusal:
-                refused += 1
-                print(f"feature {number} refused: {refusal}", flush=True)
-            else:
-                taken += 1
-            number += 1
-            if (number - words.first) % 1000 == 0:
-                print(f"        {taken} taken, {refused} refused so far", flush=True)
+        try:
+            put_all(url, layer, words, numbers)
+        except NoAnswer as fault:
+            print(f"feature {numbers.next}: {fault}")
+            print(f"{numbers}, then the server didn't answer: run the same command again")
+            return 1
     del file
-    print(f"{taken} taken, {refused} refused")
-    return 1 if refused else 0
+    print(numbers)
+    return 1 if numbers.refused else 0
 
 
 if __name__ == "__main__":

@@ -1,0 +1,236 @@
+#!/usr/bin/env python3
+"""Saves the features of the map of a running `vtserve serve` in a file, and puts them back into the map of another one.
+
+    python3 examples/map_backup.py save map.geojson --numbers 1-3000 --url http://127.0.0.1:8080
+    python3 examples/map_backup.py save map.geojson --archive --url http://127.0.0.1:8080
+    python3 examples/map_backup.py load map.geojson --url http://127.0.0.1:8081 --publish
+
+The file is GeoJSON (longitude and latitude, a feature a line), which other programs read too: the member `id` is the feature's number,
+`properties` are its tags, and `layer`, `minzoom` and `maxzoom` stand beside them. `load` puts back exactly the features that `save`
+read: coordinates are the centres of the squares of 9 mm (at the equator) that the map distinguishes.
+
+The server has no list of its features, so the numbers have to be known:
+    --numbers 1-3000,5000-5999    asks for each of these numbers; complete if the numbers are
+    --archive                     publishes the map, downloads the archive, and asks for each number in its tiles. Features that no
+                                  tile shows (for instance polygons too small to have an area at their greatest zoom) are missed
+
+Features that are edited while `save` runs are saved as they are when it reads them: the file isn't of one moment. `load` with --publish
+frees the journal by a publication whenever it is full. Both end with 1 if a request is refused. Needs no package.
+"""
+import argparse
+import http.client
+import json
+import math
+import struct
+import sys
+import urllib.parse
+
+WORLD = 2 ** 32
+
+
+class Refused(Exception):
+    """A reply that wasn't wanted."""
+
+
+class Server:
+    """A running server: one kept connection, opened again where it was closed between two requests."""
+
+    def __init__(self, url):
+        self.url = urllib.parse.urlsplit(url)
+        self.connection = None
+
+    def ask(self, method, path, body=None):
+        """The status and the content of the reply."""
+        for again in (True, False):
+            if self.connection is None:
+                kind = http.client.HTTPSConnection if self.url.scheme == "https" else http.client.HTTPConnection
+                self.connection = kind(self.url.netloc, timeout=600)
+            try:
+                self.connection.request(method, self.url.path.rstrip("/") + path, body)
+                reply = self.connection.getresponse()
+                return reply.status, reply.read()
+            except (OSError, http.client.HTTPException) as fault:
+                self.connection.close()
+                self.connection = None
+                if not again:
+                    raise Refused(f"{method} {path}: no reply: {fault}") from fault
+        return None
+
+    def wanted(self, method, path, body=None):
+        """The content of a reply 200."""
+        status, content = self.ask(method, path, body)
+        if status != 200:
+            raise Refused(f"{method} {path}: {status} {content.decode('utf-8', 'replace').strip()}")
+        return content
+
+
+def degrees(point):
+    """Longitude and latitude of a point of the world."""
+    x, y = ((part + 0.5) / WORLD for part in point)
+    return [x * 360 - 180, math.degrees(math.atan(math.sinh(math.pi * (1 - 2 * y))))]
+
+
+def world(place):
+    """The point of the world of a longitude and latitude."""
+    longitude, latitude = place[:2]
+    x = (longitude + 180) / 360
+    y = 0.5 - math.asinh(math.tan(math.radians(latitude))) / (2 * math.pi)
+    return [min(max(math.floor(share * WORLD), 0), WORLD - 1) for share in (x, y)]
+
+
+def geojson_of(number, feature):
+    """A feature of the map as one of GeoJSON."""
+    (kind, parts), = feature["geometry"].items()
+    if kind == "points":
+        name, places = "Point", [degrees(point) for point in parts]
+    elif kind == "lines":
+        name, places = "LineString", [[degrees(point) for point in line] for line in parts]
+    else:
+        name, places = "Polygon", [[[degrees(point) for point in [*ring, ring[0]]] for ring in rings] for rings in parts]
+    geometry = {"type": name, "coordinates": places[0]} if len(places) == 1 else {"type": "Multi" + name, "coordinates": places}
+    rest = {name: feature[name] for name in ("layer", "minzoom", "maxzoom")}
+    return {"type": "Feature", "id": number, **rest, "properties": feature["tags"], "geometry": geometry}
+
+
+def feature_of(row):
+    """The body of a PUT, from a feature that `geojson_of` made."""
+    name, places = row["geometry"]["type"], row["geometry"]["coordinates"]
+    if not name.startswith("Multi"):
+        places = [places]
+    if name.endswith("Point"):
+        geometry = {"points": [world(place) for place in places]}
+    elif name.endswith("LineString"):
+        geometry = {"lines": [[world(place) for place in line] for line in places]}
+    else:
+        geometry = {"polygons": [[[world(place) for place in ring[:-1]] for ring in rings] for rings in places]}
+    return {**{name: row[name] for name in ("layer", "minzoom", "maxzoom")}, "geometry": geometry, "tags": row["properties"]}
+
+
+def varint(data, at):
+    """A number of Protocol Buffers or of a directory, and where it ends."""
+    value = shift = 0
+    while True:
+        byte = data[at]
+        value |= (byte & 127) << shift
+        at, shift = at + 1, shift + 7
+        if byte < 128:
+            return value, at
+
+
+def fields(data):
+    """The fields of a message of a tile of vtserve: numbers and bytes alone."""
+    at = 0
+    while at < len(data):
+        key, at = varint(data, at)
+        value, at = varint(data, at)
+        if key & 7 == 2:
+            value, at = data[at:at + value], at + value
+        yield key >> 3, value
+
+
+def contents(archive, at, length, leaves, tiles):
+    """The contents of the tiles of a directory: offset and length of each."""
+    data, rows, found = archive[at:at + length], [], []
+    count, at = varint(data, 0)
+    for _ in range(4):
+        row = []
+        for _ in range(count):
+            value, at = varint(data, at)
+            row.append(value)
+        rows.append(row)
+    _, runs, lengths, offsets = rows
+    place = 0
+    for run, size, offset in zip(runs, lengths, offsets):
+        place = offset - 1 if offset else place
+        found += [(tiles + place, size)] if run else contents(archive, leaves + place, size, leaves, tiles)
+        place += size
+    return found
+
+
+def numbers_in(archive):
+    """The ids of the features in the tiles of an archive, ascending."""
+    if not archive:
+        return []
+    root, root_length, _, _, leaves, _, tiles = struct.unpack_from("<7Q", archive, 8)
+    found = set()
+    for at, length in set(contents(archive, root, root_length, leaves, tiles)):
+        for number, layer in fields(archive[at:at + length]):
+            for part, feature in fields(layer) if number == 3 else ():
+                if part == 2:
+                    found.add(next(value for name, value in fields(feature) if name == 1))
+    return sorted(found)
+
+
+def publish(server):
+    """Publishes by steps."""
+    content = server.wanted("POST", "/publish/begin")
+    while json.loads(content)["left"] > 0:
+        content = server.wanted("POST", "/publish/step")
+
+
+def ranges(text):
+    """The numbers of `1-3000,5000`."""
+    for part in text.split(","):
+        first, _, last = part.partition("-")
+        yield from range(int(first), int(last or first) + 1)
+
+
+def save(words, server):
+    """Saves features in the file."""
+    if words.archive:
+        publish(server)
+        status, archive = server.ask("GET", "/map.pmtiles")
+        numbers = numbers_in(archive if status == 200 else b"")
+    else:
+        numbers = ranges(words.numbers)
+    saved = missing = 0
+    with open(words.file, "w", encoding="utf-8") as file:
+        file.write('{"type":"FeatureCollection","features":[')
+        for number in numbers:
+            status, content = server.ask("GET", f"/features/{number}")
+            if status == 404:
+                missing += 1
+                continue
+            if status != 200:
+                raise Refused(f"GET /features/{number}: {status} {content.decode('utf-8', 'replace').strip()}")
+            row = json.dumps(geojson_of(number, json.loads(content)), ensure_ascii=False)
+            file.write((",\n" if saved else "\n") + row)
+            saved += 1
+        file.write("\n]}\n")
+    print(f"{saved} features saved, {missing} numbers without one")
+
+
+def load(words, server):
+    """Puts the features of the file back."""
+    with open(words.file, encoding="utf-8") as file:
+        rows = json.load(file)["features"]
+    for row in rows:
+        path, body = f"/features/{row['id']}", json.dumps(feature_of(row), ensure_ascii=False, separators=(",", ":")).encode()
+        status, content = server.ask("PUT", path, body)
+        if status == 507 and content.startswith(b"JournalFull") and words.publish:
+            publish(server)
+            status, content = server.ask("PUT", path, body)
+        if status != 200:
+            raise Refused(f"PUT {path}: {status} {content.decode('utf-8', 'replace').strip()}")
+    print(f"{len(rows)} features put")
+
+
+def main():
+    parser = argparse.ArgumentParser(description="Saves the features of the map of a running vtserve, and puts them back.")
+    parser.add_argument("task", choices=["save", "load"])
+    parser.add_argument("file", help="the GeoJSON file")
+    parser.add_argument("--url", default="http://127.0.0.1:8080", help="the server (http://127.0.0.1:8080)")
+    parser.add_argument("--numbers", help="save: the numbers to ask for, as in 1-3000,5000")
+    parser.add_argument("--archive", action="store_true", help="save: publish, and take the numbers from the archive")
+    parser.add_argument("--publish", action="store_true", help="load: publish by steps when the journal is full")
+    words = parser.parse_args()
+    if words.task == "save" and words.archive == (words.numbers is not None):
+        parser.error("save takes one of --numbers and --archive")
+    try:
+        (save if words.task == "save" else load)(words, Server(words.url))
+    except Refused as fault:
+        sys.exit(str(fault))
+
+
+if __name__ == "__main__":
+    main()

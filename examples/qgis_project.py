@@ -1,0 +1,72 @@
+#!/usr/bin/env python3
+"""Writes a QGIS project with the tiles of a running vtserve as its one layer.
+
+    python3 examples/qgis_project.py map.qgs --url http://127.0.0.1:8000 --maxzoom 16 --centre 7.5,54.5
+
+Open the file with QGIS 3.14 or later. --maxzoom is the greatest zoom that the features have: QGIS enlarges the tiles of that zoom for
+greater ones. Needs no package.
+"""
+import argparse
+import math
+import urllib.parse
+from xml.sax.saxutils import escape
+
+EARTH = 20037508.342789244
+PROJECT = """<!DOCTYPE qgis PUBLIC 'http://mrcc.com/qgis.dtd' 'SYSTEM'>
+<qgis projectname="{name}" version="3.22.0">
+  <title>{name}</title>
+  <projectCrs>
+    <spatialrefsys><authid>EPSG:3857</authid></spatialrefsys>
+  </projectCrs>
+  <layer-tree-group>
+    <layer-tree-layer id="vtserve_tiles" name="{name}" checked="Qt::Checked" expanded="1" providerKey="" source="{source}"/>
+  </layer-tree-group>
+  <mapcanvas name="theMapCanvas">
+    <units>meters</units>
+    <extent><xmin>{west}</xmin><ymin>{south}</ymin><xmax>{east}</xmax><ymax>{north}</ymax></extent>
+    <destinationsrs><spatialrefsys><authid>EPSG:3857</authid></spatialrefsys></destinationsrs>
+  </mapcanvas>
+  <projectlayers>
+    <maplayer type="vector-tile" hasScaleBasedVisibilityFlag="0">
+      <id>vtserve_tiles</id>
+      <datasource>{source}</datasource>
+      <layername>{name}</layername>
+      <srs><spatialrefsys><authid>EPSG:3857</authid></spatialrefsys></srs>
+      <blendMode>0</blendMode>
+    </maplayer>
+  </projectlayers>
+  <layerorder><layer id="vtserve_tiles"/></layerorder>
+</qgis>
+"""
+
+
+def main():
+    parser = argparse.ArgumentParser(description="Writes a QGIS project with the tiles of a running vtserve.")
+    parser.add_argument("file", help="the .qgs file that is written")
+    parser.add_argument("--url", default="http://127.0.0.1:8000", help="the server, as QGIS reaches it (http://127.0.0.1:8000)")
+    parser.add_argument("--name", default="vtserve", help="the name of the layer in QGIS (vtserve)")
+    parser.add_argument("--maxzoom", type=int, default=16, help="the greatest zoom of the features (16)")
+    parser.add_argument("--centre", default="7.5,54.5", help="longitude and latitude that the map opens at (7.5,54.5)")
+    parser.add_argument("--metres", type=float, default=5000, help="how wide and high the map opens, in metres of Web Mercator (5000)")
+    words = parser.parse_args()
+    longitude, latitude = (float(part) for part in words.centre.split(","))
+    east = longitude / 180 * EARTH
+    north = math.asinh(math.tan(math.radians(latitude))) / math.pi * EARTH
+    half = words.metres / 2
+    tiles = urllib.parse.quote(words.url.rstrip("/") + "/map/", safe=":/") + "{z}/{x}/{y}.mvt"
+    source = f"type=xyz&url={tiles}&zmin=0&zmax={words.maxzoom}"
+    project = PROJECT.format(
+        name=escape(words.name, {'"': "&quot;"}),
+        source=escape(source),
+        west=east - half,
+        east=east + half,
+        south=north - half,
+        north=north + half,
+    )
+    with open(words.file, "w", encoding="utf-8") as file:
+        file.write(project)
+    print(f"{words.file}: {source}")
+
+
+if __name__ == "__main__":
+    main()
