@@ -4,8 +4,8 @@
     python3 bench/documents.py [PROGRAM] [--page PAGE] [--show]    PROGRAM is crates/vtserve/out/vtserve
 
 A command is a line `$ COMMAND` of a block that begins with three backquotes and `console`; it continues over lines that end in a
-backslash, and to the end of a here-document. The lines below it are its output, standard error included. `...` alone on a line stands
-for any lines, `[..]` in a line for any characters. Blocks marked `sh` are commands that need another machine (systemd, a package
+backslash, and to the end of a here-document. The lines below it are its output, standard error included. `...` alone on a line matches
+any lines, `[..]` in a line any characters. Blocks marked `sh` are commands that need another machine (systemd, a package
 registry, the network); they are counted, and not run.
 
 The commands of a page run in one bash, in order, in a fresh folder with copies of examples/, docs/ and crates/vtserve/stdin, as in a
@@ -114,7 +114,7 @@ class Shell:
 
 
 def run_page(page, program, show):
-    """Runs the commands of a page, in the namespaces that this process has. Gives how many differ."""
+    """Runs the commands of a page, in the namespaces that this process has. Returns how many differ."""
     subprocess.run(["ip", "link", "set", "lo", "up"], check=False)
     with tempfile.TemporaryDirectory() as scratch:
         subprocess.run(["mount", "-t", "tmpfs", "-o", "mode=755", "tmpfs", scratch], check=True)

@@ -194,12 +194,12 @@ def tags(feature):
 def bodies(feature, projection, words):
     """The features to put: one, or with --split one for each piece."""
     name, geometry = projected(feature.GetGeometryRef(), projection)
-    told = tags(feature)
-    layer = told.pop(words.layer_field, None) if words.layer_field else words.layer
+    attributes = tags(feature)
+    layer = attributes.pop(words.layer_field, None) if words.layer_field else words.layer
     if layer is None:
         raise Unfit(f"it has no attribute {words.layer_field}")
     pieces = [geometry] if words.split is None else cuts(name, geometry, words.split)
-    rest = {"layer": str(layer), "minzoom": words.minzoom, "maxzoom": words.maxzoom, "tags": told}
+    rest = {"layer": str(layer), "minzoom": words.minzoom, "maxzoom": words.maxzoom, "tags": attributes}
     return [{**rest, "geometry": shape(name, piece)} for piece in pieces]
 
 

@@ -6,7 +6,7 @@
     python3 examples/map_backup.py load map.geojson --url http://127.0.0.1:8081 --publish
 
 The file is GeoJSON (longitude and latitude, a feature a line), which other programs read too: the member `id` is the feature's number,
-`properties` are its tags, and `layer`, `minzoom` and `maxzoom` stand beside them. `load` puts back exactly the features that `save`
+`properties` are its tags, and `layer`, `minzoom` and `maxzoom` are members beside them. `load` puts back exactly the features that `save`
 read: coordinates are the centres of the squares of 9 mm (at the equator) that the map distinguishes.
 
 The server has no list of its features, so the numbers have to be known:

@@ -3,28 +3,28 @@
 #
 #     bash examples/publish.sh [URL]        URL is http://127.0.0.1:8080
 #
-# It prints how much is left behind each step, and ends with 0 when it is published. Interrupted, it gives the publication up and ends
-# with 130; where the server refuses a step it says so, gives it up too, and ends with 1. It needs curl.
+# It prints how many sectors are left after each step, and ends with 0 when the map is published. Interrupted, it cancels the
+# publication and ends with 130. If the server refuses a step, it prints the error, cancels the publication and ends with 1. Needs curl.
 set -u
 url=${1:-http://127.0.0.1:8080}
 url=${url%/}
 interrupted=
-told='^\{"left":([0-9]+)\}
+answer='^\{"left":([0-9]+)\}
 200$'
 
-# The content and then the status of the reply to a POST. A request that is out isn't interrupted: its reply says what became of it.
+# The content and then the status of the reply to a POST. A request that was sent isn't interrupted: its reply reports the outcome.
 ask() {
     trap '' INT TERM HUP
     exec curl --silent --show-error --max-time 600 --request POST --write-out '\n%{http_code}' "$url$1"
 }
 
-# Asks, and leaves how much is left in `left`; where the reply is another one, says so.
+# Sends a POST, and sets `left` to the sectors that are left; prints any other reply.
 step() {
     local reply
     if ! reply=$(ask "$1"); then
         return 1
     fi
-    if [[ $reply =~ $told ]]; then
+    if [[ $reply =~ $answer ]]; then
         left=${BASH_REMATCH[1]}
         return 0
     fi
@@ -36,7 +36,7 @@ cancel() {
     local reply
     reply=$(ask /publish/cancel)
     case ${reply##*$'\n'} in
-        204) echo "the publication is given up" >&2 ;;
+        204) echo "the publication is cancelled" >&2 ;;
         *) echo "/publish/cancel: ${reply//$'\n'/ }" >&2 ;;
     esac
 }

@@ -577,7 +577,7 @@ def steps(cases, folder):
         child.send_signal(signal.SIGTERM)
         rest, told = child.communicate(timeout=120)
         lines = "".join(first) + rest
-        cases.show("publish.sh interrupted", (child.returncode, told, "published" in lines), (130, "the publication is given up\n", False))
+        cases.show("publish.sh interrupted", (child.returncode, told, "published" in lines), (130, "the publication is cancelled\n", False))
         same(cases, "none is under way", curl(server.url + "/publish/step", "-X", "POST"), refusal(409, "Idle"))
         same(cases, "no archive stands", curl(server.url + "/map.pmtiles"), refusal(404, "NotFound"))
         child = subprocess.run([*tool, server.url], capture_output=True, text=True)
@@ -600,7 +600,7 @@ class Nginx:
         self.url = f"http://127.0.0.1:{self.port}"
         with open(os.path.join(TOP, "docs", "nginx.conf"), encoding="utf-8") as file:
             kept = file.read()
-        used = kept.replace("server 127.0.0.1:8080;", f"server 127.0.0.1:{server.port};").replace("listen 8000;", f"listen 127.0.0.1:{self.port};")
+        used = kept.replace("server 127.0.0.1:8080;", f"server 127.0.0.1:{server.port};").replace("listen 8000", f"listen 127.0.0.1:{self.port}")
         file = os.path.join(self.folder, "used.conf")
         with open(file, "w", encoding="utf-8") as made:
             made.write(used)
@@ -682,6 +682,9 @@ def in_front(cases, folder):
             cases.show(f"nginx: {method} {path} from another address", status_of(curl(url + path, "-X", method, "--interface", "127.0.0.2")), 403)
         cases.show("nginx: a tile from another address", status_of(curl(url + "/map/0/0/0.mvt", "--interface", "127.0.0.2")), 200)
         cases.show("nginx: another path", status_of(curl(url + "/other")), 404)
+        for path, method in [("/features/7", "PUT"), ("/publish", "POST"), ("/map/0/0/0.mvt", "GET")]:
+            reply = curl(url + path, "-X", method, "-H", "Host: other.example")
+            cases.show(f"nginx: {method} {path} by another name", status_of(reply), 421)
         with socket.create_connection(("127.0.0.1", front.port), timeout=30) as slow:
             slow.sendall(b"PUT /features/9 HTTP/1.1\r\nhost: x\r\ncontent-length: 100\r\n\r\n{")
             cases.show("nginx: a client that sends half a body keeps nobody waiting", status_of(curl(url + "/features/7", "--max-time", "10")), 200)
