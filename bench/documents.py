@@ -107,10 +107,15 @@ class Shell:
             self.take(end)
         if command.rstrip().endswith("&"):
             end = time.monotonic() + 5
-            while time.monotonic() < end and not wanted.fullmatch(tidy(marked.sub("\n", self.read))):
+            while time.monotonic() < end and not wanted.fullmatch(self.printed(marked)):
                 self.take(end)
-        found, self.read = tidy(marked.sub("\n", self.read)), ""
+        found, self.read = self.printed(marked), ""
         return found
+
+    def printed(self, marked):
+        """What was read, before and after the mark."""
+        before, after = marked.split(self.read, 1)
+        return tidy(before) + tidy(after)
 
 
 def run_page(page, program, show):
