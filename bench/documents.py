@@ -28,7 +28,7 @@ HERE = os.path.dirname(os.path.abspath(__file__))
 TOP = os.path.dirname(HERE)
 PAGES = ["README.md", "docs/HTTP.md", "docs/COMMANDS.md", "docs/DEPLOYING.md"]
 OWN = ["/etc", "/usr/local", "/var/lib"]
-SECONDS = 120
+SECONDS = 600
 
 
 def commands(text):
@@ -62,8 +62,8 @@ def pattern(lines):
 
 
 def tidy(text):
-    """What was printed, without carriage returns and the spaces at the end of lines."""
-    lines = [line.rstrip() for line in text.replace("\r", "").split("\n")]
+    """What was printed, without carriage returns, colours and the spaces at the end of lines."""
+    lines = [line.rstrip() for line in re.sub(r"\x1b\[[0-9;]*m", "", text.replace("\r", "")).split("\n")]
     while lines and not lines[-1]:
         lines.pop()
     return "".join(line + "\n" for line in lines)
