@@ -29,6 +29,7 @@ TOP = os.path.dirname(HERE)
 PAGES = ["README.md", "docs/HTTP.md", "docs/COMMANDS.md", "docs/DEPLOYING.md"]
 OWN = ["/etc", "/usr/local", "/var/lib"]
 SECONDS = 600
+MOST_LINES = 40
 
 
 def commands(text):
@@ -67,6 +68,12 @@ def tidy(text):
     while lines and not lines[-1]:
         lines.pop()
     return "".join(line + "\n" for line in lines)
+
+
+def short(text):
+    """The first lines of a text."""
+    lines = text.splitlines(True)
+    return "".join(lines[:MOST_LINES]) + (f"(and {len(lines) - MOST_LINES} lines)\n" if len(lines) > MOST_LINES else "")
 
 
 class Shell:
@@ -145,7 +152,7 @@ def run_page(page, program, show):
                 print(f"$ {command}\n{found}", end="")
             if not sought.fullmatch(found):
                 differ += 1
-                print(f"{page}:{number}: $ {command}\nprints\n{found}where the page says\n{wanted}", flush=True)
+                print(f"{page}:{number}: $ {command}\nprints\n{short(found)}where the page says\n{wanted}", flush=True)
         print(f"{page}: {len(rows)} commands run, {differ} differ; {left_out} not run", flush=True)
         subprocess.run(["umount", "-l", *reversed(OWN), scratch], check=False)
     return differ
