@@ -102,8 +102,8 @@ class Shell:
         while time.monotonic() < until and select.select([self.screen], [], [], 0.05)[0]:
             self.read += os.read(self.screen, 65536).decode("utf-8", "replace")
 
-    def run(self, command, wanted):
-        """What a command prints. One in the background has five seconds to print what is wanted."""
+    def run(self, command, expected):
+        """What a command prints. One in the background has five seconds to print what is expected."""
         mark = "the end of one command"
         os.write(self.script, f"{command}\nprintf '\\n{mark}\\n'\n".encode())
         end = time.monotonic() + SECONDS
@@ -114,7 +114,7 @@ class Shell:
             self.take(end)
         if command.rstrip().endswith("&"):
             end = time.monotonic() + 5
-            while time.monotonic() < end and not wanted.fullmatch(self.printed(marked)):
+            while time.monotonic() < end and not expected.fullmatch(self.printed(marked)):
                 self.take(end)
         found, self.read = self.printed(marked), ""
         return found
@@ -145,14 +145,14 @@ def run_page(page, program, show):
             rows, left_out = commands(file.read())
         shell, differ = Shell(folder, f"{scratch}/bin/vtserve"), 0
         for number, command, lines in rows:
-            wanted = tidy("\n".join(lines) + "\n")
-            sought = pattern(wanted.splitlines())
+            expected = tidy("\n".join(lines) + "\n")
+            sought = pattern(expected.splitlines())
             found = shell.run(command, sought)
             if show:
                 print(f"$ {command}\n{found}", end="")
             if not sought.fullmatch(found):
                 differ += 1
-                print(f"{page}:{number}: $ {command}\nprints\n{short(found)}where the page says\n{wanted}", flush=True)
+                print(f"{page}:{number}: $ {command}\nprints\n{short(found)}where the page says\n{expected}", flush=True)
         print(f"{page}: {len(rows)} commands run, {differ} differ; {left_out} not run", flush=True)
         subprocess.run(["umount", "-l", *reversed(OWN), scratch], check=False)
     return differ

@@ -60,18 +60,18 @@ class Unfit(Exception):
 
 
 class NoAnswer(Exception):
-    """What was read where a reply was wanted."""
+    """Why a request has no reply."""
 
 
 def place(x, y):
-    """The point of the world, to the right and downwards, where a point of Web Mercator lies."""
+    """The point of the world of a point of Web Mercator."""
     found = []
     for share in ((x + HALF) / (2 * HALF), (HALF - y) / (2 * HALF)):
         if not math.isfinite(share):
             raise Unfit("a point has no place in Web Mercator")
         whole = math.floor(share * WORLD)
         if not -1 <= whole <= WORLD:
-            raise Unfit("a point lies outside of the world (180 degrees east and west, 85.05 north and south)")
+            raise Unfit("a point is outside of the world (180 degrees east and west, 85.05 north and south)")
         found.append(min(max(whole, 0), WORLD - 1))
     return found
 
@@ -128,7 +128,7 @@ def cuts(name, geometry, zoom):
     found = []
     cut_into(found, name, geometry, zoom, 0, 0, 0)
     if not found:
-        raise Unfit("nothing of it lies inside of the world (180 degrees east and west, 85.05 north and south)")
+        raise Unfit("nothing of it is inside of the world (180 degrees east and west, 85.05 north and south)")
     return found
 
 
@@ -153,22 +153,22 @@ def cut_into(found, name, geometry, zoom, level, column, row):
 
 
 def whole_part(name, geometry):
-    """The lines of a cut line, or the polygons of a cut polygon: where it only touches a tile's edge, nothing."""
-    kept = ogr.Geometry(ogr.wkbMultiLineString if name == "lines" else ogr.wkbMultiPolygon)
-    gathered(kept, "LINESTRING" if name == "lines" else "POLYGON", geometry)
-    return None if kept.IsEmpty() else kept
+    """The lines of a cut line, or the polygons of a cut polygon; None if it only touches the tile's edge."""
+    found = ogr.Geometry(ogr.wkbMultiLineString if name == "lines" else ogr.wkbMultiPolygon)
+    gathered(found, "LINESTRING" if name == "lines" else "POLYGON", geometry)
+    return None if found.IsEmpty() else found
 
 
-def gathered(kept, kind, geometry):
+def gathered(found, kind, geometry):
     """Adds the parts of a kind."""
     if geometry is None:
         return
     if geometry.GetGeometryName() == kind:
-        kept.AddGeometry(geometry)
+        found.AddGeometry(geometry)
         return
     for at in range(geometry.GetGeometryCount()):
         if kind == "POLYGON" or geometry.GetGeometryName() != "POLYGON":
-            gathered(kept, kind, geometry.GetGeometryRef(at))
+            gathered(found, kind, geometry.GetGeometryRef(at))
 
 
 def tag(feature, at):

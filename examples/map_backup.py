@@ -29,11 +29,11 @@ WORLD = 2 ** 32
 
 
 class Refused(Exception):
-    """A reply that wasn't wanted."""
+    """A reply with an unexpected status, or none."""
 
 
 class Server:
-    """A running server: one kept connection, opened again where it was closed between two requests."""
+    """A running server: one connection, opened again if the server closed it between two requests."""
 
     def __init__(self, url):
         self.url = urllib.parse.urlsplit(url)
@@ -56,7 +56,7 @@ class Server:
                     raise Refused(f"{method} {path}: no reply: {fault}") from fault
         return None
 
-    def wanted(self, method, path, body=None):
+    def content_of(self, method, path, body=None):
         """The content of a reply 200."""
         status, content = self.ask(method, path, body)
         if status != 200:
@@ -163,9 +163,9 @@ def numbers_in(archive):
 
 def publish(server):
     """Publishes by steps."""
-    content = server.wanted("POST", "/publish/begin")
+    content = server.content_of("POST", "/publish/begin")
     while json.loads(content)["left"] > 0:
-        content = server.wanted("POST", "/publish/step")
+        content = server.content_of("POST", "/publish/step")
 
 
 def ranges(text):
