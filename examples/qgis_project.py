@@ -1,5 +1,5 @@
 #!/usr/bin/env python3
-"""Writes a QGIS project with the tiles of a running vtserve as its one layer.
+"""Writes a QGIS project with the tiles of a running vtserve as its only layer, with a style for areas, lines and points.
 
     python3 examples/qgis_project.py map.qgs --url http://127.0.0.1:8000 --maxzoom 16 --centre 7.5,54.5
 
@@ -33,11 +33,44 @@ PROJECT = """<!DOCTYPE qgis PUBLIC 'http://mrcc.com/qgis.dtd' 'SYSTEM'>
       <layername>{name}</layername>
       <srs><spatialrefsys><authid>EPSG:3857</authid></spatialrefsys></srs>
       <blendMode>0</blendMode>
+      <renderer type="basic">
+        <styles>{styles}
+        </styles>
+      </renderer>
     </maplayer>
   </projectlayers>
   <layerorder><layer id="vtserve_tiles"/></layerorder>
+  <properties>
+    <SpatialRefSys><ProjectionsEnabled type="int">1</ProjectionsEnabled></SpatialRefSys>
+  </properties>
 </qgis>
 """
+
+STYLE = """
+          <style name="{name}" geometry="{geometry}" layer="" enabled="1" min-zoom="-1" max-zoom="-1" expression="geometry_type($geometry)='{kind}'">
+            <symbols>
+              <symbol type="{symbol}" name="0" alpha="1" clip_to_extent="1" force_rhr="0">
+                <layer class="{drawn}" enabled="1" pass="0" locked="0">
+                  <Option type="Map">{options}
+                  </Option>
+                </layer>
+              </symbol>
+            </symbols>
+          </style>"""
+STYLES = [
+    ("Areas", 2, "Polygon", "fill", "SimpleFill", {"color": "195,223,176,255", "outline_style": "no", "style": "solid"}),
+    ("Lines", 1, "Line", "line", "SimpleLine", {"line_color": "176,128,58,255", "line_width": "0.6", "capstyle": "round", "joinstyle": "round"}),
+    ("Points", 0, "Point", "marker", "SimpleMarker", {"name": "circle", "color": "176,58,46,255", "outline_color": "255,255,255,255", "size": "2.5"}),
+]
+
+
+def styled():
+    """The style of areas, of lines and of points of every layer of the tiles."""
+    made = ""
+    for name, geometry, kind, symbol, drawn, values in STYLES:
+        options = "".join(f'\n                    <Option type="QString" name="{key}" value="{value}"/>' for key, value in values.items())
+        made += STYLE.format(name=name, geometry=geometry, kind=kind, symbol=symbol, drawn=drawn, options=options)
+    return made
 
 
 def main():
@@ -58,6 +91,7 @@ def main():
     project = PROJECT.format(
         name=escape(words.name, {'"': "&quot;"}),
         source=escape(source),
+        styles=styled(),
         west=east - half,
         east=east + half,
         south=north - half,
