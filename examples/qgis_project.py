@@ -16,7 +16,7 @@ PROJECT = """<!DOCTYPE qgis PUBLIC 'http://mrcc.com/qgis.dtd' 'SYSTEM'>
 <qgis projectname="{name}" version="3.22.0">
   <title>{name}</title>
   <projectCrs>
-    <spatialrefsys><authid>EPSG:3857</authid></spatialrefsys>
+    {system}
   </projectCrs>
   <layer-tree-group>
     <layer-tree-layer id="vtserve_tiles" name="{name}" checked="Qt::Checked" expanded="1" providerKey="" source="{source}"/>
@@ -24,14 +24,14 @@ PROJECT = """<!DOCTYPE qgis PUBLIC 'http://mrcc.com/qgis.dtd' 'SYSTEM'>
   <mapcanvas name="theMapCanvas">
     <units>meters</units>
     <extent><xmin>{west}</xmin><ymin>{south}</ymin><xmax>{east}</xmax><ymax>{north}</ymax></extent>
-    <destinationsrs><spatialrefsys><authid>EPSG:3857</authid></spatialrefsys></destinationsrs>
+    <destinationsrs>{system}</destinationsrs>
   </mapcanvas>
   <projectlayers>
     <maplayer type="vector-tile" hasScaleBasedVisibilityFlag="0">
       <id>vtserve_tiles</id>
       <datasource>{source}</datasource>
       <layername>{name}</layername>
-      <srs><spatialrefsys><authid>EPSG:3857</authid></spatialrefsys></srs>
+      <srs>{system}</srs>
       <blendMode>0</blendMode>
       <renderer type="basic">
         <styles>{styles}
@@ -46,6 +46,11 @@ PROJECT = """<!DOCTYPE qgis PUBLIC 'http://mrcc.com/qgis.dtd' 'SYSTEM'>
 </qgis>
 """
 
+SYSTEM = (
+    "<spatialrefsys><proj4>+proj=merc +a=6378137 +b=6378137 +lat_ts=0 +lon_0=0 +x_0=0 +y_0=0 +k=1 +units=m +nadgrids=@null +wktext +no_defs</proj4>"
+    "<srsid>3857</srsid><srid>3857</srid><authid>EPSG:3857</authid><description>WGS 84 / Pseudo-Mercator</description>"
+    "<projectionacronym>merc</projectionacronym><ellipsoidacronym>EPSG:7030</ellipsoidacronym><geographicflag>false</geographicflag></spatialrefsys>"
+)
 STYLE = """
           <style name="{name}" geometry="{geometry}" layer="" enabled="1" min-zoom="-1" max-zoom="-1" expression="geometry_type($geometry)='{kind}'">
             <symbols>
@@ -58,7 +63,7 @@ STYLE = """
             </symbols>
           </style>"""
 STYLES = [
-    ("Areas", 2, "Polygon", "fill", "SimpleFill", {"color": "195,223,176,255", "outline_style": "no", "style": "solid"}),
+    ("Areas", 2, "Polygon", "fill", "SimpleFill", {"color": "195,223,176,120", "outline_color": "90,120,70,255", "outline_width": "0.1"}),
     ("Lines", 1, "Line", "line", "SimpleLine", {"line_color": "176,128,58,255", "line_width": "0.6", "capstyle": "round", "joinstyle": "round"}),
     ("Points", 0, "Point", "marker", "SimpleMarker", {"name": "circle", "color": "176,58,46,255", "outline_color": "255,255,255,255", "size": "2.5"}),
 ]
@@ -92,6 +97,7 @@ def main():
         name=escape(words.name, {'"': "&quot;"}),
         source=escape(source),
         styles=styled(),
+        system=SYSTEM,
         west=east - half,
         east=east + half,
         south=north - half,
