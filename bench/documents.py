@@ -104,15 +104,16 @@ class Shell:
 
     def run(self, command, expected):
         """What a command prints. One in the background has five seconds to print what is expected."""
-        mark = "the end of one command"
-        os.write(self.script, f"{command}\nprintf '\\n{mark}\\n'\n".encode())
+        background = command.rstrip().endswith("&")
+        mark, before = "the end of one command", "" if background else "\\n"
+        os.write(self.script, f"{command}\nprintf '{before}{mark}\\n'\n".encode())
         end = time.monotonic() + SECONDS
-        marked = re.compile(rf"\n{mark}\r?\n")
+        marked = re.compile(rf"{before}{mark}\r?\n")
         while not marked.search(self.read):
             if time.monotonic() > end or self.child.poll() is not None:
                 return tidy(self.read) + "(no end of this command was seen)\n"
             self.take(end)
-        if command.rstrip().endswith("&"):
+        if background:
             end = time.monotonic() + 5
             while time.monotonic() < end and not expected.fullmatch(self.printed(marked)):
                 self.take(end)

@@ -13,8 +13,8 @@ Attributes become tags: texts, integers and booleans as they are, everything els
 whenever it is full, and the feature is put again.
 
 With --split Z lines and polygons are cut at the tile boundaries of zoom Z, and each piece becomes a feature with a number of its own
-and the same tags. The server doesn't clip features, and some renderers misdraw those that reach far outside of a tile: see "Large
-features" in docs/HTTP.md. Z is at least --maxzoom for correct drawing at every zoom.
+and the same tags. The server doesn't clip features, and some renderers misdraw those that are wider or higher than a tile (2.4 km at
+zoom 14 at the equator; docs/HTTP.md, "Large features", has a table). Choose Z no less than --maxzoom to have every zoom drawn right.
 
 It prints a line for each thousand features, a line for each refused one with the server's error or GDAL's, and at the end the counts.
 It ends with 1 if a feature was refused or the server didn't answer.
