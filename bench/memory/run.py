@@ -4,7 +4,8 @@
     python3 bench/memory/run.py [PROGRAM]       PROGRAM is crates/vtserve/out/vtserve, which `rt run` leaves there
 
 Each run must end as it would with memory, or with status 1 and `vtserve: Memory`, or answer 503 to the request that lacked memory
-and go on. It ends with 1 otherwise. `demo` runs on its stored input; the others on small files of their own.
+and go on. The script ends with 1 otherwise. `demo` runs on its stored input; its disk is in memory, so it may also lack memory for
+a write, which is `Device` or 500. The others run on small files.
 """
 import collections
 import os
@@ -23,15 +24,18 @@ PUT = b"PUT /features/7 HTTP/1.1\r\nhost: x\r\ncontent-length: %d\r\n\r\n%s" % (
 PUBLISH = b"POST /publish HTTP/1.1\r\nhost: x\r\n\r\n"
 GET = b"GET /map/0/0/0.hex HTTP/1.1\r\nhost: x\r\n\r\n"
 MEMORY = b"vtserve: Memory\n"
+DEVICE = b"vtserve: Device\n"
 
 
 class Command:
     """A command: its words, what it reads, and what is to be done before each run."""
 
-    def __init__(self, words, stream=b"", before=None):
+    def __init__(self, words, stream=b"", before=None, faults=(MEMORY,), statuses=("503",)):
         self.words = words
         self.stream = stream
         self.before = before
+        self.faults = faults
+        self.statuses = statuses
 
     def run(self, more):
         """The status, standard output and standard error of one process."""
@@ -68,17 +72,18 @@ def codes(written):
     return tuple(code.decode() for code in re.findall(rb"HTTP/1\.1 (\d+)", written))
 
 
-def is_good(outcome, whole):
-    """Whether a run that lacked memory ended as it may: named, or with 503 in the place of one reply."""
+def is_good(command, outcome, whole):
+    """Whether a run that lacked memory ended as it may: named, or with an error in the place of one reply."""
     status, written, told = outcome
-    if (status, told) == (1, MEMORY):
+    if status == 1 and told in command.faults:
         return True
     found, wanted = codes(written), codes(whole[1])
-    if status != 0 or len(found) != len(wanted):
-        # A connection that lacks memory before its first read is told by the log of `serve`, and gets no reply.
-        return status == 0 and found == () and told == b"connection 1: 0 requests, memory\n"
+    if len(found) != len(wanted):
+        # A connection that lacks memory before its first read gets no reply, and the log of `serve` says so.
+        return (status, found, told) == (0, (), b"connection 1: 0 requests, memory\n")
+    # The map of an edit that failed has no tile.
     differ = [code for code, other in zip(found, wanted) if code != other]
-    return "503" in found and all(code in ("503", "204") for code in differ)
+    return status == 0 and any(code in command.statuses for code in differ) and all(code in (*command.statuses, "204") for code in differ)
 
 
 def series(name, command, shim):
@@ -94,7 +99,7 @@ def series(name, command, shim):
                 break
             continue
         calm = 0
-        good = is_good(outcome, whole)
+        good = is_good(command, outcome, whole)
         bad += not good
         outcomes[(outcome[0], codes(outcome[1]), outcome[2].decode().strip(), good)] += 1
     for (status, replies, told, good), times in outcomes.items():
@@ -123,7 +128,7 @@ def commands(folder):
         ("export", Command(["export", disk, goal], before=lambda: remove(goal))),
         ("show", Command(["show", archive])),
         ("verify", Command(["verify", archive])),
-        ("demo", Command(["demo", "256"], stream)),
+        ("demo", Command(["demo", "256"], stream, faults=(MEMORY, DEVICE), statuses=("503", "500"))),
     ]
 
 
