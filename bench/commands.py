@@ -5,16 +5,22 @@
 
 It prints a line for each case, and ends with 1 if one differs from what is wanted. Files lie in a scratch folder. What a process
 that is killed leaves is what it asked the system to write: a crash of the machine is not tried. Where there is no strace, which
-lets calls of the system fail, those cases are left out, and a line says so.
+lets calls of the system fail, those cases are left out, and a line says so. It takes some two minutes, most of them for the peers
+that are slow.
 """
+import contextlib
 import os
+import re
 import resource
 import shutil
 import signal
 import socket
+import stat
 import subprocess
 import sys
 import tempfile
+import threading
+import time
 
 HERE = os.path.dirname(os.path.abspath(__file__))
 PROGRAM = os.path.abspath(sys.argv[1] if len(sys.argv) > 1 else os.path.join(HERE, "..", "crates", "vtserve", "out", "vtserve"))
@@ -174,11 +180,11 @@ def runs_out(cases, folder):
     cases.show("format again, of 128 sectors", vtserve(["format", path, "--sectors", "128"], preexec_fn=limit), (0, b"formatted 128 sectors\n", b""))
 
 
-def failing(call, at, number, words, requests=b""):
+def failing(call, at, number, words, requests=b"", error="EIO"):
     """What the program does where the call of the system of this name and number fails, of those on the file or folder at a path.
 
     A number with a plus stands for that call and all later ones."""
-    trace = ["strace", "-qq", "-o", os.devnull, "-P", at, "-e", f"trace={call}", "-e", f"inject={call}:error=EIO:when={number}"]
+    trace = ["strace", "-qq", "-o", os.devnull, "-P", at, "-e", f"trace={call}", "-e", f"inject={call}:error={error}:when={number}"]
     child = subprocess.run([*trace, PROGRAM, *words], input=requests, capture_output=True, timeout=60)
     return child.returncode, child.stdout, child.stderr
 
@@ -202,7 +208,8 @@ def fails(cases, folder):
         cases.show(f"format where {name} fails", failing(call, at, number, make), refusal(fault))
         cases.show("the file is taken away", os.path.exists(path), False)
     cases.show("the same command again", vtserve(make), (0, b"formatted 64 sectors\n", b""))
-    cases.show("pipe where its sync fails", failing("fdatasync", path, 1, ["pipe", path], GET), refusal(b"Device"))
+    cases.show("pipe where its first sync fails", failing("fdatasync", path, 1, ["pipe", path], GET), refusal(b"Device"))
+    cases.show("pipe where its second sync fails", failing("fdatasync", path, 2, ["pipe", path], GET), refusal(b"Device"))
     # Where a read of 64 sectors fails, the sector is read alone. So all reads from the second one on fail.
     cases.show("pipe where a read fails", failing("pread64", path, "2+", ["pipe", path], GET), refusal(b"Device"))
     told = error(b"Device") + error(b"Broken") + EMPTY
@@ -212,6 +219,86 @@ def fails(cases, folder):
     cases.show("format of 256 sectors", vtserve(["format", large, "--sectors", "256"]), (0, b"formatted 256 sectors\n", b""))
     cases.show("pipe where a read ahead fails", failing("pread64", large, 2, ["pipe", large], GET), (0, EMPTY, b""))
     cases.show("pipe where all reads but the first fail", failing("pread64", large, "2+", ["pipe", large], GET), refusal(b"Device"))
+
+
+def asked(at, calls, words, requests):
+    """The calls of these names that the program asks on the file at a path, in order."""
+    with tempfile.NamedTemporaryFile("r") as told:
+        trace = ["strace", "-qq", "-o", told.name, "-P", at, "-e", f"trace={calls}"]
+        subprocess.run([*trace, PROGRAM, *words], input=requests, capture_output=True, timeout=60)
+        return re.findall(r"^(\w+)\(", told.read(), re.MULTILINE)
+
+
+def opens(cases, folder):
+    """A disk's file is opened once, locked, and read from its medium again; a fault on the way refuses it."""
+    path = os.path.join(folder, "alone")
+    vtserve(["format", path, "--sectors", "64"])
+    link = os.path.join(folder, "link")
+    os.symlink(path, link)
+    cases.show("pipe of a link to a disk", vtserve(["pipe", link], GET), (0, EMPTY, b""))
+    if not shutil.which("strace"):
+        print("        no strace: what is asked at opening isn't seen")
+        return
+    calls = asked(path, "open,openat,flock,fdatasync,fsync,fadvise64", ["pipe", path], b"")
+    cases.show("a disk is opened once, locked, synced and dropped from the cache", calls[:4], ["openat", "flock", "fdatasync", "fadvise64"])
+    cases.show("it isn't opened again", calls.count("openat"), 1)
+    for name in ["EOPNOTSUPP", "ENOSYS"]:
+        cases.show(f"pipe where a lock is {name}", failing("flock", path, 1, ["pipe", path], GET, name), (0, EMPTY, b""))
+    for name in ["EBADF", "EIO", "ENOLCK", "EAGAIN", "EINVAL"]:
+        cases.show(f"pipe where a lock is {name}", failing("flock", path, 1, ["pipe", path], GET, name), refusal(b"File"))
+    cases.show("pipe where it stays in the cache", failing("fadvise64", path, 1, ["pipe", path], GET), refusal(b"Device"))
+
+
+def unusual_files(folder):
+    """Files that aren't regular ones, each with its name."""
+    fifo, device, plug = (os.path.join(folder, name) for name in ["fifo", "device", "socket"])
+    os.mkfifo(fifo)
+    socket.socket(socket.AF_UNIX).bind(plug)
+    found = [("a FIFO", fifo), ("a socket", plug)]
+    try:
+        os.mknod(device, stat.S_IFCHR | 0o666, os.makedev(1, 5))
+        found.append(("a device", device))
+    except PermissionError:
+        print("        not root: no device is made")
+    return found
+
+
+def refuses_unusual_files(cases, folder):
+    """What isn't a regular file is refused, and waited for by no command."""
+    folder = os.path.join(folder, "unusual")
+    os.mkdir(folder)
+    disk, archive = published(folder, "disk")
+    found = unusual_files(folder)
+    for name, path in found:
+        for words in [["pipe", path], ["serve", path, "--port", "1", "--connections", "1"], ["export", path, disk + "x"], ["show", path], ["verify", path]]:
+            cases.show(f"{words[0]} of {name}", vtserve(words), refusal(b"File"))
+    for words in [["pipe", "/dev/zero"], ["show", "/dev/zero"], ["verify", "/dev/zero"], ["show", "/dev/null"]]:
+        cases.show(" ".join(words), vtserve(words), refusal(b"File"))
+    target = os.path.join(folder, "target")
+    with open(target, "wb") as file:
+        file.write(b"old")
+    link, dangling = os.path.join(folder, "link"), os.path.join(folder, "dangling")
+    os.symlink(target, link)
+    os.symlink(os.path.join(folder, "none"), dangling)
+    for name, path in [*found, ("a link", link), ("a link to nothing", dangling)]:
+        before = os.lstat(path)
+        cases.show(f"export onto {name}", vtserve(["export", disk, path]), refusal(b"File"))
+        after = os.lstat(path)
+        cases.show("it is left as it is, with nothing beside", ((after.st_mode, after.st_ino), os.path.exists(path + ".part")), ((before.st_mode, before.st_ino), False))
+    cases.show("what the link leads to is left as it is", content(target)[0], b"old")
+    os.remove(target)
+    for mode in [0o640, 0o600, 0o444, 0o666]:
+        with open(target, "wb") as file:
+            file.write(b"old")
+        os.chmod(target, mode)
+        cases.show(f"export onto a file of mode {mode:o}", vtserve(["export", disk, target], preexec_fn=lambda: os.umask(0o022)), (0, b"%d bytes\n" % ARCHIVE, b""))
+        cases.show("the archive has that mode", (content(target)[0] == archive, stat.S_IMODE(os.stat(target).st_mode)), (True, mode))
+    os.remove(target)
+    vtserve(["export", disk, target], preexec_fn=lambda: os.umask(0o027))
+    cases.show("a new file has the mode of new files", stat.S_IMODE(os.stat(target).st_mode), 0o640)
+    with open(target, "wb") as file:
+        file.write(archive)
+    cases.show("verify of a link to an archive", vtserve(["verify", link])[0], 0)
 
 
 ARCHIVE = 223
@@ -329,6 +416,147 @@ def serves(cases, folder):
     cases.show("it is gone", vtserve(["pipe", disk], GET), (0, EMPTY, b""))
 
 
+def shown(path, numbers):
+    """The numbers of these that have a feature."""
+    asked_for = b"".join(b"GET /features/%d HTTP/1.1\r\nhost: x\r\n\r\n" % number for number in numbers)
+    statuses = re.findall(rb"HTTP/1\.1 (\d+)", vtserve(["pipe", path], asked_for)[1])
+    return [number for number, status in zip(numbers, statuses) if status == b"200"]
+
+
+def after_a_failed_sync(cases, folder):
+    """A medium that is full fails a sync. What a new process acknowledges then is on the medium: it is there without the system's cache.
+
+    The medium is a loop device over a file in memory that has less room than it says."""
+    back, mounted = os.path.join(folder, "back"), os.path.join(folder, "mounted")
+    os.mkdir(back)
+    os.mkdir(mounted)
+    image, filler, disk = os.path.join(back, "image"), os.path.join(back, "filler"), os.path.join(mounted, "disk")
+    with contextlib.ExitStack() as undo:
+        try:
+            system("mount", "-t", "tmpfs", "-o", "size=8M", "tmpfs", back)
+            undo.callback(system, "umount", "-l", back)
+            system("truncate", "-s", "64M", image)
+            loop = system("losetup", "-f", "--show", image)
+            undo.callback(system, "losetup", "-d", loop)
+            system("mkfs.ext4", "-q", "-O", "^has_journal", "-E", "lazy_itable_init=1,nodiscard", loop)
+            system("mount", loop, mounted)
+            undo.callback(system, "umount", mounted)
+        except (OSError, subprocess.CalledProcessError):
+            print("        no loop device can be mounted: no medium is made to fail")
+            return
+        vtserve(["format", disk, "--sectors", "4096"])
+        cases.show("four edits", vtserve(["pipe", disk], b"".join(put(number) for number in range(1, 5)))[1], b"".join(edit(number) for number in range(1, 5)))
+        os.sync()
+        with contextlib.suppress(OSError), open(filler, "wb", buffering=0) as file:
+            while True:
+                file.write(bytes(4096))
+        out = vtserve(["pipe", disk], b"".join(put(number) for number in range(5, 65)))[1]
+        made = out.count(b'{"edit":')
+        cases.show("on a full medium an edit is Device, and those after it Broken", out.split(edit(4 + made))[-1][:len(error(b"Device"))], error(b"Device"))
+        os.remove(filler)
+        numbers = [*range(1, 65), 100, 101]
+        told = vtserve(["pipe", disk], put(100) + put(101))[1]
+        cases.show("a new process acknowledges two edits", told.count(b'{"edit":'), 2)
+        before = shown(disk, numbers)
+        system("umount", mounted)
+        system("mount", loop, mounted)
+        cases.show("what it shows is on the medium", (shown(disk, numbers), {100, 101} <= set(before)), (before, True))
+
+
+def system(*words):
+    """What a command of the system prints."""
+    return subprocess.run(words, check=True, capture_output=True, text=True, timeout=60).stdout.strip()
+
+
+def drip(peer, seconds):
+    """Sends a byte each half second, until the peer is closed: how many seconds that took."""
+    start = time.monotonic()
+    while time.monotonic() - start < seconds:
+        try:
+            peer.sendall(b"x")
+        except OSError:
+            break
+        time.sleep(0.5)
+    return time.monotonic() - start
+
+
+def drips_a_request(peer):
+    """A head whose bytes come one by one."""
+    peer.sendall(b"GET /")
+    return drip(peer, 200)
+
+
+def drips_behind_its_reply(peer):
+    """One request, the last one, and bytes that come one by one behind it."""
+    peer.sendall(GET.replace(b"host", b"connection: close\r\nhost"))
+    return drip(peer, 200)
+
+
+# A feature of 62 kB, and a request for it.
+LONG = b'{"layer":"p","minzoom":0,"maxzoom":2,"geometry":{"points":[%s]},"tags":{}}' % b",".join([b"[4294967295,4294967295]"] * 2700)
+PUT_LONG = b"PUT /features/9 HTTP/1.1\r\nhost: x\r\ncontent-length: %d\r\n\r\n%s" % (len(LONG), LONG)
+GET_LONG = b"GET /features/9 HTTP/1.1\r\nhost: x\r\n\r\n"
+GET_NOTHING = b"GET /map/1/0/0.hex HTTP/1.1\r\nhost: x\r\n\r\n"
+
+
+def reads_nothing(peer):
+    """Requests without end, whose replies aren't read."""
+    start = time.monotonic()
+    peer.settimeout(200)
+    try:
+        while True:
+            peer.sendall(GET_LONG * 100)
+    except OSError:
+        return time.monotonic() - start
+
+
+def sends_in_pieces(peer):
+    """A request in pieces, and its end: how many seconds it takes to the reply."""
+    start = time.monotonic()
+    for at in range(0, len(GET_NOTHING), 8):
+        peer.sendall(GET_NOTHING[at:at + 8])
+        time.sleep(0.5)
+    peer.recv(100)
+    return time.monotonic() - start
+
+
+# What a peer does, the line of its connection up to its end, and for how many seconds it is served.
+SLOW_PEERS = [
+    (drips_a_request, rb"connection 1: 0 requests, read", 60, 130),
+    (drips_behind_its_reply, rb"connection 1: 1 requests, asked", 58, 70),
+    (reads_nothing, rb"connection 1: \d+ requests, write", 59, 80),
+    (sends_in_pieces, rb"connection 1: 1 requests, closed", 2, 10),
+]
+
+
+def slow_peers(cases, folder):
+    """Peers that send or read little: each is given up, and the next one is served. They are served by processes side by side."""
+    seen = {}
+
+    def try_peer(act):
+        disk = os.path.join(folder, act.__name__)
+        vtserve(["format", disk, "--sectors", "1024"])
+        vtserve(["pipe", disk], PUT_LONG)
+        serving = Serving(disk, 2)
+        with socket.create_connection(("127.0.0.1", serving.port)) as peer:
+            seconds = act(peer)
+        after = serving.ask(GET_NOTHING)
+        status, _, log = serving.end()
+        seen[act] = seconds, after, status, log
+
+    threads = [threading.Thread(target=try_peer, args=(row[0],)) for row in SLOW_PEERS]
+    for thread in threads:
+        thread.start()
+    for thread in threads:
+        thread.join()
+    for act, line, least, most in SLOW_PEERS:
+        seconds, after, status, log = seen.get(act, (0, b"", None, b""))
+        name = act.__name__.replace("_", " ")
+        wanted = line + rb"\nconnection 2: 1 requests, closed\n"
+        cases.show(f"a peer that {name}", (bool(re.fullmatch(wanted, log)) or log, status), (True, 0))
+        cases.show("it is served for a while, and then the next one", (least <= seconds <= most or seconds, after), (True, EMPTY))
+
+
 def words(cases, folder, disk):
     """Command lines that don't parse are status 2, before any file is touched."""
     path = os.path.join(folder, "unmade")
@@ -379,8 +607,12 @@ def main():
         closed_streams(cases, folder)
         runs_out(cases, folder)
         fails(cases, folder)
+        opens(cases, folder)
+        refuses_unusual_files(cases, folder)
+        after_a_failed_sync(cases, folder)
         exports(cases, folder)
         serves(cases, folder)
+        slow_peers(cases, folder)
         words(cases, folder, disk)
         foreign_paths(cases, folder, disk)
     return 1 if cases.differ else 0

@@ -1,2 +1,3 @@
 pub mod Connections
 pub mod Lines
+pub mod Paces

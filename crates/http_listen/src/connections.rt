@@ -5,14 +5,13 @@ ghost use Rattle.http_listen.specs.Connections.{Connection, Serves, CameTo, unkn
 use crate::doors::Door;
 use crate::ends::end_connection;
 use crate::lines::write_line;
-use crate::shared::Shared;
-use crate::turns::{ROUND_MILLISECONDS, Turns};
+use crate::paced::{Paced, PacedWriter, ROUND_MILLISECONDS};
+use crate::turns::Turns;
 use http_serve::{Handler, ServeFault, Served, serve};
 use std::alloc::Global;
-use std::cell::RefCell;
 use std::io::{Read, Write};
 use std::net::{OpenListener, OpenStream, Shutdown};
-use std::time::Duration;
+use std::time::{Clock, Duration};
 use thiserror::Error;
 
 /// Why no more connections are served.
@@ -23,18 +22,16 @@ pub enum ListenFault {
     Accept,
 }
 
-/// How many seconds a read or a write of a connection waits at most for its peer.
-pub const WAIT_SECONDS: u64 = 60;
-
 /// How many yielded connections are kept open for their last replies.
 const MOST_LINGERING: usize = 16;
 
 /// Sets what a new connection has: no delay of small replies, and bounds on how long its peer is waited for. What the system
 /// doesn't let be set is left as it is.
 fn prepare<S: OpenStream>(stream: &S) {
+    let round = Duration::from_millis(ROUND_MILLISECONDS);
     let _ = stream.set_nodelay(true);
-    let _ = stream.set_read_timeout(Some(Duration::from_millis(ROUND_MILLISECONDS)));
-    let _ = stream.set_write_timeout(Some(Duration::from_secs(WAIT_SECONDS)));
+    let _ = stream.set_read_timeout(Some(round));
+    let _ = stream.set_write_timeout(Some(round));
 }
 
 /// Ends a connection that has yielded: nothing more is sent. Its stream is kept for a while, so that a request that it sends
@@ -48,7 +45,8 @@ fn linger<S: OpenStream + Drop>(kept: &mut Vec<S>, stream: S) {
 }
 
 /// Serves the connection of a stream, and ends it.
-fn serve_stream<L, H>(
+fn serve_stream<L, H, C>(
+    clock: &C,
     alloc: Global,
     door: &Door<'_, L>,
     stream: L::Stream,
@@ -60,18 +58,19 @@ where
     L: OpenListener,
     L::Stream: Read + Write + OpenStream,
     H: Handler,
+    C: Clock,
     ensures { CameTo H.replies result handler.old (unknown_stream result) handler.new }
 {
     prepare(&stream);
-    let stream = RefCell::new(stream);
+    let stream = Paced::new(clock, stream);
     let mut reader = Turns::new(&stream, door, last);
-    let outcome = serve(alloc, &mut reader, &mut Shared(&stream), handler);
+    let outcome = serve(alloc, &mut reader, &mut PacedWriter(&stream), handler);
     let yielded = reader.has_yielded();
-    let mut stream = stream.into_inner();
+    let mut stream = stream.into_stream();
     if yielded {
         linger(kept, stream);
     } else {
-        end_connection(&mut stream);
+        end_connection(clock, &mut stream);
     }
     outcome
 }
@@ -83,13 +82,18 @@ where
 /// A connection on which nothing comes for 100 ms between two requests, or for a second before the first, yields to one that
 /// waits to be accepted: it is ended, and told as `closed`. The last one of all yields to none.
 ///
-/// A connection's fault ends that connection alone. Of a peer that doesn't read or write for `WAIT_SECONDS` the connection
-/// is given up. A line that can't be written is left out.
+/// A connection's fault ends that connection alone. A line that can't be written is left out.
+///
+/// A peer has `WAIT_SECONDS` to begin a request, as long again to its end, and as long for a reply and a second more for each
+/// `BYTES_A_SECOND` of it, but never more than `WAIT_SECONDS` at once. The replies to requests that were read together count as one.
+/// A slower peer's connection is given up, as where a read or a write fails. What it sends after its last reply is dropped for
+/// `WAIT_SECONDS` at most.
 ///
 /// # Errors
 ///
 /// `Accept` where a connection couldn't be accepted: then no more are served.
-pub fn serve_on<L, H, W>(
+pub fn serve_on<L, H, W, C>(
+    clock: &C,
     alloc: Global,
     listener: &L,
     connections: u64,
@@ -101,6 +105,7 @@ where
     L::Stream: Read + Write + OpenStream,
     H: Handler,
     W: Write,
+    C: Clock,
     ensures all { OnOk result ((served : List Connection) × Serves H.replies handler.old served handler.new × (length served ≡ connections)) }
     ensures fewer { OnErr result ((served : List Connection) × Serves H.replies handler.old served handler.new × (length served < connections)) }
 {
@@ -111,7 +116,7 @@ where
             return Err(ListenFault::Accept);
         };
         let last = before + 1 >= connections;
-        let outcome = serve_stream(alloc, &door, stream, &mut kept, last, handler);
+        let outcome = serve_stream(clock, alloc, &door, stream, &mut kept, last, handler);
         let _ = write_line(log, before + 1, outcome);
     }
     Ok(())

@@ -1,8 +1,10 @@
 //! The end of a connection.
 
+use crate::paced::nanoseconds_since;
+use crate::paces::Pace;
 use std::io::Read;
 use std::net::{OpenStream, Shutdown};
-use std::time::Duration;
+use std::time::{Clock, Duration};
 
 /// How many seconds a read waits at most that drops what a peer still sends.
 pub const LAST_WAIT_SECONDS: u64 = 2;
@@ -10,26 +12,47 @@ pub const LAST_WAIT_SECONDS: u64 = 2;
 /// The bytes that are dropped at most of what a peer still sends: 16 MiB.
 pub const MOST_DROPPED: usize = 16_777_216;
 
+/// The reads that drop it at most. So many segments of Ethernet have 16 MiB.
+pub const MOST_DROPPING_READS: u64 = 16_384;
+
 /// How many bytes are dropped at once.
 const PIECE: usize = 4_096;
 
-/// Reads and drops what comes, up to the input's end, a read that fails, or so many bytes.
-fn drop_rest<S: Read>(stream: &mut S) {
+/// Makes one read. Whether more may come, and how much time is left then.
+fn drop_piece<S: Read, C: Clock>(clock: &C, stream: &mut S, pace: Pace) -> Option<(usize, Pace)> {
+    let start = clock.monotonic().ok()?;
     let mut piece = [0; PIECE];
-    let mut dropped = 0;
-    while dropped < MOST_DROPPED {
-        match stream.read(&mut piece) {
-            Ok(0) | Err(_) => return,
-            Ok(count) => dropped += count,
+    let count = stream.read(&mut piece).ok()?;
+    let pace = pace.waited(nanoseconds_since(clock, start).ok()?);
+    if count == 0 || pace.is_over() {
+        return None;
+    }
+    Some((count, pace))
+}
+
+/// Reads and drops what comes, up to the input's end, a read that fails, or the bounds on bytes, reads and time.
+fn drop_rest<S: Read, C: Clock>(clock: &C, stream: &mut S) {
+    let mut left = MOST_DROPPED;
+    let mut pace = Pace::new();
+    for _ in 0..MOST_DROPPING_READS {
+        if left == 0 {
+            return;
+        }
+        match drop_piece(clock, stream, pace) {
+            Some((count, after)) => {
+                left = left.saturating_sub(count);
+                pace = after;
+            }
+            None => return,
         }
     }
 }
 
-/// Ends a connection whose replies are written: nothing more is sent, and what the peer still sends is read and dropped, so that
-/// the peer reads its last reply, and not that the connection was reset (RFC 9112, 9.6).
-pub(crate) fn end_connection<S: Read + OpenStream>(stream: &mut S) {
+/// Ends a connection whose replies are written: nothing more is sent, and what the peer still sends is read and dropped, for a minute
+/// at most, so that the peer reads its last reply, and not that the connection was reset (RFC 9112, 9.6).
+pub(crate) fn end_connection<S: Read + OpenStream, C: Clock>(clock: &C, stream: &mut S) {
     let wait = Duration::from_secs(LAST_WAIT_SECONDS);
     if stream.shutdown(Shutdown::Write).is_ok() && stream.set_read_timeout(Some(wait)).is_ok() {
-        drop_rest(stream);
+        drop_rest(clock, stream);
     }
 }

@@ -5,9 +5,11 @@ mod connections;
 mod doors;
 mod ends;
 mod lines;
-mod shared;
+mod paced;
+mod paces;
 mod turns;
 
-pub use connections::{ListenFault, WAIT_SECONDS, serve_on};
-pub use ends::{LAST_WAIT_SECONDS, MOST_DROPPED};
+pub use connections::{ListenFault, serve_on};
+pub use ends::{LAST_WAIT_SECONDS, MOST_DROPPED, MOST_DROPPING_READS};
 pub use lines::write_line;
+pub use paces::{BYTES_A_SECOND, WAIT_SECONDS};

@@ -1,18 +1,10 @@
 //! A reader that yields between two requests.
-ghost use Rattle.std.specs.Io.{ReadsAtMost};
-
-use crate::connections::WAIT_SECONDS;
 use crate::doors::Door;
+use crate::paced::{MOST_ROUNDS, Paced};
 use http_serve::READ_SPACE;
-use std::cell::RefCell;
 use std::io::{self, ErrorKind, Read};
 use std::net::OpenListener;
-
-/// How many milliseconds a round of a read waits at most.
-pub(crate) const ROUND_MILLISECONDS: u64 = 100;
-
-/// How many rounds a read has at most.
-const MOST_ROUNDS: u64 = WAIT_SECONDS * 1_000 / ROUND_MILLISECONDS;
+use std::time::Clock;
 
 /// How many rounds a peer that has sent nothing yet is waited for where another one waits.
 const FIRST_ROUNDS: u64 = 10;
@@ -22,8 +14,8 @@ const IDLE_ROUNDS: u64 = 1;
 
 /// The reader of a connection.
 #[derive(Drop)]
-pub(crate) struct Turns<'a, L: OpenListener> {
-    stream: &'a RefCell<L::Stream>,
+pub(crate) struct Turns<'a, L: OpenListener, C> {
+    stream: &'a Paced<'a, L::Stream, C>,
     door: &'a Door<'a, L>,
     /// Whether it is the last connection of all, which yields to none.
     last: bool,
@@ -32,9 +24,13 @@ pub(crate) struct Turns<'a, L: OpenListener> {
     yielded: bool,
 }
 
-impl<'a, L: OpenListener> Turns<'a, L> {
+impl<'a, L: OpenListener, C> Turns<'a, L, C> {
     /// The reader of a connection on which nothing was read.
-    pub(crate) fn new(stream: &'a RefCell<L::Stream>, door: &'a Door<'a, L>, last: bool) -> Self {
+    pub(crate) fn new(
+        stream: &'a Paced<'a, L::Stream, C>,
+        door: &'a Door<'a, L>,
+        last: bool,
+    ) -> Self {
         Turns {
             stream,
             door,
@@ -60,31 +56,17 @@ impl<'a, L: OpenListener> Turns<'a, L> {
     }
 }
 
-impl<L> Turns<'_, L>
+impl<L, C> Read for Turns<'_, L, C>
 where
     L: OpenListener,
     L::Stream: Read,
-{
-    /// One round of a read.
-    fn read_round(&self, buf: &mut [u8]) -> io::Result<usize>
-        ensures { ReadsAtMost result buf.new }
-    {
-        match self.stream.try_borrow_mut() {
-            Ok(mut stream) => stream.read(buf),
-            Err(_) => Err(ErrorKind::WouldBlock.into()),
-        }
-    }
-}
-
-impl<L> Read for Turns<'_, L>
-where
-    L: OpenListener,
-    L::Stream: Read,
+    C: Clock,
 {
     fn read(&mut self, buf: &mut [u8]) -> io::Result<usize> {
         let idle = buf.len() >= READ_SPACE;
+        self.stream.begin_read(idle);
         for before in 0..MOST_ROUNDS {
-            match self.read_round(buf) {
+            match self.stream.read_round(buf) {
                 Err(e) if e.kind() == ErrorKind::WouldBlock => {}
                 Ok(count) => {
                     self.begun = true;

@@ -12,13 +12,15 @@ use sector_disk::Sectors;
 use std::alloc::Global;
 use std::io::{Read, Write};
 use std::net::{OpenListener, OpenStream};
+use std::time::Clock;
 
 /// Serves so many connections of a listener, one after the other, as `http_listen::serve_on` does.
 ///
 /// # Errors
 ///
 /// `Accept`, where a connection can't be accepted. Those before it were served.
-pub fn serve_map_on<D, L, W>(
+pub fn serve_map_on<D, L, W, C>(
+    clock: &C,
     alloc: Global,
     listener: &L,
     connections: u64,
@@ -30,6 +32,7 @@ where
     L: OpenListener,
     L::Stream: Read + Write + OpenStream,
     W: Write,
+    C: Clock,
     // The replies of all connections, in order, report one run of the service. A crash at any moment leaves some first edits of it: all
     // that were acknowledged by then, on whatever connection, and none asked for later.
     ensures all { OnOk result ((served : List Connection) × (length served ≡ connections) × (run : List Happening) × Serves Tells [] served run
@@ -37,5 +40,5 @@ where
     ensures fewer { OnErr result ((served : List Connection) × (length served < connections) × (run : List Happening) × Serves Tells [] served run
         × TakesRun D.sectors D.honest D.history (asked_service service.old) run (asked_service service.new)) }
 {
-    serve_on(alloc, listener, connections, service, log)
+    serve_on(clock, alloc, listener, connections, service, log)
 }

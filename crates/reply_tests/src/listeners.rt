@@ -5,6 +5,7 @@ mod fakes;
 mod lines;
 mod maps;
 mod peers;
+mod slow;
 mod yields;
 
 use http::StatusCode;

@@ -1,13 +1,25 @@
 //! The commands over an archive in a file.
 
 use crate::refused;
+use crate::regular::open_regular;
 use archive_commands::{Verdict, show, verify};
+use std::fs::OpenOptions;
+use std::io::{self, Read};
 use std::process::ExitCode;
-use std::{fs, io};
 
-/// The bytes of a file, or the name of the fault.
+/// The bytes of a regular file.
+fn read_regular(rt: &HostRuntime, path: &str) -> io::Result<Vec<u8>> {
+    let mut how = OpenOptions::new();
+    how.read(true);
+    let mut file = open_regular(rt, path, &how)?;
+    let mut bytes = Vec::new(rt.alloc());
+    file.read_to_end(&mut bytes)?;
+    Ok(bytes)
+}
+
+/// The bytes of a regular file, or the name of the fault.
 fn file_bytes(rt: &HostRuntime, path: &str) -> Result<Vec<u8>, &'static str> {
-    match fs::read(rt, path) {
+    match read_regular(rt, path) {
         Ok(bytes) => Ok(bytes),
         Err(error) if error.kind() == io::ErrorKind::OutOfMemory => Err("Memory"),
         Err(_) => Err("File"),

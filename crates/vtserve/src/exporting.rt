@@ -7,8 +7,9 @@ use archive_export::{CopyFault, copy_archive};
 use generations::StoreFault;
 use map_disks::sync_folder;
 use sector_disk::{Sectors, Start};
-use std::fs::{self, File};
-use std::os::unix::fs::MetadataExt;
+use std::fs::{self, File, OpenOptions, Permissions};
+use std::io::{self, ErrorKind};
+use std::os::unix::fs::{MetadataExt, OpenOptionsExt, PermissionsExt};
 use tile_service::Service;
 
 /// Whether two paths lead to one file.
@@ -43,19 +44,47 @@ fn rename(rt: &HostRuntime, part: &str, goal: &str) -> Result<(), CommandFault> 
     Ok(())
 }
 
+/// The permissions of the regular file at a path, if there is a file. What isn't a regular file, a link among them, is refused.
+fn replaced_permissions(rt: &HostRuntime, path: &str) -> Result<Option<Permissions>, CommandFault> {
+    match fs::symlink_metadata(rt, path) {
+        Ok(metadata) if metadata.is_file() => Ok(Some(metadata.permissions())),
+        Err(error) if error.kind() == ErrorKind::NotFound => Ok(None),
+        _ => Err(CommandFault::File),
+    }
+}
+
+/// Makes a file where there is nothing, with these permissions, or with those of every new file. No one whom they keep out can open
+/// it meanwhile.
+fn new_file(rt: &HostRuntime, path: &str, permissions: Option<Permissions>) -> io::Result<File> {
+    let mut how = OpenOptions::new();
+    how.write(true).create_new(true);
+    let Some(permissions) = permissions else {
+        return how.open(rt, path);
+    };
+    let file = how.mode(permissions.mode() & 0o777).open(rt, path)?;
+    match file.set_permissions(permissions) {
+        Ok(()) => Ok(file),
+        Err(error) => {
+            let _ = fs::remove_file(rt, path);
+            Err(error)
+        }
+    }
+}
+
 /// Writes the archive into a file beside its goal, where there is none, and then has it take the goal's name: how many bytes it
 /// has. A crash leaves what the goal was or the whole archive.
 fn write_beside<D: Sectors + Drop>(
     rt: &HostRuntime,
     service: &mut Service<D>,
     goal: &str,
+    permissions: Option<Permissions>,
 ) -> Result<u64, CommandFault>
     ensures size { IfOk result (λ size. size ≡ service.old.archive_len) }
 {
     let Ok(part) = format!(in rt.alloc(); "{goal}.part") else {
         return Err(CommandFault::Store(StoreFault::Memory));
     };
-    let Ok(file) = File::create_new(rt, part.as_str()) else {
+    let Ok(file) = new_file(rt, part.as_str(), permissions) else {
         return Err(CommandFault::File);
     };
     let written = match copy_into(service, file) {
@@ -68,7 +97,8 @@ fn write_beside<D: Sectors + Drop>(
     written
 }
 
-/// Writes the archive of a service into a file, unless that is the file at this path, and says how many bytes it has.
+/// Writes the archive of a service into a file, unless that is the file at this path, and says how many bytes it has. A file that
+/// is replaced leaves its permissions to the new one.
 fn export_lent<D: Sectors + Drop>(
     rt: &HostRuntime,
     service: &mut Service<D>,
@@ -81,7 +111,8 @@ fn export_lent<D: Sectors + Drop>(
     if is_same_file(rt, path, goal) {
         return Err(CommandFault::File);
     }
-    let size = write_beside(rt, service, goal)?;
+    let permissions = replaced_permissions(rt, goal)?;
+    let size = write_beside(rt, service, goal, permissions)?;
     match println!(rt; "{size} bytes") {
         Ok(()) => Ok(()),
         Err(_) => Err(CommandFault::Write),

@@ -6,7 +6,7 @@ use map_disks::FileFault;
 
 /// Why a command doesn't do what it was asked.
 pub(crate) enum CommandFault {
-    /// The file can't be opened or made, or its folder not be synced, or another process uses the disk in it.
+    /// The file isn't a regular one, can't be opened, locked or made, or its folder not be synced, or another process uses the disk in it.
     File,
     /// No archive was published.
     NoArchive,

@@ -1,11 +1,14 @@
 //! The commands over a disk in a file.
 
 use crate::fault::CommandFault;
+use crate::regular::open_regular;
 use crate::serving::{Peers, serve};
+use generations::StoreFault;
 use map_disks::{formatted_file, opened_service};
 use sector_disk::{FileDisk, Start, SystemFile, Zeros};
 use std::fs::{File, OpenOptions, TryLockError};
-use std::io;
+use std::io::{self, ErrorKind};
+use std::os::fd::AsRawFd;
 
 /// Makes a file of so many sectors whose disk holds the empty map, and says so.
 pub(crate) fn format_file(rt: &HostRuntime, path: &str, sectors: u64) -> Result<(), CommandFault> {
@@ -39,21 +42,45 @@ pub(crate) struct OpenedFile<S: Start> {
     pub(crate) held: Held,
 }
 
-/// The files that stand for standard streams that were closed, and the one that is locked.
+/// The files that stand for standard streams that were closed.
 #[derive(Drop)]
 pub(crate) struct Held {
     _streams: [File; 3],
-    _lock: File,
 }
 
-/// Keeps other processes from using the disk in a file as long as the result is kept. A system that has no locks is not held to it.
-fn locked(rt: &HostRuntime, path: &str) -> Result<File, CommandFault> {
-    let Ok(file) = File::open(rt, path) else {
+/// Keeps other processes from using an open file. A system without locks isn't held to it; any other fault refuses the file.
+fn lock(file: &File) -> Result<(), CommandFault> {
+    match file.try_lock() {
+        Ok(()) => Ok(()),
+        Err(TryLockError::Error(error)) if error.kind() == ErrorKind::Unsupported => Ok(()),
+        Err(_) => Err(CommandFault::File),
+    }
+}
+
+/// Syncs an open file, and has the system read it from its medium again. Where a sync of an earlier process failed, Linux takes what
+/// wasn't written for written, and gives it to readers until it forgets it.
+fn settle(file: &File) -> Result<(), CommandFault> {
+    let synced = file.sync_data().is_ok();
+    if synced && libc::posix_fadvise(file.as_raw_fd(), 0, 0, libc::POSIX_FADV_DONTNEED) == 0 {
+        Ok(())
+    } else {
+        Err(CommandFault::Store(StoreFault::Device))
+    }
+}
+
+/// Opens a regular file to read and to write it, unless another process uses it, and has it read from its medium: the file, and its
+/// length in bytes. It is opened once, so that the file that is locked is the one that is used.
+fn opened_alone(rt: &HostRuntime, path: &str) -> Result<(File, u64), CommandFault> {
+    let mut how = OpenOptions::new();
+    how.read(true).write(true);
+    let Ok(file) = open_regular(rt, path, &how) else {
         return Err(CommandFault::File);
     };
-    match file.try_lock() {
-        Ok(()) | Err(TryLockError::Error(_)) => Ok(file),
-        Err(TryLockError::WouldBlock) => Err(CommandFault::File),
+    lock(&file)?;
+    settle(&file)?;
+    match file.metadata() {
+        Ok(metadata) => Ok((file, metadata.len())),
+        Err(_) => Err(CommandFault::File),
     }
 }
 
@@ -66,15 +93,11 @@ pub(crate) fn opened_file<S: Start>(
     let Ok(streams) = closed_streams(rt) else {
         return Err(CommandFault::File);
     };
-    let lock = locked(rt, path)?;
-    let held = Held {
-        _streams: streams,
-        _lock: lock,
-    };
-    match FileDisk::open(rt, path, start) {
-        Ok(disk) => Ok(OpenedFile { disk, held }),
-        Err(_) => Err(CommandFault::File),
-    }
+    let (file, bytes) = opened_alone(rt, path)?;
+    Ok(OpenedFile {
+        disk: FileDisk::new(SystemFile::new(file), bytes, start),
+        held: Held { _streams: streams },
+    })
 }
 
 /// Serves the map on the disk in a file, whatever the file had.

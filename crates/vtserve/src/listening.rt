@@ -60,6 +60,7 @@ pub(crate) fn serve_connections<D: Sectors + Drop>(
     };
     let connections = u64::from(asked.connections);
     match serve_map_on(
+        rt,
         rt.alloc(),
         &listener,
         connections,

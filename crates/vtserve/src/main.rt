@@ -7,10 +7,12 @@ mod exporting;
 mod fault;
 mod files;
 mod listening;
+mod regular;
 mod serving;
 
 use archives::{show_file, verify_file};
 use clap::ArgMatches;
+use clap::error::ErrorKind::OutOfMemory;
 use commands::command_line;
 use exporting::export_file;
 use fault::CommandFault;
@@ -93,6 +95,15 @@ fn command_words(rt: &HostRuntime) -> Result<Vec<String>, CommandFault> {
     }
 }
 
+/// Prints what the parser of the command line says in place of a command: help, the version, or an error.
+fn unread(rt: &HostRuntime, error: &clap::Error) -> anyhow::Result<ExitCode> {
+    if error.kind() == OutOfMemory {
+        return refused(rt, CommandFault::Store(StoreFault::Memory).name());
+    }
+    error.print(rt)?;
+    Ok(ExitCode::from(error.exit_code() as u8))
+}
+
 fn main(rt: HostRuntime) -> anyhow::Result<ExitCode> {
     let words = match command_words(&rt) {
         Ok(words) => words,
@@ -103,10 +114,7 @@ fn main(rt: HostRuntime) -> anyhow::Result<ExitCode> {
     };
     let matches = match command.try_get_matches_from(words.as_slice()) {
         Ok(matches) => matches,
-        Err(error) => {
-            error.print(&rt)?;
-            return Ok(ExitCode::from(error.exit_code() as u8));
-        }
+        Err(error) => return unread(&rt, &error),
     };
     run(&rt, &matches)
 }

@@ -1,13 +1,13 @@
 //! Streams that say what was asked of them, and listeners, streams and logs that fail.
 use super::Counter;
-use http_listen::{LAST_WAIT_SECONDS, ListenFault, WAIT_SECONDS, serve_on};
+use http_listen::{LAST_WAIT_SECONDS, ListenFault, serve_on};
 use std::cell::Cell;
 use std::io::{self, ErrorKind, Read, Write};
 use std::net::{Ipv4Addr, OpenListener, OpenStream, Shutdown, SocketAddr};
 use std::test::Fail;
 use std::time::Duration;
 
-/// How many milliseconds a round of a read waits.
+/// How many milliseconds a read or a write waits.
 const ROUND_MILLISECONDS: u64 = 100;
 
 /// What streams were asked.
@@ -54,7 +54,7 @@ impl Read for Stream<'_> {
         } else {
             ROUND_MILLISECONDS
         };
-        if !asked.no_delay || asked.read_wait != wait || asked.write_wait != WAIT_SECONDS * 1_000 {
+        if !asked.no_delay || asked.read_wait != wait || asked.write_wait != ROUND_MILLISECONDS {
             asked.wrong = asked.wrong.saturating_add(1);
         }
         let mut count = buf.len();
@@ -184,12 +184,12 @@ fn a_peer_that_sends_on_is_read_for_a_while(rt: HostRuntime) -> Result<(), Fail>
     };
     let mut log = Vec::new(rt.alloc());
     let mut handler = Counter { before: 0 };
-    serve_on(rt.alloc(), &listener, 1, &mut handler, &mut log)?;
+    serve_on(&rt, rt.alloc(), &listener, 1, &mut handler, &mut log)?;
     let want = Asked {
         accepts: 0,
         no_delay: true,
         read_wait: 2_000,
-        write_wait: 60_000,
+        write_wait: 100,
         shut: true,
         dropped: 16_777_216,
         wrong: 0,
@@ -213,7 +213,7 @@ fn a_stubborn_stream_is_served(rt: HostRuntime) -> Result<(), Fail> {
     };
     let mut log = Vec::new(rt.alloc());
     let mut handler = Counter { before: 0 };
-    serve_on(rt.alloc(), &listener, 1, &mut handler, &mut log)?;
+    serve_on(&rt, rt.alloc(), &listener, 1, &mut handler, &mut log)?;
     assert_eq!(rt;
         asked.get(),
         Asked {
@@ -238,7 +238,7 @@ fn an_accept_that_fails_ends_it(rt: HostRuntime) -> Result<(), Fail> {
     };
     let mut log = Vec::new(rt.alloc());
     let mut handler = Counter { before: 0 };
-    let ended = serve_on(rt.alloc(), &listener, 4, &mut handler, &mut log);
+    let ended = serve_on(&rt, rt.alloc(), &listener, 4, &mut handler, &mut log);
     assert_eq!(rt; ended, Err(ListenFault::Accept));
     let lines = "connection 1: 1 requests, asked\nconnection 2: 1 requests, asked\n";
     assert_eq!(rt; log.as_slice(), lines.as_bytes());
@@ -254,7 +254,7 @@ fn a_full_log_is_passed_over(rt: HostRuntime) -> Result<(), Fail> {
         asked: &asked,
     };
     let mut handler = Counter { before: 0 };
-    serve_on(rt.alloc(), &listener, 3, &mut handler, &mut Full)?;
+    serve_on(&rt, rt.alloc(), &listener, 3, &mut handler, &mut Full)?;
     assert_eq!(rt; handler.before, 3);
     Ok(())
 }

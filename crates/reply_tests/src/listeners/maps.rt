@@ -35,13 +35,13 @@ fn peer(rt: &HostRuntime, listener: &TcpListener, sent: &str) -> io::Result<TcpS
 
 /// Serves the connections that wait: what came of it.
 fn served(
-    alloc: Global,
+    rt: &HostRuntime,
     listener: &TcpListener,
     count: u64,
 ) -> Result<Result<(), ListenFault>, Fail> {
-    let mut service = empty(alloc)?;
-    let mut log = Vec::new(alloc);
-    Ok(serve_map_on(alloc, listener, count, &mut service, &mut log))
+    let mut service = empty(rt.alloc())?;
+    let mut log = Vec::new(rt.alloc());
+    Ok(serve_map_on(rt, rt.alloc(), listener, count, &mut service, &mut log))
 }
 
 #[test]
@@ -50,7 +50,7 @@ fn an_edit_of_one_connection_shows_on_the_next(rt: HostRuntime) -> Result<(), Fa
     let listener = TcpListener::bind(&rt, SocketAddr::from((Ipv4Addr::LOCALHOST, 0)))?;
     let edits = peer(&rt, &listener, PUT)?;
     let mut looks = peer(&rt, &listener, GET)?;
-    let outcome = served(alloc, &listener, 2)?;
+    let outcome = served(&rt, &listener, 2)?;
     let mut read = Vec::new(alloc);
     looks.read_to_end(&mut read)?;
     assert_eq!(rt; (outcome, read.as_slice()), (Ok(()), TILE.as_bytes()));

@@ -31,7 +31,7 @@ fn a_peer_reads_its_replies(rt: HostRuntime) -> Result<(), Fail> {
     let mut first = peer(&rt, &listener, two.as_str())?;
     let mut handler = Counter { before: 0 };
     let mut log = Vec::new(alloc);
-    serve_on(alloc, &listener, 1, &mut handler, &mut log)?;
+    serve_on(&rt, alloc, &listener, 1, &mut handler, &mut log)?;
     let mut read = Vec::new(alloc);
     first.read_to_end(&mut read)?;
     let want = [FIRST, SECOND].concat(alloc)?;
@@ -56,7 +56,7 @@ fn peers_one_after_the_other(rt: HostRuntime) -> Result<(), Fail> {
     let refused = peer(&rt, &listener, "GET / HTTP/1.1\r\n\r\n")?;
     let mut handler = Counter { before: 0 };
     let mut log = Vec::new(alloc);
-    serve_on(alloc, &listener, 4, &mut handler, &mut log)?;
+    serve_on(&rt, alloc, &listener, 4, &mut handler, &mut log)?;
     let mut read = Vec::new(alloc);
     last.read_to_end(&mut read)?;
     assert_eq!(rt; read.as_slice(), THIRD_LAST.as_bytes());
@@ -79,7 +79,7 @@ fn a_kept_connection_yields(rt: HostRuntime) -> Result<(), Fail> {
     let mut waits = peer(&rt, &listener, GET)?;
     let mut handler = Counter { before: 0 };
     let mut log = Vec::new(alloc);
-    serve_on(alloc, &listener, 2, &mut handler, &mut log)?;
+    serve_on(&rt, alloc, &listener, 2, &mut handler, &mut log)?;
     let mut read = Vec::new(alloc);
     kept.read_to_end(&mut read)?;
     assert_eq!(rt; read.as_slice(), FIRST.as_bytes());

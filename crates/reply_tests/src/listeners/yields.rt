@@ -1,7 +1,6 @@
 //! Streams on which nothing comes for a while, and listeners at which streams wait.
 use super::{Counter, GET};
 use http_listen::serve_on;
-use std::alloc::Global;
 use std::cell::Cell;
 use std::io::{self, ErrorKind, Read, Write};
 use std::net::{Ipv4Addr, OpenListener, OpenStream, Shutdown, SocketAddr};
@@ -102,7 +101,7 @@ struct Outcome {
 }
 
 /// Serves the streams, of which none waits ahead before so many looks.
-fn serve_all(alloc: Global, streams: &[&[Round]], vain: u64) -> Result<Outcome, Fail> {
+fn serve_all(rt: &HostRuntime, streams: &[&[Round]], vain: u64) -> Result<Outcome, Fail> {
     let given = Cell::new(0);
     let looks = Cell::new(0);
     let nonblocking = Cell::new(false);
@@ -113,10 +112,17 @@ fn serve_all(alloc: Global, streams: &[&[Round]], vain: u64) -> Result<Outcome, 
         looks: &looks,
         nonblocking: &nonblocking,
     };
-    let mut log = Vec::new(alloc);
+    let mut log = Vec::new(rt.alloc());
     let mut handler = Counter { before: 0 };
     let connections = streams.len() as u64;
-    serve_on(alloc, &listener, connections, &mut handler, &mut log)?;
+    serve_on(
+        rt,
+        rt.alloc(),
+        &listener,
+        connections,
+        &mut handler,
+        &mut log,
+    )?;
     Ok(Outcome {
         log,
         looks: looks.get(),
@@ -130,7 +136,7 @@ const ONE: &[Round] = &[Round::Bytes(GET)];
 fn an_idle_connection_yields(rt: HostRuntime) -> Result<(), Fail> {
     let kept = [Round::Bytes(GET), Round::Nothing, Round::Bytes(GET)];
     let lines = "connection 1: 1 requests, closed\nconnection 2: 1 requests, closed\n";
-    let outcome = serve_all(rt.alloc(), &[&kept, ONE], 0)?;
+    let outcome = serve_all(&rt, &[&kept, ONE], 0)?;
     assert_eq!(rt; outcome.log.as_slice(), lines.as_bytes());
     assert_eq!(rt; outcome.looks, 1);
     assert!(rt; outcome.waits);
@@ -147,7 +153,7 @@ fn a_connection_yields_to_nobody(rt: HostRuntime) -> Result<(), Fail> {
         Round::Bytes(GET),
     ];
     let lines = "connection 1: 2 requests, closed\nconnection 2: 2 requests, closed\n";
-    let outcome = serve_all(rt.alloc(), &[&kept, &kept], 2)?;
+    let outcome = serve_all(&rt, &[&kept, &kept], 2)?;
     assert_eq!(rt; outcome.log.as_slice(), lines.as_bytes());
     assert_eq!(rt; outcome.looks, 2);
     assert!(rt; outcome.waits);
@@ -166,7 +172,7 @@ fn half_a_request_does_not_yield(rt: HostRuntime) -> Result<(), Fail> {
         Round::Bytes(GET),
     ];
     let lines = "connection 1: 2 requests, closed\nconnection 2: 1 requests, closed\n";
-    let outcome = serve_all(rt.alloc(), &[&halves, ONE], 0)?;
+    let outcome = serve_all(&rt, &[&halves, ONE], 0)?;
     assert_eq!(rt; outcome.log.as_slice(), lines.as_bytes());
     assert_eq!(rt; outcome.looks, 1);
     assert!(rt; outcome.waits);
@@ -179,13 +185,13 @@ fn a_new_connection_waits_longer(rt: HostRuntime) -> Result<(), Fail> {
     let nothing = [Round::Nothing; 9];
     let late = [nothing.as_slice(), &[Round::Bytes(GET), Round::Nothing]].concat(rt.alloc())?;
     let lines = "connection 1: 1 requests, closed\nconnection 2: 1 requests, closed\n";
-    let outcome = serve_all(rt.alloc(), &[late.as_slice(), ONE], 0)?;
+    let outcome = serve_all(&rt, &[late.as_slice(), ONE], 0)?;
     assert_eq!(rt; outcome.log.as_slice(), lines.as_bytes());
     assert_eq!(rt; outcome.looks, 1);
     assert!(rt; outcome.waits);
     let silent = [Round::Nothing; 11];
     let lines = "connection 1: 0 requests, closed\nconnection 2: 1 requests, closed\n";
-    let outcome = serve_all(rt.alloc(), &[&silent, ONE], 0)?;
+    let outcome = serve_all(&rt, &[&silent, ONE], 0)?;
     assert_eq!(rt; outcome.log.as_slice(), lines.as_bytes());
     assert_eq!(rt; outcome.looks, 1);
     assert!(rt; outcome.waits);
