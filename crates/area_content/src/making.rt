@@ -1,10 +1,9 @@
 //! The content of an area, made of a map.
-ghost use Rattle.std.specs.Prelude.{◌≡◌, ◌<◌, ◌≤◌, ◌+◌, ◌^◌, ℕ, length, IfOk, IfErr};
+ghost use Rattle.std.specs.Prelude.{◌≡◌, ◌<◌, ◌≤◌, ◌^◌, length, IfOk, IfErr};
 ghost use Rattle.feature_store.specs.Store.{snapshot};
-ghost use Rattle.generations.specs.Areas.{sectors_of};
 ghost use Rattle.pm_archive.specs.Archive.{IsMetadata};
 ghost use Rattle.area_content.specs.Content.{sectors_taken};
-ghost use Rattle.area_content.specs.Faults.{IsBoundOfMap, IsContentFault, told_as};
+ghost use Rattle.area_content.specs.Faults.{IsMade, IsContentFault, told_as};
 ghost use Rattle.area_content.specs.Tiles.{IsArchiveOfMap};
 ghost use Rattle.area_content.specs.declared.fault.ContentFault.TheVariants.{AreaFull};
 
@@ -25,21 +24,16 @@ fn told(fault: BuildFault) -> ContentFault
     }
 }
 
-/// The archive of a map whose snapshot takes so many sectors of an area.
+/// The archive of a map. A tile that no entry of an archive can name is larger than every area.
 fn archive_for(
     alloc: Global,
     store: &Store,
     metadata: &[u8],
-    taken: u64,
     area: u64,
 ) -> Result<Vec<u8>, ContentFault>
     requires metadata { IsMetadata metadata.now }
-    requires taken { taken ≡ sectors_of (length (snapshot store.now.features)) }
-    requires few { taken ≤ 2 ^ 55 }
     requires area { area < 2 ^ 23 }
-    ensures archive { IfOk result (λ bytes. IsArchiveOfMap store.now.features bytes.items) }
-    ensures size { IfOk result
-        (λ bytes. (bound : ℕ) × IsBoundOfMap store.now.features (length metadata.now) bound × (length bytes.items ≤ bound)) }
+    ensures made { IfOk result (λ bytes. IsMade store.now.features (length metadata.now) bytes.items) }
     ensures fault { IfErr result (IsContentFault store.now.features (length metadata.now) area) }
 {
     // A clause of this call says that the features keep what a map keeps.
@@ -50,7 +44,7 @@ fn archive_for(
     };
     if let Some(length) = large_content(&tiles) {
         return Err(ContentFault::AreaFull {
-            need: taken + sectors_for(length),
+            need: sectors_for(length),
             free: area,
         });
     }
@@ -77,8 +71,9 @@ fn within(content: AreaContent, area: u64) -> Result<AreaContent, ContentFault>
 ///
 /// # Errors
 ///
-/// `AreaFull` where a tile has 2^32 bytes or more, then `TooManyTiles` where the tiles need more entries than an archive
-/// takes, then `AreaFull` where both need more sectors than the area has. `Memory` where an allocation fails.
+/// `AreaFull` if a tile has 2^32 bytes or more: `need` is the number of sectors of the first such tile. Then `TooManyTiles` if the
+/// tiles need more entries than an archive takes. Then `AreaFull` if snapshot and archive need more sectors than the area has: `need`
+/// is the number of sectors of both. `Memory` if an allocation fails.
 pub fn content_of(
     alloc: Global,
     store: &Store,
@@ -96,8 +91,7 @@ pub fn content_of(
         Ok(text) => text,
         Err(_) => return Err(ContentFault::Memory),
     };
-    let taken = sectors_for(snapshot.len());
-    let archive = match archive_for(alloc, store, metadata, taken, area) {
+    let archive = match archive_for(alloc, store, metadata, area) {
         Ok(bytes) => bytes,
         Err(fault) => return Err(fault),
     };
