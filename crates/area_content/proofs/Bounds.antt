@@ -1,10 +1,10 @@
 -- How many bytes an archive of tiles has at most, and which areas it doesn't fit.
 use Rattle.std.proofs.Common.{◌≡◌, ℕ, ◌+◌, ◌*◌, ◌^◌, ◌<◌, ◌≤◌, inl, inr, List, [], length, map, Vec, Result, Ok, Err, refl, sym, ap, subst, arith}
-use Rattle.std.specs.Prelude.{All, IfOk}
+use Rattle.std.specs.Prelude.{IfOk}
 use Rattle.std.specs.List.{AllByRecursion, Contains, concat}
 use Rattle.std.specs.declared.alloc.Global.{Global}
 use Rattle.std.proofs.lemmas.Bool.{cases_lt}
-use Rattle.feature_store.specs.Store.{FeatureMap}
+use Rattle.feature_store.specs.Store.{FeatureMap, snapshot}
 use Rattle.feature_store.specs.Tiles.{AreTiles}
 use Rattle.generations.specs.Areas.{sectors_of}
 use Rattle.pm_build.specs.declared.fault.BuildFault.{BuildFault}
@@ -13,7 +13,8 @@ use Rattle.pm_build.specs.declared.limit.TheConstants.{MAX_ENTRIES}
 use Rattle.pm_build.specs.Placed.{AreDifferent}
 use Rattle.pm_build.specs.Runs.{TileRun, AreLongestRuns}
 use Rattle.pm_build.specs.Tiles.{Tile}
-use Rattle.area_content.specs.Faults.{IsShort, IsFirstLong, IsBounded, IsMade, IsFull, HasManyTiles}
+use Rattle.area_content.specs.Content.{ContentView, sectors_taken}
+use Rattle.area_content.specs.Faults.{IsFirstLong, IsBounded, IsBoundedFor, IsFull}
 use Rattle.area_content.specs.Tiles.{IsArchiveOfMap}
 
 -- the bytes are as few as the clause of `pm_build` says
@@ -21,52 +22,46 @@ abbrev pub IsSize : List Tile → (metadata size : ℕ) → Type 0
 IsSize ts metadata size = (runs : List TileRun) × (contents : List (List ℕ)) × AreLongestRuns ts runs × AreDifferent contents
     × AllByRecursion (λ c. Contains (map (λ r. r.content) runs) c) contents × (size ≤ 127 + metadata + 64 * length runs + length (concat contents))
 
--- the runs are no more than an archive takes, and bound these bytes
-abbrev pub HaveFewRuns : List Tile → (metadata : ℕ) → List ℕ → Type 0
-HaveFewRuns ts metadata bytes = (runs : List TileRun) × AreLongestRuns ts runs × (length runs ≤ MAX_ENTRIES) × IsBounded runs metadata bytes
-
 no_runs : AreLongestRuns [] []
 no_runs = record { together = refl; each = tt; longest = tt }
 
 -- no bytes are within the bound of no tiles
-pub none_bounded : (ts : List Tile) (metadata : ℕ) (bytes : List ℕ) → ts ≡ [] → bytes ≡ [] → HaveFewRuns ts metadata bytes
+pub none_bounded : (ts : List Tile) (metadata : ℕ) (bytes : List ℕ) → ts ≡ [] → bytes ≡ [] → IsBounded ts metadata bytes
 none_bounded ts metadata bytes none empty =
-    let few : HaveFewRuns [] metadata bytes = (
-      [],
-      no_runs,
-      omega arith,
-      record { contents = []; different = tt; used = tt; size = omega (arith, ap (λ (bs : List ℕ). length bs) empty) },
-    ) in
-    subst (λ (us : List Tile). HaveFewRuns us metadata bytes) (sym none) few
+    let bounded : IsBounded [] metadata bytes = record {
+      runs = [];
+      longest = no_runs;
+      few = omega arith;
+      contents = [];
+      different = tt;
+      used = tt;
+      size = omega (arith, ap (λ (bs : List ℕ). length bs) empty);
+    } in
+    subst (λ (us : List Tile). IsBounded us metadata bytes) (sym none) bounded
 
--- what was built has few runs
+-- what was built is within the bound of its tiles
 pub some_bounded : (ts : List Tile) (metadata : ℕ) (r : Result (Vec ℕ Global) BuildFault)
     → ((runs : List TileRun) → AreLongestRuns ts runs → MAX_ENTRIES < length runs → r ≡ Err TooManyEntries)
-    → IfOk r (λ v. IsSize ts metadata (length v.items)) → IfOk r (λ v. HaveFewRuns ts metadata v.items)
+    → IfOk r (λ v. IsSize ts metadata (length v.items)) → IfOk r (λ v. IsBounded ts metadata v.items)
 some_bounded ts metadata (Err fault) many size = tt
 some_bounded ts metadata (Ok bytes) many (runs, contents, longest, different, used, small) =
     elim (cases_lt MAX_ENTRIES (length runs)) [
       | inl more ↦ absurd (let no : Ok bytes ≡ Err TooManyEntries = many runs longest more in cc)
-      | inr few ↦ (runs, longest, few, record { contents = contents; different = different; used = used; size = small })
+      | inr few ↦ record { runs = runs; longest = longest; few = few; contents = contents; different = different; used = used; size = small }
     ]
 
--- ---- what is told of a map
+-- ---- faults
 
-module _ (m : FeatureMap) (ts : List Tile) (metadata : ℕ) where
-  -- an archive of the tiles of a map is made of it
-  pub made : (bytes : List ℕ) → AreTiles m ts → All IsShort ts → HaveFewRuns ts metadata bytes → IsArchiveOfMap m bytes → IsMade m metadata bytes
-  made bytes are short (runs, longest, few, bounded) archive =
-      record {
-        is_archive = archive;
-        runs = runs;
-        has_runs = record { tiles = ts; are = are; short = short; longest = longest };
-        few = few;
-        bounded = bounded;
-      }
-
-  pub has_many : AreTiles m ts → All IsShort ts → (runs : List TileRun) × AreLongestRuns ts runs × (MAX_ENTRIES < length runs) → HasManyTiles m
-  has_many are short (runs, longest, many) = (runs, record { tiles = ts; are = are; short = short; longest = longest }, many)
-
+module _ (m : FeatureMap) (metadata area : ℕ) where
   -- no area takes a content of 2^32 bytes or more
-  pub full_of_long : (area size need : ℕ) → AreTiles m ts → IsFirstLong ts size → area < 2 ^ 23 → need ≡ sectors_of size → IsFull m metadata area need area
-  full_of_long area size need are long small is = record { free_is = refl; above = omega (arith, long.above, is); needed = inl (size, (ts, are, long), is) }
+  pub full_of_long : (ts : List Tile) (size need : ℕ) → AreTiles m ts → IsFirstLong ts size → area < 2 ^ 23 → need ≡ sectors_of size
+      → IsFull m metadata area need area
+  full_of_long ts size need are long small is = record { free_is = refl; above = omega (arith, long.above, is); needed = inl (size, (ts, are, long), is) }
+
+  -- an area of fewer sectors than these take
+  pub full_of_both : (c : ContentView) → c.snapshot ≡ snapshot m → IsArchiveOfMap m c.archive → IsBoundedFor m metadata c.archive
+      → area < sectors_taken c → IsFull m metadata area (sectors_taken c) area
+  full_of_both c same archive bounded more =
+      let need : sectors_taken c ≡ sectors_of (length (snapshot m)) + sectors_of (length c.archive) =
+      ap (λ (bytes : List ℕ). sectors_of (length bytes) + sectors_of (length c.archive)) same in
+      record { free_is = refl; above = more; needed = inr (c.archive, archive, bounded, need) }

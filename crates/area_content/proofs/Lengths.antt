@@ -34,9 +34,9 @@ module _ (tiles : List Kept) where
       → n ≡ length t.1.items → IsFirstLong (tile_views tiles) n
   first_long i t n within is all above size =
       let rest : drop i tiles ≡ t ∷ drop (i + 1) tiles =
-          drop_more tiles i t within ∙ ap (λ (u : Kept). u ∷ drop (i + 1) tiles) (sym is) in
+      drop_more tiles i t within ∙ ap (λ (u : Kept). u ∷ drop (i + 1) tiles) (sym is) in
       let whole : take i tiles ++ (t ∷ drop (i + 1) tiles) ≡ tiles =
-          ap (λ (us : List Kept). take i tiles ++ us) (sym rest) ∙ take-append-drop i tiles in
+      ap (λ (us : List Kept). take i tiles ++ us) (sym rest) ∙ take-append-drop i tiles in
       record {
         before = tile_views (take i tiles);
         long = view t;

@@ -34,46 +34,43 @@ pub record IsFirstLong (tiles : List Tile) (size : ℕ) : Type 0 where
 abbrev pub HasLongTile : FeatureMap → ℕ → Type 0
 HasLongTile m size = (tiles : List Tile) × AreTiles m tiles × IsFirstLong tiles size
 
--- ---- runs
+-- ---- short tiles
 
--- the tiles of the map, all of them short, are these runs
-pub record HasRuns (m : FeatureMap) (runs : List TileRun) : Type 0 where
+-- the tiles of the map need more entries than an archive takes, and each could have one
+pub record HasManyTiles (m : FeatureMap) : Type 0 where
   pub tiles : List Tile
   pub are : AreTiles m tiles
   pub short : All IsShort tiles
+  pub runs : List TileRun
   pub longest : AreLongestRuns tiles runs
+  pub many : MAX_ENTRIES < length runs
 
--- the tiles of the map need more entries than an archive takes, and each could have one
-abbrev pub HasManyTiles : FeatureMap → Type 0
-HasManyTiles m = (runs : List TileRun) × HasRuns m runs × (MAX_ENTRIES < length runs)
-
--- ---- the archive that is made
-
--- the archive takes no more than a header, metadata of so many bytes, 64 bytes for each run, and each content of the runs once
-pub record IsBounded (runs : List TileRun) (metadata : ℕ) (archive : List ℕ) : Type 0 where
+-- The tiles need no more entries than an archive takes, and this one has no more bytes than a header, metadata of this length, 64 bytes
+-- for each run, and each content of the runs once.
+pub record IsBounded (tiles : List Tile) (metadata : ℕ) (archive : List ℕ) : Type 0 where
+  pub runs : List TileRun
+  pub longest : AreLongestRuns tiles runs
+  pub few : length runs ≤ MAX_ENTRIES
   pub contents : List (List ℕ)
   pub different : AreDifferent contents
   pub used : AllByRecursion (λ c. Contains (map (λ r. r.content) runs) c) contents
   pub size : length archive ≤ 127 + metadata + 64 * length runs + length (concat contents)
 
--- the archive is one of the map, whose tiles are short and need no more entries than an archive takes
-pub record IsMade (m : FeatureMap) (metadata : ℕ) (archive : List ℕ) : Type 0 where
-  pub is_archive : IsArchiveOfMap m archive
-  pub runs : List TileRun
-  pub has_runs : HasRuns m runs
-  pub few : length runs ≤ MAX_ENTRIES
-  pub bounded : IsBounded runs metadata archive
+-- the tiles of the map are short, and bound the archive
+abbrev pub IsBoundedFor : FeatureMap → (metadata : ℕ) → (archive : List ℕ) → Type 0
+IsBoundedFor m metadata archive = (tiles : List Tile) × AreTiles m tiles × All IsShort tiles × IsBounded tiles metadata archive
 
 -- ---- faults
 
--- The map needs so many sectors of an area: those of a tile that isn't short, if there is one, else those of its snapshot and of the
--- archive that is made of it.
+-- The map needs this many sectors: those of its first tile that isn't short, or, if each is short, those of its snapshot and of the
+-- archive that is built of it.
 abbrev pub NeedsSectors : FeatureMap → (metadata need : ℕ) → Type 0
 NeedsSectors m metadata need =
     ((size : ℕ) × HasLongTile m size × (need ≡ sectors_of size))
-    ⊎ ((archive : List ℕ) × IsMade m metadata archive × (need ≡ sectors_of (length (snapshot m)) + sectors_of (length archive)))
+    ⊎ ((archive : List ℕ) × IsArchiveOfMap m archive × IsBoundedFor m metadata archive
+    × (need ≡ sectors_of (length (snapshot m)) + sectors_of (length archive)))
 
--- an area of so many sectors, all of them free, has fewer than the map needs
+-- the map needs more sectors than an area of this many, all of which are free
 pub record IsFull (m : FeatureMap) (metadata area need free : ℕ) : Type 0 where
   pub free_is : free ≡ area
   pub above : free < need

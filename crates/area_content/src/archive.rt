@@ -1,5 +1,5 @@
 //! The archive of the tiles of a map.
-ghost use Rattle.std.specs.Prelude.{◌≡◌, ◌<◌, ◌≤◌, List, Err, length, All, IfOk, IfNone, IfSome};
+ghost use Rattle.std.specs.Prelude.{◌≡◌, ◌<◌, List, Err, length, All, IfOk, IfNone, IfSome};
 ghost use Rattle.feature_store.specs.Store.{FeatureMap, IsMap};
 ghost use Rattle.feature_store.specs.Tiles.{AreTiles};
 ghost use Rattle.pm_archive.specs.Archive.{IsMetadata};
@@ -35,8 +35,7 @@ pub(crate) fn archive_of(
     requires tiles { AreBuildable (tile_views tiles.now) }
     requires metadata { IsMetadata metadata.now }
     ensures archive { (m : FeatureMap) → IsMap m → AreTiles m (tile_views tiles.now) → IfOk result (λ bytes. IsArchiveOfMap m bytes.items) }
-    ensures bounded { IfOk result (λ bytes. (runs : List TileRun) × AreLongestRuns (tile_views tiles.now) runs × (length runs ≤ MAX_ENTRIES)
-        × IsBounded runs (length metadata.now) bytes.items) }
+    ensures bounded { IfOk result (λ bytes. IsBounded (tile_views tiles.now) (length metadata.now) bytes.items) }
     ensures many { result ≡ Err BuildFault.TooManyEntries
         → (runs : List TileRun) × AreLongestRuns (tile_views tiles.now) runs × (MAX_ENTRIES < length runs) }
 {

@@ -1,11 +1,10 @@
 //! The content of an area, made of a map.
-ghost use Rattle.std.specs.Prelude.{◌≡◌, ◌<◌, ◌≤◌, ◌^◌, length, IfOk, IfErr};
-ghost use Rattle.feature_store.specs.Store.{snapshot};
+ghost use Rattle.std.specs.Prelude.{◌≡◌, ◌<◌, ◌≤◌, ◌^◌, ℕ, length, IfOk, IfErr};
+ghost use Rattle.feature_store.specs.Store.{FeatureMap, snapshot};
 ghost use Rattle.pm_archive.specs.Archive.{IsMetadata};
 ghost use Rattle.area_content.specs.Content.{sectors_taken};
-ghost use Rattle.area_content.specs.Faults.{IsMade, IsContentFault, told_as};
+ghost use Rattle.area_content.specs.Faults.{IsBoundedFor, IsContentFault, told_as};
 ghost use Rattle.area_content.specs.Tiles.{IsArchiveOfMap};
-ghost use Rattle.area_content.specs.declared.fault.ContentFault.TheVariants.{AreaFull};
 
 use crate::archive::{archive_of, large_content};
 use crate::content::{AreaContent, sectors_for};
@@ -33,7 +32,8 @@ fn archive_for(
 ) -> Result<Vec<u8>, ContentFault>
     requires metadata { IsMetadata metadata.now }
     requires area { area < 2 ^ 23 }
-    ensures made { IfOk result (λ bytes. IsMade store.now.features (length metadata.now) bytes.items) }
+    ensures archive { IfOk result (λ bytes. IsArchiveOfMap store.now.features bytes.items) }
+    ensures bounded { IfOk result (λ bytes. IsBoundedFor store.now.features (length metadata.now) bytes.items) }
     ensures fault { IfErr result (IsContentFault store.now.features (length metadata.now) area) }
 {
     // A clause of this call says that the features keep what a map keeps.
@@ -57,7 +57,8 @@ fn archive_for(
 /// The content, where an area of so many sectors takes it.
 fn within(content: AreaContent, area: u64) -> Result<AreaContent, ContentFault>
     ensures fits { IfOk result (λ c. (c ≡ content) × (sectors_taken c ≤ area)) }
-    ensures full { IfErr result (λ fault. (fault ≡ AreaFull (sectors_taken content) area) × (area < sectors_taken content)) }
+    ensures full { (m : FeatureMap) (metadata : ℕ) → content.snapshot ≡ snapshot m → IsArchiveOfMap m content.archive
+        → IsBoundedFor m metadata content.archive → IfErr result (IsContentFault m metadata area) }
 {
     let need = content.sectors();
     if need > area {
@@ -84,6 +85,7 @@ pub fn content_of(
     requires area { area < 2 ^ 23 }
     ensures snapshot { IfOk result (λ c. c.snapshot ≡ snapshot store.now.features) }
     ensures archive { IfOk result (λ c. IsArchiveOfMap store.now.features c.archive) }
+    ensures bounded { IfOk result (λ c. IsBoundedFor store.now.features (length metadata.now) c.archive) }
     ensures fits { IfOk result (λ c. sectors_taken c ≤ area) }
     ensures fault { IfErr result (IsContentFault store.now.features (length metadata.now) area) }
 {

@@ -13,7 +13,7 @@ pub returns-in-Some-clause-fault : goal.returns-in-Some-clause-fault
 returns-in-Some-clause-fault c =
     let m = c.args.store.now.features in
     let are = subst (λ (ts : List (ℕ × Vec ℕ Global)). AreTiles m (tile_views ts)) (sym c.deref.ensures.value) c.in-Ok.ensures in
-    full_of_long m (tile_views c.deref.result.now) (length c.args.metadata.now) c.args.area c.in-Some.length c.sectors_for.result are c.in-Some.ensures.some
+    full_of_long m (length c.args.metadata.now) c.args.area (tile_views c.deref.result.now) c.in-Some.length c.sectors_for.result are c.in-Some.ensures.some
     c.requires.area c.sectors_for.ensures.taken
 
 pub archive_of-requires-clause-tiles : goal.archive_of-requires-clause-tiles
