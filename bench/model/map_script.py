@@ -589,6 +589,8 @@ def area_lines():
     yield "# The texts of 42 points take two sectors and 26 bytes of a third."
     yield f"restore {b''.join(text_of(Edit(number, POINT)) for number in range(1, 43)).hex()}", "42 features"
     yield from ["area 100", "area 3"]
+    yield "# An archive of more sectors than the snapshot: an area that is too small by one sector, and one of a single sector."
+    yield from ["map 0", put(7, drawn("lines", [[[0, 0], [LAST, LAST]]], 0, 2)), "area 3", "area 2", "area 1"]
 
 
 # ---- numbers with values

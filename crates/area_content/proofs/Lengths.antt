@@ -1,13 +1,12 @@
 -- The lengths of the contents of tiles in memory.
-use Rattle.std.proofs.Common.{◌≡◌, ◌≢◌, ℕ, Bool, true, false, eqb, [], ◌∷◌, ◌+◌, ◌^◌, ◌<◌, ◌≤◌, List, length, get_or, take, Vec, sym, ap, subst, ◌∙◌, arith}
+use Rattle.std.proofs.Common.{◌≡◌, ◌≢◌, ℕ, Bool, true, false, eqb, [], ◌∷◌, ◌++◌, ◌+◌, ◌^◌, ◌<◌, ◌≤◌, List, length, get_or, take, drop, Vec, sym, ap, subst, ◌∙◌, arith}
 use Rattle.std.specs.Prelude.{All}
-use Rattle.std.specs.List.{Contains}
 use Rattle.std.specs.declared.alloc.Global.{Global}
 use Rattle.std.proofs.lemmas.Bool.{eqb-true, false≢true}
-use Rattle.std.proofs.lemmas.List.{nil_from_length, get_or-map, length-map, take_all}
+use Rattle.std.proofs.lemmas.List.{nil_from_length, take_all, take-append-drop, drop_more, map-append}
 use Rattle.std.proofs.lemmas.List.Elements.{All-map, All-more}
 use Rattle.pm_build.specs.Tiles.{Tile, tile_views}
-use Rattle.area_content.specs.Faults.{IsShort}
+use Rattle.area_content.specs.Faults.{IsShort, IsFirstLong}
 
 -- ---- whether there are tiles
 
@@ -31,8 +30,22 @@ abbrev pub IsShortVector : Kept → Type 0
 IsShortVector t = length t.1.items < 2 ^ 32
 
 module _ (tiles : List Kept) where
-  pub content_there : (i : ℕ) (t : Kept) → i < length tiles → t ≡ get_or tiles i t → Contains (tile_views tiles) (t.0, t.1.items)
-  content_there i t within is = (i, omega (arith, length-map tiles view), get_or-map view tiles i t (view t) within ∙ ap view (sym is))
+  pub first_long : (i : ℕ) (t : Kept) (n : ℕ) → i < length tiles → t ≡ get_or tiles i t → All IsShortVector (take i tiles) → 2 ^ 32 ≤ n
+      → n ≡ length t.1.items → IsFirstLong (tile_views tiles) n
+  first_long i t n within is all above size =
+      let rest : drop i tiles ≡ t ∷ drop (i + 1) tiles =
+      drop_more tiles i t within ∙ ap (λ (u : Kept). u ∷ drop (i + 1) tiles) (sym is) in
+      let whole : take i tiles ++ (t ∷ drop (i + 1) tiles) ≡ tiles =
+      ap (λ (us : List Kept). take i tiles ++ us) (sym rest) ∙ take-append-drop i tiles in
+      record {
+        before = tile_views (take i tiles);
+        long = view t;
+        behind = tile_views (drop (i + 1) tiles);
+        tiles_are = sym (ap (λ (us : List Kept). tile_views us) whole) ∙ map-append view (take i tiles) (t ∷ drop (i + 1) tiles);
+        short = All-map IsShort view (take i tiles) all;
+        above = above;
+        size_is = size;
+      }
 
   pub one_more : (i : ℕ) (t : Kept) → i < length tiles → t ≡ get_or tiles i t → length t.1.items < 2 ^ 32 → All IsShortVector (take i tiles)
       → All IsShortVector (take (i + 1) tiles)

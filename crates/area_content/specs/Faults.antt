@@ -1,5 +1,5 @@
 -- Why a map has no content for an area.
-use Rattle.std.specs.Prelude.{◌≡◌, ◌<◌, ◌≤◌, ◌+◌, ◌*◌, ◌^◌, ℕ, List, length, map, All, Contains, ⊤}
+use Rattle.std.specs.Prelude.{◌≡◌, ◌<◌, ◌≤◌, ◌+◌, ◌*◌, ◌^◌, ◌⊎◌, ◌++◌, ◌∷◌, ℕ, List, length, map, All, Contains, ⊤}
 use Rattle.std.specs.List.{AllByRecursion, concat}
 use Rattle.feature_store.specs.Store.{FeatureMap, snapshot}
 use Rattle.feature_store.specs.Tiles.{AreTiles}
@@ -10,6 +10,7 @@ use Rattle.pm_build.specs.declared.limit.TheConstants.{MAX_ENTRIES}
 use Rattle.pm_build.specs.Placed.{AreDifferent}
 use Rattle.pm_build.specs.Runs.{TileRun, AreLongestRuns}
 use Rattle.pm_build.specs.Tiles.{Tile}
+use Rattle.area_content.specs.Tiles.{IsArchiveOfMap}
 use Rattle.area_content.specs.declared.fault.ContentFault.{ContentFault}
 use Rattle.area_content.specs.declared.fault.ContentFault.TheVariants.{TooManyTiles, AreaFull, Memory}
 
@@ -17,19 +18,23 @@ use Rattle.area_content.specs.declared.fault.ContentFault.TheVariants.{TooManyTi
 abbrev pub IsShort : Tile → Type 0
 IsShort t = length t.1 < 2 ^ 32
 
--- The bound of an archive of these tiles: a header, metadata of so many bytes, 64 bytes for each run, and different contents
--- of the runs.
-pub record IsBound (tiles : List Tile) (metadata bound : ℕ) : Type 0 where
-  pub runs : List TileRun
-  pub contents : List (List ℕ)
-  pub longest : AreLongestRuns tiles runs
-  pub different : AreDifferent contents
-  pub used : AllByRecursion (λ c. Contains (map (λ r. r.content) runs) c) contents
-  pub bound_is : bound ≡ 127 + metadata + 64 * length runs + length (concat contents)
+-- ---- a tile that is too long
 
--- an archive of the map is bounded so
-abbrev pub IsBoundOfMap : FeatureMap → ℕ → ℕ → Type 0
-IsBoundOfMap m metadata bound = (tiles : List Tile) × AreTiles m tiles × IsBound tiles metadata bound
+-- the first of the tiles that isn't short has this many bytes
+pub record IsFirstLong (tiles : List Tile) (size : ℕ) : Type 0 where
+  pub before : List Tile
+  pub long : Tile
+  pub behind : List Tile
+  pub tiles_are : tiles ≡ before ++ long ∷ behind
+  pub short : All IsShort before
+  pub above : 2 ^ 32 ≤ size
+  pub size_is : size ≡ length long.1
+
+-- the first tile of the map, by its id, that isn't short has this many bytes
+abbrev pub HasLongTile : FeatureMap → ℕ → Type 0
+HasLongTile m size = (tiles : List Tile) × AreTiles m tiles × IsFirstLong tiles size
+
+-- ---- short tiles
 
 -- the tiles of the map need more entries than an archive takes, and each could have one
 pub record HasManyTiles (m : FeatureMap) : Type 0 where
@@ -40,13 +45,36 @@ pub record HasManyTiles (m : FeatureMap) : Type 0 where
   pub longest : AreLongestRuns tiles runs
   pub many : MAX_ENTRIES < length runs
 
--- an area of so many sectors doesn't take the snapshot of the map and an archive of it
+-- The tiles need no more entries than an archive takes, and this one has no more bytes than a header, metadata of this length, 64 bytes
+-- for each run, and each content of the runs once.
+pub record IsBounded (tiles : List Tile) (metadata : ℕ) (archive : List ℕ) : Type 0 where
+  pub runs : List TileRun
+  pub longest : AreLongestRuns tiles runs
+  pub few : length runs ≤ MAX_ENTRIES
+  pub contents : List (List ℕ)
+  pub different : AreDifferent contents
+  pub used : AllByRecursion (λ c. Contains (map (λ r. r.content) runs) c) contents
+  pub size : length archive ≤ 127 + metadata + 64 * length runs + length (concat contents)
+
+-- the tiles of the map are short, and bound the archive
+abbrev pub IsBoundedFor : FeatureMap → (metadata : ℕ) → (archive : List ℕ) → Type 0
+IsBoundedFor m metadata archive = (tiles : List Tile) × AreTiles m tiles × All IsShort tiles × IsBounded tiles metadata archive
+
+-- ---- faults
+
+-- The map needs this many sectors: those of its first tile that isn't short, or, if each is short, those of its snapshot and of the
+-- archive that is built of it.
+abbrev pub NeedsSectors : FeatureMap → (metadata need : ℕ) → Type 0
+NeedsSectors m metadata need =
+    ((size : ℕ) × HasLongTile m size × (need ≡ sectors_of size))
+    ⊎ ((archive : List ℕ) × IsArchiveOfMap m archive × IsBoundedFor m metadata archive
+    × (need ≡ sectors_of (length (snapshot m)) + sectors_of (length archive)))
+
+-- the map needs more sectors than an area of this many, all of which are free
 pub record IsFull (m : FeatureMap) (metadata area need free : ℕ) : Type 0 where
   pub free_is : free ≡ area
-  pub above : area < need
-  pub bound : ℕ
-  pub is_bound : IsBoundOfMap m metadata bound
-  pub needed : need ≤ sectors_of (length (snapshot m)) + sectors_of bound
+  pub above : free < need
+  pub needed : NeedsSectors m metadata need
 
 -- the fault is one of this map, with metadata of so many bytes, for an area of so many sectors
 abbrev pub IsContentFault : FeatureMap → (metadata area : ℕ) → ContentFault → Type 0

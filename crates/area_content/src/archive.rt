@@ -1,12 +1,12 @@
 //! The archive of the tiles of a map.
-ghost use Rattle.std.specs.Prelude.{◌≡◌, ◌<◌, ◌≤◌, ◌^◌, ℕ, List, Err, length, All, Contains, IfOk, IfNone, IfSome};
+ghost use Rattle.std.specs.Prelude.{◌≡◌, ◌<◌, List, Err, length, All, IfOk, IfNone, IfSome};
 ghost use Rattle.feature_store.specs.Store.{FeatureMap, IsMap};
 ghost use Rattle.feature_store.specs.Tiles.{AreTiles};
 ghost use Rattle.pm_archive.specs.Archive.{IsMetadata};
 ghost use Rattle.pm_build.specs.Runs.{TileRun, AreLongestRuns};
-ghost use Rattle.pm_build.specs.Tiles.{Tile, tile_views};
+ghost use Rattle.pm_build.specs.Tiles.{tile_views};
 ghost use Rattle.pm_build.specs.Tiles.{AreTiles as AreBuildable};
-ghost use Rattle.area_content.specs.Faults.{IsShort, IsBound};
+ghost use Rattle.area_content.specs.Faults.{IsShort, IsFirstLong, IsBounded};
 ghost use Rattle.area_content.specs.Tiles.{IsArchiveOfMap};
 
 use feature_store::Tile;
@@ -16,7 +16,7 @@ use std::alloc::Global;
 /// The length of the first content of 2^32 bytes or more.
 pub(crate) fn large_content(tiles: &[Tile]) -> Option<usize>
     ensures none { IfNone result (All IsShort (tile_views tiles.now)) }
-    ensures some { IfSome result (λ n. (t : Tile) × Contains (tile_views tiles.now) t × (2 ^ 32 ≤ n) × (n ≡ length t.1)) }
+    ensures some { IfSome result (IsFirstLong (tile_views tiles.now)) }
 {
     for tile in tiles {
         if tile.1.len() > u32::MAX as usize {
@@ -35,7 +35,7 @@ pub(crate) fn archive_of(
     requires tiles { AreBuildable (tile_views tiles.now) }
     requires metadata { IsMetadata metadata.now }
     ensures archive { (m : FeatureMap) → IsMap m → AreTiles m (tile_views tiles.now) → IfOk result (λ bytes. IsArchiveOfMap m bytes.items) }
-    ensures size { IfOk result (λ bytes. (bound : ℕ) × IsBound (tile_views tiles.now) (length metadata.now) bound × (length bytes.items ≤ bound)) }
+    ensures bounded { IfOk result (λ bytes. IsBounded (tile_views tiles.now) (length metadata.now) bytes.items) }
     ensures many { result ≡ Err BuildFault.TooManyEntries
         → (runs : List TileRun) × AreLongestRuns (tile_views tiles.now) runs × (MAX_ENTRIES < length runs) }
 {

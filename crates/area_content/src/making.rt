@@ -1,12 +1,10 @@
 //! The content of an area, made of a map.
-ghost use Rattle.std.specs.Prelude.{◌≡◌, ◌<◌, ◌≤◌, ◌+◌, ◌^◌, ℕ, length, IfOk, IfErr};
-ghost use Rattle.feature_store.specs.Store.{snapshot};
-ghost use Rattle.generations.specs.Areas.{sectors_of};
+ghost use Rattle.std.specs.Prelude.{◌≡◌, ◌<◌, ◌≤◌, ◌^◌, ℕ, length, IfOk, IfErr};
+ghost use Rattle.feature_store.specs.Store.{FeatureMap, snapshot};
 ghost use Rattle.pm_archive.specs.Archive.{IsMetadata};
 ghost use Rattle.area_content.specs.Content.{sectors_taken};
-ghost use Rattle.area_content.specs.Faults.{IsBoundOfMap, IsContentFault, told_as};
+ghost use Rattle.area_content.specs.Faults.{IsBoundedFor, IsContentFault, told_as};
 ghost use Rattle.area_content.specs.Tiles.{IsArchiveOfMap};
-ghost use Rattle.area_content.specs.declared.fault.ContentFault.TheVariants.{AreaFull};
 
 use crate::archive::{archive_of, large_content};
 use crate::content::{AreaContent, sectors_for};
@@ -25,21 +23,17 @@ fn told(fault: BuildFault) -> ContentFault
     }
 }
 
-/// The archive of a map whose snapshot takes so many sectors of an area.
+/// The archive of a map. A tile that no entry of an archive can name is larger than every area.
 fn archive_for(
     alloc: Global,
     store: &Store,
     metadata: &[u8],
-    taken: u64,
     area: u64,
 ) -> Result<Vec<u8>, ContentFault>
     requires metadata { IsMetadata metadata.now }
-    requires taken { taken ≡ sectors_of (length (snapshot store.now.features)) }
-    requires few { taken ≤ 2 ^ 55 }
     requires area { area < 2 ^ 23 }
     ensures archive { IfOk result (λ bytes. IsArchiveOfMap store.now.features bytes.items) }
-    ensures size { IfOk result
-        (λ bytes. (bound : ℕ) × IsBoundOfMap store.now.features (length metadata.now) bound × (length bytes.items ≤ bound)) }
+    ensures bounded { IfOk result (λ bytes. IsBoundedFor store.now.features (length metadata.now) bytes.items) }
     ensures fault { IfErr result (IsContentFault store.now.features (length metadata.now) area) }
 {
     // A clause of this call says that the features keep what a map keeps.
@@ -50,7 +44,7 @@ fn archive_for(
     };
     if let Some(length) = large_content(&tiles) {
         return Err(ContentFault::AreaFull {
-            need: taken + sectors_for(length),
+            need: sectors_for(length),
             free: area,
         });
     }
@@ -63,7 +57,8 @@ fn archive_for(
 /// The content, where an area of so many sectors takes it.
 fn within(content: AreaContent, area: u64) -> Result<AreaContent, ContentFault>
     ensures fits { IfOk result (λ c. (c ≡ content) × (sectors_taken c ≤ area)) }
-    ensures full { IfErr result (λ fault. (fault ≡ AreaFull (sectors_taken content) area) × (area < sectors_taken content)) }
+    ensures full { (m : FeatureMap) (metadata : ℕ) → content.snapshot ≡ snapshot m → IsArchiveOfMap m content.archive
+        → IsBoundedFor m metadata content.archive → IfErr result (IsContentFault m metadata area) }
 {
     let need = content.sectors();
     if need > area {
@@ -77,8 +72,9 @@ fn within(content: AreaContent, area: u64) -> Result<AreaContent, ContentFault>
 ///
 /// # Errors
 ///
-/// `AreaFull` where a tile has 2^32 bytes or more, then `TooManyTiles` where the tiles need more entries than an archive
-/// takes, then `AreaFull` where both need more sectors than the area has. `Memory` where an allocation fails.
+/// `AreaFull` if a tile has 2^32 bytes or more: `need` is the number of sectors of the first such tile. Then `TooManyTiles` if the
+/// tiles need more entries than an archive takes. Then `AreaFull` if snapshot and archive need more sectors than the area has: `need`
+/// is the number of sectors of both. `Memory` if an allocation fails.
 pub fn content_of(
     alloc: Global,
     store: &Store,
@@ -89,6 +85,7 @@ pub fn content_of(
     requires area { area < 2 ^ 23 }
     ensures snapshot { IfOk result (λ c. c.snapshot ≡ snapshot store.now.features) }
     ensures archive { IfOk result (λ c. IsArchiveOfMap store.now.features c.archive) }
+    ensures bounded { IfOk result (λ c. IsBoundedFor store.now.features (length metadata.now) c.archive) }
     ensures fits { IfOk result (λ c. sectors_taken c ≤ area) }
     ensures fault { IfErr result (IsContentFault store.now.features (length metadata.now) area) }
 {
@@ -96,8 +93,7 @@ pub fn content_of(
         Ok(text) => text,
         Err(_) => return Err(ContentFault::Memory),
     };
-    let taken = sectors_for(snapshot.len());
-    let archive = match archive_for(alloc, store, metadata, taken, area) {
+    let archive = match archive_for(alloc, store, metadata, area) {
         Ok(bytes) => bytes,
         Err(fault) => return Err(fault),
     };

@@ -158,7 +158,7 @@ pub record Begins (old : ServiceState) (told : ℕ) (new : ServiceState) : Type 
     });
   }
 
--- the snapshot of the map and an archive of it don't fit into the area
+-- the map needs this many sectors, of its snapshot and of the archive that is built of it, and the area has fewer
 abbrev pub IsAreaFull : ServiceState → (need free : ℕ) → Type 0
 IsAreaFull s need free = (d : Data) × IsMetadata s.features d × IsFull s.features (length (compact_text d)) (area_sectors s.size) need free
 

@@ -238,7 +238,7 @@ impl<D: Sectors + Drop> Service<D> {
     ///
     /// `Broken`, `Busy` while a publication is under way, `NumbersSpent` after the last generation, `Memory`, `TooManyTiles`,
     /// `AreaFull`, the first that there is in this order, but that `AreaFull` for a tile of 2^32 bytes comes before `TooManyTiles`.
-    /// Nothing changes then.
+    /// `need` is the number of sectors of the first such tile, else of the snapshot and the archive. Nothing changes then.
     pub fn publish_begin(&mut self) -> Result<u64, ServiceFault>
         ensures machine { (known : Known) → AnswersBegin (state_of known self.old) result
             (state_of (known_after known self.old (begin result)) self.new) }

@@ -1,10 +1,10 @@
-use Rattle.std.proofs.Common.{ap, length}
+use Rattle.std.proofs.Common.{length}
 use Rattle.std.proofs.lemmas.Result.{IfOk-weaker}
 use Rattle.pm_archive.specs.Archive.{IsArchiveOf}
 use Rattle.pm_build.specs.Built.{tile_content}
 use Rattle.pm_build.specs.Tiles.{tile_views}
 use Rattle.area_content.specs.Tiles.{IsArchiveOfMap}
-use Rattle.area_content.proofs.Bounds.{IsSize, IsBounded, bounded, none_bounded}
+use Rattle.area_content.proofs.Bounds.{none_bounded, some_bounded}
 use Rattle.area_content.proofs.Lengths.{none_there, some_there}
 use Rattle.area_content.proofs.MapTiles.{none_is_archive, some_are_archive}
 use Rattle.area_content.proofs.archive.archive_of.Goals as goal
@@ -14,10 +14,10 @@ returns-then-is_empty-clause-archive c m is_map are =
     none_is_archive m (tile_views c.args.tiles.now) c.new.result.items (none_there c.args.tiles.now c.is_empty.result c.is_empty.ensures c.if-is_empty.true)
     c.new.ensures.items are
 
-pub returns-then-is_empty-clause-size : goal.returns-then-is_empty-clause-size
-returns-then-is_empty-clause-size c =
-    none_bounded (tile_views c.args.tiles.now) (length c.args.metadata.now) (length c.new.result.items)
-    (none_there c.args.tiles.now c.is_empty.result c.is_empty.ensures c.if-is_empty.true) (ap length c.new.ensures.items)
+pub returns-then-is_empty-clause-bounded : goal.returns-then-is_empty-clause-bounded
+returns-then-is_empty-clause-bounded c =
+    none_bounded (tile_views c.args.tiles.now) (length c.args.metadata.now) c.new.result.items
+    (none_there c.args.tiles.now c.is_empty.result c.is_empty.ensures c.if-is_empty.true) c.new.ensures.items
 
 pub returns-clause-archive : goal.returns-clause-archive
 returns-clause-archive c m is_map are =
@@ -26,8 +26,6 @@ returns-clause-archive c m is_map are =
     (some_there c.args.tiles.now c.is_empty.result c.is_empty.ensures c.if-is_empty.false) is_map are archive)
     c.build.ensures.archive
 
-pub returns-clause-size : goal.returns-clause-size
-returns-clause-size c =
-    IfOk-weaker c.build.result (λ v. IsSize (tile_views c.args.tiles.now) (length c.args.metadata.now) (length v.items))
-    (λ v. IsBounded (tile_views c.args.tiles.now) (length c.args.metadata.now) (length v.items))
-    (λ v size. bounded (tile_views c.args.tiles.now) (length c.args.metadata.now) (length v.items) size) c.build.ensures.size
+pub returns-clause-bounded : goal.returns-clause-bounded
+returns-clause-bounded c =
+    some_bounded (tile_views c.args.tiles.now) (length c.args.metadata.now) c.build.result c.build.ensures.few c.build.ensures.size
