@@ -18,7 +18,7 @@ use crate::parts::{Sending, is_head, range_for};
 use crate::replies;
 use http_serve::{ContentFault, Handler, Reply, Request, ServeFault, Served, serve};
 use sector_disk::Sectors;
-use std::alloc::{AllocError, Global};
+use std::alloc::Global;
 use std::io::{Read, Write};
 use tile_routes::{Method, Routes, Target, Wanted};
 use tile_service::Service;
@@ -36,19 +36,19 @@ pub struct MapReplies<D: Sectors + Drop> {
 impl<D: Sectors + Drop> MapReplies<D> {
     ghost use Rattle.map_replies.specs.State.{asked_service};
 
-    /// What answers requests by asking this service.
-    pub fn new(alloc: Global, service: Service<D>) -> Result<MapReplies<D>, AllocError>
-        ensures { IfOk result (λ replies. asked_service replies ≡ service) }
+    /// What answers requests for these routes by asking this service.
+    pub fn new(alloc: Global, routes: Routes, service: Service<D>) -> MapReplies<D>
+        ensures { asked_service result ≡ service }
     {
-        Ok(MapReplies {
+        MapReplies {
             alloc,
-            routes: Routes::new(alloc)?,
+            routes,
             service,
             sending: Sending {
                 first: 0,
                 length: 0,
             },
-        })
+        }
     }
 
     /// The service that is asked.
