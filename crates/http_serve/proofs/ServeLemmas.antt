@@ -1,6 +1,6 @@
 -- A connection, read by read.
 use Rattle.std.proofs.Common.{◌≡◌, ◌≢◌, ℕ, ◌<◌, ◌≤◌, List, [], ◌∷◌, ◌++◌, Option, Some, None, take, length, ◌+◌, ◌*◌, refl, sym, ap, ◌∙◌, subst}
-use Rattle.std.proofs.Common.{append_assoc, arith, inl, inr, length-append}
+use Rattle.std.proofs.Common.{append_assoc, arith, inl, inr, length-append, zero, suc}
 use Rattle.std.specs.Prelude.{⊤, ◌⊎◌, Result, Ok, Err, IfOk, IfErr}
 use Rattle.httparse.specs.Grammar.{RequestHead}
 use Rattle.std.proofs.lemmas.List.{append-nil}
@@ -17,13 +17,14 @@ use Rattle.http_serve.specs.declared.contents.SendFault.{SendFault}
 use Rattle.http_serve.specs.declared.contents.SendFault.TheVariants as cuts
 use Rattle.http_serve.specs.declared.frames.TheConstants.{MOST_REQUEST}
 use Rattle.http_serve.specs.Input.{buffer_size}
+use Rattle.http_serve.specs.Reads.{Gives, GivesTimes}
 use Rattle.http_serve.specs.Parts.{cut_after}
 use Rattle.http_serve.specs.Requests.{Request, Ending, going, closed, asked, refused, EndsAs, IsRefused, Requests}
 use Rattle.http_serve.specs.Requests.{RequestView}
 use Rattle.http_serve.specs.Reply.{ReplyView, refusal_bytes, has_head_method}
 use Rattle.http_serve.specs.Served.{RisesBy, reply_count, Answers, AnswersEnd, AnswersAll, AnswersNext, RefusesNext, Carries, Ends, Breaks, Anything, MayFollow}
 use Rattle.http_serve.specs.Steps.{HasPlainEnd, IsFinished, IsUnfinished, IsBroken}
-use Rattle.http_serve.specs.Told.{end_of, IfTurns, IsServed, IsServedTo, IsServedSoFar, IsServedInPart, IsServedUpTo, IsAnswered, LosesAtLeast, LosesAtMost}
+use Rattle.http_serve.specs.Told.{end_of, IfTurns, IsServed, IsServedTo, IsServedSoFar, IsServedInPart, IsServedUpTo, IsAnswered, LosesAtMost}
 use Rattle.http_serve.specs.Told.{HasContent, MeetsTurns, KeepsTurns, AnswersInput}
 use Rattle.http_serve.proofs.HeadLemmas.{empty_no_head, refused_none}
 use Rattle.http_serve.proofs.KnownLemmas.{Appends-then, Consumes-then, Consumes_none}
@@ -349,24 +350,48 @@ module _ {S : Type 0} (replies : S → RequestView → ReplyView → S → Type 
 
 -- ---- turns
 
-pub least_start : (input : Option (List ℕ)) → LosesAtLeast 0 input input
-least_start None = tt
-least_start (Some input) = omega arith
+module _ {R : Type 0} (remaining : R → Option (List ℕ)) where
+  -- reads that go on from here are so many more since the first reader
+  abbrev pub Adds : (reads : ℕ) → (first now : R) → Type 0
+  Adds reads first now = (n : ℕ) (last : R) → GivesTimes remaining n now last → GivesTimes remaining (reads + n) first last
 
--- one more read gave a byte
-pub least_more : (input left last : Option (List ℕ)) (turns n : ℕ) (more : List ℕ) → LosesAtLeast turns input left → Consumes left last more
-    → n ≡ length more → n ≢ 0 → LosesAtLeast (turns + 1) input last
-least_more None left last turns n more so came size some = tt
-least_more (Some input) None last turns n more so came size some = absurd so
-least_more (Some input) (Some left) None turns n more so came size some = absurd came
-least_more (Some input) (Some left) (Some last) turns n more so came size some =
-    omega (arith, ap length came, length-append more last)
+  pub adds_none : (first : R) → Adds 0 first first
+  adds_none first n last is = let same : n ≡ 0 + n = omega arith in subst (λ (m : ℕ). GivesTimes remaining m first last) same is
 
--- what is more is at least as much
-pub least_over : (input left : Option (List ℕ)) (turns most : ℕ) → LosesAtLeast turns input left → most ≤ turns → LosesAtLeast most input left
-least_over None left turns most so over = tt
-least_over (Some input) None turns most so over = absurd so
-least_over (Some input) (Some left) turns most so over = omega arith
+  -- one read before others
+  one_before : (old middle new : R) (n : ℕ) → Gives remaining old middle → GivesTimes remaining n middle new → GivesTimes remaining (suc n) old new
+  one_before old middle new n one is = record { by = by; begins = refl; each = each; ends = is.ends }
+    where
+      by : ℕ → R
+      by zero = old
+      by (suc k) = is.by k
+
+      each : (k : ℕ) → k < suc n → Gives remaining (by k) (by (suc k))
+      each zero below = subst (λ (r : R). Gives remaining old r) (sym is.begins) one
+      each (suc k) below = is.each k (omega arith)
+
+  pub adds_one : (reads : ℕ) (first now next : R) (n : ℕ) (more : List ℕ) → Adds reads first now
+      → Consumes (remaining now) (remaining next) more → n ≡ length more → n ≢ 0 → n ≤ buffer_size → Adds (reads + 1) first next
+  adds_one reads first now next n more so came size some few k last is =
+      let gave : Gives remaining now next = record { bytes = more; some = omega arith; few = omega arith; given = came } in
+      let count : reads + suc k ≡ reads + 1 + k = omega arith in
+      subst (λ (m : ℕ). GivesTimes remaining m first last) count (so (suc k) last (one_before now next last k gave is))
+
+  pub adds_all : (reads turns : ℕ) (first now : R) → Adds reads first now → reads ≤ turns → turns ≤ reads → GivesTimes remaining turns first now
+  adds_all reads turns first now so within over =
+      let count : reads + 0 ≡ turns = omega arith in
+      subst (λ (m : ℕ). GivesTimes remaining m first now) count
+      (so 0 now (record { by = λ k. now; begins = refl; each = λ k below. absurd (omega (arith, below)); ends = refl }))
+
+  -- an end of another kind
+  pub other_turns : (turns : ℕ) (old new : R) (end : End) → end ≢ Turns → MeetsTurns remaining turns old new end
+  other_turns turns old new end other = not_turns end (GivesTimes remaining turns old new) ⊤ other tt
+
+  pub finished_turns : (turns : ℕ) (old new : R) (waiting : List ℕ) (head : Option RequestHead) (reason : Refusal)
+      (held : Option (List ℕ)) (before : ℕ) (served : Served) (holds : Option (List ℕ))
+      → IsFinished waiting head reason held before served holds → MeetsTurns remaining turns old new served.end
+  finished_turns turns old new waiting head reason held before served holds x =
+      other_turns turns old new served.end (finished_other served.end x.ending x.last x.told x.plain)
 
 pub most_start : (input : Option (List ℕ)) (n : ℕ) → LosesAtMost n input input
 most_start None n = tt
@@ -396,13 +421,3 @@ finished_reads turns input left waiting head reason held before (Err (Content n)
 pub unfinished_content : (size : ℕ) (waiting : List ℕ) (head : Option RequestHead) (reason : Refusal) (held : Option (List ℕ)) (before : ℕ)
     (fault : ServeFault) (holds : Option (List ℕ)) → IsUnfinished waiting head reason held before fault holds → HasContent size fault
 unfinished_content size waiting head reason held before fault holds x = subst (λ (f : ServeFault). HasContent size f) (sym x.told) tt
-
--- an end of another kind
-pub other_turns : (turns : ℕ) (input left : Option (List ℕ)) (end : End) → end ≢ Turns → MeetsTurns turns input left end
-other_turns turns input left end other = not_turns end (LosesAtLeast turns input left) ⊤ other tt
-
-pub finished_turns : (turns : ℕ) (input left : Option (List ℕ)) (waiting : List ℕ) (head : Option RequestHead) (reason : Refusal)
-    (held : Option (List ℕ)) (before : ℕ) (served : Served) (holds : Option (List ℕ))
-    → IsFinished waiting head reason held before served holds → MeetsTurns turns input left served.end
-finished_turns turns input left waiting head reason held before served holds x =
-    other_turns turns input left served.end (finished_other served.end x.ending x.last x.told x.plain)

@@ -7,6 +7,7 @@ use Rattle.http_serve.specs.declared.connection.ServeFault.{ServeFault}
 use Rattle.http_serve.specs.declared.connection.ServeFault.TheVariants.{Memory, Read, Write, Content}
 use Rattle.http_serve.specs.declared.connection.Served.{Served}
 use Rattle.http_serve.specs.Input.{buffer_size}
+use Rattle.http_serve.specs.Reads.{GivesTimes}
 use Rattle.http_serve.specs.Requests.{Request, IsRequest, Requests, Ending, going, closed, asked, refused}
 use Rattle.http_serve.specs.Requests.{RequestView}
 use Rattle.http_serve.specs.Reply.{ReplyView}
@@ -26,21 +27,15 @@ IfTurns Closed stopped ended = ended
 IfTurns Asked stopped ended = ended
 IfTurns Refused stopped ended = ended
 
--- so many bytes at least were read of an input that is known
-abbrev pub LosesAtLeast : ℕ → Option (List ℕ) → Option (List ℕ) → Type 0
-LosesAtLeast bytes None left = ⊤
-LosesAtLeast bytes (Some input) None = ⊥
-LosesAtLeast bytes (Some input) (Some left) = bytes + length left ≤ length input
-
 -- so many bytes at most were read of an input that is known
 abbrev pub LosesAtMost : ℕ → Option (List ℕ) → Option (List ℕ) → Type 0
 LosesAtMost bytes None left = ⊤
 LosesAtMost bytes (Some input) None = ⊥
 LosesAtMost bytes (Some input) (Some left) = length input ≤ length left + bytes
 
--- where the bound on reads is met, each of so many reads gave a byte of an input that is known
-abbrev pub MeetsTurns : ℕ → Option (List ℕ) → Option (List ℕ) → End → Type 0
-MeetsTurns turns input left end = IfTurns end (LosesAtLeast turns input left) ⊤
+-- the bound on reads is met only by so many reads, each of which gave bytes
+abbrev pub MeetsTurns : {R : Type 0} → (remaining : R → Option (List ℕ)) → ℕ → (old new : R) → End → Type 0
+MeetsTurns remaining turns old new end = IfTurns end (GivesTimes remaining turns old new) ⊤
 
 -- how many of at most so many reads gave bytes: a read that fails is one of them, and gives none
 abbrev pub giving_reads : ℕ → Result Served ServeFault → ℕ

@@ -238,7 +238,7 @@ pub fn serve_turns<R: Read, W: Write, H: Handler>(
     ensures fault { IfErr result (λ fault. IsServedUpTo H.replies handler.old (R.remaining reader.old) (W.contents writer.old) fault
         handler.new (R.remaining reader.new) (W.contents writer.new)) }
     ensures content { IfErr result (HasContent (H.size handler.new)) }
-    ensures turns { IfOk result (λ served. MeetsTurns turns (R.remaining reader.old) (R.remaining reader.new) served.end) }
+    ensures turns { IfOk result (λ served. MeetsTurns R.remaining turns reader.old reader.new served.end) }
     ensures reads { KeepsTurns turns result (R.remaining reader.old) (R.remaining reader.new) }
 {
     let Ok(input) = Input::new(alloc) else {
@@ -293,7 +293,7 @@ pub fn serve<R: Read, W: Write, H: Handler>(
     ensures fault { IfErr result (λ fault. IsServedUpTo H.replies handler.old (R.remaining reader.old) (W.contents writer.old) fault
         handler.new (R.remaining reader.new) (W.contents writer.new)) }
     ensures content { IfErr result (HasContent (H.size handler.new)) }
-    ensures turns { IfOk result (λ served. MeetsTurns MOST_READS (R.remaining reader.old) (R.remaining reader.new) served.end) }
+    ensures turns { IfOk result (λ served. MeetsTurns R.remaining MOST_READS reader.old reader.new served.end) }
     ensures reads { KeepsTurns MOST_READS result (R.remaining reader.old) (R.remaining reader.new) }
 {
     serve_turns(alloc, reader, writer, handler, MOST_READS)

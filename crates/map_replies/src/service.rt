@@ -176,7 +176,7 @@ pub fn serve_map<D: Sectors + Drop, R: Read, W: Write>(
     ensures fault { IfErr result (λ fault. IsServedUpTo (ServiceReplies D.sectors D.honest D.history)
         service.old (R.remaining reader.old) (W.contents writer.old) fault service.new (R.remaining reader.new) (W.contents writer.new)) }
     ensures content { IfErr result (HasContent (sending_size service.new)) }
-    ensures turns { IfOk result (λ served. MeetsTurns MOST_READS (R.remaining reader.old) (R.remaining reader.new) served.end) }
+    ensures turns { IfOk result (λ served. MeetsTurns R.remaining MOST_READS reader.old reader.new served.end) }
     ensures reads { KeepsTurns MOST_READS result (R.remaining reader.old) (R.remaining reader.new) }
 
     // The replies report what happens to the service, one after the other. A crash at any moment of the connection leaves some first
