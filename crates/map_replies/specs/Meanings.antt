@@ -107,13 +107,6 @@ MeansWanted old new (allowed asked method) range body reply happenings = MeansAl
 abbrev pub Means : (old new : Published) → RequestView → ReplyView → List Happening → Type 0
 Means old new request = MeansWanted old new (wanted_by request.method request.path) request.range request.body
 
--- ---- a connection
-
--- The happenings of a connection go on by those that a reply reports.
-abbrev pub Tells : List Happening → RequestView → ReplyView → List Happening → Type 0
-Tells old request reply new = (before : Published) × (after : Published) × (happenings : List Happening)
-    × Means before after request reply happenings × (new ≡ old ++ happenings)
-
 -- ---- a single reply
 
 module _ {D : Type 0} (sectors : D → ℕ) (honest : D → Type 0) (history : D → History) where

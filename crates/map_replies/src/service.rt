@@ -8,15 +8,17 @@ ghost use Rattle.tile_routes.specs.Targets.{asked_of};
 ghost use Rattle.tile_routes.specs.Wanted.{wanted_view};
 ghost use Rattle.tile_service.specs.Machine.{Happening};
 ghost use Rattle.tile_service.specs.Runs.{TakesRun};
-ghost use Rattle.map_replies.specs.Meanings.{MeansOnFeature, Answers, AnswersAllowed, AnswersWanted, Tells};
+ghost use Rattle.map_replies.specs.Meanings.{MeansOnFeature, Answers, AnswersAllowed, AnswersWanted};
 ghost use Rattle.map_replies.specs.Parts.{range_for};
 ghost use Rattle.map_replies.specs.Sending.{IsAnswered, IsAnsweredInParts, IsSending, SendsWanted};
-ghost use Rattle.map_replies.specs.State.{asked_service, sending_size, ServiceReplies};
+ghost use Rattle.map_replies.specs.State.{asked_service, sending_size, ServiceReplies, Tells, course};
 
 use crate::fault::RequestFault;
 use crate::parts::{Sending, is_head, range_for};
 use crate::replies;
-use http_serve::{ContentFault, Handler, Reply, Request, ServeFault, Served, serve};
+use http_serve::{
+    ContentFault, Handler, MOST_READS, Reply, Request, ServeFault, Served, serve_turns,
+};
 use sector_disk::Sectors;
 use std::alloc::Global;
 use std::io::{Read, Write};
@@ -161,6 +163,35 @@ impl<D: Sectors + Drop> Handler for MapReplies<D> {
     }
 }
 
+/// Serves a connection by at most so many reads: one reply to each request, in order, and one to what is no request. After so many
+/// reads the whole requests among the bytes read are answered.
+pub fn serve_map_turns<D: Sectors + Drop, R: Read, W: Write>(
+    alloc: Global,
+    reader: &mut R,
+    writer: &mut W,
+    service: &mut MapReplies<D>,
+    turns: u64,
+) -> Result<Served, ServeFault>
+    ensures input { IfOk result (λ served. AnswersInput (ServiceReplies D.sectors D.honest D.history)
+        service.old (R.remaining reader.old) (W.contents writer.old) served service.new (W.contents writer.new)) }
+
+    // The replies report what happens to the service, one after the other. A crash at any moment of the connection leaves some first
+    // edits of this run: all that were acknowledged by then, and none asked for later.
+    ensures served { IfOk result (λ served. (run : List Happening)
+        × IsServed (Tells D.sectors D.honest D.history) (course service.old []) (R.remaining reader.old) (W.contents writer.old) served
+        (course service.new run) (R.remaining reader.new) (W.contents writer.new)
+        × TakesRun D.sectors D.honest D.history (asked_service service.old) run (asked_service service.new)) }
+    ensures fault { IfErr result (λ fault. (run : List Happening)
+        × IsServedUpTo (Tells D.sectors D.honest D.history) (course service.old []) (R.remaining reader.old) (W.contents writer.old) fault
+        (course service.new run) (R.remaining reader.new) (W.contents writer.new)
+        × TakesRun D.sectors D.honest D.history (asked_service service.old) run (asked_service service.new)) }
+    ensures content { IfErr result (HasContent (sending_size service.new)) }
+    ensures turns { IfOk result (λ served. MeetsTurns R.remaining turns reader.old reader.new served.end) }
+    ensures reads { KeepsTurns turns result (R.remaining reader.old) (R.remaining reader.new) }
+{
+    serve_turns(alloc, reader, writer, service, turns)
+}
+
 /// Serves a connection by at most `http_serve::MOST_READS` reads: one reply to each request, in order, and one to what is
 /// no request.
 pub fn serve_map<D: Sectors + Drop, R: Read, W: Write>(
@@ -171,22 +202,17 @@ pub fn serve_map<D: Sectors + Drop, R: Read, W: Write>(
 ) -> Result<Served, ServeFault>
     ensures input { IfOk result (λ served. AnswersInput (ServiceReplies D.sectors D.honest D.history)
         service.old (R.remaining reader.old) (W.contents writer.old) served service.new (W.contents writer.new)) }
-    ensures served { IfOk result (λ served. IsServed (ServiceReplies D.sectors D.honest D.history)
-        service.old (R.remaining reader.old) (W.contents writer.old) served service.new (R.remaining reader.new) (W.contents writer.new)) }
-    ensures fault { IfErr result (λ fault. IsServedUpTo (ServiceReplies D.sectors D.honest D.history)
-        service.old (R.remaining reader.old) (W.contents writer.old) fault service.new (R.remaining reader.new) (W.contents writer.new)) }
+    ensures served { IfOk result (λ served. (run : List Happening)
+        × IsServed (Tells D.sectors D.honest D.history) (course service.old []) (R.remaining reader.old) (W.contents writer.old) served
+        (course service.new run) (R.remaining reader.new) (W.contents writer.new)
+        × TakesRun D.sectors D.honest D.history (asked_service service.old) run (asked_service service.new)) }
+    ensures fault { IfErr result (λ fault. (run : List Happening)
+        × IsServedUpTo (Tells D.sectors D.honest D.history) (course service.old []) (R.remaining reader.old) (W.contents writer.old) fault
+        (course service.new run) (R.remaining reader.new) (W.contents writer.new)
+        × TakesRun D.sectors D.honest D.history (asked_service service.old) run (asked_service service.new)) }
     ensures content { IfErr result (HasContent (sending_size service.new)) }
     ensures turns { IfOk result (λ served. MeetsTurns R.remaining MOST_READS reader.old reader.new served.end) }
     ensures reads { KeepsTurns MOST_READS result (R.remaining reader.old) (R.remaining reader.new) }
-
-    // The replies report what happens to the service, one after the other. A crash at any moment of the connection leaves some first
-    // edits of this run: all that were acknowledged by then, and none asked for later.
-    ensures any_moment { IfOk result (λ served. (run : List Happening)
-        × IsServed Tells [] (R.remaining reader.old) (W.contents writer.old) served run (R.remaining reader.new) (W.contents writer.new)
-        × TakesRun D.sectors D.honest D.history (asked_service service.old) run (asked_service service.new)) }
-    ensures any_moment_of_fault { IfErr result (λ fault. (run : List Happening)
-        × IsServedUpTo Tells [] (R.remaining reader.old) (W.contents writer.old) fault run (R.remaining reader.new) (W.contents writer.new)
-        × TakesRun D.sectors D.honest D.history (asked_service service.old) run (asked_service service.new)) }
 {
-    serve(alloc, reader, writer, service)
+    serve_map_turns(alloc, reader, writer, service, MOST_READS)
 }
