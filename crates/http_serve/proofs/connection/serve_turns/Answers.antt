@@ -30,7 +30,7 @@ returns-in_err-served-clause-fault g c =
     let fault = c.in_err-served.field-0.0 in
     let same : c.from_residual.result ≡ Err fault = search rules in
     rw same (SoFar_broken g.H.Handler.replies _ _ _ _ _ _ c.loop-turn.requests _ _ c.loop-turn.invariant.so_far came.0 _ came.1 _ _ _ came.2
-    fault c.in_err-served.ensures.err)
+    g.H.Handler.fails fault c.in_err-served.ensures.err)
 
 pub returns-in_default-read_from-clause-fault : goal.returns-in_default-read_from-clause-fault
 returns-in_default-read_from-clause-fault g c =
@@ -72,7 +72,7 @@ returns-then-count-eq0-clause-fault g c =
     let came = c.in-Ok-read_from.ensures.ok in
     if_err c.finish.result _ _
     (SoFar_failed g.H.Handler.replies _ _ _ _ _ _ c.loop-turn.requests _ _ c.loop-turn.invariant.so_far _ came.0 _ _ _ came.1 came.2 came.3
-    c.if-count-eq0.true came.4) (c.finish.ensures.fault c.loop-turn.invariant.so_far.head c.loop-turn.invariant.so_far.bare)
+    c.if-count-eq0.true g.H.Handler.fails came.4) (c.finish.ensures.fault c.loop-turn.invariant.so_far.head c.loop-turn.invariant.so_far.bare)
 
 pub returns-then-count-eq0-clause-turns : goal.returns-then-count-eq0-clause-turns
 returns-then-count-eq0-clause-turns g c =
