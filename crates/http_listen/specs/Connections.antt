@@ -18,11 +18,12 @@ pub record Connection : Type 0 where
 abbrev pub unknown_stream : Result Served ServeFault → Connection
 unknown_stream result = record { result = result; left = None; held = None; leaves = None; holds = None }
 
-module _ {S : Type 0} (replies : S → RequestView → ReplyView → S → Type 0) where
+-- replies, and those of which the handler's part fails
+module _ {S : Type 0} (replies fails : S → RequestView → ReplyView → S → Type 0) where
   -- what a connection came to, or what its fault leaves
   abbrev pub CameTo : Result Served ServeFault → S → Connection → S → Type 0
   CameTo (Ok served) old connection new = IsServed replies old connection.left connection.held served new connection.leaves connection.holds
-  CameTo (Err fault) old connection new = IsServedUpTo replies old connection.left connection.held fault new connection.leaves connection.holds
+  CameTo (Err fault) old connection new = IsServedUpTo replies fails old connection.left connection.held fault new connection.leaves connection.holds
 
   -- the replies of these connections, in order, lead from the old state to the new one
   abbrev pub Serves : S → List Connection → S → Type 0

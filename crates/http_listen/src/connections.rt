@@ -59,7 +59,7 @@ where
     L::Stream: Read + Write + OpenStream,
     H: Handler,
     C: Clock,
-    ensures { CameTo H.replies result handler.old (unknown_stream result) handler.new }
+    ensures { CameTo H.replies H.fails result handler.old (unknown_stream result) handler.new }
 {
     prepare(&stream);
     let stream = Paced::new(clock, stream);
@@ -106,8 +106,8 @@ where
     H: Handler,
     W: Write,
     C: Clock,
-    ensures all { OnOk result ((served : List Connection) × Serves H.replies handler.old served handler.new × (length served ≡ connections)) }
-    ensures fewer { OnErr result ((served : List Connection) × Serves H.replies handler.old served handler.new × (length served < connections)) }
+    ensures all { OnOk result ((served : List Connection) × Serves H.replies H.fails handler.old served handler.new × (length served ≡ connections)) }
+    ensures fewer { OnErr result ((served : List Connection) × Serves H.replies H.fails handler.old served handler.new × (length served < connections)) }
 {
     let door = Door::new(listener);
     let mut kept = Vec::new(alloc);

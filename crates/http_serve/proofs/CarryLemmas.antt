@@ -10,7 +10,7 @@ use Rattle.http_serve.specs.Requests.{RequestView, request_view, request_view_at
 use Rattle.http_serve.specs.declared.frames.Frame.{Frame}
 use Rattle.http_serve.specs.Frame.{IsFrameOf}
 use Rattle.http_serve.specs.Reply.{ReplyView, is_head, reply_bytes, reply_to, reply_at, refusal_bytes}
-use Rattle.http_serve.specs.Served.{RisesBy, reply_count, Answers, AnswersEnd, Carries, Ends, Breaks, Anything}
+use Rattle.http_serve.specs.Served.{RisesBy, reply_count, Answers, AnswersEnd, AnswersNext, RepliesNext, Carries, Ends, Breaks, Anything}
 use Rattle.http_serve.proofs.HeadLemmas.{IsHead-append}
 use Rattle.http_serve.proofs.KnownLemmas.{Appends-then, Appends_none}
 
@@ -55,6 +55,34 @@ pub reply_count-append : (requests others : List Request) (ending : Ending)
     → reply_count (requests ++ others) ending ≡ length requests + reply_count others ending
 reply_count-append requests others ending =
     omega (arith, reply_count_split (requests ++ others) ending, reply_count_split others ending, length-append requests others)
+
+-- ---- a request in a frame
+
+framed_view : (input : List ℕ) (frame : Frame) (request : Request) → IsFrameOf input frame request → request_view_at input frame ≡ request_view request
+framed_view input frame request is = λ i. record {
+  method = is.method i;
+  path = path_of (is.target i);
+  range = is.range i;
+  body = is.body i;
+  close = is.close i;
+}
+
+framed_reply : (input : List ℕ) (frame : Frame) (request : Request) (reply : ReplyView) → IsFrameOf input frame request
+    → reply_at input frame reply ≡ reply_to request reply
+framed_reply input frame request reply is = λ i. reply_bytes (is.close i) (is_head (is.method i)) reply
+
+-- the reply of a frame, whichever it is, is the next one
+pub Frame_next : {S : Type 0} (last : S → RequestView → ReplyView → S → Type 0) (old : S) (input : List ℕ) (frame : Frame) (request : Request)
+    (reply : ReplyView) (new : S) → IsFrameOf input frame request → last old (request_view_at input frame) reply new
+    → AnswersNext last old input (reply_at input frame reply) new
+Frame_next last old input frame request reply new is given = record {
+  request = request;
+  rest = drop frame.body.end input;
+  reply = reply;
+  is = is.is;
+  replied = subst (λ (q : RequestView). last old q reply new) (framed_view input frame request is) given;
+  out_is = framed_reply input frame request reply is;
+}
 
 -- ---- replies
 
@@ -120,24 +148,33 @@ module _ {S : Type 0} (replies : S → RequestView → ReplyView → S → Type 
         (rises_then before (length so.requests) so_far (reply_count [] ending) after so.counted count);
   }
 
+  -- of the next reply the first bytes are written
+  pub Breaks_at : (IsNext : S → List ℕ → List ℕ → S → Type 0) (old : S) (bytes : List ℕ) (held : Option (List ℕ)) (before : ℕ)
+      (middle : S) (input : List ℕ) (holds : Option (List ℕ)) (so_far : ℕ) (next : List ℕ) (n : ℕ) (new : S) (now : Option (List ℕ))
+      → Carries replies old bytes held before middle input holds so_far → IsNext middle input next new
+      → n < length next → Appends holds now (take n next) → Breaks replies IsNext old bytes held before new now so_far
+  Breaks_at IsNext old bytes held before middle input holds so_far next n new now so is cut sent = record {
+    middle = middle;
+    rest = input;
+    between = holds;
+    carries = so;
+    next = next;
+    count = n;
+    replied = is;
+    cut = cut;
+    written = sent;
+  }
+
   -- a write failed in a refusal
   pub Breaks_refused : (old : S) (bytes : List ℕ) (held : Option (List ℕ)) (before : ℕ) (middle : S) (input : List ℕ) (holds : Option (List ℕ)) (so_far : ℕ)
       (follow : List ℕ → Type 0) (head : Option RequestHead) (refusal : Refusal) (n : ℕ) (now : Option (List ℕ))
       → Carries replies old bytes held before middle input holds so_far
       → 0 < length input → ((more : List ℕ) → follow more → IsRefused (input ++ more) head refusal)
       → n < length (refusal_bytes head refusal) → Appends holds now (take n (refusal_bytes head refusal))
-      → Breaks replies old bytes follow held before middle now so_far
-  Breaks_refused old bytes held before middle input holds so_far follow head refusal n now so some is cut sent = record {
-    middle = middle;
-    rest = input;
-    between = holds;
-    carries = so;
-    next = refusal_bytes head refusal;
-    count = n;
-    replied = inr (record { head = head; refusal = refusal; some = some; is = is; same = refl; out_is = refl });
-    cut = cut;
-    written = sent;
-  }
+      → Breaks replies (RepliesNext replies follow) old bytes held before middle now so_far
+  Breaks_refused old bytes held before middle input holds so_far follow head refusal n now so some is cut sent =
+      Breaks_at (RepliesNext replies follow) old bytes held before middle input holds so_far (refusal_bytes head refusal) n middle now so
+      (inr (record { head = head; refusal = refusal; some = some; is = is; same = refl; out_is = refl })) cut sent
 
   -- ---- a request in a frame
 
@@ -146,19 +183,11 @@ module _ {S : Type 0} (replies : S → RequestView → ReplyView → S → Type 
       (so : Carries replies old bytes held before middle input holds so_far) (is : IsFrameOf input frame request)
       (given : replies middle (request_view_at input frame) reply new) where
     asked_so : replies middle (request_view request) reply new
-    asked_so =
-        let same : request_view_at input frame ≡ request_view request = λ i. record {
-          method = is.method i;
-          path = path_of (is.target i);
-          range = is.range i;
-          body = is.body i;
-          close = is.close i;
-        } in
-        subst (λ (q : RequestView). replies middle q reply new) same given
+    asked_so = subst (λ (q : RequestView). replies middle q reply new) (framed_view input frame request is) given
 
     -- the reply of the frame is the reply to its request
     same_reply : reply_at input frame reply ≡ reply_to request reply
-    same_reply = λ i. reply_bytes (is.close i) (is_head (is.method i)) reply
+    same_reply = framed_reply input frame request reply is
 
     pub Frame_push : (after : ℕ) → frame.close ≡ false → Appends holds now (reply_at input frame reply) → RisesBy so_far 1 after
         → Carries replies old bytes held before new (drop frame.body.end input) now after
@@ -174,25 +203,3 @@ module _ {S : Type 0} (replies : S → RequestView → ReplyView → S → Type 
         (λ more _. (drop frame.body.end input ++ more, IsRequest-append input more request (drop frame.body.end input) is.is, sym is.close ∙ closes))
         (reply, asked_so, refl)
         (subst (λ (t : List ℕ). Appends holds now t) same_reply sent) one
-
-    pub Frame_breaks : (n : ℕ) → n < length (reply_at input frame reply) → Appends holds now (take n (reply_at input frame reply))
-        → Breaks replies old bytes Anything held before new now so_far
-    Frame_breaks n cut sent = record {
-      middle = middle;
-      rest = input;
-      between = holds;
-      carries = so;
-      next = reply_at input frame reply;
-      count = n;
-      replied =
-          inl (record {
-            request = request;
-            rest = drop frame.body.end input;
-            reply = reply;
-            is = is.is;
-            replied = asked_so;
-            out_is = same_reply;
-          });
-      cut = cut;
-      written = sent;
-    }

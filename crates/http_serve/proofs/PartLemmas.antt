@@ -129,13 +129,14 @@ module _ {S : Type 0} (replies sends : S → RequestView → ReplyView → S →
         )
 
     -- one more part is written, and not whole
-    pub sent_cut : at + count ≤ size → ((first : S) (request : RequestView) (reply : ReplyView) → sends first request reply new
-        → length reply.content ≡ size → (later : ReplyView) × IsLater at reply later × replies first request later newer
+    pub sent_cut : (Given : (first : S) → RequestView → ReplyView → Type 0) → at + count ≤ size
+        → ((first : S) (request : RequestView) (reply : ReplyView) → sends first request reply new
+        → length reply.content ≡ size → (later : ReplyView) × IsLater at reply later × Given first request later
         × (n : ℕ) × (n < length (take count (drop at later.content))) × Appends holds now (take n (take count (drop at later.content))))
         → (first : S) (request : RequestView) (reply : ReplyView) → sends first request reply old → replies first request reply old
-        → length reply.content ≡ size → (later : ReplyView) × IsLater offset reply later × replies first request later newer
+        → length reply.content ≡ size → (later : ReplyView) × IsLater offset reply later × Given first request later
         × ((k : ℕ) × (k < length (drop offset later.content)) × Appends held now (take k (drop offset later.content)))
-    sent_cut within part first request reply sent replied is =
+    sent_cut Given within part first request reply sent replied is =
         let next = so_far first request reply sent replied is in
         let last = part first request next.0 next.2 (next.1.size ∙ is) in
         let written = subst (λ (xs : List ℕ). Appends held holds xs) (written_later offset at next.0 last.0 before last.1) next.4 in

@@ -1,6 +1,6 @@
 -- A connection, read by read.
 use Rattle.std.proofs.Common.{◌≡◌, ◌≢◌, ℕ, ◌<◌, ◌≤◌, List, [], ◌∷◌, ◌++◌, Option, Some, None, take, length, ◌+◌, ◌*◌, refl, sym, ap, ◌∙◌, subst}
-use Rattle.std.proofs.Common.{append_assoc, arith, inl, inr, length-append}
+use Rattle.std.proofs.Common.{append_assoc, arith, inl, inr, length-append, zero, suc}
 use Rattle.std.specs.Prelude.{⊤, ◌⊎◌, Result, Ok, Err, IfOk, IfErr}
 use Rattle.httparse.specs.Grammar.{RequestHead}
 use Rattle.std.proofs.lemmas.List.{append-nil}
@@ -15,19 +15,23 @@ use Rattle.http_serve.specs.declared.connection.ServeFault.{ServeFault}
 use Rattle.http_serve.specs.declared.connection.ServeFault.TheVariants.{Memory, Read, Write, Content}
 use Rattle.http_serve.specs.declared.contents.SendFault.{SendFault}
 use Rattle.http_serve.specs.declared.contents.SendFault.TheVariants as cuts
+use Rattle.http_serve.specs.declared.frames.Frame.{Frame}
 use Rattle.http_serve.specs.declared.frames.TheConstants.{MOST_REQUEST}
 use Rattle.http_serve.specs.Input.{buffer_size}
-use Rattle.http_serve.specs.Parts.{cut_after}
+use Rattle.http_serve.specs.Reads.{Gives, GivesTimes}
+use Rattle.http_serve.specs.Frame.{IsFrameOf}
+use Rattle.http_serve.specs.Parts.{GivesOrFails, cut_after}
 use Rattle.http_serve.specs.Requests.{Request, Ending, going, closed, asked, refused, EndsAs, IsRefused, Requests}
-use Rattle.http_serve.specs.Requests.{RequestView}
-use Rattle.http_serve.specs.Reply.{ReplyView, refusal_bytes, has_head_method}
-use Rattle.http_serve.specs.Served.{RisesBy, reply_count, Answers, AnswersEnd, AnswersAll, AnswersNext, RefusesNext, Carries, Ends, Breaks, Anything, MayFollow}
+use Rattle.http_serve.specs.Requests.{RequestView, request_view_at}
+use Rattle.http_serve.specs.Reply.{ReplyView, reply_at, refusal_bytes, has_head_method}
+use Rattle.http_serve.specs.Served.{RisesBy, reply_count, Answers, AnswersEnd, AnswersAll, AnswersNext, RepliesNext, Carries, Ends, Breaks, Anything, MayFollow}
 use Rattle.http_serve.specs.Steps.{HasPlainEnd, IsFinished, IsUnfinished, IsBroken}
-use Rattle.http_serve.specs.Told.{end_of, IfTurns, IsServed, IsServedTo, IsServedSoFar, IsServedInPart, IsServedUpTo, IsAnswered, LosesAtLeast, LosesAtMost}
+use Rattle.http_serve.specs.Told.{end_of, IfTurns, IsServed, IsServedTo, IsServedSoFar, IsServedInPart, IsServedUpTo, IsAnswered, LosesAtMost}
 use Rattle.http_serve.specs.Told.{HasContent, MeetsTurns, KeepsTurns, AnswersInput}
 use Rattle.http_serve.proofs.HeadLemmas.{empty_no_head, refused_none}
 use Rattle.http_serve.proofs.KnownLemmas.{Appends-then, Consumes-then, Consumes_none}
-use Rattle.http_serve.proofs.CarryLemmas.{Begins-append, Begins-then, Answers-then, Carries_start, Ends_push, Breaks_refused, rises_then, reply_count-append}
+use Rattle.http_serve.proofs.CarryLemmas.{Begins-append, Begins-then, Answers-then, Carries_start, Ends_push, Frame_next, Breaks_at, Breaks_refused}
+use Rattle.http_serve.proofs.CarryLemmas.{rises_then, reply_count-append}
 
 pub finished_other : (end : End) (ending : Ending) (last : List ℕ) → end ≡ end_of ending → HasPlainEnd ending last → end ≢ Turns
 finished_other end going last told plain e = absurd plain
@@ -65,13 +69,22 @@ pub record IsSoFar {S : Type 0} (replies : S → RequestView → ReplyView → S
   pub bare : reason.bare ≡ has_head_method head
   pub refused : IsRefused waiting head reason.refusal
 
-module _ {S : Type 0} (replies : S → RequestView → ReplyView → S → Type 0) where
-  -- what a cut reply leaves
-  pub cut_breaks : (old : S) (bytes : List ℕ) (held : Option (List ℕ)) (before : ℕ) (new : S) (holds : Option (List ℕ)) (requests : ℕ) (fault : SendFault)
-      → Breaks replies old bytes Anything held before new holds requests → IsBroken replies old bytes held before (cut_after requests fault) new holds
-  cut_breaks old bytes held before new holds requests cuts.Write breaks = breaks
-  cut_breaks old bytes held before new holds requests cuts.Content breaks = breaks
+-- what a reply leaves that was cut
+pub cut_breaks : {S : Type 0} (replies fails : S → RequestView → ReplyView → S → Type 0) (old : S) (bytes : List ℕ) (held : Option (List ℕ)) (before : ℕ)
+    (middle : S) (input : List ℕ) (holds : Option (List ℕ)) (so_far : ℕ) (frame : Frame) (request : Request) (reply : ReplyView) (n : ℕ) (new : S)
+    (now : Option (List ℕ)) (fault : SendFault)
+    → Carries replies old bytes held before middle input holds so_far → IsFrameOf input frame request
+    → GivesOrFails (Err fault) (replies middle (request_view_at input frame) reply new) (fails middle (request_view_at input frame) reply new)
+    → n < length (reply_at input frame reply) → Appends holds now (take n (reply_at input frame reply))
+    → IsBroken replies fails old bytes held before (cut_after so_far fault) new now
+cut_breaks replies fails old bytes held before middle input holds so_far frame request reply n new now cuts.Write so is given cut sent =
+    Breaks_at replies (RepliesNext replies Anything) old bytes held before middle input holds so_far (reply_at input frame reply) n new now so
+    (inl (Frame_next replies middle input frame request reply new is given)) cut sent
+cut_breaks replies fails old bytes held before middle input holds so_far frame request reply n new now cuts.Content so is given cut sent =
+    Breaks_at replies (AnswersNext fails) old bytes held before middle input holds so_far (reply_at input frame reply) n new now so
+    (Frame_next fails middle input frame request reply new is given) cut sent
 
+module _ {S : Type 0} (replies : S → RequestView → ReplyView → S → Type 0) where
   pub SoFar_start : (old : S) (left held : Option (List ℕ)) (waiting : List ℕ) → waiting ≡ []
       → IsSoFar replies old left held old left held 0 waiting NO_HEAD
   SoFar_start old left held waiting empty =
@@ -146,8 +159,7 @@ module _ {S : Type 0} (replies : S → RequestView → ReplyView → S → Type 
 
   -- what is refused whatever follows is refused with what may follow
   Next-follows : (old : S) (bytes out : List ℕ) (follow : List ℕ → Type 0) (new : S)
-      → AnswersNext replies old bytes out new ⊎ RefusesNext replies old bytes Anything out new
-      → AnswersNext replies old bytes out new ⊎ RefusesNext replies old bytes follow out new
+      → RepliesNext replies Anything old bytes out new → RepliesNext replies follow old bytes out new
   Next-follows old bytes out follow new (inl answered) = inl answered
   Next-follows old bytes out follow new (inr refuses) = inr (record {
     head = refuses.head;
@@ -159,17 +171,18 @@ module _ {S : Type 0} (replies : S → RequestView → ReplyView → S → Type 
   })
 
   Breaks-then : (old : S) (bytes : List ℕ) (held : Option (List ℕ)) (before : ℕ) (middle : S) (input : List ℕ) (holds : Option (List ℕ)) (so_far : ℕ)
-      (follow : List ℕ → Type 0) (new : S) (now : Option (List ℕ)) (after : ℕ)
-      → Carries replies old bytes held before middle input holds so_far → Breaks replies middle input Anything holds so_far new now after
-      → Breaks replies old bytes follow held before new now after
-  Breaks-then old bytes held before middle input holds so_far follow new now after x y = record {
+      (IsNext IsThen : S → List ℕ → List ℕ → S → Type 0) (new : S) (now : Option (List ℕ)) (after : ℕ)
+      → ((at : S) (rest next : List ℕ) → IsNext at rest next new → IsThen at rest next new)
+      → Carries replies old bytes held before middle input holds so_far → Breaks replies IsNext middle input holds so_far new now after
+      → Breaks replies IsThen old bytes held before new now after
+  Breaks-then old bytes held before middle input holds so_far IsNext IsThen new now after f x y = record {
     middle = y.middle;
     rest = y.rest;
     between = y.between;
     carries = Carries-then old bytes held before middle input holds so_far y.middle y.rest y.between after x y.carries;
     next = y.next;
     count = y.count;
-    replied = Next-follows y.middle y.rest y.next follow new y.replied;
+    replied = f y.middle y.rest y.next y.replied;
     cut = y.cut;
     written = y.written;
   }
@@ -242,23 +255,26 @@ module _ {S : Type 0} (replies : S → RequestView → ReplyView → S → Type 
           → served.end ≡ end_of ending → served.end ≢ Turns → IsServed replies old left held served new last now
       SoFar_told served ending y told other = not_turns served.end _ _ other (SoFar_ends served ending y told)
 
-      pub SoFar_breaks : (after : ℕ) → Breaks replies middle full Anything holds requests new now after
-          → IsServedInPart replies old left held after new last now
-      SoFar_breaks after y = record {
+      SoFar_breaks : (IsNext IsThen : S → List ℕ → List ℕ → S → Type 0) (after : ℕ)
+          → ((at : S) (rest next : List ℕ) → IsNext at rest next new → IsThen at rest next new)
+          → Breaks replies IsNext middle full holds requests new now after
+          → IsServedInPart replies IsThen old left held after new last now
+      SoFar_breaks IsNext IsThen after f y = record {
         bytes = so.bytes ++ more;
         read = Consumes-then left leaves last so.bytes more so.read came;
         breaks =
-            Breaks-then old (so.bytes ++ more) held 0 middle (waiting ++ more) holds requests (MayFollow last) new now after
+            Breaks-then old (so.bytes ++ more) held 0 middle (waiting ++ more) holds requests IsNext IsThen new now after f
             (Carries-more old so.bytes held 0 middle waiting holds requests more so.carries)
-            (subst (λ (t : List ℕ). Breaks replies middle t Anything holds requests new now after) joined y);
+            (subst (λ (t : List ℕ). Breaks replies IsNext middle t holds requests new now after) joined y);
       }
 
-      pub SoFar_broken : (fault : ServeFault) → IsBroken replies middle full holds requests fault new now
-          → IsServedUpTo replies old left held fault new last now
-      SoFar_broken Memory y = absurd y
-      SoFar_broken (Read n) y = absurd y
-      SoFar_broken (Write n) y = SoFar_breaks n y
-      SoFar_broken (Content n) y = SoFar_breaks n y
+      pub SoFar_broken : (fails : S → RequestView → ReplyView → S → Type 0) (fault : ServeFault)
+          → IsBroken replies fails middle full holds requests fault new now → IsServedUpTo replies fails old left held fault new last now
+      SoFar_broken fails Memory y = absurd y
+      SoFar_broken fails (Read n) y = absurd y
+      SoFar_broken fails (Write n) y = SoFar_breaks (RepliesNext replies Anything) (RepliesNext replies (MayFollow last)) n
+          (λ at rest next is. Next-follows at rest next (MayFollow last) new is) y
+      SoFar_broken fails (Content n) y = SoFar_breaks (AnswersNext fails) (AnswersNext fails) n (λ at rest next is. is) y
 
     -- the input ended
     SoFar_finish : (served : Served) (last : Option (List ℕ)) (now : Option (List ℕ)) → Consumes leaves last [] → IsAtEnd last
@@ -285,7 +301,7 @@ module _ {S : Type 0} (replies : S → RequestView → ReplyView → S → Type 
 
     SoFar_unfinished : (last : Option (List ℕ)) (count : ℕ) (now : Option (List ℕ)) → Consumes leaves last [] → IsAtEnd last
         → 0 < length waiting → count < length (refusal_bytes so.head reason.refusal) → Appends holds now (take count (refusal_bytes so.head reason.refusal))
-        → IsServedInPart replies old left held requests middle last now
+        → IsServedInPart replies (RepliesNext replies (MayFollow last)) old left held requests middle last now
     SoFar_unfinished last count now came at_end some cut y = record {
       bytes = so.bytes;
       read =
@@ -312,11 +328,11 @@ module _ {S : Type 0} (replies : S → RequestView → ReplyView → S → Type 
           not_turns served.end _ _ (finished_other served.end z.ending z.last z.told z.plain)
           (SoFar_finish served last now (subst (λ (t : List ℕ). Consumes leaves last t) none_came came) (at_end zero) z)
 
-      pub SoFar_failed : (n ≡ 0 → IsAtEnd last) → (fault : ServeFault) → IsUnfinished full so.head reason.refusal holds requests fault now
-          → IsServedUpTo replies old left held fault middle last now
-      SoFar_failed at_end fault y =
+      pub SoFar_failed : (fails : S → RequestView → ReplyView → S → Type 0) → (n ≡ 0 → IsAtEnd last) → (fault : ServeFault)
+          → IsUnfinished full so.head reason.refusal holds requests fault now → IsServedUpTo replies fails old left held fault middle last now
+      SoFar_failed fails at_end fault y =
           let z = subst (λ (t : List ℕ). IsUnfinished t so.head reason.refusal holds requests fault now) same_waits y in
-          subst (λ (f : ServeFault). IsServedUpTo replies old left held f middle last now) (sym z.told)
+          subst (λ (f : ServeFault). IsServedUpTo replies fails old left held f middle last now) (sym z.told)
           (SoFar_unfinished last z.count now (subst (λ (t : List ℕ). Consumes leaves last t) none_came came) (at_end zero) z.some z.cut z.written)
 
   -- where the input is known, all of it is answered
@@ -349,24 +365,48 @@ module _ {S : Type 0} (replies : S → RequestView → ReplyView → S → Type 
 
 -- ---- turns
 
-pub least_start : (input : Option (List ℕ)) → LosesAtLeast 0 input input
-least_start None = tt
-least_start (Some input) = omega arith
+module _ {R : Type 0} (remaining : R → Option (List ℕ)) where
+  -- reads that go on from here are so many more since the first reader
+  abbrev pub Adds : (reads : ℕ) → (first now : R) → Type 0
+  Adds reads first now = (n : ℕ) (last : R) → GivesTimes remaining n now last → GivesTimes remaining (reads + n) first last
 
--- one more read gave a byte
-pub least_more : (input left last : Option (List ℕ)) (turns n : ℕ) (more : List ℕ) → LosesAtLeast turns input left → Consumes left last more
-    → n ≡ length more → n ≢ 0 → LosesAtLeast (turns + 1) input last
-least_more None left last turns n more so came size some = tt
-least_more (Some input) None last turns n more so came size some = absurd so
-least_more (Some input) (Some left) None turns n more so came size some = absurd came
-least_more (Some input) (Some left) (Some last) turns n more so came size some =
-    omega (arith, ap length came, length-append more last)
+  pub adds_none : (first : R) → Adds 0 first first
+  adds_none first n last is = let same : n ≡ 0 + n = omega arith in subst (λ (m : ℕ). GivesTimes remaining m first last) same is
 
--- what is more is at least as much
-pub least_over : (input left : Option (List ℕ)) (turns most : ℕ) → LosesAtLeast turns input left → most ≤ turns → LosesAtLeast most input left
-least_over None left turns most so over = tt
-least_over (Some input) None turns most so over = absurd so
-least_over (Some input) (Some left) turns most so over = omega arith
+  -- one read before others
+  one_before : (old middle new : R) (n : ℕ) → Gives remaining old middle → GivesTimes remaining n middle new → GivesTimes remaining (suc n) old new
+  one_before old middle new n one is = record { by = by; begins = refl; each = each; ends = is.ends }
+    where
+      by : ℕ → R
+      by zero = old
+      by (suc k) = is.by k
+
+      each : (k : ℕ) → k < suc n → Gives remaining (by k) (by (suc k))
+      each zero below = subst (λ (r : R). Gives remaining old r) (sym is.begins) one
+      each (suc k) below = is.each k (omega arith)
+
+  pub adds_one : (reads : ℕ) (first now next : R) (n : ℕ) (more : List ℕ) → Adds reads first now
+      → Consumes (remaining now) (remaining next) more → n ≡ length more → n ≢ 0 → n ≤ buffer_size → Adds (reads + 1) first next
+  adds_one reads first now next n more so came size some few k last is =
+      let gave : Gives remaining now next = record { bytes = more; some = omega arith; few = omega arith; given = came } in
+      let count : reads + suc k ≡ reads + 1 + k = omega arith in
+      subst (λ (m : ℕ). GivesTimes remaining m first last) count (so (suc k) last (one_before now next last k gave is))
+
+  pub adds_all : (reads turns : ℕ) (first now : R) → Adds reads first now → reads ≤ turns → turns ≤ reads → GivesTimes remaining turns first now
+  adds_all reads turns first now so within over =
+      let count : reads + 0 ≡ turns = omega arith in
+      subst (λ (m : ℕ). GivesTimes remaining m first now) count
+      (so 0 now (record { by = λ k. now; begins = refl; each = λ k below. absurd (omega (arith, below)); ends = refl }))
+
+  -- an end of another kind
+  pub other_turns : (turns : ℕ) (old new : R) (end : End) → end ≢ Turns → MeetsTurns remaining turns old new end
+  other_turns turns old new end other = not_turns end (GivesTimes remaining turns old new) ⊤ other tt
+
+  pub finished_turns : (turns : ℕ) (old new : R) (waiting : List ℕ) (head : Option RequestHead) (reason : Refusal)
+      (held : Option (List ℕ)) (before : ℕ) (served : Served) (holds : Option (List ℕ))
+      → IsFinished waiting head reason held before served holds → MeetsTurns remaining turns old new served.end
+  finished_turns turns old new waiting head reason held before served holds x =
+      other_turns turns old new served.end (finished_other served.end x.ending x.last x.told x.plain)
 
 pub most_start : (input : Option (List ℕ)) (n : ℕ) → LosesAtMost n input input
 most_start None n = tt
@@ -396,13 +436,3 @@ finished_reads turns input left waiting head reason held before (Err (Content n)
 pub unfinished_content : (size : ℕ) (waiting : List ℕ) (head : Option RequestHead) (reason : Refusal) (held : Option (List ℕ)) (before : ℕ)
     (fault : ServeFault) (holds : Option (List ℕ)) → IsUnfinished waiting head reason held before fault holds → HasContent size fault
 unfinished_content size waiting head reason held before fault holds x = subst (λ (f : ServeFault). HasContent size f) (sym x.told) tt
-
--- an end of another kind
-pub other_turns : (turns : ℕ) (input left : Option (List ℕ)) (end : End) → end ≢ Turns → MeetsTurns turns input left end
-other_turns turns input left end other = not_turns end (LosesAtLeast turns input left) ⊤ other tt
-
-pub finished_turns : (turns : ℕ) (input left : Option (List ℕ)) (waiting : List ℕ) (head : Option RequestHead) (reason : Refusal)
-    (held : Option (List ℕ)) (before : ℕ) (served : Served) (holds : Option (List ℕ))
-    → IsFinished waiting head reason held before served holds → MeetsTurns turns input left served.end
-finished_turns turns input left waiting head reason held before served holds x =
-    other_turns turns input left served.end (finished_other served.end x.ending x.last x.told x.plain)

@@ -3,6 +3,7 @@ pub mod Frame
 pub mod Input
 pub mod Lines
 pub mod Parts
+pub mod Reads
 pub mod Reply
 pub mod Requests
 pub mod Search

@@ -1,5 +1,5 @@
 -- A reply in two: its front, which the reply has, and its rest, which is read in parts.
-use Rattle.std.specs.Prelude.{ℕ, ◌≡◌, ◌<◌, ◌≤◌, List, [], ◌++◌, ◌||◌, Bool, cond, take, drop, length, ⊤}
+use Rattle.std.specs.Prelude.{ℕ, ◌≡◌, ◌<◌, ◌≤◌, List, [], ◌++◌, ◌||◌, Bool, cond, take, drop, length, Result, Ok, Err, ⊤}
 use Rattle.http_serve.specs.declared.connection.ServeFault.{ServeFault}
 use Rattle.http_serve.specs.declared.connection.ServeFault.TheVariants as ends
 use Rattle.http_serve.specs.declared.contents.SendFault.{SendFault}
@@ -46,6 +46,12 @@ pub record IsLater (offset : ℕ) (reply later : ReplyView) : Type 0 where
 abbrev pub IsCutIn : ℕ → SendFault → Type 0
 IsCutIn size cuts.Write = ⊤
 IsCutIn size cuts.Content = 0 < size
+
+-- the first of a reply that was written, or whose writing failed, and the second of one whose content couldn't be read to its end
+abbrev pub GivesOrFails : Result (Unit {0}) SendFault → (gives fails : Type 0) → Type 0
+GivesOrFails (Ok done) gives fails = gives
+GivesOrFails (Err cuts.Write) gives fails = gives
+GivesOrFails (Err cuts.Content) gives fails = fails
 
 -- how a connection ends on which so many replies were written whole, and the next one was cut
 abbrev pub cut_after : ℕ → SendFault → ServeFault

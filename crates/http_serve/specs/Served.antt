@@ -81,8 +81,12 @@ module _ {S : Type 0} (replies : S → RequestView → ReplyView → S → Type 
     pub same : new ≡ old
     pub out_is : out ≡ refusal_bytes head refusal
 
-  -- a reply was cut: the replies to some whole requests are written, and the first bytes of the next reply
-  pub record Breaks (old : S) (bytes : List ℕ) (follow : List ℕ → Type 0) (held : Option (List ℕ)) (before : ℕ)
+  -- out is the reply to what bytes begin with, with what may follow: a request, or none
+  abbrev pub RepliesNext : (follow : List ℕ → Type 0) → S → List ℕ → List ℕ → S → Type 0
+  RepliesNext follow old bytes out new = AnswersNext old bytes out new ⊎ RefusesNext old bytes follow out new
+
+  -- a reply was cut: the replies to some whole requests are written, and the first bytes of the next one, which is this
+  pub record Breaks (IsNext : S → List ℕ → List ℕ → S → Type 0) (old : S) (bytes : List ℕ) (held : Option (List ℕ)) (before : ℕ)
       (new : S) (holds : Option (List ℕ)) (after : ℕ) : Type 0 where
     pub middle : S
     pub rest : List ℕ
@@ -90,7 +94,7 @@ module _ {S : Type 0} (replies : S → RequestView → ReplyView → S → Type 
     pub carries : Carries old bytes held before middle rest between after
     pub next : List ℕ
     pub count : ℕ
-    pub replied : AnswersNext middle rest next new ⊎ RefusesNext middle rest follow next new
+    pub replied : IsNext middle rest next new
     pub cut : count < length next
     pub written : Appends between holds (take count next)
 

@@ -13,7 +13,7 @@ use Rattle.http_serve.specs.declared.refusals.Refusal.{Refusal}
 use Rattle.http_serve.specs.Requests.{IsRefused, EndsAs, Ending, going, closed, asked, refused}
 use Rattle.http_serve.specs.Requests.{RequestView}
 use Rattle.http_serve.specs.Reply.{ReplyView, refusal_bytes, has_head_method}
-use Rattle.http_serve.specs.Served.{RisesBy, reply_count, Carries, Ends, Breaks, Anything}
+use Rattle.http_serve.specs.Served.{RisesBy, reply_count, AnswersNext, RepliesNext, Carries, Ends, Breaks, Anything}
 use Rattle.http_serve.specs.Told.{end_of}
 
 -- what is written at an end that needs no handler
@@ -53,9 +53,12 @@ module _ {S : Type 0} (replies : S → RequestView → ReplyView → S → Type 
       Carries replies old waiting held before new rest holds requests × (length rest < MOST_REQUEST)
       × (head : Option RequestHead) × (rejection.bare ≡ has_head_method head) × IsRefused rest head rejection.refusal
 
+-- and of which the handler's part fails so
+module _ {S : Type 0} (replies fails : S → RequestView → ReplyView → S → Type 0) where
   -- a reply was cut
   abbrev pub IsBroken : S → List ℕ → Option (List ℕ) → ℕ → ServeFault → S → Option (List ℕ) → Type 0
   IsBroken old waiting held before Memory new holds = ⊥
   IsBroken old waiting held before (Read requests) new holds = ⊥
-  IsBroken old waiting held before (Write requests) new holds = Breaks replies old waiting Anything held before new holds requests
-  IsBroken old waiting held before (Content requests) new holds = Breaks replies old waiting Anything held before new holds requests
+  IsBroken old waiting held before (Write requests) new holds =
+      Breaks replies (RepliesNext replies Anything) old waiting held before new holds requests
+  IsBroken old waiting held before (Content requests) new holds = Breaks replies (AnswersNext fails) old waiting held before new holds requests

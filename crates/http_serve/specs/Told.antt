@@ -7,10 +7,11 @@ use Rattle.http_serve.specs.declared.connection.ServeFault.{ServeFault}
 use Rattle.http_serve.specs.declared.connection.ServeFault.TheVariants.{Memory, Read, Write, Content}
 use Rattle.http_serve.specs.declared.connection.Served.{Served}
 use Rattle.http_serve.specs.Input.{buffer_size}
+use Rattle.http_serve.specs.Reads.{GivesTimes}
 use Rattle.http_serve.specs.Requests.{Request, IsRequest, Requests, Ending, going, closed, asked, refused}
 use Rattle.http_serve.specs.Requests.{RequestView}
 use Rattle.http_serve.specs.Reply.{ReplyView}
-use Rattle.http_serve.specs.Served.{RisesBy, reply_count, AnswersAll, Carries, Ends, Breaks, MayFollow}
+use Rattle.http_serve.specs.Served.{RisesBy, reply_count, AnswersAll, AnswersNext, RepliesNext, Carries, Ends, Breaks, MayFollow}
 
 -- the end that is told
 abbrev pub end_of : Ending → End
@@ -26,21 +27,15 @@ IfTurns Closed stopped ended = ended
 IfTurns Asked stopped ended = ended
 IfTurns Refused stopped ended = ended
 
--- so many bytes at least were read of an input that is known
-abbrev pub LosesAtLeast : ℕ → Option (List ℕ) → Option (List ℕ) → Type 0
-LosesAtLeast bytes None left = ⊤
-LosesAtLeast bytes (Some input) None = ⊥
-LosesAtLeast bytes (Some input) (Some left) = bytes + length left ≤ length input
-
 -- so many bytes at most were read of an input that is known
 abbrev pub LosesAtMost : ℕ → Option (List ℕ) → Option (List ℕ) → Type 0
 LosesAtMost bytes None left = ⊤
 LosesAtMost bytes (Some input) None = ⊥
 LosesAtMost bytes (Some input) (Some left) = length input ≤ length left + bytes
 
--- where the bound on reads is met, each of so many reads gave a byte of an input that is known
-abbrev pub MeetsTurns : ℕ → Option (List ℕ) → Option (List ℕ) → End → Type 0
-MeetsTurns turns input left end = IfTurns end (LosesAtLeast turns input left) ⊤
+-- the bound on reads is met only by so many reads, each of which gave bytes
+abbrev pub MeetsTurns : {R : Type 0} → (remaining : R → Option (List ℕ)) → ℕ → (old new : R) → End → Type 0
+MeetsTurns remaining turns old new end = IfTurns end (GivesTimes remaining turns old new) ⊤
 
 -- how many of at most so many reads gave bytes: a read that fails is one of them, and gives none
 abbrev pub giving_reads : ℕ → Result Served ServeFault → ℕ
@@ -79,24 +74,17 @@ module _ {S : Type 0} (replies : S → RequestView → ReplyView → S → Type 
     pub carries : Carries replies old bytes held 0 new rest holds requests
     pub none : (request : Request) (behind : List ℕ) → ¬ (IsRequest rest request behind)
 
-  -- the same, but of the last reply only the first bytes were written, and it isn't counted
-  pub record IsServedInPart (old : S) (left : Option (List ℕ)) (held : Option (List ℕ)) (requests : ℕ)
+  -- the same, but of the last reply, which is this, only the first bytes were written, and it isn't counted
+  pub record IsServedInPart (IsNext : S → List ℕ → List ℕ → S → Type 0) (old : S) (left : Option (List ℕ)) (held : Option (List ℕ)) (requests : ℕ)
       (new : S) (leaves : Option (List ℕ)) (holds : Option (List ℕ)) : Type 0 where
     pub bytes : List ℕ
     pub read : Consumes left leaves bytes
-    pub breaks : Breaks replies old bytes (MayFollow leaves) held 0 new holds requests
+    pub breaks : Breaks replies IsNext old bytes held 0 new holds requests
 
   -- what a connection came to
   abbrev pub IsServed : S → Option (List ℕ) → Option (List ℕ) → Served → S → Option (List ℕ) → Option (List ℕ) → Type 0
   IsServed old left held served new leaves holds =
       IfTurns served.end (IsServedSoFar old left held served.requests new leaves holds) (IsServedTo old left held served new leaves holds)
-
-  -- what a fault leaves
-  abbrev pub IsServedUpTo : S → Option (List ℕ) → Option (List ℕ) → ServeFault → S → Option (List ℕ) → Option (List ℕ) → Type 0
-  IsServedUpTo old left held Memory new leaves holds = (new ≡ old) × (leaves ≡ left) × (holds ≡ held)
-  IsServedUpTo old left held (Read requests) new leaves holds = IsServedSoFar old left held requests new leaves holds
-  IsServedUpTo old left held (Write requests) new leaves holds = IsServedInPart old left held requests new leaves holds
-  IsServedUpTo old left held (Content requests) new leaves holds = IsServedInPart old left held requests new leaves holds
 
   -- all bytes of the input are these requests up to an ending, and their replies, in order, are what was written
   pub record IsAnswered (old : S) (input : List ℕ) (held : Option (List ℕ)) (served : Served) (new : S) (holds : Option (List ℕ)) : Type 0 where
@@ -113,3 +101,14 @@ module _ {S : Type 0} (replies : S → RequestView → ReplyView → S → Type 
   abbrev pub AnswersInput : S → Option (List ℕ) → Option (List ℕ) → Served → S → Option (List ℕ) → Type 0
   AnswersInput old None held served new holds = ⊤
   AnswersInput old (Some input) held served new holds = IfTurns served.end ⊤ (IsAnswered old input held served new holds)
+
+-- replies, and those of which the handler's part fails
+module _ {S : Type 0} (replies fails : S → RequestView → ReplyView → S → Type 0) where
+  -- what a fault leaves: with the fault of a content the handler has failed in the reply that is cut
+  abbrev pub IsServedUpTo : S → Option (List ℕ) → Option (List ℕ) → ServeFault → S → Option (List ℕ) → Option (List ℕ) → Type 0
+  IsServedUpTo old left held Memory new leaves holds = (new ≡ old) × (leaves ≡ left) × (holds ≡ held)
+  IsServedUpTo old left held (Read requests) new leaves holds = IsServedSoFar replies old left held requests new leaves holds
+  IsServedUpTo old left held (Write requests) new leaves holds =
+      IsServedInPart replies (RepliesNext replies (MayFollow leaves)) old left held requests new leaves holds
+  IsServedUpTo old left held (Content requests) new leaves holds =
+      IsServedInPart replies (AnswersNext fails) old left held requests new leaves holds

@@ -10,7 +10,7 @@ ghost use Rattle.http_serve.specs.Sent.{Sends};
 ghost use Rattle.http_serve.specs.Steps.{IsPaused, IsBroken, IsFinished, IsUnfinished};
 ghost use Rattle.http_serve.specs.declared.connection.TheConstants.{MOST_READS};
 ghost use Rattle.http_serve.specs.Told.{IsServed, IsServedUpTo, HasContent, MeetsTurns, KeepsTurns, AnswersInput};
-ghost use Rattle.http_serve.specs.Parts.{IsCutIn};
+ghost use Rattle.http_serve.specs.Parts.{GivesOrFails, IsCutIn};
 
 use crate::contents::{SendFault, send_reply};
 use crate::fields::position_or_len;
@@ -106,7 +106,8 @@ fn answer_one<H: Handler, W: Write>(
     requires range { IfSome frame.now.range (IsWithin (length bytes.now)) }
     requires room { 16384 ≤ vec_capacity out.old }
     ensures room { 16384 ≤ vec_capacity out.new }
-    ensures reply { (reply : ReplyView) × H.replies handler.old (request_view_at bytes.now frame.now) reply handler.new
+    ensures reply { (reply : ReplyView) × GivesOrFails result (H.replies handler.old (request_view_at bytes.now frame.now) reply handler.new)
+        (H.fails handler.old (request_view_at bytes.now frame.now) reply handler.new)
         × Sends result (W.contents writer.old) (W.contents writer.new) (reply_at bytes.now frame.now reply) }
     ensures cut { IfErr result (IsCutIn (H.size handler.new)) }
 {
@@ -158,7 +159,7 @@ fn answer_whole<H: Handler, W: Write>(
     ensures known { OnOk result (IsKnown session.new.input.waiting session.new.search) }
     ensures ok { IfOk result (λ pause. IsPaused H.replies handler.old session.old.input.waiting (W.contents writer.old) requests pause
         handler.new session.new.input.waiting (W.contents writer.new)) }
-    ensures err { IfErr result (λ fault. IsBroken H.replies handler.old session.old.input.waiting (W.contents writer.old) requests fault
+    ensures err { IfErr result (λ fault. IsBroken H.replies H.fails handler.old session.old.input.waiting (W.contents writer.old) requests fault
         handler.new (W.contents writer.new)) }
     ensures content { IfErr result (HasContent (H.size handler.new)) }
 {
@@ -235,10 +236,10 @@ pub fn serve_turns<R: Read, W: Write, H: Handler>(
 ) -> Result<Served, ServeFault>
     ensures served { IfOk result (λ served. IsServed H.replies handler.old (R.remaining reader.old) (W.contents writer.old) served
         handler.new (R.remaining reader.new) (W.contents writer.new)) }
-    ensures fault { IfErr result (λ fault. IsServedUpTo H.replies handler.old (R.remaining reader.old) (W.contents writer.old) fault
+    ensures fault { IfErr result (λ fault. IsServedUpTo H.replies H.fails handler.old (R.remaining reader.old) (W.contents writer.old) fault
         handler.new (R.remaining reader.new) (W.contents writer.new)) }
     ensures content { IfErr result (HasContent (H.size handler.new)) }
-    ensures turns { IfOk result (λ served. MeetsTurns turns (R.remaining reader.old) (R.remaining reader.new) served.end) }
+    ensures turns { IfOk result (λ served. MeetsTurns R.remaining turns reader.old reader.new served.end) }
     ensures reads { KeepsTurns turns result (R.remaining reader.old) (R.remaining reader.new) }
 {
     let Ok(input) = Input::new(alloc) else {
@@ -290,10 +291,10 @@ pub fn serve<R: Read, W: Write, H: Handler>(
         handler.new (W.contents writer.new)) }
     ensures served { IfOk result (λ served. IsServed H.replies handler.old (R.remaining reader.old) (W.contents writer.old) served
         handler.new (R.remaining reader.new) (W.contents writer.new)) }
-    ensures fault { IfErr result (λ fault. IsServedUpTo H.replies handler.old (R.remaining reader.old) (W.contents writer.old) fault
+    ensures fault { IfErr result (λ fault. IsServedUpTo H.replies H.fails handler.old (R.remaining reader.old) (W.contents writer.old) fault
         handler.new (R.remaining reader.new) (W.contents writer.new)) }
     ensures content { IfErr result (HasContent (H.size handler.new)) }
-    ensures turns { IfOk result (λ served. MeetsTurns MOST_READS (R.remaining reader.old) (R.remaining reader.new) served.end) }
+    ensures turns { IfOk result (λ served. MeetsTurns R.remaining MOST_READS reader.old reader.new served.end) }
     ensures reads { KeepsTurns MOST_READS result (R.remaining reader.old) (R.remaining reader.new) }
 {
     serve_turns(alloc, reader, writer, handler, MOST_READS)

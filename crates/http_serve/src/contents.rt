@@ -1,6 +1,6 @@
 //! Replies whose content is read from the handler in parts.
 ghost use Rattle.std.specs.Prelude.{◌≡◌, ◌≤◌, ◌<◌, ◌+◌, length, take, drop, vec_capacity, IfErr, OnOk};
-ghost use Rattle.http_serve.specs.Parts.{IsCutIn, IsLater, IsReadable, cut_after, rest_bytes};
+ghost use Rattle.http_serve.specs.Parts.{GivesOrFails, IsCutIn, IsLater, IsReadable, cut_after, rest_bytes};
 ghost use Rattle.http_serve.specs.declared.handlers.TheConstants.{PART_SIZE};
 ghost use Rattle.http_serve.specs.Requests.{RequestView};
 ghost use Rattle.http_serve.specs.Reply.{ReplyView, IsReply, InParts, HasShortWords, head_view, reply_bytes};
@@ -44,7 +44,8 @@ fn send_part<H: Handler, W: Write>(
     requires some { 0 < length part.old }
     requires few { length part.old ≤ PART_SIZE }
     ensures sent { (old : H) (request : RequestView) (reply : ReplyView) → H.sends old request reply handler.old
-        → length reply.content ≡ H.size handler.old → (later : ReplyView) × IsLater offset reply later × H.replies old request later handler.new
+        → length reply.content ≡ H.size handler.old → (later : ReplyView) × IsLater offset reply later
+        × GivesOrFails result (H.replies old request later handler.new) (H.fails old request later handler.new)
         × OnOk result (H.sends old request later handler.new)
         × Sends result (W.contents writer.old) (W.contents writer.new) (take (length part.old) (drop offset later.content)) }
     ensures cut { IfErr result (IsCutIn (H.size handler.new)) }
@@ -72,7 +73,8 @@ fn send_parts<H: Handler, W: Write>(
     requires within { offset ≤ size }
     ensures sent { (old : H) (request : RequestView) (reply : ReplyView) → H.sends old request reply handler.old
         → H.replies old request reply handler.old → length reply.content ≡ size
-        → (later : ReplyView) × IsLater offset reply later × H.replies old request later handler.new
+        → (later : ReplyView) × IsLater offset reply later
+        × GivesOrFails result (H.replies old request later handler.new) (H.fails old request later handler.new)
         × Sends result (W.contents writer.old) (W.contents writer.new) (drop offset later.content) }
     ensures cut { IfErr result (IsCutIn (H.size handler.new)) }
 {
@@ -96,7 +98,8 @@ fn send_rest<H: Handler, W: Write>(
     requires readable { IsReadable (H.size handler.old) reply.now.content }
     ensures sent { (old : H) (request : RequestView) (view : ReplyView) → IsReply reply.now view → H.replies old request view handler.old
         → InParts reply.now.content (H.sends old request view handler.old)
-        → (later : ReplyView) × IsReply reply.now later × H.replies old request later handler.new
+        → (later : ReplyView) × IsReply reply.now later
+        × GivesOrFails result (H.replies old request later handler.new) (H.fails old request later handler.new)
         × Sends result (W.contents writer.old) (W.contents writer.new) (rest_bytes bare later.content reply.now) }
     ensures cut { IfErr result (IsCutIn (H.size handler.new)) }
 {
@@ -126,7 +129,7 @@ pub(crate) fn send_reply<H: Handler, W: Write>(
     ensures room { 16384 ≤ vec_capacity out.new }
     ensures sent { (old : H) (request : RequestView) (view : ReplyView) → IsReply reply.now view → H.replies old request view handler.old
         → InParts reply.now.content (H.sends old request view handler.old)
-        → (later : ReplyView) × H.replies old request later handler.new
+        → (later : ReplyView) × GivesOrFails result (H.replies old request later handler.new) (H.fails old request later handler.new)
         × Sends result (W.contents writer.old) (W.contents writer.new) (reply_bytes close bare later) }
     ensures cut { IfErr result (IsCutIn (H.size handler.new)) }
 {

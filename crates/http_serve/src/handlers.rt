@@ -39,6 +39,9 @@ pub trait Handler {
     // The same of a reply whose content is being read in parts: what was read so far stands in it.
     ghost sends: { Self → RequestView → ReplyView → Self → Type 0 };
 
+    // The same of a reply whose content the handler couldn't read to its end.
+    ghost fails: { Self → RequestView → ReplyView → Self → Type 0 };
+
     // How many bytes the content of the last reply has, where it is read in parts.
     ghost size: { Self → ℕ };
 
@@ -70,5 +73,5 @@ pub trait Handler {
         ensures read { OnOk result ((old : Self) (request : RequestView) (reply : ReplyView) → sends old request reply self.old
             → sends old request (with_part offset part.new reply) self.new × replies old request (with_part offset part.new reply) self.new) }
         ensures unread { OnErr result ((old : Self) (request : RequestView) (reply : ReplyView) → sends old request reply self.old
-            → replies old request reply self.new) };
+            → fails old request reply self.new) };
 }

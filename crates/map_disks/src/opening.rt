@@ -12,6 +12,7 @@ use generations::StoreFault;
 use map_replies::MapReplies;
 use sector_disk::Sectors;
 use std::alloc::{AllocError, Global};
+use tile_routes::Routes;
 use tile_service::Service;
 
 /// A service that goes on from what a disk holds, to which nothing is written. A disk that can't be opened is handed back.
@@ -37,8 +38,10 @@ pub fn opened_service<D: Sectors + Drop>(
         Ok(service) => service,
         Err((disk, fault)) => return Err((Some(disk), fault)),
     };
-    match MapReplies::new(alloc, service) {
-        Ok(service) => Ok(service),
-        Err(AllocError) => Err((None, StoreFault::Memory)),
-    }
+    let routes = match Routes::new(alloc) {
+        Ok(routes) => routes,
+        Err(AllocError) => return Err((None, StoreFault::Memory)),
+    };
+    let replies = MapReplies::new(alloc, routes, service);
+    Ok(replies)
 }

@@ -4,33 +4,40 @@ use Rattle.http_serve.specs.declared.connection.ServeFault.{ServeFault}
 use Rattle.http_serve.specs.declared.connection.Served.{Served}
 use Rattle.http_listen.specs.Connections.{Connection, CameTo, Serves}
 use Rattle.map_replies.proofs.Along.{served_along, fault_along}
-use Rattle.map_replies.proofs.Connections.{GoesAlong, replied}
-use Rattle.map_replies.specs.Meanings.{Tells}
-use Rattle.map_replies.specs.State.{asked_service, ServiceReplies}
+use Rattle.map_replies.proofs.Connections.{GoesAlong, goes_from, replied, cut}
+use Rattle.map_replies.specs.State.{asked_service, ServiceReplies, ServiceFails, Course, course, Tells, TellsCut}
 use Rattle.map_replies.specs.declared.service.MapReplies.{MapReplies}
 use Rattle.sector_disk.specs.Disk.{History}
-use Rattle.tile_service.proofs.Callers.{run_begins, takes_run}
+use Rattle.tile_service.proofs.Callers.{takes_run}
 use Rattle.tile_service.specs.Machine.{Happening}
 use Rattle.tile_service.specs.Runs.{TakesRun}
 
-module _ {D : Type 0} (sectors : D → ℕ) (honest : D → Type 0) (history : D → History) where
+module _ {D : Type 0} (sectors : D → ℕ) (honest : D → Type 0) (history : D → History) (faults : D → ℕ) where
   -- since a first state
   module _ (first : MapReplies D) where
-    -- the service has come to this state by this run
-    abbrev Along : MapReplies D → List Happening → Type 0
-    Along now run = GoesAlong sectors honest history first now run
+    -- the service has come to this state, and this has happened
+    abbrev Along : MapReplies D → Course D → Type 0
+    Along now so = GoesAlong sectors honest history faults first now so
 
     -- one connection more
-    came_along : (result : Result Served ServeFault) (connection : Connection) (old new : MapReplies D) (before : List Happening) → Along old before
-        → CameTo (ServiceReplies sectors honest history) result old connection new
-        → (run : List Happening) × CameTo Tells result before connection run × Along new run
-    came_along (Ok served) connection old new before so is = served_along (ServiceReplies sectors honest history) Tells Along
-        (replied sectors honest history first) old connection.left connection.held served new connection.leaves connection.holds before so is
-    came_along (Err fault) connection old new before so is = fault_along (ServiceReplies sectors honest history) Tells Along
-        (replied sectors honest history first) old connection.left connection.held fault new connection.leaves connection.holds before so is
+    came_along : (result : Result Served ServeFault) (connection : Connection) (old new : MapReplies D) (before : Course D) → Along old before
+        → CameTo (ServiceReplies sectors honest history faults) (ServiceFails sectors honest history faults) result old connection new
+        → (after : Course D) × CameTo (Tells sectors honest history faults) (TellsCut sectors honest history faults) result before connection after
+        × Along new after
+    came_along (Ok served) connection old new before so is = served_along
+        (ServiceReplies sectors honest history faults) (ServiceFails sectors honest history faults)
+        (Tells sectors honest history faults) (TellsCut sectors honest history faults) Along
+        (replied sectors honest history faults first) (cut sectors honest history faults first)
+        old connection.left connection.held served new connection.leaves connection.holds before so is
+    came_along (Err fault) connection old new before so is = fault_along
+        (ServiceReplies sectors honest history faults) (ServiceFails sectors honest history faults)
+        (Tells sectors honest history faults) (TellsCut sectors honest history faults) Along
+        (replied sectors honest history faults first) (cut sectors honest history faults first)
+        old connection.left connection.held fault new connection.leaves connection.holds before so is
 
-    all_along : (served : List Connection) (old new : MapReplies D) (before : List Happening) → Along old before
-        → Serves (ServiceReplies sectors honest history) old served new → (run : List Happening) × Serves Tells before served run × Along new run
+    all_along : (served : List Connection) (old new : MapReplies D) (before : Course D) → Along old before
+        → Serves (ServiceReplies sectors honest history faults) (ServiceFails sectors honest history faults) old served new
+        → (after : Course D) × Serves (Tells sectors honest history faults) (TellsCut sectors honest history faults) before served after × Along new after
     all_along [] old new before so is = (before, refl, subst (λ (s : MapReplies D). Along s before) (sym is) so)
     all_along (connection ∷ served) old new before so is =
         let one = came_along connection.result connection old is.0 before so is.1 in
@@ -39,8 +46,13 @@ module _ {D : Type 0} (sectors : D → ℕ) (honest : D → Type 0) (history : D
 
   -- The replies of connections that were served report one run of the service.
   pub connections_run : (old : MapReplies D) (served : List Connection) (new : MapReplies D)
-      → Serves (ServiceReplies sectors honest history) old served new
-      → (run : List Happening) × Serves Tells [] served run × TakesRun sectors honest history (asked_service old) run (asked_service new)
+      → Serves (ServiceReplies sectors honest history faults) (ServiceFails sectors honest history faults) old served new
+      → (run : List Happening) × Serves (Tells sectors honest history faults) (TellsCut sectors honest history faults) (course old []) served (course new run)
+      × TakesRun sectors honest history (asked_service old) run (asked_service new)
   connections_run old served new is =
-      let along = all_along old served old new [] (run_begins sectors honest history (asked_service old)) is in
-      (along.0, along.1, takes_run sectors honest history (asked_service old) along.0 (asked_service new) along.2)
+      let along = all_along old served old new (course old []) (goes_from sectors honest history faults old) is in (
+        along.0.run,
+        subst (λ (c : Course D). Serves (Tells sectors honest history faults) (TellsCut sectors honest history faults) (course old []) served c)
+            along.2.0 along.1,
+        takes_run sectors honest history (asked_service old) along.0.run (asked_service new) along.2.1,
+      )

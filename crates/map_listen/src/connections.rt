@@ -1,8 +1,7 @@
 //! The connections of a listener to one map.
 ghost use Rattle.std.specs.Prelude.{◌≡◌, ◌<◌, List, [], length, OnOk, OnErr};
 ghost use Rattle.http_listen.specs.Connections.{Connection, Serves};
-ghost use Rattle.map_replies.specs.Meanings.{Tells};
-ghost use Rattle.map_replies.specs.State.{asked_service};
+ghost use Rattle.map_replies.specs.State.{asked_service, Tells, TellsCut, course};
 ghost use Rattle.tile_service.specs.Machine.{Happening};
 ghost use Rattle.tile_service.specs.Runs.{TakesRun};
 
@@ -35,9 +34,13 @@ where
     C: Clock,
     // The replies of all connections, in order, report one run of the service. A crash at any moment leaves some first edits of it: all
     // that were acknowledged by then, on whatever connection, and none asked for later.
-    ensures all { OnOk result ((served : List Connection) × (length served ≡ connections) × (run : List Happening) × Serves Tells [] served run
+    ensures all { OnOk result ((served : List Connection) × (length served ≡ connections) × (run : List Happening)
+        × Serves (Tells D.sectors D.honest D.history D.faults) (TellsCut D.sectors D.honest D.history D.faults)
+        (course service.old []) served (course service.new run)
         × TakesRun D.sectors D.honest D.history (asked_service service.old) run (asked_service service.new)) }
-    ensures fewer { OnErr result ((served : List Connection) × (length served < connections) × (run : List Happening) × Serves Tells [] served run
+    ensures fewer { OnErr result ((served : List Connection) × (length served < connections) × (run : List Happening)
+        × Serves (Tells D.sectors D.honest D.history D.faults) (TellsCut D.sectors D.honest D.history D.faults)
+        (course service.old []) served (course service.new run)
         × TakesRun D.sectors D.honest D.history (asked_service service.old) run (asked_service service.new)) }
 {
     serve_on(clock, alloc, listener, connections, service, log)

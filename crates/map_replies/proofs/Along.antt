@@ -1,5 +1,5 @@
 -- What goes along with each reply goes along with a connection.
-use Rattle.std.proofs.Common.{◌≡◌, ◌⊎◌, inl, inr, ℕ, List, [], ◌∷◌, Option, refl, sym, subst}
+use Rattle.std.proofs.Common.{◌≡◌, inl, inr, ℕ, List, [], ◌∷◌, Option, refl, sym, subst}
 use Rattle.http_serve.specs.declared.connection.End.{End}
 use Rattle.http_serve.specs.declared.connection.End.TheVariants.{Closed, Asked, Refused, Turns}
 use Rattle.http_serve.specs.declared.connection.Served.{Served}
@@ -7,16 +7,18 @@ use Rattle.http_serve.specs.declared.connection.ServeFault.{ServeFault}
 use Rattle.http_serve.specs.declared.connection.ServeFault.TheVariants.{Memory, Read, Write, Content}
 use Rattle.http_serve.specs.Requests.{Request, RequestView, Ending, going, closed, asked, refused}
 use Rattle.http_serve.specs.Reply.{ReplyView}
-use Rattle.http_serve.specs.Served.{Answers, AnswersEnd, AnswersAll, AnswersNext, RefusesNext, Carries, Ends, Breaks}
+use Rattle.http_serve.specs.Served.{Answers, AnswersEnd, AnswersAll, AnswersNext, RepliesNext, MayFollow, Carries, Ends, Breaks}
 use Rattle.http_serve.specs.Told.{IfTurns, IsServedTo, IsServedSoFar, IsServedInPart, IsServed, IsServedUpTo}
 
 -- States answer by replies. Beside them are others, that go along with some states, and so that each reply leads those that go along
 -- with the state before to some that go along with the state behind. Then each connection that the states answer is one that the
 -- others answer, with the same bytes read and written, and what it comes to goes along.
-module _ {S T : Type 0} (replies : S → RequestView → ReplyView → S → Type 0) (tells : T → RequestView → ReplyView → T → Type 0)
+module _ {S T : Type 0} (replies fails : S → RequestView → ReplyView → S → Type 0) (tells tells_cut : T → RequestView → ReplyView → T → Type 0)
     (Along : S → T → Type 0)
     (step : (old : S) (told : T) (request : RequestView) (reply : ReplyView) (new : S) → Along old told → replies old request reply new
-    → (now : T) × tells told request reply now × Along new now) where
+    → (now : T) × tells told request reply now × Along new now)
+    (step_cut : (old : S) (told : T) (request : RequestView) (reply : ReplyView) (new : S) → Along old told → fails old request reply new
+    → (now : T) × tells_cut told request reply now × Along new now) where
   -- those that P holds of, and that go along with the state
   abbrev pub Some_along : S → (T → Type 0) → Type 0
   Some_along new P = (now : T) × P now × Along new now
@@ -72,8 +74,7 @@ module _ {S T : Type 0} (replies : S → RequestView → ReplyView → S → Typ
       )
 
   next_along : (old : S) (bytes : List ℕ) (follow : List ℕ → Type 0) (out : List ℕ) (new : S) (told : T) → Along old told
-      → AnswersNext replies old bytes out new ⊎ RefusesNext replies old bytes follow out new
-      → Some_along new (λ now. AnswersNext tells told bytes out now ⊎ RefusesNext tells told bytes follow out now)
+      → RepliesNext replies follow old bytes out new → Some_along new (λ now. RepliesNext tells follow told bytes out now)
   next_along old bytes follow out new told along (inl is) =
       let one = step old told _ is.reply new along is.replied in (
         one.0,
@@ -86,12 +87,23 @@ module _ {S T : Type 0} (replies : S → RequestView → ReplyView → S → Typ
     stays old new told is.same along,
   )
 
-  breaks_along : (old : S) (bytes : List ℕ) (follow : List ℕ → Type 0) (held : Option (List ℕ)) (before : ℕ)
-      (new : S) (holds : Option (List ℕ)) (after : ℕ) (told : T) → Along old told → Breaks replies old bytes follow held before new holds after
-      → Some_along new (λ now. Breaks tells told bytes follow held before now holds after)
-  breaks_along old bytes follow held before new holds after told along is =
+  failed_along : (old : S) (bytes out : List ℕ) (new : S) (told : T) → Along old told → AnswersNext fails old bytes out new
+      → Some_along new (λ now. AnswersNext tells_cut told bytes out now)
+  failed_along old bytes out new told along is =
+      let one = step_cut old told _ is.reply new along is.replied in (
+        one.0,
+        record { request = is.request; rest = is.rest; reply = is.reply; is = is.is; replied = one.1; out_is = is.out_is },
+        one.2,
+      )
+
+  breaks_along : (IsNext : S → List ℕ → List ℕ → S → Type 0) (IsTold : T → List ℕ → List ℕ → T → Type 0)
+      (next : (old : S) (bytes out : List ℕ) (new : S) (told : T) → Along old told → IsNext old bytes out new
+      → Some_along new (λ now. IsTold told bytes out now))
+      (old : S) (bytes : List ℕ) (held : Option (List ℕ)) (before : ℕ) (new : S) (holds : Option (List ℕ)) (after : ℕ) (told : T) → Along old told
+      → Breaks replies IsNext old bytes held before new holds after → Some_along new (λ now. Breaks tells IsTold told bytes held before now holds after)
+  breaks_along IsNext IsTold next old bytes held before new holds after told along is =
       let whole = carries_along old bytes held before is.middle is.rest is.between after told along is.carries in
-      let last = next_along is.middle is.rest follow is.next new whole.0 whole.2 is.replied in (
+      let last = next is.middle is.rest is.next new whole.0 whole.2 is.replied in (
         last.0,
         record {
           middle = whole.0;
@@ -119,11 +131,14 @@ module _ {S T : Type 0} (replies : S → RequestView → ReplyView → S → Typ
       let carries = carries_along old is.bytes held 0 new is.rest holds requests told along is.carries in
       (carries.0, record { bytes = is.bytes; rest = is.rest; read = is.read; carries = carries.1; none = is.none }, carries.2)
 
-  in_part_along : (old : S) (left held : Option (List ℕ)) (requests : ℕ) (new : S) (leaves holds : Option (List ℕ)) (told : T) → Along old told
-      → IsServedInPart replies old left held requests new leaves holds
-      → Some_along new (λ now. IsServedInPart tells told left held requests now leaves holds)
-  in_part_along old left held requests new leaves holds told along is =
-      let breaks = breaks_along old is.bytes _ held 0 new holds requests told along is.breaks in
+  in_part_along : (IsNext : S → List ℕ → List ℕ → S → Type 0) (IsTold : T → List ℕ → List ℕ → T → Type 0)
+      (next : (old : S) (bytes out : List ℕ) (new : S) (told : T) → Along old told → IsNext old bytes out new
+      → Some_along new (λ now. IsTold told bytes out now))
+      (old : S) (left held : Option (List ℕ)) (requests : ℕ) (new : S) (leaves holds : Option (List ℕ)) (told : T) → Along old told
+      → IsServedInPart replies IsNext old left held requests new leaves holds
+      → Some_along new (λ now. IsServedInPart tells IsTold told left held requests now leaves holds)
+  in_part_along IsNext IsTold next old left held requests new leaves holds told along is =
+      let breaks = breaks_along IsNext IsTold next old is.bytes held 0 new holds requests told along is.breaks in
       (breaks.0, record { bytes = is.bytes; read = is.read; breaks = breaks.1 }, breaks.2)
 
   by_end : (end : End) (new : S) (stopped ended : Type 0) (stopped' ended' : T → Type 0) → (stopped → Some_along new stopped') → (ended → Some_along new ended')
@@ -142,8 +157,12 @@ module _ {S T : Type 0} (replies : S → RequestView → ReplyView → S → Typ
 
   -- and one that a fault ended
   pub fault_along : (old : S) (left held : Option (List ℕ)) (fault : ServeFault) (new : S) (leaves holds : Option (List ℕ)) (told : T) → Along old told
-      → IsServedUpTo replies old left held fault new leaves holds → Some_along new (λ now. IsServedUpTo tells told left held fault now leaves holds)
+      → IsServedUpTo replies fails old left held fault new leaves holds
+      → Some_along new (λ now. IsServedUpTo tells tells_cut told left held fault now leaves holds)
   fault_along old left held Memory new leaves holds told along is = (told, (refl, is.1, is.2), stays old new told is.0 along)
   fault_along old left held (Read requests) new leaves holds told along is = so_far_along old left held requests new leaves holds told along is
-  fault_along old left held (Write requests) new leaves holds told along is = in_part_along old left held requests new leaves holds told along is
-  fault_along old left held (Content requests) new leaves holds told along is = in_part_along old left held requests new leaves holds told along is
+  fault_along old left held (Write requests) new leaves holds told along is =
+      in_part_along (RepliesNext replies (MayFollow leaves)) (RepliesNext tells (MayFollow leaves))
+      (λ at bytes out then so goes is. next_along at bytes (MayFollow leaves) out then so goes is) old left held requests new leaves holds told along is
+  fault_along old left held (Content requests) new leaves holds told along is =
+      in_part_along (AnswersNext fails) (AnswersNext tells_cut) failed_along old left held requests new leaves holds told along is

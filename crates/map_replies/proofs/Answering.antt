@@ -3,18 +3,26 @@ use Rattle.std.proofs.Common.{◌≡◌, ◌⊎◌, inl, inr, ℕ, List, [], ◌
 use Rattle.std.specs.Prelude.{IfOk, IfErr}
 use Rattle.http_serve.specs.Reply.{ReplyView, reply_view}
 use Rattle.http_serve.specs.declared.replies.Reply.{Reply}
-use Rattle.sector_disk.specs.Disk.{History}
+use Rattle.sector_disk.specs.Disk.{History, HasFailed}
 use Rattle.tile_service.specs.Machine.{OrMemory, got, no_memory, Happening}
 use Rattle.tile_service.specs.Runs.{begin_and_steps, Takes, TakesPublication}
-use Rattle.tile_service.specs.Service.{ServiceView}
+use Rattle.tile_service.specs.Service.{ServiceView, CountsDevice}
+use Rattle.tile_service.specs.declared.fault.ServiceFault.TheVariants.{Device}
 use Rattle.tile_service.specs.declared.publishing_whole.Published.{Published}
 use Rattle.tile_service.specs.declared.fault.ServiceFault.{ServiceFault}
 use Rattle.map_replies.specs.Bodies.{HasBodyFault}
-use Rattle.map_replies.specs.Meanings.{numbers_of, MeansCall, OrNoMemory, MeansPut, MeansPublish, Answers}
+use Rattle.map_replies.specs.Meanings.{numbers_of, MeansCall, MeansChange, OrNoMemory, MeansPut, MeansPublish, Answers}
 use Rattle.map_replies.specs.Sending.{IsAnswered}
 use Rattle.map_replies.specs.Words.{refusal_of, shown_reply, published_reply}
 use Rattle.map_replies.specs.declared.fault.RequestFault.{RequestFault}
 use Rattle.map_replies.specs.declared.fault.RequestFault.TheVariants.{Memory}
+
+-- with the fault Device a call of the disk has failed
+device_failed : {A : Type 0} (r : Result A ServiceFault) (before after : ℕ) → IfErr r (λ fault. CountsDevice fault before after)
+    → IfErr r (λ fault. fault ≡ Device → HasFailed before after)
+device_failed (Ok a) before after is = tt
+device_failed (Err fault) before after (inl is) = λ device. is.1
+device_failed (Err fault) before after (inr is) = λ device. absurd (is.0 device)
 
 module _ {D : Type 0} (sectors : D → ℕ) (honest : D → Type 0) (history : D → History) where
   -- one call was made
@@ -29,6 +37,22 @@ module _ {D : Type 0} (sectors : D → ℕ) (honest : D → Type 0) (history : D
       → Answers sectors honest history (OrNoMemory (MeansCall call reply_of)) old new reply
   called_first call reply_of old new outcome reply is takes = (call outcome ∷ [], inl (outcome, is, refl), (new, takes, refl))
 
+  -- one call was made that may be refused
+  pub changed : {A : Type 0} (before after : ℕ) (call : Result A ServiceFault → Happening) (reply_of : Result A ServiceFault → ReplyView)
+      (old new : ServiceView D) (outcome : Result A ServiceFault) (reply : ReplyView)
+      → reply ≡ reply_of outcome → IfErr outcome (λ fault. CountsDevice fault before after) → Takes sectors honest history old (call outcome) new
+      → Answers sectors honest history (MeansChange (HasFailed before after) call reply_of) old new reply
+  changed before after call reply_of old new outcome reply is counts takes =
+      (call outcome ∷ [], (outcome, is, device_failed outcome before after counts, refl), (new, takes, refl))
+
+  -- there was memory for it
+  pub changed_first : {A : Type 0} (before after : ℕ) (call : Result A ServiceFault → Happening) (reply_of : Result A ServiceFault → ReplyView)
+      (old new : ServiceView D) (outcome : Result A ServiceFault) (reply : ReplyView)
+      → reply ≡ reply_of outcome → IfErr outcome (λ fault. CountsDevice fault before after) → Takes sectors honest history old (call outcome) new
+      → Answers sectors honest history (OrNoMemory (MeansChange (HasFailed before after) call reply_of)) old new reply
+  changed_first before after call reply_of old new outcome reply is counts takes =
+      (call outcome ∷ [], inl (outcome, is, device_failed outcome before after counts, refl), (new, takes, refl))
+
   -- something is shown, if there is memory for the reply
   pub shown : {A : Type 0} (call : OrMemory A → Happening) (reply_of : A → ReplyView) (old new : ServiceView D) (a : A) (r : Result Reply RequestFault)
       → IfOk r (λ reply. reply_view [] reply ≡ reply_of a) → IfErr r (λ fault. fault ≡ Memory)
@@ -39,35 +63,37 @@ module _ {D : Type 0} (sectors : D → ℕ) (honest : D → Type 0) (history : D
       called call (shown_reply reply_of) old new no_memory (refusal_of fault) (ap refusal_of same) takes_none
 
   -- the body has a fault, or there is no memory
-  pub body_refused : (id : ℕ) (body : List ℕ) (fault : RequestFault) (old : ServiceView D) → (fault ≡ Memory) ⊎ HasBodyFault body fault
-      → Answers sectors honest history (MeansPut id body) old old (refusal_of fault)
-  body_refused id body fault old (inl is) = ([], inr (inr (ap refusal_of is, refl)), refl)
-  body_refused id body fault old (inr is) = ([], inr (inl (fault, is, (refl, refl))), refl)
+  pub body_refused : (failed : Type 0) (id : ℕ) (body : List ℕ) (fault : RequestFault) (old : ServiceView D) → (fault ≡ Memory) ⊎ HasBodyFault body fault
+      → Answers sectors honest history (MeansPut failed id body) old old (refusal_of fault)
+  body_refused failed id body fault old (inl is) = ([], inr (inr (ap refusal_of is, refl)), refl)
+  body_refused failed id body fault old (inr is) = ([], inr (inl (fault, is, (refl, refl))), refl)
 
   pub no_memory_first : (IsMeant : ReplyView → List Happening → Type 0) (old new : ServiceView D) → new ≡ old
       → Answers sectors honest history (OrNoMemory IsMeant) old new (refusal_of Memory)
   no_memory_first IsMeant old new same = ([], inr (refl, refl), same)
 
   -- a whole publication was made
-  pub published : (old new : ServiceView D) (outcome : Result Published ServiceFault) (reply : ReplyView) → reply ≡ published_reply outcome
-      → TakesPublication sectors honest history old outcome new
-      → Answers sectors honest history (OrNoMemory (MeansPublish (numbers_of old) (numbers_of new))) old new reply
-  published old new (Ok p) reply is takes = (
+  pub published : (before after : ℕ) (old new : ServiceView D) (outcome : Result Published ServiceFault) (reply : ReplyView)
+      → reply ≡ published_reply outcome → IfErr outcome (λ fault. CountsDevice fault before after) → TakesPublication sectors honest history old outcome new
+      → Answers sectors honest history (OrNoMemory (MeansPublish (HasFailed before after) (numbers_of old) (numbers_of new))) old new reply
+  published before after old new (Ok p) reply is counts takes = (
     begin_and_steps (takes.before ++ takes.last ∷ []),
     inl (
       Ok p,
       is,
+      tt,
       λ i. record { generation = takes.ends.1 i; edits = takes.ends.2 i; archive_len = takes.ends.3 i },
       takes.before,
       ap (λ (last : Result ℕ ServiceFault). begin_and_steps (takes.before ++ last ∷ [])) takes.ends.0,
     ),
     takes.takes,
   )
-  published old new (Err fault) reply is takes = (
+  published before after old new (Err fault) reply is counts takes = (
     begin_and_steps (takes.before ++ takes.last ∷ []),
     inl (
       Err fault,
       is,
+      device_failed {A = Published} (Err fault) before after counts,
       tt,
       takes.before,
       ap (λ (last : Result ℕ ServiceFault). begin_and_steps (takes.before ++ last ∷ [])) takes.ends,

@@ -1,5 +1,5 @@
 -- What happens on a connection, reply by reply.
-use Rattle.std.proofs.Common.{ℕ, List, [], ◌++◌, Option, refl}
+use Rattle.std.proofs.Common.{◌≡◌, ℕ, List, [], ◌++◌, Option, refl, sym, ap, subst}
 use Rattle.http_serve.specs.declared.connection.ServeFault.{ServeFault}
 use Rattle.http_serve.specs.declared.connection.Served.{Served}
 use Rattle.http_serve.specs.Requests.{RequestView}
@@ -7,44 +7,82 @@ use Rattle.http_serve.specs.Reply.{ReplyView}
 use Rattle.http_serve.specs.Told.{IsServed, IsServedUpTo}
 use Rattle.sector_disk.specs.Disk.{History}
 use Rattle.tile_service.specs.Machine.{Happening}
-use Rattle.tile_service.specs.Runs.{TakesRun}
+use Rattle.tile_service.specs.Runs.{TakesAll, TakesRun}
 use Rattle.tile_service.proofs.Callers.{HasRun, run_begins, run_on_all, takes_run}
 use Rattle.map_replies.specs.declared.service.MapReplies.{MapReplies}
-use Rattle.map_replies.specs.Meanings.{numbers_of, Tells}
-use Rattle.map_replies.specs.State.{asked_service, ServiceReplies}
+use Rattle.map_replies.specs.Meanings.{numbers_of, Means, DiskFailed}
+use Rattle.map_replies.specs.State.{asked_service, ServiceReplies, ServiceFails, Course, course, Tells, TellsCut}
 use Rattle.map_replies.proofs.Along.{served_along, fault_along}
 
-module _ {D : Type 0} (sectors : D → ℕ) (honest : D → Type 0) (history : D → History) where
-  -- since a first state, the service has come to this state by this run
-  abbrev pub GoesAlong : (first now : MapReplies D) → List Happening → Type 0
-  GoesAlong first now run = HasRun sectors honest history (asked_service first) run (asked_service now)
+module _ {D : Type 0} (sectors : D → ℕ) (honest : D → Type 0) (history : D → History) (faults : D → ℕ) where
+  -- since a first state, the service has come to this state, and this has happened
+  abbrev pub GoesAlong : (first now : MapReplies D) → Course D → Type 0
+  GoesAlong first now so = (so ≡ course now so.run) × HasRun sectors honest history (asked_service first) so.run (asked_service now)
+
+  pub goes_from : (first : MapReplies D) → GoesAlong first first (course first [])
+  goes_from first = (refl, run_begins sectors honest history (asked_service first))
 
   -- one reply more
-  pub replied : (first old : MapReplies D) (run : List Happening) (request : RequestView) (reply : ReplyView) (new : MapReplies D)
-      → GoesAlong first old run → ServiceReplies sectors honest history old request reply new
-      → (more : List Happening) × Tells run request reply more × GoesAlong first new more
-  replied first old run request reply new so is = (
-    run ++ is.0,
-    (numbers_of (asked_service old), numbers_of (asked_service new), is.0, is.1, refl),
-    run_on_all sectors honest history (asked_service first) (asked_service old) (asked_service new) run is.0 so is.2,
-  )
+  pub replied : (first old : MapReplies D) (so : Course D) (request : RequestView) (reply : ReplyView) (new : MapReplies D)
+      → GoesAlong first old so → ServiceReplies sectors honest history faults old request reply new
+      → (more : Course D) × Tells sectors honest history faults so request reply more × GoesAlong first new more
+  replied first old so request reply new along is =
+      let here : so.replies ≡ old = ap (λ (c : Course D). c.replies) along.0 in (
+        course new (so.run ++ is.0),
+        (
+          is.0,
+          subst (λ (s : MapReplies D). Means (DiskFailed faults (asked_service s) (asked_service new)) (numbers_of (asked_service s))
+              (numbers_of (asked_service new)) request reply is.0) (sym here) is.1,
+          subst (λ (s : MapReplies D). TakesAll sectors honest history (asked_service s) is.0 (asked_service new)) (sym here) is.2,
+          refl,
+        ),
+        (refl, run_on_all sectors honest history (asked_service first) (asked_service old) (asked_service new) so.run is.0 along.1 is.2),
+      )
+
+  -- one reply that was cut, since the disk failed
+  pub cut : (first old : MapReplies D) (so : Course D) (request : RequestView) (reply : ReplyView) (new : MapReplies D)
+      → GoesAlong first old so → ServiceFails sectors honest history faults old request reply new
+      → (more : Course D) × TellsCut sectors honest history faults so request reply more × GoesAlong first new more
+  cut first old so request reply new along is =
+      let one = replied first old so request reply new along is.0 in
+      let here : old ≡ so.replies = sym (ap (λ (c : Course D). c.replies) along.0) in
+      let there : new ≡ one.0.replies = sym (ap (λ (c : Course D). c.replies) one.2.0) in (
+        one.0,
+        (
+          one.1,
+          subst (λ (s : MapReplies D). DiskFailed faults (asked_service so.replies) (asked_service s)) there
+              (subst (λ (s : MapReplies D). DiskFailed faults (asked_service s) (asked_service new)) here is.1),
+        ),
+        one.2,
+      )
 
   -- The replies of a connection that was served report a run of the service.
   pub connection_runs : (old : MapReplies D) (remains held : Option (List ℕ)) (served : Served) (new : MapReplies D) (leaves holds : Option (List ℕ))
-      → IsServed (ServiceReplies sectors honest history) old remains held served new leaves holds
-      → (run : List Happening) × IsServed Tells [] remains held served run leaves holds
+      → IsServed (ServiceReplies sectors honest history faults) old remains held served new leaves holds
+      → (run : List Happening) × IsServed (Tells sectors honest history faults) (course old []) remains held served (course new run) leaves holds
       × TakesRun sectors honest history (asked_service old) run (asked_service new)
   connection_runs old remains held served new leaves holds is =
-      let along = served_along (ServiceReplies sectors honest history) Tells (GoesAlong old) (replied old) old remains held served new leaves holds
-      [] (run_begins sectors honest history (asked_service old)) is in
-      (along.0, along.1, takes_run sectors honest history (asked_service old) along.0 (asked_service new) along.2)
+      let along = served_along (ServiceReplies sectors honest history faults) (ServiceFails sectors honest history faults)
+      (Tells sectors honest history faults) (TellsCut sectors honest history faults) (GoesAlong old) (replied old) (cut old) old remains held served
+      new leaves holds (course old []) (goes_from old) is in (
+        along.0.run,
+        subst (λ (c : Course D). IsServed (Tells sectors honest history faults) (course old []) remains held served c leaves holds) along.2.0 along.1,
+        takes_run sectors honest history (asked_service old) along.0.run (asked_service new) along.2.1,
+      )
 
   -- So do those of one that a fault ended.
   pub ended_connection_runs : (old : MapReplies D) (remains held : Option (List ℕ)) (fault : ServeFault) (new : MapReplies D) (leaves holds : Option (List ℕ))
-      → IsServedUpTo (ServiceReplies sectors honest history) old remains held fault new leaves holds
-      → (run : List Happening) × IsServedUpTo Tells [] remains held fault run leaves holds
+      → IsServedUpTo (ServiceReplies sectors honest history faults) (ServiceFails sectors honest history faults) old remains held fault new leaves holds
+      → (run : List Happening)
+      × IsServedUpTo (Tells sectors honest history faults) (TellsCut sectors honest history faults) (course old []) remains held fault (course new run)
+      leaves holds
       × TakesRun sectors honest history (asked_service old) run (asked_service new)
   ended_connection_runs old remains held fault new leaves holds is =
-      let along = fault_along (ServiceReplies sectors honest history) Tells (GoesAlong old) (replied old) old remains held fault new leaves holds
-      [] (run_begins sectors honest history (asked_service old)) is in
-      (along.0, along.1, takes_run sectors honest history (asked_service old) along.0 (asked_service new) along.2)
+      let along = fault_along (ServiceReplies sectors honest history faults) (ServiceFails sectors honest history faults)
+      (Tells sectors honest history faults) (TellsCut sectors honest history faults) (GoesAlong old) (replied old) (cut old) old remains held fault
+      new leaves holds (course old []) (goes_from old) is in (
+        along.0.run,
+        subst (λ (c : Course D). IsServedUpTo (Tells sectors honest history faults) (TellsCut sectors honest history faults) (course old []) remains held
+            fault c leaves holds) along.2.0 along.1,
+        takes_run sectors honest history (asked_service old) along.0.run (asked_service new) along.2.1,
+      )

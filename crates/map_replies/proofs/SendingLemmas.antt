@@ -2,6 +2,7 @@
 use Rattle.std.proofs.Common.{◌≡◌, inl, inr, ℕ, ◌<◌, ◌+◌, ◌-◌, ◌≤◌, List, [], ◌∷◌, ◌++◌, length, take, drop, replicate, slice_range, Option, Some, None, min}
 use Rattle.std.proofs.Common.{refl, sym, ap, ◌∙◌, subst, arith, append_assoc, length-append, length-drop}
 use Rattle.std.proofs.lemmas.List.{drop-drop, drop-take, take_all, take-take, take_at, take-append-le, take-append-drop, length-replicate, length-take-le}
+use Rattle.std.proofs.lemmas.Option.{none-some}
 use Rattle.std.proofs.Common.{Global}
 use Rattle.std.specs.Prelude.{Vec, Result, Ok, Err, IfOk, IfErr, OnOk, OnErr}
 use Rattle.http_serve.specs.declared.replies.Content.{Content}
@@ -10,7 +11,7 @@ use Rattle.http_serve.specs.declared.replies.Reply.{Reply}
 use Rattle.http_serve.specs.Reply.{ReplyView, IsWhole, InParts, FitsParts, content_bytes, reply_view, with_part}
 use Rattle.http_serve.proofs.HandlerLemmas.{shown_reply, whole_reply, none_in_parts}
 use Rattle.http_serve.proofs.PartLemmas.{in_parts}
-use Rattle.sector_disk.specs.Disk.{History, seen}
+use Rattle.sector_disk.specs.Disk.{History, seen, HasFailed}
 use Rattle.tile_service.specs.Machine.{read}
 use Rattle.tile_service.specs.Runs.{Takes}
 use Rattle.tile_service.specs.Service.{ServiceView, IsUp, ShowsArchive, ReadsFrom, shown_archive}
@@ -23,7 +24,7 @@ use Rattle.map_replies.specs.declared.fault.RequestFault.TheVariants.{Memory}
 use Rattle.map_replies.specs.declared.parts.Part.{Part}
 use Rattle.map_replies.specs.declared.parts.Part.TheVariants.{Whole, Between, Beyond}
 use Rattle.map_replies.specs.declared.parts.Sending.{Sending}
-use Rattle.map_replies.specs.Meanings.{OrNoMemory, MeansPart, MeansArchive, Answers, AnswersWanted}
+use Rattle.map_replies.specs.Meanings.{OrNoMemory, MeansPart, MeansArchive, Answers, AnswersWanted, DiskFailed}
 use Rattle.map_replies.specs.Parts.{range_for, IsPart, start_of, size_of, part_reply}
 use Rattle.map_replies.specs.Sending.{IsAnswered, IsAnswer, IsAnsweredInParts, IsInside, read_outcome, Begins, SendsPart, AnswersPart, IsSending, SendsWanted}
 use Rattle.map_replies.specs.Words.{refusal_of, service_refusal}
@@ -203,29 +204,40 @@ module _ {D : Type 0} (sectors : D → ℕ) (honest : D → Type 0) (history : D
   begins old new first size begun within few takes = let bytes = begun_bytes old new first size begun.items within few takes in
       (bytes.0, (bytes.1, bytes.2), refl, bytes.1, bytes.3)
 
+-- over a disk that counts its faults
+module _ {D : Type 0} (sectors : D → ℕ) (honest : D → Type 0) (history : D → History) (faults : D → ℕ) where
   -- ---- a part that is sent
 
+  answers_read : (part : Part) (old new : ServiceView D) (reply : ReplyView) (content : List ℕ) → IsInside part old.archive_len
+      → length content ≡ size_of part old.archive_len → reply ≡ part_reply part old.archive_len content
+      → Takes sectors honest history old (read (start_of part) (Some content)) new
+      → Answers sectors honest history (MeansPart (DiskFailed faults old new) old.archive_len part) old new reply
+  answers_read Whole old new reply content inside long shows takes =
+      (read 0 (Some content) ∷ [], (Some content, long, (λ none. absurd (none-some content (sym none))), shows, refl), (new, takes, refl))
+  answers_read (Between first last) old new reply content inside long shows takes =
+      (read first (Some content) ∷ [], (Some content, long, (λ none. absurd (none-some content (sym none))), shows, refl), (new, takes, refl))
+  answers_read Beyond old new reply content inside long shows takes = absurd inside
+
   answers_part : (part : Part) (old : ServiceView D) (sending : Sending) (new : ServiceView D) (reply : ReplyView)
-      → SendsPart sectors honest history part old sending new reply → Answers sectors honest history (MeansPart old.archive_len part) old new reply
-  answers_part Whole old sending new reply sends =
-      (read 0 (Some sends.content) ∷ [], (Some sends.content, sends.long, sends.shows, refl), (new, sends.reads, refl))
-  answers_part (Between first last) old sending new reply sends =
-      (read first (Some sends.content) ∷ [], (Some sends.content, sends.long, sends.shows, refl), (new, sends.reads, refl))
-  answers_part Beyond old sending new reply sends = absurd sends.sent.0
+      → SendsPart sectors honest history faults part old sending new reply
+      → Answers sectors honest history (MeansPart (DiskFailed faults old new) old.archive_len part) old new reply
+  answers_part part old sending new reply sends = answers_read part old new reply sends.content sends.sent.0 sends.long sends.shows sends.reads
 
   -- the reply with such a content
   pub part_sent : (old new : ServiceView D) (part : Part) (sending : Sending) (reply : Reply) (content : Content) → IsInside part old.archive_len
-      → Begins sectors honest history old new (start_of part) (size_of part old.archive_len) content → reply.content ≡ content
-      → ((bytes : List ℕ) → reply_view bytes reply ≡ part_reply part old.archive_len (content_bytes bytes content))
-      → sending ≡ record { first = start_of part; length = size_of part old.archive_len } → AnswersPart sectors honest history part old sending new reply
-  part_sent old new part sending reply content inside begun is shows sent =
+      → Begins sectors honest history old new (start_of part) (size_of part old.archive_len) content → faults new.disk ≡ faults old.disk
+      → reply.content ≡ content → ((bytes : List ℕ) → reply_view bytes reply ≡ part_reply part old.archive_len (content_bytes bytes content))
+      → sending ≡ record { first = start_of part; length = size_of part old.archive_len }
+      → AnswersPart sectors honest history faults part old sending new reply
+  part_sent old new part sending reply content inside begun unfailed is shows sent =
       let bytes : List ℕ = begun.0 in
-      let sends : SendsPart sectors honest history part old sending new (reply_view bytes reply) = record {
+      let sends : SendsPart sectors honest history faults part old sending new (reply_view bytes reply) = record {
         sent = (inside, sent);
         content = bytes;
         long = begun.3;
         shows = shows bytes ∙ ap (part_reply part old.archive_len) begun.2;
         reads = begun.4;
+        unfailed = unfailed;
       } in (
         reply_view bytes reply,
         shown_reply reply bytes (subst (λ (c : Content). FitsParts bytes c) (sym is) begun.1),
@@ -235,35 +247,35 @@ module _ {D : Type 0} (sectors : D → ℕ) (honest : D → Type 0) (history : D
 
   -- the reply where the disk failed
   pub part_failed : (old new : ServiceView D) (part : Part) (sending : Sending) (reply : Reply) → IsInside part old.archive_len → IsWhole reply
-      → reply_view [] reply ≡ service_refusal Device → Takes sectors honest history old (read (start_of part) None) new
-      → AnswersPart sectors honest history part old sending new reply
-  part_failed old new Whole sending reply inside whole is takes =
-      whole_is _ _ reply whole (read 0 None ∷ [], (None, tt, is, refl), (new, takes, refl))
-  part_failed old new (Between first last) sending reply inside whole is takes =
-      whole_is _ _ reply whole (read first None ∷ [], (None, tt, is, refl), (new, takes, refl))
-  part_failed old new Beyond sending reply inside whole is takes = absurd inside
+      → reply_view [] reply ≡ service_refusal Device → DiskFailed faults old new → Takes sectors honest history old (read (start_of part) None) new
+      → AnswersPart sectors honest history faults part old sending new reply
+  part_failed old new Whole sending reply inside whole is failed takes =
+      whole_is _ _ reply whole (read 0 None ∷ [], (None, tt, (λ none. failed), is, refl), (new, takes, refl))
+  part_failed old new (Between first last) sending reply inside whole is failed takes =
+      whole_is _ _ reply whole (read first None ∷ [], (None, tt, (λ none. failed), is, refl), (new, takes, refl))
+  part_failed old new Beyond sending reply inside whole is failed takes = absurd inside
 
   -- ---- the archive
 
   module _ (range : Option (List ℕ)) (old : ServiceView D) (sending : Sending) (new : ServiceView D) where
     abbrev AnswersArchive : ReplyView → Type 0
-    AnswersArchive reply = Answers sectors honest history (OrNoMemory (MeansArchive old.archive_len range)) old new reply
+    AnswersArchive reply = Answers sectors honest history (OrNoMemory (MeansArchive (DiskFailed faults old new) old.archive_len range)) old new reply
 
     -- a part of it
     asked_part : (part : Part) (reply : ReplyView) → 0 < old.archive_len → IsPart range old.archive_len part
-        → Answers sectors honest history (MeansPart old.archive_len part) old new reply → AnswersArchive reply
+        → Answers sectors honest history (MeansPart (DiskFailed faults old new) old.archive_len part) old new reply → AnswersArchive reply
     asked_part part reply some asked is = (is.0, inl (inr (some, part, asked, is.1)), is.2)
 
     pub archive_answered : (part : Part) (r : Result Reply RequestFault) → 0 < old.archive_len → IsPart range old.archive_len part
-        → IfOk r (AnswersPart sectors honest history part old sending new) → IfErr r (λ fault. (new ≡ old) × (fault ≡ Memory))
-        → IsAnsweredInParts AnswersArchive (IsSending sectors honest history range old sending new) r
+        → IfOk r (AnswersPart sectors honest history faults part old sending new) → IfErr r (λ fault. (new ≡ old) × (fault ≡ Memory))
+        → IsAnsweredInParts AnswersArchive (IsSending sectors honest history faults range old sending new) r
     archive_answered part (Ok reply) some asked is refused = answer_on _ _ _ _ reply (λ view. asked_part part view some asked)
         (λ view sends. record { some = some; part = part; asked = asked; sends = sends }) is
     archive_answered part (Err fault) some asked is refused = subst (λ (f : RequestFault). AnswersArchive (refusal_of f)) (sym refused.1)
-        (no_memory_first sectors honest history (MeansArchive old.archive_len range) old new refused.0)
+        (no_memory_first sectors honest history (MeansArchive (DiskFailed faults old new) old.archive_len range) old new refused.0)
 
   module _ (range : Option (List ℕ)) (old : ServiceView D) (sending : Sending) (new : ServiceView D) (reply : ReplyView)
-      (is : IsSending sectors honest history range old sending new reply) where
+      (is : IsSending sectors honest history faults range old sending new reply) where
     abbrev total : ℕ
     total = old.archive_len
 
@@ -281,28 +293,19 @@ module _ {D : Type 0} (sectors : D → ℕ) (honest : D → Type 0) (history : D
     sent_answers =
         asked_part range old sending new is.part reply is.some is.asked (answers_part is.part old sending new reply is.sends)
 
-    module _ (next : ServiceView D) (at : ℕ) (outcome : Option (List ℕ)) (takes : Takes sectors honest history new (read at outcome) next) where
-      -- nothing more is known of it
-      pub sent_still : IsSending sectors honest history range old sending next reply
-      sent_still = record {
-        some = is.some;
-        part = is.part;
-        asked = is.asked;
-        sends = record {
-          sent = is.sends.sent;
-          content = is.sends.content;
-          long = is.sends.long;
-          shows = is.sends.shows;
-          reads = reads_on old new next (start_of is.part) at (start_of is.part) (Some is.sends.content) outcome (Some is.sends.content) is.sends.reads takes
-              (λ archive shows is_honest. is.sends.reads.archive archive shows (takes.stays_honest is_honest));
-        };
-      }
+    -- more of it is asked for: whatever comes of that, the same is told
+    pub still_answers : (next : ServiceView D) (at : ℕ) (outcome : Option (List ℕ)) → Takes sectors honest history new (read at outcome) next
+        → AnswersArchive range old sending next reply
+    still_answers next at outcome takes = asked_part range old sending next is.part reply is.some is.asked
+        (answers_read is.part old next reply is.sends.content is.sends.sent.0 is.sends.long is.sends.shows
+        (reads_on sectors honest history old new next (start_of is.part) at (start_of is.part) (Some is.sends.content) outcome (Some is.sends.content)
+        is.sends.reads takes (λ archive shows is_honest. is.sends.reads.archive archive shows (takes.stays_honest is_honest))))
 
     -- more of it is read
     pub sent_more : (next : ServiceView D) (offset : ℕ) (piece : List ℕ) → Takes sectors honest history new (read (sending.first + offset) (Some piece)) next
-        → offset + length piece ≤ min sending.length (new.archive_len - sending.first)
-        → IsSending sectors honest history range old sending next (with_part offset piece reply)
-    sent_more next offset piece takes within =
+        → faults next.disk ≡ faults new.disk → offset + length piece ≤ min sending.length (new.archive_len - sending.first)
+        → IsSending sectors honest history faults range old sending next (with_part offset piece reply)
+    sent_more next offset piece takes unfailed within =
         let content : List ℕ = is.sends.content in
         let start : ℕ = start_of is.part in
         let more : List ℕ = take offset content ++ piece ++ drop (offset + length piece) content in
@@ -330,46 +333,57 @@ module _ {D : Type 0} (sectors : D → ℕ) (honest : D → Type 0) (history : D
             shows = (λ i. record (is.sends.shows i) {
               content = take offset (content_is i) ++ piece ++ drop (offset + length piece) (content_is i);
             }) ∙ with_content is.part total content more is.sends.sent.0;
-            reads = reads_on old new next start (sending.first + offset) start (Some content) (Some piece) (Some more) is.sends.reads takes
+            reads = reads_on sectors honest history old new next start (sending.first + offset) start (Some content) (Some piece) (Some more)
+                is.sends.reads takes
                 (λ archive shows is_honest.
                 let was = takes.stays_honest is_honest in
                 let whole = is.sends.reads.archive archive shows was in
-                let got = takes.archive archive (shows_on old new start (Some content) archive is.sends.reads was shows) is_honest in
+                let got = takes.archive archive (shows_on sectors honest history old new start (Some content) archive is.sends.reads was shows) is_honest in
                 let there = slice_inner archive piece start (length content) offset fits
                 (subst (λ (f : ℕ). piece ≡ slice_range archive (f + offset) (f + offset + length piece)) first got) in
                 part_same content piece offset (there ∙ ap (λ (xs : List ℕ). take (length piece) (drop offset xs)) (sym whole)) ∙ whole
                 ∙ ap (λ (n : ℕ). slice_range archive start (start + n)) (sym long));
+            unfailed = unfailed ∙ is.sends.unfailed;
           };
         }
 
   module _ (wanted : Wanted) (range : Option (List ℕ)) (body : List ℕ) (old : ServiceView D) (sending : Sending) (new next : ServiceView D)
-      (reply : ReplyView) (is : SendsWanted sectors honest history wanted range old sending new reply) where
-    answers_wanted : (view : ReplyView) → IsSending sectors honest history (range_for is.0 range) old sending next view
-        → AnswersWanted sectors honest history wanted range body old next view
-    answers_wanted view sent = subst (λ (w : Wanted). AnswersWanted sectors honest history w range body old next view) (sym is.1)
-        (sent_answers (range_for is.0 range) old sending next view sent)
+      (reply : ReplyView) (is : SendsWanted sectors honest history faults wanted range old sending new reply) where
+    wanted_answers : (view : ReplyView) → AnswersArchive (range_for is.0 range) old sending next view
+        → AnswersWanted sectors honest history faults wanted range body old next view
+    wanted_answers view answers = subst (λ (w : Wanted). AnswersWanted sectors honest history faults w range body old next view) (sym is.1) answers
 
-    pub sends_still : (at : ℕ) (outcome : Option (List ℕ)) → Takes sectors honest history new (read at outcome) next
-        → AnswersWanted sectors honest history wanted range body old next reply
-    sends_still at outcome takes = answers_wanted reply (sent_still (range_for is.0 range) old sending new reply is.2 next at outcome takes)
+    -- the disk fails
+    pub sends_fails : (at : ℕ) (outcome : Option (List ℕ)) → Takes sectors honest history new (read at outcome) next → DiskFailed faults new next
+        → AnswersWanted sectors honest history faults wanted range body old next reply × DiskFailed faults old next
+    sends_fails at outcome takes failed = (
+      wanted_answers reply (still_answers (range_for is.0 range) old sending new reply is.2 next at outcome takes),
+      subst (λ (n : ℕ). HasFailed n (faults next.disk)) is.2.sends.unfailed failed,
+    )
 
     pub sends_more : (now : Sending) (offset n : ℕ) (piece : List ℕ) → now ≡ sending → length piece ≡ n
-        → offset + n ≤ min sending.length (new.archive_len - sending.first)
+        → offset + n ≤ min sending.length (new.archive_len - sending.first) → faults next.disk ≡ faults new.disk
         → Takes sectors honest history new (read (sending.first + offset) (Some piece)) next
-        → SendsWanted sectors honest history wanted range old now next (with_part offset piece reply)
-        × AnswersWanted sectors honest history wanted range body old next (with_part offset piece reply)
-    sends_more now offset n piece same long within takes =
-        let more = sent_more (range_for is.0 range) old sending new reply is.2 next offset piece takes (omega (arith, long, within)) in (
-          (is.0, is.1, subst (λ (s : Sending). IsSending sectors honest history (range_for is.0 range) old s next (with_part offset piece reply)) (sym same) more),
-          answers_wanted (with_part offset piece reply) more,
+        → SendsWanted sectors honest history faults wanted range old now next (with_part offset piece reply)
+        × AnswersWanted sectors honest history faults wanted range body old next (with_part offset piece reply)
+    sends_more now offset n piece same long within unfailed takes =
+        let more = sent_more (range_for is.0 range) old sending new reply is.2 next offset piece takes unfailed (omega (arith, long, within)) in (
+          (
+            is.0,
+            is.1,
+            subst (λ (s : Sending). IsSending sectors honest history faults (range_for is.0 range) old s next (with_part offset piece reply)) (sym same) more,
+          ),
+          wanted_answers (with_part offset piece reply)
+              (sent_answers (range_for is.0 range) old sending next (with_part offset piece reply) more),
         )
 
 -- what follows of what was read
-pub read_on : {E : Type 0} (r : Result (Unit {0}) E) (bytes : List ℕ) (Read : Option (List ℕ) → Type 0) (X : Type 0) → Read (read_outcome r bytes)
-    → (Read (Some bytes) → X) → OnOk r X
-read_on (Ok done) bytes Read X is f = f is
-read_on (Err e) bytes Read X is f = tt
+pub read_on : {E : Type 0} (r : Result (Unit {0}) E) (bytes : List ℕ) (Read : Option (List ℕ) → Type 0) (P X : Type 0) → Read (read_outcome r bytes)
+    → OnOk r P → (Read (Some bytes) → P → X) → OnOk r X
+read_on (Ok done) bytes Read P X is more f = f is more
+read_on (Err e) bytes Read P X is more f = tt
 
-pub on_err : {A E : Type 0} (r : Result A E) (X : Type 0) → X → OnErr r X
-on_err (Ok a) X is = tt
-on_err (Err e) X is = is
+-- and of a fault
+pub err_on : {A E : Type 0} (r : Result A E) (P : E → Type 0) (X : Type 0) → IfErr r P → ((e : E) → P e → X) → OnErr r X
+err_on (Ok a) P X is f = tt
+err_on (Err e) P X is f = f e is

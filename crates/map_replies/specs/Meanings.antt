@@ -1,8 +1,8 @@
 -- Which happenings of the service a reply reports: one table, for a single reply and for a connection.
-use Rattle.std.specs.Prelude.{◌≡◌, ◌<◌, ◌⊎◌, ℕ, List, [], ◌∷◌, ◌++◌, length, Option, IfSome, Result, Ok, Err, IfOk}
+use Rattle.std.specs.Prelude.{◌≡◌, ◌<◌, ◌⊎◌, ℕ, List, [], ◌∷◌, ◌++◌, length, Option, None, IfSome, Result, Ok, Err, IfOk, IfErr}
 use Rattle.http_serve.specs.Requests.{RequestView}
 use Rattle.http_serve.specs.Reply.{ReplyView}
-use Rattle.sector_disk.specs.Disk.{History}
+use Rattle.sector_disk.specs.Disk.{History, HasFailed}
 use Rattle.tile_routes.specs.declared.method.Method.{Method}
 use Rattle.tile_routes.specs.declared.method.Method.TheVariants.{Put, Delete}
 use Rattle.tile_routes.specs.Methods.{Wanted, not_found, not_allowed, allowed, wanted_by}
@@ -14,6 +14,7 @@ use Rattle.tile_service.specs.Runs.{begin_and_steps, TakesAll}
 use Rattle.tile_service.specs.Service.{ServiceView}
 use Rattle.tile_service.specs.declared.publishing_whole.Published.{Published}
 use Rattle.tile_service.specs.declared.fault.ServiceFault.{ServiceFault}
+use Rattle.tile_service.specs.declared.fault.ServiceFault.TheVariants.{Device}
 use Rattle.map_replies.specs.declared.fault.RequestFault.{RequestFault}
 use Rattle.map_replies.specs.declared.fault.RequestFault.TheVariants.{NotFound, Memory}
 use Rattle.map_replies.specs.declared.parts.Part.{Part}
@@ -33,6 +34,12 @@ numbers_of service = record { generation = service.generation; edits = service.j
 abbrev pub MeansCall : {A : Type 0} → (call : A → Happening) → (reply_of : A → ReplyView) → ReplyView → List Happening → Type 0
 MeansCall {A} call reply_of reply happenings = (outcome : A) × (reply ≡ reply_of outcome) × (happenings ≡ call outcome ∷ [])
 
+-- one call that may be refused, and the reply to its outcome; with the fault Device the disk has failed
+abbrev pub MeansChange : {A : Type 0} → (failed : Type 0) → (call : Result A ServiceFault → Happening) → (reply_of : Result A ServiceFault → ReplyView)
+    → ReplyView → List Happening → Type 0
+MeansChange {A} failed call reply_of reply happenings = (outcome : Result A ServiceFault) × (reply ≡ reply_of outcome)
+    × IfErr outcome (λ fault. fault ≡ Device → failed) × (happenings ≡ call outcome ∷ [])
+
 -- nothing happens, and the request is refused
 abbrev pub MeansRefusal : RequestFault → ReplyView → List Happening → Type 0
 MeansRefusal fault reply happenings = (reply ≡ refusal_of fault) × (happenings ≡ [])
@@ -44,13 +51,13 @@ OrNoMemory Means reply happenings = Means reply happenings ⊎ MeansRefusal Memo
 -- ---- edits
 
 -- the feature of the body is set, unless the body has a fault
-abbrev pub MeansPut : ℕ → List ℕ → ReplyView → List Happening → Type 0
-MeansPut id body reply happenings =
-    ((f : FeatureData) × SaysFeature body f × MeansCall (edit (put id f)) outcome_reply reply happenings)
+abbrev pub MeansPut : (failed : Type 0) → ℕ → List ℕ → ReplyView → List Happening → Type 0
+MeansPut failed id body reply happenings =
+    ((f : FeatureData) × SaysFeature body f × MeansChange failed (edit (put id f)) outcome_reply reply happenings)
     ⊎ ((fault : RequestFault) × HasBodyFault body fault × MeansRefusal fault reply happenings) ⊎ MeansRefusal Memory reply happenings
 
-abbrev pub MeansDelete : ℕ → ReplyView → List Happening → Type 0
-MeansDelete id = OrNoMemory (MeansCall (edit (delete id)) outcome_reply)
+abbrev pub MeansDelete : (failed : Type 0) → ℕ → ReplyView → List Happening → Type 0
+MeansDelete failed id = OrNoMemory (MeansChange failed (edit (delete id)) outcome_reply)
 
 -- ---- a whole publication
 
@@ -59,76 +66,79 @@ abbrev pub last_outcome : Result Published ServiceFault → Result ℕ ServiceFa
 last_outcome (Ok p) = Ok 0
 last_outcome (Err fault) = Err fault
 
--- The reply reports the generation and the archive that are installed, and the last edit before.
-abbrev pub MeansPublish : (old new : Published) → ReplyView → List Happening → Type 0
-MeansPublish old new reply happenings = (outcome : Result Published ServiceFault) × (reply ≡ published_reply outcome)
+-- The reply reports the generation and the archive that are installed, and the last edit before; or with the fault Device, that the disk
+-- has failed.
+abbrev pub MeansPublish : (failed : Type 0) → (old new : Published) → ReplyView → List Happening → Type 0
+MeansPublish failed old new reply happenings = (outcome : Result Published ServiceFault) × (reply ≡ published_reply outcome)
+    × IfErr outcome (λ fault. fault ≡ Device → failed)
     × IfOk outcome (λ p. p ≡ record new { edits = old.edits })
     × (before : List (Result ℕ ServiceFault)) × (happenings ≡ begin_and_steps (before ++ last_outcome outcome ∷ []))
 
 -- ---- the archive
 
--- A part is read, all of it, or the disk fails. Bytes that are never sent count as read: of a HEAD, and after a fault of the disk or of the
+-- A part is read, all of it, or the disk has failed. Bytes that are never sent count as read: of a HEAD, and after a fault of the disk or of the
 -- connection. For a range behind the archive's end nothing is read.
-abbrev pub MeansPart : (total : ℕ) → Part → ReplyView → List Happening → Type 0
-MeansPart total Beyond reply happenings = (reply ≡ part_reply Beyond total []) × (happenings ≡ [])
-MeansPart total part reply happenings = (outcome : Option (List ℕ)) × IfSome outcome (λ content. length content ≡ size_of part total)
-    × (reply ≡ bytes_reply part total outcome) × (happenings ≡ read (start_of part) outcome ∷ [])
+abbrev pub MeansPart : (failed : Type 0) → (total : ℕ) → Part → ReplyView → List Happening → Type 0
+MeansPart failed total Beyond reply happenings = (reply ≡ part_reply Beyond total []) × (happenings ≡ [])
+MeansPart failed total part reply happenings = (outcome : Option (List ℕ)) × IfSome outcome (λ content. length content ≡ size_of part total)
+    × (outcome ≡ None → failed) × (reply ≡ bytes_reply part total outcome) × (happenings ≡ read (start_of part) outcome ∷ [])
 
 -- The part that a range asks for of an archive of so many bytes. There is no archive exactly where it has no bytes.
-abbrev pub MeansArchive : (total : ℕ) → Option (List ℕ) → ReplyView → List Happening → Type 0
-MeansArchive total range reply happenings = ((total ≡ 0) × MeansRefusal NotFound reply happenings)
-    ⊎ ((0 < total) × (part : Part) × IsPart range total part × MeansPart total part reply happenings)
+abbrev pub MeansArchive : (failed : Type 0) → (total : ℕ) → Option (List ℕ) → ReplyView → List Happening → Type 0
+MeansArchive failed total range reply happenings = ((total ≡ 0) × MeansRefusal NotFound reply happenings)
+    ⊎ ((0 < total) × (part : Part) × IsPart range total part × MeansPart failed total part reply happenings)
 
--- ---- what is wanted of a service with these numbers, and with those after it
+-- ---- what is wanted of a service with these numbers, and with those after it, and what it is that its disk has failed meanwhile
 
-abbrev pub MeansOnFeature : ℕ → Method → List ℕ → ReplyView → List Happening → Type 0
-MeansOnFeature id Put body = MeansPut id body
-MeansOnFeature id Delete body = MeansDelete id
-MeansOnFeature id method body = MeansCall (look id) (shown_reply found_reply)
+abbrev pub MeansOnFeature : (failed : Type 0) → ℕ → Method → List ℕ → ReplyView → List Happening → Type 0
+MeansOnFeature failed id Put body = MeansPut failed id body
+MeansOnFeature failed id Delete body = MeansDelete failed id
+MeansOnFeature failed id method body = MeansCall (look id) (shown_reply found_reply)
 
 -- by a method that the path allows
-abbrev pub MeansAllowed : (old new : Published) → Asked → Method → Option (List ℕ) → List ℕ → ReplyView → List Happening → Type 0
-MeansAllowed old new (asked_tile z x y format) method range body = MeansCall (tile z x y) (shown_reply (content_reply format))
-MeansAllowed old new (asked_feature id) method range body = MeansOnFeature id method body
-MeansAllowed old new asked_metadata method range body = MeansCall metadata (shown_reply metadata_reply)
-MeansAllowed old new asked_archive method range body = OrNoMemory (MeansArchive old.archive_len (range_for method range))
-MeansAllowed old new asked_publish method range body = OrNoMemory (MeansPublish old new)
-MeansAllowed old new asked_begin method range body = OrNoMemory (MeansCall begin left_reply)
-MeansAllowed old new asked_step method range body = OrNoMemory (MeansCall step left_reply)
-MeansAllowed old new asked_cancel method range body = OrNoMemory (MeansCall cancel cancel_reply)
-MeansAllowed old new asked_nothing method range body = MeansRefusal NotFound
+abbrev pub MeansAllowed : (failed : Type 0) → (old new : Published) → Asked → Method → Option (List ℕ) → List ℕ → ReplyView → List Happening → Type 0
+MeansAllowed failed old new (asked_tile z x y format) method range body = MeansCall (tile z x y) (shown_reply (content_reply format))
+MeansAllowed failed old new (asked_feature id) method range body = MeansOnFeature failed id method body
+MeansAllowed failed old new asked_metadata method range body = MeansCall metadata (shown_reply metadata_reply)
+MeansAllowed failed old new asked_archive method range body = OrNoMemory (MeansArchive failed old.archive_len (range_for method range))
+MeansAllowed failed old new asked_publish method range body = OrNoMemory (MeansPublish failed old new)
+MeansAllowed failed old new asked_begin method range body = OrNoMemory (MeansCall begin left_reply)
+MeansAllowed failed old new asked_step method range body = OrNoMemory (MeansChange failed step left_reply)
+MeansAllowed failed old new asked_cancel method range body = OrNoMemory (MeansCall cancel cancel_reply)
+MeansAllowed failed old new asked_nothing method range body = MeansRefusal NotFound
 
-abbrev pub MeansWanted : (old new : Published) → Wanted → Option (List ℕ) → List ℕ → ReplyView → List Happening → Type 0
-MeansWanted old new not_found range body reply happenings = MeansRefusal NotFound reply happenings
-MeansWanted old new (not_allowed asked) range body reply happenings = (reply ≡ not_allowed_reply asked) × (happenings ≡ [])
-MeansWanted old new (allowed asked method) range body reply happenings = MeansAllowed old new asked method range body reply happenings
+abbrev pub MeansWanted : (failed : Type 0) → (old new : Published) → Wanted → Option (List ℕ) → List ℕ → ReplyView → List Happening → Type 0
+MeansWanted failed old new not_found range body reply happenings = MeansRefusal NotFound reply happenings
+MeansWanted failed old new (not_allowed asked) range body reply happenings = (reply ≡ not_allowed_reply asked) × (happenings ≡ [])
+MeansWanted failed old new (allowed asked method) range body reply happenings = MeansAllowed failed old new asked method range body reply happenings
 
 -- the reply to a request: what is wanted is said by its method and its path
-abbrev pub Means : (old new : Published) → RequestView → ReplyView → List Happening → Type 0
-Means old new request = MeansWanted old new (wanted_by request.method request.path) request.range request.body
-
--- ---- a connection
-
--- The happenings of a connection go on by those that a reply reports.
-abbrev pub Tells : List Happening → RequestView → ReplyView → List Happening → Type 0
-Tells old request reply new = (before : Published) × (after : Published) × (happenings : List Happening)
-    × Means before after request reply happenings × (new ≡ old ++ happenings)
+abbrev pub Means : (failed : Type 0) → (old new : Published) → RequestView → ReplyView → List Happening → Type 0
+Means failed old new request = MeansWanted failed old new (wanted_by request.method request.path) request.range request.body
 
 -- ---- a single reply
+
+-- a call of the service's disk has failed
+abbrev pub DiskFailed : {D : Type 0} → (faults : D → ℕ) → (old new : ServiceView D) → Type 0
+DiskFailed faults old new = HasFailed (faults old.disk) (faults new.disk)
 
 module _ {D : Type 0} (sectors : D → ℕ) (honest : D → Type 0) (history : D → History) where
   -- the reply reports happenings, and the service takes them all
   abbrev pub Answers : (ReplyView → List Happening → Type 0) → (old new : ServiceView D) → ReplyView → Type 0
   Answers IsMeant old new reply = (happenings : List Happening) × IsMeant reply happenings × TakesAll sectors honest history old happenings new
 
-  -- to what is wanted by a method that the path allows,
-  abbrev pub AnswersAllowed : Asked → Method → Option (List ℕ) → List ℕ → (old new : ServiceView D) → ReplyView → Type 0
-  AnswersAllowed asked method range body old new = Answers (MeansAllowed (numbers_of old) (numbers_of new) asked method range body) old new
+  -- over a disk that counts its faults
+  module _ (faults : D → ℕ) where
+    -- to what is wanted by a method that the path allows,
+    abbrev pub AnswersAllowed : Asked → Method → Option (List ℕ) → List ℕ → (old new : ServiceView D) → ReplyView → Type 0
+    AnswersAllowed asked method range body old new =
+        Answers (MeansAllowed (DiskFailed faults old new) (numbers_of old) (numbers_of new) asked method range body) old new
 
-  -- to what is wanted
-  abbrev pub AnswersWanted : Wanted → Option (List ℕ) → List ℕ → (old new : ServiceView D) → ReplyView → Type 0
-  AnswersWanted wanted range body old new = Answers (MeansWanted (numbers_of old) (numbers_of new) wanted range body) old new
+    -- to what is wanted
+    abbrev pub AnswersWanted : Wanted → Option (List ℕ) → List ℕ → (old new : ServiceView D) → ReplyView → Type 0
+    AnswersWanted wanted range body old new =
+        Answers (MeansWanted (DiskFailed faults old new) (numbers_of old) (numbers_of new) wanted range body) old new
 
-  -- and to a request
-  abbrev pub Replies : ServiceView D → RequestView → ReplyView → ServiceView D → Type 0
-  Replies old request reply new = Answers (Means (numbers_of old) (numbers_of new) request) old new reply
+    -- and to a request
+    abbrev pub Replies : ServiceView D → RequestView → ReplyView → ServiceView D → Type 0
+    Replies old request reply new = Answers (Means (DiskFailed faults old new) (numbers_of old) (numbers_of new) request) old new reply

@@ -14,7 +14,7 @@ use Rattle.map_replies.specs.declared.fault.RequestFault.{RequestFault}
 use Rattle.map_replies.specs.declared.parts.Part.{Part}
 use Rattle.map_replies.specs.declared.parts.Part.TheVariants.{Whole, Between, Beyond}
 use Rattle.map_replies.specs.declared.parts.Sending.{Sending}
-use Rattle.map_replies.specs.Meanings.{MeansPart, Answers}
+use Rattle.map_replies.specs.Meanings.{MeansPart, Answers, DiskFailed}
 use Rattle.map_replies.specs.Parts.{range_for, IsPart, start_of, size_of, part_reply}
 use Rattle.map_replies.specs.Words.{refusal_of}
 
@@ -58,27 +58,30 @@ module _ {D : Type 0} (sectors : D → ℕ) (honest : D → Type 0) (history : D
   BeginsOrFails old new first size (Some content) = Begins old new first size content
   BeginsOrFails old new first size None = Takes sectors honest history old (read first None) new
 
-  -- a part is being sent: what was read so far stands in the reply
-  pub record SendsPart (part : Part) (old : ServiceView D) (sending : Sending) (new : ServiceView D) (reply : ReplyView) : Type 0 where
-    pub sent : IsSent part old.archive_len sending
-    pub content : List ℕ
-    pub long : length content ≡ size_of part old.archive_len
-    pub shows : reply ≡ part_reply part old.archive_len content
-    pub reads : Takes sectors honest history old (read (start_of part) (Some content)) new
+  -- over a disk that counts its faults
+  module _ (faults : D → ℕ) where
+    -- a part is being sent: what was read so far stands in the reply, and no read has failed
+    pub record SendsPart (part : Part) (old : ServiceView D) (sending : Sending) (new : ServiceView D) (reply : ReplyView) : Type 0 where
+      pub sent : IsSent part old.archive_len sending
+      pub content : List ℕ
+      pub long : length content ≡ size_of part old.archive_len
+      pub shows : reply ≡ part_reply part old.archive_len content
+      pub reads : Takes sectors honest history old (read (start_of part) (Some content)) new
+      pub unfailed : faults new.disk ≡ faults old.disk
 
-  -- a part is read, and is being sent, or the disk failed
-  abbrev pub AnswersPart : Part → (old : ServiceView D) → Sending → (new : ServiceView D) → Reply → Type 0
-  AnswersPart part old sending new =
-      IsAnswer (Answers sectors honest history (MeansPart old.archive_len part) old new) (SendsPart part old sending new)
+    -- a part is read, and is being sent, or the disk failed
+    abbrev pub AnswersPart : Part → (old : ServiceView D) → Sending → (new : ServiceView D) → Reply → Type 0
+    AnswersPart part old sending new =
+        IsAnswer (Answers sectors honest history (MeansPart (DiskFailed faults old new) old.archive_len part) old new) (SendsPart part old sending new)
 
-  -- the part that a range asks for is being sent
-  pub record IsSending (range : Option (List ℕ)) (old : ServiceView D) (sending : Sending) (new : ServiceView D) (reply : ReplyView) : Type 0 where
-    pub some : 0 < old.archive_len
-    pub part : Part
-    pub asked : IsPart range old.archive_len part
-    pub sends : SendsPart part old sending new reply
+    -- the part that a range asks for is being sent
+    pub record IsSending (range : Option (List ℕ)) (old : ServiceView D) (sending : Sending) (new : ServiceView D) (reply : ReplyView) : Type 0 where
+      pub some : 0 < old.archive_len
+      pub part : Part
+      pub asked : IsPart range old.archive_len part
+      pub sends : SendsPart part old sending new reply
 
-  -- where the archive is wanted
-  abbrev pub SendsWanted : Wanted → Option (List ℕ) → (old : ServiceView D) → Sending → (new : ServiceView D) → ReplyView → Type 0
-  SendsWanted wanted range old sending new reply =
-      (method : Method) × (wanted ≡ allowed asked_archive method) × IsSending (range_for method range) old sending new reply
+    -- where the archive is wanted
+    abbrev pub SendsWanted : Wanted → Option (List ℕ) → (old : ServiceView D) → Sending → (new : ServiceView D) → ReplyView → Type 0
+    SendsWanted wanted range old sending new reply =
+        (method : Method) × (wanted ≡ allowed asked_archive method) × IsSending (range_for method range) old sending new reply

@@ -1,11 +1,13 @@
 -- What answers requests, without where it lies in memory.
-use Rattle.std.specs.Prelude.{ℕ, ◌-◌, min}
+use Rattle.std.specs.Prelude.{◌≡◌, ℕ, ◌-◌, min, List, ◌++◌}
 use Rattle.http_serve.specs.Requests.{RequestView}
 use Rattle.http_serve.specs.Reply.{ReplyView}
 use Rattle.sector_disk.specs.Disk.{History}
+use Rattle.tile_service.specs.Machine.{Happening}
+use Rattle.tile_service.specs.Runs.{TakesAll}
 use Rattle.tile_service.specs.Service.{ServiceView}
 use Rattle.map_replies.specs.declared.service.MapReplies.{MapReplies}
-use Rattle.map_replies.specs.Meanings.{Replies}
+use Rattle.map_replies.specs.Meanings.{numbers_of, Means, DiskFailed, Replies}
 use Rattle.map_replies.specs.Sending.{SendsWanted}
 use Rattle.tile_routes.specs.Methods.{wanted_by}
 
@@ -13,15 +15,45 @@ use Rattle.tile_routes.specs.Methods.{wanted_by}
 abbrev pub asked_service : {D : Type 0} → MapReplies D → ServiceView D
 asked_service s = s.service
 
--- one reply to one request, over a disk with these sectors, this honesty and this history
-abbrev pub ServiceReplies : {D : Type 0} → (D → ℕ) → (D → Type 0) → (D → History) → MapReplies D → RequestView → ReplyView → MapReplies D → Type 0
-ServiceReplies sectors honest history old request reply new = Replies sectors honest history (asked_service old) request reply (asked_service new)
-
 -- how many bytes of the archive are being sent
 abbrev pub sending_size : {D : Type 0} → MapReplies D → ℕ
 sending_size s = min s.sending.length ((asked_service s).archive_len - s.sending.first)
 
--- the same of a reply whose content is being read in parts: the request wants the archive
-abbrev pub ServiceSends : {D : Type 0} → (D → ℕ) → (D → Type 0) → (D → History) → MapReplies D → RequestView → ReplyView → MapReplies D → Type 0
-ServiceSends sectors honest history old request reply new =
-    SendsWanted sectors honest history (wanted_by request.method request.path) request.range (asked_service old) new.sending (asked_service new) reply
+-- over a disk with these sectors, this honesty, this history and this count of faults
+module _ {D : Type 0} (sectors : D → ℕ) (honest : D → Type 0) (history : D → History) (faults : D → ℕ) where
+  -- one reply to one request
+  abbrev pub ServiceReplies : MapReplies D → RequestView → ReplyView → MapReplies D → Type 0
+  ServiceReplies old request reply new = Replies sectors honest history faults (asked_service old) request reply (asked_service new)
+
+  -- the same of a reply whose content is being read in parts: the request wants the archive
+  abbrev pub ServiceSends : MapReplies D → RequestView → ReplyView → MapReplies D → Type 0
+  ServiceSends old request reply new =
+      SendsWanted sectors honest history faults (wanted_by request.method request.path) request.range (asked_service old) new.sending
+      (asked_service new) reply
+
+  -- and of one whose content couldn't be read to its end: the disk has failed
+  abbrev pub ServiceFails : MapReplies D → RequestView → ReplyView → MapReplies D → Type 0
+  ServiceFails old request reply new = ServiceReplies old request reply new × DiskFailed faults (asked_service old) (asked_service new)
+
+-- ---- a connection
+
+-- what answers the requests of a connection, and what has happened to its service there so far
+pub record Course (D : Type 0) : Type 0 where
+  pub replies : MapReplies D
+  pub run : List Happening
+
+abbrev pub course : {D : Type 0} → MapReplies D → List Happening → Course D
+course replies run = record { replies = replies; run = run }
+
+module _ {D : Type 0} (sectors : D → ℕ) (honest : D → Type 0) (history : D → History) (faults : D → ℕ) where
+  -- One reply to one request: it reports happenings, the service takes them all, and the run goes on by them.
+  abbrev pub Tells : Course D → RequestView → ReplyView → Course D → Type 0
+  Tells old request reply new = (happenings : List Happening)
+      × Means (DiskFailed faults (asked_service old.replies) (asked_service new.replies)) (numbers_of (asked_service old.replies))
+      (numbers_of (asked_service new.replies)) request reply happenings
+      × TakesAll sectors honest history (asked_service old.replies) happenings (asked_service new.replies)
+      × (new.run ≡ old.run ++ happenings)
+
+  -- the same of a reply whose content couldn't be read to its end: the disk has failed
+  abbrev pub TellsCut : Course D → RequestView → ReplyView → Course D → Type 0
+  TellsCut old request reply new = Tells old request reply new × DiskFailed faults (asked_service old.replies) (asked_service new.replies)

@@ -1,10 +1,10 @@
 //! The archive that was published last.
-ghost use Rattle.std.specs.Prelude.{◌≡◌, ◌<◌, ◌≤◌, ◌+◌, length, IfOk, IfErr, IfSome, None, option_map};
+ghost use Rattle.std.specs.Prelude.{◌≡◌, ◌<◌, ◌≤◌, ◌+◌, length, IfOk, IfErr, IfSome, OnOk, None, option_map};
 ghost use Rattle.http_serve.specs.Reply.{head_view, HasShortWords};
 ghost use Rattle.sector_disk.specs.Disk.{HasFailed};
 ghost use Rattle.tile_service.specs.Machine.{read};
 ghost use Rattle.tile_service.specs.Runs.{Takes};
-ghost use Rattle.map_replies.specs.Meanings.{OrNoMemory, MeansArchive, Answers};
+ghost use Rattle.map_replies.specs.Meanings.{OrNoMemory, MeansArchive, Answers, DiskFailed};
 ghost use Rattle.map_replies.specs.Sending.{IsAnsweredInParts, read_outcome, BeginsOrFails, AnswersPart, IsSending};
 ghost use Rattle.map_replies.specs.State.{asked_service, sending_size};
 
@@ -23,6 +23,8 @@ impl<D: Sectors + Drop> MapReplies<D> {
             (read at (option_map (λ bytes. bytes.items) content)) (asked_service self.new)) }
         ensures failed { IfOk result (λ content. content ≡ None
             → HasFailed (D.faults (asked_service self.old).disk) (D.faults (asked_service self.new).disk)) }
+        ensures unfailed { IfOk result (λ content. IfSome content (λ _.
+            D.faults (asked_service self.new).disk ≡ D.faults (asked_service self.old).disk)) }
         ensures length { IfOk result (λ content. IfSome content (λ bytes. length bytes.items ≡ count)) }
         ensures refused { IfErr result (λ fault. (asked_service self.new ≡ asked_service self.old) × (fault ≡ RequestFault.Memory)) }
     {
@@ -42,6 +44,8 @@ impl<D: Sectors + Drop> MapReplies<D> {
         ensures begun { IfOk result (BeginsOrFails D.sectors D.honest D.history (asked_service self.old) (asked_service self.new) first length) }
         ensures failed { IfOk result (λ content. content ≡ None
             → HasFailed (D.faults (asked_service self.old).disk) (D.faults (asked_service self.new).disk)) }
+        ensures unfailed { IfOk result (λ content. IfSome content (λ _.
+            D.faults (asked_service self.new).disk ≡ D.faults (asked_service self.old).disk)) }
         ensures sending { IfOk result (λ content. IfSome content (λ _. self.new.sending ≡ record { first = first; length = length })) }
         ensures refused { IfErr result (λ fault. (asked_service self.new ≡ asked_service self.old) × (fault ≡ RequestFault.Memory)) }
     {
@@ -61,7 +65,7 @@ impl<D: Sectors + Drop> MapReplies<D> {
     /// The whole archive, of so many bytes.
     fn whole_archive(&mut self, total: u64, bare: bool) -> Result<Reply, RequestFault>
         requires { total ≡ (asked_service self.old).archive_len }
-        ensures answered { IfOk result (AnswersPart D.sectors D.honest D.history Part.Whole
+        ensures answered { IfOk result (AnswersPart D.sectors D.honest D.history D.faults Part.Whole
             (asked_service self.old) self.new.sending (asked_service self.new)) }
         ensures words { IfOk result (λ reply. HasShortWords (head_view reply)) }
         ensures refused { IfErr result (λ fault. (asked_service self.new ≡ asked_service self.old) × (fault ≡ RequestFault.Memory)) }
@@ -84,7 +88,7 @@ impl<D: Sectors + Drop> MapReplies<D> {
         requires total { total ≡ (asked_service self.old).archive_len }
         requires order { first ≤ last }
         requires within { last < total }
-        ensures answered { IfOk result (AnswersPart D.sectors D.honest D.history (Part.Between first last)
+        ensures answered { IfOk result (AnswersPart D.sectors D.honest D.history D.faults (Part.Between first last)
             (asked_service self.old) self.new.sending (asked_service self.new)) }
         ensures words { IfOk result (λ reply. HasShortWords (head_view reply)) }
         ensures refused { IfErr result (λ fault. (asked_service self.new ≡ asked_service self.old) × (fault ≡ RequestFault.Memory)) }
@@ -104,9 +108,10 @@ impl<D: Sectors + Drop> MapReplies<D> {
     ) -> Result<Reply, RequestFault>
         ensures answered { IsAnsweredInParts
             (Answers D.sectors D.honest D.history
-            (OrNoMemory (MeansArchive (asked_service self.old).archive_len (option_map (λ value. value.now) range.entry)))
+            (OrNoMemory (MeansArchive (DiskFailed D.faults (asked_service self.old) (asked_service self.new)) (asked_service self.old).archive_len
+            (option_map (λ value. value.now) range.entry)))
             (asked_service self.old) (asked_service self.new))
-            (IsSending D.sectors D.honest D.history (option_map (λ value. value.now) range.entry)
+            (IsSending D.sectors D.honest D.history D.faults (option_map (λ value. value.now) range.entry)
             (asked_service self.old) self.new.sending (asked_service self.new)) result }
         ensures words { IfOk result (λ reply. HasShortWords (head_view reply)) }
     {
@@ -126,6 +131,7 @@ impl<D: Sectors + Drop> MapReplies<D> {
         requires { offset + length part.old ≤ sending_size self.old }
         ensures sending { self.new.sending ≡ self.old.sending }
         ensures failed { IfErr result (λ fault. HasFailed (D.faults (asked_service self.old).disk) (D.faults (asked_service self.new).disk)) }
+        ensures unfailed { OnOk result (D.faults (asked_service self.new).disk ≡ D.faults (asked_service self.old).disk) }
         ensures read { Takes D.sectors D.honest D.history (asked_service self.old)
             (read (self.old.sending.first + offset) (read_outcome result part.new)) (asked_service self.new) }
         ensures size { sending_size self.new ≡ sending_size self.old }

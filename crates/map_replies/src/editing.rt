@@ -1,7 +1,7 @@
 //! Edits, as requests ask for them.
 ghost use Rattle.std.specs.Prelude.{IfOk};
 ghost use Rattle.http_serve.specs.Reply.{IsWhole};
-ghost use Rattle.map_replies.specs.Meanings.{MeansPut, MeansDelete, Answers};
+ghost use Rattle.map_replies.specs.Meanings.{MeansPut, MeansDelete, Answers, DiskFailed};
 ghost use Rattle.map_replies.specs.Sending.{IsAnswered};
 ghost use Rattle.map_replies.specs.State.{asked_service};
 
@@ -15,7 +15,8 @@ use sector_disk::Sectors;
 impl<D: Sectors + Drop> MapReplies<D> {
     /// Gives a number the feature in the body of a request.
     pub(crate) fn put(&mut self, id: u64, body: &[u8]) -> Result<Reply, RequestFault>
-        ensures answered { IsAnswered (Answers D.sectors D.honest D.history (MeansPut id body.now)
+        ensures answered { IsAnswered (Answers D.sectors D.honest D.history
+            (MeansPut (DiskFailed D.faults (asked_service self.old) (asked_service self.new)) id body.now)
             (asked_service self.old) (asked_service self.new)) result }
         ensures writable { IfOk result IsWhole }
     {
@@ -32,7 +33,8 @@ impl<D: Sectors + Drop> MapReplies<D> {
 
     /// Takes the feature of a number away.
     pub(crate) fn delete(&mut self, id: u64) -> Result<Reply, RequestFault>
-        ensures answered { IsAnswered (Answers D.sectors D.honest D.history (MeansDelete id)
+        ensures answered { IsAnswered (Answers D.sectors D.honest D.history
+            (MeansDelete (DiskFailed D.faults (asked_service self.old) (asked_service self.new)) id)
             (asked_service self.old) (asked_service self.new)) result }
         ensures writable { IfOk result IsWhole }
     {

@@ -12,4 +12,4 @@ mod service;
 mod showing;
 
 pub use fault::RequestFault;
-pub use service::{MapReplies, serve_map};
+pub use service::{MapReplies, serve_map, serve_map_turns};

@@ -2,7 +2,7 @@
 ghost use Rattle.std.specs.Prelude.{IfOk};
 ghost use Rattle.http_serve.specs.Reply.{IsWhole};
 ghost use Rattle.tile_service.specs.Machine.{begin, step, cancel};
-ghost use Rattle.map_replies.specs.Meanings.{numbers_of, MeansCall, OrNoMemory, MeansPublish, Answers};
+ghost use Rattle.map_replies.specs.Meanings.{numbers_of, MeansCall, MeansChange, OrNoMemory, MeansPublish, Answers, DiskFailed};
 ghost use Rattle.map_replies.specs.Sending.{IsAnswered};
 ghost use Rattle.map_replies.specs.State.{asked_service};
 ghost use Rattle.map_replies.specs.Words.{left_reply, cancel_reply};
@@ -17,7 +17,8 @@ impl<D: Sectors + Drop> MapReplies<D> {
     /// Publishes the map, whole.
     pub(crate) fn publish(&mut self) -> Result<Reply, RequestFault>
         ensures answered { IsAnswered (Answers D.sectors D.honest D.history
-            (OrNoMemory (MeansPublish (numbers_of (asked_service self.old)) (numbers_of (asked_service self.new))))
+            (OrNoMemory (MeansPublish (DiskFailed D.faults (asked_service self.old) (asked_service self.new))
+            (numbers_of (asked_service self.old)) (numbers_of (asked_service self.new))))
             (asked_service self.old) (asked_service self.new)) result }
         ensures writable { IfOk result IsWhole }
     {
@@ -43,7 +44,8 @@ impl<D: Sectors + Drop> MapReplies<D> {
 
     /// Goes on with a publication.
     pub(crate) fn publish_step(&mut self) -> Result<Reply, RequestFault>
-        ensures answered { IsAnswered (Answers D.sectors D.honest D.history (OrNoMemory (MeansCall step left_reply))
+        ensures answered { IsAnswered (Answers D.sectors D.honest D.history
+            (OrNoMemory (MeansChange (DiskFailed D.faults (asked_service self.old) (asked_service self.new)) step left_reply))
             (asked_service self.old) (asked_service self.new)) result }
         ensures writable { IfOk result IsWhole }
     {

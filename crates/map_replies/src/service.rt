@@ -8,17 +8,19 @@ ghost use Rattle.tile_routes.specs.Targets.{asked_of};
 ghost use Rattle.tile_routes.specs.Wanted.{wanted_view};
 ghost use Rattle.tile_service.specs.Machine.{Happening};
 ghost use Rattle.tile_service.specs.Runs.{TakesRun};
-ghost use Rattle.map_replies.specs.Meanings.{MeansOnFeature, Answers, AnswersAllowed, AnswersWanted, Tells};
+ghost use Rattle.map_replies.specs.Meanings.{MeansOnFeature, Answers, AnswersAllowed, AnswersWanted, DiskFailed};
 ghost use Rattle.map_replies.specs.Parts.{range_for};
 ghost use Rattle.map_replies.specs.Sending.{IsAnswered, IsAnsweredInParts, IsSending, SendsWanted};
-ghost use Rattle.map_replies.specs.State.{asked_service, sending_size, ServiceReplies};
+ghost use Rattle.map_replies.specs.State.{asked_service, sending_size, ServiceReplies, Tells, TellsCut, course};
 
 use crate::fault::RequestFault;
 use crate::parts::{Sending, is_head, range_for};
 use crate::replies;
-use http_serve::{ContentFault, Handler, Reply, Request, ServeFault, Served, serve};
+use http_serve::{
+    ContentFault, Handler, MOST_READS, Reply, Request, ServeFault, Served, serve_turns,
+};
 use sector_disk::Sectors;
-use std::alloc::{AllocError, Global};
+use std::alloc::Global;
 use std::io::{Read, Write};
 use tile_routes::{Method, Routes, Target, Wanted};
 use tile_service::Service;
@@ -36,19 +38,19 @@ pub struct MapReplies<D: Sectors + Drop> {
 impl<D: Sectors + Drop> MapReplies<D> {
     ghost use Rattle.map_replies.specs.State.{asked_service};
 
-    /// What answers requests by asking this service.
-    pub fn new(alloc: Global, service: Service<D>) -> Result<MapReplies<D>, AllocError>
-        ensures { IfOk result (λ replies. asked_service replies ≡ service) }
+    /// What answers requests for these routes by asking this service.
+    pub fn new(alloc: Global, routes: Routes, service: Service<D>) -> MapReplies<D>
+        ensures { asked_service result ≡ service }
     {
-        Ok(MapReplies {
+        MapReplies {
             alloc,
-            routes: Routes::new(alloc)?,
+            routes,
             service,
             sending: Sending {
                 first: 0,
                 length: 0,
             },
-        })
+        }
     }
 
     /// The service that is asked.
@@ -60,7 +62,8 @@ impl<D: Sectors + Drop> MapReplies<D> {
 
     /// What is wanted of a feature, by a method of its path.
     fn on_feature(&mut self, id: u64, method: Method, body: &[u8]) -> Result<Reply, RequestFault>
-        ensures answered { IsAnswered (Answers D.sectors D.honest D.history (MeansOnFeature id method body.now)
+        ensures answered { IsAnswered (Answers D.sectors D.honest D.history
+            (MeansOnFeature (DiskFailed D.faults (asked_service self.old) (asked_service self.new)) id method body.now)
             (asked_service self.old) (asked_service self.new)) result }
         ensures writable { IfOk result IsWhole }
     {
@@ -79,7 +82,7 @@ impl<D: Sectors + Drop> MapReplies<D> {
         body: &[u8],
     ) -> Result<Reply, RequestFault>
         requires other { asked_of target ≢ asked_archive }
-        ensures answered { (range : Option (List ℕ)) → IsAnswered (AnswersAllowed D.sectors D.honest D.history
+        ensures answered { (range : Option (List ℕ)) → IsAnswered (AnswersAllowed D.sectors D.honest D.history D.faults
             (asked_of target) method range body.now (asked_service self.old) (asked_service self.new)) result }
         ensures writable { IfOk result IsWhole }
     {
@@ -104,9 +107,9 @@ impl<D: Sectors + Drop> MapReplies<D> {
         body: &[u8],
     ) -> Result<Reply, RequestFault>
         ensures answered { IsAnsweredInParts
-            (AnswersAllowed D.sectors D.honest D.history (asked_of target) method
+            (AnswersAllowed D.sectors D.honest D.history D.faults (asked_of target) method
             (option_map (λ value. value.now) range.entry) body.now (asked_service self.old) (asked_service self.new))
-            (λ reply. (asked_of target ≡ asked_archive) × IsSending D.sectors D.honest D.history
+            (λ reply. (asked_of target ≡ asked_archive) × IsSending D.sectors D.honest D.history D.faults
             (range_for method (option_map (λ value. value.now) range.entry)) (asked_service self.old) self.new.sending (asked_service self.new) reply)
             result }
         ensures words { IfOk result (λ reply. HasShortWords (head_view reply)) }
@@ -125,9 +128,9 @@ impl<D: Sectors + Drop> MapReplies<D> {
         body: &[u8],
     ) -> Result<Reply, RequestFault>
         ensures answered { IsAnsweredInParts
-            (AnswersWanted D.sectors D.honest D.history (wanted_view wanted)
+            (AnswersWanted D.sectors D.honest D.history D.faults (wanted_view wanted)
             (option_map (λ value. value.now) range.entry) body.now (asked_service self.old) (asked_service self.new))
-            (SendsWanted D.sectors D.honest D.history (wanted_view wanted)
+            (SendsWanted D.sectors D.honest D.history D.faults (wanted_view wanted)
             (option_map (λ value. value.now) range.entry) (asked_service self.old) self.new.sending (asked_service self.new)) result }
         ensures words { IfOk result (λ reply. HasShortWords (head_view reply)) }
     {
@@ -140,11 +143,13 @@ impl<D: Sectors + Drop> MapReplies<D> {
 }
 
 impl<D: Sectors + Drop> Handler for MapReplies<D> {
-    ghost use Rattle.map_replies.specs.State.{ServiceReplies, ServiceSends, sending_size};
+    ghost use Rattle.map_replies.specs.State.{ServiceReplies, ServiceSends, ServiceFails, sending_size};
 
-    ghost replies = { ServiceReplies D.sectors D.honest D.history };
+    ghost replies = { ServiceReplies D.sectors D.honest D.history D.faults };
 
-    ghost sends = { ServiceSends D.sectors D.honest D.history };
+    ghost sends = { ServiceSends D.sectors D.honest D.history D.faults };
+
+    ghost fails = { ServiceFails D.sectors D.honest D.history D.faults };
 
     ghost size = { sending_size };
 
@@ -161,6 +166,36 @@ impl<D: Sectors + Drop> Handler for MapReplies<D> {
     }
 }
 
+/// Serves a connection by at most so many reads: one reply to each request, in order, and one to what is no request. After so many
+/// reads the whole requests among the bytes read are answered.
+pub fn serve_map_turns<D: Sectors + Drop, R: Read, W: Write>(
+    alloc: Global,
+    reader: &mut R,
+    writer: &mut W,
+    service: &mut MapReplies<D>,
+    turns: u64,
+) -> Result<Served, ServeFault>
+    ensures input { IfOk result (λ served. AnswersInput (ServiceReplies D.sectors D.honest D.history D.faults)
+        service.old (R.remaining reader.old) (W.contents writer.old) served service.new (W.contents writer.new)) }
+
+    // The replies report what happens to the service, one after the other. A crash at any moment of the connection leaves some first
+    // edits of this run: all that were acknowledged by then, and none asked for later.
+    ensures served { IfOk result (λ served. (run : List Happening)
+        × IsServed (Tells D.sectors D.honest D.history D.faults) (course service.old []) (R.remaining reader.old) (W.contents writer.old) served
+        (course service.new run) (R.remaining reader.new) (W.contents writer.new)
+        × TakesRun D.sectors D.honest D.history (asked_service service.old) run (asked_service service.new)) }
+    ensures fault { IfErr result (λ fault. (run : List Happening)
+        × IsServedUpTo (Tells D.sectors D.honest D.history D.faults) (TellsCut D.sectors D.honest D.history D.faults)
+        (course service.old []) (R.remaining reader.old) (W.contents writer.old) fault
+        (course service.new run) (R.remaining reader.new) (W.contents writer.new)
+        × TakesRun D.sectors D.honest D.history (asked_service service.old) run (asked_service service.new)) }
+    ensures content { IfErr result (HasContent (sending_size service.new)) }
+    ensures turns { IfOk result (λ served. MeetsTurns R.remaining turns reader.old reader.new served.end) }
+    ensures reads { KeepsTurns turns result (R.remaining reader.old) (R.remaining reader.new) }
+{
+    serve_turns(alloc, reader, writer, service, turns)
+}
+
 /// Serves a connection by at most `http_serve::MOST_READS` reads: one reply to each request, in order, and one to what is
 /// no request.
 pub fn serve_map<D: Sectors + Drop, R: Read, W: Write>(
@@ -169,24 +204,20 @@ pub fn serve_map<D: Sectors + Drop, R: Read, W: Write>(
     writer: &mut W,
     service: &mut MapReplies<D>,
 ) -> Result<Served, ServeFault>
-    ensures input { IfOk result (λ served. AnswersInput (ServiceReplies D.sectors D.honest D.history)
+    ensures input { IfOk result (λ served. AnswersInput (ServiceReplies D.sectors D.honest D.history D.faults)
         service.old (R.remaining reader.old) (W.contents writer.old) served service.new (W.contents writer.new)) }
-    ensures served { IfOk result (λ served. IsServed (ServiceReplies D.sectors D.honest D.history)
-        service.old (R.remaining reader.old) (W.contents writer.old) served service.new (R.remaining reader.new) (W.contents writer.new)) }
-    ensures fault { IfErr result (λ fault. IsServedUpTo (ServiceReplies D.sectors D.honest D.history)
-        service.old (R.remaining reader.old) (W.contents writer.old) fault service.new (R.remaining reader.new) (W.contents writer.new)) }
+    ensures served { IfOk result (λ served. (run : List Happening)
+        × IsServed (Tells D.sectors D.honest D.history D.faults) (course service.old []) (R.remaining reader.old) (W.contents writer.old) served
+        (course service.new run) (R.remaining reader.new) (W.contents writer.new)
+        × TakesRun D.sectors D.honest D.history (asked_service service.old) run (asked_service service.new)) }
+    ensures fault { IfErr result (λ fault. (run : List Happening)
+        × IsServedUpTo (Tells D.sectors D.honest D.history D.faults) (TellsCut D.sectors D.honest D.history D.faults)
+        (course service.old []) (R.remaining reader.old) (W.contents writer.old) fault
+        (course service.new run) (R.remaining reader.new) (W.contents writer.new)
+        × TakesRun D.sectors D.honest D.history (asked_service service.old) run (asked_service service.new)) }
     ensures content { IfErr result (HasContent (sending_size service.new)) }
-    ensures turns { IfOk result (λ served. MeetsTurns MOST_READS (R.remaining reader.old) (R.remaining reader.new) served.end) }
+    ensures turns { IfOk result (λ served. MeetsTurns R.remaining MOST_READS reader.old reader.new served.end) }
     ensures reads { KeepsTurns MOST_READS result (R.remaining reader.old) (R.remaining reader.new) }
-
-    // The replies report what happens to the service, one after the other. A crash at any moment of the connection leaves some first
-    // edits of this run: all that were acknowledged by then, and none asked for later.
-    ensures any_moment { IfOk result (λ served. (run : List Happening)
-        × IsServed Tells [] (R.remaining reader.old) (W.contents writer.old) served run (R.remaining reader.new) (W.contents writer.new)
-        × TakesRun D.sectors D.honest D.history (asked_service service.old) run (asked_service service.new)) }
-    ensures any_moment_of_fault { IfErr result (λ fault. (run : List Happening)
-        × IsServedUpTo Tells [] (R.remaining reader.old) (W.contents writer.old) fault run (R.remaining reader.new) (W.contents writer.new)
-        × TakesRun D.sectors D.honest D.history (asked_service service.old) run (asked_service service.new)) }
 {
-    serve(alloc, reader, writer, service)
+    serve_map_turns(alloc, reader, writer, service, MOST_READS)
 }

@@ -33,6 +33,8 @@ impl Handler for Echo {
 
     ghost sends = { λ _ _ _ _. ⊥ };
 
+    ghost fails = { λ _ _ _ _. ⊥ };
+
     ghost size = { λ _. 0 };
 
     fn read_content(&mut self, _offset: u64, _part: &mut [u8]) -> Result<(), ContentFault> {

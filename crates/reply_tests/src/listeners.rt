@@ -34,6 +34,8 @@ impl Handler for Counter {
 
     ghost sends = { λ _ _ _ _. ⊥ };
 
+    ghost fails = { λ _ _ _ _. ⊥ };
+
     ghost size = { λ _. 0 };
 
     fn answer(&mut self, _request: &Request<'_>) -> Reply {

@@ -1,8 +1,7 @@
 //! The connections of a port.
 ghost use Rattle.std.specs.Prelude.{◌≡◌, ◌≤◌, List, [], length, IfSome, OnOk};
 ghost use Rattle.http_listen.specs.Connections.{Connection, Serves};
-ghost use Rattle.map_replies.specs.Meanings.{Tells};
-ghost use Rattle.map_replies.specs.State.{asked_service};
+ghost use Rattle.map_replies.specs.State.{asked_service, Tells, TellsCut, course};
 ghost use Rattle.tile_service.specs.Machine.{Happening};
 ghost use Rattle.tile_service.specs.Runs.{TakesRun};
 
@@ -48,7 +47,9 @@ pub(crate) fn serve_connections<D: Sectors + Drop>(
     asked: Listening,
     service: &mut MapReplies<D>,
 ) -> Result<(), CommandFault>
-    ensures all { OnOk result ((served : List Connection) × (length served ≡ asked.connections) × (run : List Happening) × Serves Tells [] served run
+    ensures all { OnOk result ((served : List Connection) × (length served ≡ asked.connections) × (run : List Happening)
+        × Serves (Tells D.sectors D.honest D.history D.faults) (TellsCut D.sectors D.honest D.history D.faults)
+        (course service.old []) served (course service.new run)
         × TakesRun D.sectors D.honest D.history (asked_service service.old) run (asked_service service.new)) }
 {
     let Ok(listener) = TcpListener::bind(rt, SocketAddr::from((Ipv4Addr::LOCALHOST, asked.port)))

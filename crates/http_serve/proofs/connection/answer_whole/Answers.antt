@@ -1,8 +1,9 @@
-use Rattle.std.proofs.Common.{◌<◌, ℕ, List, refl, sym, subst, arith, length, length-append, take}
+use Rattle.std.proofs.Common.{◌<◌, ℕ, List, Err, refl, sym, subst, arith, length, length-append, take}
 use Rattle.std.specs.Io.KnownBytes.{Appends}
 use Rattle.http_serve.specs.declared.frames.Next.TheVariants.{Whole, Refused, More}
 use Rattle.http_serve.specs.declared.connection.ServeFault.{ServeFault}
 use Rattle.http_serve.specs.Frame.{IsNext}
+use Rattle.http_serve.specs.Parts.{GivesOrFails}
 use Rattle.http_serve.specs.Steps.{IsBroken}
 use Rattle.http_serve.specs.Told.{HasContent}
 use Rattle.http_serve.specs.Requests.{asked, refused}
@@ -10,7 +11,7 @@ use Rattle.http_serve.specs.Requests.{request_view_at}
 use Rattle.http_serve.specs.Reply.{ReplyView, refusal_bytes, reply_at}
 use Rattle.http_serve.specs.Served.{Anything, Carries}
 use Rattle.http_serve.proofs.HeadLemmas.{missing_now}
-use Rattle.http_serve.proofs.CarryLemmas.{Ends_push, Breaks_refused, Frame_push, Frame_ends, Frame_breaks}
+use Rattle.http_serve.proofs.CarryLemmas.{Ends_push, Breaks_refused, Frame_push, Frame_ends}
 use Rattle.http_serve.proofs.PartLemmas.{cut_content}
 use Rattle.http_serve.proofs.ServeLemmas.{cut_breaks}
 use Rattle.http_serve.proofs.connection.answer_whole.Goals as goal
@@ -56,15 +57,15 @@ returns-in-Err-answer_one-clause-err g c =
     let input = c.requests.session.input.waiting in
     let found = subst (λ (t : List ℕ). IsNext t (Whole frame)) c.waiting.ensures c.in-Whole.ensures.next in
     let told = subst (λ (t : List ℕ). (reply : ReplyView)
-    × g.H.Handler.replies c.requests.handler (request_view_at t frame) reply c.answer_one.new.handler
+    × GivesOrFails (Err c.in-Err-answer_one.fault) (g.H.Handler.replies c.requests.handler (request_view_at t frame) reply c.answer_one.new.handler)
+    (g.H.Handler.fails c.requests.handler (request_view_at t frame) reply c.answer_one.new.handler)
     × ((n : ℕ) × (n < length (reply_at t frame reply))
     × Appends (g.W.Write.contents c.requests.writer) (g.W.Write.contents c.answer_one.new.writer) (take n (reply_at t frame reply))))
     c.waiting-waiting.ensures c.in-Err-answer_one.ensures.reply in
-    subst (λ (fault : ServeFault). IsBroken g.H.Handler.replies c.args.handler.now c.args.session.now.input.waiting (g.W.Write.contents c.args.writer.now)
-    c.args.requests fault c.answer_one.new.handler (g.W.Write.contents c.answer_one.new.writer)) (sym c.after.ensures)
-    (cut_breaks g.H.Handler.replies _ _ _ _ _ _ c.requests.requests c.in-Err-answer_one.fault
-    (Frame_breaks g.H.Handler.replies _ _ _ c.args.requests _ input _ c.requests.requests frame found.0 told.0 _ _ c.requests.invariant.carries found.1 told.1
-    told.2.0 told.2.1 told.2.2))
+    subst (λ (fault : ServeFault). IsBroken g.H.Handler.replies g.H.Handler.fails c.args.handler.now c.args.session.now.input.waiting
+    (g.W.Write.contents c.args.writer.now) c.args.requests fault c.answer_one.new.handler (g.W.Write.contents c.answer_one.new.writer)) (sym c.after.ensures)
+    (cut_breaks g.H.Handler.replies g.H.Handler.fails _ _ _ c.args.requests _ input _ c.requests.requests frame found.0 told.0 told.2.0 _ _
+    c.in-Err-answer_one.fault c.requests.invariant.carries found.1 told.1 told.2.1 told.2.2)
 
 pub returns-in-Err-answer_one-clause-content : goal.returns-in-Err-answer_one-clause-content
 returns-in-Err-answer_one-clause-content g c =

@@ -3,7 +3,7 @@ use Rattle.http_serve.specs.Input.{buffer_size}
 use Rattle.http_serve.specs.Search.{IsKnown}
 use Rattle.http_serve.proofs.LineLemmas.{IsKnown-append}
 use Rattle.http_serve.proofs.ServeLemmas.{SoFar_start, SoFar_stops, SoFar_failed_read, SoFar_goes, SoFar_told, SoFar_broken, SoFar_done, SoFar_failed, if_ok}
-use Rattle.http_serve.proofs.ServeLemmas.{if_err, least_start, least_more, least_over, most_start, most_more, other_turns}
+use Rattle.http_serve.proofs.ServeLemmas.{if_err, adds_none, adds_one, adds_all, most_start, most_more, other_turns}
 use Rattle.http_serve.proofs.ServeLemmas.{finished_turns, finished_reads, unfinished_content}
 use Rattle.http_serve.proofs.connection.serve_turns.Goals as goal
 
@@ -11,7 +11,8 @@ pub loop-turn-init : goal.loop-turn-init
 loop-turn-init g c = record {
   room = omega (arith, c.in-Ok-with_capacity.ensures.exact);
   known = (omega arith, refl);
-  least = least_start (g.R.Read.remaining c.args.reader.now);
+  within = omega arith;
+  reads = adds_none g.R.Read.remaining c.args.reader.now;
   most = most_start (g.R.Read.remaining c.args.reader.now) _;
   so_far = SoFar_start g.H.Handler.replies _ _ _ c.in-Ok.input.waiting c.in-Ok.ensures;
 }
@@ -29,7 +30,7 @@ returns-in_err-served-clause-fault g c =
     let fault = c.in_err-served.field-0.0 in
     let same : c.from_residual.result ≡ Err fault = search rules in
     rw same (SoFar_broken g.H.Handler.replies _ _ _ _ _ _ c.loop-turn.requests _ _ c.loop-turn.invariant.so_far came.0 _ came.1 _ _ _ came.2
-    fault c.in_err-served.ensures.err)
+    g.H.Handler.fails fault c.in_err-served.ensures.err)
 
 pub returns-in_default-read_from-clause-fault : goal.returns-in_default-read_from-clause-fault
 returns-in_default-read_from-clause-fault g c =
@@ -45,9 +46,11 @@ loop-turn-preserved g c =
     record {
       room = c.in_ok-served.ensures.room;
       known = c.in_ok-served.ensures.known;
-      least =
-          least_more (g.R.Read.remaining c.args.reader.now) _ _ c.loop-turn._turn c.in-Ok-read_from.count came.0 c.loop-turn.invariant.least
-          came.1 came.3 c.if-count-eq0.false;
+      within = let below = c.loop-turn-test.true in omega arith;
+      reads =
+          let few = c.in-Ok-read_from.ensures.few in
+          adds_one g.R.Read.remaining c.loop-turn._turn c.args.reader.now _ _ c.in-Ok-read_from.count came.0 c.loop-turn.invariant.reads
+          came.1 came.3 c.if-count-eq0.false few;
       most =
           let few = c.in-Ok-read_from.ensures.few in
           most_more (g.R.Read.remaining c.args.reader.now) _ _ (c.loop-turn._turn * buffer_size) ((c.loop-turn._turn + 1) * buffer_size)
@@ -69,20 +72,21 @@ returns-then-count-eq0-clause-fault g c =
     let came = c.in-Ok-read_from.ensures.ok in
     if_err c.finish.result _ _
     (SoFar_failed g.H.Handler.replies _ _ _ _ _ _ c.loop-turn.requests _ _ c.loop-turn.invariant.so_far _ came.0 _ _ _ came.1 came.2 came.3
-    c.if-count-eq0.true came.4) (c.finish.ensures.fault c.loop-turn.invariant.so_far.head c.loop-turn.invariant.so_far.bare)
+    c.if-count-eq0.true g.H.Handler.fails came.4) (c.finish.ensures.fault c.loop-turn.invariant.so_far.head c.loop-turn.invariant.so_far.bare)
 
 pub returns-then-count-eq0-clause-turns : goal.returns-then-count-eq0-clause-turns
 returns-then-count-eq0-clause-turns g c =
-    if_ok c.finish.result _ _ (λ served. finished_turns c.args.turns _ _ _ _ _ _ _ served _)
+    if_ok c.finish.result _ _ (λ served. finished_turns g.R.Read.remaining c.args.turns _ _ _ _ _ _ _ served _)
     (c.finish.ensures.ends c.loop-turn.invariant.so_far.head c.loop-turn.invariant.so_far.bare)
 
 pub returns-clause-turns : goal.returns-clause-turns
-returns-clause-turns g c = least_over _ _ c.loop-turn._turn c.args.turns c.loop-turn.invariant.least c.loop-turn-test.false
+returns-clause-turns g c = adds_all g.R.Read.remaining c.loop-turn._turn c.args.turns c.args.reader.now c.loop-turn.reader c.loop-turn.invariant.reads
+    c.loop-turn.invariant.within c.loop-turn-test.false
 
 pub returns-in-Ended-clause-turns : goal.returns-in-Ended-clause-turns
 returns-in-Ended-clause-turns g c =
     let pause = rw c.in-Ended.is at c.in_ok-served.ensures.ok in
-    other_turns c.args.turns _ _ c.in-Ended.served.end pause.3
+    other_turns g.R.Read.remaining c.args.turns _ _ c.in-Ended.served.end pause.3
 
 pub answer_whole-requires-clause-known : goal.answer_whole-requires-clause-known
 answer_whole-requires-clause-known g c =

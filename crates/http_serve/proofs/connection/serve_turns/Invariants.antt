@@ -1,15 +1,16 @@
 use Rattle.std.proofs.Common.{◌≤◌, ◌*◌, vec_capacity}
 use Rattle.http_serve.specs.Input.{buffer_size}
 use Rattle.http_serve.specs.Search.{IsKnown}
-use Rattle.http_serve.specs.Told.{LosesAtLeast, LosesAtMost}
-use Rattle.http_serve.proofs.ServeLemmas.{IsSoFar}
+use Rattle.http_serve.specs.Told.{LosesAtMost}
+use Rattle.http_serve.proofs.ServeLemmas.{Adds, IsSoFar}
 use Rattle.http_serve.proofs.connection.serve_turns.Given as goal
 
 abbrev pub invariant-loop-turn : goal.invariant-loop-turn
 invariant-loop-turn g l = record {
   room : 16384 ≤ vec_capacity l.session.out;
   known : IsKnown l.session.input.waiting l.session.search;
-  least : LosesAtLeast l._turn (g.R.Read.remaining l.fn.reader) (g.R.Read.remaining l.reader);
+  within : l._turn ≤ l.fn.turns;
+  reads : Adds g.R.Read.remaining l._turn l.fn.reader l.reader;
   most : LosesAtMost (l._turn * buffer_size) (g.R.Read.remaining l.fn.reader) (g.R.Read.remaining l.reader);
   so_far : IsSoFar g.H.Handler.replies l.fn.handler (g.R.Read.remaining l.fn.reader) (g.W.Write.contents l.fn.writer)
       l.handler (g.R.Read.remaining l.reader) (g.W.Write.contents l.writer) l.requests l.session.input.waiting l.reason;

@@ -1,6 +1,7 @@
 use Rattle.std.proofs.Common.{◌≡◌, ◌<◌, ◌≤◌, Err, ℕ, rules, ◌∙◌, sym, subst, arith, length, take, drop, length-append, length-drop}
 use Rattle.std.proofs.lemmas.List.{length-take-le}
 use Rattle.std.specs.Io.KnownBytes.{Appends}
+use Rattle.http_serve.specs.Parts.{GivesOrFails}
 use Rattle.http_serve.proofs.PartLemmas.{sent_on, sent_cut}
 use Rattle.http_serve.proofs.contents.send_parts.Goals as goal
 
@@ -45,8 +46,11 @@ returns-in_err-send_part-clause-sent g c =
     let below = c.loop-at-test.true in
     let size = length-take-le count c.loop-at.buffer (omega (arith, c.loop-at.invariant.length)) in
     let same : c.from_residual.result ≡ Err c.in_err-send_part.field-0.0 = search rules in
-    rw same (sent_cut g.H.Handler.replies g.H.Handler.sends c.args.offset at c.args.size count _ _ _ _ _ _
-    c.loop-at.invariant.behind c.loop-at.invariant.sent (omega arith)
+    let fault = c.in_err-send_part.field-0.0 in
+    rw same (sent_cut g.H.Handler.replies g.H.Handler.sends c.args.offset at c.args.size count _ _ c.send_part.new.handler _ _ _
+    c.loop-at.invariant.behind c.loop-at.invariant.sent
+    (λ first request later. GivesOrFails (Err fault) (g.H.Handler.replies first request later c.send_part.new.handler)
+    (g.H.Handler.fails first request later c.send_part.new.handler)) (omega arith)
     (λ first request reply sent is.
     let part = c.in_err-send_part.ensures.sent first request reply sent (is ∙ sym c.loop-at.invariant.size) in
     let cut = subst (λ (n : ℕ). (k : ℕ) × (k < length (take n (drop at part.0.content)))

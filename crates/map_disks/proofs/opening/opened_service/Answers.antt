@@ -2,11 +2,11 @@ use Rattle.std.proofs.Common.{◌≡◌, subst, sym}
 use Rattle.tile_service.specs.Service.{IsUp}
 use Rattle.map_disks.proofs.opening.opened_service.Goals as goal
 
-pub returns-in-Ok-new-clause-opened : goal.returns-in-Ok-new-clause-opened
-returns-in-Ok-new-clause-opened g c n stored holds honest =
+pub returns-clause-opened : goal.returns-clause-opened
+returns-clause-opened g c n stored holds honest =
     let opened = c.in-Ok.ensures.opened n stored holds in
     subst (λ s. g.D.Sectors.honest s.disk → (s.size ≡ n) × IsUp (g.D.Sectors.sectors c.args.disk) (g.D.Sectors.history s.disk) stored s)
-    (sym c.in-Ok-new.ensures)
+    (sym c.new-replies.ensures)
     (λ kept. (
       (opened kept).0,
       subst (λ count. IsUp count (g.D.Sectors.history c.in-Ok.service.disk) stored c.in-Ok.service)

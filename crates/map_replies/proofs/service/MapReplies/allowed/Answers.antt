@@ -1,6 +1,6 @@
 use Rattle.std.proofs.Common.{refl, subst}
 use Rattle.http_serve.proofs.ServeLemmas.{if_ok}
-use Rattle.map_replies.specs.Meanings.{OrNoMemory, MeansArchive, Answers}
+use Rattle.map_replies.specs.Meanings.{OrNoMemory, MeansArchive, Answers, DiskFailed}
 use Rattle.map_replies.specs.Sending.{IsAnsweredInParts, IsSending}
 use Rattle.map_replies.specs.State.{asked_service}
 use Rattle.map_replies.proofs.SendingLemmas.{answered_on, whole_answer}
@@ -12,8 +12,8 @@ returns-in-Archive-clause-answered g c =
     let new = asked_service c.archive.new.self in
     let sent = c.archive.new.self.sending in
     let told = subst (λ r. IsAnsweredInParts
-    (Answers g.D.Sectors.sectors g.D.Sectors.honest g.D.Sectors.history (OrNoMemory (MeansArchive old.archive_len r)) old new)
-    (IsSending g.D.Sectors.sectors g.D.Sectors.honest g.D.Sectors.history r old sent new) c.archive.result) c.range_for.ensures c.archive.ensures.answered in
+    (Answers g.D.Sectors.sectors g.D.Sectors.honest g.D.Sectors.history (OrNoMemory (MeansArchive (DiskFailed g.D.Sectors.faults old new) old.archive_len r)) old new)
+    (IsSending g.D.Sectors.sectors g.D.Sectors.honest g.D.Sectors.history g.D.Sectors.faults r old sent new) c.archive.result) c.range_for.ensures c.archive.ensures.answered in
     rw c.in-Archive.is (answered_on _ _ _ _ c.archive.result (λ view is. is) (λ view is. (refl, is)) told)
 
 pub returns-in_default : goal.returns-in_default

@@ -11,13 +11,14 @@ returns-in-Ok-Some-clause-answered g c =
     let begun = rw c.in-Ok-Some.field-0-is at c.in-Ok-Some.ensures.begun in
     let sending = rw c.in-Ok-Some.field-0-is at c.in-Ok-Some.ensures.sending in
     let part = Between c.args.first c.args.last in
-    part_sent g.D.Sectors.sectors g.D.Sectors.honest g.D.Sectors.history (asked_service c.args.self.now) (asked_service c.send.new.self) part _ c.between.result c.in-Ok-Some.content
-    (c.requires.order, omega (arith, c.requires.within, c.requires.total)) begun c.between.ensures.content
+    let unfailed = rw c.in-Ok-Some.field-0-is at c.in-Ok-Some.ensures.unfailed in
+    part_sent g.D.Sectors.sectors g.D.Sectors.honest g.D.Sectors.history g.D.Sectors.faults (asked_service c.args.self.now) (asked_service c.send.new.self) part _ c.between.result c.in-Ok-Some.content
+    (c.requires.order, omega (arith, c.requires.within, c.requires.total)) begun unfailed c.between.ensures.content
     (λ bytes. c.between.ensures.reply bytes ∙ ap (λ (n : ℕ). part_reply part n (content_bytes bytes c.in-Ok-Some.content)) c.requires.total)
     sending
 
 pub returns-in-Ok-None-clause-answered : goal.returns-in-Ok-None-clause-answered
 returns-in-Ok-None-clause-answered g c =
-    part_failed g.D.Sectors.sectors g.D.Sectors.honest g.D.Sectors.history (asked_service c.args.self.now) (asked_service c.send.new.self) (Between c.args.first c.args.last) _
+    part_failed g.D.Sectors.sectors g.D.Sectors.honest g.D.Sectors.history g.D.Sectors.faults (asked_service c.args.self.now) (asked_service c.send.new.self) (Between c.args.first c.args.last) _
     c.unread.result (c.requires.order, omega (arith, c.requires.within, c.requires.total))
-    c.unread.ensures.writable c.unread.ensures.reply (rw c.in-Ok-None.field-0-is at c.in-Ok-None.ensures.begun)
+    c.unread.ensures.writable c.unread.ensures.reply (c.in-Ok-None.ensures.failed c.in-Ok-None.field-0-is) (rw c.in-Ok-None.field-0-is at c.in-Ok-None.ensures.begun)

@@ -3,4 +3,5 @@ use Rattle.map_replies.proofs.service.MapReplies.publish.Goals as goal
 
 pub returns-clause-answered : goal.returns-clause-answered
 returns-clause-answered g c =
-    published g.D.Sectors.sectors g.D.Sectors.honest g.D.Sectors.history _ _ c.publish-outcome.result _ c.published.ensures.reply c.publish-outcome.ensures.run
+    published g.D.Sectors.sectors g.D.Sectors.honest g.D.Sectors.history _ _ _ _ c.publish-outcome.result _ c.published.ensures.reply
+    c.publish-outcome.ensures.failed c.publish-outcome.ensures.run

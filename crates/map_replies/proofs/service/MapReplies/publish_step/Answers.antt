@@ -1,12 +1,13 @@
 use Rattle.tile_service.specs.Machine.{step}
 use Rattle.tile_service.proofs.Callers.{step_step}
 use Rattle.map_replies.specs.Words.{left_reply}
-use Rattle.map_replies.proofs.Answering.{called_first}
+use Rattle.map_replies.proofs.Answering.{changed_first}
 use Rattle.map_replies.proofs.service.MapReplies.publish_step.Goals as goal
 
 pub returns-clause-answered : goal.returns-clause-answered
 returns-clause-answered g c =
     let call = c.publish_step-outcome.ensures in
-    called_first g.D.Sectors.sectors g.D.Sectors.honest g.D.Sectors.history step left_reply _ _ c.publish_step-outcome.result _ c.left.ensures.reply
+    changed_first g.D.Sectors.sectors g.D.Sectors.honest g.D.Sectors.history _ _ step left_reply _ _ c.publish_step-outcome.result _ c.left.ensures.reply
+    call.failed
     (step_step g.D.Sectors.sectors g.D.Sectors.honest g.D.Sectors.history _ _ c.publish_step-outcome.result call.machine call.size call.count call.honest
     call.refused call.any_moment call.after call.archive)

@@ -9,12 +9,13 @@ pub returns-in-Ok-Some-clause-answered : goal.returns-in-Ok-Some-clause-answered
 returns-in-Ok-Some-clause-answered g c =
     let begun = rw c.in-Ok-Some.field-0-is at c.in-Ok-Some.ensures.begun in
     let sending = rw c.in-Ok-Some.field-0-is at c.in-Ok-Some.ensures.sending in
-    part_sent g.D.Sectors.sectors g.D.Sectors.honest g.D.Sectors.history (asked_service c.args.self.now) (asked_service c.send.new.self) Whole _ c.whole.result c.in-Ok-Some.content tt
+    let unfailed = rw c.in-Ok-Some.field-0-is at c.in-Ok-Some.ensures.unfailed in
+    part_sent g.D.Sectors.sectors g.D.Sectors.honest g.D.Sectors.history g.D.Sectors.faults (asked_service c.args.self.now) (asked_service c.send.new.self) Whole _ c.whole.result c.in-Ok-Some.content tt
     (subst (λ (n : ℕ). Begins g.D.Sectors.sectors g.D.Sectors.honest g.D.Sectors.history (asked_service c.args.self.now) (asked_service c.send.new.self) 0 n c.in-Ok-Some.content) c.requires begun)
-    c.whole.ensures.content c.whole.ensures.reply
+    unfailed c.whole.ensures.content c.whole.ensures.reply
     (sending ∙ ap (λ (n : ℕ). record { first = 0; length = n }) c.requires)
 
 pub returns-in-Ok-None-clause-answered : goal.returns-in-Ok-None-clause-answered
 returns-in-Ok-None-clause-answered g c =
-    part_failed g.D.Sectors.sectors g.D.Sectors.honest g.D.Sectors.history (asked_service c.args.self.now) (asked_service c.send.new.self) Whole _ c.unread.result tt
-    c.unread.ensures.writable c.unread.ensures.reply (rw c.in-Ok-None.field-0-is at c.in-Ok-None.ensures.begun)
+    part_failed g.D.Sectors.sectors g.D.Sectors.honest g.D.Sectors.history g.D.Sectors.faults (asked_service c.args.self.now) (asked_service c.send.new.self) Whole _ c.unread.result tt
+    c.unread.ensures.writable c.unread.ensures.reply (c.in-Ok-None.ensures.failed c.in-Ok-None.field-0-is) (rw c.in-Ok-None.field-0-is at c.in-Ok-None.ensures.begun)

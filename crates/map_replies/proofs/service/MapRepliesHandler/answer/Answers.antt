@@ -19,10 +19,10 @@ returns-in-Ok-clause-replied g c =
     let wanted = c.wanted-wanted.ensures in (
       told.0,
       told.1,
-      subst (λ (w : Wanted). AnswersWanted g.D.Sectors.sectors g.D.Sectors.honest g.D.Sectors.history w range c.args.request.now.body.now old new told.0) wanted told.2,
+      subst (λ (w : Wanted). AnswersWanted g.D.Sectors.sectors g.D.Sectors.honest g.D.Sectors.history g.D.Sectors.faults w range c.args.request.now.body.now old new told.0) wanted told.2,
       in_parts c.in-Ok.reply.content _ _ (λ sent. (
-        subst (λ (w : Wanted). SendsWanted g.D.Sectors.sectors g.D.Sectors.honest g.D.Sectors.history w range old c.respond.new.self.sending new told.0) wanted sent,
-        sent_size g.D.Sectors.sectors g.D.Sectors.honest g.D.Sectors.history _ old _ new told.0 sent.2,
+        subst (λ (w : Wanted). SendsWanted g.D.Sectors.sectors g.D.Sectors.honest g.D.Sectors.history g.D.Sectors.faults w range old c.respond.new.self.sending new told.0) wanted sent,
+        sent_size g.D.Sectors.sectors g.D.Sectors.honest g.D.Sectors.history g.D.Sectors.faults _ old _ new told.0 sent.2,
       )) told.3,
     )
 
@@ -34,5 +34,5 @@ returns-in-Err-clause-replied g c =
     let body = c.args.request.now.body.now in
     let wanted = wanted_by c.args.request.now.method.now c.args.request.now.path.now in
     whole_is _ _ c.refusal.result c.refusal.ensures.writable
-    (subst (λ (view : ReplyView). AnswersWanted g.D.Sectors.sectors g.D.Sectors.honest g.D.Sectors.history wanted range body old new view) (sym c.refusal.ensures.reply)
-    (subst (λ (w : Wanted). AnswersWanted g.D.Sectors.sectors g.D.Sectors.honest g.D.Sectors.history w range body old new (refusal_of c.in-Err.fault)) c.wanted-wanted.ensures c.in-Err.ensures.answered))
+    (subst (λ (view : ReplyView). AnswersWanted g.D.Sectors.sectors g.D.Sectors.honest g.D.Sectors.history g.D.Sectors.faults wanted range body old new view) (sym c.refusal.ensures.reply)
+    (subst (λ (w : Wanted). AnswersWanted g.D.Sectors.sectors g.D.Sectors.honest g.D.Sectors.history g.D.Sectors.faults w range body old new (refusal_of c.in-Err.fault)) c.wanted-wanted.ensures c.in-Err.ensures.answered))

@@ -3,7 +3,7 @@ use Rattle.tile_service.specs.Machine.{read}
 use Rattle.tile_service.specs.Runs.{Takes}
 use Rattle.map_replies.specs.Sending.{read_outcome}
 use Rattle.map_replies.specs.State.{asked_service}
-use Rattle.map_replies.proofs.SendingLemmas.{read_on, on_err, sends_more, sends_still}
+use Rattle.map_replies.proofs.SendingLemmas.{read_on, err_on, sends_more, sends_fails}
 use Rattle.map_replies.proofs.service.MapRepliesHandler.read_content.Goals as goal
 
 pub returns-clause-read : goal.returns-clause-read
@@ -13,13 +13,15 @@ returns-clause-read g c =
     let next = asked_service c.read_sent.new.self in
     let sending = c.args.self.now.sending in
     read_on c.read_sent.result c.read_sent.new.part
-    (λ outcome. Takes g.D.Sectors.sectors g.D.Sectors.honest g.D.Sectors.history now (read (sending.first + c.args.offset) outcome) next) _ call.read
-    (λ takes old request reply is. sends_more g.D.Sectors.sectors g.D.Sectors.honest g.D.Sectors.history _ request.range request.body (asked_service old) sending now next reply is
-    c.read_sent.new.self.sending c.args.offset _ c.read_sent.new.part call.sending call.length c.requires.within takes)
+    (λ outcome. Takes g.D.Sectors.sectors g.D.Sectors.honest g.D.Sectors.history now (read (sending.first + c.args.offset) outcome) next) _ _ call.read
+    call.unfailed
+    (λ takes unfailed old request reply is.
+    sends_more g.D.Sectors.sectors g.D.Sectors.honest g.D.Sectors.history g.D.Sectors.faults _ request.range request.body (asked_service old) sending now
+    next reply is c.read_sent.new.self.sending c.args.offset _ c.read_sent.new.part call.sending call.length c.requires.within unfailed takes)
 
 pub returns-clause-unread : goal.returns-clause-unread
 returns-clause-unread g c =
-    on_err c.read_sent.result _ (λ old request reply is.
-    sends_still g.D.Sectors.sectors g.D.Sectors.honest g.D.Sectors.history _ request.range request.body (asked_service old) c.args.self.now.sending
-    (asked_service c.args.self.now) (asked_service c.read_sent.new.self) reply is
-    _ (read_outcome c.read_sent.result c.read_sent.new.part) c.read_sent.ensures.read)
+    err_on c.read_sent.result _ _ c.read_sent.ensures.failed (λ fault failed old request reply is.
+    sends_fails g.D.Sectors.sectors g.D.Sectors.honest g.D.Sectors.history g.D.Sectors.faults _ request.range request.body (asked_service old)
+    c.args.self.now.sending (asked_service c.args.self.now) (asked_service c.read_sent.new.self) reply is
+    _ (read_outcome c.read_sent.result c.read_sent.new.part) c.read_sent.ensures.read failed)
