@@ -6,6 +6,7 @@ pub mod Callers
 pub mod Contents
 mod Earlier
 mod Edits
+pub mod Examples
 pub mod Fits
 mod Fresh
 mod Going
