@@ -4,6 +4,7 @@ mod AreaWrites
 mod Bytes
 pub mod Callers
 pub mod Contents
+mod Counted
 mod Earlier
 mod Edits
 pub mod Examples
