@@ -2,16 +2,16 @@
 use Rattle.std.specs.Prelude.{◌≡◌, ℕ, List, length, take, drop, Option}
 use Rattle.std.specs.Io.KnownBytes.{Appends}
 use Rattle.sector_disk.specs.Disk.{History}
-use Rattle.tile_service.specs.Service.{ServiceView, IsUp}
-use Rattle.tile_service.specs.Stored.{Stored}
+use Rattle.tile_service.specs.Service.{ServiceView, ShowsArchive}
 
-module _ {D : Type 0} (sectors : D → ℕ) (honest : D → Type 0) (history : D → History) where
-  -- So many bytes were written, and on an honest disk they are those of the archive from one on.
+module _ {D : Type 0} (honest : D → Type 0) (history : D → History) where
+  -- So many bytes were written, and on an honest disk they are those of the archive that the service shows, from one on. A broken
+  -- service shows it too.
   abbrev pub CopiesBytes : ServiceView D → (at count : ℕ) → ServiceView D → Option (List ℕ) → Option (List ℕ) → Type 0
   CopiesBytes old at count new held holds = (bytes : List ℕ) × (length bytes ≡ count) × Appends held holds bytes
-      × ((stored : Stored) → IsUp (sectors old.disk) (history old.disk) stored old → honest new.disk → bytes ≡ take count (drop at stored.archive))
+      × ((archive : List ℕ) → ShowsArchive (history old.disk) old archive → honest new.disk → bytes ≡ take count (drop at archive))
 
   -- As many bytes were written as the archive has, and on an honest disk they are the archive.
   abbrev pub CopiesArchive : ServiceView D → ServiceView D → Option (List ℕ) → Option (List ℕ) → Type 0
   CopiesArchive old new held holds = (bytes : List ℕ) × (length bytes ≡ old.archive_len) × Appends held holds bytes
-      × ((stored : Stored) → IsUp (sectors old.disk) (history old.disk) stored old → honest new.disk → bytes ≡ stored.archive)
+      × ((archive : List ℕ) → ShowsArchive (history old.disk) old archive → honest new.disk → bytes ≡ archive)

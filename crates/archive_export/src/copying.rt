@@ -40,7 +40,7 @@ fn copy_piece<D: Sectors + Drop, W: Write>(
     ensures faults { OnOk result (D.faults service.new.disk ≡ D.faults service.old.disk) }
     ensures failed { result ≡ Err faults.Device → HasFailed (D.faults service.old.disk) (D.faults service.new.disk) }
     ensures length { length piece.new ≡ length piece.old }
-    ensures copied { OnOk result (CopiesBytes D.sectors D.honest D.history service.old at (length piece.old) service.new
+    ensures copied { OnOk result (CopiesBytes D.honest D.history service.old at (length piece.old) service.new
         (W.contents into.old) (W.contents into.new)) }
     ensures up { (stored : Stored) → IsUp (D.sectors service.old.disk) (D.history service.old.disk) stored service.old → D.honest service.new.disk
         → IsUp (D.sectors service.new.disk) (D.history service.new.disk) stored service.new }
@@ -56,7 +56,7 @@ fn copy_piece<D: Sectors + Drop, W: Write>(
 }
 
 /// Writes the archive that was published last, and returns how many bytes it has: none where there is none. It takes no memory, writes
-/// nothing to the disk, and the service goes on as before.
+/// nothing to the disk, and the service goes on as before. A broken service writes its archive too.
 ///
 /// # Errors
 ///
@@ -66,7 +66,7 @@ pub fn copy_archive<D: Sectors + Drop, W: Write>(
     into: &mut W,
 ) -> Result<u64, CopyFault>
     ensures size { OnOk result (result ≡ Ok service.old.archive_len) }
-    ensures copied { OnOk result (CopiesArchive D.sectors D.honest D.history service.old service.new (W.contents into.old) (W.contents into.new)) }
+    ensures copied { OnOk result (CopiesArchive D.honest D.history service.old service.new (W.contents into.old) (W.contents into.new)) }
     ensures same { service.new ≡ record service.old { disk = service.new.disk } }
     ensures count { D.sectors service.new.disk ≡ D.sectors service.old.disk }
     ensures honest { D.honest service.new.disk → D.honest service.old.disk }

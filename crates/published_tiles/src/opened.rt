@@ -5,6 +5,7 @@ ghost use Rattle.pm_archive.specs.Answers.{IsOutside};
 ghost use Rattle.pm_archive.specs.Archive.{IsArchiveOf};
 ghost use Rattle.pm_archive.specs.Lookup.{IsLookupOf};
 ghost use Rattle.pm_archive.specs.Source.{Keeps};
+ghost use Rattle.sector_bytes.specs.Counts.{NeverFalls};
 ghost use Rattle.sector_bytes.specs.Source.{AreItsBytes};
 ghost use Rattle.sector_disk.specs.Disk.{seen};
 ghost use Rattle.published_tiles.specs.Opened.{OpenedView, IsOpenedOf, IsOpenedUpTo};
@@ -113,6 +114,7 @@ pub(crate) fn read_tile<D: Sectors>(
     ensures count { D.sectors disk.new ≡ D.sectors disk.old }
     ensures honest { D.honest disk.new → D.honest disk.old }
     ensures history { D.honest disk.new → D.history disk.new ≡ D.history disk.old }
+    ensures never_falls { NeverFalls (D.faults disk.old) (D.faults disk.new) }
     ensures still { (bytes : List ℕ) → D.honest disk.new → AreItsBytes archive.first archive.len bytes (seen (D.history disk.old))
         → IsOpenedOf archive bytes opened.old → IsOpenedOf archive bytes opened.new }
     ensures up_to { (last : ℕ) → IsOpenedUpTo last opened.old → archive.generation ≤ last → IsOpenedUpTo last opened.new }

@@ -5,6 +5,7 @@ ghost use Rattle.feature_store.specs.Layers.{layers};
 ghost use Rattle.feature_store.specs.Store.{FeatureMap};
 ghost use Rattle.generations.specs.Areas.{sectors_of};
 ghost use Rattle.pm_archive.specs.Answers.{IsOutside};
+ghost use Rattle.sector_bytes.specs.Counts.{NeverFalls};
 ghost use Rattle.sector_bytes.specs.Source.{AreItsBytes};
 ghost use Rattle.sector_disk.specs.Disk.{seen};
 ghost use Rattle.published_tiles.specs.declared.place.ArchivePlace.{ArchivePlace};
@@ -66,6 +67,7 @@ impl PublishedTiles {
         ensures count { D.sectors disk.new ≡ D.sectors disk.old }
         ensures honest { D.honest disk.new → D.honest disk.old }
         ensures history { D.honest disk.new → D.history disk.new ≡ D.history disk.old }
+        ensures never_falls { NeverFalls (D.faults disk.old) (D.faults disk.new) }
         ensures tile { (m : FeatureMap) (bytes : List ℕ) → D.honest disk.new
             → AreItsBytes archive.first archive.len bytes (seen (D.history disk.old)) → IsArchiveOfMap m bytes → ArePublished self.old archive m bytes
             → MatchResult result (λ content. IsTileContent (layers m at.z at.x at.y) (option_map (λ b. b.items) content)) IsOutside }

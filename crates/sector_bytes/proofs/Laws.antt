@@ -117,10 +117,10 @@ read_stands image first n whole =
 -- ---- sources whose disk is left as it was
 
 -- the bytes that a source had are those that it has
-pub still_there : {D : Type 0} (sectors : D → ℕ) (honest : D → Type 0) (history : D → History) (old new : SourceView D) (bytes : List ℕ)
-    → IsUntouched sectors honest history old new → new.len ≡ old.len → honest new.disk.now
+pub still_there : {D : Type 0} (sectors : D → ℕ) (honest : D → Type 0) (history : D → History) (faults : D → ℕ) (old new : SourceView D)
+    (bytes : List ℕ) → IsUntouched sectors honest history faults old new → new.len ≡ old.len → honest new.disk.now
     → AreItsBytes old.first old.len bytes (seen (history old.disk.now)) → AreItsBytes new.first new.len bytes (seen (history new.disk.now))
-still_there sectors honest history old new bytes same len is are = record {
+still_there sectors honest history faults old new bytes same len is are = record {
   length_is = are.length_is ∙ sym len;
   stands = subst (λ (h : History). StandsIn new.first bytes (seen h)) (sym (same.same_history is))
       (subst (λ (first : ℕ). StandsIn first bytes (seen (history old.disk.now))) (sym same.same_first) are.stands);

@@ -3,6 +3,7 @@ use Rattle.std.specs.Prelude.{◌≡◌, ℕ, List, Option, length}
 use Rattle.std.specs.Borrow.{MutBor}
 use Rattle.sector_disk.specs.Disk.{History, Image}
 use Rattle.sector_bytes.specs.Bytes.{StandsIn}
+use Rattle.sector_bytes.specs.Counts.{NeverFalls}
 
 -- Bytes in consecutive sectors, as contracts see them: the disk, the first of the sectors, how many bytes there are, and which of the
 -- sectors was read last, if any.
@@ -17,10 +18,12 @@ pub record AreItsBytes (first len : ℕ) (bytes : List ℕ) (image : Image) : Ty
   pub length_is : length bytes ≡ len
   pub stands : StandsIn first bytes image
 
--- It is the same disk, from the same sector on, and nothing was written to it.
-pub record IsUntouched {D : Type 0} (sectors : D → ℕ) (honest : D → Type 0) (history : D → History) (old new : SourceView D) : Type 0 where
+-- It is the same disk, from the same sector on, and nothing was written to it. Calls of it may have failed.
+pub record IsUntouched {D : Type 0} (sectors : D → ℕ) (honest : D → Type 0) (history : D → History) (faults : D → ℕ)
+    (old new : SourceView D) : Type 0 where
   pub same_reference : new.disk.ghost_name ≡ old.disk.ghost_name
   pub same_first : new.first ≡ old.first
   pub same_count : sectors new.disk.now ≡ sectors old.disk.now
   pub was_honest : honest new.disk.now → honest old.disk.now
   pub same_history : honest new.disk.now → history new.disk.now ≡ history old.disk.now
+  pub never_falls : NeverFalls (faults old.disk.now) (faults new.disk.now)

@@ -3,6 +3,7 @@ ghost use Rattle.std.proofs.Common.{refl, ◌∙◌};
 ghost use Rattle.std.specs.Prelude.{◌≡◌, ◌≤◌, ◌<◌, ◌+◌, ◌^◌, length, OnOk, IfSome, Some, slice_range};
 ghost use Rattle.generations.specs.Areas.{sectors_of};
 ghost use Rattle.sector_bytes.specs.Bytes.{bytes_from};
+ghost use Rattle.sector_bytes.specs.Counts.{NeverFalls};
 ghost use Rattle.sector_bytes.specs.Source.{SourceView, AreItsBytes, IsUntouched};
 ghost use Rattle.sector_disk.specs.Disk.{seen};
 ghost use Rattle.sector_disk.specs.declared.disk.TheConstants.{SECTOR_BYTES};
@@ -69,6 +70,7 @@ impl<'a, D: Sectors> SectorBytes<'a, D> {
         ensures count { D.sectors self.new.disk.now ≡ D.sectors self.old.disk.now }
         ensures honest { D.honest self.new.disk.now → D.honest self.old.disk.now }
         ensures history { D.honest self.new.disk.now → D.history self.new.disk.now ≡ D.history self.old.disk.now }
+        ensures never_falls { NeverFalls (D.faults self.old.disk.now) (D.faults self.new.disk.now) }
         ensures length { length into.new ≡ length into.old }
         ensures whole { D.honest self.new.disk.now
             → OnOk result (length (seen (D.history self.old.disk.now) (self.old.first + index)) ≡ SECTOR_BYTES) }
@@ -91,6 +93,7 @@ impl<'a, D: Sectors> SectorBytes<'a, D> {
         ensures count { D.sectors self.new.disk.now ≡ D.sectors self.old.disk.now }
         ensures honest { D.honest self.new.disk.now → D.honest self.old.disk.now }
         ensures history { D.honest self.new.disk.now → D.history self.new.disk.now ≡ D.history self.old.disk.now }
+        ensures never_falls { NeverFalls (D.faults self.old.disk.now) (D.faults self.new.disk.now) }
         ensures last { OnOk result (self.new.last ≡ Some index) }
     {
         self.last = None;
@@ -111,6 +114,7 @@ impl<'a, D: Sectors> SectorBytes<'a, D> {
         ensures count { D.sectors self.new.disk.now ≡ D.sectors self.old.disk.now }
         ensures honest { D.honest self.new.disk.now → D.honest self.old.disk.now }
         ensures history { D.honest self.new.disk.now → D.history self.new.disk.now ≡ D.history self.old.disk.now }
+        ensures never_falls { NeverFalls (D.faults self.old.disk.now) (D.faults self.new.disk.now) }
         ensures length { length into.new ≡ length into.old }
         ensures read { D.honest self.new.disk.now → OnOk result (into.new ≡ slice_range
             (bytes_from (seen (D.history self.old.disk.now)) self.old.first (sectors_of (at + length into.old))) at (at + length into.old)) }
@@ -136,7 +140,7 @@ impl<'a, D: Sectors> Bytes for SectorBytes<'a, D> {
 
     ghost fails = { λ s. Unit {0} };
 
-    ghost unchanged = { IsUntouched D.sectors D.honest D.history };
+    ghost unchanged = { IsUntouched D.sectors D.honest D.history D.faults };
 
     fn len(&self) -> u64 {
         self.len
@@ -154,6 +158,7 @@ impl<'a, D: Sectors> Bytes for SectorBytes<'a, D> {
       same_count = refl;
       was_honest = λ honest. honest;
       same_history = λ honest. refl;
+      never_falls = λ n is. is;
     } };
 
     ghost unchanged_on = { λ a b c first then. record {
@@ -162,5 +167,6 @@ impl<'a, D: Sectors> Bytes for SectorBytes<'a, D> {
       same_count = then.same_count ∙ first.same_count;
       was_honest = λ honest. first.was_honest (then.was_honest honest);
       same_history = λ honest. then.same_history honest ∙ first.same_history (then.was_honest honest);
+      never_falls = λ n is. then.never_falls n (first.never_falls n is);
     } };
 }

@@ -61,7 +61,7 @@ take_none (suc n) = refl
 no_piece : (index : ℕ) → sector_piece [] index ≡ []
 no_piece index = ap (take SECTOR_BYTES) (drop_none (SECTOR_BYTES * index)) ∙ take_none SECTOR_BYTES
 
-no_bytes : (first at : ℕ) (sector : List ℕ) → HasBytes first [] at sector
+pub no_bytes : (first at : ℕ) (sector : List ℕ) → HasBytes first [] at sector
 no_bytes first at sector index is = subst (λ (piece : List ℕ). take (length piece) sector ≡ piece) (sym (no_piece index)) refl
 
 even : 0 % 2 ≡ 0

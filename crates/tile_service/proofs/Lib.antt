@@ -4,8 +4,10 @@ mod AreaWrites
 mod Bytes
 pub mod Callers
 pub mod Contents
+mod Counted
 mod Earlier
 mod Edits
+pub mod Examples
 pub mod Fits
 mod Fresh
 mod Going

@@ -1,19 +1,21 @@
 -- What is read as a disk is opened, and what a disk that holds a state opens to.
 use Rattle.std.specs.Prelude.{Option, None, IfSome}
-use Rattle.std.proofs.Common.{◌≡◌, ◌⊎◌, inl, inr, ℕ, suc, false, ◌<◌, ◌≤◌, ◌+◌, ◌*◌, List, [], ◌∷◌, length, map}
+use Rattle.std.proofs.Common.{◌≡◌, ◌⊎◌, inl, inr, ℕ, suc, Bool, true, false, ◌<◌, ◌≤◌, ◌+◌, ◌*◌, List, [], ◌∷◌, length, map}
 use Rattle.std.proofs.Common.{Result, Ok, Err, IfErr, refl, sym, ◌∙◌, ap, subst, arith}
+use Rattle.std.proofs.lemmas.Bool.{false≢true}
 use Rattle.sector_disk.specs.Disk.{History, Image, seen, MayLeave}
 use Rattle.sector_disk.specs.Disk.History.{synced}
 use Rattle.sector_disk.specs.declared.disk.TheConstants.{SECTOR_BYTES}
 use Rattle.sector_bytes.specs.Bytes.{StandsIn}
 use Rattle.generations.specs.Areas.{IsSize, journal_sectors, area_sectors, area_start}
-use Rattle.generations.specs.Disks.{LiveRoot}
+use Rattle.generations.specs.Disks.{LiveRoot, IsFaultOf}
 use Rattle.generations.specs.Faults.{CountsDevice}
 use Rattle.generations.specs.declared.fault.StoreFault.{StoreFault}
 use Rattle.generations.specs.declared.fault.StoreFault.TheVariants.{NotFormatted, TooSmall, Damaged, Device, Memory}
 use Rattle.generations.specs.declared.fault.What.TheVariants.{Size, RootSector, Snapshot, Journal, Text}
 use Rattle.generations.specs.declared.root.Root.{Root}
 use Rattle.generations.proofs.Laws.{one_live, live_no_fault}
+use Rattle.edit_journal.specs.Appends.{start_of}
 use Rattle.edit_journal.specs.Records.{parts_of}
 use Rattle.edit_journal.specs.Recovers.{IsRecoverFault}
 use Rattle.edit_journal.specs.Ring.{places_of}
@@ -31,7 +33,8 @@ use Rattle.feature_store.specs.declared.limit.TheConstants.{TEXTS_END}
 use Rattle.feature_store.proofs.Laws.{snapshot_of_one_map}
 use Rattle.published_tiles.specs.Published.{ArePublished}
 use Rattle.published_tiles.specs.declared.place.ArchivePlace.{ArchivePlace}
-use Rattle.tile_service.specs.Opening.{IsJournalOf, HasSnapshot, IsReplayed, IsRead, IsContentFault, IsOpenFault, recovery_told_as}
+use Rattle.tile_service.specs.Opening.{IsJournalOf, HasSnapshot, IsReplayed, IsRead, IsContentFault, IsOpenFault, HasNoOpenFault, HasLiveRoot}
+use Rattle.tile_service.specs.Opening.{recovery_told_as}
 use Rattle.tile_service.specs.Replayed.{AreTextsOf, IsReplayFault, bytes_of}
 use Rattle.tile_service.specs.Service.{PublicationView, ServiceView, Publishes, IsUp, archive_of}
 use Rattle.tile_service.specs.Stored.{Stored, Holds, Keeps, root_of, texts_of, map_of, journal_start, journal_ring}
@@ -141,6 +144,49 @@ fault_after sectors n old new root fault is live (inl device) = inl device
 fault_after sectors n old new root fault is live (inr (inl memory)) = inr (inl memory)
 fault_after sectors n old new root fault is live (inr (inr content)) =
     inr (inr (inr (n, root, live, subst (λ (h : History). IsContentFault n root (seen h) fault) is content)))
+
+-- ---- want of memory
+
+abbrev is_memory : StoreFault → Bool
+is_memory Memory = true
+is_memory fault = false
+
+-- a failed call of the disk is told otherwise,
+pub device_no_memory : Device ≡ Memory → ⊥
+device_no_memory is = false≢true (ap is_memory is)
+
+-- and so is a root that isn't read
+pub root_no_memory : (sectors : ℕ) (image : Image) (fault : StoreFault) → (fault ≡ Device) ⊎ IsFaultOf sectors image fault → fault ≡ Memory → ⊥
+root_no_memory sectors image fault (inl device) memory = device_no_memory (sym device ∙ memory)
+root_no_memory sectors image fault (inr is) memory = subst (λ (f : StoreFault). IsFaultOf sectors image f) memory is
+
+-- ---- a disk that was read
+
+module _ (sectors n : ℕ) (image : Image) (root : Root) (journal : journals.Journal) (features : FeatureMap) (touched : List ℕ)
+    (is : IsRead sectors n image root journal features touched) where
+  read_journal : (texts : List (List ℕ)) → IsJournalOf n root texts image → AreTextsOf texts is.replayed.edits
+  read_journal texts there = subst (λ (ts : List (List ℕ)). AreTextsOf ts is.replayed.edits)
+      (one_journal RECORD_VERSION (journal_ring n) image (start_of root.journal_at root.edits) is.replayed.texts texts is.replayed.are_texts there)
+      is.replayed.are_edits
+
+  read_no_fault : (fault : StoreFault) → IsContentFault n root image fault → ⊥
+  read_no_fault NotFormatted bad = bad
+  read_no_fault TooSmall bad = bad
+  read_no_fault (Damaged Size) bad = bad
+  read_no_fault (Damaged RootSector) bad = bad
+  read_no_fault (Damaged Snapshot) bad = bad is.replayed.snapshot_map is.replayed.has_snapshot
+  read_no_fault (Damaged Journal) bad = bad.2 is.replayed.texts is.replayed.are_texts
+  read_no_fault (Damaged Text) bad = bad.4 is.replayed.edits (read_journal bad.2 bad.3)
+  read_no_fault Device bad = bad
+  read_no_fault Memory bad = bad
+
+  -- It has no fault for which it isn't opened.
+  pub read_sound : HasNoOpenFault sectors image
+  read_sound fault (inl bad) = live_no_fault sectors image n root fault is.live bad
+  read_sound fault (inr bad) =
+      let same = one_live sectors image n bad.0 root bad.1 is.live bad.2 in
+      read_no_fault fault (subst (λ (m : ℕ). IsContentFault m root image fault) (sym same.0)
+      (subst (λ (r : Root). IsContentFault bad.0 r image fault) (sym same.1) bad.3))
 
 -- ---- what a disk that holds a state has
 

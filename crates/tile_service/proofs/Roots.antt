@@ -3,7 +3,7 @@ use Rattle.std.proofs.Common.{◌≡◌, ◌⊎◌, inl, inr, ⊎_elim, ℕ, suc
 use Rattle.std.proofs.lemmas.Bool.{cases_eq}
 use Rattle.sector_disk.specs.Disk.{Image}
 use Rattle.generations.specs.Disks.{LiveRoot, HasRoot}
-use Rattle.generations.specs.Sectors.{root_mark, root_sector, IsRootOf, IsNoRoot, zeros}
+use Rattle.generations.specs.Sectors.{root_mark, root_sector, IsRootSector, IsRootOf, IsNoRoot, zeros}
 use Rattle.generations.specs.declared.root.Root.{Root}
 use Rattle.generations.proofs.Laws.{one_root}
 use Rattle.tile_service.specs.Stored.{Stored, Holds, HasEarlierRoot, root_of}
@@ -15,13 +15,16 @@ first_byte root = refl
 apart : ◌≡◌ {A = ℕ} 0 86 → ⊥
 apart is = omega (arith, is)
 
+-- zeros have the form of no root
+pub zeros_no_root : (sector : List ℕ) (root : Root) → IsNoRoot sector → IsRootSector sector root → ⊥
+zeros_no_root sector root none is = apart (ap (λ (s : List ℕ). slice_index s 0) (sym none ∙ is.bytes) ∙ first_byte root)
+
 -- a sector without a root has none
 pub root_or_none : (n parity : ℕ) (sector : List ℕ) (root : Root) → IsNoRoot sector → IsRootOf n parity sector root → ⊥
-root_or_none n parity sector root none is =
-    apart (ap (λ (s : List ℕ). slice_index s 0) (sym none ∙ is.stands.bytes) ∙ first_byte root)
+root_or_none n parity sector root none is = zeros_no_root sector root none is.stands
 
 -- a generation is even and the next one odd, or the other way round
-parities : (generation : ℕ) → ((generation % 2 ≡ 0) × (suc generation % 2 ≡ 1)) ⊎ ((generation % 2 ≡ 1) × (suc generation % 2 ≡ 0))
+pub parities : (generation : ℕ) → ((generation % 2 ≡ 0) × (suc generation % 2 ≡ 1)) ⊎ ((generation % 2 ≡ 1) × (suc generation % 2 ≡ 0))
 parities generation = ⊎_elim
     (λ (even : generation % 2 ≡ 0). inl (even, omega (arith, even)))
     (λ (odd : generation % 2 ≡ 0 → ⊥). inr (omega (arith, odd), omega (arith, odd)))

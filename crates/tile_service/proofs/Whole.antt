@@ -1,6 +1,6 @@
 -- A publication from its beginning to its end, step by step.
 use Rattle.std.proofs.Common.{◌≡◌, ◌⊎◌, inl, inr, ⊎_elim, ℕ, zero, suc, ◌<◌, ◌-◌, Bool, true, false}
-use Rattle.std.proofs.Common.{List, [], ◌∷◌, ◌++◌, Option, Some, None, Result, Err, refl, sym, ◌∙◌, ap, subst, arith}
+use Rattle.std.proofs.Common.{List, [], ◌∷◌, ◌++◌, Option, Some, None, Result, Ok, Err, is_ok, refl, sym, ◌∙◌, ap, subst, arith}
 use Rattle.std.specs.Prelude.{option_map}
 use Rattle.std.proofs.lemmas.Bool.{false≢true}
 use Rattle.std.proofs.lemmas.List.{map-append}
@@ -128,3 +128,25 @@ steps_on (first ∷ before) last next = ap (λ (l : List Happening). begin first
 pub steps_more : (P : List Happening → Type 0) (before : List (Result ℕ ServiceFault)) (last next : Result ℕ ServiceFault)
     → P (begin_and_steps (before ++ last ∷ []) ++ step next ∷ []) → P (begin_and_steps ((before ++ last ∷ []) ++ next ∷ []))
 steps_more P before last next holds = subst P (sym (steps_on before last next)) holds
+
+-- ---- the archive that is shown
+
+abbrev is_begin : Happening → Bool
+is_begin (begin outcome) = true
+is_begin happening = false
+
+-- a beginning is no step,
+pub begin_no_step : (outcome last : Result ℕ ServiceFault) → begin outcome ≡ step last → ⊥
+begin_no_step outcome last is = false≢true (sym (ap is_begin is))
+
+abbrev number_in : Result ℕ ServiceFault → ℕ
+number_in (Ok number) = number
+number_in (Err fault) = 0
+
+-- where something is left it isn't done,
+pub left_not_done : (told : ℕ) → (told ≡ 0 → ⊥) → ◌≡◌ {A = Result ℕ ServiceFault} (Ok told) (Ok 0) → ⊥
+left_not_done told some is = some (ap number_in is)
+
+-- nor where it is refused
+pub refused_not_done : (fault : ServiceFault) → ◌≡◌ {A = Result ℕ ServiceFault} (Err fault) (Ok 0) → ⊥
+refused_not_done fault is = false≢true (ap is_ok is)

@@ -19,6 +19,7 @@ use Rattle.feature_model.specs.Data.{ChangeData}
 use Rattle.feature_store.specs.Store.{FeatureMap, IsMap, snapshot}
 use Rattle.tile_service.specs.After.{after}
 use Rattle.tile_service.specs.Replayed.{AreTextsOf}
+use Rattle.tile_service.specs.Service.{ServiceView}
 use Rattle.tile_service.specs.Stored.{journal_ring}
 use Rattle.tile_service.specs.Tiles.{WereMaps}
 
@@ -53,6 +54,14 @@ pub record IsRead (sectors n : ℕ) (image : Image) (root : Root) (journal : jou
   pub live : LiveRoot sectors image n root
   pub replayed : IsReplayed n root image journal features touched
 
+-- The service has what such a disk has, and no more: the root that counts, and the map after its journal.
+pub record IsOpened {D : Type 0} (sectors : ℕ) (image : Image) (service : ServiceView D) : Type 0 where
+  pub root : Root
+  pub read : IsRead sectors service.size image root service.journal service.features service.touched
+  pub generation_is : service.generation ≡ root.generation
+  pub snapshot_len_is : service.snapshot_len ≡ root.snapshot_len
+  pub archive_len_is : service.archive_len ≡ root.archive_len
+
 -- What is wrong with what the root names, in the order of reading: there is no snapshot of a map; there is one, and a record of the
 -- journal isn't whole; there is one, and the journal has a text that is that of no edit.
 abbrev pub IsContentFault : (n : ℕ) → Root → Image → StoreFault → Type 0
@@ -73,6 +82,14 @@ IsContentFault n root image Memory = ⊥
 abbrev pub IsOpenFault : (sectors : ℕ) → Image → StoreFault → Type 0
 IsOpenFault sectors image fault =
     IsFaultOf sectors image fault ⊎ ((n : ℕ) × (root : Root) × LiveRoot sectors image n root × IsContentFault n root image fault)
+
+-- the disk has no such fault
+abbrev pub HasNoOpenFault : (sectors : ℕ) → Image → Type 0
+HasNoOpenFault sectors image = (fault : StoreFault) → IsOpenFault sectors image fault → ⊥
+
+-- the disk has a root that counts, so that only what the root names can be at fault
+abbrev pub HasLiveRoot : (sectors : ℕ) → Image → Type 0
+HasLiveRoot sectors image = (n : ℕ) × (root : Root) × LiveRoot sectors image n root
 
 -- what the fault of a recovery is told as
 abbrev pub recovery_told_as : JournalFault → StoreFault

@@ -1,5 +1,5 @@
 //! A service made from what a disk holds.
-ghost use Rattle.std.specs.Prelude.{◌≡◌, ◌⊎◌, ◌≤◌, ◌+◌, ◌*◌, false, ℕ, List, length, IfErr, IfOk, OnOk, MatchResult};
+ghost use Rattle.std.specs.Prelude.{◌≡◌, ◌⊎◌, ◌≤◌, ◌+◌, ◌*◌, false, ℕ, List, length, None, IfErr, IfOk, OnOk, MatchResult};
 ghost use Rattle.sector_disk.specs.Disk.{seen};
 ghost use Rattle.sector_disk.specs.Disk.History.{synced};
 ghost use Rattle.sector_disk.specs.declared.disk.TheConstants.{SECTOR_BYTES};
@@ -13,7 +13,8 @@ ghost use Rattle.edit_journal.specs.declared.sizes.TheConstants.{PART_BYTES};
 ghost use Rattle.feature_store.specs.Store.{FeatureMap, snapshot};
 ghost use Rattle.published_tiles.specs.Published.{ArePublished};
 ghost use Rattle.published_tiles.specs.declared.place.ArchivePlace.{ArchivePlace};
-ghost use Rattle.tile_service.specs.Opening.{HasSnapshot, IsReplayed, IsRead, IsContentFault, IsOpenFault, recovery_told_as};
+ghost use Rattle.tile_service.specs.Opening.{HasSnapshot, IsReplayed, IsRead, IsOpened, IsContentFault, IsOpenFault, HasNoOpenFault, HasLiveRoot};
+ghost use Rattle.tile_service.specs.Opening.{recovery_told_as};
 ghost use Rattle.tile_service.specs.Service.{IsUp};
 ghost use Rattle.tile_service.specs.Stored.{Stored, Holds, journal_ring};
 
@@ -149,6 +150,7 @@ fn load<D: Sectors>(alloc: Global, disk: &mut D) -> Result<Found, StoreFault>
     ensures published { IfOk result (λ found. (place : ArchivePlace) (m : FeatureMap) (bytes : List ℕ) → ArePublished found.published place m bytes) }
     ensures fault { D.honest disk.new
         → IfErr result (λ fault. (fault ≡ Device) ⊎ (fault ≡ Memory) ⊎ IsOpenFault (D.sectors disk.old) (seen (D.history disk.old)) fault) }
+    ensures memory { D.honest disk.new → IfErr result (λ fault. fault ≡ Memory → HasLiveRoot (D.sectors disk.old) (seen (D.history disk.old))) }
 {
     match disk.sync() {
         Ok(()) => {}
@@ -181,7 +183,7 @@ impl<D: Sectors + Drop> Service<D> {
     /// # Errors
     ///
     /// `NotFormatted`, `Damaged` of `Size`, `RootSector`, `Snapshot`, `Journal` or `Text`, the first that there is in the order of
-    /// reading; `Device` and `Memory`.
+    /// reading; `Device`; and `Memory`, which comes after the first three, since nothing is allocated before the root is read.
     pub fn open(alloc: Global, disk: D) -> Result<Service<D>, (D, StoreFault)>
         ensures count { MatchResult result (λ service. D.sectors service.disk ≡ D.sectors disk) (λ e. D.sectors e.0 ≡ D.sectors disk) }
         ensures honest { MatchResult result (λ service. D.honest service.disk → D.honest disk) (λ e. D.honest e.0 → D.honest disk) }
@@ -190,8 +192,14 @@ impl<D: Sectors + Drop> Service<D> {
         ensures faults { IfOk result (λ service. D.faults service.disk ≡ D.faults disk) }
         ensures failed { IfErr result (λ e. CountsDevice e.1 (D.faults disk) (D.faults e.0)) }
         ensures unbroken { IfOk result (λ service. service.broken ≡ false) }
+        ensures idle { IfOk result (λ service. service.publication ≡ None) }
+
+        // A disk opens to what it has, if it has no fault.
+        ensures read { IfOk result (λ service. D.honest service.disk → IsOpened (D.sectors disk) (seen (D.history disk)) service) }
+        ensures sound { IfOk result (λ service. D.honest service.disk → HasNoOpenFault (D.sectors disk) (seen (D.history disk))) }
         ensures fault { IfErr result (λ e. D.honest e.0
             → (e.1 ≡ Device) ⊎ (e.1 ≡ Memory) ⊎ IsOpenFault (D.sectors disk) (seen (D.history disk)) e.1) }
+        ensures memory { IfErr result (λ e. D.honest e.0 → e.1 ≡ Memory → HasLiveRoot (D.sectors disk) (seen (D.history disk))) }
 
         // A disk that holds a state opens to that, and only a call of the disk or an allocation can fail.
         ensures opened { (n : ℕ) (stored : Stored) → Holds (D.sectors disk) n stored (seen (D.history disk))

@@ -1,7 +1,7 @@
 //! A publication as one call.
-ghost use Rattle.std.specs.Prelude.{◌≡◌, ◌≢◌, ◌⊎◌, IfErr, OnOk, None};
+ghost use Rattle.std.specs.Prelude.{◌≡◌, ◌≢◌, ◌⊎◌, IfErr, OnOk, OnErr, None};
 ghost use Rattle.tile_service.specs.Runs.{TakesPublication};
-ghost use Rattle.tile_service.specs.Service.{CountsDevice};
+ghost use Rattle.tile_service.specs.Service.{KeepsArchive, CountsDevice};
 ghost use Rattle.tile_service.specs.declared.fault.ServiceFault.TheVariants.{Broken, Busy, Device};
 
 use crate::fault::ServiceFault;
@@ -34,6 +34,8 @@ impl<D: Sectors + Drop> Service<D> {
         ensures failed { IfErr result (λ fault. CountsDevice fault (D.faults self.old.disk) (D.faults self.new.disk)) }
         ensures idle { OnOk result (self.new.publication ≡ None) }
         ensures refused { IfErr result (λ fault. fault ≢ Device → self.new ≡ self.old) }
+        // The archive that it shows stays where it fails, after a fault of the disk too.
+        ensures archive { OnErr result (KeepsArchive D.honest D.history self.old self.new) }
         ensures given_up { IfErr result (λ fault. (fault ≡ Broken) ⊎ (fault ≡ Busy) ⊎ (self.new.publication ≡ None)) }
     {
         let edits = self.journal.last;

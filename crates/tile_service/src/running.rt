@@ -1,12 +1,15 @@
 //! Runs of events.
 ghost use Rattle.std.specs.Prelude.{◌≡◌, true, false, List, IfErr, IfOk};
+ghost use Rattle.std.specs.List.{Contains};
+ghost use Rattle.sector_bytes.specs.Counts.{HasRisen, NeverFalls};
 ghost use Rattle.sector_disk.specs.Disk.{HasFailed};
 ghost use Rattle.feature_store.specs.Store.{feature_at};
 ghost use Rattle.tile_service.specs.Events.{Tells, AreTold, IsTile, AsksTile, edit_answer, left_answer};
 ghost use Rattle.tile_service.specs.Machine.{OrMemory, Happening, look, IfTold};
 ghost use Rattle.tile_service.specs.Runs.{Takes, TakesRun};
+ghost use Rattle.tile_service.specs.declared.event.Answer.TheVariants.{Refused};
 ghost use Rattle.tile_service.specs.declared.event.Event.TheVariants as events;
-ghost use Rattle.tile_service.specs.declared.fault.ServiceFault.TheVariants.{Memory};
+ghost use Rattle.tile_service.specs.declared.fault.ServiceFault.TheVariants.{Memory, Device};
 
 use crate::event::{Answer, Event};
 use crate::fault::ServiceFault;
@@ -53,6 +56,8 @@ impl<D: Sectors + Drop> Service<D> {
     /// Answers one event.
     fn answer(&mut self, event: Event) -> Answer
         ensures takes { (happening : Happening) × Tells event result happening × Takes D.sectors D.honest D.history self.old happening self.new }
+        ensures never_falls { NeverFalls (D.faults self.old.disk) (D.faults self.new.disk) }
+        ensures device { result ≡ Refused Device → HasRisen (D.faults self.old.disk) (D.faults self.new.disk) }
         ensures faults { ¬ IsTile event → self.new.broken ≡ false → D.faults self.new.disk ≡ D.faults self.old.disk }
         ensures failed { self.old.broken ≡ false → self.new.broken ≡ true → HasFailed (D.faults self.old.disk) (D.faults self.new.disk) }
     {
@@ -83,6 +88,12 @@ impl<D: Sectors + Drop> Service<D> {
         ensures count { D.sectors self.new.disk ≡ D.sectors self.old.disk }
         ensures honest { D.honest self.new.disk → D.honest self.old.disk }
         ensures untouched { self.old.broken ≡ true → self.new.disk ≡ self.old.disk }
+
+        // `Device` is answered, and the service breaks, only where a call of the disk failed.
+        ensures never_falls { NeverFalls (D.faults self.old.disk) (D.faults self.new.disk) }
+        ensures device { IfOk result (λ answers.
+            Contains answers.items (Refused Device) → HasRisen (D.faults self.old.disk) (D.faults self.new.disk)) }
+        ensures broke { self.old.broken ≡ false → self.new.broken ≡ true → HasRisen (D.faults self.old.disk) (D.faults self.new.disk) }
 
         // A tile may meet a read that fails, and is cut then. A run without tiles has no call of the disk fail unless it breaks the service.
         ensures faults { ¬ AsksTile events.items → self.new.broken ≡ false → D.faults self.new.disk ≡ D.faults self.old.disk }

@@ -6,6 +6,7 @@ ghost use Rattle.feature_store.specs.Layers.{layers};
 ghost use Rattle.feature_store.specs.Store.{feature_at};
 ghost use Rattle.map_metadata.specs.Metadata.{IsMetadata};
 ghost use Rattle.pm_archive.specs.Answers.{IsOutside};
+ghost use Rattle.sector_bytes.specs.Counts.{NeverFalls};
 ghost use Rattle.serde_json.specs.View.{view};
 ghost use Rattle.tile_service.specs.Machine.{tile, Happens};
 ghost use Rattle.tile_service.specs.Runs.{IsTrusted};
@@ -41,6 +42,7 @@ impl<D: Sectors + Drop> Service<D> {
         ensures count { D.sectors self.new.disk ≡ D.sectors self.old.disk }
         ensures honest { D.honest self.new.disk → D.honest self.old.disk }
         ensures history { D.honest self.new.disk → D.history self.new.disk ≡ D.history self.old.disk }
+        ensures never_falls { NeverFalls (D.faults self.old.disk) (D.faults self.new.disk) }
         ensures tile { (stored : Stored) → IsUp (D.sectors self.old.disk) (D.history self.old.disk) stored self.old → D.honest self.new.disk
             → MatchResult result (λ content. IsTileContent (layers stored.snapshot_map at.z at.x at.y) (option_map (λ b. b.items) content)) IsOutside }
         ensures up { (stored : Stored) → IsUp (D.sectors self.old.disk) (D.history self.old.disk) stored self.old → D.honest self.new.disk
@@ -57,6 +59,7 @@ impl<D: Sectors + Drop> Service<D> {
         ensures count { D.sectors self.new.disk ≡ D.sectors self.old.disk }
         ensures honest { D.honest self.new.disk → D.honest self.old.disk }
         ensures history { D.honest self.new.disk → D.history self.new.disk ≡ D.history self.old.disk }
+        ensures never_falls { NeverFalls (D.faults self.old.disk) (D.faults self.new.disk) }
         ensures untouched { self.old.broken ≡ true → self.new.disk ≡ self.old.disk }
         ensures unbroken { IfSome result (λ content. self.old.broken ≡ false) }
         ensures tile { (stored : Stored) → IsUp (D.sectors self.old.disk) (D.history self.old.disk) stored self.old → D.honest self.new.disk
@@ -88,6 +91,7 @@ impl<D: Sectors + Drop> Service<D> {
         ensures count { D.sectors self.new.disk ≡ D.sectors self.old.disk }
         ensures honest { D.honest self.new.disk → D.honest self.old.disk }
         ensures history { D.honest self.new.disk → D.history self.new.disk ≡ D.history self.old.disk }
+        ensures never_falls { NeverFalls (D.faults self.old.disk) (D.faults self.new.disk) }
         ensures untouched { self.old.broken ≡ true → self.new.disk ≡ self.old.disk }
         ensures up { (stored : Stored) → IsUp (D.sectors self.old.disk) (D.history self.old.disk) stored self.old → D.honest self.new.disk
             → IsUp (D.sectors self.new.disk) (D.history self.new.disk) stored self.new }

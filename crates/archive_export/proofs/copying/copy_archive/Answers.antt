@@ -1,6 +1,6 @@
 use Rattle.std.proofs.Common.{◌≤◌, length, drop, arith, rules, ◌∙◌, length-append, length-drop}
 use Rattle.std.proofs.lemmas.List.{length-take-le}
-use Rattle.archive_export.proofs.Joined.{copies_more}
+use Rattle.archive_export.proofs.Joined.{copies_more, copies_all}
 use Rattle.archive_export.proofs.copying.copy_archive.Goals as goal
 
 pub loop-at-preserved : goal.loop-at-preserved
@@ -20,7 +20,13 @@ loop-at-preserved g c =
       honest = λ honest. inv.honest (ok.honest honest);
       history = λ honest. ok.history honest ∙ inv.history (ok.honest honest);
       faults = ok.faults ∙ inv.faults;
-      copied = copies_more g.D.Sectors.sectors g.D.Sectors.honest g.D.Sectors.history c.args.service.now c.loop-at.service c.copy_piece.new.service
-          _ _ _ c.loop-at.at count _ long ok.honest inv.up inv.copied ok.copied;
+      copied = copies_more g.D.Sectors.honest g.D.Sectors.history c.args.service.now c.loop-at.service c.copy_piece.new.service
+          _ _ _ c.loop-at.at count _ long ok.honest inv.same inv.history inv.copied ok.copied;
       up = λ stored was honest. ok.up stored (inv.up stored was (ok.honest honest)) honest;
     }
+
+pub returns-clause-copied : goal.returns-clause-copied
+returns-clause-copied g c =
+    let inv = c.loop-at.invariant in
+    copies_all g.D.Sectors.honest g.D.Sectors.history c.args.service.now c.loop-at.service _ _ c.loop-at.at
+    (omega (arith, inv.within, c.loop-at-test.false, c.archive_len-size.ensures)) inv.copied

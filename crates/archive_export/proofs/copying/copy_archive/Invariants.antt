@@ -13,7 +13,7 @@ invariant-loop-at g l = record {
   honest : g.D.Sectors.honest l.service.disk → g.D.Sectors.honest l.fn.service.disk;
   history : g.D.Sectors.honest l.service.disk → g.D.Sectors.history l.service.disk ≡ g.D.Sectors.history l.fn.service.disk;
   faults : g.D.Sectors.faults l.service.disk ≡ g.D.Sectors.faults l.fn.service.disk;
-  copied : CopiesBytes g.D.Sectors.sectors g.D.Sectors.honest g.D.Sectors.history l.fn.service 0 l.at l.service
+  copied : CopiesBytes g.D.Sectors.honest g.D.Sectors.history l.fn.service 0 l.at l.service
       (g.W.Write.contents l.fn.into) (g.W.Write.contents l.into);
   up : (stored : Stored) → IsUp (g.D.Sectors.sectors l.fn.service.disk) (g.D.Sectors.history l.fn.service.disk) stored l.fn.service
       → g.D.Sectors.honest l.service.disk → IsUp (g.D.Sectors.sectors l.service.disk) (g.D.Sectors.history l.service.disk) stored l.service;

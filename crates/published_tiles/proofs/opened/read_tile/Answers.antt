@@ -1,4 +1,5 @@
-use Rattle.std.proofs.Common.{rules}
+use Rattle.std.proofs.Common.{ℕ, rules, sym, subst}
+use Rattle.sector_bytes.specs.Counts.{HasReached}
 use Rattle.sector_bytes.proofs.Laws.{still_there}
 use Rattle.published_tiles.proofs.PublishedLaws.{made}
 use Rattle.published_tiles.proofs.opened.read_tile.Goals as goal
@@ -11,5 +12,14 @@ returns-clause-content g c bytes content honest are opened archive =
     let truthful : g.D.Sectors.honest last.disk.now = search (rules, honest) in
     let had = made g.D.Sectors.history source c.args.disk.now c.args.archive.first c.args.archive.len bytes c.new-source.ensures.disk
     c.new-source.ensures.first c.new-source.ensures.len are in
-    let has = still_there g.D.Sectors.sectors g.D.Sectors.honest g.D.Sectors.history source last bytes keeps.same_behind keeps.same_count truthful had in
+    let has = still_there g.D.Sectors.sectors g.D.Sectors.honest g.D.Sectors.history g.D.Sectors.faults source last bytes
+    keeps.same_behind keeps.same_count truthful had in
     c.look_up-content.ensures.content bytes content (truthful, has) opened archive
+
+pub returns-clause-never_falls : goal.returns-clause-never_falls
+returns-clause-never_falls g c n is =
+    let last = c.look_up-content.new.source in
+    let before : HasReached n (g.D.Sectors.faults c.new-source.result.disk.now) =
+    subst (λ (d : _). HasReached n (g.D.Sectors.faults d)) (sym c.new-source.ensures.disk) is in
+    let after : HasReached n (g.D.Sectors.faults last.disk.now) = c.look_up-content.ensures.source.same_behind.never_falls n before in
+    subst (λ (k : ℕ). HasReached n k) (search rules) after

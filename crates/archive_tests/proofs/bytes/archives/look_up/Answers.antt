@@ -26,7 +26,7 @@ returns-in-Err-clause-content g c bytes h tiles honest len stands has lists =
     c.new.ensures.len len stands in
     c.in-Err.ensures.only bytes h lists.0 has lists.1 (
       truthful,
-      still_there g.D.Sectors.sectors g.D.Sectors.honest g.D.Sectors.history c.new.result
+      still_there g.D.Sectors.sectors g.D.Sectors.honest g.D.Sectors.history g.D.Sectors.faults c.new.result
           c.in-Err.source bytes keeps.same_behind keeps.same_count truthful are,
     )
 
@@ -40,10 +40,10 @@ returns-clause-content g c bytes h tiles honest len stands has lists =
     let are = made g.D.Sectors.history c.new.result c.args.disk.now c.args.first c.args.len bytes c.new.ensures.disk c.new.ensures.first
     c.new.ensures.len len stands in
     let truthful_first : g.D.Sectors.honest opened.disk.now = after.same_behind.was_honest truthful in
-    let are_first = still_there g.D.Sectors.sectors g.D.Sectors.honest g.D.Sectors.history c.new.result opened bytes before.same_behind before.same_count
-    truthful_first are in
-    let are_last = still_there g.D.Sectors.sectors g.D.Sectors.honest g.D.Sectors.history opened last bytes after.same_behind after.same_count
-    truthful are_first in
+    let are_first = still_there g.D.Sectors.sectors g.D.Sectors.honest g.D.Sectors.history g.D.Sectors.faults c.new.result opened bytes
+    before.same_behind before.same_count truthful_first are in
+    let are_last = still_there g.D.Sectors.sectors g.D.Sectors.honest g.D.Sectors.history g.D.Sectors.faults opened last bytes
+    after.same_behind after.same_count truthful are_first in
     let alike = c.in-Ok.ensures.only bytes h lists.0 has lists.1 (truthful_first, are_first) in
     subst (λ (of : _). MatchResult c.tile-content.result (λ content. option_map (λ v. v.items) content ≡ content_of bytes of tiles c.args.id) IsOutside)
     alike.0

@@ -33,6 +33,7 @@ loop-done-preserved g c =
       count = ok.count ∙ inv.count;
       honest = λ honest. inv.honest (ok.honest honest);
       history = λ honest. ok.history honest ∙ inv.history (ok.honest honest);
+      never_falls = λ n is. ok.never_falls n (inv.never_falls n is);
       length_is = put_length done part _ c.loop-done.into c.read_part.new.into within_now (omega arith) long ∙ inv.length_is;
       done = within;
       read = λ honest.
@@ -46,3 +47,6 @@ loop-done-preserved g c =
           ∙ ap (λ (h : History). slice_range (seen h (first + index)) offset (offset + size)) was)
           (inv.read (ok.honest honest));
     }
+
+pub returns-in_err-read_part-clause-never_falls : goal.returns-in_err-read_part-clause-never_falls
+returns-in_err-read_part-clause-never_falls g c n is = c.in_err-read_part.ensures.never_falls n (c.loop-done.invariant.never_falls n is)

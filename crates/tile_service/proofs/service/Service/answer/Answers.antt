@@ -1,9 +1,12 @@
 use Rattle.std.proofs.Common.{◌∙◌, Ok, Err, option_map, refl, sym, ap, subst}
 use Rattle.std.proofs.lemmas.Bool.{false≢true}
 use Rattle.feature_model.specs.Data.{put, delete, feature_data}
+use Rattle.sector_bytes.proofs.Counts.{same_count}
 use Rattle.tile_service.specs.Events.{IsTile}
 use Rattle.tile_service.specs.Machine.{got, no_memory, edit, begin, step, cancel, tile, look}
 use Rattle.tile_service.proofs.Callers.{edit_step, tile_step, look_step, begin_step, step_step, cancel_step}
+use Rattle.tile_service.proofs.Counted.{other_answer, memory_told, outcome_counts, edit_risen, left_risen}
+use Rattle.tile_service.proofs.Counted.{begin_no_device, cancel_no_device, look_no_device}
 use Rattle.tile_service.proofs.Runs.{no_known, edit_faults, edit_fails, step_faults, step_fails}
 use Rattle.tile_service.proofs.Tellings.{told_step, put_told, delete_told, begin_told, step_told}
 use Rattle.tile_service.proofs.service.Service.answer.Goals as goal
@@ -143,3 +146,55 @@ returns-in-Step-clause-faults g c none =
 pub returns-in-Step-clause-failed : goal.returns-in-Step-clause-failed
 returns-in-Step-clause-failed g c =
     step_fails _ _ c.publish_step.result _ _ (c.publish_step.ensures.machine no_known) c.publish_step.ensures.failed
+
+-- ---- how the count of faults goes on
+
+pub returns-in-Put-clause-never_falls : goal.returns-in-Put-clause-never_falls
+returns-in-Put-clause-never_falls g c = outcome_counts c.put.result _ _ c.put.ensures.faults c.put.ensures.failed
+
+pub returns-in-Put-clause-device : goal.returns-in-Put-clause-device
+returns-in-Put-clause-device g c is = edit_risen c.put.result _ _ c.put.ensures.failed (sym c.edited.ensures ∙ is)
+
+pub returns-in-Delete-clause-never_falls : goal.returns-in-Delete-clause-never_falls
+returns-in-Delete-clause-never_falls g c = outcome_counts c.delete.result _ _ c.delete.ensures.faults c.delete.ensures.failed
+
+pub returns-in-Delete-clause-device : goal.returns-in-Delete-clause-device
+returns-in-Delete-clause-device g c is = edit_risen c.delete.result _ _ c.delete.ensures.failed (sym c.edited-in-Delete.ensures ∙ is)
+
+pub returns-in-Ok-clause-device : goal.returns-in-Ok-clause-device
+returns-in-Ok-clause-device g c is = absurd (other_answer _ refl is)
+
+pub returns-in-Err-clause-device : goal.returns-in-Err-clause-device
+returns-in-Err-clause-device g c is = absurd (memory_told c.in-Err.fault c.in-Err.ensures.fault is)
+
+pub returns-in-Look-clause-never_falls : goal.returns-in-Look-clause-never_falls
+returns-in-Look-clause-never_falls g c = same_count _ _ refl
+
+pub returns-in-Look-clause-device : goal.returns-in-Look-clause-device
+returns-in-Look-clause-device g c is = absurd (look_no_device c.in-Look.id _ _ c.look.ensures.1 is)
+
+pub returns-in-Begin-clause-never_falls : goal.returns-in-Begin-clause-never_falls
+returns-in-Begin-clause-never_falls g c = same_count _ _ (ap (λ s. g.D.Sectors.faults s.disk) c.publish_begin.ensures.same)
+
+pub returns-in-Begin-clause-device : goal.returns-in-Begin-clause-device
+returns-in-Begin-clause-device g c is =
+    absurd (begin_no_device _ _ c.publish_begin.result (c.publish_begin.ensures.machine no_known) (sym c.left.ensures ∙ is))
+
+pub returns-in-Ok-publish_cancel-clause-never_falls : goal.returns-in-Ok-publish_cancel-clause-never_falls
+returns-in-Ok-publish_cancel-clause-never_falls g c = same_count _ _ (ap (λ s. g.D.Sectors.faults s.disk) c.publish_cancel.ensures.same)
+
+pub returns-in-Ok-publish_cancel-clause-device : goal.returns-in-Ok-publish_cancel-clause-device
+returns-in-Ok-publish_cancel-clause-device g c is = absurd (other_answer _ refl is)
+
+pub returns-in-Err-publish_cancel-clause-never_falls : goal.returns-in-Err-publish_cancel-clause-never_falls
+returns-in-Err-publish_cancel-clause-never_falls g c = same_count _ _ (ap (λ s. g.D.Sectors.faults s.disk) c.publish_cancel.ensures.same)
+
+pub returns-in-Err-publish_cancel-clause-device : goal.returns-in-Err-publish_cancel-clause-device
+returns-in-Err-publish_cancel-clause-device g c is =
+    absurd (cancel_no_device _ _ c.in-Err-publish_cancel.fault (c.in-Err-publish_cancel.ensures.machine no_known) is)
+
+pub returns-in-Step-clause-never_falls : goal.returns-in-Step-clause-never_falls
+returns-in-Step-clause-never_falls g c = outcome_counts c.publish_step.result _ _ c.publish_step.ensures.faults c.publish_step.ensures.failed
+
+pub returns-in-Step-clause-device : goal.returns-in-Step-clause-device
+returns-in-Step-clause-device g c is = left_risen c.publish_step.result _ _ c.publish_step.ensures.failed (sym c.left-in-Step.ensures ∙ is)

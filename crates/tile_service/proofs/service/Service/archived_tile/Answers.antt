@@ -32,3 +32,6 @@ returns-clause-up g c = rw (← c.self.view_is) (λ stored up honest.
     is_map
     (subst (λ (p : ArchivePlace). ArePublished c.self.inside.published p stored.snapshot_map stored.archive) (sym place)
     up.archived))))
+
+pub returns-clause-never_falls : goal.returns-clause-never_falls
+returns-clause-never_falls g c = rw (← c.self.view_is) c.tile.ensures.never_falls

@@ -1,6 +1,6 @@
 use Rattle.std.proofs.Common.{None, false, refl}
 use Rattle.sector_disk.specs.Disk.{seen}
-use Rattle.tile_service.proofs.Opens.{opens, no_other_fault}
+use Rattle.tile_service.proofs.Opens.{opens, no_other_fault, read_sound}
 use Rattle.tile_service.proofs.service.Service.open.Goals as goal
 
 pub returns-in-Ok-clause-opened : goal.returns-in-Ok-clause-opened
@@ -27,3 +27,17 @@ pub returns-in-Err-clause-refused : goal.returns-in-Err-clause-refused
 returns-in-Err-clause-refused g c n stored holds honest =
     no_other_fault (g.D.Sectors.sectors c.args.disk) n stored (seen (g.D.Sectors.history c.args.disk)) c.in-Err.fault holds
     (c.in-Err.ensures.fault honest)
+
+pub returns-in-Ok-clause-read : goal.returns-in-Ok-clause-read
+returns-in-Ok-clause-read g c honest = record {
+  root = c.in-Ok.found.root;
+  read = c.in-Ok.ensures.found honest;
+  generation_is = refl;
+  snapshot_len_is = refl;
+  archive_len_is = refl;
+}
+
+pub returns-in-Ok-clause-sound : goal.returns-in-Ok-clause-sound
+returns-in-Ok-clause-sound g c honest =
+    read_sound (g.D.Sectors.sectors c.args.disk) c.in-Ok.found.layout.sectors (seen (g.D.Sectors.history c.args.disk)) c.in-Ok.found.root
+    c.in-Ok.found.journal c.in-Ok.found.map.features c.in-Ok.found.map.touched (c.in-Ok.ensures.found honest)

@@ -5,7 +5,9 @@ use Rattle.tile_service.specs.declared.fault.ServiceFault.{ServiceFault}
 use Rattle.tile_service.specs.Service.{state_of, known_after, CountsDevice}
 use Rattle.tile_service.proofs.Callers.{HasRun, begin_step, step_step, run_begins, run_on, events_on, takes_run}
 use Rattle.tile_service.proofs.Runs.{no_known}
+use Rattle.tile_service.proofs.Shown.{keeps_on}
 use Rattle.tile_service.proofs.Whole.{Stands, begun_stands, on_stands, falls, only_device, device_gives_up, begin_counts, none_seen, begin_given_up, steps_more}
+use Rattle.tile_service.proofs.Whole.{begin_no_step, left_not_done, refused_not_done}
 use Rattle.tile_service.proofs.service.Service.publish.Goals as goal
 
 pub loop-rest-init : goal.loop-rest-init
@@ -22,6 +24,7 @@ loop-rest-init g c =
       );
       edits = ap (λ s. s.journal.last) c.self.view_is;
       faults = ap (λ s. g.D.Sectors.faults s.disk) call.same;
+      archive = λ some. goes.keeps_archive (begin_no_step _ _);
       run = ([], run, (new, goes, refl));
     }
 
@@ -52,6 +55,9 @@ loop-rest-preserved g c =
       );
       edits = inv.edits;
       faults = call.faults ∙ inv.faults;
+      archive = λ some. keeps_on g.D.Sectors.honest g.D.Sectors.history c.args.self.now old new
+          (inv.archive (λ none. omega (arith, c.loop-rest-test.true, none))) call.honest
+          (call.archive (left_not_done c.in-Ok-publish_step.told some));
       run = (inv.run.0 ++ Ok rest ∷ [], run, taken);
     }
 
@@ -101,6 +107,13 @@ returns-in-Err-clause-refused g c not =
 pub returns-in-Err-clause-given_up : goal.returns-in-Err-clause-given_up
 returns-in-Err-clause-given_up g c =
     begin_given_up no_known _ _ _ c.in-Err.fault (c.in-Err.ensures.machine no_known) c.in-Err.ensures.refused
+
+pub returns-in-Err-clause-archive : goal.returns-in-Err-clause-archive
+returns-in-Err-clause-archive g c =
+    let call = c.in-Err.ensures in
+    let goes = begin_step g.D.Sectors.sectors g.D.Sectors.honest g.D.Sectors.history c.args.self.now c.publish_begin.new.self (Err c.in-Err.fault)
+    call.machine call.same call.up in
+    goes.keeps_archive (begin_no_step _ _)
 
 pub returns-in-Err-publish_step-clause-run : goal.returns-in-Err-publish_step-clause-run
 returns-in-Err-publish_step-clause-run g c =
@@ -162,6 +175,12 @@ returns-in-Err-publish_step-clause-given_up g c =
     (omega (arith, c.loop-rest-test.true)) inv.stands.1 moved in
     inr (inr (none_seen known.publishing c.publish_step.new.self.publication
     (device_gives_up (state_of known c.loop-rest.self) (state_of known c.publish_step.new.self) c.in-Err-publish_step.fault is moved)))
+
+pub returns-in-Err-publish_step-clause-archive : goal.returns-in-Err-publish_step-clause-archive
+returns-in-Err-publish_step-clause-archive g c =
+    keeps_on g.D.Sectors.honest g.D.Sectors.history c.args.self.now c.loop-rest.self c.publish_step.new.self
+    (c.loop-rest.invariant.archive (λ none. omega (arith, c.loop-rest-test.true, none))) c.in-Err-publish_step.ensures.honest
+    (c.in-Err-publish_step.ensures.archive (refused_not_done c.in-Err-publish_step.fault))
 
 pub returns-clause-run : goal.returns-clause-run
 returns-clause-run g c =

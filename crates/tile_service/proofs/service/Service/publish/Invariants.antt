@@ -1,7 +1,7 @@
 use Rattle.std.proofs.Common.{◌≡◌, ℕ, List, [], ◌∷◌, ◌++◌, Result, Ok}
 use Rattle.tile_service.specs.Runs.{begin_and_steps, TakesAll}
 use Rattle.tile_service.specs.declared.fault.ServiceFault.{ServiceFault}
-use Rattle.tile_service.specs.Service.{Known, state_of}
+use Rattle.tile_service.specs.Service.{Known, state_of, KeepsArchive}
 use Rattle.tile_service.proofs.Callers.{HasRun}
 use Rattle.tile_service.proofs.Whole.{Stands}
 use Rattle.tile_service.proofs.service.Service.publish.Given as goal
@@ -11,6 +11,7 @@ invariant-loop-rest g l = record {
   stands : (known : Known) × Stands (state_of known l.self) l.rest;
   edits : l.edits ≡ l.fn.self.journal.last;
   faults : g.D.Sectors.faults l.self.disk ≡ g.D.Sectors.faults l.fn.self.disk;
+  archive : (l.rest ≡ 0 → ⊥) → KeepsArchive g.D.Sectors.honest g.D.Sectors.history l.fn.self l.self;
   run : (before : List (Result ℕ ServiceFault)) × HasRun g.D.Sectors.sectors g.D.Sectors.honest g.D.Sectors.history l.fn.self
       (begin_and_steps (before ++ Ok l.rest ∷ [])) l.self
       × TakesAll g.D.Sectors.sectors g.D.Sectors.honest g.D.Sectors.history l.fn.self (begin_and_steps (before ++ Ok l.rest ∷ [])) l.self;

@@ -1,11 +1,16 @@
-use Rattle.std.proofs.Common.{◌≡◌, ⊎_elim, ℕ, ◌+◌, List, [], ◌∷◌, ◌++◌, length, true, false, is_ok, if◌then◌else◌, refl, sym, ◌∙◌, ap, subst}
+use Rattle.std.proofs.Common.{◌≡◌, ⊎_elim, ℕ, ◌<◌, ◌+◌, List, [], ◌∷◌, ◌++◌, length, true, false, is_ok, if◌then◌else◌, refl, sym, ◌∙◌, ap, subst}
 use Rattle.std.proofs.Common.{arith, append_assoc, length-append}
 use Rattle.std.proofs.lemmas.Bool.{false≢true}
 use Rattle.std.proofs.lemmas.List.{append-nil}
+use Rattle.std.proofs.lemmas.List.Elements.{Contains-push_cases}
+use Rattle.std.specs.List.{Contains}
 use Rattle.std.specs.Vec.{vec_len}
 use Rattle.std.specs.Vec.Iter.{into_iter_items}
+use Rattle.sector_bytes.proofs.Counts.{same_count, failed_risen, risen_on, then_risen}
 use Rattle.sector_disk.specs.Disk.{HasFailed}
 use Rattle.tile_service.specs.Events.{AreTold}
+use Rattle.tile_service.specs.declared.event.Answer.TheVariants.{Refused}
+use Rattle.tile_service.specs.declared.fault.ServiceFault.TheVariants.{Device}
 use Rattle.tile_service.proofs.Callers.{run_begins, run_on, takes_run, was_before, broken_on}
 use Rattle.tile_service.proofs.Runs.{true_or_false}
 use Rattle.tile_service.proofs.Tellings.{told_no_read, told_on, asks_before, asks_last}
@@ -19,6 +24,9 @@ loop-event-init g c = let none = c.in-Ok.ensures.items in record {
   left = search;
   capacity = let counted : vec_len c.args.events ≡ length c.args.events.items = search in omega (arith, c.in-Ok.ensures.capacity, c.len.ensures, counted);
   len = c.in-Ok.ensures.len;
+  never_falls = same_count _ _ refl;
+  device = λ told. absurd (omega (arith, told.1, ap length none));
+  broke = λ unbroken broken. absurd (false≢true (sym unbroken ∙ broken));
   faults = λ none unbroken. refl;
   failed = λ none unbroken broken. absurd (false≢true (sym unbroken ∙ broken));
   untouched = λ broken. (broken, refl);
@@ -50,6 +58,15 @@ loop-event-preserved g c =
       capacity = omega (arith, inv.capacity, c.push.ensures.capacity);
       len = c.push.ensures.len ∙ ap (λ r. if is_ok r then vec_len c.loop-event.answers + 1 else vec_len c.loop-event.answers) c.unwrap.ensures
           ∙ ap (λ (n : ℕ). n + 1) inv.len ∙ sym (length-append yielded (event ∷ []));
+      never_falls = λ n is. call.never_falls n (inv.never_falls n is);
+      device = λ told. ⊎_elim
+          (λ (was : Contains given (Refused Device)). risen_on _ _ _ (inv.device was) call.never_falls)
+          (λ (now : answer ≡ Refused Device). then_risen _ _ _ inv.never_falls (call.device now))
+          (Contains-push_cases given answer (Refused Device) (subst (λ l. Contains l (Refused Device)) pushed told));
+      broke = λ unbroken broken. ⊎_elim
+          (λ (was : c.loop-event.self.broken ≡ true). risen_on _ _ _ (inv.broke unbroken was) call.never_falls)
+          (λ (not : c.loop-event.self.broken ≡ false). then_risen _ _ _ inv.never_falls (failed_risen _ _ (call.failed not broken)))
+          (true_or_false c.loop-event.self.broken);
       faults = λ none unbroken. call.faults (λ asks. none (asks_last yielded event asks)) unbroken
           ∙ inv.faults (λ asks. none (asks_before yielded event asks)) (before unbroken).0;
       failed = λ none unbroken broken. ⊎_elim

@@ -1,0 +1,203 @@
+-- Images that hold the empty map, and images that hold nothing: a disk that was just formatted, with one sector changed.
+use Rattle.std.proofs.Common.{◌≡◌, ◌⊎◌, inl, inr, ⊎_elim, ℕ, suc, ◌<◌, ◌≤◌, ◌+◌, ◌^◌, ◌%◌, ◌∙◌, List, [], ◌∷◌, length}
+use Rattle.std.proofs.Common.{refl, sym, ap, subst, arith, lit<, lit≤}
+use Rattle.std.proofs.lemmas.Bool.{cases_eq}
+use Rattle.std.proofs.lemmas.Nat.{mod_below}
+use Rattle.sector_disk.specs.Disk.{Image, seen}
+use Rattle.sector_disk.specs.Disk.History.{begun, wrote}
+use Rattle.sector_disk.proofs.History.{seen_same, seen_other}
+use Rattle.generations.specs.Areas.{IsSize, journal_sectors, area_start}
+use Rattle.generations.specs.Disks.{HasRoot, LiveRoot, first_root}
+use Rattle.generations.specs.Sectors.{root_sector, zeros, AreNumbers, IsFormat, IsNoRoot, IsRootOf, IsRootSector}
+use Rattle.generations.specs.declared.root.Root.{Root}
+use Rattle.generations.proofs.Laws.{fresh_image, fresh_live, one_live, one_root, some_fresh}
+use Rattle.edit_journal.specs.Appends.{start_of}
+use Rattle.edit_journal.specs.Records.{parts_of, record_sector, IsHeadOf}
+use Rattle.edit_journal.specs.Ring.{Start, sector_at, IsInRing, HoldsTexts}
+use Rattle.edit_journal.specs.declared.sizes.TheConstants.{RECORD_VERSION}
+use Rattle.edit_journal.proofs.Laws.{written_is_part, first_is_head, first_stands, one_number, zeros_no_head}
+use Rattle.tile_service.specs.Stored.{Stored, Holds, HoldsAt, HasBytes, HasEarlierRoot, first_state, root_of, texts_of, journal_ring, journal_start}
+use Rattle.tile_service.proofs.Fresh.{fresh_holds, no_bytes, no_text}
+use Rattle.tile_service.proofs.Laws.{one_state}
+use Rattle.tile_service.proofs.Roots.{lives, parities, zeros_no_root}
+
+-- A disk that was just formatted holds the empty map.
+pub formatted_holds : Holds 64 64 first_state (fresh_image 64)
+formatted_holds = fresh_holds 64 64 (fresh_image 64) (lit≤ tt, lit≤ tt) (lit≤ tt) (some_fresh 64)
+
+-- the same with other bytes in one sector
+abbrev pub with_sector : (n at : ℕ) → List ℕ → Image
+with_sector n at sector = seen (wrote at sector (begun (fresh_image n)))
+
+-- ---- a sector of the journal
+
+module _ (count n : ℕ) (size : IsSize n) (within : n ≤ count) (at : ℕ) (inside : IsInRing (journal_ring n) at) (sector : List ℕ) where
+  abbrev image : Image
+  image = with_sector n at sector
+
+  here : image at ≡ sector
+  here = seen_same at sector (begun (fresh_image n)) at refl
+
+  elsewhere : (place : ℕ) → (place ≡ at → ⊥) → image place ≡ fresh_image n place
+  elsewhere place apart = seen_other at sector (begun (fresh_image n)) place apart
+
+  before : (place : ℕ) → place < 3 → image place ≡ fresh_image n place
+  before place low = elsewhere place (λ is. omega (arith, low, is, inside.0))
+
+  -- its other sectors are empty
+  empty : (place : ℕ) → IsInRing (journal_ring n) place → (place ≡ at → ⊥) → image place ≡ zeros
+  empty place is apart = elsewhere place apart ∙ (some_fresh n).empty place (omega (arith, is.0)) is.1
+
+  first : LiveRoot count (fresh_image n) n first_root
+  first = fresh_live count n (fresh_image n) size within (some_fresh n)
+
+  there : (root : Root) → HasRoot n (fresh_image n) root → HasRoot n image root
+  there root (inl is) = inl (subst (λ (s : List ℕ). IsRootOf n 0 s root) (sym (before 1 (lit< tt))) is)
+  there root (inr is) = inr (subst (λ (s : List ℕ). IsRootOf n 1 s root) (sym (before 2 (lit< tt))) is)
+
+  back : (root : Root) → HasRoot n image root → HasRoot n (fresh_image n) root
+  back root (inl is) = inl (subst (λ (s : List ℕ). IsRootOf n 0 s root) (before 1 (lit< tt)) is)
+  back root (inr is) = inr (subst (λ (s : List ℕ). IsRootOf n 1 s root) (before 2 (lit< tt)) is)
+
+  -- the first root counts
+  live : LiveRoot count image n first_root
+  live = record {
+    format = subst (λ (s : List ℕ). IsFormat count s n) (sym (before 0 (lit< tt))) first.format;
+    even = subst (λ (s : List ℕ). IsNoRoot s ⊎ ((root : Root) × IsRootOf n 0 s root)) (sym (before 1 (lit< tt))) first.even;
+    odd = subst (λ (s : List ℕ). IsNoRoot s ⊎ ((root : Root) × IsRootOf n 1 s root)) (sym (before 2 (lit< tt))) first.odd;
+    stands = there first_root first.stands;
+    greatest = λ other has. first.greatest other (back other has);
+  }
+
+  -- so the edits since begin with number 1 in place 0
+  begins : (m : ℕ) (stored : Stored) → Holds count m stored image
+      → HoldsTexts RECORD_VERSION (journal_ring n) (start_of 0 0) (texts_of stored) image
+  begins m stored holds =
+      let same = one_live count image n m first_root (root_of stored) live (lives count image m stored holds) in
+      let start : start_of 0 0 ≡ journal_start stored = ap (λ (r : Root). start_of r.journal_at r.edits) same.1 in
+      subst (λ (s : Start). HoldsTexts RECORD_VERSION (journal_ring n) s (texts_of stored) image) (sym start)
+      (subst (λ (k : ℕ). HoldsTexts RECORD_VERSION (journal_ring k) (journal_start stored) (texts_of stored) image) (sym same.0) holds.journal)
+
+  module _ (number : ℕ) (later : 1 < number) (head : IsHeadOf RECORD_VERSION number sector) where
+    no_texts : (texts : List (List ℕ)) → HoldsTexts RECORD_VERSION (journal_ring n) (start_of 0 0) texts image → ⊥
+    no_texts [] holds = holds.last at number inside (omega (arith, later)) (subst (λ (s : List ℕ). IsHeadOf RECORD_VERSION number s) (sym here) head)
+    no_texts (text ∷ texts) holds =
+        let some : 1 ≤ parts_of (length text) = omega (arith, holds.records.edits.0.0) in
+        let place : ℕ = sector_at (journal_ring n) (0 + 0) in
+        let is_first : IsHeadOf RECORD_VERSION 1 (image place) =
+        first_is_head RECORD_VERSION 1 text (image place) (lit< tt)
+        (first_stands RECORD_VERSION (journal_ring n) image (start_of 0 0) text texts holds 0 (omega (arith, some))) in
+        let in_ring : IsInRing (journal_ring n) place =
+        (omega arith, omega (arith, mod_below (0 + 0) (journal_sectors n) (omega (arith, some, holds.records.room)))) in
+        ⊎_elim
+        (λ (same : place ≡ at).
+        let one : 1 ≡ number =
+        one_number RECORD_VERSION RECORD_VERSION 1 number sector
+        (subst (λ (s : List ℕ). IsHeadOf RECORD_VERSION 1 s) (ap (λ (p : ℕ). image p) same ∙ here) is_first) head in
+        omega (arith, one, later))
+        (λ (apart : place ≡ at → ⊥).
+        zeros_no_head RECORD_VERSION 1 (subst (λ (s : List ℕ). IsHeadOf RECORD_VERSION 1 s) (empty place in_ring apart) is_first))
+        (cases_eq place at)
+
+    -- With the head of a later number than 1 alone it holds nothing.
+    pub later_head_holds_nothing : (m : ℕ) (stored : Stored) → Holds count m stored image → ⊥
+    later_head_holds_nothing m stored holds = no_texts (texts_of stored) (begins m stored holds)
+
+  module _ (none : (number : ℕ) → IsHeadOf RECORD_VERSION number sector → ⊥) where
+    formatted : Holds count n first_state (fresh_image n)
+    formatted = fresh_holds count n (fresh_image n) size within (some_fresh n)
+
+    each : (place : ℕ) → HoldsAt count n first_state place (image place)
+    each place = ⊎_elim
+        (λ (same : place ≡ at). record {
+          format = λ is. absurd (omega (arith, is, same, inside.0));
+          live = λ is. absurd (omega (arith, is, same, inside.0));
+          other = λ is. absurd (omega (arith, is, same, inside.0));
+          snapshot_bytes = subst (λ (bytes : List ℕ). HasBytes (area_start n 0) bytes place (image place)) (sym no_text)
+              (no_bytes (area_start n 0) place (image place));
+          archive_bytes = no_bytes _ place (image place);
+        })
+        (λ (apart : place ≡ at → ⊥). subst (λ (s : List ℕ). HoldsAt count n first_state place s) (sym (elsewhere place apart)) (formatted.sectors place))
+        (cases_eq place at)
+
+    no_head : (place number : ℕ) → IsInRing (journal_ring n) place → IsHeadOf RECORD_VERSION number (image place) → ⊥
+    no_head place number is head = ⊎_elim
+        (λ (same : place ≡ at). none number (subst (λ (s : List ℕ). IsHeadOf RECORD_VERSION number s) (ap (λ (p : ℕ). image p) same ∙ here) head))
+        (λ (apart : place ≡ at → ⊥).
+        zeros_no_head RECORD_VERSION number (subst (λ (s : List ℕ). IsHeadOf RECORD_VERSION number s) (empty place is apart) head))
+        (cases_eq place at)
+
+    -- With bytes that are no head, as those of another version, it holds the empty map,
+    pub no_head_holds_empty : Holds count n first_state image
+    no_head_holds_empty = record {
+      sectors = each;
+      journal = record {
+        records = record { edits = tt; room = omega arith; numbers = lit≤ tt; stand = λ place. tt };
+        last = λ place number is le head. no_head place number is head;
+      };
+      is_map = formatted.is_map;
+      are_edits = formatted.are_edits;
+      is_archive = formatted.is_archive;
+    }
+
+    -- and nothing else.
+    pub no_head_holds_no_edit : (m : ℕ) (stored : Stored) → Holds count m stored image → stored ≡ first_state
+    no_head_holds_no_edit m stored holds = sym (one_state count image n m first_state stored no_head_holds_empty holds).1
+
+-- ---- the sectors of the roots
+
+-- With the root of an odd generation in the sector of even ones an image holds nothing, whatever it has elsewhere.
+pub misplaced_root_holds_nothing : (count m : ℕ) (image : Image) (root : Root) (stored : Stored) → IsRootSector (image 1) root
+    → root.generation % 2 ≡ 1 → Holds count m stored image → ⊥
+misplaced_root_holds_nothing count m image root stored is odd holds = ⊎_elim
+    (λ (even : (stored.generation % 2 ≡ 0) × (suc stored.generation % 2 ≡ 1)). live_there even.0)
+    (λ (other : (stored.generation % 2 ≡ 1) × (suc stored.generation % 2 ≡ 0)).
+    earlier_there other.1 ((holds.sectors 1).other (omega (arith, other.1))))
+    (parities stored.generation)
+  where
+    live_there : stored.generation % 2 ≡ 0 → ⊥
+    live_there even =
+        let stands = (holds.sectors 1).live (omega (arith, even)) in
+        omega (arith, ap (λ (r : Root). r.generation) (one_root (image 1) root (root_of stored) is stands.stands), odd, even)
+
+    earlier_there : suc stored.generation % 2 ≡ 0 → HasEarlierRoot m stored.generation (image 1) → ⊥
+    earlier_there even (inl none) = zeros_no_root (image 1) root none is
+    earlier_there even (inr there) =
+        omega (arith, ap (λ (r : Root). r.generation) (one_root (image 1) root there.0 is there.2.stands), there.2.parity_is, odd, even)
+
+-- ---- examples
+
+-- a disk of 64 sectors, whose journal begins in sector 3
+first_place : IsInRing (journal_ring 64) 3
+first_place = (lit≤ tt, lit< tt)
+
+-- the head of number 2 alone
+pub second_record_alone : (text : List ℕ) (m : ℕ) (stored : Stored)
+    → Holds 64 m stored (with_sector 64 3 (record_sector RECORD_VERSION 2 text 0)) → ⊥
+second_record_alone text m stored holds =
+    later_head_holds_nothing 64 64 (lit≤ tt, lit≤ tt) (lit≤ tt) 3 first_place (record_sector RECORD_VERSION 2 text 0) 2 (lit< tt)
+    (first_is_head RECORD_VERSION 2 text (record_sector RECORD_VERSION 2 text 0) (lit< tt) (written_is_part RECORD_VERSION 2 text 0)) m stored holds
+
+-- the head of number 1 with another version
+pub other_version : (version : ℕ) (text : List ℕ) → (version ≡ RECORD_VERSION → ⊥) → (m : ℕ) (stored : Stored)
+    → Holds 64 m stored (with_sector 64 3 (record_sector version 1 text 0)) → stored ≡ first_state
+other_version version text other m stored holds =
+    no_head_holds_no_edit 64 64 (lit≤ tt, lit≤ tt) (lit≤ tt) 3 first_place (record_sector version 1 text 0) no_head m stored holds
+  where
+    written : IsHeadOf version 1 (record_sector version 1 text 0)
+    written = first_is_head version 1 text (record_sector version 1 text 0) (lit< tt) (written_is_part version 1 text 0)
+
+    no_head : (number : ℕ) → IsHeadOf RECORD_VERSION number (record_sector version 1 text 0) → ⊥
+    no_head number head = other (sym written.version_is ∙ head.version_is)
+
+-- the root of generation 1 in sector 1
+abbrev second_root : Root
+second_root = record { generation = 1; edits = 0; journal_at = 0; snapshot_len = 0; archive_len = 0 }
+
+second_numbers : AreNumbers second_root
+second_numbers = record { generation = lit< tt; edits = lit< tt; journal_at = lit< tt; snapshot_len = lit< tt; archive_len = lit< tt }
+
+pub second_root_misplaced : (m : ℕ) (stored : Stored) → Holds 64 m stored (with_sector 64 1 (root_sector second_root)) → ⊥
+second_root_misplaced m stored holds =
+    misplaced_root_holds_nothing 64 m (with_sector 64 1 (root_sector second_root)) second_root stored
+    (record { bytes = seen_same 1 (root_sector second_root) (begun (fresh_image 64)) 1 refl; numbers = second_numbers }) refl holds
