@@ -1,55 +1,55 @@
-//! The table of commands.
+//! The command line: the commands with their arguments and their help.
 
 use clap::{Arg, ArgAction, Command};
 use std::alloc::{AllocError, Global};
 
-/// A word that a command takes.
+/// An argument of a command.
 #[derive(Clone, Copy)]
 enum Word {
-    /// A count of sectors.
+    /// The number of sectors, by position.
     Sectors,
-    /// The same by name.
+    /// The number of sectors, as an option.
     NamedSectors,
-    /// A path of a disk's file.
+    /// The path of a disk file.
     Disk,
-    /// A port by name.
+    /// The port, as an option.
     Port,
-    /// A count of connections by name.
+    /// The number of connections, as an option.
     Connections,
-    /// A path of an archive's file.
+    /// The path of an archive that is read.
     Archive,
-    /// The same of one that is written.
-    Goal,
+    /// The path of an archive that is written.
+    Output,
 }
 
-/// A command: its name, what it takes, and what it does.
+/// A command: its name, its arguments and its help.
 type Row = (&'static str, &'static [Word], &'static str);
 
 const COMMANDS: [Row; 7] = [
     (
         "demo",
         &[Word::Sectors],
-        "Serves one connection on standard input and output, over an empty map in memory",
+        "Serves one connection on standard input and output over an empty map in memory",
     ),
     (
         "export",
-        &[Word::Disk, Word::Goal],
-        "Writes the archive that was published last on the disk in a file into another file",
+        &[Word::Disk, Word::Output],
+        "Writes the last published archive of a disk file into a file",
     ),
     (
         "format",
         &[Word::Disk, Word::NamedSectors],
-        "Makes a file, where there is nothing, that holds the empty map on a disk",
+        "Creates a disk file with an empty map; DISK must not exist",
     ),
     (
         "pipe",
         &[Word::Disk],
-        "Serves one connection on standard input and output, over the map on the disk in a file",
+        "Serves one connection on standard input and output over the map of a disk file",
     ),
     (
         "serve",
         &[Word::Disk, Word::Port, Word::Connections],
-        "Serves connections on a port of 127.0.0.1 one after the other, over the map on the disk in a file",
+        "Serves the map of a disk file on a port of 127.0.0.1, one connection at a time",
     ),
     (
         "show",
@@ -59,11 +59,11 @@ const COMMANDS: [Row; 7] = [
     (
         "verify",
         &[Word::Archive],
-        "Judges a tile archive: prints what it has, or its first fault",
+        "Checks a PMTiles archive: prints its counts or its first fault",
     ),
 ];
 
-/// A path of a file.
+/// The argument FILE with this help.
 fn path<'a>(alloc: Global, help: &'a str) -> Arg<'a> {
     Arg::new(alloc, "FILE")
         .required(true)
@@ -71,21 +71,21 @@ fn path<'a>(alloc: Global, help: &'a str) -> Arg<'a> {
         .help(help)
 }
 
-/// A path of a disk's file.
+/// The argument DISK. Its id is `FILE`, like that of an archive's path, so that one look-up reads both.
 fn disk_path<'a>(alloc: Global) -> Arg<'a> {
-    path(alloc, "A disk in a file").value_name("DISK")
+    path(alloc, "A disk file").value_name("DISK")
 }
 
-/// A path of a file that is made or replaced.
-fn goal_path<'a>(alloc: Global) -> Arg<'a> {
-    Arg::new(alloc, "GOAL")
+/// The argument FILE of `export`. It has an id of its own, since `FILE` is that of DISK.
+fn output_path<'a>(alloc: Global) -> Arg<'a> {
+    Arg::new(alloc, "OUTPUT")
         .value_name("FILE")
         .required(true)
         .action(ArgAction::Set)
-        .help("Where the tile archive (PMTiles 3) is written; a file that is there is replaced")
+        .help("The PMTiles file to write; an existing regular file is replaced")
 }
 
-/// A count of sectors.
+/// The number of sectors, by position.
 fn sectors<'a>(alloc: Global) -> Arg<'a> {
     Arg::new(alloc, "N")
         .required(true)
@@ -94,7 +94,7 @@ fn sectors<'a>(alloc: Global) -> Arg<'a> {
         .help("Sectors of 512 bytes, from 64 to 16777216")
 }
 
-/// A port.
+/// The option `--port`.
 fn port<'a>(alloc: Global) -> Arg<'a> {
     Arg::new(alloc, "P")
         .long("port")
@@ -104,7 +104,7 @@ fn port<'a>(alloc: Global) -> Arg<'a> {
         .help("A port of 127.0.0.1, from 1 to 65535")
 }
 
-/// A count of connections.
+/// The option `--connections`.
 fn connections<'a>(alloc: Global) -> Arg<'a> {
     Arg::new(alloc, "K")
         .long("connections")
@@ -114,7 +114,7 @@ fn connections<'a>(alloc: Global) -> Arg<'a> {
         .help("How many connections are served, from 1 to 4294967295")
 }
 
-/// What a word is on the command line.
+/// The argument in clap's terms.
 fn arg_of<'a>(alloc: Global, word: Word) -> Arg<'a> {
     match word {
         Word::Sectors => sectors(alloc),
@@ -123,11 +123,11 @@ fn arg_of<'a>(alloc: Global, word: Word) -> Arg<'a> {
         Word::Port => port(alloc),
         Word::Connections => connections(alloc),
         Word::Archive => path(alloc, "A tile archive (PMTiles 3)"),
-        Word::Goal => goal_path(alloc),
+        Word::Output => output_path(alloc),
     }
 }
 
-/// A command that takes these words.
+/// Adds arguments to a command.
 fn with_words<'a>(
     alloc: Global,
     command: Command<'a>,
@@ -140,13 +140,13 @@ fn with_words<'a>(
     Ok(command)
 }
 
-/// The command of a row.
+/// The command of a row of the table.
 fn command_of<'a>(alloc: Global, row: Row) -> Result<Command<'a>, AllocError> {
     let (name, words, about) = row;
     with_words(alloc, Command::new(alloc, name).about(about), words)
 }
 
-/// A command with the one of a row below it.
+/// Adds the command of a row as a subcommand.
 fn with_row<'a>(alloc: Global, command: Command<'a>, row: Row) -> Result<Command<'a>, AllocError> {
     match command_of(alloc, row) {
         Ok(below) => command.subcommand(below),
@@ -158,7 +158,7 @@ fn with_row<'a>(alloc: Global, command: Command<'a>, row: Row) -> Result<Command
 pub(crate) fn command_line<'a>(alloc: Global) -> Result<Command<'a>, AllocError> {
     let mut command = Command::new(alloc, "vtserve")
         .version("0.1.0")
-        .about("A vector tile server whose map is edited while it serves")
+        .about("A vector tile server whose map is edited over HTTP")
         .subcommand_required(true);
     for row in COMMANDS {
         command = with_row(alloc, command, row)?;

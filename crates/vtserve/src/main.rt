@@ -66,7 +66,7 @@ fn run(rt: &HostRuntime, matches: &ArgMatches<'_>) -> anyhow::Result<ExitCode> {
         "demo" => ended(rt, demo(rt, sectors)),
         "export" => ended(
             rt,
-            export_file(rt, path, words.get_str("GOAL").unwrap_or(""), Unknown),
+            export_file(rt, path, words.get_str("OUTPUT").unwrap_or(""), Unknown),
         ),
         "format" => ended(rt, format_file(rt, path, sectors)),
         "pipe" => ended(rt, serve_file(rt, path, Peers::Streams, Unknown)),
