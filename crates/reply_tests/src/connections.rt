@@ -95,7 +95,7 @@ fn outside_all() -> Reply
 }
 
 /// Gives so many bytes of what it is to give.
-fn take_from<'a>(rest: &mut &'a [u8], size: usize, buf: &mut [u8]) -> usize
+pub(crate) fn take_from<'a>(rest: &mut &'a [u8], size: usize, buf: &mut [u8]) -> usize
     ensures { result ≤ length buf.new }
 {
     let count = size.min(buf.len()).min(rest.len());
