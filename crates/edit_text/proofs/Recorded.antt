@@ -1,11 +1,17 @@
--- A record is that of one edit.
-use Rattle.std.proofs.Common.{◌≡◌, ◌⊎◌, inl, inr, ℕ, [], ◌∷◌, ◌++◌, length, sym, ap, subst, ◌∙◌, arith}
-use Rattle.std.proofs.lemmas.List.Elements.{All-head}
-use Rattle.feature_model.specs.Data.{EditData}
-use Rattle.feature_model.specs.Spelled.{spelled_changes, spelled}
+-- A record is that of one edit, and what is decoded is that edit.
+use Rattle.std.proofs.Common.{◌≡◌, inl, inr, ⊎_elim, ℕ, ◌≤◌, List, [], ◌∷◌, ◌++◌, length, length-append, refl, sym, ap, subst, ◌∙◌, arith}
+use Rattle.std.proofs.Common.{append-nil, lit≤}
+use Rattle.std.proofs.lemmas.List.Elements.{All-head, All-nil, All-push}
+use Rattle.feature_model.specs.Data.{ChangeData, put, delete, EditData, number_of}
+use Rattle.feature_model.specs.Limits.{IsAllowedChange}
+use Rattle.feature_model.specs.Spelled.{spelled_change, spelled_changes, spelled}
 use Rattle.feature_model.specs.Types.{IsChange, IsEdit}
-use Rattle.edit_text.specs.Recorded.{RecordedEdit, text_in, recorded_text, IsRecorded}
-use Rattle.edit_text.proofs.Laws.{one_change, one_edit}
+use Rattle.feature_model.proofs.Changes.{distinct_none, distinct_push}
+use Rattle.edit_text.specs.Decoding.{BeginsWithChange, BeginsWith}
+use Rattle.edit_text.specs.Recorded.{RecordedEdit, text_in, recorded_text, most_in, IsRecordVersion, FitsVersion, IsRecorded, IsRecordOf}
+use Rattle.edit_text.proofs.Laws.{one_change, one_edit, short_from, edit_short_from}
+
+-- ---- at most one
 
 single : (cs ds : EditData) → length cs ≡ 1 → length ds ≡ 1 → IsEdit cs → IsEdit ds → spelled_changes cs ≡ spelled_changes ds → cs ≡ ds
 single [] ds one other is too same = absurd (omega (arith, one))
@@ -18,15 +24,131 @@ single (c ∷ []) (d ∷ b ∷ ds) one other is too same = absurd (omega (arith,
 many : (cs ds : EditData) → IsEdit cs → IsEdit ds → spelled cs ≡ spelled ds → cs ≡ ds
 many cs ds is too same = (one_edit cs ds [] [] is too (ap (λ t. t ++ []) same)).0
 
-by_version : (version : ℕ) (cs ds : EditData) → (version ≡ 1) ⊎ (version ≡ 2) → (version ≡ 1 → (length cs ≡ 1) × (length ds ≡ 1))
+by_version : (version : ℕ) (cs ds : EditData) → IsRecordVersion version → (version ≡ 1 → (length cs ≡ 1) × (length ds ≡ 1))
     → IsEdit cs → IsEdit ds → text_in version cs ≡ text_in version ds → cs ≡ ds
 by_version version cs ds (inl first) one is too same =
     single cs ds (one first).0 (one first).1 is too (subst (λ v. text_in v cs ≡ text_in v ds) first same)
 by_version version cs ds (inr second) one is too same = many cs ds is too (subst (λ v. text_in v cs ≡ text_in v ds) second same)
 
+-- A record's text is that of one edit.
+pub one_record : (version : ℕ) (cs ds : EditData) (text : List ℕ) → IsRecordOf version cs text → IsRecordOf version ds text → cs ≡ ds
+one_record version cs ds text is too =
+    by_version version cs ds is.fits.is (λ first. (is.fits.one first, too.fits.one first)) is.edit too.edit (sym is.text_is ∙ too.text_is)
+
 -- Two edits of one version with one text are the same.
 pub one_recorded : (e f : RecordedEdit) → IsRecorded e → IsRecorded f → e.version ≡ f.version → recorded_text e ≡ recorded_text f → e ≡ f
 one_recorded e f is too version same =
     let text : text_in e.version e.changes ≡ text_in e.version f.changes = same ∙ ap (λ v. text_in v f.changes) (sym version) in
-    let changes = by_version e.version e.changes f.changes is.version (λ first. (is.one first, too.one (sym version ∙ first))) is.edit too.edit text in
+    let changes = by_version e.version e.changes f.changes is.fits.is (λ first. (is.fits.one first, too.fits.one (sym version ∙ first))) is.edit too.edit text in
     λ i. record { version = version i; changes = changes i }
+
+-- ---- edits of one change
+
+allowed_from : (c : ChangeData) → IsChange c → IsAllowedChange c
+allowed_from (put id f) is = is.0
+allowed_from (delete id) is = is
+
+spelled_one : (c : ChangeData) → spelled_changes (c ∷ []) ≡ spelled_change c
+spelled_one c = append-nil (spelled_change c)
+
+-- a change is an edit by itself
+pub edit_of_one : (c : ChangeData) → IsChange c → IsEdit (c ∷ [])
+edit_of_one c is = record {
+  allowed = record {
+    count = (lit≤ tt, lit≤ tt);
+    distinct = distinct_push [] c distinct_none (All-nil (λ d. number_of d ≡ number_of c → ⊥));
+    changes = All-push IsAllowedChange [] c (All-nil IsAllowedChange) (allowed_from c is);
+    text = omega (arith, ap length (spelled_one c), short_from c is);
+  };
+  changes = All-push IsChange [] c (All-nil IsChange) is;
+}
+
+-- bytes that are no longer than the text with which they begin are the text
+whole_from : (spelling rest bytes : List ℕ) → bytes ≡ spelling ++ rest → length bytes ≡ length spelling → bytes ≡ spelling
+whole_from spelling [] bytes begins same = begins ∙ append-nil spelling
+whole_from spelling (x ∷ rest) bytes begins same = absurd (omega (arith, same, ap length begins ∙ length-append spelling (x ∷ rest)))
+
+first_version : (cs : EditData) → length cs ≡ 1 → FitsVersion 1 cs
+first_version cs one = record { is = inl refl; one = λ _. one }
+
+second_version : (cs : EditData) → FitsVersion 2 cs
+second_version cs = record { is = inr refl; one = λ other. absurd (omega (arith, other)) }
+
+-- ---- what is decoded in version 1
+
+-- a change whose text is the whole text
+pub change_recorded : (c : ChangeData) (cs : EditData) (bytes : List ℕ) → cs ≡ c ∷ [] → BeginsWithChange c bytes
+    → length (spelled_change c) ≡ length bytes → IsRecordOf 1 cs bytes
+change_recorded c cs bytes are begins same = subst (λ ds. IsRecordOf 1 ds bytes) (sym are) (record {
+  fits = first_version (c ∷ []) refl;
+  edit = edit_of_one c begins.0;
+  text_is = whole_from (spelled_change c) begins.1.0 bytes begins.1.1 (sym same) ∙ sym (spelled_one c);
+})
+
+-- the bytes of a record of version 1 begin with its change, and no longer
+begun_by : (cs : EditData) (bytes : List ℕ) → IsRecordOf 1 cs bytes → (c : ChangeData) × (cs ≡ c ∷ []) × BeginsWithChange c bytes
+    × (length (spelled_change c) ≡ length bytes)
+begun_by [] bytes is = absurd (omega (arith, is.fits.one refl))
+begun_by (c ∷ []) bytes is =
+    let text : bytes ≡ spelled_change c ++ [] = is.text_is in
+    (c, refl, (All-head IsChange c [] is.edit.changes, ([], text)), sym (ap length (text ∙ append-nil (spelled_change c))))
+begun_by (c ∷ d ∷ cs) bytes is = absurd (omega (arith, is.fits.one refl))
+
+pub record_begins : (cs : EditData) (bytes : List ℕ) → IsRecordOf 1 cs bytes → (c : ChangeData) × (cs ≡ c ∷ []) × BeginsWithChange c bytes
+    × (length (spelled_change c) ≡ length bytes)
+record_begins cs bytes is = begun_by cs bytes is
+
+-- a text with more bytes than that of the change that it begins with is that of no record
+pub not_one_change : (c : ChangeData) (cs : EditData) (bytes : List ℕ) (len : ℕ) → len ≡ length (spelled_change c) → (len ≡ length bytes → ⊥)
+    → ((d : ChangeData) → BeginsWithChange d bytes → c ≡ d) → IsRecordOf 1 cs bytes → ⊥
+not_one_change c cs bytes len is apart only recorded =
+    let begins = record_begins cs bytes recorded in
+    apart (is ∙ ap (λ d. length (spelled_change d)) (only begins.0 begins.2) ∙ begins.3)
+
+-- a change that is found is that of the record
+pub only_change : (c : ChangeData) (cs : EditData) (bytes : List ℕ) → ((d : ChangeData) → BeginsWithChange d bytes → c ≡ d) → IsRecordOf 1 cs bytes
+    → c ∷ [] ≡ cs
+only_change c cs bytes only recorded =
+    let begins = record_begins cs bytes recorded in
+    ap (λ d. d ∷ []) (only begins.0 begins.2) ∙ sym begins.1
+
+-- ---- and in version 2
+
+pub edit_recorded : (cs : EditData) (bytes : List ℕ) → BeginsWith cs bytes → length (spelled cs) ≡ length bytes → IsRecordOf 2 cs bytes
+edit_recorded cs bytes begins same = record {
+  fits = second_version cs;
+  edit = begins.0;
+  text_is = whole_from (spelled cs) begins.1.0 bytes begins.1.1 (sym same);
+}
+
+pub record_begins_edit : (cs : EditData) (bytes : List ℕ) → IsRecordOf 2 cs bytes → BeginsWith cs bytes × (length (spelled cs) ≡ length bytes)
+record_begins_edit cs bytes is = ((is.edit, ([], is.text_is ∙ sym (append-nil (spelled cs)))), sym (ap length is.text_is))
+
+pub not_one_edit : (es cs : EditData) (bytes : List ℕ) (len : ℕ) → len ≡ length (spelled es) → (len ≡ length bytes → ⊥)
+    → ((ds : EditData) → BeginsWith ds bytes → es ≡ ds) → IsRecordOf 2 cs bytes → ⊥
+not_one_edit es cs bytes len is apart only recorded =
+    let begins = record_begins_edit cs bytes recorded in
+    apart (is ∙ ap (λ ds. length (spelled ds)) (only cs begins.0) ∙ begins.1)
+
+-- ---- what is encoded
+
+length_in : (version : ℕ) (cs : EditData) → IsRecordVersion version → IsEdit cs → length (text_in version cs) ≤ most_in version
+length_in version cs (inl first) is = subst (λ v. length (text_in v cs) ≤ most_in v) (sym first) is.allowed.text
+length_in version cs (inr second) is = subst (λ v. length (text_in v cs) ≤ most_in v) (sym second) (edit_short_from cs is)
+
+pub record_from : (version : ℕ) (cs : EditData) (text : List ℕ) → FitsVersion version cs → IsEdit cs → text ≡ text_in version cs
+    → IsRecordOf version cs text × (length text ≤ most_in version)
+record_from version cs text fits is same =
+    (record { fits = fits; edit = is; text_is = same }, subst (λ t. length t ≤ most_in version) (sym same) (length_in version cs fits.is is))
+
+pub text_first : (version : ℕ) (cs : EditData) (text : List ℕ) → version ≡ 1 → text ≡ spelled_changes cs → text ≡ text_in version cs
+text_first version cs text is same = subst (λ v. text ≡ text_in v cs) (sym is) same
+
+pub text_second : (version : ℕ) (cs : EditData) (text : List ℕ) → IsRecordVersion version → (version ≡ 1 → ⊥) → text ≡ spelled cs
+    → text ≡ text_in version cs
+text_second version cs text (inl first) other same = absurd (other first)
+text_second version cs text (inr second) other same = subst (λ v. text ≡ text_in v cs) (sym second) same
+
+-- no edit has a record of another version
+pub no_version : (version : ℕ) (cs : EditData) (text : List ℕ) → (version ≡ 1 → ⊥) → (version ≡ 2 → ⊥) → IsRecordOf version cs text → ⊥
+no_version version cs text one two is = ⊎_elim one two is.fits.is

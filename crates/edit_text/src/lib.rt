@@ -7,9 +7,11 @@ mod edits;
 mod encoding;
 mod fault;
 mod fields;
+mod records;
 mod shapes;
 mod tags;
 
 pub use decoding::{decode, decode_change};
 pub use encoding::{append_put, delete_edit_text, delete_text, encode, encode_change};
 pub use fault::TextFault;
+pub use records::{decode_record, encode_record};
