@@ -1,3 +1,4 @@
+mod BatchLaws
 mod SoFar
 mod ListLemmas
 mod OutlineLemmas

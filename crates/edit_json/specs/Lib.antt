@@ -1,3 +1,5 @@
+pub mod Asked
+pub mod Batches
 pub mod Faults
 pub mod Json
 pub mod Lists

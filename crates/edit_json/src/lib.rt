@@ -1,4 +1,4 @@
-//! A feature as JSON, both ways.
+//! A feature as JSON, both ways, and the changes of an edit from JSON.
 //!
 //! A feature's value is an object with exactly five members: `layer` is a text; `minzoom` and `maxzoom` are whole
 //! numbers; `geometry` is an object with exactly one of `points`, a list of points `[x,y]`, `lines`, a list of lists of
@@ -7,11 +7,13 @@
 //! so `-0`, `1.0` and `1e0` are none.
 #![tactic(auto)]
 
+mod batches;
 mod lists;
 mod outline;
 mod reading;
 mod tags;
 mod writer;
 
+pub use batches::batch_from_json;
 pub use reading::feature_from_json;
 pub use writer::feature_to_json;

@@ -30,7 +30,7 @@ pub(crate) struct Outline<'v> {
 }
 
 /// The value of the next member, which must have this name.
-fn next_named<'v>(members: &mut Iter<'v, String, Value>, name: &str) -> Option<&'v Value>
+pub(crate) fn next_named<'v>(members: &mut Iter<'v, String, Value>, name: &str) -> Option<&'v Value>
     ensures { MatchOption result
         ((d : Data) (ms : Members) → members_view members.old ≢ with_member name.now d ms)
         (λ v. members_view members.old ≡ with_member name.now (view v.now) (members_view members.new)) }

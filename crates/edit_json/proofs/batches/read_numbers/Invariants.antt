@@ -1,0 +1,7 @@
+use Rattle.std.proofs.Common.{◌≡◌, map, take}
+use Rattle.edit_json.specs.Asked.{asked_data}
+use Rattle.edit_json.specs.Batches.{asked_number}
+use Rattle.edit_json.proofs.batches.read_numbers.Given as goal
+
+abbrev pub invariant-loop-asked : goal.invariant-loop-asked
+invariant-loop-asked l = l.numbers.items ≡ map asked_number (map asked_data (take l.asked-index l.all))
