@@ -156,6 +156,28 @@ def feature_of(text):
     return value
 
 
+def change_of(value):
+    """E1 of a change: an object with exactly `put`, a whole number, and `feature`, or with exactly `delete`."""
+    if not isinstance(value, dict) or set(value) not in ({"put", "feature"}, {"delete"}):
+        raise Fault("E1 Member")
+    ((number,),) = [[value[word] for word in ("put", "delete") if word in value]]
+    if not is_whole(number) or number < 0:
+        raise Fault("E1 Member")
+    if "feature" in value:
+        check_members(value["feature"])
+    return Edit(number, value.get("feature"))
+
+
+def changes_of(text):
+    """The changes of an edit's JSON text, or its first fault: `Json`, E1 of any change, and then those of `check_batch`."""
+    value = value_of(text)
+    if not isinstance(value, dict) or set(value) != {"changes"} or not isinstance(value["changes"], list):
+        raise Fault("E1 Member")
+    found = [change_of(change) for change in value["changes"]]
+    check_batch(found)
+    return found
+
+
 # ---- limits
 
 

@@ -200,6 +200,81 @@ def text_lines():
     yield f"batch {' '.join(f'{number}-' for number in range(65))}", "E10 Batch"
 
 
+# ---- edits as JSON, and the records of edits
+
+POINT_JSON = '{"layer":"p","minzoom":0,"maxzoom":2,"geometry":{"points":[[0,0]]},"tags":{}}'
+# The same without a name, with a bad geometry, and without a member.
+NAMELESS, SHAPELESS, BROKEN = POINT_JSON.replace('"p"', '""'), POINT_JSON.replace("[[0,0]]", "[]"), POINT_JSON.replace(',"tags":{}', "")
+
+
+def put_json(number, feature=POINT_JSON):
+    return f'{{"put":{number},"feature":{feature}}}'
+
+
+def delete_json(number):
+    return f'{{"delete":{number}}}'
+
+
+def changes_json(*changes):
+    return f'changes {{"changes":[{",".join(changes)}]}}'
+
+
+def changes_lines():
+    yield "# Edits as JSON, and the texts of these."
+    yield changes_json(put_json(7), delete_json(9)), "02" "01070000000000000001700002010100000000000000000000" "020900000000000000"
+    yield changes_json('{"feature":%s,"put":8,"put":7}' % POINT_JSON), "01" "01070000000000000001700002010100000000000000000000"
+    yield from [changes_json(delete_json(0)), changes_json(delete_json(2**63 - 1)), changes_json(*map(delete_json, range(64)))]
+    yield from [changes_json(put_json(1), put_json(2), put_json(3), delete_json(4)), changes_json(put_json(2), put_json(1))]
+    yield "# E1, of the object and of any change, before all others."
+    for text in ["[]", "null", "{}", '{"changes":{}}', '{"changes":null}', '{"changes":[],"more":1}', '{"change":[]}', '{"changes":[7]}']:
+        yield f"changes {text}", "E1 Member"
+    for change in ["{}", "[]", '{"put":7}', '{"feature":%s}' % POINT_JSON, '{"delete":7,"put":7}', '{"delete":7,"feature":%s}' % POINT_JSON,
+                   put_json(7, BROKEN), put_json(7, "7"), put_json(-1), put_json("7.0"), put_json('"7"'), put_json(2**64), delete_json(-1),
+                   delete_json("null"), delete_json("1e0"), delete_json(2**64), '{"put":7,"feature":%s,"more":1}' % POINT_JSON]:
+        yield changes_json(change), "E1 Member"
+        yield changes_json(put_json(2**63), put_json(2**63), change), "E1 Member"
+    yield changes_json(*["{}"] * 65), "E1 Member"
+    yield "# E10, of the count, before E11, of the numbers."
+    yield changes_json(), "E10 Batch"
+    yield changes_json(*[delete_json(7)] * 65), "E10 Batch"
+    yield changes_json(*map(delete_json, range(65))), "E10 Batch"
+    for numbers in ([7, 7], [7, 8, 7], [8, 7, 7], [2**63, 2**63], [*range(63), 0], [*range(63), 62]):
+        yield changes_json(*map(delete_json, numbers)), "E11 Twice"
+    yield changes_json(put_json(7), delete_json(7)), "E11 Twice"
+    yield changes_json(put_json(7, NAMELESS), put_json(2**63), delete_json(7)), "E11 Twice"
+    yield "# E2 to E7 of the first change that has one."
+    yield from [(changes_json(delete_json(2**63)), "E2 Number"), (changes_json(put_json(2**63, NAMELESS)), "E2 Number"),
+                (changes_json(delete_json(2**64 - 1), put_json(7, NAMELESS)), "E2 Number"), (changes_json(put_json(7, NAMELESS)), "E3 Layer"),
+                (changes_json(put_json(7, NAMELESS), delete_json(2**63)), "E3 Layer"), (changes_json(put_json(7), put_json(8, SHAPELESS)), "E5 Geometry"),
+                (changes_json(put_json(7, SHAPELESS), put_json(8, NAMELESS)), "E5 Geometry")]
+    yield "# E8 of all texts together: 32,768 bytes are within the limit."
+    wide = POINT_JSON.replace("[[0,0]]", "[[0,0]<2044:,[0,0]>]")
+    for layer, fault in [("pppppp", None), ("ppppppp", "E8 Long")]:
+        line = changes_json(put_json(1, wide), put_json(2, wide.replace('"p"', f'"{layer}"')), delete_json(3))
+        yield (line, fault) if fault else line
+
+
+def record_lines():
+    deleted, point = "020700000000000000", "01080000000000000001700002010100000000000000000000"
+    yield "# The records of edits: of version 1 the text of one change, of version 2 that of an edit. Whole texts alone are read."
+    yield f"record 1 {deleted}", f"{deleted} 01{deleted}"
+    yield f"record 2 01{deleted}", f"01{deleted} 01{deleted}"
+    yield from [f"record 1 {point}", f"record 2 01{point}", f"record 2 02{deleted}{point}", f"record 2 02{point}{deleted}"]
+    yield "# Cut short, longer, of another version, without a change, with too many, of a number twice."
+    for text in ["1 ", "2 ", f"1 {deleted[:-2]}", f"2 01{deleted[:-2]}", f"1 {deleted}00", f"2 01{deleted}00", f"1 01{deleted}", f"2 {deleted}",
+                 f"1 {point[:-2]}",
+                 f"0 {deleted}", f"3 01{deleted}", f"3 {deleted}", f"4294967297 {deleted}", "2 00", f"2 00{deleted}", f"2 41{deleted * 65}",
+                 f"2 02{deleted}{deleted}", f"2 02{deleted}{deleted[:18]}", f"2 02{deleted}", f"1 {deleted}{deleted}", "1 03", "1 02ffffffffffffffff"]:
+        yield f"record {text}", "Bad"
+    many = "".join(f"02{number:02x}00000000000000" for number in range(64))
+    yield f"record 2 40{many}"
+    yield "# The longest texts, and one byte more: 32,768 bytes of changes."
+    for length, fault in [(8, None), (9, "Bad")]:
+        text = f"010700000000000000{length:02x}{'70' * length}000201fd0f<4093:0000000000000000>00"
+        lines = [f"record 1 {text}", f"record 2 01{text}"]
+        yield from [(line, fault) if fault else line for line in lines]
+
+
 # ---- cut and tiles
 
 
@@ -699,7 +774,8 @@ def any_box_lines(chance, seed):
 
 
 PARTS = [
-    json_lines, limit_lines, text_lines, cut_lines, tag_lines, reach_lines, map_lines, margin_lines, any_map_lines, batch_lines, kept_lines,
+    json_lines, limit_lines, changes_lines, record_lines, text_lines, cut_lines, tag_lines, reach_lines, map_lines, margin_lines, any_map_lines,
+    batch_lines, kept_lines,
     grid_lines, cache_lines, snapshot_lines, metadata_lines, area_lines, number_lines, box_lines]
 
 

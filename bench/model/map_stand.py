@@ -124,9 +124,22 @@ def batch(rest):
     return texts.edit_text(edits).hex()
 
 
+def changes(rest):
+    return texts.edit_text(features.changes_of(expanded(rest))).hex()
+
+
+def record(rest):
+    version, _, text = rest.partition(" ")
+    found = texts.read_record(int(version), bytes.fromhex(expanded(text)))
+    if isinstance(found, str):
+        return found
+    return f"{texts.record_text(int(version), found).hex()} {texts.edit_text(found).hex()}"
+
+
 ALONE = {
     "json": json, "text": text, "reach": reach, "covers": covers, "pairs": pairs, "sizes": sizes, "lines": lines, "polygons": polygons,
-    "keys": keys, "negative": negative, "deleted": deleted, "batch": batch}
+    "keys": keys, "negative": negative, "deleted": deleted, "batch": batch, "changes": changes,
+    "record": record}
 
 
 # ---- the newest edits of the world's cells, and tiles that are kept

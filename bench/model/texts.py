@@ -54,6 +54,19 @@ def read_edit(data):
     return read(data, LONGEST + 1, changes)
 
 
+def read_record(version, data):
+    """The edit of a record's whole text, by the version of the record, or the name of the fault."""
+    found = {1: read_change, 2: read_edit}.get(version, lambda data: "Bad")(data)
+    if isinstance(found, str) or found[1] != len(data):
+        return "Bad"
+    return [found[0]] if version == 1 else found[0]
+
+
+def record_text(version, edits):
+    """The text of a record of an edit, in version 1 of one change."""
+    return text_of(edits[0]) if version == 1 else edit_text(edits)
+
+
 def edit_text(edits):
     """The text of an edit of changes."""
     return bytes([len(edits)]) + b"".join(text_of(edit) for edit in edits)

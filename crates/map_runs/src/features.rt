@@ -1,6 +1,7 @@
 //! Lines about one feature.
+use crate::limits::batch_text;
 use crate::lines::{Line, expanded, number_in, parted};
-use edit_json::{feature_from_json, feature_to_json};
+use edit_json::{batch_from_json, feature_from_json, feature_to_json};
 use edit_text::encode_change;
 use feature_model::{Change, EditFault, Feature, GREATEST_ZOOM, check, copy};
 use serde_json::Value;
@@ -66,6 +67,18 @@ fn json(alloc: Global, text: &str) -> Result<String, AllocError> {
     match value_in(alloc, text) {
         Ok(value) => rewritten(alloc, &value),
         Err(refusal) => refusal.to_string(alloc),
+    }
+}
+
+/// The text of an edit of a JSON text.
+fn changes(alloc: Global, text: &str) -> Result<String, AllocError> {
+    let value = match value_in(alloc, text) {
+        Ok(value) => value,
+        Err(refusal) => return refusal.to_string(alloc),
+    };
+    match batch_from_json(alloc, &value) {
+        Ok(changes) => batch_text(alloc, changes),
+        Err(fault) => fault.to_string(alloc),
     }
 }
 
@@ -147,6 +160,7 @@ fn pair(alloc: Global, rest: &str) -> Result<String, AllocError> {
 pub(crate) fn answer(alloc: Global, line: Line<'_>) -> Option<Result<String, AllocError>> {
     match line.word {
         "json" => Some(json(alloc, line.rest)),
+        "changes" => Some(changes(alloc, line.rest)),
         "text" => Some(text(alloc, line.rest)),
         "reach" => Some(reach(alloc, line.rest)),
         "covers" => Some(cover(alloc, line.rest)),

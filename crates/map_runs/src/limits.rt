@@ -1,6 +1,6 @@
 //! Lines about features and edits that no JSON says, and their limits.
-use crate::lines::{Line, byte, number_in, parted, times};
-use edit_text::{delete_edit_text, delete_text, encode};
+use crate::lines::{Line, byte, expanded, number_in, parted, short, times};
+use edit_text::{decode_record, delete_edit_text, delete_text, encode, encode_record};
 use feature_model::{
     Change, Edit, EditFault, EditValue, Feature, Geometry, NUMBER_END, Tag, World, check,
     check_batch,
@@ -148,11 +148,34 @@ fn batch(alloc: Global, rest: &str) -> Result<String, AllocError> {
     for word in rest.split_whitespace() {
         changes.push(change_in(alloc, word)?)?;
     }
+    batch_text(alloc, changes)
+}
+
+/// The same of a list of changes.
+pub(crate) fn batch_text(alloc: Global, changes: Vec<Change>) -> Result<String, AllocError> {
     if let Err(fault) = check_batch(&changes) {
         return fault.to_string(alloc);
     }
     let text = encode(alloc, &Edit { changes })?;
     hex::encode(alloc, text.as_slice())
+}
+
+/// The text of a record's edit, written again by this version, and that of the edit.
+fn record(alloc: Global, rest: &str) -> Result<String, AllocError> {
+    let (version, text) = parted(rest);
+    let version = short(number_in(version));
+    let text = expanded(alloc, text)?;
+    let Ok(bytes) = hex::decode(alloc, text.as_str()) else {
+        return String::from_str(alloc, "Hex");
+    };
+    match decode_record(alloc, version, &bytes) {
+        Ok(edit) => {
+            let again = hex::encode(alloc, encode_record(alloc, version, &edit)?.as_slice())?;
+            let whole = hex::encode(alloc, encode(alloc, &edit)?.as_slice())?;
+            format!(in alloc; "{again} {whole}")
+        }
+        Err(fault) => format!(in alloc; "{fault:?}"),
+    }
 }
 
 /// What a line about limits comes to.
@@ -166,6 +189,7 @@ pub(crate) fn answer(alloc: Global, line: Line<'_>) -> Option<Result<String, All
         "negative" => Some(negative(alloc, parted(line.rest).0)),
         "deleted" => Some(deleted(alloc, first)),
         "batch" => Some(batch(alloc, line.rest)),
+        "record" => Some(record(alloc, line.rest)),
         _ => None,
     }
 }

@@ -20,6 +20,8 @@
 //! | `keys KEY ..`, `negative N` | the limits of a feature with these keys in this order, or with this number as a negative one |
 //! | `deleted ID` | the texts of the change and of the edit that take a feature away |
 //! | `batch 7+ 9- ..` | the text of an edit that gives numbers a point at the world's corner (+) and takes features away (-) |
+//! | `changes CHANGES` | the text of an edit of changes as JSON |
+//! | `record VERSION TEXT` | the text of a record's edit, written again by this version, and as an edit's |
 //!
 //! A map that keeps tiles (`map LAST`: the empty one, whose last edit has this number):
 //!
