@@ -1,0 +1,93 @@
+"""What an import will need of the server's disk, for import_features.py: the journal exactly, the published archive about."""
+import math
+
+from world_shapes import MOST_WORK, bounds, chains, count, covered, list_count, reach
+
+SECTOR, PART = 512, 496
+MOST_ENTRIES = 131072
+# Tiles that are told apart while they are counted.
+MOST_TILES = 1000000
+
+
+def text_bytes(body, shape):
+    """The bytes of a feature in the journal and in the snapshot."""
+    found = 14 + len(body["layer"].encode()) + 2 * list_count(shape) + 8 * count(shape)
+    return found + sum(2 + len(key.encode()) + value_bytes(value) for key, value in body["tags"].items())
+
+
+def value_bytes(value):
+    if isinstance(value, bool):
+        return 0
+    return 2 + len(value.encode()) if isinstance(value, str) else 8
+
+
+def area_of(sectors):
+    """The sectors of an area of a disk of so many sectors."""
+    return (sectors - 3 - sectors // 4) // 2
+
+
+def disk_for(area):
+    """A size for `format` whose areas have so many sectors."""
+    sectors = 4096
+    while area_of(sectors) < area:
+        sectors *= 2
+    return sectors
+
+
+class Sizes:
+    """The sums of the features so far."""
+
+    def __init__(self):
+        self.features = self.points = self.journal = self.snapshot = self.archive = 0
+        self.tiles = set()
+
+    def add(self, body, shape, zooms, is_first):
+        """Adds a feature. Of the pieces of one feature the values of tags are in a tile once: they are counted for the first."""
+        length = text_bytes(body, shape)
+        self.features += 1
+        self.points += count(shape)
+        self.journal += -(-length // PART)
+        self.snapshot += length
+        box, path = bounds(shape), path_of(shape)
+        tags = sum(3 + (value_bytes(value) + 4 if is_first else 0) for value in body["tags"].values())
+        for zoom in zooms:
+            (left, right), (top, bottom) = covered(box, zoom)
+            self.archive += tile_bytes(shape, path, zoom, (right - left + 1) * (bottom - top + 1), tags)
+            if len(self.tiles) < MOST_TILES:
+                self.tiles.update((zoom, column, row) for column in range(left, right + 1) for row in range(top, bottom + 1))
+
+    def area(self):
+        """The sectors of snapshot and archive."""
+        return -(-self.snapshot // SECTOR) + -(-self.archive // SECTOR)
+
+    def lines(self):
+        """What a user reads of them."""
+        many = "over 1,000,000" if len(self.tiles) >= MOST_TILES else f"up to {len(self.tiles):,}"
+        yield f"to send: {self.features:,} features, {self.points:,} points"
+        yield f"needed beside what the disk has: {self.journal:,} sectors of the journal, about {self.area():,} of an area, {many} tiles"
+        if len(self.tiles) > MOST_ENTRIES:
+            yield f"warning: an archive has at most {MOST_ENTRIES:,} entries, and equal neighbours alone share one: end features at a smaller --maxzoom"
+
+
+def path_of(shape):
+    """The length of all its lines or rings in units of the world."""
+    return sum(math.dist(a, b) for chain in chains(shape) for a, b in zip(chain, chain[1:])) if shape[0] != "points" else 0
+
+
+def tile_bytes(shape, path, zoom, tiles, tags):
+    """About how many bytes a shape has in the tiles of a zoom."""
+    points, unit, front = count(shape), 1 << (20 - zoom), 12 + tags
+    if shape[0] == "points":
+        return points * (front + 5)
+    kept = min(points, path / unit + 1)
+    step = path / kept / unit
+    each = 2 if step < 64 else 4 if step < 8192 else 6
+    if shape[0] == "polygons":
+        return round(tiles * (front + kept * each)) if path / unit > 2 else 0
+    tiles = min(tiles, path / unit / 2731 + 1)
+    return round(tiles * (front + 6) + kept * each)
+
+
+def is_heavy(shape, zooms):
+    """Whether a feature alone makes publications slow: its points are in many tiles."""
+    return count(shape) * reach(bounds(shape), zooms) > MOST_WORK
