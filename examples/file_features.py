@@ -138,10 +138,12 @@ class Reader:
             return self.real(feature, at, name)
         if kind in (ogr.OFTDate, ogr.OFTDateTime, ogr.OFTTime):
             return moment(kind, feature.GetFieldAsDateTime(at))
-        if kind in DROPPED or field.GetSubType() == ogr.OFSTJSON:
+        text = None if kind in DROPPED else self.decoded(feature.GetFieldAsString(at), "texts")
+        # A field of JSON has texts too, if its values are of several kinds.
+        if text is None or (field.GetSubType() == ogr.OFSTJSON and text[:1] in ("[", "{")):
             self.notes.add(f"the field {name} is dropped: {DROPPED.get(kind, 'a list or an object')} is no value of a tag")
             return None
-        return self.short(self.decoded(feature.GetFieldAsString(at), "texts"), name)
+        return self.short(text, name)
 
     def real(self, feature, at, name):
         """A whole number as a number, another one as a text."""

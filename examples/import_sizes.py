@@ -34,6 +34,11 @@ def disk_for(area):
     return sectors
 
 
+def counted(number, name):
+    """A count and what is counted."""
+    return f"{number:,} {name}{'' if number == 1 else 's'}"
+
+
 class Sizes:
     """The sums of the features so far."""
 
@@ -63,8 +68,8 @@ class Sizes:
     def lines(self):
         """What a user reads of them."""
         many = "over 1,000,000" if len(self.tiles) >= MOST_TILES else f"up to {len(self.tiles):,}"
-        yield f"to send: {self.features:,} features, {self.points:,} points"
-        yield f"needed beside what the disk has: {self.journal:,} sectors of the journal, about {self.area():,} of an area, {many} tiles"
+        yield f"to send: {counted(self.features, 'feature')}, {counted(self.points, 'point')}"
+        yield f"needed beside what the disk has: {counted(self.journal, 'sector')} of the journal, about {self.area():,} of an area, {many} tiles"
         if len(self.tiles) > MOST_ENTRIES:
             yield f"warning: an archive has at most {MOST_ENTRIES:,} entries, and equal neighbours alone share one: end features at a smaller --maxzoom"
 

@@ -13,7 +13,7 @@ import subprocess
 import threading
 import time
 
-from stand import EXAMPLES, HERE, SYSTEM_PYTHON, Nginx, Server, curl, feature, status_of
+from stand import EXAMPLES, HERE, SYSTEM_PYTHON, Nginx, Server, curl, feature, field, status_of
 
 TOOL = [SYSTEM_PYTHON, os.path.join(EXAMPLES, "import_features.py")]
 BACKUP = [SYSTEM_PYTHON, os.path.join(EXAMPLES, "map_backup.py")]
@@ -197,6 +197,9 @@ def formats(cases, folder, server):
             cases.show(f"import: {kind}, its place", is_near(found["geometry"]["points"], [world(*given["geometry"]["coordinates"])], 2), True)
             tags = {key.lower(): value for key, value in found["tags"].items()}
             wanted = {**given["properties"], "height": int(given["properties"]["height"]), "width": str(given["properties"]["width"])}
+            if kind == "FlatGeobuf":
+                # It has no dates without a time.
+                wanted["built"] += "T00:00:00"
             if kind in ("CSV", "KML"):
                 # These formats have texts alone, or more fields of their own.
                 cases.show(f"import: {kind}, its name", tags.get("name"), wanted["name"])
@@ -277,9 +280,9 @@ def numbers(cases, folder, server):
     status, lines = imported(written(folder, "taken.geojson", rows), server.url, "--layer", "n", "--id", "nr", "--replace", "n")
     said = "1 numbers are those of features of other layers, the first is 99 of other: give another --first. Nothing was sent"
     cases.show("import: a number of another layer isn't taken", (status, lines[-1]), (1, said))
-    rows = [row("Point", [5, 5], nr=value) for value in (-1, "x", 7, 7, None)]
+    rows = [row("Point", [5, 5], nr=value) for value in (-1, "x", 7, 7, None, [1])]
     status, lines = imported(written(folder, "odd.geojson", rows), server.url, "--layer", "n", "--id", "nr")
-    cases.show("import: numbers that are none, or taken twice", (status, lines[-1]), (1, "1 taken, 4 refused"))
+    cases.show("import: numbers that are none, or taken twice", (status, lines[-1]), (1, "1 taken, 5 refused"))
 
 
 def through_nginx(cases, folder, server):
@@ -433,37 +436,48 @@ def kills(cases, folder):
         lost = [number for number, value in acknowledged.items() if not value <= ((shown(server, number) or {"tags": {}})["tags"].get("n") or -1) <= last]
         cases.show("kills: after 4 kills each acknowledged edit is there", lost, [])
         cases.say(f"{last} edits, {len(acknowledged)} features")
-    if nginx:
-        kills_behind_nginx(cases, folder, nginx)
-    else:
+    if not nginx:
         cases.say("no nginx: no kills behind it")
+        return
+    kills_behind_nginx(cases, folder, nginx, "as it is kept", [])
+    stale = "proxy_cache_use_stale error timeout invalid_header http_502 http_504;"
+    kills_behind_nginx(cases, folder, nginx, "with background update", [(f"            {stale}\n", ""), ("# proxy_cache_", "proxy_cache_")])
 
 
-def kills_behind_nginx(cases, folder, nginx):
-    """A tile that nginx has in its cache stays, old, while there is no server; it is new again when there is one."""
-    with Server(folder, "behind_kills") as server:
-        port = server.port
+def cached(reply):
+    """The status of a reply, and what nginx says of its cache."""
+    return status_of(reply), field(reply, "x-cache")
+
+
+def kills_behind_nginx(cases, folder, nginx, name, changes):
+    """A tile that nginx has in its cache is served, old, while there is no server; it is new again when there is one."""
+    disk = f"behind {name}"
+    server = Server(folder, disk)
+    try:
         curl(server.url + "/features/7", "-X", "PUT", body=feature())
-        with Nginx(nginx, folder, server, [(" 10s;", " 1s;")]) as front:
-            statuses, states = [status_of(curl(front.url + "/map/0/0/0.mvt"))], set()
+        with Nginx(nginx, folder, server, [*changes, (" 10s;", " 1s;")]) as front:
+            url, seen = front.url + "/map/0/0/0.mvt", []
+            curl(url)
             for _ in range(2):
                 server.end(signal.SIGKILL)
-                time.sleep(1.2)
-                for _ in range(5):
-                    reply = curl(front.url + "/map/0/0/0.mvt")
-                    statuses.append(status_of(reply))
-                    states.add(dict((key.lower(), value) for key, value in reply[1]).get("x-cache"))
-                    time.sleep(0.1)
+                time.sleep(2.2)
+                seen += [cached(curl(url)) for _ in range(5)]
                 server.__exit__()
-                server = Server(folder, "behind_kills", port=port)
-                statuses.append(status_of(curl(front.url + "/map/0/0/0.mvt")))
-            cases.show("kills: two kills behind nginx: a cached tile is served meanwhile", (statuses, "STALE" in states or "UPDATING" in states), ([200] * 13, True))
+                server = Server(folder, disk, port=server.port)
+                seen.append(cached(curl(url)))
+            stale = sum(state in ("STALE", "UPDATING") for _, state in seen)
+            cases.show(f"kills: two behind nginx, {name}: no 502 for a cached tile", ({status for status, _ in seen}, stale >= 10), ({200}, True))
+            cases.show(f"kills: nginx, {name}: a tile that isn't cached", status_of(curl(front.url + "/map/1/0/0.mvt")), 200)
             curl(server.url + "/features/7", "-X", "DELETE")
-            time.sleep(1.2)
-            curl(front.url + "/map/0/0/0.mvt")
+            time.sleep(2.2)
+            first = status_of(curl(url))
             time.sleep(0.5)
-            cases.show("kills: and it is new again afterwards", status_of(curl(front.url + "/map/0/0/0.mvt")), 204)
-            reply = curl(front.url + "/map/1/0/0.mvt", "-X", "PUT")
-            origin = dict((key.lower(), value) for key, value in reply[1]).get("access-control-allow-origin")
-            cases.show("kills: a refusal of /map/ has its field for other origins", (status_of(reply), origin), (405, "*"))
+            cases.show(f"kills: nginx, {name}: after an edit the first tile and the next", (first, status_of(curl(url))), (200 if changes else 204, 204))
+            server.end(signal.SIGKILL)
+            replies = [curl(front.url + "/map/2/0/0.mvt", "-X", "PUT"), curl(front.url + "/map/2/0/0.mvt"), curl(front.url + "/map.pmtiles")]
+            fields = [(status_of(reply), field(reply, "access-control-allow-origin")) for reply in replies]
+            cases.show(f"kills: nginx, {name}: without a server, replies have their field for other origins", fields, [(502, "*")] * 3)
+            cases.show(f"kills: nginx, {name}: clients don't cache errors", field(replies[1], "cache-control"), "no-store")
+        shutil.rmtree(front.folder)
+    finally:
         server.__exit__()
