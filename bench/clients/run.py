@@ -4,9 +4,10 @@
     python3 bench/clients/run.py [PROGRAM [PART..]]    PROGRAM is crates/vtserve/out/vtserve, which `rt run` leaves there
 
 It prints `ok` or `DIFFERS` for each case, with what was wanted, and ends with 1 if one differs. A client that isn't installed is left
-out, and a line says so. With PART only these parts run (`large`, `import`, `disk-full`, `kills`, ..; a wrong name lists them). Wanted values are those of docs/HTTP.md and docs/FORMATS.md and of the worked tile there, or are computed
-here from the standards, never taken from the program. Disks and folders are scratch; ports are free ones of 127.0.0.1, and of the
-kept nginx configuration the two ports alone are changed. nginx's refusal of foreign addresses is tried as 127.0.0.2.
+out, and a line says so. With PART only these parts run (`large`, `import`, `disk-full`, `kills`, ..; a wrong name lists them). Wanted
+values are those of docs/HTTP.md and docs/FORMATS.md and of the worked tile there, or are computed here from the standards, never taken
+from the program. Disks and folders are scratch; ports are free ones of 127.0.0.1, and of the kept nginx configuration the two ports alone
+are changed, and what a case names. nginx's refusal of foreign addresses is tried as 127.0.0.2.
 """
 import json
 import math
@@ -331,6 +332,11 @@ def surveyed():
     return made
 
 
+def said(line):
+    """Whether a line of the import is about a feature or the end, not about what is to be sent."""
+    return not line.startswith(("to send: ", "needed beside "))
+
+
 def gdal(cases, folder):
     """A file of a survey put into the map by the example, and its tiles read by GDAL."""
     if not shutil.which("ogr2ogr"):
@@ -345,7 +351,7 @@ def gdal(cases, folder):
         survey = os.path.join(EXAMPLES, "survey.geojson")
         told = subprocess.run([*tool, survey, *words], capture_output=True, text=True)
         refused = "feature 106 refused: E7 Value"
-        lines = [line[:len(refused)] if line.startswith(refused) else line for line in told.stdout.splitlines()]
+        lines = [line[:len(refused)] if line.startswith(refused) else line for line in told.stdout.splitlines() if said(line)]
         cases.show("import of survey.geojson", (told.returncode, lines), (1, [refused, "5 taken, 1 refused"]))
         for number, made in enumerate(surveyed(), 101):
             reply = curl(f"{server.url}/features/{number}")
@@ -367,7 +373,7 @@ def gdal(cases, folder):
         with open(path, "w", encoding="utf-8") as file:
             json.dump(unlike, file)
         told = subprocess.run([*tool, path, "--layer", "more", "--first", "201", "--url", server.url], capture_output=True, text=True)
-        lines = [line.split(":")[0] for line in told.stdout.splitlines()]
+        lines = [line.split(":")[0] for line in told.stdout.splitlines() if said(line)]
         refused = [f"feature {number} refused" for number in (201, 202, 203)]
         cases.show("import of what can't be put", (told.returncode, lines), (1, [*refused, "1 taken, 3 refused"]))
         for kind, name in [("ESRI Shapefile", "lines.shp"), ("GPKG", "lines.gpkg")]:
@@ -375,7 +381,7 @@ def gdal(cases, folder):
             made = ["ogr2ogr", "-f", kind, "-t_srs", "EPSG:25832", path, survey, "-where", "name = 'a path'", "-nln", "lines"]
             subprocess.run(made, check=True, capture_output=True)
             told = subprocess.run([*tool, path, "--layer", "again", "--first", "301", "--url", server.url], capture_output=True, text=True)
-            cases.show(f"import of {name}, in UTM", (told.returncode, told.stdout.splitlines()), (0, ["1 taken, 0 refused"]))
+            cases.show(f"import of {name}, in UTM", (told.returncode, told.stdout.splitlines()[-1:]), (0, ["1 taken, 0 refused"]))
             shown = json.loads(curl(server.url + "/features/301")[2] or b"{}")
             cases.show("its points to ten units of the world, 9 cm", near(shown.get("geometry", {}).get("lines"), surveyed()[3][1], 10), True)
         read_by_gdal(cases, folder, server, "survey", 14, 101)
@@ -392,9 +398,9 @@ def import_to_a_full_journal(cases, folder, tool):
     words = [*tool, path, "--layer", "p", "--maxzoom", "2"]
     with Server(folder, "narrow", 64) as server:
         told = subprocess.run([*words, "--url", server.url], capture_output=True, text=True)
-        lines = told.stdout.splitlines()
-        full = [f"feature {number} refused: JournalFull need 1 free 0 (publish, and put it again)" for number in range(17, 41)]
-        cases.show("import of forty points for sixteen places", (told.returncode, lines), (1, [*full, "16 taken, 24 refused"]))
+        lines = [line for line in told.stdout.splitlines() if said(line)]
+        full = "stopped at feature 17: JournalFull need 1 free 0 (publish, and run the same command again, or give it --publish)"
+        cases.show("import of forty points for sixteen places", (told.returncode, lines), (1, [full, "16 taken, 0 refused"]))
         told = subprocess.run([*words, "--url", server.url, "--publish"], capture_output=True, text=True)
         published = told.stdout.count("the journal is full: a publication")
         cases.show("the same with --publish", (told.returncode, told.stdout.splitlines()[-1:], published), (0, ["40 taken, 0 refused"], 3))
