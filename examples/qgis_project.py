@@ -63,8 +63,9 @@ STYLE = """
               </symbol>
             </symbols>
           </style>"""
+AREAS = {"color": "195,223,176,120", "outline_color": "90,120,70,255", "outline_width": "0.1", "outline_style": "no"}
 STYLES = [
-    ("Areas", 2, "Polygon", "fill", "SimpleFill", {"color": "195,223,176,120", "outline_color": "90,120,70,255", "outline_width": "0.1", "outline_style": "no"}),
+    ("Areas", 2, "Polygon", "fill", "SimpleFill", AREAS),
     ("Lines", 1, "Line", "line", "SimpleLine", {"line_color": "176,128,58,255", "line_width": "0.6", "capstyle": "round", "joinstyle": "round"}),
     ("Points", 0, "Point", "marker", "SimpleMarker", {"name": "circle", "color": "176,58,46,255", "outline_color": "255,255,255,255", "size": "2.5"}),
 ]
