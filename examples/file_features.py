@@ -91,7 +91,10 @@ class Reader:
             raise Unfit(f"a {geometry.GetGeometryName()} is no kind of geometry that a feature has")
         if geometry.Transform(projection) != ogr.OGRERR_NONE:
             raise Unfit("it can't be projected to Web Mercator")
-        return kind, lists_of(kind, geometry)
+        lists = lists_of(kind, geometry)
+        if not lists:
+            raise Unfit("it has no geometry")
+        return kind, lists
 
     def name(self, feature, at):
         """The name of a field."""

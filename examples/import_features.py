@@ -165,7 +165,10 @@ class Plan:
         return shown or made[:1]
 
     def checked(self, number, body, shape):
-        """The body of a feature, of which is told what will be wrong."""
+        """The body of a feature. Reports what will be wrong of it."""
+        length = len(encoded(body))
+        if length > MOST_BODY:
+            raise Unfit(f"its JSON has {length:,} bytes, over {MOST_BODY:,}: {count(shape):,} points in {list_count(shape):,} lists")
         wrong = wrong_zooms(shape, self.zooms)
         if wrong:
             wide, high = size(shape)
@@ -173,9 +176,6 @@ class Plan:
             print(f"warning: feature {number} is {wide / 1000:,.1f} km wide and {high / 1000:,.1f} km high: wrong in some renderers at {zooms}", flush=True)
         if is_heavy(shape, self.zooms):
             print(f"warning: feature {number} has {count(shape):,} points in very many tiles: publications will take long", flush=True)
-        length = len(encoded(body))
-        if length > MOST_BODY:
-            raise Unfit(f"its JSON has {length:,} bytes, over {MOST_BODY:,}: {count(shape):,} points in {list_count(shape):,} lists")
         return body
 
     def fits(self, client):

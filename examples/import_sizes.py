@@ -5,6 +5,8 @@ from world_shapes import MOST_WORK, bounds, chains, count, covered, list_count, 
 
 SECTOR, PART = 512, 496
 MOST_ENTRIES = 131072
+# What a tile takes beside its features: the frame of a layer, and its entry in the directory.
+TILE_BYTES = 24
 # Tiles that are told apart while they are counted.
 MOST_TILES = 1000000
 
@@ -53,17 +55,17 @@ class Sizes:
         self.points += count(shape)
         self.journal += -(-length // PART)
         self.snapshot += length
-        box, path = bounds(shape), path_of(shape)
+        box, segments = bounds(shape), segments_of(shape)
         tags = sum(3 + (value_bytes(value) + 4 if is_first else 0) for value in body["tags"].values())
         for zoom in zooms:
             (left, right), (top, bottom) = covered(box, zoom)
-            self.archive += tile_bytes(shape, path, zoom, (right - left + 1) * (bottom - top + 1), tags)
+            self.archive += tile_bytes(shape, segments, zoom, (right - left + 1) * (bottom - top + 1), tags)
             if len(self.tiles) < MOST_TILES:
                 self.tiles.update((zoom, column, row) for column in range(left, right + 1) for row in range(top, bottom + 1))
 
     def area(self):
         """The sectors of snapshot and archive."""
-        return -(-self.snapshot // SECTOR) + -(-self.archive // SECTOR)
+        return -(-self.snapshot // SECTOR) + -(-(self.archive + TILE_BYTES * len(self.tiles)) // SECTOR)
 
     def lines(self):
         """What a user reads of them."""
@@ -74,23 +76,29 @@ class Sizes:
             yield f"warning: an archive has at most {MOST_ENTRIES:,} entries, and equal neighbours alone share one: end features at a smaller --maxzoom"
 
 
-def path_of(shape):
-    """The length of all its lines or rings in units of the world."""
-    return sum(math.dist(a, b) for chain in chains(shape) for a, b in zip(chain, chain[1:])) if shape[0] != "points" else 0
+def segments_of(shape):
+    """Width, height and length of each segment of its lines or rings, in units of the world."""
+    if shape[0] == "points":
+        return []
+    pairs = [pair for chain in chains(shape) for pair in zip(chain, chain[1:])]
+    return [(abs(a[0] - b[0]), abs(a[1] - b[1]), math.dist(a, b)) for a, b in pairs]
 
 
-def tile_bytes(shape, path, zoom, tiles, tags):
+def tile_bytes(shape, segments, zoom, tiles, tags):
     """About how many bytes a shape has in the tiles of a zoom."""
     points, unit, front = count(shape), 1 << (20 - zoom), 12 + tags
     if shape[0] == "points":
         return points * (front + 5)
+    path = sum(length for _, _, length in segments)
     kept = min(points, path / unit + 1)
     step = path / kept / unit
     each = 2 if step < 64 else 4 if step < 8192 else 6
     if shape[0] == "polygons":
         return round(tiles * (front + kept * each)) if path / unit > 2 else 0
-    tiles = min(tiles, path / unit / 2731 + 1)
-    return round(tiles * (front + 6) + kept * each)
+    # A segment is in each tile of its box.
+    side = 4096 * unit
+    more = sum((wide / side + 1) * (high / side + 1) - 1 for wide, high, _ in segments)
+    return round(min(tiles, more + 1) * (front + 3) + (kept + more) * each)
 
 
 def is_heavy(shape, zooms):

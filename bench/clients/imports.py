@@ -3,6 +3,7 @@
 Files are written here as GeoJSON and made into other formats by ogr2ogr. Wanted coordinates are computed from the formula of Web Mercator.
 """
 import http.client
+import http.server
 import json
 import math
 import os
@@ -98,8 +99,17 @@ def lists_of(row, depth):
     return lists if row["geometry"]["type"].startswith("Multi") else [lists]
 
 
+def estimated(cases, server, name, lines):
+    """Shows whether the import's estimate of an area is between a half and the double of what a publication takes."""
+    said = next(int(found[1].replace(",", "")) for line in lines if (found := re.search(r"about ([\d,]+) of an area", line)))
+    taken = json.loads(curl(server.url + "/publish/begin", "-X", "POST")[2])["left"] - 1
+    curl(server.url + "/publish/cancel", "-X", "POST")
+    cases.show(f"large: the estimate of an area, {name}", taken / 2 <= said <= taken * 2, True)
+    cases.say(f"{said} sectors were estimated, {taken} are taken")
+
+
 def large(cases, folder):
-    """A parish of 3 km, a county of 50 km with a lake, a line of 300 km with two points: cut, and right in each tile."""
+    """A parish of 3 km, a county of 50 km with a lake, a line of 300 km with two points, a river of 6,001: cut, and right in each tile."""
     if not has_gdal(cases):
         return
     lake = round_ring(11, 50, 12000, 300)
@@ -108,17 +118,19 @@ def large(cases, folder):
         row("Polygon", [round_ring(11, 50, 50000, 2350), lake], name="county"),
         row("LineString", [[8, 49], [12, 50]], name="line"),
         row("Polygon", [[[10, 49], [10.001, 49], [10.001, 49.001], [10, 49]]], name="garden"),
+        row("LineString", [[8 + at / 1500, 49 + at / 6000 + 0.05 * math.sin(at / 40)] for at in range(6001)], name="river"),
     ]
     path = written(folder, "large.geojson", rows)
     with Server(folder, "large", 65536) as server:
         status, lines = imported(path, server.url, "--layer", "area", "--minzoom", "6", "--first", "101")
-        made = [re.match(r"feature (\d+) is cut into ([\d,]+) pieces(?: and ([\d,]+) of its outline)?$", line) for line in lines[:3]]
-        cases.show("large: parish, county and line are cut", (status, all(made), lines[-1].endswith(" taken, 0 refused")), (0, True, True))
+        made = [re.match(r"feature (\d+) is cut into ([\d,]+) pieces(?: and ([\d,]+) of its outline)?$", line) for line in lines[:4]]
+        cases.show("large: parish, county, line and river are cut", (status, all(made), lines[-1].endswith(" taken, 0 refused")), (0, True, True))
         if not all(made):
             cases.say(str(lines))
             return
         total = int(lines[-1].split()[0])
         cases.show("large: so many pieces, and the garden as it is", total, sum(int(n.replace(",", "")) for m in made for n in m.groups()[1:] if n) + 1)
+        estimated(cases, server, "large", lines)
         curl(server.url + "/publish", "-X", "POST")
         archive = os.path.join(folder, "large.pmtiles")
         subprocess.run(["curl", "--silent", "--output", archive, server.url + "/map.pmtiles"], check=True)
@@ -127,20 +139,21 @@ def large(cases, folder):
         cases.say(f"{total} features, {read['contents']} contents, coordinates from {read['least']:.0f} to {read['greatest']:.0f}")
         cases.show("large: the archive has less than 2 MB", os.path.getsize(archive) < 2000000, True)
         saved = features_between(server, folder, 101, 100 + total)
-        names = {"parish": 0, "county": 1, "line": 2, "garden": 3}
+        names = {"parish": 0, "county": 1, "line": 2, "garden": 3, "river": 4}
         for name, at in names.items():
             mine = [piece for piece in saved.values() if piece["properties"]["name"] == name]
             wholes = {piece["properties"].get("whole") for piece in mine}
             first = min(number for number, piece in saved.items() if piece["properties"]["name"] == name)
             cases.show(f"large: the pieces of the {name} name the whole", wholes, {None if name == "garden" else first})
             areas = [piece for piece in mine if piece["layer"] == "area"]
-            given = [[world(*place) for place in ring] for ring in (rows[at]["geometry"]["coordinates"] if name != "line" else [])]
-            if name == "line":
+            given = [[world(*place) for place in ring] for ring in (rows[at]["geometry"]["coordinates"] if name not in ("line", "river") else [])]
+            if name in ("line", "river"):
                 found = sum(math.dist(a, b) for piece in areas for line in lists_of(piece, 1) for a, b in zip(line, line[1:]))
-                wanted = math.dist(*[world(*place) for place in rows[at]["geometry"]["coordinates"]])
+                places = [world(*place) for place in rows[at]["geometry"]["coordinates"]]
+                wanted = sum(math.dist(a, b) for a, b in zip(places, places[1:]))
             else:
                 found, wanted = sum(area_of(rings) for piece in areas for rings in lists_of(piece, 2)), area_of([ring[:-1] for ring in given])
-            cases.show(f"large: the pieces of the {name} are together the whole", abs(found / wanted - 1) < (1e-6 if name != "garden" else 1e-3), True)
+            cases.show(f"large: the pieces of the {name} are together the whole", abs(found / wanted - 1) < (1e-3 if name == "garden" else 1e-5), True)
             if name in ("parish", "county"):
                 outlines = [piece for piece in mine if piece["layer"] == "area-outline"]
                 found = sum(math.dist(a, b) for piece in outlines for line in lists_of(piece, 1) for a, b in zip(line, line[1:]))
@@ -150,10 +163,14 @@ def large(cases, folder):
         cases.show("large: the same command again: the same features", (again[0], features_between(server, folder, 101, 110 + total)), (0, saved))
     with Server(folder, "whole", 65536) as server:
         status, lines = imported(written(folder, "parish.geojson", rows[:1]), server.url, "--layer", "area", "--minzoom", "6", "--no-split")
-        wanted = [r"warning: feature 1 is 3\.\d km wide and 3\.\d km high: wrong in some renderers at zooms 13 to 14"]
+        wanted = r"warning: feature 1 is 3\.\d km wide and 3\.\d km high: wrong in some renderers at zooms 13 to 14"
         found = [line for line in lines if line.startswith("warning")]
-        cases.show("large: --no-split tells what will be wrong", (status, bool(found) and bool(re.fullmatch(wanted[0], found[0])), lines[-1]), (0, True, "1 taken, 0 refused"))
-        status, lines = imported(path, server.url, "--layer", "area", "--minzoom", "6", "--sectors", "4096", "--publish", "--split-zoom", "16", "--maxzoom", "16")
+        right = bool(found) and re.fullmatch(wanted, found[0]) is not None
+        cases.show("large: --no-split tells what will be wrong", (status, right, lines[-1]), (0, True, "1 taken, 0 refused"))
+        status, lines = imported(written(folder, "line.geojson", rows[2:3]), server.url, "--layer", "area", "--minzoom", "6", "--no-split", "--first", "2")
+        estimated(cases, server, "a line that isn't cut", lines)
+        words = ["--layer", "area", "--minzoom", "6", "--maxzoom", "16", "--sectors", "4096", "--publish"]
+        status, lines = imported(path, server.url, *words)
         cases.show("large: what can't be published isn't begun", (status, lines[-1], "4,096 sectors has 1,534" in lines[-2]), (1, "nothing was sent", True))
 
 
@@ -257,7 +274,8 @@ def kinds(cases, folder, server):
     middle = (world(0, 10)[1] + world(0, 11)[1]) / 2
     wanted = [[world(179, 10), (WORLD - 1, middle)], [(0, middle), world(-179, 11)]]
     cases.show("import: a line over the 180th meridian is two", len(lines) == 2 and all(is_near(*pair) for pair in zip(lines, wanted)), True)
-    boxes = [[min(p[0] for p in rings[0]), max(p[0] for p in rings[0])] for rings in (shown(server, 1303) or {"geometry": {"polygons": []}})["geometry"]["polygons"]]
+    polygons = (shown(server, 1303) or {"geometry": {"polygons": []}})["geometry"]["polygons"]
+    boxes = [[min(x for x, _ in rings[0]), max(x for x, _ in rings[0])] for rings in polygons]
     wanted = [[world(177, 0)[0], WORLD - 1], [0, world(-178, 0)[0]]]
     cases.show("import: a polygon over it is two", is_near(sorted(boxes, reverse=True), wanted), True)
     status, lines = imported(path, server.url, "--layer", "k", "--maxzoom", "4", "--first", "1301", "--cut-texts")
@@ -311,6 +329,7 @@ def imports(cases, folder):
         for part in (formats, encodings, kinds, numbers, through_nginx):
             part(cases, folder, server)
     stops(cases, folder)
+    too_many(cases, folder)
     interrupted(cases, folder)
 
 
@@ -325,6 +344,39 @@ def stops(cases, folder):
         cases.show("import: --publish stops at AreaFull", (status, stopped is not None, taken is not None), (1, True, True))
         if stopped and taken:
             cases.show("import: and told the feature behind the last one taken", int(stopped[1]), int(taken[1]) + 1)
+
+
+class Refuses(http.server.BaseHTTPRequestHandler):
+    """A server whose journal is full, and whose map has too many tiles for an archive."""
+
+    def reply(self, status, content):
+        self.rfile.read(int(self.headers.get("content-length", 0)))
+        self.send_response(status)
+        self.send_header("content-length", str(len(content)))
+        self.end_headers()
+        self.wfile.write(content)
+        self.server.asked.append(f"{self.command} {self.path}")
+
+    def do_PUT(self):
+        self.reply(507, b"JournalFull need 1 free 0\n")
+
+    def do_POST(self):
+        self.reply(507, b"TooManyTiles\n")
+
+    def log_message(self, *_):
+        pass
+
+
+def too_many(cases, folder):
+    """A stand-in for a server that has too many tiles: 131,072 entries would take minutes to make."""
+    path = written(folder, "many.geojson", [row("Point", [at, at]) for at in range(9)])
+    with http.server.HTTPServer(("127.0.0.1", 0), Refuses) as server:
+        server.asked = []
+        threading.Thread(target=server.serve_forever, daemon=True).start()
+        status, lines = imported(path, f"http://127.0.0.1:{server.server_port}", "--layer", "p", "--publish")
+        server.shutdown()
+        stopped = lines[-2].startswith("stopped at feature 1: TooManyTiles (")
+        cases.show("import: --publish stops at TooManyTiles", (status, stopped, server.asked), (1, True, ["PUT /features/1", "POST /publish/begin"]))
 
 
 def interrupted(cases, folder):
