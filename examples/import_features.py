@@ -24,9 +24,11 @@ Attributes become tags: texts, integers and booleans as they are, whole numbers 
 attributes are left out, lists and objects are dropped and reported. --layer-field names the attribute that is the layer's name instead of a
 tag. --cut-texts cuts texts of over 1,024 bytes, which are refused else.
 
-Before it sends, it prints what the import will need of journal and areas; with --sectors N, the size that the disk was formatted with, it
-sends nothing that can't be published (--anyway sends it). With --publish a publication by steps frees the journal whenever it is full. It
-stops at the first refusal that all further features would get (a full journal, a map that can't be published, a failed disk).
+Before it sends, it prints what the import will need of journal and areas. With --sectors N, the size that the disk was formatted with, it
+asks the server what the map takes of an area (by a publication that it begins and cancels), and sends nothing that can't be published;
+features that replace others are counted as further ones, and --anyway sends it all the same. With --publish a publication by steps frees
+the journal whenever it is full. It stops at the first refusal that all further features would get (a full journal, a map that can't be
+published, a failed disk).
 
 It prints a line for each thousand features, one for each refused one with the reason, and the counts at the end. It ends with 1 if a feature
 was refused or it stopped, with 130 if it was interrupted.
@@ -185,9 +187,11 @@ class Plan:
         sectors = self.words.sectors
         if sectors is None:
             return True
-        need = self.sizes.area() + -(-client.archive_bytes() // 512)
+        used = client.area_used()
+        need = self.sizes.area() + used
+        print(f"the map takes {used:,} sectors of an area, which has {area_of(sectors):,}", flush=True)
         if need > area_of(sectors):
-            print(f"an area of a disk of {sectors:,} sectors has {area_of(sectors):,}, about {need:,} would be needed: --sectors {disk_for(need)} is enough")
+            print(f"about {need:,} would be needed: move the map to a disk of {disk_for(need):,} sectors (docs/DEPLOYING.md)")
             return self.words.anyway
         if self.sizes.journal > sectors // 4 and not self.words.publish:
             print(f"the journal of a disk of {sectors:,} sectors has {sectors // 4:,}: give --publish")

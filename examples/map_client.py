@@ -111,10 +111,21 @@ class Client:
             raise Stopped(f"/map.pmtiles: {status} {word(archive)}")
         return layers_in(archive)
 
-    def archive_bytes(self):
-        """The length of the published archive, 0 if there is none."""
-        status, _ = self.ask("HEAD", "/map.pmtiles")
-        return int(self.length or 0) if status == 200 else 0
+    def area_used(self):
+        """The sectors that the map takes of an area now: those of a publication that is begun and cancelled."""
+        status, content = self.ask("POST", "/publish/begin")
+        if status == 200:
+            self.ask("POST", "/publish/cancel")
+            return json.loads(content)["left"] - 1
+        words = word(content).split(" ")
+        if words[0] == "AreaFull":
+            return int(words[2])
+        if words[0] == "Busy":
+            # Somebody else publishes: the archive before it is known.
+            status, _ = self.ask("HEAD", "/map.pmtiles")
+            return -(-int(self.length or 0) // 512) if status == 200 else 0
+        self.stop_at(status, content)
+        raise Stopped(f"/publish/begin: {status} {word(content)}")
 
 
 def word(content):

@@ -171,7 +171,25 @@ def large(cases, folder):
         estimated(cases, server, "a line that isn't cut", lines)
         words = ["--layer", "area", "--minzoom", "6", "--maxzoom", "16", "--sectors", "4096", "--publish"]
         status, lines = imported(path, server.url, *words)
-        cases.show("large: what can't be published isn't begun", (status, lines[-1], "4,096 sectors has 1,534" in lines[-2]), (1, "nothing was sent", True))
+        said = [lines[-1], "which has 1,534" in lines[-3], re.match(r"about [\d,]+ would be needed: ", lines[-2]) is not None]
+        cases.show("large: what can't be published isn't begun", (status, said), (1, ["nothing was sent", True, True]))
+    a_second_time(cases, folder)
+
+
+def a_second_time(cases, folder):
+    """A file that fits on its disk once: --sectors counts what the map has."""
+    rows = [row("Point", [at / 10, at / 10], name=f"{at} " + "x" * 1000) for at in range(250)]
+    path = written(folder, "second.geojson", rows)
+    words = ["--layer", "p", "--maxzoom", "0", "--sectors", "4096", "--publish"]
+    with Server(folder, "second", 4096) as server:
+        status, lines = imported(path, server.url, *words)
+        said = ["the map takes 0 sectors of an area, which has 1,534", "250 taken, 0 refused"]
+        cases.show("large: --sectors, what fits", (status, lines[-2:]), (0, said))
+        status, lines = imported(path, server.url, *words, "--first", "1001")
+        taken = re.fullmatch(r"the map takes ([\d,]+) sectors of an area, which has 1,534", lines[-3])
+        cases.show("large: --sectors, what doesn't fit beside it", (status, taken is not None, lines[-1]), (1, True, "nothing was sent"))
+        left = json.loads(curl(server.url + "/publish/begin", "-X", "POST")[2])["left"] - 1
+        cases.show("large: what the map takes", taken and int(taken[1].replace(",", "")), left)
 
 
 # ---- files
