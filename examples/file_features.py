@@ -66,9 +66,11 @@ class Reader:
                 raise Unreadable(f"the layer {layer.GetName()} has no coordinate system: name it with --crs, as in --crs EPSG:4326")
             source = osr.SpatialReference()
             try:
-                source.SetFromUserInput(self.crs)
-            except RuntimeError as fault:
-                raise Unreadable(f"GDAL knows no coordinate system {self.crs}") from fault
+                known = source.SetFromUserInput(self.crs) == ogr.OGRERR_NONE
+            except RuntimeError:
+                known = False
+            if not known:
+                raise Unreadable(f"GDAL knows no coordinate system {self.crs}")
         source = source.Clone()
         target = osr.SpatialReference()
         target.ImportFromEPSG(3857)

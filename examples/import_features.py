@@ -49,6 +49,8 @@ NUMBER_END = 2 ** 63
 # With --id, piece k of the feature of number n has the number n + k * PIECE.
 PIECE = 2 ** 40
 OUTLINE = "-outline"
+# Cut features that are named each; the rest is counted.
+MOST_NAMED = 20
 
 
 def encoded(body):
@@ -76,6 +78,8 @@ class Plan:
             projection = self.reader.projection(layer)
             for feature in layer:
                 self.add(feature, projection)
+        if self.cut > MOST_NAMED:
+            print(f"and {self.cut - MOST_NAMED:,} more features are cut", flush=True)
 
     def add(self, feature, projection):
         """Plans a feature."""
@@ -148,7 +152,8 @@ class Plan:
         if shape[0] == "polygons" and not self.words.no_outlines:
             outlines = self.pieces(on_the_world(outline(shape))[0], tags, layer)
         self.cut += 1
-        print(f"feature {number} is cut into {len(pieces):,} pieces{f' and {len(outlines):,} of its outline' if outlines else ''}", flush=True)
+        if self.cut <= MOST_NAMED:
+            print(f"feature {number} is cut into {len(pieces):,} pieces{f' and {len(outlines):,} of its outline' if outlines else ''}", flush=True)
         made, tags = [], {**tags, self.words.whole: number}
         for at, piece in enumerate([*pieces, *outlines]):
             own = number + at * (1 if self.words.id is None else PIECE)
@@ -159,12 +164,14 @@ class Plan:
         return made
 
     def pieces(self, shape, tags, layer):
-        """The pieces of a shape that have an extent at the greatest zoom, or all if none has."""
+        """The pieces of a shape that are shown at the greatest zoom, or all if none is."""
         rest = {"layer": layer + OUTLINE, "minzoom": 0, "maxzoom": 16, "geometry": {"polygons": []}, "tags": {**tags, self.words.whole: NUMBER_END}}
         body = len(encoded(rest))
         made = [piece for piece in map(rounded, self.cutter.pieces(shape, body, body)) if piece]
         shown = [piece for piece in made if is_shown(piece, self.words.maxzoom)]
-        return shown or made[:1]
+        if not made:
+            raise Unfit("it is too narrow to be cut")
+        return shown or made
 
     def checked(self, number, body, shape):
         """The body of a feature. Reports what will be wrong of it."""
@@ -226,9 +233,10 @@ class Import:
                 print(f"        {self.taken} taken, {self.refused} refused so far, {rate:,.0f} a second", flush=True)
 
     def replace(self, there, names):
-        """Deletes the features of layers that the plan doesn't have."""
+        """Deletes the features of layers that the plan doesn't have. Features that were refused keep their pieces."""
         for number in sorted(number for number, name in there.items() if name in names):
-            if number not in self.plan.layers and number not in self.plan.kept:
+            whole = number if self.plan.words.id is None else number % PIECE
+            if number not in self.plan.layers and whole not in self.plan.kept:
                 self.last = number
                 refusal = self.client.edit("DELETE", number)
                 if refusal:
@@ -265,6 +273,8 @@ def asked():
     words = parser.parse_args()
     if (words.layer is None) == (words.layer_field is None):
         parser.error("give one of --layer and --layer-field")
+    if words.replace is not None and words.layer not in (None, words.replace):
+        parser.error("--replace and --layer name two layers")
     if not 0 <= words.minzoom <= words.maxzoom <= 16:
         parser.error("--minzoom and --maxzoom are zooms from 0 to 16, --minzoom not above --maxzoom")
     if words.split_zoom is not None and not 0 <= words.split_zoom <= 20:
@@ -295,6 +305,11 @@ def main():
         plan.read()
     except Unreadable as fault:
         sys.exit(str(fault))
+    except RuntimeError as fault:
+        sys.exit(f"GDAL can't read {words.file}: {fault}")
+    except KeyboardInterrupt:
+        print("interrupted: nothing was sent")
+        return 130
     reader.notes.show()
     client = Client(words.url, words.publish)
     work, there = Import(plan, client), {}
