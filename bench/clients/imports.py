@@ -399,7 +399,8 @@ def too_many(cases, folder):
 
 def interrupted(cases, folder):
     """An import that is interrupted, and run again, beside one that isn't."""
-    rows = [row("Polygon", [[[at, 10], [at + 0.02, 10], [at + 0.02, 10.02], [at, 10.02], [at, 10]]], name=str(at)) for at in range(60)]
+    corners = [(0, 0), (0.02, 0), (0.02, 0.02), (0, 0.02), (0, 0)]
+    rows = [row("Polygon", [[[at / 5 + x, 10 + y] for x, y in corners]], name=str(at)) for at in range(400)]
     path = written(folder, "interrupted.geojson", rows)
     words = ["--layer", "p", "--minzoom", "12", "--publish"]
     with Server(folder, "whole_import", 16384) as whole, Server(folder, "cut_import", 16384) as server:
