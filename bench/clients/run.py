@@ -25,6 +25,7 @@ import time
 from imports import disk_full, imports, kills, large
 from stand import BYTES, EXAMPLES, HALF, JSON, METADATA, MVT, PROGRAM, ROOT, SHOWN, SYSTEM_PYTHON, TEXT, TILE
 from stand import Cases, Nginx, Server, curl, feature, field, parsed, refusal, same, status_of, wanted
+from units import units
 
 
 def archive():
@@ -570,6 +571,7 @@ def main():
         "disk-full": disk_full,
         "kills": kills,
         "nginx": in_front,
+        "units": units,
     }
     words = sys.argv[2:]
     if not set(words) <= set(parts):
