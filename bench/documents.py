@@ -9,7 +9,7 @@ any lines, `[..]` in a line any characters. Blocks marked `sh` are commands that
 registry, the network); they are counted, and not run.
 
 The commands of a page run in one bash, in order, in a fresh folder with copies of examples/, docs/ and crates/vtserve/stdin, as in a
-clone, with PROGRAM on the PATH. Each page has its own network, processes, /etc, /usr/local and /var/lib (`unshare` and an overlay, so
+clone, with PROGRAM in crates/vtserve/out/ and on the PATH. Each page has its own network, processes, /etc, /usr/local and /var/lib (`unshare` and an overlay, so
 this needs root on Linux): ports and paths are as written, and nothing of the machine changes. Prints each difference and the counts,
 and ends with 1 if there is a difference. --show prints all that the commands print.
 """
@@ -140,8 +140,9 @@ def run_page(page, program, show):
             shutil.copytree(os.path.join(TOP, name), os.path.join(folder, name))
         os.makedirs(f"{folder}/crates/vtserve")
         shutil.copy(os.path.join(TOP, "crates", "vtserve", "stdin"), f"{folder}/crates/vtserve/stdin")
-        os.makedirs(f"{scratch}/bin")
-        shutil.copy(program, f"{scratch}/bin/vtserve")
+        for place in (f"{scratch}/bin", f"{folder}/crates/vtserve/out"):
+            os.makedirs(place)
+            shutil.copy(program, f"{place}/vtserve")
         with open(os.path.join(TOP, page), encoding="utf-8") as file:
             rows, left_out = commands(file.read())
         shell, differ = Shell(folder, f"{scratch}/bin/vtserve"), 0

@@ -25,6 +25,7 @@ STYLES = {
     "building": {"fill": "#cdbfae", "edge": "#a89782"},
     "place": {"point": "#b03a2e"},
 }
+OUTLINE = "-outline"
 OTHER = {"fill": "#dddddd", "edge": "#888888", "line": {None: ("#555555", 2)}, "point": "#333333"}
 
 
@@ -139,6 +140,14 @@ def feature_of(data, keys, values):
     return number, kind, lists, tags
 
 
+def style_of(name):
+    """The style of a layer. The lines of a layer `NAME-outline` are the edges of polygons of the layer NAME that the import cut."""
+    if name.endswith(OUTLINE):
+        style = STYLES.get(name.removesuffix(OUTLINE), OTHER)
+        return {"line": {None: (style["edge"], 0.5)}} if "edge" in style else {}
+    return STYLES.get(name, OTHER)
+
+
 def area(ring):
     """Twice the signed area of a ring: positive for an outer one."""
     return sum(x * to_y - to_x * y for (x, y), (to_x, to_y) in zip(ring, ring[1:] + ring[:1]))
@@ -164,12 +173,13 @@ class Picture:
         for _, kind, lists, tags in features:
             drawn = [self.places(column, row, points) for points in lists]
             if kind == 3 and "fill" in style:
-                self.polygons(style, lists, drawn)
+                # A polygon that the import cut has its outline as lines of another layer.
+                self.polygons(style, lists, drawn, "edge" in style and "whole" not in tags)
             elif kind == 2 and "line" in style:
                 rows = style["line"]
                 colour, width = rows.get(tags.get("kind")) or next(iter(rows.values()))
                 for line in drawn:
-                    board.line(line, fill=colour, width=width * SHARPER, joint="curve")
+                    board.line(line, fill=colour, width=round(width * SHARPER), joint="curve")
                     for x, y in (line[0], line[-1]):
                         far = width * SHARPER / 2
                         board.ellipse([x - far, y - far, x + far, y + far], fill=colour)
@@ -177,14 +187,14 @@ class Picture:
                 for [(x, y)] in drawn:
                     self.labels[(round(x), round(y))] = (style["point"], tags.get("name", ""))
 
-    def polygons(self, style, lists, drawn):
+    def polygons(self, style, lists, drawn, has_edge):
         """Draws polygons by a mask, so that what is below shows in their holes."""
         mask = Image.new("1", self.size)
         board = ImageDraw.Draw(mask)
         for ring, pixels in zip(lists, drawn):
             board.polygon(pixels, fill=1 if area(ring) > 0 else 0)
         self.image.paste(style["fill"], mask=mask)
-        if "edge" in style:
+        if has_edge:
             for pixels in drawn:
                 ImageDraw.Draw(self.image).line([*pixels, pixels[0]], fill=style["edge"], width=SHARPER // 2)
 
@@ -235,7 +245,7 @@ def main():
     picture = Picture(words.zoom, left, top, size)
     for name in names:
         for (column, row), layers in tiles.items():
-            picture.draw(STYLES.get(name, OTHER), column, row, layers.get(name, []))
+            picture.draw(style_of(name), column, row, layers.get(name, []))
     picture.finished().save(words.file, optimize=True)
     print(f"{len(tiles)} tiles, {sum(len(features) for layers in tiles.values() for features in layers.values())} features drawn")
 

@@ -1,274 +1,250 @@
 #!/usr/bin/python3
-"""Puts the features of a file that GDAL reads (GeoJSON, Shapefile, GeoPackage) into the map of a running `vtserve serve`.
+"""Puts the features of a file that GDAL reads (GeoJSON, Shapefile, GeoPackage, CSV, ..) into the map of a running `vtserve serve`.
 
-    /usr/bin/python3 examples/import_features.py examples/survey.geojson --layer survey --minzoom 10 --maxzoom 16 --first 1 \\
-        --url http://127.0.0.1:8080
+    /usr/bin/python3 examples/import_features.py examples/survey.geojson --layer survey --minzoom 10 --first 1 --url http://127.0.0.1:8080
 
-It needs GDAL's Python module (Debian: `python3-gdal`). Features get the numbers from --first on, in the order of the file. A refused
-feature leaves its number free, so the same command run again gives each feature the same number. The layers of a file are read one
-after the other, or only the one that --source names. --crs names the coordinate system of a layer that has none (`EPSG:4326`).
+It needs GDAL's Python module (Debian: `python3-gdal`). The layers of a file are read one after the other, or only the one that --source
+names. --crs names the coordinate system of a layer that has none (`EPSG:4326`), --encoding the encoding of texts if the file doesn't say
+it or says a wrong one (`cp1252`, `latin-1`, `cp437`).
 
-Attributes become tags: texts, integers and booleans as they are, everything else as text; null attributes are left out. With
---layer-field the attribute of that name is the layer's name instead of a tag. With --publish a publication by steps frees the journal
-whenever it is full, and the feature is put again.
+Numbers. Features get the numbers from --first on, in the order of the file. A refused feature leaves its number free, so the same command
+run again, after an interruption too, ends with the same map. With --id FIELD the number is an attribute's value (`FID` is GDAL's own),
+and stays the same if the file changes. With --replace LAYER the features of that layer that the file doesn't have are deleted at the end:
+the map is published for it, because the published tiles tell which features it has; one that no tile shows isn't found.
 
-With --split Z lines and polygons are cut at the tile boundaries of zoom Z, and each piece becomes a feature with a number of its own
-and the same tags. The server doesn't clip features, and some renderers misdraw those that are wider or higher than a tile (2.4 km at
-zoom 14 at the equator; docs/HTTP.md, "Large features", has a table). Choose Z no less than --maxzoom to have every zoom drawn right.
+Large features. The server doesn't clip, and renderers misdraw what is larger than a tile (docs/HTTP.md, "Large features"). So lines and
+polygons that some renderer would draw wrong at a zoom of theirs are cut along the middles of the tiles of --split-zoom, which is --maxzoom,
+and so is what has too many points or covers too many tiles for one feature. Each piece is a feature with a number, the same tags, and the
+tag `whole` (--whole) with the number of the first piece. With --id the pieces after the first have its number plus a multiple of 2^40. A
+cut polygon's outline is put as lines of the layer LAYER-outline with the same tags: draw outlines from there, and from the polygons that
+have no `whole`, and none shows the cuts. --no-split puts features as they are. What stays too large is reported with its size and the zooms
+that will be wrong.
 
-It prints a line for each thousand features, a line for each refused one with the server's error or GDAL's, and at the end the counts.
-It ends with 1 if a feature was refused or the server didn't answer.
+Attributes become tags: texts, integers and booleans as they are, whole numbers as integers, other numbers as texts, dates as ISO texts; null
+attributes are left out, lists and objects are dropped and reported. --layer-field names the attribute that is the layer's name instead of a
+tag. --cut-texts cuts texts of over 1,024 bytes, which are refused else.
+
+Before it sends, it prints what the import will need of journal and areas. With --sectors N, the size that the disk was formatted with, it
+asks the server what the map takes of an area (by a publication that it begins and cancels), and sends nothing that can't be published;
+features that replace others are counted as further ones, and --anyway sends it all the same. With --publish a publication by steps frees
+the journal whenever it is full. It stops at the first refusal that all further features would get (a full journal, a map that can't be
+published, a failed disk).
+
+It prints a line for each thousand features, one for each refused one with the reason, and the counts at the end. It ends with 1 if a feature
+was refused or it stopped, with 130 if it was interrupted.
 """
 import argparse
-import http.client
+import codecs
 import json
-import math
 import sys
-import urllib.parse
+import tempfile
+import time
 
-from osgeo import gdal, ogr, osr
+from file_features import Reader, Unreadable
+from import_sizes import Sizes, area_of, disk_for, is_heavy
+from map_client import Client, NoAnswer, Stopped
+from world_shapes import MOST_BODY, Cutter, Unfit, count, is_shown, list_count, on_the_world, outline, rounded, size, wrong_zooms
 
-WORLD = 2 ** 32
-HALF = 20037508.342789244
-WHY = {
-    "Json": "the body is no JSON text",
-    "Body": "the body has over 65,536 bytes",
-    "E1 Member": "a member is missing, unknown or of another kind",
-    "E3 Layer": "the name of the layer has not 1 to 64 bytes",
-    "E4 Zoom": "minzoom is above maxzoom, or maxzoom above 16",
-    "E5 Geometry": "a line, a ring or a list is too short, or has over 65,535 items",
-    "E6 Tags": "over 64 tags, or a name of one has not 1 to 64 bytes",
-    "E7 Value": "a text of a tag has over 1,024 bytes, or a number is outside the range",
-    "E8 Long": "the feature's text has over 32,768 bytes: cut it into several, or leave points out",
-    "E9 Reach": "it covers over 65,536 tiles: begin at a greater minzoom, or end at a smaller maxzoom",
-    "Memory": "the server's memory ran out",
-    "Device": "the server's disk failed: it may be stored or not",
-    "Broken": "the server's disk has failed before",
-}
-NAMES = {
-    ogr.wkbPoint: "points",
-    ogr.wkbMultiPoint: "points",
-    ogr.wkbLineString: "lines",
-    ogr.wkbMultiLineString: "lines",
-    ogr.wkbPolygon: "polygons",
-    ogr.wkbMultiPolygon: "polygons",
-}
+NUMBER_END = 2 ** 63
+# With --id, piece k of the feature of number n has the number n + k * PIECE.
+PIECE = 2 ** 40
+OUTLINE = "-outline"
+# Cut features that are named each; the rest is counted.
+MOST_NAMED = 20
 
 
-class Unfit(Exception):
-    """Why a feature of the file can't be put."""
+def encoded(body):
+    """A body as it is sent."""
+    return json.dumps(body, ensure_ascii=False, separators=(",", ":")).encode()
 
 
-class NoAnswer(Exception):
-    """Why a request has no reply."""
+class Plan:
+    """What is to be sent: made of the whole file before anything is, and kept in a file."""
 
+    def __init__(self, words, reader):
+        self.words, self.reader = words, reader
+        self.zooms = range(words.minzoom, words.maxzoom + 1)
+        self.cutter = Cutter(self.zooms, words.maxzoom if words.split_zoom is None else words.split_zoom)
+        self.spool = tempfile.TemporaryFile()
+        self.sizes = Sizes()
+        self.layers = {}
+        self.next = words.first
+        self.refused = self.cut = 0
+        self.kept = set()
 
-def place(x, y):
-    """The point of the world of a point of Web Mercator."""
-    found = []
-    for share in ((x + HALF) / (2 * HALF), (HALF - y) / (2 * HALF)):
-        if not math.isfinite(share):
-            raise Unfit("a point has no place in Web Mercator")
-        whole = math.floor(share * WORLD)
-        if not -1 <= whole <= WORLD:
-            raise Unfit("a point is outside of the world (180 degrees east and west, 85.05 north and south)")
-        found.append(min(max(whole, 0), WORLD - 1))
-    return found
+    def read(self):
+        """Plans the features of all layers."""
+        for layer in self.reader.layers:
+            projection = self.reader.projection(layer)
+            for feature in layer:
+                self.add(feature, projection)
+        if self.cut > MOST_NAMED:
+            print(f"and {self.cut - MOST_NAMED:,} more features are cut", flush=True)
 
-
-def places(geometry):
-    """The points of a line or ring."""
-    return [place(*geometry.GetPoint_2D(at)) for at in range(geometry.GetPointCount())]
-
-
-def ring(geometry):
-    """The points of a ring, without the last one where it repeats the first."""
-    points = places(geometry)
-    return points[:-1] if len(points) > 1 and points[0] == points[-1] else points
-
-
-def parts(geometry):
-    """The parts of a geometry of several, or the geometry itself."""
-    if geometry.GetGeometryName().startswith("MULTI"):
-        return [geometry.GetGeometryRef(at) for at in range(geometry.GetGeometryCount())]
-    return [geometry]
-
-
-def projected(geometry, projection):
-    """The name of the geometry's kind, and the geometry in Web Mercator."""
-    if geometry is None or geometry.IsEmpty():
-        raise Unfit("it has no geometry")
-    geometry = geometry.GetLinearGeometry()
-    geometry.FlattenTo2D()
-    name = NAMES.get(geometry.GetGeometryType())
-    if name is None:
-        raise Unfit(f"a {geometry.GetGeometryName()} is no kind of geometry that a feature has")
-    if geometry.Transform(projection) != ogr.OGRERR_NONE:
-        raise Unfit("it can't be projected to Web Mercator")
-    return name, geometry
-
-
-def shape(name, geometry):
-    """The geometry as the member of a feature."""
-    if name == "points":
-        return {name: [place(*part.GetPoint_2D(0)) for part in parts(geometry)]}
-    if name == "lines":
-        return {name: [places(part) for part in parts(geometry)]}
-    return {name: [[ring(part.GetGeometryRef(at)) for at in range(part.GetGeometryCount())] for part in parts(geometry)]}
-
-
-def cuts(name, geometry, zoom):
-    """The geometry cut at the tile boundaries of a zoom: for each tile that it meets, the part inside."""
-    if name == "points":
-        return [geometry]
-    if name == "polygons" and not geometry.IsValid():
-        geometry = geometry.MakeValid()
-        if geometry is None:
-            raise Unfit("it is no valid polygon, and can't be cut")
-    found = []
-    cut_into(found, name, geometry, zoom, 0, 0, 0)
-    if not found:
-        raise Unfit("nothing of it is inside of the world (180 degrees east and west, 85.05 north and south)")
-    return found
-
-
-def cut_into(found, name, geometry, zoom, level, column, row):
-    """Adds the parts of a geometry inside of a tile of a level: quarter by quarter, down to the zoom."""
-    side = 2 * HALF / 2 ** level
-    left, top = column * side - HALF, HALF - row * side
-    west, east, south, north = geometry.GetEnvelope()
-    if west > left + side or east < left or south > top or north < top - side:
-        return
-    if west < left or east > left + side or south < top - side or north > top:
-        corners = [(left, top), (left + side, top), (left + side, top - side), (left, top - side), (left, top)]
-        box = ogr.CreateGeometryFromWkt(f"POLYGON (({', '.join(f'{x!r} {y!r}' for x, y in corners)}))")
-        geometry = whole_part(name, geometry.Intersection(box))
-        if geometry is None:
+    def add(self, feature, projection):
+        """Plans a feature."""
+        number = self.next
+        try:
+            if self.words.id is not None:
+                number = None
+                number = self.number(feature)
+            shape, tags, layer = self.parts(feature, projection)
+            made = self.bodies(number, shape, tags, layer)
+        except (Unfit, RuntimeError) as fault:
+            self.refused += 1
+            if number is None:
+                print(f"feature of the file {feature.GetFID()} refused: not sent: {fault}", flush=True)
+            else:
+                self.kept.add(number)
+                self.next = number + 1
+                print(f"feature {number} refused: not sent: {fault}", flush=True)
             return
-    if level == zoom:
-        found.append(geometry)
-        return
-    for quarter in range(4):
-        cut_into(found, name, geometry, zoom, level + 1, 2 * column + quarter % 2, 2 * row + quarter // 2)
+        for own, body, geometry in made:
+            self.sizes.add(body, geometry, self.zooms, own == number)
+            self.layers[own] = body["layer"]
+            self.spool.write(b"%d %s\n" % (own, encoded(body)))
+        self.next = number + len(made)
+
+    def number(self, feature):
+        """The number of a feature, from the attribute that --id names."""
+        name = self.words.id
+        at = feature.GetFieldIndex(name)
+        if at < 0 and name.upper() == "FID":
+            value = feature.GetFID()
+        elif at < 0 or not feature.IsFieldSetAndNotNull(at):
+            raise Unfit(f"it has no {name}")
+        else:
+            value = self.reader.value(feature, at, name)
+        if not str(value).isdecimal() or not int(value) < PIECE:
+            raise Unfit(f"its {name} is {value!r}: a number from 0 to {PIECE - 1:,} is needed")
+        if int(value) in self.layers or int(value) in self.kept:
+            raise Unfit(f"its {name} is {value}, and an earlier feature has the same")
+        return int(value)
+
+    def parts(self, feature, projection):
+        """The shape on the world, the tags and the layer of a feature."""
+        shape = self.reader.shape(feature.GetGeometryRef(), projection)
+        tags = self.reader.tags(feature)
+        layer = self.words.layer
+        if self.words.layer_field:
+            layer = tags.pop(self.words.layer_field, None)
+            if layer is None:
+                raise Unfit(f"it has no attribute {self.words.layer_field}")
+        return shape, tags, str(layer)
+
+    def bodies(self, number, shape, tags, layer):
+        """The features to put, each with its number and its shape of integers."""
+        rest = {"layer": layer, "minzoom": self.words.minzoom, "maxzoom": self.words.maxzoom}
+        on_world, crosses = on_the_world(shape)
+        if crosses:
+            self.reader.notes.add("cut at the 180th meridian, which they cross")
+        whole = rounded(on_world)
+        if whole is None:
+            raise Unfit("it has no extent and is never shown: its area is 0, or all points of its line are one place")
+        if not is_shown(whole, self.words.maxzoom):
+            self.reader.notes.add(f"no zoom shows them: they are smaller than a unit of a tile of zoom {self.words.maxzoom}")
+        pieces = [whole] if self.words.no_split else self.pieces(on_world, tags, layer)
+        if len(pieces) == 1:
+            return [(number, self.checked(number, {**rest, "geometry": dict([pieces[0]]), "tags": tags}, pieces[0]), pieces[0])]
+        if self.words.whole in tags:
+            raise Unfit(f"it has a tag {self.words.whole}, which names the whole of a piece: give another name by --whole")
+        outlines = []
+        if shape[0] == "polygons" and not self.words.no_outlines:
+            outlines = self.pieces(on_the_world(outline(shape))[0], tags, layer)
+        self.cut += 1
+        if self.cut <= MOST_NAMED:
+            print(f"feature {number} is cut into {len(pieces):,} pieces{f' and {len(outlines):,} of its outline' if outlines else ''}", flush=True)
+        made, tags = [], {**tags, self.words.whole: number}
+        for at, piece in enumerate([*pieces, *outlines]):
+            own = number + at * (1 if self.words.id is None else PIECE)
+            if own >= NUMBER_END:
+                raise Unfit("its pieces have no numbers below 2^63")
+            name = layer if at < len(pieces) else layer + OUTLINE
+            made.append((own, self.checked(own, {**rest, "layer": name, "geometry": dict([piece]), "tags": tags}, piece), piece))
+        return made
+
+    def pieces(self, shape, tags, layer):
+        """The pieces of a shape that are shown at the greatest zoom, or all if none is."""
+        rest = {"layer": layer + OUTLINE, "minzoom": 0, "maxzoom": 16, "geometry": {"polygons": []}, "tags": {**tags, self.words.whole: NUMBER_END}}
+        body = len(encoded(rest))
+        made = [piece for piece in map(rounded, self.cutter.pieces(shape, body, body)) if piece]
+        shown = [piece for piece in made if is_shown(piece, self.words.maxzoom)]
+        if not made:
+            raise Unfit("it is too narrow to be cut")
+        return shown or made
+
+    def checked(self, number, body, shape):
+        """The body of a feature. Reports what will be wrong of it."""
+        length = len(encoded(body))
+        if length > MOST_BODY:
+            raise Unfit(f"its JSON has {length:,} bytes, over {MOST_BODY:,}: {count(shape):,} points in {list_count(shape):,} lists")
+        wrong = wrong_zooms(shape, self.zooms)
+        if wrong:
+            wide, high = size(shape)
+            zooms = f"zoom {wrong[0]}" if len(wrong) == 1 else f"zooms {wrong[0]} to {wrong[-1]}"
+            print(f"warning: feature {number} is {wide / 1000:,.1f} km wide and {high / 1000:,.1f} km high: wrong in some renderers at {zooms}", flush=True)
+        if is_heavy(shape, self.zooms):
+            print(f"warning: feature {number} has {count(shape):,} points in very many tiles: publications will take long", flush=True)
+        return body
+
+    def fits(self, client):
+        """Whether the server's disk has room for it, as far as a client knows. Prints what is needed."""
+        for line in self.sizes.lines():
+            print(line, flush=True)
+        sectors = self.words.sectors
+        if sectors is None:
+            return True
+        used = client.area_used()
+        need = self.sizes.area() + used
+        print(f"the map takes {used:,} sectors of an area, which has {area_of(sectors):,}", flush=True)
+        if need > area_of(sectors):
+            print(f"about {need:,} would be needed: move the map to a disk of {disk_for(need):,} sectors (docs/DEPLOYING.md)")
+            return self.words.anyway
+        if self.sizes.journal > sectors // 4 and not self.words.publish:
+            print(f"the journal of a disk of {sectors:,} sectors has {sectors // 4:,}: give --publish")
+            return self.words.anyway
+        return True
 
 
-def whole_part(name, geometry):
-    """The lines of a cut line, or the polygons of a cut polygon; None if it only touches the tile's edge."""
-    found = ogr.Geometry(ogr.wkbMultiLineString if name == "lines" else ogr.wkbMultiPolygon)
-    gathered(found, "LINESTRING" if name == "lines" else "POLYGON", geometry)
-    return None if found.IsEmpty() else found
+class Import:
+    """The features taken and refused so far."""
 
+    def __init__(self, plan, client):
+        self.plan, self.client = plan, client
+        self.taken = self.deleted = 0
+        self.refused = plan.refused
+        self.began = time.monotonic()
+        self.last = None
 
-def gathered(found, kind, geometry):
-    """Adds the parts of a kind."""
-    if geometry is None:
-        return
-    if geometry.GetGeometryName() == kind:
-        found.AddGeometry(geometry)
-        return
-    for at in range(geometry.GetGeometryCount()):
-        if kind == "POLYGON" or geometry.GetGeometryName() != "POLYGON":
-            gathered(found, kind, geometry.GetGeometryRef(at))
+    def send(self):
+        """Puts the features of the plan."""
+        self.plan.spool.seek(0)
+        for row in self.plan.spool:
+            number, _, body = row.rstrip(b"\n").partition(b" ")
+            self.last = int(number)
+            refusal = self.client.edit("PUT", self.last, body)
+            if refusal:
+                self.refused += 1
+                print(f"feature {self.last} refused: {refusal}", flush=True)
+            else:
+                self.taken += 1
+            if (self.taken + self.refused) % 1000 == 0:
+                rate = (self.taken + self.refused) / max(time.monotonic() - self.began, 0.001)
+                print(f"        {self.taken} taken, {self.refused} refused so far, {rate:,.0f} a second", flush=True)
 
+    def replace(self, there, names):
+        """Deletes the features of layers that the plan doesn't have. Features that were refused keep their pieces."""
+        for number in sorted(number for number, name in there.items() if name in names):
+            whole = number if self.plan.words.id is None else number % PIECE
+            if number not in self.plan.layers and whole not in self.plan.kept:
+                self.last = number
+                refusal = self.client.edit("DELETE", number)
+                if refusal:
+                    raise Stopped(f"DELETE of feature {number}: {refusal}")
+                self.deleted += 1
 
-def tag(feature, at):
-    """The value of a field as that of a tag."""
-    field = feature.GetFieldDefnRef(at)
-    if field.GetType() == ogr.OFTInteger and field.GetSubType() == ogr.OFSTBoolean:
-        return feature.GetFieldAsInteger(at) != 0
-    if field.GetType() in (ogr.OFTInteger, ogr.OFTInteger64):
-        return feature.GetFieldAsInteger64(at)
-    if field.GetType() == ogr.OFTReal:
-        return repr(feature.GetFieldAsDouble(at))
-    text = feature.GetFieldAsString(at)
-    if isinstance(text, bytes):
-        raise Unfit(f"the text of {feature.GetFieldDefnRef(at).GetName()} is no UTF-8")
-    return text
-
-
-def tags(feature):
-    """The fields of a feature that have a value."""
-    return {feature.GetFieldDefnRef(at).GetName(): tag(feature, at) for at in range(feature.GetFieldCount()) if feature.IsFieldSetAndNotNull(at)}
-
-
-def bodies(feature, projection, words):
-    """The features to put: one, or with --split one for each piece."""
-    name, geometry = projected(feature.GetGeometryRef(), projection)
-    attributes = tags(feature)
-    layer = attributes.pop(words.layer_field, None) if words.layer_field else words.layer
-    if layer is None:
-        raise Unfit(f"it has no attribute {words.layer_field}")
-    pieces = [geometry] if words.split is None else cuts(name, geometry, words.split)
-    rest = {"layer": str(layer), "minzoom": words.minzoom, "maxzoom": words.maxzoom, "tags": attributes}
-    return [{**rest, "geometry": shape(name, piece)} for piece in pieces]
-
-
-def ask(url, method, path, body=b""):
-    """The status and the content of the reply to one request, on a connection of its own: the server has others to serve."""
-    kind = http.client.HTTPSConnection if url.scheme == "https" else http.client.HTTPConnection
-    connection = kind(url.netloc, timeout=600)
-    try:
-        connection.request(method, url.path.rstrip("/") + path, body, {"Connection": "close"})
-        reply = connection.getresponse()
-        return reply.status, reply.read().decode("utf-8", "replace").strip()
-    except (OSError, http.client.HTTPException) as fault:
-        raise NoAnswer(f"no reply of {urllib.parse.urlunsplit(url)}: {fault}") from fault
-    finally:
-        connection.close()
-
-
-def publish(url):
-    """Publishes by steps, which frees the journal. Returns the refusal, or an empty text."""
-    status, content = ask(url, "POST", "/publish/begin")
-    while status == 200 and json.loads(content)["left"] > 0:
-        status, content = ask(url, "POST", "/publish/step")
-    return "" if status == 200 else f"{status} {content}"
-
-
-def put(url, number, body, publishes):
-    """Puts one feature. Returns the refusal, or an empty text."""
-    status, content = ask(url, "PUT", f"/features/{number}", body)
-    if status == 507 and content.startswith("JournalFull") and publishes:
-        print("        the journal is full: a publication", flush=True)
-        refusal = publish(url)
-        if refusal:
-            return f"{content}, and the publication was refused: {refusal}"
-        status, content = ask(url, "PUT", f"/features/{number}", body)
-    if status == 200:
-        return ""
-    if content.startswith("JournalFull"):
-        return f"{content} (publish, and put it again)"
-    return f"{content} ({WHY[content]})" if content in WHY else f"{status} {content.splitlines()[0] if content else ''}"
-
-
-def projection_of(layer, crs):
-    """From the layer's coordinate system to Web Mercator, x before y in both."""
-    source = layer.GetSpatialRef()
-    if source is None:
-        if crs is None:
-            sys.exit(f"the layer {layer.GetName()} has no coordinate system: name it with --crs, as in --crs EPSG:4326")
-        source = osr.SpatialReference()
-        if source.SetFromUserInput(crs) != 0:
-            sys.exit(f"GDAL knows no coordinate system {crs}")
-    source = source.Clone()
-    target = osr.SpatialReference()
-    target.ImportFromEPSG(3857)
-    for system in (source, target):
-        system.SetAxisMappingStrategy(osr.OAMS_TRADITIONAL_GIS_ORDER)
-    return osr.CoordinateTransformation(source, target)
-
-
-def layers_of(path, name):
-    """The file, which has to outlive its layers, and those to read."""
-    file = gdal.OpenEx(path, gdal.OF_VECTOR)
-    if file is None:
-        sys.exit(f"GDAL can't read {path}: {gdal.GetLastErrorMsg()}")
-    if name is None:
-        return file, [file.GetLayer(at) for at in range(file.GetLayerCount())]
-    layer = file.GetLayerByName(name)
-    if layer is None:
-        sys.exit(f"{path} has no layer {name}")
-    return file, [layer]
+    def __str__(self):
+        return f"{self.taken} taken, {self.refused} refused" + (f", {self.deleted} deleted" if self.deleted else "")
 
 
 def asked():
@@ -278,81 +254,90 @@ def asked():
     parser.add_argument("--layer", help="the name of their layer in the map")
     parser.add_argument("--layer-field", help="the attribute that holds the name of the layer, instead of --layer")
     parser.add_argument("--minzoom", type=int, default=0, help="the first zoom that shows them (0)")
-    parser.add_argument("--maxzoom", type=int, default=16, help="the last zoom that shows them (16)")
+    parser.add_argument("--maxzoom", type=int, default=14, help="the last zoom that shows them (14)")
     parser.add_argument("--first", type=int, default=1, help="the number of the first feature (1)")
+    parser.add_argument("--id", metavar="FIELD", help="the attribute that holds the number of each feature, instead of --first")
+    parser.add_argument("--replace", metavar="LAYER", help="delete the features of this layer that the file doesn't have")
     parser.add_argument("--url", default="http://127.0.0.1:8080", help="the server (http://127.0.0.1:8080)")
     parser.add_argument("--source", help="the one layer of the file to read (all)")
     parser.add_argument("--crs", help="the coordinate system of a layer that names none")
-    parser.add_argument("--split", type=int, metavar="Z", help="cut lines and polygons at the tile boundaries of zoom Z")
+    parser.add_argument("--encoding", help="the encoding of texts, if the file doesn't say it or says a wrong one")
+    parser.add_argument("--cut-texts", action="store_true", help="cut texts of over 1,024 bytes")
+    parser.add_argument("--split-zoom", type=int, metavar="Z", help="cut large features along the middles of the tiles of zoom Z (--maxzoom)")
+    parser.add_argument("--no-split", action="store_true", help="cut no feature")
+    parser.add_argument("--no-outlines", action="store_true", help="put no outlines of cut polygons")
+    parser.add_argument("--whole", default="whole", metavar="NAME", help="the tag of a piece with the number of the first piece (whole)")
     parser.add_argument("--publish", action="store_true", help="publish by steps when the journal is full")
+    parser.add_argument("--sectors", type=int, metavar="N", help="the sectors of the server's disk: send nothing that can't be published")
+    parser.add_argument("--anyway", action="store_true", help="with --sectors: send it anyway")
     words = parser.parse_args()
     if (words.layer is None) == (words.layer_field is None):
         parser.error("give one of --layer and --layer-field")
-    if words.split is not None and not 0 <= words.split <= 20:
-        parser.error("--split takes a zoom from 0 to 20")
+    if words.replace is not None and words.layer not in (None, words.replace):
+        parser.error("--replace and --layer name two layers")
+    if not 0 <= words.minzoom <= words.maxzoom <= 16:
+        parser.error("--minzoom and --maxzoom are zooms from 0 to 16, --minzoom not above --maxzoom")
+    if words.split_zoom is not None and not 0 <= words.split_zoom <= 20:
+        parser.error("--split-zoom takes a zoom from 0 to 20")
+    if not 0 <= words.first < NUMBER_END:
+        parser.error("--first takes a number from 0 to 2^63 - 1")
+    if words.encoding is not None:
+        try:
+            codecs.lookup(words.encoding)
+        except LookupError:
+            parser.error(f"--encoding: no encoding {words.encoding} is known")
     return words
 
 
-class Numbers:
-    """The next number, and how many features were taken and refused so far."""
-
-    def __init__(self, first):
-        self.first = self.next = first
-        self.taken = self.refused = 0
-
-    def count(self, refusal):
-        """Counts the feature of the next number."""
-        if refusal:
-            self.refused += 1
-            print(f"feature {self.next} refused: {refusal}", flush=True)
-        else:
-            self.taken += 1
-        self.next += 1
-        if (self.next - self.first) % 1000 == 0:
-            print(f"        {self} so far", flush=True)
-
-    def __str__(self):
-        return f"{self.taken} taken, {self.refused} refused"
-
-
-def put_all(url, layer, words, numbers):
-    """Puts the features of a layer."""
-    projection = projection_of(layer, words.crs)
-    for feature in layer:
-        try:
-            made = bodies(feature, projection, words)
-        except (Unfit, RuntimeError) as fault:
-            numbers.count(f"not sent: {fault}")
-            continue
-        for body in made:
-            try:
-                text = json.dumps(body, ensure_ascii=False, separators=(",", ":")).encode()
-            except UnicodeError as fault:
-                numbers.count(f"not sent: {fault}")
-                continue
-            numbers.count(put(url, numbers.next, text, words.publish))
+def taken_by_others(plan, there):
+    """A line for the numbers of the plan that features of other layers have; an empty text if there are none."""
+    others = [number for number, name in plan.layers.items() if there.get(number, name) != name]
+    if not others:
+        return ""
+    return f"{len(others):,} numbers are those of features of other layers, the first is {others[0]} of {there[others[0]]}: give another --first"
 
 
 def main():
     words = asked()
-    url = urllib.parse.urlsplit(words.url)
-    gdal.UseExceptions()
-    gdal.PushErrorHandler("CPLQuietErrorHandler")
     try:
-        file, layers = layers_of(words.file, words.source)
+        reader = Reader(words.file, words.source, words.crs, words.encoding, words.cut_texts)
+        plan = Plan(words, reader)
+        plan.read()
+    except Unreadable as fault:
+        sys.exit(str(fault))
     except RuntimeError as fault:
         sys.exit(f"GDAL can't read {words.file}: {fault}")
-    numbers = Numbers(words.first)
-    for layer in layers:
-        try:
-            put_all(url, layer, words, numbers)
-        except NoAnswer as fault:
-            print(f"feature {numbers.next}: {fault}")
-            print(f"{numbers}, then the server didn't answer: run the same command again")
+    except KeyboardInterrupt:
+        print("interrupted: nothing was sent")
+        return 130
+    reader.notes.show()
+    client = Client(words.url, words.publish)
+    work, there = Import(plan, client), {}
+    try:
+        if not plan.fits(client):
+            print("nothing was sent")
             return 1
-    del file
-    print(numbers)
-    return 1 if numbers.refused else 0
+        if words.replace is not None:
+            there = client.layers()
+            others = taken_by_others(plan, there)
+            if others:
+                print(f"{others}. Nothing was sent")
+                return 1
+        work.send()
+        work.replace(there, (words.replace, f"{words.replace}{OUTLINE}"))
+    except NoAnswer as fault:
+        print(f"feature {work.last or words.first}: {fault}")
+        print(f"{work}, then the server didn't answer: run the same command again")
+        return 1
+    except Stopped as fault:
+        print(f"stopped at feature {work.last or words.first}: {fault}")
+        print(work)
+        return 1
+    except KeyboardInterrupt:
+        print(f"{work}, then it was interrupted: run the same command again")
+        return 130
+    print(work)
+    return 1 if work.refused else 0
 
 
 if __name__ == "__main__":

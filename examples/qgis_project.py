@@ -1,10 +1,11 @@
 #!/usr/bin/env python3
 """Writes a QGIS project with the tiles of a running vtserve as its only layer, with a style for areas, lines and points.
 
-    python3 examples/qgis_project.py map.qgs --url http://127.0.0.1:8000 --maxzoom 16 --centre 7.5,54.5
+    python3 examples/qgis_project.py map.qgs --url http://127.0.0.1:8000 --maxzoom 14 --centre 7.5,54.5
 
 Open the file with QGIS 3.14 or later. --maxzoom is the greatest zoom that the features have: QGIS enlarges the tiles of that zoom for
-greater ones. Needs no package.
+greater ones. Areas have no outlines, which would show where the import cut them: it has put their outlines as lines of a layer of their
+own. --outlines draws outlines of areas. Needs no package.
 """
 import argparse
 import math
@@ -62,17 +63,20 @@ STYLE = """
               </symbol>
             </symbols>
           </style>"""
+AREAS = {"color": "195,223,176,120", "outline_color": "90,120,70,255", "outline_width": "0.1", "outline_style": "no"}
 STYLES = [
-    ("Areas", 2, "Polygon", "fill", "SimpleFill", {"color": "195,223,176,120", "outline_color": "90,120,70,255", "outline_width": "0.1"}),
+    ("Areas", 2, "Polygon", "fill", "SimpleFill", AREAS),
     ("Lines", 1, "Line", "line", "SimpleLine", {"line_color": "176,128,58,255", "line_width": "0.6", "capstyle": "round", "joinstyle": "round"}),
     ("Points", 0, "Point", "marker", "SimpleMarker", {"name": "circle", "color": "176,58,46,255", "outline_color": "255,255,255,255", "size": "2.5"}),
 ]
 
 
-def styled():
-    """The style of areas, of lines and of points of every layer of the tiles."""
+def styled(outlines):
+    """The style of areas, with outlines or without, of lines and of points of every layer of the tiles."""
     made = ""
     for name, geometry, kind, symbol, drawn, values in STYLES:
+        if outlines and "outline_style" in values:
+            values = {**values, "outline_style": "solid"}
         options = "".join(f'\n                    <Option type="QString" name="{key}" value="{value}"/>' for key, value in values.items())
         made += STYLE.format(name=name, geometry=geometry, kind=kind, symbol=symbol, drawn=drawn, options=options)
     return made
@@ -83,7 +87,8 @@ def main():
     parser.add_argument("file", help="the .qgs file that is written")
     parser.add_argument("--url", default="http://127.0.0.1:8000", help="the server, as QGIS reaches it (http://127.0.0.1:8000)")
     parser.add_argument("--name", default="vtserve", help="the name of the layer in QGIS (vtserve)")
-    parser.add_argument("--maxzoom", type=int, default=16, help="the greatest zoom of the features (16)")
+    parser.add_argument("--maxzoom", type=int, default=14, help="the greatest zoom of the features (14)")
+    parser.add_argument("--outlines", action="store_true", help="draw outlines of areas")
     parser.add_argument("--centre", default="7.5,54.5", help="longitude and latitude that the map opens at (7.5,54.5)")
     parser.add_argument("--metres", type=float, default=5000, help="how wide and high the map opens, in metres of Web Mercator (5000)")
     words = parser.parse_args()
@@ -96,7 +101,7 @@ def main():
     project = PROJECT.format(
         name=escape(words.name, {'"': "&quot;"}),
         source=escape(source),
-        styles=styled(),
+        styles=styled(words.outlines),
         system=SYSTEM,
         west=east - half,
         east=east + half,

@@ -1,12 +1,13 @@
 #!/usr/bin/env python3
 """What clients of other makers meet: `vtserve serve` driven by curl, by GDAL, by nginx with docs/nginx.conf, and by wrk.
 
-    python3 bench/clients/run.py [PROGRAM]    PROGRAM is crates/vtserve/out/vtserve, which `rt run` leaves there
+    python3 bench/clients/run.py [PROGRAM [PART..]]    PROGRAM is crates/vtserve/out/vtserve, which `rt run` leaves there
 
 It prints `ok` or `DIFFERS` for each case, with what was wanted, and ends with 1 if one differs. A client that isn't installed is left
-out, and a line says so. Wanted values are those of docs/HTTP.md and docs/FORMATS.md and of the worked tile there, or are computed
-here from the standards, never taken from the program. Disks and folders are scratch; ports are free ones of 127.0.0.1, and of the
-kept nginx configuration the two ports alone are changed. nginx's refusal of foreign addresses is tried as 127.0.0.2.
+out, and a line says so. With PART only these parts run (`large`, `import`, `disk-full`, `kills`, ..; a wrong name lists them). Wanted
+values are those of docs/HTTP.md and docs/FORMATS.md and of the worked tile there, or are computed here from the standards, never taken
+from the program. Disks and folders are scratch; ports are free ones of 127.0.0.1, and of the kept nginx configuration the two ports alone
+are changed, and what a case names. nginx's refusal of foreign addresses is tried as 127.0.0.2.
 """
 import json
 import math
@@ -21,36 +22,10 @@ import sys
 import tempfile
 import time
 
-HERE = os.path.dirname(os.path.abspath(__file__))
-TOP = os.path.join(HERE, "..", "..")
-PROGRAM = os.path.abspath(sys.argv[1] if len(sys.argv) > 1 else os.path.join(TOP, "crates", "vtserve", "out", "vtserve"))
-EXAMPLES = os.path.join(TOP, "examples")
-SYSTEM_PYTHON = "/usr/bin/python3"
-TILE = "1a130a017012090807180122030900002880207802"
-SHOWN = '{"geometry":{"points":[[0,0]]},"layer":"p","maxzoom":2,"minzoom":0,"tags":{}}'
-METADATA = '{"vector_layers":[{"fields":{},"id":"p","maxzoom":2,"minzoom":0}]}'
-ROOT = bytes.fromhex("020005020115150101")
-JSON, TEXT, MVT, BYTES = "application/json", "text/plain", "application/vnd.mapbox-vector-tile", "application/octet-stream"
-PHRASES = {
-    200: "OK",
-    204: "No Content",
-    206: "Partial Content",
-    400: "Bad Request",
-    404: "Not Found",
-    405: "Method Not Allowed",
-    409: "Conflict",
-    413: None,
-    416: None,
-    417: "Expectation Failed",
-    501: "Not Implemented",
-    507: "Insufficient Storage",
-}
-HALF = 20037508.342789244
-
-
-def feature(layer="p", first=0, last=2, geometry=None, tags=None):
-    """The body of a PUT."""
-    return json.dumps({"layer": layer, "minzoom": first, "maxzoom": last, "geometry": geometry or {"points": [[0, 0]]}, "tags": tags or {}})
+from imports import disk_full, imports, kills, large
+from stand import BYTES, EXAMPLES, HALF, JSON, METADATA, MVT, PROGRAM, ROOT, SHOWN, SYSTEM_PYTHON, TEXT, TILE
+from stand import Cases, Nginx, Server, curl, feature, field, parsed, refusal, same, status_of, wanted
+from units import units
 
 
 def archive():
@@ -61,109 +36,6 @@ def archive():
     world = [-1800000000, -850511287, 1800000000, 850511287]
     head = b"PMTiles\x03" + struct.pack("<11Q6B4iB2i", *places, 3, 2, 1, 1, 1, 1, 1, 0, 2, *world, 0, 0, 0)
     return head + ROOT + metadata + tile
-
-
-class Cases:
-    """The cases so far, each printed as it is seen."""
-
-    def __init__(self):
-        self.seen = 0
-        self.differ = 0
-
-    def show(self, name, found, wanted):
-        self.seen += 1
-        if found == wanted:
-            print(f"ok      {name}", flush=True)
-        else:
-            self.differ += 1
-            print(f"DIFFERS {name}: {found!r}, wanted {wanted!r}", flush=True)
-
-    def say(self, text):
-        print(f"        {text}", flush=True)
-
-
-def free_port():
-    """A port that nobody listens on."""
-    with socket.socket() as probe:
-        probe.bind(("127.0.0.1", 0))
-        return probe.getsockname()[1]
-
-
-class Server:
-    """A process of `serve`, on a disk that is made for it where it isn't there."""
-
-    def __init__(self, folder, name, sectors=4096, connections=4294967295):
-        self.disk = os.path.join(folder, name)
-        if not os.path.exists(self.disk):
-            subprocess.run([PROGRAM, "format", self.disk, "--sectors", str(sectors)], check=True, stdout=subprocess.DEVNULL)
-        self.port = free_port()
-        self.url = f"http://127.0.0.1:{self.port}"
-        self.log = open(self.disk + ".log", "w+b")
-        words = [PROGRAM, "serve", self.disk, "--port", str(self.port), "--connections", str(connections)]
-        self.child = subprocess.Popen(words, stdout=subprocess.PIPE, stderr=self.log)
-        self.told = self.child.stdout.readline().decode()
-
-    def lines(self):
-        """The lines on standard error so far."""
-        self.log.seek(0)
-        return self.log.read().decode().splitlines()
-
-    def end(self, by=signal.SIGTERM):
-        """Ends it, and gives its status."""
-        self.child.send_signal(by)
-        return self.child.wait(60)
-
-    def __enter__(self):
-        return self
-
-    def __exit__(self, *fault):
-        if self.child.poll() is None:
-            self.end(signal.SIGKILL)
-        self.child.stdout.close()
-        self.log.close()
-
-
-def parsed(reply):
-    """The first line, the fields in their order and the content of a reply."""
-    head, _, content = reply.partition(b"\r\n\r\n")
-    first, *fields = head.decode().split("\r\n")
-    return first, [tuple(field.split(": ", 1)) for field in fields], content
-
-
-def curl(url, *words, body=None):
-    """What curl reads: the first line, the fields and the content."""
-    if body is not None:
-        words = [*words, "--data-binary", "@-"]
-    child = subprocess.run(["curl", "--silent", "--include", "--max-time", "120", *words, url], input=body and body.encode(), capture_output=True)
-    return parsed(child.stdout) if child.returncode == 0 else (f"curl ended with {child.returncode}", [], b"")
-
-
-def status_of(reply):
-    """The number of a reply's status, or what was read instead."""
-    return int(reply[0].split()[1]) if reply[0].startswith("HTTP/1.") else reply[0]
-
-
-def wanted(status, kind=None, content="", closes=False, more=()):
-    """The reply that HTTP.md promises, its fields in their order."""
-    content = content if isinstance(content, bytes) else content.encode()
-    fields = [("content-type", kind)] if kind else []
-    fields += more
-    fields += [("content-length", str(len(content)))] if status != 204 else []
-    fields += [("connection", "close")] if closes else []
-    return status, fields, content
-
-
-def same(cases, name, reply, expected):
-    """Shows a reply beside the one that is wanted, and its phrase where HTTP has one."""
-    status, fields, content = expected
-    phrase = PHRASES[status]
-    line = f"HTTP/1.1 {status} {phrase}" if phrase else " ".join(["HTTP/1.1", str(status), *reply[0].split()[2:]])
-    cases.show(name, reply, (line, fields, content))
-
-
-def refusal(status, word, closes=False, more=()):
-    """A refusal: its word and a line feed."""
-    return wanted(status, TEXT, word + "\n", closes, more)
 
 
 def methods(reply):
@@ -461,6 +333,11 @@ def surveyed():
     return made
 
 
+def said(line):
+    """Whether a line of the import is about a feature or the end, not about what is to be sent."""
+    return not line.startswith(("to send: ", "needed beside "))
+
+
 def gdal(cases, folder):
     """A file of a survey put into the map by the example, and its tiles read by GDAL."""
     if not shutil.which("ogr2ogr"):
@@ -475,7 +352,7 @@ def gdal(cases, folder):
         survey = os.path.join(EXAMPLES, "survey.geojson")
         told = subprocess.run([*tool, survey, *words], capture_output=True, text=True)
         refused = "feature 106 refused: E7 Value"
-        lines = [line[:len(refused)] if line.startswith(refused) else line for line in told.stdout.splitlines()]
+        lines = [line[:len(refused)] if line.startswith(refused) else line for line in told.stdout.splitlines() if said(line)]
         cases.show("import of survey.geojson", (told.returncode, lines), (1, [refused, "5 taken, 1 refused"]))
         for number, made in enumerate(surveyed(), 101):
             reply = curl(f"{server.url}/features/{number}")
@@ -497,7 +374,7 @@ def gdal(cases, folder):
         with open(path, "w", encoding="utf-8") as file:
             json.dump(unlike, file)
         told = subprocess.run([*tool, path, "--layer", "more", "--first", "201", "--url", server.url], capture_output=True, text=True)
-        lines = [line.split(":")[0] for line in told.stdout.splitlines()]
+        lines = [line.split(":")[0] for line in told.stdout.splitlines() if said(line)]
         refused = [f"feature {number} refused" for number in (201, 202, 203)]
         cases.show("import of what can't be put", (told.returncode, lines), (1, [*refused, "1 taken, 3 refused"]))
         for kind, name in [("ESRI Shapefile", "lines.shp"), ("GPKG", "lines.gpkg")]:
@@ -505,7 +382,7 @@ def gdal(cases, folder):
             made = ["ogr2ogr", "-f", kind, "-t_srs", "EPSG:25832", path, survey, "-where", "name = 'a path'", "-nln", "lines"]
             subprocess.run(made, check=True, capture_output=True)
             told = subprocess.run([*tool, path, "--layer", "again", "--first", "301", "--url", server.url], capture_output=True, text=True)
-            cases.show(f"import of {name}, in UTM", (told.returncode, told.stdout.splitlines()), (0, ["1 taken, 0 refused"]))
+            cases.show(f"import of {name}, in UTM", (told.returncode, told.stdout.splitlines()[-1:]), (0, ["1 taken, 0 refused"]))
             shown = json.loads(curl(server.url + "/features/301")[2] or b"{}")
             cases.show("its points to ten units of the world, 9 cm", near(shown.get("geometry", {}).get("lines"), surveyed()[3][1], 10), True)
         read_by_gdal(cases, folder, server, "survey", 14, 101)
@@ -522,9 +399,9 @@ def import_to_a_full_journal(cases, folder, tool):
     words = [*tool, path, "--layer", "p", "--maxzoom", "2"]
     with Server(folder, "narrow", 64) as server:
         told = subprocess.run([*words, "--url", server.url], capture_output=True, text=True)
-        lines = told.stdout.splitlines()
-        full = [f"feature {number} refused: JournalFull need 1 free 0 (publish, and put it again)" for number in range(17, 41)]
-        cases.show("import of forty points for sixteen places", (told.returncode, lines), (1, [*full, "16 taken, 24 refused"]))
+        lines = [line for line in told.stdout.splitlines() if said(line)]
+        full = "stopped at feature 17: JournalFull need 1 free 0 (publish, and run the same command again, or give it --publish)"
+        cases.show("import of forty points for sixteen places", (told.returncode, lines), (1, [full, "16 taken, 0 refused"]))
         told = subprocess.run([*words, "--url", server.url, "--publish"], capture_output=True, text=True)
         published = told.stdout.count("the journal is full: a publication")
         cases.show("the same with --publish", (told.returncode, told.stdout.splitlines()[-1:], published), (0, ["40 taken, 0 refused"], 3))
@@ -588,46 +465,6 @@ def steps(cases, folder):
         busy = subprocess.run([*tool, server.url], capture_output=True, text=True)
         cases.show("publish.sh while another one publishes", (busy.returncode, busy.stderr), (1, "/publish/begin: Busy  409\n"))
         same(cases, "which goes on", curl(server.url + "/publish/cancel", "-X", "POST"), wanted(204))
-
-
-class Nginx:
-    """nginx with the kept configuration, but for its ports, in front of a server."""
-
-    def __init__(self, program, folder, server):
-        self.folder = os.path.join(folder, "nginx")
-        os.mkdir(self.folder)
-        self.port = free_port()
-        self.url = f"http://127.0.0.1:{self.port}"
-        with open(os.path.join(TOP, "docs", "nginx.conf"), encoding="utf-8") as file:
-            kept = file.read()
-        used = kept.replace("server 127.0.0.1:8080;", f"server 127.0.0.1:{server.port};").replace("listen 8000", f"listen 127.0.0.1:{self.port}")
-        file = os.path.join(self.folder, "used.conf")
-        with open(file, "w", encoding="utf-8") as made:
-            made.write(used)
-        words = [program, "-p", self.folder, "-c", file, "-g", "daemon off;"]
-        self.child = subprocess.Popen(words, stdout=subprocess.DEVNULL, stderr=subprocess.PIPE)
-        for _ in range(100):
-            with socket.socket() as probe:
-                if probe.connect_ex(("127.0.0.1", self.port)) == 0:
-                    return
-            time.sleep(0.1)
-
-    def errors(self):
-        """The lines of its log of errors."""
-        with open(os.path.join(self.folder, "error.log"), encoding="utf-8") as file:
-            return file.read().splitlines()
-
-    def __enter__(self):
-        return self
-
-    def __exit__(self, *fault):
-        self.child.terminate()
-        self.child.communicate(timeout=60)
-
-
-def field(reply, name):
-    """The value of a field of a reply."""
-    return next((value for key, value in reply[1] if key.lower() == name), None)
 
 
 def in_front(cases, folder):
@@ -720,11 +557,31 @@ def crowd(cases, front, server):
 def main():
     if not shutil.which("curl"):
         sys.exit("no curl: nothing is tried")
+    parts = {
+        "routes": routes,
+        "requests": refused_requests,
+        "features": refused_features,
+        "full": full,
+        "restarts": restarts,
+        "kept": kept_connections,
+        "gdal": gdal,
+        "large": large,
+        "import": imports,
+        "steps": steps,
+        "disk-full": disk_full,
+        "kills": kills,
+        "nginx": in_front,
+        "units": units,
+    }
+    words = sys.argv[2:]
+    if not set(words) <= set(parts):
+        sys.exit(f"parts are {', '.join(parts)}")
     cases = Cases()
     with tempfile.TemporaryDirectory() as scratch:
         os.chmod(scratch, 0o755)
-        for part in (routes, refused_requests, refused_features, full, restarts, kept_connections, gdal, steps, in_front):
-            part(cases, os.path.realpath(scratch))
+        for name, part in parts.items():
+            if name in words or not words:
+                part(cases, os.path.realpath(scratch))
     print(f"{cases.seen} cases, {cases.differ} differ")
     return 1 if cases.differ else 0
 

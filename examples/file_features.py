@@ -1,0 +1,229 @@
+"""The features of a file that GDAL reads, for import_features.py: geometry in the units of the map, attributes as tags."""
+import math
+
+from osgeo import gdal, ogr, osr
+
+from world_shapes import WORLD, Unfit
+
+HALF = 20037508.342789244
+# The texts of a file that names no encoding and isn't UTF-8 are read as this one.
+GUESS = "cp1252"
+MOST_TEXT_BYTES = 1024
+KINDS = {
+    ogr.wkbPoint: "points",
+    ogr.wkbMultiPoint: "points",
+    ogr.wkbLineString: "lines",
+    ogr.wkbMultiLineString: "lines",
+    ogr.wkbPolygon: "polygons",
+    ogr.wkbMultiPolygon: "polygons",
+}
+DROPPED = {
+    ogr.OFTIntegerList: "a list",
+    ogr.OFTInteger64List: "a list",
+    ogr.OFTRealList: "a list",
+    ogr.OFTStringList: "a list",
+    ogr.OFTBinary: "bytes",
+}
+
+
+class Notes:
+    """What a user should know of many features: each note once, with how many features it is about."""
+
+    def __init__(self):
+        self.counts = {}
+
+    def add(self, note):
+        self.counts[note] = self.counts.get(note, 0) + 1
+
+    def show(self):
+        for note, count in self.counts.items():
+            print(f"note: {note}: {count:,} feature{'s' if count > 1 else ''}", flush=True)
+
+
+class Unreadable(Exception):
+    """Why a file can't be read."""
+
+
+class Reader:
+    """Reads features. `encoding` is that of its texts if the file doesn't say it or says a wrong one, `cuts` whether long texts are cut."""
+
+    def __init__(self, path, source=None, crs=None, encoding=None, cuts=False):
+        self.path, self.crs, self.encoding, self.cuts = path, crs, encoding, cuts
+        self.notes = Notes()
+        self.file = opened(path, encoding)
+        if source is None:
+            self.layers = [self.file.GetLayer(at) for at in range(self.file.GetLayerCount())]
+        else:
+            self.layers = [self.file.GetLayerByName(source)]
+            if self.layers[0] is None:
+                raise Unreadable(f"{path} has no layer {source}")
+
+    def projection(self, layer):
+        """From the layer's coordinate system to Web Mercator, x before y in both."""
+        source = layer.GetSpatialRef()
+        if source is None:
+            if self.crs is None:
+                raise Unreadable(f"the layer {layer.GetName()} has no coordinate system: name it with --crs, as in --crs EPSG:4326")
+            source = osr.SpatialReference()
+            try:
+                known = source.SetFromUserInput(self.crs) == ogr.OGRERR_NONE
+            except RuntimeError:
+                known = False
+            if not known:
+                raise Unreadable(f"GDAL knows no coordinate system {self.crs}")
+        source = source.Clone()
+        target = osr.SpatialReference()
+        target.ImportFromEPSG(3857)
+        for system in (source, target):
+            system.SetAxisMappingStrategy(osr.OAMS_TRADITIONAL_GIS_ORDER)
+        return osr.CoordinateTransformation(source, target)
+
+    def shape(self, geometry, projection):
+        """The shape of a geometry."""
+        if geometry is None or geometry.IsEmpty():
+            raise Unfit("it has no geometry")
+        if geometry.Is3D():
+            self.notes.add("heights (Z) are dropped")
+        if geometry.IsMeasured():
+            self.notes.add("measures (M) are dropped")
+        geometry = geometry.GetLinearGeometry()
+        geometry.FlattenTo2D()
+        kind = KINDS.get(geometry.GetGeometryType())
+        if kind is None:
+            raise Unfit(f"a {geometry.GetGeometryName()} is no kind of geometry that a feature has")
+        if geometry.Transform(projection) != ogr.OGRERR_NONE:
+            raise Unfit("it can't be projected to Web Mercator")
+        lists = lists_of(kind, geometry)
+        if not lists:
+            raise Unfit("it has no geometry")
+        return kind, lists
+
+    def name(self, feature, at):
+        """The name of a field."""
+        return self.decoded(feature.GetFieldDefnRef(at).GetName(), "the names of fields")
+
+    def decoded(self, text, what):
+        """A text of the file. GDAL returns bytes if they aren't UTF-8."""
+        if isinstance(text, str) and self.encoding is None and not any("\ud800" <= letter <= "\udfff" for letter in text):
+            return text
+        raw = text.encode("utf-8", "surrogateescape") if isinstance(text, str) else bytes(text)
+        if self.encoding is not None:
+            found = raw.decode(self.encoding, "replace")
+            if "\ufffd" in found:
+                self.notes.add(f"{what}: some bytes aren't of {self.encoding}, and are replaced by U+FFFD")
+            return found
+        try:
+            return raw.decode()
+        except UnicodeDecodeError as fault:
+            if fault.reason == "unexpected end of data":
+                self.notes.add(f"{what}: the file ends them within a letter, which is dropped")
+                return raw[:fault.start].decode("utf-8", "replace")
+        self.notes.add(f"{what} aren't UTF-8 and are read as {GUESS}; --encoding names another encoding")
+        return raw.decode(GUESS, "replace")
+
+    def tags(self, feature):
+        """The fields of a feature that have a value."""
+        found = {}
+        for at in range(feature.GetFieldCount()):
+            if feature.IsFieldSetAndNotNull(at):
+                name = self.name(feature, at)
+                value = self.value(feature, at, name)
+                if value is not None:
+                    found[name] = value
+        return found
+
+    def value(self, feature, at, name):
+        """The value of a field as that of a tag; None if a tag has no such values."""
+        field = feature.GetFieldDefnRef(at)
+        kind = field.GetType()
+        if kind in (ogr.OFTInteger, ogr.OFTInteger64):
+            number = feature.GetFieldAsInteger64(at)
+            return number != 0 if field.GetSubType() == ogr.OFSTBoolean else number
+        if kind == ogr.OFTReal:
+            return self.real(feature, at, name)
+        if kind in (ogr.OFTDate, ogr.OFTDateTime, ogr.OFTTime):
+            return moment(kind, feature.GetFieldAsDateTime(at))
+        text = None if kind in DROPPED else self.decoded(feature.GetFieldAsString(at), "texts")
+        # A field of JSON has texts too, if its values are of several kinds.
+        if text is None or (field.GetSubType() == ogr.OFSTJSON and text[:1] in ("[", "{")):
+            self.notes.add(f"the field {name} is dropped: {DROPPED.get(kind, 'a list or an object')} is no value of a tag")
+            return None
+        return self.short(text, name)
+
+    def real(self, feature, at, name):
+        """A whole number as a number, another one as a text."""
+        number = feature.GetFieldAsDouble(at)
+        if not math.isfinite(number):
+            self.notes.add(f"the field {name} is dropped where it is no finite number")
+            return None
+        if number.is_integer() and abs(number) <= 2 ** 53:
+            return int(number)
+        return feature.GetFieldAsString(at) if feature.GetFieldDefnRef(at).GetSubType() == ogr.OFSTFloat32 else repr(number)
+
+    def short(self, text, name):
+        """A text that fits into a tag, if texts are to be cut."""
+        raw = text.encode()
+        if not self.cuts or len(raw) <= MOST_TEXT_BYTES:
+            return text
+        self.notes.add(f"texts of {name} are cut to 1,024 bytes")
+        return raw[:MOST_TEXT_BYTES].decode("utf-8", "ignore")
+
+
+def opened(path, encoding):
+    """The file, which has to outlive its layers."""
+    gdal.UseExceptions()
+    gdal.PushErrorHandler("CPLQuietErrorHandler")
+    try:
+        file = gdal.OpenEx(path, gdal.OF_VECTOR)
+        # Texts of a Shapefile as they are: GDAL doesn't recode them by what the file says of its encoding.
+        if file is not None and encoding is not None and file.GetDriver().ShortName == "ESRI Shapefile":
+            file = gdal.OpenEx(path, gdal.OF_VECTOR, open_options=["ENCODING="])
+    except RuntimeError as fault:
+        raise Unreadable(f"GDAL can't read {path}: {fault}") from fault
+    if file is None:
+        raise Unreadable(f"GDAL can't read {path}: {gdal.GetLastErrorMsg()}")
+    return file
+
+
+def moment(kind, parts):
+    """A date, a time or both as ISO 8601 has them."""
+    year, month, day, hour, minute, second, zone = parts
+    date = f"{year:04}-{month:02}-{day:02}"
+    if kind == ogr.OFTDate:
+        return date
+    thousandths = round(second * 1000)
+    time = f"{hour:02}:{minute:02}:{thousandths // 1000:02}" + (f".{thousandths % 1000:03}" if thousandths % 1000 else "")
+    if kind == ogr.OFTTime:
+        return time
+    # GDAL counts quarters of an hour from 100, which is UTC; 0 is unknown, 1 local.
+    away = abs(zone - 100) * 15
+    name = "" if zone < 2 else "Z" if zone == 100 else f"{'-' if zone < 100 else '+'}{away // 60:02}:{away % 60:02}"
+    return f"{date}T{time}{name}"
+
+
+def place(point):
+    """The point of the world of a point of Web Mercator."""
+    x, y = point[:2]
+    if not (math.isfinite(x) and math.isfinite(y)):
+        raise Unfit("a point has no place in Web Mercator")
+    return (x + HALF) / (2 * HALF) * WORLD, (HALF - y) / (2 * HALF) * WORLD
+
+
+def lists_of(kind, geometry):
+    """The lists of a shape."""
+    several = geometry.GetGeometryName().startswith("MULTI")
+    parts = [geometry.GetGeometryRef(at) for at in range(geometry.GetGeometryCount())] if several else [geometry]
+    if kind == "points":
+        found = [place(part.GetPoint_2D(0)) for part in parts]
+        if any(not -1 <= part <= WORLD for point in found for part in point):
+            raise Unfit("a point is outside of the world (180 degrees east and west, 85.05 north and south)")
+        return found
+    if kind == "lines":
+        return [line for line in ([place(point) for point in part.GetPoints() or []] for part in parts) if line]
+    return [rings for rings in (rings_of(part) for part in parts) if rings]
+
+
+def rings_of(polygon):
+    """The rings of a polygon, without the last point where it repeats the first."""
+    rings = [[place(point) for point in polygon.GetGeometryRef(at).GetPoints() or []] for at in range(polygon.GetGeometryCount())]
+    return [ring[:-1] if len(ring) > 1 and ring[0] == ring[-1] else ring for ring in rings if ring]
