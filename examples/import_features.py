@@ -13,12 +13,12 @@ and stays the same if the file changes. With --replace LAYER the features of tha
 the map is published for it, because the published tiles tell which features it has; one that no tile shows isn't found.
 
 Large features. The server doesn't clip, and renderers misdraw what is larger than a tile (docs/HTTP.md, "Large features"). So lines and
-polygons that some renderer would draw wrong at a zoom of theirs are cut along the middles of the tiles of --split-zoom, which is --maxzoom,
-and so is what has too many points or covers too many tiles for one feature. Each piece is a feature with a number, the same tags, and the
-tag `whole` (--whole) with the number of the first piece. With --id the pieces after the first have its number plus a multiple of 2^40. A
-cut polygon's outline is put as lines of the layer LAYER-outline with the same tags: draw outlines from there, and from the polygons that
-have no `whole`, and none shows the cuts. --no-split puts features as they are. What stays too large is reported with its size and the zooms
-that will be wrong.
+polygons that some renderer would draw wrong at a zoom of theirs are cut, along the middles of the tiles of zoom --maxzoom, into as few pieces
+as are drawn right; with --split-zoom Z into pieces no larger than a tile of zoom Z. What has too many points or covers too many tiles for
+one feature is cut too. Each piece is a feature with a number, the same tags, and the tag `whole` (--whole) with the number of the first
+piece. With --id the pieces after the first have its number plus a multiple of 2^40. A cut polygon's outline is put as lines of the layer
+LAYER-outline with the same tags: draw outlines from there, and from the polygons that have no `whole`, and none shows the cuts. --no-split
+puts features as they are. What stays too large is reported with its size and the zooms that will be wrong.
 
 Attributes become tags: texts, integers and booleans as they are, whole numbers as integers, other numbers as texts, dates as ISO texts; null
 attributes are left out, lists and objects are dropped and reported. --layer-field names the attribute that is the layer's name instead of a
@@ -64,7 +64,7 @@ class Plan:
     def __init__(self, words, reader):
         self.words, self.reader = words, reader
         self.zooms = range(words.minzoom, words.maxzoom + 1)
-        self.cutter = Cutter(self.zooms, words.maxzoom if words.split_zoom is None else words.split_zoom)
+        self.cutter = Cutter(self.zooms, words.split_zoom)
         self.spool = tempfile.TemporaryFile()
         self.sizes = Sizes()
         self.layers = {}
@@ -263,7 +263,7 @@ def asked():
     parser.add_argument("--crs", help="the coordinate system of a layer that names none")
     parser.add_argument("--encoding", help="the encoding of texts, if the file doesn't say it or says a wrong one")
     parser.add_argument("--cut-texts", action="store_true", help="cut texts of over 1,024 bytes")
-    parser.add_argument("--split-zoom", type=int, metavar="Z", help="cut large features along the middles of the tiles of zoom Z (--maxzoom)")
+    parser.add_argument("--split-zoom", type=int, metavar="Z", help="cut large features into the cells of zoom Z (as few as --maxzoom allows)")
     parser.add_argument("--no-split", action="store_true", help="cut no feature")
     parser.add_argument("--no-outlines", action="store_true", help="put no outlines of cut polygons")
     parser.add_argument("--whole", default="whole", metavar="NAME", help="the tag of a piece with the number of the first piece (whole)")

@@ -324,13 +324,15 @@ def moved(shape, east):
 class Cutter:
     """Cuts shapes into pieces that every renderer draws right, and that the server takes.
 
-    The cuts run through the middles of the tiles of the split zoom: a piece is then in four tiles of that zoom at most, and its
-    coordinates are from -2048 to 6144.
+    The cuts run through the middles of the tiles of a zoom, so a cell between them is in four tiles of that zoom, with coordinates from
+    -2048 to 6144. The zoom is the greatest one, and no piece is cut further than it has to be, or it is the split zoom, and each piece is
+    in one cell.
     """
 
-    def __init__(self, zooms, split_zoom):
+    def __init__(self, zooms, split_zoom=None):
         self.zooms = zooms
-        self.side = 2 ** (32 - split_zoom)
+        self.cuts_cells = split_zoom is not None
+        self.side = 2 ** (32 - (zooms[-1] if split_zoom is None else split_zoom))
 
     def fits(self, shape, text, body):
         """Whether the server takes a shape with so many bytes of other members, in text and in JSON."""
@@ -354,10 +356,11 @@ class Cutter:
 
     def cut_into(self, found, shape, text, body):
         """Adds the pieces of a shape."""
-        if self.is_done(shape, text, body):
+        place = self.best_cut(shape)
+        if self.is_done(shape, text, body) and (place is None or not self.cuts_cells):
             found.append(shape)
         else:
-            place = self.best_cut(shape) or (None if self.fits(shape, text, body) else middle_cut(shape))
+            place = place or (None if self.fits(shape, text, body) else middle_cut(shape))
             if place is None:
                 found.append(shape)
             else:

@@ -321,6 +321,39 @@ def numbers(cases, folder, server):
     cases.show("import: numbers that are none, or taken twice", (status, lines[-1]), (1, "1 taken, 5 refused"))
 
 
+def square(longitude, latitude, degrees):
+    """The ring of a square."""
+    return [[longitude + x * degrees, latitude + y * degrees] for x, y in [(0, 0), (1, 0), (1, 1), (0, 1), (0, 0)]]
+
+
+def pieces(cases, folder, server):
+    """A large square with a number of its own, cut; then a newer file in which it is small, and one in which it can't be put."""
+    piece = 2 ** 40
+    words = ["--layer", "s", "--minzoom", "12", "--id", "nr", "--replace", "s"]
+    path = written(folder, "square.geojson", [row("Polygon", [square(20, 50, 0.05)], nr=21), row("Point", [20, 50], nr=22)])
+    status, lines = imported(path, server.url, *words)
+    made = re.match(r"feature 21 is cut into (\d+) pieces and (\d+) of its outline$", lines[0])
+    cases.show("import: --id, a feature that is cut", (status, made is not None), (0, True))
+    last = sum(map(int, made.groups())) - 1 if made else 1
+    found = [shown(server, 21 + at * piece) or {"layer": None, "tags": {}} for at in (0, 1, last, last + 1)]
+    wanted = [("s", 21), ("s", 21), ("s-outline", 21), (None, None)]
+    cases.show("import: the numbers and layers of its pieces", [(one["layer"], one["tags"].get("whole")) for one in found], wanted)
+    finer = imported(path, server.url, *words[:-2], "--split-zoom", "15", "--first", "2000")
+    more = re.match(r"feature 21 is cut into (\d+) pieces", finer[1][0])
+    cases.show("import: --split-zoom cuts finer", made is not None and more is not None and int(more[1]) > int(made[1]), True)
+    other = written(folder, "unfit.geojson", [row("Polygon", [square(20, 50, 0.05)], nr=21, whole=1), row("Point", [20, 50], nr=22)])
+    status, lines = imported(other, server.url, *words)
+    there = shown(server, 21 + piece) is not None
+    cases.show("import: --replace leaves the pieces of what is refused", (status, lines[-1], there), (1, "1 taken, 1 refused", True))
+    path = written(folder, "small.geojson", [row("Polygon", [square(20, 50, 0.005)], nr=21), row("Point", [20, 50], nr=22)])
+    status, lines = imported(path, server.url, *words)
+    left = [at for at in range(1, 40) if shown(server, 21 + at * piece)]
+    whole = (shown(server, 21) or {"tags": {"whole": 0}})["tags"]
+    cases.show("import: --replace deletes the pieces of what is small now", (status, whole, left), (0, {"nr": 21}, []))
+    status, lines = imported(path, server.url, "--layer", "t", "--replace", "s")
+    cases.show("import: --replace and --layer of two names", status, 2)
+
+
 def through_nginx(cases, folder, server):
     """A proxy that takes smaller bodies, and one that lets nobody edit."""
     nginx = shutil.which("nginx", path=os.environ.get("PATH", "") + ":/usr/sbin")
@@ -344,7 +377,7 @@ def imports(cases, folder):
     if not has_gdal(cases):
         return
     with Server(folder, "imports", 65536) as server:
-        for part in (formats, encodings, kinds, numbers, through_nginx):
+        for part in (formats, encodings, kinds, numbers, pieces, through_nginx):
             part(cases, folder, server)
     stops(cases, folder)
     too_many(cases, folder)
