@@ -55,8 +55,8 @@ fn copy_piece<D: Sectors + Drop, W: Write>(
     }
 }
 
-/// Writes the archive that was published last, and returns how many bytes it has: none where there is none. It takes no memory, writes
-/// nothing to the disk, and the service goes on as before. A broken service writes its archive too.
+/// Writes the last published archive, and returns its length in bytes, 0 if there is none. It allocates nothing and writes nothing to
+/// the disk, and the service continues as before. A broken service writes its archive too.
 ///
 /// # Errors
 ///

@@ -86,7 +86,7 @@ impl Pace {
         }
     }
 
-    /// A call of the stream took so many nanoseconds.
+    /// A call of the stream took this many nanoseconds.
     pub(crate) fn waited(self, nanoseconds: u64) -> Pace
         ensures { result ≡ less_time self nanoseconds }
     {

@@ -45,7 +45,7 @@ impl<'a, L: OpenListener, C> Turns<'a, L, C> {
         self.yielded
     }
 
-    /// Whether it is to yield behind so many rounds of a read in which nothing has come.
+    /// Whether the connection yields after this many rounds of a read in which nothing arrived.
     fn yields(&self, rounds: u64) -> bool {
         let patience = if self.begun {
             IDLE_ROUNDS

@@ -19,7 +19,7 @@ use std::path::Path;
 use std::rt::Files;
 use tile_service::Service;
 
-/// Whether a disk may be formatted with so many sectors.
+/// Checks that a disk can be formatted with this many sectors.
 fn check_size(sectors: u64) -> Result<(), StoreFault>
     ensures small { sectors < LEAST_SECTORS → result ≡ Err TooSmall }
     ensures large { MOST_SECTORS < sectors → result ≡ Err (Damaged Size) }
@@ -62,8 +62,8 @@ fn settle<D: Sectors + Drop, R: Files>(files: &R, path: &str, disk: &mut D) -> R
     }
 }
 
-/// A new file of so many sectors at a path where there is nothing, and its disk, which holds the empty map. For a count outside
-/// the limits no file is touched. Where the format fails, the file is removed, if the system lets it.
+/// Creates a file of this many sectors at a path that doesn't exist, and returns its disk, which holds the empty map. For a count
+/// outside the limits no file is touched. If the format fails, the file is removed, if the system allows it.
 pub fn formatted_file<
     F: FileExt + OpenFile + Read + Write + Seek + Drop,
     R: Files<File = F>,

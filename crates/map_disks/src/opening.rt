@@ -15,7 +15,7 @@ use std::alloc::{AllocError, Global};
 use tile_routes::Routes;
 use tile_service::Service;
 
-/// A service that goes on from what a disk holds, to which nothing is written. A disk that can't be opened is handed back.
+/// A service that continues from what a disk holds; opening writes nothing. A disk that can't be opened is returned.
 pub fn opened_service<D: Sectors + Drop>(
     alloc: Global,
     disk: D,
@@ -26,8 +26,7 @@ pub fn opened_service<D: Sectors + Drop>(
     ensures fault { IfErr result (λ e. IfSome e.0 D.honest
         → (e.1 ≡ Device) ⊎ (e.1 ≡ Memory) ⊎ IsOpenFault (D.sectors disk) (seen (D.history disk)) e.1) }
 
-    // Every state that the disk holds is what the service goes on from, and only a call of the disk or an
-    // allocation can fail.
+    // The service continues from the state that the disk holds, and only a call of the disk or an allocation can fail.
     ensures opened { (n : ℕ) (stored : Stored) → Holds (D.sectors disk) n stored (seen (D.history disk))
         → IfOk result (λ replies. D.honest (asked_service replies).disk → ((asked_service replies).size ≡ n)
         × IsUp (D.sectors disk) (D.history (asked_service replies).disk) stored (asked_service replies)) }

@@ -13,7 +13,7 @@ use std::io::{Read, Write};
 use std::net::{OpenListener, OpenStream};
 use std::time::Clock;
 
-/// Serves so many connections of a listener, one after the other, as `http_listen::serve_on` does.
+/// Serves this many connections of a listener, one after the other, as `http_listen::serve_on` does.
 ///
 /// # Errors
 ///

@@ -38,7 +38,7 @@ pub(crate) fn show_file(rt: &HostRuntime, path: &str) -> anyhow::Result<ExitCode
     }
 }
 
-/// Judges an archive, and prints what is told of it.
+/// Verifies an archive, and prints its counts or its first fault.
 pub(crate) fn verify_file(rt: &HostRuntime, path: &str) -> anyhow::Result<ExitCode> {
     let archive = match file_bytes(rt, path) {
         Ok(archive) => archive,

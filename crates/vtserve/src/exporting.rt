@@ -71,8 +71,8 @@ fn new_file(rt: &HostRuntime, path: &str, permissions: Option<Permissions>) -> i
     }
 }
 
-/// Writes the archive into a file beside its goal, where there is none, and then has it take the goal's name: how many bytes it
-/// has. A crash leaves what the goal was or the whole archive.
+/// Writes the archive into a new file beside FILE, renames it to FILE, and returns its length in bytes. A crash leaves the old FILE
+/// or the whole archive.
 fn write_beside<D: Sectors + Drop>(
     rt: &HostRuntime,
     service: &mut Service<D>,

@@ -1,12 +1,12 @@
-//! Why a command comes to no good end.
+//! Why a command fails.
 
 use generations::StoreFault;
 use http_serve::ServeFault;
 use map_disks::FileFault;
 
-/// Why a command doesn't do what it was asked.
+/// The faults of commands.
 pub(crate) enum CommandFault {
-    /// The file isn't a regular one, can't be opened, locked or made, or its folder not be synced, or another process uses the disk in it.
+    /// The file isn't a regular file, can't be opened, locked or created, its folder can't be synced, or another process has locked it.
     File,
     /// No archive was published.
     NoArchive,
@@ -14,9 +14,9 @@ pub(crate) enum CommandFault {
     Store(StoreFault),
     /// What ended a connection.
     Connection(ServeFault),
-    /// The address can't be listened on, or a connection not be accepted.
+    /// The port can't be listened on, or a connection can't be accepted.
     Listen,
-    /// Standard output didn't take all.
+    /// Standard output can't be written.
     Write,
 }
 

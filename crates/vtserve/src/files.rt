@@ -10,7 +10,7 @@ use std::fs::{File, OpenOptions, TryLockError};
 use std::io::{self, ErrorKind};
 use std::os::fd::AsRawFd;
 
-/// Makes a file of so many sectors whose disk holds the empty map, and says so.
+/// Creates a disk file of this many sectors with the empty map, and prints a line.
 pub(crate) fn format_file(rt: &HostRuntime, path: &str, sectors: u64) -> Result<(), CommandFault> {
     match formatted_file(rt, path, sectors, Zeros) {
         Ok(_) => {}
@@ -22,8 +22,8 @@ pub(crate) fn format_file(rt: &HostRuntime, path: &str, sectors: u64) -> Result<
     }
 }
 
-/// Opens `/dev/null` three times. As long as these are kept, they stand for the standard streams that were closed, so that no
-/// disk gets the number of one, and no reply is written into it.
+/// Opens `/dev/null` three times. While these are open they take the descriptors of standard streams that were closed, so that
+/// no disk file gets one of those, and no reply is written into it.
 fn closed_streams(rt: &HostRuntime) -> io::Result<[File; 3]> {
     let mut how = OpenOptions::new();
     how.read(true).write(true);
@@ -42,7 +42,7 @@ pub(crate) struct OpenedFile<S: Start> {
     pub(crate) held: Held,
 }
 
-/// The files that stand for standard streams that were closed.
+/// The files that replace standard streams that were closed.
 #[derive(Drop)]
 pub(crate) struct Held {
     _streams: [File; 3],

@@ -1,4 +1,4 @@
-//! A vector tile server whose map is edited while it serves.
+//! A vector tile server whose map is edited over HTTP.
 #![tactic(auto)]
 
 mod archives;
