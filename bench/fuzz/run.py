@@ -96,7 +96,8 @@ def damaged(chance, held, others, times=(0, 1, 1, 1, 2, 2, 3, 5, 12)):
 
 def all_archives():
     found = [archive for _, archive, _ in [*foreign_archives.good_archives(), *foreign_archives.bad_archives(), *foreign_archives.shown()]]
-    found += [read_hostile.mutual(), read_hostile.ring(), read_hostile.shared_leaf(50), read_hostile.small_leaves()]
+    found += [read_hostile.mutual(), read_hostile.ring(), read_hostile.shared_leaf(50), read_hostile.small_leaves(),
+              read_hostile.overlapping_contents(256), read_hostile.shared_bytes(1024)]
     found += [archive for _, archive in read_hostile.overlapping()]
     return [archive for archive in found if archive]
 

@@ -18,8 +18,8 @@ import tempfile
 HERE = pathlib.Path(__file__).resolve().parent
 sys.path.append(str(HERE.parent / "model"))
 import disk as disks
-from archives import Entry, Maker, directory
-from read_hostile import LINE, MOVE
+from archives import Maker, directory
+from read_hostile import MOVE, overlapping_contents, shared_bytes
 from reply_script import request
 from wire import number, part, varint
 
@@ -45,17 +45,6 @@ def leaf_of_entries(size):
     return m.archive([m.leaf(0, numbers)])
 
 
-def overlapping_contents(size):
-    """Half of the file is a content of fields that no tile has, the other half entries that name all that is behind each of its fields."""
-    m = Maker()
-    half = size // 2
-    content = number(1, 0) * (half // 2)
-    m.tile(0, 1, content)
-    count = half // 8
-    entries = [Entry(k, 1, len(content) - 2 * k, 2 * k) for k in range(count)]
-    return m.archive([m.leaf(0, directory(entries))])
-
-
 def one_content_often(size):
     """Half of the file is a content of such fields, the other half entries of four bytes and more that all name it."""
     m = Maker()
@@ -70,22 +59,6 @@ def empty_leaf_often(size):
     m.leaf(0, [])
     count = size // 4
     return m.archive([m.leaf(0, varint(count) + b"\0" + b"\1" * (count - 1) + bytes(count) + b"\1" * (2 * count))])
-
-
-def shared_bytes(size):
-    """Leaf directories that end together, each four numbers longer than the next. No two may have an id in common, and the ids of a longer one
-    pass over all those of the shorter ones, so each takes half of the ids that are left: 35 to 40 of them."""
-    count = size // 4
-    leaves = 61 - (64 * count).bit_length()
-    firsts = [2**61 >> k for k in range(leaves)]
-    data, entries, m = b"", [], Maker()
-    for k, first in enumerate(firsts):
-        entries.append((first, len(data)))
-        data += varint(count + leaves - 1 - k) + varint(first) + b"\1\1"
-    data += b"\1" * (4 * count - 3)
-    m.tile(0, 1, b"a")
-    m.leaves = data
-    return m.archive([Entry(first, 0, len(data) - at, at) for first, at in reversed(entries)], kind=0)
 
 
 def last_number_cut(size):

@@ -98,6 +98,33 @@ def shared_leaf(count):
     return m.archive([empty._replace(id=k) for k in range(count)])
 
 
+def overlapping_contents(size):
+    """Half of the file is a content of fields that no tile has, the other half entries that name all that is behind each of its fields."""
+    m = Maker()
+    half = size // 2
+    content = number(1, 0) * (half // 2)
+    m.tile(0, 1, content)
+    count = half // 8
+    entries = [Entry(k, 1, len(content) - 2 * k, 2 * k) for k in range(count)]
+    return m.archive([m.leaf(0, directory(entries))])
+
+
+def shared_bytes(size):
+    """Leaf directories that end together, each four numbers longer than the next. No two may have an id in common, and the ids of a longer one
+    pass over all those of the shorter ones, so each takes half of the ids that are left: 35 to 40 of them."""
+    count = size // 4
+    leaves = 61 - (64 * count).bit_length()
+    firsts = [2**61 >> k for k in range(leaves)]
+    data, entries, m = b"", [], Maker()
+    for k, first in enumerate(firsts):
+        entries.append((first, len(data)))
+        data += varint(count + leaves - 1 - k) + varint(first) + b"\1\1"
+    data += b"\1" * (4 * count - 3)
+    m.tile(0, 1, b"a")
+    m.leaves = data
+    return m.archive([Entry(first, 0, len(data) - at, at) for first, at in reversed(entries)], kind=0)
+
+
 def overlapping():
     """Archives of one tile whose sections have bytes in common: all of them the file's first bytes, or each one another's."""
     m = Maker()
@@ -140,6 +167,9 @@ def archive_lines():
     yield "# A leaf directory without entries that 3,000 entries of the root name, and one more of a deeper one."
     yield f"keep hostile {shared_leaf(3000).hex()}"
     yield from [("verify @hostile", "0 ok: 0 tiles, 0 entries, 0 contents"), ("contents 0,2999,3000 @hostile", '["none", "none", "none"]')]
+    yield "# Contents that begin inside each other, and leaf directories over the same bytes, which each have half of the ids that are left."
+    for archive in (overlapping_contents(1024), shared_bytes(1024)):
+        yield from [f"keep hostile {archive.hex()}", "verify @hostile", "list @hostile", "contents 0,1,63,64,65 @hostile", f"looks {2**60},{2**60 + 1},5 @hostile"]
     yield "# A root directory of no entries, with counts that say so or not."
     empty = Maker().archive([])
     yield f"keep hostile {empty.hex()}"
