@@ -364,11 +364,14 @@ def text_lines():
     yield "# The texts of changes at both ends of each count, and beyond."
     for data, wanted in texts_at_counts():
         yield f"change {folded(data)}", wanted
+    front = "01" + "07" + "00" * 7 + "0170"
+    yield "# A text that ends behind its first zoom: cut if a zoom may follow, and bad if none may."
+    yield from ((f"change {front}{zoom:02x}", "Cut" if zoom <= 16 else "Bad") for zoom in (0, 16, 17, 255))
+    yield from ((f"edit 01{front}{zoom:02x}", "Cut" if zoom <= 16 else "Bad") for zoom in (0, 16, 17, 255))
     yield "# Counts of 65,535 that the bytes behind them can't fill."
-    front = "01" + "07" + "00" * 7 + "0170" + "0002"
     for geometry in ["01ffff", "02ffff", "020100ffff", "03ffff", "030100ffff", "0301000100ffff"]:
-        yield f"change {front}{geometry}", "Cut"
-        yield f"change {front}{geometry}<33000:02>"
+        yield f"change {front}0002{geometry}", "Cut"
+        yield f"change {front}0002{geometry}<33000:02>"
 
 
 PARTS = [example_lines, archive_lines, metadata_lines, tile_lines, text_lines]
