@@ -329,7 +329,8 @@ def main(options):
     resource.setrlimit(resource.RLIMIT_AS, (ADDRESSES, ADDRESSES))
     corpus, counts, good = Corpus(), collections.Counter(), True
     end, number = time.monotonic() + options.seconds, options.case or 0
-    print(f"seed {options.seed}, {len(corpus.archives)} archives, {len(corpus.tiles)} tiles, {len(corpus.streams)} streams, {len(corpus.disks)} disks", flush=True)
+    sources = [f"{len(getattr(corpus, name))} {name}" for name in ("archives", "tiles", "streams", "disks")]
+    print(f"seed {options.seed}, {', '.join(sources)}", flush=True)
     with tempfile.TemporaryDirectory() as folder:
         while time.monotonic() < end:
             for target in [options.only] if options.only else TARGETS:

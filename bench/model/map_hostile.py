@@ -8,6 +8,8 @@ from texts import edit_text
 
 MEMBERS = {"layer": '"p"', "minzoom": "0", "maxzoom": "2", "geometry": '{"points":[[0,0]]}', "tags": "{}"}
 E7, JSON = "E7 Value", "Json"
+OTHER_WORDS = ["NaN", "Infinity", "True", "nul", "'x'", "0x1", "1_0", "+1", ".5", "5.", "1e", "1e+", "- 1", "00", "-01", "1 2", "[1,]", "{,}", "/**/1",
+               "1//", "", ",", ":", "]", '"']
 
 
 def feature(**members):
@@ -44,16 +46,16 @@ def values():
     yield "# Keys that are repeated: the last value counts, and all are read."
     yield from [('null,"a":2', None), ('2,"a":null', E7), ('1<3000:,"a":1>', None), ('1,"\\u0061":2', None), ('1,"A":2', None), ('x,"a":1', JSON)]
     yield "# Words of other readers."
-    yield from ((word, JSON) for word in ["NaN", "Infinity", "True", "nul", "'x'", "0x1", "1_0", "+1", ".5", "5.", "1e", "1e+", "- 1", "00", "-01", "1 2", "[1,]",
-                                          "{,}", "/**/1", "1//", "", ",", ":", "]", '"'])
+    yield from ((word, JSON) for word in OTHER_WORDS)
 
 
 def json_lines():
     for found in values():
         yield found if isinstance(found, str) else (f"json {tagged(found[0])}", found[1])
     yield "# Members that are repeated, byte order marks around an object, and texts that never end."
-    yield from [('json {"layer":5,' + feature()[1:], None), (f'json {feature()[:-1]},"layer":5}}', "E1 Member"), (f'json {feature()[:-1]},"layer":""}}', "E3 Layer"),
-                (f"json \ufeff{feature()}", JSON), (f"json {feature()}\ufeff", JSON), (f"json {feature()}{feature()}", JSON)]
+    yield from [('json {"layer":5,' + feature()[1:], None), (f'json {feature()[:-1]},"layer":5}}', "E1 Member"),
+                (f'json {feature()[:-1]},"layer":""}}', "E3 Layer"), (f"json \ufeff{feature()}", JSON),
+                (f"json {feature()}\ufeff", JSON), (f"json {feature()}{feature()}", JSON)]
     yield from ((f"json <60000:{text}>", JSON) for text in ["[", '{"a":', "]", '"', "-", "\\"])
 
 

@@ -22,8 +22,8 @@ def of_other_protocols():
     yield from [b"SSH-2.0-x\r\n", b"EHLO x\r\n", b"PROXY TCP4 1.2.3.4 5.6.7.8 1 2\r\n", b"HTTP/1.1 200 OK\r\n\r\n",
                 b"OPTIONS rtsp://x/y RTSP/1.0\r\n\r\n", b"INVITE sip:x@y SIP/2.0\r\n\r\n"]
     yield "requests of HTTP/0.9, of versions that aren't served, and without one"
-    yield from [b"GET /map/0/0/0.hex\r\n", b"GET /map/0/0/0.hex HTTP/0.9\r\n\r\n", b"GET /a HTTP/1\r\n\r\n", b"GET /a HTTP/1.\r\n\r\n", b"GET /a HTTP/01.1\r\n\r\n",
-                b"GET /a HTTP/3\r\n\r\n", b"GET /a HTTP/-1.1\r\n\r\n", b"GET /a\tHTTP/1.1\r\n\r\n", b"GET /a HTTP/1.1\t\r\n\r\n"]
+    yield from [b"GET /map/0/0/0.hex\r\n", b"GET /map/0/0/0.hex HTTP/0.9\r\n\r\n", b"GET /a HTTP/1\r\n\r\n", b"GET /a HTTP/1.\r\n\r\n",
+                b"GET /a HTTP/01.1\r\n\r\n", b"GET /a HTTP/3\r\n\r\n", b"GET /a HTTP/-1.1\r\n\r\n", b"GET /a\tHTTP/1.1\r\n\r\n", b"GET /a HTTP/1.1\t\r\n\r\n"]
 
 
 def odd_targets():
@@ -38,7 +38,8 @@ def odd_targets():
 FIELDS_OF_A_BODY = [
     ("two lengths, the same, others, and in one field", [["content-length: 2", "content-length: 2"], ["content-length: 2", "content-length: 3"],
      ["content-length: 2, 2"], ["content-length: 2,"], ["content-length: ,2"]]),
-    ("signs, blanks, other digits", [[f"content-length: {value}"] for value in ("+2", "-2", "--2", "2.0", "2 ", " 2", "\t2", "2\x0b", "2;", "0x2", "2h", "\u0662", "\u00b2", "")]),
+    ("signs, blanks, other digits", [[f"content-length: {value}"] for value in (
+        "+2", "-2", "--2", "2.0", "2 ", " 2", "\t2", "2\x0b", "2;", "0x2", "2h", "\u0662", "\u00b2", "")]),
     ("a coding beside a length, in any order", [["transfer-encoding: chunked", "content-length: 2"], ["content-length: 2", "transfer-encoding: chunked"],
      ["transfer-encoding: identity", "content-length: 2"], ["transfer-encoding: gzip, chunked"], ["Transfer-Encoding: \tchunked", "content-length: x"],
      ["transfer-encoding: chunked", "transfer-encoding: identity"], ["content-length: 65537", "transfer-encoding: chunked"]]),
@@ -136,14 +137,17 @@ def bodies():
     whole = b"".join(value(b"1"))
     yield from [[mark + whole], [whole + mark], value(b'"' + mark + b'"'), value(mark + b"1"), [b"\xff\xfe" + whole], [whole.decode().encode("utf-16-le")]]
     yield "bytes that are no UTF-8: too long, surrogates, past the last letter, cut"
-    for text in (b"\xc0\x80", b"\xe0\x80\x80", b"\xed\xa0\x80", b"\xf4\x90\x80\x80", b"\xf8\x88\x80\x80\x80", b"\x80", b"\xe2\x82", b"\xf4\x8f\xbf\xbf", b"\xef\xbf\xbf"):
+    for text in (b"\xc0\x80", b"\xe0\x80\x80", b"\xed\xa0\x80", b"\xf4\x90\x80\x80", b"\xf8\x88\x80\x80\x80", b"\x80", b"\xe2\x82", b"\xf4\x8f\xbf\xbf",
+                 b"\xef\xbf\xbf"):
         yield value(b'"' + text + b'"')
     yield "keys that are repeated: the last value counts, also of members; 3,000 times one key, and 4,000 keys"
-    yield from [value(b'null,"a":2'), value(b'2,"a":null'), [b'{"layer":"q","tags":5,' + whole[1:]], [whole[:-1] + b',"layer":"q"}'], [whole[:-1] + b',"layer":null}'],
+    yield from [value(b'null,"a":2'), value(b'2,"a":null'), [b'{"layer":"q","tags":5,' + whole[1:]], [whole[:-1] + b',"layer":"q"}'],
+                [whole[:-1] + b',"layer":null}'],
                 [whole[:-1] + b',"geometry":{"points":[[1,1]]}}'], value(b"1", (3000, b',"a":1')),
                 [front[:-4], b",".join(b'"%d":%d' % (key, key) for key in range(4000)), back]]
     yield "words and marks that other readers take"
-    for text in (b"NaN", b"Infinity", b"-Infinity", b"True", b"undefined", b"'x'", b"0x1", b"1_0", b"+1", b".5", b"5.", b"1e", b"1e+", b"- 1", b"00", b"-01", b"1 2", b"[1,]", b"{,}",
+    for text in (b"NaN", b"Infinity", b"-Infinity", b"True", b"undefined", b"'x'", b"0x1", b"1_0", b"+1", b".5", b"5.", b"1e", b"1e+", b"- 1", b"00", b"-01",
+                 b"1 2", b"[1,]", b"{,}",
                  b"/**/1", b"1//", b'"\\x41"', b'"\\u12"', b'"\\u+123"', b'"\\U0041"', b"\xc2\xa01", b"\x0c1", b"\xe2\x80\xa81"):
         yield value(text)
 
