@@ -2,10 +2,10 @@
 as docs/FORMATS.md says that it is written. It shares no code with the product.
 """
 
-import json
 import struct
 from collections import namedtuple
 
+import json_text
 from ids import ALL_IDS, tile_of
 from tile_reading import TileFault, read_tile
 from wire import WireFault, part, read_varint, varint
@@ -195,10 +195,8 @@ def opened(archive):
 
 def is_object(metadata):
     """Whether bytes are the JSON text of an object."""
-    def refuse(word):
-        raise ValueError(word)
     try:
-        return isinstance(json.loads(metadata.decode("utf-8"), parse_constant=refuse), dict)
+        return isinstance(json_text.value_of(metadata.decode("utf-8")), dict)
     except ValueError:
         return False
 

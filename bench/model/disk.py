@@ -113,7 +113,7 @@ def tags(reader):
 
 def feature(reader):
     layer = reader.text(1, 1, 64)
-    first = reader.number(1)
+    first = reader.number(1, 0, 16)
     last = reader.number(1, first, 16)
     kind = KINDS[reader.number(1, 1, 3)]
     geometry = {kind: listed(reader, 1, ITEMS[kind])}

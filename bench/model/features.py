@@ -4,13 +4,11 @@ A feature is a dict of its five members. Its tags are a dict from keys to values
 It shares no code with the product.
 """
 import json
-import math
 
+import json_text
 import tiles
 from disk import LONGEST, Edit, text_of
 
-# A number that isn't whole: one with a fraction or an exponent, -0, or one outside of -2^63 to 2^64 - 1.
-NOT_WHOLE = object()
 GEOMETRIES = ("points", "lines", "polygons")
 
 
@@ -21,39 +19,11 @@ class Fault(Exception):
 # ---- reading
 
 
-def whole_or_not(text):
-    value = int(text)
-    if math.isinf(float(text)):
-        raise ValueError("a number past a double")
-    return NOT_WHOLE if text == "-0" or not -(2**63) <= value < 2**64 else value
-
-
-def fraction(text):
-    if math.isinf(float(text)):
-        raise ValueError("a number past a double")
-    return NOT_WHOLE
-
-
-def refused(word):
-    raise ValueError(word)
-
-
-def texts_in(value):
-    """The texts in a value, keys among them."""
-    if isinstance(value, dict):
-        return [text for key, inner in value.items() for text in [key, *texts_in(inner)]]
-    if isinstance(value, list):
-        return [text for inner in value for text in texts_in(inner)]
-    return [value] if isinstance(value, str) else []
-
-
 def value_of(text):
-    """The JSON value of a text; of a key that is repeated the last value counts. Half of a pair of surrogates is no text."""
+    """The JSON value of a text."""
     try:
-        value = json.loads(text, parse_int=whole_or_not, parse_float=fraction, parse_constant=refused)
-        "".join(texts_in(value)).encode()
-        return value
-    except (ValueError, OverflowError) as error:
+        return json_text.value_of(text)
+    except ValueError as error:
         raise Fault("Json") from error
 
 

@@ -8,6 +8,7 @@ import sys
 
 import archives
 import features
+import map_hostile
 import tiles
 from chance import Chance
 from disk import Edit, text_of
@@ -776,7 +777,7 @@ def any_box_lines(chance, seed):
 PARTS = [
     json_lines, limit_lines, changes_lines, record_lines, text_lines, cut_lines, tag_lines, reach_lines, map_lines, margin_lines, any_map_lines,
     batch_lines, kept_lines,
-    grid_lines, cache_lines, snapshot_lines, metadata_lines, area_lines, number_lines, box_lines]
+    grid_lines, cache_lines, snapshot_lines, metadata_lines, area_lines, number_lines, box_lines, map_hostile.lines]
 
 
 def files():

@@ -8,6 +8,7 @@ from pathlib import Path
 
 import archives
 import foreign_tiles
+import read_hostile
 from archives import ALL_IDS, Entry, Maker, changed, directory
 from disk import Edit, text_of
 from map_stand import POINT
@@ -503,7 +504,7 @@ def number_lines():
 
 
 PARTS = [wire_lines, shape_lines, tile_lines, edit_lines, header_lines, directory_lines, sound_lines, leaf_lines, judged_lines, metadata_lines, show_lines,
-         foreign_lines, build_lines, id_lines, number_lines]
+         foreign_lines, build_lines, id_lines, number_lines, read_hostile.lines]
 
 
 def files():

@@ -4,8 +4,10 @@
 """
 import random
 import sys
+from types import SimpleNamespace
 
 import connections
+import reply_hostile
 import tiles
 from calls import format_disk
 from crashes import FROM, MADE, NONE, NOT_MADE, Faulty, Memory
@@ -1026,4 +1028,7 @@ def files():
     script = Script()
     for block in BLOCKS:
         block(script)
+    tools = SimpleNamespace(put=put, request=request, put_parts=put_parts, Often=Often, BODY=BODY)
+    for block in reply_hostile.BLOCKS:
+        block(script, tools)
     return script.files()

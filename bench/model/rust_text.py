@@ -1,15 +1,20 @@
 """Values as the programs print them: the `{:?}` of Rust's standard library, for the values that scripts show."""
-import json
+ESCAPES = {"\0": "\\0", "\t": "\\t", "\n": "\\n", "\r": "\\r", '"': '\\"', "\\": "\\\\"}
+
+
+def mark(letter):
+    """A letter inside a text in quotes."""
+    return ESCAPES.get(letter) or (f"\\u{{{ord(letter):x}}}" if ord(letter) < 32 or ord(letter) == 127 else letter)
 
 
 def debug(value):
-    """Of numbers, truth values, texts without marks that need an escape, lists, tuples, and `Named` and `Record` values."""
+    """Of numbers, truth values, texts of ASCII and printed letters, lists, tuples, and `Named` and `Record` values."""
     if value is None:
         return "None"
     if isinstance(value, bool):
         return str(value).lower()
     if isinstance(value, str):
-        return json.dumps(value, ensure_ascii=False)
+        return f'"{"".join(map(mark, value))}"'
     if isinstance(value, list):
         return "[" + ", ".join(map(debug, value)) + "]"
     if type(value) is tuple:

@@ -1,0 +1,106 @@
+#!/usr/bin/env python3
+"""Makes lines of the gate's test programs at random, from damaged bytes and texts, and compares their answers with the models.
+
+    python3 bench/fuzz/lines.py READ_RUNS MAP_RUNS REPLY_RUNS [--seed N] [--seconds N]
+
+READ_RUNS, MAP_RUNS and REPLY_RUNS are the programs of these crates, which `rt run` leaves in their `out/`. One process answers 1,500
+lines, so some thousand lines a second are compared: tiles, texts of changes and edits, directories, metadata, archives and their
+contents, features as JSON, snapshots, and connections in pieces of two sizes. Each process has the lines of one seed; the next ones have
+those of the next seed. The script prints each line that differs, and ends with 1 if one does or a process ends with another status than 0.
+"""
+import argparse
+import random
+import subprocess
+import sys
+import time
+
+import run as fuzz
+import map_hostile
+import map_stand
+import read_stand
+import reply_script
+from archives import Entry, directory
+from disk import Edit, text_of
+from map_script import LINE, POLYGONS
+from map_stand import POINT
+from texts import edit_text
+
+LINES, CONNECTIONS, LONGEST = 1500, 150, 3000
+TIMES = (1, 1, 1, 2, 2, 3)
+CHANGES = [text_of(edit) for edit in (Edit(7, POINT), Edit(258, LINE), Edit(9, POLYGONS), Edit(9, None))]
+EDITS = [edit_text(edits) for edits in ([Edit(7, POINT), Edit(9, None)], [Edit(7, LINE)], [Edit(1, POLYGONS), Edit(2, POINT)])]
+SNAPSHOTS = [CHANGES[0], CHANGES[0] + CHANGES[2] + CHANGES[1]]
+DIRECTORIES = [directory([Entry(3, 2, 300, 0), Entry(5, 1, 9, 300), Entry(7, 0, 5, 2)]), directory([Entry(2 * k, 1, 5, 5 * k) for k in range(20)]), b"\0"]
+TEXTS = [body for body in fuzz.BODIES if len(body) < LONGEST] + [map_hostile.feature().encode()]
+TILES, ARCHIVES = fuzz.all_tiles(), fuzz.all_archives()
+STREAMS = [held for held in fuzz.Corpus().streams if len(held) < LONGEST]
+READ = [("tile", TILES), ("tile", TILES), ("change", CHANGES), ("edit", EDITS), ("directory", DIRECTORIES), ("metadata", TEXTS), ("verify", ARCHIVES),
+        ("contents 0,3,12,20", ARCHIVES)]
+MAP = [("json", TEXTS), ("restore", SNAPSHOTS), ("make", EDITS)]
+
+
+def line(chance, rows):
+    """A line about damaged bytes."""
+    word, sources = chance.choice(rows)
+    held = fuzz.damaged(chance, chance.choice(sources), sources, TIMES)[:LONGEST]
+    if word != "json":
+        return f"{word} {held.hex() or '-'}" if rows is READ else f"{word} {held.hex()}"
+    # A line is text, and an angle bracket in it begins a text that is repeated.
+    return "json " + "".join(mark for mark in held.decode("utf-8", "replace") if mark not in "\r\n<>")
+
+
+def differences(program, asked, wanted):
+    """The lines of a process whose answers differ, each with the answer that is wanted and the one that is found."""
+    done = subprocess.run([program], input="".join(each + "\n" for each in asked).encode(), capture_output=True, timeout=60)
+    found = done.stdout.decode().split("\n")[:-1]
+    differ = [row for row in zip(asked, wanted, found) if row[1] != row[2]]
+    if done.returncode or len(found) != len(asked):
+        differ.append((f"status {done.returncode}", f"{len(asked)} answers", f"{len(found)} answers"))
+    return differ
+
+
+def of_bytes(stand, rows, seed):
+    """The lines of a seed, and their answers."""
+    chance = random.Random(f"{seed} {len(rows)}")
+    asked = [line(chance, rows) for _ in range(LINES)]
+    if rows is MAP:
+        asked = ["map 0", *asked]
+    return asked, [stand.answer(each) for each in asked]
+
+
+def of_connections(seed):
+    """The same of connections to one map, in pieces of two sizes."""
+    chance, script = random.Random(f"{seed} connections"), reply_script.Script()
+    script.disk(256)
+    for _ in range(CONNECTIONS):
+        held = fuzz.stream(chance) if chance.randrange(2) else chance.choice(STREAMS)
+        held = fuzz.damaged(chance, held, STREAMS, (0, 1, 1, 1, 2, 2, 3))[:4 * LONGEST]
+        script.connect(f"4096,{chance.choice([1, 2, 7, 100])}", [held], chance.randrange(4) == 0)
+    return script.lines, script.answers
+
+
+def main(words):
+    parser = argparse.ArgumentParser()
+    parser.add_argument("read_runs")
+    parser.add_argument("map_runs")
+    parser.add_argument("reply_runs")
+    parser.add_argument("--seed", type=int, default=1)
+    parser.add_argument("--seconds", type=int, default=60)
+    options = parser.parse_args(words)
+    end, seed, count, faults = time.monotonic() + options.seconds, options.seed, 0, 0
+    while time.monotonic() < end:
+        makers = [(options.read_runs, lambda: of_bytes(read_stand.Stand(), READ, seed)), (options.map_runs, lambda: of_bytes(map_stand.Stand(), MAP, seed)),
+                  (options.reply_runs, lambda: of_connections(seed))]
+        for program, make in makers:
+            asked, wanted = make()
+            differ = differences(program, asked, wanted)
+            count, faults = count + len(asked), faults + len(differ)
+            for row in differ[:5]:
+                print("{:.400}\n    wanted {:.200}\n    found  {:.200}".format(*row), flush=True)
+        seed += 1
+    print(f"seeds {options.seed} to {seed - 1}: {count} lines, {faults} differ")
+    return 1 if faults else 0
+
+
+if __name__ == "__main__":
+    sys.exit(main(sys.argv[1:]))
