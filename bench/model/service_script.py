@@ -1,5 +1,6 @@
 """The script of `service_runs` and its expected output: a model of a service on a disk in memory answers each line."""
 import copy
+import itertools
 from collections import namedtuple
 
 import words
@@ -8,7 +9,7 @@ from chance import Chance
 from crashes import FROM, MADE, NONE, NOT_MADE, Failed, Faulty, Memory
 from disk import SECTOR, Edit, Fault, Layout, Root, format_sector, put_records, root_sector, snapshot_text, text_of
 from machine import NO_NEGATIVE, Refused, Service
-from map_archive import runs_of, tiles_of
+from map_archive import archive_of, runs_of, tiles_of
 from tiles import feature
 from words import Fields, Tuple, Variant, briefly, debug, digest, err, ok, read, some, spelled
 
@@ -458,13 +459,6 @@ def between():
     yield from [*opened(), put(7), "begin; step", put(8), "begin", "stop", *crashed(), "step", "cancel", "look 8", "archive"]
     yield from heading("The last generation: no publication begins, and edits continue.")
     yield from [*fresh(), f"write 2 = 'VTROOT01 {LAST}:8", "open", "begin", "publish", "step", put(7), "begin", "stop", "resume", "sector 1", "sector 2"]
-    yield from heading("Five rounds of edits and publications, in which the journal wraps around.")
-    yield from opened()
-    for tens in range(1, 6):
-        first, second, third = (10 * tens + number for number in (1, 2, 3))
-        yield f"{put(first)}; {put(second, 467)}; begin; {put(third)}; step; delete {first}; tile 0 0 0; look {second}"
-    yield from ["archive", "stop", "resume", "sector 1", "sector 2", "open", put(9), "stop", "resume", "sector 12", "open", "stop", *crashed()]
-    yield from ["archive", put(9)]
 
 
 def large():
@@ -512,6 +506,120 @@ def script_stops():
         yield from [*fresh(), stop, "open", *(["; ".join(events)] if opens(stop, 5) else []), "stop"]
         for choice in ALL_CHOICES[3]:
             yield from [*crashed(choice), f"tile 0 0 0; {put(9)}", "archive"]
+
+
+# Forty events
+
+
+def round_of(tens):
+    """Eight events: of three features put and one deleted, two remain. A publication has an edit between its two events."""
+    first, second, third = (10 * tens + number for number in (1, 2, 3))
+    return [put(first), put(second, 467), "begin", put(third), "step", f"delete {first}", "tile 0 0 0", f"look {second}"]
+
+
+ROUNDS = [round_of(tens) for tens in range(1, 6)]
+EVENTS_MADE = [event for events in ROUNDS for event in events]
+MOST_UNSYNCED = 10
+
+
+def rounds(after=0):
+    """The lines of the forty events, a round in each, without the first `after` events."""
+    left = [events[max(0, after - 8 * number) :] for number, events in enumerate(ROUNDS)]
+    return ["; ".join(events) for events in left if events]
+
+
+def tried(lines):
+    trial = Trial()
+    for line in lines:
+        trial.answer(line)
+    return trial
+
+
+def calls_made():
+    """The number of calls of the disk that opening it and the forty events make."""
+    return tried([*opened(), *rounds()]).taken()[1]
+
+
+def forty_events():
+    yield from heading(
+        "Five rounds of eight events, in which the journal wraps around: 20 edits, ten features, and a root of generation 5 with 18 edits that begins at",
+        "place 7. Edit 19 is stored there, in sector 10, edit 20 in sector 11, and the next one in sector 12.",
+    )
+    lasting = tried([*opened(), *rounds()]).session
+    assert (lasting.last, len(lasting.map), lasting.next_place()) == (20, 10, 9)
+    assert (lasting.root.generation, lasting.root.edits, lasting.root.journal_at) == (5, 18, 7)
+    yield from [*opened(), *rounds(), looks(*range(11, 14)), looks(*range(51, 54)), "archive", "verify", "stop", "resume", "sector 1", "sector 2"]
+    yield from ["sector 10", "sector 11", "open", put(9), "stop", "resume", "sector 12", "open", "stop", *crashed(), "archive", put(9)]
+
+
+class History:
+    """The maps of the forty events by the number of edits, and the archives that are made of them."""
+
+    def __init__(self):
+        self.maps, self.archives = [{}], {}
+        trial = tried(opened())
+        for event in EVENTS_MADE:
+            trial.answer(event)
+            if trial.session.last == len(self.maps):
+                self.maps.append(dict(trial.session.map))
+
+    def archive(self, edits):
+        if edits not in self.archives:
+            self.archives[edits] = archive_of(self.maps[edits])
+        return self.archives[edits]
+
+    def fits(self, left, acknowledged, generation):
+        """Whether a service that was opened after a crash shows all acknowledged edits and at most one more, the archive of the edits that its
+        root names, and no earlier generation."""
+        root = left.root
+        archive = self.archive(root.edits) if root.generation else b""
+        shows = left.last - acknowledged in (0, 1) and left.map == self.maps[left.last] and left.read(0, root.archive_len) == archive
+        return shows and root.generation - generation in (0, 1)
+
+
+def every_choice(memory):
+    """Each choice of a crash, without the zeros at its end."""
+    for choice in itertools.product(*(range(len(memory.writes[at]) + 1) for at in sorted(memory.writes))):
+        yield words_of(choice).rstrip(" 0")
+
+
+def stop_choices():
+    yield from heading(
+        "The forty events on a disk whose calls fail from each number on. At most ten sectors are unsynced then, and a crash leaves each of them as it",
+        "was or as it was written: every choice is opened. The tile shows all acknowledged edits and at most the one that failed, the next edit has the",
+        "next number, and the archive is that of the edits of its root.",
+    )
+    history, choices = History(), 0
+    for call in range(1, calls_made() + 1):
+        ran = [*fresh(), f"fail_from {call}", "open", *(rounds() if call > 5 else [])]
+        trial = tried(ran)
+        acknowledged, generation = (trial.session.last, trial.session.root.generation) if call > 5 else (0, 0)
+        trial.answer("stop")
+        assert len(trial.stopped.writes) <= MOST_UNSYNCED
+        yield from [*ran, "stop"]
+        for choice in every_choice(trial.stopped):
+            assert history.fits(Service(Faulty(trial.stopped.crash([int(number) for number in choice.split()]))), acknowledged, generation)
+            choices += 1
+            yield from [f"crash{choice}", "open", f"tile 0 0 0; {put(9)}", "archive"]
+    yield f"# {choices} choices of {call} stops."
+
+
+def failed_event(stop):
+    """The number of events up to the one of which a call fails, or 0 if that is a call of opening."""
+    trial = tried([*fresh(), stop, "open"])
+    if not isinstance(trial.session, Service):
+        return 0
+    return 1 + next(number for number, event in enumerate(EVENTS_MADE) if trial.answer(event) == "Refused(Device)")
+
+
+def one_failure():
+    yield from heading(
+        "The forty events on a disk of which one call fails, before or after its work is done. The events after the failed one are answered all the",
+        "same. Then the disk is opened again, and they are run once more.",
+    )
+    for stop in [f"{word} {call}" for word in ("fail_not_made", "fail_made") for call in range(1, calls_made() + 1)]:
+        failed = failed_event(stop)
+        yield from [*fresh(), stop, "open", *(rounds() if failed else []), "stop", "resume", "open", *rounds(failed), "archive"]
 
 
 def too_many():
@@ -784,9 +892,9 @@ def random_stops():
 
 def lines():
     yield from ["# A map on a disk, as a service. Written by bench/model/service_script.py, with the answers."]
-    for block in (tiles_and_answers, limits, edits, edit_stops, bodies_alone, publications, between, steps, publication_stops, script_stops, too_many):
+    for block in (tiles_and_answers, limits, edits, edit_stops, bodies_alone, publications, between, steps, publication_stops, script_stops):
         yield from block()
-    for block in (openings, snapshots, earlier, archives, published_tiles, random_tiles, random_stops):
+    for block in (forty_events, stop_choices, one_failure, too_many, openings, snapshots, earlier, archives, published_tiles, random_tiles, random_stops):
         yield from block()
 
 
