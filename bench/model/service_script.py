@@ -1,12 +1,11 @@
 """The script of `service_runs` and its expected output: a model of a service on a disk in memory answers each line."""
 import copy
-import itertools
 from collections import namedtuple
 
 import words
 from calls import format_disk
 from chance import Chance
-from crashes import FROM, MADE, NONE, NOT_MADE, Failed, Faulty, Memory
+from crashes import FROM, MADE, NONE, NOT_MADE, Failed, Faulty, Memory, every_choice
 from disk import SECTOR, Edit, Fault, Layout, Root, format_sector, put_records, root_sector, snapshot_text, text_of
 from machine import NO_NEGATIVE, Refused, Service
 from map_archive import archive_of, runs_of, tiles_of
@@ -577,12 +576,6 @@ class History:
         return shows and root.generation - generation in (0, 1)
 
 
-def every_choice(memory):
-    """Each choice of a crash, without the zeros at its end."""
-    for choice in itertools.product(*(range(len(memory.writes[at]) + 1) for at in sorted(memory.writes))):
-        yield words_of(choice).rstrip(" 0")
-
-
 def stop_choices():
     yield from heading(
         "The forty events on a disk whose calls fail from each number on. At most ten sectors are unsynced then, and a crash leaves each of them as it",
@@ -598,9 +591,9 @@ def stop_choices():
         assert len(trial.stopped.writes) <= MOST_UNSYNCED
         yield from [*ran, "stop"]
         for choice in every_choice(trial.stopped):
-            assert history.fits(Service(Faulty(trial.stopped.crash([int(number) for number in choice.split()]))), acknowledged, generation)
+            assert history.fits(Service(Faulty(trial.stopped.crash(choice))), acknowledged, generation)
             choices += 1
-            yield from [f"crash{choice}", "open", f"tile 0 0 0; {put(9)}", "archive"]
+            yield from [*crashed(choice), f"tile 0 0 0; {put(9)}", "archive"]
     yield f"# {choices} choices of {call} stops."
 
 
@@ -890,11 +883,111 @@ def random_stops():
             yield line
 
 
+# Large disks
+
+
+def near(chance, x, y):
+    """A position at most 2^26 after another one in each direction."""
+    return f"{min(x + chance.below(2**26), WORLD_END - 1)},{min(y + chance.below(2**26), WORLD_END - 1)}"
+
+
+def small_shape(chance):
+    x, y = chance.below(WORLD_END), chance.below(WORLD_END)
+    kind, least = chance.one_of([("points", 1), ("lines", 2), ("polygons", 3)])
+    return f"{kind} {' '.join(near(chance, x, y) for _ in range(least))}"
+
+
+def small_put(chance, number):
+    """The text of this edit has 25 to 1,000 bytes."""
+    first = chance.below(3)
+    tag = f" t='{chance.one_of('xyz')}*{chance.one_of([100, 450, 900])}" if chance.below(4) == 0 else ""
+    return f"put {number} {chance.one_of('pq')} {first} {first + chance.below(3)} {small_shape(chance)}{tag}"
+
+
+def large_put(chance, number):
+    """The text of this edit has some 15,000 bytes; its record takes 31 places."""
+    tags = " ".join(f"k{key:02}='{chance.one_of('xyz')}*1000" for key in range(15))
+    return f"put {number} p 0 1 {small_shape(chance)} {tags}"
+
+
+FEATURES = 300
+
+
+def large_event(chance):
+    kind, number = chance.below(8), chance.below(FEATURES)
+    if kind < 3:
+        return small_put(chance, number)
+    if kind < 5:
+        return large_put(chance, number % 4)
+    return f"tile {random_place(chance)}" if kind == 5 else f"delete {number}"
+
+
+def large_run(chance):
+    """Edits and tiles, and mostly a publication between them, which some runs cancel or don't finish."""
+    yield from (large_event(chance) for _ in range(chance.below(5)))
+    if chance.below(4):
+        yield "begin"
+        for _ in range(8 + chance.below(16)):
+            yield "step" if chance.below(3) else large_event(chance)
+        if chance.below(8) == 0:
+            yield "cancel"
+
+
+def large_choice(chance):
+    """A choice of a crash: nothing of what is unsynced, everything, or each sector at random."""
+    return chance.one_of([[], [1] * 70, [chance.below(2) for _ in range(70)]])
+
+
+def large_turn(chance, trial):
+    """The lines of a run on the disk of which a call fails, or all from it on, and of a crash after it. The crash leaves the acknowledged edits and
+    at most one more."""
+    call = calls_of_opening(trial) + 1 + chance.below(800)
+    for line in (f"{chance.one_of(['fail_from', 'fail_not_made', 'fail_made'])} {call}", "open", "; ".join([f"look {FEATURES}", *large_run(chance)])):
+        trial.answer(line)
+        yield line
+    ended = trial.session
+    for line in ("stop", f"crash{words_of(large_choice(chance))}"):
+        trial.answer(line)
+        yield line
+    left = Service(Faulty(copy.deepcopy(trial.session)))
+    differing = [number for number in range(FEATURES) if left.map.get(number) != ended.map.get(number)]
+    assert len(differing) <= left.last - ended.last <= 1 and left.root.generation - ended.root.generation in (0, 1)
+    return left.root
+
+
+def large_disk(seed, turns):
+    chance, trial = Chance(seed), Trial()
+    puts = [small_put(chance, number) for number in range(FEATURES)]
+    yield f"# Seed {seed}."
+    for line in [*opened(4096), *("; ".join(puts[at : at + 30]) for at in range(0, FEATURES, 30)), "publish", "stop", "resume"]:
+        trial.answer(line)
+        yield line
+    roots = []
+    for turn in range(turns):
+        roots.append((yield from large_turn(chance, trial)))
+        if turn % 5 == 4:
+            yield from ["open", "tile 0 0 0", "archive", "verify", "stop", "resume"]
+    wraps = sum(root.journal_at < before.journal_at for before, root in zip(roots, roots[1:]))
+    assert wraps > 0
+    yield f"# Seed {seed} ends with generation {roots[-1].generation} and {roots[-1].edits} edits; its journal wrapped around {wraps} times."
+
+
+def large_stops():
+    yield from heading(
+        "Random runs on disks of 4,096 sectors with 300 features: publications of several steps, and journals that wrap around. A call of each run",
+        "fails, or all from it on, and a crash follows.",
+    )
+    for seed in range(1, 5):
+        yield from large_disk(seed, 60)
+
+
 def lines():
     yield from ["# A map on a disk, as a service. Written by bench/model/service_script.py, with the answers."]
     for block in (tiles_and_answers, limits, edits, edit_stops, bodies_alone, publications, between, steps, publication_stops, script_stops):
         yield from block()
-    for block in (forty_events, stop_choices, one_failure, too_many, openings, snapshots, earlier, archives, published_tiles, random_tiles, random_stops):
+    for block in (forty_events, stop_choices, one_failure, too_many, openings, snapshots, earlier, archives, published_tiles):
+        yield from block()
+    for block in (random_tiles, random_stops, large_stops):
         yield from block()
 
 
