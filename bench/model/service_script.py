@@ -871,16 +871,20 @@ def random_turn(chance, trial, turn):
     yield f"crash{words_of(chance.below(3) for _ in range(chance.below(9)))}"
 
 
+def random_runs(seed, turns):
+    chance, trial = Chance(seed), Trial()
+    for turn in range(turns):
+        for line in random_turn(chance, trial, turn):
+            trial.answer(line)
+            yield line
+
+
 def random_stops():
     yield from heading(
         "Random runs on a disk of which a random call fails, or none. A crash by random choices follows each, and the next run continues on what",
         "it leaves.",
     )
-    chance, trial = Chance(1867), Trial()
-    for turn in range(240):
-        for line in random_turn(chance, trial, turn):
-            trial.answer(line)
-            yield line
+    yield from random_runs(1867, 240)
 
 
 # Large disks
@@ -968,7 +972,6 @@ def large_disk(seed, turns):
         if turn % 5 == 4:
             yield from ["open", "tile 0 0 0", "archive", "verify", "stop", "resume"]
     wraps = sum(root.journal_at < before.journal_at for before, root in zip(roots, roots[1:]))
-    assert wraps > 0
     yield f"# Seed {seed} ends with generation {roots[-1].generation} and {roots[-1].edits} edits; its journal wrapped around {wraps} times."
 
 
