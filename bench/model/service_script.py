@@ -615,6 +615,21 @@ def one_failure():
         yield from [*fresh(), stop, "open", *(rounds() if failed else []), "stop", "resume", "open", *rounds(failed), "archive"]
 
 
+def read_failures():
+    yield from heading(
+        "The same events, but with two tiles after each publication, before its third feature is put: they are read from the archive. If one of these",
+        "reads fails, the tile is cut, and nothing is broken.",
+    )
+    events = [[*events[:3], events[4], "tile 0 0 0", "tile 2 0 0", events[3], *events[5:]] for events in ROUNDS]
+    lines_made = ["; ".join(round_made) for round_made in events]
+    trial = tried(opened())
+    whole, last = [trial.answer(line) for line in lines_made], trial.taken()[1]
+    for stop in [f"{word} {call}" for word in ("fail_not_made", "fail_made") for call in range(6, last + 1)]:
+        trial = tried([*fresh(), stop, "open"])
+        if [trial.answer(line) for line in lines_made] == whole:
+            yield from [*fresh(), stop, "open", *lines_made, "archive", "stop", *crashed(), "archive"]
+
+
 def too_many():
     yield from heading("Three lines across the world: 196,608 tiles of zoom 16, each unlike the next, are too many entries.")
     rows = [f"put {number} l 16 16 lines 0,{y} {WORLD_END - 1},{y}" for number, y in ((1, 32768), (2, 1073774592), (3, 2147516416))]
@@ -988,7 +1003,7 @@ def lines():
     yield from ["# A map on a disk, as a service. Written by bench/model/service_script.py, with the answers."]
     for block in (tiles_and_answers, limits, edits, edit_stops, bodies_alone, publications, between, steps, publication_stops, script_stops):
         yield from block()
-    for block in (forty_events, stop_choices, one_failure, too_many, openings, snapshots, earlier, archives, published_tiles):
+    for block in (forty_events, stop_choices, one_failure, read_failures, too_many, openings, snapshots, earlier, archives, published_tiles):
         yield from block()
     for block in (random_tiles, random_stops, large_stops):
         yield from block()
