@@ -266,6 +266,15 @@ def old_disk():
     yield from ["write 3 = 07*512", "write 18 = 07*512", "write 19 = 07*512", "sync"]
 
 
+def state_of(disk):
+    """The live root of a disk, or its fault."""
+    held = Seen(disk)
+    try:
+        return root_of(held, layout_of(held))
+    except Fault as fault:
+        return str(fault)
+
+
 def format_crashes():
     yield from heading(
         "A format of a used disk fails at each of its 29 calls, then crashes by every choice: the old disk, an unformatted one or a fresh one is left.",
@@ -279,6 +288,7 @@ def format_crashes():
         for line in lines_made:
             trial.answer(line)
         for choice in every_choice(trial.stopped):
+            assert state_of(trial.stopped.crash(choice)) in (Root(5, 0, 0, 0, 0), Root(0, 0, 0, 0, 0), "NotFormatted")
             choices_tried += 1
             yield from [f"crash {words_of(choice)}".rstrip(), "root", "sectors"]
     yield f"# {choices_tried} choices."
