@@ -1,41 +1,53 @@
-// Refuses the allocation whose number FAIL_AT gives, counted from 1. Loaded before the C library.
+// Refuses the allocation whose number FAIL_AT gives, counted from 1, and those of more than FAIL_OVER bytes. Writes the number of allocations that
+// were made into the file FAIL_COUNT at the end. Loaded before the C library.
 #define _GNU_SOURCE
 #include <dlfcn.h>
 #include <errno.h>
+#include <fcntl.h>
+#include <stdio.h>
 #include <stdlib.h>
+#include <unistd.h>
 
 static long count = 0;
 
-static int refused(void) {
-    const char *at = getenv("FAIL_AT");
+static int refused(size_t size) {
+    const char *at = getenv("FAIL_AT"), *over = getenv("FAIL_OVER");
     count += 1;
-    return at != NULL && count == atol(at);
+    return (at != NULL && count == atol(at)) || (over != NULL && size > (size_t)atol(over));
+}
+
+__attribute__((destructor)) static void tell(void) {
+    const char *path = getenv("FAIL_COUNT");
+    if (path == NULL) return;
+    int file = open(path, O_CREAT | O_TRUNC | O_WRONLY, 0600);
+    dprintf(file, "%ld", count);
+    close(file);
 }
 
 void *malloc(size_t size) {
     static void *(*real)(size_t);
     if (real == NULL) real = dlsym(RTLD_NEXT, "malloc");
-    if (refused()) { errno = ENOMEM; return NULL; }
+    if (refused(size)) { errno = ENOMEM; return NULL; }
     return real(size);
 }
 
 void *realloc(void *old, size_t size) {
     static void *(*real)(void *, size_t);
     if (real == NULL) real = dlsym(RTLD_NEXT, "realloc");
-    if (refused()) { errno = ENOMEM; return NULL; }
+    if (refused(size)) { errno = ENOMEM; return NULL; }
     return real(old, size);
 }
 
 void *aligned_alloc(size_t alignment, size_t size) {
     static void *(*real)(size_t, size_t);
     if (real == NULL) real = dlsym(RTLD_NEXT, "aligned_alloc");
-    if (refused()) { errno = ENOMEM; return NULL; }
+    if (refused(size)) { errno = ENOMEM; return NULL; }
     return real(alignment, size);
 }
 
 int posix_memalign(void **to, size_t alignment, size_t size) {
     static int (*real)(void **, size_t, size_t);
     if (real == NULL) real = dlsym(RTLD_NEXT, "posix_memalign");
-    if (refused()) return ENOMEM;
+    if (refused(size)) return ENOMEM;
     return real(to, alignment, size);
 }

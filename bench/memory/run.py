@@ -5,7 +5,8 @@
 
 Each run must end as it would with memory, or with status 1 and `vtserve: Memory`, or answer 503 to the request that lacked memory
 and go on. The script ends with 1 otherwise. `demo` runs on its stored input; its disk is in memory, so it may also lack memory for
-a write, which is `Device` or 500. The others run on small files.
+a write, which is `Device` or 500. The others run on small files. `streams.py` sends requests of every kind to `pipe`, and compares the
+replies and the disk with those of a run without the refused request. `claims.py` refuses large allocations alone.
 """
 import collections
 import os
@@ -15,6 +16,9 @@ import subprocess
 import sys
 import tempfile
 
+import claims
+import streams
+
 HERE = os.path.dirname(os.path.abspath(__file__))
 CRATE = os.path.join(HERE, "..", "..", "crates", "vtserve")
 CALM = 100  # so many runs in a row that meet no refusal, or none that matters, end the series
@@ -23,6 +27,7 @@ BODY = b'{"layer":"p","minzoom":0,"maxzoom":2,"geometry":{"points":[[0,0]]},"tag
 PUT = b"PUT /features/7 HTTP/1.1\r\nhost: x\r\ncontent-length: %d\r\n\r\n%s" % (len(BODY), BODY)
 PUBLISH = b"POST /publish HTTP/1.1\r\nhost: x\r\n\r\n"
 GET = b"GET /map/0/0/0.hex HTTP/1.1\r\nhost: x\r\n\r\n"
+MEMORY_FOLDER = "/dev/shm" if os.path.isdir("/dev/shm") else None  # a sync takes no time there
 MEMORY = b"vtserve: Memory\n"
 DEVICE = b"vtserve: Device\n"
 
@@ -133,10 +138,16 @@ def commands(folder):
 
 
 def main():
-    with tempfile.TemporaryDirectory() as folder:
+    with tempfile.TemporaryDirectory(dir=MEMORY_FOLDER) as folder:
         shim = os.path.join(folder, "refuse.so")
         subprocess.run(["gcc", "-shared", "-fPIC", "-o", shim, os.path.join(HERE, "refuse.c"), "-ldl"], check=True)
         bad = sum(series(name, command, shim) for name, command in commands(folder))
+        total = 0
+        for name, sectors, before, requests in streams.SERIES:
+            allocations, worse = streams.tried(name, streams.Stream(PROGRAM, shim, folder, sectors, before, requests))
+            total, bad = total + allocations, bad + worse
+        print(f"streams: {len(streams.SERIES)}, {total} allocations")
+        bad += claims.tried(PROGRAM, shim, folder)[1]
     return 1 if bad else 0
 
 

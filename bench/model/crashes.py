@@ -1,4 +1,6 @@
 """Disks in memory, what a crash leaves of them, and failing calls, from docs/PROMISES.md. It shares no code with the product."""
+import itertools
+
 from disk import SECTOR
 
 
@@ -30,6 +32,11 @@ class Memory:
             if chosen:
                 left[at] = self.writes[at][min(chosen, len(self.writes[at])) - 1]
         return Memory(self.count, left)
+
+
+def every_choice(memory):
+    """Each choice of a crash, as the numbers for `crash`."""
+    return itertools.product(*(range(len(memory.writes[at]) + 1) for at in sorted(memory.writes)))
 
 
 NONE, FROM, NOT_MADE, MADE = "none", "from", "not_made", "made"

@@ -3,7 +3,7 @@ from collections import namedtuple
 
 import words
 from calls import append, format_disk, install, write_area
-from crashes import FROM, MADE, NONE, NOT_MADE, Failed, Faulty, Memory, Seen
+from crashes import FROM, MADE, NONE, NOT_MADE, Failed, Faulty, Memory, Seen, every_choice
 from disk import LAST_NUMBER, LONGEST, SECTOR, Fault, Layout, Root, front, is_head, layout_of, parts_of, root_of, texts_of
 from words import Fields, Variant, briefly, debug, err, ok, read, some, spelled
 
@@ -266,16 +266,32 @@ def old_disk():
     yield from ["write 3 = 07*512", "write 18 = 07*512", "write 19 = 07*512", "sync"]
 
 
+def state_of(disk):
+    """The live root of a disk, or its fault."""
+    held = Seen(disk)
+    try:
+        return root_of(held, layout_of(held))
+    except Fault as fault:
+        return str(fault)
+
+
 def format_crashes():
     yield from heading(
-        "A format of a used disk fails at each of its 29 calls, then crashes: the old disk, an unformatted one or a fresh one is left. Calls 1 and 2",
-        "are zeros in sector 0 and a sync, 3 to 24 reads and zeros of sectors 1 to 18, 25 a sync, 26 and 27 the root and a sync, 28 and 29 the",
-        "mark and a sync.",
+        "A format of a used disk fails at each of its 29 calls, then crashes by every choice: the old disk, an unformatted one or a fresh one is left.",
+        "Calls 1 and 2 are zeros in sector 0 and a sync, 3 to 24 reads and zeros of sectors 1 to 18, 25 a sync, 26 and 27 the root and a sync, 28",
+        "and 29 the mark and a sync.",
     )
+    choices_tried = 0
     for stop in stops(29):
-        yield from [*old_disk(), stop, "format", "stop"]
-        for choice in ("", " 1 1 1 1", " 1 0 1 0", " 0 1 0 1", " 1", " 0 1 1 1"):
-            yield from [f"crash{choice}", "root", "sectors"]
+        lines_made, trial = [*old_disk(), stop, "format", "stop"], Trial()
+        yield from lines_made
+        for line in lines_made:
+            trial.answer(line)
+        for choice in every_choice(trial.stopped):
+            assert state_of(trial.stopped.crash(choice)) in (Root(5, 0, 0, 0, 0), Root(0, 0, 0, 0, 0), "NotFormatted")
+            choices_tried += 1
+            yield from [f"crash {words_of(choice)}".rstrip(), "root", "sectors"]
+    yield f"# {choices_tried} choices."
 
 
 def possible_roots():

@@ -5,10 +5,10 @@ from collections import namedtuple
 import words
 from calls import format_disk
 from chance import Chance
-from crashes import FROM, MADE, NONE, NOT_MADE, Failed, Faulty, Memory
+from crashes import FROM, MADE, NONE, NOT_MADE, Failed, Faulty, Memory, every_choice
 from disk import SECTOR, Edit, Fault, Layout, Root, format_sector, put_records, root_sector, snapshot_text, text_of
 from machine import NO_NEGATIVE, Refused, Service
-from map_archive import runs_of, tiles_of
+from map_archive import archive_of, runs_of, tiles_of
 from tiles import feature
 from words import Fields, Tuple, Variant, briefly, debug, digest, err, ok, read, some, spelled
 
@@ -458,13 +458,6 @@ def between():
     yield from [*opened(), put(7), "begin; step", put(8), "begin", "stop", *crashed(), "step", "cancel", "look 8", "archive"]
     yield from heading("The last generation: no publication begins, and edits continue.")
     yield from [*fresh(), f"write 2 = 'VTROOT01 {LAST}:8", "open", "begin", "publish", "step", put(7), "begin", "stop", "resume", "sector 1", "sector 2"]
-    yield from heading("Five rounds of edits and publications, in which the journal wraps around.")
-    yield from opened()
-    for tens in range(1, 6):
-        first, second, third = (10 * tens + number for number in (1, 2, 3))
-        yield f"{put(first)}; {put(second, 467)}; begin; {put(third)}; step; delete {first}; tile 0 0 0; look {second}"
-    yield from ["archive", "stop", "resume", "sector 1", "sector 2", "open", put(9), "stop", "resume", "sector 12", "open", "stop", *crashed()]
-    yield from ["archive", put(9)]
 
 
 def large():
@@ -512,6 +505,129 @@ def script_stops():
         yield from [*fresh(), stop, "open", *(["; ".join(events)] if opens(stop, 5) else []), "stop"]
         for choice in ALL_CHOICES[3]:
             yield from [*crashed(choice), f"tile 0 0 0; {put(9)}", "archive"]
+
+
+# Forty events
+
+
+def round_of(tens):
+    """Eight events: of three features put and one deleted, two remain. A publication has an edit between its two events."""
+    first, second, third = (10 * tens + number for number in (1, 2, 3))
+    return [put(first), put(second, 467), "begin", put(third), "step", f"delete {first}", "tile 0 0 0", f"look {second}"]
+
+
+ROUNDS = [round_of(tens) for tens in range(1, 6)]
+EVENTS_MADE = [event for events in ROUNDS for event in events]
+MOST_UNSYNCED = 10
+
+
+def rounds(after=0):
+    """The lines of the forty events, a round in each, without the first `after` events."""
+    left = [events[max(0, after - 8 * number) :] for number, events in enumerate(ROUNDS)]
+    return ["; ".join(events) for events in left if events]
+
+
+def tried(lines):
+    trial = Trial()
+    for line in lines:
+        trial.answer(line)
+    return trial
+
+
+def calls_made():
+    """The number of calls of the disk that opening it and the forty events make."""
+    return tried([*opened(), *rounds()]).taken()[1]
+
+
+def forty_events():
+    yield from heading(
+        "Five rounds of eight events, in which the journal wraps around: 20 edits, ten features, and a root of generation 5 with 18 edits that begins at",
+        "place 7. Edit 19 is stored there, in sector 10, edit 20 in sector 11, and the next one in sector 12.",
+    )
+    lasting = tried([*opened(), *rounds()]).session
+    assert (lasting.last, len(lasting.map), lasting.next_place()) == (20, 10, 9)
+    assert (lasting.root.generation, lasting.root.edits, lasting.root.journal_at) == (5, 18, 7)
+    yield from [*opened(), *rounds(), looks(*range(11, 14)), looks(*range(51, 54)), "archive", "verify", "stop", "resume", "sector 1", "sector 2"]
+    yield from ["sector 10", "sector 11", "open", put(9), "stop", "resume", "sector 12", "open", "stop", *crashed(), "archive", put(9)]
+
+
+class History:
+    """The maps of the forty events by the number of edits, and the archives that are made of them."""
+
+    def __init__(self):
+        self.maps, self.archives = [{}], {}
+        trial = tried(opened())
+        for event in EVENTS_MADE:
+            trial.answer(event)
+            if trial.session.last == len(self.maps):
+                self.maps.append(dict(trial.session.map))
+
+    def archive(self, edits):
+        if edits not in self.archives:
+            self.archives[edits] = archive_of(self.maps[edits])
+        return self.archives[edits]
+
+    def fits(self, left, acknowledged, generation):
+        """Whether a service that was opened after a crash shows all acknowledged edits and at most one more, the archive of the edits that its
+        root names, and no earlier generation."""
+        root = left.root
+        archive = self.archive(root.edits) if root.generation else b""
+        shows = left.last - acknowledged in (0, 1) and left.map == self.maps[left.last] and left.read(0, root.archive_len) == archive
+        return shows and root.generation - generation in (0, 1)
+
+
+def stop_choices():
+    yield from heading(
+        "The forty events on a disk whose calls fail from each number on. At most ten sectors are unsynced then, and a crash leaves each of them as it",
+        "was or as it was written: every choice is opened. The tile shows all acknowledged edits and at most the one that failed, the next edit has the",
+        "next number, and the archive is that of the edits of its root.",
+    )
+    history, choices = History(), 0
+    for call in range(1, calls_made() + 1):
+        ran = [*fresh(), f"fail_from {call}", "open", *(rounds() if call > 5 else [])]
+        trial = tried(ran)
+        acknowledged, generation = (trial.session.last, trial.session.root.generation) if call > 5 else (0, 0)
+        trial.answer("stop")
+        assert len(trial.stopped.writes) <= MOST_UNSYNCED
+        yield from [*ran, "stop"]
+        for choice in every_choice(trial.stopped):
+            assert history.fits(Service(Faulty(trial.stopped.crash(choice))), acknowledged, generation)
+            choices += 1
+            yield from [*crashed(choice), f"tile 0 0 0; {put(9)}", "archive"]
+    yield f"# {choices} choices of {call} stops."
+
+
+def failed_event(stop):
+    """The number of events up to the one of which a call fails, or 0 if that is a call of opening."""
+    trial = tried([*fresh(), stop, "open"])
+    if not isinstance(trial.session, Service):
+        return 0
+    return 1 + next(number for number, event in enumerate(EVENTS_MADE) if trial.answer(event) == "Refused(Device)")
+
+
+def one_failure():
+    yield from heading(
+        "The forty events on a disk of which one call fails, before or after its work is done. The events after the failed one are answered all the",
+        "same. Then the disk is opened again, and they are run once more.",
+    )
+    for stop in [f"{word} {call}" for word in ("fail_not_made", "fail_made") for call in range(1, calls_made() + 1)]:
+        failed = failed_event(stop)
+        yield from [*fresh(), stop, "open", *(rounds() if failed else []), "stop", "resume", "open", *rounds(failed), "archive"]
+
+
+def read_failures():
+    yield from heading(
+        "The same events, but with two tiles after each publication, before its third feature is put: they are read from the archive. If one of these",
+        "reads fails, the tile is cut, and nothing is broken.",
+    )
+    events = [[*events[:3], events[4], "tile 0 0 0", "tile 2 0 0", events[3], *events[5:]] for events in ROUNDS]
+    lines_made = ["; ".join(round_made) for round_made in events]
+    trial = tried(opened())
+    whole, last = [trial.answer(line) for line in lines_made], trial.taken()[1]
+    for stop in [f"{word} {call}" for word in ("fail_not_made", "fail_made") for call in range(6, last + 1)]:
+        trial = tried([*fresh(), stop, "open"])
+        if [trial.answer(line) for line in lines_made] == whole:
+            yield from [*fresh(), stop, "open", *lines_made, "archive", "stop", *crashed(), "archive"]
 
 
 def too_many():
@@ -770,23 +886,126 @@ def random_turn(chance, trial, turn):
     yield f"crash{words_of(chance.below(3) for _ in range(chance.below(9)))}"
 
 
-def random_stops():
-    yield from heading(
-        "Random runs on a disk of which a random call fails, or none. A crash by random choices follows each, and the next run continues on what",
-        "it leaves.",
-    )
-    chance, trial = Chance(1867), Trial()
-    for turn in range(240):
+def random_runs(seed, turns):
+    chance, trial = Chance(seed), Trial()
+    for turn in range(turns):
         for line in random_turn(chance, trial, turn):
             trial.answer(line)
             yield line
 
 
+def random_stops():
+    yield from heading(
+        "Random runs on a disk of which a random call fails, or none. A crash by random choices follows each, and the next run continues on what",
+        "it leaves.",
+    )
+    yield from random_runs(1867, 240)
+
+
+# Large disks
+
+
+def near(chance, x, y):
+    """A position at most 2^26 after another one in each direction."""
+    return f"{min(x + chance.below(2**26), WORLD_END - 1)},{min(y + chance.below(2**26), WORLD_END - 1)}"
+
+
+def small_shape(chance):
+    x, y = chance.below(WORLD_END), chance.below(WORLD_END)
+    kind, least = chance.one_of([("points", 1), ("lines", 2), ("polygons", 3)])
+    return f"{kind} {' '.join(near(chance, x, y) for _ in range(least))}"
+
+
+def small_put(chance, number):
+    """The text of this edit has 25 to 1,000 bytes."""
+    first = chance.below(3)
+    tag = f" t='{chance.one_of('xyz')}*{chance.one_of([100, 450, 900])}" if chance.below(4) == 0 else ""
+    return f"put {number} {chance.one_of('pq')} {first} {first + chance.below(3)} {small_shape(chance)}{tag}"
+
+
+def large_put(chance, number):
+    """The text of this edit has some 15,000 bytes; its record takes 31 places."""
+    tags = " ".join(f"k{key:02}='{chance.one_of('xyz')}*1000" for key in range(15))
+    return f"put {number} p 0 1 {small_shape(chance)} {tags}"
+
+
+FEATURES = 300
+
+
+def large_event(chance):
+    kind, number = chance.below(8), chance.below(FEATURES)
+    if kind < 3:
+        return small_put(chance, number)
+    if kind < 5:
+        return large_put(chance, number % 4)
+    return f"tile {random_place(chance)}" if kind == 5 else f"delete {number}"
+
+
+def large_run(chance):
+    """Edits and tiles, and mostly a publication between them, which some runs cancel or don't finish."""
+    yield from (large_event(chance) for _ in range(chance.below(5)))
+    if chance.below(4):
+        yield "begin"
+        for _ in range(8 + chance.below(16)):
+            yield "step" if chance.below(3) else large_event(chance)
+        if chance.below(8) == 0:
+            yield "cancel"
+
+
+def large_choice(chance):
+    """A choice of a crash: nothing of what is unsynced, everything, or each sector at random."""
+    return chance.one_of([[], [1] * 70, [chance.below(2) for _ in range(70)]])
+
+
+def large_turn(chance, trial):
+    """The lines of a run on the disk of which a call fails, or all from it on, and of a crash after it. The crash leaves the acknowledged edits and
+    at most one more."""
+    call = calls_of_opening(trial) + 1 + chance.below(800)
+    for line in (f"{chance.one_of(['fail_from', 'fail_not_made', 'fail_made'])} {call}", "open", "; ".join([f"look {FEATURES}", *large_run(chance)])):
+        trial.answer(line)
+        yield line
+    ended = trial.session
+    for line in ("stop", f"crash{words_of(large_choice(chance))}"):
+        trial.answer(line)
+        yield line
+    left = Service(Faulty(copy.deepcopy(trial.session)))
+    differing = [number for number in range(FEATURES) if left.map.get(number) != ended.map.get(number)]
+    assert len(differing) <= left.last - ended.last <= 1 and left.root.generation - ended.root.generation in (0, 1)
+    return left.root
+
+
+def large_disk(seed, turns):
+    chance, trial = Chance(seed), Trial()
+    puts = [small_put(chance, number) for number in range(FEATURES)]
+    yield f"# Seed {seed}."
+    for line in [*opened(4096), *("; ".join(puts[at : at + 30]) for at in range(0, FEATURES, 30)), "publish", "stop", "resume"]:
+        trial.answer(line)
+        yield line
+    roots = []
+    for turn in range(turns):
+        roots.append((yield from large_turn(chance, trial)))
+        if turn % 5 == 4:
+            yield from ["open", "tile 0 0 0", "archive", "verify", "stop", "resume"]
+    wraps = sum(root.journal_at < before.journal_at for before, root in zip(roots, roots[1:]))
+    yield f"# Seed {seed} ends with generation {roots[-1].generation} and {roots[-1].edits} edits; its journal wrapped around {wraps} times."
+
+
+def large_stops():
+    yield from heading(
+        "Random runs on disks of 4,096 sectors with 300 features: publications of several steps, and journals that wrap around. A call of each run",
+        "fails, or all from it on, and a crash follows.",
+    )
+    for seed in range(1, 5):
+        yield from large_disk(seed, 60)
+
+
 def lines():
     yield from ["# A map on a disk, as a service. Written by bench/model/service_script.py, with the answers."]
-    for block in (tiles_and_answers, limits, edits, edit_stops, bodies_alone, publications, between, steps, publication_stops, script_stops, too_many):
+    for block in (tiles_and_answers, limits, edits, edit_stops, bodies_alone, publications, between, steps, publication_stops, script_stops):
         yield from block()
-    for block in (openings, snapshots, earlier, archives, published_tiles, random_tiles, random_stops):
+    for block in (forty_events, stop_choices, one_failure, read_failures, too_many, openings, snapshots, earlier, archives, published_tiles):
+        yield from block()
+    for block in (random_tiles, random_stops, large_stops):
         yield from block()
 
 

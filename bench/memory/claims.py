@@ -1,0 +1,65 @@
+"""Counts that are only claimed: inputs whose counts ask for much more memory than there are bytes after them, with large allocations refused.
+
+A count mustn't be the size of an allocation before its bytes are known to be there. So each fault here is reported as with memory for everything.
+"""
+import os
+import subprocess
+import sys
+from pathlib import Path
+
+sys.path.append(str(Path(__file__).resolve().parents[1] / "model"))
+import disk
+from archives import Maker, judged
+
+MOST = 262144
+MOST_ENTRIES = b"\xff\xff\xff\xff\x0f"
+# A point's geometry that claims 2^29 - 1 moves.
+TILE = bytes.fromhex("1a150a0170120b080718012205f9ffffff0f2880207802")
+
+
+def archives():
+    maker = Maker()
+    yield "a root directory", maker.archive(MOST_ENTRIES)
+    maker = Maker()
+    leaf = maker.leaf(0, MOST_ENTRIES)
+    yield "a leaf directory", maker.archive([leaf], addressed=0, entries=0, contents=0)
+    maker = Maker()
+    yield "a tile's geometry", maker.archive([maker.tile(0, 1, TILE)], addressed=1, entries=1, contents=1)
+
+
+def disks():
+    """A disk with an edit in its journal, or a snapshot, whose text claims 65,535 points, lines or polygons."""
+    for kind, name in disk.KINDS.items():
+        text = b"\x01" + disk.spelled(7, 8) + b"\x01p\x00\x02" + bytes([kind]) + b"\xff\xff"
+        held = bytearray(disk.write_disk(64, 0, {}, [], b"", 0))
+        disk.put_records(held, disk.Layout(64), 0, 1, [text])
+        yield f"{name} in the journal", bytes(held)
+        held = bytearray(disk.write_disk(64, 1, {}, [], b"", 0))
+        disk.put_at(held, 2, disk.root_sector(disk.Root(1, 0, 0, len(text), 0)))
+        disk.put_at(held, disk.Layout(64).area_at(1), text)
+        yield f"{name} in the snapshot", bytes(held)
+
+
+def cases():
+    """The name, the command, its file and what it must print."""
+    for name, archive in archives():
+        yield name, "verify", archive, (1, judged(archive).encode() + b"\n", b"")
+    for name, held in disks():
+        yield name, "pipe", held, (1, b"", b"vtserve: Damaged\n")
+
+
+def tried(program, shim, folder):
+    """Runs each case, and returns the number of cases and of bad outcomes."""
+    path, bad, count = os.path.join(folder, "claims"), 0, 0
+    for name, command, held, expected in cases():
+        with open(path, "wb") as file:
+            file.write(held)
+        for more in ({}, {"LD_PRELOAD": shim, "FAIL_OVER": str(MOST)}):
+            done = subprocess.run([program, command, path], input=b"", capture_output=True, timeout=60, env=more)
+            outcome = done.returncode, done.stdout, done.stderr
+            count += 1
+            if outcome != expected:
+                bad += 1
+                print(f"claims, {name}: BAD: {outcome}, not {expected}")
+    print(f"claims: {count} runs, {bad} bad")
+    return count, bad

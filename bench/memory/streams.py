@@ -1,0 +1,171 @@
+"""Streams of requests to `pipe`, with each allocation of the process refused in turn.
+
+A refused allocation must have one of three effects. The process ends with `vtserve: Memory` before it reads, and the disk is as before. One request
+is answered `503 Memory`, and all other replies and the bytes of the disk are those of a run without this request: so each request is sent twice. Or
+the tile is served all the same: it wasn't cached, or it was cut because the archive couldn't be read.
+"""
+import collections
+import json
+import os
+import re
+import shutil
+import subprocess
+
+MEMORY = (1, b"", b"vtserve: Memory\n")
+REFUSED = b"Memory\n"
+TILE = re.compile(r"(GET|HEAD) /map/\d+/\d+/\d+\.")
+
+
+def request(method, path, content=None, fields=""):
+    head = f"{method} {path} HTTP/1.1\r\nhost: x\r\n{fields}"
+    return (head + (f"content-length: {len(content)}\r\n" if content is not None else "") + "\r\n" + (content or "")).encode()
+
+
+def feature(tags=(), geometry=None):
+    members = {"layer": "p", "minzoom": 0, "maxzoom": 2, "geometry": geometry or {"points": [[0, 0]]}, "tags": dict(tags)}
+    return json.dumps(members, separators=(",", ":"))
+
+
+def put(number, *rest):
+    return request("PUT", f"/features/{number}", feature(*rest))
+
+
+def get(path, fields=""):
+    return request("GET", path, fields=fields)
+
+
+def post(path):
+    return request("POST", path)
+
+
+def twice(requests):
+    return [each for request in requests for each in (request, request)]
+
+
+WORLD = 2**32 - 1
+LINES = {"lines": [[[0, 0], [WORLD, WORLD]], [[0, WORLD], [WORLD, 0]]]}
+POLYGONS = {"polygons": [[[[0, 0], [WORLD, 0], [WORLD, WORLD]], [[9, 5], [2**31, 2**30], [2**31, 5]]]]}
+KINDS = [("a", "x"), ("b", -2), ("c", 3), ("d", True)]
+LARGE = [(f"k{number:02}", chr(97 + number) * 1000) for number in range(20)]
+EDITS = [put(7), put(8, KINDS, LINES), put(9, (), POLYGONS), request("DELETE", "/features/7")]
+PUBLISHED = [put(7), put(8, KINDS, LINES), put(9, (), POLYGONS), post("/publish"), put(10, KINDS), request("DELETE", "/features/9")]
+STEPPED = [put(number, LARGE) for number in (1, 2)]
+BAD = ["", "{", "[]", '{"layer":1}', feature().replace("2", "17"), feature((("k", "v"),)).replace('"v"', "1.5"), feature().replace("}", "]", 1)]
+TILES = [get(path) for path in ("/map/0/0/0.mvt", "/map/0/0/0.hex", "/map/2/3/3.mvt", "/map/2/1/2.mvt", "/map/16/9/9.hex")]
+READS = [*map(get, ("/features/8", "/features/9", "/features/77", "/map/metadata", "/map.pmtiles", "/other", "/features/x")), request("POST", "/map.pmtiles")]
+RANGES = [get("/map.pmtiles", f"range: bytes={part}\r\n") for part in ("0-126", "127-", "100-9999", "9999-10000")]
+HEADS = [request("HEAD", path) for path in ("/map/0/0/0.mvt", "/map.pmtiles", "/map/metadata")]
+PUBLISH = [post("/publish"), put(11), post("/publish"), *TILES[:2]]
+STEPS = [post("/publish/begin"), put(12), post("/publish/step"), request("DELETE", "/features/8"), post("/publish/step"), TILES[0], post("/publish/cancel")]
+
+# Each series: its name, the sectors of its disk, what was sent to the disk before, and the requests.
+SERIES = [
+    ("edits, empty disk", 64, [], twice(EDITS)),
+    ("bad bodies, empty disk", 64, [], twice([request("PUT", "/features/7", body) for body in BAD])),
+    ("reads, empty disk", 64, [], twice([*TILES, *READS, *RANGES[:1]])),
+    ("publication, empty disk", 64, [], twice([post("/publish"), *STEPS[:3], *STEPS[4:5]])),
+    ("edits, published disk", 256, PUBLISHED, twice(EDITS)),
+    ("tiles, published disk", 256, PUBLISHED[:4], twice(TILES)),
+    ("tiles after edits", 256, PUBLISHED, twice(TILES)),
+    ("reads, published disk", 256, PUBLISHED, twice([*READS, *RANGES, *HEADS])),
+    ("publication, published disk", 256, PUBLISHED, twice(PUBLISH)),
+    ("publication by steps", 1024, PUBLISHED + STEPPED, twice(STEPS)),
+    ("publication cancelled", 256, PUBLISHED, twice([*STEPS[:2], STEPS[6], STEPS[0], STEPS[2], TILES[0]])),
+]
+
+
+def replies_of(requests, written):
+    """The replies, one for each request. A reply to HEAD has no content."""
+    replies = []
+    for asked in requests:
+        head, end, rest = written.partition(b"\r\n\r\n")
+        length = re.search(rb"content-length: (\d+)", head)
+        size = int(length.group(1)) if length and not asked.startswith(b"HEAD") else 0
+        replies.append(head + end + rest[:size])
+        written = rest[size:]
+    return replies if not written and all(replies) else None
+
+
+class Stream:
+    """A disk and the requests that are sent to it."""
+
+    def __init__(self, program, shim, folder, sectors, before, requests):
+        self.program, self.shim, self.requests = program, shim, requests
+        self.first, self.disk, self.count = (os.path.join(folder, name) for name in ("first", "disk", "count"))
+        if os.path.exists(self.first):
+            os.remove(self.first)
+        subprocess.run([program, "format", self.first, "--sectors", str(sectors)], check=True, capture_output=True)
+        done = subprocess.run([program, "pipe", self.first], input=b"".join(before), check=True, capture_output=True)
+        assert len(re.findall(rb"HTTP/1.1 200", done.stdout)) == len(before), done
+        self.expected, self.bounds = {}, []
+
+    def run(self, requests, refused=0):
+        """What a process does with requests: the number of its allocations, how it ended, its replies and the disk that it left."""
+        shutil.copyfile(self.first, self.disk)
+        more = {"LD_PRELOAD": self.shim, "FAIL_AT": str(refused), "FAIL_COUNT": self.count}
+        done = subprocess.run([self.program, "pipe", self.disk], input=b"".join(requests), capture_output=True, timeout=60, env=more)
+        with open(self.disk, "rb") as file:
+            held = file.read()
+        with open(self.count) as file:
+            allocations = int(file.read())
+        return allocations, (done.returncode, done.stdout, done.stderr), replies_of(requests, done.stdout), held
+
+    def under_way(self, number):
+        """The request that an allocation is made for: the first one with which a stream has so many allocations. None if it is made before all."""
+        if not self.bounds:
+            self.bounds = [self.run(self.requests[:count])[0] for count in range(len(self.requests) + 1)]
+        return next((at - 1 if at else None for at, bound in enumerate(self.bounds) if number <= bound), len(self.requests) - 1)
+
+    def without(self, number):
+        """The replies and the disk of a run without a request; of the run with all for -1."""
+        if number not in self.expected:
+            left = [request for at, request in enumerate(self.requests) if at != number]
+            _, ended, replies, held = self.run(left)
+            assert ended[0] == 0 and replies, ended
+            self.expected[number] = replies, held
+        return self.expected[number]
+
+    def effect(self, number, outcome):
+        """What a refused allocation did, or None if that is none of the effects that it may have."""
+        _, ended, replies, held = outcome
+        if ended == MEMORY:
+            with open(self.first, "rb") as file:
+                return "start" if file.read() == held else None
+        if ended[0] != 0 or replies is None:
+            return None
+        whole = self.without(-1)
+        if (replies, held) == whole:
+            at = self.under_way(number)
+            if at is None:
+                return "start, the same"
+            return f"passed over by {self.line(at)}" if TILE.match(self.line(at)) else None
+        refused = [at for at, reply in enumerate(replies) if reply.startswith(b"HTTP/1.1 503 ") and (reply.endswith(REFUSED) or self.is_head(at))]
+        if len(refused) != 1:
+            return None
+        left = [reply for at, reply in enumerate(replies) if at != refused[0]]
+        return f"503 {self.line(refused[0])}" if (left, held) == self.without(refused[0]) else None
+
+    def is_head(self, at):
+        return self.requests[at].startswith(b"HEAD")
+
+    def line(self, at):
+        return self.requests[at].split(b" HTTP")[0].decode()
+
+
+def tried(name, stream):
+    """Refuses each allocation of a stream in turn, prints what that did, and returns the number of allocations and of bad effects."""
+    effects, bad = collections.Counter(), 0
+    last = stream.run(stream.requests)[0]
+    for number in range(1, last + 1):
+        outcome = stream.run(stream.requests, number)
+        effect = stream.effect(number, outcome)
+        effects[effect] += 1
+        if effect is None:
+            bad += 1
+            print(f"{name}: BAD: allocation {number}, request {stream.under_way(number)}: {outcome[1][0]} {outcome[1][2]!r} {outcome[1][1][:300]!r}")
+    kinds = {kind: sum(times for effect, times in effects.items() if effect and effect.startswith(kind)) for kind in ("start", "503", "passed over")}
+    print(f"{name}: {len(stream.requests)} requests, {last} allocations: {kinds}, {bad} bad")
+    for effect, times in effects.items():
+        if effect and effect.startswith("passed over"):
+            print(f"    {times} times: {effect}")
+    return last, bad

@@ -1,0 +1,42 @@
+#!/usr/bin/env python3
+"""Random runs on disks of which calls fail, each followed by a crash and an opening: more of those that `service_runs` has, by other seeds.
+
+    python3 bench/stops.py PROGRAM FIRST LAST       PROGRAM is crates/service_runs/out/service_runs, which `rt run` leaves there
+
+For each seed from FIRST to LAST there are 60 runs on a disk of 4,096 sectors with 300 features, and 240 on disks of 80 to 379 sectors. The model
+writes the lines and their answers; the lines of large disks also check the model, that a crash leaves the acknowledged edits. It prints a line for
+each seed, and ends with 1 at the first answer that differs.
+"""
+import subprocess
+import sys
+from pathlib import Path
+
+sys.path.append(str(Path(__file__).resolve().parent / "model"))
+from service_script import Trial, large_disk, random_runs
+
+
+def difference(program, lines):
+    """The first line whose answer differs, with the model's answer and the program's; None if there is none."""
+    trial = Trial()
+    expected = [trial.answer(line) for line in lines]
+    asked = "".join(line + "\n" for line in lines)
+    answers = subprocess.run([program], input=asked, capture_output=True, text=True, timeout=600).stdout.splitlines()
+    answers += ["no answer"] * (len(lines) - len(answers))
+    return next((found for found in zip(lines, expected, answers) if found[1] != found[2]), None)
+
+
+def main(program, first, last):
+    for seed in range(int(first), int(last) + 1):
+        lines = [*large_disk(seed, 60), *random_runs(seed, 240)]
+        found = difference(program, lines)
+        if found:
+            print(f"seed {seed}: differs", *found, sep="\n    ")
+            return 1
+        stops = sum(line.startswith("crash") for line in lines)
+        steps = sum(line.count("step") for line in lines)
+        print(f"seed {seed}: {stops} runs, {len(lines)} lines, {steps} steps of publications: the same", flush=True)
+    return 0
+
+
+if __name__ == "__main__":
+    sys.exit(main(*sys.argv[1:]))
