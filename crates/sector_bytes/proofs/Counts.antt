@@ -11,27 +11,27 @@ fault_rises old new is = ⊎_elim
     (λ (last : 2 ^ 64 - 1 ≤ old + 1). inr (omega (arith, last, is)))
     (cases_lt (old + 1) (2 ^ 64 - 1))
 
--- a count that is the same doesn't fall,
+-- a count that is unchanged doesn't fall
 pub same_count : (old new : ℕ) → new ≡ old → NeverFalls old new
 same_count old new is n (inl low) = inl (omega (arith, low, is))
 same_count old new is n (inr last) = inr (omega (arith, last, is))
 
--- nor does one that has risen
+-- a count that has risen doesn't fall
 pub risen_count : (old new : ℕ) → HasRisen old new → NeverFalls old new
 risen_count old new (inl high) n (inl low) = inl (omega (arith, low, high))
 risen_count old new (inl high) n (inr last) = inr (omega (arith, last, high))
 risen_count old new (inr last) n is = inr last
 
--- what failed has risen
+-- after a failure the count has risen
 pub failed_risen : (old new : ℕ) → HasFailed old new → HasRisen old new
 failed_risen old new (inl lt) = inl (omega (arith, lt))
 failed_risen old new (inr last) = inr (omega (arith, last))
 
--- what has risen, and then doesn't fall, has risen,
+-- a count that rises, and then doesn't fall, has risen
 pub risen_on : (old middle new : ℕ) → HasRisen old middle → NeverFalls middle new → HasRisen old new
 risen_on old middle new risen stays = stays (old + 1) risen
 
--- and so has what doesn't fall, and then rises
+-- a count that doesn't fall, and then rises, has risen
 pub then_risen : (old middle new : ℕ) → NeverFalls old middle → HasRisen middle new → HasRisen old new
 then_risen old middle new stays (inr last) = inr last
 then_risen old middle new stays (inl high) = from (stays old (inl (omega arith)))

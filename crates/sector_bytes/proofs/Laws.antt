@@ -1,4 +1,4 @@
--- Bytes in sectors and bytes read of sectors, for the crates above.
+-- Bytes stored in sectors and bytes read from sectors, for dependent crates.
 use Rattle.std.proofs.Common.{◌≡◌, ⊎_elim, ℕ, zero, suc, ◌<◌, ◌≤◌, ◌+◌, ◌-◌, ◌*◌, List, []}
 use Rattle.std.proofs.Common.{◌++◌, length, replicate, take, drop, min, slice_range, sym, ◌∙◌, ap, subst, arith}
 use Rattle.std.proofs.lemmas.Bool.{cases_lt}
@@ -12,9 +12,9 @@ use Rattle.sector_bytes.specs.Bytes.{whole_sector, bytes_from, sector_piece, Sta
 use Rattle.sector_bytes.specs.Source.{SourceView, AreItsBytes, IsUntouched}
 use Rattle.sector_bytes.proofs.Pieces.{whole_length, whole_is, piece_is}
 
--- ---- what stands in sectors is read of them
+-- ---- bytes stored in sectors are read from them
 
--- of bytes that stand in a sector its first ones are read
+-- the first bytes of those stored in a sector are read
 first_read : (image : Image) (first size : ℕ) (bytes : List ℕ) → size ≤ SECTOR_BYTES → size ≤ length bytes → StandsIn first bytes image
     → take size (whole_sector (image first)) ≡ take size bytes
 first_read image first size bytes fits within stands =
@@ -27,7 +27,7 @@ first_read image first size bytes fits within stands =
     ∙ take-append-le size sector (replicate SECTOR_BYTES 0) (omega (arith, long, enough))
     ∙ sym (take-take size (length piece) sector long) ∙ ap (take size) there ∙ take-take size SECTOR_BYTES bytes fits
 
--- behind their first sector they stand from the next one on
+-- bytes after the first sector are stored from the next sector on
 rest_stands : (image : Image) (first : ℕ) (bytes : List ℕ) → StandsIn first bytes image → StandsIn (suc first) (drop SECTOR_BYTES bytes) image
 rest_stands image first bytes stands index =
     let same : sector_piece bytes (suc index) ≡ sector_piece (drop SECTOR_BYTES bytes) index =
@@ -63,7 +63,7 @@ front_read image (suc count) first size bytes fits within stands = ⊎_elim
     ∙ sym (ap (λ (n : ℕ). take n bytes) split ∙ take-add SECTOR_BYTES rest bytes))
     (cases_lt size SECTOR_BYTES)
 
--- what stands in the sectors is what is read of them
+-- the bytes stored in the sectors are the bytes read from them
 pub stands_read : (image : Image) (first at n : ℕ) (bytes : List ℕ) → StandsIn first bytes image → at + n ≤ length bytes
     → slice_range (bytes_from image first (sectors_of (at + n))) at (at + n) ≡ slice_range bytes at (at + n)
 stands_read image first at n bytes stands within =
@@ -71,9 +71,9 @@ stands_read image first at n bytes stands within =
     between_is all at (at + n) ∙ ap (drop at) (front_read image (sectors_of (at + n)) first (at + n) bytes (omega arith) within stands)
     ∙ sym (between_is bytes at (at + n))
 
--- ---- what is read of sectors stands in them
+-- ---- bytes read from sectors are stored in them
 
--- so many bytes that are those of sectors stand there, in each sector that they reach
+-- the first n bytes of the sectors are stored in each sector that they reach
 reached : (image : Image) (first n index : ℕ) → index < sectors_of n → length (image (first + index)) ≡ SECTOR_BYTES
     → sector_piece (take n (bytes_from image first (sectors_of n))) index ≡ take (min SECTOR_BYTES (n - SECTOR_BYTES * index)) (image (first + index))
 reached image first n index lt len =
@@ -107,16 +107,16 @@ front_stands image first n whole index = ⊎_elim
     ap (λ (p : List ℕ). take (length p) (image (first + index))) none ∙ sym none)
     (cases_lt index (sectors_of n))
 
--- and what is read from the first byte on stands in them
+-- bytes read from the first byte on are stored in the sectors
 pub read_stands : (image : Image) (first n : ℕ) → AreWhole first 0 n image
     → StandsIn first (slice_range (bytes_from image first (sectors_of n)) 0 n) image
 read_stands image first n whole =
     let same : n ≡ n - 0 = omega arith in
     subst (λ (m : ℕ). StandsIn first (take m (bytes_from image first (sectors_of n))) image) same (front_stands image first n whole)
 
--- ---- sources whose disk is left as it was
+-- ---- sources whose disk is unchanged
 
--- the bytes that a source had are those that it has
+-- the bytes of the source are unchanged
 pub still_there : {D : Type 0} (sectors : D → ℕ) (honest : D → Type 0) (history : D → History) (faults : D → ℕ) (old new : SourceView D)
     (bytes : List ℕ) → IsUntouched sectors honest history faults old new → new.len ≡ old.len → honest new.disk.now
     → AreItsBytes old.first old.len bytes (seen (history old.disk.now)) → AreItsBytes new.first new.len bytes (seen (history new.disk.now))

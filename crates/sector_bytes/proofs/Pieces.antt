@@ -10,7 +10,7 @@ use Rattle.std.proofs.Math.Seq.{take-add}
 use borrow.Rule.Slice.PartMut.{put_mid, post_of}
 use Rattle.sector_bytes.specs.Bytes.{whole_sector, bytes_from, sector_piece, AreWhole}
 
--- a sector as it is read has so many bytes
+-- a sector as it is read has SECTOR_BYTES bytes
 pub whole_length : (sector : List ℕ) → length (whole_sector sector) ≡ SECTOR_BYTES
 whole_length sector =
     omega (
@@ -20,11 +20,11 @@ whole_length sector =
       length-replicate SECTOR_BYTES zero,
     )
 
--- and where there are so many, those
+-- if it is stored with SECTOR_BYTES bytes, those are read
 pub whole_is : (sector : List ℕ) → length sector ≡ SECTOR_BYTES → whole_sector sector ≡ sector
 whole_is sector len = take_at sector (replicate SECTOR_BYTES 0) SECTOR_BYTES len
 
--- behind one sector come the others
+-- after one sector come the others
 behind : (front rest : List ℕ) (index : ℕ) → length front ≡ SECTOR_BYTES
     → drop (SECTOR_BYTES * suc index) (front ++ rest) ≡ drop (SECTOR_BYTES * index) rest
 behind front rest index len =
@@ -53,9 +53,9 @@ within_piece bytes index offset size fits =
     ∙ sym (take-take size (SECTOR_BYTES - offset) (drop offset there) (omega (arith, fits)))
     ∙ ap (take size) (sym (drop-take offset (SECTOR_BYTES - offset) there) ∙ ap (λ (n : ℕ). drop offset (take n there)) split)
 
--- ---- bytes read one sector after the other
+-- ---- bytes read sector by sector
 
--- bytes put into the middle of others leave them as long
+-- overwriting bytes in the middle keeps the length
 pub put_length : (done part size : ℕ) (into next : List ℕ) → done + part ≤ length into → size ≡ part → length next ≡ part
     → length (put_mid done size into next) ≡ length into
 put_length done part size into next within size_is long =
@@ -72,17 +72,17 @@ put_length done part size into next within size_is long =
       long,
     )
 
--- Behind so many bytes from an offset on, the next part is in the sector of this index, from this offset in it on.
+-- After done bytes from offset at on, the next part is in the sector of this index, from this offset in the sector on.
 module _ (image : Image) (first at done part index offset : ℕ) (there : SECTOR_BYTES * index + offset ≡ at + done)
     (fits : offset + part ≤ SECTOR_BYTES) (len : length (image (first + index)) ≡ SECTOR_BYTES) where
-  -- one sector more is whole
+  -- one more sector is whole
   pub next_whole : AreWhole first at done image → AreWhole first at (done + part) image
   next_whole whole place from below = ⊎_elim
       (λ (before : place < at + done). whole place from before)
       (λ (behind : at + done ≤ place). ap (λ (n : ℕ). length (image (first + n))) (omega (arith, below, behind, fits, there)) ∙ len)
       (cases_lt place (at + done))
 
-  -- and the bytes so far are joined by those of the sector
+  -- the bytes of the sector are appended to the bytes so far
   next_read : (count : ℕ) (front next : List ℕ) → index < count → next ≡ take part (drop offset (image (first + index)))
       → front ≡ take done (drop at (bytes_from image first count))
       → front ++ next ≡ take (done + part) (drop at (bytes_from image first count))
@@ -94,7 +94,7 @@ module _ (image : Image) (first at done part index offset : ℕ) (there : SECTOR
       ∙ ap (λ (n : ℕ). take part (drop n bytes)) there ∙ ap (take part) (sym (drop-drop done at bytes)) in
       ap (λ (f : List ℕ). f ++ next) front_is ∙ ap (λ (l : List ℕ). take done (drop at bytes) ++ l) last ∙ sym (take-add done part (drop at bytes))
 
-  -- as they stand in a buffer behind those before them
+  -- the same in a buffer, where they are written after the bytes so far
   pub next_put : (count size kept : ℕ) (into next : List ℕ) → index < count → size ≡ part → done ≤ length into → length next ≡ part
       → next ≡ slice_range (image (first + index)) offset (offset + size)
       → take done into ≡ slice_range (bytes_from image first count) at (at + done)

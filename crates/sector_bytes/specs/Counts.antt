@@ -1,7 +1,7 @@
--- How a disk's count of faults goes on over several calls.
+-- A disk's count of faults over several calls.
 use Rattle.std.specs.Prelude.{◌⊎◌, ◌≤◌, ◌+◌, ◌-◌, ◌^◌, ℕ}
 
--- the count has come to a number, or stands at the last u64, where it stays
+-- the count has reached n, or is saturated at the maximum of u64
 abbrev pub HasReached : ℕ → ℕ → Type 0
 HasReached n count = (n ≤ count) ⊎ (2 ^ 64 - 1 ≤ count)
 
@@ -9,6 +9,6 @@ HasReached n count = (n ≤ count) ⊎ (2 ^ 64 - 1 ≤ count)
 abbrev pub HasRisen : ℕ → ℕ → Type 0
 HasRisen old new = HasReached (old + 1) new
 
--- it is as it was, or has risen: what it had come to it has come to still
+-- it is unchanged or has risen: it has still reached each number that it had reached
 abbrev pub NeverFalls : ℕ → ℕ → Type 0
 NeverFalls old new = (n : ℕ) → HasReached n old → HasReached n new

@@ -13,7 +13,7 @@ pub record SourceView (D : Type 0) : Type 0 where
   pub len : ℕ
   pub last : Option ℕ
 
--- these are the bytes of an image that the source has
+-- the source has these bytes, stored in this image
 pub record AreItsBytes (first len : ℕ) (bytes : List ℕ) (image : Image) : Type 0 where
   pub length_is : length bytes ≡ len
   pub stands : StandsIn first bytes image

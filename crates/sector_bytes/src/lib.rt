@@ -1,4 +1,4 @@
-//! Bytes that stand in consecutive sectors of a disk, read from an offset on.
+//! Bytes stored in consecutive sectors of a disk, read from an offset on.
 #![tactic(auto)]
 
 mod reading;

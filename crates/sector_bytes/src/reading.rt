@@ -7,7 +7,7 @@ ghost use Rattle.sector_disk.specs.declared.disk.TheConstants.{SECTOR_BYTES};
 
 use sector_disk::{DiskFault, SECTOR_BYTES, Sectors};
 
-/// Reads a part of one sector, as many bytes as `into` has room for.
+/// Reads a part of one sector, as many bytes as fit in `into`.
 fn read_part<D: Sectors>(
     disk: &mut D,
     sector: u64,
@@ -32,8 +32,8 @@ fn read_part<D: Sectors>(
     Ok(())
 }
 
-/// Reads bytes that stand in consecutive sectors from a first one on: as many as `into` has room for, from an offset on.
-/// It reads each sector once, takes no memory, and writes nothing. After a fault `into` has any bytes.
+/// Fills `into` with bytes stored in consecutive sectors from sector `first` on, starting at byte offset `at`.
+/// It reads each sector once, doesn't allocate, and writes nothing. After a fault `into` is unspecified.
 pub fn read_bytes<D: Sectors>(
     disk: &mut D,
     first: u64,

@@ -12,8 +12,8 @@ use pm_archive::{Bytes, ReadFault};
 use sector_disk::{DiskFault, SECTOR_BYTES, Sectors};
 use std::marker::Model;
 
-/// Bytes that stand in consecutive sectors of a disk. It keeps the sector that it read last, so that parts of one sector
-/// that are read one after the other cost one read.
+/// Bytes stored in consecutive sectors of a disk. The sector read last is cached, so that successive reads within one sector
+/// cost one disk read.
 #[derive(Drop)]
 pub struct SectorBytes<'a, D: Sectors> {
     disk: &'a mut D,
@@ -33,7 +33,7 @@ impl<'a, D: Sectors> Model for SectorBytes<'a, D> {
 }
 
 impl<'a, D: Sectors> SectorBytes<'a, D> {
-    /// So many bytes from the first byte of a sector on.
+    /// `len` bytes from the start of sector `first` on.
     pub fn new(disk: &'a mut D, first: u64, len: u64) -> SectorBytes<'a, D>
         requires on_disk { first + sectors_of len ≤ D.sectors disk.old }
         ensures same_reference { result.disk.ghost_name ≡ disk.entry.ghost_name }
@@ -52,7 +52,7 @@ impl<'a, D: Sectors> SectorBytes<'a, D> {
         }
     }
 
-    /// Gives the disk back. Only a source that is taken apart by this tells the disk's owner how it left the disk.
+    /// Returns the disk. Only by this call does the disk's owner learn in which state the source left the disk.
     pub fn into_disk(self) -> &'a mut D
         ensures same_reference { result.ghost_name ≡ self.entry.disk.ghost_name }
         ensures disk { result.now ≡ self.entry.disk.now }
@@ -60,7 +60,7 @@ impl<'a, D: Sectors> SectorBytes<'a, D> {
         self.disk
     }
 
-    /// Reads a part of one sector, as many bytes as `into` has room for. The disk is asked only for another sector than last.
+    /// Reads a part of one sector, as many bytes as fit in `into`. The disk is read only if the sector isn't cached.
     fn read_part(&mut self, index: u64, offset: usize, into: &mut [u8]) -> Result<(), ReadFault>
         requires inside { index < sectors_of self.old.len }
         requires fits { offset + length into.old ≤ SECTOR_BYTES }
@@ -84,7 +84,7 @@ impl<'a, D: Sectors> SectorBytes<'a, D> {
         Ok(())
     }
 
-    /// Reads a sector, and keeps it.
+    /// Reads and caches a sector.
     fn read_sector(&mut self, index: u64) -> Result<(), ReadFault>
         requires inside { index < sectors_of self.old.len }
         ensures same_reference { self.new.disk.ghost_name ≡ self.old.disk.ghost_name }
@@ -105,7 +105,7 @@ impl<'a, D: Sectors> SectorBytes<'a, D> {
         Ok(())
     }
 
-    /// Reads bytes from an offset on, as many as `into` has room for, one sector after the other.
+    /// Reads bytes from an offset on, as many as fit in `into`, sector by sector.
     fn read_parts(&mut self, at: u64, into: &mut [u8]) -> Result<(), ReadFault>
         requires inside { at + length into.old ≤ self.old.len }
         ensures same_reference { self.new.disk.ghost_name ≡ self.old.disk.ghost_name }
