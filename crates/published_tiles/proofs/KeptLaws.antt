@@ -1,4 +1,4 @@
--- What each kept tile has, as a cache changes.
+-- What each cached tile satisfies, as the cache changes.
 use Rattle.std.proofs.Common.{◌≡◌, ℕ, ◌⊎◌, inl, inr, Bool, true, false, cond, List, Option, Some, None, refl, sym, subst, ◌∙◌}
 use Rattle.std.specs.Prelude.{nat_le, Result, Ok, Err, OnOk, OnErr}
 use Rattle.std.proofs.lemmas.Bool.{leb-true}
@@ -24,7 +24,7 @@ module _ (Has : (z x y number : ℕ) → List ℕ → Type 0) where
   pub same_kept : (old new : TileCache) → KeepsSame old new → EachKept Has old → EachKept Has new
   same_kept old new same before z x y n bytes is = before z x y n bytes (sym (same.tiles z x y) ∙ is)
 
-  -- a tile more
+  -- one more tile
   module _ (old new : TileCache) (z x y number : ℕ) (bytes : List ℕ) (has : Has z x y number bytes)
       (here : kept_at new z x y ≡ Some (number, bytes)) (others : KeepsFewer z x y old new) (before : EachKept Has old) where
     there : (n : ℕ) (b : List ℕ) → kept_at new z x y ≡ Some (n, b) → Has z x y n b
@@ -45,14 +45,14 @@ module _ (Has : (z x y number : ℕ) → List ℕ → Type 0) where
     pub one_kept : EachKept Has new
     one_kept z' x' y' n b is = by_place z' x' y' n b is (is_place (record { z = z; x = x; y = y }) (record { z = z'; x = x'; y = y' })) refl
 
-  -- a tile more, or the same
+  -- one more tile, or no change
   pub kept_or_not : {T E : Type 0} (r : Result T E) (old new : TileCache) (z x y number : ℕ) (bytes : List ℕ) → Has z x y number bytes
       → OnOk r (kept_at new z x y ≡ Some (number, bytes)) → OnOk r (KeepsFewer z x y old new) → OnErr r (KeepsSame old new)
       → EachKept Has old → EachKept Has new
   kept_or_not (Ok done) old new z x y number bytes has here others same before = one_kept old new z x y number bytes has here others before
   kept_or_not (Err fault) old new z x y number bytes has here others same before = same_kept old new same before
 
--- a tile of this generation or a later one is that of the map
+-- a cached tile of this generation or a later one is the tile of the map
 pub found_is : (m : FeatureMap) (kept : TileCache) (generation z x y : ℕ) (bytes : List ℕ) → AreTilesFrom m generation kept
     → Some bytes ≡ fresh generation (kept_at kept z x y) → IsTileContent (layers m z x y) (Some bytes)
 found_is m kept generation z x y bytes tiles is = go (kept_at kept z x y) refl is

@@ -1,4 +1,4 @@
--- The archive on a disk, and what is kept of it.
+-- The archive on a disk, and its caches.
 use Rattle.std.proofs.Common.{◌≡◌, ◌∙◌, ℕ, ◌<◌, List, length, Option, Some, None, inl, inr, sym, ap, subst, arith}
 use Rattle.area_content.specs.Tiles.{AreTilesOf, IsArchiveOfMap}
 use Rattle.feature_store.specs.Store.{FeatureMap}
@@ -10,7 +10,7 @@ use Rattle.published_tiles.specs.Opened.{OpenedView, IsOpenedOf, IsOpenedUpTo}
 use Rattle.published_tiles.specs.Published.{PublishedView, ArePublished}
 use Rattle.published_tiles.specs.declared.place.ArchivePlace.{ArchivePlace}
 
--- the source that was made has the bytes that stand on the disk
+-- the source that was made has the bytes stored on the disk
 pub made : {D : Type 0} (history : D → History) (source : SourceView D) (disk : D) (first len : ℕ) (bytes : List ℕ) → source.disk.now ≡ disk
     → source.first ≡ first → source.len ≡ len → AreItsBytes first len bytes (seen (history disk))
     → AreItsBytes source.first source.len bytes (seen (history source.disk.now))
@@ -26,7 +26,7 @@ pub contents_of_map : (m : FeatureMap) (bytes : List ℕ) (len : ℕ) → length
 contents_of_map m bytes len long some (inl none) = let nothing = ap length none.1 in absurd (omega (arith, nothing, long, some))
 contents_of_map m bytes len long some (inr has) = (has.1.0, has.1.1, has.1.2)
 
--- what is kept is of nothing else than of generations up to this one
+-- the cached look-up belongs to no generation after this one
 opened_next : (o : Option OpenedView) (place next : ArchivePlace) (bytes : List ℕ) → IsOpenedUpTo place.generation o → place.generation < next.generation
     → IsOpenedOf next bytes o
 opened_next None place next bytes le later = tt
@@ -37,7 +37,7 @@ opened_up_to : (o : Option OpenedView) (place next : ArchivePlace) → IsOpenedU
 opened_up_to None place next le later = tt
 opened_up_to (Some o) place next le later = omega (arith, le, later)
 
--- So it is of the archive of a generation that comes later, and of its map, whatever they are: nothing of it is.
+-- So the caches are valid for the archive of any later generation, and for its map: nothing cached belongs to it.
 pub published_next : (t : PublishedView) (place next : ArchivePlace) (m then : FeatureMap) (bytes last : List ℕ) → ArePublished t place m bytes
     → place.generation < next.generation → ArePublished t next then last
 published_next t place next m then bytes last are later = record {

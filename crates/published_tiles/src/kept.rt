@@ -1,4 +1,4 @@
-//! Tiles that are kept with the generation of their archive as their number.
+//! Cached tiles, numbered by the generation of their archive.
 ghost use Rattle.std.specs.Prelude.{◌≡◌, ◌≤◌, ℕ, Some, IfOk, IfErr, IfSome};
 ghost use Rattle.feature_store.specs.Content.{IsTileContent};
 ghost use Rattle.feature_store.specs.Layers.{layers};
@@ -9,7 +9,7 @@ use hilbert_id::TileAt;
 use std::alloc::{AllocError, Global};
 use tile_cache::TileCache;
 
-// A copy of the bytes that are kept for a tile of this generation or a later one.
+// A copy of the cached bytes of a tile, of this generation or a later one.
 pub(crate) fn kept_bytes(
     alloc: Global,
     kept: &TileCache,
@@ -25,7 +25,7 @@ pub(crate) fn kept_bytes(
     Ok(None)
 }
 
-// Notes that a tile was asked for.
+// Records that a tile was requested.
 pub(crate) fn promote(kept: &mut TileCache, at: TileAt)
     ensures tiles { (m : FeatureMap) (from : ℕ) → AreTilesFrom m from kept.old → AreTilesFrom m from kept.new }
     ensures up_to { (last : ℕ) → AreKeptUpTo last kept.old → AreKeptUpTo last kept.new }
@@ -33,7 +33,7 @@ pub(crate) fn promote(kept: &mut TileCache, at: TileAt)
     kept.promote(at);
 }
 
-// Keeps the bytes of a tile of this generation, if memory is there for it.
+// Caches the bytes of a tile of this generation, unless an allocation fails.
 pub(crate) fn keep(alloc: Global, kept: &mut TileCache, at: TileAt, generation: u64, bytes: &[u8])
     ensures tiles { (m : FeatureMap) (from : ℕ) → AreTilesFrom m from kept.old → IsTileContent (layers m at.z at.x at.y) (Some bytes.now)
         → AreTilesFrom m from kept.new }

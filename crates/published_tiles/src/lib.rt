@@ -1,5 +1,5 @@
-//! Tiles read from the archive that stands on a disk: a tile costs a search and the reads of its content, and none where it
-//! was asked for before.
+//! Tiles read from the archive stored on a disk. A tile costs a search and the reads of its content; a cached tile costs no
+//! disk read.
 #![tactic(auto)]
 
 mod kept;

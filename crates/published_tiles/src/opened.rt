@@ -1,4 +1,4 @@
-//! The look-up that is kept of an archive.
+//! The cached look-up of an archive.
 ghost use Rattle.std.specs.Prelude.{◌≡◌, ◌↔◌, ◌≤◌, ◌+◌, ℕ, List, Option, IfOk, IfErr, IsTrue, MatchResult, option_map};
 ghost use Rattle.generations.specs.Areas.{sectors_of};
 ghost use Rattle.pm_archive.specs.Answers.{IsOutside};
@@ -17,7 +17,7 @@ use sector_disk::Sectors;
 use std::alloc::Global;
 use std::marker::Model;
 
-// What is kept of an archive, and where that stands.
+// The cached look-up of an archive, and where the archive is stored.
 #[derive(Drop)]
 pub(crate) struct Opened {
     archive: ArchivePlace,
@@ -33,7 +33,7 @@ impl Model for Opened {
 }
 
 impl Opened {
-    // It is of the archive at this place.
+    // Whether it belongs to the archive at this place.
     fn is_of(&self, archive: ArchivePlace) -> bool
         ensures { IsTrue result ↔ (self.now.archive ≡ archive) }
     {
@@ -76,7 +76,7 @@ impl Opened {
     }
 }
 
-// The content of a tile id of the archive in a source, by the look-up that is kept where it is of this archive, else by a new one.
+// The content of a tile id in the archive of a source. The cached look-up is used if it belongs to this archive, otherwise a new one.
 fn look_up<B: Bytes>(
     alloc: Global,
     source: &mut B,

@@ -1,10 +1,10 @@
-/// Where an archive stands on a disk.
+/// Where a disk stores an archive.
 #[derive(Clone, Copy, Debug, PartialEq, Eq)]
 pub struct ArchivePlace {
-    /// The number that tells it from the archives before it.
+    /// Distinguishes it from earlier archives.
     pub generation: u64,
-    /// The first of its sectors.
+    /// Its first sector.
     pub first: u64,
-    /// How many bytes it has.
+    /// Its length in bytes.
     pub len: u64,
 }

@@ -20,7 +20,7 @@ use std::alloc::{AllocError, Global};
 use std::marker::Model;
 use tile_cache::TileCache;
 
-/// What is kept of the archives of a disk: a look-up of the one that was read last, and the tiles that were asked for.
+/// Caches for the archives of a disk: the look-up of the archive read last, and tiles that were requested.
 #[derive(Drop)]
 pub struct PublishedTiles {
     alloc: Global,
@@ -39,7 +39,7 @@ impl Model for PublishedTiles {
 impl PublishedTiles {
     ghost use Rattle.published_tiles.specs.Published.{ArePublished};
 
-    /// Keeps nothing yet. The error: out of memory.
+    /// Empty caches. The error: out of memory.
     pub fn new(alloc: Global) -> Result<PublishedTiles, AllocError>
         ensures { (place : ArchivePlace) (m : FeatureMap) (bytes : List ℕ) → IfOk result (λ t. ArePublished t place m bytes) }
     {
@@ -51,12 +51,12 @@ impl PublishedTiles {
         })
     }
 
-    /// The bytes of a tile in the archive that stands on a disk, none where it shows nothing. Nothing is written to the disk.
+    /// The bytes of a tile in the archive stored on a disk, or `None` if the tile is empty. Nothing is written to the disk.
     ///
     /// # Errors
     ///
-    /// Why no tile is known: `Read` or `Memory`, or where the bytes there are no archive the fault that was met. What is kept is
-    /// still of the archive.
+    /// `Read` or `Memory`; if the stored bytes aren't an archive, the fault that was found. The caches are still valid for the
+    /// archive.
     pub fn tile<D: Sectors>(
         &mut self,
         disk: &mut D,

@@ -5,7 +5,7 @@ use Rattle.published_tiles.proofs.PublishedLaws.{contents_of_map}
 use Rattle.published_tiles.proofs.published_tiles.PublishedTiles.tile.Goals as goal
 use Rattle.published_tiles.proofs.published_tiles.PublishedTiles.tile.Goals.{in-Some, in_default}
 
--- a tile that was kept
+-- a tile that was cached
 
 pub returns-in-Ok-Some-clause-tile : goal.returns-in-Ok-Some-clause-tile
 returns-in-Ok-Some-clause-tile g c = rw (← c.self.view_is) (λ m bytes honest are map published.
