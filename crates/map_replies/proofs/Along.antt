@@ -1,4 +1,4 @@
--- What goes along with each reply goes along with a connection.
+-- A relation between states that each reply preserves is preserved by a connection.
 use Rattle.std.proofs.Common.{◌≡◌, inl, inr, ℕ, List, [], ◌∷◌, Option, refl, sym, subst}
 use Rattle.http_serve.specs.declared.connection.End.{End}
 use Rattle.http_serve.specs.declared.connection.End.TheVariants.{Closed, Asked, Refused, Turns}
@@ -10,16 +10,16 @@ use Rattle.http_serve.specs.Reply.{ReplyView}
 use Rattle.http_serve.specs.Served.{Answers, AnswersEnd, AnswersAll, AnswersNext, RepliesNext, MayFollow, Carries, Ends, Breaks}
 use Rattle.http_serve.specs.Told.{IfTurns, IsServedTo, IsServedSoFar, IsServedInPart, IsServed, IsServedUpTo}
 
--- States answer by replies. Beside them are others, that go along with some states, and so that each reply leads those that go along
--- with the state before to some that go along with the state behind. Then each connection that the states answer is one that the
--- others answer, with the same bytes read and written, and what it comes to goes along.
+-- States of S answer by replies, states of T by tells. Along relates the two: for each reply, a T related to the S before it leads to
+-- some T related to the S after it. Then each connection that S answers is one that T answers, with the same bytes read and written,
+-- and the final states are related.
 module _ {S T : Type 0} (replies fails : S → RequestView → ReplyView → S → Type 0) (tells tells_cut : T → RequestView → ReplyView → T → Type 0)
     (Along : S → T → Type 0)
     (step : (old : S) (told : T) (request : RequestView) (reply : ReplyView) (new : S) → Along old told → replies old request reply new
     → (now : T) × tells told request reply now × Along new now)
     (step_cut : (old : S) (told : T) (request : RequestView) (reply : ReplyView) (new : S) → Along old told → fails old request reply new
     → (now : T) × tells_cut told request reply now × Along new now) where
-  -- those that P holds of, and that go along with the state
+  -- some T that P holds for and that is related to this S
   abbrev pub Some_along : S → (T → Type 0) → Type 0
   Some_along new P = (now : T) × P now × Along new now
 

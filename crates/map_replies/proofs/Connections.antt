@@ -15,14 +15,14 @@ use Rattle.map_replies.specs.State.{asked_service, ServiceReplies, ServiceFails,
 use Rattle.map_replies.proofs.Along.{served_along, fault_along}
 
 module _ {D : Type 0} (sectors : D → ℕ) (honest : D → Type 0) (history : D → History) (faults : D → ℕ) where
-  -- since a first state, the service has come to this state, and this has happened
+  -- from the first state on, the service has reached this state by this run
   abbrev pub GoesAlong : (first now : MapReplies D) → Course D → Type 0
   GoesAlong first now so = (so ≡ course now so.run) × HasRun sectors honest history (asked_service first) so.run (asked_service now)
 
   pub goes_from : (first : MapReplies D) → GoesAlong first first (course first [])
   goes_from first = (refl, run_begins sectors honest history (asked_service first))
 
-  -- one reply more
+  -- one more reply
   pub replied : (first old : MapReplies D) (so : Course D) (request : RequestView) (reply : ReplyView) (new : MapReplies D)
       → GoesAlong first old so → ServiceReplies sectors honest history faults old request reply new
       → (more : Course D) × Tells sectors honest history faults so request reply more × GoesAlong first new more
@@ -39,7 +39,7 @@ module _ {D : Type 0} (sectors : D → ℕ) (honest : D → Type 0) (history : D
         (refl, run_on_all sectors honest history (asked_service first) (asked_service old) (asked_service new) so.run is.0 along.1 is.2),
       )
 
-  -- one reply that was cut, since the disk failed
+  -- one reply that was cut short because the disk failed
   pub cut : (first old : MapReplies D) (so : Course D) (request : RequestView) (reply : ReplyView) (new : MapReplies D)
       → GoesAlong first old so → ServiceFails sectors honest history faults old request reply new
       → (more : Course D) × TellsCut sectors honest history faults so request reply more × GoesAlong first new more
@@ -70,7 +70,7 @@ module _ {D : Type 0} (sectors : D → ℕ) (honest : D → Type 0) (history : D
         takes_run sectors honest history (asked_service old) along.0.run (asked_service new) along.2.1,
       )
 
-  -- So do those of one that a fault ended.
+  -- So do the replies of a connection that a fault ended.
   pub ended_connection_runs : (old : MapReplies D) (remains held : Option (List ℕ)) (fault : ServeFault) (new : MapReplies D) (leaves holds : Option (List ℕ))
       → IsServedUpTo (ServiceReplies sectors honest history faults) (ServiceFails sectors honest history faults) old remains held fault new leaves holds
       → (run : List Happening)

@@ -32,7 +32,7 @@ use Rattle.map_replies.proofs.Answering.{no_memory_first}
 
 -- ---- lists
 
--- so many bytes, with zeros where there are fewer
+-- the first n bytes, padded with zeros if there are fewer
 abbrev filled : ℕ → List ℕ → List ℕ
 filled n xs = take n (xs ++ replicate n 0)
 
@@ -50,7 +50,7 @@ slice_front xs a n count few =
     let size : a + count - a ≡ count = omega arith in
     ap (λ (k : ℕ). take k (drop a xs)) size ∙ sym (take-take count (a + n - a) (drop a xs) (omega (arith, few)))
 
--- a part in the place of the same bytes
+-- replacing bytes by the same bytes changes nothing
 part_same : (xs part : List ℕ) (offset : ℕ) → part ≡ take (length part) (drop offset xs)
     → take offset xs ++ part ++ drop (offset + length part) xs ≡ xs
 part_same xs part offset is =
@@ -77,7 +77,7 @@ slice_inner xs piece a size offset within is =
     is ∙ ap (λ (k : ℕ). take k (drop (a + offset) xs)) count ∙ ap (take n) (sym (drop-drop offset a xs))
     ∙ sym (take-take n rest (drop offset (drop a xs)) (omega (arith, within))) ∙ ap (take n) (sym inside)
 
--- no bytes are those from an offset on
+-- an empty list is the empty slice from an offset on
 no_slice : (xs part : List ℕ) (at : ℕ) → length part ≡ 0 → part ≡ slice_range xs at (at + length part)
 no_slice xs [] at none = let size : at + 0 - at ≡ 0 = omega arith in ap (λ (n : ℕ). take n (drop at xs)) (sym size)
 no_slice xs (x ∷ part) at none = absurd (omega (arith, none))
@@ -127,7 +127,7 @@ with_content Beyond total a b inside = absurd inside
 module _ {D : Type 0} (sectors : D → ℕ) (honest : D → Type 0) (history : D → History) where
   -- ---- reads
 
-  -- two reads are one, of whatever bytes
+  -- two reads count as one read, with any outcome that agrees with the archive
   reads_on : (old new next : ServiceView D) (a b at : ℕ) (x y outcome : Option (List ℕ)) → Takes sectors honest history old (read a x) new
       → Takes sectors honest history new (read b y) next
       → ((archive : List ℕ) → ShowsArchive (history old.disk) old archive → honest next.disk → ReadsFrom archive (read at outcome))
@@ -245,7 +245,7 @@ module _ {D : Type 0} (sectors : D → ℕ) (honest : D → Type 0) (history : D
         all_in_parts reply.content _ sends,
       )
 
-  -- the reply where the disk failed
+  -- the reply if the disk failed
   pub part_failed : (old new : ServiceView D) (part : Part) (sending : Sending) (reply : Reply) → IsInside part old.archive_len → IsWhole reply
       → reply_view [] reply ≡ service_refusal Device → DiskFailed faults old new → Takes sectors honest history old (read (start_of part) None) new
       → AnswersPart sectors honest history faults part old sending new reply
@@ -279,7 +279,7 @@ module _ {D : Type 0} (sectors : D → ℕ) (honest : D → Type 0) (history : D
     abbrev total : ℕ
     total = old.archive_len
 
-    -- all of what is sent lies in the archive
+    -- all bytes to send lie within the archive
     pub sent_size : min sending.length (new.archive_len - sending.first) ≡ length reply.content
     sent_size =
         let same : new.archive_len ≡ total = ap (λ (s : ServiceView D). s.archive_len) is.sends.reads.changes.same in
@@ -293,7 +293,7 @@ module _ {D : Type 0} (sectors : D → ℕ) (honest : D → Type 0) (history : D
     sent_answers =
         asked_part range old sending new is.part reply is.some is.asked (answers_part is.part old sending new reply is.sends)
 
-    -- more of it is asked for: whatever comes of that, the same is told
+    -- after another read, whatever its outcome, the reply is still correct
     pub still_answers : (next : ServiceView D) (at : ℕ) (outcome : Option (List ℕ)) → Takes sectors honest history new (read at outcome) next
         → AnswersArchive range old sending next reply
     still_answers next at outcome takes = asked_part range old sending next is.part reply is.some is.asked
@@ -377,13 +377,13 @@ module _ {D : Type 0} (sectors : D → ℕ) (honest : D → Type 0) (history : D
               (sent_answers (range_for is.0 range) old sending next (with_part offset piece reply) more),
         )
 
--- what follows of what was read
+-- what follows from a successful read
 pub read_on : {E : Type 0} (r : Result (Unit {0}) E) (bytes : List ℕ) (Read : Option (List ℕ) → Type 0) (P X : Type 0) → Read (read_outcome r bytes)
     → OnOk r P → (Read (Some bytes) → P → X) → OnOk r X
 read_on (Ok done) bytes Read P X is more f = f is more
 read_on (Err e) bytes Read P X is more f = tt
 
--- and of a fault
+-- what follows from a fault
 pub err_on : {A E : Type 0} (r : Result A E) (P : E → Type 0) (X : Type 0) → IfErr r P → ((e : E) → P e → X) → OnErr r X
 err_on (Ok a) P X is f = tt
 err_on (Err e) P X is f = f e is

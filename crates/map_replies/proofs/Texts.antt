@@ -39,7 +39,7 @@ layers_whole (l ∷ ls) = rw (fields_whole l.fields, layers_whole ls) refl
 pub metadata_whole : (m : FeatureMap) (d : Data) → IsMetadata m d → has_float d ≡ false
 metadata_whole m d (ls, are, is) = rw (is, layers_whole ls) refl
 
--- ---- nor has a feature
+-- ---- a feature has no float
 
 points_whole : (ps : List World) → items_have_float (items_of (map point_json ps)) ≡ false
 points_whole [] = refl

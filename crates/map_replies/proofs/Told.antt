@@ -1,4 +1,4 @@
--- Faults as they are told.
+-- Faults of an edit as request faults.
 use Rattle.std.proofs.Common.{◌≡◌, ℕ, List, ◌⊎◌, inl, inr, refl}
 use Rattle.serde_json.specs.Data.{Data}
 use Rattle.feature_model.specs.declared.fault.EditFault.{EditFault}
@@ -8,7 +8,7 @@ use Rattle.map_replies.specs.declared.fault.RequestFault.{RequestFault}
 use Rattle.map_replies.specs.declared.fault.RequestFault.TheVariants.{NotFound, Json, Edit, Memory}
 use Rattle.map_replies.specs.Bodies.{told_as, IsEditFault, IsJson, HasBodyFault}
 
--- a fault with P is told as out of memory or as itself
+-- a fault that satisfies P is reported as out of memory or as itself
 pub told : (P : EditFault → Type 0) (e : EditFault) → P e → (told_as e ≡ Memory) ⊎ IsEditFault P (told_as e)
 told P edits.Memory is = inl refl
 told P edits.Member is = inr (λ e. cc, is)
@@ -23,7 +23,7 @@ told P edits.Reach is = inr (λ e. cc, is)
 told P edits.Batch is = inr (λ e. cc, is)
 told P edits.Twice is = inr (λ e. cc, is)
 
--- a value in a body that is no feature
+-- a value in a body that isn't a feature
 pub value_fault : (body : List ℕ) (d : Data) (fault : RequestFault) → IsJson body d → IsEditFault (IsFirstJsonFault d) fault → HasBodyFault body fault
 value_fault body d (Edit e) json is = (is.0, (d, json, is.1))
 value_fault body d NotFound json is = absurd is

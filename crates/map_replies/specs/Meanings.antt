@@ -24,7 +24,7 @@ use Rattle.map_replies.specs.Parts.{range_for, IsPart, start_of, size_of, part_r
 use Rattle.map_replies.specs.Words.{refusal_of, not_allowed_reply, outcome_reply, left_reply, published_reply, cancel_reply}
 use Rattle.map_replies.specs.Words.{shown_reply, content_reply, found_reply, metadata_reply}
 
--- What a reply reports of the service beside what happens: its generation, the number of its last edit, and how many bytes its archive has.
+-- What a reply reports of the service besides what happens: its generation, the sequence number of its last edit, and its archive's length in bytes.
 abbrev pub numbers_of : {D : Type 0} → ServiceView D → Published
 numbers_of service = record { generation = service.generation; edits = service.journal.last; archive_len = service.archive_len }
 
@@ -66,8 +66,8 @@ abbrev pub last_outcome : Result Published ServiceFault → Result ℕ ServiceFa
 last_outcome (Ok p) = Ok 0
 last_outcome (Err fault) = Err fault
 
--- The reply reports the generation and the archive that are installed, and the last edit before; or with the fault Device, that the disk
--- has failed.
+-- The reply reports the generation and the archive that are installed, and the last edit before the publication. With the fault Device
+-- the disk has failed.
 abbrev pub MeansPublish : (failed : Type 0) → (old new : Published) → ReplyView → List Happening → Type 0
 MeansPublish failed old new reply happenings = (outcome : Result Published ServiceFault) × (reply ≡ published_reply outcome)
     × IfErr outcome (λ fault. fault ≡ Device → failed)
@@ -76,26 +76,26 @@ MeansPublish failed old new reply happenings = (outcome : Result Published Servi
 
 -- ---- the archive
 
--- A part is read, all of it, or the disk has failed. Bytes that are never sent count as read: of a HEAD, and after a fault of the disk or of the
--- connection. For a range behind the archive's end nothing is read.
+-- A part is read in full, or the disk has failed. Bytes that are never sent count as read: for HEAD, and after a fault of the disk or of the
+-- connection. For a range that starts after the archive's last byte nothing is read.
 abbrev pub MeansPart : (failed : Type 0) → (total : ℕ) → Part → ReplyView → List Happening → Type 0
 MeansPart failed total Beyond reply happenings = (reply ≡ part_reply Beyond total []) × (happenings ≡ [])
 MeansPart failed total part reply happenings = (outcome : Option (List ℕ)) × IfSome outcome (λ content. length content ≡ size_of part total)
     × (outcome ≡ None → failed) × (reply ≡ bytes_reply part total outcome) × (happenings ≡ read (start_of part) outcome ∷ [])
 
--- The part that a range asks for of an archive of so many bytes. There is no archive exactly where it has no bytes.
+-- The part that a range selects of an archive of total bytes. There is no archive exactly if total is 0.
 abbrev pub MeansArchive : (failed : Type 0) → (total : ℕ) → Option (List ℕ) → ReplyView → List Happening → Type 0
 MeansArchive failed total range reply happenings = ((total ≡ 0) × MeansRefusal NotFound reply happenings)
     ⊎ ((0 < total) × (part : Part) × IsPart range total part × MeansPart failed total part reply happenings)
 
--- ---- what is wanted of a service with these numbers, and with those after it, and what it is that its disk has failed meanwhile
+-- ---- routed requests: old and new are the service's numbers before and after, failed says that its disk has failed meanwhile
 
 abbrev pub MeansOnFeature : (failed : Type 0) → ℕ → Method → List ℕ → ReplyView → List Happening → Type 0
 MeansOnFeature failed id Put body = MeansPut failed id body
 MeansOnFeature failed id Delete body = MeansDelete failed id
 MeansOnFeature failed id method body = MeansCall (look id) (shown_reply found_reply)
 
--- by a method that the path allows
+-- a method that the path allows
 abbrev pub MeansAllowed : (failed : Type 0) → (old new : Published) → Asked → Method → Option (List ℕ) → List ℕ → ReplyView → List Happening → Type 0
 MeansAllowed failed old new (asked_tile z x y format) method range body = MeansCall (tile z x y) (shown_reply (content_reply format))
 MeansAllowed failed old new (asked_feature id) method range body = MeansOnFeature failed id method body
@@ -112,7 +112,7 @@ MeansWanted failed old new not_found range body reply happenings = MeansRefusal 
 MeansWanted failed old new (not_allowed asked) range body reply happenings = (reply ≡ not_allowed_reply asked) × (happenings ≡ [])
 MeansWanted failed old new (allowed asked method) range body reply happenings = MeansAllowed failed old new asked method range body reply happenings
 
--- the reply to a request: what is wanted is said by its method and its path
+-- the reply to a request, which is routed by its method and its path
 abbrev pub Means : (failed : Type 0) → (old new : Published) → RequestView → ReplyView → List Happening → Type 0
 Means failed old new request = MeansWanted failed old new (wanted_by request.method request.path) request.range request.body
 
@@ -129,16 +129,16 @@ module _ {D : Type 0} (sectors : D → ℕ) (honest : D → Type 0) (history : D
 
   -- over a disk that counts its faults
   module _ (faults : D → ℕ) where
-    -- to what is wanted by a method that the path allows,
+    -- the reply to a method that the path allows
     abbrev pub AnswersAllowed : Asked → Method → Option (List ℕ) → List ℕ → (old new : ServiceView D) → ReplyView → Type 0
     AnswersAllowed asked method range body old new =
         Answers (MeansAllowed (DiskFailed faults old new) (numbers_of old) (numbers_of new) asked method range body) old new
 
-    -- to what is wanted
+    -- the reply to a routed request
     abbrev pub AnswersWanted : Wanted → Option (List ℕ) → List ℕ → (old new : ServiceView D) → ReplyView → Type 0
     AnswersWanted wanted range body old new =
         Answers (MeansWanted (DiskFailed faults old new) (numbers_of old) (numbers_of new) wanted range body) old new
 
-    -- and to a request
+    -- the reply to a request
     abbrev pub Replies : ServiceView D → RequestView → ReplyView → ServiceView D → Type 0
     Replies old request reply new = Answers (Means (DiskFailed faults old new) (numbers_of old) (numbers_of new) request) old new reply

@@ -1,4 +1,4 @@
--- Parts of the published archive, as the field range asks for them (RFC 9110, 14), and the replies with them.
+-- Parts of the published archive, selected by the header field Range (RFC 9110, 14), and the replies with them.
 use Rattle.std.specs.Prelude.{◌≡◌, ◌<◌, ◌≤◌, ◌+◌, ◌-◌, ℕ, min, List, codes, Option, Some, None}
 use Rattle.byte_range.specs.Ranges.{IsRange}
 use Rattle.http_serve.specs.Reply.{ReplyView, plain_reply}
@@ -10,7 +10,7 @@ use Rattle.map_replies.specs.declared.parts.Part.{Part}
 use Rattle.map_replies.specs.declared.parts.Part.TheVariants.{Whole, Between, Beyond}
 use Rattle.map_replies.specs.Words.{text_type, service_refusal}
 
--- a range counts for GET alone (RFC 9110, 14.2)
+-- a range is ignored unless the method is GET (RFC 9110, 14.2)
 abbrev pub range_for : Method → Option (List ℕ) → Option (List ℕ)
 range_for Get range = range
 range_for method range = None
@@ -20,7 +20,7 @@ abbrev pub Asks : Option (List ℕ) → (first last : ℕ) → Type 0
 Asks None first last = ⊥
 Asks (Some value) first last = IsRange value first last
 
--- which part of so many bytes a range asks for: where it asks for none, the whole; and of a part that ends behind them what there is
+-- The part of total bytes that a range selects. A missing or ignored range selects all of them; one that ends after the last byte is cut there.
 abbrev pub IsPart : Option (List ℕ) → (total : ℕ) → Part → Type 0
 IsPart range total Whole = (first last : ℕ) → ¬ (Asks range first last)
 IsPart range total (Between first last) = (asked : ℕ) × Asks range first asked × (first < total) × (last ≡ min asked (total - 1))
@@ -41,11 +41,11 @@ start_of Beyond = 0
 unfoldable pub octets_type : List ℕ
 octets_type = codes "application/octet-stream"
 
--- the word of a range behind the last byte
+-- the word of a range that starts after the last byte
 unfoldable pub range_word : List ℕ
 range_word = codes "Range\n"
 
--- the reply with a part of so many bytes: 200 OK, 206 Partial Content, or 416 Range Not Satisfiable
+-- the reply with a part of total bytes: 200 OK, 206 Partial Content, or 416 Range Not Satisfiable
 abbrev pub part_reply : Part → (total : ℕ) → (content : List ℕ) → ReplyView
 part_reply Whole total content = plain_reply 200 (Some octets_type) content
 part_reply (Between first last) total content =
@@ -53,7 +53,7 @@ part_reply (Between first last) total content =
 part_reply Beyond total content =
     record { status = 416; kind = Some text_type; range = Some (ranges.Unsatisfied total); allow = None; content = range_word }
 
--- the same where its bytes were read, or the disk failed
+-- the same if its bytes were read, or the refusal Device if the disk failed
 abbrev pub bytes_reply : Part → (total : ℕ) → Option (List ℕ) → ReplyView
 bytes_reply part total None = service_refusal Device
 bytes_reply part total (Some content) = part_reply part total content

@@ -1,4 +1,4 @@
--- Replies of which the archive is sent in parts.
+-- Replies that send the archive in parts.
 use Rattle.std.specs.Prelude.{◌≡◌, ◌<◌, ◌≤◌, ℕ, List, [], length, Option, Some, None, Result, Ok, Err, ⊤}
 use Rattle.http_serve.specs.Reply.{ReplyView, IsReply, InParts, FitsParts, content_bytes, reply_view}
 use Rattle.http_serve.specs.declared.replies.Content.{Content}
@@ -18,21 +18,21 @@ use Rattle.map_replies.specs.Meanings.{MeansPart, Answers, DiskFailed}
 use Rattle.map_replies.specs.Parts.{range_for, IsPart, start_of, size_of, part_reply}
 use Rattle.map_replies.specs.Words.{refusal_of}
 
--- a result is a reply that is not sent in parts, or the fault of a refusal, with P
+-- a result is a reply that isn't sent in parts and satisfies P, or a fault whose refusal satisfies P
 abbrev pub IsAnswered : (P : ReplyView → Type 0) → Result Reply RequestFault → Type 0
 IsAnswered P (Ok reply) = P (reply_view [] reply)
 IsAnswered P (Err fault) = P (refusal_of fault)
 
--- a reply says what P tells, and what Q tells where its content is read in parts
+-- a reply satisfies P, and also Q if its content is read in parts
 abbrev pub IsAnswer : (P Q : ReplyView → Type 0) → Reply → Type 0
 IsAnswer P Q reply = (view : ReplyView) × IsReply reply view × P view × InParts reply.content (Q view)
 
--- a result is such a reply, or the fault of a refusal with P
+-- a result is such a reply, or a fault whose refusal satisfies P
 abbrev pub IsAnsweredInParts : (P Q : ReplyView → Type 0) → Result Reply RequestFault → Type 0
 IsAnsweredInParts P Q (Ok reply) = IsAnswer P Q reply
 IsAnsweredInParts P Q (Err fault) = P (refusal_of fault)
 
--- a part has bytes of the archive, which has so many
+-- a part lies within an archive of total bytes
 abbrev pub IsInside : Part → (total : ℕ) → Type 0
 IsInside Whole total = ⊤
 IsInside (Between first last) total = (first ≤ last) × (last < total)
@@ -42,13 +42,13 @@ IsInside Beyond total = ⊥
 abbrev pub IsSent : Part → (total : ℕ) → Sending → Type 0
 IsSent part total sending = IsInside part total × (sending ≡ record { first = start_of part; length = size_of part total })
 
--- what a read gave, or that it failed
+-- the bytes that a read returned, or None if it failed
 abbrev pub read_outcome : {E : Type 0} → Result (Unit {0}) E → (bytes : List ℕ) → Option (List ℕ)
 read_outcome (Ok done) bytes = Some bytes
 read_outcome (Err fault) bytes = None
 
 module _ {D : Type 0} (sectors : D → ℕ) (honest : D → Type 0) (history : D → History) where
-  -- a content that is read in parts begins with bytes that were read, of so many from an offset of the archive on
+  -- content that is read in parts begins with size bytes that were read from the archive at offset first
   abbrev pub Begins : (old new : ServiceView D) → (first size : ℕ) → Content → Type 0
   Begins old new first size content = (bytes : List ℕ) × FitsParts bytes content × (content_bytes bytes content ≡ bytes) × (length bytes ≡ size)
       × Takes sectors honest history old (read first (Some bytes)) new
@@ -60,7 +60,7 @@ module _ {D : Type 0} (sectors : D → ℕ) (honest : D → Type 0) (history : D
 
   -- over a disk that counts its faults
   module _ (faults : D → ℕ) where
-    -- a part is being sent: what was read so far stands in the reply, and no read has failed
+    -- a part is being sent: the reply contains what was read so far, and no read has failed
     pub record SendsPart (part : Part) (old : ServiceView D) (sending : Sending) (new : ServiceView D) (reply : ReplyView) : Type 0 where
       pub sent : IsSent part old.archive_len sending
       pub content : List ℕ
@@ -74,14 +74,14 @@ module _ {D : Type 0} (sectors : D → ℕ) (honest : D → Type 0) (history : D
     AnswersPart part old sending new =
         IsAnswer (Answers sectors honest history (MeansPart (DiskFailed faults old new) old.archive_len part) old new) (SendsPart part old sending new)
 
-    -- the part that a range asks for is being sent
+    -- the part that a range selects is being sent
     pub record IsSending (range : Option (List ℕ)) (old : ServiceView D) (sending : Sending) (new : ServiceView D) (reply : ReplyView) : Type 0 where
       pub some : 0 < old.archive_len
       pub part : Part
       pub asked : IsPart range old.archive_len part
       pub sends : SendsPart part old sending new reply
 
-    -- where the archive is wanted
+    -- the same for a routed request, which is for the archive
     abbrev pub SendsWanted : Wanted → Option (List ℕ) → (old : ServiceView D) → Sending → (new : ServiceView D) → ReplyView → Type 0
     SendsWanted wanted range old sending new reply =
         (method : Method) × (wanted ≡ allowed asked_archive method) × IsSending (range_for method range) old sending new reply

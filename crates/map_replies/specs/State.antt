@@ -1,4 +1,4 @@
--- What answers requests, without where it lies in memory.
+-- The state of the request handler, regardless of its address in memory.
 use Rattle.std.specs.Prelude.{◌≡◌, ℕ, ◌-◌, min, List, ◌++◌}
 use Rattle.http_serve.specs.Requests.{RequestView}
 use Rattle.http_serve.specs.Reply.{ReplyView}
@@ -11,7 +11,7 @@ use Rattle.map_replies.specs.Meanings.{numbers_of, Means, DiskFailed, Replies}
 use Rattle.map_replies.specs.Sending.{SendsWanted}
 use Rattle.tile_routes.specs.Methods.{wanted_by}
 
--- the service that it asks
+-- the service that it calls
 abbrev pub asked_service : {D : Type 0} → MapReplies D → ServiceView D
 asked_service s = s.service
 
@@ -25,19 +25,19 @@ module _ {D : Type 0} (sectors : D → ℕ) (honest : D → Type 0) (history : D
   abbrev pub ServiceReplies : MapReplies D → RequestView → ReplyView → MapReplies D → Type 0
   ServiceReplies old request reply new = Replies sectors honest history faults (asked_service old) request reply (asked_service new)
 
-  -- the same of a reply whose content is being read in parts: the request wants the archive
+  -- the same for a reply whose content is being read in parts: the request is for the archive
   abbrev pub ServiceSends : MapReplies D → RequestView → ReplyView → MapReplies D → Type 0
   ServiceSends old request reply new =
       SendsWanted sectors honest history faults (wanted_by request.method request.path) request.range (asked_service old) new.sending
       (asked_service new) reply
 
-  -- and of one whose content couldn't be read to its end: the disk has failed
+  -- the same for a reply whose content couldn't be read to its end: the disk has failed
   abbrev pub ServiceFails : MapReplies D → RequestView → ReplyView → MapReplies D → Type 0
   ServiceFails old request reply new = ServiceReplies old request reply new × DiskFailed faults (asked_service old) (asked_service new)
 
 -- ---- a connection
 
--- what answers the requests of a connection, and what has happened to its service there so far
+-- the request handler of a connection, and what has happened to its service on this connection so far
 pub record Course (D : Type 0) : Type 0 where
   pub replies : MapReplies D
   pub run : List Happening
@@ -46,7 +46,7 @@ abbrev pub course : {D : Type 0} → MapReplies D → List Happening → Course 
 course replies run = record { replies = replies; run = run }
 
 module _ {D : Type 0} (sectors : D → ℕ) (honest : D → Type 0) (history : D → History) (faults : D → ℕ) where
-  -- One reply to one request: it reports happenings, the service takes them all, and the run goes on by them.
+  -- One reply to one request: it reports happenings, the service takes them all, and they are appended to the run.
   abbrev pub Tells : Course D → RequestView → ReplyView → Course D → Type 0
   Tells old request reply new = (happenings : List Happening)
       × Means (DiskFailed faults (asked_service old.replies) (asked_service new.replies)) (numbers_of (asked_service old.replies))
@@ -54,6 +54,6 @@ module _ {D : Type 0} (sectors : D → ℕ) (honest : D → Type 0) (history : D
       × TakesAll sectors honest history (asked_service old.replies) happenings (asked_service new.replies)
       × (new.run ≡ old.run ++ happenings)
 
-  -- the same of a reply whose content couldn't be read to its end: the disk has failed
+  -- the same for a reply whose content couldn't be read to its end: the disk has failed
   abbrev pub TellsCut : Course D → RequestView → ReplyView → Course D → Type 0
   TellsCut old request reply new = Tells old request reply new × DiskFailed faults (asked_service old.replies) (asked_service new.replies)

@@ -30,7 +30,7 @@ tile_type = codes "application/vnd.mapbox-vector-tile"
 
 -- ---- refusals
 
--- the word of a fault of an edit, and a line feed
+-- the word of a fault of an edit, with a line feed
 unfoldable pub edit_word : EditFault → List ℕ
 edit_word edits.Member = codes "E1 Member\n"
 edit_word edits.Number = codes "E2 Number\n"
@@ -45,7 +45,7 @@ edit_word edits.Batch = codes "E10 Batch\n"
 edit_word edits.Twice = codes "E11 Twice\n"
 edit_word edits.Memory = codes "Memory\n"
 
--- the word of what is full: its name, how many sectors are needed, and how many are free
+-- the word of a full area or journal: its name, the sectors needed, and the sectors free
 unfoldable pub full_word : List ℕ → ℕ → ℕ → List ℕ
 full_word name need free = (name ++ codes " need ") ++ ((decimal need ++ codes " free ") ++ (decimal free ++ codes "\n"))
 
@@ -93,7 +93,7 @@ service_status (services.AreaFull need free) = 507
 service_status (services.JournalFull need free) = 507
 service_status services.Device = 500
 
--- a refusal: its word as a text
+-- a refusal, with its word as plain text
 abbrev pub refusal_of : RequestFault → ReplyView
 refusal_of fault = plain_reply (fault_status fault) (Some text_type) (fault_word fault)
 
@@ -115,18 +115,18 @@ not_allowed_reply asked = record { status = 405; kind = Some text_type; range = 
 abbrev pub json_reply : List ℕ → ReplyView
 json_reply text = plain_reply 200 (Some json_type) text
 
--- nothing to tell
+-- 204 No Content
 abbrev pub empty_reply : ReplyView
 empty_reply = plain_reply 204 None (codes "")
 
--- the number of an edit that was made
+-- the sequence number of an edit that was made
 unfoldable pub edit_body : ℕ → List ℕ
 edit_body number = codes "{\"edit\":" ++ decimal number ++ codes "}"
 
 abbrev pub edit_reply : ℕ → ReplyView
 edit_reply number = json_reply (edit_body number)
 
--- the outcome of an edit: its number, or why the service refuses it
+-- the outcome of an edit: its sequence number, or why the service refuses it
 abbrev pub outcome_reply : Result ℕ ServiceFault → ReplyView
 outcome_reply (Ok number) = edit_reply number
 outcome_reply (Err fault) = service_refusal fault
@@ -140,7 +140,7 @@ abbrev pub left_reply : Result ℕ ServiceFault → ReplyView
 left_reply (Ok left) = json_reply (left_body left)
 left_reply (Err fault) = service_refusal fault
 
--- what was published: how many bytes the archive has, the number of the last edit in it, and the number of its generation
+-- what was published: the length of the archive in bytes, the sequence number of the last edit in it, and its generation
 unfoldable pub published_body : Published → List ℕ
 published_body p =
     codes "{\"archive\":" ++ decimal p.archive_len ++ codes ",\"edits\":" ++ decimal p.edits ++ codes ",\"generation\":" ++ decimal p.generation
@@ -151,7 +151,7 @@ abbrev pub published_reply : Result Published ServiceFault → ReplyView
 published_reply (Ok p) = json_reply (published_body p)
 published_reply (Err fault) = service_refusal fault
 
--- the outcome of giving a publication up
+-- the outcome of cancelling a publication
 abbrev pub cancel_reply : Result (Unit {0}) ServiceFault → ReplyView
 cancel_reply (Ok done) = empty_reply
 cancel_reply (Err fault) = service_refusal fault
@@ -165,7 +165,7 @@ shown_reply reply_of no_memory = refusal_of Memory
 abbrev pub metadata_reply : Data → ReplyView
 metadata_reply d = json_reply (compact_text d)
 
--- the feature of a number, or that there is none
+-- the feature of an id, or 404 if there is none
 abbrev pub found_reply : Option FeatureData → ReplyView
 found_reply None = refusal_of NotFound
 found_reply (Some f) = json_reply (compact_text (json_of f))
@@ -182,7 +182,7 @@ format_content Hex bytes = encode_lower bytes
 abbrev pub tile_reply : TileFormat → List ℕ → ReplyView
 tile_reply format bytes = plain_reply 200 (Some (format_type format)) (format_content format bytes)
 
--- what a tile has, or none where it shows nothing
+-- the content of a tile, or 204 if the tile is empty
 abbrev pub content_reply : TileFormat → Option (List ℕ) → ReplyView
 content_reply format None = empty_reply
 content_reply format (Some bytes) = tile_reply format bytes

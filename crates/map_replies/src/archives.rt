@@ -1,4 +1,4 @@
-//! The archive that was published last.
+//! The archive published last.
 ghost use Rattle.std.specs.Prelude.{◌≡◌, ◌<◌, ◌≤◌, ◌+◌, length, IfOk, IfErr, IfSome, OnOk, None, option_map};
 ghost use Rattle.http_serve.specs.Reply.{head_view, HasShortWords};
 ghost use Rattle.sector_disk.specs.Disk.{HasFailed};
@@ -16,7 +16,7 @@ use sector_disk::Sectors;
 use std::alloc::AllocError;
 
 impl<D: Sectors + Drop> MapReplies<D> {
-    /// So many bytes of the archive from one on, or none where a read of the disk fails.
+    /// `count` bytes of the archive from offset `at` on, or `None` if a disk read fails.
     fn archive_bytes(&mut self, at: u64, count: u64) -> Result<Option<Vec<u8>>, RequestFault>
         requires { at + count ≤ (asked_service self.old).archive_len }
         ensures read { IfOk result (λ content. Takes D.sectors D.honest D.history (asked_service self.old)
@@ -37,8 +37,8 @@ impl<D: Sectors + Drop> MapReplies<D> {
         }
     }
 
-    /// So many bytes of the archive from one on, as a content that is sent in parts. Those of the first sector are read at once,
-    /// if it is sent at all. None where a read of the disk fails.
+    /// `length` bytes of the archive from offset `first` on, as content sent in parts. Those in the first sector are read at once,
+    /// unless only the head is sent. `None` if a read fails.
     fn send(&mut self, first: u64, length: u64, bare: bool) -> Result<Option<Content>, RequestFault>
         requires { first + length ≤ (asked_service self.old).archive_len }
         ensures begun { IfOk result (BeginsOrFails D.sectors D.honest D.history (asked_service self.old) (asked_service self.new) first length) }
@@ -62,7 +62,7 @@ impl<D: Sectors + Drop> MapReplies<D> {
         }
     }
 
-    /// The whole archive, of so many bytes.
+    /// The whole archive, `total` bytes.
     fn whole_archive(&mut self, total: u64, bare: bool) -> Result<Reply, RequestFault>
         requires { total ≡ (asked_service self.old).archive_len }
         ensures answered { IfOk result (AnswersPart D.sectors D.honest D.history D.faults Part.Whole
@@ -77,7 +77,7 @@ impl<D: Sectors + Drop> MapReplies<D> {
         }
     }
 
-    /// The bytes of the archive from the first to the last one, of so many in all.
+    /// The bytes of the archive from `first` to `last` inclusive, of `total`.
     fn archive_part(
         &mut self,
         first: u64,
@@ -100,7 +100,7 @@ impl<D: Sectors + Drop> MapReplies<D> {
         }
     }
 
-    /// The part of the archive that a range asks for. Nothing is read for a reply that is only a head.
+    /// The part of the archive that a range selects. Nothing is read if only the head is sent.
     pub(crate) fn archive(
         &mut self,
         range: Option<&[u8]>,

@@ -11,7 +11,7 @@ use feature_model::Feature;
 use serde_json::Value;
 use std::alloc::Global;
 
-/// The JSON value in a body. Only a body with bytes can be refused for memory.
+/// The JSON value in a body. An empty body can't cause out of memory.
 fn json_in(alloc: Global, body: &[u8]) -> Result<Value, RequestFault>
     ensures found { IfOk result (λ value. IsJson body.now (view value)) }
     ensures refused { IfErr result (λ fault. ((fault ≡ RequestFault.Memory) × (0 < length body.now))
@@ -24,7 +24,7 @@ fn json_in(alloc: Global, body: &[u8]) -> Result<Value, RequestFault>
     }
 }
 
-/// The feature that a JSON value tells.
+/// The feature in a JSON value.
 fn feature_of(alloc: Global, value: &Value) -> Result<Feature, RequestFault>
     ensures found { IfOk result (λ feature. IsFeature (view value.now) (feature_data feature)) }
     ensures refused { IfErr result (λ fault. (fault ≡ RequestFault.Memory) ⊎ IsEditFault (IsFirstJsonFault (view value.now)) fault) }

@@ -1,4 +1,4 @@
-//! Edits, as requests ask for them.
+//! Requests to edit features.
 ghost use Rattle.std.specs.Prelude.{IfOk};
 ghost use Rattle.http_serve.specs.Reply.{IsWhole};
 ghost use Rattle.map_replies.specs.Meanings.{MeansPut, MeansDelete, Answers, DiskFailed};
@@ -13,7 +13,7 @@ use http_serve::Reply;
 use sector_disk::Sectors;
 
 impl<D: Sectors + Drop> MapReplies<D> {
-    /// Gives a number the feature in the body of a request.
+    /// Sets the feature of an id to the one in the body.
     pub(crate) fn put(&mut self, id: u64, body: &[u8]) -> Result<Reply, RequestFault>
         ensures answered { IsAnswered (Answers D.sectors D.honest D.history
             (MeansPut (DiskFailed D.faults (asked_service self.old) (asked_service self.new)) id body.now)
@@ -31,7 +31,7 @@ impl<D: Sectors + Drop> MapReplies<D> {
         Ok(replies::outcome(text, outcome))
     }
 
-    /// Takes the feature of a number away.
+    /// Deletes the feature of an id.
     pub(crate) fn delete(&mut self, id: u64) -> Result<Reply, RequestFault>
         ensures answered { IsAnswered (Answers D.sectors D.honest D.history
             (MeansDelete (DiskFailed D.faults (asked_service self.old) (asked_service self.new)) id)

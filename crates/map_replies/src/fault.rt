@@ -1,13 +1,13 @@
 use feature_model::EditFault;
 
-/// Why a request is refused, other than by the service. Nothing is changed by it.
+/// Why a request is refused, other than by the service. Nothing is changed.
 #[derive(Clone, Copy, Debug, PartialEq, Eq)]
 pub enum RequestFault {
     /// The path or the method is not served.
     NotFound,
-    /// The body is no JSON text.
+    /// The body isn't JSON.
     Json,
-    /// The body is no feature.
+    /// An invalid feature.
     Edit(EditFault),
     /// An allocation failed.
     Memory,

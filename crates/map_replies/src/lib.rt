@@ -1,4 +1,4 @@
-//! A map on a disk behind HTTP/1.1 connections: a reply to each request.
+//! Serves a map on a disk over HTTP/1.1: one reply to each request.
 #![tactic(auto)]
 
 mod archives;

@@ -11,18 +11,18 @@ use http_serve::{Content, ContentRange, Reply};
 use sector_disk::SECTOR_BYTES;
 use tile_routes::Method;
 
-/// Which bytes of the archive are told.
+/// The bytes of the archive to send.
 #[derive(Clone, Copy, Debug, PartialEq, Eq)]
 pub(crate) enum Part {
     /// All of them.
     Whole,
-    /// Those from the first to the last one, counted from 0.
+    /// From `first` to `last` inclusive, counted from 0.
     Between { first: u64, last: u64 },
-    /// Bytes behind the last one, where there are none.
+    /// The range starts after the last byte.
     Beyond,
 }
 
-/// The range, where it counts: for GET alone (RFC 9110, 14.2).
+/// The range for GET, else `None` (RFC 9110, 14.2).
 pub(crate) fn range_for(method: Method, range: Option<&[u8]>) -> Option<&[u8]>
     ensures { option_map (λ value. value.now) result ≡ range_for method (option_map (λ value. value.now) range.entry) }
 {
@@ -32,12 +32,12 @@ pub(crate) fn range_for(method: Method, range: Option<&[u8]>) -> Option<&[u8]>
     }
 }
 
-/// Whether a method is HEAD, whose replies are only heads.
+/// Whether a method is HEAD, whose replies have no body.
 pub(crate) fn is_head(method: Method) -> bool {
     matches!(method, Method::Head)
 }
 
-/// The part of so many bytes that a range asks for.
+/// The part of `total` bytes that a range selects.
 pub(crate) fn part_of(range: Option<&[u8]>, total: u64) -> Part
     requires { 0 < total }
     ensures { IsPart (option_map (λ value. value.now) range.entry) total result }
@@ -55,7 +55,7 @@ pub(crate) fn part_of(range: Option<&[u8]>, total: u64) -> Part
     }
 }
 
-/// Which bytes of the archive a reply has that is sent in parts.
+/// The bytes of the archive in a reply that is sent in parts.
 #[derive(Clone, Copy, Debug, PartialEq, Eq)]
 pub(crate) struct Sending {
     /// The first one, counted from 0.
@@ -64,7 +64,7 @@ pub(crate) struct Sending {
     pub(crate) length: u64,
 }
 
-/// How many of so many bytes from an offset on are read before a reply is made: those of the first sector, if they are sent.
+/// How many of `length` bytes from `first` on are read before a reply is made: those in the first sector, or 0 if `bare`.
 pub(crate) fn begin_size(first: u64, length: u64, bare: bool) -> u64
     ensures { result ≤ length }
 {
@@ -85,7 +85,7 @@ pub(crate) fn whole(content: Content) -> Reply
     Reply::plain(StatusCode::OK, Some("application/octet-stream"), content)
 }
 
-/// The reply with a part of so many bytes.
+/// The reply with a part of the archive.
 #[tactic(auto, unfolding(crate::specs::Parts::octets_type))]
 pub(crate) fn between(first: u64, last: u64, total: u64, content: Content) -> Reply
     ensures reply { (bytes : List ℕ) → reply_view bytes result ≡ part_reply (Part.Between first last) total (content_bytes bytes content) }
@@ -101,7 +101,7 @@ pub(crate) fn between(first: u64, last: u64, total: u64, content: Content) -> Re
     }
 }
 
-/// The reply that a range lies behind so many bytes.
+/// The reply to a range after the last byte.
 #[tactic(auto, unfolding(crate::specs::Words::text_type, crate::specs::Parts::range_word))]
 pub(crate) fn beyond(total: u64) -> Reply
     ensures reply { reply_view [] result ≡ part_reply Part.Beyond total [] }

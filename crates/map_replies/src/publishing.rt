@@ -1,4 +1,4 @@
-//! Publications, as requests ask for them. Memory for the reply is taken first, so that what was done is always told.
+//! Requests to publish. Memory for the reply is allocated first, so that the outcome is always reported.
 ghost use Rattle.std.specs.Prelude.{IfOk};
 ghost use Rattle.http_serve.specs.Reply.{IsWhole};
 ghost use Rattle.tile_service.specs.Machine.{begin, step, cancel};
@@ -14,7 +14,7 @@ use http_serve::Reply;
 use sector_disk::Sectors;
 
 impl<D: Sectors + Drop> MapReplies<D> {
-    /// Publishes the map, whole.
+    /// Publishes the whole map.
     pub(crate) fn publish(&mut self) -> Result<Reply, RequestFault>
         ensures answered { IsAnswered (Answers D.sectors D.honest D.history
             (OrNoMemory (MeansPublish (DiskFailed D.faults (asked_service self.old) (asked_service self.new))
@@ -42,7 +42,7 @@ impl<D: Sectors + Drop> MapReplies<D> {
         Ok(replies::left(text, outcome))
     }
 
-    /// Goes on with a publication.
+    /// Continues a publication.
     pub(crate) fn publish_step(&mut self) -> Result<Reply, RequestFault>
         ensures answered { IsAnswered (Answers D.sectors D.honest D.history
             (OrNoMemory (MeansChange (DiskFailed D.faults (asked_service self.old) (asked_service self.new)) step left_reply))
@@ -56,7 +56,7 @@ impl<D: Sectors + Drop> MapReplies<D> {
         Ok(replies::left(text, outcome))
     }
 
-    /// Gives a publication up.
+    /// Cancels a publication.
     pub(crate) fn publish_cancel(&mut self) -> Result<Reply, RequestFault>
         ensures answered { IsAnswered (Answers D.sectors D.honest D.history (OrNoMemory (MeansCall cancel cancel_reply))
             (asked_service self.old) (asked_service self.new)) result }

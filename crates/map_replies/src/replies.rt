@@ -18,7 +18,7 @@ use std::alloc::{AllocError, Global};
 use tile_routes::{Target, TileFormat};
 use tile_service::{Published, ServiceFault};
 
-/// Room for the longest text that tells an outcome: that of a publication, with three numbers.
+/// Capacity for the longest text of an outcome: that of a publication, with three numbers.
 const MOST_TEXT: usize = 3 * MOST_DIGITS + 35;
 
 /// The word of a fault of an edit, with a line feed.
@@ -42,7 +42,7 @@ fn edit_word(fault: EditFault) -> &'static [u8]
     }
 }
 
-/// The word of what is full, with a line feed: what it is, how many sectors are needed and how many are free.
+/// The word of a full area or journal, with a line feed: its name, the sectors needed and the sectors free.
 #[tactic(auto, unfolding(crate::specs::Words::full_word))]
 fn full_word(text: Vec<u8>, name: &[u8], need: u64, free: u64) -> Vec<u8>
     requires name { length name.now ≤ 11 }
@@ -201,7 +201,7 @@ pub(crate) fn json(text: Vec<u8>) -> Reply
     )
 }
 
-/// The reply with nothing to tell.
+/// The reply without content.
 pub(crate) fn empty() -> Reply
     ensures reply { reply_view [] result ≡ empty_reply }
     ensures writable { IsWhole result }
@@ -209,7 +209,7 @@ pub(crate) fn empty() -> Reply
     Reply::plain(StatusCode::NO_CONTENT, None, Content::Empty)
 }
 
-/// An empty text, with room for each outcome.
+/// Empty text with capacity for each outcome.
 pub(crate) fn outcome_space(alloc: Global) -> Result<Vec<u8>, AllocError>
     ensures empty { IfOk result (λ text. text.items ≡ []) }
     ensures room { IfOk result (λ text. MOST_TEXT ≤ vec_capacity text) }
@@ -217,7 +217,7 @@ pub(crate) fn outcome_space(alloc: Global) -> Result<Vec<u8>, AllocError>
     Vec::with_capacity(alloc, MOST_TEXT)
 }
 
-/// The text that tells the number of an edit.
+/// The text with an edit's sequence number.
 #[tactic(auto, unfolding(crate::specs::Words::edit_body))]
 fn edit_body(text: Vec<u8>, number: u64) -> Vec<u8>
     requires empty { text.items ≡ [] }
@@ -231,7 +231,7 @@ fn edit_body(text: Vec<u8>, number: u64) -> Vec<u8>
     text
 }
 
-/// The reply that tells the outcome of an edit. It takes no memory: an edit that was made is always told.
+/// The reply with the outcome of an edit. It doesn't allocate: an edit that was made is always reported.
 pub(crate) fn outcome(text: Vec<u8>, outcome: Result<u64, ServiceFault>) -> Reply
     requires empty { text.items ≡ [] }
     requires room { MOST_TEXT ≤ vec_capacity text }
@@ -244,7 +244,7 @@ pub(crate) fn outcome(text: Vec<u8>, outcome: Result<u64, ServiceFault>) -> Repl
     }
 }
 
-/// The text that tells how much of a publication is left.
+/// The text with how much of a publication is left.
 #[tactic(auto, unfolding(crate::specs::Words::left_body))]
 fn left_body(text: Vec<u8>, left: u64) -> Vec<u8>
     requires empty { text.items ≡ [] }
@@ -258,7 +258,7 @@ fn left_body(text: Vec<u8>, left: u64) -> Vec<u8>
     text
 }
 
-/// The reply that tells the outcome of the beginning or of a step of a publication. It takes no memory.
+/// The reply with the outcome of the beginning or a step of a publication. It doesn't allocate.
 pub(crate) fn left(text: Vec<u8>, outcome: Result<u64, ServiceFault>) -> Reply
     requires empty { text.items ≡ [] }
     requires room { MOST_TEXT ≤ vec_capacity text }
@@ -271,7 +271,7 @@ pub(crate) fn left(text: Vec<u8>, outcome: Result<u64, ServiceFault>) -> Reply
     }
 }
 
-/// The text that tells what was published.
+/// The text with what was published.
 #[tactic(auto, unfolding(crate::specs::Words::published_body))]
 fn published_body(text: Vec<u8>, published: Published) -> Vec<u8>
     requires empty { text.items ≡ [] }
@@ -289,7 +289,7 @@ fn published_body(text: Vec<u8>, published: Published) -> Vec<u8>
     text
 }
 
-/// The reply that tells the outcome of a whole publication. It takes no memory.
+/// The reply with the outcome of a whole publication. It doesn't allocate.
 pub(crate) fn published(text: Vec<u8>, outcome: Result<Published, ServiceFault>) -> Reply
     requires empty { text.items ≡ [] }
     requires room { MOST_TEXT ≤ vec_capacity text }
@@ -302,7 +302,7 @@ pub(crate) fn published(text: Vec<u8>, outcome: Result<Published, ServiceFault>)
     }
 }
 
-/// The reply that tells whether a publication was given up. It takes no memory.
+/// The reply with the outcome of a cancellation. It doesn't allocate.
 pub(crate) fn cancelled(text: Vec<u8>, outcome: Result<(), ServiceFault>) -> Reply
     requires empty { text.items ≡ [] }
     requires room { MOST_TEXT ≤ vec_capacity text }
@@ -347,7 +347,7 @@ fn some_tile(alloc: Global, format: TileFormat, bytes: Vec<u8>) -> Result<Reply,
     Ok(Reply::plain(StatusCode::OK, Some(kind), Content::Whole(content)))
 }
 
-/// The reply with a tile, or the one where it shows nothing.
+/// The reply with a tile, or 204 if the tile is empty.
 pub(crate) fn tile(
     alloc: Global,
     format: TileFormat,

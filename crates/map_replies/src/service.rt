@@ -25,7 +25,7 @@ use std::io::{Read, Write};
 use tile_routes::{Method, Routes, Target, Wanted};
 use tile_service::Service;
 
-/// A service, asked by requests.
+/// The request handler of a map.
 #[derive(Drop)]
 pub struct MapReplies<D: Sectors + Drop> {
     pub(crate) alloc: Global,
@@ -38,7 +38,7 @@ pub struct MapReplies<D: Sectors + Drop> {
 impl<D: Sectors + Drop> MapReplies<D> {
     ghost use Rattle.map_replies.specs.State.{asked_service};
 
-    /// What answers requests for these routes by asking this service.
+    /// The handler of requests for these routes, over this service.
     pub fn new(alloc: Global, routes: Routes, service: Service<D>) -> MapReplies<D>
         ensures { asked_service result ≡ service }
     {
@@ -53,14 +53,14 @@ impl<D: Sectors + Drop> MapReplies<D> {
         }
     }
 
-    /// The service that is asked.
+    /// Returns the service.
     pub fn into_service(self) -> Service<D>
         ensures { result ≡ asked_service self }
     {
         self.service
     }
 
-    /// What is wanted of a feature, by a method of its path.
+    /// Handles an allowed method on a feature.
     fn on_feature(&mut self, id: u64, method: Method, body: &[u8]) -> Result<Reply, RequestFault>
         ensures answered { IsAnswered (Answers D.sectors D.honest D.history
             (MeansOnFeature (DiskFailed D.faults (asked_service self.old) (asked_service self.new)) id method body.now)
@@ -74,7 +74,7 @@ impl<D: Sectors + Drop> MapReplies<D> {
         }
     }
 
-    /// What is wanted by a method that the path allows, where it isn't the archive.
+    /// Handles an allowed method on any target but the archive.
     fn allowed_but_archive(
         &mut self,
         target: Target,
@@ -98,7 +98,7 @@ impl<D: Sectors + Drop> MapReplies<D> {
         }
     }
 
-    /// What is wanted by a method that the path allows.
+    /// Handles an allowed method on any target.
     fn allowed(
         &mut self,
         target: Target,
@@ -120,7 +120,7 @@ impl<D: Sectors + Drop> MapReplies<D> {
         }
     }
 
-    /// What is wanted.
+    /// Serves a route.
     fn respond(
         &mut self,
         wanted: Wanted,
@@ -166,8 +166,8 @@ impl<D: Sectors + Drop> Handler for MapReplies<D> {
     }
 }
 
-/// Serves a connection by at most so many reads: one reply to each request, in order, and one to what is no request. After so many
-/// reads the whole requests among the bytes read are answered.
+/// Serves a connection in at most `turns` reads: one reply to each request, in order, and one to an invalid request. After
+/// `turns` reads the complete requests already read are answered.
 pub fn serve_map_turns<D: Sectors + Drop, R: Read, W: Write>(
     alloc: Global,
     reader: &mut R,
@@ -178,8 +178,8 @@ pub fn serve_map_turns<D: Sectors + Drop, R: Read, W: Write>(
     ensures input { IfOk result (λ served. AnswersInput (ServiceReplies D.sectors D.honest D.history D.faults)
         service.old (R.remaining reader.old) (W.contents writer.old) served service.new (W.contents writer.new)) }
 
-    // The replies report what happens to the service, one after the other. A crash at any moment of the connection leaves some first
-    // edits of this run: all that were acknowledged by then, and none asked for later.
+    // The replies report what happens to the service, in order. A crash at any point of the connection leaves a prefix of the edits
+    // of this run: every edit acknowledged by then, and none requested later.
     ensures served { IfOk result (λ served. (run : List Happening)
         × IsServed (Tells D.sectors D.honest D.history D.faults) (course service.old []) (R.remaining reader.old) (W.contents writer.old) served
         (course service.new run) (R.remaining reader.new) (W.contents writer.new)
@@ -196,8 +196,8 @@ pub fn serve_map_turns<D: Sectors + Drop, R: Read, W: Write>(
     serve_turns(alloc, reader, writer, service, turns)
 }
 
-/// Serves a connection by at most `http_serve::MOST_READS` reads: one reply to each request, in order, and one to what is
-/// no request.
+/// Serves a connection in at most `http_serve::MOST_READS` reads: one reply to each request, in order, and one to an
+/// invalid request.
 pub fn serve_map<D: Sectors + Drop, R: Read, W: Write>(
     alloc: Global,
     reader: &mut R,

@@ -1,4 +1,4 @@
-//! What the map shows.
+//! Reads of the map.
 ghost use Rattle.std.specs.Prelude.{◌≡◌, [], false, Some, IfOk, IfErr};
 ghost use Rattle.feature_model.specs.Data.{feature_data};
 ghost use Rattle.http_serve.specs.Reply.{reply_view, IsWhole};
@@ -35,7 +35,7 @@ fn json_value(alloc: Global, value: &Value) -> Result<Reply, RequestFault>
     }
 }
 
-/// The reply with the feature of a number. Each feature of a map keeps the limits.
+/// The reply with the feature of an id. Features of a map are within the limits.
 fn feature_value(alloc: Global, id: u64, feature: &Feature) -> Result<Reply, RequestFault>
     ensures reply { IfOk result (λ reply. reply_view [] reply ≡ found_reply (Some (feature_data feature.now))) }
     ensures writable { IfOk result IsWhole }
@@ -51,7 +51,7 @@ fn feature_value(alloc: Global, id: u64, feature: &Feature) -> Result<Reply, Req
 }
 
 impl<D: Sectors + Drop> MapReplies<D> {
-    /// The tile, as it is asked for.
+    /// The tile, in this format.
     pub(crate) fn tile(&mut self, at: TileAt, format: TileFormat) -> Result<Reply, RequestFault>
         ensures answered { IsAnswered (Answers D.sectors D.honest D.history
             (MeansCall (tile at.z at.x at.y) (shown_reply (content_reply format))) (asked_service self.old) (asked_service self.new)) result }
@@ -66,7 +66,7 @@ impl<D: Sectors + Drop> MapReplies<D> {
         }
     }
 
-    /// The feature of a number.
+    /// The feature of an id.
     pub(crate) fn feature(&mut self, id: u64) -> Result<Reply, RequestFault>
         ensures answered { IsAnswered (Answers D.sectors D.honest D.history (MeansCall (look id) (shown_reply found_reply))
             (asked_service self.old) (asked_service self.new)) result }
