@@ -40,7 +40,7 @@ sector_held count n stored history keeps at left may =
         elsewhere : (index : ℕ) → (index ≡ at → ⊥) → picked index ≡ seen history index
         elsewhere index apart = grind (arith, nat_tests, apart)
 
--- nothing but records stands in the ring
+-- nothing but records is stored in the ring
 ring_held : (count n : ℕ) (stored : Stored) (at : ℕ) (sector : List ℕ) → IsInRing (journal_ring n) at → HoldsAt count n stored at sector
 ring_held count n stored at sector inside = record {
   format = λ is. absurd (omega (arith, inside.0, is));

@@ -17,7 +17,7 @@ use Rattle.tile_service.specs.Service.{ServiceView, Publishes, IsUp, archive_of,
 use Rattle.tile_service.specs.Stored.{Stored, Keeps}
 use Rattle.tile_service.proofs.Bytes.{each_stands}
 
--- What is read in the archive's place is of the archive that stands there.
+-- What is read in the archive's place is of the archive that is stored there.
 pub shown_is_read : (history : History) (place len : ℕ) (archive : List ℕ) → AreItsBytes place len archive (seen history)
     → (first at n : ℕ) (into : List ℕ) → first ≡ place → at + n ≤ len
     → into ≡ slice_range (bytes_from (seen history) first (sectors_of (at + n))) at (at + n) → into ≡ slice_range archive at (at + n)
@@ -50,14 +50,14 @@ module _ {D : Type 0} (count : ℕ) (history : History) (stored : Stored) (servi
       begins : first ≡ stored_at
       begins = is ∙ (λ i. area_start service.size (up.generation_is i) + sectors_of (up.snapshot_len_is i))
 
-  -- What is read of the sectors behind the snapshot is the archive that is stored.
+  -- What is read of the sectors after the snapshot is the archive that is stored.
   pub archive_is_read : (first at n : ℕ) (into : List ℕ) → first ≡ area_start service.size service.generation + sectors_of service.snapshot_len
       → at + n ≤ service.archive_len → into ≡ slice_range (bytes_from (seen history) first (sectors_of (at + n))) at (at + n)
       → into ≡ slice_range stored.archive at (at + n)
   archive_is_read first at n into is within read =
       read ∙ stands_read (seen history) first at n stored.archive (archive_stands first is) (omega (arith, within, up.archive_len_is))
 
-  -- The service goes on where nothing was written, whatever it keeps of the archive.
+  -- The service continues if nothing was written, whatever it caches of the archive.
   pub up_read : (disk : D) (kept : PublishedView) (sectors : ℕ) (later : History) → sectors ≡ count → later ≡ history
       → ArePublished kept (archive_of service) stored.snapshot_map stored.archive
       → IsUp sectors later stored (record service { disk = disk; published = kept })
@@ -88,7 +88,7 @@ module _ {D : Type 0} (count : ℕ) (history : History) (stored : Stored) (servi
   pub archive_of_map : IsArchiveOfMap stored.snapshot_map stored.archive
   archive_of_map = (up.keeps (seen history) (seen_is_left history)).is_archive
 
-  -- and stands at its place
+  -- and is stored at its place
   pub archive_there : AreItsBytes (archive_of service).first (archive_of service).len stored.archive (seen history)
   archive_there = record { length_is = sym up.archive_len_is; stands = archive_stands (archive_of service).first refl }
 

@@ -25,7 +25,7 @@ pub one_bytes : (image : Image) (first : ℕ) (bytes others : List ℕ) → leng
 one_bytes image first bytes others len is too =
     one_stands image first bytes others len (each_stands image first bytes is) (each_stands image first others too)
 
--- bytes that were read into the whole of a vector stand where they were read
+-- bytes that were read into the whole of a vector are stored where they were read
 pub read_whole : (image : Image) (first size len : ℕ) (into old : List ℕ) → length into ≡ len → AreWhole first 0 size image
     → into ≡ slice_range (bytes_from image first (sectors_of (0 + size))) 0 (0 + size)
     → StandsIn first (take len (into ++ drop (length into) old)) image

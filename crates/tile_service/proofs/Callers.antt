@@ -26,7 +26,7 @@ use Rattle.tile_service.proofs.Progress.{Within, IsSince, has_start, has_last, p
 use Rattle.tile_service.proofs.Runs.{no_known, clash, is_false, doubt_breaks_it, IsQuiet, broken_stays, broken_halts, kept_for}
 use Rattle.tile_service.proofs.Runs.{after_step, after_edit, broken_refuses, happens_less, runs_less, runs_on, writes_nothing}
 
--- The image that is seen of a disk shows the archive of which the service goes on.
+-- The image that is seen of a disk has the archive that the service continues from.
 pub archive_shown : {D : Type 0} (count : ℕ) (history : History) (stored : Stored) (service : ServiceView D) → IsUp count history stored service
     → shown_archive (seen history) service ≡ stored.archive
 archive_shown count history stored service up = archive_is_shown count history stored service up
@@ -42,14 +42,14 @@ pub shown_seen : {D : Type 0} (history : History) (service : ServiceView D) (arc
 shown_seen history service archive shows = shown_is_seen history service archive shows
 
 module _ {D : Type 0} (sectors : D → ℕ) (honest : D → Type 0) (history : D → History) where
-  -- What a service goes on from after a run: what is stored, and the publication that is under way.
+  -- What a service continues from after a run: what is stored, and the publication that is under way.
   pub record IsUpAfter (old : ServiceView D) (events : List Happening) (now : ServiceView D) (stored : Stored) : Type 0 where
     pub reached : Stored
     pub is_up : IsUp (sectors now.disk) (history now.disk) reached now
     pub reaches : Reaches stored (way_of stored.edits old.publication) events reached
     pub way_is : way_of stored.edits now.publication ≡ (progress_of (starts stored (way_of stored.edits old.publication)) events).under_way
 
-  -- What some events have done so far, one after the other.
+  -- What some events have done so far, in order.
   pub record HasRun (old : ServiceView D) (events : List Happening) (now : ServiceView D) : Type 0 where
     pub machine : (known : Known)
         → (then_known : Known) × Runs (IsTrusted sectors honest history old now) (state_of known old) events (state_of then_known now)
@@ -272,7 +272,7 @@ module _ {D : Type 0} (sectors : D → ℕ) (honest : D → Type 0) (history : D
         (kept_for (λ (s : ServiceView D). IsUp (sectors s.disk) (history s.disk) stored s) old new outcome same up) not;
   }
 
-  -- nor does its end where it is given up
+  -- nor does its cancellation
   pub cancel_step : (old new : ServiceView D) (outcome : Result (Unit {0}) ServiceFault)
       → ((known : Known) → AnswersCancel (state_of known old) outcome (state_of known new))
       → new ≡ record old { publication = new.publication }

@@ -18,7 +18,7 @@ begins_with_none : (bytes sector : List ℕ) → bytes ≡ [] → BeginsWith byt
 begins_with_none bytes sector none = subst (λ (b : List ℕ). BeginsWith b sector) (sym none) refl
 
 module _ (snapshot_bytes archive_bytes : List ℕ) where
-  -- Sectors that begin with the pieces of the snapshot, and behind them with those of the archive, are its sectors.
+  -- Sectors that begin with the pieces of the snapshot, and after them with those of the archive, are its sectors.
   pub content_sector : (sector_of : ℕ → List ℕ)
       → ((index : ℕ) → index < sectors_of (length snapshot_bytes) → BeginsWith (sector_piece snapshot_bytes index) (sector_of index))
       → ((behind : ℕ) → BeginsWith (sector_piece archive_bytes behind) (sector_of (sectors_of (length snapshot_bytes) + behind)))
@@ -60,7 +60,7 @@ module _ (snapshot_bytes archive_bytes : List ℕ) where
         (written_stands written sector old so_far is)
     write_stands (Err fault) written sector old new so_far is writes = tt
 
-    -- Once all are written, the snapshot and the archive stand in the area.
+    -- Once all are written, the snapshot and the archive are in the area.
     pub content_stands : (image : Image)
         → HasFirst n generation snapshot_bytes archive_bytes (sectors_of (length snapshot_bytes) + sectors_of (length archive_bytes)) image
         → HasArea n generation snapshot_bytes archive_bytes image
@@ -86,7 +86,7 @@ module _ (snapshot_bytes archive_bytes : List ℕ) where
 
     -- ---- calls in between
 
-    -- What reads behind the journal as before has what it had in the area.
+    -- If reads after the journal are unchanged, the area has what it had.
     pub still_stands : (written : ℕ) (old new : Image) → ((at : ℕ) → 3 + journal_sectors n ≤ at → new at ≡ old at)
         → HasFirst n generation snapshot_bytes archive_bytes written old → HasFirst n generation snapshot_bytes archive_bytes written new
     still_stands written old new same first index lt =

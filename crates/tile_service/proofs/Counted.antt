@@ -31,7 +31,7 @@ device_told : (fault : ServiceFault) → answers.Refused fault ≡ answers.Refus
 device_told Device is = refl
 device_told fault is = absurd (false≢true (ap tells_device is))
 
--- want of memory is told otherwise
+-- out of memory is not reported as Device
 pub memory_told : (fault : ServiceFault) → fault ≡ Memory → answers.Refused fault ≡ answers.Refused Device → ⊥
 memory_told fault memory is = false≢true (ap is_device (sym memory ∙ device_told fault is))
 
@@ -69,7 +69,7 @@ begin_no_device old new (Ok left) goes is = other_answer (answers.Left left) ref
 begin_no_device old new (Err fault) goes is =
     (subst (λ (f : ServiceFault). AnswersBegin old (Err f) new) (device_told fault is) goes).1
 
--- nor is the end of a publication that is given up,
+-- nor is the cancellation of a publication,
 pub cancel_no_device : (old new : ServiceState) (fault : ServiceFault) → AnswersCancel old (Err fault) new
     → answers.Refused fault ≡ answers.Refused Device → ⊥
 cancel_no_device old new fault goes is = (subst (λ (f : ServiceFault). AnswersCancel old (Err f) new) (device_told fault is) goes).1

@@ -20,7 +20,7 @@ were_none m cells last now k le =
     subst (λ (n : ℕ). WasMap m cells last n (after m (take k []))) same
     (subst (λ (es : List ChangeData). WasMap m cells last last (after m es)) (sym (none_of k)) now)
 
--- With one edit more, that of the moment behind it is known too.
+-- With one more edit, the map after that edit is known too.
 module _ (m : FeatureMap) (cells : List ℕ) (last : ℕ) (new : FeatureMap) (then : List ℕ) (number : ℕ)
     (since : (n : ℕ) (was : FeatureMap) → WasMap m cells last n was → WasMap new then number n was) (now : WasMap new then number number new) where
   pub were_one : (start : ℕ) (first : FeatureMap) (edits : List ChangeData) (e : ChangeData) → number ≡ start + suc (length edits)

@@ -30,7 +30,7 @@ use Rattle.tile_service.proofs.Installed.{map_stays, texts_stay, published_stays
 use Rattle.tile_service.proofs.Publications.{goes_on_with_edit}
 use Rattle.tile_service.proofs.Replays.{after_one}
 
--- A publication under way goes on to be one of the same with the edit, where a read gives what it gave of all but free places.
+-- A publication under way is also one of the same with the edit, if reads return the same as before for all but free places.
 module _ (n : ℕ) (stored : Stored) (e : ChangeData) (place used : ℕ) (old new : History)
     (reads : ReadsAsBefore (journal_ring n) place used (seen old) (seen new)) where
   publishes_on : (p : PublicationView) → Publishes n stored old p → Publishes n (with_edit stored e) new p
@@ -136,7 +136,7 @@ module _ {D : Type 0} (sectors : D → ℕ) (history : D → History) (stored : 
         (subst (λ (r : Ring). HoldsTexts RECORD_VERSION r (start_of service.journal.place service.journal.edits) (texts_of stored ++ text ∷ []) image) same
         (subst (λ (s : Start). HoldsTexts RECORD_VERSION (ring_of journal) s (texts_of stored ++ text ∷ []) image) begins (is.keeps image may))))
 
-    -- After an append the service goes on from the same with the edit.
+    -- After an append the service continues from the same with the edit.
     pub up_with_edit : (after : ServiceView D) → after.disk ≡ new → sectors new ≡ sectors service.disk → after.size ≡ service.size
         → (ring_of after.journal ≡ ring_of service.journal)
         × (start_of after.journal.place after.journal.edits ≡ start_of service.journal.place service.journal.edits)

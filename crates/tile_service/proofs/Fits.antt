@@ -93,7 +93,7 @@ module _ (events : List Happening) (event : Happening) where
 
 -- ---- images
 
--- The image holds these edits, so many of them in its snapshot.
+-- The image holds these edits, this many of them in its snapshot.
 abbrev Whole : (sectors n : ℕ) → Stored → List ChangeData → (j : ℕ) → Image → Type 0
 Whole sectors n start edits j image = Fits sectors n start edits (length edits) j image
 
@@ -284,7 +284,7 @@ by_next_before : (by : ℕ → History) (done : ℕ) (new : History) (k : ℕ) �
 unfolding by_next
 by_next_before by done new k apart = grind (arith, nat_tests)
 
--- the same events, told otherwise
+-- the same events, stated differently
 pub told_as : (P : List Happening → Type 0) {events events' : List Happening} → events' ≡ events → P events → P events'
 told_as P same holds = subst (λ (x : List Happening). P x) (sym same) holds
 
@@ -298,7 +298,7 @@ settled_as sectors n start way {events} {events'} {h} {h'} same_events same_hist
     told_as (λ asked. Settled sectors n start way asked h') same_events
     (subst (λ (x : History). Settled sectors n start way events x) (sym same_history) settled)
 
--- the event neither adds an edit nor goes on with a publication
+-- the event neither adds an edit nor continues a publication
 abbrev IsStill : Happening → Type 0
 IsStill event = (edits_by event ≡ []) × ((p : Progress) → progress_after p event ≡ p)
 
@@ -608,7 +608,7 @@ run_goes_on sectors n start way events event old h new so_far true quiet none he
 run_goes_on sectors n start way events event old h new so_far false quiet none here =
     run_unbroken sectors n start way events event old h new so_far (here refl).call.follows (none refl) (here refl)
 
--- the same sizes, told otherwise
+-- the same sizes, stated differently
 pub sized_as : (P : ℕ → ℕ → Type 0) {sectors sectors' n n' : ℕ} → sectors' ≡ sectors → n' ≡ n → P sectors' n' → P sectors n
 sized_as P {sectors} {sectors'} {n} {n'} same_sectors same_n holds =
     subst (λ (x : ℕ). P x n) same_sectors (subst (λ (x : ℕ). P sectors' x) same_n holds)

@@ -1,4 +1,4 @@
--- What always holds of a service goes on to hold with one record more in its journal.
+-- The invariants of a service are preserved when its journal gets one more record.
 use Rattle.std.specs.Prelude.{Option, None, Some, IfSome}
 use Rattle.std.proofs.Common.{◌≡◌, ℕ, ◌≤◌, ◌+◌, ◌-◌, ◌*◌, length, ◌∙◌, subst, arith}
 use Rattle.sector_disk.specs.declared.disk.TheConstants.{SECTOR_BYTES}
@@ -13,11 +13,11 @@ use Rattle.cached_map.specs.Cached.{CachedView}
 use Rattle.feature_store.specs.Store.{FeatureMap, snapshot}
 use Rattle.tile_service.specs.Service.{PublicationView, IsGoing, IsService}
 
--- the texts of a map take the bytes of an area and of so many places
+-- the texts of a map take the bytes of an area and of this many places
 abbrev pub AreShort : FeatureMap → (area places : ℕ) → Type 0
 AreShort m area places = length (snapshot m) ≤ area + PART_BYTES * places
 
--- The record has so many bytes, and the map after the edit is longer by no more than its places.
+-- The record has this many bytes, and the map after the edit is longer by no more than its places.
 module _ (size : ℕ) (root : Root) (old new : Journal) (ring : ring_of new ≡ ring_of old) (from : start_of new.place new.edits ≡ start_of old.place old.edits)
     (bytes : ℕ) (fits : IsEditLength bytes) (used : new.used ≡ old.used + parts_of bytes) (last : new.last ≡ old.last + 1)
     (map later : CachedView) (numbered : later.last ≡ new.last)

@@ -48,7 +48,7 @@ first_edits texts zero are = tt
 first_edits [] (suc taken) are = tt
 first_edits (text ∷ texts) (suc taken) are = (are.0, first_edits texts taken are.1)
 
--- An image that holds texts holds those behind the first ones, from the place behind their records on.
+-- An image that holds texts holds those after the first ones, from the place after their records on.
 pub holds_later : (ring : Ring) (place edits taken : ℕ) (texts : List (List ℕ)) (image : Image) → place < ring.places → taken ≤ length texts
     → HoldsTexts RECORD_VERSION ring (record { place = place; number = suc edits }) texts image
     → HoldsTexts RECORD_VERSION ring (record { place = (place + places_of (take taken texts)) % ring.places; number = suc (edits + taken) })
@@ -107,7 +107,7 @@ module _ (count n : ℕ) (stored : Stored) (taken : ℕ) (archive : List ℕ) (c
 
   module _ (area : HasArea n (suc stored.generation) (snapshot (map_at stored taken)) archive before) (image : Image)
       (with_root : WithRoot (root_of next) before image) where
-    -- behind the sectors of the roots the image is the one before
+    -- after the sectors of the roots the image is the one before
     bytes_stay : (first at : ℕ) (bytes : List ℕ) → 3 ≤ first → HasBytes first bytes at (before at) → HasBytes first bytes at (image at)
     bytes_stay first at bytes behind stands index is =
         subst (λ (s : List ℕ). take (length (sector_piece bytes index)) s ≡ sector_piece bytes index)
@@ -182,7 +182,7 @@ module _ (count n : ℕ) (stored : Stored) (taken : ℕ) (archive : List ℕ) (c
   install_keeps (Ok done) is = installed_keeps is
   install_keeps (Err fault) is = tt
 
--- ---- edits while a publication goes on
+-- ---- edits while a publication is under way
 
 module _ (n : ℕ) (stored : Stored) (taken : ℕ) (archive : List ℕ) (edit : ChangeData) (within : taken ≤ length stored.since) where
   -- The map that is published stays the same.
@@ -193,7 +193,7 @@ module _ (n : ℕ) (stored : Stored) (taken : ℕ) (archive : List ℕ) (edit : 
   texts_stay = ap (take taken) (texts_with stored edit)
       ∙ take-append-le taken (texts_of stored) (spelled_change edit ∷ []) (omega (arith, within, length-map stored.since spelled_change))
 
-  -- So it goes on to be one that can be published,
+  -- So it is still one that can be published,
   pub can_still : CanPublish n stored taken archive → CanPublish n (with_edit stored edit) taken archive
   can_still can = record {
     within = omega (arith, within, length-append stored.since (edit ∷ []));
@@ -214,7 +214,7 @@ module _ (n : ℕ) (stored : Stored) (taken : ℕ) (archive : List ℕ) (edit : 
     archive = archive;
   }
 
--- ---- the service that goes on from it
+-- ---- the service that continues from it
 
 -- The map after all edits is what is published, where all are taken.
 pub all_taken : (stored : Stored) → map_at stored (length stored.since) ≡ map_of stored
@@ -226,7 +226,7 @@ after_both m [] (suc taken) = refl
 after_both m (edit ∷ edits) (suc taken) = after_both (changed m edit) edits taken
 
 module _ (n : ℕ) (stored : Stored) (taken : ℕ) (archive : List ℕ) (within : taken ≤ length stored.since) where
-  -- It stands for the same map
+  -- It represents the same map
   pub same_map : map_of (published n stored taken archive) ≡ map_of stored
   same_map = after_both stored.snapshot_map stored.since taken
 
@@ -234,7 +234,7 @@ module _ (n : ℕ) (stored : Stored) (taken : ℕ) (archive : List ℕ) (within 
   pub same_last : last_of (published n stored taken archive) ≡ last_of stored
   same_last = omega (arith, within, length-drop taken stored.since)
 
-  -- A service with the records behind the published ones goes on from it.
+  -- A service with the records after the published ones continues from it.
   pub up_published : {D : Type 0} (count : ℕ) (h : History) (service : ServiceView D) → service.size ≡ n
       → Keeps count n (published n stored taken archive) h → service.broken ≡ false → service.generation ≡ suc stored.generation
       → service.features ≡ map_of stored → service.journal.place ≡ (published n stored taken archive).journal_at

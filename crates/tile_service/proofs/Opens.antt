@@ -81,7 +81,7 @@ replayed_short texts edits first m area used are short is uses =
 
 -- ---- what is wrong with a snapshot
 
--- what stands in an area is the snapshot of no map
+-- what is in an area isn't the snapshot of a map
 no_snapshot : (n : ℕ) (root : Root) (image : Image) (text : List ℕ) → StandsIn (area_start n root.generation) text image
     → length text ≡ root.snapshot_len → IsNoSnapshot text → (m : FeatureMap) → HasSnapshot n root m image → ⊥
 no_snapshot n root image text stands len none m has = none m has.is_map
@@ -96,7 +96,7 @@ snapshot_fault n root image text (Err fault) stands len (inl memory) = inr (inl 
 snapshot_fault n root image text (Err fault) stands len (inr bad) =
     inr (inr (subst (IsContentFault n root image) (sym bad.0) (no_snapshot n root image text stands len bad.1)))
 
--- ---- what the faults of a recovery are told as
+-- ---- the store faults for the faults of a recovery
 
 pub recovery_counts : (fault : JournalFault) (old new : ℕ) → IsRecoverFault old new fault → CountsDevice (recovery_told_as fault) old new
 recovery_counts faults.NumbersSpent old new is = absurd is
@@ -151,7 +151,7 @@ abbrev is_memory : StoreFault → Bool
 is_memory Memory = true
 is_memory fault = false
 
--- a failed call of the disk is told otherwise,
+-- a failed call of the disk is reported differently,
 pub device_no_memory : Device ≡ Memory → ⊥
 device_no_memory is = false≢true (ap is_memory is)
 

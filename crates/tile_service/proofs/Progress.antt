@@ -128,7 +128,7 @@ progress_within p (h ∷ hs) within = progress_within (progress_after p h) hs (a
 
 -- ---- what is stored
 
--- all of the edits, so many of them in the snapshot
+-- all of the edits, this many of them in the snapshot
 abbrev pub Has : Stored → List ChangeData → (j : ℕ) → Stored → Type 0
 Has start edits j s =
     (generation : ℕ) × (journal_at : ℕ) × (archive : List ℕ) × (s ≡ fitting start edits (length edits) j generation journal_at archive)

@@ -54,7 +54,7 @@ metadata_is_text m text (d, (ls, are, is), same, reads) = (IsUtf8-string_bytes t
 -- ---- its beginning and its end
 
 module _ {D : Type 0} (sectors : ℕ) (h : History) (stored : Stored) (service : ServiceView D) (up : IsUp sectors h stored service) where
-  -- A service with another publication goes on from what is stored, if that is one of it.
+  -- A service with another publication continues from what is stored, if the publication is one of that.
   pub up_with : (p : Option PublicationView) → IfSome p (Publishes service.size stored h) → IsUp sectors h stored (record service { publication = p })
   up_with p publishes = record {
     keeps = up.keeps;
@@ -177,7 +177,7 @@ module _ {D : Type 0} (sectors : ℕ) (old : History) (stored : Stored) (service
     installing_leaves leaves = install_leaves sectors service.size stored (count_at stored p) p.content.archive going.under_way.can old new up.keeps
         area_stands (subst (λ (r : Root). LeavesOnly old new (Installs r old)) root_is leaves)
 
-    -- After it the service goes on from what is published.
+    -- After it the service continues from what is published.
     pub up_installed : (count : ℕ) (after : ServiceView D) → count ≡ sectors
         → new ≡ synced (wrote (root_at root.generation) (root_sector root) (synced old)) → after.size ≡ service.size
         → after.broken ≡ service.broken → after.generation ≡ service.generation + 1 → after.features ≡ service.features
@@ -292,7 +292,7 @@ module _ (sectors n : ℕ) (stored : Stored) (p : PublicationView) (old new : Hi
       (λ (is : Holds sectors n (installed n stored (Some p)) image). inr ((last, may_install r told fault), is))))
 
 module _ {D : Type 0} (n : ℕ) (stored : Stored) (p : PublicationView) (sectors : ℕ) (h : History) (after : ServiceView D) where
-  -- what goes on after a step
+  -- what continues after a step
   pub up_after_step : (told : ℕ) → 0 < told → IsUp sectors h stored after
       → IsUp sectors h (stored_after n stored (Some p) (step (Ok told))) after
   up_after_step zero pos up = absurd (omega (arith, pos))

@@ -36,7 +36,7 @@ starts n generation = ⊎_elim
     second : (g : ℕ) → g % 2 ≡ 1 → area_start n g ≡ 3 + journal_sectors n + area_sectors n
     second g is = ap (λ (p : ℕ). 3 + journal_sectors n + p * area_sectors n) is ∙ omega arith
 
--- an area lies behind the journal
+-- an area is after the journal
 pub behind_ring : (n generation at : ℕ) → IsInArea n generation at → 3 + journal_sectors n ≤ at
 behind_ring n generation at inside = ⊎_elim (λ is. omega (arith, inside.0)) (λ is. omega (arith, is.0, inside.0)) (starts n generation)
 
@@ -56,7 +56,7 @@ in_area_or_not n generation at = ⊎_elim
 
 -- ---- bytes and texts that lie elsewhere
 
--- behind their last sector bytes have no piece
+-- after their last sector bytes have no piece
 pub no_piece_behind : (bytes : List ℕ) (index : ℕ) → sectors_of (length bytes) ≤ index → sector_piece bytes index ≡ []
 no_piece_behind bytes index behind = ap (take SECTOR_BYTES) (drop_all (SECTOR_BYTES * index) bytes (omega (arith, behind)))
 
@@ -110,7 +110,7 @@ module _ (count n : ℕ) (stored : Stored) (before : Image) (holds : Holds count
   pub live_can : CanStand n (root_of stored)
   live_can = ((holds.sectors (1 + stored.generation % 2)).live refl).can
 
-  -- Whatever stands in a sector of the next area is as what is stored says.
+  -- Any content of a sector of the next area is consistent with what is stored.
   pub other_area_free : (at : ℕ) (sector : List ℕ) → IsInArea n (suc stored.generation) at → HoldsAt count n stored at sector
   other_area_free at sector inside =
       let behind : 3 + journal_sectors n ≤ at = behind_ring n (suc stored.generation) at inside in

@@ -1,4 +1,4 @@
--- A happening that finds the machine broken, or breaks it, and a run that goes on by one more.
+-- A happening on a broken machine, or one that breaks it, and a run that is extended by one happening.
 use Rattle.std.proofs.Common.{◌≡◌, ◌≢◌, ◌⊎◌, inl, inr, ℕ, Bool, true, false, List, [], ◌∷◌, ◌++◌, Option, Result, Ok, Err}
 use Rattle.std.proofs.Common.{refl, sym, ◌∙◌, ap, subst}
 use Rattle.std.specs.Prelude.{IfErr, OnOk}
@@ -88,7 +88,7 @@ pub record IsQuiet (h : Happening) : Type 0 where
   pub publishes_nothing : (p : Progress) → progress_after p h ≡ p
   pub no_doubt : IsDoubtful h → ⊥
 
--- A broken machine stays as it is, and does nothing.
+-- A broken machine does nothing, and its state is unchanged.
 pub broken_stays : (trusted : Type 0) (old new : ServiceState) (h : Happening) → Happens trusted old h new → old.broken ≡ true
     → (new ≡ old) × IsQuiet h
 broken_stays trusted old new (edit e (Ok number)) goes broken = absurd (clash old.broken goes.unbroken broken)
@@ -169,7 +169,7 @@ runs_less less more so old new [] run = run
 runs_less less more so old new (h ∷ hs) run =
     (run.0, happens_less less more so old run.0 h run.1, runs_less less more so run.0 new hs run.2)
 
--- a run goes on by one more
+-- a run is extended by one happening
 pub runs_on : (trusted : Type 0) (old between new : ServiceState) (hs : List Happening) (h : Happening) → Runs trusted old hs between
     → Happens trusted between h new → Runs trusted old (hs ++ h ∷ []) new
 runs_on trusted old between new [] h run goes = (new, subst (λ (s : ServiceState). Happens trusted s h new) run goes, refl)

@@ -17,7 +17,7 @@ use Rattle.tile_service.proofs.Publishes.{no_piece_behind, areas_apart}
 -- a generation's area holds a snapshot and an archive of these lengths
 module _ (n generation snapshot_len archive_len : ℕ) (fits : sectors_of snapshot_len + sectors_of archive_len ≤ area_sectors n) (archive : List ℕ)
     (old new : Image) where
-  -- the archive is read behind the snapshot
+  -- the archive is read after the snapshot
   abbrev pub IsRead : Image → Type 0
   IsRead image = AreItsBytes (area_start n generation + sectors_of snapshot_len) archive_len archive image
 
@@ -86,7 +86,7 @@ module _ {D : Type 0} (honest : D → Type 0) (history : D → History) where
     shows = λ archive shown is_honest. second.shows archive (first.shows archive shown (stays is_honest)) is_honest;
   }
 
-  -- an installation that fails leaves it, behind such writes too
+  -- an installation that fails leaves it, after such writes too
   pub install_keeps : (old middle new : ServiceView D) (result : Result ℕ ServiceFault) → KeepsArchive honest history old middle
       → (honest new.disk → honest middle.disk) → IfOk result (λ told. told ≡ 0) → OnErr result (KeepsArchive honest history middle new)
       → (result ≡ Ok 0 → ⊥) → KeepsArchive honest history old new

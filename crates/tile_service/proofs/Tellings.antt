@@ -1,4 +1,4 @@
--- What an event and its answer tell.
+-- What an event and its answer report.
 use Rattle.std.proofs.Common.{◌≡◌, inl, inr, ℕ, List, [], ◌∷◌, ◌++◌, Result, Ok, Err, refl, sym, subst}
 use Rattle.feature_model.specs.Data.{feature_data, put, delete}
 use Rattle.feature_model.specs.declared.feature.Feature.{Feature}
@@ -11,7 +11,7 @@ use Rattle.tile_service.specs.declared.event.Event.{Event}
 use Rattle.tile_service.specs.declared.event.Event.TheVariants as events
 use Rattle.tile_service.specs.declared.fault.ServiceFault.{ServiceFault}
 
--- the same event and answer, told otherwise
+-- the same event and answer, stated differently
 pub told_step : (happening : Happening) {event event' : Event} {answer answer' : Answer} → event ≡ event' → answer ≡ answer'
     → Tells event' answer' happening → Tells event answer happening
 told_step happening {event} {event'} {answer} {answer'} same_event same_answer tells = subst (λ (x : Event). Tells x answer happening) (sym same_event)

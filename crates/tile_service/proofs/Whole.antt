@@ -82,7 +82,7 @@ only_device old new (suc more) Idle lt stands goes = absurd (not_both old.public
 only_device old new (suc more) Device lt stands goes = refl
 only_device old new (suc more) fault lt stands goes = absurd goes.1
 
--- and then it is given up
+-- and then it is cancelled
 pub device_gives_up : (old new : ServiceState) (fault : ServiceFault) → fault ≡ Device → AnswersStep old (Err fault) new → new.publication ≡ None
 device_gives_up old new fault is goes =
     ap (λ (s : ServiceState). s.publication) (subst (λ (x : ServiceFault). AnswersStep old (Err x) new) is goes).2

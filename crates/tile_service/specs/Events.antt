@@ -1,4 +1,4 @@
--- What happened, by the event that asked for it and the answer that told it.
+-- What happened, given the event that asked for it and its answer.
 use Rattle.std.specs.Prelude.{◌≡◌, ◌⊎◌, ℕ, List, [], ◌∷◌, option_map, Result, Ok, Err}
 use Rattle.feature_model.specs.Data.{feature_data, put, delete}
 use Rattle.tile_service.specs.Machine.{got, no_memory, Happening, edit, begin, step, cancel, tile, look}
@@ -9,7 +9,7 @@ use Rattle.tile_service.specs.declared.event.Answer.TheVariants as answers
 use Rattle.tile_service.specs.declared.fault.ServiceFault.{ServiceFault}
 use Rattle.tile_service.specs.declared.fault.ServiceFault.TheVariants.{Memory}
 
--- The event was asked for, and the answer tells how it ended.
+-- The event was requested, and the answer reports its outcome.
 abbrev pub Tells : Event → Answer → Happening → Type 0
 Tells (events.Put id feature) (answers.Edited number) happening = happening ≡ edit (put id (feature_data feature)) (Ok number)
 Tells (events.Put id feature) (answers.Refused fault) happening = happening ≡ edit (put id (feature_data feature)) (Err fault)
@@ -27,7 +27,7 @@ Tells events.Cancel answers.Cancelled happening = happening ≡ cancel (Ok tt)
 Tells events.Cancel (answers.Refused fault) happening = happening ≡ cancel (Err fault)
 Tells event answer happening = ⊥
 
--- each of them, from the first to the last
+-- each of them, in order
 abbrev pub AreTold : List Event → List Answer → List Happening → Type 0
 AreTold [] [] [] = Unit {0}
 AreTold (event ∷ events) (answer ∷ answers) (happening ∷ happenings) = Tells event answer happening × AreTold events answers happenings

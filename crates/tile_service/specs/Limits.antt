@@ -7,7 +7,7 @@ use Rattle.feature_model.specs.declared.fault.EditFault.TheVariants.{Reach}
 use Rattle.tile_cutter.specs.Covered.{reach_of}
 use Rattle.tile_cutter.specs.declared.reach.TheConstants.{MOST_TILES}
 
--- the feature is within the limits for its number, its reach too
+-- the feature is within the limits for its id, its reach too
 pub record KeepsLimits (id : ℕ) (f : FeatureData) : Type 0 where
   pub allowed : IsAllowed id f
   pub near : reach_of f ≤ MOST_TILES

@@ -28,9 +28,9 @@ pub record ArchiveState : Type 0 where
 
 -- a publication under way
 pub record Publication : Type 0 where
-  -- the archive that is published, with the map of its beginning
+  -- the archive that is published, with the map when it began
   pub archive : ArchiveState
-  -- the last number of its beginning, and how many places the records up to it have
+  -- the number of the last edit before it began, and how many places the records up to that edit take
   pub last : ℕ
   pub places : ℕ
   -- how many sectors are left to write, the root's among them
@@ -55,45 +55,45 @@ pub record ServiceState : Type 0 where
 
 -- ---- what happens
 
--- what is told, or that there is no memory for it
+-- a result, or out of memory
 pub data OrMemory (A : Type 0) : Type 0 where
   got : A → OrMemory A
   no_memory : OrMemory A
 
--- a call, and how it ended
+-- a call, and its outcome
 pub data Happening : Type 0 where
   -- an edit, and its number
   edit : ChangeData → Result ℕ ServiceFault → Happening
-  -- a publication begins, and so much of it is left
+  -- a publication begins, and this much of it is left
   begin : Result ℕ ServiceFault → Happening
-  -- its next sectors are written, and so much of it is left, 0 once it is installed
+  -- its next sectors are written, and this much of it is left, 0 once it is installed
   step : Result ℕ ServiceFault → Happening
-  -- it is given up
+  -- it is cancelled
   cancel : Result (Unit {0}) ServiceFault → Happening
-  -- the tile of a zoom, a column and a row: its bytes, or none where it shows nothing
+  -- the tile of a zoom, a column and a row: its bytes, or None if it is empty
   tile : ℕ → ℕ → ℕ → OrMemory (Option (List ℕ)) → Happening
-  -- the feature of a number
+  -- the feature of an id
   look : ℕ → OrMemory (Option FeatureData) → Happening
   -- the metadata of the map
   metadata : OrMemory Data → Happening
-  -- the bytes of the archive from an offset on, or none where the disk failed
+  -- the bytes of the archive from an offset on, or None if the disk failed
   read : ℕ → Option (List ℕ) → Happening
 
 -- ---- what is refused
 
--- the state after a fault: one of the disk breaks the service and ends its publication, any other leaves the state
+-- the state after a fault: Device breaks the service and ends its publication, any other changes nothing
 abbrev pub after_fault : ServiceState → ServiceFault → ServiceState
 after_fault s Device = record s { broken = true; publication = None }
 after_fault s fault = s
 
--- A broken service refuses whatever would write for that, and another one for a fault that is there.
+-- A broken service answers Broken to each call that writes. Another one refuses for a fault that applies.
 abbrev pub Refuses : (is_there : Type 0) → ServiceState → ServiceFault → ServiceState → Type 0
 Refuses is_there old Broken new = (old.broken ≡ true) × (new ≡ old)
 Refuses is_there old fault new = (old.broken ≡ false) × is_there × (new ≡ after_fault old fault)
 
 -- ---- edits
 
--- a feature is within the limits, and one that is to go is there
+-- a feature to set is within the limits, and one to delete exists
 abbrev pub IsWanted : FeatureMap → ChangeData → Type 0
 IsWanted m (put id f) = KeepsLimits id f
 IsWanted m (delete id) = IsSome (feature_at m id)
@@ -102,7 +102,7 @@ IsWanted m (delete id) = IsSome (feature_at m id)
 abbrev pub places_for : ChangeData → ℕ
 places_for e = parts_of (length (spelled_change e))
 
--- nothing but the journal's room speaks against the edit
+-- nothing but the journal's space can prevent the edit
 pub record CanMake (s : ServiceState) (e : ChangeData) : Type 0 where
   pub wanted : IsWanted s.features e
   pub number : s.last < 2 ^ 64 - 1
@@ -111,7 +111,7 @@ pub record CanMake (s : ServiceState) (e : ChangeData) : Type 0 where
 abbrev pub after_edit : ServiceState → ChangeData → ServiceState
 after_edit s e = record s { features = changed s.features e; last = s.last + 1; free = s.free - places_for e }
 
--- the edit is made, and its number told
+-- the edit is made, and its number returned
 pub record MakesEdit (old : ServiceState) (e : ChangeData) (number : ℕ) (new : ServiceState) : Type 0 where
   pub unbroken : old.broken ≡ false
   pub can : CanMake old e
@@ -119,8 +119,8 @@ pub record MakesEdit (old : ServiceState) (e : ChangeData) (number : ℕ) (new :
   pub told : number ≡ old.last + 1
   pub made : new ≡ after_edit old e
 
--- What speaks against an edit, in the order of the faults: of several the first is told. Out of memory is told only of one that sets a
--- feature, and only where no fault before it is there.
+-- The faults of an edit, in order: of several the first is reported. Out of memory is reported only for one that sets a feature,
+-- and only if no earlier fault applies.
 abbrev pub EditFault : ServiceState → ServiceFault → ChangeData → Type 0
 EditFault s (Limit fault) (put id f) = BreaksLimit id f fault
 EditFault s NotFound (delete id) = feature_at s.features id ≡ None
@@ -136,12 +136,12 @@ EditFault s fault e = ⊥
 abbrev pub sectors_for : FeatureMap → (archive : List ℕ) → ℕ
 sectors_for m archive = sectors_of (length (snapshot m)) + sectors_of (length archive)
 
--- nothing but memory, the tiles and the room speaks against a publication
+-- nothing but memory, the tiles and the space can prevent a publication
 pub record CanBegin (s : ServiceState) : Type 0 where
   pub none : s.publication ≡ None
   pub generation : s.generation < 2 ^ 64 - 1
 
--- A publication of the map begins, and what is left is told: its sectors, and one for the root.
+-- A publication of the map begins, and what is left is returned: its sectors, and one for the root.
 pub record Begins (old : ServiceState) (told : ℕ) (new : ServiceState) : Type 0 where
   pub unbroken : old.broken ≡ false
   pub can : CanBegin old
@@ -158,11 +158,11 @@ pub record Begins (old : ServiceState) (told : ℕ) (new : ServiceState) : Type 
     });
   }
 
--- the map needs this many sectors, of its snapshot and of the archive that is built of it, and the area has fewer
+-- the snapshot of the map and the archive built from it need this many sectors, and the area has fewer
 abbrev pub IsAreaFull : ServiceState → (need free : ℕ) → Type 0
 IsAreaFull s need free = (d : Data) × IsMetadata s.features d × IsFull s.features (length (compact_text d)) (area_sectors s.size) need free
 
--- What speaks against a beginning, in the order of the faults, but for a tile of 2^32 bytes: it is AreaFull, before TooManyTiles.
+-- The faults of a beginning, in order, but for a tile of 2^32 bytes, which is AreaFull, before TooManyTiles.
 abbrev pub BeginFault : ServiceState → ServiceFault → Type 0
 BeginFault s Busy = IsSome s.publication
 BeginFault s NumbersSpent = (s.publication ≡ None) × (s.generation ≡ 2 ^ 64 - 1)
@@ -175,7 +175,7 @@ BeginFault s fault = ⊥
 abbrev pub after_install : ServiceState → Publication → ServiceState
 after_install s p = record s { generation = s.generation + 1; archive = p.archive; free = s.free + p.places; publication = None }
 
--- The publication goes on by a step: it writes so many sectors, or what is left, and the root where no more is left.
+-- The publication continues by a step: it writes STEP_SECTORS sectors, or the rest and the root.
 abbrev pub GoesOn : ServiceState → Publication → (told : ℕ) → ServiceState → Type 0
 GoesOn old p told new =
     ((STEP_SECTORS + 1 < p.left) × (told ≡ p.left - STEP_SECTORS) × (new ≡ record old { publication = Some (record p { left = told }) }))
@@ -187,12 +187,12 @@ pub record HasPublication (s : ServiceState) : Type 0 where
   pub publication : Publication
   pub is : s.publication ≡ Some publication
 
--- what speaks against its end before it is done,
+-- the faults of its cancellation,
 abbrev pub CancelFault : ServiceState → ServiceFault → Type 0
 CancelFault s Idle = s.publication ≡ None
 CancelFault s fault = ⊥
 
--- and against a step of it
+-- and of a step of it
 abbrev pub StepFault : ServiceState → ServiceFault → Type 0
 StepFault s Device = HasPublication s
 StepFault s fault = CancelFault s fault
@@ -214,18 +214,18 @@ abbrev pub AnswersStep : ServiceState → Result ℕ ServiceFault → ServiceSta
 AnswersStep old (Ok left) new = (under_way : HasPublication old) × GoesOn old under_way.publication left new
 AnswersStep old (Err fault) new = Refuses (StepFault old fault) old fault new
 
--- or its end before it is done
+-- or its cancellation
 abbrev pub AnswersCancel : ServiceState → Result (Unit {0}) ServiceFault → ServiceState → Type 0
 AnswersCancel old (Ok done) new = HasPublication old × (new ≡ record old { publication = None })
 AnswersCancel old (Err fault) new = Refuses (CancelFault old fault) old fault new
 
--- what is told is this, if it is told
+-- the result is this, if there is one
 abbrev pub IfTold : {A : Type 0} → OrMemory A → (A → Type 0) → Type 0
 IfTold (got a) Is = Is a
 IfTold no_memory Is = Unit {0}
 
--- One happening, and the state after it. A tile may be read from the disk: its content is that of the map where the disk is trusted.
--- What the bytes of the archive are is said of the disk, since the machine of a broken service doesn't know them.
+-- One happening, and the state after it. A tile may be read from the disk: its content is that of the map if the disk is trusted.
+-- The bytes of the archive are specified from the disk, since the machine of a broken service doesn't know them.
 abbrev pub Happens : (trusted : Type 0) → ServiceState → Happening → ServiceState → Type 0
 Happens trusted old (edit e outcome) new = AnswersEdit old e outcome new
 Happens trusted old (begin outcome) new = AnswersBegin old outcome new
@@ -236,7 +236,7 @@ Happens trusted old (look id outcome) new = IfTold outcome (λ f. f ≡ feature_
 Happens trusted old (metadata outcome) new = IfTold outcome (λ d. IsMetadata old.features d) × (new ≡ old)
 Happens trusted old (read at outcome) new = new ≡ old
 
--- one after the other, from the first to the last
+-- the happenings in order
 abbrev pub Runs : (trusted : Type 0) → ServiceState → List Happening → ServiceState → Type 0
 Runs trusted old [] new = new ≡ old
 Runs trusted old (happening ∷ happenings) new =

@@ -1,4 +1,4 @@
--- What is read as a disk is opened, and why one isn't opened.
+-- What is read when a disk is opened, and why opening fails.
 use Rattle.std.specs.Prelude.{◌≡◌, ◌⊎◌, ◌+◌, ℕ, List, length}
 use Rattle.sector_disk.specs.Disk.{Image}
 use Rattle.sector_bytes.specs.Bytes.{StandsIn}
@@ -27,7 +27,7 @@ use Rattle.tile_service.specs.Tiles.{WereMaps}
 abbrev pub IsJournalOf : (n : ℕ) → Root → List (List ℕ) → Image → Type 0
 IsJournalOf n root texts image = IsJournal RECORD_VERSION (journal_ring n) (start_of root.journal_at root.edits) texts image
 
--- the map whose snapshot stands in the area of the root
+-- the map whose snapshot is in the area of the root
 pub record HasSnapshot (n : ℕ) (root : Root) (m : FeatureMap) (image : Image) : Type 0 where
   pub is_map : IsMap m
   pub len : length (snapshot m) ≡ root.snapshot_len
@@ -49,12 +49,12 @@ pub record IsReplayed (n : ℕ) (root : Root) (image : Image) (journal : journal
   pub map_is : features ≡ after snapshot_map edits
   pub were : WereMaps features touched journal.last root.edits snapshot_map edits
 
--- what a disk of so many sectors has: a root that counts, and the map after its journal
+-- what a disk of this many sectors has: a live root, and the map after its journal
 pub record IsRead (sectors n : ℕ) (image : Image) (root : Root) (journal : journals.Journal) (features : FeatureMap) (touched : List ℕ) : Type 0 where
   pub live : LiveRoot sectors image n root
   pub replayed : IsReplayed n root image journal features touched
 
--- The service has what such a disk has, and no more: the root that counts, and the map after its journal.
+-- The service has exactly what such a disk has: the live root, and the map after its journal.
 pub record IsOpened {D : Type 0} (sectors : ℕ) (image : Image) (service : ServiceView D) : Type 0 where
   pub root : Root
   pub read : IsRead sectors service.size image root service.journal service.features service.touched
@@ -62,8 +62,8 @@ pub record IsOpened {D : Type 0} (sectors : ℕ) (image : Image) (service : Serv
   pub snapshot_len_is : service.snapshot_len ≡ root.snapshot_len
   pub archive_len_is : service.archive_len ≡ root.archive_len
 
--- What is wrong with what the root names, in the order of reading: there is no snapshot of a map; there is one, and a record of the
--- journal isn't whole; there is one, and the journal has a text that is that of no edit.
+-- The damage to what the root names, in the order of reading: there is no snapshot of a map; there is one, and a record of the
+-- journal isn't whole; there is one, and a text in the journal isn't that of an edit.
 abbrev pub IsContentFault : (n : ℕ) → Root → Image → StoreFault → Type 0
 IsContentFault n root image NotFormatted = ⊥
 IsContentFault n root image TooSmall = ⊥
@@ -78,7 +78,7 @@ IsContentFault n root image (Damaged Text) =
 IsContentFault n root image Device = ⊥
 IsContentFault n root image Memory = ⊥
 
--- what is wrong with a disk of so many sectors
+-- the faults of a disk of this many sectors
 abbrev pub IsOpenFault : (sectors : ℕ) → Image → StoreFault → Type 0
 IsOpenFault sectors image fault =
     IsFaultOf sectors image fault ⊎ ((n : ℕ) × (root : Root) × LiveRoot sectors image n root × IsContentFault n root image fault)
@@ -87,11 +87,11 @@ IsOpenFault sectors image fault =
 abbrev pub HasNoOpenFault : (sectors : ℕ) → Image → Type 0
 HasNoOpenFault sectors image = (fault : StoreFault) → IsOpenFault sectors image fault → ⊥
 
--- the disk has a root that counts, so that only what the root names can be at fault
+-- the disk has a live root, so that only what the root names can be damaged
 abbrev pub HasLiveRoot : (sectors : ℕ) → Image → Type 0
 HasLiveRoot sectors image = (n : ℕ) × (root : Root) × LiveRoot sectors image n root
 
--- what the fault of a recovery is told as
+-- the store fault for a recovery's fault
 abbrev pub recovery_told_as : JournalFault → StoreFault
 recovery_told_as faults.NumbersSpent = Damaged Journal
 recovery_told_as (faults.Full need free) = Damaged Journal

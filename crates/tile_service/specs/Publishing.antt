@@ -23,7 +23,7 @@ use Rattle.tile_service.specs.declared.fault.ServiceFault.TheVariants.{TooManyTi
 abbrev pub map_at : Stored → (count : ℕ) → FeatureMap
 map_at stored count = after stored.snapshot_map (take count stored.since)
 
--- what is stored once it is installed with its archive: the other edits are those since it
+-- the stored state once it is installed with its archive: the other edits are those since it
 abbrev pub published : (n : ℕ) → Stored → (count : ℕ) → (archive : List ℕ) → Stored
 published n stored count archive = record {
   generation = suc stored.generation;
@@ -34,7 +34,7 @@ published n stored count archive = record {
   archive = archive;
 }
 
--- It can be published so on a disk of n sectors.
+-- It can be published like this on a disk of n sectors.
 pub record CanPublish (n : ℕ) (stored : Stored) (count : ℕ) (archive : List ℕ) : Type 0 where
   pub within : count ≤ length stored.since
   pub is_map : IsMap (map_at stored count)
@@ -46,11 +46,11 @@ pub record CanPublish (n : ℕ) (stored : Stored) (count : ℕ) (archive : List 
 abbrev pub IsInArea : (n generation at : ℕ) → Type 0
 IsInArea n generation at = (area_start n generation ≤ at) × (at < area_start n generation + area_sectors n)
 
--- outside the area of a generation the image is another one
+-- outside the area of a generation the two images are equal
 abbrev pub IsBeside : (n generation : ℕ) → (before image : Image) → Type 0
 IsBeside n generation before image = (at : ℕ) → (IsInArea n generation at → ⊥) → image at ≡ before at
 
--- the bytes of a snapshot and of an archive stand in the area of a generation
+-- the bytes of a snapshot and of an archive are in the area of a generation
 pub record HasArea (n generation : ℕ) (snapshot_bytes archive_bytes : List ℕ) (image : Image) : Type 0 where
   pub snapshot_stands : (at : ℕ) → HasBytes (area_start n generation) snapshot_bytes at (image at)
   pub archive_stands : (at : ℕ) → HasBytes (area_start n generation + sectors_of (length snapshot_bytes)) archive_bytes at (image at)
@@ -61,30 +61,30 @@ pub record HasArea (n generation : ℕ) (snapshot_bytes archive_bytes : List ℕ
 abbrev pub BeginsWith : List ℕ → List ℕ → Type 0
 BeginsWith bytes sector = take (length bytes) sector ≡ bytes
 
--- The sector is the one of this index of a snapshot with an archive behind it, each from a sector of its own on.
+-- The sector is the one at this index of a snapshot and then an archive, each starting at a sector.
 pub record IsContentSector (snapshot_bytes archive_bytes : List ℕ) (index : ℕ) (sector : List ℕ) : Type 0 where
   pub of_snapshot : BeginsWith (sector_piece snapshot_bytes index) sector
   pub of_archive : (behind : ℕ) → index ≡ sectors_of (length snapshot_bytes) + behind → BeginsWith (sector_piece archive_bytes behind) sector
 
--- the first so many of these sectors stand in the area of a generation
+-- this many first sectors of the content are in the area of a generation
 abbrev pub HasFirst : (n generation : ℕ) → (snapshot_bytes archive_bytes : List ℕ) → (written : ℕ) → Image → Type 0
 HasFirst n generation snapshot_bytes archive_bytes written image =
     (index : ℕ) → index < written → IsContentSector snapshot_bytes archive_bytes index (image (area_start n generation + index))
 
--- A publication is under way: a read gives the first so many sectors of what can be published.
+-- A publication is under way: reads return this many first sectors of what can be published.
 pub record IsUnderWay (n : ℕ) (stored : Stored) (count : ℕ) (archive : List ℕ) (written : ℕ) (history : History) : Type 0 where
   pub can : CanPublish n stored count archive
   pub first : HasFirst n (suc stored.generation) (snapshot (map_at stored count)) archive written (seen history)
 
 -- ---- a map that can't be published
 
--- what is told of a map that has no content for an area
+-- the service fault for a content fault
 abbrev pub told_content : ContentFault → ServiceFault
 told_content contents.TooManyTiles = TooManyTiles
 told_content (contents.AreaFull need free) = AreaFull need free
 told_content contents.Memory = Memory
 
--- why a map has no content for an area of so many sectors
+-- why a map has no content for an area of this many sectors
 abbrev pub HasNoContent : FeatureMap → (area : ℕ) → ServiceFault → Type 0
 HasNoContent m area Broken = ⊥
 HasNoContent m area Busy = ⊥

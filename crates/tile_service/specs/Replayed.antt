@@ -22,7 +22,7 @@ abbrev pub IsPut : ChangeData → Type 0
 IsPut (put id f) = Unit {0}
 IsPut (delete id) = ⊥
 
--- the edit can be made without memory where there is room for so many features
+-- the edit needs no allocation if there is spare capacity for this many features
 abbrev pub HasRoomFor : ℕ → ChangeData → Type 0
 HasRoomFor spare (put id f) = 0 < spare
 HasRoomFor spare (delete id) = Unit {0}
@@ -32,14 +32,14 @@ pub record AreTextsOf (texts : List (List ℕ)) (edits : List ChangeData) : Type
   pub are_edits : All IsChange edits
   pub are_texts : texts ≡ map spelled_change edits
 
--- The edits of texts were made in a map, from the first to the last, and the map after any first ones of them is known.
+-- The edits of the texts were applied to a map in order, and the map after any prefix of them is known.
 pub record AreMade (texts : List (List ℕ)) (old new : CachedView) : Type 0 where
   pub edits : List ChangeData
   pub are_texts : AreTextsOf texts edits
   pub map_is : new.features ≡ after old.features edits
   pub were : WereMaps new.features new.touched new.last old.last old.features edits
 
--- how many bytes texts have together
+-- the total length of texts in bytes
 abbrev pub bytes_of : List (List ℕ) → ℕ
 bytes_of [] = 0
 bytes_of (text ∷ texts) = length text + bytes_of texts
@@ -48,7 +48,7 @@ bytes_of (text ∷ texts) = length text + bytes_of texts
 abbrev pub views_of : List (Vec ℕ Global) → List (List ℕ)
 views_of texts = map (λ text. text.items) texts
 
--- why the edit of a text isn't made: an allocation fails at what begins as a Put, or the text is no edit's
+-- why a text isn't applied: an allocation fails at what begins as a Put, or the text isn't an edit's
 abbrev pub IsTextFault : List ℕ → StoreFault → Type 0
 IsTextFault text fault = ((fault ≡ Memory) × BeginsAsPut text) ⊎ ((fault ≡ Damaged Text) × ((edit : ChangeData) → IsTextOf text edit → ⊥))
 
@@ -56,6 +56,6 @@ IsTextFault text fault = ((fault ≡ Memory) × BeginsAsPut text) ⊎ ((fault �
 abbrev pub HasPut : List (List ℕ) → Type 0
 HasPut texts = (index : ℕ) × (index < length texts) × BeginsAsPut (get_or texts index [])
 
--- why texts aren't replayed: an allocation fails at one that begins as a Put, or one of them is no edit's
+-- why texts aren't replayed: an allocation fails at one that begins as a Put, or one of them isn't an edit's
 abbrev pub IsReplayFault : List (List ℕ) → StoreFault → Type 0
 IsReplayFault texts fault = ((fault ≡ Memory) × HasPut texts) ⊎ ((fault ≡ Damaged Text) × ((edits : List ChangeData) → AreTextsOf texts edits → ⊥))

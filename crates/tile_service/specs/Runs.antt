@@ -25,7 +25,7 @@ abbrev pub acknowledged : List Happening → List ChangeData
 acknowledged [] = []
 acknowledged (happening ∷ happenings) = edits_by happening ++ acknowledged happenings
 
--- the disk failed meanwhile, so that what was asked for may stand there or not
+-- the disk failed during the call, so that its effect may be stored or not
 abbrev pub IsDoubtful : Happening → Type 0
 IsDoubtful (edit e (Err Device)) = Unit {0}
 IsDoubtful (step (Err Device)) = Unit {0}
@@ -41,11 +41,11 @@ pub record IsInDoubt (happenings : List Happening) (e : ChangeData) : Type 0 whe
   pub within : index < length happenings
   pub is : happening_at happenings index ≡ edit e (Err Device)
 
--- all edits there are: those stored before the run, and the acknowledged ones
+-- all edits: those stored before the run, and the acknowledged ones
 abbrev pub all_edits : Stored → List Happening → List ChangeData
 all_edits start happenings = start.since ++ acknowledged happenings
 
--- the edits of the run: these, and perhaps one more that is in doubt
+-- the edits of the run: all those, and possibly one that is in doubt
 abbrev pub AreEditsOf : Stored → List Happening → List ChangeData → Type 0
 AreEditsOf start happenings edits = (edits ≡ all_edits start happenings)
     ⊎ ((e : ChangeData) × IsInDoubt happenings e × (edits ≡ all_edits start happenings ++ e ∷ []))
@@ -57,7 +57,7 @@ pub record Way : Type 0 where
   pub edits : ℕ
   pub left : ℕ
 
--- the way of one that began before the run, whose first edit has the number behind this one
+-- the way of one that began before the run, whose first edit has number last + 1
 abbrev pub way_of : (last : ℕ) → Option PublicationView → Option Way
 way_of last publication = option_map (λ (p : PublicationView). record { edits = p.start.edits - last; left = left_of p }) publication
 
@@ -71,7 +71,7 @@ pub record Progress : Type 0 where
 abbrev pub starts : Stored → Option Way → Progress
 starts start way = record { edits = length start.since; published = 0; under_way = way }
 
--- after a step that leaves so much
+-- after a step that leaves this much
 abbrev pub stepped : Progress → Option Way → ℕ → Progress
 stepped p None told = p
 stepped p (Some way) zero = record p { published = way.edits; under_way = None }
@@ -90,7 +90,7 @@ abbrev pub progress_of : Progress → List Happening → Progress
 progress_of p [] = p
 progress_of p (happening ∷ happenings) = progress_of (progress_after p happening) happenings
 
--- The disk failed during this step, which could have been the last one, so that the publication of so many edits may stand there or not.
+-- The disk failed during this step, which could have been the last, so that the publication of this many edits may be installed or not.
 pub record IsStepInDoubt (start : Progress) (happenings : List Happening) (index edits : ℕ) : Type 0 where
   pub within : index < length happenings
   pub is : happening_at happenings index ≡ step (Err Device)
@@ -99,8 +99,8 @@ pub record IsStepInDoubt (start : Progress) (happenings : List Happening) (index
   pub last : way.left ≤ STEP_SECTORS + 1
   pub edits_are : edits ≡ way.edits
 
--- How many edits the snapshot may have from the time on at which the first k calls had returned: those of the publication that was
--- installed last at some time since then, or those of one in doubt.
+-- How many edits the snapshot may have at any time after the first k calls returned: those of the publication that was installed
+-- last at some time since then, or those of one in doubt.
 abbrev pub IsPublished : Progress → List Happening → (k j : ℕ) → Type 0
 IsPublished start happenings k j =
     ((index : ℕ) × (k ≤ index) × (index ≤ length happenings) × (j ≡ (progress_of start (take index happenings)).published))
@@ -108,7 +108,7 @@ IsPublished start happenings k j =
 
 -- ---- images
 
--- what has the first i of the edits since a start: the first j of them in its snapshot, and the others behind it
+-- the state with the first i edits since a start: the first j of them in its snapshot, the others after it
 abbrev pub fitting : Stored → List ChangeData → (i j generation journal_at : ℕ) → (archive : List ℕ) → Stored
 fitting start edits i j generation journal_at archive = record {
   generation = generation;
@@ -124,8 +124,8 @@ abbrev pub Fits : (sectors n : ℕ) → Stored → List ChangeData → (i j : �
 Fits sectors n start edits i j image =
     (generation : ℕ) × (journal_at : ℕ) × (archive : List ℕ) × Holds sectors n (fitting start edits i j generation journal_at archive) image
 
--- An image from the time on at which the first k calls had returned: it has some first edits of the run, all that were acknowledged
--- by then among them, and in its snapshot those of a publication, of none before the last one that was installed by then.
+-- An image at any time after the first k calls returned. It has a prefix of the run's edits, all that were acknowledged by then
+-- included. Its snapshot has the edits of a publication, of none before the last one that was installed by then.
 pub record ImageFits (sectors n : ℕ) (start : Stored) (way : Option Way) (happenings : List Happening) (k : ℕ) (image : Image) : Type 0 where
   pub edits : List ChangeData
   pub are_edits : AreEditsOf start happenings edits
@@ -152,16 +152,16 @@ pub record RunFits (sectors n : ℕ) (start : Stored) (way : Option Way) (happen
   pub begins : by 0 ≡ old
   pub goes_on : (k : ℕ) → k < length happenings → Follows (by k) (by (suc k))
   pub ends : by (length happenings) ≡ new
-  -- then a crash leaves all edits that were acknowledged by then, and the snapshot of the last publication, unless something was in doubt
+  -- a crash then leaves all edits acknowledged by then, and the snapshot of the last publication, unless something was in doubt
   pub settled : (k : ℕ) → k ≤ length happenings → NoneInDoubt (take k happenings) → (image : Image) → MayLeave (by k) image
       → Fits sectors n start (all_edits start (take k happenings)) (length (all_edits start (take k happenings)))
       (published_by start way (take k happenings)) image
-  -- and at any moment between then and the time at which the first m calls had returned, it leaves that and some of what was asked
-  -- for by then
+  -- at any moment between then and the return of the first m calls, a crash leaves that and some of what was requested
+  -- by then
   pub fits : (k m : ℕ) → k ≤ m → m ≤ length happenings → (image : Image) → LeftSince (by m) (moment (by k)) image
       → ImageFits sectors n start way (take m happenings) k image
 
--- what is stored after a run without doubt
+-- the stored state after a run with nothing in doubt
 abbrev pub Reaches : Stored → Option Way → List Happening → Stored → Type 0
 Reaches start way happenings s = (generation : ℕ) × (journal_at : ℕ) × (archive : List ℕ)
     × (s ≡ fitting start (all_edits start happenings) (length (all_edits start happenings)) (published_by start way happenings)
@@ -179,25 +179,25 @@ abbrev pub begin_and_steps : List (Result ℕ ServiceFault) → List Happening
 begin_and_steps [] = []
 begin_and_steps (first ∷ outcomes) = begin first ∷ map step outcomes
 
--- How a whole publication ends: with a step that installs it, and then the generation, the last edit before its beginning and the
--- archive's length are told; or with a beginning or a step that is refused, and then the fault is told.
+-- How a whole publication ends: with a step that installs it, and the result is the generation, the last edit before it began and the
+-- archive's length; or with a beginning or a step that is refused, and the result is its fault.
 abbrev pub EndsAs : {D : Type 0} → Result Published ServiceFault → (old new : ServiceView D) → (last : Result ℕ ServiceFault) → Type 0
 EndsAs (Ok p) old new last =
     (last ≡ Ok 0) × (p.generation ≡ new.generation) × (p.edits ≡ old.journal.last) × (p.archive_len ≡ new.archive_len)
 EndsAs (Err fault) old new last = last ≡ Err fault
 
 module _ {D : Type 0} (sectors : D → ℕ) (honest : D → Type 0) (history : D → History) where
-  -- The disk has kept to its history, and the service goes on from what is stored there: so much is asked for what a tile shows, which
-  -- may be read from the disk. A broken service reads no more.
+  -- The disk is honest, and the service continues from what is stored there. The content of a tile is specified under this condition,
+  -- since it may be read from the disk. A broken service reads no tile there.
   abbrev pub IsTrusted : ServiceView D → ServiceView D → Type 0
   IsTrusted old new = old.broken ≡ false → honest new.disk × ((stored : Stored) × IsUp (sectors old.disk) (history old.disk) stored old)
 
-  -- The disk is read and not written, and the service is as before, whatever it keeps of the archive.
+  -- The disk is only read, and the service is unchanged but for what it caches of the archive.
   pub record OnlyReads (old new : ServiceView D) : Type 0 where
     pub same : new ≡ record old { disk = new.disk; published = new.published }
     pub unwritten : honest new.disk → history new.disk ≡ history old.disk
 
-  -- what changes at most where something is only shown
+  -- what a call that only reads may change
   abbrev pub ChangesOnly : Happening → ServiceView D → ServiceView D → Type 0
   ChangesOnly (tile z x y outcome) old new = OnlyReads old new
   ChangesOnly (read at outcome) old new = OnlyReads old new
@@ -205,13 +205,13 @@ module _ {D : Type 0} (sectors : D → ℕ) (honest : D → Type 0) (history : D
   ChangesOnly (metadata outcome) old new = new ≡ old
   ChangesOnly happening old new = Unit {0}
 
-  -- One happening, whatever call it is. A crash at any moment leaves what was stored, or what it makes of that; afterwards what it makes
-  -- of it is stored, unless the disk failed.
+  -- One happening of any kind. A crash during it leaves the stored state from before, or the one that it results in. After it the
+  -- resulting state is stored, unless the disk failed.
   pub record Takes (old : ServiceView D) (happening : Happening) (new : ServiceView D) : Type 0 where
     pub machine : (known : Known) → Happens (IsTrusted old new) (state_of known old) happening (state_of (known_after known old happening) new)
-    -- bytes of the archive are those that the disk has there, of a broken service too
+    -- bytes of the archive are those that the disk has there, for a broken service too
     pub archive : (archive : List ℕ) → ShowsArchive (history old.disk) old archive → honest new.disk → ReadsFrom archive happening
-    -- of that which it shows, until another one is installed
+    -- the archive is unchanged until another one is installed
     pub keeps_archive : (happening ≡ step (Ok 0) → ⊥) → KeepsArchive honest history old new
     -- after a fault of the disk it is broken
     pub doubt : IsDoubtful happening → new.broken ≡ true
@@ -219,20 +219,20 @@ module _ {D : Type 0} (sectors : D → ℕ) (honest : D → Type 0) (history : D
     pub count : sectors new.disk ≡ sectors old.disk
     pub stays_honest : honest new.disk → honest old.disk
     pub changes : ChangesOnly happening old new
-    -- a broken service writes no more, and reads the archive alone
+    -- a broken service doesn't write, and reads only the archive
     pub untouched : old.broken ≡ true → ¬ IsRead happening → new.disk ≡ old.disk
     pub any_moment : (stored : Stored) → honest new.disk → IsUp (sectors old.disk) (history old.disk) stored old
         → LeavesOnly (history old.disk) (history new.disk) (EventLeaves (sectors old.disk) old.size stored old.publication happening)
     pub after : (stored : Stored) → honest new.disk → IsUp (sectors old.disk) (history old.disk) stored old → ¬ IsDoubtful happening
         → IsUp (sectors new.disk) (history new.disk) (stored_after old.size stored old.publication happening) new
 
-  -- one after the other, from the first to the last
+  -- the happenings in order
   abbrev pub TakesAll : ServiceView D → List Happening → ServiceView D → Type 0
   TakesAll old [] new = new ≡ old
   TakesAll old (happening ∷ happenings) new = (between : ServiceView D) × Takes old happening between × TakesAll between happenings new
 
-  -- These happen one after the other. A crash at any moment leaves some first edits of the run: all that were acknowledged by then, and
-  -- none asked for later. A service that isn't broken at the end goes on from what was acknowledged.
+  -- The happenings in order. A crash at any moment leaves a prefix of the run's edits: all that were acknowledged by then, and none
+  -- requested later. A service that isn't broken at the end continues from what was acknowledged.
   pub record TakesRun (old : ServiceView D) (happenings : List Happening) (new : ServiceView D) : Type 0 where
     pub machine : (known : Known) → (then_known : Known) × Runs (IsTrusted old new) (state_of known old) happenings (state_of then_known new)
     pub any_moment : (stored : Stored) → honest new.disk → IsUp (sectors old.disk) (history old.disk) stored old
@@ -241,7 +241,7 @@ module _ {D : Type 0} (sectors : D → ℕ) (honest : D → Type 0) (history : D
         → (reached : Stored) × IsUp (sectors new.disk) (history new.disk) reached new
         × Reaches stored (way_of stored.edits old.publication) happenings reached
 
-  -- The service begins a publication and goes on with it, until it is installed or a call is refused.
+  -- The service begins a publication and continues it until it is installed or a call is refused.
   pub record TakesPublication (old : ServiceView D) (result : Result Published ServiceFault) (new : ServiceView D) : Type 0 where
     pub before : List (Result ℕ ServiceFault)
     pub last : Result ℕ ServiceFault

@@ -1,4 +1,4 @@
--- A service without where it lies in memory, and the disk that it stands on.
+-- A service, apart from its place in memory, and its disk.
 use Rattle.std.specs.Prelude.{◌≡◌, ◌≢◌, ◌⊎◌, ◌<◌, ◌≤◌, ◌+◌, ◌-◌, ◌*◌, ◌^◌, ℕ, zero, List, Bool, false, length, take, slice_range}
 use Rattle.std.specs.Prelude.{Option, Some, None, IfSome, option_map, Result, Ok, Err, Vec}
 use Rattle.std.proofs.Common.{Global}
@@ -31,9 +31,9 @@ use Rattle.tile_service.specs.Tiles.{WereMaps, archive_place}
 
 -- what contracts see of a publication under way
 pub record PublicationView : Type 0 where
-  -- the snapshot and the archive of the map of its beginning
+  -- the snapshot and the archive of the map when it began
   pub content : ContentView
-  -- where the journal went on at its beginning, and how many places the records in use had then
+  -- where the journal continued when it began, and how many of its places were in use then
   pub start : Start
   pub places : ℕ
   -- how many sectors of the content are written
@@ -51,37 +51,37 @@ pub record ServiceView (D : Type 0) : Type 0 where
   pub features : FeatureMap
   -- the newest edit of each cell of the world
   pub touched : List ℕ
-  -- where the records of the edits since the snapshot lie
+  -- the records of the edits since the snapshot
   pub journal : Journal
   pub generation : ℕ
-  -- how many bytes the snapshot of that generation has, and the archive behind it
+  -- the length in bytes of the snapshot of that generation, and of the archive after it
   pub snapshot_len : ℕ
   pub archive_len : ℕ
   pub publication : Option PublicationView
-  -- what is kept of the archive that was read last
+  -- what is cached of the archive that was read last
   pub published : PublishedView
   pub broken : Bool
 
--- what always holds of a publication under way
+-- the invariants of a publication under way
 pub record IsGoing (size : ℕ) (root : Root) (journal : Journal) (features : FeatureMap) (p : PublicationView) : Type 0 where
-  -- the records that were in use at its beginning are the first of those in use
+  -- the records that were in use when it began are the first of those in use
   pub behind : IsBehind journal p.start p.places
-  -- an area holds it
+  -- it fits in an area
   pub area : sectors_taken p.content ≤ area_sectors size
   pub written : p.written ≤ sectors_taken p.content
   pub generation : root.generation < 2 ^ 64 - 1
-  -- the texts of the features came from an area and from the records behind
+  -- the texts of the features came from an area and from the records after those
   pub texts : length (snapshot features) ≤ SECTOR_BYTES * area_sectors size + PART_BYTES * (journal.used - p.places)
 
--- what always holds of one whose disk has so many sectors
+-- the invariants of a service whose disk has this many sectors
 pub record IsService (sectors size : ℕ) (root : Root) (journal : Journal) (map : CachedView) (publication : Option PublicationView) : Type 0 where
   pub within : size ≤ sectors
   pub ring : ring_of journal ≡ journal_ring size
-  -- an area holds the snapshot and the archive
+  -- the snapshot and the archive fit in an area
   pub area : sectors_of root.snapshot_len + sectors_of root.archive_len ≤ area_sectors size
-  -- the texts of the features are short together: they came from an area and from the journal
+  -- the total length of the texts is bounded: they came from an area and from the journal
   pub texts : length (snapshot map.features) ≤ SECTOR_BYTES * area_sectors size + PART_BYTES * journal.used
-  -- the records in use have the places in use
+  -- the records in use take the places in use
   pub counted : IsCounted journal
   -- the last edit of the journal is that of the map
   pub last_is : map.last ≡ journal.last
@@ -93,7 +93,7 @@ with_publication service p = record service { publication = Some p }
 
 -- ---- the state
 
--- what the service doesn't have in memory: the archive, and the map of which a publication under way is
+-- what the service doesn't have in memory: the archive, and the map of a publication under way
 pub record Known : Type 0 where
   pub archive : ArchiveState
   pub publishing : FeatureMap
@@ -133,11 +133,11 @@ known_after known service happening = known
 
 -- ---- the service and its disk
 
--- how many of the edits since the snapshot came before the publication's beginning
+-- how many of the edits since the snapshot came before the publication began
 abbrev pub count_at : Stored → PublicationView → ℕ
 count_at stored p = p.start.edits - stored.edits
 
--- The publication is one of the map after some of the edits since, and what it has written so far is read again.
+-- It publishes the map after some of the edits since, and reads return what it has written so far.
 pub record Publishes (n : ℕ) (stored : Stored) (history : History) (p : PublicationView) : Type 0 where
   pub later : stored.edits ≤ p.start.edits
   pub under_way : IsUnderWay n stored (count_at stored p) p.content.archive p.written history
@@ -145,12 +145,12 @@ pub record Publishes (n : ℕ) (stored : Stored) (history : History) (p : Public
   pub place_is : p.start.place ≡ (published n stored (count_at stored p) p.content.archive).journal_at
   pub places_are : p.places ≡ places_of (take (count_at stored p) (texts_of stored))
 
--- where its archive stands
+-- where its archive is stored
 abbrev pub archive_of : {D : Type 0} → ServiceView D → ArchivePlace
 archive_of service = archive_place service.size service.generation service.snapshot_len service.archive_len
 
--- The service goes on from what is stored: every image that a crash now may leave of its disk holds that, and it has the map, the
--- numbers and the places that go with it. The disk has so many sectors and this history.
+-- The service continues from the stored state: every image that a crash may leave now holds it, and the service has its map, numbers
+-- and places. The disk has this many sectors and this history.
 pub record IsUp {D : Type 0} (sectors : ℕ) (history : History) (stored : Stored) (service : ServiceView D) : Type 0 where
   pub keeps : Keeps sectors service.size stored history
   pub unbroken : service.broken ≡ false
@@ -163,12 +163,12 @@ pub record IsUp {D : Type 0} (sectors : ℕ) (history : History) (stored : Store
   pub used_is : service.journal.used ≡ places_of (texts_of stored)
   pub last_is : service.journal.last ≡ last_of stored
   pub publication : IfSome service.publication (Publishes service.size stored history)
-  -- it knows the map after any first edits since the snapshot, as far as tiles tell that none since can have touched
+  -- it knows the map after any prefix of the edits since, for the tiles that no later edit can have changed
   pub were : WereMaps service.features service.touched service.journal.last stored.edits stored.snapshot_map stored.since
-  -- and what it keeps of the archive is of this one
+  -- what it caches of the archive is of this one
   pub archived : ArePublished service.published (archive_of service) stored.snapshot_map stored.archive
 
--- the archive that an image shows for a service: so many bytes of the sectors behind the snapshot
+-- the archive that an image has for a service: archive_len bytes of the sectors after the snapshot
 abbrev pub shown_archive : {D : Type 0} → Image → ServiceView D → List ℕ
 shown_archive image service =
     take service.archive_len
@@ -176,34 +176,34 @@ shown_archive image service =
 
 -- ---- what happens
 
--- The archive that a service shows, a broken one too: what its disk has in the archive's place. One that goes on from what is stored
--- shows the archive that is stored.
+-- The archive that a service serves, a broken one too: what its disk has in the archive's place. A service that continues from a
+-- stored state serves the stored archive.
 abbrev pub ShowsArchive : {D : Type 0} → History → ServiceView D → List ℕ → Type 0
 ShowsArchive history service archive = AreItsBytes (archive_of service).first (archive_of service).len archive (seen history)
 
--- The archive that is shown stays: it has its place and its lengths, and a disk that tells the truth still has it there.
+-- The archive that is served is unchanged: its place and lengths are the same, and an honest disk still has it there.
 pub record KeepsArchive {D : Type 0} (honest : D → Type 0) (history : D → History) (old new : ServiceView D) : Type 0 where
   pub generation : new.generation ≡ old.generation
   pub snapshot_len : new.snapshot_len ≡ old.snapshot_len
   pub archive_len : new.archive_len ≡ old.archive_len
   pub shows : (archive : List ℕ) → ShowsArchive (history old.disk) old archive → honest new.disk → ShowsArchive (history new.disk) new archive
 
--- bytes of the archive that were read are those of this one
+-- bytes that were read are those of this archive
 abbrev pub ReadsFrom : List ℕ → Happening → Type 0
 ReadsFrom archive (read at (Some bytes)) = bytes ≡ slice_range archive at (at + length bytes)
 ReadsFrom archive happening = Unit {0}
 
--- what became of a tile
+-- the outcome of a tile
 abbrev pub tile_outcome : Result (Option (Vec ℕ Global)) ServiceFault → OrMemory (Option (List ℕ))
 tile_outcome (Ok content) = got (option_map (λ bytes. bytes.items) content)
 tile_outcome (Err fault) = no_memory
 
--- an edit stands on the disk, or may do so
+-- an edit is on the disk, or may be
 abbrev pub MayStand : Result ℕ ServiceFault → Type 0
 MayStand (Ok number) = Unit {0}
 MayStand (Err fault) = fault ≡ Device
 
--- what is stored once the publication is installed
+-- the stored state once the publication is installed
 abbrev pub installed : (n : ℕ) → Stored → Option PublicationView → Stored
 installed n stored None = stored
 installed n stored (Some p) = published n stored (count_at stored p) p.content.archive
@@ -217,7 +217,7 @@ IsLast (Some p) = left_of p ≤ STEP_SECTORS + 1
 abbrev pub MayInstall : Option PublicationView → Result ℕ ServiceFault → Type 0
 MayInstall publication outcome = IsLast publication × ((outcome ≡ Ok 0) ⊎ (outcome ≡ Err Device))
 
--- An image that a crash meanwhile leaves holds what was stored; or the same with the edit that is made or in doubt; or what the step
+-- A crash during the call leaves an image that holds what was stored, or that with the edit that is made or in doubt, or what the step
 -- installs.
 abbrev pub EventLeaves : (sectors n : ℕ) → Stored → Option PublicationView → Happening → Image → Type 0
 EventLeaves sectors n stored publication (edit e outcome) image =
@@ -226,18 +226,18 @@ EventLeaves sectors n stored publication (step outcome) image =
     Holds sectors n stored image ⊎ (MayInstall publication outcome × Holds sectors n (installed n stored publication) image)
 EventLeaves sectors n stored publication happening image = Holds sectors n stored image
 
--- what is stored after a step
+-- the stored state after a step
 abbrev pub stepped_by : (n : ℕ) → Stored → Option PublicationView → Result ℕ ServiceFault → Stored
 stepped_by n stored publication (Ok zero) = installed n stored publication
 stepped_by n stored publication outcome = stored
 
--- what is stored after each happening
+-- the stored state after each happening
 abbrev pub stored_after : (n : ℕ) → Stored → Option PublicationView → Happening → Stored
 stored_after n stored publication (edit e (Ok number)) = with_edit stored e
 stored_after n stored publication (step outcome) = stepped_by n stored publication outcome
 stored_after n stored publication happening = stored
 
--- what the fault of an append to the journal is told as
+-- the service fault for an append's fault
 abbrev pub told_as : JournalFault → ServiceFault
 told_as journals.NumbersSpent = NumbersSpent
 told_as (journals.Full need free) = JournalFull need free
@@ -245,6 +245,6 @@ told_as journals.Memory = Memory
 told_as journals.Device = Device
 told_as journals.Damaged = Device
 
--- With the fault Device a call of the disk has failed, and with another one none has.
+-- If the fault is Device, a call of the disk has failed, else none has.
 abbrev pub CountsDevice : ServiceFault → (old new : ℕ) → Type 0
 CountsDevice fault old new = ((fault ≡ Device) × HasFailed old new) ⊎ ((fault ≢ Device) × (new ≡ old))

@@ -25,12 +25,12 @@ pub record Stored : Type 0 where
   pub edits : ℕ
   -- the edits since
   pub since : List ChangeData
-  -- the place of the journal where the first of their records stands
+  -- the place in the journal of their first record
   pub journal_at : ℕ
   -- the bytes of the archive
   pub archive : List ℕ
 
--- the map for which it stands
+-- the map that it represents
 abbrev pub map_of : Stored → FeatureMap
 map_of stored = after stored.snapshot_map stored.since
 
@@ -48,13 +48,13 @@ root_of stored = record {
   archive_len = length stored.archive;
 }
 
--- ---- where it stands, on a disk of n sectors
+-- ---- where it is stored, on a disk of n sectors
 
--- the journal begins behind the sectors of the format and of the two roots
+-- the journal begins after the sectors of the format and of the two roots
 abbrev pub journal_ring : ℕ → Ring
 journal_ring n = record { first = 3; places = journal_sectors n }
 
--- The bytes stand in consecutive sectors from a first one on: this sector is as they say, whatever stands behind their end.
+-- The bytes are stored in consecutive sectors from first on: this sector has its part of them, with anything after their end.
 abbrev pub HasBytes : (first : ℕ) → List ℕ → (at : ℕ) → List ℕ → Type 0
 HasBytes first bytes at sector = (index : ℕ) → at ≡ first + index → take (length (sector_piece bytes index)) sector ≡ sector_piece bytes index
 
@@ -74,11 +74,11 @@ pub record HoldsAt (count n : ℕ) (stored : Stored) (at : ℕ) (sector : List �
 abbrev pub texts_of : Stored → List (List ℕ)
 texts_of stored = map spelled_change stored.since
 
--- where the journal begins for it
+-- where its journal begins
 abbrev pub journal_start : Stored → Start
 journal_start stored = record { place = stored.journal_at; number = suc stored.edits }
 
--- A disk of so many sectors, formatted with n of them, has this image.
+-- The image of a disk of count sectors, formatted with n, holds this.
 pub record Holds (count n : ℕ) (stored : Stored) (image : Image) : Type 0 where
   pub sectors : (at : ℕ) → HoldsAt count n stored at (image at)
   pub journal : HoldsTexts RECORD_VERSION (journal_ring n) (journal_start stored) (texts_of stored) image
@@ -86,7 +86,7 @@ pub record Holds (count n : ℕ) (stored : Stored) (image : Image) : Type 0 wher
   pub are_edits : All IsChange stored.since
   pub is_archive : IsArchiveOfMap stored.snapshot_map stored.archive
 
--- what nobody has edited since the format
+-- the state after a format, without edits
 abbrev pub first_state : Stored
 first_state = record { generation = 0; snapshot_map = []; edits = 0; since = []; journal_at = 0; archive = [] }
 
@@ -94,6 +94,6 @@ first_state = record { generation = 0; snapshot_map = []; edits = 0; since = [];
 abbrev pub with_edit : Stored → ChangeData → Stored
 with_edit stored edit = record stored { since = stored.since ++ edit ∷ [] }
 
--- whatever a crash now leaves holds it
+-- every image that a crash now may leave holds it
 abbrev pub Keeps : (count n : ℕ) → Stored → History → Type 0
 Keeps count n stored history = (image : Image) → MayLeave history image → Holds count n stored image

@@ -1,4 +1,4 @@
-//! Edits: a text in the journal first, and then a change of the map.
+//! Edits: written to the journal first, then applied to the map.
 ghost use Rattle.std.specs.Prelude.{◌≡◌, ◌≢◌, ◌↔◌, ◌+◌, true, IfErr, OnOk, IsSome, IsTrue, None};
 ghost use Rattle.sector_disk.specs.Moments.{LeavesOnly};
 ghost use Rattle.edit_journal.specs.Appends.{TakesSteps};
@@ -23,7 +23,7 @@ use sector_disk::Sectors;
 use std::alloc::AllocError;
 use tile_cutter::check_reach;
 
-/// Whether a feature is within the limits for its number, its reach too.
+/// Checks a feature against the limits for its id, its reach included.
 fn within_limits(id: u64, feature: &Feature) -> Result<(), ServiceFault>
     ensures ok { OnOk result (KeepsLimits id (feature_data feature.now)) }
     ensures fault { IfErr result (λ fault. (limit : _) × (fault ≡ Limit limit) × BreaksLimit id (feature_data feature.now) limit) }
@@ -38,17 +38,17 @@ fn within_limits(id: u64, feature: &Feature) -> Result<(), ServiceFault>
     }
 }
 
-/// Whether the number has a feature.
+/// Whether a feature has this id.
 fn has(store: &Store, id: u64) -> bool
     ensures found { IsTrue result ↔ IsSome (feature_at store.now.features id) }
     ensures number { IsTrue result → NumberFits id }
 {
-    // What has a feature in a map is a number of one.
+    // `len` states `IsMap`, so each id in it fits.
     let _count = store.len();
     store.get(id).is_some()
 }
 
-/// What the fault of an append is told as. An append is never damaged, and takes no memory.
+/// Converts an append's fault. An append never returns `Damaged`, and doesn't allocate.
 fn told(fault: JournalFault) -> ServiceFault
     ensures { result ≡ told_as fault }
 {
@@ -61,7 +61,7 @@ fn told(fault: JournalFault) -> ServiceFault
 }
 
 impl<D: Sectors + Drop> Service<D> {
-    /// Tells why an append has failed. After a fault of the disk no more edits are made, and the publication is given up.
+    /// Converts the fault of an append. After `Device` the service is broken and the publication is cancelled.
     fn fail(&mut self, fault: JournalFault) -> ServiceFault
         ensures told { result ≡ told_as fault }
         ensures same { self.new ≡ record self.old { publication = self.new.publication; broken = self.new.broken } }
@@ -75,13 +75,13 @@ impl<D: Sectors + Drop> Service<D> {
         told(fault)
     }
 
-    /// Gives a number this feature, whatever feature it had, and answers the number of the edit. At `Ok` the edit outlives a crash.
-    /// After `Device` it stands on the disk or not, and the service makes no more edits; any other fault changes nothing, and writes
+    /// Sets the feature with this id, whether there was one or not, and returns the number of the edit. After `Ok` the edit survives a
+    /// crash. After `Device` it is stored or not, and the service makes no more edits. Any other error changes nothing and writes
     /// nothing.
     ///
     /// # Errors
     ///
-    /// `Broken`, `Limit`, `NumbersSpent`, `Memory`, `JournalFull`, `Device`, the first that there is in this order.
+    /// `Broken`, `Limit`, `NumbersSpent`, `Memory`, `JournalFull`, `Device`, the first that applies in this order.
     pub fn put(&mut self, id: u64, feature: Feature) -> Result<u64, ServiceFault>
         ensures machine { (known : Known)
             → AnswersEdit (state_of known self.old) (put id (feature_data feature)) result (state_of known self.new) }
@@ -95,17 +95,17 @@ impl<D: Sectors + Drop> Service<D> {
         ensures kept { IfErr result (λ fault. fault ≢ Device → self.new ≡ self.old) }
         ensures archive { KeepsArchive D.honest D.history self.old self.new }
 
-        // A crash at any moment of the call leaves what was stored, or the same with the edit.
+        // A crash during the call leaves what was stored, or that with the edit.
         ensures any_moment { (stored : Stored) → D.honest self.new.disk → IsUp (D.sectors self.old.disk) (D.history self.old.disk) stored self.old
             → LeavesOnly (D.history self.old.disk) (D.history self.new.disk)
             (EventLeaves (D.sectors self.old.disk) self.old.size stored self.old.publication (edit (put id (feature_data feature)) result)) }
-        // And after it: the same with the edit where it was acknowledged, and what was stored where it was refused.
+        // After the call: with the edit if it was acknowledged, without it if it was refused.
         ensures acknowledged { (stored : Stored) → D.honest self.new.disk → IsUp (D.sectors self.old.disk) (D.history self.old.disk) stored self.old
             → OnOk result (IsUp (D.sectors self.new.disk) (D.history self.new.disk) (with_edit stored (put id (feature_data feature))) self.new) }
         ensures refused { (stored : Stored) → D.honest self.new.disk → IsUp (D.sectors self.old.disk) (D.history self.old.disk) stored self.old
             → IfErr result (λ fault. fault ≢ Device → IsUp (D.sectors self.new.disk) (D.history self.new.disk) stored self.new) }
 
-        // It takes a write for each sector of its text, and one sync, or two where there are several.
+        // It makes one write for each sector of the record, and one sync, or two if there are several.
         ensures steps { D.honest self.new.disk
             → OnOk result (TakesSteps (places_for (put id (feature_data feature))) (D.history self.old.disk) (D.history self.new.disk)) }
     {
@@ -137,11 +137,11 @@ impl<D: Sectors + Drop> Service<D> {
         }
     }
 
-    /// Takes the feature of a number away, and answers the number of the edit. It takes no memory, and else is as `put`.
+    /// Deletes the feature with this id, and returns the number of the edit. It doesn't allocate; else it is as `put`.
     ///
     /// # Errors
     ///
-    /// `Broken`, `NotFound`, `NumbersSpent`, `JournalFull`, `Device`, the first that there is in this order.
+    /// `Broken`, `NotFound`, `NumbersSpent`, `JournalFull`, `Device`, the first that applies in this order.
     pub fn delete(&mut self, id: u64) -> Result<u64, ServiceFault>
         ensures machine { (known : Known)
             → AnswersEdit (state_of known self.old) (delete id) result (state_of known self.new) }

@@ -3,37 +3,37 @@ use crate::fault::ServiceFault;
 use feature_model::Feature;
 use hilbert_id::TileAt;
 
-/// What a service is asked for.
+/// A request to a service.
 #[derive(Debug, PartialEq, Eq, Drop)]
 pub enum Event {
-    /// Gives a number a feature.
+    /// Sets an id's feature.
     Put { id: u64, feature: Feature },
-    /// Takes the feature of a number away.
+    /// Deletes the feature of an id.
     Delete { id: u64 },
     /// Asks for a tile.
     Tile { at: TileAt },
-    /// Asks for the feature of a number.
+    /// Asks for the feature of an id.
     Look { id: u64 },
     /// Begins a publication of the map.
     Begin,
     /// Writes the next sectors of the publication.
     Step,
-    /// Gives the publication up.
+    /// Cancels the publication.
     Cancel,
 }
 
 /// What a service answers.
 #[derive(Debug, PartialEq, Eq, Drop)]
 pub enum Answer {
-    /// The edit was made, and has this number.
+    /// The edit was made, with this number.
     Edited(u64),
-    /// The bytes of the tile, or none where it shows nothing.
+    /// The bytes of the tile, or `None` if it is empty.
     Tile(Option<Vec<u8>>),
-    /// The feature, or none where the number has none.
+    /// The feature, or `None` if the id has none.
     Look(Option<Feature>),
     /// How much of the publication is left: the sectors to write, and one for the root. With 0 it is installed.
     Left(u64),
-    /// The publication was given up.
+    /// The publication is cancelled.
     Cancelled,
     /// Nothing was done.
     Refused(ServiceFault),

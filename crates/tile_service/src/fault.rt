@@ -1,10 +1,10 @@
 use feature_model::EditFault;
 use thiserror::Error;
 
-/// Why an event is refused. Of several faults the first in this order is told.
+/// Why an event is refused. Of several the first in this order is reported.
 #[derive(Clone, Copy, Debug, PartialEq, Eq, Error)]
 pub enum ServiceFault {
-    /// A write or a sync of the disk has failed before, so no edit is made any more. The disk has to be opened again.
+    /// A write or a sync of the disk has failed before, so edits are refused. The disk has to be opened again.
     #[error("the disk has failed: it has to be opened again")]
     Broken,
     /// A publication is under way.
@@ -16,10 +16,10 @@ pub enum ServiceFault {
     /// The feature breaks this limit.
     #[error("{0}")]
     Limit(EditFault),
-    /// The number that is to be deleted has no feature.
+    /// No feature has the id that is to be deleted.
     #[error("the number has no feature")]
     NotFound,
-    /// The last edit, or the published generation, has the last u64 as its number.
+    /// The last edit, or the published generation, has number `u64::MAX`.
     #[error("there are no more numbers")]
     NumbersSpent,
     /// An allocation failed.

@@ -1,4 +1,4 @@
-//! A disk made ready for a service.
+//! Formats a disk for a service.
 ghost use Rattle.std.specs.Prelude.{◌≡◌, ◌⊎◌, ◌<◌, ◌↔◌, Err, IfErr, OnOk};
 ghost use Rattle.sector_disk.specs.Disk.{MayLeave};
 ghost use Rattle.sector_disk.specs.Moments.{LeavesOnly};
@@ -15,8 +15,8 @@ use generations::{StoreFault, format};
 use sector_disk::Sectors;
 
 impl<D: Sectors + Drop> Service<D> {
-    /// Makes a disk of `LEAST_SECTORS` to `MOST_SECTORS` sectors hold the empty map, and else leaves it untouched. What stood on it is
-    /// lost: after a fault of the disk or a crash it holds what it held before, or has no format, or holds the empty map.
+    /// Formats a disk of `LEAST_SECTORS` to `MOST_SECTORS` sectors with the empty map; any other is left untouched. Its content is lost:
+    /// after a fault of the disk or a crash it holds its earlier content, or has no format, or holds the empty map.
     pub fn format(disk: &mut D) -> Result<(), StoreFault>
         ensures small { (result ≡ Err TooSmall) ↔ (D.sectors disk.old < LEAST_SECTORS) }
         ensures large { (result ≡ Err (Damaged Size)) ↔ (MOST_SECTORS < D.sectors disk.old) }
@@ -27,7 +27,7 @@ impl<D: Sectors + Drop> Service<D> {
         ensures failed { IfErr result (λ fault. CountsDevice fault (D.faults disk.old) (D.faults disk.new)) }
         ensures honest { D.honest disk.new → D.honest disk.old }
 
-        // A crash at any moment leaves an image from before, or one without the mark of a format, or one that holds the empty map.
+        // A crash during the call leaves an image from before, or one without a format mark, or one with the empty map.
         ensures any_moment { D.honest disk.new → LeavesOnly (D.history disk.old) (D.history disk.new)
             (λ image. MayLeave (D.history disk.old) image ⊎ HasNoMark image ⊎ Holds (D.sectors disk.old) (D.sectors disk.old) first_state image) }
         ensures formatted { D.honest disk.new

@@ -1,5 +1,5 @@
-//! A map that lies on a disk, as a service: it takes edits, and shows tiles and features. Stopped at any moment, its disk opens again
-//! with some first edits, all that were acknowledged among them.
+//! A map on a disk, as a service: it accepts edits, and serves tiles and features. After a crash at any moment its disk opens
+//! again with a prefix of the edits, all acknowledged ones included.
 #![tactic(auto)]
 
 mod editing;

@@ -29,7 +29,7 @@ use published_tiles::PublishedTiles;
 use sector_disk::{DiskFault, Sectors};
 use std::alloc::{AllocError, Global};
 
-/// What the fault of a recovery is told as. A recovery refuses neither for numbers nor for room.
+/// Converts a recovery's fault, which is never `NumbersSpent` or `Full`.
 fn told(fault: JournalFault) -> StoreFault
     ensures { result ≡ recovery_told_as fault }
 {
@@ -51,7 +51,7 @@ struct Found {
     published: PublishedTiles,
 }
 
-/// Reads the journal that a root names, and makes the edits of its texts in the map of the root's snapshot.
+/// Reads the journal that a root names, and applies its edits to the map of the root's snapshot.
 fn read_edits<D: Sectors>(
     alloc: Global,
     disk: &mut D,
@@ -177,13 +177,13 @@ fn load<D: Sectors>(alloc: Global, disk: &mut D) -> Result<Found, StoreFault>
 }
 
 impl<D: Sectors + Drop> Service<D> {
-    /// Opens a disk: reads its live root, the map of its snapshot and the journal, and makes the edits of its texts. It syncs and
-    /// reads, and writes nothing. A fault hands the disk back.
+    /// Opens a disk: reads its live root, the map of its snapshot and the journal, and replays the journal's edits. It syncs and
+    /// reads, and writes nothing. On error it returns the disk.
     ///
     /// # Errors
     ///
-    /// `NotFormatted`, `Damaged` of `Size`, `RootSector`, `Snapshot`, `Journal` or `Text`, the first that there is in the order of
-    /// reading; `Device`; and `Memory`, which comes after the first three, since nothing is allocated before the root is read.
+    /// `NotFormatted`, `Damaged` of `Size`, `RootSector`, `Snapshot`, `Journal` or `Text`, the first that is found in the order of
+    /// reading; `Device`; and `Memory`, only after the first three, since nothing is allocated before the root is read.
     pub fn open(alloc: Global, disk: D) -> Result<Service<D>, (D, StoreFault)>
         ensures count { MatchResult result (λ service. D.sectors service.disk ≡ D.sectors disk) (λ e. D.sectors e.0 ≡ D.sectors disk) }
         ensures honest { MatchResult result (λ service. D.honest service.disk → D.honest disk) (λ e. D.honest e.0 → D.honest disk) }
@@ -194,14 +194,14 @@ impl<D: Sectors + Drop> Service<D> {
         ensures unbroken { IfOk result (λ service. service.broken ≡ false) }
         ensures idle { IfOk result (λ service. service.publication ≡ None) }
 
-        // A disk opens to what it has, if it has no fault.
+        // A disk opens only without a fault, to what it holds.
         ensures read { IfOk result (λ service. D.honest service.disk → IsOpened (D.sectors disk) (seen (D.history disk)) service) }
         ensures sound { IfOk result (λ service. D.honest service.disk → HasNoOpenFault (D.sectors disk) (seen (D.history disk))) }
         ensures fault { IfErr result (λ e. D.honest e.0
             → (e.1 ≡ Device) ⊎ (e.1 ≡ Memory) ⊎ IsOpenFault (D.sectors disk) (seen (D.history disk)) e.1) }
         ensures memory { IfErr result (λ e. D.honest e.0 → e.1 ≡ Memory → HasLiveRoot (D.sectors disk) (seen (D.history disk))) }
 
-        // A disk that holds a state opens to that, and only a call of the disk or an allocation can fail.
+        // A disk that holds a state opens to it; only a call of the disk or an allocation can fail.
         ensures opened { (n : ℕ) (stored : Stored) → Holds (D.sectors disk) n stored (seen (D.history disk))
             → IfOk result (λ service. D.honest service.disk → (service.size ≡ n) × IsUp (D.sectors service.disk) (D.history service.disk) stored service) }
         ensures refused { (n : ℕ) (stored : Stored) → Holds (D.sectors disk) n stored (seen (D.history disk))

@@ -1,4 +1,4 @@
-//! The archive that was published last.
+//! The last published archive.
 ghost use Rattle.std.specs.Prelude.{◌≡◌, ◌≤◌, ◌+◌, ℕ, List, length, slice_range, IfErr, OnOk};
 ghost use Rattle.generations.specs.Areas.{sectors_of};
 ghost use Rattle.tile_service.specs.Service.{IsUp, ShowsArchive, CountsDevice, archive_of};
@@ -12,7 +12,7 @@ use published_tiles::ArchivePlace;
 use sector_bytes::read_bytes;
 use sector_disk::{DiskFault, SECTOR_BYTES, Sectors};
 
-/// How many sectors so many bytes take.
+/// How many sectors `bytes` bytes take.
 fn sectors_for(bytes: u64) -> u64
     ensures { result ≡ sectors_of bytes }
 {
@@ -20,14 +20,14 @@ fn sectors_for(bytes: u64) -> u64
 }
 
 impl<D: Sectors + Drop> Service<D> {
-    /// How many bytes the published archive has, 0 where there is none.
+    /// The length of the published archive in bytes, 0 if none.
     pub fn archive_len(&self) -> u64
         ensures { result ≡ self.now.archive_len }
     {
         self.root.archive_len
     }
 
-    /// Where the published archive stands.
+    /// Where the published archive is.
     pub(crate) fn archive(&self) -> ArchivePlace
         ensures { result ≡ archive_of self.now }
     {
@@ -38,8 +38,8 @@ impl<D: Sectors + Drop> Service<D> {
         }
     }
 
-    /// Reads bytes of the published archive, as many as `into` has room for, from an offset on. It takes no memory, and writes nothing.
-    /// After a fault `into` has any bytes, and the service goes on as before.
+    /// Reads bytes of the published archive from an offset, to fill `into`. It allocates nothing and writes nothing.
+    /// After an error the content of `into` is undefined, and the service continues as before.
     ///
     /// # Errors
     ///
@@ -54,7 +54,7 @@ impl<D: Sectors + Drop> Service<D> {
         ensures failed { IfErr result (λ fault. CountsDevice fault (D.faults self.old.disk) (D.faults self.new.disk)) }
         ensures fault { IfErr result (λ fault. fault ≡ Device) }
         ensures length { length into.new ≡ length into.old }
-        // Of a broken service too: what the disk has in the archive's place.
+        // For a broken service too: what the disk has in the archive's place.
         ensures shown { (archive : List ℕ) → ShowsArchive (D.history self.old.disk) self.old archive → D.honest self.new.disk
             → OnOk result (into.new ≡ slice_range archive at (at + length into.old)) }
         ensures read { (stored : Stored) → IsUp (D.sectors self.old.disk) (D.history self.old.disk) stored self.old → D.honest self.new.disk

@@ -30,11 +30,11 @@ pub const STEP_SECTORS: u64 = 64;
 /// A publication under way.
 #[derive(Drop)]
 pub(crate) struct Publication {
-    /// The snapshot and the archive of the map of its beginning.
+    /// The snapshot and the archive of the map when it began.
     pub(crate) content: AreaContent,
-    /// Where the journal went on at its beginning.
+    /// Where the journal continued when it began.
     pub(crate) start: Start,
-    /// How many places the records in use had then.
+    /// How many of its places were in use then.
     pub(crate) places: u64,
     /// How many sectors of the content are written.
     pub(crate) written: u64,
@@ -48,7 +48,7 @@ impl Model for Publication {
     ghost view = { λ p. record { content = p.content; start = p.start; places = p.places; written = p.written } };
 }
 
-/// What is told of a map that has no content for an area.
+/// Converts the fault of `content_of`.
 fn told(fault: ContentFault) -> ServiceFault
     ensures { result ≡ told_content fault }
 {
@@ -59,7 +59,7 @@ fn told(fault: ContentFault) -> ServiceFault
     }
 }
 
-/// The snapshot and the archive of a map, for an area of so many sectors.
+/// The snapshot and the archive of a map, for an area of `area` sectors.
 fn content_for(alloc: Global, store: &Store, area: u64) -> Result<AreaContent, ServiceFault>
     requires { area < 2 ^ 23 }
     ensures map { IsMap store.now.features }
@@ -68,7 +68,7 @@ fn content_for(alloc: Global, store: &Store, area: u64) -> Result<AreaContent, S
     ensures fits { IfOk result (λ c. sectors_taken c ≤ area) }
     ensures fault { IfErr result (HasNoContent store.now.features area) }
 {
-    // A clause of this call says that the features keep what a map keeps.
+    // The contract of `len` states that the features are a map.
     let _count = store.len();
     let metadata = match metadata_text(alloc, store) {
         Ok(text) => text,
@@ -80,8 +80,8 @@ fn content_for(alloc: Global, store: &Store, area: u64) -> Result<AreaContent, S
     }
 }
 
-/// Writes sectors of the content into the area of a generation, from one index to another. Where they aren't the last they are synced,
-/// so that the sync of an edit in between doesn't have them to write.
+/// Writes the sectors `from..to` of the content into the area of a generation. Unless they are the last, it syncs them, so that the
+/// sync of an edit before the next step doesn't write them.
 fn write_sectors<D: Sectors>(
     disk: &mut D,
     layout: Layout,
@@ -102,7 +102,7 @@ fn write_sectors<D: Sectors>(
     ensures last { to ≡ sectors_taken content.now → D.honest disk.new
         → moment (D.history disk.new) + from ≤ moment (D.history disk.old) + to }
 
-    // What is stored is of the generation before it, and stays.
+    // The stored state, one generation older, is unchanged.
     ensures leaves { (stored : Stored) → D.honest disk.new → generation ≡ suc stored.generation
         → Keeps (D.sectors disk.old) layout.sectors stored (D.history disk.old)
         → LeavesOnly (D.history disk.old) (D.history disk.new) (Holds (D.sectors disk.old) layout.sectors stored) }
@@ -110,10 +110,10 @@ fn write_sectors<D: Sectors>(
         → Keeps (D.sectors disk.old) layout.sectors stored (D.history disk.old)
         → Keeps (D.sectors disk.old) layout.sectors stored (D.history disk.new) }
 
-    // Whatever it answers, a read gives of the sectors outside of that area what it gave.
+    // On success and on error, reads outside of that area are unchanged.
     ensures beside { D.honest disk.new → IsBeside layout.sectors generation (seen (D.history disk.old)) (seen (D.history disk.new)) }
 
-    // With the sectors before it there, those before the end are there.
+    // If the sectors before `from` are written, so are now those before `to`.
     ensures first { D.honest disk.new
         → HasFirst layout.sectors generation content.now.snapshot content.now.archive from (seen (D.history disk.old))
         → OnOk result (HasFirst layout.sectors generation content.now.snapshot content.now.archive to (seen (D.history disk.new))) }
@@ -128,7 +128,7 @@ fn write_sectors<D: Sectors>(
 }
 
 impl<D: Sectors + Drop> Service<D> {
-    /// Makes the publication the live generation, all of whose sectors are written.
+    /// Makes a publication whose sectors are all written the live generation.
     fn install_now(&mut self, publication: Publication) -> Result<u64, ServiceFault>
         requires none { self.old.publication ≡ None }
         requires unbroken { self.old.broken ≡ false }
@@ -176,7 +176,7 @@ impl<D: Sectors + Drop> Service<D> {
         }
     }
 
-    /// Goes on with a publication by a step. It was taken out of the service.
+    /// Continues a publication, taken out of the service, by a step.
     fn advance(&mut self, publication: Publication) -> Result<u64, ServiceFault>
         requires none { self.old.publication ≡ None }
         requires unbroken { self.old.broken ≡ false }
@@ -231,14 +231,14 @@ impl<D: Sectors + Drop> Service<D> {
         Ok(left - more + 1)
     }
 
-    /// Begins a publication: makes the snapshot of the map and the archive of its tiles in memory, and answers how many sectors they
-    /// take, and 1 more for the root. Nothing is written yet. Edits go on meanwhile: what is published is the map of this moment.
+    /// Begins a publication: builds the snapshot of the map and the archive of its tiles in memory, and returns how many sectors they
+    /// take, and 1 more for the root. Nothing is written yet. Edits continue meanwhile: the map of this moment is published.
     ///
     /// # Errors
     ///
-    /// `Broken`, `Busy` while a publication is under way, `NumbersSpent` after the last generation, `Memory`, `TooManyTiles`,
-    /// `AreaFull`, the first that there is in this order, but that `AreaFull` for a tile of 2^32 bytes comes before `TooManyTiles`.
-    /// `need` is the number of sectors of the first such tile, else of the snapshot and the archive. Nothing changes then.
+    /// `Broken`, `Busy` if a publication is under way, `NumbersSpent` after the last generation, `Memory`, `TooManyTiles`,
+    /// `AreaFull`, the first that applies in this order, but `AreaFull` for a tile of 2^32 bytes comes before `TooManyTiles`.
+    /// `need` is the number of sectors of the first such tile, else of the snapshot and the archive. On error nothing changes.
     pub fn publish_begin(&mut self) -> Result<u64, ServiceFault>
         ensures machine { (known : Known) → AnswersBegin (state_of known self.old) result
             (state_of (known_after known self.old (begin result)) self.new) }
@@ -271,14 +271,14 @@ impl<D: Sectors + Drop> Service<D> {
         }
     }
 
-    /// Goes on with the publication: writes its next `STEP_SECTORS` sectors, or what is left of them, and where none is left makes it
-    /// the live generation and frees the places of its edits in the journal. Answers how much is left, 0 once it is live. It takes no
-    /// memory.
+    /// Continues the publication: writes its next `STEP_SECTORS` sectors, or the rest. Once all are written, it makes the publication
+    /// the live generation and reclaims the journal places of its edits. Returns how much is left, 0 once it is live. It doesn't
+    /// allocate.
     ///
     /// # Errors
     ///
-    /// `Broken`, `Idle` where no publication is under way, `Device`, the first that there is in this order. After `Device` the
-    /// service is broken, and the publication given up.
+    /// `Broken`, `Idle` if no publication is under way, `Device`, the first that applies in this order. After `Device` the service is
+    /// broken, and the publication is cancelled.
     pub fn publish_step(&mut self) -> Result<u64, ServiceFault>
         ensures machine { (known : Known) → AnswersStep (state_of known self.old) result
             (state_of (known_after known self.old (step result)) self.new) }
@@ -289,17 +289,17 @@ impl<D: Sectors + Drop> Service<D> {
         ensures failed { IfErr result (λ fault. CountsDevice fault (D.faults self.old.disk) (D.faults self.new.disk)) }
         ensures refused { IfErr result (λ fault. fault ≢ Device → self.new ≡ self.old) }
 
-        // The archive that it shows stays at every answer but 0, after a fault of the disk too.
+        // Unless it returns 0, the archive that it serves is unchanged, after `Device` too.
         ensures archive { (result ≡ Ok 0 → ⊥) → KeepsArchive D.honest D.history self.old self.new }
 
-        // It makes at most 64 writes and a sync, or as the last step those writes and an installation's: two syncs and a write.
+        // It makes at most 64 writes and a sync. The last step makes those writes, and to install two syncs and a write.
         ensures steps { D.honest self.new.disk → moment (D.history self.new.disk) ≤ moment (D.history self.old.disk) + 67 }
 
-        // A crash at any moment of the call leaves what was stored, or where the step is the last one what it installs.
+        // A crash during the call leaves what was stored, or in the last step what it installs.
         ensures any_moment { (stored : Stored) → D.honest self.new.disk → IsUp (D.sectors self.old.disk) (D.history self.old.disk) stored self.old
             → LeavesOnly (D.history self.old.disk) (D.history self.new.disk)
             (EventLeaves (D.sectors self.old.disk) self.old.size stored self.old.publication (step result)) }
-        // And after it: what it installs where it answers 0, and else what was stored.
+        // After the call: what it installs if it returns 0, else what was stored.
         ensures after { (stored : Stored) → D.honest self.new.disk → IsUp (D.sectors self.old.disk) (D.history self.old.disk) stored self.old
             → OnOk result (IsUp (D.sectors self.new.disk) (D.history self.new.disk)
             (stored_after self.old.size stored self.old.publication (step result)) self.new) }
@@ -313,11 +313,11 @@ impl<D: Sectors + Drop> Service<D> {
         }
     }
 
-    /// Gives the publication up that is under way. It takes no memory, and writes nothing.
+    /// Cancels the publication that is under way. It allocates nothing and writes nothing.
     ///
     /// # Errors
     ///
-    /// `Broken`, `Idle` where no publication is under way. Nothing changes then.
+    /// `Broken`, `Idle` if no publication is under way. Nothing changes then.
     pub fn publish_cancel(&mut self) -> Result<(), ServiceFault>
         ensures machine { (known : Known) → AnswersCancel (state_of known self.old) result (state_of known self.new) }
         ensures same { self.new ≡ record self.old { publication = self.new.publication } }

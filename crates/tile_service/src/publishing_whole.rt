@@ -13,18 +13,18 @@ use sector_disk::Sectors;
 pub struct Published {
     /// The number of the generation.
     pub generation: u64,
-    /// The number of the last edit that it has.
+    /// The number of the last edit in it.
     pub edits: u64,
-    /// How many bytes its archive has.
+    /// The archive's length in bytes.
     pub archive_len: u64,
 }
 
 impl<D: Sectors + Drop> Service<D> {
-    /// Publishes the map: begins a publication, and goes on with it to its end.
+    /// Publishes the map: begins a publication, and continues it to its end.
     ///
     /// # Errors
     ///
-    /// Those of `publish_begin`, with which nothing changes, and `Device`, after which the service is broken.
+    /// Those of `publish_begin`, which change nothing, and `Device`, after which the service is broken.
     pub fn publish(&mut self) -> Result<Published, ServiceFault>
         ensures run { TakesPublication D.sectors D.honest D.history self.old result self.new }
         ensures size { self.new.size ≡ self.old.size }
@@ -34,7 +34,7 @@ impl<D: Sectors + Drop> Service<D> {
         ensures failed { IfErr result (λ fault. CountsDevice fault (D.faults self.old.disk) (D.faults self.new.disk)) }
         ensures idle { OnOk result (self.new.publication ≡ None) }
         ensures refused { IfErr result (λ fault. fault ≢ Device → self.new ≡ self.old) }
-        // The archive that it shows stays where it fails, after a fault of the disk too.
+        // On failure the archive that it serves is unchanged, after `Device` too.
         ensures archive { OnErr result (KeepsArchive D.honest D.history self.old self.new) }
         ensures given_up { IfErr result (λ fault. (fault ≡ Broken) ⊎ (fault ≡ Busy) ⊎ (self.new.publication ≡ None)) }
     {

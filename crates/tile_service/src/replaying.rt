@@ -1,4 +1,4 @@
-//! The map after the edits whose texts stand in the journal.
+//! The map after the edits in the journal.
 ghost use Rattle.std.specs.Prelude.{◌≡◌, ◌⊎◌, ◌<◌, ◌+◌, ◌^◌, ℕ, length, IfOk, IfErr, OnOk};
 ghost use Rattle.cached_map.specs.Cached.{WasMap};
 ghost use Rattle.feature_model.specs.Data.{ChangeData, change_data};
@@ -16,7 +16,7 @@ use feature_model::Change;
 use generations::{StoreFault, What};
 use std::alloc::{AllocError, Global};
 
-/// The edit of a text.
+/// Decodes an edit.
 fn edit_in(alloc: Global, text: &[u8]) -> Result<Change, StoreFault>
     ensures edit { IfOk result (λ edit. IsTextOf text.now (change_data edit)) }
     ensures fault { IfErr result (IsTextFault text.now) }
@@ -29,7 +29,7 @@ fn edit_in(alloc: Global, text: &[u8]) -> Result<Change, StoreFault>
     }
 }
 
-/// Makes an edit of this number in the map, which has room for it. It takes no memory.
+/// Applies an edit to the map, which has spare capacity for it. It doesn't allocate.
 pub(crate) fn apply(map: &mut CachedMap, edit: Change, number: u64)
     requires edit { IsChange (change_data edit) }
     requires room { HasRoomFor map.old.spare (change_data edit) }
@@ -49,7 +49,7 @@ pub(crate) fn apply(map: &mut CachedMap, edit: Change, number: u64)
     }
 }
 
-/// Makes the next edit of the map.
+/// Applies the map's next edit.
 fn make(map: &mut CachedMap, edit: Change) -> Result<(), StoreFault>
     requires edit { IsChange (change_data edit) }
     requires texts { length (snapshot map.old.features) + length (spelled_change (change_data edit)) < TEXTS_END }
@@ -72,7 +72,7 @@ fn make(map: &mut CachedMap, edit: Change) -> Result<(), StoreFault>
     Ok(())
 }
 
-/// Makes the edit of a text.
+/// Applies an encoded edit.
 fn replay_one(alloc: Global, map: &mut CachedMap, text: &[u8]) -> Result<(), StoreFault>
     requires texts { length (snapshot map.old.features) + length text.now < TEXTS_END }
     requires number { map.old.last + 1 < 2 ^ 64 }
@@ -87,9 +87,9 @@ fn replay_one(alloc: Global, map: &mut CachedMap, text: &[u8]) -> Result<(), Sto
     make(map, edit)
 }
 
-/// Makes the edits of texts in the map, from the first to the last, each with the number behind that of the one before it.
-/// `Damaged(Text)`: one of them is the text of no edit. `Memory`: an allocation failed, at one that sets a feature. After an error the
-/// edits before the faulty text are made. The memory of a text is given back as soon as its edit is made.
+/// Decodes texts as edits and applies them to the map in order, with consecutive numbers. `Damaged(Text)`: one of them is the text of
+/// no edit. `Memory`: an allocation failed, at one that sets a feature. After an error the edits before the faulty text are applied.
+/// Each text is freed as soon as its edit is applied.
 pub(crate) fn replay(
     alloc: Global,
     map: &mut CachedMap,

@@ -39,7 +39,7 @@ fn left(outcome: Result<u64, ServiceFault>) -> Answer
 }
 
 impl<D: Sectors + Drop> Service<D> {
-    /// The answer with the feature of a number.
+    /// The answer with the feature of an id.
     fn look(&self, id: u64) -> Answer
         ensures { (outcome : OrMemory _) × Tells (events.Look id) result (look id outcome)
             × IfTold outcome (λ f. f ≡ feature_at self.now.features id) }
@@ -78,7 +78,7 @@ impl<D: Sectors + Drop> Service<D> {
         }
     }
 
-    /// Answers events one after the other. `Memory` is the only error, told before the first event and with nothing changed.
+    /// Answers events in order. `Memory` is the only error, returned before the first event with nothing changed.
     pub fn run(&mut self, events: Vec<Event>) -> Result<Vec<Answer>, ServiceFault>
         ensures run { IfOk result (λ answers.
             (happenings : List Happening) × AreTold events.items answers.items happenings
@@ -95,7 +95,7 @@ impl<D: Sectors + Drop> Service<D> {
             Contains answers.items (Refused Device) → HasRisen (D.faults self.old.disk) (D.faults self.new.disk)) }
         ensures broke { self.old.broken ≡ false → self.new.broken ≡ true → HasRisen (D.faults self.old.disk) (D.faults self.new.disk) }
 
-        // A tile may meet a read that fails, and is cut then. A run without tiles has no call of the disk fail unless it breaks the service.
+        // If a read for a tile fails, the tile is generated from the map. In a run without tiles a failed disk call breaks the service.
         ensures faults { ¬ AsksTile events.items → self.new.broken ≡ false → D.faults self.new.disk ≡ D.faults self.old.disk }
         ensures failed { ¬ AsksTile events.items → self.old.broken ≡ false → self.new.broken ≡ true
             → HasFailed (D.faults self.old.disk) (D.faults self.new.disk) }

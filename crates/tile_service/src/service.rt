@@ -1,4 +1,4 @@
-//! A service: a disk, and what it has of it in memory.
+//! A service: a disk, and its state in memory.
 ghost use Rattle.std.specs.Prelude.{◌≡◌};
 
 use crate::publishing::Publication;
@@ -47,7 +47,7 @@ impl<D: Sectors + Drop> Model for Service<D> {
 }
 
 impl<D: Sectors + Drop> Service<D> {
-    /// Gives the disk back.
+    /// Returns the disk.
     pub fn into_disk(self) -> D
         ensures { result ≡ self.disk }
     {

@@ -25,18 +25,18 @@ use serde_json::Value;
 use std::alloc::AllocError;
 
 impl<D: Sectors + Drop> Service<D> {
-    /// The feature of a number, after the last acknowledged edit. It takes no memory.
+    /// The feature of an id, after the last acknowledged edit. It doesn't allocate.
     pub fn feature(&self, id: u64) -> Option<&Feature>
         ensures { option_map (λ f. feature_data f.now) result ≡ feature_at self.now.features id }
     {
         self.map.store().get(id)
     }
 
-    /// The bytes of a tile in the archive that was published last, none where it shows nothing there.
+    /// The bytes of a tile in the last published archive, `None` if it is empty there.
     ///
     /// # Errors
     ///
-    /// Why it can't be told: a read has failed, or there is no memory.
+    /// A read has failed, or an allocation.
     fn archived_tile(&mut self, at: TileAt) -> Result<Option<Vec<u8>>, ArchiveFault>
         ensures same { self.new ≡ record self.old { disk = self.new.disk; published = self.new.published } }
         ensures count { D.sectors self.new.disk ≡ D.sectors self.old.disk }
@@ -52,8 +52,8 @@ impl<D: Sectors + Drop> Service<D> {
         self.published.tile(&mut self.disk, archive, at)
     }
 
-    /// The bytes of a tile in the archive, where no edit since can have touched it; `None` where one may have, where the archive can't be
-    /// read, and of a broken service.
+    /// The bytes of a tile in the archive, if no edit since can have changed it; `None` if one may have, if the archive can't be read,
+    /// or if the service is broken.
     fn published_tile(&mut self, at: TileAt) -> Option<Option<Vec<u8>>>
         ensures same { self.new ≡ record self.old { disk = self.new.disk; published = self.new.published } }
         ensures count { D.sectors self.new.disk ≡ D.sectors self.old.disk }
@@ -79,10 +79,10 @@ impl<D: Sectors + Drop> Service<D> {
         }
     }
 
-    /// The bytes of a tile (Mapbox Vector Tile 2.1), after the last acknowledged edit: none where it shows nothing, so above the
-    /// greatest zoom too. One that was made before and that no edit can have touched since is copied; else one that no edit can have
-    /// touched since the archive was published is read there; any other is cut, and so is one whose reading fails. The only error is
-    /// `Memory`.
+    /// The bytes of a tile (Mapbox Vector Tile 2.1), after the last acknowledged edit: `None` if it is empty, so above the greatest
+    /// zoom too. A cached tile that no edit since can have changed is copied. Else, if no edit since the publication can have changed
+    /// the tile, it is read from the archive. Else, or if that read fails, it is generated from the map. The only error
+    /// is `Memory`.
     pub fn tile(&mut self, at: TileAt) -> Result<Option<Vec<u8>>, ServiceFault>
         ensures machine { (known : Known) → Happens (IsTrusted D.sectors D.honest D.history self.old self.new)
             (state_of known self.old) (tile at.z at.x at.y (tile_outcome result)) (state_of known self.new) }
@@ -110,7 +110,7 @@ impl<D: Sectors + Drop> Service<D> {
         }
     }
 
-    /// The JSON metadata of the map after the last acknowledged edit: what an archive of its tiles would have. The only error is
+    /// The JSON metadata of the map after the last acknowledged edit, as in an archive of its tiles. The only error is
     /// `Memory`.
     pub fn metadata(&self) -> Result<Value, ServiceFault>
         ensures metadata { IfOk result (λ v. IsMetadata self.now.features (view v)) }

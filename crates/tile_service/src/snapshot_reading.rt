@@ -1,4 +1,4 @@
-//! The map whose snapshot a disk has.
+//! The map of a disk's snapshot.
 ghost use Rattle.std.specs.Prelude.{◌≡◌, ◌⊎◌, ◌≤◌, ◌<◌, ◌+◌, length, IfErr, IfOk, OnOk};
 ghost use Rattle.sector_disk.specs.Disk.{seen};
 ghost use Rattle.sector_bytes.specs.Bytes.{StandsIn};
@@ -34,7 +34,7 @@ fn map_in(alloc: Global, text: &[u8]) -> Result<Store, StoreFault>
 {
     match Store::from_snapshot(alloc, text) {
         Ok(store) => {
-            // What a store has is a map.
+            // The contract of `len` states that it is a map.
             let _count = store.len();
             Ok(store)
         }
@@ -43,7 +43,7 @@ fn map_in(alloc: Global, text: &[u8]) -> Result<Store, StoreFault>
     }
 }
 
-/// Reads so many bytes that stand in consecutive sectors from a first one on.
+/// Reads `len` bytes from consecutive sectors, starting at `first`.
 fn read_text<D: Sectors>(
     alloc: Global,
     disk: &mut D,
@@ -70,7 +70,7 @@ fn read_text<D: Sectors>(
     }
 }
 
-/// Reads the snapshot that a root names, and gives its map.
+/// Reads the map of the snapshot that a root names.
 pub(crate) fn read_snapshot<D: Sectors>(
     alloc: Global,
     disk: &mut D,

@@ -147,7 +147,7 @@ pub returns-in-Step-clause-failed : goal.returns-in-Step-clause-failed
 returns-in-Step-clause-failed g c =
     step_fails _ _ c.publish_step.result _ _ (c.publish_step.ensures.machine no_known) c.publish_step.ensures.failed
 
--- ---- how the count of faults goes on
+-- ---- how the count of faults changes
 
 pub returns-in-Put-clause-never_falls : goal.returns-in-Put-clause-never_falls
 returns-in-Put-clause-never_falls g c = outcome_counts c.put.result _ _ c.put.ensures.faults c.put.ensures.failed
