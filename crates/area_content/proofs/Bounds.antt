@@ -17,7 +17,7 @@ use Rattle.area_content.specs.Content.{ContentView, sectors_taken}
 use Rattle.area_content.specs.Faults.{IsFirstLong, IsBounded, IsBoundedFor, IsFull}
 use Rattle.area_content.specs.Tiles.{IsArchiveOfMap}
 
--- the bytes are as few as the clause of `pm_build` says
+-- the size is within the bound of `pm_build`'s contract
 abbrev pub IsSize : List Tile → (metadata size : ℕ) → Type 0
 IsSize ts metadata size = (runs : List TileRun) × (contents : List (List ℕ)) × AreLongestRuns ts runs × AreDifferent contents
     × AllByRecursion (λ c. Contains (map (λ r. r.content) runs) c) contents × (size ≤ 127 + metadata + 64 * length runs + length (concat contents))

@@ -14,7 +14,7 @@ pub snapshot_sector : (c : ContentView) (index : ℕ) → index < sectors_of (le
     → take (length (sector_piece c.snapshot index)) (sector_at c index) ≡ sector_piece c.snapshot index
 snapshot_sector c index within = rw (lt-ltb index (sectors_of (length c.snapshot)) within) (begins (sector_piece c.snapshot index))
 
--- Behind the sectors of the snapshot a sector begins with a piece of the archive.
+-- After the sectors of the snapshot, a sector begins with a piece of the archive.
 pub archive_sector : (c : ContentView) (index : ℕ)
     → take (length (sector_piece c.archive index)) (sector_at c (sectors_of (length c.snapshot) + index)) ≡ sector_piece c.archive index
 archive_sector c index =

@@ -32,7 +32,7 @@ use Rattle.area_content.specs.Faults.{IsShort}
 use Rattle.feature_store.specs.Content.{IsTileContent}
 use Rattle.area_content.specs.Tiles.{AreTilesOf, HasNoTile, IsArchiveOfMap}
 
--- ---- ids and contents as an archive wants them
+-- ---- ids and contents as an archive requires them
 
 ascend_behind : (id : ℕ) (ts : List Tile) → AllByRecursion (λ k. nat_cmp id k ≡ Less) (keys_of ts) → IsStrictlySortedBy nat_cmp (keys_of ts)
     → IdsAscend (suc id) ts
@@ -109,7 +109,7 @@ module _ (m : FeatureMap) where
       let is = All-head (IsTile m) t ts each in
       ((id_below t is, some_bytes t is, All-head IsShort t ts short), each_fits ts (All-tail (IsTile m) t ts each) (All-tail IsShort t ts short))
 
-  -- an archive can be built of the tiles of a map, where each content is short enough
+  -- an archive can be built from the tiles of a map, if each content is short enough
   pub buildable : (ts : List Tile) → AreTiles m ts → All IsShort ts → build.AreTiles ts
   buildable ts are short = (ascend ts are.ascending, each_fits ts are.each short)
 

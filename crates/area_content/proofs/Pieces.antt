@@ -2,7 +2,7 @@
 use Rattle.std.proofs.Common.{◌≡◌, ℕ, ◌-◌, List, length, min, take, drop, ap, arith}
 use Rattle.std.proofs.lemmas.List.{take_min, take_rest}
 
--- the first of the bytes behind a place, 512 where there are so many
+-- the first 512 bytes from an offset, or fewer if there are fewer
 pub front_of : (bytes : List ℕ) (from n : ℕ) → n ≡ min (length (take (length bytes - from) (drop from bytes))) 512
     → take n (take (length bytes - from) (drop from bytes)) ≡ take 512 (drop from bytes)
 front_of bytes from n is =

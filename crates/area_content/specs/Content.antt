@@ -9,11 +9,11 @@ pub record ContentView : Type 0 where
   pub snapshot : List ℕ
   pub archive : List ℕ
 
--- how many sectors they take, each from a sector of its own on
+-- the number of sectors that they take, each starting at a sector
 abbrev pub sectors_taken : ContentView → ℕ
 sectors_taken c = sectors_of (length c.snapshot) + sectors_of (length c.archive)
 
--- a sector that begins with the piece, and has zeros behind its end
+-- a sector that begins with these bytes and is padded with zeros
 abbrev pub padded : List ℕ → List ℕ
 padded bytes = bytes ++ replicate (SECTOR_BYTES - length bytes) 0
 

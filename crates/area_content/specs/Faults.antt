@@ -14,7 +14,7 @@ use Rattle.area_content.specs.Tiles.{IsArchiveOfMap}
 use Rattle.area_content.specs.declared.fault.ContentFault.{ContentFault}
 use Rattle.area_content.specs.declared.fault.ContentFault.TheVariants.{TooManyTiles, AreaFull, Memory}
 
--- the content has fewer bytes than an entry of an archive can say
+-- the length of the content fits in an archive entry
 abbrev pub IsShort : Tile → Type 0
 IsShort t = length t.1 < 2 ^ 32
 
@@ -36,7 +36,7 @@ HasLongTile m size = (tiles : List Tile) × AreTiles m tiles × IsFirstLong tile
 
 -- ---- short tiles
 
--- the tiles of the map need more entries than an archive takes, and each could have one
+-- the tiles of the map need more entries than an archive takes, and each tile is short enough for one
 pub record HasManyTiles (m : FeatureMap) : Type 0 where
   pub tiles : List Tile
   pub are : AreTiles m tiles
@@ -45,7 +45,7 @@ pub record HasManyTiles (m : FeatureMap) : Type 0 where
   pub longest : AreLongestRuns tiles runs
   pub many : MAX_ENTRIES < length runs
 
--- The tiles need no more entries than an archive takes, and this one has no more bytes than a header, metadata of this length, 64 bytes
+-- The tiles need no more entries than an archive takes. The archive has at most the bytes of a header, metadata of this length, 64 bytes
 -- for each run, and each content of the runs once.
 pub record IsBounded (tiles : List Tile) (metadata : ℕ) (archive : List ℕ) : Type 0 where
   pub runs : List TileRun
@@ -63,26 +63,26 @@ IsBoundedFor m metadata archive = (tiles : List Tile) × AreTiles m tiles × All
 -- ---- faults
 
 -- The map needs this many sectors: those of its first tile that isn't short, or, if each is short, those of its snapshot and of the
--- archive that is built of it.
+-- archive that is built from it.
 abbrev pub NeedsSectors : FeatureMap → (metadata need : ℕ) → Type 0
 NeedsSectors m metadata need =
     ((size : ℕ) × HasLongTile m size × (need ≡ sectors_of size))
     ⊎ ((archive : List ℕ) × IsArchiveOfMap m archive × IsBoundedFor m metadata archive
     × (need ≡ sectors_of (length (snapshot m)) + sectors_of (length archive)))
 
--- the map needs more sectors than an area of this many, all of which are free
+-- the map needs more sectors than the area has, all of which are free
 pub record IsFull (m : FeatureMap) (metadata area need free : ℕ) : Type 0 where
   pub free_is : free ≡ area
   pub above : free < need
   pub needed : NeedsSectors m metadata need
 
--- the fault is one of this map, with metadata of so many bytes, for an area of so many sectors
+-- the fault applies to this map, with metadata of this many bytes and an area of this many sectors
 abbrev pub IsContentFault : FeatureMap → (metadata area : ℕ) → ContentFault → Type 0
 IsContentFault m metadata area TooManyTiles = HasManyTiles m
 IsContentFault m metadata area (AreaFull need free) = IsFull m metadata area need free
 IsContentFault m metadata area Memory = ⊤
 
--- what is told of a fault of the archive's making
+-- the fault reported if building the archive fails
 abbrev pub told_as : BuildFault → ContentFault
 told_as building.TooManyEntries = TooManyTiles
 told_as building.Memory = Memory

@@ -1,7 +1,7 @@
--- How the content of an area is kept.
+-- How the content of an area is stored.
 use Rattle.area_content.specs.declared.content.AreaContent.TheInside.{Inside}
 use Rattle.area_content.specs.Content.{ContentView}
 
--- the bytes without where they lie in memory
+-- the bytes, without their location in memory
 abbrev pub content_view : Inside → ContentView
 content_view c = record { snapshot = c.snapshot.items; archive = c.archive.items }

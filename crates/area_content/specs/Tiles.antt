@@ -11,11 +11,11 @@ pub record AreTilesOf (m : FeatureMap) (content : ℕ → Option (List ℕ)) : T
   pub each : (z x y id : ℕ) → IsTileId z x y id → IsTileContent (layers m z x y) (content id)
   pub only : (id : ℕ) (bytes : List ℕ) → content id ≡ Some bytes → (z : ℕ) × (x : ℕ) × (y : ℕ) × IsTileId z x y id
 
--- no tile of the map shows anything
+-- no tile of the map has layers
 abbrev pub HasNoTile : FeatureMap → Type 0
 HasNoTile m = (z x y : ℕ) → layers m z x y ≡ []
 
--- the bytes are an archive of exactly the tiles of the map, or none where it has no tile
+-- the bytes are an archive of exactly the tiles of the map, or empty if it has no tile
 abbrev pub IsArchiveOfMap : FeatureMap → List ℕ → Type 0
 IsArchiveOfMap m bytes =
     (HasNoTile m × (bytes ≡ [])) ⊎ ((HasNoTile m → ⊥) × ((content : ℕ → Option (List ℕ)) × AreTilesOf m content × IsArchiveOf bytes content))

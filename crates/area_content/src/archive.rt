@@ -26,7 +26,7 @@ pub(crate) fn large_content(tiles: &[Tile]) -> Option<usize>
     None
 }
 
-/// The archive of the tiles of a map, with this metadata, and no bytes where there are no tiles.
+/// The archive of the tiles of a map, with this metadata. It is empty if there are no tiles.
 pub(crate) fn archive_of(
     alloc: Global,
     tiles: &[Tile],

@@ -8,7 +8,7 @@ ghost use Rattle.sector_disk.specs.declared.disk.TheConstants.{SECTOR_BYTES};
 use sector_disk::SECTOR_BYTES;
 use std::marker::Model;
 
-/// The snapshot and the archive of a map, each from a sector of its own on.
+/// The snapshot and the archive of a map, each starting at a sector.
 #[derive(Debug, Drop)]
 pub struct AreaContent {
     snapshot: Vec<u8>,
@@ -25,7 +25,7 @@ impl Model for AreaContent {
     ghost view = { content_view };
 }
 
-/// How many sectors so many bytes take.
+/// How many sectors `bytes` bytes take.
 pub(crate) fn sectors_for(bytes: usize) -> u64
     ensures taken { result ≡ sectors_of bytes }
     ensures small { result ≤ 2 ^ 55 }
@@ -39,7 +39,7 @@ pub(crate) fn sectors_for(bytes: usize) -> u64
     bytes / SECTOR_BYTES as u64 + part
 }
 
-/// The part of the bytes in one of the sectors that they take.
+/// The part of the bytes in the sector at `index`.
 fn piece(bytes: &[u8], index: u64) -> &[u8]
     requires { index < sectors_of (length bytes.now) }
     ensures piece { result.now ≡ sector_piece bytes.now index }
@@ -49,7 +49,7 @@ fn piece(bytes: &[u8], index: u64) -> &[u8]
     &behind[..behind.len().min(SECTOR_BYTES)]
 }
 
-/// A sector of these bytes, with zeros behind their end.
+/// A sector of these bytes, padded with zeros.
 fn padded(bytes: &[u8]) -> [u8; SECTOR_BYTES]
     requires { length bytes.now ≤ SECTOR_BYTES }
     ensures { result ≡ padded bytes.now }
@@ -68,14 +68,14 @@ impl AreaContent {
         AreaContent { snapshot, archive }
     }
 
-    /// How many bytes the snapshot has.
+    /// The snapshot's length in bytes.
     pub fn snapshot_len(&self) -> u64
         ensures { result ≡ length self.now.snapshot }
     {
         self.snapshot.len() as u64
     }
 
-    /// How many bytes the archive has.
+    /// The archive's length in bytes.
     pub fn archive_len(&self) -> u64
         ensures { result ≡ length self.now.archive }
     {

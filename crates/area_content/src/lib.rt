@@ -1,5 +1,5 @@
-//! What a publication writes into an area: the snapshot of a map, and behind it, from the next sector on, the archive of its
-//! tiles. No call knows a disk.
+//! What a publication writes into an area: the snapshot of a map and, from the next sector on, the archive of its
+//! tiles. No call uses a disk.
 #![tactic(auto)]
 
 mod archive;

@@ -1,4 +1,4 @@
-//! The content of an area, made of a map.
+//! The content of an area for a map.
 ghost use Rattle.std.specs.Prelude.{◌≡◌, ◌<◌, ◌≤◌, ◌^◌, ℕ, length, IfOk, IfErr};
 ghost use Rattle.feature_store.specs.Store.{FeatureMap, snapshot};
 ghost use Rattle.pm_archive.specs.Archive.{IsMetadata};
@@ -13,7 +13,7 @@ use feature_store::Store;
 use pm_build::BuildFault;
 use std::alloc::Global;
 
-/// What is told of a fault of the archive's making.
+/// The fault reported if the archive build fails.
 fn told(fault: BuildFault) -> ContentFault
     ensures { result ≡ told_as fault }
 {
@@ -23,7 +23,7 @@ fn told(fault: BuildFault) -> ContentFault
     }
 }
 
-/// The archive of a map. A tile that no entry of an archive can name is larger than every area.
+/// The archive of a map. A tile too large for an archive entry is larger than every area.
 fn archive_for(
     alloc: Global,
     store: &Store,
@@ -36,7 +36,7 @@ fn archive_for(
     ensures bounded { IfOk result (λ bytes. IsBoundedFor store.now.features (length metadata.now) bytes.items) }
     ensures fault { IfErr result (IsContentFault store.now.features (length metadata.now) area) }
 {
-    // A clause of this call says that the features keep what a map keeps.
+    // The contract of this call states that the features satisfy the invariants of a map.
     let _count = store.len();
     let tiles = match store.tiles() {
         Ok(tiles) => tiles,
@@ -54,7 +54,7 @@ fn archive_for(
     }
 }
 
-/// The content, where an area of so many sectors takes it.
+/// The content, if it fits in an area of `area` sectors.
 fn within(content: AreaContent, area: u64) -> Result<AreaContent, ContentFault>
     ensures fits { IfOk result (λ c. (c ≡ content) × (sectors_taken c ≤ area)) }
     ensures full { (m : FeatureMap) (metadata : ℕ) → content.snapshot ≡ snapshot m → IsArchiveOfMap m content.archive
@@ -67,8 +67,8 @@ fn within(content: AreaContent, area: u64) -> Result<AreaContent, ContentFault>
     Ok(content)
 }
 
-/// The snapshot and the archive of a map, for an area of so many sectors; metadata is the JSON object that the archive
-/// carries.
+/// The snapshot and the archive of a map, for an area of `area` sectors. `metadata` is the JSON object in the
+/// archive.
 ///
 /// # Errors
 ///

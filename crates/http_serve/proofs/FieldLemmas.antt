@@ -69,7 +69,7 @@ often_none [] h = absurd (omega arith)
 often_none (v ∷ []) h = absurd (omega arith)
 often_none (v ∷ w ∷ more) h = refl
 
--- what isn't refused by a test is what stands behind it
+-- if a test doesn't refuse, the result is that of the other branch
 taken : (b : Bool) (r : Result ℕ Refusal) (e : Refusal) (n : ℕ) → cond b r (Err e) ≡ Ok n → r ≡ Ok n
 taken true r e n is = is
 taken false r e n is = cc
@@ -123,7 +123,7 @@ lists_close_last value n at last =
     ap (λ (parts : List (List ℕ)). list_any closes parts) one
     ∙ ap (λ (option : List ℕ). closes option || false) (sym (take_all n value (omega arith)))
 
--- where no byte passes, the index is the length
+-- if no byte passes, the index is the length
 pub no_index : (p : ℕ → Bool) (xs : List ℕ) → position p xs ≡ None → length xs ≡ position_or_len p xs
 no_index p xs none = by (nat_lt (position_or_len p xs) (length xs)) refl none
   where

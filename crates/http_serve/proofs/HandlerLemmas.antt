@@ -41,7 +41,7 @@ fits_none (Parts first size) parts none = absurd none
 pub whole_reply : (reply : Reply) → InParts reply.content ⊥ → IsReply reply (reply_view [] reply)
 whole_reply reply none = shown_reply reply [] (fits_none reply.content [] none)
 
--- all is said of what is read in parts, where nothing is
+-- any fact about content read in parts holds if none is read in parts
 pub none_in_parts : (content : Content) (fact : Type 0) → InParts content ⊥ → InParts content fact
 none_in_parts Empty fact none = tt
 none_in_parts (Fixed text) fact none = tt

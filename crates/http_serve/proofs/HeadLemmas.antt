@@ -39,7 +39,7 @@ IsHead_unique bytes more h k r q x y = request_prefix_free bytes more h k r q x.
 pub overflows_no_head : (bytes : List ℕ) → RequestOverflows 32 bytes → (more : List ℕ) → HasNoHead (bytes ++ more)
 overflows_no_head bytes over more head rest is = let many = over more head rest is.reads in let few = is.fields in absurd (omega arith)
 
--- a head that ends behind the limit
+-- a head that ends after the limit
 pub long_no_head : (bytes : List ℕ) (h : RequestHead) (r : List ℕ) → ReadsRequest bytes h r → 8192 < length (print_request h)
     → (more : List ℕ) → HasNoHead (bytes ++ more)
 long_no_head bytes h r reads long more head rest is =
@@ -208,7 +208,7 @@ headless_missing bytes none few = record {
     same [] e = subst HasNoHead (sym (append-nil bytes)) none
     same (x ∷ more) e = absurd (omega arith)
 
--- the same by the parser's word
+-- the same by the parser's result
 pub partial_missing : (bytes : List ℕ) → HasNoRequest bytes → length bytes < 8192 → IsMissing bytes NO_HEAD (length bytes + 1)
 partial_missing bytes none few = headless_missing bytes (λ head rest is. none head rest is.reads) few
 
@@ -223,7 +223,7 @@ refused_none bytes (Some head) refusal m r fault x =
     let all = ap length same.1 in
     absurd (omega (arith, short.0, length-append m.body r))
 
--- where no whole request is there
+-- what holds if no request is complete
 pub missing_now : (bytes : List ℕ) (rejection : Rejection) (until : ℕ) → IsMissing bytes rejection until
     → (length bytes < MOST_REQUEST) × (head : Option RequestHead) × (rejection.bare ≡ has_head_method head) × IsRefused bytes head rejection.refusal
 missing_now bytes rejection until is =

@@ -15,7 +15,7 @@ pub range_from : (xs : List ℕ) (i j n : ℕ) → i + n ≤ j → slice_range x
 range_from xs i j n h =
     range_is xs (i + n) j h ∙ sym (drop-drop n i (take j xs)) ∙ ap (λ (t : List ℕ). drop n t) (sym (range_is xs i j (omega arith)))
 
--- with more behind the second offset
+-- with more bytes after the second offset
 pub range_more : (xs ys more : List ℕ) (i j n : ℕ) → i ≤ j → j ≤ length xs → take (j + n) ys ≡ take j xs ++ more
     → slice_range ys i (j + n) ≡ slice_range xs i j ++ more
 range_more xs ys more i j n h within joined =
@@ -23,7 +23,7 @@ range_more xs ys more i j n h within joined =
     ∙ drop-append-le i (take j xs) more (omega (arith, length-take-le j xs within))
     ∙ ap (λ (t : List ℕ). t ++ more) (sym (range_is xs i j h))
 
--- what a read wrote behind a offset
+-- what a read wrote after an offset
 pub written_behind : (xs buf rest : List ℕ) (j n : ℕ) → j ≤ length xs → n ≤ length buf
     → take (j + n) (take j xs ++ (buf ++ rest)) ≡ take j xs ++ take n buf
 written_behind xs buf rest j n within few =
@@ -44,7 +44,7 @@ refilled items new len size =
 
 module _ (items old new : List ℕ) (len i j : ℕ) (kept : length new ≡ length old) (was : old ≡ items) (size : length old ≡ len)
     (ordered : i ≤ j) (within : j ≤ len) where
-  -- a read wrote behind the second offset
+  -- a read wrote after the second offset
   pub read_more : (more : List ℕ) (n : ℕ) → take (j + n) new ≡ take j old ++ more
       → slice_range (take len (new ++ drop (length new) items)) i (j + n) ≡ slice_range items i j ++ more
   read_more more n joined =

@@ -1,4 +1,4 @@
--- What reads and writes, one after the other, do to known bytes.
+-- What sequences of reads and writes do to known bytes.
 use Rattle.std.proofs.Common.{ℕ, ◌+◌, ◌<◌, List, [], ◌++◌, length, take, Option, None, Some, Result, Ok, Err, ◌∙◌, ap, subst, append_assoc, sym, refl, arith}
 use Rattle.std.proofs.Common.{length-append}
 use Rattle.std.proofs.lemmas.List.{append-nil, take-append-le}

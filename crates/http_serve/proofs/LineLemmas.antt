@@ -1,4 +1,4 @@
--- Bytes without an empty line behind a line have no head.
+-- Bytes without an empty line after a line have no head.
 use Rattle.std.proofs.Common.{◌≡◌, ◌≢◌, ℕ, ◌+◌, ◌-◌, ◌<◌, ◌≤◌, List, [], ◌∷◌, ◌++◌, Bool, true, false, ◌==◌, ◌||◌, if◌then◌else◌, IsTrue, length, take, drop}
 use Rattle.std.proofs.Common.{refl, sym, ap, ◌∙◌, subst, arith, append_assoc, length-append}
 use Rattle.std.specs.List.{flat_map}
@@ -128,7 +128,7 @@ method_past : (method : List ℕ) → IsToken method → IsPast (after_bytes Bla
 method_past [] is = let some = is.0 in absurd (omega arith)
 method_past (b ∷ method) is = past_bytes (after_byte Blank b) method (token_inside b (is.1 0 0 (omega arith)))
 
--- a head ends with an empty line behind a line
+-- a head ends with an empty line after a line
 head_empty : (h : RequestHead) → IsRequestHead h → after_bytes Blank (print_request h) ≡ Empty
 unfolding print_request
 head_empty h is =
@@ -149,7 +149,7 @@ head_empty h is =
     after_bytes-append Blank (line ++ print_end h.line_end) section
     ∙ section_end (after_bytes Blank (line ++ print_end h.line_end)) h.fields h.last ended
 
--- without an empty line behind a line there is no head
+-- without an empty line after a line there is no head
 pub lines_no_head : (bytes : List ℕ) → after_bytes Blank bytes ≢ Empty → HasNoHead bytes
 lines_no_head bytes other head rest is =
     other (

@@ -17,7 +17,7 @@ use Rattle.http_serve.specs.declared.contents.SendFault.TheVariants as cuts
 use Rattle.http_serve.specs.Told.{HasContent}
 use Rattle.http_serve.proofs.KnownLemmas.{Appends-then, Appends_none}
 
--- one more part behind those so far
+-- one more part after those so far
 next_part : (xs : List ℕ) (offset at count : ℕ) → offset ≤ at
     → take (at - offset) (drop offset xs) ++ take count (drop at xs) ≡ take (at + count - offset) (drop offset xs)
 next_part xs offset at count behind =
@@ -48,7 +48,7 @@ part_cut xs offset at count u v w n behind within so_far some more =
 
 -- ---- a reply whose content is being read
 
--- a part that was read stands in it
+-- the reply with a part that was read is a later reply
 pub part_later : (reply : ReplyView) (offset : ℕ) (part : List ℕ) → offset + length part ≤ length reply.content
     → IsLater offset reply (with_part offset part reply)
 part_later reply offset part within =
@@ -203,7 +203,7 @@ later_reply reply view later first size parts is next =
       subst (λ (c : Content). FitsParts later.content c) (sym parts) (next.size ∙ fits.0, next.front ∙ fits.1),
     )
 
--- what is said where a content is read in parts
+-- facts that are required only if a content is read in parts
 pub in_parts : (content : Content) (A B : Type 0) → (A → B) → InParts content A → InParts content B
 in_parts Empty A B f is = tt
 in_parts (Fixed text) A B f is = tt
@@ -216,7 +216,7 @@ readable size (Fixed text) parts fits is = tt
 readable size (Whole bytes) parts fits is = tt
 readable size (Parts first total) parts fits is = (is ∙ fits.0, omega (arith, is, ap length fits.1, length-take (length first.items) parts))
 
--- the fault that is told of a cut is the handler's only where a content is read in parts
+-- the fault reported for a cut is the handler's only if a content is read in parts
 pub cut_content : (size requests : ℕ) (fault : SendFault) → IsCutIn size fault → HasContent size (cut_after requests fault)
 cut_content size requests cuts.Write is = tt
 cut_content size requests cuts.Content is = is

@@ -46,7 +46,7 @@ refusal_unique bytes (Some h) (Some k) a b x y =
     let some : RequestHead → Option RequestHead = λ head. Some head in
     (ap some same.0, fault_unique (length y.rest) (framing k.minor (fields_of k)) a b moved y.fault)
 
--- no request is where the bytes end, but for one that ends them
+-- at the ending of the bytes there is no request, except one that ends the connection
 end_none : (bytes : List ℕ) (ending : Ending) (m : Request) (r : List ℕ) → (ending ≢ going) → EndsAs bytes ending → IsRequest bytes m r
     → asks_to_close m.head ≡ false → ⊥
 end_none bytes going m r other x is goes_on = other refl

@@ -78,16 +78,16 @@ reason_short n =
     by_case (n == 511) _ _ (lit≤ tt) (
     lit≤ tt))))))))))))))))))))))))))))))))))))))))))))))))))))))))))))))
 
--- three texts are added one after the other
+-- three texts are added in sequence
 pub three_added : (front a b c x y z : List ℕ) → x ≡ front ++ a → y ≡ x ++ b → z ≡ y ++ c → z ≡ front ++ (a ++ b ++ c)
 three_added front a b c x y z first second third =
     third ∙ ap (λ (t : List ℕ). t ++ c) (second ∙ ap (λ (t : List ℕ). t ++ b) first) ∙ simp append_assoc
 
--- four texts are added one after the other
+-- four texts are added in sequence
 pub four_added : (front a b c d w x y z : List ℕ) → w ≡ front ++ a → x ≡ w ++ b → y ≡ x ++ c → z ≡ y ++ d → z ≡ front ++ (a ++ b ++ c ++ d)
 four_added front a b c d w x y z first second third fourth =
     fourth ∙ ap (λ (t : List ℕ). t ++ d) (three_added front a b c w x y first second third) ∙ simp append_assoc
 
--- the second of two texts is added where a test fails
+-- the second of two texts is added if a test fails
 pub others_added : (b : Bool) (front x y z : List ℕ) → b ≡ false → z ≡ front ++ y → z ≡ front ++ cond b x y
 others_added b front x y z fails is = is ∙ ap (λ (t : Bool). front ++ cond t x y) (sym fails)

@@ -199,7 +199,7 @@ module _ {S : Type 0} (replies : S → RequestView → ReplyView → S → Type 
       none = λ request behind. refused_none waiting so.head reason.refusal request behind so.refused;
     }
 
-    -- a read that failed gave nothing
+    -- a read that failed returned no bytes
     pub SoFar_failed_read : (last : Option (List ℕ)) → Consumes leaves last [] → IsServedSoFar replies old left held requests middle last holds
     SoFar_failed_read last came = record {
       bytes = so.bytes;
@@ -335,7 +335,7 @@ module _ {S : Type 0} (replies : S → RequestView → ReplyView → S → Type 
           subst (λ (f : ServeFault). IsServedUpTo replies fails old left held f middle last now) (sym z.told)
           (SoFar_unfinished last z.count now (subst (λ (t : List ℕ). Consumes leaves last t) none_came came) (at_end zero) z.some z.cut z.written)
 
-  -- where the input is known, all of it is answered
+  -- if the input is known, all of it is answered
   served_whole : (old : S) (input : List ℕ) (held : Option (List ℕ)) (served : Served) (new : S) (leaves holds : Option (List ℕ))
       → IsServedTo replies old (Some input) held served new leaves holds → IsAnswered replies old input held served new holds
   served_whole old input held served new None holds x = absurd x.read
@@ -366,7 +366,7 @@ module _ {S : Type 0} (replies : S → RequestView → ReplyView → S → Type 
 -- ---- turns
 
 module _ {R : Type 0} (remaining : R → Option (List ℕ)) where
-  -- reads that go on from here are so many more since the first reader
+  -- n reads from the current reader are reads + n reads from the first one
   abbrev pub Adds : (reads : ℕ) → (first now : R) → Type 0
   Adds reads first now = (n : ℕ) (last : R) → GivesTimes remaining n now last → GivesTimes remaining (reads + n) first last
 
@@ -412,7 +412,7 @@ pub most_start : (input : Option (List ℕ)) (n : ℕ) → LosesAtMost n input i
 most_start None n = tt
 most_start (Some input) n = omega arith
 
--- one more read gave so many bytes
+-- one more read returned n bytes
 pub most_more : (input left last : Option (List ℕ)) (a b n : ℕ) (more : List ℕ) → LosesAtMost a input left → Consumes left last more
     → n ≡ length more → a + n ≤ b → LosesAtMost b input last
 most_more None left last a b n more so came size few = tt

@@ -25,7 +25,7 @@ pub record IsFrameOf (bytes : List ℕ) (frame : Frame) (request : Request) : Ty
   pub range : option_map (span_bytes bytes) frame.range ≡ range_of (fields_of request.head)
   pub close : frame.close ≡ asks_to_close request.head
 
--- bytes, with what may follow them up to a length, begin with no request
+-- bytes begin with no request, nor do they with more bytes appended while the total length is below until
 pub record IsMissing (bytes : List ℕ) (rejection : Rejection) (until : ℕ) : Type 0 where
   pub few : length bytes < until
   pub bound : until ≤ MOST_REQUEST

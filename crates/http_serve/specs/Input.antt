@@ -1,12 +1,12 @@
--- What a buffer of input holds.
+-- What an input buffer holds.
 use Rattle.std.specs.Prelude.{ℕ, ◌*◌, List}
 use Rattle.http_serve.specs.declared.frames.TheConstants.{MOST_REQUEST}
 
--- how many bytes the buffer has, and so how many a read gives at most
+-- the size of the buffer in bytes, and so the most bytes that a read returns
 abbrev pub buffer_size : ℕ
 buffer_size = 2 * MOST_REQUEST
 
--- the bytes that wait, and how many more the buffer takes behind them
+-- the waiting bytes, and how many more bytes fit in the buffer after them
 pub record InputView : Type 0 where
   pub waiting : List ℕ
   pub room : ℕ

@@ -1,4 +1,4 @@
--- A reply in two: its front, which the reply has, and its rest, which is read in parts.
+-- A reply in two pieces: its front, which the reply holds, and its rest, which is read in parts.
 use Rattle.std.specs.Prelude.{ℕ, ◌≡◌, ◌<◌, ◌≤◌, List, [], ◌++◌, ◌||◌, Bool, cond, take, drop, length, Result, Ok, Err, ⊤}
 use Rattle.http_serve.specs.declared.connection.ServeFault.{ServeFault}
 use Rattle.http_serve.specs.declared.connection.ServeFault.TheVariants as ends
@@ -9,21 +9,21 @@ use Rattle.http_serve.specs.declared.replies.Content.TheVariants.{Empty, Fixed, 
 use Rattle.http_serve.specs.declared.replies.Reply.{Reply}
 use Rattle.http_serve.specs.Reply.{ReplyView, InParts, head_view, content_size, has_no_content, reply_head}
 
--- the bytes of a content that a reply has: all of them, or the first ones
+-- the content bytes that a reply holds: all of them, or the first ones
 abbrev pub front_content : Content → List ℕ
 front_content Empty = []
 front_content (Fixed text) = text.now
 front_content (Whole bytes) = bytes.items
 front_content (Parts first size) = first.items
 
--- those behind them, where it is read in parts as these bytes
+-- the content bytes after the front, if the content is read in parts and its bytes are parts; otherwise none
 abbrev pub rest_content : List ℕ → Content → List ℕ
 rest_content parts Empty = []
 rest_content parts (Fixed text) = []
 rest_content parts (Whole bytes) = []
 rest_content parts (Parts first size) = drop (length first.items) parts
 
--- the head of a reply, and the content that it has
+-- the head of a reply, and the content that it holds
 abbrev pub front_bytes : Bool → Bool → Reply → List ℕ
 front_bytes close bare reply =
     reply_head close (head_view reply) ++ cond (bare || has_no_content reply.status) [] (front_content reply.content)
@@ -32,28 +32,28 @@ front_bytes close bare reply =
 abbrev pub rest_bytes : Bool → List ℕ → Reply → List ℕ
 rest_bytes bare parts reply = cond (bare || has_no_content reply.status) [] (rest_content parts reply.content)
 
--- so many bytes are read in parts, as many as a content says that it has, and the first ones are among them
+-- if the content is read in parts, its declared length is size, and its first bytes are no longer than that
 abbrev pub IsReadable : ℕ → Content → Type 0
 IsReadable size content = InParts content ((size ≡ content_size content) × (length (front_content content) ≤ size))
 
--- the same reply, of which the content before an offset is as it was, and is as long as it was
+-- the same reply, with content of the same length that is unchanged before an offset
 pub record IsLater (offset : ℕ) (reply later : ReplyView) : Type 0 where
   pub same : later ≡ record reply { content = later.content }
   pub size : length later.content ≡ length reply.content
   pub front : take offset later.content ≡ take offset reply.content
 
--- a reply is cut for its content only where this is read in parts
+-- a reply is cut because of its content only if this is read in parts
 abbrev pub IsCutIn : ℕ → SendFault → Type 0
 IsCutIn size cuts.Write = ⊤
 IsCutIn size cuts.Content = 0 < size
 
--- the first of a reply that was written, or whose writing failed, and the second of one whose content couldn't be read to its end
+-- the first fact if the reply was written or a write failed, the second if its content couldn't be read to its end
 abbrev pub GivesOrFails : Result (Unit {0}) SendFault → (gives fails : Type 0) → Type 0
 GivesOrFails (Ok done) gives fails = gives
 GivesOrFails (Err cuts.Write) gives fails = gives
 GivesOrFails (Err cuts.Content) gives fails = fails
 
--- how a connection ends on which so many replies were written whole, and the next one was cut
+-- the fault of a connection on which this many replies were written in full and the next one was cut
 abbrev pub cut_after : ℕ → SendFault → ServeFault
 cut_after requests cuts.Write = ends.Write requests
 cut_after requests cuts.Content = ends.Content requests

@@ -16,7 +16,7 @@ use Rattle.http_serve.specs.declared.replies.ContentRange.{ContentRange}
 use Rattle.http_serve.specs.declared.replies.ContentRange.TheVariants.{Part, Unsatisfied}
 use Rattle.http_serve.specs.declared.replies.Reply.{Reply}
 
--- what a reply says: its status, the type of its content, which part of it this is, the methods that are allowed, and the content
+-- what a reply says: its status, the type and the range of its content, the allowed methods, and the content
 pub record ReplyView : Type 0 where
   pub status : ℕ
   pub kind : Option (List ℕ)
@@ -24,7 +24,7 @@ pub record ReplyView : Type 0 where
   pub allow : Option (List ℕ)
   pub content : List ℕ
 
--- what the head of a reply says: the same, but of the content its length
+-- what the head of a reply says: the same, but the length of the content instead of the content
 pub record HeadView : Type 0 where
   pub status : ℕ
   pub kind : Option (List ℕ)
@@ -35,34 +35,34 @@ pub record HeadView : Type 0 where
 abbrev pub head_of : ReplyView → HeadView
 head_of reply = record { status = reply.status; kind = reply.kind; range = reply.range; allow = reply.allow; size = length reply.content }
 
--- a reply of a status, a type and a content, which says nothing else
+-- a reply with only a status, a type and a content
 abbrev pub plain_reply : ℕ → Option (List ℕ) → List ℕ → ReplyView
 plain_reply status kind content = record { status = status; kind = kind; range = None; allow = None; content = content }
 
 -- ---- replies of a program
 
--- the bytes of a content, of which these are read in parts
+-- the bytes of a content; if it is read in parts, they are parts
 abbrev pub content_bytes : List ℕ → Content → List ℕ
 content_bytes parts Empty = []
 content_bytes parts (Fixed text) = text.now
 content_bytes parts (Whole bytes) = bytes.items
 content_bytes parts (Parts first size) = parts
 
--- how many bytes a content says that it has
+-- the declared length of a content
 abbrev pub content_size : Content → ℕ
 content_size Empty = 0
 content_size (Fixed text) = length text.now
 content_size (Whole bytes) = length bytes.items
 content_size (Parts first size) = size
 
--- a content that is read in parts is as long as it says, and begins as it says
+-- a content that is read in parts has its declared length and begins with its declared first bytes
 abbrev pub FitsParts : List ℕ → Content → Type 0
 FitsParts parts Empty = ⊤
 FitsParts parts (Fixed text) = ⊤
 FitsParts parts (Whole bytes) = ⊤
 FitsParts parts (Parts first size) = (length parts ≡ size) × (take (length first.items) parts ≡ first.items)
 
--- what a reply says, where its content is read in parts as these bytes
+-- what a reply says; if its content is read in parts, it is these bytes
 abbrev pub reply_view : List ℕ → Reply → ReplyView
 reply_view parts reply = record {
   status = reply.status;
@@ -82,15 +82,15 @@ head_view reply = record {
   size = content_size reply.content;
 }
 
--- the name of the type and the list of methods have at most so many bytes, so that the head of a reply has a bound
+-- the content type and the list of methods have at most MOST_WORD bytes each, so that the head of a reply is bounded
 abbrev pub HasShortWords : HeadView → Type 0
 HasShortWords head = IfSome head.kind (λ kind. length kind ≤ MOST_WORD) × IfSome head.allow (λ allow. length allow ≤ MOST_WORD)
 
--- what a reply says is this, where its content is read in parts too
+-- the view is what a reply says, also if its content is read in parts
 abbrev pub IsReply : Reply → ReplyView → Type 0
 IsReply reply view = (view ≡ reply_view view.content reply) × FitsParts view.content reply.content
 
--- a fact that counts where a content is read in parts
+-- a fact that is required only if a content is read in parts
 abbrev pub InParts : Content → Type 0 → Type 0
 InParts Empty fact = ⊤
 InParts (Fixed text) fact = ⊤
@@ -101,7 +101,7 @@ InParts (Parts first size) fact = fact
 abbrev pub IsWhole : Reply → Type 0
 IsWhole reply = HasShortWords (head_view reply) × InParts reply.content ⊥
 
--- these bytes stand at an offset of the content
+-- the same reply with these bytes at an offset of its content
 abbrev pub with_part : (offset : ℕ) → List ℕ → ReplyView → ReplyView
 with_part offset part reply =
     record reply { content = take offset reply.content ++ part ++ drop (offset + length part) reply.content }
@@ -111,43 +111,43 @@ with_part offset part reply =
 abbrev pub line_end : List ℕ
 line_end = 13 ∷ 10 ∷ []
 
--- the reason phrase, which is empty where the status has none
+-- the reason phrase, which is empty if the status has none
 unfoldable pub phrase_of : ℕ → List ℕ
 phrase_of status = unwrap_or (reason_phrase status) []
 
--- the line of a field whose value is a word, where there is one; its name has a colon and a space behind it
+-- the line of a field whose value is a word, if there is one; the name ends with a colon and a space
 unfoldable pub word_line : List ℕ → Option (List ℕ) → List ℕ
 word_line name None = []
 word_line name (Some word) = name ++ word ++ line_end
 
--- the name of the field of the type
+-- the name of the content-type field
 unfoldable pub type_name : List ℕ
 type_name = codes "content-type: "
 
--- the name of the field of the methods that are allowed
+-- the name of the allow field
 unfoldable pub allow_name : List ℕ
 allow_name = codes "allow: "
 
--- the line of a part: its first byte, its last byte, and how many there are in all (RFC 9110, 14.4)
+-- the content-range line of a part: its first byte, its last byte, and the total number of bytes (RFC 9110, 14.4)
 unfoldable pub part_line : ℕ → ℕ → ℕ → List ℕ
 part_line first last total =
     codes "content-range: bytes " ++ decimal first ++ codes "-" ++ decimal last ++ codes "/" ++ decimal total ++ line_end
 
--- the line of a range that isn't there: how many bytes there are in all
+-- the content-range line of an unsatisfied range: the total number of bytes
 unfoldable pub unsatisfied_line : ℕ → List ℕ
 unsatisfied_line total = codes "content-range: bytes */" ++ decimal total ++ line_end
 
--- the line that tells which part of a whole the content is, where there is one
+-- the content-range line, if there is a range
 abbrev pub range_line : Option ContentRange → List ℕ
 range_line None = []
 range_line (Some (Part first last total)) = part_line first last total
 range_line (Some (Unsatisfied total)) = unsatisfied_line total
 
--- the line of the length
+-- the content-length line
 unfoldable pub length_line : ℕ → List ℕ
 length_line size = codes "content-length: " ++ decimal size ++ line_end
 
--- the line that tells the end of the connection
+-- the line that announces the end of the connection, if it ends
 unfoldable pub closing_line : Bool → List ℕ
 closing_line true = codes "connection: close\r\n"
 closing_line false = []
@@ -156,23 +156,23 @@ closing_line false = []
 abbrev pub has_no_content : ℕ → Bool
 has_no_content status = status == 204
 
--- the lines of the fields; those that speak of a content are left out where there is none
+-- the lines of the fields; those that describe the content are left out of a 204 reply
 abbrev pub field_lines : HeadView → List ℕ
 field_lines head =
     cond (has_no_content head.status) (word_line allow_name head.allow)
     (word_line type_name head.kind ++ range_line head.range ++ word_line allow_name head.allow ++ length_line head.size)
 
--- the head of a reply, with an empty line, which says whether it is the last one
+-- the head of a reply, with its empty line; it says whether the reply is the last one
 unfoldable pub reply_head : Bool → HeadView → List ℕ
 reply_head close head =
     codes "HTTP/1.1 " ++ code_digits head.status ++ codes " " ++ phrase_of head.status ++ line_end
     ++ field_lines head ++ closing_line close ++ line_end
 
--- the content that is sent: none in a reply that is only a head
+-- the content that is sent: none in a 204 reply or if only the head is sent
 abbrev pub sent_content : Bool → ReplyView → List ℕ
 sent_content bare reply = cond (bare || has_no_content reply.status) [] reply.content
 
--- a reply, which says whether it is the last one, and is whole or only its head
+-- a reply, in full or only its head; it says whether it is the last one
 abbrev pub reply_bytes : Bool → Bool → ReplyView → List ℕ
 reply_bytes close bare reply = reply_head close (head_of reply) ++ sent_content bare reply
 
@@ -190,11 +190,11 @@ reply_at bytes frame reply = reply_bytes frame.close (is_head (span_bytes bytes 
 
 -- ---- refusals
 
--- a status, and a text that tells the refusal
+-- a status, and a text that names the refusal
 abbrev pub refused_by : ℕ → List ℕ → ReplyView
 refused_by status text = plain_reply status (Some (codes "text/plain")) text
 
--- the word of the refusal on a line: 400 Bad Request, or the status that RFC 9110 and RFC 9112 have for it
+-- the name of the refusal on a line, with 400 Bad Request or the status that RFC 9110 and RFC 9112 define for it
 unfoldable pub refusal_view : Refusal → ReplyView
 refusal_view Head = refused_by 400 (codes "Head\n")
 refusal_view Host = refused_by 400 (codes "Host\n")
@@ -209,6 +209,6 @@ abbrev pub has_head_method : Option RequestHead → Bool
 has_head_method None = false
 has_head_method (Some head) = is_head head.method
 
--- the reply to what is no request, whose head this is, where it has one
+-- the reply to an invalid request with this head, if it has one
 abbrev pub refusal_bytes : Option RequestHead → Refusal → List ℕ
 refusal_bytes head refusal = reply_bytes true (has_head_method head) (refusal_view refusal)

@@ -1,4 +1,4 @@
--- The requests that the bytes of a connection are.
+-- The requests in the bytes of a connection.
 use Rattle.std.specs.Prelude.{◌≡◌, ℕ, ◌<◌, ◌≤◌, List, [], ◌∷◌, ◌++◌, Bool, true, false, ◌==◌, ◌||◌, length, map, Option, None, Some, option_map}
 use Rattle.std.specs.Prelude.{Result, Ok, Err, ⊤}
 use Rattle.std.specs.List.{before_first}
@@ -18,18 +18,18 @@ pub record Request : Type 0 where
 abbrev pub fields_of : RequestHead → List NamedValue
 fields_of head = map name_and_value head.fields
 
--- bytes are this head and then rest, within the limits of a head; the empty lines before a head are of it
+-- bytes are this head, within its limits, followed by rest; empty lines before a head belong to it
 pub record IsHead (bytes : List ℕ) (head : RequestHead) (rest : List ℕ) : Type 0 where
   pub reads : ReadsRequest bytes head rest
   pub size : length (print_request head) ≤ MOST_HEAD
   pub fields : length head.fields ≤ MOST_FIELDS
 
--- bytes are this request and then rest
+-- bytes are this request followed by rest
 pub record IsRequest (bytes : List ℕ) (request : Request) (rest : List ℕ) : Type 0 where
   pub head : IsHead bytes request.head (request.body ++ rest)
   pub body : framing request.head.minor (fields_of request.head) ≡ Ok (length request.body)
 
--- the connection ends after this request: it is of HTTP/1.0, or says so
+-- the connection ends after this request: it is HTTP/1.0 or asks to close
 abbrev pub asks_to_close : RequestHead → Bool
 asks_to_close head = head.minor == 0 || says_close (fields_of head)
 
@@ -37,7 +37,7 @@ asks_to_close head = head.minor == 0 || says_close (fields_of head)
 pub record RequestView : Type 0 where
   pub method : List ℕ
   pub path : List ℕ
-  -- the value of the one field called range
+  -- the value of the only range field
   pub range : Option (List ℕ)
   pub body : List ℕ
   -- whether the connection ends after the reply
@@ -74,7 +74,7 @@ request_view_at bytes frame = record {
 abbrev pub HasNoHead : List ℕ → Type 0
 HasNoHead bytes = (head : RequestHead) (rest : List ℕ) → ¬ (IsHead bytes head rest)
 
--- a head states this, and so many bytes are left behind it: why that is no request
+-- why there is no request if the framing of its head is this and this many bytes follow the head
 abbrev pub IsFault : ℕ → Result ℕ Refusal → Refusal → Type 0
 IsFault left (Ok size) refusal = (left < size) × (refusal ≡ Short)
 IsFault left (Err stated) refusal = refusal ≡ stated
@@ -85,12 +85,12 @@ pub record HasFault (bytes : List ℕ) (head : RequestHead) (refusal : Refusal) 
   pub is : IsHead bytes head rest
   pub fault : IsFault (length rest) (framing head.minor (fields_of head)) refusal
 
--- bytes, which are all there is, begin with no request, for this reason: they have no head, or this one
+-- bytes, with nothing after them, begin with no request, for this reason: they have no head, or this head, which is refused
 abbrev pub IsRefused : List ℕ → Option RequestHead → Refusal → Type 0
 IsRefused bytes None refusal = (refusal ≡ Head) × HasNoHead bytes
 IsRefused bytes (Some head) refusal = HasFault bytes head refusal
 
--- bytes are these requests, none of which ends the connection, and then rest
+-- bytes are these requests, none of which ends the connection, followed by rest
 abbrev pub Begins : List ℕ → List Request → List ℕ → Type 0
 Begins bytes [] rest = bytes ≡ rest
 Begins bytes (request ∷ requests) rest =
@@ -100,20 +100,20 @@ Begins bytes (request ∷ requests) rest =
 pub data Ending : Type 0 where
   -- not seen
   going : Ending
-  -- behind a request, or with nothing
+  -- after a request, or without any bytes
   closed : Ending
   -- with a request that ends the connection
   asked : Request → Ending
-  -- with what is no request: its head, where it has one, and the reason
+  -- with an invalid request: its head, if it has one, and the reason
   refused : Option RequestHead → Refusal → Ending
 
--- bytes that are left behind the requests end so
+-- the bytes after the requests have this ending
 abbrev pub EndsAs : List ℕ → Ending → Type 0
 EndsAs bytes going = ⊤
 EndsAs bytes closed = bytes ≡ []
 EndsAs bytes (asked request) = (rest : List ℕ) × IsRequest bytes request rest × (asks_to_close request.head ≡ true)
 EndsAs bytes (refused head refusal) = (0 < length bytes) × IsRefused bytes head refusal
 
--- all the bytes of a connection are these requests, and then end so
+-- all the bytes of a connection are these requests, followed by this ending
 abbrev pub Requests : List ℕ → List Request → Ending → Type 0
 Requests bytes requests ending = (rest : List ℕ) × Begins bytes requests rest × EndsAs rest ending

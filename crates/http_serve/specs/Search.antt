@@ -1,4 +1,4 @@
--- What the search for a request knows of the bytes that wait.
+-- What the search for a request knows about the waiting bytes.
 use Rattle.std.specs.Prelude.{◌≡◌, ℕ, ◌<◌, ◌≤◌, List, ◌++◌, length, take, Option}
 use Rattle.httparse.specs.Grammar.{RequestHead}
 use Rattle.http_serve.specs.declared.lines.Lines.TheVariants.{Blank}
@@ -9,7 +9,7 @@ use Rattle.http_serve.specs.Lines.{after_bytes}
 use Rattle.http_serve.specs.Reply.{has_head_method}
 use Rattle.http_serve.specs.Requests.{IsRefused}
 
--- how far the first bytes are to an empty line, or up to which length no request is whole. Where a head may be at fault only says when it is parsed
+-- The progress of the first bytes to an empty line, or the length below which no request is complete. The position decides only when a head is parsed.
 abbrev pub IsKnown : List ℕ → Search → Type 0
 IsKnown bytes (Head scanned lines position) =
     (scanned ≤ length bytes) × (after_bytes Blank (take scanned bytes) ≡ lines)

@@ -1,4 +1,4 @@
--- What a connection writes, by what it reads.
+-- What a connection writes, given what it reads.
 use Rattle.std.specs.Prelude.{◌≡◌, ℕ, ◌+◌, ◌-◌, ◌^◌, ◌<◌, min, List, [], ◌∷◌, ◌++◌, length, take, Option, ⊤, ◌⊎◌}
 use Rattle.std.specs.Io.KnownBytes.{Appends, IsAtEnd}
 use Rattle.httparse.specs.Grammar.{RequestHead}
@@ -7,11 +7,11 @@ use Rattle.http_serve.specs.Requests.{Request, IsRequest, IsRefused, Begins, End
 use Rattle.http_serve.specs.Requests.{RequestView, request_view}
 use Rattle.http_serve.specs.Reply.{ReplyView, reply_to, refusal_bytes}
 
--- a count rises by n, and stops at the greatest u64
+-- a count rises by n, saturating at the maximum of u64
 abbrev pub RisesBy : ℕ → ℕ → ℕ → Type 0
 RisesBy old n new = new ≡ min (old + n) (2 ^ 64 - 1)
 
--- how many replies these requests and this ending have
+-- the number of replies to these requests and this ending
 abbrev pub reply_count : List Request → Ending → ℕ
 reply_count requests going = length requests
 reply_count requests closed = length requests
@@ -26,7 +26,7 @@ module _ {S : Type 0} (replies : S → RequestView → ReplyView → S → Type 
       (reply : ReplyView) × (middle : S) × (more : List ℕ) × replies old (request_view request) reply middle
       × (out ≡ reply_to request reply ++ more) × Answers middle requests more new
 
-  -- what the end is answered with
+  -- the reply to the ending, if it has one
   abbrev pub AnswersEnd : S → Ending → List ℕ → S → Type 0
   AnswersEnd old going out new = (out ≡ []) × (new ≡ old)
   AnswersEnd old closed out new = (out ≡ []) × (new ≡ old)
@@ -43,7 +43,7 @@ module _ {S : Type 0} (replies : S → RequestView → ReplyView → S → Type 
     pub end : AnswersEnd middle ending last new
     pub is : out ≡ front ++ last
 
-  -- bytes are some whole requests, whose replies are written and counted, and then rest
+  -- bytes are some whole requests, whose replies are written and counted, followed by rest
   pub record Carries (old : S) (bytes : List ℕ) (held : Option (List ℕ)) (before : ℕ)
       (new : S) (rest : List ℕ) (holds : Option (List ℕ)) (after : ℕ) : Type 0 where
     pub requests : List Request
@@ -53,7 +53,7 @@ module _ {S : Type 0} (replies : S → RequestView → ReplyView → S → Type 
     pub written : Appends held holds out
     pub counted : RisesBy before (length requests) after
 
-  -- bytes, with what may follow, are requests up to an ending, and the replies are written and counted
+  -- bytes, whatever permitted bytes follow them, are requests up to an ending, and the replies are written and counted
   pub record Ends (old : S) (bytes : List ℕ) (follow : List ℕ → Type 0) (held : Option (List ℕ)) (before : ℕ) (ending : Ending)
       (new : S) (holds : Option (List ℕ)) (after : ℕ) : Type 0 where
     pub requests : List Request
@@ -72,7 +72,7 @@ module _ {S : Type 0} (replies : S → RequestView → ReplyView → S → Type 
     pub replied : replies old (request_view request) reply new
     pub out_is : out ≡ reply_to request reply
 
-  -- out is the reply to bytes that begin with no request, with what may follow
+  -- out is the reply to bytes that begin with no request, whatever permitted bytes follow
   pub record RefusesNext (old : S) (bytes : List ℕ) (follow : List ℕ → Type 0) (out : List ℕ) (new : S) : Type 0 where
     pub head : Option RequestHead
     pub refusal : Refusal
@@ -81,11 +81,11 @@ module _ {S : Type 0} (replies : S → RequestView → ReplyView → S → Type 
     pub same : new ≡ old
     pub out_is : out ≡ refusal_bytes head refusal
 
-  -- out is the reply to what bytes begin with, with what may follow: a request, or none
+  -- out is the reply to what bytes begin with, whatever permitted bytes follow: a request, or none
   abbrev pub RepliesNext : (follow : List ℕ → Type 0) → S → List ℕ → List ℕ → S → Type 0
   RepliesNext follow old bytes out new = AnswersNext old bytes out new ⊎ RefusesNext old bytes follow out new
 
-  -- a reply was cut: the replies to some whole requests are written, and the first bytes of the next one, which is this
+  -- a reply was cut: the replies to some whole requests are written, and a proper prefix of the next one, which IsNext describes
   pub record Breaks (IsNext : S → List ℕ → List ℕ → S → Type 0) (old : S) (bytes : List ℕ) (held : Option (List ℕ)) (before : ℕ)
       (new : S) (holds : Option (List ℕ)) (after : ℕ) : Type 0 where
     pub middle : S
@@ -102,6 +102,6 @@ module _ {S : Type 0} (replies : S → RequestView → ReplyView → S → Type 
 abbrev pub Anything : List ℕ → Type 0
 Anything more = ⊤
 
--- what may follow, where this is known to be left of the input
+-- what may follow, given what is left of the input: nothing at its end
 abbrev pub MayFollow : Option (List ℕ) → List ℕ → Type 0
 MayFollow left more = IsAtEnd left → more ≡ []

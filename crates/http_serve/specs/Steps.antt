@@ -1,4 +1,4 @@
--- What the steps of a connection tell.
+-- What the steps of a connection report.
 use Rattle.std.specs.Prelude.{◌≡◌, ◌≢◌, ℕ, ◌<◌, List, [], length, take, Option}
 use Rattle.std.specs.Io.KnownBytes.{Appends}
 use Rattle.httparse.specs.Grammar.{RequestHead}
@@ -23,7 +23,7 @@ HasPlainEnd closed last = last ≡ []
 HasPlainEnd (asked request) last = ⊥
 HasPlainEnd (refused head refusal) last = last ≡ refusal_bytes head refusal
 
--- the input ended: with nothing, or it is refused
+-- the input ended: no bytes are left, or they are refused
 pub record IsFinished (waiting : List ℕ) (head : Option RequestHead) (reason : Refusal) (held : Option (List ℕ)) (before : ℕ)
     (served : Served) (holds : Option (List ℕ)) : Type 0 where
   pub ending : Ending
@@ -53,7 +53,7 @@ module _ {S : Type 0} (replies : S → RequestView → ReplyView → S → Type 
       Carries replies old waiting held before new rest holds requests × (length rest < MOST_REQUEST)
       × (head : Option RequestHead) × (rejection.bare ≡ has_head_method head) × IsRefused rest head rejection.refusal
 
--- and of which the handler's part fails so
+-- the same with fails, which describes replies whose content the handler couldn't read
 module _ {S : Type 0} (replies fails : S → RequestView → ReplyView → S → Type 0) where
   -- a reply was cut
   abbrev pub IsBroken : S → List ℕ → Option (List ℕ) → ℕ → ServeFault → S → Option (List ℕ) → Type 0

@@ -31,24 +31,24 @@ use thiserror::Error;
 pub enum End {
     /// The input ended between two requests.
     Closed,
-    /// A request was of HTTP/1.0, or its connection listed close.
+    /// A request was HTTP/1.0 or its connection listed close.
     Asked,
-    /// The input had what is no request.
+    /// The input wasn't a valid request.
     Refused,
-    /// The bound on reads was met.
+    /// The read limit was reached.
     Turns,
 }
 
-/// What a connection came to.
+/// A connection's outcome.
 #[derive(Clone, Copy, Debug, PartialEq, Eq)]
 pub struct Served {
-    /// How many replies were written whole, up to the greatest `u64`. A refusal is a reply.
+    /// The number of replies written in full, saturating at `u64::MAX`. A refusal counts.
     pub requests: u64,
     /// How the connection ended.
     pub end: End,
 }
 
-/// Why a connection was given up. `requests` counts the replies that were written whole.
+/// Why serving a connection failed. `requests` counts the replies written in full.
 #[derive(Clone, Copy, Debug, PartialEq, Eq, Error)]
 pub enum ServeFault {
     /// Memory ran out before the first read.
@@ -57,20 +57,20 @@ pub enum ServeFault {
     /// A read failed.
     #[error("a read failed after {requests} replies")]
     Read { requests: u64 },
-    /// A write failed, or took nothing.
+    /// A write failed or took 0 bytes.
     #[error("a write failed after {requests} replies")]
     Write { requests: u64 },
-    /// A content couldn't be read from the handler behind its first bytes.
+    /// The handler couldn't read a content after its first bytes.
     #[error("a content could not be read after {requests} replies")]
     Content { requests: u64 },
 }
 
-/// Why the answering of requests stops.
+/// Why answering requests stops.
 #[derive(Clone, Copy, Debug)]
 enum Pause {
     /// The connection ended.
     Ended(Served),
-    /// So many replies were written, and more bytes are needed. If none follow, this is why there is no request.
+    /// `requests` replies were written, and more bytes are needed. If none follow, `rejection` is the reason.
     More { requests: u64, rejection: Rejection },
 }
 
@@ -81,7 +81,7 @@ fn path_of(target: &[u8]) -> &[u8]
     &target[..position_or_len(target, b'?')]
 }
 
-/// The bytes of a part, where it is there.
+/// The bytes of a part, if it is present.
 fn part_of(bytes: &[u8], part: Option<Span>) -> Option<&[u8]>
     requires { IfSome part (IsWithin (length bytes.now)) }
     ensures { option_map (λ text. text.now) result ≡ option_map (span_bytes bytes.now) part }
@@ -92,7 +92,7 @@ fn part_of(bytes: &[u8], part: Option<Span>) -> Option<&[u8]>
     }
 }
 
-/// Answers the request in a frame of these bytes.
+/// Answers the request at `frame` in `bytes`.
 fn answer_one<H: Handler, W: Write>(
     handler: &mut H,
     writer: &mut W,
@@ -123,7 +123,7 @@ fn answer_one<H: Handler, W: Write>(
     send_reply(handler, writer, out, &reply, frame.close, is_head(method))
 }
 
-/// Tells that the bytes are no request.
+/// Writes the reply for a rejection.
 fn refuse<W: Write>(
     writer: &mut W,
     out: &mut Vec<u8>,
@@ -138,7 +138,7 @@ fn refuse<W: Write>(
     send_front(writer, out, &reply, true, rejection.bare)
 }
 
-/// The bytes that wait, what is known of them, and room for replies.
+/// The waiting bytes, what is known about them, and a reply buffer.
 #[derive(Drop)]
 struct Session {
     input: Input,
@@ -146,7 +146,7 @@ struct Session {
     out: Vec<u8>,
 }
 
-/// Answers each whole request, and drops it from the input. So many replies were written before.
+/// Answers each whole request and drops it from the input. `requests` replies came before.
 fn answer_whole<H: Handler, W: Write>(
     handler: &mut H,
     writer: &mut W,
@@ -196,7 +196,7 @@ fn answer_whole<H: Handler, W: Write>(
     }
 }
 
-/// Answers the end of the input, where so many replies were written before.
+/// Answers the end of the input after `requests` replies were written.
 fn finish<W: Write>(
     writer: &mut W,
     session: &mut Session,
@@ -226,7 +226,7 @@ fn finish<W: Write>(
     }
 }
 
-/// Serves a connection by at most so many reads. After them the whole requests among the bytes read are answered.
+/// Serves a connection with at most `turns` reads. After them, the whole requests in the bytes read are answered.
 pub fn serve_turns<R: Read, W: Write, H: Handler>(
     alloc: Global,
     reader: &mut R,
@@ -277,10 +277,10 @@ pub fn serve_turns<R: Read, W: Write, H: Handler>(
     Ok(Served { requests, end })
 }
 
-/// How many reads one connection makes at most.
+/// The maximum number of reads per connection.
 pub const MOST_READS: u64 = 4_294_967_296;
 
-/// Serves a connection by at most `MOST_READS` reads: one reply to each request, in order, and one to what is no request.
+/// Serves a connection with at most `MOST_READS` reads: one reply per request, in order, and one to invalid input.
 pub fn serve<R: Read, W: Write, H: Handler>(
     alloc: Global,
     reader: &mut R,

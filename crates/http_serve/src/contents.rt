@@ -15,14 +15,14 @@ use std::io::Write;
 /// Why a reply was cut.
 #[derive(Clone, Copy, Debug, PartialEq, Eq)]
 pub(crate) enum SendFault {
-    /// A write failed or took nothing.
+    /// A write failed or took 0 bytes.
     Write,
     /// The handler couldn't read the content.
     Content,
 }
 
 impl SendFault {
-    /// How a connection ends on which so many replies were written whole.
+    /// The fault of the connection after `requests` complete replies.
     pub(crate) fn after(self, requests: u64) -> ServeFault
         ensures { result ≡ cut_after requests self }
     {
@@ -62,7 +62,7 @@ fn send_part<H: Handler, W: Write>(
     }
 }
 
-/// Reads a content of so many bytes from an offset to its end, part by part, and writes each part.
+/// Reads a content of `size` bytes from an offset to its end, part by part, and writes each part.
 fn send_parts<H: Handler, W: Write>(
     handler: &mut H,
     writer: &mut W,
@@ -88,7 +88,7 @@ fn send_parts<H: Handler, W: Write>(
     Ok(())
 }
 
-/// Writes the rest of the content of a reply, where it is read in parts and sent.
+/// Writes the rest of the content of a reply, if it is read in parts and sent.
 fn send_rest<H: Handler, W: Write>(
     handler: &mut H,
     writer: &mut W,
@@ -114,7 +114,7 @@ fn send_rest<H: Handler, W: Write>(
     }
 }
 
-/// Writes a reply, which says whether it is the last one, and is whole or only its head.
+/// Writes a reply, or only its head if `bare`. `close` says that it is the last one.
 pub(crate) fn send_reply<H: Handler, W: Write>(
     handler: &mut H,
     writer: &mut W,

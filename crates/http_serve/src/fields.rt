@@ -1,4 +1,4 @@
-//! What the fields of a head say of the request, of its body and of the connection (RFC 9110, 7.6.1, 8.6 and 10.1.1; RFC 9112, 3.2 and 6).
+//! What the header fields say about the request, its body and the connection (RFC 9110, 7.6.1, 8.6 and 10.1.1; RFC 9112, 3.2 and 6).
 ghost use Rattle.std.specs.Prelude.{◌≡◌, ◌≤◌, ◌<◌, ◌&&◌, ◌==◌, ◌^◌, ℕ, true, length, map, reverse, codes, All, IfSome, MatchOption};
 ghost use Rattle.std.specs.List.{position, position_or_len};
 ghost use Rattle.std.specs.Char.{to_ascii_lowercase};
@@ -12,10 +12,10 @@ use crate::Refusal;
 use decimal_number::{are_digits, digits_number};
 use httparse::spans::{HeaderSpan, Span};
 
-/// The most bytes that a body may have.
+/// Maximum length of a body in bytes.
 pub const MOST_BODY: u64 = 65_536;
 
-/// What the fields of a name state.
+/// How often a field name occurs.
 #[derive(Clone, Copy, Debug)]
 pub(crate) enum Stated {
     /// There is no such field.
@@ -26,7 +26,7 @@ pub(crate) enum Stated {
     Often,
 }
 
-/// Whether a name is this word of lower case letters, in any case.
+/// Whether a name equals the lower-case `word`, ignoring case.
 fn is_word(name: &[u8], word: &[u8]) -> bool
     requires { map to_ascii_lowercase word.now ≡ word.now }
     ensures { result ≡ is_word word.now name.now }
@@ -34,7 +34,7 @@ fn is_word(name: &[u8], word: &[u8]) -> bool
     name.eq_ignore_ascii_case(word)
 }
 
-/// What the fields state whose name is this word of lower case letters.
+/// Finds the fields whose name is `word`, given in lower case.
 fn find_stated(bytes: &[u8], fields: &[HeaderSpan], word: &[u8]) -> Stated
     requires fields { All (IsHeaderWithin (length bytes.now)) fields.now }
     requires word { map to_ascii_lowercase word.now ≡ word.now }
@@ -55,7 +55,7 @@ fn find_stated(bytes: &[u8], fields: &[HeaderSpan], word: &[u8]) -> Stated
     }
 }
 
-/// A number up to the most bytes of a body. None is 2^64 or more.
+/// The number, if at most `MOST_BODY`. `None` is 2^64 or more.
 fn limited(number: Option<u64>) -> Result<u64, Refusal>
     ensures { (size : ℕ) → MatchOption number (2 ^ 64 ≤ size) (λ number. number ≡ size) → result ≡ limited size }
 {
@@ -65,7 +65,7 @@ fn limited(number: Option<u64>) -> Result<u64, Refusal>
     }
 }
 
-/// The length that a value of content-length writes.
+/// The length that a content-length value states.
 fn numeral_length(value: &[u8]) -> Result<u64, Refusal>
     ensures { result ≡ numeral_length value.now }
 {
@@ -75,7 +75,7 @@ fn numeral_length(value: &[u8]) -> Result<u64, Refusal>
     limited(digits_number(value))
 }
 
-/// How long the body is, by the values of content-length.
+/// The length of the body, by the content-length fields.
 fn body_length(bytes: &[u8], fields: &[HeaderSpan]) -> Result<u64, Refusal>
     requires { All (IsHeaderWithin (length bytes.now)) fields.now }
     ensures { result ≡ body_length (map (header_bytes bytes.now) fields.now) }
@@ -87,7 +87,7 @@ fn body_length(bytes: &[u8], fields: &[HeaderSpan]) -> Result<u64, Refusal>
     }
 }
 
-/// Whether there is a field whose name is this word of lower case letters.
+/// Whether there is a field named `word`, given in lower case.
 fn has_field(bytes: &[u8], fields: &[HeaderSpan], word: &[u8]) -> bool
     requires fields { All (IsHeaderWithin (length bytes.now)) fields.now }
     requires word { map to_ascii_lowercase word.now ≡ word.now }
@@ -99,7 +99,7 @@ fn has_field(bytes: &[u8], fields: &[HeaderSpan], word: &[u8]) -> bool
     }
 }
 
-/// Whether a head of HTTP/1.1 has exactly one host. One of HTTP/1.0 needs none.
+/// Whether an HTTP/1.1 head has exactly one host field. HTTP/1.0 needs none.
 fn is_hosted(bytes: &[u8], version: u8, fields: &[HeaderSpan]) -> bool
     requires { All (IsHeaderWithin (length bytes.now)) fields.now }
     ensures { result ≡ is_hosted version (map (header_bytes bytes.now) fields.now) }
@@ -113,7 +113,7 @@ fn is_hosted(bytes: &[u8], version: u8, fields: &[HeaderSpan]) -> bool
     }
 }
 
-/// How long the body of a request is, or why its head is refused, by its version and its fields.
+/// The length of a request's body, or why its head is refused, by its version and its fields.
 pub(crate) fn framing(bytes: &[u8], version: u8, fields: &[HeaderSpan]) -> Result<u64, Refusal>
     requires { All (IsHeaderWithin (length bytes.now)) fields.now }
     ensures { result ≡ framing version (map (header_bytes bytes.now) fields.now) }
@@ -130,7 +130,7 @@ pub(crate) fn framing(bytes: &[u8], version: u8, fields: &[HeaderSpan]) -> Resul
     body_length(bytes, fields)
 }
 
-/// The value of the one field called range, without the white space around it.
+/// The value of the only range field, without surrounding white space.
 pub(crate) fn range_of(bytes: &[u8], fields: &[HeaderSpan]) -> Option<Span>
     requires { All (IsHeaderWithin (length bytes.now)) fields.now }
     ensures value { option_map (span_bytes bytes.now) result ≡ range_of (map (header_bytes bytes.now) fields.now) }
@@ -142,7 +142,7 @@ pub(crate) fn range_of(bytes: &[u8], fields: &[HeaderSpan]) -> Option<Span>
     }
 }
 
-/// Whether a field is called connection.
+/// Whether a field name is connection.
 fn is_connection_name(name: &[u8]) -> bool
     ensures { result ≡ is_word (codes "connection") name.now }
 {
@@ -163,7 +163,7 @@ fn position_of(bytes: &[u8], wanted: u8) -> Option<usize>
     bytes.iter().position(|byte| *byte == wanted)
 }
 
-/// The same, or the length where there is no such byte.
+/// The same, or the length if there is no such byte.
 pub(crate) fn position_or_len(bytes: &[u8], wanted: u8) -> usize
     ensures index { result ≡ position_or_len (λ byte. byte == wanted) bytes.now }
     ensures within { result ≤ length bytes.now }
@@ -210,14 +210,14 @@ fn trim_ows(bytes: &[u8]) -> &[u8]
     trim_back(trim_front(bytes))
 }
 
-/// Whether an option of a connection is close.
+/// Whether a connection option is close.
 fn is_close_option(option: &[u8]) -> bool
     ensures { result ≡ is_word (codes "close") (trim_ows option.now) }
 {
     trim_ows(option).eq_ignore_ascii_case(b"close")
 }
 
-/// Whether a value of connection lists close.
+/// Whether a connection value lists close.
 fn lists_close(value: &[u8]) -> bool
     ensures { result ≡ lists_close value.now }
 {
@@ -234,7 +234,7 @@ fn lists_close(value: &[u8]) -> bool
     }
 }
 
-/// Whether the fields of a head ask for the end of the connection.
+/// Whether the header fields ask to close the connection.
 pub(crate) fn says_close(bytes: &[u8], fields: &[HeaderSpan]) -> bool
     requires { All (IsHeaderWithin (length bytes.now)) fields.now }
     ensures { result ≡ says_close (map (header_bytes bytes.now) fields.now) }

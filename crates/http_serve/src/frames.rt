@@ -12,11 +12,11 @@ use crate::refusals::{NO_HEAD, Rejection};
 use httparse::Status;
 use httparse::spans::{EMPTY_HEADER_SPAN, HeaderSpan, RequestSpans, Span, parse_request};
 
-/// The most bytes that a head may have.
+/// Maximum length of a head in bytes.
 pub const MOST_HEAD: usize = 8_192;
-/// The most fields that a head may have.
+/// Maximum number of fields in a head.
 pub const MOST_FIELDS: usize = 32;
-/// The most bytes that a request may have.
+/// Maximum length of a request in bytes.
 pub(crate) const MOST_REQUEST: usize = MOST_HEAD + MOST_BODY as usize;
 
 /// Where the parts of a request are.
@@ -25,18 +25,18 @@ pub(crate) struct Frame {
     pub(crate) method: Span,
     pub(crate) target: Span,
     pub(crate) body: Span,
-    /// The value of the one field called range.
+    /// The value of the only range field.
     pub(crate) range: Option<Span>,
-    /// Whether the request asks for the end of the connection.
+    /// Whether the request asks to close the connection.
     pub(crate) close: bool,
 }
 
-/// What is known where no whole request is there.
+/// What is known if no request is complete.
 #[derive(Clone, Copy, Debug)]
 pub(crate) struct Missing {
     /// Why there is no request, if nothing follows.
     pub(crate) rejection: Rejection,
-    /// Below so many bytes in all there is no whole request.
+    /// With fewer bytes in all, no request is complete.
     pub(crate) until: usize,
 }
 
@@ -76,7 +76,7 @@ pub(crate) fn find_request(bytes: &[u8]) -> Next
     }
 }
 
-// Whether a request is of HTTP/1.0, or its fields ask for the end of the connection.
+// Whether a request is HTTP/1.0 or its fields ask to close the connection.
 fn asks_to_close(bytes: &[u8], version: u8, fields: &[HeaderSpan]) -> bool
     requires { All (IsHeaderWithin (length bytes.now)) fields.now }
     ensures { result ≡ (version == 0 || says_close (map (header_bytes bytes.now) fields.now)) }
@@ -91,7 +91,7 @@ pub(crate) fn is_head(method: &[u8]) -> bool
     method == b"HEAD".as_slice()
 }
 
-// What bytes begin with, where a head is there.
+// What bytes begin with, given their head.
 fn framed(bytes: &[u8], head: &RequestSpans, fields: &[HeaderSpan]) -> Next
     requires within { IsRequestWithin bytes.now fields.now head.now }
     requires is { IsRequestOf bytes.now fields.now head.now }

@@ -1,4 +1,4 @@
-//! What answers the requests of a connection.
+//! The handler of a connection's requests.
 ghost use Rattle.std.specs.Prelude.{◌≡◌, ◌≤◌, ◌+◌, ℕ, length, OnOk, OnErr};
 ghost use Rattle.std.specs.Option.{option_map};
 ghost use Rattle.http_serve.specs.declared.handlers.TheConstants.{PART_SIZE};
@@ -8,7 +8,7 @@ ghost use Rattle.http_serve.specs.Reply.{ReplyView, IsReply, InParts, HasShortWo
 use crate::Reply;
 use thiserror::Error;
 
-/// The most bytes of a content that are read and written at once.
+/// Maximum number of content bytes read and written at once.
 pub const PART_SIZE: usize = 65_536;
 
 /// Bytes of a content couldn't be read.
@@ -19,11 +19,11 @@ pub struct ContentFault;
 /// A request, as a handler sees it.
 #[derive(Clone, Copy)]
 pub struct Request<'a> {
-    /// The method, as it is written.
+    /// The method, as received.
     pub method: &'a [u8],
     /// The target up to the first question mark.
     pub path: &'a [u8],
-    /// The value of the one field called range, without white space around it. None where there is no such field, or more.
+    /// The value of the only range field, without surrounding white space. `None` if there is no such field, or several.
     pub range: Option<&'a [u8]>,
     /// The body, of at most `MOST_BODY` bytes.
     pub body: &'a [u8],
@@ -31,23 +31,23 @@ pub struct Request<'a> {
     pub close: bool,
 }
 
-/// What answers the requests of a connection.
+/// Answers the requests of a connection.
 pub trait Handler {
     // In the first state the request may get the reply, and the second state follows.
     ghost replies: { Self → RequestView → ReplyView → Self → Type 0 };
 
-    // The same of a reply whose content is being read in parts: what was read so far stands in it.
+    // The same for a reply whose content is being read in parts: it contains what was read so far.
     ghost sends: { Self → RequestView → ReplyView → Self → Type 0 };
 
-    // The same of a reply whose content the handler couldn't read to its end.
+    // The same for a reply whose content the handler couldn't read to its end.
     ghost fails: { Self → RequestView → ReplyView → Self → Type 0 };
 
-    // How many bytes the content of the last reply has, where it is read in parts.
+    // The length in bytes of the content of the last reply, if it is read in parts.
     ghost size: { Self → ℕ };
 
     /// Answers a request. The type of the content and the list of methods have at most `MOST_WORD` bytes.
-    /// To a request whose method is HEAD the reply is written without its content.
-    /// A content in parts whose first bytes can't be read gets another reply: behind the head that is too late.
+    /// The reply to a HEAD request is written without its content.
+    /// If the first bytes of content in parts can't be read, reply otherwise: after the head it is too late.
     fn answer(&mut self, request: &Request<'_>) -> Reply
         ensures replied { (reply : ReplyView) × IsReply result reply × replies self.old (record {
           method = request.now.method.now;
@@ -64,8 +64,8 @@ pub trait Handler {
         }) reply self.new × (size self.new ≡ length reply.content)) }
         ensures writable { HasShortWords (head_view result) };
 
-    /// Reads as many bytes as `part` has, and `PART_SIZE` at most, from an offset of the content of the last reply, which
-    /// is in parts. They are bytes of the reply from then on, whatever it was before. After a fault `part` has any bytes.
+    /// Fills `part`, which has at most `PART_SIZE` bytes, from an offset of the content of the last reply, which is in parts.
+    /// From then on the reply has these bytes, whatever it had before. After a fault `part` may hold any bytes.
     fn read_content(&mut self, offset: u64, part: &mut [u8]) -> Result<(), ContentFault>
         requires within { offset + length part.old ≤ size self.old }
         requires few { length part.old ≤ PART_SIZE }

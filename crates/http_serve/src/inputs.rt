@@ -1,4 +1,4 @@
-//! The bytes that were read and wait.
+//! The bytes read but not answered.
 ghost use Rattle.std.specs.Prelude.{◌≡◌, ◌≤◌, ◌<◌, ◌+◌, ◌-◌, ◌++◌, ℕ, List, [], length, take, drop, slice_range, vec_len, IfOk, OnErr};
 ghost use Rattle.http_serve.specs.declared.frames.TheConstants.{MOST_REQUEST};
 ghost use Rattle.http_serve.specs.Input.{InputView, buffer_size};
@@ -13,12 +13,12 @@ use std::marker::Model;
 #[derive(Clone, Copy, Debug, PartialEq, Eq)]
 pub(crate) struct ReadFault;
 
-/// How many bytes the buffer has. Where it is used up and less than one request waits, more bytes were
-/// answered than wait, so that moving those that wait to its front costs less than reading the others did.
-/// A read that has room for so many bytes is made where none wait: before the first request, or between two.
+/// The size of the buffer in bytes. If it is used up and less than one request waits, more bytes were
+/// answered than wait, so moving the waiting bytes to its front costs less than reading the others did.
+/// A read with room for this many bytes is made if none wait: before the first request, or between two.
 pub const READ_SPACE: usize = 2 * MOST_REQUEST;
 
-/// Makes one read into the buffer, from an offset on.
+/// Makes one read into the buffer, from an offset.
 fn read_behind<R: Read>(reader: &mut R, buffer: &mut [u8], end: usize) -> Result<usize, ReadFault>
     requires { end < length buffer.old }
     ensures ok { IfOk result (λ n. (more : List ℕ) × Consumes (R.remaining reader.old) (R.remaining reader.new) more
@@ -32,11 +32,11 @@ fn read_behind<R: Read>(reader: &mut R, buffer: &mut [u8], end: usize) -> Result
     }
 }
 
-/// The bytes that were read and aren't answered yet, in a buffer of fixed length.
+/// The waiting bytes, read but not yet answered, in a buffer of fixed length.
 #[derive(Drop)]
 pub(crate) struct Input {
     buffer: Vec<u8>,
-    /// Where the bytes that wait begin.
+    /// Where the waiting bytes begin.
     start: usize,
     /// Where they end.
     end: usize,
@@ -63,14 +63,14 @@ impl Input {
         })
     }
 
-    /// The bytes that wait.
+    /// The waiting bytes.
     pub(crate) fn waiting(&self) -> &[u8]
         ensures { result.now ≡ self.now.waiting }
     {
         &self.buffer[self.start..self.end]
     }
 
-    /// Drops the first of the bytes that wait. Where none wait then, the whole buffer is free again.
+    /// Drops the first `count` waiting bytes. If none are left, the whole buffer is free again.
     pub(crate) fn drop_front(&mut self, count: usize)
         requires { count ≤ length self.old.waiting }
         ensures { self.new.waiting ≡ drop count self.old.waiting }
@@ -82,7 +82,7 @@ impl Input {
         }
     }
 
-    /// Moves the bytes that wait to the front of the buffer, where it is used up. Returns how many bytes it moved.
+    /// Moves the waiting bytes to the front of the buffer if it is used up. Returns how many bytes it moved.
     pub(crate) fn make_room(&mut self) -> usize
         requires { length self.old.waiting < MOST_REQUEST }
         ensures same { self.new.waiting ≡ self.old.waiting }
@@ -98,7 +98,7 @@ impl Input {
         self.end
     }
 
-    /// Makes one read, and adds what it gave.
+    /// Makes one read and adds its bytes.
     pub(crate) fn read_from<R: Read>(&mut self, reader: &mut R) -> Result<usize, ReadFault>
         requires { length self.old.waiting < MOST_REQUEST }
         ensures ok { IfOk result (λ n. (more : List ℕ) × Consumes (R.remaining reader.old) (R.remaining reader.new) more

@@ -2,16 +2,16 @@
 ghost use Rattle.std.specs.Prelude.{◌≡◌, ◌↔◌, IsTrue};
 ghost use Rattle.http_serve.specs.Lines.{after_byte, after_bytes};
 
-/// How far bytes are on their way to an empty line behind a line. Carriage returns between two line feeds count as nothing.
+/// The progress of bytes towards an empty line after a line. Carriage returns between two line feeds are ignored.
 #[derive(Clone, Copy, Debug)]
 pub(crate) enum Lines {
-    /// All bytes are ends of lines.
+    /// All bytes are line ends.
     Blank,
     /// They end inside a line.
     Inside,
-    /// They end behind the end of a line.
+    /// They end after the end of a line.
     Ended,
-    /// An empty line stands behind a line.
+    /// An empty line follows a line.
     Empty,
 }
 
@@ -28,14 +28,14 @@ impl Lines {
         }
     }
 
-    /// Whether an empty line stands behind a line.
+    /// Whether an empty line follows a line.
     pub(crate) fn has_empty(self) -> bool
         ensures { IsTrue result ↔ (self ≡ Lines.Empty) }
     {
         matches!(self, Lines::Empty)
     }
 
-    /// The same with more bytes. It looks no further than to the empty line.
+    /// The same with more bytes. It looks no further than the empty line.
     pub(crate) fn after_bytes(self, bytes: &[u8]) -> Lines
         ensures { result ≡ after_bytes self bytes.now }
     {

@@ -1,41 +1,41 @@
-//! Where a head can be at fault, byte by byte. It decides only when a head is parsed, and not what it is.
+//! Where a head can be invalid, byte by byte. It decides only when a head is parsed, not the result.
 use httparse::{is_header_name_token, is_header_value_token, is_method_token, is_uri_token};
 
 /// A version up to its last digit (RFC 9112, 2.3).
 const VERSION: &[u8] = b"HTTP/1.";
 
-/// Where some first bytes of a head end (RFC 9112, 2.2 to 5).
+/// Where a prefix of a head ends (RFC 9112, 2.2 to 5).
 #[derive(Clone, Copy, Debug)]
 pub(crate) enum Position {
-    /// In front of the method, behind empty lines at most.
+    /// Before the method, after empty lines at most.
     Front,
-    /// Behind the carriage return of an empty line in front of the method.
+    /// After the carriage return of an empty line before the method.
     FrontReturn,
     /// In the method.
     Method,
-    /// Behind the space that ends the method.
+    /// After the space that ends the method.
     MethodEnd,
     /// In the target, which is ASCII so far or isn't.
     Target { ascii: bool },
-    /// Behind a target that isn't ASCII: only a parse tells whether it is UTF-8.
+    /// After a target that isn't ASCII: only a parse shows whether it is UTF-8.
     Doubt,
-    /// In the version, of which these bytes and a digit are left.
+    /// In the version: these bytes and a digit are left.
     Version(&'static [u8]),
-    /// Behind the version.
+    /// After the version.
     VersionEnd,
-    /// Behind the carriage return of a line.
+    /// After the carriage return of a line.
     LineReturn,
-    /// Behind the end of a line.
+    /// After the end of a line.
     LineEnd,
     /// In the name of a field.
     Name,
     /// In the value of a field.
     Value,
-    /// Behind the carriage return of the empty line that ends the head.
+    /// After the carriage return of the empty line that ends the head.
     LastReturn,
-    /// Behind a byte that no head has there.
+    /// After a byte that is invalid there.
     Fault,
-    /// Behind the head or a fault.
+    /// After the head or a fault.
     Over,
 }
 
@@ -45,7 +45,7 @@ impl Position {
         matches!(self, Position::Doubt | Position::Fault)
     }
 
-    /// The same with one more byte of the version, of which these bytes and a digit are left.
+    /// The same with one more byte of the version: `rest` and a digit are left.
     fn in_version(rest: &'static [u8], byte: u8) -> Position {
         match rest {
             [first, more @ ..] if *first == byte => Position::Version(more),
@@ -54,7 +54,7 @@ impl Position {
         }
     }
 
-    /// The same with one more byte of the first line or of the empty lines in front of it.
+    /// The same with one more byte of the first line or of the empty lines before it.
     fn in_request_line(self, byte: u8) -> Position {
         match (self, byte) {
             (Position::Front | Position::FrontReturn, b'\n') => Position::Front,
@@ -75,7 +75,7 @@ impl Position {
         }
     }
 
-    /// The same with one more byte behind the version.
+    /// The same with one more byte after the version.
     fn in_fields(self, byte: u8) -> Position {
         match (self, byte) {
             (Position::VersionEnd | Position::Value | Position::LineReturn, b'\n') =>

@@ -1,4 +1,4 @@
-//! What is answered to bytes that are no request.
+//! Replies to bytes that are no request.
 ghost use Rattle.std.specs.Prelude.{◌≡◌, codes, Some};
 ghost use Rattle.http_serve.specs.Parts.{front_content};
 ghost use Rattle.http_serve.specs.Reply.{HasShortWords, head_of, head_view, refusal_view, refused_by};
@@ -6,12 +6,12 @@ ghost use Rattle.http_serve.specs.Reply.{HasShortWords, head_of, head_view, refu
 use crate::{Content, Reply};
 use http::StatusCode;
 
-/// Why bytes begin with no request: the first of these that is so.
+/// Why bytes begin with no request: the first reason that applies.
 #[derive(Clone, Copy, Debug, PartialEq, Eq)]
 pub enum Refusal {
-    /// No head is there.
+    /// There is no head.
     Head,
-    /// A head of HTTP/1.1 has no host, or more than one.
+    /// An HTTP/1.1 head has no host, or more than one.
     Host,
     /// The body has a coding.
     Coding,
@@ -32,7 +32,7 @@ pub(crate) struct Rejection {
     pub(crate) bare: bool,
 }
 
-/// No head is there.
+/// There is no head.
 pub(crate) const NO_HEAD: Rejection = Rejection {
     refusal: Refusal::Head,
     bare: false,
@@ -48,7 +48,7 @@ fn refused_by(status: StatusCode, text: &'static [u8]) -> Reply
 }
 
 impl Refusal {
-    /// The reply that tells it.
+    /// The reply sent for it.
     #[tactic(auto, unfolding(crate::specs::Reply::refusal_view))]
     pub(crate) fn reply(self) -> Reply
         ensures head { head_view result ≡ head_of (refusal_view self) }

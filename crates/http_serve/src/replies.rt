@@ -13,7 +13,7 @@ use decimal_number::{push_number, push_text};
 use http::StatusCode;
 use std::io::Write;
 
-/// The most bytes of the type of a content, and of the list of methods.
+/// Maximum length in bytes of a content type and of a list of methods.
 pub const MOST_WORD: usize = 64;
 
 /// The content of a reply.
@@ -21,16 +21,16 @@ pub const MOST_WORD: usize = 64;
 pub enum Content {
     /// No bytes.
     Empty,
-    /// Bytes that the program has.
+    /// Static bytes.
     Fixed(&'static [u8]),
-    /// Bytes that were made.
+    /// Owned bytes.
     Whole(Vec<u8>),
-    /// So many bytes, of which these are the first. Those behind them are read by `Handler::read_content`.
+    /// `length` bytes that begin with `first`. The rest is read by `Handler::read_content`.
     Parts { first: Vec<u8>, length: u64 },
 }
 
 impl Content {
-    /// The bytes that the reply has.
+    /// The bytes held by the reply.
     fn front(&self) -> &[u8]
         ensures { result.now ≡ front_content self.now }
     {
@@ -42,7 +42,7 @@ impl Content {
         }
     }
 
-    /// How many bytes it says that it has.
+    /// Its declared length in bytes.
     fn size(&self) -> u64
         ensures { result ≡ content_size self.now }
     {
@@ -53,30 +53,30 @@ impl Content {
     }
 }
 
-/// Which part of a whole the content of a reply is, in bytes (RFC 9110, 14.4).
+/// The byte range of a whole that a reply's content is (RFC 9110, 14.4).
 #[derive(Clone, Copy, Debug, PartialEq, Eq)]
 pub enum ContentRange {
-    /// The bytes from the first to the last one, counted from 0, of so many in all.
+    /// The bytes from `first` to `last`, counted from 0, of `total` in all.
     Part { first: u64, last: u64, total: u64 },
-    /// No part: the whole has so many bytes, and those that were asked for aren't among them.
+    /// No part: the whole has `total` bytes, and the requested ones aren't among them.
     Unsatisfied { total: u64 },
 }
 
-/// A reply to a request. A reply of 204 is sent without its content, its type and its range.
+/// A reply to a request. A 204 reply is sent without its content, its type and its range.
 #[derive(Drop)]
 pub struct Reply {
     pub status: StatusCode,
-    /// The type of the content, as in `text/plain`: at most `MOST_WORD` bytes.
+    /// The content type, such as `text/plain`: at most `MOST_WORD` bytes.
     pub kind: Option<&'static str>,
     /// Which part of a whole the content is.
     pub range: Option<ContentRange>,
-    /// The methods that are allowed, as in `GET, HEAD`: at most `MOST_WORD` bytes.
+    /// The allowed methods, such as `GET, HEAD`: at most `MOST_WORD` bytes.
     pub allow: Option<&'static str>,
     pub content: Content,
 }
 
 impl Reply {
-    /// A reply of a status, a type and a content, which says nothing else.
+    /// A reply with only a status, a type and a content.
     pub fn plain(status: StatusCode, kind: Option<&'static str>, content: Content) -> Reply
         ensures { result ≡ record { status = status; kind = kind.entry; range = None; allow = None; content = content } }
     {
@@ -89,7 +89,7 @@ impl Reply {
         }
     }
 
-    /// Whether it is of 204 No Content.
+    /// Whether it is 204 No Content.
     fn has_no_content(&self) -> bool
         ensures { result ≡ has_no_content self.now.status }
     {
@@ -104,7 +104,7 @@ impl Reply {
     }
 }
 
-/// The reason phrase of a status, or nothing where it has none.
+/// The reason phrase of a status, or nothing if it has none.
 fn phrase_of(status: StatusCode) -> &'static str
     ensures value { result.now ≡ phrase_of status }
     ensures short { length result.now ≤ 32 }
@@ -140,7 +140,7 @@ fn put_part_line(out: &mut Vec<u8>, first: u64, last: u64, total: u64)
     push_text(out, b"\r\n");
 }
 
-/// Adds the line of a range that isn't there.
+/// Adds the line of an unsatisfied range.
 #[tactic(auto, unfolding(crate::specs::Reply::unsatisfied_line))]
 fn put_unsatisfied_line(out: &mut Vec<u8>, total: u64)
     requires room { vec_len out.old + MOST_DIGITS + 25 ≤ vec_capacity out.old }
@@ -153,7 +153,7 @@ fn put_unsatisfied_line(out: &mut Vec<u8>, total: u64)
     push_text(out, b"\r\n");
 }
 
-/// Adds the line of the range, where there is one.
+/// Adds the line of the range, if there is one.
 fn put_range_line(out: &mut Vec<u8>, range: Option<ContentRange>)
     requires room { vec_len out.old + 3 * MOST_DIGITS + 25 ≤ vec_capacity out.old }
     ensures items { out.new.items ≡ out.old.items ++ range_line range }
@@ -167,7 +167,7 @@ fn put_range_line(out: &mut Vec<u8>, range: Option<ContentRange>)
     }
 }
 
-/// Adds the line of a field whose value is a word, where there is one. The name has a colon and a space behind it.
+/// Adds the line of a field whose value is `word`, if there is one. `name` ends with a colon and a space.
 #[tactic(auto, unfolding(crate::specs::Reply::word_line))]
 fn put_word_line(out: &mut Vec<u8>, name: &[u8], word: Option<&str>)
     requires short { IfSome (option_map (λ word. word.now) word) (λ word. length word ≤ MOST_WORD) }
@@ -236,11 +236,11 @@ fn put_reply_head(out: &mut Vec<u8>, reply: &Reply, close: bool)
     push_text(out, b"\r\n");
 }
 
-/// How many bytes of replies are gathered for one write.
+/// The number of reply bytes gathered for one write.
 pub(crate) const REPLY_SPACE: usize = 16_384;
 
-/// Writes the front of a reply: its head, which says whether it is the last one, and the content that the reply has, if it
-/// is more than a head. In one write, if all these bytes fit into the buffer.
+/// Writes the front of a reply: its head, which says whether it is the last one, and the content that the reply holds,
+/// unless only the head is sent. In one write, if all bytes fit into the buffer.
 pub(crate) fn send_front<W: Write>(
     writer: &mut W,
     out: &mut Vec<u8>,

@@ -1,4 +1,4 @@
-//! The search for a request among bytes that come in pieces.
+//! The search for a request in bytes that arrive in pieces.
 ghost use Rattle.std.specs.Prelude.{◌≡◌, ◌≤◌, length, take, IfSome};
 ghost use Rattle.http_serve.specs.declared.lines.Lines.TheVariants.{Blank};
 ghost use Rattle.http_serve.specs.Frame.{IsNext, IsMissing};
@@ -10,16 +10,16 @@ use crate::lines::Lines;
 use crate::positions::Position;
 use crate::refusals::NO_HEAD;
 
-/// What is known of the bytes that wait, so that they aren't looked through again for each piece.
+/// What is known about the waiting bytes, so that they aren't scanned again for each piece.
 #[derive(Clone, Copy, Debug)]
 pub(crate) enum Search {
-    /// How far the first `scanned` bytes are to an empty line, which ends a head, and where in the head they end.
+    /// Progress of the first `scanned` bytes to the empty line that ends a head, and where in the head they end.
     Head {
         scanned: usize,
         lines: Lines,
         position: Position,
     },
-    /// Below a length there is no whole request.
+    /// Below a length, no request is complete.
     Until(Missing),
 }
 
@@ -30,7 +30,7 @@ pub(crate) const START: Search = Search::Head {
     position: Position::Front,
 };
 
-/// Goes on behind the bytes of a head that were scanned.
+/// Continues the scan of a head after `scanned` bytes.
 fn scan_head(
     bytes: &[u8],
     scanned: usize,
@@ -63,8 +63,8 @@ fn scan_head(
     })
 }
 
-/// What is missing, where no parse is needed to tell it. A head is to be parsed where an empty line stands behind a line,
-/// where a byte may be its fault, and where it is as long as a head may be; a body where it is whole.
+/// What is missing, if that is known without a parse. A head is parsed once an empty line follows a line, once a byte
+/// may be its fault, or once it has the maximum length; a body once it is complete.
 pub(crate) fn known_missing(bytes: &[u8], search: &mut Search) -> Option<Missing>
     requires { IsKnown bytes.now search.old }
     ensures missing { IfSome result (λ missing. IsMissing bytes.now missing.rejection missing.until) }
@@ -81,7 +81,7 @@ pub(crate) fn known_missing(bytes: &[u8], search: &mut Search) -> Option<Missing
     }
 }
 
-/// What bytes begin with, by their parse.
+/// Parses what bytes begin with.
 pub(crate) fn parse_now(bytes: &[u8], search: &mut Search) -> Next
     requires { IsKnown bytes.now search.old }
     ensures next { IsNext bytes.now result }
@@ -96,7 +96,7 @@ pub(crate) fn parse_now(bytes: &[u8], search: &mut Search) -> Next
     next
 }
 
-/// What bytes begin with. Each byte of a head is looked at a fixed number of times, whatever the pieces.
+/// What bytes begin with. Each byte of a head is visited a fixed number of times, whatever the pieces.
 pub(crate) fn find_next(bytes: &[u8], search: &mut Search) -> Next
     requires { IsKnown bytes.now search.old }
     ensures next { IsNext bytes.now result }

@@ -1,14 +1,14 @@
-//! Writes that say how far they came.
+//! Writes of all bytes or a prefix.
 ghost use Rattle.std.specs.Prelude.{◌++◌};
 ghost use Rattle.http_serve.specs.Sent.{Sends};
 
 use std::io::Write;
 
-/// A write failed or took nothing.
+/// A write failed or took 0 bytes.
 #[derive(Clone, Copy, Debug, PartialEq, Eq)]
 pub(crate) struct WriteFault;
 
-/// Writes all the bytes, or some of the first where a write fails or takes nothing.
+/// Writes all the bytes, or a proper prefix if a write fails or takes 0 bytes.
 pub(crate) fn send_all<W: Write>(writer: &mut W, bytes: &[u8]) -> Result<(), WriteFault>
     ensures { Sends result (W.contents writer.old) (W.contents writer.new) bytes.now }
 {
@@ -22,7 +22,7 @@ pub(crate) fn send_all<W: Write>(writer: &mut W, bytes: &[u8]) -> Result<(), Wri
     Ok(())
 }
 
-/// Writes one text after the other.
+/// Writes two texts in order.
 pub(crate) fn send_both<W: Write>(
     writer: &mut W,
     first: &[u8],

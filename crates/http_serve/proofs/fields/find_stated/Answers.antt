@@ -10,7 +10,7 @@ use Rattle.http_serve.proofs.fields.find_stated.Invariants.{values}
 use Rattle.http_serve.proofs.fields.find_stated.Goals.{then-is_word+else-is_some, else-is_word}
 use Rattle.http_serve.proofs.fields.find_stated.Goals as goal
 
--- what an empty span stands for
+-- the header with empty spans
 zero_field : HeaderSpan
 zero_field = record { name = record { start = 0; end = 0 }; value = record { start = 0; end = 0 } }
 

@@ -4,7 +4,7 @@ use Rattle.http_serve.specs.Fields.{is_word, lists_close}
 use Rattle.http_serve.proofs.FieldLemmas.{close_at, both_true}
 use Rattle.http_serve.proofs.fields.says_close.Goals as goal
 
--- what an empty span stands for
+-- the header with empty spans
 zero_field : HeaderSpan
 zero_field = record { name = record { start = 0; end = 0 }; value = record { start = 0; end = 0 } }
 
