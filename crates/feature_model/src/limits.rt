@@ -18,7 +18,7 @@ use crate::lengths::{changes_len, put_text_len};
 /// One above the greatest number of a feature.
 pub const NUMBER_END: u64 = 1 << 63;
 /// The greatest zoom of a feature, and of a tile of the map.
-pub const GREATEST_ZOOM: u8 = 16;
+pub const GREATEST_ZOOM: u8 = 19;
 /// The most bytes of a name of a layer or a key of a tag, below 256, since one byte counts them in a text.
 pub const MOST_NAME_BYTES: usize = 64;
 /// The most elements of a list of points, lines, rings or polygons, below 65,536, since two bytes count them in a text.

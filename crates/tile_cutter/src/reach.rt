@@ -9,7 +9,7 @@ use crate::coordinates::{EXTENT, MARGIN, quantise};
 use feature_model::{EditFault, Feature, GREATEST_ZOOM, Geometry, World};
 
 /// The most tiles that a feature may cover at all its zooms together.
-pub const MOST_TILES: u64 = 65_536;
+pub const MOST_TILES: u64 = 262_144;
 
 /// Tiles of one zoom, ends included.
 #[derive(Clone, Copy, Debug, PartialEq, Eq)]
