@@ -7,7 +7,7 @@ use Rattle.generations.specs.Areas.{journal_sectors, area_sectors, area_start, s
 use Rattle.edit_journal.specs.Ring.{places_of}
 use Rattle.feature_store.specs.Store.{FeatureMap, IsMap, snapshot}
 use Rattle.tile_service.specs.After.{after}
-use Rattle.tile_service.specs.Stored.{Stored, HasBytes, records_of}
+use Rattle.tile_service.specs.Stored.{Stored, HasBytes, stored_records}
 use Rattle.area_content.specs.Tiles.{IsArchiveOfMap}
 use Rattle.area_content.specs.Faults.{HasManyTiles, IsFull}
 use Rattle.area_content.specs.declared.fault.ContentFault.{ContentFault}
@@ -31,7 +31,7 @@ published n stored count archive = record {
   snapshot_map = map_at stored count;
   edits = stored.edits + count;
   since = drop count stored.since;
-  journal_at = (stored.journal_at + places_of (take count (records_of stored))) % journal_sectors n;
+  journal_at = (stored.journal_at + places_of (take count (stored_records stored))) % journal_sectors n;
   archive = archive;
 }
 

@@ -1,26 +1,24 @@
 -- Edits and their records.
-use Rattle.std.specs.Prelude.{◌≡◌, ◌⊎◌, ◌<◌, ◌+◌, ℕ, List, [], ◌∷◌, length, map, All, Vec}
-use Rattle.std.proofs.Common.{Global}
+use Rattle.std.specs.Prelude.{◌≡◌, ◌⊎◌, ◌<◌, ◌+◌, ℕ, List, [], ◌∷◌, length, map, All}
 use Rattle.cached_map.specs.Cached.{CachedView}
-use Rattle.edit_journal.specs.Records.{RecordData, record_data}
-use Rattle.edit_journal.specs.declared.record.Record.{Record}
+use Rattle.edit_journal.specs.Records.{RecordData}
 use Rattle.edit_text.specs.Recorded.{RecordedEdit, IsRecorded}
 use Rattle.tile_service.specs.After.{after}
 use Rattle.generations.specs.declared.fault.StoreFault.{StoreFault}
 use Rattle.generations.specs.declared.fault.StoreFault.TheVariants.{Damaged, Memory}
 use Rattle.generations.specs.declared.fault.What.TheVariants.{Text}
-use Rattle.tile_service.specs.Stored.{record_of}
+use Rattle.tile_service.specs.Stored.{record_for}
 use Rattle.tile_service.specs.Tiles.{WereMaps}
 
 -- the record is that of this edit
 pub record IsRecordFor (r : RecordData) (e : RecordedEdit) : Type 0 where
   pub recorded : IsRecorded e
-  pub record_is : r ≡ record_of e
+  pub record_is : r ≡ record_for e
 
 -- the records are those of these edits
 pub record AreRecordsFor (records : List RecordData) (edits : List RecordedEdit) : Type 0 where
   pub are_recorded : All IsRecorded edits
-  pub are_records : records ≡ map record_of edits
+  pub are_records : records ≡ map record_for edits
 
 -- The edits of the records were applied to a map in order, and the map after any prefix of them is known.
 pub record AreMade (records : List RecordData) (old new : CachedView) : Type 0 where
@@ -33,10 +31,6 @@ pub record AreMade (records : List RecordData) (old new : CachedView) : Type 0 w
 abbrev pub bytes_of : List RecordData → ℕ
 bytes_of [] = 0
 bytes_of (r ∷ records) = length r.text + bytes_of records
-
--- records without where they are in memory
-abbrev pub views_of : List Record → List RecordData
-views_of records = map record_data records
 
 -- why a record isn't applied: an allocation fails, or the record isn't that of an edit
 abbrev pub IsRecordFault : RecordData → StoreFault → Type 0

@@ -27,7 +27,7 @@ use Rattle.tile_service.specs.declared.fault.ServiceFault.TheVariants.{NumbersSp
 use Rattle.tile_service.specs.declared.publishing.TheConstants.{STEP_SECTORS}
 use Rattle.tile_service.specs.Machine.{ArchiveState, Publication, ServiceState, OrMemory, got, no_memory, Happening, edit, begin, step, read}
 use Rattle.tile_service.specs.Publishing.{map_at, published, IsUnderWay}
-use Rattle.tile_service.specs.Stored.{Stored, Holds, Keeps, map_of, last_of, records_of, with_edit, journal_ring}
+use Rattle.tile_service.specs.Stored.{Stored, Holds, Keeps, map_of, last_of, stored_records, with_edit, journal_ring}
 use Rattle.tile_service.specs.Tiles.{WereMaps, archive_place}
 
 -- what contracts see of a publication under way
@@ -148,7 +148,7 @@ pub record Publishes (n : ℕ) (stored : Stored) (history : History) (p : Public
   pub under_way : IsUnderWay n stored (count_at stored p) p.content.archive p.written history
   pub snapshot_is : p.content.snapshot ≡ snapshot (map_at stored (count_at stored p))
   pub place_is : p.start.place ≡ (published n stored (count_at stored p) p.content.archive).journal_at
-  pub places_are : p.places ≡ places_of (take (count_at stored p) (records_of stored))
+  pub places_are : p.places ≡ places_of (take (count_at stored p) (stored_records stored))
 
 -- where its archive is stored
 abbrev pub archive_of : {D : Type 0} → ServiceView D → ArchivePlace
@@ -166,7 +166,7 @@ pub record IsUp {D : Type 0} (sectors : ℕ) (history : History) (stored : Store
   pub map_is : service.features ≡ map_of stored
   pub place_is : service.journal.place ≡ stored.journal_at
   pub edits_are : service.journal.edits ≡ stored.edits
-  pub used_is : service.journal.used ≡ places_of (records_of stored)
+  pub used_is : service.journal.used ≡ places_of (stored_records stored)
   pub last_is : service.journal.last ≡ last_of stored
   pub publication : IfSome service.publication (Publishes service.size stored history)
   -- it knows the map after any prefix of the edits since, for the tiles that no later edit can have changed

@@ -7,7 +7,7 @@ use Rattle.generations.specs.Areas.{journal_sectors, area_start, sectors_of}
 use Rattle.generations.specs.Sectors.{IsFormat, IsRootOf, IsNoRoot, version_from}
 use Rattle.generations.specs.declared.root.Root.{Root}
 use Rattle.generations.specs.declared.sizes.TheConstants.{LAST_VERSION}
-use Rattle.edit_journal.specs.Records.{RecordData}
+use Rattle.edit_journal.specs.Records.{RecordData, record_of}
 use Rattle.edit_journal.specs.Ring.{Ring, Start, HoldsOnly}
 use Rattle.edit_text.specs.Recorded.{RecordedEdit, IsRecorded, recorded_text}
 use Rattle.feature_store.specs.Store.{FeatureMap, IsMap, snapshot}
@@ -73,12 +73,12 @@ pub record HoldsAt (count n : ℕ) (stored : Stored) (at : ℕ) (sector : List �
   pub archive_bytes : HasBytes (area_start n stored.generation + sectors_of (length (snapshot stored.snapshot_map))) stored.archive at sector
 
 -- the record of an edit
-abbrev pub record_of : RecordedEdit → RecordData
-record_of e = record { version = e.version; text = recorded_text e }
+abbrev pub record_for : RecordedEdit → RecordData
+record_for e = record_of e.version (recorded_text e)
 
 -- the records of the edits since the snapshot
-abbrev pub records_of : Stored → List RecordData
-records_of stored = map record_of stored.since
+abbrev pub stored_records : Stored → List RecordData
+stored_records stored = map record_for stored.since
 
 -- the edit can be recorded on a disk of this version
 pub record CanRecord (version : ℕ) (e : RecordedEdit) : Type 0 where
@@ -92,7 +92,7 @@ journal_start stored = record { place = stored.journal_at; number = suc stored.e
 -- The image of a disk of count sectors, formatted with n, holds this.
 pub record Holds (count n : ℕ) (stored : Stored) (image : Image) : Type 0 where
   pub sectors : (at : ℕ) → HoldsAt count n stored at (image at)
-  pub journal : HoldsOnly (journal_ring n) (journal_start stored) (records_of stored) image
+  pub journal : HoldsOnly (journal_ring n) (journal_start stored) (stored_records stored) image
   pub is_map : IsMap stored.snapshot_map
   pub are_edits : All (CanRecord stored.version) stored.since
   pub is_archive : IsArchiveOfMap stored.snapshot_map stored.archive

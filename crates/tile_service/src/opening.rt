@@ -162,7 +162,11 @@ fn load<D: Sectors>(alloc: Global, disk: &mut D) -> Result<Found, StoreFault>
         Ok(()) => {}
         Err(DiskFault) => return Err(StoreFault::Device),
     }
-    let (layout, root, version) = match read_root(disk) {
+    let generations::Found {
+        layout,
+        root,
+        version,
+    } = match read_root(disk) {
         Ok(found) => found,
         Err(fault) => return Err(fault),
     };

@@ -1,7 +1,7 @@
 //! The map after the edits in the journal.
 ghost use Rattle.std.specs.Prelude.{◌≡◌, ◌<◌, ◌+◌, ◌^◌, ℕ, length, IfOk, IfErr, OnOk};
 ghost use Rattle.cached_map.specs.Cached.{WasMap};
-ghost use Rattle.edit_journal.specs.Records.{record_data};
+ghost use Rattle.edit_journal.specs.Records.{record_data, records_of};
 ghost use Rattle.edit_text.specs.Recorded.{RecordedEdit};
 ghost use Rattle.feature_model.specs.Data.{edit_data};
 ghost use Rattle.feature_model.specs.Spelled.{spelled_changes};
@@ -12,7 +12,7 @@ ghost use Rattle.generations.specs.declared.fault.StoreFault.TheVariants.{Damage
 ghost use Rattle.generations.specs.declared.fault.What.TheVariants.{Text};
 ghost use Rattle.tile_service.specs.After.{made};
 ghost use Rattle.tile_service.specs.Machine.{recorded_in};
-ghost use Rattle.tile_service.specs.Replayed.{IsRecordFor, AreMade, IsRecordFault, IsReplayFault, bytes_of, views_of};
+ghost use Rattle.tile_service.specs.Replayed.{IsRecordFor, AreMade, IsRecordFault, IsReplayFault, bytes_of};
 
 use cached_map::CachedMap;
 use edit_journal::Record;
@@ -77,12 +77,12 @@ pub(crate) fn replay(
     map: &mut CachedMap,
     records: Vec<Record>,
 ) -> Result<(), StoreFault>
-    requires texts { length (snapshot map.old.features) + bytes_of (views_of records.items) < TEXTS_END }
+    requires texts { length (snapshot map.old.features) + bytes_of (records_of records.items) < TEXTS_END }
     requires numbers { map.old.last + length records.items < 2 ^ 64 }
     requires now { WasMap map.old.features map.old.touched map.old.last map.old.last map.old.features }
-    ensures made { OnOk result (AreMade (views_of records.items) map.old map.new) }
+    ensures made { OnOk result (AreMade (records_of records.items) map.old map.new) }
     ensures last { OnOk result (map.new.last ≡ map.old.last + length records.items) }
-    ensures fault { IfErr result (IsReplayFault (views_of records.items)) }
+    ensures fault { IfErr result (IsReplayFault (records_of records.items)) }
 {
     for record in records {
         replay_one(alloc, map, &record)?;
