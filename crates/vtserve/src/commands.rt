@@ -59,7 +59,7 @@ const COMMANDS: [Row; 8] = [
     (
         "upgrade",
         &[Word::Disk],
-        "Upgrades a disk file to the last version of the format; a copy is worth making first",
+        "Upgrades a disk file to version 2 of the format; make a copy of it first",
     ),
     (
         "verify",
