@@ -64,9 +64,13 @@ module _ (ring : Ring) (image : Image) where
   next_head : (most place used number : ℕ) (r : RecordData) → IsNext ring place used number r image → number < 2 ^ 64 → r.version ≤ most
       → IsExpectedHead most number (image (sector_at ring (place + used)))
   next_head most place used number r next fits allowed =
-      let here : place + (used + 0) ≡ place + used = omega arith in
-      (r.version, next.length_is.0.0, allowed, first_is_head r.version number r.text (image (sector_at ring (place + used))) fits
-      (subst (λ (at : ℕ). IsPart r.version number r.text 0 (image (sector_at ring at))) here (next.stands 0 (omega (arith, next.length_is.1)))))
+      let here : place + (used + 0) ≡ place + used = omega arith in (
+        r.version,
+        next.length_is.0.0,
+        allowed,
+        first_is_head r.version number r.text (image (sector_at ring (place + used))) fits
+            (subst (λ (at : ℕ). IsPart r.version number r.text 0 (image (sector_at ring at))) here (next.stands 0 (omega (arith, next.length_is.1)))),
+      )
 
   -- a journal doesn't end where a place and a number are left and an expected head is stored
   goes_on : (most place used number : ℕ) → used < ring.places → number < 2 ^ 64 → IsExpectedHead most number (image (sector_at ring (place + used)))
