@@ -1,9 +1,9 @@
 """An independent writer of the archive of a map (PMTiles 3), from docs/FORMATS.md. It shares no code with the product."""
 import json
 
+from limits import GREATEST_ZOOM
 from tiles import tile, varint
 
-GREATEST_ZOOM = 16
 LEAF_ENTRIES = 512
 MOST_ENTRIES = 131072
 LONGEST_RUN = 2**32 - 1
