@@ -442,7 +442,7 @@ NOT_SERVED = [
     "/features/7.json",
     "/features/%37",
     "/Features/7",
-    "/map/17/0/0.mvt",
+    "/map/20/0/0.mvt",
     "/map/00/0/0.mvt",
     "/map/0/1/0.mvt",
     "/map/1/2/0.mvt",
@@ -516,7 +516,8 @@ def routes(script):
     for path in ("/map/0/0/0.hex?a=b", "/map/0/0/0.hex?", "/map/0/0/0.hex??/", "?/map/0/0/0.hex"):
         script.ask(request("GET", path))
     script.note("What is read as JSON and as bytes, and replies that are only heads.")
-    paths = ["/features/7", "/map/metadata", "/map/0/0/0.hex", "/map/0/0/0.mvt?v=1", "/map/16/65535/65535.mvt"]
+    paths = ["/features/7", "/map/metadata", "/map/0/0/0.hex", "/map/0/0/0.mvt?v=1", "/map/16/65535/65535.mvt",
+             "/map/17/0/0.mvt", "/map/19/524287/524287.mvt"]
     for method in ("GET", "HEAD"):
         script.ask(*(request(method, path) for path in paths))
     script.note("A feature that is deleted.")
@@ -569,7 +570,7 @@ def no_features():
     yield "the name of the layer"
     yield from (changed(layer=name) for name in ("", "x" * 65, "\u00e9" * 33))
     yield "the zooms"
-    yield from (changed(minzoom=first, maxzoom=last) for first, last in ((3, 2), (0, 17), (17, 17), (255, 255)))
+    yield from (changed(minzoom=first, maxzoom=last) for first, last in ((3, 2), (0, 20), (20, 20), (255, 255)))
     yield "the geometry"
     yield from (changed({"points": points}) for points in ([], [[]], [[0]], [[0, 0, 0]], [[0, 2**32]], [[-1, 0]], [["0", 0]], [[None, 0]], [0], [[0, True]]))
     yield from (raw(b"[[0,0]]", text) for text in (b"[[0,0.0]]", b"[[0,1e1]]", b"[[0,-0]]", b"[[0,18446744073709551616]]"))
@@ -620,11 +621,11 @@ def at_the_limits(script):
     script.ask(*put_parts(7, long_body(4093)), sizes="65536")
     script.ask(*put_parts(7, long_body(4094)))
     world = [[[[0, 0], [WORLD, 0], [WORLD, WORLD], [0, WORLD]]]]
-    for last in (7, 8, 16):
+    for last in (7, 9, 16, 19, 8):
         script.ask(put(7, tiles.feature({"polygons": world}, maxzoom=last)))
     script.note("too long and too wide: the first is named")
     wide = [[[[0, 0], [WORLD, 0], [WORLD, WORLD], [0, WORLD]] + [[0, 0]] * 5000]]
-    script.ask(request("PUT", "/features/7", spelled(tiles.feature({"polygons": wide}, maxzoom=8))))
+    script.ask(request("PUT", "/features/7", spelled(tiles.feature({"polygons": wide}, maxzoom=9))))
     script.note("taken: names of 64 bytes, 64 tags, texts of 1,024 bytes, the least and the greatest number, any order, the last of a name")
     taken = [
         tiles.feature({"points": [[0, WORLD]]}, layer="x" * 64),
@@ -632,9 +633,21 @@ def at_the_limits(script):
         tiles.feature({"points": [[0, 0]]}, tags={f"k{number}": number % 2 == 0 for number in range(64)}),
         tiles.feature({"points": [[0, 0]]}, tags={"k": "x" * 1024, "least": -(2**63), "most": 2**64 - 1, "none": ""}),
         tiles.feature({"points": [[0, 0]]}, tags={"k": '"\x5c/\x08\x0c\n\r\t\x00\x1f\x7f\u2028\U0001f30d'}, minzoom=16, maxzoom=16),
+        tiles.feature({"points": [[WORLD, 0]]}, minzoom=17, maxzoom=17),
+        tiles.feature({"points": [[WORLD, WORLD]]}, minzoom=0, maxzoom=19),
     ]
     for feature in taken:
         script.ask(put(7, feature), request("GET", "/features/7"), request("GET", "/map/metadata"))
+    script.note("the last tiles of zoom 19, and columns, rows and zooms behind them")
+    places = ["19/524287/524287", "19/524286/524287", "19/524288/0", "19/0/524288", "20/0/0", "20/1048575/1048575", "255/0/0"]
+    script.ask(*(request("GET", f"/map/{place}.hex") for place in places))
+    script.note("a line along the edge of the world at zoom 18 has 262,144 tiles, the most; with one more zoom it is refused")
+    edge = {"lines": [[[0, 0], [WORLD, 0]]]}
+    script.ask(put(7, tiles.feature(edge, 18, 18)), request("GET", "/map/18/0/0.hex"), request("GET", "/map/18/262143/0.hex"))
+    script.ask(put(7, tiles.feature(edge, 17, 18)), put(7, tiles.feature(edge, 19, 19)), request("GET", "/map/18/131072/0.hex"))
+    script.note("boxes of zoom 19: 262,144 tiles, and one more")
+    for right, down in [(2147475456, 0), (2147483648, 0), (0, 2147475456), (0, 2147483648), (536862720, 24576), (429490176, 32768)]:
+        script.ask(put(7, tiles.feature({"points": [[0, 0], [right, down]]}, 19, 19)))
     odd = b' {"tags":{"b":1,"a":2,"b":3},"maxzoom":9,"layer":"\\u0070","geometry":{"points":[[ 1 ,\t2]]},\r\n"minzoom":1,"maxzoom":3} '
     script.ask(request("PUT", "/features/7", odd), request("GET", "/features/7"))
     script.note("the metadata where the features of a layer differ")

@@ -341,7 +341,8 @@ def record_words(layout, place, number, text):
 
 def tiles_and_answers():
     yield from heading("The documented example: the tile of a point, tiles that don't show it, and zooms past the last.")
-    yield from [*opened(), put(7), "tile 0 0 0", "tile 2 0 0", "tile 2 3 3", "tile 3 0 0", "tile 16 0 0", "tile 17 0 0", "tile 31 0 0", "look 7", "look 8"]
+    yield from [*opened(), put(7), "tile 0 0 0", "tile 2 0 0", "tile 2 3 3", "tile 3 0 0", "tile 16 0 0", "tile 17 0 0", "tile 19 0 0"]
+    yield from ["tile 20 0 0", "tile 31 0 0", "look 7", "look 8"]
     yield from heading("A run of no events, and one of several: a refused event has an answer too.")
     yield from ["nothing", f"tile 0 0 0; {put(7)}; tile 0 0 0; look 7; look 8; delete 8; delete 7; look 7; tile 0 0 0"]
     yield from heading("The other documented tiles: a reversed ring, a line in two chains, points at the edge of a tile, each kind of tag; and two layers.")
@@ -357,7 +358,8 @@ def limits():
     world = f"0,0 {WORLD_END - 1},0 {WORLD_END - 1},{WORLD_END - 1} 0,{WORLD_END - 1}"
     yield from [*opened(1024), f"put {2**63} {POINT}", f"put {2**63 - 1} {POINT}"]
     yield from [f"put 1 {'l' * 65} 0 2 points 0,0", f"put 1 {'l' * 64} 0 2 points 0,0"]
-    yield from ["put 1 p 3 2 points 0,0", "put 1 p 0 17 points 0,0", "put 1 p 2 2 points 0,0", "put 1 p 16 16 points 0,0"]
+    yield from ["put 1 p 3 2 points 0,0", "put 1 p 0 20 points 0,0", "put 1 p 20 20 points 0,0", "put 1 p 2 2 points 0,0", "put 1 p 16 16 points 0,0"]
+    yield from ["put 1 p 0 17 points 0,0", "put 1 p 19 19 points 0,0"]
     yield from ["put 1 p 0 2 lines 0,0", "put 1 p 0 2 polygons 0,0 1,1", "put 1 p 0 2 polygons 0,0 9,9 9,0 / 1,1", "put 1 p 0 2 lines 0,0 1,1 / 2,2"]
     yield from [f"put 1 p 0 2 points 0,0 {words}" for words in ("b=1 a=1", "a=1 b=2", f"{'k' * 65}=1", f"{'k' * 64}=1")]
     keys = sorted(f"k{number}" for number in range(65))
@@ -367,9 +369,24 @@ def limits():
     tags = " ".join(f"t{number:02}='x*1000" for number in range(31))
     for points in (191, 192):
         yield f"put 1 p 0 0 points {' '.join(['5,5'] * points)} {tags}"
-    yield from [f"put 1 p 0 8 polygons {world}", f"put 1 p 0 7 polygons {world}", "tile 7 99 99", "tile 8 0 0"]
+    yield from [f"put 1 p 0 9 polygons {world}", f"put 1 p 0 8 polygons {world}", "tile 7 99 99", "tile 8 0 0", "tile 9 0 0"]
+    yield from [f"put 1 p 0 7 polygons {world}", "tile 7 99 99", "tile 8 0 0", f"put 1 p 9 9 polygons {world}", "tile 9 511 0"]
     yield from heading("Of two broken limits the first is reported.")
-    yield from [f"put {2**63} p 0 17 points 0,0", "put 1 p 0 17 lines 0,0", "put 1 p 0 2 lines 0,0 b=1 a=1", f"put 1 p 0 8 polygons {world} b=1 a=1"]
+    yield from [f"put {2**63} p 0 20 points 0,0", "put 1 p 0 20 lines 0,0", "put 1 p 0 2 lines 0,0 b=1 a=1", f"put 1 p 0 9 polygons {world} b=1 a=1"]
+
+
+def greatest_zoom():
+    edge = f"{WORLD_END - 1},{WORLD_END - 1}"
+    yield from heading("A point at the last corner of the world on all 20 zooms, in its last tiles, after a crash, and in an archive.")
+    yield from [*opened(), f"put 7 p 0 19 points {edge}", "tile 0 0 0", "tile 16 65535 65535", "tile 19 524287 524287", "tile 19 524286 524287", "tile 19 0 0"]
+    yield from ["tile 20 1048575 1048575", "stop", *crashed(), "look 7", "tile 19 524287 524287", "publish", "archive", "verify", "export", "metadata"]
+    yield from ["stop", "resume", "open", "tile 19 524287 524287", "tile 19 524287 524286", "tile 18 262143 262143", "tile 20 1048575 1048575"]
+    yield from heading("Features with the most tiles, 262,144, and with more: a line along the edge of the world, and boxes of zoom 19.")
+    yield from [*opened(), f"put 1 l 18 18 lines 0,0 {WORLD_END - 1},0", "tile 18 0 0", "tile 18 262143 0", "tile 18 262143 1", "tile 17 0 0"]
+    yield from [f"put 1 l 17 18 lines 0,0 {WORLD_END - 1},0", f"put 1 l 19 19 lines 0,0 {WORLD_END - 1},0", "tile 18 262143 0"]
+    yield from ["put 2 b 19 19 points 0,0 2147475456,0", "put 3 b 19 19 points 0,0 2147483648,0", "tile 19 262143 0", "tile 19 262144 0"]
+    yield from ["put 2 b 19 19 polygons 0,0 536862720,0 536862720,24576", "put 3 b 19 19 polygons 0,0 429490176,0 429490176,32768", "tile 19 65535 3"]
+    yield from ["look 3", "stop", *crashed(), looks(1, 2, 3), "tile 18 131072 0", "tile 19 65535 0"]
 
 
 def edits():
@@ -634,6 +651,8 @@ def too_many():
     yield from heading("Three lines across the world: 196,608 tiles of zoom 16, each unlike the next, are too many entries.")
     rows = [f"put {number} l 16 16 lines 0,{y} {WORLD_END - 1},{y}" for number, y in ((1, 32768), (2, 1073774592), (3, 2147516416))]
     yield from [*opened(), *rows, "begin", "step", looks(2)]
+    yield from heading("One line with the most tiles that a feature may cover has too many for an archive: 262,144 of zoom 18.")
+    yield from [*opened(), put(7), "publish", f"put 1 l 18 18 lines 0,0 {WORLD_END - 1},0", "begin", "archive", "delete 1", "publish"]
 
 
 # Openings
@@ -778,7 +797,8 @@ def published_tiles():
         "Calls of tiles that are read from the archive: one for the first, whose sector has header, directory and content; one for the content of",
         "another; none for a tile that was read before or is not in the directory. Opening takes 6 calls.",
     )
-    for tiles in ([], ["0 0 0"], ["0 0 0"] * 2, ["0 0 0", "1 0 0"], ["0 0 0", "1 0 0"] * 2, ["1 1 1"], ["1 1 1", "1 0 1", "16 9 9"], ["17 0 0", "0 0 0"]):
+    for tiles in ([], ["0 0 0"], ["0 0 0"] * 2, ["0 0 0", "1 0 0"], ["0 0 0", "1 0 0"] * 2, ["1 1 1"], ["1 1 1", "1 0 1", "16 9 9"], ["17 0 0", "0 0 0"],
+                  ["19 9 9", "0 0 0"], ["20 0 0", "0 0 0"]):
         yield from [*opened(), put(7), "publish", "stop", "resume", "open", *(f"tile {place}" for place in tiles), "stop"]
     yield from heading("A tile that was cut before the publication stays cached; a tile is cut if an edit since touched its cells, and read otherwise.")
     yield from [*opened(), put(7), "tile 0 0 0", "publish", "tile 0 0 0", "stop", "resume", "open", f"put 8 p 0 2 points {WORLD_END - 1},{WORLD_END - 1}"]
@@ -1001,9 +1021,9 @@ def large_stops():
 
 def lines():
     yield from ["# A map on a disk, as a service. Written by bench/model/service_script.py, with the answers."]
-    for block in (tiles_and_answers, limits, edits, edit_stops, bodies_alone, publications, between, steps, publication_stops, script_stops):
+    for block in (tiles_and_answers, limits, greatest_zoom, edits, edit_stops, bodies_alone, publications, between, steps, publication_stops):
         yield from block()
-    for block in (forty_events, stop_choices, one_failure, read_failures, too_many, openings, snapshots, earlier, archives, published_tiles):
+    for block in (script_stops, forty_events, stop_choices, one_failure, read_failures, too_many, openings, snapshots, earlier, archives, published_tiles):
         yield from block()
     for block in (random_tiles, random_stops, large_stops):
         yield from block()
