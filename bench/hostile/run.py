@@ -20,7 +20,7 @@ sys.path.append(str(HERE.parent / "model"))
 import disk as disks
 from archives import Maker, directory
 from read_hostile import MOVE, overlapping_contents, shared_bytes
-from reply_script import request
+from reply_stand import request
 from wire import number, part, varint
 
 SIZES = [1024, 2048, 4096, 8192]

@@ -9,7 +9,7 @@ from pathlib import Path
 import archives
 import foreign_tiles
 import read_hostile
-from archives import ALL_IDS, Entry, Maker, changed, directory
+from archives import ALL_IDS, Entry, Maker, directory
 from disk import Edit, text_of
 from map_stand import POINT
 from map_script import LINE, POLYGONS
