@@ -206,9 +206,8 @@ class Trial:
 
     def do_verify(self):
         self.session.read(0, self.session.root.archive_len)
-        tiles = tiles_of(self.session.snapshot)
-        runs = runs_of(tiles)
-        return debug(ok(Report(len(tiles), len(runs), len({held for _, _, held in runs}))))
+        runs = runs_of(tiles_of(self.session.snapshot))
+        return debug(ok(Report(sum(run for _, run, _ in runs), len(runs), len({held for _, _, held in runs}))))
 
     def do_metadata(self):
         return shortly(self.session.metadata().decode())
