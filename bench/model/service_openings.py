@@ -1,6 +1,7 @@
 """Blocks of `service_script.py` about disks that are opened, whole or damaged, and about their archives and tiles."""
 from disk import Edit, Layout, Root, snapshot_text, text_of
-from service_lines import WORLD_END, crashed, fresh, heading, image, long_point, looks, opened, opens, put, record_words, stops, with_snapshot, write_words
+from service_lines import LAST, WORLD_END, crashed, fresh, heading, image, long_point, looks, opened, opens, put, record_words, stops, with_snapshot
+from service_lines import write_words
 
 
 # ---- openings
@@ -21,6 +22,10 @@ def openings():
     yield from heading("A head of another version, number, place or kind is no edit; the last one here is.")
     for at, front in ((3, "1:1 2:1 1:2 1:8"), (3, "1:1 1:1 1:2 2:8"), (4, "1:1 1:1 1:2 1:8"), (3, "2:1 1:1 1:2 1:8"), (3, "1:1 1:1 1:2 1:8")):
         yield from [*fresh(), f"write {at} = {front} 25:4 01 7:8 1:1 'p 0:1 2:1 1:1 1:2 0:8 00", "open", put(8)]
+    yield from heading("Records of a point at zooms 0 to 16, as earlier versions wrote them, at the zooms that they refused, and past the last zoom.")
+    for zooms in ("0:1 16:1", "16:1 16:1", "0:1 17:1", "19:1 19:1", "0:1 20:1", "20:1 20:1"):
+        yield from [*fresh(), f"write 3 = 1:1 1:1 1:2 1:8 25:4 01 7:8 1:1 'p {zooms} 1:1 1:2 {LAST}:8 00", "open"]
+        yield from ["look 7", "tile 16 65535 65535", "tile 19 524287 524287"] if "20" not in zooms else []
     yield from heading("A record without its body, and with it.")
     yield from [*fresh(), *list(record_words(Layout(64), 0, 1, text_of(Edit(7, long_point(467)))))[:1], "open"]
     yield from [*fresh(), *record_words(Layout(64), 0, 1, text_of(Edit(7, long_point(467)))), "open", "look 7"]
@@ -56,6 +61,10 @@ def snapshots():
     yield from heading("Snapshots with a changed byte: none, an unknown kind, a deletion, invalid UTF-8.")
     for at, byte in ((0, 1), (25, 3), (25, 2), (654, 255)):
         yield from [*with_snapshot(whole[:at] + bytes([byte]) + whole[at + 1 :]), "open"]
+    yield from heading("Snapshots of a point at zooms 0 to 16, to 19, and past the last zoom.")
+    for last in (16, 19, 20):
+        yield from [*with_snapshot(text_of(Edit(7, {**long_point(0), "maxzoom": last}))), "open"]
+        yield from ["look 7", "tile 16 0 0", "tile 19 0 0"] if last < 20 else []
     yield from heading("Snapshots of other lengths: a byte too few, a byte too many, one feature, none.")
     for length in (654, 656, 25, 0):
         yield from [*with_snapshot(whole, length), "open", looks(7, 9)]
