@@ -35,6 +35,10 @@ pub(crate) enum Line<'a> {
     Disk(u64),
     /// A disk of so many sectors of zeros, which isn't opened.
     Zeros(u64),
+    /// A disk of the first version of the format with so many sectors.
+    First(u64),
+    /// The disk is closed and upgraded.
+    Upgrade,
     /// The disk is closed, and a sector of it gets this byte and zeros behind it.
     Sector(u64, u8),
     /// The disk is opened again.
@@ -111,6 +115,8 @@ pub(crate) fn line_in(text: &str) -> Option<Line<'_>> {
     let (word, rest) = split_word(text);
     match word {
         "disk" => Some(Line::Disk(number_in(rest)?)),
+        "first" => Some(Line::First(number_in(rest)?)),
+        "upgrade" if rest.is_empty() => Some(Line::Upgrade),
         "zeros" => Some(Line::Zeros(number_in(rest)?)),
         "sector" => sector_in(rest),
         "again" => Some(Line::Again(failing_in(rest)?)),

@@ -4,6 +4,8 @@
 //! | Line | Does |
 //! |---|---|
 //! | `disk N` | makes a disk of N sectors that holds the empty map, and opens it |
+//! | `first N` | the same in the first version of the format |
+//! | `upgrade` | closes the disk, and upgrades it to the last version |
 //! | `zeros N` | makes a disk of N sectors of zeros, which isn't opened |
 //! | `sector AT BYTE` | closes the disk, and writes this byte and zeros into a sector of it |
 //! | `again` | opens the disk again |
@@ -28,7 +30,7 @@ mod texts;
 
 use lines::{Line, line_in};
 use sector_disk::MemoryDisk;
-use stands::{Stand, begin, open_again, overwrite, zeros};
+use stands::{Stand, begin, begin_first, open_again, overwrite, upgrade, zeros};
 use std::alloc::{AllocError, Global};
 use std::io;
 use streams::{Narrowness, Pieces, WIDE};
@@ -70,6 +72,8 @@ fn answer(
     match line {
         Line::Remark => String::from_str(alloc, text),
         Line::Disk(sectors) => begin(alloc, stand, sectors),
+        Line::First(sectors) => begin_first(alloc, stand, sectors),
+        Line::Upgrade => upgrade(alloc, stand),
         Line::Zeros(sectors) => zeros(alloc, stand, sectors),
         Line::Sector(at, first) => overwrite(alloc, stand, at, first),
         Line::Again(failing) => open_again(alloc, stand, failing),

@@ -1,6 +1,6 @@
 //! A disk, and what answers over it while it is open.
 use crate::lines::Failing;
-use generations::StoreFault;
+use generations::{FIRST_VERSION, StoreFault, format_version};
 use map_disks::{fresh_service, opened_service};
 use map_replies::MapReplies;
 use sector_disk::{FailingCalls, FaultyDisk, MemoryDisk, SECTOR_BYTES, Sectors};
@@ -97,6 +97,33 @@ pub(crate) fn begin(alloc: Global, stand: &mut Stand, sectors: u64) -> Result<St
             *stand = Stand::Closed(map.into_service().into_disk());
             open_again(alloc, stand, Failing::None)
         }
+        Err(fault) => told(alloc, Some(fault)),
+    }
+}
+
+/// Makes a disk of so many sectors that holds the empty map in the first version of the format, and opens it.
+pub(crate) fn begin_first(
+    alloc: Global,
+    stand: &mut Stand,
+    sectors: u64,
+) -> Result<String, AllocError> {
+    let mut disk = MemoryDisk::new(alloc, sectors)?;
+    match format_version(&mut disk, FIRST_VERSION) {
+        Ok(()) => {
+            *stand = Stand::Closed(disk);
+            open_again(alloc, stand, Failing::None)
+        }
+        Err(fault) => told(alloc, Some(fault)),
+    }
+}
+
+/// Closes the disk, and upgrades it.
+pub(crate) fn upgrade(alloc: Global, stand: &mut Stand) -> Result<String, AllocError> {
+    let mut disk = taken(alloc, stand)?;
+    let outcome = Service::upgrade(&mut disk);
+    *stand = Stand::Closed(disk);
+    match outcome {
+        Ok(()) => String::from_str(alloc, "upgraded"),
         Err(fault) => told(alloc, Some(fault)),
     }
 }

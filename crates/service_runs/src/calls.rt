@@ -146,6 +146,7 @@ fn call_answered(
         (CallVerb::Export, [room]) => export_into(alloc, service, *room),
         (CallVerb::Verify, []) => verify(alloc, service),
         (CallVerb::Metadata, []) => metadata(alloc, service),
+        (CallVerb::Version, []) => outcome_text(alloc, service.version()),
         _ => Ok(None),
     }
 }

@@ -1,6 +1,7 @@
 //! Commands on the sectors of a closed disk.
 use crate::lines::{DiskVerb, Line};
 use crate::sessions::{Session, Trial};
+use generations::{FIRST_VERSION, LAST_VERSION, StoreFault, format_version};
 use script_bytes::{push_number, sector_of, spelled, used_part};
 use sector_disk::{FaultyDisk, MemoryDisk, Sectors};
 use std::alloc::{AllocError, Global};
@@ -58,13 +59,44 @@ fn sectors(alloc: Global, disk: &mut MemoryDisk) -> Result<Option<String>, Alloc
     Ok(Some(text))
 }
 
-fn format_disk(alloc: Global, trial: &mut Trial) -> Result<Option<String>, AllocError> {
+/// What is done with a disk as a whole.
+#[derive(Clone, Copy)]
+enum Work {
+    /// The disk is formatted for the empty map.
+    Format,
+    /// The same in the first version of the format.
+    FormatFirst,
+    /// The disk is upgraded.
+    Upgrade,
+}
+
+fn worked(disk: &mut FaultyDisk<MemoryDisk>, work: Work) -> Result<(), StoreFault> {
+    match work {
+        Work::Format => Service::format(disk),
+        Work::FormatFirst => format_version(disk, FIRST_VERSION),
+        Work::Upgrade => Service::upgrade(disk),
+    }
+}
+
+/// Does the work on the disk with its failing calls, and prints the outcome with the number of calls.
+fn work_answered(alloc: Global, trial: &mut Trial, work: Work) -> Result<Option<String>, AllocError> {
     let (disk, _) = trial.take_disk(alloc)?;
     let mut disk = FaultyDisk::new(disk, trial.take_failing());
-    let outcome = Service::format(&mut disk);
+    let outcome = worked(&mut disk, work);
     let calls = disk.calls();
     trial.session = Session::Closed(disk.into_disk());
     Ok(Some(format!(in alloc; "{outcome:?} in {calls}")?))
+}
+
+/// Formats the disk in a version. `None` if there is no such version.
+fn format_in(alloc: Global, trial: &mut Trial, version: u64) -> Result<Option<String>, AllocError> {
+    if version == u64::from(FIRST_VERSION) {
+        return work_answered(alloc, trial, Work::FormatFirst);
+    }
+    if version == u64::from(LAST_VERSION) {
+        return work_answered(alloc, trial, Work::Format);
+    }
+    Ok(None)
 }
 
 fn make(alloc: Global, trial: &mut Trial, sectors: u64) -> Result<Option<String>, AllocError> {
@@ -96,7 +128,9 @@ pub(crate) fn answered(
 ) -> Result<Option<String>, AllocError> {
     match (verb, line.numbers.as_slice()) {
         (DiskVerb::Disk, [sectors]) => make(alloc, trial, *sectors),
-        (DiskVerb::Format, []) => format_disk(alloc, trial),
+        (DiskVerb::Format, []) => work_answered(alloc, trial, Work::Format),
+        (DiskVerb::FormatVersion, [version]) => format_in(alloc, trial, *version),
+        (DiskVerb::Upgrade, []) => work_answered(alloc, trial, Work::Upgrade),
         _ => match &mut trial.session {
             Session::Closed(disk) => closed_answered(alloc, disk, verb, line),
             Session::Open(_) => Ok(None),

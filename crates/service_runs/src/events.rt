@@ -1,11 +1,12 @@
 //! Events as words of a line.
 use crate::features::feature_in;
+use feature_model::Change;
 use hilbert_id::TileAt;
 use std::alloc::{AllocError, Global};
 use tile_service::Event;
 
 /// Parses the number and the feature of a put.
-fn put_in(alloc: Global, text: &str) -> Result<Option<Event>, AllocError> {
+fn put_change_in(alloc: Global, text: &str) -> Result<Option<Change>, AllocError> {
     let Some((number, words)) = text.split_once(' ') else {
         return Ok(None);
     };
@@ -13,7 +14,56 @@ fn put_in(alloc: Global, text: &str) -> Result<Option<Event>, AllocError> {
         return Ok(None);
     };
     match feature_in(alloc, words)? {
-        Some(feature) => Ok(Some(Event::Put { id, feature })),
+        Some(feature) => Ok(Some(Change::Put { id, feature })),
+        None => Ok(None),
+    }
+}
+
+/// Parses a change. `None` if the text is none.
+fn change_in(alloc: Global, text: &str) -> Result<Option<Change>, AllocError> {
+    let (word, rest) = text.split_once(' ').unwrap_or((text, ""));
+    match word {
+        "put" => put_change_in(alloc, rest),
+        "delete" => Ok(rest.parse::<u64>().ok().map(|id| Change::Delete { id })),
+        _ => Ok(None),
+    }
+}
+
+/// Parses the changes of a batch, with ` & ` between them. No text is a batch of none.
+fn changes_in(alloc: Global, text: &str) -> Result<Option<Vec<Change>>, AllocError> {
+    let mut changes = Vec::new(alloc);
+    if text.is_empty() {
+        return Ok(Some(changes));
+    }
+    for change in text.split(" & ") {
+        match change_in(alloc, change)? {
+            Some(change) => changes.push(change)?,
+            None => return Ok(None),
+        }
+    }
+    Ok(Some(changes))
+}
+
+/// The event of one change.
+fn single(change: Change) -> Event {
+    match change {
+        Change::Put { id, feature } => Event::Put { id, feature },
+        Change::Delete { id } => Event::Delete { id },
+    }
+}
+
+/// Parses the event of one change. `None` if the text is none.
+fn single_in(alloc: Global, text: &str) -> Result<Option<Event>, AllocError> {
+    match change_in(alloc, text)? {
+        Some(change) => Ok(Some(single(change))),
+        None => Ok(None),
+    }
+}
+
+/// Parses a batch. `None` if the text is none.
+fn batch_in(alloc: Global, text: &str) -> Result<Option<Event>, AllocError> {
+    match changes_in(alloc, text)? {
+        Some(changes) => Ok(Some(Event::Batch { changes })),
         None => Ok(None),
     }
 }
@@ -30,11 +80,6 @@ fn tile_in(text: &str) -> Option<Event> {
     Some(Event::Tile { at })
 }
 
-fn delete_in(text: &str) -> Option<Event> {
-    let id = text.parse::<u64>().ok()?;
-    Some(Event::Delete { id })
-}
-
 fn look_in(text: &str) -> Option<Event> {
     let id = text.parse::<u64>().ok()?;
     Some(Event::Look { id })
@@ -44,8 +89,8 @@ fn look_in(text: &str) -> Option<Event> {
 fn event_in(alloc: Global, text: &str) -> Result<Option<Event>, AllocError> {
     let (word, rest) = text.split_once(' ').unwrap_or((text, ""));
     match word {
-        "put" => put_in(alloc, rest),
-        "delete" => Ok(delete_in(rest)),
+        "put" | "delete" => single_in(alloc, text),
+        "batch" => batch_in(alloc, rest),
         "tile" => Ok(tile_in(rest)),
         "look" => Ok(look_in(rest)),
         "begin" => Ok(Some(Event::Begin)),

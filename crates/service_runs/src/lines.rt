@@ -10,6 +10,8 @@ pub(crate) enum DiskVerb {
     Sector,
     Sectors,
     Format,
+    FormatVersion,
+    Upgrade,
 }
 
 /// Commands that open, close and crash a disk.
@@ -32,6 +34,7 @@ pub(crate) enum CallVerb {
     Export,
     Verify,
     Metadata,
+    Version,
 }
 
 #[derive(Clone, Copy)]
@@ -58,6 +61,8 @@ fn disk_verb_in(word: &str) -> Option<Verb> {
         "sector" => Some(Verb::Disk(DiskVerb::Sector)),
         "sectors" => Some(Verb::Disk(DiskVerb::Sectors)),
         "format" => Some(Verb::Disk(DiskVerb::Format)),
+        "format_version" => Some(Verb::Disk(DiskVerb::FormatVersion)),
+        "upgrade" => Some(Verb::Disk(DiskVerb::Upgrade)),
         _ => None,
     }
 }
@@ -82,6 +87,7 @@ fn call_verb_in(word: &str) -> Option<Verb> {
         "export" => Some(Verb::Call(CallVerb::Export)),
         "verify" => Some(Verb::Call(CallVerb::Verify)),
         "metadata" => Some(Verb::Call(CallVerb::Metadata)),
+        "version" => Some(Verb::Call(CallVerb::Version)),
         _ => None,
     }
 }

@@ -25,7 +25,7 @@ enum Word {
 /// A command: its name, its arguments and its help.
 type Row = (&'static str, &'static [Word], &'static str);
 
-const COMMANDS: [Row; 7] = [
+const COMMANDS: [Row; 8] = [
     (
         "demo",
         &[Word::Sectors],
@@ -55,6 +55,11 @@ const COMMANDS: [Row; 7] = [
         "show",
         &[Word::Archive],
         "Prints the header and the metadata of a tile archive",
+    ),
+    (
+        "upgrade",
+        &[Word::Disk],
+        "Upgrades a disk file to version 2 of the format; make a copy of it first",
     ),
     (
         "verify",

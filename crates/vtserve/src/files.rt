@@ -3,12 +3,13 @@
 use crate::fault::CommandFault;
 use crate::regular::open_regular;
 use crate::serving::{Peers, serve};
-use generations::StoreFault;
+use generations::{LAST_VERSION, StoreFault};
 use map_disks::{formatted_file, opened_service};
 use sector_disk::{FileDisk, Start, SystemFile, Zeros};
 use std::fs::{File, OpenOptions, TryLockError};
 use std::io::{self, ErrorKind};
 use std::os::fd::AsRawFd;
+use tile_service::Service;
 
 /// Creates a disk file of this many sectors with the empty map, and prints a line.
 pub(crate) fn format_file(rt: &HostRuntime, path: &str, sectors: u64) -> Result<(), CommandFault> {
@@ -111,5 +112,25 @@ pub(crate) fn serve_file<S: Start>(
     match opened_service(rt.alloc(), disk) {
         Ok(map) => serve(rt, map, peers),
         Err((_, fault)) => Err(CommandFault::Store(fault)),
+    }
+}
+
+/// Upgrades the disk in a file, whatever the file had, to the last version of the format, and says which one that is.
+pub(crate) fn upgrade_file<S: Start>(
+    rt: &HostRuntime,
+    path: &str,
+    start: S,
+) -> Result<(), CommandFault> {
+    let OpenedFile {
+        mut disk,
+        held: _held,
+    } = opened_file(rt, path, start)?;
+    match Service::upgrade(&mut disk) {
+        Ok(()) => {}
+        Err(fault) => return Err(CommandFault::Store(fault)),
+    }
+    match println!(rt; "version {LAST_VERSION}") {
+        Ok(()) => Ok(()),
+        Err(_) => Err(CommandFault::Write),
     }
 }

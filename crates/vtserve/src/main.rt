@@ -16,7 +16,7 @@ use clap::error::ErrorKind::OutOfMemory;
 use commands::command_line;
 use exporting::export_file;
 use fault::CommandFault;
-use files::{format_file, serve_file};
+use files::{format_file, serve_file, upgrade_file};
 use generations::StoreFault;
 use listening::listening_of;
 use map_disks::fresh_service;
@@ -75,6 +75,7 @@ fn run(rt: &HostRuntime, matches: &ArgMatches<'_>) -> anyhow::Result<ExitCode> {
             None => out_of_range(rt),
         },
         "show" => show_file(rt, path),
+        "upgrade" => ended(rt, upgrade_file(rt, path, Unknown)),
         "verify" => verify_file(rt, path),
         _ => Ok(ExitCode::from(2)),
     }
