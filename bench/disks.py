@@ -160,6 +160,7 @@ def chosen():
     """Features at the bounds of what a text holds."""
     yield feature({"points": [[0, 0], [WORLD - 1, WORLD - 1], [WORLD - 1, 0]]})
     yield feature({"points": [[WORLD - 1, WORLD - 1]]}, minzoom=16, maxzoom=16)
+    yield feature({"points": [[WORLD - 1, WORLD - 1]]}, minzoom=19, maxzoom=19)
     yield feature({"lines": [[[0, 0], [2**20, 2**21]], [[5, 5], [6, 7], [8, 9]]]}, layer="l" * 64, minzoom=3, maxzoom=3)
     yield feature({"polygons": [[square(2**30, 2**30, 2**24), square(2**30 + 99999, 2**30 + 99999, 2**20)], [square(9, 9, 2**28)]]})
     values = ["", "ü\U0001f5fa\0\"\\", "v" * 1024, 0, 2**64 - 1, -1, -(2**63), 2**63, False, True]
@@ -237,7 +238,7 @@ def refused(cases, folder):
     machine = fresh(path, 1024)
     serve(cases, "one edit", path, machine, [Edit(1, POINT)])
     before = Path(path).read_bytes()
-    wide = feature({"polygons": [[square(0, 0, WORLD - 1)]]}, maxzoom=16)
+    wide = feature({"polygons": [[square(0, 0, WORLD - 1)]]}, maxzoom=19)
     many = feature({"points": [[index, index] for index in range(4094)]})
     edits = [(many, "E8 Long"), (wide, "E9 Reach"), (feature({"points": [[0, 0]]}, layer=""), "E3 Layer")]
     requests = b"".join(edit_request(Edit(2, item)) for item, _ in edits) + edit_request(Edit(2**63, POINT))
@@ -274,7 +275,7 @@ def journals():
     yield "all places but one, up to place 2", 64, 3, {}, small_edits(15), b"", 4, 0, None
     yield "the greatest generation", 256, 2**64 - 1, {}, across(), b"", 60, 0, Root(2**64 - 2, 2**64 - 1, 63, 94 * 512, 0)
     yield "the greatest even generation", 256, 2**64 - 2, {}, across(), b"", 63, 0, Root(3, 2, 1, 0, 94 * 512)
-    wide = feature({"polygons": [[square(0, 0, WORLD - 1)]]}, maxzoom=16)
+    wide = feature({"polygons": [[square(0, 0, WORLD - 1)]]}, maxzoom=19)
     yield "a feature of a greater reach than a PUT may have", 256, 4, {}, [Edit(9, wide)], b"", 5, 0, None
     yield "a DELETE of a number without a feature", 256, 4, {}, [Edit(9, None), *across()], b"", 5, 0, None
 

@@ -12,7 +12,8 @@ import sys
 from pathlib import Path
 
 sys.path.append(str(Path(__file__).resolve().parent / "model"))
-from service_script import Trial, large_disk, random_runs
+from service_random import large_disk, random_runs
+from service_stand import Trial
 
 
 def difference(program, lines):

@@ -43,7 +43,7 @@ import time
 from file_features import Reader, Unreadable
 from import_sizes import Sizes, area_of, disk_for, is_heavy
 from map_client import Client, NoAnswer, Stopped
-from world_shapes import MOST_BODY, Cutter, Unfit, count, is_shown, list_count, on_the_world, outline, rounded, size, wrong_zooms
+from world_shapes import GREATEST_ZOOM, MOST_BODY, Cutter, Unfit, count, is_shown, list_count, on_the_world, outline, rounded, size, wrong_zooms
 
 NUMBER_END = 2 ** 63
 # With --id, piece k of the feature of number n has the number n + k * PIECE.
@@ -165,7 +165,7 @@ class Plan:
 
     def pieces(self, shape, tags, layer):
         """The pieces of a shape that are shown at the greatest zoom, or all if none is."""
-        rest = {"layer": layer + OUTLINE, "minzoom": 0, "maxzoom": 16, "geometry": {"polygons": []}, "tags": {**tags, self.words.whole: NUMBER_END}}
+        rest = {"layer": layer + OUTLINE, "minzoom": 0, "maxzoom": GREATEST_ZOOM, "geometry": {"polygons": []}, "tags": {**tags, self.words.whole: NUMBER_END}}
         body = len(encoded(rest))
         made = [piece for piece in map(rounded, self.cutter.pieces(shape, body, body)) if piece]
         shown = [piece for piece in made if is_shown(piece, self.words.maxzoom)]
@@ -275,8 +275,8 @@ def asked():
         parser.error("give one of --layer and --layer-field")
     if words.replace is not None and words.layer not in (None, words.replace):
         parser.error("--replace and --layer name two layers")
-    if not 0 <= words.minzoom <= words.maxzoom <= 16:
-        parser.error("--minzoom and --maxzoom are zooms from 0 to 16, --minzoom not above --maxzoom")
+    if not 0 <= words.minzoom <= words.maxzoom <= GREATEST_ZOOM:
+        parser.error(f"--minzoom and --maxzoom are zooms from 0 to {GREATEST_ZOOM}, --minzoom not above --maxzoom")
     if words.split_zoom is not None and not 0 <= words.split_zoom <= 20:
         parser.error("--split-zoom takes a zoom from 0 to 20")
     if not 0 <= words.first < NUMBER_END:

@@ -10,12 +10,12 @@ WHY = {
     "Body": "the body has over 65,536 bytes",
     "E1 Member": "a member is missing, unknown or of another kind",
     "E3 Layer": "the name of the layer has not 1 to 64 bytes",
-    "E4 Zoom": "minzoom is above maxzoom, or maxzoom above 16",
+    "E4 Zoom": "minzoom is above maxzoom, or maxzoom above 19",
     "E5 Geometry": "a line, a ring or a list is too short, or has over 65,535 items",
     "E6 Tags": "over 64 tags, or a name of one has not 1 to 64 bytes",
     "E7 Value": "a text of a tag has over 1,024 bytes, or a number is outside the range",
     "E8 Long": "the feature's text has over 32,768 bytes: cut it into several, or leave points out",
-    "E9 Reach": "it covers over 65,536 tiles: begin at a greater minzoom, or end at a smaller maxzoom",
+    "E9 Reach": "it covers over 262,144 tiles: begin at a greater minzoom, or end at a smaller maxzoom",
     "Memory": "the server's memory ran out",
 }
 # Refusals that every further request would get.

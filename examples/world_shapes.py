@@ -15,7 +15,7 @@ LEAST, GREATEST = -8192, 8191
 # A shape of this width, in units of a tile, is safe wherever it is.
 SAFE = 4030
 # The limits of a feature (docs/HTTP.md).
-MOST_REACH, MOST_TEXT, MOST_BODY = 65536, 32768, 65536
+GREATEST_ZOOM, MOST_REACH, MOST_TEXT, MOST_BODY = 19, 262144, 32768, 65536
 # Points of a feature times tiles that it covers: above it the server would take long for each publication.
 MOST_WORK = 2 ** 21
 MOST_PIECES = 20000

@@ -59,7 +59,7 @@ def routes(cases, folder):
             path = f"{url}/map/{zoom}/{column}/{row}"
             same(cases, f"tile {zoom}/{column}/{row}", curl(path + ".mvt"), wanted(200, MVT, bytes.fromhex(TILE)))
             same(cases, f"tile {zoom}/{column}/{row} as hex", curl(path + ".hex"), wanted(200, TEXT, TILE))
-        for zoom, column, row in [(1, 1, 1), (2, 3, 0), (3, 0, 0), (16, 65535, 65535)]:
+        for zoom, column, row in [(1, 1, 1), (2, 3, 0), (3, 0, 0), (16, 65535, 65535), (17, 0, 1), (19, 524287, 524287)]:
             same(cases, f"tile {zoom}/{column}/{row} shows nothing", curl(f"{url}/map/{zoom}/{column}/{row}.mvt"), wanted(204))
         same(cases, "a query isn't looked at", curl(url + "/map/0/0/0.hex?a=b"), wanted(200, TEXT, TILE))
         same(cases, "metadata", curl(url + "/map/metadata"), wanted(200, JSON, METADATA))
@@ -129,7 +129,7 @@ def refused_requests(cases, folder):
         ]:
             same(cases, f"{name} (a bare socket)", parsed(bare(server.port, sent)), refusal(400, word, closes=True))
         features = ["/features", "/features/", "/features/07", "/features/9223372036854775808", "/features/%37"]
-        tiles = ["/map/17/0/0.mvt", "/map/1/2/0.mvt", "/map/0/0/0.png", "/map/00/0/0.mvt"]
+        tiles = ["/map/20/0/0.mvt", "/map/19/524288/0.mvt", "/map/1/2/0.mvt", "/map/0/0/0.png", "/map/00/0/0.mvt"]
         for path in ["/", "/publish/", *features, *tiles]:
             same(cases, f"path {path}", curl(url + path), refusal(404, "NotFound"))
         for path, method, allowed in [
@@ -177,7 +177,7 @@ def refused_features(cases, folder):
         ("a name of no byte", "E3 Layer", feature(layer="")),
         ("a name of 65 bytes", "E3 Layer", feature(layer="x" * 65)),
         ("minzoom above maxzoom", "E4 Zoom", feature(first=3, last=2)),
-        ("maxzoom 17", "E4 Zoom", feature(last=17)),
+        ("maxzoom 20", "E4 Zoom", feature(last=20)),
         ("no points", "E5 Geometry", feature(geometry={"points": []})),
         ("a line of one point", "E5 Geometry", feature(geometry={"lines": [[[0, 0]]]})),
         ("a ring of two points", "E5 Geometry", feature(geometry={"polygons": [[[[0, 0], [9, 9]]]]})),
@@ -190,7 +190,9 @@ def refused_features(cases, folder):
         ("a number of 2^64", "E7 Value", feature(tags={"k": 2 ** 64})),
         ("a number below -2^63", "E7 Value", feature(tags={"k": -2 ** 63 - 1})),
         ("4,094 points", "E8 Long", feature(geometry={"points": [[0, 0]] * 4094})),
-        ("the whole world on 17 zooms", "E9 Reach", feature(last=16, geometry=world)),
+        ("the whole world on 20 zooms", "E9 Reach", feature(last=19, geometry=world)),
+        ("the whole world on zooms 0 to 9", "E9 Reach", feature(last=9, geometry=world)),
+        ("262,145 tiles of zoom 19", "E9 Reach", feature(first=19, last=19, geometry={"lines": [[[0, 0], [2147483520, 0]]]})),
     ]
     with Server(folder, "features", 65536) as server:
         path = server.url + "/features/1"
@@ -203,6 +205,9 @@ def refused_features(cases, folder):
             ("a text of 1,024 bytes", feature(tags={"k": "x" * 1024})),
             ("the least and the greatest number", feature(tags={"a": -2 ** 63, "b": 2 ** 64 - 1})),
             ("zooms 16 to 16", feature(first=16, last=16, geometry=point)),
+            ("zooms 0 to 19", feature(last=19, geometry=point)),
+            ("the whole world on zoom 9", feature(first=9, last=9, geometry=world)),
+            ("262,144 tiles of zoom 19", feature(first=19, last=19, geometry={"lines": [[[0, 0], [2147483519, 0]]]})),
         ]
         for edit, (name, body) in enumerate(taken, 1):
             same(cases, f"PUT, {name}", curl(path, "-X", "PUT", body=body), wanted(200, JSON, '{"edit":%d}' % edit))

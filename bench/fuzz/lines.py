@@ -18,11 +18,11 @@ import run as fuzz
 import map_hostile
 import map_stand
 import read_stand
-import reply_script
 from archives import Entry, directory
 from disk import Edit, text_of
 from map_script import LINE, POLYGONS
 from map_stand import POINT
+from reply_stand import Script
 from texts import edit_text
 
 LINES, CONNECTIONS, LONGEST = 1500, 150, 3000
@@ -70,7 +70,7 @@ def of_bytes(stand, rows, seed):
 
 def of_connections(seed):
     """The same of connections to one map, in pieces of two sizes."""
-    chance, script = random.Random(f"{seed} connections"), reply_script.Script()
+    chance, script = random.Random(f"{seed} connections"), Script()
     script.disk(256)
     for _ in range(CONNECTIONS):
         held = fuzz.stream(chance) if chance.randrange(2) else chance.choice(STREAMS)

@@ -31,11 +31,12 @@ import foreign_tiles
 import read_hostile
 import read_script
 import reply_hostile
-import reply_script
 from archives import Maker
 from calls import format_disk
 from crashes import Memory
 from machine import Service
+from reply_random import random_feature, random_request
+from reply_stand import request
 from wire import varint
 
 TARGETS = ["verify", "show", "demo", "pipe"]
@@ -130,10 +131,10 @@ OTHERS = [held for held in reply_hostile.of_other_protocols() if not isinstance(
 def one_request(chance):
     kind = chance.randrange(12)
     if kind == 0:
-        return reply_script.request("PUT", f"/features/{chance.randrange(4)}", chance.choice(BODIES))
+        return request("PUT", f"/features/{chance.randrange(4)}", chance.choice(BODIES))
     if kind == 1:
         return chance.choice(OTHERS)
-    return reply_script.random_request(chance)
+    return random_request(chance)
 
 
 class Corpus:
@@ -153,7 +154,7 @@ def disk_after(chance, rounds):
     service = Service(memory)
     for turn in range(rounds):
         for _ in range(chance.randrange(1, 5)):
-            service.put(chance.randrange(6), reply_script.random_feature(chance))
+            service.put(chance.randrange(6), random_feature(chance))
         if turn % 2 == 0 and rounds > 1:
             service.publish()
     return bytes_of(memory)

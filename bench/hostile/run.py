@@ -20,7 +20,7 @@ sys.path.append(str(HERE.parent / "model"))
 import disk as disks
 from archives import Maker, directory
 from read_hostile import MOVE, overlapping_contents, shared_bytes
-from reply_script import request
+from reply_stand import request
 from wire import number, part, varint
 
 SIZES = [1024, 2048, 4096, 8192]
@@ -204,7 +204,7 @@ DIGITS = FRONT + b'"a":0.' + b"9" * 65000 + BACK
 
 
 def wide_features(size):
-    """For each MB a feature of 65,536 tiles, the most that there may be, and a publication."""
+    """For each MB a feature of 65,536 tiles, the same ones, and a publication. More tiles than 131,072 aren't published."""
     line = b'{"layer":"p","minzoom":16,"maxzoom":16,"geometry":{"lines":[[[0,0],[4294967295,0]]]},"tags":{}}'
     asked = [request("PUT", f"/features/{k}", line) for k in range(size // 2**20)]
     return b"".join([*asked, request("POST", "/publish")])

@@ -8,6 +8,7 @@ from collections import namedtuple
 
 import features
 from disk import SECTOR, in_order
+from limits import GREATEST_ZOOM
 from machine import Refused
 
 MOST_HEAD = 8192
@@ -240,7 +241,7 @@ ROUTES = [
 def is_in_range(name, numbers):
     if name == "feature":
         return numbers[0] < 2**63
-    return name != "tile" or numbers[0] <= 16 and max(numbers[1:]) < 2 ** numbers[0]
+    return name != "tile" or numbers[0] <= GREATEST_ZOOM and max(numbers[1:]) < 2 ** numbers[0]
 
 
 def route_of(path):

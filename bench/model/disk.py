@@ -7,6 +7,8 @@ import json
 import sys
 from collections import namedtuple
 
+from limits import GREATEST_ZOOM
+
 SECTOR = 512
 TEXT_OF_PART = 496
 LEAST, MOST = 64, 16777216
@@ -114,8 +116,8 @@ def tags(reader):
 
 def feature(reader):
     layer = reader.text(1, 1, 64)
-    first = reader.number(1, 0, 16)
-    last = reader.number(1, first, 16)
+    first = reader.number(1, 0, GREATEST_ZOOM)
+    last = reader.number(1, first, GREATEST_ZOOM)
     kind = KINDS[reader.number(1, 1, 3)]
     geometry = {kind: listed(reader, 1, ITEMS[kind])}
     return {"layer": layer, "minzoom": first, "maxzoom": last, "geometry": geometry, "tags": tags(reader)}

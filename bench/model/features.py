@@ -8,6 +8,7 @@ import json
 import json_text
 import tiles
 from disk import LONGEST, Edit, text_of
+from limits import GREATEST_ZOOM, MOST_TILES
 
 GEOMETRIES = ("points", "lines", "polygons")
 
@@ -83,7 +84,7 @@ def check_geometry(geometry):
 def check_layer_and_zooms(feature):
     if not is_name(feature["layer"]):
         raise Fault("E3 Layer")
-    if not feature["minzoom"] <= feature["maxzoom"] <= tiles.GREATEST_ZOOM:
+    if not feature["minzoom"] <= feature["maxzoom"] <= GREATEST_ZOOM:
         raise Fault("E4 Zoom")
 
 
@@ -162,7 +163,7 @@ def check(number, feature):
 
 
 def check_reach(feature):
-    if tiles.reach(feature) > 65536:
+    if tiles.reach(feature) > MOST_TILES:
         raise Fault("E9 Reach")
 
 

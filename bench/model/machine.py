@@ -3,12 +3,11 @@ docs/DECISIONS.md. It shares no code with the product."""
 from calls import append, install, write_area
 from crashes import Failed, Seen
 from disk import LAST_NUMBER, LONGEST, SECTOR, Edit, Root, in_order, parts_of, read_disk, snapshot_text, text_of, whole_sectors
+from limits import GREATEST_ZOOM, MOST_TILES
 from map_archive import archive_of, id_of, metadata, points_of, reach
 from tiles import tile
 
 NUMBER_END = 2**63
-GREATEST_ZOOM = 16
-MOST_REACH = 65536
 MOST_ELEMENTS = 65535
 STEP_SECTORS = 64
 
@@ -71,7 +70,7 @@ def limit(number, feature):
         return broken[0]
     if len(text_of(Edit(number, feature))) > LONGEST:
         return "Long"
-    return "Reach" if reach(feature) > MOST_REACH else None
+    return "Reach" if reach(feature) > MOST_TILES else None
 
 
 # ---- the service

@@ -1,9 +1,9 @@
 """An independent writer of the archive of a map (PMTiles 3), from docs/FORMATS.md. It shares no code with the product."""
 import json
 
+from limits import GREATEST_ZOOM
 from tiles import tile, varint
 
-GREATEST_ZOOM = 16
 LEAF_ENTRIES = 512
 MOST_ENTRIES = 131072
 LONGEST_RUN = 2**32 - 1
@@ -63,24 +63,23 @@ def reach(feature):
 
 
 def tiles_of(found):
-    """The tiles of a map in ascending id."""
-    made = {}
+    """Yields the tiles of a map in ascending id."""
     for zoom in range(GREATEST_ZOOM + 1):
         shown = [(number, feature, covered(feature, zoom)) for number, feature in found.items() if feature["minzoom"] <= zoom <= feature["maxzoom"]]
-        for place in set().union(*(places for _, _, places in shown)):
-            there = {number: feature for number, feature, places in shown if place in places}
-            held = tile(there, zoom, *place)
+        for number, place in sorted((id_of(zoom, *place), place) for place in set().union(*(places for _, _, places in shown))):
+            held = tile({feature: found[feature] for feature, _, places in shown if place in places}, zoom, *place)
             if held:
-                made[id_of(zoom, *place)] = held
-    return sorted(made.items())
+                yield number, held
 
 
 def runs_of(tiles):
-    """Runs of consecutive tiles with equal bytes: the first id, the count, the bytes."""
+    """Runs of consecutive tiles with equal bytes: the first id, the count, the bytes. None if there are too many for an archive."""
     entries = []
     for number, held in tiles:
         if entries and entries[-1][2] == held and entries[-1][0] + entries[-1][1] == number and entries[-1][1] < LONGEST_RUN:
             entries[-1][1] += 1
+        elif len(entries) == MOST_ENTRIES:
+            return None
         else:
             entries.append([number, 1, held])
     return entries
@@ -134,25 +133,25 @@ def zoom_of(number):
     return next(zoom for zoom in range(32) if number < (4 ** (zoom + 1) - 1) // 3)
 
 
-def header(sections, counts, tiles):
-    """The first 127 bytes. `sections` are the lengths of root, metadata, leaves and contents, in this order without gaps."""
+def header(sections, counts, ends):
+    """The first 127 bytes. `sections` are the lengths of root, metadata, leaves and contents, in this order without gaps; `ends` the first and the
+    last tile id."""
     held, at = b"PMTiles\x03", 127
     for length in sections:
         held += at.to_bytes(8, "little") + length.to_bytes(8, "little")
         at += length
     held += b"".join(count.to_bytes(8, "little") for count in counts) + bytes([1, 1, 1, 1])
-    first, last = zoom_of(tiles[0][0]), zoom_of(tiles[-1][0])
+    first, last = map(zoom_of, ends)
     held += bytes([first, last]) + b"".join(number.to_bytes(4, "little", signed=True) for number in WORLD)
     return held + bytes([first]) + bytes(8)
 
 
 def archive_of(found):
     """The archive of a map: no bytes if it has no tile, None if it needs too many entries."""
-    tiles = tiles_of(found)
-    runs = runs_of(tiles)
-    if len(runs) > MOST_ENTRIES:
+    runs = runs_of(tiles_of(found))
+    if runs is None:
         return None
-    if not tiles:
+    if not runs:
         return b""
     places, contents = {}, b""
     entries = []
@@ -162,5 +161,6 @@ def archive_of(found):
             contents += held
         entries.append((number, run, len(held), places[held]))
     (root, leaves), said = directories(entries), metadata(found)
-    counts = [len(tiles), len(entries), len(places)]
-    return header([len(root), len(said), len(leaves), len(contents)], counts, tiles) + root + said + leaves + contents
+    counts = [sum(run for _, run, _ in runs), len(entries), len(places)]
+    ends = runs[0][0], runs[-1][0] + runs[-1][1] - 1
+    return header([len(root), len(said), len(leaves), len(contents)], counts, ends) + root + said + leaves + contents

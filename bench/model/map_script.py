@@ -13,6 +13,7 @@ import tiles
 from chance import Chance
 from disk import Edit, text_of
 from ids import tile_of
+from limits import GREATEST_ZOOM, MOST_TILES
 from map_stand import POINT, Stand
 from texts import edit_text
 
@@ -58,6 +59,8 @@ BOTH_WAYS = [
      '{"geometry":{"polygons":[[[[0,0],[4294967295,0],[0,4294967295]]]]},"layer":"w","maxzoom":16,"minzoom":16,"tags":{"a":2}}'),
     (object_with(minzoom="1", geometry='{"points":[[1,2]]}', tags='{"c":18446744073709551615,"b":-9223372036854775808}'),
      '{"geometry":{"points":[[1,2]]},"layer":"p","maxzoom":2,"minzoom":1,"tags":{"b":-9223372036854775808,"c":18446744073709551615}}'),
+    (object_with(minzoom="17", maxzoom="19"), '{"geometry":{"points":[[0,0]]},"layer":"p","maxzoom":19,"minzoom":17,"tags":{}}'),
+    (object_with(minzoom="19", maxzoom="19"), '{"geometry":{"points":[[0,0]]},"layer":"p","maxzoom":19,"minzoom":19,"tags":{}}'),
 ]
 
 
@@ -79,7 +82,8 @@ MEMBER_FAULTS = [
     object_with(layer='""', maxzoom="256"), object_with(minzoom="3", geometry='{"points":5}'),
 ]
 LAYER_FAULTS = [object_with(layer='""'), object_with(layer='""', minzoom="3")]
-ZOOM_FAULTS = [object_with(minzoom="3"), object_with(maxzoom="17"), object_with(minzoom="3", geometry='{"points":[]}')]
+ZOOM_FAULTS = [object_with(minzoom="3"), *with_each("maxzoom", ["20", "255"]), object_with(minzoom="20", maxzoom="20"),
+               object_with(minzoom="3", geometry='{"points":[]}')]
 GEOMETRY_FAULTS = [
     *with_each("geometry", [
         '{"points":[]}', '{"points":[[4294967296,0]]}', '{"points":[[0,4294967296]]}', '{"points":[[-1,0]]}', '{"points":[[0,1.5]]}',
@@ -134,12 +138,13 @@ def json_lines():
 SMALL = {"id": 7, "layer": 1, "minzoom": 0, "maxzoom": 2, "points": 1, "tags": 2, "key": 1, "text": 1}
 SIZES = [
     ({}, "ok"), ({"id": 2**63 - 1}, "ok"), ({"id": 2**63}, "E2 Number"), ({"layer": 0}, "E3 Layer"), ({"layer": 64}, "ok"),
-    ({"layer": 65}, "E3 Layer"), ({"minzoom": 16, "maxzoom": 16}, "ok"), ({"maxzoom": 17}, "E4 Zoom"), ({"minzoom": 3}, "E4 Zoom"),
+    ({"layer": 65}, "E3 Layer"), ({"minzoom": 16, "maxzoom": 16}, "ok"), ({"maxzoom": 17}, "ok"), ({"minzoom": 3}, "E4 Zoom"),
+    ({"minzoom": 19, "maxzoom": 19}, "ok"), ({"maxzoom": 20}, "E4 Zoom"), ({"minzoom": 20, "maxzoom": 20}, "E4 Zoom"), ({"maxzoom": 255}, "E4 Zoom"),
     ({"points": 0}, "E5 Geometry"), ({"points": 65536}, "E5 Geometry"), ({"points": 65535}, "E8 Long"), ({"tags": 64}, "ok"),
     ({"tags": 65}, "E6 Tags"), ({"key": 0}, "E6 Tags"), ({"key": 64}, "ok"), ({"key": 65}, "E6 Tags"), ({"text": 1024}, "ok"),
     ({"text": 1025}, "E7 Value"), ({"points": 4093, "tags": 0}, "ok"), ({"points": 4094, "tags": 0}, "E8 Long")]
 FIRST_FAULTS = [
-    ({"id": 2**63, "layer": 0}, "E2 Number"), ({"layer": 65, "maxzoom": 17}, "E3 Layer"), ({"minzoom": 3, "points": 0}, "E4 Zoom"),
+    ({"id": 2**63, "layer": 0}, "E2 Number"), ({"layer": 65, "maxzoom": 20}, "E3 Layer"), ({"minzoom": 3, "points": 0}, "E4 Zoom"),
     ({"points": 0, "tags": 65}, "E5 Geometry"), ({"key": 65, "text": 1025}, "E6 Tags"), ({"text": 1025, "points": 4094}, "E7 Value"),
     ({"id": 2**64 - 1, "points": 4094}, "E2 Number")]
 
@@ -339,6 +344,10 @@ def cut_lines():
     yield from cases("At zoom 16, row 40000: the same by their last coordinates.",
                      drawn("points", [[0, 2621438975], [0, 2621438991], [0, 2621506575], [0, 2621506591]]),
                      {(16, 0, 40000): [17, 0, 127, 0, 8448]})
+    yield from cases("At zoom 19, row 400000: the same by their last coordinates.",
+                     drawn("points", [[0, 3276799871], [0, 3276799873], [0, 3276808321], [0, 3276808323]], 0, 19),
+                     {(19, 0, 400000): [17, 0, 127, 0, 8448]})
+    yield from across_lines()
     yield from cases("A line that leaves a tile is two chains there, of which neither has the segment outside.", ROUND_AN_EDGE,
                      {(1, 0, 0): [9, 200, 200, 10, 9800, 0, 9, 0, 200, 10, 9799, 0], (1, 1, 0): [9, 7991, 200, 26, 9800, 0, 0, 200, 9799, 0],
                       (1, 0, 1): []})
@@ -357,8 +366,33 @@ def cut_lines():
                      {(0, 0, 0): SQUARE_SHOWN})
     yield from cases("Nothing of a polygon is in reach.", drawn("polygons", [[SQUARE, TRIANGLE]]), {(1, 1, 1): []})
     yield "# Points on the edges of boxes, at three zooms and in both directions."
-    for z in (1, 5, 16):
+    for z in (1, 5, 16, GREATEST_ZOOM):
         yield from edge_lines(z)
+
+
+# A ring of the world, of which twice the area is 2^63 - 2^33 + 2 at zoom 19.
+WORLD_RING = [[0, 0], [LAST, 0], [LAST, LAST], [0, LAST]]
+ROUND_THE_WORLD = [26, 4294967294, 0, 0, 4294967294, 4294967293, 0, 15]
+
+
+def across_lines():
+    yield "# Lines and rings across the world: at zoom 19 it is 2^31 coordinates of tiles wide, and 4294967294 is the greatest difference."
+    yield from cases("At zoom 18, a line along the upper edge: the widest that a feature of this zoom may be.", drawn("lines", [[[0, 0], [LAST, 0]]], 18, 18),
+                     {(18, 0, 0): [9, 0, 0, 10, 2147483646, 0], (18, 262143, 0): [9, 2147475455, 0, 10, 2147483646, 0]})
+    yield from cases("At zoom 19, from the first corner to the last one.", drawn("lines", [[[0, 0], [LAST, LAST]]], 19, 19),
+                     {(19, 0, 0): [9, 0, 0, 10, 4294967294, 4294967294],
+                      (19, 524287, 524287): [9, 4294959103, 4294959103, 10, 4294967294, 4294967294]})
+    yield from cases("The same line from its other end.", drawn("lines", [[[LAST, LAST], [0, 0]]], 19, 19),
+                     {(19, 0, 0): [9, 4294967294, 4294967294, 10, 4294967293, 4294967293],
+                      (19, 524287, 524287): [9, 8190, 8190, 10, 4294967293, 4294967293]})
+    yield from cases("There and back, in a tile in the middle of the upper edge.", drawn("lines", [[[0, 0], [LAST, 0], [0, 0]]], 19, 19),
+                     {(19, 262144, 0): [9, 2147483647, 0, 18, 4294967294, 0, 4294967293, 0]})
+    yield from cases("The whole world as a polygon, and the same ring from the other side.", drawn("polygons", [[WORLD_RING]], 19, 19),
+                     {(19, 0, 0): [9, 0, 0, *ROUND_THE_WORLD]})
+    yield from cases("Turned, with its first point.", drawn("polygons", [[WORLD_RING[:1] + WORLD_RING[:0:-1]]], 19, 19),
+                     {(19, 0, 0): [9, 0, 0, *ROUND_THE_WORLD]})
+    yield from cases("A ring twice round the world has twice its area, which takes more than 64 bits.", drawn("polygons", [[WORLD_RING * 2]], 19, 19),
+                     {(19, 0, 0): [9, 0, 0, 58, *ROUND_THE_WORLD[1:-1], 0, 4294967293, *ROUND_THE_WORLD[1:]]})
 
 
 def edge_lines(z):
@@ -366,8 +400,8 @@ def edge_lines(z):
     for u in (-65, -64, 4160, 4161):
         column, row = 1 if u < 0 or z > 1 else 0, 0 if z == 1 else 1
         point = [(4096 * column + u) * side, (4096 * row + 2048) * side]
-        yield from [f"# {u}, zoom {z}", "map 0", put(1, drawn("points", [point])), f"tile {z} {column} {row}"]
-        yield from ["map 0", put(1, drawn("points", [point[::-1]])), f"tile {z} {row} {column}"]
+        yield from [f"# {u}, zoom {z}", "map 0", put(1, drawn("points", [point], 0, GREATEST_ZOOM)), f"tile {z} {column} {row}"]
+        yield from ["map 0", put(1, drawn("points", [point[::-1]], 0, GREATEST_ZOOM)), f"tile {z} {row} {column}"]
 
 
 def tag_lines():
@@ -393,37 +427,68 @@ def tag_lines():
     yield "# What is no tile."
     yield from [(f"tile {place}", "no tile") for place in ["2 4 0", "2 0 4", "32 0 0", "0 1 0"]]
     yield "# Above the greatest zoom no tile shows anything."
-    yield from ["map 0", put(1, drawn("points", [[0, 0]], layer="a"))]
-    yield from ["tile 0 0 0", "tile 16 0 0", ("tile 17 0 0", "nothing"), ("tile 31 0 0", "nothing"), ("layers 17 0 0", "[]"),
-                ("layers 31 0 0", "[]")]
+    yield from ["map 0", put(1, drawn("points", [[0, 0]], layer="a")), "tile 0 0 0", "tile 16 0 0", ("tile 17 0 0", "nothing"), ("layers 17 0 0", "[]")]
+    yield put(1, drawn("points", [[0, 0]], 0, 19, "a"))
+    yield from ["tile 16 0 0", "tile 17 0 0", "tile 19 0 0", ("layers 19 0 0", '[("a", 2, 4096, [1])]'), ("tile 20 0 0", "nothing"),
+                ("tile 31 0 0", "nothing"), ("layers 20 0 0", "[]"), ("layers 31 0 0", "[]")]
+    yield "# The last tile of the greatest zoom."
+    yield from ["map 0", put(7, drawn("points", [[LAST, LAST]], 0, 19, "p")), ("tile 19 524287 524287", "made 1a150a0170120b08071801220509fe3ffe3f2880207802")]
+    yield from [("tile 19 524286 524287", "nothing"), ("tile 19 524287 0", "nothing"), ("tile 19 524288 0", "no tile"), ("tile 20 1048575 1048575", "nothing")]
 
 
 # ---- reach
 
 
-WORLD = {"polygons": [[[[0, 0], [LAST, 0], [LAST, LAST], [0, LAST]]]]}
+WORLD = {"polygons": [[WORLD_RING]]}
+
+
+def box_end(columns, rows):
+    """The coordinate from which the last of so many columns and rows of zoom 19 begin, counted from the first ones."""
+    return [4096 * 2 * (columns - 1), 4096 * 2 * (rows - 1)]
 
 
 def reach_lines():
     world = {"layer": "w", "minzoom": 0, "geometry": WORLD, "tags": {}}
     yield "# How many tiles the world covers up to a zoom, and the most that a feature may."
     yield f"reach {said(world | {'maxzoom': 7})}", "21845"
-    yield f"reach {said(world | {'maxzoom': 8})}", "87381: E9 Reach"
+    yield f"reach {said(world | {'maxzoom': 8})}", "87381"
+    yield f"reach {said(world | {'maxzoom': 9})}", "349525: E9 Reach"
+    yield f"reach {said(world | {'maxzoom': 19})}", "366503875925: E9 Reach"
     yield f"reach {said(world | {'minzoom': 8, 'maxzoom': 8})}", "65536"
-    # One tile more than may be: 256 by 256, and one at another zoom.
-    yield "# The tiles of zoom 8 are the most, and one more is too many."
+    yield f"reach {said(world | {'minzoom': 9, 'maxzoom': 9})}", "262144"
+    yield f"reach {said(drawn('points', [[LAST, LAST]], 0, 19))}", "20"
+    yield "# The tiles of zoom 9 are the most, and one more is too many."
     yield f"reach {said(drawn('points', [[0, 0], [LAST, LAST]], 8, 8))}", "65536"
+    yield f"reach {said(drawn('points', [[0, 0], [LAST, LAST]], 9, 9))}", "262144"
     yield f"reach {said(drawn('lines', [[[0, 0], [LAST, LAST]]], 8, 9))}", "327680: E9 Reach"
     yield f"reach {said(drawn('points', [[0, 0], [2**31, 2**31]], 8, 9))}"
+    yield f"reach {said(drawn('points', [[0, 0], [2**31, 2**31]], 9, 10))}", f"{257**2 + 513**2}: E9 Reach"
+    yield "# A line along the upper edge: so many tiles as a zoom has columns."
+    for first, last, told in [(16, 16, "65536"), (17, 17, "131072"), (18, 18, "262144"), (17, 18, "393216: E9 Reach"), (19, 19, "524288: E9 Reach")]:
+        yield f"reach {said(drawn('lines', [[[0, 0], [LAST, 0]]], first, last))}", told
+    yield "# Boxes of zoom 19 with the most tiles, and with more: columns and rows."
+    for columns, rows in [(MOST_TILES, 1), (1, MOST_TILES), (512, 512), (65536, 4)]:
+        yield f"reach {said(drawn('points', [[0, 0], box_end(columns, rows)], 19, 19))}", "262144"
+    for columns, rows in [(MOST_TILES + 1, 1), (1, MOST_TILES + 1), (52429, 5), (5, 52429)]:
+        yield f"reach {said(drawn('points', [[0, 0], box_end(columns, rows)], 19, 19))}", "262145: E9 Reach"
+    yield "# The last coordinate of the world that 262,144 columns of zoom 19 reach, and the next one, which the margin of one more column has."
+    yield f"reach {said(drawn('lines', [[[0, 9], [2147483519, 9]]], 19, 19))}", "262144"
+    yield f"reach {said(drawn('lines', [[[0, 9], [2147483520, 9]]], 19, 19))}", "262145: E9 Reach"
     yield "# Columns and rows of zooms. At zoom 1 a point at 4160 stands in the boxes of both columns, at 4161 in one."
     yield f"covers 1 {said(drawn('points', [[2181038080, 0]]))}", "0 to 1, 0 to 0"
     yield f"covers 1 {said(drawn('points', [[2181562368, 0]]))}", "1 to 1, 0 to 0"
     yield f"covers 16 {said(drawn('points', [[LAST, LAST]]))}", "65535 to 65535, 65535 to 65535"
-    yield f"covers 17 {said(drawn('points', [[LAST, LAST]]))}", "E4 Zoom"
+    yield f"covers 17 {said(drawn('points', [[LAST, LAST]], 0, 17))}", "131071 to 131071, 131071 to 131071"
+    yield f"covers 19 {said(drawn('points', [[LAST, LAST]], 0, 19))}", "524287 to 524287, 524287 to 524287"
+    yield f"covers 19 {said(drawn('lines', [[[0, 2147483519], [LAST, 2147483520]]], 0, 19))}", "0 to 524287, 262143 to 262144"
+    yield f"covers 20 {said(drawn('points', [[LAST, LAST]], 0, 19))}", "E4 Zoom"
     yield f"covers 4 {said(drawn('lines', [[[2**30, 2**28], [2**29, 2**31]]]))}"
     yield "# Pairs of the ids of a feature's tiles and its number, behind what the list had: tiles 0/0/0, 1/0/0, 2/0/0 have the ids 0, 1, 5."
     yield f"pairs 7 {said(drawn('points', [[0, 0]], 0, 2))}", "[(9, 9), (0, 7), (1, 7), (5, 7)]"
     yield f"pairs 8 {said(drawn('points', [[2181038080, 0]], 1, 1))}", "[(9, 9), (1, 8), (4, 8)]"
+    yield "# At zoom 19 the curve begins at the upper left tile, passes the lower right one after two thirds, and ends at the upper right one."
+    for point, number in [([0, 0], (4**19 - 1) // 3), ([LAST, LAST], 4**19 - 1), ([LAST, 0], (4**20 - 1) // 3 - 1)]:
+        yield f"pairs 7 {said(drawn('points', [point], 19, 19))}", f"[(9, 9), ({number}, 7)]"
 
 
 # ---- a map
@@ -528,7 +593,8 @@ def kept_lines():
     first, last = "1a130a017012090807180122030900002880207802", "1a150a0170120b0807180122050" "9fe3ffe3f2880207802"
     end = drawn("points", [[LAST, LAST]], 0, 2, "p")
     yield from ["map 5", ("newest 0 0 0", "0"), ("tile 1 0 0", "nothing"), (put(7, POINT), "edit 6: 1 features"), ("newest 10 0 0", "6"),
-                ("newest 10 1023 1023", "0"), ("tile 1 0 0", f"made {first}"), ("tile 1 0 0", f"kept {first}"), ("tile 1 1 1", "nothing")]
+                ("newest 10 1023 1023", "0"), ("newest 19 0 0", "6"), ("newest 19 524287 524287", "0"),
+                ("newest 20 1048575 1048575", "6"), ("tile 1 0 0", f"made {first}"), ("tile 1 0 0", f"kept {first}"), ("tile 1 1 1", "nothing")]
     yield "# From one corner of the world to the other."
     yield from [(put(7, end), "edit 7: 1 features"), ("newest 10 0 0", "7"), ("newest 10 1023 1023", "7"), ("tile 1 0 0", "nothing"),
                 ("tile 1 1 1", f"made {last}"), ("tile 0 0 0", f"made {last}")]
@@ -551,19 +617,21 @@ SECOND = 2**27
 REACHES = [
     # Inside.
     (SECOND, SECOND, 0, 0, True), (SECOND, SECOND, 5, 1, True), (SECOND, SECOND, 6, 2, True), (SECOND, SECOND, 16, 2048, True),
+    (SECOND, SECOND, 19, 16384, True),
     # The margin on the right of a tile, and the tile before it.
     (SECOND, SECOND, 5, 0, True), (SECOND, SECOND, 6, 1, True), (SECOND, SECOND, 6, 0, False), (SECOND, SECOND, 16, 2047, True),
-    (SECOND, SECOND, 16, 2046, False),
+    (SECOND, SECOND, 16, 2046, False), (SECOND, SECOND, 19, 16383, True), (SECOND, SECOND, 19, 16382, False),
     # The margin on the left of a tile, and the tile behind it.
     (SECOND - 1, SECOND - 1, 5, 1, True), (SECOND - 1, SECOND - 1, 5, 2, False), (SECOND - 1, SECOND - 1, 6, 2, True),
     (SECOND - 1, SECOND - 1, 6, 3, False), (SECOND - 1, SECOND - 1, 16, 2048, True), (SECOND - 1, SECOND - 1, 16, 2049, False),
+    (SECOND - 1, SECOND - 1, 19, 16384, True), (SECOND - 1, SECOND - 1, 19, 16385, False),
     # The whole world, and its last column.
     (0, LAST, 0, 0, True), (0, LAST, 16, 40000, True), (LAST, LAST, 5, 31, True), (LAST, LAST, 5, 29, False), (LAST, LAST, 16, 65535, True),
-    (LAST, LAST, 16, 0, False),
+    (LAST, LAST, 16, 0, False), (LAST, LAST, 17, 0, False), (0, LAST, 19, 400000, True), (LAST, LAST, 19, 524287, True), (LAST, LAST, 19, 0, False),
     # Corners the wrong way round, within a cell and over several.
     (1, 0, 0, 0, False), (LAST, 0, 5, 1, False),
     # At a zoom of which no tile is cut every mark counts.
-    (LAST, LAST, 17, 0, True),
+    (LAST, LAST, 20, 0, True), (LAST, LAST, 31, 0, True),
 ]
 
 
@@ -580,7 +648,8 @@ def grid_lines():
             (f"{SECOND} {LAST}", 20, "5 0 31", 20)]:
         yield from [f"mark {across} 0 {LAST} {number}", (f"touched {place}", str(newest))]
     yield "# Without a mark the number is 0."
-    yield from ["caches", ("touched 0 0 0", "0"), ("touched 16 65535 65535", "0"), ("touched 2 4 0", "no tile")]
+    yield from ["caches", ("touched 0 0 0", "0"), ("touched 16 65535 65535", "0"), ("touched 19 524287 524287", "0"), ("touched 20 0 0", "0"),
+                ("touched 2 4 0", "no tile")]
 
 
 def cache_lines():

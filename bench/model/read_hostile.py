@@ -4,6 +4,7 @@ worst of them has beside it what the formats say.
 import archives
 from archives import ALL_IDS, Entry, Maker, changed, directory
 from disk import Edit, text_of
+from limits import GREATEST_ZOOM
 from map_stand import POINT
 from texts import edit_text
 from tile_reading import LINE, MOVE
@@ -11,6 +12,7 @@ from wire import number, part, varint
 
 FAR = 2**63
 LAST = 2**64 - 1
+ENDS_OF_ZOOMS = (0, 16, 17, 19, 20, 255)
 TILE = bytes.fromhex("1a130a017012090807180122030900002880207802")
 
 
@@ -313,8 +315,8 @@ def texts_at_counts():
     layer_, zooms, points, no_tags = b"\x01p", b"\x00\x02", b"\x01\x01\x00" + bytes(8), b"\0"
     for count in (0, 1, 64, 65, 255):
         yield put_ + counted(1, count, b"p") + zooms + points + no_tags, None if 1 <= count <= 64 else "Bad"
-    for first, last in [(0, 0), (0, 16), (16, 16), (0, 17), (1, 0), (17, 17), (255, 255), (0, 255)]:
-        yield put_ + layer_ + bytes([first, last]) + points + no_tags, None if first <= last <= 16 else "Bad"
+    for first, last in [(0, 0), (0, 16), (16, 16), (0, 17), (17, 17), (0, 19), (19, 19), (0, 20), (1, 0), (19, 18), (20, 20), (255, 255), (0, 255)]:
+        yield put_ + layer_ + bytes([first, last]) + points + no_tags, None if first <= last <= GREATEST_ZOOM else "Bad"
     for kind in (0, 4, 255):
         yield put_ + layer_ + zooms + bytes([kind]) + points[1:] + no_tags, "Bad"
     for count in (0, 1, 4093):
@@ -367,8 +369,8 @@ def text_lines():
         yield f"change {folded(data)}", wanted
     front = "01" + "07" + "00" * 7 + "0170"
     yield "# A text that ends behind its first zoom: cut if a zoom may follow, and bad if none may."
-    yield from ((f"change {front}{zoom:02x}", "Cut" if zoom <= 16 else "Bad") for zoom in (0, 16, 17, 255))
-    yield from ((f"edit 01{front}{zoom:02x}", "Cut" if zoom <= 16 else "Bad") for zoom in (0, 16, 17, 255))
+    yield from ((f"change {front}{zoom:02x}", "Cut" if zoom <= GREATEST_ZOOM else "Bad") for zoom in ENDS_OF_ZOOMS)
+    yield from ((f"edit 01{front}{zoom:02x}", "Cut" if zoom <= GREATEST_ZOOM else "Bad") for zoom in ENDS_OF_ZOOMS)
     yield "# Counts of 65,535 that the bytes behind them can't fill."
     for geometry in ["01ffff", "02ffff", "020100ffff", "03ffff", "030100ffff", "0301000100ffff"]:
         yield f"change {front}0002{geometry}", "Cut"

@@ -9,7 +9,7 @@ from pathlib import Path
 import archives
 import foreign_tiles
 import read_hostile
-from archives import ALL_IDS, Entry, Maker, changed, directory
+from archives import ALL_IDS, Entry, Maker, directory
 from disk import Edit, text_of
 from map_stand import POINT
 from map_script import LINE, POLYGONS
@@ -194,7 +194,8 @@ def tile_lines():
 
 CHANGES = [
     (0, 0, "Bad"), (0, 3, "Bad"), (8, 127, None), (8, 128, "Bad"), (9, 0, "Bad"), (9, 65, "Bad"), (9, 64, "Cut"), (10, 255, "Bad"),
-    (11, 17, "Bad"), (11, 3, "Bad"), (12, 16, None), (12, 17, "Bad"), (13, 0, "Bad"), (13, 2, "Bad"), (13, 3, "Bad"), (13, 4, "Bad"),
+    (11, 20, "Bad"), (11, 3, "Bad"), (12, 16, None), (12, 17, None), (12, 19, None), (12, 20, "Bad"), (13, 0, "Bad"), (13, 2, "Bad"), (13, 3, "Bad"),
+    (13, 4, "Bad"),
     (14, 0, "Bad"), (14, 2, "Cut"), (15, 255, "Cut"), (23, 255, None), (24, 64, "Cut"), (24, 65, "Bad")]
 # Bytes in place of the count of tags.
 TAGS = [
@@ -225,6 +226,11 @@ def edit_lines():
         yield from ((f"change @{name} ..{at}", "Cut") for at in range(length))
     yield "# One byte changed."
     yield from (told((f"change @point {at}={byte:02x}", name)) for at, byte, name in CHANGES)
+    yield "# A point at zoom 16, as every version of the program reads it, and at zooms 17 to 19, which earlier versions refused."
+    for zooms, told_zooms in [("1010", "minzoom: 16, maxzoom: 16"), ("0010", "minzoom: 0, maxzoom: 16"), ("1113", "minzoom: 17, maxzoom: 19")]:
+        yield ("change 010700000000000000" "0170" + zooms + "01" "0100" "ffffffff" "ffffffff" "00",
+               '25 bytes: Put { id: 7, feature: Feature { layer: "p", ' + told_zooms + ", "
+               "geometry: Points([World { x: 4294967295, y: 4294967295 }]), tags: [] } }")
     yield "# Tags in place of none."
     yield from (told((f"change @point ..24 +{tags}", name)) for tags, name in TAGS)
     yield "# The longest text has 32,761 bytes where all is points; one point more is too many, however many of its bytes there are."

@@ -1,8 +1,9 @@
 """Blocks of `reply_script.py` about streams that are cut short, damaged or of another protocol, and about bodies made to do harm.
 
-Each is a function of a script, as those of `reply_script.py`, and of the tools of that module that it uses.
+Each is a function of a script.
 """
 import connections
+from reply_stand import BODY, Often, put, put_parts, request
 
 
 def neighbours(byte):
@@ -52,7 +53,7 @@ FIELDS_OF_A_BODY = [
 ]
 
 
-def streams(script, tools):
+def streams(script):
     script.say("Bytes of other protocols, and of requests that no server here takes: each is refused at the byte at fault.")
     script.disk(64)
     for held in of_other_protocols():
@@ -62,27 +63,27 @@ def streams(script, tools):
             script.wait(held)
             script.ask(held, sizes="4096,1")
     script.note("targets in absolute form, of an authority, of all, with marks and with numbers that no tile and no feature has")
-    script.ask(tools.put(7))
+    script.ask(put(7))
     for target in odd_targets():
-        script.ask(tools.request("GET", target), tools.request("GET", "/map/0/0/0.hex"), sizes="4096,1")
+        script.ask(request("GET", target), request("GET", "/map/0/0/0.hex"), sizes="4096,1")
     script.note("a method that connects, and one about all")
-    script.ask(tools.request("CONNECT", "x:443"), tools.request("OPTIONS", "*"), tools.request("TRACE", "/map/0/0/0.hex"))
+    script.ask(request("CONNECT", "x:443"), request("OPTIONS", "*"), request("TRACE", "/map/0/0/0.hex"))
     for remark, rows in FIELDS_OF_A_BODY:
         script.note(remark)
         for fields in rows:
             head = "\r\n".join(["PUT /features/8 HTTP/1.1", "host: a", *fields, "", ""]).encode()
-            script.ask(head + b"hi", tools.request("GET", "/features/7"), sizes="4096,1")
+            script.ask(head + b"hi", request("GET", "/features/7"), sizes="4096,1")
     script.note("lines that end in other ways: of LF alone, of CR alone, of two CR, and a body that looks like a request")
     plain = b"GET /map/0/0/0.hex HTTP/1.1\r\nhost: a\r\n\r\n"
     for held in [plain.replace(b"\r\n", b"\n"), plain.replace(b"\r\n", b"\r"), plain.replace(b"\r\n", b"\r\r\n"), plain.replace(b"\r\n", b"\n\r"),
                  plain.replace(b"\r\n", b"\r\n\0"), plain.replace(b"a\r\n", b"a\0b\r\n")]:
         script.ask(held, plain, sizes="4096,1")
-    script.ask(tools.request("PUT", "/features/8", plain), tools.request("POST", "/publish", plain), plain, sizes="4096,1")
+    script.ask(request("PUT", "/features/8", plain), request("POST", "/publish", plain), plain, sizes="4096,1")
 
 
-def damaged_streams(script, tools):
+def damaged_streams(script):
     """A point and its tile, as in the worked connection."""
-    stream = tools.request("PUT", "/features/7", tools.BODY) + tools.request("GET", "/map/0/0/0.hex")
+    stream = request("PUT", "/features/7", BODY) + request("GET", "/map/0/0/0.hex")
     script.say("The worked connection, cut behind each byte: the input ends, or a read fails.")
     script.disk(4096)
     for size in range(len(stream)):
@@ -103,7 +104,7 @@ def damaged_streams(script, tools):
             script.writer(10**9, room, end)
             script.ask(stream)
         script.writer()
-        script.ask(tools.request("GET", "/features/7"))
+        script.ask(request("GET", "/features/7"))
 
 
 def bodies():
@@ -152,17 +153,17 @@ def bodies():
         yield value(text)
 
 
-def hostile_bodies(script, tools):
+def hostile_bodies(script):
     script.say("Bodies that are nested deep, of long numbers, of texts that are none, with keys that are repeated.")
     script.disk(4096)
     for parts in bodies():
         if isinstance(parts, str):
             script.note(parts)
         else:
-            parts = [tools.Often(*part) if isinstance(part, tuple) else part for part in parts]
-            script.ask(*tools.put_parts(7, parts), sizes="65536")
+            parts = [Often(*part) if isinstance(part, tuple) else part for part in parts]
+            script.ask(*put_parts(7, parts), sizes="65536")
     script.note("what the last one that was taken left")
-    script.ask(tools.request("GET", "/features/7"))
+    script.ask(request("GET", "/features/7"))
 
 
 BLOCKS = [streams, damaged_streams, hostile_bodies]

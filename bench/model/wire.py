@@ -3,6 +3,8 @@
 
 def varint(n, length=0):
     """Seven bits a byte, lowest first; `length` bytes at least."""
+    if n < 128 and length < 2:
+        return bytes([n])
     out = []
     while n >= 128 or len(out) + 1 < length:
         out.append(n % 128 + 128)

@@ -1,0 +1,254 @@
+"""A model of a service on a disk in memory, which answers the lines of `service_script.py`."""
+from collections import namedtuple
+
+from calls import format_disk
+from crashes import FROM, MADE, NONE, NOT_MADE, Failed, Faulty, Memory
+from disk import SECTOR, Fault
+from machine import NO_NEGATIVE, Refused, Service
+from map_archive import runs_of, tiles_of
+from words import Fields, Tuple, Variant, briefly, debug, digest, err, ok, read, some, spelled
+
+World = namedtuple("World", "x y")
+Tag = namedtuple("Tag", "key value")
+Feature = namedtuple("Feature", "layer minzoom maxzoom geometry tags")
+Published = namedtuple("Published", "generation edits archive_len")
+Report = namedtuple("Report", "tiles entries contents")
+
+LONGEST = 240
+CALLS = ("publish", "archive", "export", "verify", "metadata", "nothing")
+EVENTS = ("put", "delete", "tile", "look", "begin", "step", "cancel")
+SERVICE_WORDS = CALLS + EVENTS
+
+
+# ---- values as they are printed
+
+
+def shortly(text):
+    """A text, or its length and hash if it is long."""
+    held = text.encode()
+    return text if len(held) <= LONGEST else f"{len(held)} letters {digest(held):016x}"
+
+
+def value_shown(value):
+    if isinstance(value, bool):
+        return Tuple("Truth", value)
+    if isinstance(value, str):
+        return Tuple("Text", value)
+    return Tuple("Natural" if value >= 0 else "Negative", value)
+
+
+def lists_shown(lists, depth):
+    if depth == 0:
+        return World(*lists)
+    return [lists_shown(item, depth - 1) for item in lists]
+
+
+def feature_shown(found):
+    (kind, lists), = found["geometry"].items()
+    depth = {"points": 1, "lines": 2, "polygons": 3}[kind]
+    tags = [Tag(key, value_shown(value)) for key, value in found["tags"].items()]
+    return Feature(found["layer"], found["minzoom"], found["maxzoom"], Tuple(kind.capitalize(), lists_shown(lists, depth)), tags)
+
+
+def fault_shown(refused):
+    if refused.name == "Limit":
+        return Tuple("Limit", Variant(refused.numbers[0]))
+    if refused.numbers:
+        return Fields(refused.name, need=refused.numbers[0], free=refused.numbers[1])
+    return Variant(refused.name)
+
+
+# ---- features as they are read
+
+
+def letters_read(word):
+    letters, _, count = word.partition("*")
+    return letters * (int(count) if count else 1)
+
+
+def value_read(word):
+    if word.startswith("'"):
+        return letters_read(word[1:])
+    if word == "-0":
+        return NO_NEGATIVE
+    return {"true": True, "false": False}.get(word) if word in ("true", "false") else int(word)
+
+
+def feature_read(words):
+    """Parses a feature."""
+    layer, minzoom, maxzoom, kind, *rest = words
+    polygons, tags = [[[]]], {}
+    for word in rest:
+        if "=" in word:
+            key, value = word.split("=", 1)
+            tags[key] = value_read(value)
+        elif word == "/":
+            polygons[-1].append([])
+        elif word == "|":
+            polygons.append([[]])
+        else:
+            polygons[-1][-1].append([int(number) for number in word.split(",")])
+    lists = {"points": polygons[-1][-1], "lines": polygons[-1], "polygons": polygons}[kind]
+    return {"layer": layer, "minzoom": int(minzoom), "maxzoom": int(maxzoom), "geometry": {kind: lists}, "tags": tags}
+
+
+# ---- the state of a script
+
+
+class Trial:
+    """A closed disk or an open service, the disk that was stopped last and the failing calls of the next session; the answer to each command."""
+
+    def __init__(self):
+        self.session, self.stopped, self.failing = Memory(0), Memory(0), (NONE, 0)
+
+    def faulty(self, disk):
+        kind, call = self.failing
+        self.failing = NONE, 0
+        return Faulty(disk, kind, call)
+
+    def taken(self):
+        """The disk, and the number of its calls."""
+        if isinstance(self.session, Service):
+            return self.session.disk.disk, self.session.disk.calls
+        return self.session, 0
+
+    # ---- the disk
+
+    def do_disk(self, sectors):
+        self.session = Memory(sectors)
+        return "made"
+
+    def do_write(self, at, held=b""):
+        self.session.write(at, held.ljust(SECTOR, b"\0"))
+        return "Ok(())"
+
+    def do_sector(self, at):
+        return spelled(self.session.read(at).rstrip(b"\0"))
+
+    def do_sectors(self):
+        return " ".join(str(at) for at in range(self.session.count) if any(self.session.read(at)))
+
+    def do_format(self):
+        self.session = self.taken()[0]
+        disk = self.faulty(self.session)
+        try:
+            outcome = ok(format_disk(disk) or ())
+        except Failed:
+            outcome = err(Variant("Device"))
+        except Fault as fault:
+            outcome = err(Variant(str(fault)))
+        return f"{debug(outcome)} in {disk.calls}"
+
+    def fail(self, kind, call, name):
+        self.failing = kind, call
+        return f"{name}({call})"
+
+    def do_fail_from(self, call):
+        return self.fail(FROM, call, "AllFrom")
+
+    def do_fail_not_made(self, call):
+        return self.fail(NOT_MADE, call, "OneNotMade")
+
+    def do_fail_made(self, call):
+        return self.fail(MADE, call, "OneMade")
+
+    def do_open(self):
+        disk = self.faulty(self.taken()[0])
+        try:
+            self.session = Service(disk)
+            return "open"
+        except Failed:
+            self.session = disk.disk
+            return f"Device in {disk.calls}"
+        except Fault as fault:
+            self.session = disk.disk
+            return f"{fault} in {disk.calls}"
+
+    def do_stop(self):
+        self.stopped, calls = self.taken()
+        self.session = Memory(0)
+        return f"stopped in {calls}"
+
+    def do_resume(self):
+        self.session, self.stopped = self.stopped, Memory(0)
+        return "resumed"
+
+    def do_crash(self, *choice):
+        self.session = self.stopped.crash(choice)
+        return "crashed"
+
+    # ---- calls of a service
+
+    def do_publish(self):
+        try:
+            return debug(ok(Published(*self.session.publish())))
+        except Refused as refused:
+            return debug(err(fault_shown(refused)))
+
+    def do_archive(self, at=0, count=None):
+        count = self.session.root.archive_len if count is None else count
+        if at + count > self.session.root.archive_len:
+            return f"? archive {at} {count}"
+        try:
+            return briefly(self.session.read(at, count))
+        except Refused as refused:
+            return debug(fault_shown(refused))
+
+    def do_export(self, room=None):
+        """The archive, or as much of it as there is room for. No archive here is so long that a part is written before a read fails."""
+        try:
+            held = self.session.read(0, self.session.root.archive_len)
+        except Refused:
+            return "Err(Device) "
+        if room is not None and room < len(held):
+            return f"Err(Write) {briefly(held[:room])}"
+        return f"{debug(ok(len(held)))} {briefly(held)}"
+
+    def do_verify(self):
+        self.session.read(0, self.session.root.archive_len)
+        runs = runs_of(tiles_of(self.session.snapshot))
+        return debug(ok(Report(sum(run for _, run, _ in runs), len(runs), len({held for _, _, held in runs}))))
+
+    def do_metadata(self):
+        return shortly(self.session.metadata().decode())
+
+    # ---- events
+
+    def answered(self, words):
+        name, *rest = words
+        numbers = [int(word) for word in rest] if name != "put" else []
+        if name == "put":
+            return Tuple("Edited", self.session.put(int(rest[0]), feature_read(rest[1:])))
+        if name == "look":
+            found = self.session.map.get(*numbers)
+            return Tuple("Look", some(feature_shown(found)) if found else None)
+        if name == "cancel":
+            self.session.cancel()
+            return Variant("Cancelled")
+        if name == "delete":
+            return Tuple("Edited", self.session.delete(*numbers))
+        return Tuple("Left", getattr(self.session, name)())
+
+    def event(self, text):
+        words = text.split()
+        if words[0] == "tile":
+            held = self.session.tile(*[int(word) for word in words[1:]])
+            return f"Tile({briefly(held) or None})"
+        try:
+            return shortly(debug(self.answered(words)))
+        except Refused as refused:
+            return debug(Tuple("Refused", fault_shown(refused)))
+
+    def answer(self, line):
+        if not line or line.startswith("#"):
+            return line
+        word = line.split("; ")[0].split()[0]
+        if word in SERVICE_WORDS and not isinstance(self.session, Service):
+            return f"? {line}"
+        if word in EVENTS:
+            return "; ".join(self.event(text) for text in line.split("; "))
+        if word == "nothing":
+            return ""
+        front, _, words = line.partition("=")
+        numbers = [int(number) for number in front.split()[1:]]
+        return getattr(self, f"do_{word}")(*numbers, *([read(words)] if words else []))
