@@ -3,9 +3,8 @@ use Rattle.std.specs.Prelude.{◌≡◌, ◌⊎◌, ◌<◌, ◌≤◌, ◌+◌,
 use Rattle.std.proofs.Common.{suc}
 use Rattle.sector_disk.specs.Disk.{History, Image, MayHold, MayLeave, HasFailed}
 use Rattle.sector_disk.specs.Disk.History.{begun, wrote, tried, synced}
-use Rattle.edit_journal.specs.Records.{parts_of, record_sector}
-use Rattle.edit_journal.specs.Ring.{Ring, Start, sector_at, places_of, HoldsTexts}
-use Rattle.edit_journal.specs.declared.sizes.TheConstants.{RECORD_VERSION}
+use Rattle.edit_journal.specs.Records.{RecordData, parts_of, record_sector}
+use Rattle.edit_journal.specs.Ring.{Ring, Start, sector_at, places_of, HoldsOnly}
 use Rattle.edit_journal.specs.declared.journal.Journal.{Journal}
 use Rattle.edit_journal.specs.declared.fault.JournalFault.{JournalFault}
 use Rattle.edit_journal.specs.declared.fault.JournalFault.TheVariants.{NumbersSpent, Full, Device, Damaged, Memory}
@@ -18,15 +17,15 @@ ring_of journal = record { first = journal.first; places = journal.places }
 abbrev pub start_of : (place edits : ℕ) → Start
 start_of place edits = record { place = place; number = suc edits }
 
--- Each image that a crash now may leave holds these texts, which take the places in use and have the numbers up to the last.
-pub record Keeps (ring : Ring) (place edits used last : ℕ) (texts : List (List ℕ)) (history : History) : Type 0 where
-  pub keeps : (image : Image) → MayLeave history image → HoldsTexts RECORD_VERSION ring (start_of place edits) texts image
-  pub uses : used ≡ places_of texts
-  pub counts : last ≡ edits + length texts
+-- Each image that a crash now may leave holds these records, which take the places in use and have the numbers up to the last.
+pub record Keeps (ring : Ring) (place edits used last : ℕ) (records : List RecordData) (history : History) : Type 0 where
+  pub keeps : (image : Image) → MayLeave history image → HoldsOnly ring (start_of place edits) records image
+  pub uses : used ≡ places_of records
+  pub counts : last ≡ edits + length records
 
--- the journal has these texts on the disk
-abbrev pub IsAt : List (List ℕ) → Journal → History → Type 0
-IsAt texts journal history = Keeps (ring_of journal) journal.place journal.edits journal.used journal.last texts history
+-- the journal has these records on the disk
+abbrev pub IsAt : List RecordData → Journal → History → Type 0
+IsAt records journal history = Keeps (ring_of journal) journal.place journal.edits journal.used journal.last records history
 
 -- the sector is one of the ring's that no record in use has
 abbrev pub IsFree : Ring → (place used at : ℕ) → Type 0
@@ -40,20 +39,19 @@ AsBefore ring place used old image = (at : ℕ) → (IsFree ring place used at �
 abbrev pub ReadsAsBefore : Ring → (place used : ℕ) → (old new : Image) → Type 0
 ReadsAsBefore ring place used old new = (at : ℕ) → (IsFree ring place used at → ⊥) → new at ≡ old at
 
--- the image holds the texts, or the texts with this one
-abbrev pub HoldsOneMore : Ring → Start → List (List ℕ) → List ℕ → Image → Type 0
-HoldsOneMore ring start texts text image =
-    HoldsTexts RECORD_VERSION ring start texts image ⊎ HoldsTexts RECORD_VERSION ring start (texts ++ text ∷ []) image
+-- the image holds the records, or the records with this one
+abbrev pub HoldsOneMore : Ring → Start → List RecordData → RecordData → Image → Type 0
+HoldsOneMore ring start records r image = HoldsOnly ring start records image ⊎ HoldsOnly ring start (records ++ r ∷ []) image
 
--- in the sector stands what might have stood there, or a body of the record
-abbrev pub OldOrBody : History → Ring → (place used number : ℕ) → List ℕ → (at : ℕ) → List ℕ → Type 0
-OldOrBody old ring place used number text at sector = MayHold old at sector ⊎ ((part : ℕ) × (0 < part) × (part < parts_of (length text))
-    × (at ≡ sector_at ring (place + (used + part))) × (sector ≡ record_sector RECORD_VERSION number text part))
+-- in the sector is stored what might have stood there, or a body of the record
+abbrev pub OldOrBody : History → Ring → (place used number : ℕ) → RecordData → (at : ℕ) → List ℕ → Type 0
+OldOrBody old ring place used number r at sector = MayHold old at sector ⊎ ((part : ℕ) × (0 < part) × (part < parts_of (length r.text))
+    × (at ≡ sector_at ring (place + (used + part))) × (sector ≡ record_sector r.version number r.text part))
 
--- whatever a crash leaves, the bodies stand
-abbrev pub BodiesStand : History → Ring → (place used number : ℕ) → List ℕ → Type 0
-BodiesStand history ring place used number text = (part : ℕ) (sector : List ℕ) → 0 < part → part < parts_of (length text)
-    → MayHold history (sector_at ring (place + (used + part))) sector → sector ≡ record_sector RECORD_VERSION number text part
+-- whatever a crash leaves, the bodies are stored
+abbrev pub BodiesStand : History → Ring → (place used number : ℕ) → RecordData → Type 0
+BodiesStand history ring place used number r = (part : ℕ) (sector : List ℕ) → 0 < part → part < parts_of (length r.text)
+    → MayHold history (sector_at ring (place + (used + part))) sector → sector ≡ record_sector r.version number r.text part
 
 -- how many writes there have been
 abbrev pub writes_in : History → ℕ

@@ -1,13 +1,13 @@
 -- Records that are no longer wanted, and the start of those behind them.
 use Rattle.std.specs.Prelude.{◌≡◌, ◌≤◌, ◌+◌, ◌-◌, ◌*◌, ◌%◌, ℕ}
-use Rattle.feature_model.specs.declared.limits.TheConstants.{MOST_EDIT_BYTES}
-use Rattle.edit_journal.specs.Records.{parts_of}
+use Rattle.edit_journal.specs.declared.sizes.TheConstants.{LAST_RECORD_VERSION}
+use Rattle.edit_journal.specs.Records.{most_bytes, parts_of}
 use Rattle.edit_journal.specs.declared.journal.Journal.{Journal}
 use Rattle.edit_journal.specs.declared.journal.Start.{Start}
 
 -- So many records may have so many places: each has one at least, and none has more than that of the longest text.
 abbrev pub MayTake : (records places : ℕ) → Type 0
-MayTake records places = (records ≤ places) × (places ≤ parts_of MOST_EDIT_BYTES * records)
+MayTake records places = (records ≤ places) × (places ≤ parts_of (most_bytes LAST_RECORD_VERSION) * records)
 
 -- the records in use may have the places in use
 abbrev pub IsCounted : Journal → Type 0

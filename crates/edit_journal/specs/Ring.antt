@@ -2,7 +2,7 @@
 use Rattle.std.specs.Prelude.{◌≡◌, ◌<◌, ◌≤◌, ◌+◌, ◌^◌, ◌%◌, ℕ, List, [], ◌∷◌, length}
 use Rattle.std.proofs.Common.{suc}
 use Rattle.sector_disk.specs.Disk.{Image}
-use Rattle.edit_journal.specs.Records.{IsEditLength, parts_of, IsPart, IsHeadOf}
+use Rattle.edit_journal.specs.Records.{RecordData, IsRecordVersion, IsRecordLength, parts_of, IsPart, IsHeadOf}
 
 -- the sectors of a ring: so many from the first on
 pub record Ring : Type 0 where
@@ -22,39 +22,40 @@ sector_at ring place = ring.first + place % ring.places
 abbrev pub IsInRing : Ring → ℕ → Type 0
 IsInRing ring at = (ring.first ≤ at) × (at < ring.first + ring.places)
 
--- where the records behind that of a text begin
-abbrev pub start_behind : Start → List ℕ → Start
-start_behind start text = record { place = start.place + parts_of (length text); number = suc start.number }
+-- where the records after this one begin
+abbrev pub start_behind : Start → RecordData → Start
+start_behind start r = record { place = start.place + parts_of (length r.text); number = suc start.number }
 
--- each of the texts has the length of an edit's
-abbrev pub AreEdits : List (List ℕ) → Type 0
-AreEdits [] = Unit {0}
-AreEdits (text ∷ texts) = IsEditLength (length text) × AreEdits texts
+-- each record has a version and a length that a record may have
+abbrev pub AreRecords : List RecordData → Type 0
+AreRecords [] = Unit {0}
+AreRecords (r ∷ records) = IsRecordLength r.version (length r.text) × AreRecords records
 
--- how many places the records of the texts take
-abbrev pub places_of : List (List ℕ) → ℕ
+-- how many places the records take
+abbrev pub places_of : List RecordData → ℕ
 places_of [] = 0
-places_of (text ∷ texts) = parts_of (length text) + places_of texts
+places_of (r ∷ records) = parts_of (length r.text) + places_of records
 
--- The parts of the texts stand in consecutive places, by ascending numbers: this sector is as they say.
-abbrev pub StandsAt : (version : ℕ) → Ring → Start → List (List ℕ) → (at : ℕ) → List ℕ → Type 0
-StandsAt version ring start [] at sector = Unit {0}
-StandsAt version ring start (text ∷ texts) at sector =
-    ((part : ℕ) → part < parts_of (length text) → at ≡ sector_at ring (start.place + part) → IsPart version start.number text part sector)
-    × StandsAt version ring (start_behind start text) texts at sector
+-- The parts of the records are stored in consecutive places, by ascending numbers, each part in its record's version: this sector is as they say.
+abbrev pub StandsAt : Ring → Start → List RecordData → (at : ℕ) → List ℕ → Type 0
+StandsAt ring start [] at sector = Unit {0}
+StandsAt ring start (r ∷ records) at sector =
+    ((part : ℕ) → part < parts_of (length r.text) → at ≡ sector_at ring (start.place + part) → IsPart r.version start.number r.text part sector)
+    × StandsAt ring (start_behind start r) records at sector
 
--- The image has the records of these texts from a start on, and the ring has room for them.
-pub record HoldsRecords (version : ℕ) (ring : Ring) (start : Start) (texts : List (List ℕ)) (image : Image) : Type 0 where
-  pub edits : AreEdits texts
-  pub room : places_of texts ≤ ring.places
-  pub numbers : start.number + length texts ≤ 2 ^ 64
-  pub stand : (at : ℕ) → StandsAt version ring start texts at (image at)
+-- The image has these records from a start on, and the ring has room for them.
+pub record HoldsRecords (ring : Ring) (start : Start) (records : List RecordData) (image : Image) : Type 0 where
+  pub lengths : AreRecords records
+  pub room : places_of records ≤ ring.places
+  pub numbers : start.number + length records ≤ 2 ^ 64
+  pub stand : (at : ℕ) → StandsAt ring start records at (image at)
 
--- no sector of the ring is the head of a record from this number on
-abbrev pub NoLaterHead : (version : ℕ) → Ring → ℕ → Image → Type 0
-NoLaterHead version ring next image = (at later : ℕ) → IsInRing ring at → next ≤ later → IsHeadOf version later (image at) → ⊥
+-- No sector of the ring is the head of a record from this number on, of any version: also of one that the disk's version doesn't allow yet.
+abbrev pub NoLaterHead : Ring → ℕ → Image → Type 0
+NoLaterHead ring next image =
+    (at version later : ℕ) → IsInRing ring at → IsRecordVersion version → next ≤ later → IsHeadOf version later (image at) → ⊥
 
--- The image has the records of these texts from a start on, and none behind them.
-pub record HoldsTexts (version : ℕ) (ring : Ring) (start : Start) (texts : List (List ℕ)) (image : Image) : Type 0 where
-  pub records : HoldsRecords version ring start texts image
-  pub last : NoLaterHead version ring (start.number + length texts) image
+-- The image has these records from a start on, and none after them.
+pub record HoldsOnly (ring : Ring) (start : Start) (records : List RecordData) (image : Image) : Type 0 where
+  pub records : HoldsRecords ring start records image
+  pub last : NoLaterHead ring (start.number + length records) image

@@ -2,7 +2,7 @@
 ghost use Rattle.std.specs.Prelude.{◌≡◌, ◌⊎◌, ◌≤◌, ◌<◌, ◌+◌, ◌-◌, ◌^◌, ◌++◌, ◌∷◌, [], ℕ, List, length, IfOk, IfErr, OnOk, OnErr};
 ghost use Rattle.sector_disk.specs.Disk.{seen, HasFailed};
 ghost use Rattle.sector_disk.specs.Moments.{Within, LeavesOnly};
-ghost use Rattle.edit_journal.specs.Records.{IsEditLength, parts_of};
+ghost use Rattle.edit_journal.specs.Records.{RecordData, record_of, IsRecordLength, parts_of};
 ghost use Rattle.edit_journal.specs.Ring.{sector_at};
 ghost use Rattle.edit_journal.specs.Appends.{ring_of, start_of, Keeps, IsAt, AsBefore, ReadsAsBefore, HoldsOneMore, OldOrBody, BodiesStand};
 ghost use Rattle.edit_journal.specs.Appends.{writes_in, syncs_in, syncs_of, TakesSteps, IsAppendFault};
@@ -33,10 +33,11 @@ impl Journal {
 fn stage<D: Sectors>(
     journal: &Journal,
     disk: &mut D,
+    version: u32,
     number: u64,
     text: &[u8],
 ) -> Result<(), DiskFault>
-    requires text { IsEditLength (length text.now) }
+    requires text { IsRecordLength version (length text.now) }
     requires room { journal.now.used + parts_of (length text.now) ≤ journal.now.places }
     requires ring { journal.now.first + journal.now.places ≤ D.sectors disk.old }
     ensures count { D.sectors disk.new ≡ D.sectors disk.old }
@@ -46,11 +47,11 @@ fn stage<D: Sectors>(
     ensures reads { D.honest disk.new
         → ReadsAsBefore (ring_of journal.now) journal.now.place journal.now.used (seen (D.history disk.old)) (seen (D.history disk.new)) }
     ensures leaves { D.honest disk.new → LeavesOnly (D.history disk.old) (D.history disk.new) (λ image. (at : ℕ)
-        → OldOrBody (D.history disk.old) (ring_of journal.now) journal.now.place journal.now.used number text.now at (image at)) }
+        → OldOrBody (D.history disk.old) (ring_of journal.now) journal.now.place journal.now.used number (record_of version text.now) at (image at)) }
     ensures within { D.honest disk.new
-        → Within (D.history disk.new) (OldOrBody (D.history disk.old) (ring_of journal.now) journal.now.place journal.now.used number text.now) }
+        → Within (D.history disk.new) (OldOrBody (D.history disk.old) (ring_of journal.now) journal.now.place journal.now.used number (record_of version text.now)) }
     ensures bodies { D.honest disk.new
-        → OnOk result (BodiesStand (D.history disk.new) (ring_of journal.now) journal.now.place journal.now.used number text.now) }
+        → OnOk result (BodiesStand (D.history disk.new) (ring_of journal.now) journal.now.place journal.now.used number (record_of version text.now)) }
 
     // Of the record's writes and syncs all but one of each are made.
     ensures writes { D.honest disk.new
@@ -60,7 +61,7 @@ fn stage<D: Sectors>(
 {
     let parts = count_parts(text.len() as u32);
     for part in 1..parts {
-        let sector = part_sector(number, text, part);
+        let sector = part_sector(version, number, text, part);
         let at = journal.sector_of(journal.used + part as u64);
         disk.write(at, &sector)?;
     }
@@ -71,8 +72,13 @@ fn stage<D: Sectors>(
 }
 
 /// Writes a record whole: its bodies first, and its head once they outlive a crash.
-fn write_record<D: Sectors>(journal: &Journal, disk: &mut D, text: &[u8]) -> Result<(), DiskFault>
-    requires text { IsEditLength (length text.now) }
+fn write_record<D: Sectors>(
+    journal: &Journal,
+    disk: &mut D,
+    version: u32,
+    text: &[u8],
+) -> Result<(), DiskFault>
+    requires text { IsRecordLength version (length text.now) }
     requires room { journal.now.used + parts_of (length text.now) ≤ journal.now.places }
     requires ring { journal.now.first + journal.now.places ≤ D.sectors disk.old }
     requires next { journal.now.last < 2 ^ 64 - 1 }
@@ -84,28 +90,33 @@ fn write_record<D: Sectors>(journal: &Journal, disk: &mut D, text: &[u8]) -> Res
         → ReadsAsBefore (ring_of journal.now) journal.now.place journal.now.used (seen (D.history disk.old)) (seen (D.history disk.new)) }
     ensures frame { D.honest disk.new
         → LeavesOnly (D.history disk.old) (D.history disk.new) (AsBefore (ring_of journal.now) journal.now.place journal.now.used (D.history disk.old)) }
-    ensures any_moment { (texts : List (List ℕ)) → D.honest disk.new → IsAt texts journal.now (D.history disk.old)
+    ensures any_moment { (records : List RecordData) → D.honest disk.new → IsAt records journal.now (D.history disk.old)
         → LeavesOnly (D.history disk.old) (D.history disk.new)
-        (HoldsOneMore (ring_of journal.now) (start_of journal.now.place journal.now.edits) texts text.now) }
-    ensures acknowledged { (texts : List (List ℕ)) → D.honest disk.new → IsAt texts journal.now (D.history disk.old)
+        (HoldsOneMore (ring_of journal.now) (start_of journal.now.place journal.now.edits) records (record_of version text.now)) }
+    ensures acknowledged { (records : List RecordData) → D.honest disk.new → IsAt records journal.now (D.history disk.old)
         → OnOk result (Keeps (ring_of journal.now) journal.now.place journal.now.edits (journal.now.used + parts_of (length text.now)) (journal.now.last + 1)
-        (texts ++ text.now ∷ []) (D.history disk.new)) }
+        (records ++ record_of version text.now ∷ []) (D.history disk.new)) }
     ensures steps { D.honest disk.new → OnOk result (TakesSteps (parts_of (length text.now)) (D.history disk.old) (D.history disk.new)) }
 {
     let number = journal.last + 1;
-    stage(journal, disk, number, text)?;
-    let head = part_sector(number, text, 0);
+    stage(journal, disk, version, number, text)?;
+    let head = part_sector(version, number, text, 0);
     let at = journal.sector_of(journal.used);
     disk.write(at, &head)?;
     disk.sync()
 }
 
 impl Journal {
-    /// Adds a text behind the others, and gives its number. At `Ok` a crash leaves it, and goes on to leave it while only appends
-    /// write. After `Device` the disk may hold it or not, and nothing is promised of a further append; at another fault nothing
-    /// was written.
-    pub fn append<D: Sectors>(&mut self, disk: &mut D, text: &[u8]) -> Result<u64, JournalFault>
-        requires text { IsEditLength (length text.now) }
+    /// Adds a record of this version and text after the others, and returns its number. After `Ok` a crash leaves it, as long as only
+    /// appends write. After `Device` the disk may hold it or not, and nothing is promised of a further append; at another fault
+    /// nothing was written. The version is 1 or 2, and the disk's must allow it.
+    pub fn append<D: Sectors>(
+        &mut self,
+        disk: &mut D,
+        version: u32,
+        text: &[u8],
+    ) -> Result<u64, JournalFault>
+        requires text { IsRecordLength version (length text.now) }
         requires ring { self.old.first + self.old.places ≤ D.sectors disk.old }
         ensures count { D.sectors disk.new ≡ D.sectors disk.old }
         ensures honest { D.honest disk.new → D.honest disk.old }
@@ -124,11 +135,11 @@ impl Journal {
         ensures frame { D.honest disk.new
             → LeavesOnly (D.history disk.old) (D.history disk.new) (AsBefore (ring_of self.old) self.old.place self.old.used (D.history disk.old)) }
 
-        // A crash at any moment of the call leaves the texts from before it, with the new one or without.
-        ensures any_moment { (texts : List (List ℕ)) → D.honest disk.new → IsAt texts self.old (D.history disk.old)
-            → LeavesOnly (D.history disk.old) (D.history disk.new) (HoldsOneMore (ring_of self.old) (start_of self.old.place self.old.edits) texts text.now) }
-        ensures acknowledged { (texts : List (List ℕ)) → D.honest disk.new → IsAt texts self.old (D.history disk.old)
-            → OnOk result (IsAt (texts ++ text.now ∷ []) self.new (D.history disk.new)) }
+        // A crash at any moment of the call leaves the records from before it, with the new one or without.
+        ensures any_moment { (records : List RecordData) → D.honest disk.new → IsAt records self.old (D.history disk.old)
+            → LeavesOnly (D.history disk.old) (D.history disk.new) (HoldsOneMore (ring_of self.old) (start_of self.old.place self.old.edits) records (record_of version text.now)) }
+        ensures acknowledged { (records : List RecordData) → D.honest disk.new → IsAt records self.old (D.history disk.old)
+            → OnOk result (IsAt (records ++ record_of version text.now ∷ []) self.new (D.history disk.new)) }
 
         // It takes one write for each part, and one sync, or two where there are several parts.
         ensures steps { D.honest disk.new → OnOk result (TakesSteps (parts_of (length text.now)) (D.history disk.old) (D.history disk.new)) }
@@ -141,7 +152,7 @@ impl Journal {
         if need > free {
             return Err(JournalFault::Full { need, free });
         }
-        match write_record(self, disk, text) {
+        match write_record(self, disk, version, text) {
             Ok(()) => {}
             Err(DiskFault) => return Err(JournalFault::Device),
         }

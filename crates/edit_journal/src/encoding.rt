@@ -1,14 +1,15 @@
 //! The sectors of a record, as bytes.
 ghost use Rattle.std.specs.Prelude.{◌≡◌, ◌≤◌, ◌<◌, ◌+◌, ◌++◌, length, take, drop};
 ghost use Rattle.sector_disk.specs.declared.disk.TheConstants.{SECTOR_BYTES};
-ghost use Rattle.edit_journal.specs.Records.{IsEditLength, parts_of, piece, part_front, record_sector};
+ghost use Rattle.edit_journal.specs.declared.sizes.TheConstants.{LAST_RECORD_VERSION};
+ghost use Rattle.edit_journal.specs.Records.{most_bytes, IsRecordLength, parts_of, piece, part_front, record_sector};
 
-use crate::sizes::{PART_BYTES, RECORD_VERSION};
+use crate::sizes::PART_BYTES;
 use sector_disk::SECTOR_BYTES;
 
-/// How many parts a text of so many bytes has.
+/// How many parts a text of this length has.
 pub(crate) fn count_parts(length: u32) -> u16
-    requires { IsEditLength length }
+    requires { length ≤ most_bytes LAST_RECORD_VERSION }
     ensures { result ≡ parts_of length }
 {
     length.div_ceil(PART_BYTES as u32) as u16
@@ -16,9 +17,9 @@ pub(crate) fn count_parts(length: u32) -> u16
 
 /// The first 16 bytes of a part's sector.
 #[tactic(auto, unfolding(crate::specs::Records::part_front))]
-pub(crate) fn front_bytes(number: u64, length: u32, part: u16) -> [u8; 16]
-    requires { IsEditLength length }
-    ensures { result ≡ part_front RECORD_VERSION number length part }
+pub(crate) fn front_bytes(version: u32, number: u64, length: u32, part: u16) -> [u8; 16]
+    requires { IsRecordLength version length }
+    ensures { result ≡ part_front version number length part }
 {
     let (kind, count) = if part == 0 {
         (1, count_parts(length))
@@ -27,7 +28,7 @@ pub(crate) fn front_bytes(number: u64, length: u32, part: u16) -> [u8; 16]
     };
     let mut front = [0; 16];
     front[0] = kind;
-    front[1] = RECORD_VERSION;
+    front[1] = version as u8;
     front[2..4].copy_from_slice(&count.to_le_bytes());
     front[4..12].copy_from_slice(&number.to_le_bytes());
     front[12..].copy_from_slice(&length.to_le_bytes());
@@ -55,17 +56,17 @@ fn put_bytes(sector: &mut [u8; SECTOR_BYTES], at: usize, bytes: &[u8])
     sector[at..at + bytes.len()].copy_from_slice(bytes);
 }
 
-/// The sector of a part of the record with this number and text, as the journal writes it. Behind the text's end it has zeros.
-pub fn part_sector(number: u64, text: &[u8], part: u16) -> [u8; SECTOR_BYTES]
-    requires text { IsEditLength (length text.now) }
+/// The sector of a part of the record of this version, number and text, as the journal writes it. After the text's end it has zeros.
+pub fn part_sector(version: u32, number: u64, text: &[u8], part: u16) -> [u8; SECTOR_BYTES]
+    requires text { IsRecordLength version (length text.now) }
     requires part { part < parts_of (length text.now) }
-    ensures { result ≡ record_sector RECORD_VERSION number text.now part }
+    ensures { result ≡ record_sector version number text.now part }
 {
     let mut sector = [0; SECTOR_BYTES];
     put_bytes(
         &mut sector,
         0,
-        &front_bytes(number, text.len() as u32, part),
+        &front_bytes(version, number, text.len() as u32, part),
     );
     put_bytes(&mut sector, 16, piece_of(text, part));
     sector

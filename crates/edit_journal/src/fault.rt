@@ -1,12 +1,12 @@
 use thiserror::Error;
 
-/// Why the journal doesn't take a text, or isn't recovered.
+/// Why the journal doesn't take a record, or isn't recovered.
 #[derive(Clone, Copy, Debug, PartialEq, Eq, Error)]
 pub enum JournalFault {
     /// The last edit has the last u64 as its number.
     #[error("there are no more numbers for edits")]
     NumbersSpent,
-    /// The text needs more places than are free.
+    /// The record needs more places than are free.
     #[error("the journal has {free} free places, and {need} are needed")]
     Full { need: u64, free: u64 },
     /// A call of the disk failed.

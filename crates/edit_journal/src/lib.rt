@@ -6,12 +6,14 @@ mod encoding;
 mod fault;
 mod head;
 mod journal;
+mod records;
 mod recovering;
 mod releasing;
 mod sizes;
 
 pub use encoding::part_sector;
 pub use fault::JournalFault;
-pub use head::{Head, head_in, is_head};
+pub use head::{Head, head_in, head_version};
 pub use journal::{Journal, Start};
-pub use sizes::{PART_BYTES, RECORD_VERSION};
+pub use records::Record;
+pub use sizes::{FIRST_RECORD_VERSION, LAST_RECORD_VERSION, MOST_RECORD_BYTES, PART_BYTES};

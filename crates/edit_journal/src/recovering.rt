@@ -1,18 +1,19 @@
 //! The journal that a ring of sectors has.
 ghost use Rattle.std.specs.Prelude.{◌≡◌, ◌≤◌, ◌<◌, ◌+◌, ◌-◌, ◌*◌, ◌^◌, ◌++◌, min, ℕ, List, length, take, drop, IfOk, IfErr, OnOk, IfSome, MatchOption};
 ghost use Rattle.sector_disk.specs.Disk.{seen, HasFailed};
-ghost use Rattle.edit_journal.specs.Records.{IsEditLength, parts_of, HasFront};
+ghost use Rattle.edit_journal.specs.Records.{RecordData, record_of, record_data, records_of, IsRecordLength, AreUpTo, most_bytes, parts_of, HasFront};
 ghost use Rattle.edit_journal.specs.Ring.{Ring, sector_at, places_of};
 ghost use Rattle.edit_journal.specs.Appends.{ring_of, start_of};
-ghost use Rattle.edit_journal.specs.Recovers.{texts_of, EndsAt, IsJournal, PartsStand, FrontsStand, IsDamaged, IsRecoverFault};
+ghost use Rattle.edit_journal.specs.Recovers.{EndsAt, IsJournal, PartsStand, FrontsStand, IsDamaged, IsRecoverFault};
 ghost use Rattle.edit_journal.specs.Releases.{IsCounted};
-ghost use Rattle.edit_journal.specs.declared.sizes.TheConstants.{RECORD_VERSION};
+ghost use Rattle.edit_journal.specs.declared.sizes.TheConstants.{LAST_RECORD_VERSION};
 ghost use Rattle.edit_journal.specs.declared.fault.JournalFault.TheVariants.{Damaged, Device, Memory};
 
 use crate::encoding::count_parts;
 use crate::fault::JournalFault;
-use crate::head::{Head, head_in, is_head};
+use crate::head::{Head, head_in, head_version};
 use crate::journal::{Journal, Start};
+use crate::records::Record;
 use crate::sizes::PART_BYTES;
 use sector_disk::{DiskFault, SECTOR_BYTES, Sectors};
 use std::alloc::{AllocError, Global};
@@ -71,7 +72,7 @@ fn read_text<D: Sectors>(
 ) -> Result<Vec<u8>, JournalFault>
     requires ring { journal.now.first + journal.now.places ≤ D.sectors disk.old }
     requires room { journal.now.used + parts_of head.length ≤ journal.now.places }
-    requires front { HasFront RECORD_VERSION head.number head.length 0 first.now }
+    requires front { HasFront head.version head.number head.length 0 first.now }
     requires first { D.honest disk.old → first.now ≡ seen (D.history disk.old) (sector_at (ring_of journal.now) (journal.now.place + journal.now.used)) }
     ensures count { D.sectors disk.new ≡ D.sectors disk.old }
     ensures honest { D.honest disk.new → D.honest disk.old }
@@ -79,10 +80,10 @@ fn read_text<D: Sectors>(
     ensures faults { OnOk result (D.faults disk.new ≡ D.faults disk.old) }
     ensures fault { IfErr result (IsRecoverFault (D.faults disk.old) (D.faults disk.new)) }
     ensures whole { IfOk result (λ text. length text.items ≡ head.length) }
-    ensures stands { D.honest disk.new → IfOk result (λ text. PartsStand RECORD_VERSION (ring_of journal.now) journal.now.place journal.now.used
-        head.number text.items (seen (D.history disk.old))) }
+    ensures stands { D.honest disk.new → IfOk result (λ text. PartsStand (ring_of journal.now) journal.now.place journal.now.used
+        head.number (record_of head.version text.items) (seen (D.history disk.old))) }
     ensures damaged { D.honest disk.new → IfErr result (λ fault. fault ≡ Damaged
-        → FrontsStand RECORD_VERSION (ring_of journal.now) journal.now.place journal.now.used head.number head.length (seen (D.history disk.old)) → ⊥) }
+        → FrontsStand head.version (ring_of journal.now) journal.now.place journal.now.used head.number head.length (seen (D.history disk.old)) → ⊥) }
 {
     let mut text = match Vec::with_capacity(alloc, head.length as usize) {
         Ok(text) => text,
@@ -99,26 +100,27 @@ fn read_text<D: Sectors>(
     Ok(text)
 }
 
-/// Reads the record behind the others: its text, or none where the journal ends.
+/// Reads the record after the others, of a version from 1 to `most`, or none where the journal ends.
 fn read_record<D: Sectors>(
     alloc: Global,
     journal: &Journal,
     disk: &mut D,
-) -> Result<Option<Vec<u8>>, JournalFault>
+    most: u32,
+) -> Result<Option<Record>, JournalFault>
     requires ring { journal.now.first + journal.now.places ≤ D.sectors disk.old }
     ensures count { D.sectors disk.new ≡ D.sectors disk.old }
     ensures honest { D.honest disk.new → D.honest disk.old }
     ensures history { D.honest disk.new → D.history disk.new ≡ D.history disk.old }
     ensures faults { OnOk result (D.faults disk.new ≡ D.faults disk.old) }
     ensures fault { IfErr result (IsRecoverFault (D.faults disk.old) (D.faults disk.new)) }
-    ensures fits { IfOk result (λ next. IfSome next (λ text. IsEditLength (length text.items)
-        × (journal.now.used + parts_of (length text.items) ≤ journal.now.places) × (journal.now.last + 1 < 2 ^ 64))) }
+    ensures fits { IfOk result (λ next. IfSome next (λ r. IsRecordLength r.version (length r.text.items)
+        × (r.version ≤ most) × (journal.now.used + parts_of (length r.text.items) ≤ journal.now.places) × (journal.now.last + 1 < 2 ^ 64))) }
     ensures next { D.honest disk.new → IfOk result (λ next. MatchOption next
-        (EndsAt RECORD_VERSION (ring_of journal.now) journal.now.place journal.now.used (journal.now.last + 1) (seen (D.history disk.old)))
-        (λ text. PartsStand RECORD_VERSION (ring_of journal.now) journal.now.place journal.now.used (journal.now.last + 1) text.items
+        (EndsAt most (ring_of journal.now) journal.now.place journal.now.used (journal.now.last + 1) (seen (D.history disk.old)))
+        (λ r. PartsStand (ring_of journal.now) journal.now.place journal.now.used (journal.now.last + 1) (record_data r)
         (seen (D.history disk.old)))) }
     ensures damaged { D.honest disk.new → IfErr result (λ fault. fault ≡ Damaged
-        → IsDamaged RECORD_VERSION (ring_of journal.now) journal.now.place journal.now.used (journal.now.last + 1) (seen (D.history disk.old))) }
+        → IsDamaged most (ring_of journal.now) journal.now.place journal.now.used (journal.now.last + 1) (seen (D.history disk.old))) }
 {
     if journal.used == journal.places {
         return Ok(None);
@@ -128,13 +130,14 @@ fn read_record<D: Sectors>(
     }
     let number = journal.last + 1;
     let first = read_place(journal, disk, journal.used)?;
-    if !is_head(&first, number) {
-        return Ok(None);
-    }
-    match head_in(&first, number) {
+    let version = match head_version(&first, number, most) {
+        Some(version) => version,
+        None => return Ok(None),
+    };
+    match head_in(&first, version, number) {
         Some(head) if head.parts as u64 <= journal.free() => {
             match read_text(alloc, journal, disk, head, &first) {
-                Ok(text) => Ok(Some(text)),
+                Ok(text) => Ok(Some(Record { version, text })),
                 Err(fault) => Err(fault),
             }
         }
@@ -164,7 +167,7 @@ impl Journal {
 
     /// The journal with one more record, of a text of this length.
     fn with_record(self, length: u32) -> Journal
-        requires length { IsEditLength length }
+        requires length { length ≤ most_bytes LAST_RECORD_VERSION }
         requires room { self.used + parts_of length ≤ self.places }
         requires next { self.last < 2 ^ 64 - 1 }
         ensures same { (ring_of result ≡ ring_of self) × (start_of result.place result.edits ≡ start_of self.place self.edits) }
@@ -181,15 +184,17 @@ impl Journal {
         }
     }
 
-    /// Reads the records from a start on, in a ring of so many places whose place 0 is the first sector: the journal, and its texts
-    /// in order. Nothing is written. `Damaged`: a record that was expected isn't whole. The other errors are `Device` and `Memory`.
+    /// Reads the records from a start on, in a ring of so many places whose place 0 is the first sector: the journal, and its records
+    /// in order. A record is expected in a version from 1 to `version`, the disk's: at a head of a later one the journal ends.
+    /// Nothing is written. `Damaged`: a record that was expected isn't whole. The other errors are `Device` and `Memory`.
     pub fn recover<D: Sectors>(
         alloc: Global,
         disk: &mut D,
         first: u64,
         places: u64,
         start: Start,
-    ) -> Result<(Journal, Vec<Vec<u8>>), JournalFault>
+        version: u32,
+    ) -> Result<(Journal, Vec<Record>), JournalFault>
         requires ring { first + places ≤ D.sectors disk.old }
         requires small { first + places < 2 ^ 64 }
         requires start { start.place < places }
@@ -200,25 +205,26 @@ impl Journal {
         ensures fault { IfErr result (IsRecoverFault (D.faults disk.old) (D.faults disk.new)) }
         ensures same { IfOk result (λ found. (ring_of found.0 ≡ record { first = first; places = places })
             × (start_of found.0.place found.0.edits ≡ start_of start.place start.edits)) }
-        ensures used { IfOk result (λ found. found.0.used ≡ places_of (texts_of found.1.items)) }
+        ensures used { IfOk result (λ found. found.0.used ≡ places_of (records_of found.1.items)) }
         ensures last { IfOk result (λ found. found.0.last ≡ start.edits + length found.1.items) }
         ensures counted { IfOk result (λ found. IsCounted found.0) }
+        ensures versions { IfOk result (λ found. AreUpTo version (records_of found.1.items)) }
 
-        // The texts are those that the disk has, and a disk with a journal is never damaged.
-        ensures found { D.honest disk.new → IfOk result (λ found. IsJournal RECORD_VERSION (record { first = first; places = places })
-            (start_of start.place start.edits) (texts_of found.1.items) (seen (D.history disk.old))) }
-        ensures damaged { (texts : List (List ℕ)) → D.honest disk.new → IfErr result (λ fault. fault ≡ Damaged
-            → IsJournal RECORD_VERSION (record { first = first; places = places }) (start_of start.place start.edits) texts (seen (D.history disk.old)) → ⊥) }
+        // The records are those that the disk has, and a disk with a journal is never damaged.
+        ensures found { D.honest disk.new → IfOk result (λ found. IsJournal version (record { first = first; places = places })
+            (start_of start.place start.edits) (records_of found.1.items) (seen (D.history disk.old))) }
+        ensures damaged { (records : List RecordData) → D.honest disk.new → IfErr result (λ fault. fault ≡ Damaged
+            → IsJournal version (record { first = first; places = places }) (start_of start.place start.edits) records (seen (D.history disk.old)) → ⊥) }
     {
         let mut journal = Journal::empty(first, places, start.place, start.edits);
-        let mut texts = Vec::new(alloc);
-        while let Some(text) = read_record(alloc, &journal, disk)? {
-            journal = journal.with_record(text.len() as u32);
-            match texts.push(text) {
+        let mut records = Vec::new(alloc);
+        while let Some(next) = read_record(alloc, &journal, disk, version)? {
+            journal = journal.with_record(next.text.len() as u32);
+            match records.push(next) {
                 Ok(()) => {}
                 Err(_) => return Err(JournalFault::Memory),
             }
         }
-        Ok((journal, texts))
+        Ok((journal, records))
     }
 }

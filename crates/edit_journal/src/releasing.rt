@@ -1,6 +1,7 @@
 //! Records that are no longer wanted.
 ghost use Rattle.std.specs.Prelude.{◌≡◌, ◌≤◌, ◌+◌, ◌%◌, ℕ, List, length, take, drop};
 ghost use Rattle.sector_disk.specs.Disk.{History};
+ghost use Rattle.edit_journal.specs.Records.{RecordData};
 ghost use Rattle.edit_journal.specs.Ring.{places_of};
 ghost use Rattle.edit_journal.specs.Appends.{ring_of, IsAt};
 ghost use Rattle.edit_journal.specs.Releases.{IsBehind, IsCounted};
@@ -31,10 +32,10 @@ impl Journal {
         ensures freed { (behind : ℕ) → IsBehind self.old start behind → self.new.used + behind ≡ self.old.used }
         ensures counted { IsCounted self.new }
 
-        // Of the texts in use those behind the start are left.
-        ensures kept { (texts : List (List ℕ)) (count : ℕ) (history : History) → IsAt texts self.old history → count ≤ length texts
-            → start.edits ≡ self.old.edits + count → start.place ≡ (self.old.place + places_of (take count texts)) % self.old.places
-            → IsAt (drop count texts) self.new history }
+        // Of the records in use those after the start are left.
+        ensures kept { (records : List RecordData) (count : ℕ) (history : History) → IsAt records self.old history → count ≤ length records
+            → start.edits ≡ self.old.edits + count → start.place ≡ (self.old.place + places_of (take count records)) % self.old.places
+            → IsAt (drop count records) self.new history }
     {
         let behind = self.places_before(start);
         self.used -= behind;

@@ -1,23 +1,26 @@
 -- The service as a machine: its state, what happens to it, and the state after that.
-use Rattle.std.specs.Prelude.{◌≡◌, ◌⊎◌, ◌<◌, ◌≤◌, ◌+◌, ◌-◌, ◌^◌, ℕ, Bool, true, false, List, [], ◌∷◌, length, Option, Some, None, IsSome}
+use Rattle.std.specs.Prelude.{◌≡◌, ◌⊎◌, ◌<◌, ◌≤◌, ◌+◌, ◌-◌, ◌^◌, ℕ, Bool, true, false, List, [], ◌∷◌, length, All, Contains, Option, Some, None, IsSome}
 use Rattle.std.specs.Prelude.{Result, Ok, Err}
 use Rattle.generations.specs.Areas.{journal_sectors, area_sectors, sectors_of}
+use Rattle.generations.specs.declared.sizes.TheConstants.{FIRST_VERSION}
 use Rattle.edit_journal.specs.Records.{parts_of}
-use Rattle.feature_model.specs.Data.{FeatureData, ChangeData, put, delete}
-use Rattle.feature_model.specs.Spelled.{spelled_change}
+use Rattle.edit_text.specs.Recorded.{RecordedEdit, recorded_text}
+use Rattle.feature_model.specs.Data.{FeatureData, ChangeData, EditData, put, delete}
+use Rattle.feature_model.specs.declared.fault.EditFault.{EditFault as LimitFault}
 use Rattle.feature_store.specs.Layers.{layers}
-use Rattle.feature_store.specs.Store.{FeatureMap, feature_at, changed, snapshot}
+use Rattle.feature_store.specs.Store.{FeatureMap, feature_at, snapshot}
 use Rattle.map_metadata.specs.Metadata.{IsMetadata}
 use Rattle.serde_json.specs.Data.{Data}
 use Rattle.serde_json.specs.Written.{compact_text}
 use Rattle.area_content.specs.Faults.{HasManyTiles, IsFull}
 use Rattle.feature_store.specs.Content.{IsTileContent}
 use Rattle.area_content.specs.Tiles.{IsArchiveOfMap}
+use Rattle.tile_service.specs.After.{made}
 use Rattle.tile_service.specs.declared.fault.ServiceFault.{ServiceFault}
-use Rattle.tile_service.specs.declared.fault.ServiceFault.TheVariants.{Broken, Busy, Idle, Limit, NotFound, NumbersSpent, Memory}
+use Rattle.tile_service.specs.declared.fault.ServiceFault.TheVariants.{Broken, Busy, Idle, NeedsUpgrade, Limit, NotFound, NumbersSpent, Memory}
 use Rattle.tile_service.specs.declared.fault.ServiceFault.TheVariants.{TooManyTiles, AreaFull, JournalFull, Device}
 use Rattle.tile_service.specs.declared.publishing.TheConstants.{STEP_SECTORS}
-use Rattle.tile_service.specs.Limits.{KeepsLimits, BreaksLimit}
+use Rattle.tile_service.specs.Limits.{KeepsLimits, BreaksLimit, KeepsBatchLimits, BreaksBatchLimit}
 
 -- ---- the state
 
@@ -39,6 +42,8 @@ pub record Publication : Type 0 where
 pub record ServiceState : Type 0 where
   -- with how many sectors the disk was formatted
   pub size : ℕ
+  -- the version of its format
+  pub version : ℕ
   -- the map
   pub features : FeatureMap
   -- the number of the last edit, or 0
@@ -60,10 +65,15 @@ pub data OrMemory (A : Type 0) : Type 0 where
   got : A → OrMemory A
   no_memory : OrMemory A
 
+-- an edit is made by a call for one change, or by one for a batch of changes
+pub data Call : Type 0 where
+  single : Call
+  batched : Call
+
 -- a call, and its outcome
 pub data Happening : Type 0 where
-  -- an edit, and its number
-  edit : ChangeData → Result ℕ ServiceFault → Happening
+  -- an edit, with the version in which it is recorded, and its number
+  edit : Call → RecordedEdit → Result ℕ ServiceFault → Happening
   -- a publication begins, and this much of it is left
   begin : Result ℕ ServiceFault → Happening
   -- its next sectors are written, and this much of it is left, 0 once it is installed
@@ -93,42 +103,82 @@ Refuses is_there old fault new = (old.broken ≡ false) × is_there × (new ≡ 
 
 -- ---- edits
 
--- a feature to set is within the limits, and one to delete exists
-abbrev pub IsWanted : FeatureMap → ChangeData → Type 0
-IsWanted m (put id f) = KeepsLimits id f
-IsWanted m (delete id) = IsSome (feature_at m id)
+-- the edit of these changes, recorded in this version
+abbrev pub recorded_in : ℕ → EditData → RecordedEdit
+recorded_in version cs = record { version = version; changes = cs }
+
+-- the edit of one change
+abbrev pub recorded_change : ℕ → ChangeData → RecordedEdit
+recorded_change version c = recorded_in version (c ∷ [])
+
+-- batches are made on a disk of a later version than the first
+abbrev pub Accepts : ServiceState → Call → Type 0
+Accepts s single = Unit {0}
+Accepts s batched = FIRST_VERSION < s.version
+
+-- a feature to delete exists
+abbrev pub HasTarget : FeatureMap → ChangeData → Type 0
+HasTarget m (put id f) = Unit {0}
+HasTarget m (delete id) = IsSome (feature_at m id)
+
+-- the call's changes are within the limits, and the features that they delete exist
+abbrev pub IsWanted : FeatureMap → Call → EditData → Type 0
+IsWanted m single (put id f ∷ []) = KeepsLimits id f
+IsWanted m single (delete id ∷ []) = IsSome (feature_at m id)
+IsWanted m single cs = ⊥
+IsWanted m batched cs = KeepsBatchLimits cs × All (HasTarget m) cs
 
 -- how many places the record of an edit needs
-abbrev pub places_for : ChangeData → ℕ
-places_for e = parts_of (length (spelled_change e))
+abbrev pub places_for : RecordedEdit → ℕ
+places_for e = parts_of (length (recorded_text e))
 
 -- nothing but the journal's space can prevent the edit
-pub record CanMake (s : ServiceState) (e : ChangeData) : Type 0 where
-  pub wanted : IsWanted s.features e
+pub record CanMake (s : ServiceState) (call : Call) (e : RecordedEdit) : Type 0 where
+  pub version_is : e.version ≡ s.version
+  pub accepts : Accepts s call
+  pub wanted : IsWanted s.features call e.changes
   pub number : s.last < 2 ^ 64 - 1
 
 -- the state after an edit
-abbrev pub after_edit : ServiceState → ChangeData → ServiceState
-after_edit s e = record s { features = changed s.features e; last = s.last + 1; free = s.free - places_for e }
+abbrev pub after_edit : ServiceState → RecordedEdit → ServiceState
+after_edit s e = record s { features = made s.features e; last = s.last + 1; free = s.free - places_for e }
 
 -- the edit is made, and its number returned
-pub record MakesEdit (old : ServiceState) (e : ChangeData) (number : ℕ) (new : ServiceState) : Type 0 where
+pub record MakesEdit (old : ServiceState) (call : Call) (e : RecordedEdit) (number : ℕ) (new : ServiceState) : Type 0 where
   pub unbroken : old.broken ≡ false
-  pub can : CanMake old e
+  pub can : CanMake old call e
   pub room : places_for e ≤ old.free
   pub told : number ≡ old.last + 1
   pub made : new ≡ after_edit old e
 
--- The faults of an edit, in order: of several the first is reported. Out of memory is reported only for one that sets a feature,
--- and only if no earlier fault applies.
-abbrev pub EditFault : ServiceState → ServiceFault → ChangeData → Type 0
-EditFault s (Limit fault) (put id f) = BreaksLimit id f fault
-EditFault s NotFound (delete id) = feature_at s.features id ≡ None
-EditFault s NumbersSpent e = IsWanted s.features e × (s.last ≡ 2 ^ 64 - 1)
-EditFault s Memory (put id f) = CanMake s (put id f)
-EditFault s (JournalFull need free) e = CanMake s e × (need ≡ places_for e) × (free ≡ s.free) × (free < need)
-EditFault s Device e = CanMake s e × (places_for e ≤ s.free)
-EditFault s fault e = ⊥
+-- the first limit that the call's changes break
+abbrev pub BreaksLimits : Call → EditData → LimitFault → Type 0
+BreaksLimits single (put id f ∷ []) fault = BreaksLimit id f fault
+BreaksLimits single cs fault = ⊥
+BreaksLimits batched cs fault = BreaksBatchLimit cs fault
+
+-- the call's changes are within the limits, and a feature that they delete doesn't exist
+abbrev pub LacksTarget : FeatureMap → Call → EditData → Type 0
+LacksTarget m single (delete id ∷ []) = feature_at m id ≡ None
+LacksTarget m single cs = ⊥
+LacksTarget m batched cs = KeepsBatchLimits cs × ((id : ℕ) × Contains cs (delete id) × (feature_at m id ≡ None))
+
+-- the call allocates: the deletion of one feature doesn't
+abbrev pub Allocates : Call → EditData → Type 0
+Allocates single (delete id ∷ []) = ⊥
+Allocates call cs = Unit {0}
+
+-- The faults of an edit, in order: of several the first is reported. Out of memory is reported only if no earlier fault applies, and
+-- never for the deletion of one feature.
+abbrev pub EditFault : ServiceState → ServiceFault → Call → RecordedEdit → Type 0
+EditFault s NeedsUpgrade call e = (call ≡ batched) × (s.version ≡ FIRST_VERSION)
+EditFault s (Limit fault) call e = Accepts s call × BreaksLimits call e.changes fault
+EditFault s NotFound call e = Accepts s call × LacksTarget s.features call e.changes
+EditFault s NumbersSpent call e = Accepts s call × IsWanted s.features call e.changes × (s.last ≡ 2 ^ 64 - 1)
+EditFault s Memory call e = Allocates call e.changes × CanMake s call e
+EditFault s (JournalFull need free) call e = CanMake s call e × (need ≡ places_for e) × (free ≡ s.free) × (free < need)
+EditFault s Device call e = CanMake s call e × (places_for e ≤ s.free)
+EditFault s fault call e = ⊥
 
 -- ---- publications
 
@@ -200,9 +250,9 @@ StepFault s fault = CancelFault s fault
 -- ---- the state after each
 
 -- after an edit with this outcome
-abbrev pub AnswersEdit : ServiceState → ChangeData → Result ℕ ServiceFault → ServiceState → Type 0
-AnswersEdit old e (Ok number) new = MakesEdit old e number new
-AnswersEdit old e (Err fault) new = Refuses (EditFault old fault e) old fault new
+abbrev pub AnswersEdit : ServiceState → Call → RecordedEdit → Result ℕ ServiceFault → ServiceState → Type 0
+AnswersEdit old call e (Ok number) new = MakesEdit old call e number new
+AnswersEdit old call e (Err fault) new = Refuses (EditFault old fault call e) old fault new
 
 -- after a beginning of a publication,
 abbrev pub AnswersBegin : ServiceState → Result ℕ ServiceFault → ServiceState → Type 0
@@ -227,7 +277,7 @@ IfTold no_memory Is = Unit {0}
 -- One happening, and the state after it. A tile may be read from the disk: its content is that of the map if the disk is trusted.
 -- The bytes of the archive are specified from the disk, since the machine of a broken service doesn't know them.
 abbrev pub Happens : (trusted : Type 0) → ServiceState → Happening → ServiceState → Type 0
-Happens trusted old (edit e outcome) new = AnswersEdit old e outcome new
+Happens trusted old (edit call e outcome) new = AnswersEdit old call e outcome new
 Happens trusted old (begin outcome) new = AnswersBegin old outcome new
 Happens trusted old (step outcome) new = AnswersStep old outcome new
 Happens trusted old (cancel outcome) new = AnswersCancel old outcome new

@@ -7,7 +7,7 @@ use Rattle.generations.specs.Areas.{journal_sectors, area_sectors, area_start, s
 use Rattle.edit_journal.specs.Ring.{places_of}
 use Rattle.feature_store.specs.Store.{FeatureMap, IsMap, snapshot}
 use Rattle.tile_service.specs.After.{after}
-use Rattle.tile_service.specs.Stored.{Stored, HasBytes, texts_of}
+use Rattle.tile_service.specs.Stored.{Stored, HasBytes, stored_records}
 use Rattle.area_content.specs.Tiles.{IsArchiveOfMap}
 use Rattle.area_content.specs.Faults.{HasManyTiles, IsFull}
 use Rattle.area_content.specs.declared.fault.ContentFault.{ContentFault}
@@ -16,7 +16,7 @@ use Rattle.map_metadata.specs.Metadata.{IsMetadata}
 use Rattle.serde_json.specs.Data.{Data}
 use Rattle.serde_json.specs.Written.{compact_text}
 use Rattle.tile_service.specs.declared.fault.ServiceFault.{ServiceFault}
-use Rattle.tile_service.specs.declared.fault.ServiceFault.TheVariants.{Broken, Busy, Idle, Limit, NotFound, NumbersSpent, Memory}
+use Rattle.tile_service.specs.declared.fault.ServiceFault.TheVariants.{Broken, Busy, Idle, NeedsUpgrade, Limit, NotFound, NumbersSpent, Memory}
 use Rattle.tile_service.specs.declared.fault.ServiceFault.TheVariants.{TooManyTiles, AreaFull, JournalFull, Device}
 
 -- the map that is published: that after the first edits since the last snapshot
@@ -26,11 +26,12 @@ map_at stored count = after stored.snapshot_map (take count stored.since)
 -- the stored state once it is installed with its archive: the other edits are those since it
 abbrev pub published : (n : ℕ) → Stored → (count : ℕ) → (archive : List ℕ) → Stored
 published n stored count archive = record {
+  version = stored.version;
   generation = suc stored.generation;
   snapshot_map = map_at stored count;
   edits = stored.edits + count;
   since = drop count stored.since;
-  journal_at = (stored.journal_at + places_of (take count (texts_of stored))) % journal_sectors n;
+  journal_at = (stored.journal_at + places_of (take count (stored_records stored))) % journal_sectors n;
   archive = archive;
 }
 
@@ -89,6 +90,7 @@ abbrev pub HasNoContent : FeatureMap → (area : ℕ) → ServiceFault → Type 
 HasNoContent m area Broken = ⊥
 HasNoContent m area Busy = ⊥
 HasNoContent m area Idle = ⊥
+HasNoContent m area NeedsUpgrade = ⊥
 HasNoContent m area (Limit fault) = ⊥
 HasNoContent m area NotFound = ⊥
 HasNoContent m area NumbersSpent = ⊥

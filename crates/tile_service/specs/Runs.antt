@@ -3,31 +3,31 @@ use Rattle.std.specs.Prelude.{◌≡◌, ◌⊎◌, ◌<◌, ◌≤◌, ◌+◌,
 use Rattle.std.specs.Prelude.{map, Option, Some, None, option_map, Result, Ok, Err}
 use Rattle.sector_disk.specs.Disk.{History, Image, MayLeave, moment, LeftSince}
 use Rattle.sector_disk.specs.Moments.{Follows, LeavesOnly}
-use Rattle.feature_model.specs.Data.{ChangeData}
+use Rattle.edit_text.specs.Recorded.{RecordedEdit}
 use Rattle.tile_service.specs.After.{after}
 use Rattle.tile_service.specs.declared.fault.ServiceFault.{ServiceFault}
 use Rattle.tile_service.specs.declared.fault.ServiceFault.TheVariants.{Device}
 use Rattle.tile_service.specs.declared.publishing.TheConstants.{STEP_SECTORS}
 use Rattle.tile_service.specs.declared.publishing_whole.Published.{Published}
-use Rattle.tile_service.specs.Machine.{no_memory, Happening, edit, begin, step, cancel, tile, look, metadata, read, Happens, Runs}
+use Rattle.tile_service.specs.Machine.{no_memory, Happening, Call, edit, begin, step, cancel, tile, look, metadata, read, Happens, Runs}
 use Rattle.tile_service.specs.Service.{PublicationView, ServiceView, Known, IsUp, state_of, known_after, left_of, ShowsArchive, KeepsArchive, ReadsFrom, EventLeaves, stored_after}
 use Rattle.tile_service.specs.Stored.{Stored, Holds}
 
 -- ---- the edits of a run
 
 -- the edit that was acknowledged, or none
-abbrev pub edits_by : Happening → List ChangeData
-edits_by (edit e (Ok number)) = e ∷ []
+abbrev pub edits_by : Happening → List RecordedEdit
+edits_by (edit call e (Ok number)) = e ∷ []
 edits_by happening = []
 
 -- the acknowledged edits, in their order
-abbrev pub acknowledged : List Happening → List ChangeData
+abbrev pub acknowledged : List Happening → List RecordedEdit
 acknowledged [] = []
 acknowledged (happening ∷ happenings) = edits_by happening ++ acknowledged happenings
 
 -- the disk failed during the call, so that its effect may be stored or not
 abbrev pub IsDoubtful : Happening → Type 0
-IsDoubtful (edit e (Err Device)) = Unit {0}
+IsDoubtful (edit call e (Err Device)) = Unit {0}
 IsDoubtful (step (Err Device)) = Unit {0}
 IsDoubtful happening = ⊥
 
@@ -36,19 +36,20 @@ abbrev pub happening_at : List Happening → ℕ → Happening
 happening_at happenings index = get_or happenings index (look 0 no_memory)
 
 -- the edit is in doubt
-pub record IsInDoubt (happenings : List Happening) (e : ChangeData) : Type 0 where
+pub record IsInDoubt (happenings : List Happening) (e : RecordedEdit) : Type 0 where
   pub index : ℕ
   pub within : index < length happenings
-  pub is : happening_at happenings index ≡ edit e (Err Device)
+  pub call : Call
+  pub is : happening_at happenings index ≡ edit call e (Err Device)
 
 -- all edits: those stored before the run, and the acknowledged ones
-abbrev pub all_edits : Stored → List Happening → List ChangeData
+abbrev pub all_edits : Stored → List Happening → List RecordedEdit
 all_edits start happenings = start.since ++ acknowledged happenings
 
 -- the edits of the run: all those, and possibly one that is in doubt
-abbrev pub AreEditsOf : Stored → List Happening → List ChangeData → Type 0
+abbrev pub AreEditsOf : Stored → List Happening → List RecordedEdit → Type 0
 AreEditsOf start happenings edits = (edits ≡ all_edits start happenings)
-    ⊎ ((e : ChangeData) × IsInDoubt happenings e × (edits ≡ all_edits start happenings ++ e ∷ []))
+    ⊎ ((e : RecordedEdit) × IsInDoubt happenings e × (edits ≡ all_edits start happenings ++ e ∷ []))
 
 -- ---- the publications of a run
 
@@ -79,7 +80,7 @@ stepped p (Some way) (suc told) = record p { under_way = Some (record way { left
 
 -- after one happening
 abbrev pub progress_after : Progress → Happening → Progress
-progress_after p (edit e (Ok number)) = record p { edits = p.edits + 1 }
+progress_after p (edit call e (Ok number)) = record p { edits = p.edits + 1 }
 progress_after p (begin (Ok left)) = record p { under_way = Some (record { edits = p.edits; left = left }) }
 progress_after p (step (Ok left)) = stepped p p.under_way left
 progress_after p (cancel (Ok done)) = record p { under_way = None }
@@ -109,8 +110,9 @@ IsPublished start happenings k j =
 -- ---- images
 
 -- the state with the first i edits since a start: the first j of them in its snapshot, the others after it
-abbrev pub fitting : Stored → List ChangeData → (i j generation journal_at : ℕ) → (archive : List ℕ) → Stored
+abbrev pub fitting : Stored → List RecordedEdit → (i j generation journal_at : ℕ) → (archive : List ℕ) → Stored
 fitting start edits i j generation journal_at archive = record {
+  version = start.version;
   generation = generation;
   snapshot_map = after start.snapshot_map (take j edits);
   edits = start.edits + j;
@@ -120,14 +122,14 @@ fitting start edits i j generation journal_at archive = record {
 }
 
 -- The image holds the first i of the edits, the first j of them in its snapshot.
-abbrev pub Fits : (sectors n : ℕ) → Stored → List ChangeData → (i j : ℕ) → Image → Type 0
+abbrev pub Fits : (sectors n : ℕ) → Stored → List RecordedEdit → (i j : ℕ) → Image → Type 0
 Fits sectors n start edits i j image =
     (generation : ℕ) × (journal_at : ℕ) × (archive : List ℕ) × Holds sectors n (fitting start edits i j generation journal_at archive) image
 
 -- An image at any time after the first k calls returned. It has a prefix of the run's edits, all that were acknowledged by then
 -- included. Its snapshot has the edits of a publication, of none before the last one that was installed by then.
 pub record ImageFits (sectors n : ℕ) (start : Stored) (way : Option Way) (happenings : List Happening) (k : ℕ) (image : Image) : Type 0 where
-  pub edits : List ChangeData
+  pub edits : List RecordedEdit
   pub are_edits : AreEditsOf start happenings edits
   pub i : ℕ
   pub j : ℕ
@@ -216,6 +218,7 @@ module _ {D : Type 0} (sectors : D → ℕ) (honest : D → Type 0) (history : D
     -- after a fault of the disk it is broken
     pub doubt : IsDoubtful happening → new.broken ≡ true
     pub size : new.size ≡ old.size
+    pub version : new.version ≡ old.version
     pub count : sectors new.disk ≡ sectors old.disk
     pub stays_honest : honest new.disk → honest old.disk
     pub changes : ChangesOnly happening old new

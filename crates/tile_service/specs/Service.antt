@@ -7,6 +7,7 @@ use Rattle.sector_disk.specs.declared.disk.TheConstants.{SECTOR_BYTES}
 use Rattle.sector_bytes.specs.Bytes.{bytes_from}
 use Rattle.sector_bytes.specs.Source.{AreItsBytes}
 use Rattle.generations.specs.Areas.{area_sectors, area_start, sectors_of}
+use Rattle.generations.specs.Sectors.{IsVersion}
 use Rattle.generations.specs.declared.root.Root.{Root}
 use Rattle.edit_journal.specs.Appends.{ring_of}
 use Rattle.edit_journal.specs.Releases.{IsCounted, IsBehind}
@@ -26,7 +27,7 @@ use Rattle.tile_service.specs.declared.fault.ServiceFault.TheVariants.{NumbersSp
 use Rattle.tile_service.specs.declared.publishing.TheConstants.{STEP_SECTORS}
 use Rattle.tile_service.specs.Machine.{ArchiveState, Publication, ServiceState, OrMemory, got, no_memory, Happening, edit, begin, step, read}
 use Rattle.tile_service.specs.Publishing.{map_at, published, IsUnderWay}
-use Rattle.tile_service.specs.Stored.{Stored, Holds, Keeps, map_of, last_of, texts_of, with_edit, journal_ring}
+use Rattle.tile_service.specs.Stored.{Stored, Holds, Keeps, map_of, last_of, stored_records, with_edit, journal_ring}
 use Rattle.tile_service.specs.Tiles.{WereMaps, archive_place}
 
 -- what contracts see of a publication under way
@@ -48,6 +49,8 @@ pub record ServiceView (D : Type 0) : Type 0 where
   pub disk : D
   -- with how many sectors the disk was formatted
   pub size : ℕ
+  -- the version of its format
+  pub version : ℕ
   pub features : FeatureMap
   -- the newest edit of each cell of the world
   pub touched : List ℕ
@@ -74,8 +77,9 @@ pub record IsGoing (size : ℕ) (root : Root) (journal : Journal) (features : Fe
   pub texts : length (snapshot features) ≤ SECTOR_BYTES * area_sectors size + PART_BYTES * (journal.used - p.places)
 
 -- the invariants of a service whose disk has this many sectors
-pub record IsService (sectors size : ℕ) (root : Root) (journal : Journal) (map : CachedView) (publication : Option PublicationView) : Type 0 where
+pub record IsService (sectors size version : ℕ) (root : Root) (journal : Journal) (map : CachedView) (publication : Option PublicationView) : Type 0 where
   pub within : size ≤ sectors
+  pub version_is : IsVersion version
   pub ring : ring_of journal ≡ journal_ring size
   -- the snapshot and the archive fit in an area
   pub area : sectors_of root.snapshot_len + sectors_of root.archive_len ≤ area_sectors size
@@ -106,6 +110,7 @@ going_of m p = record { archive = record { bytes = p.content.archive; features =
 abbrev pub state_of : {D : Type 0} → Known → ServiceView D → ServiceState
 state_of known service = record {
   size = service.size;
+  version = service.version;
   features = service.features;
   last = service.journal.last;
   free = service.journal.places - service.journal.used;
@@ -143,7 +148,7 @@ pub record Publishes (n : ℕ) (stored : Stored) (history : History) (p : Public
   pub under_way : IsUnderWay n stored (count_at stored p) p.content.archive p.written history
   pub snapshot_is : p.content.snapshot ≡ snapshot (map_at stored (count_at stored p))
   pub place_is : p.start.place ≡ (published n stored (count_at stored p) p.content.archive).journal_at
-  pub places_are : p.places ≡ places_of (take (count_at stored p) (texts_of stored))
+  pub places_are : p.places ≡ places_of (take (count_at stored p) (stored_records stored))
 
 -- where its archive is stored
 abbrev pub archive_of : {D : Type 0} → ServiceView D → ArchivePlace
@@ -154,13 +159,14 @@ archive_of service = archive_place service.size service.generation service.snaps
 pub record IsUp {D : Type 0} (sectors : ℕ) (history : History) (stored : Stored) (service : ServiceView D) : Type 0 where
   pub keeps : Keeps sectors service.size stored history
   pub unbroken : service.broken ≡ false
+  pub version_is : service.version ≡ stored.version
   pub generation_is : service.generation ≡ stored.generation
   pub snapshot_len_is : service.snapshot_len ≡ length (snapshot stored.snapshot_map)
   pub archive_len_is : service.archive_len ≡ length stored.archive
   pub map_is : service.features ≡ map_of stored
   pub place_is : service.journal.place ≡ stored.journal_at
   pub edits_are : service.journal.edits ≡ stored.edits
-  pub used_is : service.journal.used ≡ places_of (texts_of stored)
+  pub used_is : service.journal.used ≡ places_of (stored_records stored)
   pub last_is : service.journal.last ≡ last_of stored
   pub publication : IfSome service.publication (Publishes service.size stored history)
   -- it knows the map after any prefix of the edits since, for the tiles that no later edit can have changed
@@ -220,7 +226,7 @@ MayInstall publication outcome = IsLast publication × ((outcome ≡ Ok 0) ⊎ (
 -- A crash during the call leaves an image that holds what was stored, or that with the edit that is made or in doubt, or what the step
 -- installs.
 abbrev pub EventLeaves : (sectors n : ℕ) → Stored → Option PublicationView → Happening → Image → Type 0
-EventLeaves sectors n stored publication (edit e outcome) image =
+EventLeaves sectors n stored publication (edit call e outcome) image =
     Holds sectors n stored image ⊎ (MayStand outcome × Holds sectors n (with_edit stored e) image)
 EventLeaves sectors n stored publication (step outcome) image =
     Holds sectors n stored image ⊎ (MayInstall publication outcome × Holds sectors n (installed n stored publication) image)
@@ -233,7 +239,7 @@ stepped_by n stored publication outcome = stored
 
 -- the stored state after each happening
 abbrev pub stored_after : (n : ℕ) → Stored → Option PublicationView → Happening → Stored
-stored_after n stored publication (edit e (Ok number)) = with_edit stored e
+stored_after n stored publication (edit call e (Ok number)) = with_edit stored e
 stored_after n stored publication (step outcome) = stepped_by n stored publication outcome
 stored_after n stored publication happening = stored
 

@@ -4,27 +4,28 @@ use Rattle.std.proofs.Common.{suc}
 use Rattle.sector_disk.specs.Disk.{Image, History, MayLeave}
 use Rattle.sector_bytes.specs.Bytes.{sector_piece}
 use Rattle.generations.specs.Areas.{journal_sectors, area_start, sectors_of}
-use Rattle.generations.specs.Sectors.{IsFormat, IsRootOf, IsNoRoot}
+use Rattle.generations.specs.Sectors.{IsFormat, IsRootOf, IsNoRoot, version_from}
 use Rattle.generations.specs.declared.root.Root.{Root}
-use Rattle.edit_journal.specs.Ring.{Ring, Start, HoldsTexts}
-use Rattle.edit_journal.specs.declared.sizes.TheConstants.{RECORD_VERSION}
-use Rattle.feature_model.specs.Data.{ChangeData}
-use Rattle.feature_model.specs.Spelled.{spelled_change}
-use Rattle.feature_model.specs.Types.{IsChange}
+use Rattle.generations.specs.declared.sizes.TheConstants.{LAST_VERSION}
+use Rattle.edit_journal.specs.Records.{RecordData, record_of}
+use Rattle.edit_journal.specs.Ring.{Ring, Start, HoldsOnly}
+use Rattle.edit_text.specs.Recorded.{RecordedEdit, IsRecorded, recorded_text}
 use Rattle.feature_store.specs.Store.{FeatureMap, IsMap, snapshot}
 use Rattle.tile_service.specs.After.{after}
 use Rattle.area_content.specs.Tiles.{IsArchiveOfMap}
 
 -- what a disk holds for a service
 pub record Stored : Type 0 where
+  -- the version of the disk's format
+  pub version : ℕ
   -- how often an archive was installed
   pub generation : ℕ
   -- the map of the snapshot
   pub snapshot_map : FeatureMap
   -- how many edits are in it
   pub edits : ℕ
-  -- the edits since
-  pub since : List ChangeData
+  -- the edits since, each with the version of its record
+  pub since : List RecordedEdit
   -- the place in the journal of their first record
   pub journal_at : ℕ
   -- the bytes of the archive
@@ -65,14 +66,24 @@ HasEarlierRoot n generation sector = IsNoRoot sector ⊎ ((root : Root) × (root
 -- what a sector has, outside the journal
 pub record HoldsAt (count n : ℕ) (stored : Stored) (at : ℕ) (sector : List ℕ) : Type 0 where
   pub format : at ≡ 0 → IsFormat count sector n
+  pub version : at ≡ 0 → version_from sector ≡ stored.version
   pub live : at ≡ 1 + stored.generation % 2 → IsRootOf n (stored.generation % 2) sector (root_of stored)
   pub other : at ≡ 1 + suc stored.generation % 2 → HasEarlierRoot n stored.generation sector
   pub snapshot_bytes : HasBytes (area_start n stored.generation) (snapshot stored.snapshot_map) at sector
   pub archive_bytes : HasBytes (area_start n stored.generation + sectors_of (length (snapshot stored.snapshot_map))) stored.archive at sector
 
--- the texts of the edits since the snapshot
-abbrev pub texts_of : Stored → List (List ℕ)
-texts_of stored = map spelled_change stored.since
+-- the record of an edit
+abbrev pub record_for : RecordedEdit → RecordData
+record_for e = record_of e.version (recorded_text e)
+
+-- the records of the edits since the snapshot
+abbrev pub stored_records : Stored → List RecordData
+stored_records stored = map record_for stored.since
+
+-- the edit can be recorded on a disk of this version
+pub record CanRecord (version : ℕ) (e : RecordedEdit) : Type 0 where
+  pub recorded : IsRecorded e
+  pub version_is : e.version ≤ version
 
 -- where its journal begins
 abbrev pub journal_start : Stored → Start
@@ -81,18 +92,22 @@ journal_start stored = record { place = stored.journal_at; number = suc stored.e
 -- The image of a disk of count sectors, formatted with n, holds this.
 pub record Holds (count n : ℕ) (stored : Stored) (image : Image) : Type 0 where
   pub sectors : (at : ℕ) → HoldsAt count n stored at (image at)
-  pub journal : HoldsTexts RECORD_VERSION (journal_ring n) (journal_start stored) (texts_of stored) image
+  pub journal : HoldsOnly (journal_ring n) (journal_start stored) (stored_records stored) image
   pub is_map : IsMap stored.snapshot_map
-  pub are_edits : All IsChange stored.since
+  pub are_edits : All (CanRecord stored.version) stored.since
   pub is_archive : IsArchiveOfMap stored.snapshot_map stored.archive
 
 -- the state after a format, without edits
 abbrev pub first_state : Stored
-first_state = record { generation = 0; snapshot_map = []; edits = 0; since = []; journal_at = 0; archive = [] }
+first_state = record { version = LAST_VERSION; generation = 0; snapshot_map = []; edits = 0; since = []; journal_at = 0; archive = [] }
 
 -- the same with one more edit
-abbrev pub with_edit : Stored → ChangeData → Stored
+abbrev pub with_edit : Stored → RecordedEdit → Stored
 with_edit stored edit = record stored { since = stored.since ++ edit ∷ [] }
+
+-- the same on a disk that is upgraded to the last version
+abbrev pub upgraded : Stored → Stored
+upgraded stored = record stored { version = LAST_VERSION }
 
 -- every image that a crash now may leave holds it
 abbrev pub Keeps : (count n : ℕ) → Stored → History → Type 0

@@ -1,26 +1,27 @@
 //! Edits: written to the journal first, then applied to the map.
-ghost use Rattle.std.specs.Prelude.{◌≡◌, ◌≢◌, ◌↔◌, ◌+◌, true, IfErr, OnOk, IsSome, IsTrue, None};
+ghost use Rattle.std.specs.Prelude.{◌≡◌, ◌≢◌, ◌↔◌, ◌+◌, ◌-◌, ◌<◌, ◌^◌, true, false, [], ◌∷◌, map, All, IfErr, IfOk, OnOk, IsSome, IsTrue, None};
 ghost use Rattle.sector_disk.specs.Moments.{LeavesOnly};
 ghost use Rattle.edit_journal.specs.Appends.{TakesSteps};
 ghost use Rattle.edit_journal.specs.declared.fault.JournalFault.TheVariants as journals;
-ghost use Rattle.feature_model.specs.Data.{feature_data, put, delete};
-ghost use Rattle.feature_model.specs.Limits.{NumberFits};
+ghost use Rattle.feature_model.specs.Data.{feature_data, change_data, edit_data, put, delete};
+ghost use Rattle.feature_model.specs.Limits.{NumberFits, ChangeFits, IsAllowedEdit};
+ghost use Rattle.edit_text.specs.Recorded.{FitsVersion};
 ghost use Rattle.feature_store.specs.Store.{feature_at};
-ghost use Rattle.tile_service.specs.Limits.{KeepsLimits, BreaksLimit};
-ghost use Rattle.tile_service.specs.Machine.{edit, places_for, AnswersEdit};
+ghost use Rattle.tile_service.specs.Limits.{KeepsLimits, BreaksLimit, IsNear, KeepsBatchLimits, BreaksBatchLimit};
+ghost use Rattle.tile_service.specs.Machine.{Call, single, batched, edit, recorded_in, recorded_change, places_for, HasTarget, CanMake, Allocates, AnswersEdit};
 ghost use Rattle.tile_service.specs.Service.{Known, IsUp, state_of, KeepsArchive, EventLeaves, CountsDevice, told_as};
 ghost use Rattle.tile_service.specs.Stored.{Stored, with_edit};
 ghost use Rattle.tile_service.specs.declared.fault.ServiceFault.TheVariants.{Limit, Device};
 
 use crate::fault::ServiceFault;
-use crate::replaying::apply;
 use crate::service::Service;
 use edit_journal::JournalFault;
-use edit_text::{delete_text, encode_change};
-use feature_model::{Change, EditFault, Feature, check};
+use edit_text::{delete_edit_text, delete_text, encode_record};
+use feature_model::{Change, Edit, EditFault, Feature, check, check_batch};
 use feature_store::Store;
+use generations::FIRST_VERSION;
 use sector_disk::Sectors;
-use std::alloc::AllocError;
+use std::alloc::{AllocError, Global};
 use tile_cutter::check_reach;
 
 /// Checks a feature against the limits for its id, its reach included.
@@ -38,6 +39,32 @@ fn within_limits(id: u64, feature: &Feature) -> Result<(), ServiceFault>
     }
 }
 
+/// Checks that a change sets no feature that covers too many tiles.
+fn is_near(change: &Change) -> bool
+    requires { ChangeFits (change_data change.now) }
+    ensures { IsTrue result ↔ IsNear (change_data change.now) }
+{
+    match change {
+        Change::Put { feature, .. } => check_reach(feature).is_ok(),
+        Change::Delete { .. } => true,
+    }
+}
+
+/// Checks changes against the limits of a batch, the reach of features included.
+fn within_batch_limits(changes: &[Change]) -> Result<(), ServiceFault>
+    ensures ok { OnOk result (KeepsBatchLimits (map change_data changes.now)) }
+    ensures fault { IfErr result (λ fault. (limit : _) × (fault ≡ Limit limit) × BreaksBatchLimit (map change_data changes.now) limit) }
+{
+    match check_batch(changes) {
+        Ok(()) => {}
+        Err(fault) => return Err(ServiceFault::Limit(fault)),
+    }
+    if !changes.iter().all(is_near) {
+        return Err(ServiceFault::Limit(EditFault::Reach));
+    }
+    Ok(())
+}
+
 /// Whether a feature has this id.
 fn has(store: &Store, id: u64) -> bool
     ensures found { IsTrue result ↔ IsSome (feature_at store.now.features id) }
@@ -46,6 +73,25 @@ fn has(store: &Store, id: u64) -> bool
     // `len` states `IsMap`, so each id in it fits.
     let _count = store.len();
     store.get(id).is_some()
+}
+
+/// Whether each feature that the changes delete exists.
+fn has_targets(store: &Store, changes: &[Change]) -> bool
+    ensures found { IsTrue result ↔ All (HasTarget store.now.features) (map change_data changes.now) }
+{
+    changes.iter().all(|change| match change {
+        Change::Put { .. } => true,
+        Change::Delete { id } => has(store, *id),
+    })
+}
+
+/// The edit of one change.
+fn single_edit(alloc: Global, change: Change) -> Result<Edit, AllocError>
+    ensures edit { IfOk result (λ edit. edit_data edit ≡ change_data change ∷ []) }
+{
+    let mut changes = Vec::with_capacity(alloc, 1)?;
+    changes.push(change)?;
+    Ok(Edit { changes })
 }
 
 /// Converts an append's fault. An append never returns `Damaged`, and doesn't allocate.
@@ -75,6 +121,56 @@ impl<D: Sectors + Drop> Service<D> {
         told(fault)
     }
 
+    /// Makes an edit that is within the limits: writes its record, and applies it to the map. Nothing else allocates, so it fails only for want
+    /// of memory or space, or because of the disk.
+    fn write_edit(&mut self, edit: Edit) -> Result<u64, ServiceFault>
+        requires unbroken { self.old.broken ≡ false }
+        requires number { self.old.journal.last < 2 ^ 64 - 1 }
+        requires allowed { IsAllowedEdit (edit_data edit) }
+        requires fits { FitsVersion self.old.version (edit_data edit) }
+        ensures machine { (known : Known) (call : Call) → CanMake (state_of known self.old) call (recorded_in self.old.version (edit_data edit))
+            → Allocates call (edit_data edit) → AnswersEdit (state_of known self.old) call (recorded_in self.old.version (edit_data edit)) result (state_of known self.new) }
+        ensures size { self.new.size ≡ self.old.size }
+        ensures publication { OnOk result (self.new.publication ≡ self.old.publication) }
+        ensures count { D.sectors self.new.disk ≡ D.sectors self.old.disk }
+        ensures honest { D.honest self.new.disk → D.honest self.old.disk }
+        ensures faults { OnOk result (D.faults self.new.disk ≡ D.faults self.old.disk) }
+        ensures failed { IfErr result (λ fault. CountsDevice fault (D.faults self.old.disk) (D.faults self.new.disk)) }
+        ensures untouched { IfErr result (λ fault. fault ≢ Device → self.new.disk ≡ self.old.disk) }
+        ensures kept { IfErr result (λ fault. fault ≢ Device → self.new ≡ self.old) }
+        ensures archive { KeepsArchive D.honest D.history self.old self.new }
+
+        // A crash during the call leaves what was stored, or that with the edit.
+        ensures any_moment { (stored : Stored) (call : Call) → D.honest self.new.disk → IsUp (D.sectors self.old.disk) (D.history self.old.disk) stored self.old
+            → LeavesOnly (D.history self.old.disk) (D.history self.new.disk)
+            (EventLeaves (D.sectors self.old.disk) self.old.size stored self.old.publication (edit call (recorded_in self.old.version (edit_data edit)) result)) }
+        // After the call: with the edit if it was acknowledged, without it if it was refused.
+        ensures acknowledged { (stored : Stored) → D.honest self.new.disk → IsUp (D.sectors self.old.disk) (D.history self.old.disk) stored self.old
+            → OnOk result (IsUp (D.sectors self.new.disk) (D.history self.new.disk) (with_edit stored (recorded_in self.old.version (edit_data edit))) self.new) }
+        ensures refused { (stored : Stored) → D.honest self.new.disk → IsUp (D.sectors self.old.disk) (D.history self.old.disk) stored self.old
+            → IfErr result (λ fault. fault ≢ Device → IsUp (D.sectors self.new.disk) (D.history self.new.disk) stored self.new) }
+
+        // It makes one write for each sector of the record, and one sync, or two if there are several.
+        ensures steps { D.honest self.new.disk
+            → OnOk result (TakesSteps (places_for (recorded_in self.old.version (edit_data edit))) (D.history self.old.disk) (D.history self.new.disk)) }
+    {
+        let text = match encode_record(self.alloc, self.version, &edit) {
+            Ok(text) => text,
+            Err(AllocError) => return Err(ServiceFault::Memory),
+        };
+        match self.map.room_all(&edit.changes) {
+            Ok(()) => {}
+            Err(AllocError) => return Err(ServiceFault::Memory),
+        }
+        match self.journal.append(&mut self.disk, self.version, &text) {
+            Ok(number) => {
+                self.map.make_edit(edit.changes, number);
+                Ok(number)
+            }
+            Err(fault) => Err(self.fail(fault)),
+        }
+    }
+
     /// Sets the feature with this id, whether there was one or not, and returns the number of the edit. After `Ok` the edit survives a
     /// crash. After `Device` it is stored or not, and the service makes no more edits. Any other error changes nothing and writes
     /// nothing.
@@ -84,7 +180,7 @@ impl<D: Sectors + Drop> Service<D> {
     /// `Broken`, `Limit`, `NumbersSpent`, `Memory`, `JournalFull`, `Device`, the first that applies in this order.
     pub fn put(&mut self, id: u64, feature: Feature) -> Result<u64, ServiceFault>
         ensures machine { (known : Known)
-            → AnswersEdit (state_of known self.old) (put id (feature_data feature)) result (state_of known self.new) }
+            → AnswersEdit (state_of known self.old) single (recorded_change self.old.version (put id (feature_data feature))) result (state_of known self.new) }
         ensures size { self.new.size ≡ self.old.size }
         ensures publication { OnOk result (self.new.publication ≡ self.old.publication) }
         ensures count { D.sectors self.new.disk ≡ D.sectors self.old.disk }
@@ -98,16 +194,16 @@ impl<D: Sectors + Drop> Service<D> {
         // A crash during the call leaves what was stored, or that with the edit.
         ensures any_moment { (stored : Stored) → D.honest self.new.disk → IsUp (D.sectors self.old.disk) (D.history self.old.disk) stored self.old
             → LeavesOnly (D.history self.old.disk) (D.history self.new.disk)
-            (EventLeaves (D.sectors self.old.disk) self.old.size stored self.old.publication (edit (put id (feature_data feature)) result)) }
+            (EventLeaves (D.sectors self.old.disk) self.old.size stored self.old.publication (edit single (recorded_change self.old.version (put id (feature_data feature))) result)) }
         // After the call: with the edit if it was acknowledged, without it if it was refused.
         ensures acknowledged { (stored : Stored) → D.honest self.new.disk → IsUp (D.sectors self.old.disk) (D.history self.old.disk) stored self.old
-            → OnOk result (IsUp (D.sectors self.new.disk) (D.history self.new.disk) (with_edit stored (put id (feature_data feature))) self.new) }
+            → OnOk result (IsUp (D.sectors self.new.disk) (D.history self.new.disk) (with_edit stored (recorded_change self.old.version (put id (feature_data feature)))) self.new) }
         ensures refused { (stored : Stored) → D.honest self.new.disk → IsUp (D.sectors self.old.disk) (D.history self.old.disk) stored self.old
             → IfErr result (λ fault. fault ≢ Device → IsUp (D.sectors self.new.disk) (D.history self.new.disk) stored self.new) }
 
         // It makes one write for each sector of the record, and one sync, or two if there are several.
         ensures steps { D.honest self.new.disk
-            → OnOk result (TakesSteps (places_for (put id (feature_data feature))) (D.history self.old.disk) (D.history self.new.disk)) }
+            → OnOk result (TakesSteps (places_for (recorded_change self.old.version (put id (feature_data feature)))) (D.history self.old.disk) (D.history self.new.disk)) }
     {
         if self.broken {
             return Err(ServiceFault::Broken);
@@ -119,21 +215,72 @@ impl<D: Sectors + Drop> Service<D> {
         if self.journal.last == u64::MAX {
             return Err(ServiceFault::NumbersSpent);
         }
-        let edit = Change::Put { id, feature };
-        let text = match encode_change(self.alloc, &edit) {
-            Ok(text) => text,
-            Err(AllocError) => return Err(ServiceFault::Memory),
-        };
-        match self.map.room() {
-            Ok(()) => {}
-            Err(AllocError) => return Err(ServiceFault::Memory),
+        match single_edit(self.alloc, Change::Put { id, feature }) {
+            Ok(edit) => self.write_edit(edit),
+            Err(AllocError) => Err(ServiceFault::Memory),
         }
-        match self.journal.append(&mut self.disk, &text) {
-            Ok(number) => {
-                apply(&mut self.map, edit, number);
-                Ok(number)
-            }
-            Err(fault) => Err(self.fail(fault)),
+    }
+
+    /// Makes changes of 1 to 64 different ids, all of them or none, and returns the number of the edit. Else it is as `put`; a batch is
+    /// made only on a disk of version 2.
+    ///
+    /// # Errors
+    ///
+    /// `Broken`; `NeedsUpgrade`; `Limit` with the first limit that the changes break (`Batch`, `Twice`, that of the first change that
+    /// breaks one, `Long` of their texts together, `Reach`); `NotFound` if a feature to delete doesn't exist; `NumbersSpent`, `Memory`,
+    /// `JournalFull`, `Device`; the first that applies in this order.
+    pub fn batch(&mut self, changes: Vec<Change>) -> Result<u64, ServiceFault>
+        ensures machine { (known : Known)
+            → AnswersEdit (state_of known self.old) batched (recorded_in self.old.version (map change_data changes.items)) result (state_of known self.new) }
+        ensures size { self.new.size ≡ self.old.size }
+        ensures publication { OnOk result (self.new.publication ≡ self.old.publication) }
+        ensures count { D.sectors self.new.disk ≡ D.sectors self.old.disk }
+        ensures honest { D.honest self.new.disk → D.honest self.old.disk }
+        ensures faults { OnOk result (D.faults self.new.disk ≡ D.faults self.old.disk) }
+        ensures failed { IfErr result (λ fault. CountsDevice fault (D.faults self.old.disk) (D.faults self.new.disk)) }
+        ensures untouched { IfErr result (λ fault. fault ≢ Device → self.new.disk ≡ self.old.disk) }
+        ensures kept { IfErr result (λ fault. fault ≢ Device → self.new ≡ self.old) }
+        ensures archive { KeepsArchive D.honest D.history self.old self.new }
+
+        // A crash during the call leaves what was stored, or that with the edit.
+        ensures any_moment { (stored : Stored) → D.honest self.new.disk → IsUp (D.sectors self.old.disk) (D.history self.old.disk) stored self.old
+            → LeavesOnly (D.history self.old.disk) (D.history self.new.disk)
+            (EventLeaves (D.sectors self.old.disk) self.old.size stored self.old.publication (edit batched (recorded_in self.old.version (map change_data changes.items)) result)) }
+        // After the call: with the edit if it was acknowledged, without it if it was refused.
+        ensures acknowledged { (stored : Stored) → D.honest self.new.disk → IsUp (D.sectors self.old.disk) (D.history self.old.disk) stored self.old
+            → OnOk result (IsUp (D.sectors self.new.disk) (D.history self.new.disk) (with_edit stored (recorded_in self.old.version (map change_data changes.items))) self.new) }
+        ensures refused { (stored : Stored) → D.honest self.new.disk → IsUp (D.sectors self.old.disk) (D.history self.old.disk) stored self.old
+            → IfErr result (λ fault. fault ≢ Device → IsUp (D.sectors self.new.disk) (D.history self.new.disk) stored self.new) }
+
+        // It makes one write for each sector of the record, and one sync, or two if there are several.
+        ensures steps { D.honest self.new.disk
+            → OnOk result (TakesSteps (places_for (recorded_in self.old.version (map change_data changes.items))) (D.history self.old.disk) (D.history self.new.disk)) }
+    {
+        if self.broken {
+            return Err(ServiceFault::Broken);
+        }
+        if self.version == FIRST_VERSION {
+            return Err(ServiceFault::NeedsUpgrade);
+        }
+        match within_batch_limits(&changes) {
+            Ok(()) => {}
+            Err(fault) => return Err(fault),
+        }
+        if !has_targets(self.map.store(), &changes) {
+            return Err(ServiceFault::NotFound);
+        }
+        if self.journal.last == u64::MAX {
+            return Err(ServiceFault::NumbersSpent);
+        }
+        self.write_edit(Edit { changes })
+    }
+
+    /// Writes the record of a deletion, in the version of the disk. It doesn't allocate.
+    fn append_delete(&mut self, id: u64) -> Result<u64, JournalFault> {
+        if self.version == FIRST_VERSION {
+            self.journal.append(&mut self.disk, self.version, &delete_text(id))
+        } else {
+            self.journal.append(&mut self.disk, self.version, &delete_edit_text(id))
         }
     }
 
@@ -144,7 +291,7 @@ impl<D: Sectors + Drop> Service<D> {
     /// `Broken`, `NotFound`, `NumbersSpent`, `JournalFull`, `Device`, the first that applies in this order.
     pub fn delete(&mut self, id: u64) -> Result<u64, ServiceFault>
         ensures machine { (known : Known)
-            → AnswersEdit (state_of known self.old) (delete id) result (state_of known self.new) }
+            → AnswersEdit (state_of known self.old) single (recorded_change self.old.version (delete id)) result (state_of known self.new) }
         ensures size { self.new.size ≡ self.old.size }
         ensures publication { OnOk result (self.new.publication ≡ self.old.publication) }
         ensures count { D.sectors self.new.disk ≡ D.sectors self.old.disk }
@@ -156,13 +303,13 @@ impl<D: Sectors + Drop> Service<D> {
         ensures archive { KeepsArchive D.honest D.history self.old self.new }
         ensures any_moment { (stored : Stored) → D.honest self.new.disk → IsUp (D.sectors self.old.disk) (D.history self.old.disk) stored self.old
             → LeavesOnly (D.history self.old.disk) (D.history self.new.disk)
-            (EventLeaves (D.sectors self.old.disk) self.old.size stored self.old.publication (edit (delete id) result)) }
+            (EventLeaves (D.sectors self.old.disk) self.old.size stored self.old.publication (edit single (recorded_change self.old.version (delete id)) result)) }
         ensures acknowledged { (stored : Stored) → D.honest self.new.disk → IsUp (D.sectors self.old.disk) (D.history self.old.disk) stored self.old
-            → OnOk result (IsUp (D.sectors self.new.disk) (D.history self.new.disk) (with_edit stored (delete id)) self.new) }
+            → OnOk result (IsUp (D.sectors self.new.disk) (D.history self.new.disk) (with_edit stored (recorded_change self.old.version (delete id))) self.new) }
         ensures refused { (stored : Stored) → D.honest self.new.disk → IsUp (D.sectors self.old.disk) (D.history self.old.disk) stored self.old
             → IfErr result (λ fault. fault ≢ Device → IsUp (D.sectors self.new.disk) (D.history self.new.disk) stored self.new) }
         ensures steps { D.honest self.new.disk
-            → OnOk result (TakesSteps (places_for (delete id)) (D.history self.old.disk) (D.history self.new.disk)) }
+            → OnOk result (TakesSteps (places_for (recorded_change self.old.version (delete id))) (D.history self.old.disk) (D.history self.new.disk)) }
     {
         if self.broken {
             return Err(ServiceFault::Broken);
@@ -170,7 +317,7 @@ impl<D: Sectors + Drop> Service<D> {
         if !has(self.map.store(), id) {
             return Err(ServiceFault::NotFound);
         }
-        match self.journal.append(&mut self.disk, &delete_text(id)) {
+        match self.append_delete(id) {
             Ok(number) => {
                 self.map.remove(id, number);
                 Ok(number)

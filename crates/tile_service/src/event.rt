@@ -1,6 +1,6 @@
 //! Events and their answers.
 use crate::fault::ServiceFault;
-use feature_model::Feature;
+use feature_model::{Change, Feature};
 use hilbert_id::TileAt;
 
 /// A request to a service.
@@ -10,6 +10,8 @@ pub enum Event {
     Put { id: u64, feature: Feature },
     /// Deletes the feature of an id.
     Delete { id: u64 },
+    /// Makes changes of 1 to 64 ids, all of them or none.
+    Batch { changes: Vec<Change> },
     /// Asks for a tile.
     Tile { at: TileAt },
     /// Asks for the feature of an id.

@@ -13,10 +13,13 @@ pub enum ServiceFault {
     /// No publication is under way.
     #[error("no publication is under way")]
     Idle,
-    /// The feature breaks this limit.
+    /// The disk has version 1, which takes no batches. It has to be upgraded.
+    #[error("the disk has version 1: it has to be upgraded")]
+    NeedsUpgrade,
+    /// The feature, or a change of the batch, breaks this limit.
     #[error("{0}")]
     Limit(EditFault),
-    /// No feature has the id that is to be deleted.
+    /// No feature has an id that is to be deleted.
     #[error("the number has no feature")]
     NotFound,
     /// The last edit, or the published generation, has number `u64::MAX`.

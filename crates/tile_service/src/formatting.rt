@@ -1,6 +1,6 @@
-//! Formats a disk for a service.
-ghost use Rattle.std.specs.Prelude.{◌≡◌, ◌⊎◌, ◌<◌, ◌↔◌, Err, IfErr, OnOk};
-ghost use Rattle.sector_disk.specs.Disk.{MayLeave};
+//! Formats and upgrades a disk for a service.
+ghost use Rattle.std.specs.Prelude.{◌≡◌, ◌⊎◌, ◌<◌, ◌↔◌, ℕ, Err, IfErr, OnOk};
+ghost use Rattle.sector_disk.specs.Disk.{MayLeave, seen};
 ghost use Rattle.sector_disk.specs.Moments.{LeavesOnly};
 ghost use Rattle.generations.specs.Areas.{IsSize};
 ghost use Rattle.generations.specs.Disks.{HasNoMark};
@@ -8,10 +8,10 @@ ghost use Rattle.generations.specs.Faults.{CountsDevice};
 ghost use Rattle.generations.specs.declared.fault.StoreFault.TheVariants.{TooSmall, Device, Damaged};
 ghost use Rattle.generations.specs.declared.fault.What.TheVariants.{Size};
 ghost use Rattle.generations.specs.declared.sizes.TheConstants.{LEAST_SECTORS, MOST_SECTORS};
-ghost use Rattle.tile_service.specs.Stored.{Holds, Keeps, first_state};
+ghost use Rattle.tile_service.specs.Stored.{Stored, Holds, Keeps, first_state, upgraded};
 
 use crate::service::Service;
-use generations::{StoreFault, format};
+use generations::{StoreFault, format, upgrade};
 use sector_disk::Sectors;
 
 impl<D: Sectors + Drop> Service<D> {
@@ -34,5 +34,32 @@ impl<D: Sectors + Drop> Service<D> {
             → OnOk result (Keeps (D.sectors disk.old) (D.sectors disk.old) first_state (D.history disk.new)) }
     {
         format(disk)
+    }
+
+    /// Upgrades the disk to the last version, which takes batches. On a disk of that version it only syncs and reads. What the disk holds
+    /// stays the same. A crash during the call leaves it in either version.
+    ///
+    /// # Errors
+    ///
+    /// `NotFormatted`, or `Damaged(Size)` if the disk has no format of a known version: nothing is written. `Device` if a call of the disk fails: the disk
+    /// has either version.
+    pub fn upgrade(disk: &mut D) -> Result<(), StoreFault>
+        ensures count { D.sectors disk.new ≡ D.sectors disk.old }
+        ensures faults { OnOk result (D.faults disk.new ≡ D.faults disk.old) }
+        ensures failed { IfErr result (λ fault. CountsDevice fault (D.faults disk.old) (D.faults disk.new)) }
+        ensures honest { D.honest disk.new → D.honest disk.old }
+
+        // A crash during the call leaves an image from before, or what the disk holds in the last version.
+        ensures any_moment { (n : ℕ) (stored : Stored) → D.honest disk.new → Holds (D.sectors disk.old) n stored (seen (D.history disk.old))
+            → LeavesOnly (D.history disk.old) (D.history disk.new)
+            (λ image. MayLeave (D.history disk.old) image ⊎ Holds (D.sectors disk.old) n (upgraded stored) image) }
+        ensures upgraded { (n : ℕ) (stored : Stored) → D.honest disk.new → Holds (D.sectors disk.old) n stored (seen (D.history disk.old))
+            → OnOk result (Keeps (D.sectors disk.new) n (upgraded stored) (D.history disk.new)) }
+
+        // Of a disk that holds a state only a call of the disk can fail.
+        ensures refused { (n : ℕ) (stored : Stored) → D.honest disk.new → Holds (D.sectors disk.old) n stored (seen (D.history disk.old))
+            → IfErr result (λ fault. fault ≡ Device) }
+    {
+        upgrade(disk)
     }
 }

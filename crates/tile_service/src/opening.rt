@@ -5,7 +5,7 @@ ghost use Rattle.sector_disk.specs.Disk.History.{synced};
 ghost use Rattle.sector_disk.specs.declared.disk.TheConstants.{SECTOR_BYTES};
 ghost use Rattle.generations.specs.Areas.{area_sectors};
 ghost use Rattle.generations.specs.Faults.{CountsDevice};
-ghost use Rattle.generations.specs.Sectors.{CanStand};
+ghost use Rattle.generations.specs.Sectors.{CanStand, IsVersion};
 ghost use Rattle.generations.specs.declared.fault.StoreFault.TheVariants.{Device, Memory};
 ghost use Rattle.edit_journal.specs.Appends.{ring_of};
 ghost use Rattle.edit_journal.specs.Releases.{IsCounted};
@@ -45,6 +45,7 @@ fn told(fault: JournalFault) -> StoreFault
 #[derive(Drop)]
 struct Found {
     layout: Layout,
+    version: u32,
     root: Root,
     journal: Journal,
     map: CachedMap,
@@ -56,10 +57,12 @@ fn read_edits<D: Sectors>(
     alloc: Global,
     disk: &mut D,
     layout: Layout,
+    version: u32,
     root: Root,
     store: Store,
 ) -> Result<(Journal, CachedMap), StoreFault>
     requires within { layout.sectors ≤ D.sectors disk.old }
+    requires version { IsVersion version }
     requires can { CanStand layout.sectors root }
     requires texts { length (snapshot store.features) ≤ SECTOR_BYTES * area_sectors layout.sectors }
     ensures count { D.sectors disk.new ≡ D.sectors disk.old }
@@ -73,15 +76,15 @@ fn read_edits<D: Sectors>(
     ensures counted { IfOk result (λ found. IsCounted found.0) }
     ensures last { IfOk result (λ found. found.1.last ≡ found.0.last) }
     ensures found { D.honest disk.new → HasSnapshot layout.sectors root store.features (seen (D.history disk.old))
-        → IfOk result (λ found. IsReplayed layout.sectors root (seen (D.history disk.old)) found.0 found.1.features found.1.touched) }
+        → IfOk result (λ found. IsReplayed layout.sectors version root (seen (D.history disk.old)) found.0 found.1.features found.1.touched) }
     ensures fault { D.honest disk.new → HasSnapshot layout.sectors root store.features (seen (D.history disk.old))
-        → IfErr result (λ fault. (fault ≡ Device) ⊎ (fault ≡ Memory) ⊎ IsContentFault layout.sectors root (seen (D.history disk.old)) fault) }
+        → IfErr result (λ fault. (fault ≡ Device) ⊎ (fault ≡ Memory) ⊎ IsContentFault layout.sectors version root (seen (D.history disk.old)) fault) }
 {
     let start = Start {
         place: root.journal_at,
         edits: root.edits,
     };
-    let (journal, texts) = match Journal::recover(alloc, disk, 3, layout.journal, start) {
+    let (journal, records) = match Journal::recover(alloc, disk, 3, layout.journal, start, version) {
         Ok(found) => found,
         Err(fault) => return Err(told(fault)),
     };
@@ -89,7 +92,7 @@ fn read_edits<D: Sectors>(
         Ok(map) => map,
         Err(AllocError) => return Err(StoreFault::Memory),
     };
-    match replay(alloc, &mut map, texts) {
+    match replay(alloc, &mut map, records) {
         Ok(()) => Ok((journal, map)),
         Err(fault) => Err(fault),
     }
@@ -100,9 +103,11 @@ fn read_map<D: Sectors>(
     alloc: Global,
     disk: &mut D,
     layout: Layout,
+    version: u32,
     root: Root,
 ) -> Result<(Journal, CachedMap), StoreFault>
     requires within { layout.sectors ≤ D.sectors disk.old }
+    requires version { IsVersion version }
     requires can { CanStand layout.sectors root }
     ensures count { D.sectors disk.new ≡ D.sectors disk.old }
     ensures honest { D.honest disk.new → D.honest disk.old }
@@ -115,15 +120,15 @@ fn read_map<D: Sectors>(
     ensures counted { IfOk result (λ found. IsCounted found.0) }
     ensures last { IfOk result (λ found. found.1.last ≡ found.0.last) }
     ensures found { D.honest disk.new
-        → IfOk result (λ found. IsReplayed layout.sectors root (seen (D.history disk.old)) found.0 found.1.features found.1.touched) }
+        → IfOk result (λ found. IsReplayed layout.sectors version root (seen (D.history disk.old)) found.0 found.1.features found.1.touched) }
     ensures fault { D.honest disk.new
-        → IfErr result (λ fault. (fault ≡ Device) ⊎ (fault ≡ Memory) ⊎ IsContentFault layout.sectors root (seen (D.history disk.old)) fault) }
+        → IfErr result (λ fault. (fault ≡ Device) ⊎ (fault ≡ Memory) ⊎ IsContentFault layout.sectors version root (seen (D.history disk.old)) fault) }
 {
     let store = match read_snapshot(alloc, disk, layout, root) {
         Ok(store) => store,
         Err(fault) => return Err(fault),
     };
-    match read_edits(alloc, disk, layout, root, store) {
+    match read_edits(alloc, disk, layout, version, root, store) {
         Ok(found) => Ok(found),
         Err(fault) => Err(fault),
     }
@@ -138,6 +143,7 @@ fn load<D: Sectors>(alloc: Global, disk: &mut D) -> Result<Found, StoreFault>
     ensures faults { OnOk result (D.faults disk.new ≡ D.faults disk.old) }
     ensures failed { IfErr result (λ fault. CountsDevice fault (D.faults disk.old) (D.faults disk.new)) }
     ensures within { IfOk result (λ found. found.layout.sectors ≤ D.sectors disk.new) }
+    ensures version { IfOk result (λ found. IsVersion found.version) }
     ensures can { IfOk result (λ found. CanStand found.layout.sectors found.root) }
     ensures ring { IfOk result (λ found. ring_of found.journal ≡ journal_ring found.layout.sectors) }
     ensures texts { IfOk result (λ found.
@@ -145,7 +151,7 @@ fn load<D: Sectors>(alloc: Global, disk: &mut D) -> Result<Found, StoreFault>
     ensures counted { IfOk result (λ found. IsCounted found.journal) }
     ensures last { IfOk result (λ found. found.map.last ≡ found.journal.last) }
     ensures found { D.honest disk.new → IfOk result (λ found.
-        IsRead (D.sectors disk.old) found.layout.sectors (seen (D.history disk.old)) found.root found.journal
+        IsRead (D.sectors disk.old) found.layout.sectors found.version (seen (D.history disk.old)) found.root found.journal
         found.map.features found.map.touched) }
     ensures published { IfOk result (λ found. (place : ArchivePlace) (m : FeatureMap) (bytes : List ℕ) → ArePublished found.published place m bytes) }
     ensures fault { D.honest disk.new
@@ -156,7 +162,11 @@ fn load<D: Sectors>(alloc: Global, disk: &mut D) -> Result<Found, StoreFault>
         Ok(()) => {}
         Err(DiskFault) => return Err(StoreFault::Device),
     }
-    let (layout, root) = match read_root(disk) {
+    let generations::Found {
+        layout,
+        root,
+        version,
+    } = match read_root(disk) {
         Ok(found) => found,
         Err(fault) => return Err(fault),
     };
@@ -164,9 +174,10 @@ fn load<D: Sectors>(alloc: Global, disk: &mut D) -> Result<Found, StoreFault>
         Ok(published) => published,
         Err(AllocError) => return Err(StoreFault::Memory),
     };
-    match read_map(alloc, disk, layout, root) {
+    match read_map(alloc, disk, layout, version, root) {
         Ok((journal, map)) => Ok(Found {
             layout,
+            version,
             root,
             journal,
             map,
@@ -213,6 +224,7 @@ impl<D: Sectors + Drop> Service<D> {
                 alloc,
                 disk,
                 layout: found.layout,
+                version: found.version,
                 journal: found.journal,
                 map: found.map,
                 root: found.root,

@@ -41,7 +41,7 @@ fn left(outcome: Result<u64, ServiceFault>) -> Answer
 impl<D: Sectors + Drop> Service<D> {
     /// The answer with the feature of an id.
     fn look(&self, id: u64) -> Answer
-        ensures { (outcome : OrMemory _) × Tells (events.Look id) result (look id outcome)
+        ensures { (outcome : OrMemory _) × Tells self.now.version (events.Look id) result (look id outcome)
             × IfTold outcome (λ f. f ≡ feature_at self.now.features id) }
     {
         match self.feature(id) {
@@ -55,7 +55,7 @@ impl<D: Sectors + Drop> Service<D> {
 
     /// Answers one event.
     fn answer(&mut self, event: Event) -> Answer
-        ensures takes { (happening : Happening) × Tells event result happening × Takes D.sectors D.honest D.history self.old happening self.new }
+        ensures takes { (happening : Happening) × Tells self.old.version event result happening × Takes D.sectors D.honest D.history self.old happening self.new }
         ensures never_falls { NeverFalls (D.faults self.old.disk) (D.faults self.new.disk) }
         ensures device { result ≡ Refused Device → HasRisen (D.faults self.old.disk) (D.faults self.new.disk) }
         ensures faults { ¬ IsTile event → self.new.broken ≡ false → D.faults self.new.disk ≡ D.faults self.old.disk }
@@ -64,6 +64,7 @@ impl<D: Sectors + Drop> Service<D> {
         match event {
             Event::Put { id, feature } => edited(self.put(id, feature)),
             Event::Delete { id } => edited(self.delete(id)),
+            Event::Batch { changes } => edited(self.batch(changes)),
             Event::Tile { at } => match self.tile(at) {
                 Ok(content) => Answer::Tile(content),
                 Err(fault) => Answer::Refused(fault),
@@ -81,10 +82,11 @@ impl<D: Sectors + Drop> Service<D> {
     /// Answers events in order. `Memory` is the only error, returned before the first event with nothing changed.
     pub fn run(&mut self, events: Vec<Event>) -> Result<Vec<Answer>, ServiceFault>
         ensures run { IfOk result (λ answers.
-            (happenings : List Happening) × AreTold events.items answers.items happenings
+            (happenings : List Happening) × AreTold self.old.version events.items answers.items happenings
             × TakesRun D.sectors D.honest D.history self.old happenings self.new) }
         ensures memory { IfErr result (λ fault. (fault ≡ Memory) × (self.new ≡ self.old)) }
         ensures size { self.new.size ≡ self.old.size }
+        ensures version { self.new.version ≡ self.old.version }
         ensures count { D.sectors self.new.disk ≡ D.sectors self.old.disk }
         ensures honest { D.honest self.new.disk → D.honest self.old.disk }
         ensures untouched { self.old.broken ≡ true → self.new.disk ≡ self.old.disk }

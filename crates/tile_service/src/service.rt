@@ -1,5 +1,6 @@
 //! A service: a disk, and its state in memory.
 ghost use Rattle.std.specs.Prelude.{◌≡◌};
+ghost use Rattle.generations.specs.Sectors.{IsVersion};
 
 use crate::publishing::Publication;
 use cached_map::CachedMap;
@@ -16,6 +17,7 @@ pub struct Service<D: Sectors + Drop> {
     pub(crate) alloc: Global,
     pub(crate) disk: D,
     pub(crate) layout: Layout,
+    pub(crate) version: u32,
     pub(crate) journal: Journal,
     pub(crate) map: CachedMap,
     pub(crate) root: Root,
@@ -32,6 +34,7 @@ impl<D: Sectors + Drop> Model for Service<D> {
     ghost view = { λ s. record {
       disk = s.disk;
       size = s.layout.sectors;
+      version = s.version;
       features = s.map.features;
       touched = s.map.touched;
       journal = s.journal;
@@ -43,10 +46,18 @@ impl<D: Sectors + Drop> Model for Service<D> {
       broken = s.broken;
     } };
 
-    ghost invariant = { λ s. IsService (D.sectors s.disk) s.layout.sectors s.root s.journal s.map s.publication };
+    ghost invariant = { λ s. IsService (D.sectors s.disk) s.layout.sectors s.version s.root s.journal s.map s.publication };
 }
 
 impl<D: Sectors + Drop> Service<D> {
+    /// The version of the disk's format: 1 takes edits of one change, 2 batches too.
+    pub fn version(&self) -> u32
+        ensures is { result ≡ self.now.version }
+        ensures known { IsVersion result }
+    {
+        self.version
+    }
+
     /// Returns the disk.
     pub fn into_disk(self) -> D
         ensures { result ≡ self.disk }
@@ -55,6 +66,7 @@ impl<D: Sectors + Drop> Service<D> {
             alloc: _,
             disk,
             layout: _,
+            version: _,
             journal: _,
             map: _,
             root: _,
