@@ -10,8 +10,7 @@ use Rattle.tile_service.specs.Service.{ServiceView, CountsDevice}
 use Rattle.tile_service.specs.declared.fault.ServiceFault.TheVariants.{Device}
 use Rattle.tile_service.specs.declared.publishing_whole.Published.{Published}
 use Rattle.tile_service.specs.declared.fault.ServiceFault.{ServiceFault}
-use Rattle.map_replies.specs.Bodies.{HasBodyFault}
-use Rattle.map_replies.specs.Meanings.{numbers_of, MeansCall, MeansChange, OrNoMemory, MeansPut, MeansPublish, Answers}
+use Rattle.map_replies.specs.Meanings.{numbers_of, MeansCall, MeansChange, OrNoMemory, MeansEdit, MeansPublish, Answers}
 use Rattle.map_replies.specs.Sending.{IsAnswered}
 use Rattle.map_replies.specs.Words.{refusal_of, shown_reply, published_reply}
 use Rattle.map_replies.specs.declared.fault.RequestFault.{RequestFault}
@@ -63,10 +62,11 @@ module _ {D : Type 0} (sectors : D → ℕ) (honest : D → Type 0) (history : D
       called call (shown_reply reply_of) old new no_memory (refusal_of fault) (ap refusal_of same) takes_none
 
   -- the body has a fault, or there is no memory
-  pub body_refused : (failed : Type 0) (id : ℕ) (body : List ℕ) (fault : RequestFault) (old : ServiceView D) → (fault ≡ Memory) ⊎ HasBodyFault body fault
-      → Answers sectors honest history (MeansPut failed id body) old old (refusal_of fault)
-  body_refused failed id body fault old (inl is) = ([], inr (inr (ap refusal_of is, refl)), refl)
-  body_refused failed id body fault old (inr is) = ([], inr (inl (fault, is, (refl, refl))), refl)
+  pub body_refused : {A : Type 0} (failed : Type 0) (Says : A → Type 0) (Has : RequestFault → Type 0) (call : A → Result ℕ ServiceFault → Happening)
+      (fault : RequestFault) (old : ServiceView D) → (fault ≡ Memory) ⊎ Has fault
+      → Answers sectors honest history (MeansEdit failed Says Has call) old old (refusal_of fault)
+  body_refused failed Says Has call fault old (inl is) = ([], inr (inr (ap refusal_of is, refl)), refl)
+  body_refused failed Says Has call fault old (inr is) = ([], inr (inl (fault, is, (refl, refl))), refl)
 
   pub no_memory_first : (IsMeant : ReplyView → List Happening → Type 0) (old new : ServiceView D) → new ≡ old
       → Answers sectors honest history (OrNoMemory IsMeant) old new (refusal_of Memory)

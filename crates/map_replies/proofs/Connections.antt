@@ -31,8 +31,8 @@ module _ {D : Type 0} (sectors : D → ℕ) (honest : D → Type 0) (history : D
         course new (so.run ++ is.0),
         (
           is.0,
-          subst (λ (s : MapReplies D). Means (DiskFailed faults (asked_service s) (asked_service new)) (numbers_of (asked_service s))
-              (numbers_of (asked_service new)) request reply is.0) (sym here) is.1,
+          subst (λ (s : MapReplies D). Means (DiskFailed faults (asked_service s) (asked_service new)) (asked_service s).version
+              (numbers_of (asked_service s)) (numbers_of (asked_service new)) request reply is.0) (sym here) is.1,
           subst (λ (s : MapReplies D). TakesAll sectors honest history (asked_service s) is.0 (asked_service new)) (sym here) is.2,
           refl,
         ),

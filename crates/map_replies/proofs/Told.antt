@@ -3,10 +3,11 @@ use Rattle.std.proofs.Common.{◌≡◌, ℕ, List, ◌⊎◌, inl, inr, refl}
 use Rattle.serde_json.specs.Data.{Data}
 use Rattle.feature_model.specs.declared.fault.EditFault.{EditFault}
 use Rattle.feature_model.specs.declared.fault.EditFault.TheVariants as edits
+use Rattle.edit_json.specs.Batches.{IsFirstBatchFault}
 use Rattle.edit_json.specs.Faults.{IsFirstJsonFault}
 use Rattle.map_replies.specs.declared.fault.RequestFault.{RequestFault}
 use Rattle.map_replies.specs.declared.fault.RequestFault.TheVariants.{NotFound, Json, Edit, Memory}
-use Rattle.map_replies.specs.Bodies.{told_as, IsEditFault, IsJson, HasBodyFault}
+use Rattle.map_replies.specs.Bodies.{told_as, IsEditFault, IsJson, HasFault, HasBodyFault, HasBatchFault}
 
 -- a fault that satisfies P is reported as out of memory or as itself
 pub told : (P : EditFault → Type 0) (e : EditFault) → P e → (told_as e ≡ Memory) ⊎ IsEditFault P (told_as e)
@@ -23,9 +24,18 @@ told P edits.Reach is = inr (λ e. cc, is)
 told P edits.Batch is = inr (λ e. cc, is)
 told P edits.Twice is = inr (λ e. cc, is)
 
+-- the fault of a value is that of the body
+at_value : (IsFirst : Data → EditFault → Type 0) (body : List ℕ) (d : Data) (fault : RequestFault) → IsJson body d → IsEditFault (IsFirst d) fault
+    → HasFault IsFirst body fault
+at_value IsFirst body d (Edit e) json is = (is.0, (d, json, is.1))
+at_value IsFirst body d NotFound json is = absurd is
+at_value IsFirst body d Json json is = absurd is
+at_value IsFirst body d Memory json is = absurd is
+
 -- a value in a body that isn't a feature
 pub value_fault : (body : List ℕ) (d : Data) (fault : RequestFault) → IsJson body d → IsEditFault (IsFirstJsonFault d) fault → HasBodyFault body fault
-value_fault body d (Edit e) json is = (is.0, (d, json, is.1))
-value_fault body d NotFound json is = absurd is
-value_fault body d Json json is = absurd is
-value_fault body d Memory json is = absurd is
+value_fault body d fault json is = at_value IsFirstJsonFault body d fault json is
+
+-- a value in a body that isn't a batch
+pub batch_fault : (body : List ℕ) (d : Data) (fault : RequestFault) → IsJson body d → IsEditFault (IsFirstBatchFault d) fault → HasBatchFault body fault
+batch_fault body d fault json is = at_value IsFirstBatchFault body d fault json is

@@ -7,9 +7,9 @@ use Rattle.tile_routes.specs.declared.method.Method.{Method}
 use Rattle.tile_routes.specs.declared.method.Method.TheVariants.{Put, Delete}
 use Rattle.tile_routes.specs.Methods.{Wanted, not_found, not_allowed, allowed, wanted_by}
 use Rattle.tile_routes.specs.Paths.{Asked, asked_tile, asked_metadata, asked_archive, asked_feature, asked_nothing}
-use Rattle.tile_routes.specs.Paths.{asked_publish, asked_begin, asked_step, asked_cancel}
-use Rattle.feature_model.specs.Data.{FeatureData, put, delete}
-use Rattle.tile_service.specs.Machine.{Happening, edit, begin, step, cancel, tile, look, metadata, read}
+use Rattle.tile_routes.specs.Paths.{asked_edits, asked_publish, asked_begin, asked_step, asked_cancel}
+use Rattle.feature_model.specs.Data.{FeatureData, EditData, put, delete}
+use Rattle.tile_service.specs.Machine.{Happening, single, batched, recorded_in, recorded_change, edit, begin, step, cancel, tile, look, metadata, read}
 use Rattle.tile_service.specs.Runs.{begin_and_steps, TakesAll}
 use Rattle.tile_service.specs.Service.{ServiceView}
 use Rattle.tile_service.specs.declared.publishing_whole.Published.{Published}
@@ -19,7 +19,7 @@ use Rattle.map_replies.specs.declared.fault.RequestFault.{RequestFault}
 use Rattle.map_replies.specs.declared.fault.RequestFault.TheVariants.{NotFound, Memory}
 use Rattle.map_replies.specs.declared.parts.Part.{Part}
 use Rattle.map_replies.specs.declared.parts.Part.TheVariants.{Beyond}
-use Rattle.map_replies.specs.Bodies.{SaysFeature, HasBodyFault}
+use Rattle.map_replies.specs.Bodies.{SaysFeature, SaysChanges, HasBodyFault, HasBatchFault}
 use Rattle.map_replies.specs.Parts.{range_for, IsPart, start_of, size_of, part_reply, bytes_reply}
 use Rattle.map_replies.specs.Words.{refusal_of, not_allowed_reply, outcome_reply, left_reply, published_reply, cancel_reply}
 use Rattle.map_replies.specs.Words.{shown_reply, content_reply, found_reply, metadata_reply}
@@ -48,16 +48,27 @@ MeansRefusal fault reply happenings = (reply ≡ refusal_of fault) × (happening
 abbrev pub OrNoMemory : (ReplyView → List Happening → Type 0) → ReplyView → List Happening → Type 0
 OrNoMemory Means reply happenings = Means reply happenings ⊎ MeansRefusal Memory reply happenings
 
--- ---- edits
+-- ---- edits, which are recorded in the version of the service's disk
 
--- the feature of the body is set, unless the body has a fault
-abbrev pub MeansPut : (failed : Type 0) → ℕ → List ℕ → ReplyView → List Happening → Type 0
-MeansPut failed id body reply happenings =
-    ((f : FeatureData) × SaysFeature body f × MeansChange failed (edit (put id f)) outcome_reply reply happenings)
-    ⊎ ((fault : RequestFault) × HasBodyFault body fault × MeansRefusal fault reply happenings) ⊎ MeansRefusal Memory reply happenings
+-- The body says what to edit, and the edit of that is made, unless the body has a fault.
+abbrev pub MeansEdit : {A : Type 0} → (failed : Type 0) → (Says : A → Type 0) → (Has : RequestFault → Type 0)
+    → (call : A → Result ℕ ServiceFault → Happening) → ReplyView → List Happening → Type 0
+MeansEdit {A} failed Says Has call reply happenings =
+    ((a : A) × Says a × MeansChange failed (call a) outcome_reply reply happenings)
+    ⊎ ((fault : RequestFault) × Has fault × MeansRefusal fault reply happenings) ⊎ MeansRefusal Memory reply happenings
 
-abbrev pub MeansDelete : (failed : Type 0) → ℕ → ReplyView → List Happening → Type 0
-MeansDelete failed id = OrNoMemory (MeansChange failed (edit (delete id)) outcome_reply)
+-- the feature of the body is set
+abbrev pub MeansPut : (failed : Type 0) → (version : ℕ) → ℕ → List ℕ → ReplyView → List Happening → Type 0
+MeansPut failed version id body =
+    MeansEdit failed (SaysFeature body) (HasBodyFault body) (λ (f : FeatureData). edit single (recorded_change version (put id f)))
+
+-- the changes of the body are made as one edit, all of them or none
+abbrev pub MeansBatch : (failed : Type 0) → (version : ℕ) → List ℕ → ReplyView → List Happening → Type 0
+MeansBatch failed version body =
+    MeansEdit failed (SaysChanges body) (HasBatchFault body) (λ (cs : EditData). edit batched (recorded_in version cs))
+
+abbrev pub MeansDelete : (failed : Type 0) → (version : ℕ) → ℕ → ReplyView → List Happening → Type 0
+MeansDelete failed version id = OrNoMemory (MeansChange failed (edit single (recorded_change version (delete id))) outcome_reply)
 
 -- ---- a whole publication
 
@@ -88,33 +99,38 @@ abbrev pub MeansArchive : (failed : Type 0) → (total : ℕ) → Option (List �
 MeansArchive failed total range reply happenings = ((total ≡ 0) × MeansRefusal NotFound reply happenings)
     ⊎ ((0 < total) × (part : Part) × IsPart range total part × MeansPart failed total part reply happenings)
 
--- ---- routed requests: old and new are the service's numbers before and after, failed says that its disk has failed meanwhile
+-- ---- routed requests: version is that of the service's disk, old and new are the service's numbers before and after, failed says that
+-- its disk has failed meanwhile
 
-abbrev pub MeansOnFeature : (failed : Type 0) → ℕ → Method → List ℕ → ReplyView → List Happening → Type 0
-MeansOnFeature failed id Put body = MeansPut failed id body
-MeansOnFeature failed id Delete body = MeansDelete failed id
-MeansOnFeature failed id method body = MeansCall (look id) (shown_reply found_reply)
+abbrev pub MeansOnFeature : (failed : Type 0) → (version : ℕ) → ℕ → Method → List ℕ → ReplyView → List Happening → Type 0
+MeansOnFeature failed version id Put body = MeansPut failed version id body
+MeansOnFeature failed version id Delete body = MeansDelete failed version id
+MeansOnFeature failed version id method body = MeansCall (look id) (shown_reply found_reply)
 
 -- a method that the path allows
-abbrev pub MeansAllowed : (failed : Type 0) → (old new : Published) → Asked → Method → Option (List ℕ) → List ℕ → ReplyView → List Happening → Type 0
-MeansAllowed failed old new (asked_tile z x y format) method range body = MeansCall (tile z x y) (shown_reply (content_reply format))
-MeansAllowed failed old new (asked_feature id) method range body = MeansOnFeature failed id method body
-MeansAllowed failed old new asked_metadata method range body = MeansCall metadata (shown_reply metadata_reply)
-MeansAllowed failed old new asked_archive method range body = OrNoMemory (MeansArchive failed old.archive_len (range_for method range))
-MeansAllowed failed old new asked_publish method range body = OrNoMemory (MeansPublish failed old new)
-MeansAllowed failed old new asked_begin method range body = OrNoMemory (MeansCall begin left_reply)
-MeansAllowed failed old new asked_step method range body = OrNoMemory (MeansChange failed step left_reply)
-MeansAllowed failed old new asked_cancel method range body = OrNoMemory (MeansCall cancel cancel_reply)
-MeansAllowed failed old new asked_nothing method range body = MeansRefusal NotFound
+abbrev pub MeansAllowed : (failed : Type 0) → (version : ℕ) → (old new : Published) → Asked → Method → Option (List ℕ) → List ℕ
+    → ReplyView → List Happening → Type 0
+MeansAllowed failed version old new (asked_tile z x y format) method range body = MeansCall (tile z x y) (shown_reply (content_reply format))
+MeansAllowed failed version old new (asked_feature id) method range body = MeansOnFeature failed version id method body
+MeansAllowed failed version old new asked_metadata method range body = MeansCall metadata (shown_reply metadata_reply)
+MeansAllowed failed version old new asked_archive method range body = OrNoMemory (MeansArchive failed old.archive_len (range_for method range))
+MeansAllowed failed version old new asked_edits method range body = MeansBatch failed version body
+MeansAllowed failed version old new asked_publish method range body = OrNoMemory (MeansPublish failed old new)
+MeansAllowed failed version old new asked_begin method range body = OrNoMemory (MeansCall begin left_reply)
+MeansAllowed failed version old new asked_step method range body = OrNoMemory (MeansChange failed step left_reply)
+MeansAllowed failed version old new asked_cancel method range body = OrNoMemory (MeansCall cancel cancel_reply)
+MeansAllowed failed version old new asked_nothing method range body = MeansRefusal NotFound
 
-abbrev pub MeansWanted : (failed : Type 0) → (old new : Published) → Wanted → Option (List ℕ) → List ℕ → ReplyView → List Happening → Type 0
-MeansWanted failed old new not_found range body reply happenings = MeansRefusal NotFound reply happenings
-MeansWanted failed old new (not_allowed asked) range body reply happenings = (reply ≡ not_allowed_reply asked) × (happenings ≡ [])
-MeansWanted failed old new (allowed asked method) range body reply happenings = MeansAllowed failed old new asked method range body reply happenings
+abbrev pub MeansWanted : (failed : Type 0) → (version : ℕ) → (old new : Published) → Wanted → Option (List ℕ) → List ℕ
+    → ReplyView → List Happening → Type 0
+MeansWanted failed version old new not_found range body reply happenings = MeansRefusal NotFound reply happenings
+MeansWanted failed version old new (not_allowed asked) range body reply happenings = (reply ≡ not_allowed_reply asked) × (happenings ≡ [])
+MeansWanted failed version old new (allowed asked method) range body reply happenings =
+    MeansAllowed failed version old new asked method range body reply happenings
 
 -- the reply to a request, which is routed by its method and its path
-abbrev pub Means : (failed : Type 0) → (old new : Published) → RequestView → ReplyView → List Happening → Type 0
-Means failed old new request = MeansWanted failed old new (wanted_by request.method request.path) request.range request.body
+abbrev pub Means : (failed : Type 0) → (version : ℕ) → (old new : Published) → RequestView → ReplyView → List Happening → Type 0
+Means failed version old new request = MeansWanted failed version old new (wanted_by request.method request.path) request.range request.body
 
 -- ---- a single reply
 
@@ -132,13 +148,13 @@ module _ {D : Type 0} (sectors : D → ℕ) (honest : D → Type 0) (history : D
     -- the reply to a method that the path allows
     abbrev pub AnswersAllowed : Asked → Method → Option (List ℕ) → List ℕ → (old new : ServiceView D) → ReplyView → Type 0
     AnswersAllowed asked method range body old new =
-        Answers (MeansAllowed (DiskFailed faults old new) (numbers_of old) (numbers_of new) asked method range body) old new
+        Answers (MeansAllowed (DiskFailed faults old new) old.version (numbers_of old) (numbers_of new) asked method range body) old new
 
     -- the reply to a routed request
     abbrev pub AnswersWanted : Wanted → Option (List ℕ) → List ℕ → (old new : ServiceView D) → ReplyView → Type 0
     AnswersWanted wanted range body old new =
-        Answers (MeansWanted (DiskFailed faults old new) (numbers_of old) (numbers_of new) wanted range body) old new
+        Answers (MeansWanted (DiskFailed faults old new) old.version (numbers_of old) (numbers_of new) wanted range body) old new
 
     -- the reply to a request
     abbrev pub Replies : ServiceView D → RequestView → ReplyView → ServiceView D → Type 0
-    Replies old request reply new = Answers (Means (DiskFailed faults old new) (numbers_of old) (numbers_of new) request) old new reply
+    Replies old request reply new = Answers (Means (DiskFailed faults old new) old.version (numbers_of old) (numbers_of new) request) old new reply

@@ -49,8 +49,8 @@ module _ {D : Type 0} (sectors : D → ℕ) (honest : D → Type 0) (history : D
   -- One reply to one request: it reports happenings, the service takes them all, and they are appended to the run.
   abbrev pub Tells : Course D → RequestView → ReplyView → Course D → Type 0
   Tells old request reply new = (happenings : List Happening)
-      × Means (DiskFailed faults (asked_service old.replies) (asked_service new.replies)) (numbers_of (asked_service old.replies))
-      (numbers_of (asked_service new.replies)) request reply happenings
+      × Means (DiskFailed faults (asked_service old.replies) (asked_service new.replies)) (asked_service old.replies).version
+      (numbers_of (asked_service old.replies)) (numbers_of (asked_service new.replies)) request reply happenings
       × TakesAll sectors honest history (asked_service old.replies) happenings (asked_service new.replies)
       × (new.run ≡ old.run ++ happenings)
 

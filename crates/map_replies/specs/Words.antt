@@ -54,6 +54,7 @@ unfoldable pub service_word : ServiceFault → List ℕ
 service_word services.Broken = codes "Broken\n"
 service_word services.Busy = codes "Busy\n"
 service_word services.Idle = codes "Idle\n"
+service_word services.NeedsUpgrade = codes "NeedsUpgrade\n"
 service_word (services.Limit fault) = edit_word fault
 service_word services.NotFound = codes "NotFound\n"
 service_word services.NumbersSpent = codes "NumbersSpent\n"
@@ -84,6 +85,7 @@ abbrev pub service_status : ServiceFault → ℕ
 service_status services.Broken = 500
 service_status services.Busy = 409
 service_status services.Idle = 409
+service_status services.NeedsUpgrade = 409
 service_status (services.Limit fault) = edit_status fault
 service_status services.NotFound = 404
 service_status services.NumbersSpent = 500

@@ -1,13 +1,14 @@
-//! The feature in the body of a request.
-ghost use Rattle.std.specs.Prelude.{◌≡◌, ◌<◌, ◌⊎◌, length, IfOk, IfErr};
+//! The feature, or the changes of a batch, in the body of a request.
+ghost use Rattle.std.specs.Prelude.{◌≡◌, ◌<◌, ◌⊎◌, length, map, IfOk, IfErr};
 ghost use Rattle.serde_json.specs.View.{view};
-ghost use Rattle.feature_model.specs.Data.{feature_data};
+ghost use Rattle.feature_model.specs.Data.{feature_data, change_data};
+ghost use Rattle.edit_json.specs.Batches.{IsBatch, IsFirstBatchFault};
 ghost use Rattle.edit_json.specs.Faults.{IsFeature, IsFirstJsonFault};
-ghost use Rattle.map_replies.specs.Bodies.{IsJson, SaysFeature, IsEditFault, HasBodyFault};
+ghost use Rattle.map_replies.specs.Bodies.{IsJson, IsNoJson, SaysFeature, SaysChanges, IsEditFault, HasBodyFault, HasBatchFault};
 
 use crate::fault::RequestFault;
-use edit_json::feature_from_json;
-use feature_model::Feature;
+use edit_json::{batch_from_json, feature_from_json};
+use feature_model::{Change, Feature};
 use serde_json::Value;
 use std::alloc::Global;
 
@@ -15,7 +16,7 @@ use std::alloc::Global;
 fn json_in(alloc: Global, body: &[u8]) -> Result<Value, RequestFault>
     ensures found { IfOk result (λ value. IsJson body.now (view value)) }
     ensures refused { IfErr result (λ fault. ((fault ≡ RequestFault.Memory) × (0 < length body.now))
-        ⊎ ((fault ≡ RequestFault.Json) × HasBodyFault body.now RequestFault.Json)) }
+        ⊎ ((fault ≡ RequestFault.Json) × IsNoJson body.now)) }
 {
     match Value::from_slice(alloc, body) {
         Ok(value) => Ok(value),
@@ -35,6 +36,17 @@ fn feature_of(alloc: Global, value: &Value) -> Result<Feature, RequestFault>
     }
 }
 
+/// The changes in a JSON value.
+fn changes_of(alloc: Global, value: &Value) -> Result<Vec<Change>, RequestFault>
+    ensures found { IfOk result (λ changes. IsBatch (view value.now) (map change_data changes.items)) }
+    ensures refused { IfErr result (λ fault. (fault ≡ RequestFault.Memory) ⊎ IsEditFault (IsFirstBatchFault (view value.now)) fault) }
+{
+    match batch_from_json(alloc, value) {
+        Ok(changes) => Ok(changes),
+        Err(fault) => Err(RequestFault::from(fault)),
+    }
+}
+
 /// The feature in a body.
 pub(crate) fn feature_in(alloc: Global, body: &[u8]) -> Result<Feature, RequestFault>
     ensures found { IfOk result (λ feature. SaysFeature body.now (feature_data feature)) }
@@ -45,4 +57,16 @@ pub(crate) fn feature_in(alloc: Global, body: &[u8]) -> Result<Feature, RequestF
         Err(fault) => return Err(fault),
     };
     feature_of(alloc, &value)
+}
+
+/// The changes in a body.
+pub(crate) fn changes_in(alloc: Global, body: &[u8]) -> Result<Vec<Change>, RequestFault>
+    ensures found { IfOk result (λ changes. SaysChanges body.now (map change_data changes.items)) }
+    ensures refused { IfErr result (λ fault. (fault ≡ RequestFault.Memory) ⊎ HasBatchFault body.now fault) }
+{
+    let value = match json_in(alloc, body) {
+        Ok(value) => value,
+        Err(fault) => return Err(fault),
+    };
+    changes_of(alloc, &value)
 }

@@ -1,11 +1,11 @@
 //! Requests to edit features.
 ghost use Rattle.std.specs.Prelude.{IfOk};
 ghost use Rattle.http_serve.specs.Reply.{IsWhole};
-ghost use Rattle.map_replies.specs.Meanings.{MeansPut, MeansDelete, Answers, DiskFailed};
+ghost use Rattle.map_replies.specs.Meanings.{MeansPut, MeansBatch, MeansDelete, Answers, DiskFailed};
 ghost use Rattle.map_replies.specs.Sending.{IsAnswered};
 ghost use Rattle.map_replies.specs.State.{asked_service};
 
-use crate::bodies::feature_in;
+use crate::bodies::{changes_in, feature_in};
 use crate::fault::RequestFault;
 use crate::replies;
 use crate::service::MapReplies;
@@ -16,7 +16,7 @@ impl<D: Sectors + Drop> MapReplies<D> {
     /// Sets the feature of an id to the one in the body.
     pub(crate) fn put(&mut self, id: u64, body: &[u8]) -> Result<Reply, RequestFault>
         ensures answered { IsAnswered (Answers D.sectors D.honest D.history
-            (MeansPut (DiskFailed D.faults (asked_service self.old) (asked_service self.new)) id body.now)
+            (MeansPut (DiskFailed D.faults (asked_service self.old) (asked_service self.new)) (asked_service self.old).version id body.now)
             (asked_service self.old) (asked_service self.new)) result }
         ensures writable { IfOk result IsWhole }
     {
@@ -31,10 +31,28 @@ impl<D: Sectors + Drop> MapReplies<D> {
         Ok(replies::outcome(text, outcome))
     }
 
+    /// Makes the changes in the body as one edit, all of them or none.
+    pub(crate) fn batch(&mut self, body: &[u8]) -> Result<Reply, RequestFault>
+        ensures answered { IsAnswered (Answers D.sectors D.honest D.history
+            (MeansBatch (DiskFailed D.faults (asked_service self.old) (asked_service self.new)) (asked_service self.old).version body.now)
+            (asked_service self.old) (asked_service self.new)) result }
+        ensures writable { IfOk result IsWhole }
+    {
+        let changes = match changes_in(self.alloc, body) {
+            Ok(changes) => changes,
+            Err(fault) => return Err(fault),
+        };
+        let Ok(text) = replies::outcome_space(self.alloc) else {
+            return Err(RequestFault::Memory);
+        };
+        let outcome = self.service.batch(changes);
+        Ok(replies::outcome(text, outcome))
+    }
+
     /// Deletes the feature of an id.
     pub(crate) fn delete(&mut self, id: u64) -> Result<Reply, RequestFault>
         ensures answered { IsAnswered (Answers D.sectors D.honest D.history
-            (MeansDelete (DiskFailed D.faults (asked_service self.old) (asked_service self.new)) id)
+            (MeansDelete (DiskFailed D.faults (asked_service self.old) (asked_service self.new)) (asked_service self.old).version id)
             (asked_service self.old) (asked_service self.new)) result }
         ensures writable { IfOk result IsWhole }
     {

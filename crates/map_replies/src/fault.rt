@@ -7,7 +7,7 @@ pub enum RequestFault {
     NotFound,
     /// The body isn't JSON.
     Json,
-    /// An invalid feature.
+    /// An invalid feature, or an invalid batch.
     Edit(EditFault),
     /// An allocation failed.
     Memory,

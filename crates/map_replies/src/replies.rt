@@ -72,6 +72,7 @@ fn service_word(text: Vec<u8>, fault: ServiceFault) -> Content
         ServiceFault::Broken => Content::Fixed(b"Broken\n"),
         ServiceFault::Busy => Content::Fixed(b"Busy\n"),
         ServiceFault::Idle => Content::Fixed(b"Idle\n"),
+        ServiceFault::NeedsUpgrade => Content::Fixed(b"NeedsUpgrade\n"),
         ServiceFault::Limit(fault) => Content::Fixed(edit_word(fault)),
         ServiceFault::NotFound => Content::Fixed(b"NotFound\n"),
         ServiceFault::NumbersSpent => Content::Fixed(b"NumbersSpent\n"),
@@ -124,7 +125,7 @@ fn service_status(fault: ServiceFault) -> StatusCode
         ServiceFault::Limit(fault) => edit_status(fault),
         ServiceFault::NotFound => StatusCode::NOT_FOUND,
         ServiceFault::Memory => StatusCode::SERVICE_UNAVAILABLE,
-        ServiceFault::Busy | ServiceFault::Idle => StatusCode::CONFLICT,
+        ServiceFault::Busy | ServiceFault::Idle | ServiceFault::NeedsUpgrade => StatusCode::CONFLICT,
         ServiceFault::TooManyTiles
         | ServiceFault::AreaFull { .. }
         | ServiceFault::JournalFull { .. } => StatusCode::INSUFFICIENT_STORAGE,

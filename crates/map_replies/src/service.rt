@@ -63,7 +63,7 @@ impl<D: Sectors + Drop> MapReplies<D> {
     /// Handles an allowed method on a feature.
     fn on_feature(&mut self, id: u64, method: Method, body: &[u8]) -> Result<Reply, RequestFault>
         ensures answered { IsAnswered (Answers D.sectors D.honest D.history
-            (MeansOnFeature (DiskFailed D.faults (asked_service self.old) (asked_service self.new)) id method body.now)
+            (MeansOnFeature (DiskFailed D.faults (asked_service self.old) (asked_service self.new)) (asked_service self.old).version id method body.now)
             (asked_service self.old) (asked_service self.new)) result }
         ensures writable { IfOk result IsWhole }
     {
@@ -90,6 +90,7 @@ impl<D: Sectors + Drop> MapReplies<D> {
             Target::Tile(at, format) => self.tile(at, format),
             Target::Feature(id) => self.on_feature(id, method, body),
             Target::Metadata => self.metadata(),
+            Target::Edits => self.batch(body),
             Target::Publish => self.publish(),
             Target::PublishBegin => self.publish_begin(),
             Target::PublishStep => self.publish_step(),

@@ -44,7 +44,7 @@ HasText route = list_all is_ascii route.text ≡ true
 
 rows-text : EachKey HasText served_rows
 unfolding matchit_on_literals served_rows served_paths HasText
-rows-text = (refl, (refl, (refl, (refl, (refl, (refl, (refl, (refl, tt))))))))
+rows-text = (refl, (refl, (refl, (refl, (refl, (refl, (refl, (refl, (refl, tt)))))))))
 
 first-ascii : (b : ℕ) (bs : List ℕ) → list_all is_ascii (b ∷ bs) ≡ true → (b < 128) × (list_all is_ascii bs ≡ true)
 first-ascii b bs is = (grind (arith, nat_tests), grind (arith, nat_tests))

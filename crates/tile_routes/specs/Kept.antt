@@ -14,10 +14,11 @@ code_of routes.Tile = 0
 code_of routes.Metadata = 1
 code_of routes.Archive = 2
 code_of routes.Feature = 3
-code_of routes.Publish = 4
-code_of routes.PublishBegin = 5
-code_of routes.PublishStep = 6
-code_of routes.PublishCancel = 7
+code_of routes.Edits = 4
+code_of routes.Publish = 5
+code_of routes.PublishBegin = 6
+code_of routes.PublishStep = 7
+code_of routes.PublishCancel = 8
 
 -- the route of a number
 abbrev route_of : ℕ → Route
@@ -25,16 +26,18 @@ route_of zero = routes.Tile
 route_of (suc zero) = routes.Metadata
 route_of (suc (suc zero)) = routes.Archive
 route_of (suc (suc (suc zero))) = routes.Feature
-route_of (suc (suc (suc (suc zero)))) = routes.Publish
-route_of (suc (suc (suc (suc (suc zero))))) = routes.PublishBegin
-route_of (suc (suc (suc (suc (suc (suc zero)))))) = routes.PublishStep
-route_of (suc (suc (suc (suc (suc (suc (suc more))))))) = routes.PublishCancel
+route_of (suc (suc (suc (suc zero)))) = routes.Edits
+route_of (suc (suc (suc (suc (suc zero))))) = routes.Publish
+route_of (suc (suc (suc (suc (suc (suc zero)))))) = routes.PublishBegin
+route_of (suc (suc (suc (suc (suc (suc (suc zero))))))) = routes.PublishStep
+route_of (suc (suc (suc (suc (suc (suc (suc (suc more)))))))) = routes.PublishCancel
 
 route-back : (r : Route) → route_of (code_of r) ≡ r
 route-back routes.Tile = refl
 route-back routes.Metadata = refl
 route-back routes.Archive = refl
 route-back routes.Feature = refl
+route-back routes.Edits = refl
 route-back routes.Publish = refl
 route-back routes.PublishBegin = refl
 route-back routes.PublishStep = refl

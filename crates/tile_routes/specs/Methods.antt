@@ -5,7 +5,7 @@ use Rattle.std.specs.Cmp.Lexicographic.{pointwise}
 use Rattle.tile_routes.specs.declared.method.Method.{Method}
 use Rattle.tile_routes.specs.declared.method.Method.TheVariants.{Get, Head, Put, Delete, Post}
 use Rattle.tile_routes.specs.Paths.{Asked, asked_tile, asked_metadata, asked_archive, asked_feature, asked_nothing, asked_by}
-use Rattle.tile_routes.specs.Paths.{asked_publish, asked_begin, asked_step, asked_cancel}
+use Rattle.tile_routes.specs.Paths.{asked_edits, asked_publish, asked_begin, asked_step, asked_cancel}
 
 -- a method's name, which stands in a request's first line
 unfoldable pub name_of : Method → List ℕ
@@ -32,6 +32,7 @@ methods_of (asked_tile z x y format) = Get ∷ Head ∷ []
 methods_of asked_metadata = Get ∷ Head ∷ []
 methods_of asked_archive = Get ∷ Head ∷ []
 methods_of (asked_feature id) = Get ∷ Head ∷ Put ∷ Delete ∷ []
+methods_of asked_edits = Post ∷ []
 methods_of asked_publish = Post ∷ []
 methods_of asked_begin = Post ∷ []
 methods_of asked_step = Post ∷ []

@@ -37,6 +37,7 @@ served_paths =
     ∷ (codes "/map/metadata", routes.Metadata)
     ∷ (codes "/map.pmtiles", routes.Archive)
     ∷ (codes "/features/{id}", routes.Feature)
+    ∷ (codes "/edits", routes.Edits)
     ∷ (codes "/publish", routes.Publish)
     ∷ (codes "/publish/begin", routes.PublishBegin)
     ∷ (codes "/publish/step", routes.PublishStep)
@@ -53,6 +54,7 @@ pub data Asked : Type 0 where
   asked_metadata : Asked
   asked_archive : Asked
   asked_feature : ℕ → Asked
+  asked_edits : Asked
   asked_publish : Asked
   asked_begin : Asked
   asked_step : Asked
@@ -106,6 +108,7 @@ asked_on routes.Tile parts =
 asked_on routes.Metadata parts = asked_metadata
 asked_on routes.Archive parts = asked_archive
 asked_on routes.Feature parts = feature_asked (number_of (part_named (codes "id") parts))
+asked_on routes.Edits parts = asked_edits
 asked_on routes.Publish parts = asked_publish
 asked_on routes.PublishBegin parts = asked_begin
 asked_on routes.PublishStep parts = asked_step

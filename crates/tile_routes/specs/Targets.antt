@@ -5,10 +5,10 @@ use Rattle.matchit.specs.Params.{walk}
 use Rattle.matchit.specs.declared.params.Params.{Params}
 use Rattle.feature_model.specs.declared.limits.TheConstants.{GREATEST_ZOOM, NUMBER_END}
 use Rattle.tile_routes.specs.declared.target.Target.{Target}
-use Rattle.tile_routes.specs.declared.target.Target.TheVariants.{Tile, Metadata, Archive, Feature, Publish, PublishBegin, PublishStep, PublishCancel, Nothing}
+use Rattle.tile_routes.specs.declared.target.Target.TheVariants.{Tile, Metadata, Archive, Feature, Edits, Publish, PublishBegin, PublishStep, PublishCancel, Nothing}
 use Rattle.tile_routes.specs.declared.target.TileFormat.{TileFormat}
 use Rattle.tile_routes.specs.Paths.{Asked, asked_tile, asked_metadata, asked_archive, asked_feature, asked_nothing}
-use Rattle.tile_routes.specs.Paths.{asked_publish, asked_begin, asked_step, asked_cancel}
+use Rattle.tile_routes.specs.Paths.{asked_edits, asked_publish, asked_begin, asked_step, asked_cancel}
 
 -- what a target asks for
 abbrev pub asked_of : Target → Asked
@@ -16,6 +16,7 @@ asked_of (Tile at format) = asked_tile at.z at.x at.y format
 asked_of Metadata = asked_metadata
 asked_of Archive = asked_archive
 asked_of (Feature id) = asked_feature id
+asked_of Edits = asked_edits
 asked_of Publish = asked_publish
 asked_of PublishBegin = asked_begin
 asked_of PublishStep = asked_step

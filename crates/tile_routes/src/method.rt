@@ -52,8 +52,11 @@ impl Target {
         match self {
             Target::Tile(..) | Target::Metadata | Target::Archive => &[Method::Get, Method::Head],
             Target::Feature(_) => &[Method::Get, Method::Head, Method::Put, Method::Delete],
-            Target::Publish | Target::PublishBegin | Target::PublishStep | Target::PublishCancel =>
-                &[Method::Post],
+            Target::Edits
+            | Target::Publish
+            | Target::PublishBegin
+            | Target::PublishStep
+            | Target::PublishCancel => &[Method::Post],
             Target::Nothing => &[],
         }
     }
@@ -73,8 +76,11 @@ impl Target {
         match self {
             Target::Tile(..) | Target::Metadata | Target::Archive => "GET, HEAD",
             Target::Feature(_) => "GET, HEAD, PUT, DELETE",
-            Target::Publish | Target::PublishBegin | Target::PublishStep | Target::PublishCancel =>
-                "POST",
+            Target::Edits
+            | Target::Publish
+            | Target::PublishBegin
+            | Target::PublishStep
+            | Target::PublishCancel => "POST",
             Target::Nothing => "",
         }
     }

@@ -22,6 +22,8 @@ pub enum Route {
     Archive,
     /// A feature of the map.
     Feature,
+    /// Several changes of the map as one edit.
+    Edits,
     /// A publication.
     Publish,
     /// The begin of one by steps.
@@ -48,6 +50,7 @@ fn served(alloc: Global) -> Result<Router<Route>, InsertError>
     router.insert("/map/metadata", Route::Metadata)?;
     router.insert("/map.pmtiles", Route::Archive)?;
     router.insert("/features/{id}", Route::Feature)?;
+    router.insert("/edits", Route::Edits)?;
     router.insert("/publish", Route::Publish)?;
     router.insert("/publish/begin", Route::PublishBegin)?;
     router.insert("/publish/step", Route::PublishStep)?;
@@ -97,6 +100,7 @@ fn route_target(route: Route, params: &Params<'_, '_>) -> Target
         Route::Metadata => Target::Metadata,
         Route::Archive => Target::Archive,
         Route::Feature => feature_target(part(params, "id")),
+        Route::Edits => Target::Edits,
         Route::Publish => Target::Publish,
         Route::PublishBegin => Target::PublishBegin,
         Route::PublishStep => Target::PublishStep,

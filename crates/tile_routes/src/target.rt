@@ -28,6 +28,8 @@ pub enum Target {
     Archive,
     /// `/features/{id}`: the feature of this number, which is below `feature_model::NUMBER_END`.
     Feature(u64),
+    /// `/edits`: several changes of the map as one edit, all of them or none.
+    Edits,
     /// `/publish`: a publication, whole.
     Publish,
     /// `/publish/begin`: to begin one by steps.

@@ -7,6 +7,7 @@ pub returns : goal.returns
 unfolding matchit_on_literals served_paths served_rows
 returns c =
     rw (
+      c.in_ok-insert-9.ensures.1,
       c.in_ok-insert-8.ensures.1,
       c.in_ok-insert-7.ensures.1,
       c.in_ok-insert-6.ensures.1,

@@ -1,6 +1,7 @@
 use Rattle.feature_model.specs.Data.{delete}
-use Rattle.tile_service.specs.Machine.{edit}
+use Rattle.tile_service.specs.Machine.{single, recorded_change, edit}
 use Rattle.tile_service.proofs.Callers.{edit_step}
+use Rattle.map_replies.specs.State.{asked_service}
 use Rattle.map_replies.specs.Words.{outcome_reply}
 use Rattle.map_replies.proofs.Answering.{changed_first}
 use Rattle.map_replies.proofs.service.MapReplies.delete.Goals as goal
@@ -8,7 +9,8 @@ use Rattle.map_replies.proofs.service.MapReplies.delete.Goals as goal
 pub returns-clause-answered : goal.returns-clause-answered
 returns-clause-answered g c =
     let call = c.delete-outcome.ensures in
-    changed_first g.D.Sectors.sectors g.D.Sectors.honest g.D.Sectors.history _ _ (edit (delete c.args.id)) outcome_reply _ _ c.delete-outcome.result _
+    let e = recorded_change (asked_service c.args.self.now).version (delete c.args.id) in
+    changed_first g.D.Sectors.sectors g.D.Sectors.honest g.D.Sectors.history _ _ (edit single e) outcome_reply _ _ c.delete-outcome.result _
     c.outcome.ensures.reply call.failed
-    (edit_step g.D.Sectors.sectors g.D.Sectors.honest g.D.Sectors.history _ _ (delete c.args.id) c.delete-outcome.result call.machine call.size call.count
+    (edit_step g.D.Sectors.sectors g.D.Sectors.honest g.D.Sectors.history _ _ single e c.delete-outcome.result call.machine call.size call.count
     call.honest call.untouched call.any_moment call.acknowledged call.refused call.archive)
