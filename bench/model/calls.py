@@ -1,6 +1,7 @@
 """The calls of the disk that formatting, an edit and a publication make, in order, from docs/FORMATS.md and docs/DECISIONS.md. It shares no
 code with the product."""
-from disk import LEAST, MOST, SECTOR, TEXT_OF_PART, Fault, Layout, Root, format_sector, front, parts_of, root_sector, sector_of
+from crashes import Seen
+from disk import LEAST, MOST, SECTOR, TEXT_OF_PART, Fault, Layout, Root, format_sector, front, layout_of, parts_of, root_sector, sector_of, version_of
 
 ZEROS = bytes(SECTOR)
 FIRST_ROOT = Root(0, 0, 0, 0, 0)
@@ -11,7 +12,7 @@ def write_and_sync(disk, at, sector):
     disk.sync()
 
 
-def format_disk(disk):
+def format_disk(disk, version=1):
     """Clears the mark, then the root sectors and the journal where they are not zeros, then writes the first root, then the mark."""
     if disk.count < LEAST:
         raise Fault("TooSmall")
@@ -23,7 +24,16 @@ def format_disk(disk):
             disk.write(at, ZEROS)
     disk.sync()
     write_and_sync(disk, 1, root_sector(FIRST_ROOT))
-    write_and_sync(disk, 0, format_sector(disk.count))
+    write_and_sync(disk, 0, format_sector(disk.count, version))
+
+
+def upgrade(disk):
+    """Syncs what was written before, reads sector 0, and where it has the format of version 1 writes and syncs that of version 2."""
+    disk.sync()
+    held = Seen(disk)
+    layout = layout_of(held)
+    if version_of(held) == 1:
+        write_and_sync(disk, 0, format_sector(layout.sectors, 2))
 
 
 def install(disk, root):

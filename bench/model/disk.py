@@ -12,6 +12,7 @@ TEXT_OF_PART = 496
 LEAST, MOST = 64, 16777216
 FORMAT_MARK, ROOT_MARK = b"VTILEDSK", b"VTROOT01"
 HEAD, BODY, VERSION = 1, 2, 1
+FORMAT_VERSIONS = (1, 2)
 PUT, DELETE = 1, 2
 KINDS = {1: "points", 2: "lines", 3: "polygons"}
 LAST_NUMBER = 2**64 - 1
@@ -231,14 +232,19 @@ def layout_of(held):
     first = sector_of(held, 0)
     if len(first) < SECTOR or first[:8] != FORMAT_MARK:
         raise Fault("NotFormatted")
-    sectors = int.from_bytes(first[12:20], "little")
-    if not LEAST <= sectors <= min(MOST, len(held) // SECTOR) or first != format_sector(sectors):
+    version, sectors = version_of(held), int.from_bytes(first[12:20], "little")
+    if version not in FORMAT_VERSIONS or not LEAST <= sectors <= min(MOST, len(held) // SECTOR) or first != format_sector(sectors, version):
         raise Fault("Damaged(Size)")
     return Layout(sectors)
 
 
-def format_sector(sectors):
-    return (FORMAT_MARK + spelled(VERSION, 4) + spelled(sectors, 8)).ljust(SECTOR, b"\0")
+def version_of(held):
+    """The version of the format, as sector 0 has it."""
+    return int.from_bytes(sector_of(held, 0)[8:12], "little")
+
+
+def format_sector(sectors, version=1):
+    return (FORMAT_MARK + spelled(version, 4) + spelled(sectors, 8)).ljust(SECTOR, b"\0")
 
 
 def root_sector(root):

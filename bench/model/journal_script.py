@@ -2,9 +2,9 @@
 from collections import namedtuple
 
 import words
-from calls import append, format_disk, install, write_area
+from calls import append, format_disk, install, upgrade, write_area
 from crashes import FROM, MADE, NONE, NOT_MADE, Failed, Faulty, Memory, Seen, every_choice
-from disk import LAST_NUMBER, LONGEST, SECTOR, Fault, Layout, Root, front, is_head, layout_of, parts_of, root_of, texts_of
+from disk import FORMAT_VERSIONS, LAST_NUMBER, LONGEST, SECTOR, Fault, Layout, Root, front, is_head, layout_of, parts_of, root_of, texts_of, version_of
 from words import Fields, Variant, briefly, debug, err, ok, read, some, spelled
 
 CRATE = "journal_runs"
@@ -110,7 +110,15 @@ class Trial:
         return debug(some(layout_shown(Layout(sectors))))
 
     def do_format(self):
-        return self.counted(lambda: format_disk(self.disk) or (), Variant("Device"))
+        return self.do_format_version(FORMAT_VERSIONS[-1])
+
+    def do_format_version(self, version):
+        if version not in FORMAT_VERSIONS:
+            return "no version"
+        return self.counted(lambda: format_disk(self.disk, version) or (), Variant("Device"))
+
+    def do_upgrade(self):
+        return self.counted(lambda: upgrade(self.disk) or (), Variant("Device"))
 
     def do_root(self):
         return self.counted(self.root, Variant("Device"))
@@ -118,7 +126,7 @@ class Trial:
     def root(self):
         seen = Seen(self.disk)
         layout = layout_of(seen)
-        return layout_shown(layout), root_of(seen, layout)
+        return Fields("Found", layout=layout_shown(layout), root=root_of(seen, layout), version=version_of(seen))
 
     def do_area(self, generation, index, held=b""):
         if not 64 <= self.disk.count <= 16777216 or index >= Layout(self.disk.count).area or len(held) > SECTOR:
@@ -212,7 +220,9 @@ def layout_shown(layout):
 # A number whose bytes are all different, lowest first 1 to 8.
 NUMBER = 0x0807060504030201
 LAST = 2**64 - 1
+# The format sector of a disk of 64 sectors, in versions 1 and 2.
 FORMAT_64 = "'VTILEDSK 1:4 64:8"
+LAST_FORMAT_64 = "'VTILEDSK 2:4 64:8"
 # Texts with letters at the bounds of their parts.
 LETTERS = {1: "'a", 496: "'a*495 'b", 497: "'a*495 'b 'c", 992: "'a*495 'b 'c 'a*494 'd", 993: "'a*495 'b 'c 'a*494 'd 'e"}
 
@@ -256,21 +266,28 @@ def formats():
     yield from heading("Disks that are too small or too large are refused without a call; one of 64 sectors is formatted.")
     for sectors in (0, 63, 64, 16777217):
         yield from [f"disk {sectors}", "format"]
+    yield from heading("A disk is formatted in a version: the first, the last, and none that there isn't; too small and too large disks as before.")
+    for version in (1, 2):
+        yield from ["disk 64", f"format_version {version}", "sector 0", "sectors", "root"]
+    yield from ["disk 64", "format_version 0", "format_version 3", f"format_version {2**32 + 1}", "root"]
+    for sectors in (0, 63, 16777217):
+        yield from [f"disk {sectors}", "format_version 1"]
+    yield from [*old_disk(), "format_version 1", "root", "format", "root"]
     yield from heading("On a disk that was used before, format clears both roots and the journal (sectors 1 to 18) and nothing else.")
     yield from [*old_disk(), "sectors", "format", "sectors", "root"]
 
 
-def old_disk():
-    """A disk of 64 sectors with roots of generations 4 and 5, and with sevens at both ends of the journal and in an area."""
-    yield from three(FORMAT_64, root_words(4, 0, 0, 0, 0), root_words(5, 0, 0, 0, 0))
+def old_disk(first=FORMAT_64):
+    """A disk of 64 sectors, of version 1 if `first` isn't given, with roots of generations 4 and 5, and with sevens at both ends of the journal and in an area."""
+    yield from three(first, root_words(4, 0, 0, 0, 0), root_words(5, 0, 0, 0, 0))
     yield from ["write 3 = 07*512", "write 18 = 07*512", "write 19 = 07*512", "sync"]
 
 
 def state_of(disk):
-    """The live root of a disk, or its fault."""
+    """The version of a disk and its live root, or its fault."""
     held = Seen(disk)
     try:
-        return root_of(held, layout_of(held))
+        return version_of(held), root_of(held, layout_of(held))
     except Fault as fault:
         return str(fault)
 
@@ -288,7 +305,7 @@ def format_crashes():
         for line in lines_made:
             trial.answer(line)
         for choice in every_choice(trial.stopped):
-            assert state_of(trial.stopped.crash(choice)) in (Root(5, 0, 0, 0, 0), Root(0, 0, 0, 0, 0), "NotFormatted")
+            assert state_of(trial.stopped.crash(choice)) in ((1, Root(5, 0, 0, 0, 0)), (2, Root(0, 0, 0, 0, 0)), "NotFormatted")
             choices_tried += 1
             yield from [f"crash {words_of(choice)}".rstrip(), "root", "sectors"]
     yield f"# {choices_tried} choices."
@@ -327,7 +344,14 @@ def bad_formats():
     yield from heading("Damaged format sectors: another version, too few sectors, more than the disk has, a nonzero byte after the count, another mark.")
     for first in [
         "'VTILEDSKxxxxxxxxxxxxx",
-        "'VTILEDSK 2:4 64:8",
+        "'VTILEDSK 0:4 64:8",
+        "'VTILEDSK 3:4 64:8",
+        "'VTILEDSK 257:4 64:8",
+        f"'VTILEDSK {2**24 + 2}:4 64:8",
+        "'VTILEDSK 2:4 63:8",
+        "'VTILEDSK 2:4 65:8",
+        f"{LAST_FORMAT_64} 01",
+        f"{LAST_FORMAT_64} 00*491 01",
         "'VTILEDSK 1:4 63:8",
         "'VTILEDSK 1:4 65:8",
         "'VTILEDSK 1:4 16777217:8",
@@ -339,9 +363,10 @@ def bad_formats():
         "00",
     ]:
         yield from [*three(first, root_words(0, 0, 0, 0, 0), None), "root"]
-    yield from heading("Disks with one sector fewer than their format says, as many, and more; and disks of zeros.")
-    for sectors in (63, 64, 70):
-        yield from [*three(FORMAT_64, root_words(0, 0, 0, 0, 0), None, sectors), "root"]
+    yield from heading("Disks with one sector fewer than their format says, as many, and more, of both versions; and disks of zeros.")
+    for first in (FORMAT_64, LAST_FORMAT_64):
+        for sectors in (63, 64, 70):
+            yield from [*three(first, root_words(0, 0, 0, 0, 0), None, sectors), "root"]
     for sectors in (0, 1, 64):
         yield from [f"disk {sectors}", "root"]
 
@@ -352,13 +377,59 @@ def reads_that_fail():
         yield from [*three(FORMAT_64, root_words(4, 0, 0, 0, 0), root_words(5, 0, 0, 0, 0)), stop, "root", "root"]
 
 
+def upgrades():
+    yield from heading("A disk of version 1 is upgraded: only sector 0 changes. A disk of version 2 is synced and read, and isn't written.")
+    yield from [*old_disk(), "root", "upgrade", "sector 0", "sectors", "root", "upgrade", "root", "stop", "crash", "root"]
+    yield from [*old_disk(LAST_FORMAT_64), "upgrade", "sector 0", "root", "disk 64", "format", "upgrade", "root", "disk 64", "format_version 1", "upgrade", "root"]
+    yield from heading("The disk has more sectors than its format says: the number of sectors stays.")
+    yield from [*three(FORMAT_64, root_words(0, 0, 0, 0, 0), None, 70), "upgrade", "sector 0", "root"]
+    yield from heading("Faults of sector 0 are reported, and nothing is written. The roots aren't read, so one that is damaged is no fault here.")
+    for sectors in (0, 1, 64):
+        yield from [f"disk {sectors}", "upgrade", "sectors"]
+    for first in ("'VTILEDSL 1:4 64:8", "'VTILEDSK 0:4 64:8", "'VTILEDSK 3:4 64:8", "'VTILEDSK 1:4 65:8", f"{FORMAT_64} 01", f"{LAST_FORMAT_64} 00*491 01"):
+        yield from [*three(first, root_words(0, 0, 0, 0, 0), None), "upgrade", "sector 0", "stop", "crash", "sector 0"]
+    yield from [*three(FORMAT_64, "01", None), "upgrade", "root", "write 1 = " + root_words(0, 0, 0, 0, 0), "root"]
+
+
+# What `upgrade_crashes` writes before an upgrade without a sync: a sector of an area, and the root of generation 7.
+UNSYNCED = ["write 20 = 08*512", f"write 2 = {root_words(7, 1, 2, 0, 0)}"]
+
+
+def upgrade_crashes():
+    yield from heading(
+        "An upgrade after two writes that aren't synced, sectors 2 and 20. It fails at each of its 4 calls (a sync, a read, the format, a sync), and then",
+        "crashes by every choice: where the disk is left as of version 2, both writes are left.",
+    )
+    choices_tried = 0
+    for stop in stops(4):
+        lines_made, trial = [*old_disk(), *UNSYNCED, stop, "upgrade", "stop"], Trial()
+        yield from lines_made
+        for line in lines_made:
+            trial.answer(line)
+        for choice in every_choice(trial.stopped):
+            left = trial.stopped.crash(choice)
+            version, root = state_of(left)
+            assert version == 1 or root.generation == 7 and left.read(20) == b"\x08" * SECTOR
+            choices_tried += 1
+            yield from [f"crash {words_of(choice)}".rstrip(), "root", "sector 0", "sector 20"]
+    yield f"# {choices_tried} choices."
+    yield from heading("After the fault the disk is read, and the upgrade is done again: it then is of version 2.")
+    for stop in stops(4):
+        yield from [*old_disk(), *UNSYNCED, stop, "upgrade", "fail_none", "root", "upgrade", "root", "sector 20", "stop", "crash", "root"]
+    yield from heading("An upgrade of a disk of version 2 fails at each of its 2 calls, a sync and a read: it stays as it was.")
+    for stop in stops(2):
+        yield from [*old_disk(LAST_FORMAT_64), *UNSYNCED, stop, "upgrade", "stop"]
+        for choice in choices(2):
+            yield from [f"crash {words_of(choice)}", "root", "sector 0", "sector 20"]
+
+
 def installs():
     yield from heading("The areas of a disk of 64 sectors begin at 19 and 41: their first and last sectors, for even and odd generations.")
     for generation, index in [(0, 0), (0, 21), (1, 0), (1, 21), (6, 3), (LAST, 1), (0, 22)]:
         yield from ["disk 64", f"area {generation} {index} = 07*512", "sectors"]
     yield from heading("Roots whose bytes are all different: an invalid one, and a valid one on the largest disk.")
     numbers = [NUMBER + 0x1010101010101010 * ten for ten in range(5)]
-    yield from ["disk 16777216", "write 0 = 'VTILEDSK 1:4 16777216:8", f"install {words_of(numbers)}", "sector 2", "root"]
+    yield from ["disk 16777216", "write 0 = 'VTILEDSK 2:4 16777216:8", f"install {words_of(numbers)}", "sector 2", "root"]
     numbers[2:] = [number % 2**bits for number, bits in zip(numbers[2:], (22, 32, 32))]
     yield from [f"install {words_of(numbers)}", "sector 2", "sector 1", "root"]
     yield from heading("Generation 6 is installed after 5, and each call fails in turn: a sync, the root, a sync. Where the root is left, its area is too.")
@@ -486,7 +557,7 @@ def pairs():
 
 def lines():
     yield from ["# Disks, their generations and their journals. Written by bench/model/journal_script.py, with the answers."]
-    for block in (layouts, formats, format_crashes, possible_roots, bad_roots, bad_formats, reads_that_fail, installs):
+    for block in (layouts, formats, format_crashes, possible_roots, bad_roots, bad_formats, reads_that_fail, upgrades, upgrade_crashes, installs):
         yield from block()
     for block in (part_sectors, heads, append_crashes, full_rings, releases, recoveries, pairs):
         yield from block()

@@ -8,9 +8,9 @@ use Rattle.std.specs.Str.{bytes_eq}
 use Rattle.sector_disk.specs.Disk.{Image}
 use Rattle.generations.specs.Areas.{IsSize, journal_sectors, area_sectors, sectors_of}
 use Rattle.generations.specs.Disks.{HasNoMark, HasRoot, IsSound, LiveRoot, IsFaultOf, IsFresh, first_root}
-use Rattle.generations.specs.Sectors.{disk_mark, format_sector, root_sector, root_from, number_from, zeros, HasMark, AreNumbers, CanStand}
+use Rattle.generations.specs.Sectors.{disk_mark, IsVersion, version_from, format_sector, root_sector, root_from, number_from, zeros, HasMark, AreNumbers, CanStand}
 use Rattle.generations.specs.Sectors.{IsFormat, IsRootOf, IsRootSector, IsNoRoot, IsBad, IsSlot, IsNewest}
-use Rattle.generations.specs.declared.sizes.TheConstants.{LEAST_SECTORS, MOST_SECTORS}
+use Rattle.generations.specs.declared.sizes.TheConstants.{LEAST_SECTORS, MOST_SECTORS, LAST_VERSION}
 use Rattle.generations.specs.declared.root.Root.{Root}
 use Rattle.generations.specs.declared.fault.StoreFault.{StoreFault}
 use Rattle.generations.specs.declared.fault.StoreFault.TheVariants.{NotFormatted, TooSmall, Damaged, Device, Memory}
@@ -25,7 +25,7 @@ use Rattle.generations.proofs.Roots as roots
 -- a sector is that of a format with one count
 pub one_format : (count other : ℕ) (sector : List ℕ) (n m : ℕ) → IsFormat count sector n → IsFormat other sector m → n ≡ m
 one_format count other sector n m is too =
-    formats.is_read sector n (is.bytes, omega (arith, is.size.1)) ∙ sym (formats.is_read sector m (too.bytes, omega (arith, too.size.1)))
+    formats.is_read sector n (is.stands, omega (arith, is.size.1)) ∙ sym (formats.is_read sector m (too.stands, omega (arith, too.size.1)))
 
 -- a sector has one root
 pub one_root : (sector : List ℕ) (a b : Root) → IsRootSector sector a → IsRootSector sector b → a ≡ b
@@ -48,7 +48,7 @@ one_live count image n m root other is too =
 -- a disk with a format has the mark
 format_marked : (count : ℕ) (image : Image) (n : ℕ) → IsFormat count (image 0) n → ((count ≡ 0) ⊎ HasNoMark image) → ⊥
 format_marked count image n is (inl none) = omega (arith, is.size.0, is.within, none)
-format_marked count image n is (inr none) = none (marked (image 0) n is.bytes)
+format_marked count image n is (inr none) = none (marked (image 0) (version_from (image 0)) n is.stands.1)
 
 -- a disk has at most one fault
 pub one_fault : (count : ℕ) (image : Image) (a b : StoreFault) → IsFaultOf count image a → IsFaultOf count image b → a ≡ b
@@ -130,13 +130,22 @@ first_stands n sector size is = record {
   can = record { journal = omega (arith, size.0); area = omega arith };
 }
 
+-- the format of a version names it
+pub format_has_version : (version n : ℕ) → IsVersion version → version_from (format_sector version n) ≡ version
+format_has_version version n is = formats.has_version version n is
+
 -- on a disk that was just formatted the first root counts
-pub fresh_live : (count n : ℕ) (image : Image) → IsSize n → n ≤ count → IsFresh n image → LiveRoot count image n first_root
-fresh_live count n image size within fresh =
+pub fresh_live : (count version n : ℕ) (image : Image) → IsVersion version → IsSize n → n ≤ count → IsFresh version n image → LiveRoot count image n first_root
+fresh_live count version n image is_version size within fresh =
+    let there : version_from (image 0) ≡ version = ap version_from fresh.format ∙ formats.has_version version n is_version in
     let none : image 2 ≡ zeros = fresh.empty 2 (omega arith) (omega arith) in
     let first : IsRootOf n 0 (image 1) first_root = first_stands n (image 1) size fresh.root in
     record {
-      format = record { bytes = fresh.format; size = size; within = within };
+      format = record {
+        stands = (subst IsVersion (sym there) is_version, fresh.format ∙ ap (λ v. format_sector v n) (sym there));
+        size = size;
+        within = within;
+      };
       even = inr (first_root, first);
       odd = inl none;
       stands = inl first;
@@ -165,6 +174,11 @@ moved : {P Q : Type 0} → (P → Q) → (Q → P) → Decided P → Decided Q
 moved there back (inl p) = inl (there p)
 moved there back (inr isnt) = inr (λ q. isnt (back q))
 
+either : {P Q : Type 0} → Decided P → Decided Q → Decided (P ⊎ Q)
+either (inl p) q = inl (inl p)
+either (inr isnt) (inl q) = inl (inr q)
+either (inr isnt) (inr is_none) = inr (λ w. ⊎_elim isnt is_none w)
+
 same_list : (xs ys : List ℕ) → Decided (xs ≡ ys)
 same_list xs ys = ⊎_elim (λ (yes : bytes_eq xs ys ≡ true). inl ((bytes_eq-Decides xs ys).0 yes))
     (λ (no : bytes_eq xs ys ≡ false). inr (λ is. both_ways (bytes_eq xs ys) no ((bytes_eq-Decides xs ys).1 is)))
@@ -178,9 +192,12 @@ at_most a b = ⊎_elim (λ (lt : b < a). inr (λ le. omega (arith, lt, le))) (λ
 
 format_decided : (count n : ℕ) (sector : List ℕ) → Decided (IsFormat count sector n)
 format_decided count n sector =
-    moved (λ (w : (sector ≡ format_sector n) × (IsSize n × (n ≤ count))). record { bytes = w.0; size = w.1.0; within = w.1.1 })
-    (λ is. (is.bytes, (is.size, is.within)))
-    (both (same_list sector (format_sector n)) (both (both (at_most LEAST_SECTORS n) (at_most n MOST_SECTORS)) (at_most n count)))
+    moved (λ (w : ((IsVersion (version_from sector)) × (sector ≡ format_sector (version_from sector) n)) × (IsSize n × (n ≤ count))).
+    record { stands = w.0; size = w.1.0; within = w.1.1 })
+    (λ is. (is.stands, (is.size, is.within)))
+    (both (both (either (cases_eq (version_from sector) 1) (cases_eq (version_from sector) 2))
+    (same_list sector (format_sector (version_from sector) n)))
+    (both (both (at_most LEAST_SECTORS n) (at_most n MOST_SECTORS)) (at_most n count)))
 
 -- the five numbers of a root, taken by two
 abbrev TwoAndThree : Root → Type 0
@@ -295,7 +312,7 @@ marked_or_not count image pos mark = ⊎_elim
         pos,
         mark,
         λ n is.
-            no (subst (λ (k : ℕ). IsFormat count (image 0) k) (formats.is_read (image 0) n (is.bytes, omega (arith, is.size.1))) is),
+            no (subst (λ (k : ℕ). IsFormat count (image 0) k) (formats.is_read (image 0) n (is.stands, omega (arith, is.size.1))) is),
       ),
     ))
     (format_decided count (number_from 12 (image 0)) (image 0))
@@ -314,13 +331,13 @@ live_or_fault count image = ⊎_elim
 
 -- a disk that was just formatted with n sectors
 abbrev pub fresh_image : ℕ → Image
-fresh_image n at = if at == 0 then format_sector n else if at == 1 then root_sector first_root else zeros
+fresh_image n at = if at == 0 then format_sector LAST_VERSION n else if at == 1 then root_sector first_root else zeros
 
-pub some_fresh : (n : ℕ) → IsFresh n (fresh_image n)
+pub some_fresh : (n : ℕ) → IsFresh LAST_VERSION n (fresh_image n)
 some_fresh n = record { format = refl; root = refl; empty = λ at le lt. grind (arith, nat_tests) }
 
 pub some_live : LiveRoot 64 (fresh_image 64) 64 first_root
-some_live = fresh_live 64 64 (fresh_image 64) (lit≤ tt, lit≤ tt) (lit≤ tt) (some_fresh 64)
+some_live = fresh_live 64 LAST_VERSION 64 (fresh_image 64) (inr refl) (lit≤ tt, lit≤ tt) (lit≤ tt) (some_fresh 64)
 
 pub some_parts : (journal_sectors 64 ≡ 16) × (area_sectors 64 ≡ 22)
 some_parts = (refl, refl)

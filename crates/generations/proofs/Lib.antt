@@ -1,6 +1,8 @@
 mod Formats
+mod Layouts
 pub mod Installs
 pub mod Laws
 mod Live
 mod Parts
 mod Roots
+pub mod Upgrades

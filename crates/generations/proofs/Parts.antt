@@ -120,10 +120,10 @@ stands_still at bytes old new is index there apart stood left may =
     let holds : MayHold (synced (wrote at bytes old)) index left = subst (λ (h : History). MayHold h index left) is may in
     holds ∙ seen_other at bytes old index apart ∙ stood (seen old index) (seen_may old index)
 
-module _ (n : ℕ) (start : History) where
+module _ (version n : ℕ) (start : History) where
   -- an image of a format: one of before, or without the mark, or fresh
   abbrev pub Formats : Image → Type 0
-  Formats image = MayLeave start image ⊎ HasNoMark image ⊎ IsFresh n image
+  Formats image = MayLeave start image ⊎ HasNoMark image ⊎ IsFresh version n image
 
   -- the mark is overwritten
   module _ (one : History) (leaves : LeavesOnly start one (λ image. (index : ℕ) → IsOldOr start 0 zeros index (image index))) where
@@ -174,7 +174,7 @@ module _ (n : ℕ) (start : History) where
             pub third_leaves : LeavesOnly start three Formats
             third_leaves = then_leaves start two three Formats second_leaves (weaken two three _ Formats rooted third_image)
 
-            module _ (three_is : three ≡ synced (wrote 1 root two)) (format : List ℕ) (format_is : format ≡ format_sector n) where
+            module _ (three_is : three ≡ synced (wrote 1 root two)) (format : List ℕ) (format_is : format ≡ format_sector version n) where
               three_stands : Stands three 0 zeros
               three_stands = stands_still 1 root two three three_is 0 zeros (λ e. omega (arith, e)) two_stands
 
@@ -185,7 +185,7 @@ module _ (n : ℕ) (start : History) where
               three_empty at le lt = stands_still 1 root two three three_is at zeros (λ e. omega (arith, e)) (empty at (omega arith) lt)
 
               -- with the sector of the format the image is fresh
-              made_fresh : (image : Image) → ((index : ℕ) → IsOldOr three 0 format index (image index)) → image 0 ≡ format → IsFresh n image
+              made_fresh : (image : Image) → ((index : ℕ) → IsOldOr three 0 format index (image index)) → image 0 ≡ format → IsFresh version n image
               made_fresh image fits is = record {
                 format = is ∙ format_is;
                 root = ⊎_elim (λ (may : MayHold three 1 (image 1)). three_root (image 1) may ∙ root_is)
@@ -205,7 +205,7 @@ module _ (n : ℕ) (start : History) where
                 fourth_leaves : LeavesOnly start four Formats
                 fourth_leaves = then_leaves start three four Formats third_leaves (weaken three four _ Formats formatted fourth_image)
 
-                all_fresh : four ≡ synced (wrote 0 format three) → (image : Image) → MayLeave four image → IsFresh n image
+                all_fresh : four ≡ synced (wrote 0 format three) → (image : Image) → MayLeave four image → IsFresh version n image
                 all_fresh four_is image may = record {
                   format = stands_now 0 format three four four_is (image 0) (may 0) ∙ format_is;
                   root = stands_still 0 format three four four_is 1 root (λ e. omega (arith, e)) three_root (image 1) (may 1) ∙ root_is;
@@ -214,5 +214,5 @@ module _ (n : ℕ) (start : History) where
                 }
 
                 -- what a crash may leave at any moment, and what it leaves once the format stands
-                pub fourth : LeavesOnly start four Formats × (four ≡ synced (wrote 0 format three) → (image : Image) → MayLeave four image → IsFresh n image)
+                pub fourth : LeavesOnly start four Formats × (four ≡ synced (wrote 0 format three) → (image : Image) → MayLeave four image → IsFresh version n image)
                 fourth = (fourth_leaves, all_fresh)

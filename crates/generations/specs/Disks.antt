@@ -45,8 +45,8 @@ IsFaultOf count image Memory = ⊥
 abbrev pub first_root : Root
 first_root = record { generation = 0; edits = 0; journal_at = 0; snapshot_len = 0; archive_len = 0 }
 
--- The disk was just formatted with n sectors: the first root stands, and the other sector of a root and the journal are empty.
-pub record IsFresh (n : ℕ) (image : Image) : Type 0 where
-  pub format : image 0 ≡ format_sector n
+-- The disk was just formatted in a version with n sectors: it has the first root, and the other sector of a root and the journal are empty.
+pub record IsFresh (version n : ℕ) (image : Image) : Type 0 where
+  pub format : image 0 ≡ format_sector version n
   pub root : image 1 ≡ root_sector first_root
   pub empty : (at : ℕ) → 2 ≤ at → at < 3 + journal_sectors n → image at ≡ zeros

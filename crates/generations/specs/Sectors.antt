@@ -16,9 +16,21 @@ root_mark = codes "VTROOT01"
 abbrev pub zeros : List ℕ
 zeros = replicate 512 0
 
--- the sector of the format with n sectors: the mark, the version, n
-unfoldable pub format_sector : ℕ → List ℕ
-format_sector n = disk_mark ++ to_le_bytes w32 1 ++ to_le_bytes w64 n ++ replicate 492 0
+-- there is a format of this version
+abbrev pub IsVersion : ℕ → Type 0
+IsVersion version = (version ≡ 1) ⊎ (version ≡ 2)
+
+-- the sector of the format of a version with n sectors: the mark, the version, n
+unfoldable pub format_sector : (version n : ℕ) → List ℕ
+format_sector version n = disk_mark ++ to_le_bytes w32 version ++ to_le_bytes w64 n ++ replicate 492 0
+
+-- the version in the sector of a format, whatever else the sector has
+abbrev pub version_from : List ℕ → ℕ
+version_from sector = from_le_bytes w32 (slice_range sector 8 12)
+
+-- the sector is that of the format with n sectors, of a version that there is
+abbrev pub IsFormatSector : List ℕ → ℕ → Type 0
+IsFormatSector sector n = IsVersion (version_from sector) × (sector ≡ format_sector (version_from sector) n)
 
 -- the sector begins with the mark of a format
 abbrev pub HasMark : List ℕ → Type 0
@@ -26,7 +38,7 @@ HasMark sector = take 8 sector ≡ disk_mark
 
 -- the sector is that of a format with n sectors, which a disk of this count has
 pub record IsFormat (count : ℕ) (sector : List ℕ) (n : ℕ) : Type 0 where
-  pub bytes : sector ≡ format_sector n
+  pub stands : IsFormatSector sector n
   pub size : IsSize n
   pub within : n ≤ count
 
@@ -39,6 +51,10 @@ root_sector root =
 -- the number in the eight bytes from an offset on
 abbrev pub number_from : ℕ → List ℕ → ℕ
 number_from at sector = from_le_bytes w64 (slice_range sector at (at + 8))
+
+-- the count of sectors in the sector of a format, whatever else the sector has
+abbrev pub sectors_from : List ℕ → ℕ
+sectors_from sector = number_from 12 sector
 
 -- the five numbers of a root, each at its offset
 unfoldable pub root_from : List ℕ → Root

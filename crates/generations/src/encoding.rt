@@ -1,16 +1,15 @@
 //! The sector of the format and the sector of a root, as bytes.
-ghost use Rattle.std.specs.Prelude.{◌≡◌, ◌+◌, ◌^◌, ◌<◌, ◌≤◌, ◌↔◌, ◌++◌, Some, ℕ, take, drop};
+ghost use Rattle.std.specs.Prelude.{◌≡◌, ◌+◌, ◌^◌, ◌<◌, ◌≤◌, ◌↔◌, ◌++◌, Some, ℕ, take, drop, IsTrue};
 ghost use Rattle.std.specs.Int.{w64, to_le_bytes};
-ghost use Rattle.generations.specs.Sectors.{format_sector, root_sector, root_from, number_from, AreNumbers, IsRootSector};
+ghost use Rattle.generations.specs.Sectors.{IsVersion, IsFormatSector, version_from, format_sector, root_sector, root_from, number_from, AreNumbers, IsRootSector};
 
 use crate::root::Root;
+use crate::sizes::{FIRST_VERSION, LAST_VERSION};
 
 /// The first bytes of a formatted disk.
 pub(crate) const DISK_MARK: [u8; 8] = *b"VTILEDSK";
 
 const ROOT_MARK: [u8; 8] = *b"VTROOT01";
-
-const VERSION: u32 = 1;
 
 fn put_number(sector: &mut [u8; 512], at: usize, number: u64)
     requires { at + 8 ≤ 512 }
@@ -28,14 +27,30 @@ pub(crate) fn number_at(sector: &[u8; 512], at: usize) -> u64
     u64::from_le_bytes(number)
 }
 
-/// The sector of the format with so many sectors.
+/// Whether there is a format of this version.
+pub(crate) fn is_version(version: u32) -> bool
+    ensures { IsTrue result ↔ IsVersion version }
+{
+    version == FIRST_VERSION || version == LAST_VERSION
+}
+
+/// The version in the sector of a format, whatever else the sector has.
+pub(crate) fn version_at(sector: &[u8; 512]) -> u32
+    ensures { result ≡ version_from sector.now }
+{
+    let mut version = [0; 4];
+    version.copy_from_slice(&sector[8..12]);
+    u32::from_le_bytes(version)
+}
+
+/// The sector of the format of a version with so many sectors.
 #[tactic(auto, unfolding(crate::specs::Sectors::disk_mark, crate::specs::Sectors::format_sector))]
-pub(crate) fn format_bytes(sectors: u64) -> [u8; 512]
-    ensures { result ≡ format_sector sectors }
+pub(crate) fn format_bytes(version: u32, sectors: u64) -> [u8; 512]
+    ensures { result ≡ format_sector version sectors }
 {
     let mut sector = [0; 512];
     sector[..8].copy_from_slice(&DISK_MARK);
-    sector[8..12].copy_from_slice(&VERSION.to_le_bytes());
+    sector[8..12].copy_from_slice(&version.to_le_bytes());
     put_number(&mut sector, 12, sectors);
     sector
 }
@@ -81,10 +96,14 @@ pub(crate) fn root_of(sector: &[u8; 512]) -> Option<Root>
 
 /// The count of sectors that the sector of a format names.
 pub(crate) fn size_of(sector: &[u8; 512]) -> Option<u64>
-    ensures { (n : ℕ) → (result ≡ Some n) ↔ ((sector.now ≡ format_sector n) × (n < 2 ^ 64)) }
+    ensures { (n : ℕ) → (result ≡ Some n) ↔ (IsFormatSector sector.now n × (n < 2 ^ 64)) }
 {
+    let version = version_at(sector);
+    if !is_version(version) {
+        return None;
+    }
     let sectors = number_at(sector, 12);
-    let bytes = format_bytes(sectors);
+    let bytes = format_bytes(version, sectors);
     if bytes == *sector {
         Some(sectors)
     } else {

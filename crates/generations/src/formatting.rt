@@ -7,16 +7,16 @@ ghost use Rattle.generations.specs.Areas.{IsSize};
 ghost use Rattle.generations.specs.Disks.{HasNoMark, IsFresh};
 ghost use Rattle.generations.specs.Faults.{CountsDevice};
 ghost use Rattle.generations.specs.Written.{IsOldOr, IsOldOrEmpty};
-ghost use Rattle.generations.specs.Sectors.{zeros};
+ghost use Rattle.generations.specs.Sectors.{zeros, IsVersion};
 ghost use Rattle.generations.specs.declared.fault.StoreFault.TheVariants.{TooSmall, Device, Damaged};
 ghost use Rattle.generations.specs.declared.fault.What.TheVariants.{Size};
-ghost use Rattle.generations.specs.declared.sizes.TheConstants.{LEAST_SECTORS, MOST_SECTORS};
+ghost use Rattle.generations.specs.declared.sizes.TheConstants.{LEAST_SECTORS, MOST_SECTORS, LAST_VERSION};
 
 use crate::encoding::{format_bytes, root_bytes};
 use crate::fault::{StoreFault, What};
 use crate::layout::Layout;
 use crate::root::Root;
-use crate::sizes::LEAST_SECTORS;
+use crate::sizes::{LAST_VERSION, LEAST_SECTORS};
 use sector_disk::{DiskFault, Sectors};
 
 const EMPTY: [u8; 512] = [0; 512];
@@ -93,21 +93,21 @@ fn write_zeros<D: Sectors>(disk: &mut D, end: u64) -> Result<(), DiskFault>
     Ok(())
 }
 
-fn write_parts<D: Sectors>(disk: &mut D, layout: Layout) -> Result<(), DiskFault>
+fn write_parts<D: Sectors>(disk: &mut D, layout: Layout, version: u32) -> Result<(), DiskFault>
     requires { layout.sectors ≡ D.sectors disk.old }
     ensures count { D.sectors disk.new ≡ D.sectors disk.old }
     ensures honest { D.honest disk.new → D.honest disk.old }
     ensures faults { OnOk result (D.faults disk.new ≡ D.faults disk.old) }
     ensures failed { OnErr result (HasFailed (D.faults disk.old) (D.faults disk.new)) }
     ensures any_moment { D.honest disk.new → LeavesOnly (D.history disk.old) (D.history disk.new)
-        (λ image. MayLeave (D.history disk.old) image ⊎ HasNoMark image ⊎ IsFresh layout.sectors image) }
-    ensures fresh { D.honest disk.new → OnOk result ((image : Image) → MayLeave (D.history disk.new) image → IsFresh layout.sectors image) }
+        (λ image. MayLeave (D.history disk.old) image ⊎ HasNoMark image ⊎ IsFresh version layout.sectors image) }
+    ensures fresh { D.honest disk.new → OnOk result ((image : Image) → MayLeave (D.history disk.new) image → IsFresh version layout.sectors image) }
 {
     write_and_sync(disk, 0, &EMPTY)?;
     clear(disk, 3 + layout.journal)?;
     let first = root_bytes(FIRST_ROOT);
     write_and_sync(disk, 1, &first)?;
-    let format = format_bytes(layout.sectors);
+    let format = format_bytes(version, layout.sectors);
     write_and_sync(disk, 0, &format)?;
     Ok(())
 }
@@ -130,8 +130,41 @@ fn clear<D: Sectors>(disk: &mut D, end: u64) -> Result<(), DiskFault>
     Ok(())
 }
 
-/// Formats a disk of `LEAST_SECTORS` to `MOST_SECTORS` sectors, and else leaves it untouched. What stood on it is lost:
-/// after a fault of the disk or a crash it holds what it held before, or has no format, or is formatted.
+/// Formats a disk of `LEAST_SECTORS` to `MOST_SECTORS` sectors in this version of the format, and else leaves it untouched.
+/// What it held is lost: after a fault of the disk or a crash it holds what it held before, or has no format, or is formatted.
+pub fn format_version<D: Sectors>(disk: &mut D, version: u32) -> Result<(), StoreFault>
+    requires { IsVersion version }
+    ensures small { (result ≡ Err TooSmall) ↔ (D.sectors disk.old < LEAST_SECTORS) }
+    ensures large { (result ≡ Err (Damaged Size)) ↔ (MOST_SECTORS < D.sectors disk.old) }
+    ensures only { IfErr result (λ fault. (fault ≡ TooSmall) ⊎ (fault ≡ Damaged Size) ⊎ (fault ≡ Device)) }
+    ensures untouched { (IsSize (D.sectors disk.old) → ⊥) → disk.new ≡ disk.old }
+    ensures count { D.sectors disk.new ≡ D.sectors disk.old }
+    ensures faults { OnOk result (D.faults disk.new ≡ D.faults disk.old) }
+    ensures failed { IfErr result (λ fault. CountsDevice fault (D.faults disk.old) (D.faults disk.new)) }
+    ensures honest { D.honest disk.new → D.honest disk.old }
+
+    // A crash at any moment leaves an image from before, or one without the mark, or a fresh one.
+    ensures any_moment { D.honest disk.new → LeavesOnly (D.history disk.old) (D.history disk.new)
+        (λ image. MayLeave (D.history disk.old) image ⊎ HasNoMark image ⊎ IsFresh version (D.sectors disk.old) image) }
+    ensures fresh { D.honest disk.new
+        → OnOk result ((image : Image) → MayLeave (D.history disk.new) image → IsFresh version (D.sectors disk.old) image) }
+    ensures seen { D.honest disk.new → OnOk result (IsFresh version (D.sectors disk.old) (seen (D.history disk.new))) }
+{
+    let sectors = disk.count();
+    if sectors < LEAST_SECTORS {
+        return Err(StoreFault::TooSmall);
+    }
+    let Some(layout) = Layout::of(sectors) else {
+        return Err(StoreFault::Damaged(What::Size));
+    };
+    match write_parts(disk, layout, version) {
+        Ok(()) => Ok(()),
+        Err(DiskFault) => Err(StoreFault::Device),
+    }
+}
+
+/// Formats a disk of `LEAST_SECTORS` to `MOST_SECTORS` sectors in the last version of the format, and else leaves it untouched.
+/// What it held is lost: after a fault of the disk or a crash it holds what it held before, or has no format, or is formatted.
 pub fn format<D: Sectors>(disk: &mut D) -> Result<(), StoreFault>
     ensures small { (result ≡ Err TooSmall) ↔ (D.sectors disk.old < LEAST_SECTORS) }
     ensures large { (result ≡ Err (Damaged Size)) ↔ (MOST_SECTORS < D.sectors disk.old) }
@@ -144,20 +177,10 @@ pub fn format<D: Sectors>(disk: &mut D) -> Result<(), StoreFault>
 
     // A crash at any moment leaves an image from before, or one without the mark, or a fresh one.
     ensures any_moment { D.honest disk.new → LeavesOnly (D.history disk.old) (D.history disk.new)
-        (λ image. MayLeave (D.history disk.old) image ⊎ HasNoMark image ⊎ IsFresh (D.sectors disk.old) image) }
+        (λ image. MayLeave (D.history disk.old) image ⊎ HasNoMark image ⊎ IsFresh LAST_VERSION (D.sectors disk.old) image) }
     ensures fresh { D.honest disk.new
-        → OnOk result ((image : Image) → MayLeave (D.history disk.new) image → IsFresh (D.sectors disk.old) image) }
-    ensures seen { D.honest disk.new → OnOk result (IsFresh (D.sectors disk.old) (seen (D.history disk.new))) }
+        → OnOk result ((image : Image) → MayLeave (D.history disk.new) image → IsFresh LAST_VERSION (D.sectors disk.old) image) }
+    ensures seen { D.honest disk.new → OnOk result (IsFresh LAST_VERSION (D.sectors disk.old) (seen (D.history disk.new))) }
 {
-    let sectors = disk.count();
-    if sectors < LEAST_SECTORS {
-        return Err(StoreFault::TooSmall);
-    }
-    let Some(layout) = Layout::of(sectors) else {
-        return Err(StoreFault::Damaged(What::Size));
-    };
-    match write_parts(disk, layout) {
-        Ok(()) => Ok(()),
-        Err(DiskFault) => Err(StoreFault::Device),
-    }
+    format_version(disk, LAST_VERSION)
 }

@@ -11,11 +11,13 @@ mod layout;
 mod reading;
 mod root;
 mod sizes;
+mod upgrading;
 
 pub use fault::{StoreFault, What};
-pub use formatting::format;
+pub use formatting::{format, format_version};
 pub use installing::{install, write_area};
 pub use layout::Layout;
-pub use reading::read_root;
+pub use reading::{Found, read_root};
 pub use root::Root;
-pub use sizes::{LEAST_SECTORS, MOST_SECTORS};
+pub use sizes::{FIRST_VERSION, LAST_VERSION, LEAST_SECTORS, MOST_SECTORS};
+pub use upgrading::upgrade;

@@ -3,11 +3,12 @@ ghost use Rattle.std.specs.Prelude.{◌≡◌, ◌⊎◌, ◌≤◌, ◌<◌, �
 ghost use Rattle.sector_disk.specs.Disk.{seen};
 ghost use Rattle.generations.specs.Disks.{LiveRoot, IsFaultOf};
 ghost use Rattle.generations.specs.Faults.{CountsDevice};
-ghost use Rattle.generations.specs.Sectors.{IsFormat, HasMark, IsSlot, IsBad, CanStand};
-ghost use Rattle.generations.specs.declared.fault.StoreFault.TheVariants.{Device, Damaged};
-ghost use Rattle.generations.specs.declared.fault.What.TheVariants.{RootSector};
+ghost use Rattle.generations.specs.Sectors.{IsFormat, IsVersion, version_from, HasMark, IsSlot, IsBad, CanStand};
+ghost use Rattle.generations.specs.declared.fault.StoreFault.TheVariants.{Device, Damaged, NotFormatted};
+ghost use Rattle.generations.specs.declared.fault.What.TheVariants.{RootSector, Size};
 
 use crate::checks::{has_mark, layout_in, newest, slot_in};
+use crate::encoding::version_at;
 use crate::fault::{StoreFault, What};
 use crate::layout::Layout;
 use crate::root::Root;
@@ -30,14 +31,29 @@ fn read_sector<D: Sectors>(disk: &mut D, at: u64) -> Result<[u8; 512], StoreFaul
     }
 }
 
-fn read_layout<D: Sectors>(disk: &mut D) -> Result<Layout, StoreFault>
+/// What a disk has: its layout, its live root, and the version of its format.
+#[derive(Clone, Copy, Debug, PartialEq, Eq)]
+pub struct Found {
+    /// How the disk is divided.
+    pub layout: Layout,
+    /// The root of greatest generation.
+    pub root: Root,
+    /// The version of the format, from `FIRST_VERSION` to `LAST_VERSION`.
+    pub version: u32,
+}
+
+// The layout that the format's sector gives, and the version of the format.
+pub(crate) fn read_layout<D: Sectors>(disk: &mut D) -> Result<(Layout, u32), StoreFault>
     ensures count { D.sectors disk.new ≡ D.sectors disk.old }
     ensures faults { OnOk result (D.faults disk.new ≡ D.faults disk.old) }
     ensures failed { IfErr result (λ fault. CountsDevice fault (D.faults disk.old) (D.faults disk.new)) }
     ensures honest { D.honest disk.new → D.honest disk.old }
     ensures history { D.honest disk.new → D.history disk.new ≡ D.history disk.old }
-    ensures within { IfOk result (λ layout. layout.sectors ≤ D.sectors disk.old) }
-    ensures format { D.honest disk.new → IfOk result (λ layout. IsFormat (D.sectors disk.old) (seen (D.history disk.old) 0) layout.sectors) }
+    ensures within { IfOk result (λ found. found.0.sectors ≤ D.sectors disk.old) }
+    ensures known { IfOk result (λ found. IsVersion found.1) }
+    ensures only { IfErr result (λ fault. (fault ≡ NotFormatted) ⊎ (fault ≡ Damaged Size) ⊎ (fault ≡ Device)) }
+    ensures format { D.honest disk.new → IfOk result (λ found. IsFormat (D.sectors disk.old) (seen (D.history disk.old) 0) found.0.sectors) }
+    ensures version { D.honest disk.new → IfOk result (λ found. found.1 ≡ version_from (seen (D.history disk.old) 0)) }
     ensures fault { D.honest disk.new
         → IfErr result (λ fault. (fault ≡ Device) ⊎ IsFaultOf (D.sectors disk.old) (seen (D.history disk.old)) fault) }
 {
@@ -50,7 +66,7 @@ fn read_layout<D: Sectors>(disk: &mut D) -> Result<Layout, StoreFault>
         return Err(StoreFault::NotFormatted);
     }
     match layout_in(&sector, count) {
-        Some(layout) => Ok(layout),
+        Some(layout) => Ok((layout, version_at(&sector))),
         None => Err(StoreFault::Damaged(What::Size)),
     }
 }
@@ -77,25 +93,33 @@ fn read_slot<D: Sectors>(
     slot_in(&sector, layout, parity)
 }
 
-/// The layout of a disk and the root that counts on it: of the one or two that it has, the one of greater generation. Only
-/// reads. At a fault other than `Device` it is the first that the disk has: of sector 0, and then of the sectors of roots.
-pub fn read_root<D: Sectors>(disk: &mut D) -> Result<(Layout, Root), StoreFault>
+/// The layout of a disk, the version of its format and the root that counts on it: of the one or two that it has, the one of
+/// greater generation. Only reads. At a fault other than `Device` it is the first that the disk has: of sector 0, and then of
+/// the sectors of roots.
+pub fn read_root<D: Sectors>(disk: &mut D) -> Result<Found, StoreFault>
     ensures count { D.sectors disk.new ≡ D.sectors disk.old }
     ensures faults { OnOk result (D.faults disk.new ≡ D.faults disk.old) }
     ensures failed { IfErr result (λ fault. CountsDevice fault (D.faults disk.old) (D.faults disk.new)) }
     ensures honest { D.honest disk.new → D.honest disk.old }
     ensures history { D.honest disk.new → D.history disk.new ≡ D.history disk.old }
-    ensures within { IfOk result (λ found. found.0.sectors ≤ D.sectors disk.new) }
-    ensures can { IfOk result (λ found. CanStand found.0.sectors found.1) }
-    ensures root { D.honest disk.new → IfOk result (λ found. LiveRoot (D.sectors disk.old) (seen (D.history disk.old)) found.0.sectors found.1) }
+    ensures within { IfOk result (λ found. found.layout.sectors ≤ D.sectors disk.new) }
+    ensures can { IfOk result (λ found. CanStand found.layout.sectors found.root) }
+    ensures known { IfOk result (λ found. IsVersion found.version) }
+    ensures version { D.honest disk.new → IfOk result (λ found. found.version ≡ version_from (seen (D.history disk.old) 0)) }
+    ensures root { D.honest disk.new
+        → IfOk result (λ found. LiveRoot (D.sectors disk.old) (seen (D.history disk.old)) found.layout.sectors found.root) }
     ensures fault { D.honest disk.new
         → IfErr result (λ fault. (fault ≡ Device) ⊎ IsFaultOf (D.sectors disk.old) (seen (D.history disk.old)) fault) }
 {
-    let layout = read_layout(disk)?;
+    let (layout, version) = read_layout(disk)?;
     let even = read_slot(disk, layout, 0)?;
     let odd = read_slot(disk, layout, 1)?;
     match newest(even, odd) {
-        Some(root) => Ok((layout, root)),
+        Some(root) => Ok(Found {
+            layout,
+            root,
+            version,
+        }),
         None => Err(StoreFault::Damaged(What::RootSector)),
     }
 }

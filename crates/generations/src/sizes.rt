@@ -2,3 +2,7 @@
 pub const LEAST_SECTORS: u64 = 64;
 /// The most sectors that a disk can be formatted with.
 pub const MOST_SECTORS: u64 = 16_777_216;
+/// The first version of the format of a disk.
+pub const FIRST_VERSION: u32 = 1;
+/// The last version of the format of a disk. `format` writes it, and `upgrade` raises a disk to it.
+pub const LAST_VERSION: u32 = 2;

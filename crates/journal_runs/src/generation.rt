@@ -1,7 +1,10 @@
 //! Commands on the generations of a disk.
 use crate::lines::{GenerationVerb, Line};
 use crate::trial::{Trial, fixed_text, outcome_text};
-use generations::{Layout, Root, format, install, read_root, write_area};
+use generations::{
+    FIRST_VERSION, LAST_VERSION, Layout, Root, format, format_version, install, read_root, upgrade,
+    write_area,
+};
 use script_bytes::sector_of;
 use sector_disk::Sectors;
 use std::alloc::{AllocError, Global};
@@ -14,6 +17,26 @@ fn layout(alloc: Global, sectors: u64) -> Result<Option<String>, AllocError> {
 fn format_disk(alloc: Global, trial: &mut Trial) -> Result<Option<String>, AllocError> {
     let before = trial.disk.calls();
     let outcome = format(&mut trial.disk);
+    outcome_text(alloc, outcome, trial.disk.calls().saturating_sub(before))
+}
+
+fn format_disk_in(
+    alloc: Global,
+    trial: &mut Trial,
+    version: u64,
+) -> Result<Option<String>, AllocError> {
+    let before = trial.disk.calls();
+    let outcome = match version {
+        1 => format_version(&mut trial.disk, FIRST_VERSION),
+        2 => format_version(&mut trial.disk, LAST_VERSION),
+        _ => return fixed_text(alloc, "no version"),
+    };
+    outcome_text(alloc, outcome, trial.disk.calls().saturating_sub(before))
+}
+
+fn upgrade_disk(alloc: Global, trial: &mut Trial) -> Result<Option<String>, AllocError> {
+    let before = trial.disk.calls();
+    let outcome = upgrade(&mut trial.disk);
     outcome_text(alloc, outcome, trial.disk.calls().saturating_sub(before))
 }
 
@@ -63,6 +86,8 @@ pub(crate) fn answered(
     match (verb, line.numbers.as_slice()) {
         (GenerationVerb::Layout, [sectors]) => layout(alloc, *sectors),
         (GenerationVerb::Format, []) => format_disk(alloc, trial),
+        (GenerationVerb::FormatVersion, [version]) => format_disk_in(alloc, trial, *version),
+        (GenerationVerb::Upgrade, []) => upgrade_disk(alloc, trial),
         (GenerationVerb::Root, []) => root(alloc, trial),
         (GenerationVerb::Area, [generation, index]) => area(
             alloc,

@@ -23,6 +23,8 @@ pub(crate) enum DiskVerb {
 pub(crate) enum GenerationVerb {
     Layout,
     Format,
+    FormatVersion,
+    Upgrade,
     Root,
     Area,
     Install,
@@ -76,6 +78,8 @@ fn generation_verb_in(word: &str) -> Option<GenerationVerb> {
     match word {
         "layout" => Some(GenerationVerb::Layout),
         "format" => Some(GenerationVerb::Format),
+        "format_version" => Some(GenerationVerb::FormatVersion),
+        "upgrade" => Some(GenerationVerb::Upgrade),
         "root" => Some(GenerationVerb::Root),
         "area" => Some(GenerationVerb::Area),
         "install" => Some(GenerationVerb::Install),

@@ -16,7 +16,9 @@
 //! | `stop` | takes the disk away with its unsynced writes |
 //! | `crash C C ..` | makes the disk that a crash leaves of the stopped one: for the i-th unsynced sector its C-th write, or 0 for none |
 //! | `layout N` | prints the layout of a disk of N sectors |
-//! | `format` | formats the disk |
+//! | `format` | formats the disk in the last version of the format |
+//! | `format_version V` | formats the disk in version V of the format |
+//! | `upgrade` | upgrades the disk to the last version of the format |
 //! | `root` | reads the live root |
 //! | `area G I = BYTES` | writes sector I of the area of generation G |
 //! | `install G E J S A` | installs a root: generation, edits, journal place, lengths of snapshot and archive |

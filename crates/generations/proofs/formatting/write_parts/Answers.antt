@@ -9,32 +9,32 @@ use Rattle.generations.proofs.formatting.write_parts.Goals as goal
 use Rattle.generations.proofs.formatting.write_parts.Goals.{After-write_and_sync-3}
 
 pub returns-in_err-write_and_sync-clause-any_moment : goal.returns-in_err-write_and_sync-clause-any_moment
-returns-in_err-write_and_sync-clause-any_moment g c honest = first_leaves _ _ _ (c.write_and_sync.ensures.leaves honest)
+returns-in_err-write_and_sync-clause-any_moment g c honest = first_leaves _ _ _ _ (c.write_and_sync.ensures.leaves honest)
 
 pub returns-in_err-clear-clause-any_moment : goal.returns-in_err-clear-clause-any_moment
 returns-in_err-clear-clause-any_moment g c honest =
     let one = c.clear.ensures.honest honest in
-    second_leaves _ _ _ (c.write_and_sync.ensures.leaves one) (c.in_ok-write_and_sync.ensures.stands one) _ (c.clear.ensures.leaves honest)
+    second_leaves _ _ _ _ (c.write_and_sync.ensures.leaves one) (c.in_ok-write_and_sync.ensures.stands one) _ (c.clear.ensures.leaves honest)
 
 pub returns-in_err-write_and_sync-2-clause-any_moment : goal.returns-in_err-write_and_sync-2-clause-any_moment
 returns-in_err-write_and_sync-2-clause-any_moment g c honest =
     let two = c.write_and_sync-2.ensures.honest honest in
     let one = c.clear.ensures.honest two in
-    third_leaves _ _ _ (c.write_and_sync.ensures.leaves one) (c.in_ok-write_and_sync.ensures.stands one) _ (c.clear.ensures.leaves two)
+    third_leaves _ _ _ _ (c.write_and_sync.ensures.leaves one) (c.in_ok-write_and_sync.ensures.stands one) _ (c.clear.ensures.leaves two)
     (c.clear.ensures.within two) (λ at pos lt. c.in_ok-clear.ensures.empty two at pos (omega (arith, lt, c.args.layout.journal_is)))
     _ c.root_bytes-first.ensures _ (c.write_and_sync-2.ensures.leaves honest)
 
 -- after the last write: what a crash may leave at any moment, and what it leaves once the format stands
 written : (g : given.Over) (c : After-write_and_sync-3 g) → g.D.Sectors.honest c.write_and_sync-3.new.disk
     → LeavesOnly (g.D.Sectors.history c.args.disk.now) (g.D.Sectors.history c.write_and_sync-3.new.disk)
-    (Formats c.args.layout.sectors (g.D.Sectors.history c.args.disk.now))
+    (Formats c.args.version c.args.layout.sectors (g.D.Sectors.history c.args.disk.now))
     × (g.D.Sectors.history c.write_and_sync-3.new.disk ≡ synced (wrote 0 c.format_bytes-format.result (g.D.Sectors.history c.write_and_sync-2.new.disk))
-    → (image : Image) → MayLeave (g.D.Sectors.history c.write_and_sync-3.new.disk) image → IsFresh c.args.layout.sectors image)
+    → (image : Image) → MayLeave (g.D.Sectors.history c.write_and_sync-3.new.disk) image → IsFresh c.args.version c.args.layout.sectors image)
 written g c honest =
     let three = c.write_and_sync-3.ensures.honest honest in
     let two = c.write_and_sync-2.ensures.honest three in
     let one = c.clear.ensures.honest two in
-    fourth _ _ _ (c.write_and_sync.ensures.leaves one) (c.in_ok-write_and_sync.ensures.stands one) _ (c.clear.ensures.leaves two)
+    fourth _ _ _ _ (c.write_and_sync.ensures.leaves one) (c.in_ok-write_and_sync.ensures.stands one) _ (c.clear.ensures.leaves two)
     (c.clear.ensures.within two) (λ at pos lt. c.in_ok-clear.ensures.empty two at pos (omega (arith, lt, c.args.layout.journal_is)))
     _ c.root_bytes-first.ensures _ (c.write_and_sync-2.ensures.leaves three) (c.in_ok-write_and_sync-2.ensures.stands three)
     _ c.format_bytes-format.ensures _ (c.write_and_sync-3.ensures.leaves honest)

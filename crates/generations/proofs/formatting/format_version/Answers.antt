@@ -3,7 +3,7 @@ use Rattle.sector_disk.specs.Disk.{seen, MayLeave}
 use Rattle.sector_disk.specs.Moments.{LeavesOnly}
 use Rattle.sector_disk.proofs.History.{started, seen_may}
 use Rattle.generations.specs.Disks.{HasNoMark, IsFresh}
-use Rattle.generations.proofs.formatting.format.Goals as goal
+use Rattle.generations.proofs.formatting.format_version.Goals as goal
 
 pub returns-then-sectors-lt-LEAST_SECTORS-clause-any_moment : goal.returns-then-sectors-lt-LEAST_SECTORS-clause-any_moment
 returns-then-sectors-lt-LEAST_SECTORS-clause-any_moment g c honest = started _ _ (λ image may. inl may)
@@ -15,16 +15,16 @@ pub returns-in-Ok-clause-any_moment : goal.returns-in-Ok-clause-any_moment
 returns-in-Ok-clause-any_moment g c honest =
     let same : c.in-Some.layout.sectors ≡ g.D.Sectors.sectors c.args.disk.now = c.in-Some.ensures.size ∙ c.count-sectors.ensures in
     subst (λ (n : ℕ). LeavesOnly (g.D.Sectors.history c.args.disk.now) (g.D.Sectors.history c.write_parts.new.disk)
-    (λ image. MayLeave (g.D.Sectors.history c.args.disk.now) image ⊎ HasNoMark image ⊎ IsFresh n image)) same (c.write_parts.ensures.any_moment honest)
+    (λ image. MayLeave (g.D.Sectors.history c.args.disk.now) image ⊎ HasNoMark image ⊎ IsFresh c.args.version n image)) same (c.write_parts.ensures.any_moment honest)
 
 pub returns-in-Err-clause-any_moment : goal.returns-in-Err-clause-any_moment
 returns-in-Err-clause-any_moment g c honest =
     let same : c.in-Some.layout.sectors ≡ g.D.Sectors.sectors c.args.disk.now = c.in-Some.ensures.size ∙ c.count-sectors.ensures in
     subst (λ (n : ℕ). LeavesOnly (g.D.Sectors.history c.args.disk.now) (g.D.Sectors.history c.write_parts.new.disk)
-    (λ image. MayLeave (g.D.Sectors.history c.args.disk.now) image ⊎ HasNoMark image ⊎ IsFresh n image)) same (c.write_parts.ensures.any_moment honest)
+    (λ image. MayLeave (g.D.Sectors.history c.args.disk.now) image ⊎ HasNoMark image ⊎ IsFresh c.args.version n image)) same (c.write_parts.ensures.any_moment honest)
 
 pub returns-in-Ok-clause-seen : goal.returns-in-Ok-clause-seen
 returns-in-Ok-clause-seen g c honest =
     let same : c.in-Some.layout.sectors ≡ g.D.Sectors.sectors c.args.disk.now = c.in-Some.ensures.size ∙ c.count-sectors.ensures in
-    subst (λ (n : ℕ). IsFresh n (seen (g.D.Sectors.history c.write_parts.new.disk))) same
+    subst (λ (n : ℕ). IsFresh c.args.version n (seen (g.D.Sectors.history c.write_parts.new.disk))) same
     (c.in-Ok.ensures.fresh honest (seen (g.D.Sectors.history c.write_parts.new.disk)) (seen_may (g.D.Sectors.history c.write_parts.new.disk)))
