@@ -21,7 +21,7 @@ from commands import Cases, vtserve
 
 sys.path.append(str(Path(__file__).resolve().parent / "model"))
 import disk as model
-from disk import Edit, Root
+from disk import Change, Root
 from map_archive import archive_of
 from tiles import feature, tile
 
@@ -147,7 +147,7 @@ def serve(cases, name, path, machine, edits):
 
 def of_length(length):
     """A feature whose PUT has a text of this length, from 32 to 2,000 bytes."""
-    short = len(model.text_of(Edit(1, feature({"points": [[1, 2]]}, tags={"t": "", "u": ""}))))
+    short = len(model.text_of(Change(1, feature({"points": [[1, 2]]}, tags={"t": "", "u": ""}))))
     first = (length - short) // 2
     return feature({"points": [[1, 2]]}, tags={"t": "t" * first, "u": "u" * (length - short - first)})
 
@@ -196,7 +196,7 @@ def any_feature(source):
 
 def any_edit(source):
     number = source.choice([source.randrange(12), 2**63 - 1 - source.randrange(4)])
-    return Edit(number, any_feature(source) if source.random() < 0.7 else None)
+    return Change(number, any_feature(source) if source.random() < 0.7 else None)
 
 
 # ---- what the program leaves
@@ -214,8 +214,8 @@ def leaves(cases, folder):
     machine = fresh(path, 1024)
     cases.show("format", different([("bytes", Path(path).read_bytes(), model.write_disk(1024, 0, {}, [], b"", 0))]), [])
     for number, item in enumerate(chosen()):
-        serve(cases, f"a text of {len(model.text_of(Edit(number, item)))} bytes", path, machine, [Edit(number, item)])
-    serve(cases, "each of them goes", path, machine, [Edit(number, None) for number in machine.map])
+        serve(cases, f"a text of {len(model.text_of(Change(number, item)))} bytes", path, machine, [Change(number, item)])
+    serve(cases, "each of them goes", path, machine, [Change(number, None) for number in machine.map])
     path = os.path.join(folder, "random")
     machine, source = fresh(path, 4096), random.Random(7)
     for process in range(12):
@@ -226,22 +226,22 @@ def fills(cases, folder):
     """A ring that has no place left, or too few."""
     path = os.path.join(folder, "full")
     machine = fresh(path, 67)
-    serve(cases, "a ring of 16 places", path, machine, [Edit(number, POINT) for number in range(13)])
-    serve(cases, "4 parts for 3 places", path, machine, [Edit(20, of_length(1489)), Edit(21, of_length(496)), Edit(22, of_length(993))])
-    serve(cases, "2 parts for 2 places", path, machine, [Edit(23, of_length(992))])
-    serve(cases, "no place", path, machine, [Edit(24, POINT), Edit(1, POINT), Edit(1, None), Edit(99, None)])
+    serve(cases, "a ring of 16 places", path, machine, [Change(number, POINT) for number in range(13)])
+    serve(cases, "4 parts for 3 places", path, machine, [Change(20, of_length(1489)), Change(21, of_length(496)), Change(22, of_length(993))])
+    serve(cases, "2 parts for 2 places", path, machine, [Change(23, of_length(992))])
+    serve(cases, "no place", path, machine, [Change(24, POINT), Change(1, POINT), Change(1, None), Change(99, None)])
 
 
 def refused(cases, folder):
     """Requests that are refused leave the file as it is."""
     path = os.path.join(folder, "refused")
     machine = fresh(path, 1024)
-    serve(cases, "one edit", path, machine, [Edit(1, POINT)])
+    serve(cases, "one edit", path, machine, [Change(1, POINT)])
     before = Path(path).read_bytes()
     wide = feature({"polygons": [[square(0, 0, WORLD - 1)]]}, maxzoom=19)
     many = feature({"points": [[index, index] for index in range(4094)]})
     edits = [(many, "E8 Long"), (wide, "E9 Reach"), (feature({"points": [[0, 0]]}, layer=""), "E3 Layer")]
-    requests = b"".join(edit_request(Edit(2, item)) for item, _ in edits) + edit_request(Edit(2**63, POINT))
+    requests = b"".join(edit_request(Change(2, item)) for item, _ in edits) + edit_request(Change(2**63, POINT))
     wanted = [(400, f"{word}\n") for _, word in edits] + [(404, "NotFound\n")]
     rows = [("replies", replies(vtserve(["pipe", path], requests)[1]), wanted), ("bytes", Path(path).read_bytes(), before)]
     cases.show("requests that are refused leave the file as it is", different(rows), [])
@@ -257,12 +257,12 @@ def one_of_each():
 
 
 def small_edits(count):
-    return [Edit(number, feature({"points": [[number << 28, 1 << 30]]})) for number in range(count)]
+    return [Change(number, feature({"points": [[number << 28, 1 << 30]]})) for number in range(count)]
 
 
 def across():
     """Edits whose records take 7 places, of which the second has 3."""
-    return [Edit(1, POINT), Edit(2, of_length(1489 - 496)), Edit(3, POINT), Edit(1, None), Edit(4, of_length(496))]
+    return [Change(1, POINT), Change(2, of_length(1489 - 496)), Change(3, POINT), Change(1, None), Change(4, of_length(496))]
 
 
 def journals():
@@ -276,15 +276,15 @@ def journals():
     yield "the greatest generation", 256, 2**64 - 1, {}, across(), b"", 60, 0, Root(2**64 - 2, 2**64 - 1, 63, 94 * 512, 0)
     yield "the greatest even generation", 256, 2**64 - 2, {}, across(), b"", 63, 0, Root(3, 2, 1, 0, 94 * 512)
     wide = feature({"polygons": [[square(0, 0, WORLD - 1)]]}, maxzoom=19)
-    yield "a feature of a greater reach than a PUT may have", 256, 4, {}, [Edit(9, wide)], b"", 5, 0, None
-    yield "a DELETE of a number without a feature", 256, 4, {}, [Edit(9, None), *across()], b"", 5, 0, None
+    yield "a feature of a greater reach than a PUT may have", 256, 4, {}, [Change(9, wide)], b"", 5, 0, None
+    yield "a DELETE of a number without a feature", 256, 4, {}, [Change(9, None), *across()], b"", 5, 0, None
 
 
 def areas():
     """Disks with a snapshot, an archive, or edits before the journal."""
     many = one_of_each()
     archive = other_bytes(700)
-    edits = [*across(), Edit(7, None), Edit(100, POINT), Edit(5, None)]
+    edits = [*across(), Change(7, None), Change(100, POINT), Change(5, None)]
     for sectors in (512, 513, 514, 515, 516, 517, 518, 519):
         for generation in (1, 2):
             yield f"{sectors} sectors, generation {generation}", sectors, generation, many, edits, archive, sectors // 4 - 2, 1000, None
@@ -323,8 +323,8 @@ def serves(cases, folder, mark, rows):
         for filled, more in [("", b""), (", other heads and bodies, a longer file", other_bytes(1333))]:
             written_to(path, (strewn(held) if more else held) + more)
             machine = Machine(found, before + len(edits), disk.layout.places - disk.used)
-            serve(cases, f"{mark}{name}{filled}", path, machine, [Edit(900, LATER), Edit(2, None), Edit(1, of_length(497))])
-            serve(cases, f"{mark}{name}{filled}, again", path, machine, [Edit(900, None), Edit(3, POINT), Edit(4, POINT), Edit(4, None)])
+            serve(cases, f"{mark}{name}{filled}", path, machine, [Change(900, LATER), Change(2, None), Change(1, of_length(497))])
+            serve(cases, f"{mark}{name}{filled}, again", path, machine, [Change(900, None), Change(3, POINT), Change(4, POINT), Change(4, None)])
 
 
 # ---- broken disks
@@ -540,7 +540,7 @@ def misspelled(cases, folder, mark, disk_of, fault):
     """Texts of no edit, in the journal or in the snapshot."""
     path = os.path.join(folder, "misspelled")
     tags = {"a": "text", "b": -1, "c": 1, "d": True}
-    good = Edit(7, feature({"polygons": [[square(5, 6, 2**30)]]}, tags=tags))
+    good = Change(7, feature({"polygons": [[square(5, 6, 2**30)]]}, tags=tags))
     text = model.text_of(good)
     whole_map = {7: good.feature}
     held = in_snapshot(text, archive_of(whole_map)) if disk_of == in_snapshot else disk_of(text)
@@ -549,7 +549,7 @@ def misspelled(cases, folder, mark, disk_of, fault):
         cases.show(f"{mark}{name}", judged(path, disk_of(other), fault), [])
     cut = [told for size in range(1, len(text)) for told in judged(path, disk_of(text[:size]), fault)]
     cases.show(f"{mark}a text cut short, at each of its {len(text)} bytes", cut, [])
-    more = model.text_of(Edit(8, feature({"points": [[index, index] for index in range(4094)]})))
+    more = model.text_of(Change(8, feature({"points": [[index, index] for index in range(4094)]})))
     cases.show(f"{mark}a text of {len(more)} bytes", judged(path, disk_of(more), fault if disk_of == in_snapshot else JOURNAL), [])
 
 

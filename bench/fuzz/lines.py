@@ -19,16 +19,15 @@ import map_hostile
 import map_stand
 import read_stand
 from archives import Entry, directory
-from disk import Edit, text_of
+from disk import Change, edit_text, text_of
 from map_script import LINE, POLYGONS
 from map_stand import POINT
 from reply_stand import Script
-from texts import edit_text
 
 LINES, CONNECTIONS, LONGEST = 1500, 150, 3000
 TIMES = (1, 1, 1, 2, 2, 3)
-CHANGES = [text_of(edit) for edit in (Edit(7, POINT), Edit(258, LINE), Edit(9, POLYGONS), Edit(9, None))]
-EDITS = [edit_text(edits) for edits in ([Edit(7, POINT), Edit(9, None)], [Edit(7, LINE)], [Edit(1, POLYGONS), Edit(2, POINT)])]
+CHANGES = [text_of(made) for made in (Change(7, POINT), Change(258, LINE), Change(9, POLYGONS), Change(9, None))]
+EDITS = [edit_text(made) for made in ([Change(7, POINT), Change(9, None)], [Change(7, LINE)], [Change(1, POLYGONS), Change(2, POINT)])]
 SNAPSHOTS = [CHANGES[0], CHANGES[0] + CHANGES[2] + CHANGES[1]]
 DIRECTORIES = [directory([Entry(3, 2, 300, 0), Entry(5, 1, 9, 300), Entry(7, 0, 5, 2)]), directory([Entry(2 * k, 1, 5, 5 * k) for k in range(20)]), b"\0"]
 TEXTS = [body for body in fuzz.BODIES if len(body) < LONGEST] + [map_hostile.feature().encode()]

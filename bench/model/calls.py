@@ -1,7 +1,8 @@
 """The calls of the disk that formatting, an edit and a publication make, in order, from docs/FORMATS.md and docs/DECISIONS.md. It shares no
 code with the product."""
 from crashes import Seen
-from disk import LEAST, MOST, SECTOR, TEXT_OF_PART, Fault, Layout, Root, format_sector, front, layout_of, parts_of, root_sector, sector_of, version_of
+from disk import FIRST_VERSION, LAST_VERSION, LEAST, MOST, SECTOR, TEXT_OF_PART, Fault, Layout, Root, format_sector, front, layout_of, parts_of
+from disk import root_sector, sector_of, version_of
 
 ZEROS = bytes(SECTOR)
 FIRST_ROOT = Root(0, 0, 0, 0, 0)
@@ -12,7 +13,7 @@ def write_and_sync(disk, at, sector):
     disk.sync()
 
 
-def format_disk(disk, version=1):
+def format_disk(disk, version=LAST_VERSION):
     """Clears the mark, then the root sectors and the journal where they are not zeros, then writes the first root, then the mark."""
     if disk.count < LEAST:
         raise Fault("TooSmall")
@@ -32,8 +33,8 @@ def upgrade(disk):
     disk.sync()
     held = Seen(disk)
     layout = layout_of(held)
-    if version_of(held) == 1:
-        write_and_sync(disk, 0, format_sector(layout.sectors, 2))
+    if version_of(held) == FIRST_VERSION:
+        write_and_sync(disk, 0, format_sector(layout.sectors, LAST_VERSION))
 
 
 def install(disk, root):
@@ -42,20 +43,20 @@ def install(disk, root):
     write_and_sync(disk, 1 + root.generation % 2, root_sector(root))
 
 
-def part_sector(text, part, number):
+def part_sector(version, text, part, number):
     """The sector of a part of a record, padded with zeros."""
     piece = text[TEXT_OF_PART * part : TEXT_OF_PART * (part + 1)]
-    return (front(part, number, len(text)) + piece).ljust(SECTOR, b"\0")
+    return (front(version, part, number, len(text)) + piece).ljust(SECTOR, b"\0")
 
 
-def append(disk, place_of, place, number, text):
-    """Writes a record from a place on: its bodies, a sync if there are any, its head, a sync."""
+def append(disk, place_of, place, number, version, text):
+    """Writes a record of a version from a place on: its bodies, a sync if there are any, its head, a sync."""
     bodies = range(1, parts_of(len(text)))
     for part in bodies:
-        disk.write(place_of(place + part), part_sector(text, part, number))
+        disk.write(place_of(place + part), part_sector(version, text, part, number))
     if bodies:
         disk.sync()
-    write_and_sync(disk, place_of(place), part_sector(text, 0, number))
+    write_and_sync(disk, place_of(place), part_sector(version, text, 0, number))
 
 
 def write_area(disk, layout, generation, held, sectors):

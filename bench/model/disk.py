@@ -1,7 +1,7 @@
 #!/usr/bin/env python3
 """A second, independent reader and writer of disks, from docs/FORMATS.md alone. It shares no code with the product.
 
-    python3 bench/model/disk.py DISK       prints what the root that counts says, each edit of the journal and the map, or the first fault
+    python3 bench/model/disk.py DISK       prints the version, the live root, each edit of the journal and the map, or the first fault
 """
 import json
 import sys
@@ -13,18 +13,22 @@ SECTOR = 512
 TEXT_OF_PART = 496
 LEAST, MOST = 64, 16777216
 FORMAT_MARK, ROOT_MARK = b"VTILEDSK", b"VTROOT01"
-HEAD, BODY, VERSION = 1, 2, 1
-FORMAT_VERSIONS = (1, 2)
+HEAD, BODY = 1, 2
+# The versions of the format of a disk. A record has one of them too: one of version 1 has the text of its only change, one of version 2 a
+# count of changes and their texts.
+VERSIONS = FIRST_VERSION, LAST_VERSION = 1, 2
 PUT, DELETE = 1, 2
+MOST_CHANGES = 64
 KINDS = {1: "points", 2: "lines", 3: "polygons"}
 LAST_NUMBER = 2**64 - 1
 LONGEST = 32768
 
-# What a disk's root says; an edit gives a number its feature, or takes it away (None); what a disk holds. The edits of the journal
-# stand in order, the first of them has the number `root.edits` + 1.
+# What a disk's root says; a change gives a number its feature, or takes it away (None); an edit is changes of different numbers, in a record
+# of a version; what a disk holds. The records of the journal are in order, the first of them has the number `root.edits` + 1.
 Root = namedtuple("Root", "generation edits journal_at snapshot_len archive_len")
-Edit = namedtuple("Edit", "number feature")
-Disk = namedtuple("Disk", "layout root snapshot edits used")
+Change = namedtuple("Change", "number feature")
+Record = namedtuple("Record", "version changes")
+Disk = namedtuple("Disk", "version layout root snapshot records used")
 
 
 class Fault(Exception):
@@ -123,24 +127,35 @@ def feature(reader):
     return {"layer": layer, "minzoom": first, "maxzoom": last, "geometry": geometry, "tags": tags(reader)}
 
 
-def edit(reader):
-    """The edit whose text the reader's bytes go on with."""
-    began = reader.at
+def change(reader, numbers=()):
+    """The change whose text the reader's bytes go on with, of none of these numbers."""
     kind = reader.number(1, PUT, DELETE)
     number = reader.number(8, 0, 2**63 - 1)
-    found = Edit(number, feature(reader) if kind == PUT else None)
-    if reader.at - began > LONGEST:
-        raise NoEdit("too long")
+    if number in numbers:
+        raise NoEdit("a number twice")
+    return Change(number, feature(reader) if kind == PUT else None)
+
+
+def changes(reader):
+    """The changes of the edit whose text the reader's bytes go on with."""
+    found = []
+    for _ in range(reader.number(1, 1, MOST_CHANGES)):
+        found.append(change(reader, [before.number for before in found]))
     return found
 
 
-def edit_of(text):
-    """The edit of a whole text."""
+def longest(version):
+    """The most bytes that the text of a record has."""
+    return LONGEST if version == FIRST_VERSION else 1 + LONGEST
+
+
+def record_of(version, text):
+    """The record of a whole text."""
     reader = Reader(text)
-    found = edit(reader)
-    if reader.at != len(text):
+    found = [change(reader)] if version == FIRST_VERSION else changes(reader)
+    if reader.at != len(text) or len(text) > longest(version):
         raise NoEdit("bytes behind its end")
-    return found
+    return Record(version, found)
 
 
 def listed_text(items, text):
@@ -188,9 +203,24 @@ def feature_text(found):
 
 
 def text_of(found):
-    """The text of an edit."""
+    """The text of a change."""
     start = spelled(DELETE if found.feature is None else PUT, 1) + spelled(found.number, 8)
     return start if found.feature is None else start + feature_text(found.feature)
+
+
+def edit_text(found):
+    """The text of an edit of changes."""
+    return spelled(len(found), 1) + b"".join(text_of(made) for made in found)
+
+
+def record_text(record):
+    """The text of a record; one of version 1 has one change."""
+    return text_of(record.changes[0]) if record.version == FIRST_VERSION else edit_text(record.changes)
+
+
+def single(made, version=LAST_VERSION):
+    """The record of an edit of one change, as a disk of this version has it."""
+    return Record(version, [made])
 
 
 def line_of(found):
@@ -229,23 +259,23 @@ def sector_of(held, number):
     return held[SECTOR * number : SECTOR * (number + 1)]
 
 
+def version_of(held):
+    """The version of the format, as sector 0 has it."""
+    return int.from_bytes(sector_of(held, 0)[8:12], "little")
+
+
 def layout_of(held):
     """How a disk is divided, by its sector 0."""
     first = sector_of(held, 0)
     if len(first) < SECTOR or first[:8] != FORMAT_MARK:
         raise Fault("NotFormatted")
     version, sectors = version_of(held), int.from_bytes(first[12:20], "little")
-    if version not in FORMAT_VERSIONS or not LEAST <= sectors <= min(MOST, len(held) // SECTOR) or first != format_sector(sectors, version):
+    if version not in VERSIONS or not LEAST <= sectors <= min(MOST, len(held) // SECTOR) or first != format_sector(sectors, version):
         raise Fault("Damaged(Size)")
     return Layout(sectors)
 
 
-def version_of(held):
-    """The version of the format, as sector 0 has it."""
-    return int.from_bytes(sector_of(held, 0)[8:12], "little")
-
-
-def format_sector(sectors, version=1):
+def format_sector(sectors, version=LAST_VERSION):
     return (FORMAT_MARK + spelled(version, 4) + spelled(sectors, 8)).ljust(SECTOR, b"\0")
 
 
@@ -278,8 +308,9 @@ def snapshot_of(text):
     found = {}
     last = -1
     while reader.at < len(text):
-        put = edit(reader)
-        if put.feature is None or put.number <= last:
+        began = reader.at
+        put = change(reader)
+        if put.feature is None or put.number <= last or reader.at - began > LONGEST:
             raise NoEdit("no snapshot")
         last = put.number
         found[put.number] = put.feature
@@ -299,61 +330,62 @@ def parts_of(length):
     return -(-length // TEXT_OF_PART)
 
 
-def front(part, number, length):
-    """The bytes with which the sector of a part begins."""
+def front(version, part, number, length):
+    """The bytes with which the sector of a part of a record begins."""
     kind, count = (BODY, part) if part else (HEAD, parts_of(length))
-    return spelled(kind, 1) + spelled(VERSION, 1) + spelled(count, 2) + spelled(number, 8) + spelled(length, 4)
+    return spelled(kind, 1) + spelled(version, 1) + spelled(count, 2) + spelled(number, 8) + spelled(length, 4)
 
 
-def is_head(sector, number):
-    """Whether it is the head of the edit of this number, whatever it says of parts and length."""
-    return sector[:2] == spelled(HEAD, 1) + spelled(VERSION, 1) and sector[4:12] == spelled(number, 8)
+def head_version(sector, number, most):
+    """The version of the record of this number, from 1 to `most`, whose head a sector is, whatever it says of parts and length; else None."""
+    is_head = sector[0] == HEAD and sector[4:12] == spelled(number, 8)
+    return sector[1] if is_head and FIRST_VERSION <= sector[1] <= most else None
 
 
-def record_text(held, layout, place, left, number):
-    """The text of the record whose head stands at a place, where so many places are left."""
+def text_at(held, layout, place, left, version, number):
+    """The text of the record of a version whose head is at a place, where so many places are left."""
     length = int.from_bytes(sector_of(held, layout.place(place))[12:16], "little")
-    if not 1 <= length <= LONGEST or parts_of(length) > left:
+    if not 1 <= length <= longest(version) or parts_of(length) > left:
         raise Fault("Damaged(Journal)")
     text = b""
     for part in range(parts_of(length)):
         sector = sector_of(held, layout.place(place + part))
-        if sector[:16] != front(part, number, length):
+        if sector[:16] != front(version, part, number, length):
             raise Fault("Damaged(Journal)")
         text += sector[16:]
     return text[:length]
 
 
-def texts_of(held, layout, root):
-    """The texts of the journal, and how many places their records take."""
+def texts_of(held, layout, root, version):
+    """The texts of the journal of a disk of this version, each with the version of its record, and how many places these take."""
     texts = []
     used = 0
     while used < layout.places and root.edits + len(texts) < LAST_NUMBER:
         place, number = root.journal_at + used, root.edits + len(texts) + 1
-        if not is_head(sector_of(held, layout.place(place)), number):
+        found = head_version(sector_of(held, layout.place(place)), number, version)
+        if found is None:
             break
-        text = record_text(held, layout, place, layout.places - used, number)
-        texts.append(text)
-        used += parts_of(len(text))
+        texts.append((found, text_at(held, layout, place, layout.places - used, found, number)))
+        used += parts_of(len(texts[-1][1]))
     return texts, used
 
 
 def read_disk(held):
     """What a disk holds, or its first fault."""
     layout = layout_of(held)
-    root = root_of(held, layout)
+    version, root = version_of(held), root_of(held, layout)
     snapshot = read_snapshot(held, layout, root)
-    texts, used = texts_of(held, layout, root)
+    texts, used = texts_of(held, layout, root, version)
     try:
-        return Disk(layout, root, snapshot, [edit_of(text) for text in texts], used)
+        return Disk(version, layout, root, snapshot, [record_of(*text) for text in texts], used)
     except NoEdit as error:
         raise Fault("Damaged(Text)") from error
 
 
-def after(found, edits):
-    """A map after edits."""
+def after(found, records):
+    """A map after the edits of records."""
     found = dict(found)
-    for made in edits:
+    for made in (made for record in records for made in record.changes):
         found.pop(made.number, None)
         if made.feature is not None:
             found[made.number] = made.feature
@@ -362,7 +394,7 @@ def after(found, edits):
 
 def map_of(disk):
     """The map of a disk, from numbers to features."""
-    return after(disk.snapshot, disk.edits)
+    return after(disk.snapshot, disk.records)
 
 
 # ---- writing
@@ -373,21 +405,25 @@ def put_at(disk, sector, held):
 
 
 def put_records(disk, layout, place, number, texts, padding=bytes):
-    """Puts the records of texts into the ring, from a place and a number on."""
-    for text in texts:
+    """Puts records into the ring, from a place and a number on: their texts, each with its version."""
+    for version, text in texts:
         for part in range(parts_of(len(text))):
             piece = text[TEXT_OF_PART * part : TEXT_OF_PART * (part + 1)]
-            put_at(disk, layout.place(place + part), front(part, number, len(text)) + piece + padding(TEXT_OF_PART - len(piece)))
+            put_at(disk, layout.place(place + part), front(version, part, number, len(text)) + piece + padding(TEXT_OF_PART - len(piece)))
         place += parts_of(len(text))
         number += 1
 
 
+def versions_and_texts(records):
+    return [(record.version, record_text(record)) for record in records]
+
+
 def snapshot_text(found):
-    return b"".join(text_of(Edit(number, found[number])) for number in sorted(found))
+    return b"".join(text_of(Change(number, found[number])) for number in sorted(found))
 
 
-def write_disk(sectors, generation, snapshot_map, edits, archive, journal_at, before=0, padding=bytes, older=None):
-    """A disk whose root has this generation, the snapshot of a map and an archive, and whose journal has edits from a place on.
+def write_disk(sectors, generation, snapshot_map, records, archive, journal_at, before=0, padding=bytes, older=None, version=LAST_VERSION):
+    """A disk whose root has this generation, the snapshot of a map and an archive, and whose journal has records from a place on.
 
     `before` edits came before these. What the format leaves free is filled by `padding`, which gives so many bytes. `older` is the
     root in the other sector, if there is one.
@@ -395,34 +431,39 @@ def write_disk(sectors, generation, snapshot_map, edits, archive, journal_at, be
     layout, snapshot = Layout(sectors), snapshot_text(snapshot_map)
     root = Root(generation, before, journal_at, len(snapshot), len(archive))
     disk = bytearray(padding(SECTOR * sectors))
-    put_at(disk, 0, format_sector(sectors))
+    put_at(disk, 0, format_sector(sectors, version))
     put_at(disk, 1 + generation % 2, root_sector(root))
     put_at(disk, 2 - generation % 2, root_sector(older) if older else bytes(SECTOR))
     put_at(disk, layout.area_at(generation), snapshot)
     put_at(disk, layout.area_at(generation) + whole_sectors(len(snapshot)), archive)
-    put_records(disk, layout, journal_at, before + 1, [text_of(made) for made in edits], padding)
+    put_records(disk, layout, journal_at, before + 1, versions_and_texts(records), padding)
     return bytes(disk)
 
 
-def with_edits(held, edits):
-    """The bytes of a disk behind more edits, each a record with zeros behind its text."""
+def with_records(held, records):
+    """The bytes of a disk behind more records, with zeros behind the text of each."""
     found = read_disk(held)
     disk = bytearray(held)
-    place, number = found.root.journal_at + found.used, found.root.edits + len(found.edits) + 1
-    put_records(disk, found.layout, place, number, [text_of(made) for made in edits])
+    place, number = found.root.journal_at + found.used, found.root.edits + len(found.records) + 1
+    put_records(disk, found.layout, place, number, versions_and_texts(records))
     return bytes(disk)
 
 
 # ---- the command
 
 
+def change_line(made):
+    return f"{'DELETE' if made.feature is None else 'PUT'} {made.number}"
+
+
 def lines_of(disk):
     """What a disk holds, line by line."""
+    yield f"version: {disk.version}"
     yield f"sectors: {disk.layout.sectors}"
     for name, number in disk.root._asdict().items():
         yield f"{name}: {number}"
-    for number, made in enumerate(disk.edits, disk.root.edits + 1):
-        yield f"edit {number}: {'DELETE' if made.feature is None else 'PUT'} {made.number}"
+    for number, record in enumerate(disk.records, disk.root.edits + 1):
+        yield f"edit {number}, record of version {record.version}: {', '.join(map(change_line, record.changes))}"
     yield f"journal: {disk.used} of {disk.layout.places} places"
     for number, found in sorted(map_of(disk).items()):
         yield f"{number}: {line_of(found)}"

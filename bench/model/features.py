@@ -7,7 +7,7 @@ import json
 
 import json_text
 import tiles
-from disk import LONGEST, Edit, text_of
+from disk import LONGEST, MOST_CHANGES, Change, text_of
 from limits import GREATEST_ZOOM, MOST_TILES
 
 GEOMETRIES = ("points", "lines", "polygons")
@@ -136,15 +136,22 @@ def change_of(value):
         raise Fault("E1 Member")
     if "feature" in value:
         check_members(value["feature"])
-    return Edit(number, value.get("feature"))
+    return Change(number, value.get("feature"))
 
 
-def changes_of(text):
-    """The changes of an edit's JSON text, or its first fault: `Json`, E1 of any change, and then those of `check_batch`."""
+def body_of(text):
+    """The changes of an edit's JSON text, or its first fault: `Json`, E1 of any change, and then those of `check_changes`."""
     value = value_of(text)
     if not isinstance(value, dict) or set(value) != {"changes"} or not isinstance(value["changes"], list):
         raise Fault("E1 Member")
     found = [change_of(change) for change in value["changes"]]
+    check_changes(found)
+    return found
+
+
+def changes_of(text):
+    """The changes of an edit's JSON text, which are together not too long, or its first fault."""
+    found = body_of(text)
     check_batch(found)
     return found
 
@@ -158,7 +165,7 @@ def check(number, feature):
         raise Fault("E2 Number")
     check_fields(feature)
     tags = dict(tag_pairs(feature))
-    if len(text_of(Edit(number, feature | {"tags": tags}))) > LONGEST:
+    if len(text_of(Change(number, feature | {"tags": tags}))) > LONGEST:
         raise Fault("E8 Long")
 
 
@@ -167,19 +174,23 @@ def check_reach(feature):
         raise Fault("E9 Reach")
 
 
-def check_batch(edits):
-    """E10, E11, of each edit E2 to E7, and E8 of their texts together, the first in this order."""
-    numbers = [edit.number for edit in edits]
-    if not 1 <= len(edits) <= 64:
+def check_changes(changes):
+    """E10, E11, and of each change E2 to E7, the first in this order."""
+    if not 1 <= len(changes) <= MOST_CHANGES:
         raise Fault("E10 Batch")
-    if len(set(numbers)) < len(numbers):
+    if len({change.number for change in changes}) < len(changes):
         raise Fault("E11 Twice")
-    for edit in edits:
-        if edit.number >= 2**63:
+    for change in changes:
+        if change.number >= 2**63:
             raise Fault("E2 Number")
-        if edit.feature:
-            check_fields(edit.feature)
-    if sum(len(text_of(edit)) for edit in edits) > LONGEST:
+        if change.feature:
+            check_fields(change.feature)
+
+
+def check_batch(changes):
+    """Those of `check_changes`, and then E8 of their texts together."""
+    check_changes(changes)
+    if sum(len(text_of(change)) for change in changes) > LONGEST:
         raise Fault("E8 Long")
 
 

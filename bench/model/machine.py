@@ -2,7 +2,8 @@
 docs/DECISIONS.md. It shares no code with the product."""
 from calls import append, install, write_area
 from crashes import Failed, Seen
-from disk import LAST_NUMBER, LONGEST, SECTOR, Edit, Root, in_order, parts_of, read_disk, snapshot_text, text_of, whole_sectors
+from disk import FIRST_VERSION, LAST_NUMBER, LONGEST, MOST_CHANGES, SECTOR, Change, Record, Root, after, in_order, parts_of, read_disk, record_text
+from disk import snapshot_text, text_of, whole_sectors
 from limits import GREATEST_ZOOM, MOST_TILES
 from map_archive import archive_of, id_of, metadata, points_of, reach
 from tiles import tile
@@ -54,23 +55,44 @@ def fits_value(value):
     return -NUMBER_END <= value < 2**64
 
 
-def limit(number, feature):
-    """The first limit that a feature breaks, or None."""
+def first_limit(change):
+    """The first limit that a change breaks by itself, up to that of its tags' values, or None."""
+    if change.number >= NUMBER_END:
+        return "Number"
+    feature = change.feature
+    if feature is None:
+        return None
     keys = [key.encode() for key in feature["tags"]]
     rows = [
-        ("Number", number < NUMBER_END),
         ("Layer", fits_name(feature["layer"])),
         ("Zoom", feature["minzoom"] <= feature["maxzoom"] <= GREATEST_ZOOM),
         ("Geometry", fits_geometry(feature["geometry"])),
         ("Tags", len(keys) <= 64 and all(fits_name(key) for key in feature["tags"]) and all(a < b for a, b in zip(keys, keys[1:]))),
         ("Value", all(fits_value(value) for value in feature["tags"].values())),
     ]
-    broken = [name for name, holds in rows if not holds]
+    return next((name for name, holds in rows if not holds), None)
+
+
+def limit(changes):
+    """The first limit that the changes of an edit break, or None."""
+    numbers = [change.number for change in changes]
+    if not 1 <= len(changes) <= MOST_CHANGES:
+        return "Batch"
+    if len(set(numbers)) < len(numbers):
+        return "Twice"
+    broken = next(filter(None, map(first_limit, changes)), None)
     if broken:
-        return broken[0]
-    if len(text_of(Edit(number, feature))) > LONGEST:
+        return broken
+    if sum(len(text_of(change)) for change in changes) > LONGEST:
         return "Long"
-    return "Reach" if reach(feature) > MOST_TILES else None
+    return "Reach" if any(change.feature and reach(change.feature) > MOST_TILES for change in changes) else None
+
+
+def as_stored(change):
+    """The change with the tags of its feature in the order of their keys."""
+    if change.feature is None:
+        return change
+    return Change(change.number, {**change.feature, "tags": dict(in_order(change.feature["tags"]))})
 
 
 # ---- the service
@@ -98,12 +120,12 @@ class Service:
     def __init__(self, disk):
         disk.sync()
         found = read_disk(Seen(disk))
-        self.disk, self.layout, self.root, self.used = disk, found.layout, found.root, found.used
-        self.publication, self.broken = None, False
+        self.disk, self.version, self.layout, self.root, self.used = disk, found.version, found.layout, found.root, found.used
+        self.publication, self.broken, self.attempted = None, False, []
         self.snapshot, self.map, self.last, self.cells = found.snapshot, dict(found.snapshot), found.root.edits, {}
         self.kept, self.directories, self.published = {}, None, {}
-        for edit in found.edits:
-            self.apply(edit)
+        for record in found.records:
+            self.apply(record.changes)
 
     def next_place(self):
         return (self.root.journal_at + self.used) % self.layout.places
@@ -118,41 +140,60 @@ class Service:
 
     # ---- edits
 
-    def apply(self, edit):
-        """Applies the next edit to the map, and records its number in the cells of the feature that it removes and the one that it adds."""
+    def apply(self, changes):
+        """Applies the next edit to the map, and records its number in the cells of each feature that it removes or adds."""
         self.last += 1
-        before = self.map.pop(edit.number, None)
-        if edit.feature is not None:
-            self.map[edit.number] = edit.feature
-        for feature in filter(None, (before, edit.feature)):
-            self.cells.update({cell: self.last for cell in cells_of_feature(feature)})
+        for change in changes:
+            before = self.map.pop(change.number, None)
+            if change.feature is not None:
+                self.map[change.number] = change.feature
+            for feature in filter(None, (before, change.feature)):
+                self.cells.update({cell: self.last for cell in cells_of_feature(feature)})
 
-    def edit(self, edit):
+    def edit(self, changes):
         if self.last == LAST_NUMBER:
             raise Refused("NumbersSpent")
-        text = text_of(edit)
+        text = record_text(Record(self.version, changes))
         need, free = parts_of(len(text)), self.layout.places - self.used
         if need > free:
             raise Refused("JournalFull", need, free)
-        self.changed(lambda: append(self.disk, self.layout.place, self.next_place(), self.last + 1, text))
+        self.attempted = changes
+        self.changed(lambda: append(self.disk, self.layout.place, self.next_place(), self.last + 1, self.version, text))
         self.used += need
-        self.apply(edit)
+        self.apply(changes)
         return self.last
+
+    def left_by_a_crash(self):
+        """The maps of which a crash leaves one: with the acknowledged edits, or with the one that was attempted last as well."""
+        return self.map, after(self.map, [Record(self.version, self.attempted)])
+
+    def within_limits(self, changes):
+        broken = limit(changes)
+        if broken:
+            raise Refused("Limit", broken)
+        return [as_stored(change) for change in changes]
 
     def put(self, number, feature):
         if self.broken:
             raise Refused("Broken")
-        broken = limit(number, feature)
-        if broken:
-            raise Refused("Limit", broken)
-        return self.edit(Edit(number, {**feature, "tags": dict(in_order(feature["tags"]))}))
+        return self.edit(self.within_limits([Change(number, feature)]))
 
     def delete(self, number):
         if self.broken:
             raise Refused("Broken")
         if number not in self.map:
             raise Refused("NotFound")
-        return self.edit(Edit(number, None))
+        return self.edit([Change(number, None)])
+
+    def batch(self, changes):
+        if self.broken:
+            raise Refused("Broken")
+        if self.version == FIRST_VERSION:
+            raise Refused("NeedsUpgrade")
+        changes = self.within_limits(changes)
+        if any(change.feature is None and change.number not in self.map for change in changes):
+            raise Refused("NotFound")
+        return self.edit(changes)
 
     # ---- publications
 

@@ -1,10 +1,9 @@
 """Lines of `map_script.py` about JSON made to do harm, and about snapshots, edits and records that are cut short or damaged: each answer is by
 the models, and a line about JSON has beside it what RFC 8259 and docs/HTTP.md say.
 """
-from disk import Edit, text_of
+from disk import Change, edit_text, text_of
 from map_stand import POINT
 from read_hostile import cut, damaged
-from texts import edit_text
 
 MEMBERS = {"layer": '"p"', "minzoom": "0", "maxzoom": "2", "geometry": '{"points":[[0,0]]}', "tags": "{}"}
 E7, JSON = "E7 Value", "Json"
@@ -60,17 +59,17 @@ def json_lines():
 
 
 def text_lines():
-    point, other = Edit(7, POINT), Edit(9, POINT | {"layer": "q"})
+    point, other = Change(7, POINT), Change(9, POINT | {"layer": "q"})
     yield "# The snapshot of two points, cut behind each byte, and with each byte changed to 0, 255 and its neighbours."
     snapshot = text_of(point) + text_of(other)
     yield "map 0"
     yield from each("restore", snapshot)
     yield "# The same of an edit of two changes, in a map of its own."
     yield "map 0"
-    yield from each("make", edit_text([point, Edit(9, None)]))
+    yield from each("make", edit_text([point, Change(9, None)]))
     yield "# The same of the records of a change and of an edit."
     yield from each("record 1", text_of(point))
-    yield from each("record 2", edit_text([point, Edit(9, None)]))
+    yield from each("record 2", edit_text([point, Change(9, None)]))
 
 
 def each(word, data):

@@ -11,11 +11,10 @@ import features
 import map_hostile
 import tiles
 from chance import Chance
-from disk import Edit, text_of
+from disk import Change, edit_text, text_of
 from ids import tile_of
 from limits import GREATEST_ZOOM, MOST_TILES
 from map_stand import POINT, Stand
-from texts import edit_text
 
 CRATE = "map_runs"
 LAST = 2**32 - 1
@@ -578,11 +577,11 @@ def any_map_lines():
 
 
 def batch_lines():
-    texts = [edit_text([Edit(7, POINT), Edit(9, drawn("points", [[LAST, LAST]], 0, 2))]), edit_text([Edit(7, None), Edit(8, POINT)])]
+    texts = [edit_text([Change(7, POINT), Change(9, drawn("points", [[LAST, LAST]], 0, 2))]), edit_text([Change(7, None), Change(8, POINT)])]
     yield "# Edits of several changes, by their texts: each is one edit, and its changes are made together."
     yield from ["map 5", "tile 0 0 0", f"make {texts[0].hex()}", "layers 0 0 0", "newest 0 0 0", f"make {texts[1].hex()}", "layers 0 0 0",
                 "look 7", "newest 2 3 3", "newest 2 0 0"]
-    yield from [(f"make {texts[0][:-1].hex()}", "Cut"), ("make 00", "Bad"), (f"make {edit_text([Edit(5, None)] * 2).hex()}", "Bad")]
+    yield from [(f"make {texts[0][:-1].hex()}", "Cut"), ("make 00", "Bad"), (f"make {edit_text([Change(5, None)] * 2).hex()}", "Bad")]
 
 
 # ---- tiles that are kept
@@ -668,8 +667,8 @@ def cache_lines():
 
 
 THIRD, SEVENTH = corner("a"), corner("b") | {"tags": {"k": True}}
-TEXTS = {"third": text_of(Edit(3, THIRD)), "seventh": text_of(Edit(7, SEVENTH)), "last": text_of(Edit(258, THIRD)),
-         "delete": text_of(Edit(3, None))}
+TEXTS = {"third": text_of(Change(3, THIRD)), "seventh": text_of(Change(7, SEVENTH)), "last": text_of(Change(258, THIRD)),
+         "delete": text_of(Change(3, None))}
 
 
 def snapshot_lines():
@@ -719,20 +718,20 @@ def area_lines():
     yield "# What a publication of a point writes: how long snapshot and archive are, how many sectors they take, and these."
     archive = archives.built([(id, bytes.fromhex("1a130a017012090807180122030900002880207802")) for id in (0, 1, 5)],
                              features.metadata({7: POINT}).encode())
-    sectors = text_of(Edit(7, POINT)).ljust(512, b"\0") + archive.ljust(512, b"\0")
+    sectors = text_of(Change(7, POINT)).ljust(512, b"\0") + archive.ljust(512, b"\0")
     yield from ["map 0", put(7, POINT), ("area 100", f"25 223 2 {sectors.hex()}"), ("area 2", f"25 223 2 {sectors.hex()}")]
     yield from [("area 1", "an area has 1 sectors, and 2 are needed"), ("area 0", "an area has 0 sectors, and 2 are needed")]
     yield "# The empty map has no sectors."
     yield from ["map 0", ("area 0", "0 0 0 ")]
     yield "# Snapshots of one whole sector, and of one byte more and less."
     for length in (511, 512, 513):
-        tagged = POINT | {"tags": {"k": "x" * (length - len(text_of(Edit(7, POINT | {"tags": {"k": ""}}))))}}
-        if len(text_of(Edit(7, tagged))) != length:
+        tagged = POINT | {"tags": {"k": "x" * (length - len(text_of(Change(7, POINT | {"tags": {"k": ""}}))))}}
+        if len(text_of(Change(7, tagged))) != length:
             sys.exit(f"a text of {length} bytes")
         yield from ["map 0", put(7, tagged), "area 5"]
     yield "map 0"
     yield "# The texts of 42 points take two sectors and 26 bytes of a third."
-    yield f"restore {b''.join(text_of(Edit(number, POINT)) for number in range(1, 43)).hex()}", "42 features"
+    yield f"restore {b''.join(text_of(Change(number, POINT)) for number in range(1, 43)).hex()}", "42 features"
     yield from ["area 100", "area 3"]
     yield "# An archive of more sectors than the snapshot: an area that is too small by one sector, and one of a single sector."
     yield from ["map 0", put(7, drawn("lines", [[[0, 0], [LAST, LAST]]], 0, 2)), "area 3", "area 2", "area 1"]

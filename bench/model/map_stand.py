@@ -9,7 +9,7 @@ import archives
 import features
 import texts
 import tiles
-from disk import Edit, NoEdit, snapshot_of, snapshot_text, text_of, whole_sectors
+from disk import Change, NoEdit, Record, edit_text, record_text, snapshot_of, snapshot_text, text_of, whole_sectors
 from ids import is_tile
 from limits import GREATEST_ZOOM
 from rust_text import clipped, debug, option
@@ -49,7 +49,7 @@ def numbered(rest):
 def text(rest):
     number, feature = numbered(rest)
     features.check(number, feature)
-    return text_of(Edit(number, feature)).hex()
+    return text_of(Change(number, feature)).hex()
 
 
 def reach(rest):
@@ -115,18 +115,18 @@ def deleted(rest):
     number = int(rest)
     if number >= 2**63:
         raise features.Fault("E2 Number")
-    edit = Edit(number, None)
-    return f"{text_of(edit).hex()} {texts.edit_text([edit]).hex()}"
+    made = Change(number, None)
+    return f"{text_of(made).hex()} {edit_text([made]).hex()}"
 
 
 def batch(rest):
-    edits = [Edit(int(word[:-1]), POINT if word.endswith("+") else None) for word in rest.split()]
-    features.check_batch(edits)
-    return texts.edit_text(edits).hex()
+    made = [Change(int(word[:-1]), POINT if word.endswith("+") else None) for word in rest.split()]
+    features.check_batch(made)
+    return edit_text(made).hex()
 
 
 def changes(rest):
-    return texts.edit_text(features.changes_of(expanded(rest))).hex()
+    return edit_text(features.changes_of(expanded(rest))).hex()
 
 
 def record(rest):
@@ -134,7 +134,7 @@ def record(rest):
     found = texts.read_record(int(version), bytes.fromhex(expanded(text)))
     if isinstance(found, str):
         return found
-    return f"{texts.record_text(int(version), found).hex()} {texts.edit_text(found).hex()}"
+    return f"{record_text(Record(int(version), found)).hex()} {edit_text(found).hex()}"
 
 
 ALONE = {
@@ -199,12 +199,12 @@ class Map:
         self.last, self.held = last, held or {}
         self.grid, self.cache = Grid(), Cache()
 
-    def change(self, edit):
-        for feature in [self.held.pop(edit.number, None), edit.feature]:
+    def change(self, made):
+        for feature in [self.held.pop(made.number, None), made.feature]:
             if feature:
                 self.grid.mark(*tiles.corners(feature), self.last)
-        if edit.feature:
-            self.held[edit.number] = edit.feature
+        if made.feature:
+            self.held[made.number] = made.feature
 
     def edited(self):
         return f"edit {self.last}: {len(self.held)} features"
@@ -213,14 +213,14 @@ class Map:
         number, feature = numbered(rest)
         features.check(number, feature)
         self.last += 1
-        self.change(Edit(number, feature))
+        self.change(Change(number, feature))
         return self.edited()
 
     def delete(self, rest):
         number = int(rest)
         found = number in self.held
         self.last += 1
-        self.change(Edit(number, None))
+        self.change(Change(number, None))
         return f"{self.edited()}, was there {debug(found)}"
 
     def make(self, rest):
@@ -228,8 +228,8 @@ class Map:
         if isinstance(found, str):
             return found
         self.last += 1
-        for edit in found[0]:
-            self.change(edit)
+        for made in found[0]:
+            self.change(made)
         return self.edited()
 
     def restore(self, rest):

@@ -3,10 +3,9 @@ worst of them has beside it what the formats say.
 """
 import archives
 from archives import ALL_IDS, Entry, Maker, changed, directory
-from disk import Edit, text_of
+from disk import Change, edit_text, text_of
 from limits import GREATEST_ZOOM
 from map_stand import POINT
-from texts import edit_text
 from tile_reading import LINE, MOVE
 from wire import number, part, varint
 
@@ -51,8 +50,8 @@ def example_lines():
     yield f"keep hostile {TILE.hex()}"
     yield from each_byte(["tile @hostile"], TILE)
     yield "# The same of the text of the worked change (its cuts are above), and of an edit that gives a point and takes a feature away."
-    change = text_of(Edit(7, POINT))
-    edit = edit_text([Edit(7, POINT), Edit(9, None)])
+    change = text_of(Change(7, POINT))
+    edit = edit_text([Change(7, POINT), Change(9, None)])
     yield f"keep hostile {change.hex()}"
     yield from damaged(["change @hostile"], change)
     yield f"keep hostile {edit.hex()}"

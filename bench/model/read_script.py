@@ -10,11 +10,10 @@ import archives
 import foreign_tiles
 import read_hostile
 from archives import ALL_IDS, Entry, Maker, directory
-from disk import Edit, text_of
+from disk import Change, edit_text, text_of
 from map_stand import POINT
 from map_script import LINE, POLYGONS
 from read_stand import METADATA, Stand
-from texts import edit_text
 from wire import number, part, varint
 
 sys.path.append(str(Path(__file__).resolve().parents[1] / "archives"))
@@ -213,10 +212,10 @@ def told(found):
 
 
 def edit_lines():
-    point = text_of(Edit(7, POINT))
+    point = text_of(Change(7, POINT))
     yield "# The texts of changes: a point (the worked example of docs/FORMATS.md), a line with tags of all kinds, polygons."
     for name, number_, feature in [("point", 7, POINT), ("line", 258, LINE), ("polygons", 2**63 - 1, POLYGONS)]:
-        text = text_of(Edit(number_, feature))
+        text = text_of(Change(number_, feature))
         yield from [f"keep {name} {text.hex()}", f"change @{name}"]
     yield "# What follows is no part of it."
     yield "change 0209010000000000000203", "9 bytes: Delete { id: 265 }"
@@ -239,14 +238,14 @@ def edit_lines():
     yield "keep longer " + point[:14].hex() + "fe0f<4094:0000000000000000>00", "32769 bytes"
     yield from [("change @longer", "Bad"), ("change @longer ..32768", "Bad"), ("change @longer ..32767", "Cut")]
     yield "# The texts of edits: a count of changes, and each of them."
-    both = edit_text([Edit(7, POINT), Edit(9, None)])
+    both = edit_text([Change(7, POINT), Change(9, None)])
     yield from [f"keep both {both.hex()}", "edit @both", "edit @both +00"]
     yield from ((f"edit @both ..{at}", "Cut") for at in range(len(both)))
     yield "# No change, too many, and a number that stands twice: bad as soon as it is whole."
     twice = "02" "020900000000000000" "010900000000000000"
     yield from [("edit 00", "Bad"), ("edit 41", "Bad"), ("edit 40", "Cut"), (f"edit {twice} ..18", "Cut"), (f"edit {twice}", "Bad")]
     yield "# 64 changes, and texts that are too long together: each is within its own limit."
-    yield f"edit {edit_text([Edit(number_, None) for number_ in range(64)]).hex()}"
+    yield f"edit {edit_text([Change(number_, None) for number_ in range(64)]).hex()}"
     half = point[:14].hex() + "0008<2048:0000000000000000>00"
     other = half.replace("0107", "0108", 1)
     yield f"keep halves 02{half}{other}"

@@ -55,11 +55,20 @@ def greatest_zoom():
 def edits():
     yield from heading("Edits survive a crash. Deleting a number without a feature is refused.")
     yield from [*opened(), put(7), put(8, 467), "delete 9", "delete 8", "delete 8", "stop", *crashed(), looks(7, 8), "tile 0 0 0", put(8)]
-    yield from heading("The journal has 16 places: an edit that needs more than are free is refused, and the last place is used.")
-    yield from [*opened(), *put_each(1, 15), put(16, 467), "look 16", put(16, 466), put(17), "delete 1", "look 1", "stop", *crashed(), looks(16, 17)]
-    yield from heading("Calls of the disk for texts of 25, 496, 497 and 993 bytes: a write and a sync for one part, else bodies, sync, head, sync. Opening: 5.")
-    for letters in (None, 0, 466, 467, 963):
-        yield from [*opened(), *([] if letters is None else [put(1, letters)]), "stop"]
+    yield from heading(
+        "The journal has 16 places: an edit that needs more than are free is refused, and the last place is used. The text of a record of version 2 has",
+        "a byte more than that of version 1.",
+    )
+    for version, letters in ((2, 465), (1, 466)):
+        yield from [*opened(64, version), *put_each(1, 15), put(16, letters + 1), "look 16", put(16, letters), put(17), "delete 1", "look 1"]
+        yield from ["stop", *crashed(), looks(16, 17)]
+    yield from heading(
+        "Calls of the disk for records with texts of 25 or 26, 496, 497 and 993 bytes: a write and a sync for one part, else bodies, sync, head, sync.",
+        "Opening takes 5.",
+    )
+    for version, count in ((2, 1), (1, 0)):
+        for letters in (None, 0, 466 - count, 467 - count, 963 - count):
+            yield from [*opened(64, version), *([] if letters is None else [put(1, letters)]), "stop"]
     yield from heading("The last edit number: Limit and NotFound are reported before NumbersSpent.")
     yield from [*fresh(), f"write 1 = 'VTROOT01 0:8 {LAST - 1}:8", "open", put(1), put(2), "delete 1", "delete 2", put(2, 1025), "stop", *crashed(), "look 1"]
 

@@ -1,5 +1,5 @@
 """The lines of which the blocks of `service_script.py` are made: disks, edits, openings and crashes."""
-from disk import SECTOR, Layout, Root, format_sector, put_records, root_sector
+from disk import LAST_VERSION, SECTOR, Layout, Record, Root, format_sector, put_records, record_text, root_sector
 from tiles import feature
 from words import spelled
 
@@ -34,12 +34,17 @@ def words_of(numbers):
     return "".join(f" {number}" for number in numbers)
 
 
-def fresh(sectors=64):
-    return [f"disk {sectors}", "format"]
+def batch(*changes):
+    return f"batch {' & '.join(changes)}" if changes else "batch"
 
 
-def opened(sectors=64):
-    return [*fresh(sectors), "open"]
+def fresh(sectors=64, version=LAST_VERSION):
+    """Lines that make a disk with the empty map."""
+    return [f"disk {sectors}", "format" if version == LAST_VERSION else f"format_version {version}"]
+
+
+def opened(sectors=64, version=LAST_VERSION):
+    return [*fresh(sectors, version), "open"]
 
 
 def crashed(choice=()):
@@ -56,10 +61,10 @@ def write_words(at, held):
     return [f"write {at + index} = {spelled(held[SECTOR * index :][:SECTOR])}" for index in range(-(-len(held) // SECTOR))]
 
 
-def image(layout, root, snapshot, archive=b"", older=None):
+def image(layout, root, snapshot, archive=b"", older=None, version=LAST_VERSION):
     """Lines that make a disk with a root, its snapshot and its archive."""
     yield f"disk {layout.sectors}"
-    yield from write_words(0, format_sector(layout.sectors).rstrip(b"\0"))
+    yield from write_words(0, format_sector(layout.sectors, version).rstrip(b"\0"))
     yield from write_words(1 + root.generation % 2, root_sector(root).rstrip(b"\0"))
     if older:
         yield from write_words(1 + older.generation % 2, root_sector(older).rstrip(b"\0"))
@@ -67,13 +72,18 @@ def image(layout, root, snapshot, archive=b"", older=None):
     yield from write_words(layout.area_at(root.generation) + -(-len(snapshot) // SECTOR), archive)
 
 
-def record_words(layout, place, number, text):
-    """Lines that write a record of the journal."""
+def text_words(layout, place, number, version, text):
+    """Lines that write a record of the journal with this text."""
     held = bytearray(SECTOR * layout.sectors)
-    put_records(held, layout, place, number, [text])
+    put_records(held, layout, place, number, [(version, text)])
     for part in range(-(-len(text) // 496)):
         at = layout.place(place + part)
         yield from write_words(at, bytes(held[SECTOR * at :][:SECTOR]).rstrip(b"\0"))
+
+
+def record_words(layout, place, number, *changes, version=LAST_VERSION):
+    """Lines that write a record of the journal with these changes."""
+    return text_words(layout, place, number, version, record_text(Record(version, list(changes))))
 
 
 def opens(stop, last):
@@ -85,7 +95,7 @@ def long_point(letters, letter="x"):
     return feature({"points": [[0, 0]]}, tags={"t": letter * letters} if letters else {})
 
 
-def with_snapshot(text, length=None, numbers=(5, 0), archive_len=0, older=Root(0, 0, 0, 0, 0)):
+def with_snapshot(text, length=None, numbers=(5, 0), archive_len=0, older=Root(0, 0, 0, 0, 0), version=LAST_VERSION):
     """Lines that make a disk of generation 1 with this text in its area. `numbers` are the root's edits and place in the journal."""
     root = Root(1, *numbers, len(text) if length is None else length, archive_len)
-    return list(image(Layout(64), root, text, older=older))
+    return list(image(Layout(64), root, text, older=older, version=version))

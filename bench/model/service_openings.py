@@ -1,5 +1,5 @@
 """Blocks of `service_script.py` about disks that are opened, whole or damaged, and about their archives and tiles."""
-from disk import Edit, Layout, Root, snapshot_text, text_of
+from disk import VERSIONS, Change, Layout, Root, snapshot_text, text_of
 from service_lines import LAST, WORLD_END, crashed, fresh, heading, image, long_point, looks, opened, opens, put, record_words, stops, with_snapshot
 from service_lines import write_words
 
@@ -19,16 +19,19 @@ def openings():
     texts = ["0:4", "497:4", "32769:4", "1:4 03", "24:4 01 7:8 1:1 'p 0:1 2:1 1:1 1:2 0:8", "26:4 01 7:8 1:1 'p 0:1 2:1 1:1 1:2 0:8 00 00"]
     for text, parts in [*((text, 1) for text in texts), ("497:4", 2), ("7937:4", 17)]:
         yield from [*fresh(), f"write 3 = 1:1 1:1 {parts}:2 1:8 {text}", "open"]
-    yield from heading("A head of another version, number, place or kind is no edit; the last one here is.")
-    for at, front in ((3, "1:1 2:1 1:2 1:8"), (3, "1:1 1:1 1:2 2:8"), (4, "1:1 1:1 1:2 1:8"), (3, "2:1 1:1 1:2 1:8"), (3, "1:1 1:1 1:2 1:8")):
-        yield from [*fresh(), f"write {at} = {front} 25:4 01 7:8 1:1 'p 0:1 2:1 1:1 1:2 0:8 00", "open", put(8)]
+    yield from heading("A head of another version, number, place or kind is no edit; the last one here of each version is.")
+    for version, length, count in ((1, 25, ""), (2, 26, "01 ")):
+        for at, front in ((3, "1:1 0:1 1:2 1:8"), (3, "1:1 3:1 1:2 1:8"), (3, "1:1 {}:1 1:2 2:8"), (4, "1:1 {}:1 1:2 1:8"), (3, "2:1 {}:1 1:2 1:8"),
+                          (3, "1:1 {}:1 1:2 1:8")):
+            yield from [*fresh(), f"write {at} = {front.format(version)} {length}:4 {count}01 7:8 1:1 'p 0:1 2:1 1:1 1:2 0:8 00", "open", put(8)]
     yield from heading("Records of a point at zooms 0 to 16, as earlier versions wrote them, at the zooms that they refused, and past the last zoom.")
     for zooms in ("0:1 16:1", "16:1 16:1", "0:1 17:1", "19:1 19:1", "0:1 20:1", "20:1 20:1"):
         yield from [*fresh(), f"write 3 = 1:1 1:1 1:2 1:8 25:4 01 7:8 1:1 'p {zooms} 1:1 1:2 {LAST}:8 00", "open"]
         yield from ["look 7", "tile 16 65535 65535", "tile 19 524287 524287"] if "20" not in zooms else []
     yield from heading("A record without its body, and with it.")
-    yield from [*fresh(), *list(record_words(Layout(64), 0, 1, text_of(Edit(7, long_point(467)))))[:1], "open"]
-    yield from [*fresh(), *record_words(Layout(64), 0, 1, text_of(Edit(7, long_point(467)))), "open", "look 7"]
+    for version in VERSIONS:
+        words = list(record_words(Layout(64), 0, 1, Change(7, long_point(467)), version=version))
+        yield from [*fresh(), *words[:1], "open", *fresh(), *words, "open", "look 7"]
     yield from heading("Roots of generation 0: with an invalid snapshot; with an archive, which opening doesn't read; with earlier edits.")
     for root in ("0:8 0:8 0:8 1:8 0:8", "0:8 0:8 0:8 0:8 1:8", "0:8 5:8 0:8 0:8 0:8"):
         yield from [*fresh(), f"write 1 = 'VTROOT01 {root}", "open", put(8)]
@@ -42,14 +45,14 @@ def openings():
 
 # Features whose texts have 25 and 630 bytes.
 SNAPSHOT = {7: long_point(0), 9: long_point(600)}
-SHORT_TEXT = text_of(Edit(7, long_point(0)))
+SHORT_TEXT = text_of(Change(7, long_point(0)))
 
 
 def with_edits():
     """Lines that make a disk with the snapshot and two edits: edit 6, in the last place of the journal, puts 7, and edit 7, in the first, deletes 9."""
     yield from with_snapshot(snapshot_text(SNAPSHOT), numbers=(5, 15))
-    yield from record_words(Layout(64), 15, 6, text_of(Edit(7, long_point(2))))
-    yield from record_words(Layout(64), 0, 7, text_of(Edit(9, None)))
+    yield from record_words(Layout(64), 15, 6, Change(7, long_point(2)))
+    yield from record_words(Layout(64), 0, 7, Change(9, None))
 
 
 def snapshots():
@@ -63,14 +66,14 @@ def snapshots():
         yield from [*with_snapshot(whole[:at] + bytes([byte]) + whole[at + 1 :]), "open"]
     yield from heading("Snapshots of a point at zooms 0 to 16, to 19, and past the last zoom.")
     for last in (16, 19, 20):
-        yield from [*with_snapshot(text_of(Edit(7, {**long_point(0), "maxzoom": last}))), "open"]
+        yield from [*with_snapshot(text_of(Change(7, {**long_point(0), "maxzoom": last}))), "open"]
         yield from ["look 7", "tile 16 0 0", "tile 19 0 0"] if last < 20 else []
     yield from heading("Snapshots of other lengths: a byte too few, a byte too many, one feature, none.")
     for length in (654, 656, 25, 0):
         yield from [*with_snapshot(whole, length), "open", looks(7, 9)]
     yield from heading("Snapshots whose numbers descend, repeat, and ascend.")
     for numbers in ((9, 7), (7, 7), (7, 9)):
-        yield from [*with_snapshot(b"".join(text_of(Edit(number, long_point(0))) for number in numbers)), "open"]
+        yield from [*with_snapshot(b"".join(text_of(Change(number, long_point(0))) for number in numbers)), "open"]
     yield from heading("Of several faults the first in the order of reading is reported: snapshot, records, texts.")
     for kind in (1, 3):
         for length in (1, 0):
@@ -79,7 +82,7 @@ def snapshots():
     yield from heading("Of two roots the one of greater generation is live, with its area.")
     for generation in (0, 2):
         yield from with_snapshot(SHORT_TEXT, older=Root(generation, 5, 0, 25, 0))
-        yield from [*write_words(19, text_of(Edit(8, long_point(0)))), "open", looks(7, 8)]
+        yield from [*write_words(19, text_of(Change(8, long_point(0)))), "open", looks(7, 8)]
     yield from heading("An archive that ends with its area, and one that is a byte longer.")
     for archive_len in (10240, 10241):
         yield from [*with_snapshot(whole, archive_len=archive_len), "write 43 = ff*512", "open", looks(9)]

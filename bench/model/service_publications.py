@@ -1,6 +1,6 @@
 """Blocks of `service_script.py` about publications, and about forty events of which each call of the disk fails in turn."""
 from crashes import Faulty, every_choice
-from disk import snapshot_text
+from disk import VERSIONS, snapshot_text
 from machine import Service
 from map_archive import archive_of
 from service_lines import ALL_CHOICES, LAST, WORLD_END, crashed, fresh, heading, long_point, looks, opened, opens, put, put_each, stops, with_snapshot
@@ -123,21 +123,23 @@ def tried(lines):
     return trial
 
 
-def calls_made():
+def calls_made(version):
     """The number of calls of the disk that opening it and the forty events make."""
-    return tried([*opened(), *rounds()]).taken()[1]
+    return tried([*opened(64, version), *rounds()]).taken()[1]
 
 
 def forty_events():
     yield from heading(
         "Five rounds of eight events, in which the journal wraps around: 20 edits, ten features, and a root of generation 5 with 18 edits that begins at",
-        "place 7. Edit 19 is stored there, in sector 10, edit 20 in sector 11, and the next one in sector 12.",
+        "place 7. Edit 19 is stored there, in sector 10, edit 20 in sector 11, and the next one in sector 12. First on a disk of version 2.",
     )
-    lasting = tried([*opened(), *rounds()]).session
-    assert (lasting.last, len(lasting.map), lasting.next_place()) == (20, 10, 9)
-    assert (lasting.root.generation, lasting.root.edits, lasting.root.journal_at) == (5, 18, 7)
-    yield from [*opened(), *rounds(), looks(*range(11, 14)), looks(*range(51, 54)), "archive", "verify", "stop", "resume", "sector 1", "sector 2"]
-    yield from ["sector 10", "sector 11", "open", put(9), "stop", "resume", "sector 12", "open", "stop", *crashed(), "archive", put(9)]
+    for version in reversed(VERSIONS):
+        lasting = tried([*opened(64, version), *rounds()]).session
+        assert (lasting.last, len(lasting.map), lasting.next_place()) == (20, 10, 9)
+        assert (lasting.root.generation, lasting.root.edits, lasting.root.journal_at) == (5, 18, 7)
+        yield from [*opened(64, version), *rounds(), looks(*range(11, 14)), looks(*range(51, 54)), "archive", "verify", "stop", "resume"]
+        yield from ["sector 1", "sector 2", "sector 10", "sector 11", "open", "version", put(9), "stop", "resume", "sector 12", "open"]
+        yield from ["stop", *crashed(), "archive", put(9)]
 
 
 class History:
@@ -169,11 +171,16 @@ def stop_choices():
     yield from heading(
         "The forty events on a disk whose calls fail from each number on. At most ten sectors are unsynced then, and a crash leaves each of them as it",
         "was or as it was written: every choice is opened. The tile shows all acknowledged edits and at most the one that failed, the next edit has the",
-        "next number, and the archive is that of the edits of its root.",
+        "next number, and the archive is that of the edits of its root. First on disks of version 2.",
     )
+    for version in reversed(VERSIONS):
+        yield from stop_choices_of(version)
+
+
+def stop_choices_of(version):
     history, choices = History(), 0
-    for call in range(1, calls_made() + 1):
-        ran = [*fresh(), f"fail_from {call}", "open", *(rounds() if call > 5 else [])]
+    for call in range(1, calls_made(version) + 1):
+        ran = [*fresh(64, version), f"fail_from {call}", "open", *(rounds() if call > 5 else [])]
         trial = tried(ran)
         acknowledged, generation = (trial.session.last, trial.session.root.generation) if call > 5 else (0, 0)
         trial.answer("stop")
@@ -183,12 +190,12 @@ def stop_choices():
             assert history.fits(Service(Faulty(trial.stopped.crash(choice))), acknowledged, generation)
             choices += 1
             yield from [*crashed(choice), f"tile 0 0 0; {put(9)}", "archive"]
-    yield f"# {choices} choices of {call} stops."
+    yield f"# {choices} choices of {call} stops, on disks of version {version}."
 
 
-def failed_event(stop):
+def failed_event(stop, version):
     """The number of events up to the one of which a call fails, or 0 if that is a call of opening."""
-    trial = tried([*fresh(), stop, "open"])
+    trial = tried([*fresh(64, version), stop, "open"])
     if not isinstance(trial.session, Service):
         return 0
     return 1 + next(number for number, event in enumerate(EVENTS_MADE) if trial.answer(event) == "Refused(Device)")
@@ -197,11 +204,12 @@ def failed_event(stop):
 def one_failure():
     yield from heading(
         "The forty events on a disk of which one call fails, before or after its work is done. The events after the failed one are answered all the",
-        "same. Then the disk is opened again, and they are run once more.",
+        "same. Then the disk is opened again, and they are run once more. First on disks of version 2.",
     )
-    for stop in [f"{word} {call}" for word in ("fail_not_made", "fail_made") for call in range(1, calls_made() + 1)]:
-        failed = failed_event(stop)
-        yield from [*fresh(), stop, "open", *(rounds() if failed else []), "stop", "resume", "open", *rounds(failed), "archive"]
+    for version in reversed(VERSIONS):
+        for stop in [f"{word} {call}" for word in ("fail_not_made", "fail_made") for call in range(1, calls_made(version) + 1)]:
+            failed = failed_event(stop, version)
+            yield from [*fresh(64, version), stop, "open", *(rounds() if failed else []), "stop", "resume", "open", *rounds(failed), "archive"]
 
 
 def read_failures():

@@ -1,10 +1,10 @@
-"""Blocks of `service_script.py` at random: edits, publications, failing calls and crashes, on small and large disks."""
+"""Blocks of `service_script.py` at random: edits, batches, publications, upgrades, failing calls and crashes, on small and large disks."""
 import copy
 
 from chance import Chance
 from crashes import Faulty
 from machine import Service
-from service_lines import WORLD_END, fresh, heading, looks, opened, words_of
+from service_lines import WORLD_END, batch, fresh, heading, looks, opened, words_of
 from service_stand import Trial
 
 
@@ -26,10 +26,20 @@ def random_shapes(chance):
     return "points " + " ".join(coordinates(chance) for _ in range(1 + chance.below(3)))
 
 
-def random_put(chance, most_letters, zooms=3):
+def random_put(chance, most_letters, zooms=3, number=None):
     tag = f" t='{chance.one_of('xyz')}*{chance.below(most_letters)}" if chance.below(3) == 0 else ""
     layer, first = chance.one_of("pq"), chance.below(zooms)
-    return f"put {chance.below(8)} {layer} {first} {first + chance.below(zooms)} {random_shapes(chance)}{tag}"
+    number = chance.below(8) if number is None else number
+    return f"put {number} {layer} {first} {first + chance.below(zooms)} {random_shapes(chance)}{tag}"
+
+
+def random_batch(chance, most_letters):
+    """Up to six changes of different numbers; one batch in 16 has a number twice."""
+    first, count = chance.below(8), 1 + chance.below(6)
+    numbers = [(first + 3 * index) % 8 for index in range(count)]
+    if chance.below(16) == 0:
+        numbers.append(first)
+    return batch(*(random_put(chance, most_letters, 2, number) if chance.below(4) else f"delete {number}" for number in numbers))
 
 
 def random_place(chance):
@@ -81,27 +91,57 @@ def random_failure(chance, trial):
     return f"{chance.one_of(['fail_from', 'fail_not_made', 'fail_made'])} {call}"
 
 
-def random_turn(chance, trial, turn):
-    """The lines of a turn, each after the answers to those before it."""
-    if turn % 24 == 0:
-        yield from fresh(80 + chance.below(300))
+def random_session(chance, trial, random_events):
+    """The lines of a session with some events, of which a call may fail, and of a crash."""
     if chance.below(5):
         yield random_failure(chance, trial)
     yield "open"
     if not isinstance(trial.session, Service):
         yield "open"
     for _ in range(1 + chance.below(3)):
-        yield "; ".join(random_event(chance) for _ in range(1 + chance.below(6)))
+        yield "; ".join(random_events(chance) for _ in range(1 + chance.below(6)))
     yield from ["; ".join([looks(*range(8)), "tile 0 0 0"]), "archive", "stop"]
     yield f"crash{words_of(chance.below(3) for _ in range(chance.below(9)))}"
 
 
-def random_runs(seed, turns):
-    chance, trial = Chance(seed), Trial()
+def random_turn(chance, trial, turn):
+    if turn % 24 == 0:
+        yield from fresh(80 + chance.below(300))
+    yield from random_session(chance, trial, random_event)
+
+
+def batch_event(chance):
+    return random_event(chance) if chance.below(2) else random_batch(chance, 500)
+
+
+def random_upgrade(chance):
+    """An upgrade, of which a call may fail, and perhaps a crash after it."""
+    if chance.below(3):
+        yield f"{chance.one_of(['fail_from', 'fail_not_made', 'fail_made'])} {1 + chance.below(5)}"
+    yield "upgrade"
+    if chance.below(2):
+        yield from ["stop", f"crash{words_of(chance.below(2) for _ in range(chance.below(3)))}"]
+
+
+def batch_turn(chance, trial, turn):
+    """Disks of both versions, which are upgraded now and then."""
+    if turn % 20 == 0:
+        yield from fresh(80 + chance.below(300), 1 + chance.below(3) // 2)
+    if chance.below(5) == 0:
+        yield from random_upgrade(chance)
+    yield from random_session(chance, trial, batch_event)
+
+
+def random_runs(seed, turns, lines_of_turn=random_turn):
+    """Turns, each after the answers to those before it. A crash leaves the acknowledged edits, and of the next one all changes or none."""
+    chance, trial, ended = Chance(seed), Trial(), None
     for turn in range(turns):
-        for line in random_turn(chance, trial, turn):
+        for line in lines_of_turn(chance, trial, turn):
+            if line == "stop" and isinstance(trial.session, Service):
+                ended = trial.session
             trial.answer(line)
             yield line
+        assert Service(Faulty(copy.deepcopy(trial.session))).map in ended.left_by_a_crash()
 
 
 def random_stops():
@@ -110,6 +150,23 @@ def random_stops():
         "it leaves.",
     )
     yield from random_runs(1867, 240)
+
+
+def random_batches():
+    yield from heading("Random runs with batches on disks of both versions, with upgrades between them.")
+    yield from random_runs(1905, 200, batch_turn)
+
+
+def random_batch_tiles():
+    yield from heading("Random batches, publications and tiles, as above: a tile has the bytes of one that is cut anew.")
+    chance = Chance(2027)
+    yield from fresh(128)
+    for _ in range(30):
+        yield "open"
+        for _ in range(40):
+            turn = [[random_batch(chance, 200)], [random_put(chance, 2)], [f"delete {chance.below(8)}"], ["step"], ["begin"], []][chance.below(6)]
+            yield "; ".join([*turn, f"tile {random_place(chance)}", f"tile {random_place(chance)}"])
+        yield from ["archive", "stop", "resume" if chance.below(2) else "crash"]
 
 
 # ---- large disks
@@ -142,8 +199,16 @@ def large_put(chance, number):
 FEATURES = 300
 
 
+def large_batch(chance, first):
+    """Up to 24 changes of numbers from one on; few are deletions, which are refused where a feature is gone."""
+    numbers = range(first, min(FEATURES, first + 1 + chance.below(24)))
+    return batch(*(small_put(chance, number) if chance.below(12) else f"delete {number}" for number in numbers))
+
+
 def large_event(chance):
-    kind, number = chance.below(8), chance.below(FEATURES)
+    kind, number = chance.below(10), chance.below(FEATURES)
+    if kind > 7:
+        return large_batch(chance, number)
     if kind < 3:
         return small_put(chance, number)
     if kind < 5:
@@ -179,8 +244,8 @@ def large_turn(chance, trial):
         trial.answer(line)
         yield line
     left = Service(Faulty(copy.deepcopy(trial.session)))
-    differing = [number for number in range(FEATURES) if left.map.get(number) != ended.map.get(number)]
-    assert len(differing) <= left.last - ended.last <= 1 and left.root.generation - ended.root.generation in (0, 1)
+    assert left.map in ended.left_by_a_crash()
+    assert left.last - ended.last in (0, 1) and left.root.generation - ended.root.generation in (0, 1)
     return left.root
 
 
@@ -209,4 +274,4 @@ def large_stops():
         yield from large_disk(seed, 60)
 
 
-BLOCKS = [random_tiles, random_stops, large_stops]
+BLOCKS = [random_tiles, random_stops, random_batches, random_batch_tiles, large_stops]

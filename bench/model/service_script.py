@@ -1,13 +1,16 @@
 """The script of `service_runs` and its expected output: a model of a service on a disk in memory answers each line."""
+import service_batches
 import service_edits
 import service_openings
 import service_publications
 import service_random
+import service_versions
 import words
 from service_stand import Trial
 
 CRATE = "service_runs"
-BLOCKS = [*service_edits.BLOCKS, *service_publications.BLOCKS, *service_openings.BLOCKS, *service_random.BLOCKS]
+BLOCKS = [*service_edits.BLOCKS, *service_batches.BLOCKS, *service_publications.BLOCKS, *service_openings.BLOCKS, *service_versions.BLOCKS]
+BLOCKS += service_random.BLOCKS
 
 
 def lines():

@@ -1,9 +1,9 @@
 """A model of a service on a disk in memory, which answers the lines of `service_script.py`."""
 from collections import namedtuple
 
-from calls import format_disk
+from calls import format_disk, upgrade
 from crashes import FROM, MADE, NONE, NOT_MADE, Failed, Faulty, Memory
-from disk import SECTOR, Fault
+from disk import LAST_VERSION, SECTOR, VERSIONS, Change, Fault
 from machine import NO_NEGATIVE, Refused, Service
 from map_archive import runs_of, tiles_of
 from words import Fields, Tuple, Variant, briefly, debug, digest, err, ok, read, some, spelled
@@ -15,8 +15,8 @@ Published = namedtuple("Published", "generation edits archive_len")
 Report = namedtuple("Report", "tiles entries contents")
 
 LONGEST = 240
-CALLS = ("publish", "archive", "export", "verify", "metadata", "nothing")
-EVENTS = ("put", "delete", "tile", "look", "begin", "step", "cancel")
+CALLS = ("publish", "archive", "export", "verify", "metadata", "version", "nothing")
+EVENTS = ("put", "delete", "batch", "tile", "look", "begin", "step", "cancel")
 SERVICE_WORDS = CALLS + EVENTS
 
 
@@ -92,6 +92,17 @@ def feature_read(words):
     return {"layer": layer, "minzoom": int(minzoom), "maxzoom": int(maxzoom), "geometry": {kind: lists}, "tags": tags}
 
 
+def change_read(text):
+    """Parses a change: `put ID FEATURE` or `delete ID`."""
+    name, number, *words = text.split()
+    return Change(int(number), feature_read(words) if name == "put" else None)
+
+
+def changes_read(text):
+    """Parses the changes of a batch; no text is a batch of none."""
+    return [change_read(change) for change in text.split(" & ")] if text else []
+
+
 # ---- the state of a script
 
 
@@ -128,16 +139,28 @@ class Trial:
     def do_sectors(self):
         return " ".join(str(at) for at in range(self.session.count) if any(self.session.read(at)))
 
-    def do_format(self):
+    def worked(self, work):
+        """The outcome of work on the disk with its failing calls, and the number of calls."""
         self.session = self.taken()[0]
         disk = self.faulty(self.session)
         try:
-            outcome = ok(format_disk(disk) or ())
+            outcome = ok(work(disk) or ())
         except Failed:
             outcome = err(Variant("Device"))
         except Fault as fault:
             outcome = err(Variant(str(fault)))
         return f"{debug(outcome)} in {disk.calls}"
+
+    def do_format(self):
+        return self.do_format_version(LAST_VERSION)
+
+    def do_format_version(self, version):
+        if version not in VERSIONS:
+            return f"? format_version {version}"
+        return self.worked(lambda disk: format_disk(disk, version))
+
+    def do_upgrade(self):
+        return self.worked(upgrade)
 
     def fail(self, kind, call, name):
         self.failing = kind, call
@@ -212,30 +235,36 @@ class Trial:
     def do_metadata(self):
         return shortly(self.session.metadata().decode())
 
+    def do_version(self):
+        return str(self.session.version)
+
     # ---- events
 
-    def answered(self, words):
-        name, *rest = words
-        numbers = [int(word) for word in rest] if name != "put" else []
-        if name == "put":
-            return Tuple("Edited", self.session.put(int(rest[0]), feature_read(rest[1:])))
+    def edited(self, name, rest):
+        """The number of the edit that is made."""
+        if name == "batch":
+            return self.session.batch(changes_read(rest))
+        change = change_read(f"{name} {rest}")
+        return self.session.put(*change) if name == "put" else self.session.delete(change.number)
+
+    def answered(self, name, rest):
+        if name in ("put", "delete", "batch"):
+            return Tuple("Edited", self.edited(name, rest))
         if name == "look":
-            found = self.session.map.get(*numbers)
+            found = self.session.map.get(int(rest))
             return Tuple("Look", some(feature_shown(found)) if found else None)
         if name == "cancel":
             self.session.cancel()
             return Variant("Cancelled")
-        if name == "delete":
-            return Tuple("Edited", self.session.delete(*numbers))
         return Tuple("Left", getattr(self.session, name)())
 
     def event(self, text):
-        words = text.split()
-        if words[0] == "tile":
-            held = self.session.tile(*[int(word) for word in words[1:]])
+        name, _, rest = text.partition(" ")
+        if name == "tile":
+            held = self.session.tile(*[int(word) for word in rest.split()])
             return f"Tile({briefly(held) or None})"
         try:
-            return shortly(debug(self.answered(words)))
+            return shortly(debug(self.answered(name, rest)))
         except Refused as refused:
             return debug(Tuple("Refused", fault_shown(refused)))
 
