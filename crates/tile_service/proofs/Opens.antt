@@ -175,7 +175,7 @@ module _ (sectors n version : ℕ) (image : Image) (root : Root) (journal : jour
     (is : IsRead sectors n version image root journal features touched) where
   read_journal : (records : List RecordData) → IsJournalOf n version root records image → AreRecordsFor records is.replayed.edits
   read_journal records there = subst (λ (rs : List RecordData). AreRecordsFor rs is.replayed.edits)
-      (one_journal version (journal_ring n) image (start_of root.journal_at root.edits) is.replayed.records records is.replayed.are_records there)
+      (one_journal (journal_ring n) image version (start_of root.journal_at root.edits) is.replayed.records records is.replayed.are_records there)
       is.replayed.are_edits
 
   read_no_fault : (fault : StoreFault) → IsContentFault n version root image fault → ⊥
@@ -223,12 +223,11 @@ module _ (sectors n : ℕ) (stored : Stored) (image : Image) (holds : Holds sect
   version_there = (holds.sectors 0).version refl
 
   journal_there : IsJournalOf n stored.version (root_of stored) (stored_records stored) image
-  journal_there = held_is_journal stored.version (journal_ring n) image
-      (version_most stored.version (version_known sectors n stored image holds)) (journal_start stored) (stored_records stored) holds.journal
-      (are_up_to stored.version stored.since holds.are_edits)
+  journal_there = held_is_journal (journal_ring n) image stored.version (journal_start stored) (stored_records stored)
+      (version_most stored.version (version_known sectors n stored image holds)) (are_up_to stored.version stored.since holds.are_edits) holds.journal
 
   one_records : (records : List RecordData) → IsJournalOf n stored.version (root_of stored) records image → records ≡ stored_records stored
-  one_records records is = one_journal stored.version (journal_ring n) image (journal_start stored) records (stored_records stored) is journal_there
+  one_records records is = one_journal (journal_ring n) image stored.version (journal_start stored) records (stored_records stored) is journal_there
 
   no_content_fault : (fault : StoreFault) → IsContentFault n stored.version (root_of stored) image fault → ⊥
   no_content_fault NotFormatted is = is
