@@ -13,14 +13,14 @@ use Rattle.tile_service.proofs.replaying.replay.Goals as goal
 records_append : (found more : List Record) → records_of (found ++ more) ≡ records_of found ++ records_of more
 records_append found more = map-append record_data found more
 
-pub loop-record-preserved : goal.loop-record-preserved
-loop-record-preserved c =
-    let inv = c.loop-record.invariant in
-    let yielded = c.loop-record.yielded in
-    let record_is = c.in-Some.record in
+pub loop-recorded-preserved : goal.loop-recorded-preserved
+loop-recorded-preserved c =
+    let inv = c.loop-recorded.invariant in
+    let yielded = c.loop-recorded.yielded in
+    let record_is = c.in-Some.recorded in
     let rest = into_iter_items c.next.new.self in
     let steps = c.in-Some.ensures.steps in
-    let old = c.loop-record.map.features in
+    let old = c.loop-recorded.map.features in
     let one = c.in_ok-replay_one.ensures.made in
     record {
       can_next = tt;
@@ -28,13 +28,13 @@ loop-record-preserved c =
       items = append_assoc yielded (record_is ∷ []) rest ∙ ap (λ l. yielded ++ l) (sym steps.0) ∙ inv.items;
       left = omega (arith, steps.1, ap length steps.0, inv.left);
       made = subst (λ (l : List RecordData). AreMade l c.args.map.now c.replay_one.new.map) (sym (records_append yielded (record_is ∷ [])))
-          (replayed_one (records_of yielded) (record_data record_is) c.args.map.now c.loop-record.map c.replay_one.new.map inv.made one
+          (replayed_one (records_of yielded) (record_data record_is) c.args.map.now c.loop-recorded.map c.replay_one.new.map inv.made one
           (omega (
             arith,
             c.in_ok-replay_one.ensures.last,
             inv.last,
             ap length inv.items,
-            length-append yielded (into_iter_items c.loop-record.record-iterator),
+            length-append yielded (into_iter_items c.loop-recorded.recorded-iterator),
             length-map yielded record_data,
           ))
           c.in_ok-replay_one.ensures.now c.in_ok-replay_one.ensures.since);
@@ -46,9 +46,9 @@ loop-record-preserved c =
 
 pub returns-in_err-replay_one-clause-fault : goal.returns-in_err-replay_one-clause-fault
 returns-in_err-replay_one-clause-fault c =
-    let inv = c.loop-record.invariant in
-    let yielded = c.loop-record.yielded in
-    let failed = c.in-Some.record in
+    let inv = c.loop-recorded.invariant in
+    let yielded = c.loop-recorded.yielded in
+    let failed = c.in-Some.recorded in
     let rest = into_iter_items c.next.new.self in
     let fault = c.in_err-replay_one.field-0.0 in
     let all : yielded ++ failed ∷ rest ≡ c.args.records.items = ap (λ l. yielded ++ l) (sym c.in-Some.ensures.steps.0) ∙ inv.items in

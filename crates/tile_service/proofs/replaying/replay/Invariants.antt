@@ -6,13 +6,13 @@ use Rattle.edit_journal.specs.Records.{records_of}
 use Rattle.tile_service.specs.Replayed.{AreMade, bytes_of}
 use Rattle.tile_service.proofs.replaying.replay.Given as goal
 
-abbrev pub invariant-loop-record : goal.invariant-loop-record
-invariant-loop-record l = record {
-  can_next : goal.iterator-loop-record.can_next l.record-iterator;
-  is_finite : goal.iterator-loop-record.is_finite l.record-iterator;
-  items : l.yielded ++ into_iter_items l.record-iterator ≡ l.fn.records.items;
-  left : into_iter_len l.record-iterator ≡ length (into_iter_items l.record-iterator);
+abbrev pub invariant-loop-recorded : goal.invariant-loop-recorded
+invariant-loop-recorded l = record {
+  can_next : goal.iterator-loop-recorded.can_next l.recorded-iterator;
+  is_finite : goal.iterator-loop-recorded.is_finite l.recorded-iterator;
+  items : l.yielded ++ into_iter_items l.recorded-iterator ≡ l.fn.records.items;
+  left : into_iter_len l.recorded-iterator ≡ length (into_iter_items l.recorded-iterator);
   made : AreMade (records_of l.yielded) l.fn.map l.map;
-  last : l.map.last + length (into_iter_items l.record-iterator) ≡ l.fn.map.last + length l.fn.records.items;
-  short : length (snapshot l.map.features) + bytes_of (records_of (into_iter_items l.record-iterator)) < TEXTS_END;
+  last : l.map.last + length (into_iter_items l.recorded-iterator) ≡ l.fn.map.last + length l.fn.records.items;
+  short : length (snapshot l.map.features) + bytes_of (records_of (into_iter_items l.recorded-iterator)) < TEXTS_END;
 }
