@@ -10,6 +10,7 @@ use Rattle.generations.specs.Areas.{IsSize, journal_sectors, area_start}
 use Rattle.generations.specs.Disks.{HasRoot, LiveRoot, first_root}
 use Rattle.generations.specs.Sectors.{root_sector, zeros, AreNumbers, IsFormat, IsNoRoot, IsRootOf, IsRootSector}
 use Rattle.generations.specs.declared.root.Root.{Root}
+use Rattle.generations.specs.declared.sizes.TheConstants.{LAST_VERSION}
 use Rattle.generations.proofs.Laws.{fresh_image, fresh_live, one_live, one_root, some_fresh}
 use Rattle.edit_journal.specs.Appends.{start_of}
 use Rattle.edit_journal.specs.Records.{RecordData, IsRecordVersion, parts_of, record_sector, IsHeadOf}
@@ -48,7 +49,7 @@ module _ (count n : ℕ) (size : IsSize n) (within : n ≤ count) (at : ℕ) (in
   empty place is apart = elsewhere place apart ∙ (some_fresh n).empty place (omega (arith, is.0)) is.1
 
   first : LiveRoot count (fresh_image n) n first_root
-  first = fresh_live count n (fresh_image n) size within (some_fresh n)
+  first = fresh_live count LAST_VERSION n (fresh_image n) (inr refl) size within (some_fresh n)
 
   there : (root : Root) → HasRoot n (fresh_image n) root → HasRoot n image root
   there root (inl is) = inl (subst (λ (s : List ℕ). IsRootOf n 0 s root) (sym (before 1 (lit< tt))) is)
