@@ -19,7 +19,8 @@ use Rattle.edit_journal.specs.Records.{RecordData, IsRecordVersion, parts_of, re
 use Rattle.edit_journal.specs.Ring.{Start, sector_at, IsInRing, HoldsOnly}
 use Rattle.edit_journal.proofs.Laws.{written_is_part, first_is_head, first_stands, one_number, zeros_no_head}
 use Rattle.edit_text.specs.Recorded.{RecordedEdit}
-use Rattle.tile_service.specs.Stored.{Stored, Holds, HoldsAt, HasBytes, HasEarlierRoot, CanRecord, root_of, record_for, stored_records, journal_ring, journal_start}
+use Rattle.tile_service.specs.Stored.{Stored, Holds, HoldsAt, HasBytes, HasEarlierRoot, CanRecord}
+use Rattle.tile_service.specs.Stored.{root_of, record_for, stored_records, journal_ring, journal_start}
 use Rattle.tile_service.proofs.Fresh.{first_in, fresh_version_holds, no_bytes, no_text}
 use Rattle.tile_service.proofs.Laws.{one_state}
 use Rattle.tile_service.proofs.Roots.{lives, parities, zeros_no_root}
