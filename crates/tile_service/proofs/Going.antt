@@ -30,7 +30,7 @@ module _ (size version : ℕ) (root : Root) (old new : Journal) (ring : ring_of 
       → IfSome publication (IsGoing size root new later.features)
   going_on None was = tt
   going_on (Some p) was = record {
-    behind = append_is_behind old new ring from version bytes fits used last p.start p.places was.behind;
+    behind = append_is_behind old new ring from bytes version fits used last p.start p.places was.behind;
     area = was.area;
     written = was.written;
     generation = was.generation;
@@ -45,7 +45,7 @@ module _ (size version : ℕ) (root : Root) (old new : Journal) (ring : ring_of 
     ring = ring ∙ was.ring;
     area = was.area;
     texts = texts_on old.used new.used (omega (arith, used)) was.texts;
-    counted = append_counted old new ring from version bytes fits used last was.counted;
+    counted = append_counted old new ring from bytes version fits used last was.counted;
     last_is = numbered;
     going = going_on publication was.going;
   }

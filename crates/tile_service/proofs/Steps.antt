@@ -1,5 +1,5 @@
 -- The limits of edits, and the lengths of their texts and of those of a map.
-use Rattle.std.proofs.Common.{◌≡◌, inl, inr, ⊎_elim, ℕ, Bool, false, cond, ◌<◌, ◌≤◌, ◌+◌, ◌*◌, [], ◌∷◌, length, sym, refl, ap, subst, arith, lit≤, Some}
+use Rattle.std.proofs.Common.{◌≡◌, inl, inr, ⊎_elim, ℕ, Bool, false, cond, ◌<◌, ◌≤◌, ◌+◌, ◌-◌, ◌*◌, ◌^◌, [], ◌∷◌, length, sym, refl, ap, subst, arith, lit≤, Some}
 use Rattle.std.proofs.Common.{append-nil, length-append}
 use Rattle.std.specs.Prelude.{IsSome}
 use Rattle.std.specs.List.{All}
@@ -26,7 +26,8 @@ use Rattle.feature_model.proofs.Changes.{distinct_none, distinct_push}
 use Rattle.feature_store.specs.Store.{FeatureMap, IsMap, feature_at, changed, edited, snapshot}
 use Rattle.feature_store.specs.declared.limit.TheConstants.{TEXTS_END}
 use Rattle.feature_store.proofs.Laws.{snapshot_after_put, snapshot_after_delete}
-use Rattle.tile_service.specs.Machine.{recorded_change}
+use Rattle.tile_service.specs.Limits.{KeepsLimits, KeepsBatchLimits}
+use Rattle.tile_service.specs.Machine.{ServiceState, single, batched, recorded_in, recorded_change, HasTarget, CanMake}
 
 -- ---- numbers
 
@@ -76,6 +77,22 @@ many_fit version cs is later = record { is = is; one = λ first. absurd (later f
 -- the deletion of a feature is an edit
 pub delete_recorded : (version id : ℕ) → IsVersion version → NumberFits id → IsRecorded (recorded_change version (delete id))
 delete_recorded version id is fits = record { fits = one_fits version (delete id) is; edit = edit_of_one (delete id) fits }
+
+-- ---- what can be made
+
+pub put_can : (s : ServiceState) (id : ℕ) (f : FeatureData) → KeepsLimits id f → s.last < 2 ^ 64 - 1
+    → CanMake s single (recorded_change s.version (put id f))
+put_can s id f keeps number = record { version_is = refl; accepts = tt; wanted = keeps; number = number }
+
+-- a version that isn't the first takes batches
+pub is_later : (version : ℕ) → IsVersion version → (version ≡ FIRST_VERSION → ⊥) → FIRST_VERSION < version
+is_later version (inl is) later = absurd (later is)
+is_later version (inr is) later = omega (arith, is)
+
+pub batch_can : (s : ServiceState) (cs : EditData) → IsVersion s.version → (s.version ≡ FIRST_VERSION → ⊥) → KeepsBatchLimits cs
+    → All (HasTarget s.features) cs → s.last < 2 ^ 64 - 1 → CanMake s batched (recorded_in s.version cs)
+batch_can s cs is later keeps targets number =
+    record { version_is = refl; accepts = is_later s.version is later; wanted = (keeps, targets); number = number }
 
 -- ---- lengths
 
