@@ -10,13 +10,13 @@ use Rattle.generations.specs.Areas.{IsSize, journal_sectors, area_start}
 use Rattle.generations.specs.Disks.{HasRoot, LiveRoot, first_root}
 use Rattle.generations.specs.Sectors.{root_sector, zeros, AreNumbers, IsFormat, IsNoRoot, IsRootOf, IsRootSector}
 use Rattle.generations.specs.declared.root.Root.{Root}
+use Rattle.generations.specs.declared.sizes.TheConstants.{LAST_VERSION}
 use Rattle.generations.proofs.Laws.{fresh_image, fresh_live, one_live, one_root, some_fresh}
 use Rattle.edit_journal.specs.Appends.{start_of}
-use Rattle.edit_journal.specs.Records.{parts_of, record_sector, IsHeadOf}
-use Rattle.edit_journal.specs.Ring.{Start, sector_at, IsInRing, HoldsTexts}
-use Rattle.edit_journal.specs.declared.sizes.TheConstants.{RECORD_VERSION}
+use Rattle.edit_journal.specs.Records.{RecordData, IsRecordVersion, parts_of, record_sector, IsHeadOf}
+use Rattle.edit_journal.specs.Ring.{Start, sector_at, IsInRing, HoldsOnly}
 use Rattle.edit_journal.proofs.Laws.{written_is_part, first_is_head, first_stands, one_number, zeros_no_head}
-use Rattle.tile_service.specs.Stored.{Stored, Holds, HoldsAt, HasBytes, HasEarlierRoot, first_state, root_of, texts_of, journal_ring, journal_start}
+use Rattle.tile_service.specs.Stored.{Stored, Holds, HoldsAt, HasBytes, HasEarlierRoot, first_state, root_of, stored_records, journal_ring, journal_start}
 use Rattle.tile_service.proofs.Fresh.{fresh_holds, no_bytes, no_text}
 use Rattle.tile_service.proofs.Laws.{one_state}
 use Rattle.tile_service.proofs.Roots.{lives, parities, zeros_no_root}
@@ -49,7 +49,7 @@ module _ (count n : ℕ) (size : IsSize n) (within : n ≤ count) (at : ℕ) (in
   empty place is apart = elsewhere place apart ∙ (some_fresh n).empty place (omega (arith, is.0)) is.1
 
   first : LiveRoot count (fresh_image n) n first_root
-  first = fresh_live count n (fresh_image n) size within (some_fresh n)
+  first = fresh_live count LAST_VERSION n (fresh_image n) (inr refl) size within (some_fresh n)
 
   there : (root : Root) → HasRoot n (fresh_image n) root → HasRoot n image root
   there root (inl is) = inl (subst (λ (s : List ℕ). IsRootOf n 0 s root) (sym (before 1 (lit< tt))) is)
@@ -71,39 +71,40 @@ module _ (count n : ℕ) (size : IsSize n) (within : n ≤ count) (at : ℕ) (in
 
   -- so the edits since begin with number 1 in place 0
   begins : (m : ℕ) (stored : Stored) → Holds count m stored image
-      → HoldsTexts RECORD_VERSION (journal_ring n) (start_of 0 0) (texts_of stored) image
+      → HoldsOnly (journal_ring n) (start_of 0 0) (stored_records stored) image
   begins m stored holds =
       let same = one_live count image n m first_root (root_of stored) live (lives count image m stored holds) in
       let start : start_of 0 0 ≡ journal_start stored = ap (λ (r : Root). start_of r.journal_at r.edits) same.1 in
-      subst (λ (s : Start). HoldsTexts RECORD_VERSION (journal_ring n) s (texts_of stored) image) (sym start)
-      (subst (λ (k : ℕ). HoldsTexts RECORD_VERSION (journal_ring k) (journal_start stored) (texts_of stored) image) (sym same.0) holds.journal)
+      subst (λ (s : Start). HoldsOnly (journal_ring n) s (stored_records stored) image) (sym start)
+      (subst (λ (k : ℕ). HoldsOnly (journal_ring k) (journal_start stored) (stored_records stored) image) (sym same.0) holds.journal)
 
-  module _ (number : ℕ) (later : 1 < number) (head : IsHeadOf RECORD_VERSION number sector) where
-    no_texts : (texts : List (List ℕ)) → HoldsTexts RECORD_VERSION (journal_ring n) (start_of 0 0) texts image → ⊥
-    no_texts [] holds = holds.last at number inside (omega (arith, later)) (subst (λ (s : List ℕ). IsHeadOf RECORD_VERSION number s) (sym here) head)
-    no_texts (text ∷ texts) holds =
-        let some : 1 ≤ parts_of (length text) = omega (arith, holds.records.edits.0.0) in
+  module _ (version number : ℕ) (is_record : IsRecordVersion version) (later : 1 < number) (head : IsHeadOf version number sector) where
+    no_records : (records : List RecordData) → HoldsOnly (journal_ring n) (start_of 0 0) records image → ⊥
+    no_records [] holds =
+        holds.last at version number inside is_record (omega (arith, later)) (subst (λ (s : List ℕ). IsHeadOf version number s) (sym here) head)
+    no_records (r ∷ records) holds =
+        let some : 1 ≤ parts_of (length r.text) = omega (arith, holds.records.lengths.0.1) in
         let place : ℕ = sector_at (journal_ring n) (0 + 0) in
-        let is_first : IsHeadOf RECORD_VERSION 1 (image place) =
-        first_is_head RECORD_VERSION 1 text (image place) (lit< tt)
-        (first_stands RECORD_VERSION (journal_ring n) image (start_of 0 0) text texts holds 0 (omega (arith, some))) in
+        let is_first : IsHeadOf r.version 1 (image place) =
+        first_is_head r.version 1 r.text (image place) (lit< tt)
+        (first_stands (journal_ring n) image (start_of 0 0) r records holds 0 (omega (arith, some))) in
         let in_ring : IsInRing (journal_ring n) place =
         (omega arith, omega (arith, mod_below (0 + 0) (journal_sectors n) (omega (arith, some, holds.records.room)))) in
         ⊎_elim
         (λ (same : place ≡ at).
         let one : 1 ≡ number =
-        one_number RECORD_VERSION RECORD_VERSION 1 number sector
-        (subst (λ (s : List ℕ). IsHeadOf RECORD_VERSION 1 s) (ap (λ (p : ℕ). image p) same ∙ here) is_first) head in
+        one_number r.version version 1 number sector
+        (subst (λ (s : List ℕ). IsHeadOf r.version 1 s) (ap (λ (p : ℕ). image p) same ∙ here) is_first) head in
         omega (arith, one, later))
         (λ (apart : place ≡ at → ⊥).
-        zeros_no_head RECORD_VERSION 1 (subst (λ (s : List ℕ). IsHeadOf RECORD_VERSION 1 s) (empty place in_ring apart) is_first))
+        zeros_no_head r.version 1 (subst (λ (s : List ℕ). IsHeadOf r.version 1 s) (empty place in_ring apart) is_first))
         (cases_eq place at)
 
     -- With the head of a later number than 1 alone it holds nothing.
     pub later_head_holds_nothing : (m : ℕ) (stored : Stored) → Holds count m stored image → ⊥
-    later_head_holds_nothing m stored holds = no_texts (texts_of stored) (begins m stored holds)
+    later_head_holds_nothing m stored holds = no_records (stored_records stored) (begins m stored holds)
 
-  module _ (none : (number : ℕ) → IsHeadOf RECORD_VERSION number sector → ⊥) where
+  module _ (none : (version number : ℕ) → IsRecordVersion version → IsHeadOf version number sector → ⊥) where
     formatted : Holds count n first_state (fresh_image n)
     formatted = fresh_holds count n (fresh_image n) size within (some_fresh n)
 
@@ -111,6 +112,7 @@ module _ (count n : ℕ) (size : IsSize n) (within : n ≤ count) (at : ℕ) (in
     each place = ⊎_elim
         (λ (same : place ≡ at). record {
           format = λ is. absurd (omega (arith, is, same, inside.0));
+          version = λ is. absurd (omega (arith, is, same, inside.0));
           live = λ is. absurd (omega (arith, is, same, inside.0));
           other = λ is. absurd (omega (arith, is, same, inside.0));
           snapshot_bytes = subst (λ (bytes : List ℕ). HasBytes (area_start n 0) bytes place (image place)) (sym no_text)
@@ -120,11 +122,12 @@ module _ (count n : ℕ) (size : IsSize n) (within : n ≤ count) (at : ℕ) (in
         (λ (apart : place ≡ at → ⊥). subst (λ (s : List ℕ). HoldsAt count n first_state place s) (sym (elsewhere place apart)) (formatted.sectors place))
         (cases_eq place at)
 
-    no_head : (place number : ℕ) → IsInRing (journal_ring n) place → IsHeadOf RECORD_VERSION number (image place) → ⊥
-    no_head place number is head = ⊎_elim
-        (λ (same : place ≡ at). none number (subst (λ (s : List ℕ). IsHeadOf RECORD_VERSION number s) (ap (λ (p : ℕ). image p) same ∙ here) head))
+    no_head : (place version number : ℕ) → IsInRing (journal_ring n) place → IsRecordVersion version → IsHeadOf version number (image place) → ⊥
+    no_head place version number is is_record head = ⊎_elim
+        (λ (same : place ≡ at).
+        none version number is_record (subst (λ (s : List ℕ). IsHeadOf version number s) (ap (λ (p : ℕ). image p) same ∙ here) head))
         (λ (apart : place ≡ at → ⊥).
-        zeros_no_head RECORD_VERSION number (subst (λ (s : List ℕ). IsHeadOf RECORD_VERSION number s) (empty place is apart) head))
+        zeros_no_head version number (subst (λ (s : List ℕ). IsHeadOf version number s) (empty place is apart) head))
         (cases_eq place at)
 
     -- With bytes that are no head, as those of another version, it holds the empty map,
@@ -132,8 +135,8 @@ module _ (count n : ℕ) (size : IsSize n) (within : n ≤ count) (at : ℕ) (in
     no_head_holds_empty = record {
       sectors = each;
       journal = record {
-        records = record { edits = tt; room = omega arith; numbers = lit≤ tt; stand = λ place. tt };
-        last = λ place number is le head. no_head place number is head;
+        records = record { lengths = tt; room = omega arith; numbers = lit≤ tt; stand = λ place. tt };
+        last = λ place version number is is_record le head. no_head place version number is is_record head;
       };
       is_map = formatted.is_map;
       are_edits = formatted.are_edits;
@@ -172,14 +175,14 @@ first_place : IsInRing (journal_ring 64) 3
 first_place = (lit≤ tt, lit< tt)
 
 -- the head of number 2 alone
-pub second_record_alone : (text : List ℕ) (m : ℕ) (stored : Stored)
-    → Holds 64 m stored (with_sector 64 3 (record_sector RECORD_VERSION 2 text 0)) → ⊥
-second_record_alone text m stored holds =
-    later_head_holds_nothing 64 64 (lit≤ tt, lit≤ tt) (lit≤ tt) 3 first_place (record_sector RECORD_VERSION 2 text 0) 2 (lit< tt)
-    (first_is_head RECORD_VERSION 2 text (record_sector RECORD_VERSION 2 text 0) (lit< tt) (written_is_part RECORD_VERSION 2 text 0)) m stored holds
+pub second_record_alone : (version : ℕ) (text : List ℕ) → IsRecordVersion version → (m : ℕ) (stored : Stored)
+    → Holds 64 m stored (with_sector 64 3 (record_sector version 2 text 0)) → ⊥
+second_record_alone version text is_record m stored holds =
+    later_head_holds_nothing 64 64 (lit≤ tt, lit≤ tt) (lit≤ tt) 3 first_place (record_sector version 2 text 0) version 2 is_record (lit< tt)
+    (first_is_head version 2 text (record_sector version 2 text 0) (lit< tt) (written_is_part version 2 text 0)) m stored holds
 
--- the head of number 1 with another version
-pub other_version : (version : ℕ) (text : List ℕ) → (version ≡ RECORD_VERSION → ⊥) → (m : ℕ) (stored : Stored)
+-- the head of number 1 with a version that no record has
+pub other_version : (version : ℕ) (text : List ℕ) → (IsRecordVersion version → ⊥) → (m : ℕ) (stored : Stored)
     → Holds 64 m stored (with_sector 64 3 (record_sector version 1 text 0)) → stored ≡ first_state
 other_version version text other m stored holds =
     no_head_holds_no_edit 64 64 (lit≤ tt, lit≤ tt) (lit≤ tt) 3 first_place (record_sector version 1 text 0) no_head m stored holds
@@ -187,8 +190,8 @@ other_version version text other m stored holds =
     written : IsHeadOf version 1 (record_sector version 1 text 0)
     written = first_is_head version 1 text (record_sector version 1 text 0) (lit< tt) (written_is_part version 1 text 0)
 
-    no_head : (number : ℕ) → IsHeadOf RECORD_VERSION number (record_sector version 1 text 0) → ⊥
-    no_head number head = other (sym written.version_is ∙ head.version_is)
+    no_head : (found number : ℕ) → IsRecordVersion found → IsHeadOf found number (record_sector version 1 text 0) → ⊥
+    no_head found number is_record head = other (subst IsRecordVersion (sym head.version_is ∙ written.version_is) is_record)
 
 -- the root of generation 1 in sector 1
 abbrev second_root : Root

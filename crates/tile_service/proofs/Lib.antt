@@ -25,4 +25,5 @@ pub mod Runs
 mod Shown
 mod Steps
 mod Tellings
+mod Upgraded
 mod Whole
