@@ -71,7 +71,7 @@ lacks_later m c cs lacks = (lacks.0, later_contained c (delete lacks.0) cs lacks
 
 some_or_none : {A : Type 0} (o : Option A) → IsSome o ⊎ (o ≡ None)
 some_or_none None = inr refl
-some_or_none (Some a) = inl tt
+some_or_none (Some a) = inl refl
 
 has_or_lacks : (m : FeatureMap) (cs : EditData) → All (HasTarget m) cs ⊎ Lacks m cs
 has_or_lacks m [] = inl (All-nil (HasTarget m))

@@ -333,7 +333,7 @@ as_leaves sectors n s publication event image holds = inl holds
 -- what is in doubt is so
 is_doubtful : (sectors n : ℕ) (s : Stored) (publication : Option PublicationView) (event : Happening) (image : Image)
     → Doubtful sectors n s publication event image → IsDoubtful event
-is_doubtful sectors n s publication event image (inl w) = subst IsDoubtful (sym w.1) tt
+is_doubtful sectors n s publication event image (inl w) = subst IsDoubtful (sym w.2) tt
 is_doubtful sectors n s publication event image (inr w) = subst IsDoubtful (sym w.0) tt
 
 -- What an event does at a service that isn't broken, of which this is stored and which has this publication under way.

@@ -31,7 +31,7 @@ use Rattle.tile_service.specs.Machine.{step, Begins, AnswersStep, HasPublication
 use Rattle.tile_service.specs.Publishing.{map_at, published, CanPublish, HasFirst, HasArea, IsUnderWay}
 use Rattle.tile_service.specs.Service.{PublicationView, ServiceView, Known, Publishes, IsUp, EventLeaves, count_at, left_of, archive_of}
 use Rattle.tile_service.specs.Service.{going_of, state_of, known_after, known_installed, installed, stored_after, with_publication}
-use Rattle.tile_service.specs.Stored.{Stored, Holds, Keeps, root_of, journal_ring, stored_records}
+use Rattle.tile_service.specs.Stored.{Stored, Holds, Keeps, root_of, journal_ring, record_for, stored_records}
 use Rattle.tile_service.specs.Tiles.{WereMaps}
 use Rattle.tile_service.specs.declared.fault.ServiceFault.{ServiceFault}
 use Rattle.tile_service.specs.declared.fault.ServiceFault.TheVariants.{Device}

@@ -1,7 +1,7 @@
 -- What an event and its answer report.
 use Rattle.std.proofs.Common.{◌≡◌, inl, inr, ℕ, map, Vec, Global, List, [], ◌∷◌, ◌++◌, Result, Ok, Err, refl, sym, subst}
 use Rattle.feature_model.specs.Data.{feature_data, change_data, put, delete}
-use Rattle.feature_model.specs.declared.change.Change.{Change}
+use Rattle.feature_model.specs.declared.feature.Change.{Change}
 use Rattle.feature_model.specs.declared.feature.Feature.{Feature}
 use Rattle.tile_service.specs.Events.{Tells, AreTold, edit_answer, left_answer, IsTile, AsksTile}
 use Rattle.tile_service.specs.Machine.{Happening, edit, begin, step, single, batched, recorded_in, recorded_change}

@@ -194,7 +194,7 @@ pub returns-in-Look-clause-never_falls : goal.returns-in-Look-clause-never_falls
 returns-in-Look-clause-never_falls g c = same_count _ _ refl
 
 pub returns-in-Look-clause-device : goal.returns-in-Look-clause-device
-returns-in-Look-clause-device g c is = absurd (look_no_device c.in-Look.id _ _ c.look.ensures.1 is)
+returns-in-Look-clause-device g c is = absurd (look_no_device _ c.in-Look.id _ _ c.look.ensures.1 is)
 
 pub returns-in-Begin-clause-never_falls : goal.returns-in-Begin-clause-never_falls
 returns-in-Begin-clause-never_falls g c = same_count _ _ (ap (λ s. g.D.Sectors.faults s.disk) c.publish_begin.ensures.same)
