@@ -160,13 +160,13 @@ impl<D: Sectors + Drop> Service<D> {
 
     /// Makes an edit that is within the limits: writes its record, and applies it to the map. Nothing else allocates, so it fails only for want
     /// of memory or space, or because of the disk.
-    fn write_edit(&mut self, edit: Edit) -> Result<u64, ServiceFault>
+    fn write_edit(&mut self, requested: Edit) -> Result<u64, ServiceFault>
         requires unbroken { self.old.broken ≡ false }
         requires number { self.old.journal.last < 2 ^ 64 - 1 }
-        requires allowed { IsAllowedEdit (edit_data edit) }
-        requires fits { FitsVersion self.old.version (edit_data edit) }
-        ensures machine { (known : Known) (call : Call) → CanMake (state_of known self.old) call (recorded_in self.old.version (edit_data edit))
-            → Allocates call (edit_data edit) → AnswersEdit (state_of known self.old) call (recorded_in self.old.version (edit_data edit)) result (state_of known self.new) }
+        requires allowed { IsAllowedEdit (edit_data requested) }
+        requires fits { FitsVersion self.old.version (edit_data requested) }
+        ensures machine { (known : Known) (call : Call) → CanMake (state_of known self.old) call (recorded_in self.old.version (edit_data requested))
+            → Allocates call (edit_data requested) → AnswersEdit (state_of known self.old) call (recorded_in self.old.version (edit_data requested)) result (state_of known self.new) }
         ensures size { self.new.size ≡ self.old.size }
         ensures publication { OnOk result (self.new.publication ≡ self.old.publication) }
         ensures count { D.sectors self.new.disk ≡ D.sectors self.old.disk }
@@ -180,28 +180,28 @@ impl<D: Sectors + Drop> Service<D> {
         // A crash during the call leaves what was stored, or that with the edit.
         ensures any_moment { (stored : Stored) (call : Call) → D.honest self.new.disk → IsUp (D.sectors self.old.disk) (D.history self.old.disk) stored self.old
             → LeavesOnly (D.history self.old.disk) (D.history self.new.disk)
-            (EventLeaves (D.sectors self.old.disk) self.old.size stored self.old.publication (edit call (recorded_in self.old.version (edit_data edit)) result)) }
+            (EventLeaves (D.sectors self.old.disk) self.old.size stored self.old.publication (edit call (recorded_in self.old.version (edit_data requested)) result)) }
         // After the call: with the edit if it was acknowledged, without it if it was refused.
         ensures acknowledged { (stored : Stored) → D.honest self.new.disk → IsUp (D.sectors self.old.disk) (D.history self.old.disk) stored self.old
-            → OnOk result (IsUp (D.sectors self.new.disk) (D.history self.new.disk) (with_edit stored (recorded_in self.old.version (edit_data edit))) self.new) }
+            → OnOk result (IsUp (D.sectors self.new.disk) (D.history self.new.disk) (with_edit stored (recorded_in self.old.version (edit_data requested))) self.new) }
         ensures refused { (stored : Stored) → D.honest self.new.disk → IsUp (D.sectors self.old.disk) (D.history self.old.disk) stored self.old
             → IfErr result (λ fault. fault ≢ Device → IsUp (D.sectors self.new.disk) (D.history self.new.disk) stored self.new) }
 
         // It makes one write for each sector of the record, and one sync, or two if there are several.
         ensures steps { D.honest self.new.disk
-            → OnOk result (TakesSteps (places_for (recorded_in self.old.version (edit_data edit))) (D.history self.old.disk) (D.history self.new.disk)) }
+            → OnOk result (TakesSteps (places_for (recorded_in self.old.version (edit_data requested))) (D.history self.old.disk) (D.history self.new.disk)) }
     {
-        let text = match encode_record(self.alloc, self.version, &edit) {
+        let text = match encode_record(self.alloc, self.version, &requested) {
             Ok(text) => text,
             Err(AllocError) => return Err(ServiceFault::Memory),
         };
-        match self.map.room_all(&edit.changes) {
+        match self.map.room_all(&requested.changes) {
             Ok(()) => {}
             Err(AllocError) => return Err(ServiceFault::Memory),
         }
         match self.journal.append(&mut self.disk, self.version, &text) {
             Ok(number) => {
-                self.map.make_edit(edit.changes, number);
+                self.map.make_edit(requested.changes, number);
                 Ok(number)
             }
             Err(fault) => Err(self.fail(fault)),
