@@ -1,6 +1,7 @@
 mod Appends
 mod Archives
 mod AreaWrites
+mod Batches
 mod Bytes
 pub mod Callers
 pub mod Contents
