@@ -412,7 +412,7 @@ class Refuses(http.server.BaseHTTPRequestHandler):
         self.reply(507, b"JournalFull need 1 free 0\n")
 
     def do_POST(self):
-        self.reply(507, b"TooManyTiles\n")
+        self.reply(507, b"JournalFull need 1 free 0\n" if self.path == "/edits" else b"TooManyTiles\n")
 
     def log_message(self, *_):
         pass
@@ -427,7 +427,7 @@ def too_many(cases, folder):
         status, lines = imported(path, f"http://127.0.0.1:{server.server_port}", "--layer", "p", "--publish")
         server.shutdown()
         stopped = lines[-2].startswith("stopped at feature 1: TooManyTiles (")
-        cases.show("import: --publish stops at TooManyTiles", (status, stopped, server.asked), (1, True, ["PUT /features/1", "POST /publish/begin"]))
+        cases.show("import: --publish stops at TooManyTiles", (status, stopped, server.asked), (1, True, ["POST /edits", "POST /publish/begin"]))
 
 
 def interrupted(cases, folder):
