@@ -22,6 +22,7 @@ import sys
 import tempfile
 import time
 
+from batches import batches
 from imports import disk_full, imports, kills, large
 from stand import BYTES, EXAMPLES, HALF, JSON, METADATA, MVT, PROGRAM, ROOT, SHOWN, SYSTEM_PYTHON, TEXT, TILE
 from stand import Cases, Nginx, Server, curl, feature, field, parsed, refusal, same, status_of, wanted
@@ -567,6 +568,7 @@ def main():
         "gdal": gdal,
         "large": large,
         "import": imports,
+        "batches": batches,
         "steps": steps,
         "disk-full": disk_full,
         "kills": kills,
