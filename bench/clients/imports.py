@@ -439,7 +439,7 @@ def interrupted(cases, folder):
     with Server(folder, "whole_import", 16384) as whole, Server(folder, "cut_import", 16384) as server:
         status, lines = imported(path, whole.url, *words)
         total = int(lines[-1].split()[0])
-        child = subprocess.Popen([*TOOL, path, "--url", server.url, *words], stdout=subprocess.PIPE, text=True)
+        child = subprocess.Popen([*TOOL, path, "--url", server.url, *words, "--no-batches"], stdout=subprocess.PIPE, text=True)
         while shown(server, 20) is None and child.poll() is None:
             time.sleep(0.01)
         child.send_signal(signal.SIGINT)
