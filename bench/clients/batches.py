@@ -144,7 +144,20 @@ def imports_in_batches(cases, folder):
             rows = json.load(file)["features"][:2]
         twice = written(folder, "twice.geojson", [rows[0], rows[1], {**rows[0], "layer": "later"}])
         tool([*BACKUP, "load", twice], server.url)
-        cases.show("batches: load of an id that is there twice: the later one", (shown(server, 1) or {}).get("layer"), "later")
+        found = ((shown(server, 1) or {}).get("layer"), edit_count(server))
+        cases.show("batches: load of an id that is there twice: the later one, in an edit of its own", found, ("later", 3 + 2))
+
+
+def limits(cases, folder):
+    """Batches are as large as a request may be, and no larger: a refused one would be an edit for each feature."""
+    long = points(70, text="x" * 950)
+    wide = [row("MultiPoint", [[10 + at / 1000 + near / 1000000, 50] for near in range(280)]) for at in range(20)]
+    with Server(folder, "limited_batches", 65536) as server:
+        # A text of 25 + 15 or 16 + 958 bytes: 32 of them have fewer than 32,768.
+        for name, rows, count in (("texts of 998 and 999 bytes: 32 each", long, 3), ("features with 6,800 bytes of JSON: 9 each", wide, 3)):
+            before = edit_count(server)
+            status, lines = imported(written(folder, "limits.geojson", rows), server.url, "--layer", "p", "--maxzoom", "0")
+            cases.show(f"batches: {name}", (status, lines[-1], edit_count(server) - before), (0, f"{len(rows)} taken, 0 refused", count))
 
 
 def full_journals(cases, folder):
@@ -215,6 +228,39 @@ def without_batches(cases, folder):
         same(cases, "batches: a disk that is upgraded", sent(server, batch(put(1001), put(1002))), wanted(200, JSON, '{"edit":71}'))
 
 
+class Forgets(http.server.BaseHTTPRequestHandler):
+    """A server whose features are deleted by somebody else between two requests."""
+
+    def answer(self):
+        body = self.rfile.read(int(self.headers.get("content-length", 0)))
+        status, content = 404, b"NotFound\n"
+        if self.command == "GET":
+            status, content = 200, feature(layer="a").encode()
+        if self.path == "/edits" and body == b'{"changes":[]}':
+            status, content = 400, b"E10 Batch\n"
+        self.send_response(status)
+        self.send_header("content-length", str(len(content)))
+        self.end_headers()
+        self.wfile.write(content)
+        self.server.asked.append(self.command)
+
+    do_GET = do_POST = do_DELETE = answer
+
+    def log_message(self, *_):
+        pass
+
+
+def deleted_by_others(cases):
+    """A batch that deletes what isn't there any more is done one by one, and nothing is refused."""
+    with http.server.HTTPServer(("127.0.0.1", 0), Forgets) as server:
+        server.asked = []
+        threading.Thread(target=server.serve_forever, daemon=True).start()
+        there = tool([*DELETE_LAYER, "a", "--numbers", "1-3"], f"http://127.0.0.1:{server.server_port}")
+        server.shutdown()
+        cases.show("batches: features that others delete meanwhile", there, (0, ["3 features of a deleted"]))
+        cases.show("batches: what was asked for it", server.asked, ["GET"] * 3 + ["POST"] * 2 + ["DELETE"] * 3)
+
+
 def deleted(cases, folder):
     """Whole layers are deleted, by the published archive or by their numbers."""
     with Server(folder, "deleted_layers", 4096) as server:
@@ -271,8 +317,10 @@ def batches(cases, folder):
     accepted(cases, folder)
     refused(cases, folder)
     deleted(cases, folder)
+    deleted_by_others(cases)
     behind_nginx(cases, folder)
     if has_gdal(cases):
         imports_in_batches(cases, folder)
+        limits(cases, folder)
         full_journals(cases, folder)
         without_batches(cases, folder)
