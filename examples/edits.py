@@ -12,6 +12,8 @@ MOST_CHANGES, MOST_BODY, MOST_TEXT = 64, 65536, 32768
 PART = 496
 DELETE_BYTES = 9
 FRAME = b'{"changes":[%s]}'
+# The bytes of a batch beside its changes, if each has a comma.
+FRAME_BYTES = len(FRAME % b"") - 1
 # Statuses of a batch that its features, or their number, may be the cause of.
 OF_ITS_FEATURES = (400, 404, 413, 507)
 NO_BATCHES = {
@@ -63,14 +65,13 @@ def spelled(change):
 
 def batches(changes, most=MOST_CHANGES):
     """Changes in groups of different numbers, each as large as a request takes. What is too large for any is alone in its group."""
-    group, numbers, body, text = [], set(), len(FRAME % b""), 0
+    group, numbers, body, text = [], set(), FRAME_BYTES, 0
     for change in changes:
-        length = len(spelled(change)) + (1 if group else 0)
+        length = len(spelled(change)) + 1
         fits = len(group) < most and body + length <= MOST_BODY and text + change.text <= MOST_TEXT
         if group and (not fits or change.number in numbers):
             yield group
-            group, numbers, body, text = [], set(), len(FRAME % b""), 0
-            length = len(spelled(change))
+            group, numbers, body, text = [], set(), FRAME_BYTES, 0
         group.append(change)
         numbers.add(change.number)
         body += length
