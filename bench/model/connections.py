@@ -7,9 +7,9 @@ import re
 from collections import namedtuple
 
 import features
-from disk import SECTOR, in_order
+from disk import SECTOR, Change
 from limits import GREATEST_ZOOM
-from machine import Refused
+from machine import Refused, as_stored
 
 MOST_HEAD = 8192
 MOST_FIELDS = 32
@@ -213,7 +213,7 @@ def json_reply(value):
     return Reply(200, JSON, features.compact(value).encode())
 
 
-STATUS_OF_REFUSAL = {"NotFound": 404, "Busy": 409, "Idle": 409, "Device": 500, "Broken": 500, "JournalFull": 507, "AreaFull": 507}
+STATUS_OF_REFUSAL = {"NotFound": 404, "Busy": 409, "Idle": 409, "NeedsUpgrade": 409, "Device": 500, "Broken": 500, "JournalFull": 507, "AreaFull": 507}
 WORD_OF_LIMIT = {"Long": "E8 Long", "Reach": "E9 Reach"}
 
 
@@ -228,6 +228,7 @@ def refused_by(refused):
 NUMBER = rb"(0|[1-9][0-9]*)"
 ROUTES = [
     (rb"/features/" + NUMBER, "feature", "GET, HEAD, PUT, DELETE"),
+    (rb"/edits", "edits", "POST"),
     (rb"/map/" + NUMBER + rb"/" + NUMBER + rb"/" + NUMBER + rb"\.(mvt|hex)", "tile", "GET, HEAD"),
     (rb"/map/metadata", "metadata", "GET, HEAD"),
     (rb"/map\.pmtiles", "archive", "GET, HEAD"),
@@ -255,14 +256,26 @@ def route_of(path):
     return None
 
 
-def put(service, number, body):
+class Unread(Exception):
+    """The word of why a body isn't what is asked for."""
+
+
+def read_body(body, reads):
+    """What is read of a body."""
     try:
-        feature = features.feature_of(body.decode())
-    except UnicodeDecodeError:
-        return refusal(400, "Json")
+        return reads(body.decode())
+    except UnicodeDecodeError as error:
+        raise Unread("Json") from error
     except features.Fault as fault:
-        return refusal(400, fault.args[0])
-    return json_reply({"edit": service.put(number, {**feature, "tags": dict(in_order(feature["tags"]))})})
+        raise Unread(fault.args[0]) from fault
+
+
+def put(service, number, body):
+    return json_reply({"edit": service.put(*as_stored(Change(number, read_body(body, features.feature_of))))})
+
+
+def batch(service, body):
+    return json_reply({"edit": service.batch([as_stored(change) for change in read_body(body, features.body_of)])})
 
 
 def tile_reply(service, at, ending):
@@ -343,11 +356,15 @@ def reply_to(service, request):
     try:
         if name == "feature":
             return on_feature(service, numbers[0], request)
+        if name == "edits":
+            return batch(service, request.body)
         if name == "tile":
             return tile_reply(service, numbers, ending)
         if name == "metadata":
             return Reply(200, JSON, service.metadata())
         return archive_reply(service, request) if name == "archive" else on_publication(service, name)
+    except Unread as unread:
+        return refusal(400, unread.args[0])
     except Refused as refused:
         return refused_by(refused)
 

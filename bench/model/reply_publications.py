@@ -8,18 +8,26 @@ from reply_stand import A, BEGIN, BODY, CANCEL, GET_ARCHIVE, PUBLISH, STEP, WORL
 # ---- the journal, publications, the archive
 
 
-def full_journal(script):
-    script.say("A disk of 64 sectors: sixteen for the journal, two areas of 22. Fifteen edits, then one of two sectors, and one that just fits.")
-    script.disk(64)
+def fill_journal(script, letters):
+    """Fifteen edits, one of two sectors, and one that fits."""
     for number in range(1, 16):
         script.ask(put(number))
-    script.ask(*tagged(467, 16))
+    script.ask(*tagged(letters + 1, 16))
     script.ask(request("GET", "/features/16"))
-    script.ask(*tagged(466, 16))
+    script.ask(*tagged(letters, 16))
     script.ask(put(17), request("DELETE", "/features/1"), request("DELETE", "/features/17"))
     script.note("A publication frees it; the next record goes round its end.")
     script.ask(PUBLISH)
     script.ask(put(17), request("DELETE", "/features/1"), request("GET", "/map/0/0/0.hex"))
+
+
+def full_journal(script):
+    script.say("A disk of 64 sectors: sixteen for the journal, two areas of 22. Fifteen edits, then one of two sectors, and one that just fits.")
+    script.disk(64)
+    fill_journal(script, 465)
+    script.note("The same on a disk of version 1, whose records have a byte less.")
+    script.first(64)
+    fill_journal(script, 466)
     script.note("The same, with the edit of two sectors behind the publication.")
     script.disk(64)
     script.ask(*(put(number) for number in range(1, 16)), PUBLISH)

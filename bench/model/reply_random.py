@@ -2,6 +2,7 @@
 import random
 
 import tiles
+from reply_edits import deletes, post, sets
 from reply_routes import METHODS, NOT_SERVED, NO_METHODS, SERVED, no_features
 from reply_stand import BEGIN, CANCEL, PUBLISH, STEP, WORLD, put, request
 
@@ -25,6 +26,14 @@ def random_feature(chance):
     return tiles.feature(geometry, first, min(first + chance.randrange(3), 5), chance.choice("abp"), tags)
 
 
+def random_edit(chance):
+    """An edit of some changes, of different numbers but for one in ten."""
+    numbers = chance.sample(range(8), chance.randrange(1, 6))
+    if chance.randrange(10) == 0:
+        numbers.append(numbers[0])
+    return post(*(sets(number, random_feature(chance)) if chance.randrange(4) else deletes(number) for number in numbers))
+
+
 def random_request(chance):
     zoom = chance.randrange(5)
     tile = f"/map/{zoom}/{chance.randrange(2**zoom)}/{chance.randrange(2**zoom)}"
@@ -34,6 +43,7 @@ def random_request(chance):
     makers = [
         (6, lambda: put(number, random_feature(chance))),
         (2, lambda: request("DELETE", f"/features/{number}")),
+        (3, lambda: random_edit(chance)),
         (2, lambda: request(method, f"/features/{number}")),
         (6, lambda: request(method, tile + ".hex")),
         (2, lambda: request(method, tile + ".mvt")),

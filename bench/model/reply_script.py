@@ -5,6 +5,7 @@
 import sys
 
 import connections
+import reply_edits
 import reply_heads
 import reply_hostile
 import reply_publications
@@ -37,6 +38,7 @@ def part(more, content, kind="application/octet-stream", status="206 Partial Con
 
 
 OCTETS, JSON = "application/octet-stream", "application/json"
+TWO_POINTS = b'{"changes":[{"put":7,"feature":%s},{"put":8,"feature":%s}]}' % (BODY, BODY)
 NO_CONTENT = b"HTTP/1.1 204 No Content\r\n\r\n"
 EXAMPLES = [
     (request("GET", "/map/0/0/0.mvt"), NO_CONTENT),
@@ -58,6 +60,13 @@ EXAMPLES = [
     (request("POST", "/publish/begin"), found(JSON, '{"left":3}')),
     (request("POST", "/publish/cancel"), NO_CONTENT),
     (request("DELETE", "/features/8"), found(JSON, '{"edit":3}')),
+    (request("POST", "/edits", TWO_POINTS), found(JSON, '{"edit":4}')),
+    (request("GET", "/map/0/0/0.hex"), found("text/plain", "1a1e0a0170120908071801220309000012090808180122030900002880207802")),
+    (request("POST", "/edits", b'{"changes":[{"put":9,"feature":%s},{"delete":10}]}' % BODY), found("text/plain", "NotFound\n", "404 Not Found")),
+    (request("GET", "/features/9"), found("text/plain", "NotFound\n", "404 Not Found")),
+    (request("POST", "/edits", b'{"changes":[]}'), found("text/plain", "E10 Batch\n", "400 Bad Request")),
+    (request("POST", "/edits", b'{"changes":[{"put":7,"feature":%s},{"delete":7}]}' % BODY), found("text/plain", "E11 Twice\n", "400 Bad Request")),
+    (request("GET", "/edits"), found("text/plain", "Method\n", "405 Method Not Allowed", "allow: POST\r\n")),
     (request("POST", "/map/metadata"), found("text/plain", "Method\n", "405 Method Not Allowed", "allow: GET, HEAD\r\n")),
     (request("PUT", "/features/7", BODY.replace(b'"minzoom":0', b'"minzoom":3')), found("text/plain", "E4 Zoom\n", "400 Bad Request")),
     (b"GET /map/0", found("text/plain", "Head\n", "400 Bad Request").replace(b"\r\n\r\n", b"\r\nconnection: close\r\n\r\n")),
@@ -74,7 +83,7 @@ def hold_to_examples():
             sys.exit(f"{asked}: {answered}, and the example has {wanted}")
 
 
-BLOCKS = [*reply_heads.BLOCKS, *reply_routes.BLOCKS, *reply_publications.BLOCKS, reply_random.at_random, *reply_hostile.BLOCKS]
+BLOCKS = [*reply_heads.BLOCKS, *reply_routes.BLOCKS, *reply_edits.BLOCKS, *reply_publications.BLOCKS, reply_random.at_random, *reply_hostile.BLOCKS]
 
 
 def files():

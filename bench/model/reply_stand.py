@@ -1,9 +1,9 @@
 """A disk with connections, on which the lines of `reply_script.py` work, and the requests that these lines are made of."""
 import connections
 import tiles
-from calls import format_disk
+from calls import format_disk, upgrade
 from crashes import FROM, MADE, NONE, NOT_MADE, Faulty, Memory
-from disk import SECTOR, Fault
+from disk import FIRST_VERSION, SECTOR, Fault
 from features import compact
 from machine import Service
 
@@ -79,6 +79,25 @@ class Stand:
             return fault.args[0]
         return self.open()
 
+    def begin_first(self, sectors):
+        """A disk of version 1 that holds the empty map: `open`, or why there is none; then the disk before it is left as it was."""
+        disk = Memory(sectors)
+        try:
+            format_disk(disk, FIRST_VERSION)
+        except Fault as fault:
+            return fault.args[0]
+        self.disk = disk
+        return self.open()
+
+    def upgrade(self):
+        """Upgrades the closed disk: `upgraded`, or why it isn't."""
+        self.service = None
+        try:
+            upgrade(self.disk)
+        except Fault as fault:
+            return fault.args[0]
+        return "upgraded"
+
     def overwrite(self, at, first):
         self.service = None
         self.disk.write(at, bytes([first]).ljust(SECTOR, b"\0"))
@@ -117,6 +136,12 @@ class Script:
 
     def disk(self, sectors):
         self.add(f"disk {sectors}", self.stand.begin(sectors))
+
+    def first(self, sectors):
+        self.add(f"first {sectors}", self.stand.begin_first(sectors))
+
+    def upgrade(self):
+        self.add("upgrade", self.stand.upgrade())
 
     def zeros(self, sectors):
         self.stand.zeros(sectors)
