@@ -1,9 +1,10 @@
 //! The archive of the tiles of a map.
-ghost use Rattle.std.specs.Prelude.{◌≡◌, ◌<◌, ◌^◌, ℕ, Ok, length, OnOk, IfOk, IfErr};
+ghost use Rattle.std.specs.Prelude.{◌≡◌, ◌<◌, ◌≤◌, ◌^◌, ℕ, Ok, true, false, length, All, OnOk, IfOk, IfErr};
+ghost use Rattle.hilbert_id.specs.declared.number.TheConstants.{TILE_IDS};
 ghost use Rattle.feature_store.specs.Store.{FeatureMap, IsMap};
 ghost use Rattle.feature_store.specs.Tiles.{AreTiles};
 ghost use Rattle.pm_archive.specs.Archive.{IsMetadata};
-ghost use Rattle.area_content.specs.Faults.{AreAdded, IsBounded, IsContentFault, told_as};
+ghost use Rattle.area_content.specs.Faults.{AreAdded, IsShort, IsBounded, IsContentFault, told_as};
 ghost use Rattle.area_content.specs.Tiles.{IsArchiveOfMap};
 
 use crate::content::sectors_for;
@@ -33,7 +34,7 @@ fn add_next(
     requires area { area < 2 ^ 23 }
     ensures map { tiles.new.features ≡ tiles.old.features }
     ensures added { result ≡ Ok true → AreAdded tiles.new.features tiles.new.from builder.new }
-    ensures further { result ≡ Ok true → tiles.old.from < tiles.new.from }
+    ensures further { result ≡ Ok true → (tiles.old.from < tiles.new.from) × (tiles.new.from ≤ TILE_IDS) }
     ensures last { result ≡ Ok false → AreTiles tiles.old.features builder.old × (builder.new ≡ builder.old) }
     ensures fault { (metadata : ℕ) → IfErr result (IsContentFault tiles.old.features metadata area) }
 {
@@ -66,14 +67,13 @@ pub(crate) fn add_all(
     ensures short { OnOk result (All IsShort builder.new) }
     ensures fault { (metadata : ℕ) → IfErr result (IsContentFault tiles.old.features metadata area) }
 {
-    let mut more = true;
-    while more {
-        more = match add_next(tiles, builder, area) {
-            Ok(more) => more,
+    loop {
+        match add_next(tiles, builder, area) {
+            Ok(true) => {}
+            Ok(false) => return Ok(()),
             Err(fault) => return Err(fault),
-        };
+        }
     }
-    Ok(())
 }
 
 /// The archive of the tiles of a map, with this metadata. It is empty if there are no tiles.

@@ -1,3 +1,4 @@
+pub mod Below
 mod Chosen
 mod Covered
 mod Entries

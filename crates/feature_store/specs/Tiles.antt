@@ -60,3 +60,10 @@ tile_bytes (l ∷ ls) = Some (written (l ∷ ls))
 -- the bytes of the tile with this id, if it shows something of the map
 abbrev pub IsBytesAt : FeatureMap → ℕ → Option (List ℕ) → Type 0
 IsBytesAt m id bytes = (z x y : ℕ) → IsTileId z x y id → bytes ≡ tile_bytes (layers m z x y)
+
+-- the id of the first tile from `from` on that may show something of the map, and its bytes if it does
+pub record IsStep (m : FeatureMap) (from id : ℕ) (bytes : Option (List ℕ)) : Type 0 where
+  pub here : from ≤ id
+  pub place : HasPlace id
+  pub between : ShowsNothing m from id
+  pub bytes_are : IsBytesAt m id bytes

@@ -1,5 +1,5 @@
 //! All tiles of a map, one after the other.
-ghost use Rattle.std.specs.Prelude.{◌≡◌, ◌≤◌, ◌+◌, ◌×◌, ℕ, IfOk, OnErr, IfSome, IfNone, option_map};
+ghost use Rattle.std.specs.Prelude.{◌≡◌, ◌≤◌, ◌+◌, ℕ, IfOk, OnErr, IfSome, IfNone, option_map};
 ghost use Rattle.feature_model.specs.declared.limits.TheConstants.{GREATEST_ZOOM};
 ghost use Rattle.hilbert_id.specs.Curve.{IsTileId};
 ghost use Rattle.mvt_layer.specs.Tile.{layer_views};
@@ -9,7 +9,7 @@ ghost use Rattle.feature_store.specs.Inside.{entries_data};
 ghost use Rattle.feature_store.specs.Layers.{layers};
 ghost use Rattle.feature_store.specs.Pairs.{ArePairsOfMap, leading};
 ghost use Rattle.feature_store.specs.Store.{IsMap};
-ghost use Rattle.feature_store.specs.Tiles.{HasPlace, IsBytesAt, IsNextTile, ShowsNothing, ShowsNothingFrom};
+ghost use Rattle.feature_store.specs.Tiles.{HasPlace, IsBytesAt, IsNextTile, IsStep, ShowsNothing, ShowsNothingFrom};
 
 use crate::gathered::gather;
 use crate::layers::listed;
@@ -83,7 +83,8 @@ fn bytes_at(
     if layers.is_empty() {
         return Ok(None);
     }
-    Ok(Some(write_tile(alloc, &layers)?))
+    let bytes = write_tile(alloc, &layers)?;
+    Ok(Some(bytes))
 }
 
 /// The numbers of the pairs in front that are of this tile.
@@ -117,6 +118,25 @@ impl<'a> Tiles<'a> {
         }
     }
 
+    /// The id of the next tile that may show something, and its bytes if it does. The only error is out of memory.
+    fn step(&mut self) -> Result<Option<(u64, Option<Vec<u8>>)>, AllocError>
+        ensures map { self.new.features ≡ self.old.features }
+        ensures tile { IfOk result (λ o. IfSome o (λ t. IsStep self.old.features self.old.from t.0 (option_map (λ v. v.items) t.1)
+            × (self.new.from ≡ t.0 + 1))) }
+        ensures none { IfOk result (λ o. IfNone o (ShowsNothingFrom self.old.features self.old.from)) }
+        ensures failed { OnErr result (self.new ≡ self.old) }
+    {
+        if self.done >= self.pairs.len() {
+            return Ok(None);
+        }
+        let id = self.pairs[self.done].0;
+        let numbers = leading(self.alloc, &self.pairs[self.done..], id)?;
+        let bytes = bytes_at(self.alloc, self.features, &numbers, id)?;
+        self.done += numbers.len();
+        self.from = id + 1;
+        Ok(Some((id, bytes)))
+    }
+
     /// The next tile that shows something, if there is one. The only error is out of memory; the next call makes the same tile then.
     pub fn next(&mut self) -> Result<Option<Tile>, AllocError>
         ensures map { self.new.features ≡ self.old.features }
@@ -124,12 +144,7 @@ impl<'a> Tiles<'a> {
         ensures none { IfOk result (λ o. IfNone o (ShowsNothingFrom self.old.features self.old.from)) }
         ensures failed { OnErr result ((self.old.from ≤ self.new.from) × ShowsNothing self.old.features self.old.from self.new.from) }
     {
-        while self.done < self.pairs.len() {
-            let id = self.pairs[self.done].0;
-            let numbers = leading(self.alloc, &self.pairs[self.done..], id)?;
-            let bytes = bytes_at(self.alloc, self.features, &numbers, id)?;
-            self.done += numbers.len();
-            self.from = id + 1;
+        while let Some((id, bytes)) = self.step()? {
             if let Some(bytes) = bytes {
                 return Ok(Some((id, bytes)));
             }

@@ -159,7 +159,7 @@ placed_none runs contents es no_contents no_entries =
 
 pub placed_more : (runs : List Run) (i : ℕ) (d : Run) (es more : List Entry) (e : Entry) (old new : List (List ℕ)) → i < length runs → more ≡ es ++ e ∷ []
     → ArePlacedRuns (run_views (take i runs)) es old
-    → new ≡ with_content old (get_or runs i d).content.now → IsPlaced new (run_view (get_or runs i d)) e
+    → new ≡ with_content old (get_or runs i d).content.items → IsPlaced new (run_view (get_or runs i d)) e
     → ArePlacedRuns (run_views (take (i + 1) runs)) more new
 placed_more runs i d es more e old new lt pushed h grown p =
     let views : run_views (take (i + 1) runs) ≡ run_views (take i runs) ++ run_view (get_or runs i d) ∷ [] =

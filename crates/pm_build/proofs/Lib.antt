@@ -1,5 +1,7 @@
+mod Adding
 mod Archive
 mod Counting
+mod Ends
 mod Entries
 mod Growing
 mod Headers

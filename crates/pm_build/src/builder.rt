@@ -1,4 +1,4 @@
-ghost use Rattle.std.specs.Prelude.{◌≡◌, ◌≢◌, ◌+◌, ◌*◌, ◌≤◌, ◌↔◌, ◌×◌, List, [], ◌∷◌, ◌++◌, length, Err, OnOk, OnErr, IfOk, IsTrue, map, Contains};
+ghost use Rattle.std.specs.Prelude.{◌≡◌, ◌≢◌, ◌+◌, ◌*◌, ◌≤◌, ◌↔◌, List, [], ◌∷◌, ◌++◌, length, Err, OnOk, OnErr, IfOk, IsTrue, map, Contains};
 ghost use Rattle.std.specs.List.{AllByRecursion, concat};
 ghost use Rattle.pm_build.specs.Building.{CanAdd, AreTooMany, AreFew};
 ghost use Rattle.pm_build.specs.Runs.{TileRun, AreLongestRuns};
@@ -79,7 +79,10 @@ impl ArchiveBuilder {
         ensures few { OnOk result (AreFew self.new) }
         ensures many { (result ≡ Err BuildFault.TooManyEntries) ↔ AreTooMany (self.old ++ (id, content.items) ∷ []) }
     {
-        add_tile(&mut self.runs, id, content)?;
+        match add_tile(&mut self.runs, id, content) {
+            Ok(()) => {}
+            Err(fault) => return Err(fault),
+        }
         self.addressed += 1;
         Ok(())
     }
@@ -93,8 +96,7 @@ impl ArchiveBuilder {
         requires metadata { IsMetadata metadata.now }
         ensures archive { IfOk result (λ bytes. IsArchiveOf bytes.items (tile_content self.now)) }
         ensures header { IfOk result (λ bytes. BeginFor bytes.items self.now) }
-        ensures few { AreFew self.now }
-        ensures size { IfOk result (λ bytes. (runs : List TileRun) × (contents : List (List ℕ)) × AreLongestRuns self.now runs
+        ensures size { IfOk result (λ bytes. (runs : List TileRun) × (contents : List (List ℕ)) × AreLongestRuns self.now runs × (length runs ≤ MAX_ENTRIES)
             × AreDifferent contents × AllByRecursion (λ c. Contains (map (λ r. r.content) runs) c) contents
             × (length bytes.items ≤ 127 + length metadata.now + 64 * length runs + length (concat contents))) }
     {

@@ -1,7 +1,7 @@
 use Rattle.std.proofs.Common.{◌≡◌, ◌*◌, ◌≤◌, length, take}
 use Rattle.pm_build.specs.Joined.{run_views}
 use Rattle.pm_build.specs.Offsets.{contents_view, IsKept, ArePlacedRuns}
-use Rattle.pm_build.proofs.placing.place_all.Given as goal
+use Rattle.pm_build.proofs.placing.place_runs.Given as goal
 
 abbrev pub invariant-loop-run : goal.invariant-loop-run
 invariant-loop-run l = record {

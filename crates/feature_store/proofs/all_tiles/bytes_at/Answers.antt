@@ -1,12 +1,12 @@
-use Rattle.std.proofs.Common.{◌≡◌, ◌<◌, length, vec_len, ap, ◌∙◌, arith}
+use Rattle.std.proofs.Common.{◌≡◌, ◌<◌, length, vec_len, sym, ap, ◌∙◌, arith}
 use Rattle.std.proofs.lemmas.Bool.Decides.{nat_tests}
 use Rattle.mvt_layer.specs.Tile.{layer_view, layer_views}
 use Rattle.mvt_write.specs.Written.{written}
 use Rattle.feature_store.specs.Inside.{entries_data}
 use Rattle.feature_store.specs.Layers.{layers}
-use Rattle.feature_store.specs.Tiles.{tile_views}
-use Rattle.feature_store.proofs.Walk.{place_within, zoom_within, tile_found, no_layers, some_layers, views_push, adds_nothing, adds_one}
-use Rattle.feature_store.proofs.all_tiles.add_tile.Goals as goal
+use Rattle.feature_store.specs.Tiles.{tile_bytes}
+use Rattle.feature_store.proofs.Walk.{place_within, zoom_within, tile_found, no_layers, some_layers, bytes_are, some_written}
+use Rattle.feature_store.proofs.all_tiles.bytes_at.Goals as goal
 
 pub unwrap-at-requires : goal.unwrap-at-requires
 unwrap-at-requires c = c.tile_of.ensures.there.1 (place_within c.args.id c.requires.place)
@@ -30,7 +30,7 @@ returns-then-is_empty c =
     let zero : vec_len c.in_ok-layers.layers ≡ 0 = grind (arith, nat_tests, c.is_empty.ensures, c.if-is_empty.true) in
     let empty : length c.in_ok-layers.layers.items ≡ 0 = omega (arith, zero, c.in_ok-layers.layers.ok) in
     let none = no_layers layer_view c.in_ok-layers.layers.items (layers m at.z at.x at.y) c.in_ok-layers.ensures.layers empty in
-    adds_nothing m at.z at.x at.y c.args.id (tile_views c.args.tiles.now.items) is none
+    bytes_are m at.z at.x at.y c.args.id _ is (ap tile_bytes (sym none))
 
 pub returns : goal.returns
 returns c =
@@ -41,5 +41,4 @@ returns c =
     let left : 0 < length c.in_ok-layers.layers.items = omega (arith, more, c.in_ok-layers.layers.ok) in
     let some = some_layers layer_view c.in_ok-layers.layers.items (layers m at.z at.x at.y) c.in_ok-layers.ensures.layers left in
     let bytes = c.in_ok-bytes.ensures.written ∙ ap written (ap layer_views c.deref.ensures.value ∙ c.in_ok-layers.ensures.layers) in
-    adds_one m at.z at.x at.y c.args.id (tile_views c.args.tiles.now.items) (tile_views c.push.new.self.items) c.in_ok-bytes.bytes.items is some bytes
-    (ap tile_views c.in_ok-push.ensures.items ∙ views_push c.args.tiles.now.items (c.args.id, c.in_ok-bytes.bytes))
+    bytes_are m at.z at.x at.y c.args.id _ is (some_written m (layers m at.z at.x at.y) c.in_ok-bytes.bytes.items some bytes)

@@ -1,0 +1,120 @@
+-- The tiles of a map below an id, ascending: none below 0, with the next tile, and all of them.
+use Rattle.std.proofs.Common.{◌≡◌, ◌≢◌, ℕ, zero, suc, ◌+◌, ◌<◌, ◌≤◌, ◌==◌, Bool, true, false, List, [], ◌∷◌, ◌++◌, length, get_or, map, take, drop, All}
+use Rattle.std.proofs.Common.{IsSome, refl, sym, ap, subst, ◌∙◌}
+use Rattle.std.proofs.Common.{arith, inl, inr, ◌⊎◌, Option, Some, None, is_some, IfSome, Vec}
+use Rattle.std.specs.List.{AllByRecursion, Contains}
+use Rattle.std.specs.List.Sorted.{IsStrictlySortedBy}
+use Rattle.std.specs.Map.{keys_of}
+use Rattle.std.specs.declared.alloc.Global.{Global}
+use Rattle.std.specs.Ordering.{nat_cmp}
+use Rattle.std.specs.Cmp.Lexicographic.{slice_cmp}
+use Rattle.std.specs.declared.cmp.Ordering.TheVariants.{Less}
+use mathlib.Core.Bool.{false≢true}
+use Rattle.std.proofs.lemmas.Bool.{cases_lt, cases_eq}
+use Rattle.std.proofs.lemmas.Bool.Decides.{nat_tests}
+use Rattle.std.proofs.lemmas.List.{append-nil, length-map, map-append, take-append-drop, take_more, get_or-take, get_or-drop, get_or_default, length-take}
+use Rattle.std.proofs.lemmas.List.{length-drop}
+use Rattle.std.proofs.lemmas.List.Elements.{All-nil, All-cons, All-head, All-tail, All-append, All-weaker, All-contains, All-contains_itself}
+use Rattle.std.proofs.lemmas.List.Elements.{Contains-append_left, Contains-append_right}
+use Rattle.std.proofs.lemmas.List.Elements.{Contains-push}
+use Rattle.feature_model.specs.declared.limits.TheConstants.{GREATEST_ZOOM}
+use Rattle.hilbert_id.specs.Curve.{IsTileId, curve}
+use Rattle.hilbert_id.specs.declared.tile_at.TileAt.{TileAt}
+use Rattle.hilbert_id.specs.declared.number.TheConstants.{TILE_IDS}
+use Rattle.hilbert_id.proofs.Ids.{no_tile_behind, one_tile_of}
+use Rattle.hilbert_id.proofs.Positions.{in_square}
+use Rattle.mvt_layer.specs.Tile.{FeatureView, LayerView}
+use Rattle.mvt_write.specs.Written.{written}
+use Rattle.tile_cutter.specs.Cut.{feature_cut}
+use Rattle.tile_cutter.specs.Pairs.{IsCoveredTile}
+use Rattle.tile_cutter.proofs.CoveredTiles.{nothing_uncovered}
+use Rattle.feature_store.specs.Indexed.{ShowsAll}
+use Rattle.feature_store.specs.Layers.{is_tile, layers, IsLayer}
+use Rattle.feature_store.specs.Pairs.{IsPair, ArePairsOfMap, leading}
+use Rattle.feature_store.specs.Snapshots.{IsEditOf}
+use Rattle.feature_store.specs.Store.{FeatureMap, IsMap}
+use Rattle.feature_store.specs.Tiles.{IsTile, AreTiles, AreTilesBelow, ShowsNothing, ShowsNothingFrom, IsNextTile, HasPlace, IsBytesAt, IsStep, tile_bytes}
+use Rattle.feature_store.specs.Walk.{IsSplit}
+use Rattle.feature_store.proofs.Pairs.{numbers_at, numbers_ascend, number_in, none_at, numbers-append, tiles_ascend, lead_same, lead_stop, lead_fits, lead_at}
+use Rattle.feature_store.proofs.Unique.{is_the_list, outside}
+
+-- ---- ascending numbers
+
+-- a number behind lower ones
+sorted_push : (ns : List ℕ) (n : ℕ) → IsStrictlySortedBy nat_cmp ns → All (λ k. k < n) ns → IsStrictlySortedBy nat_cmp (ns ++ n ∷ [])
+unfolding IsStrictlySortedBy
+sorted_push [] n s low = (tt, tt)
+sorted_push (k ∷ ns) n s low = (along ns s.0, sorted_push ns n s.1 (All-tail (λ j. j < n) k ns low))
+  where
+    last : nat_cmp k n ≡ Less
+    last = let lt = All-head (λ j. j < n) k ns low in grind (arith, nat_tests)
+
+    along : (js : List ℕ) → AllByRecursion (λ j. nat_cmp k j ≡ Less) js → AllByRecursion (λ j. nat_cmp k j ≡ Less) (js ++ n ∷ [])
+    along [] a = (last, tt)
+    along (j ∷ js) a = (a.0, along js a.1)
+
+no_numbers : IsStrictlySortedBy nat_cmp []
+unfolding IsStrictlySortedBy
+no_numbers = tt
+
+-- ---- the tiles below an id
+
+module _ (m : FeatureMap) where
+  -- no tile is below id 0
+  pub none_below : AreTilesBelow m 0 []
+  none_below = record {
+    ascending = no_numbers;
+    each = All-nil (λ t. (t.0 < 0) × IsTile m t);
+    every = λ z x y id is lt some. absurd (omega (arith, lt));
+  }
+
+  keys_below : (id : ℕ) (ts : List (ℕ × List ℕ)) → All (λ t. (t.0 < id) × IsTile m t) ts → All (λ k. k < id) (keys_of ts)
+  keys_below id [] all = All-nil (λ k. k < id)
+  keys_below id (t ∷ ts) all =
+      All-cons (λ k. k < id) t.0 (keys_of ts) (All-head (λ u. (u.0 < id) × IsTile m u) t ts all).0
+      (keys_below id ts (All-tail (λ u. (u.0 < id) × IsTile m u) t ts all))
+
+  raised : (a b : ℕ) (ts : List (ℕ × List ℕ)) → a ≤ b → All (λ t. (t.0 < a) × IsTile m t) ts → All (λ t. (t.0 < b) × IsTile m t) ts
+  raised a b ts le all = All-weaker (λ t. (t.0 < a) × IsTile m t) (λ t. (t.0 < b) × IsTile m t) (λ t h. let lt = h.0 in (omega arith, h.1)) ts all
+
+  -- tiles of one id have the same layers
+  pub the_place : (z x y w a b id : ℕ) → IsTileId z x y id → IsTileId w a b id → layers m w a b ≡ layers m z x y
+  the_place z x y w a b id is other =
+      let one = one_tile_of w a b z x y id other is in
+      ap (λ k. layers m k a b) one.0 ∙ ap (λ k. layers m z k b) one.1 ∙ ap (λ k. layers m z x k) one.2
+
+  -- a tile that shows something isn't among those that show nothing
+  some_shown : (z x y : ℕ) → 0 < length (layers m z x y) → layers m z x y ≡ [] → ⊥
+  some_shown z x y some none = omega (arith, some, ap length none)
+
+  -- with the next tile
+  pub one_more : (from : ℕ) (ts : List (ℕ × List ℕ)) (t : ℕ × List ℕ) → AreTilesBelow m from ts → IsNextTile m from t
+      → AreTilesBelow m (t.0 + 1) (ts ++ t ∷ [])
+  one_more from ts t below next =
+      let here = next.here in
+      let keys : keys_of (ts ++ t ∷ []) ≡ keys_of ts ++ t.0 ∷ [] = map-append (λ (u : ℕ × List ℕ). u.0) ts (t ∷ []) in
+      let less : All (λ k. k < t.0) (keys_of ts) = keys_below t.0 ts (raised from t.0 ts here below.each) in
+      record {
+        ascending = subst (IsStrictlySortedBy nat_cmp) (sym keys) (sorted_push (keys_of ts) t.0 below.ascending less);
+        each =
+            All-append (λ u. (u.0 < t.0 + 1) × IsTile m u) ts (t ∷ []) (raised from (t.0 + 1) ts (omega (arith, here)) below.each)
+            (All-cons (λ u. (u.0 < t.0 + 1) × IsTile m u) t [] (omega arith, next.tile) (All-nil (λ u. (u.0 < t.0 + 1) × IsTile m u)));
+        every = λ z x y id is lt some. subst (λ ks. Contains ks id) (sym keys) (elim (cases_lt id from) [
+          | inl low ↦ Contains-append_left (keys_of ts) (t.0 ∷ []) id (below.every z x y id is low some)
+          | inr ge ↦ elim (cases_lt id t.0) [
+            | inl under ↦ absurd (some_shown z x y some (next.between z x y id is ge under))
+            | inr at ↦ let same : t.0 ≡ id = omega (arith, lt) in subst (Contains (keys_of ts ++ t.0 ∷ [])) same (Contains-push (keys_of ts) t.0)
+          ]
+        ]);
+      }
+
+  -- where none is left
+  pub none_left : (from : ℕ) (ts : List (ℕ × List ℕ)) → AreTilesBelow m from ts → ShowsNothingFrom m from → AreTiles m ts
+  none_left from ts below none = record {
+    ascending = below.ascending;
+    each = All-weaker (λ t. (t.0 < from) × IsTile m t) (IsTile m) (λ t h. h.1) ts below.each;
+    every = λ z x y id is some. elim (cases_lt id from) [
+      | inl low ↦ below.every z x y id is low some
+      | inr ge ↦ absurd (some_shown z x y some (none z x y id is ge))
+    ];
+  }
