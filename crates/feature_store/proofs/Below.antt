@@ -118,3 +118,122 @@ module _ (m : FeatureMap) where
       | inr ge ↦ absurd (some_shown z x y some (none z x y id is ge))
     ];
   }
+
+-- ---- they are the first of all tiles
+
+-- a number among ascending ones isn't below the first
+first_least : (k n : ℕ) (ns : List ℕ) → IsStrictlySortedBy nat_cmp (k ∷ ns) → Contains (k ∷ ns) n → k ≤ n
+unfolding IsStrictlySortedBy
+first_least k n ns sorted (zero, lt, is) = omega (arith, is)
+first_least k n ns sorted (suc i, lt, is) = least ns sorted.0 i (omega (arith, lt)) is
+  where
+    least : (js : List ℕ) → AllByRecursion (λ j. nat_cmp k j ≡ Less) js → (i : ℕ) → i < length js → get_or js i n ≡ n → k ≤ n
+    least [] all i within is = absurd (omega (arith, within))
+    least (j ∷ js) all zero within is = let less = all.0 in let same : j ≡ n = is in grind (arith, nat_tests)
+    least (j ∷ js) all (suc i) within is = least js all.1 i (omega (arith, within)) is
+
+-- and if it isn't the first, it is one of the others
+not_first : (k n : ℕ) (ns : List ℕ) → k ≢ n → Contains (k ∷ ns) n → Contains ns n
+not_first k n ns other (zero, lt, is) = absurd (other is)
+not_first k n ns other (suc i, lt, is) = (i, omega (arith, lt), is)
+
+sorted_tail : (k : ℕ) (ns : List ℕ) → IsStrictlySortedBy nat_cmp (k ∷ ns) → IsStrictlySortedBy nat_cmp ns
+unfolding IsStrictlySortedBy
+sorted_tail k ns sorted = sorted.1
+
+above_first : (k n : ℕ) (ns : List ℕ) → IsStrictlySortedBy nat_cmp (k ∷ ns) → Contains ns n → k < n
+unfolding IsStrictlySortedBy
+above_first k n ns sorted (i, lt, is) = above ns sorted.0 i lt is
+  where
+    above : (js : List ℕ) → AllByRecursion (λ j. nat_cmp k j ≡ Less) js → (i : ℕ) → i < length js → get_or js i n ≡ n → k < n
+    above [] all i within is = absurd (omega (arith, within))
+    above (j ∷ js) all zero within is = let less = all.0 in let same : j ≡ n = is in grind (arith, nat_tests)
+    above (j ∷ js) all (suc i) within is = above js all.1 i (omega (arith, within)) is
+
+key_there : (ts : List (ℕ × List ℕ)) (k : ℕ) (d : ℕ × List ℕ) → k < length ts → Contains (keys_of ts) (get_or ts k d).0
+key_there ts k d within = (k, omega (arith, within, length-map ts (λ (t : ℕ × List ℕ). t.0)), key_is ts k d within (get_or ts k d).0)
+  where
+    key_is : (us : List (ℕ × List ℕ)) (k : ℕ) (d : ℕ × List ℕ) → k < length us → (n : ℕ) → get_or (keys_of us) k n ≡ (get_or us k d).0
+    key_is [] k d lt n = absurd (omega (arith, lt))
+    key_is (u ∷ us) zero d lt n = refl
+    key_is (u ∷ us) (suc k) d lt n = key_is us k d (omega (arith, lt)) n
+
+module _ (m : FeatureMap) (end : ℕ) where
+  -- all tiles from an id on that are below the end
+  record AreFrom (start : ℕ) (ts : List (ℕ × List ℕ)) : Type 0 where
+    ascending : IsStrictlySortedBy nat_cmp (keys_of ts)
+    each : All (λ t. (start ≤ t.0) × ((t.0 < end) × IsTile m t)) ts
+    every : (z x y id : ℕ) → IsTileId z x y id → start ≤ id → id < end → 0 < length (layers m z x y) → Contains (keys_of ts) id
+
+  -- all tiles from an id on
+  record AreAllFrom (start : ℕ) (ts : List (ℕ × List ℕ)) : Type 0 where
+    ascending : IsStrictlySortedBy nat_cmp (keys_of ts)
+    each : All (λ t. (start ≤ t.0) × IsTile m t) ts
+    every : (z x y id : ℕ) → IsTileId z x y id → start ≤ id → 0 < length (layers m z x y) → Contains (keys_of ts) id
+
+  -- two tiles of the map with one id are the same
+  same_tile : (t u : ℕ × List ℕ) → IsTile m t → IsTile m u → t.0 ≡ u.0 → t ≡ u
+  same_tile t u (z, x, y, place, some, is) (w, a, b, other, more, are) id =
+      let layers_are = the_place m z x y w a b u.0 (subst (IsTileId z x y) id place) other in
+      let bytes : t.1 ≡ u.1 = is ∙ ap written (sym layers_are) ∙ sym are in
+      λ i. (id i, bytes i)
+
+  -- one tile less
+  rest_from : (start : ℕ) (t : ℕ × List ℕ) (ts : List (ℕ × List ℕ)) → AreFrom start (t ∷ ts) → AreFrom (t.0 + 1) ts
+  rest_from start t ts are = record {
+    ascending = sorted_tail t.0 (keys_of ts) are.ascending;
+    each = λ k d within. (
+      (let above = above_first t.0 (get_or ts k d).0 (keys_of ts) are.ascending (key_there ts k d within) in omega (arith, above)),
+      (All-tail (λ u. (start ≤ u.0) × ((u.0 < end) × IsTile m u)) t ts are.each k d within).1,
+    );
+    every = λ z x y id is ge lt some. not_first t.0 id (keys_of ts) (λ same. omega (arith, same, ge))
+        (are.every z x y id is (let low = (All-head (λ u. (start ≤ u.0) × ((u.0 < end) × IsTile m u)) t ts are.each).0 in omega (arith, low, ge)) lt some);
+  }
+
+  rest_all : (start : ℕ) (t : ℕ × List ℕ) (ts : List (ℕ × List ℕ)) → AreAllFrom start (t ∷ ts) → AreAllFrom (t.0 + 1) ts
+  rest_all start t ts are = record {
+    ascending = sorted_tail t.0 (keys_of ts) are.ascending;
+    each = λ k d within. (
+      (let above = above_first t.0 (get_or ts k d).0 (keys_of ts) are.ascending (key_there ts k d within) in omega (arith, above)),
+      (All-tail (λ u. (start ≤ u.0) × IsTile m u) t ts are.each k d within).1,
+    );
+    every = λ z x y id is ge some. not_first t.0 id (keys_of ts) (λ same. omega (arith, same, ge))
+        (are.every z x y id is (let low = (All-head (λ u. (start ≤ u.0) × IsTile m u) t ts are.each).0 in omega (arith, low, ge)) some);
+  }
+
+  first_tiles : (start : ℕ) (ts all : List (ℕ × List ℕ)) → AreFrom start ts → AreAllFrom start all
+      → (behind : List (ℕ × List ℕ)) × (all ≡ ts ++ behind)
+  first_tiles start [] all are whole = (all, refl)
+  first_tiles start (t ∷ ts) [] are whole =
+      let head = All-head (λ u. (start ≤ u.0) × ((u.0 < end) × IsTile m u)) t ts are.each in
+      let tile = head.1.1 in
+      let there = whole.every tile.0 tile.1 tile.2 t.0 tile.3 head.0 tile.4 in
+      absurd (omega (arith, there.1))
+  first_tiles start (t ∷ ts) (a ∷ all) are whole =
+      let head = All-head (λ u. (start ≤ u.0) × ((u.0 < end) × IsTile m u)) t ts are.each in
+      let tile = head.1.1 in
+      let low = first_least a.0 t.0 (keys_of all) whole.ascending (whole.every tile.0 tile.1 tile.2 t.0 tile.3 head.0 tile.4) in
+      let first = All-head (λ u. (start ≤ u.0) × IsTile m u) a all whole.each in
+      let other = first.1 in
+      let under = head.1.0 in
+      let high = first_least t.0 a.0 (keys_of ts) are.ascending
+      (are.every other.0 other.1 other.2 a.0 other.3 first.0 (omega (arith, low, under)) other.4) in
+      let same : a ≡ t = same_tile a t other tile (omega (arith, low, high)) in
+      let at : a.0 + 1 ≡ t.0 + 1 = ap (λ (u : ℕ × List ℕ). u.0 + 1) same in
+      let rest = first_tiles (t.0 + 1) ts all (rest_from start t ts are) (subst (λ (n : ℕ). AreAllFrom n all) at (rest_all start a all whole)) in
+      (rest.0, ap (λ (u : ℕ × List ℕ). u ∷ all) same ∙ ap (λ (us : List (ℕ × List ℕ)). t ∷ us) rest.1)
+
+  -- the tiles below an id are the first of all
+  pub first_of_all : (ts all : List (ℕ × List ℕ)) → AreTilesBelow m end ts → AreTiles m all → (behind : List (ℕ × List ℕ)) × (all ≡ ts ++ behind)
+  first_of_all ts all below are =
+      first_tiles 0 ts all
+      (record {
+        ascending = below.ascending;
+        each = All-weaker (λ t. (t.0 < end) × IsTile m t) (λ t. (0 ≤ t.0) × ((t.0 < end) × IsTile m t)) (λ t h. (omega arith, h)) ts below.each;
+        every = λ z x y id is ge lt some. below.every z x y id is lt some;
+      })
+      (record {
+        ascending = are.ascending;
+        each = All-weaker (IsTile m) (λ t. (0 ≤ t.0) × IsTile m t) (λ t h. (omega arith, h)) all are.each;
+        every = λ z x y id is ge some. are.every z x y id is some;
+      })

@@ -1,11 +1,11 @@
 -- Tiles with one more behind them, and the runs that a builder keeps of them.
-use Rattle.std.proofs.Common.{◌≡◌, ◌≢◌, ◌↔◌, ℕ, zero, suc, ◌+◌, ◌<◌, ◌≤◌, List, [], ◌∷◌, ◌++◌, length, get_or, All, refl, sym, ap, subst, ◌∙◌, arith}
+use Rattle.std.proofs.Common.{◌≡◌, ◌↔◌, ℕ, zero, suc, ◌+◌, ◌<◌, ◌≤◌, List, [], ◌∷◌, ◌++◌, length, get_or, slice_set, All, refl, sym, ap, subst, ◌∙◌, arith}
 use Rattle.std.specs.List.{AllByRecursion}
 use Rattle.std.proofs.lemmas.List.{length_push}
 use Rattle.std.proofs.lemmas.List.Elements.{All-nil, All-cons, All-head, All-tail, All-weaker}
 use Rattle.hilbert_id.specs.declared.number.TheConstants.{TILE_IDS}
 use Rattle.pm_build.specs.Building.{CanAdd}
-use Rattle.pm_build.specs.Joined.{run_view, run_views, goes_on, runs_of, runs_end, goes_on_last, with_tile}
+use Rattle.pm_build.specs.Joined.{run_view, run_views, goes_on, one_more, runs_of, runs_end, goes_on_last, last_grown, with_tile}
 use Rattle.pm_build.specs.Runs.{TileRun, repeated, tiles_in, AreLongestRuns}
 use Rattle.pm_build.specs.Tiles.{Tile, IdsAscend, IsTile, AreTiles}
 use Rattle.pm_build.specs.declared.run.Run.{Run}
@@ -33,7 +33,7 @@ tiles_room ts are = let room = ids_room 0 ts are.0 are.1 (omega arith) in omega 
 
 -- ---- the id behind them
 
-ids_end : ℕ → List Tile → ℕ
+abbrev ids_end : ℕ → List Tile → ℕ
 ids_end from [] = from
 ids_end from (t ∷ ts) = ids_end (suc t.0) ts
 
@@ -150,3 +150,11 @@ last_end (r ∷ []) zero d e = refl
 last_end (r ∷ []) (suc i) d e = absurd (omega (arith, e))
 last_end (r ∷ s ∷ runs) zero d e = absurd (omega (arith, e))
 last_end (r ∷ s ∷ runs) (suc i) d e = last_end (s ∷ runs) i d (omega (arith, e))
+
+pub last_set : (runs : List Run) (i : ℕ) (d new : Run) → length runs ≡ suc i → run_view new ≡ one_more (run_view (get_or runs i d))
+    → run_views (slice_set runs i new) ≡ last_grown (run_views runs)
+last_set [] i d new e grown = absurd (omega (arith, e))
+last_set (r ∷ []) zero d new e grown = ap (λ (s : TileRun). s ∷ []) grown
+last_set (r ∷ []) (suc i) d new e grown = absurd (omega (arith, e))
+last_set (r ∷ s ∷ runs) zero d new e grown = absurd (omega (arith, e))
+last_set (r ∷ s ∷ runs) (suc i) d new e grown = ap (λ (rs : List TileRun). run_view r ∷ rs) (last_set (s ∷ runs) i d new (omega (arith, e)) grown)

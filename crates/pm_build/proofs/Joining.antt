@@ -3,7 +3,10 @@ use Rattle.std.proofs.Common.{◌≡◌, ℕ, zero, suc, ◌+◌, ◌<◌, ◌�
 use Rattle.std.proofs.Common.{ap, subst, ◌∙◌, arith, if◌then◌else◌}
 use Rattle.std.specs.List.{AllByRecursion}
 use Rattle.std.proofs.lemmas.Bool.{false≢true, eqb-true, eq-eqb, ltb-true, lt-ltb, and_parts, and_from}
+use Rattle.std.proofs.lemmas.List.{append_assoc, append-nil, length-append}
 use Rattle.std.proofs.lemmas.Slice.Eq.{bytes_eq-Decides}
+use Rattle.pm_build.specs.declared.limit.TheConstants.{MAX_ENTRIES}
+use Rattle.pm_build.specs.Building.{AreTooMany}
 use Rattle.pm_build.specs.Tiles.{Tile}
 use Rattle.pm_build.specs.Runs.{TileRun, repeated, tiles_in, CanJoin, NoneJoin, AreLongestRuns}
 use Rattle.pm_build.specs.Joined.{goes_on, run_of, one_more, runs_from, runs_of, goes_on_last, last_grown, with_tile}
@@ -238,3 +241,39 @@ pub runs_push : (ts : List Tile) (t : Tile) → runs_of (ts ++ t ∷ []) ≡ wit
 unfolding runs_of runs_from
 runs_push [] t = refl
 runs_push (u ∷ us) t = from_push (run_of u) us t
+
+-- ---- more tiles have no fewer runs
+
+length_grown : (rs : List TileRun) → length (last_grown rs) ≡ length rs
+length_grown [] = refl
+length_grown (r ∷ []) = refl
+length_grown (r ∷ s ∷ rs) = ap suc (length_grown (s ∷ rs))
+
+no_fewer : (rs : List TileRun) (t : Tile) → length rs ≤ length (with_tile rs t)
+no_fewer rs t = by (goes_on_last rs t)
+  where
+    by : (b : Bool) → length rs ≤ length (if b then last_grown rs else rs ++ run_of t ∷ [])
+    by true = omega (arith, length_grown rs)
+    by false = omega (arith, length-append rs (run_of t ∷ []))
+
+pub runs_behind : (ts us : List Tile) → length (runs_of ts) ≤ length (runs_of (ts ++ us))
+runs_behind ts [] = omega (arith, ap (λ (x : List Tile). length (runs_of x)) (append-nil ts))
+runs_behind ts (u ∷ us) =
+    omega (
+      arith,
+      no_fewer (runs_of ts) u,
+      ap (λ (x : List TileRun). length x) (runs_push ts u),
+      runs_behind (ts ++ u ∷ []) us,
+      ap (λ (x : List Tile). length (runs_of x)) (append_assoc ts (u ∷ []) us),
+    )
+
+-- where tiles need more entries than an archive has, they do with any tiles behind them
+pub too_many_behind : (ts us : List Tile) (runs : List TileRun) → AreTooMany ts → AreLongestRuns (ts ++ us) runs → MAX_ENTRIES < length runs
+too_many_behind ts us runs (found, longest, many) all =
+    omega (
+      arith,
+      many,
+      ap (λ (x : List TileRun). length x) (runs_of_from_longest ts found longest),
+      runs_behind ts us,
+      ap (λ (x : List TileRun). length x) (runs_of_from_longest (ts ++ us) runs all),
+    )

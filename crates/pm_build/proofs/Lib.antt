@@ -6,6 +6,7 @@ mod Entries
 mod Growing
 mod Headers
 pub mod Joining
+mod Keeping
 mod Leaves
 mod Listed
 mod Offsets

@@ -89,7 +89,7 @@ contents_fit tiles es cs placed few =
 
 -- ---- counts
 
-length-repeated : (id count : ℕ) (content : List ℕ) → length (repeated id count content) ≡ count
+pub length-repeated : (id count : ℕ) (content : List ℕ) → length (repeated id count content) ≡ count
 length-repeated id zero content = refl
 length-repeated id (suc more) content = ap (λ (n : ℕ). suc n) (length-repeated (suc id) more content)
 

@@ -1,5 +1,5 @@
 -- Tiles that are added one after the other.
-use Rattle.std.specs.Prelude.{◌≡◌, ◌<◌, ◌≤◌, List, length, All}
+use Rattle.std.specs.Prelude.{◌<◌, ◌≤◌, List, length, All}
 use Rattle.pm_build.specs.declared.limit.TheConstants.{MAX_ENTRIES}
 use Rattle.pm_build.specs.Tiles.{Tile, IsTile}
 use Rattle.pm_build.specs.Runs.{TileRun, AreLongestRuns}

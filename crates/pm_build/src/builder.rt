@@ -1,4 +1,4 @@
-ghost use Rattle.std.specs.Prelude.{◌≡◌, ◌≢◌, ◌+◌, ◌*◌, ◌≤◌, ◌↔◌, List, [], ◌∷◌, ◌++◌, length, Err, OnOk, OnErr, IfOk, IsTrue, map, Contains};
+ghost use Rattle.std.specs.Prelude.{ℕ, ◌≡◌, ◌≢◌, ◌+◌, ◌*◌, ◌≤◌, ◌↔◌, List, [], ◌∷◌, ◌++◌, length, Err, OnOk, OnErr, IfOk, IsTrue, map, Contains};
 ghost use Rattle.std.specs.List.{AllByRecursion, concat};
 ghost use Rattle.pm_build.specs.Building.{CanAdd, AreTooMany, AreFew};
 ghost use Rattle.pm_build.specs.Runs.{TileRun, AreLongestRuns};

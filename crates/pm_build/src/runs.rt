@@ -1,5 +1,5 @@
 //! The longest runs of tiles that come one after the other.
-ghost use Rattle.std.specs.Prelude.{◌≡◌, ◌+◌, ◌<◌, ◌≤◌, ◌^◌, ◌↔◌, length, Err, OnOk, OnErr, if◌then◌else◌};
+ghost use Rattle.std.specs.Prelude.{◌≡◌, ◌+◌, ◌<◌, ◌≤◌, ◌^◌, ◌↔◌, ◌++◌, ◌∷◌, [], length, Err, OnOk, OnErr, if◌then◌else◌};
 ghost use Rattle.pm_build.specs.Joined.{run_view, run_views, goes_on, run_of, runs_end, goes_on_last, last_grown, with_tile};
 
 use crate::fault::BuildFault;

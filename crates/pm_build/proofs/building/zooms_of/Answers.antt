@@ -1,9 +1,42 @@
-use Rattle.std.proofs.Common.{◌≡◌, ◌-◌, ◌<◌, length, sym, subst, arith}
+use Rattle.std.proofs.Common.{◌≡◌, ℕ, ◌-◌, subst, arith}
 use Rattle.std.proofs.lemmas.List.{length-map}
-use Rattle.hilbert_id.specs.declared.number.TheConstants.{TILE_IDS}
-use Rattle.pm_build.specs.Joined.{run_views}
+use Rattle.pm_build.specs.Joined.{run_view, run_views}
 use Rattle.pm_build.specs.Laid.{IsZoomOf}
 use Rattle.pm_build.specs.Runs.{tiles_in}
-use Rattle.pm_build.proofs.Ends.{HasLast, first_tile, last_tile}
+use Rattle.pm_build.proofs.Ends.{first_tile, first_low, last_tile}
 use Rattle.pm_build.proofs.Entries.{end_low}
 use Rattle.pm_build.proofs.building.zooms_of.Goals as goal
+
+pub zoom_of-first-requires : goal.zoom_of-first-requires
+zoom_of-first-requires c = first_low c.args.runs.now c.index-runs-0.result c.requires.some c.requires.tiles c.requires.longest.each
+
+pub end_of-requires : goal.end_of-requires
+end_of-requires c =
+    let rs = run_views c.args.runs.now in
+    omega (arith, end_low (tiles_in rs) rs c.requires.tiles c.requires.longest)
+
+pub overflow_sub-end_of : goal.overflow_sub-end_of
+overflow_sub-end_of c =
+    let rs = run_views c.args.runs.now in
+    let last = last_tile rs (omega (arith, c.requires.some, length-map c.args.runs.now run_view)) c.requires.longest.each in
+    omega (arith, last.id_is, c.end_of.ensures)
+
+pub zoom_of-last-requires : goal.zoom_of-last-requires
+zoom_of-last-requires c =
+    let rs = run_views c.args.runs.now in
+    let last = last_tile rs (omega (arith, c.requires.some, length-map c.args.runs.now run_view)) c.requires.longest.each in
+    omega (arith, last.id_is, c.end_of.ensures, end_low (tiles_in rs) rs c.requires.tiles c.requires.longest)
+
+pub returns : goal.returns
+returns c =
+    let rs = run_views c.args.runs.now in
+    let last = last_tile rs (omega (arith, c.requires.some, length-map c.args.runs.now run_view)) c.requires.longest.each in
+    let id : c.end_of.result - 1 ≡ last.last.0 = omega (arith, last.id_is, c.end_of.ensures) in
+    let zoom = subst (λ (n : ℕ). IsZoomOf n c.zoom_of-last.result) id c.zoom_of-last.ensures in (
+      _,
+      last.last,
+      first_tile c.args.runs.now c.index-runs-0.result c.requires.some c.requires.longest.each,
+      last.there,
+      c.zoom_of-first.ensures,
+      zoom,
+    )
