@@ -1,42 +1,24 @@
 -- The tiles of a map below an id, ascending: none below 0, with the next tile, and all of them.
-use Rattle.std.proofs.Common.{◌≡◌, ◌≢◌, ℕ, zero, suc, ◌+◌, ◌<◌, ◌≤◌, ◌==◌, Bool, true, false, List, [], ◌∷◌, ◌++◌, length, get_or, map, take, drop, All}
-use Rattle.std.proofs.Common.{IsSome, refl, sym, ap, subst, ◌∙◌}
-use Rattle.std.proofs.Common.{arith, inl, inr, ◌⊎◌, Option, Some, None, is_some, IfSome, Vec}
+use Rattle.std.proofs.Common.{◌≡◌, ◌≢◌, ℕ, zero, suc, ◌+◌, ◌<◌, ◌≤◌, List, [], ◌∷◌, ◌++◌, length, get_or, All}
+use Rattle.std.proofs.Common.{refl, sym, ap, subst, ◌∙◌}
+use Rattle.std.proofs.Common.{arith, inl, inr}
 use Rattle.std.specs.List.{AllByRecursion, Contains}
 use Rattle.std.specs.List.Sorted.{IsStrictlySortedBy}
 use Rattle.std.specs.Map.{keys_of}
-use Rattle.std.specs.declared.alloc.Global.{Global}
 use Rattle.std.specs.Ordering.{nat_cmp}
-use Rattle.std.specs.Cmp.Lexicographic.{slice_cmp}
 use Rattle.std.specs.declared.cmp.Ordering.TheVariants.{Less}
-use mathlib.Core.Bool.{false≢true}
-use Rattle.std.proofs.lemmas.Bool.{cases_lt, cases_eq}
+use Rattle.std.proofs.lemmas.Bool.{cases_lt}
 use Rattle.std.proofs.lemmas.Bool.Decides.{nat_tests}
-use Rattle.std.proofs.lemmas.List.{append-nil, length-map, map-append, take-append-drop, take_more, get_or-take, get_or-drop, get_or_default, length-take}
-use Rattle.std.proofs.lemmas.List.{length-drop}
-use Rattle.std.proofs.lemmas.List.Elements.{All-nil, All-cons, All-head, All-tail, All-append, All-weaker, All-contains, All-contains_itself}
-use Rattle.std.proofs.lemmas.List.Elements.{Contains-append_left, Contains-append_right}
+use Rattle.std.proofs.lemmas.List.{length-map, map-append}
+use Rattle.std.proofs.lemmas.List.Elements.{All-nil, All-cons, All-head, All-tail, All-append, All-weaker}
+use Rattle.std.proofs.lemmas.List.Elements.{Contains-append_left}
 use Rattle.std.proofs.lemmas.List.Elements.{Contains-push}
-use Rattle.feature_model.specs.declared.limits.TheConstants.{GREATEST_ZOOM}
-use Rattle.hilbert_id.specs.Curve.{IsTileId, curve}
-use Rattle.hilbert_id.specs.declared.tile_at.TileAt.{TileAt}
-use Rattle.hilbert_id.specs.declared.number.TheConstants.{TILE_IDS}
-use Rattle.hilbert_id.proofs.Ids.{no_tile_behind, one_tile_of}
-use Rattle.hilbert_id.proofs.Positions.{in_square}
-use Rattle.mvt_layer.specs.Tile.{FeatureView, LayerView}
+use Rattle.hilbert_id.specs.Curve.{IsTileId}
+use Rattle.hilbert_id.proofs.Ids.{one_tile_of}
 use Rattle.mvt_write.specs.Written.{written}
-use Rattle.tile_cutter.specs.Cut.{feature_cut}
-use Rattle.tile_cutter.specs.Pairs.{IsCoveredTile}
-use Rattle.tile_cutter.proofs.CoveredTiles.{nothing_uncovered}
-use Rattle.feature_store.specs.Indexed.{ShowsAll}
-use Rattle.feature_store.specs.Layers.{is_tile, layers, IsLayer}
-use Rattle.feature_store.specs.Pairs.{IsPair, ArePairsOfMap, leading}
-use Rattle.feature_store.specs.Snapshots.{IsEditOf}
-use Rattle.feature_store.specs.Store.{FeatureMap, IsMap}
-use Rattle.feature_store.specs.Tiles.{IsTile, AreTiles, AreTilesBelow, ShowsNothing, ShowsNothingFrom, IsNextTile, HasPlace, IsBytesAt, IsStep, tile_bytes}
-use Rattle.feature_store.specs.Walk.{IsSplit}
-use Rattle.feature_store.proofs.Pairs.{numbers_at, numbers_ascend, number_in, none_at, numbers-append, tiles_ascend, lead_same, lead_stop, lead_fits, lead_at}
-use Rattle.feature_store.proofs.Unique.{is_the_list, outside}
+use Rattle.feature_store.specs.Layers.{layers}
+use Rattle.feature_store.specs.Store.{FeatureMap}
+use Rattle.feature_store.specs.Tiles.{IsTile, AreTiles, AreTilesBelow, ShowsNothingFrom, IsNextTile}
 
 -- ---- ascending numbers
 

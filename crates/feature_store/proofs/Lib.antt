@@ -9,7 +9,7 @@ mod Near
 mod Pairs
 mod Shown
 mod Sizes
-mod Tiles
+mod Writable
 mod TilesRead
 mod Walk
 pub mod Laws

@@ -148,7 +148,7 @@ lead_stop id (p ∷ ps) d lt = by (is_of id p) refl (lead_stop id ps d) lt
   where
     by : (b : Bool) → is_of id p ≡ b → (length (leading id ps) < length ps → (get_or ps (length (leading id ps)) d).0 ≢ id)
         → length (cond b (p.1 ∷ leading id ps) []) < length (p ∷ ps) → (get_or (p ∷ ps) (length (cond b (p.1 ∷ leading id ps) [])) d).0 ≢ id
-    by true here rest less = rest (omega (arith, less))
+    by true here rest less same = rest (omega (arith, less)) same
     by false away rest less same = not_same p.0 id same away
 
 -- where the others are of other tiles, they are all numbers of the tile
@@ -161,5 +161,5 @@ lead_at id (p ∷ ps) others = by (is_of id p) refl (lead_at id ps) others
         → (((k : ℕ) (d : ℕ × ℕ) → length (leading id ps) ≤ k → k < length ps → (get_or ps k d).0 ≢ id) → numbers_at id ps ≡ leading id ps)
         → ((k : ℕ) (d : ℕ × ℕ) → length (cond b (p.1 ∷ leading id ps) []) ≤ k → k < length (p ∷ ps) → (get_or (p ∷ ps) k d).0 ≢ id)
         → map (λ r. r.1) (cond b (p ∷ filter (is_of id) ps) (filter (is_of id) ps)) ≡ cond b (p.1 ∷ leading id ps) []
-    by true here rest no = ap (λ ns. p.1 ∷ ns) (rest (λ k d ge lt. no (suc k) d (omega (arith, ge)) (omega (arith, lt))))
-    by false away rest no = none_at id ps (λ k d lt. no (suc k) d (omega arith) (omega (arith, lt)))
+    by true here rest apart = ap (λ ns. p.1 ∷ ns) (rest (λ k d ge lt. apart (suc k) d (omega (arith, ge)) (omega (arith, lt))))
+    by false away rest apart = none_at id ps (λ k d lt. apart (suc k) d (omega arith) (omega (arith, lt)))

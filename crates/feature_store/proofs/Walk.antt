@@ -1,24 +1,22 @@
 -- From the pairs of a map to its tiles, one after the other.
-use Rattle.std.proofs.Common.{◌≡◌, ◌≢◌, ℕ, zero, suc, ◌+◌, ◌-◌, ◌<◌, ◌≤◌, ◌==◌, Bool, true, false, List, [], ◌∷◌, ◌++◌, length, get_or, map, take, drop, All}
+use Rattle.std.proofs.Common.{◌≡◌, ◌≢◌, ℕ, zero, suc, ◌+◌, ◌-◌, ◌<◌, ◌≤◌, Bool, true, false, List, [], ◌∷◌, ◌++◌, length, get_or, map, take, drop, All}
 use Rattle.std.proofs.Common.{IsSome, refl, sym, ap, subst, ◌∙◌}
-use Rattle.std.proofs.Common.{arith, inl, inr, ◌⊎◌, Option, Some, None, is_some, IfSome, Vec}
-use Rattle.std.specs.List.{AllByRecursion, Contains}
+use Rattle.std.proofs.Common.{arith, inl, inr, ◌⊎◌, Option, Some, None, is_some, IfSome, Vec, Global, Result, Ok, Err}
+use Rattle.std.specs.Prelude.{IfNone, OnErr}
+use Rattle.std.specs.Option.{option_map}
+use Rattle.std.specs.List.{Contains}
 use Rattle.std.specs.List.Sorted.{IsStrictlySortedBy}
-use Rattle.std.specs.Map.{keys_of}
-use Rattle.std.specs.declared.alloc.Global.{Global}
 use Rattle.std.specs.Ordering.{nat_cmp}
 use Rattle.std.specs.Cmp.Lexicographic.{slice_cmp}
-use Rattle.std.specs.declared.cmp.Ordering.TheVariants.{Less}
 use mathlib.Core.Bool.{false≢true}
 use Rattle.std.proofs.lemmas.Bool.{cases_lt, cases_eq}
 use Rattle.std.proofs.lemmas.Bool.Decides.{nat_tests}
-use Rattle.std.proofs.lemmas.List.{append-nil, length-map, map-append, take-append-drop, take_more, get_or-take, get_or-drop, get_or_default, length-take}
+use Rattle.std.proofs.lemmas.List.{length-map, take-append-drop, get_or-take, get_or-drop, get_or_default, length-take}
 use Rattle.std.proofs.lemmas.List.{length-drop, nil_from_length}
-use Rattle.std.proofs.lemmas.List.Elements.{All-nil, All-cons, All-head, All-tail, All-append, All-weaker, All-contains, All-contains_itself}
-use Rattle.std.proofs.lemmas.List.Elements.{Contains-append_left, Contains-append_right}
-use Rattle.std.proofs.lemmas.List.Elements.{Contains-push}
+use Rattle.std.proofs.lemmas.List.Elements.{All-nil, All-weaker, All-contains, All-contains_itself}
+use Rattle.std.proofs.lemmas.List.Elements.{Contains-append_right}
 use Rattle.feature_model.specs.declared.limits.TheConstants.{GREATEST_ZOOM}
-use Rattle.hilbert_id.specs.Curve.{IsTileId, curve}
+use Rattle.hilbert_id.specs.Curve.{IsTileId}
 use Rattle.hilbert_id.specs.declared.tile_at.TileAt.{TileAt}
 use Rattle.hilbert_id.specs.declared.number.TheConstants.{TILE_IDS}
 use Rattle.hilbert_id.proofs.Ids.{no_tile_behind, one_tile_of}
@@ -33,7 +31,7 @@ use Rattle.feature_store.specs.Layers.{is_tile, layers, IsLayer}
 use Rattle.feature_store.specs.Pairs.{IsPair, ArePairsOfMap, leading}
 use Rattle.feature_store.specs.Snapshots.{IsEditOf}
 use Rattle.feature_store.specs.Store.{FeatureMap, IsMap}
-use Rattle.feature_store.specs.Tiles.{IsTile, AreTiles, AreTilesBelow, ShowsNothing, ShowsNothingFrom, IsNextTile, HasPlace, IsBytesAt, IsStep, tile_bytes}
+use Rattle.feature_store.specs.Tiles.{ShowsNothing, ShowsNothingFrom, IsNextTile, TilesView, HasPlace, IsBytesAt, IsStep, tile_bytes}
 use Rattle.feature_store.specs.Walk.{IsSplit}
 use Rattle.feature_store.proofs.Pairs.{numbers_at, numbers_ascend, number_in, none_at, numbers-append, tiles_ascend, lead_same, lead_stop, lead_fits, lead_at}
 use Rattle.feature_store.proofs.Below.{the_place}
@@ -48,7 +46,7 @@ no_names = tt
 module _ (m : FeatureMap) where
   -- the bytes of the tile of an id, by its layers
   pub bytes_are : (z x y id : ℕ) (bytes : Option (List ℕ)) → IsTileId z x y id → bytes ≡ tile_bytes (layers m z x y) → IsBytesAt m id bytes
-  bytes_are z x y id bytes is same w a b other = same ∙ ap tile_bytes (sym (the_place z x y w a b id is other))
+  bytes_are z x y id bytes is same w a b other = same ∙ ap tile_bytes (sym (the_place m z x y w a b id is other))
 
   -- those of some layers are what is written of them
   pub some_written : (ls : List LayerView) (bytes : List ℕ) → 0 < length ls → bytes ≡ written ls → Some bytes ≡ tile_bytes ls
@@ -178,7 +176,7 @@ module _ (m : FeatureMap) (is_map : IsMap m) (ps : List (ℕ × ℕ)) (are : Are
   nothing_at : (z x y id : ℕ) → IsTileId z x y id → All (λ p. p.0 ≢ id) ps → layers m z x y ≡ []
   nothing_at z x y id is none = elim (cases_lt 0 (length (layers m z x y))) [
     | inl some ↦ not_in_pairs z x y id (zoom_of_layers z x y some) is none
-    | inr no ↦ nil_from_length (layers m z x y) (omega (arith, no))
+    | inr least ↦ nil_from_length (layers m z x y) (omega (arith, least))
   ]
 
   -- a tile that a feature of the map covers has a zoom of the map
@@ -199,7 +197,7 @@ module _ (m : FeatureMap) (is_map : IsMap m) (ps : List (ℕ × ℕ)) (are : Are
         nothing_at z x y id is (λ k d within same. let low = split.before k d (omega (arith, ends, within)) within in omega (arith, low, same, above))
 
     module _ (id : ℕ) (d : ℕ × ℕ) (within : done < length ps) (id_is : id ≡ (get_or ps done d).0) where
-      qs : List (ℕ × ℕ)
+      abbrev pub qs : List (ℕ × ℕ)
       qs = drop done ps
 
       first_is : (e : ℕ × ℕ) → (get_or ps done e).0 ≡ id
@@ -273,6 +271,64 @@ module _ (m : FeatureMap) (is_map : IsMap m) (ps : List (ℕ × ℕ)) (are : Are
             let at : (get_or qs (k - done) e).0 ≡ (get_or ps k e).0 = at_qs (k - done) e ∙ ap (λ (j : ℕ). (get_or ps j e).0) k_is in
             omega (arith, above, at);
       }
+
+-- ---- the loop over the steps
+
+abbrev Step : Type 0
+Step = ℕ × Option (Vec ℕ Global)
+
+abbrev bytes_of : Option (Vec ℕ Global) → Option (List ℕ)
+bytes_of o = option_map (λ (v : Vec ℕ Global). v.items) o
+
+-- what is told of a step that was made
+pub step_made : (m : FeatureMap) (old new : TilesView) (o : Option Step) (id : ℕ) (bytes : Option (Vec ℕ Global)) → o ≡ Some (id, bytes) → old.features ≡ m
+    → IfSome o (λ t. IsStep old.features old.from t.0 (bytes_of t.1) × (new.from ≡ t.0 + 1))
+    → IsStep m old.from id (bytes_of bytes) × (new.from ≡ id + 1)
+step_made m old new o id bytes is map told =
+    let here = subst (λ (x : Option Step). IfSome x (λ t. IsStep old.features old.from t.0 (bytes_of t.1) × (new.from ≡ t.0 + 1))) is told in
+    (subst (λ (n : FeatureMap). IsStep n old.from id (bytes_of bytes)) map here.0, here.1)
+
+pub tile_made : (m : FeatureMap) (start : ℕ) (old new : TilesView) (o : Option Step) (id : ℕ) (bytes : Option (Vec ℕ Global)) (found : Vec ℕ Global)
+    → o ≡ Some (id, bytes) → bytes ≡ Some found → old.features ≡ m → start ≤ old.from → ShowsNothing m start old.from
+    → IfSome o (λ t. IsStep old.features old.from t.0 (bytes_of t.1) × (new.from ≡ t.0 + 1))
+    → IsNextTile m start (id, found.items) × (new.from ≡ id + 1)
+tile_made m start old new o id bytes found is there map le nothing told =
+    let step = step_made m old new o id bytes is map told in
+    (step_shows m start old.from id found.items le nothing (subst (λ (b : Option (Vec ℕ Global)). IsStep m old.from id (bytes_of b)) there step.0), step.1)
+
+-- after a step that shows nothing
+pub record IsPassed (m : FeatureMap) (start : ℕ) (old new : TilesView) : Type 0 where
+  pub above : start ≤ new.from
+  pub nothing : ShowsNothing m start new.from
+  pub further : old.from < new.from
+  pub within : new.from ≤ TILE_IDS
+
+pub passed : (m : FeatureMap) (start : ℕ) (old new : TilesView) (o : Option Step) (id : ℕ) (bytes : Option (Vec ℕ Global))
+    → o ≡ Some (id, bytes) → bytes ≡ None → old.features ≡ m → start ≤ old.from → ShowsNothing m start old.from
+    → IfSome o (λ t. IsStep old.features old.from t.0 (bytes_of t.1) × (new.from ≡ t.0 + 1))
+    → IsPassed m start old new
+passed m start old new o id bytes is none map le nothing told =
+    let step = step_made m old new o id bytes is map told in
+    let here = step.0.here in
+    let low = place_within id step.0.place in
+    let shows = step_nothing m start old.from id le nothing (subst (λ (b : Option (Vec ℕ Global)). IsStep m old.from id (bytes_of b)) none step.0) in
+    record {
+      above = omega (arith, le, here, step.1);
+      nothing = subst (λ (n : ℕ). ShowsNothing m start n) (sym step.1) shows;
+      further = omega (arith, here, step.1);
+      within = omega (arith, low, step.1);
+    }
+
+pub last_step : (m : FeatureMap) (start : ℕ) (old : TilesView) (o : Option Step) → o ≡ None → old.features ≡ m → ShowsNothing m start old.from
+    → IfNone o (ShowsNothingFrom old.features old.from) → ShowsNothingFrom m start
+last_step m start old o none map nothing told =
+    let here = subst (λ (x : Option Step). IfNone x (ShowsNothingFrom old.features old.from)) none told in
+    last_nothing m start old.from nothing (subst (λ (n : FeatureMap). ShowsNothingFrom n old.from) map here)
+
+-- what holds anyway holds after an error
+pub on_err : {X E P : Type 0} (r : Result X E) → P → OnErr r P
+on_err (Ok x) p = tt
+on_err (Err e) p = p
 
 -- no pair is done at the start
 pub walk_start : (ps : List (ℕ × ℕ)) → IsSplit ps 0 0

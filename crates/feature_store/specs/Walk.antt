@@ -1,6 +1,5 @@
 -- How a walk over the tiles of a map is kept.
-use Rattle.std.specs.Prelude.{ℕ, ◌<◌, ◌≤◌, List, length}
-use Rattle.std.specs.List.{get_or}
+use Rattle.std.specs.Prelude.{ℕ, ◌<◌, ◌≤◌, List, length, get_or}
 use Rattle.feature_store.specs.declared.all_tiles.Tiles.TheInside.{Inside}
 use Rattle.feature_store.specs.Inside.{entries_data}
 use Rattle.feature_store.specs.Pairs.{ArePairsOfMap}

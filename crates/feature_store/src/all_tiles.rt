@@ -103,7 +103,11 @@ fn leading(alloc: Global, pairs: &[(u64, u64)], id: u64) -> Result<Vec<u64>, All
 
 impl<'a> Tiles<'a> {
     /// The tiles of a map, by all of its pairs.
-    pub(crate) fn of(alloc: Global, features: &'a NumberMap<Feature>, pairs: Vec<(u64, u64)>) -> Tiles<'a>
+    pub(crate) fn of(
+        alloc: Global,
+        features: &'a NumberMap<Feature>,
+        pairs: Vec<(u64, u64)>,
+    ) -> Tiles<'a>
         requires map { IsMap (entries_data features.now.entries) }
         requires pairs { ArePairsOfMap (entries_data features.now.entries) pairs.items }
         ensures map { result.features ≡ entries_data features.entry.now.entries }
