@@ -32,8 +32,11 @@ def disks():
     for kind, name in disk.KINDS.items():
         text = b"\x01" + disk.spelled(7, 8) + b"\x01p\x00\x02" + bytes([kind]) + b"\xff\xff"
         held = bytearray(disk.write_disk(64, 0, {}, [], b"", 0))
-        disk.put_records(held, disk.Layout(64), 0, 1, [text])
+        disk.put_records(held, disk.Layout(64), 0, 1, [(1, text)])
         yield f"{name} in the journal", bytes(held)
+        held = bytearray(disk.write_disk(64, 0, {}, [], b"", 0))
+        disk.put_records(held, disk.Layout(64), 0, 1, [(2, b"\x01" + text)])
+        yield f"{name} in a batch", bytes(held)
         held = bytearray(disk.write_disk(64, 1, {}, [], b"", 0))
         disk.put_at(held, 2, disk.root_sector(disk.Root(1, 0, 0, len(text), 0)))
         disk.put_at(held, disk.Layout(64).area_at(1), text)
