@@ -1,5 +1,6 @@
 -- The limits of edits, and the lengths of their texts and of those of a map.
-use Rattle.std.proofs.Common.{◌≡◌, inl, inr, ⊎_elim, ℕ, Bool, false, cond, ◌<◌, ◌≤◌, ◌+◌, ◌-◌, ◌*◌, ◌^◌, [], ◌∷◌, length, sym, refl, ap, subst, arith, lit≤, Some}
+use Rattle.std.proofs.Common.{◌≡◌, inl, inr, ⊎_elim, ℕ, Bool, false, cond, ◌<◌, ◌≤◌, ◌+◌, ◌-◌, ◌*◌, ◌^◌, List, [], ◌∷◌, length, take, drop}
+use Rattle.std.proofs.Common.{sym, refl, ◌∙◌, ap, subst, arith, lit≤, Some}
 use Rattle.std.proofs.Common.{append-nil, length-append}
 use Rattle.std.specs.Prelude.{IsSome}
 use Rattle.std.specs.List.{All}
@@ -8,6 +9,7 @@ use Rattle.std.specs.BTreeMap.{is_at}
 use Rattle.std.specs.Map.{lookup}
 use Rattle.std.proofs.lemmas.Bool.{cases_eq, false≢true}
 use Rattle.std.proofs.lemmas.Bool.Decides.{nat_tests}
+use Rattle.std.proofs.lemmas.List.{take_all}
 use Rattle.std.proofs.lemmas.List.Elements.{All-head, All-tail, All-nil, All-cons}
 use Rattle.sector_disk.specs.declared.disk.TheConstants.{SECTOR_BYTES}
 use Rattle.generations.specs.Areas.{journal_sectors, area_sectors}
@@ -20,7 +22,7 @@ use Rattle.edit_text.proofs.Recorded.{edit_of_one}
 use Rattle.feature_model.specs.Data.{FeatureData, ChangeData, EditData, put, delete, number_of}
 use Rattle.feature_model.specs.declared.limits.TheConstants.{MOST_EDIT_BYTES}
 use Rattle.feature_model.specs.Limits.{NumberFits, IsAllowed, IsAllowedChange, IsAllowedEdit}
-use Rattle.feature_model.specs.Spelled.{spelled_change, spelled_changes, spelled}
+use Rattle.feature_model.specs.Spelled.{spelled_change, spelled_changes, spelled, eight_bytes}
 use Rattle.feature_model.specs.Types.{IsChange}
 use Rattle.feature_model.proofs.Changes.{distinct_none, distinct_push}
 use Rattle.feature_store.specs.Store.{FeatureMap, IsMap, feature_at, changed, edited, snapshot}
@@ -120,6 +122,17 @@ longer_second cs = omega arith
 text_has : (version : ℕ) (cs : EditData) → IsVersion version → length (spelled_changes cs) ≤ length (text_in version cs)
 text_has version cs (inl is) = subst (λ (v : ℕ). length (spelled_changes cs) ≤ length (text_in v cs)) (sym is) (omega arith)
 text_has version cs (inr is) = subst (λ (v : ℕ). length (spelled_changes cs) ≤ length (text_in v cs)) (sym is) (longer_second cs)
+
+nine_bytes : (id : ℕ) → length (spelled_changes (delete id ∷ [])) ≤ 9
+unfolding spelled_change eight_bytes
+nine_bytes id = omega arith
+
+-- without its count, the text of a deletion's edit is that of the change
+pub without_count : (version id : ℕ) (text : List ℕ) → version ≡ FIRST_VERSION → text ≡ spelled (delete id ∷ [])
+    → take 9 (drop 1 text) ≡ text_in version (delete id ∷ [])
+unfolding spelled
+without_count version id text first is = ap (λ t. take 9 (drop 1 t)) is ∙ take_all 9 (spelled_changes (delete id ∷ [])) (nine_bytes id)
+    ∙ ap (λ v. text_in v (delete id ∷ [])) (sym first)
 
 -- the parts of a text have room for it
 parts_hold : (bytes : ℕ) → bytes ≤ PART_BYTES * parts_of bytes

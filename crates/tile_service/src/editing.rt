@@ -1,5 +1,5 @@
 //! Edits: written to the journal first, then applied to the map.
-ghost use Rattle.std.specs.Prelude.{◌≡◌, ◌≢◌, ◌↔◌, ◌+◌, ◌-◌, ◌<◌, ◌^◌, true, false, [], ◌∷◌, map, All, IfErr, IfOk, OnOk, IsSome, IsTrue, None};
+ghost use Rattle.std.specs.Prelude.{◌≡◌, ◌≢◌, ◌↔◌, ◌+◌, ◌-◌, ◌<◌, ◌^◌, ℕ, true, false, [], ◌∷◌, map, All, IfErr, IfOk, OnOk, IsSome, IsTrue, None};
 ghost use Rattle.sector_disk.specs.Moments.{LeavesOnly};
 ghost use Rattle.edit_journal.specs.Appends.{TakesSteps};
 ghost use Rattle.edit_journal.specs.declared.fault.JournalFault.TheVariants as journals;

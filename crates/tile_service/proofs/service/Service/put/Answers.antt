@@ -29,9 +29,16 @@ returns-in-Err-single_edit-clause-any_moment g c = rw (← c.self.view_is) (λ s
 
 pub write_edit-requires-clause-allowed : goal.write_edit-requires-clause-allowed
 write_edit-requires-clause-allowed g c =
-    subst IsAllowedEdit (sym c.in-Ok-single_edit.ensures) (put_allowed c.args.id (feature_data c.args.feature) c.in-Ok.ensures.ok.allowed)
+    subst IsAllowedEdit (sym c.in-Ok-single_edit.ensures.edit) (put_allowed c.args.id (feature_data c.args.feature) c.in-Ok.ensures.ok.allowed)
 
 pub write_edit-requires-clause-fits : goal.write_edit-requires-clause-fits
-write_edit-requires-clause-fits g c = subst (λ (cs : EditData). FitsVersion c.args.self.now.version cs) (sym c.in-Ok-single_edit.ensures)
+write_edit-requires-clause-fits g c = subst (λ (cs : EditData). FitsVersion c.args.self.now.version cs) (sym c.in-Ok-single_edit.ensures.edit)
     (one_fits c.args.self.now.version (put c.args.id (feature_data c.args.feature))
     (rw (← c.self.view_is) c.self.invariant.version_is))
+
+pub returns-in-Ok-single_edit-clause-any_moment : goal.returns-in-Ok-single_edit-clause-any_moment
+returns-in-Ok-single_edit-clause-any_moment g c = λ stored honest up.
+    subst (λ (cs : EditData). LeavesOnly (g.D.Sectors.history c.args.self.now.disk) (g.D.Sectors.history c.write_edit.new.self.disk)
+    (EventLeaves (g.D.Sectors.sectors c.args.self.now.disk) c.args.self.now.size stored c.args.self.now.publication
+    (edit single (recorded_in c.args.self.now.version cs) c.write_edit.result)))
+    c.in-Ok-single_edit.ensures.edit (c.write_edit.ensures.any_moment stored single honest up)
