@@ -146,9 +146,19 @@ pub fault_after : (sectors n version : ℕ) (old new : History) (root : Root) (f
     → (fault ≡ Device) ⊎ (fault ≡ Memory) ⊎ IsOpenFault sectors (seen old) fault
 fault_after sectors n version old new root fault is live version_is (inl device) = inl device
 fault_after sectors n version old new root fault is live version_is (inr (inl memory)) = inr (inl memory)
-fault_after sectors n version old new root fault is live version_is (inr (inr content)) = inr (inr (inr (n, root, live,
-    subst (λ (v : ℕ). IsContentFault n v root (seen old) fault) version_is
-    (subst (λ (h : History). IsContentFault n version root (seen h) fault) is content))))
+fault_after sectors n version old new root fault is live version_is (inr (inr content)) = inr (inr (inr (
+  n,
+  root,
+  live,
+  subst (λ (v : ℕ). IsContentFault n v root (seen old) fault) version_is
+      (subst (λ (h : History). IsContentFault n version root (seen h) fault) is content),
+)))
+
+pub root_fault_after : (sectors count : ℕ) (old new : History) (fault : StoreFault) → count ≡ sectors → new ≡ synced old
+    → (fault ≡ Device) ⊎ IsFaultOf count (seen new) fault → (fault ≡ Device) ⊎ (fault ≡ Memory) ⊎ IsOpenFault sectors (seen old) fault
+root_fault_after sectors count old new fault same is (inl device) = inl device
+root_fault_after sectors count old new fault same is (inr root) =
+    inr (inr (inl (subst (λ (h : History). IsFaultOf sectors (seen h) fault) is (subst (λ (c : ℕ). IsFaultOf c (seen new) fault) same root))))
 
 -- the version that a read gives after a sync is that from before it
 pub version_before : (version : ℕ) (old new : History) → new ≡ synced old → version ≡ version_from (seen new 0) → version ≡ version_from (seen old 0)

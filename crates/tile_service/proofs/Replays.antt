@@ -1,6 +1,6 @@
 -- Records and the edits that they are of.
-use Rattle.std.proofs.Common.{◌≡◌, inl, inr, ℕ, zero, suc, Bool, true, false, ◌<◌, ◌≤◌, ◌+◌, ◌==◌, if◌then◌else◌, List, [], ◌∷◌, ◌++◌, length, drop, map, get_or}
-use Rattle.std.proofs.Common.{refl, sym, ◌∙◌, ap, subst, arith, length-append}
+use Rattle.std.proofs.Common.{◌≡◌, inl, inr, ℕ, zero, suc, Bool, true, false, ◌<◌, ◌≤◌, ◌+◌, ◌==◌, if◌then◌else◌, List, [], ◌∷◌, ◌++◌, length}
+use Rattle.std.proofs.Common.{drop, map, get_or, refl, sym, ◌∙◌, ap, subst, arith, length-append}
 use Rattle.std.specs.List.{All}
 use Rattle.std.proofs.Math.Seq.{get_or-append_seam}
 use Rattle.std.proofs.lemmas.List.{length-map, map-append}
@@ -8,48 +8,16 @@ use Rattle.std.proofs.lemmas.List.Elements.{All-head, All-tail, All-push}
 use Rattle.std.proofs.lemmas.List.Sums.{fold-append}
 use Rattle.cached_map.specs.Cached.{CachedView, WasMap}
 use Rattle.edit_journal.specs.Records.{RecordData, record_of}
-use Rattle.edit_text.specs.Recorded.{RecordedEdit, FitsVersion, IsRecorded, IsRecordOf, text_in, recorded_text}
-use Rattle.edit_text.specs.declared.fault.TextFault.{TextFault}
-use Rattle.edit_text.specs.declared.fault.TextFault.TheVariants as text_faults
+use Rattle.edit_text.specs.Recorded.{RecordedEdit, IsRecorded, recorded_text}
 use Rattle.feature_model.specs.Data.{ChangeData, EditData, put, delete}
 use Rattle.feature_model.specs.Spelled.{spelled_change, spelled_changes, spelled}
 use Rattle.feature_store.specs.Store.{FeatureMap, changed, edited, snapshot}
 use Rattle.feature_store.proofs.Laws.{snapshot_after_put, snapshot_after_delete}
 use Rattle.generations.specs.declared.fault.StoreFault.{StoreFault}
 use Rattle.tile_service.specs.After.{made, after}
-use Rattle.tile_service.specs.Machine.{recorded_in}
 use Rattle.tile_service.specs.Replayed.{IsRecordFor, IsRecordFault, AreRecordsFor, AreMade, IsReplayFault, bytes_of}
 use Rattle.tile_service.specs.Stored.{record_for}
 use Rattle.tile_service.proofs.Earlier.{were_one}
-
--- ---- the edit of a record
-
--- what was decoded is the edit of the record,
-pub record_found : (version : ℕ) (cs : EditData) (text : List ℕ) → IsRecordOf version cs text → IsRecordFor (record_of version text) (recorded_in version cs)
-record_found version cs text is = record {
-  recorded = record { fits = is.fits; edit = is.edit };
-  record_is = ap (record_of version) is.text_is;
-}
-
-record_back : (version : ℕ) (text : List ℕ) (e : RecordedEdit) → IsRecordFor (record_of version text) e → IsRecordOf version e.changes text
-record_back version text e is =
-    let same : version ≡ e.version = ap (λ (r : RecordData). r.version) is.record_is in
-    record {
-      fits = subst (λ (v : ℕ). FitsVersion v e.changes) (sym same) is.recorded.fits;
-      edit = is.recorded.edit;
-      text_is = ap (λ (r : RecordData). r.text) is.record_is ∙ ap (λ (v : ℕ). text_in v e.changes) (sym same);
-    }
-
-abbrev is_memory : TextFault → Bool
-is_memory text_faults.Memory = true
-is_memory fault = false
-
--- and where only memory can prevent that it is decoded, a bad text has no edit
-pub no_record : (version : ℕ) (text : List ℕ) (fault : TextFault) → is_memory fault ≡ false
-    → ((cs : EditData) → IsRecordOf version cs text → fault ≡ text_faults.Memory) → (e : RecordedEdit) → IsRecordFor (record_of version text) e → ⊥
-no_record version text fault other only e is =
-    let memory : fault ≡ text_faults.Memory = only e.changes (record_back version text e is) in
-    cc (sym other ∙ ap is_memory memory)
 
 -- ---- the length of texts
 

@@ -1,6 +1,6 @@
 use Rattle.std.proofs.Common.{◌∙◌}
 use Rattle.sector_disk.specs.Disk.{seen}
-use Rattle.tile_service.proofs.Opens.{live_before, version_before, read_after, fault_after, device_no_memory, root_no_memory}
+use Rattle.tile_service.proofs.Opens.{live_before, version_before, read_after, fault_after, root_fault_after, device_no_memory, root_no_memory}
 use Rattle.tile_service.proofs.opening.load.Goals as goal
 
 pub returns-in-Ok-read_map-clause-found : goal.returns-in-Ok-read_map-clause-found
@@ -26,6 +26,11 @@ returns-in-Err-read_map-clause-fault g c honest =
     sync_is (c.in-Ok-read_root.ensures.version root_honest) in
     fault_after _ _ _ (g.D.Sectors.history c.args.disk.now) (g.D.Sectors.history c.read_root.new.disk) _ _
     (c.in-Ok-read_root.ensures.history root_honest ∙ sync_is) before version_is (c.in-Err-read_map.ensures.fault honest)
+
+pub returns-in-Err-read_root-clause-fault : goal.returns-in-Err-read_root-clause-fault
+returns-in-Err-read_root-clause-fault g c honest = root_fault_after (g.D.Sectors.sectors c.args.disk.now) (g.D.Sectors.sectors c.sync.new.self)
+    (g.D.Sectors.history c.args.disk.now) (g.D.Sectors.history c.sync.new.self) c.in-Err-read_root.fault c.in-Ok.ensures.count
+    (c.in-Ok.ensures.syncs (c.read_root.ensures.honest honest)) (c.in-Err-read_root.ensures.fault honest)
 
 pub returns-in-Err-clause-memory : goal.returns-in-Err-clause-memory
 returns-in-Err-clause-memory g c honest is = absurd (device_no_memory is)

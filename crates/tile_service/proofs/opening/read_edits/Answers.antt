@@ -76,8 +76,8 @@ returns-in-Ok-replay-clause-found g c honest has = record {
 
 pub returns-in-Err-replay-clause-fault : goal.returns-in-Err-replay-clause-fault
 returns-in-Err-replay-clause-fault g c honest has =
-    text_fault c.args.layout.sectors c.args.version c.args.root (seen (g.D.Sectors.history c.args.disk.now)) c.args.store.features has (records_of c.in-Ok.found.1.items)
-    c.in-Err-replay.fault
+    text_fault c.args.layout.sectors c.args.version c.args.root (seen (g.D.Sectors.history c.args.disk.now)) c.args.store.features has
+    (records_of c.in-Ok.found.1.items) c.in-Err-replay.fault
     (subst (λ (places : ℕ). IsJournal c.args.version (record { first = 3; places = places }) (start_of c.args.root.journal_at c.args.root.edits)
     (records_of c.in-Ok.found.1.items) (seen (g.D.Sectors.history c.args.disk.now))) c.args.layout.journal_is (c.in-Ok.ensures.found honest))
     c.in-Err-replay.ensures.fault
