@@ -8,13 +8,15 @@ use Rattle.feature_store.specs.Store.{FeatureMap, snapshot}
 use Rattle.feature_store.specs.Tiles.{IsNextTile}
 use Rattle.feature_store.proofs.Below.{one_more}
 use Rattle.generations.specs.Areas.{sectors_of}
+use Rattle.pm_build.specs.declared.fault.BuildFault.{BuildFault}
+use Rattle.pm_build.specs.declared.fault.BuildFault.TheVariants as building
 use Rattle.pm_build.specs.declared.limit.TheConstants.{MAX_ENTRIES}
 use Rattle.pm_build.specs.Building.{AreTooMany}
 use Rattle.pm_build.specs.Placed.{AreDifferent}
 use Rattle.pm_build.specs.Runs.{TileRun, AreLongestRuns}
 use Rattle.pm_build.specs.Tiles.{Tile}
 use Rattle.area_content.specs.Content.{ContentView, sectors_taken}
-use Rattle.area_content.specs.Faults.{IsShort, AreAdded, HasLongTile, HasManyTiles, IsBounded, IsBoundedFor, IsFull}
+use Rattle.area_content.specs.Faults.{IsShort, AreAdded, HasLongTile, HasManyTiles, IsBounded, IsBoundedFor, IsFull, IsContentFault, told_as}
 use Rattle.area_content.specs.Tiles.{IsArchiveOfMap}
 
 -- the size is within the bound of `pm_build`'s contract
@@ -81,3 +83,8 @@ module _ (m : FeatureMap) (metadata area : ℕ) where
       let need : sectors_taken c ≡ sectors_of (length (snapshot m)) + sectors_of (length c.archive) =
       ap (λ (bytes : List ℕ). sectors_of (length bytes) + sectors_of (length c.archive)) same in
       record { free_is = refl; above = more; needed = inr (c.archive, archive, bounded, need) }
+
+  -- the fault of a builder, which has too many tiles only where the map has
+  pub fault_told : (fault : BuildFault) → (fault ≡ building.TooManyEntries → HasManyTiles m) → IsContentFault m metadata area (told_as fault)
+  fault_told building.TooManyEntries many = many refl
+  fault_told building.Memory many = tt

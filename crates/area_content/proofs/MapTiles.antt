@@ -1,12 +1,8 @@
 -- From the tiles of a map to those of its archive.
 use Rattle.std.proofs.Common.{◌≡◌, ◌≢◌, inl, inr, ℕ, zero, suc, ◌+◌, ◌^◌, ◌<◌, ◌≤◌, Bool, true, false, eqb, if◌then◌else◌, List, [], ◌∷◌, ◌++◌, length}
 use Rattle.std.proofs.Common.{Option, Some, None, refl, sym, ap, subst, ◌∙◌, arith}
-use Rattle.std.specs.Prelude.{All}
-use Rattle.std.specs.List.{AllByRecursion, Contains}
-use Rattle.std.specs.List.Sorted.{IsStrictlySortedBy}
+use Rattle.std.specs.List.{Contains}
 use Rattle.std.specs.Map.{keys_of}
-use Rattle.std.specs.Ordering.{nat_cmp}
-use Rattle.std.specs.declared.cmp.Ordering.TheVariants.{Less}
 use Rattle.std.proofs.lemmas.Bool.{cases_lt, eqb-true, eqb-false}
 use Rattle.std.proofs.lemmas.Bool.Decides.{nat_tests}
 use Rattle.std.proofs.lemmas.List.{nil_from_length}
@@ -97,12 +93,9 @@ module _ (m : FeatureMap) where
   -- the next tile of a map can be added to an archive of those before it, if its content is short enough
   pub can_be_added : (from : ℕ) (ts : List Tile) (t : Tile) → AreTilesBelow m from ts → IsNextTile m from t → IsShort t → CanAdd ts t
   can_be_added from ts t below next short =
-      let here = next.here in
-      (
+      let here = next.here in (
         All-weaker (λ (u : Tile). (u.0 < from) × IsTile m u) (λ u. u.0 < t.0) (λ u h. let lt = h.0 in omega (arith, lt, here)) ts below.each,
-        id_below t next.tile,
-        some_bytes t next.tile,
-        short,
+        (id_below t next.tile, some_bytes t next.tile, short),
       )
 
   -- ids of tiles are of the curve, so that there is an end
