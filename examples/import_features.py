@@ -30,16 +30,19 @@ features that replace others are counted as further ones, and --anyway sends it 
 the journal whenever it is full. It stops at the first refusal that all further features would get (a full journal, a map that can't be
 published, a failed disk).
 
+Up to 64 features are one request and one edit, which is stored whole or not at all. If a request is refused because of one of its
+features, its features are sent one by one. That is done from the first one on with --no-batches, or if the server takes no batches.
+
 It prints a line for each thousand features, one for each refused one with the reason, and the counts at the end. It ends with 1 if a feature
 was refused or it stopped, with 130 if it was interrupted.
 """
 import argparse
 import codecs
-import json
 import sys
 import tempfile
 import time
 
+from edits import MOST_CHANGES, Change, batches, delete, encoded, put, sectors
 from file_features import Reader, Unreadable
 from import_sizes import Sizes, area_of, disk_for, is_heavy
 from map_client import Client, NoAnswer, Stopped
@@ -51,11 +54,6 @@ PIECE = 2 ** 40
 OUTLINE = "-outline"
 # Cut features that are named each; the rest is counted.
 MOST_NAMED = 20
-
-
-def encoded(body):
-    """A body as it is sent."""
-    return json.dumps(body, ensure_ascii=False, separators=(",", ":")).encode()
 
 
 class Plan:
@@ -100,10 +98,18 @@ class Plan:
                 print(f"feature {number} refused: not sent: {fault}", flush=True)
             return
         for own, body, geometry in made:
-            self.sizes.add(body, geometry, self.zooms, own == number)
+            change = put(own, body)
+            self.sizes.add(change.text, body, geometry, self.zooms, own == number)
             self.layers[own] = body["layer"]
-            self.spool.write(b"%d %s\n" % (own, encoded(body)))
+            self.spool.write(b"%d %d %s\n" % (own, change.text, change.body))
         self.next = number + len(made)
+
+    def changes(self):
+        """The changes that put the features."""
+        self.spool.seek(0)
+        for row in self.spool:
+            number, text, body = row.rstrip(b"\n").split(b" ", 2)
+            yield Change(int(number), body, int(text))
 
     def number(self, feature):
         """The number of a feature, from the attribute that --id names."""
@@ -189,19 +195,20 @@ class Plan:
 
     def fits(self, client):
         """Whether the server's disk has room for it, as far as a client knows. Prints what is needed."""
-        for line in self.sizes.lines():
+        journal = sum(map(sectors, batches(self.changes(), client.most)))
+        for line in self.sizes.lines(journal):
             print(line, flush=True)
-        sectors = self.words.sectors
-        if sectors is None:
+        whole = self.words.sectors
+        if whole is None:
             return True
         used = client.area_used()
         need = self.sizes.area() + used
-        print(f"the map takes {used:,} sectors of an area, which has {area_of(sectors):,}", flush=True)
-        if need > area_of(sectors):
+        print(f"the map takes {used:,} sectors of an area, which has {area_of(whole):,}", flush=True)
+        if need > area_of(whole):
             print(f"about {need:,} would be needed: move the map to a disk of {disk_for(need):,} sectors (docs/DEPLOYING.md)")
             return self.words.anyway
-        if self.sizes.journal > sectors // 4 and not self.words.publish:
-            print(f"the journal of a disk of {sectors:,} sectors has {sectors // 4:,}: give --publish")
+        if journal > whole // 4 and not self.words.publish:
+            print(f"the journal of a disk of {whole:,} sectors has {whole // 4:,}: give --publish")
             return self.words.anyway
         return True
 
@@ -214,18 +221,13 @@ class Import:
         self.taken = self.deleted = 0
         self.refused = plan.refused
         self.began = time.monotonic()
-        self.last = None
 
     def send(self):
         """Puts the features of the plan."""
-        self.plan.spool.seek(0)
-        for row in self.plan.spool:
-            number, _, body = row.rstrip(b"\n").partition(b" ")
-            self.last = int(number)
-            refusal = self.client.edit("PUT", self.last, body)
+        for change, refusal in self.client.make(self.plan.changes()):
             if refusal:
                 self.refused += 1
-                print(f"feature {self.last} refused: {refusal}", flush=True)
+                print(f"feature {change.number} refused: {refusal}", flush=True)
             else:
                 self.taken += 1
             if (self.taken + self.refused) % 1000 == 0:
@@ -234,14 +236,15 @@ class Import:
 
     def replace(self, there, names):
         """Deletes the features of layers that the plan doesn't have. Features that were refused keep their pieces."""
-        for number in sorted(number for number, name in there.items() if name in names):
-            whole = number if self.plan.words.id is None else number % PIECE
-            if number not in self.plan.layers and whole not in self.plan.kept:
-                self.last = number
-                refusal = self.client.edit("DELETE", number)
-                if refusal:
-                    raise Stopped(f"DELETE of feature {number}: {refusal}")
-                self.deleted += 1
+        for change, refusal in self.client.make(delete(number) for number in sorted(there) if there[number] in names and not self.has(number)):
+            if refusal:
+                raise Stopped(f"DELETE of feature {change.number}: {refusal}")
+            self.deleted += 1
+
+    def has(self, number):
+        """Whether a number is that of a feature of the plan, or of a piece of one that was refused."""
+        whole = number if self.plan.words.id is None else number % PIECE
+        return number in self.plan.layers or whole in self.plan.kept
 
     def __str__(self):
         return f"{self.taken} taken, {self.refused} refused" + (f", {self.deleted} deleted" if self.deleted else "")
@@ -270,6 +273,7 @@ def asked():
     parser.add_argument("--publish", action="store_true", help="publish by steps when the journal is full")
     parser.add_argument("--sectors", type=int, metavar="N", help="the sectors of the server's disk: send nothing that can't be published")
     parser.add_argument("--anyway", action="store_true", help="with --sectors: send it anyway")
+    parser.add_argument("--no-batches", action="store_true", help="send each feature in a request of its own")
     words = parser.parse_args()
     if (words.layer is None) == (words.layer_field is None):
         parser.error("give one of --layer and --layer-field")
@@ -311,7 +315,7 @@ def main():
         print("interrupted: nothing was sent")
         return 130
     reader.notes.show()
-    client = Client(words.url, words.publish)
+    client = Client(words.url, words.publish, 1 if words.no_batches else MOST_CHANGES)
     work, there = Import(plan, client), {}
     try:
         if not plan.fits(client):
@@ -326,11 +330,11 @@ def main():
         work.send()
         work.replace(there, (words.replace, f"{words.replace}{OUTLINE}"))
     except NoAnswer as fault:
-        print(f"feature {work.last or words.first}: {fault}")
+        print(f"feature {client.last or words.first}: {fault}")
         print(f"{work}, then the server didn't answer: run the same command again")
         return 1
     except Stopped as fault:
-        print(f"stopped at feature {work.last or words.first}: {fault}")
+        print(f"stopped at feature {client.last or words.first}: {fault}")
         print(work)
         return 1
     except KeyboardInterrupt:

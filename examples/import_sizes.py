@@ -1,26 +1,15 @@
-"""What an import will need of the server's disk, for import_features.py: the journal exactly, the published archive about."""
+"""What an import will need of the server's areas, for import_features.py: the snapshot exactly, the archive about."""
 import math
 
-from world_shapes import MOST_WORK, bounds, chains, count, covered, list_count, reach
+from edits import value_bytes
+from world_shapes import MOST_WORK, bounds, chains, count, covered, reach
 
-SECTOR, PART = 512, 496
+SECTOR = 512
 MOST_ENTRIES = 131072
 # What a tile takes beside its features: the frame of a layer, and its entry in the directory.
 TILE_BYTES = 24
 # Tiles that are told apart while they are counted.
 MOST_TILES = 1000000
-
-
-def text_bytes(body, shape):
-    """The bytes of a feature in the journal and in the snapshot."""
-    found = 14 + len(body["layer"].encode()) + 2 * list_count(shape) + 8 * count(shape)
-    return found + sum(2 + len(key.encode()) + value_bytes(value) for key, value in body["tags"].items())
-
-
-def value_bytes(value):
-    if isinstance(value, bool):
-        return 0
-    return 2 + len(value.encode()) if isinstance(value, str) else 8
 
 
 def area_of(sectors):
@@ -45,15 +34,13 @@ class Sizes:
     """The sums of the features so far."""
 
     def __init__(self):
-        self.features = self.points = self.journal = self.snapshot = self.archive = 0
+        self.features = self.points = self.snapshot = self.archive = 0
         self.tiles = set()
 
-    def add(self, body, shape, zooms, is_first):
-        """Adds a feature. Of the pieces of one feature the values of tags are in a tile once: they are counted for the first."""
-        length = text_bytes(body, shape)
+    def add(self, length, body, shape, zooms, is_first):
+        """Adds a feature whose text has so many bytes. Of the pieces of one feature the values of tags are in a tile once: they are counted for the first."""
         self.features += 1
         self.points += count(shape)
-        self.journal += -(-length // PART)
         self.snapshot += length
         box, segments = bounds(shape), segments_of(shape)
         tags = sum(3 + (value_bytes(value) + 4 if is_first else 0) for value in body["tags"].values())
@@ -67,11 +54,11 @@ class Sizes:
         """The sectors of snapshot and archive."""
         return -(-self.snapshot // SECTOR) + -(-(self.archive + TILE_BYTES * len(self.tiles)) // SECTOR)
 
-    def lines(self):
-        """What a user reads of them."""
+    def lines(self, journal):
+        """What a user reads of them, and of the sectors of the journal that they need."""
         many = "over 1,000,000" if len(self.tiles) >= MOST_TILES else f"up to {len(self.tiles):,}"
         yield f"to send: {counted(self.features, 'feature')}, {counted(self.points, 'point')}"
-        yield f"needed beside what the disk has: {counted(self.journal, 'sector')} of the journal, about {self.area():,} of an area, {many} tiles"
+        yield f"needed beside what the disk has: {counted(journal, 'sector')} of the journal, about {self.area():,} of an area, {many} tiles"
         if len(self.tiles) > MOST_ENTRIES:
             yield f"warning: an archive has at most {MOST_ENTRIES:,} entries, and equal neighbours alone share one: end features at a smaller --maxzoom"
 

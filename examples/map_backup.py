@@ -15,7 +15,8 @@ The server has no list of its features, so the numbers have to be known:
                                   tile shows (for instance polygons too small to have an area at their greatest zoom) are missed
 
 Features that are edited while `save` runs are saved as they are when it reads them: the file isn't of one moment. `load` with --publish
-frees the journal by a publication whenever it is full. Both end with 1 if a request is refused. Needs no package.
+frees the journal by a publication whenever it is full; it puts up to 64 features in a request, and with --no-batches one. Both end with 1 if
+a request is refused. Needs no package, and edits.py beside it.
 """
 import argparse
 import http.client
@@ -25,6 +26,8 @@ import struct
 import sys
 import urllib.parse
 
+from edits import MOST_CHANGES, Editor, put
+
 WORLD = 2 ** 32
 
 
@@ -32,11 +35,11 @@ class Refused(Exception):
     """A reply with an unexpected status, or none."""
 
 
-class Server:
+class Server(Editor):
     """A running server: one connection, opened again if the server closed it between two requests."""
 
-    def __init__(self, url):
-        self.url = urllib.parse.urlsplit(url)
+    def __init__(self, url, publishes=False, most=MOST_CHANGES):
+        self.url, self.publishes, self.most = urllib.parse.urlsplit(url), publishes, most
         self.connection = None
 
     def ask(self, method, path, body=None):
@@ -46,7 +49,7 @@ class Server:
                 kind = http.client.HTTPSConnection if self.url.scheme == "https" else http.client.HTTPConnection
                 self.connection = kind(self.url.netloc, timeout=600)
             try:
-                self.connection.request(method, self.url.path.rstrip("/") + path, body)
+                self.connection.request(method, self.url.path.rstrip("/") + path, body, {"Content-Type": "application/json"} if body else {})
                 reply = self.connection.getresponse()
                 return reply.status, reply.read()
             except (OSError, http.client.HTTPException) as fault:
@@ -56,12 +59,27 @@ class Server:
                     raise Refused(f"{method} {path}: no reply: {fault}") from fault
         return None
 
-    def content_of(self, method, path, body=None):
+    def content_of(self, method, path):
         """The content of a reply 200."""
-        status, content = self.ask(method, path, body)
+        status, content = self.ask(method, path)
         if status != 200:
             raise Refused(f"{method} {path}: {status} {content.decode('utf-8', 'replace').strip()}")
         return content
+
+    def publish(self):
+        """Publishes by steps."""
+        content = self.content_of("POST", "/publish/begin")
+        while json.loads(content)["left"] > 0:
+            content = self.content_of("POST", "/publish/step")
+
+    def edit(self, change):
+        """Puts one feature. Returns the refusal, or an empty text."""
+        status, content = self.send("PUT", f"/features/{change.number}", change.body)
+        return "" if status == 200 else f"PUT /features/{change.number}: {status} {content.decode('utf-8', 'replace').strip()}"
+
+    def stop_at(self, status, content):
+        """Stops at the refusal of a batch."""
+        raise Refused(f"POST /edits: {status} {content.decode('utf-8', 'replace').strip()}")
 
 
 def degrees(point):
@@ -161,13 +179,6 @@ def numbers_in(archive):
     return sorted(found)
 
 
-def publish(server):
-    """Publishes by steps."""
-    content = server.content_of("POST", "/publish/begin")
-    while json.loads(content)["left"] > 0:
-        content = server.content_of("POST", "/publish/step")
-
-
 def ranges(text):
     """The numbers of `1-3000,5000`."""
     for part in text.split(","):
@@ -178,7 +189,7 @@ def ranges(text):
 def save(words, server):
     """Saves features in the file."""
     if words.archive:
-        publish(server)
+        server.publish()
         status, archive = server.ask("GET", "/map.pmtiles")
         numbers = numbers_in(archive if status == 200 else b"")
     else:
@@ -204,14 +215,9 @@ def load(words, server):
     """Puts the features of the file back."""
     with open(words.file, encoding="utf-8") as file:
         rows = json.load(file)["features"]
-    for row in rows:
-        path, body = f"/features/{row['id']}", json.dumps(feature_of(row), ensure_ascii=False, separators=(",", ":")).encode()
-        status, content = server.ask("PUT", path, body)
-        if status == 507 and content.startswith(b"JournalFull") and words.publish:
-            publish(server)
-            status, content = server.ask("PUT", path, body)
-        if status != 200:
-            raise Refused(f"PUT {path}: {status} {content.decode('utf-8', 'replace').strip()}")
+    for _, refusal in server.make(put(row["id"], feature_of(row)) for row in rows):
+        if refusal:
+            raise Refused(refusal)
     print(f"{len(rows)} features put")
 
 
@@ -223,11 +229,13 @@ def main():
     parser.add_argument("--numbers", help="save: the numbers to ask for, as in 1-3000,5000")
     parser.add_argument("--archive", action="store_true", help="save: publish, and take the numbers from the archive")
     parser.add_argument("--publish", action="store_true", help="load: publish by steps when the journal is full")
+    parser.add_argument("--no-batches", action="store_true", help="load: put each feature in a request of its own")
     words = parser.parse_args()
     if words.task == "save" and words.archive == (words.numbers is not None):
         parser.error("save takes one of --numbers and --archive")
     try:
-        (save if words.task == "save" else load)(words, Server(words.url))
+        server = Server(words.url, words.publish, 1 if words.no_batches else MOST_CHANGES)
+        (save if words.task == "save" else load)(words, server)
     except Refused as fault:
         sys.exit(str(fault))
 

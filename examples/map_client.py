@@ -1,8 +1,9 @@
-"""A client of a running vtserve, for import_features.py: puts and deletes features, publishes by steps, reads the published archive."""
+"""A client of a running vtserve, for import_features.py and delete_layer.py: edits, publications by steps, the published archive."""
 import http.client
 import json
 import urllib.parse
 
+from edits import MOST_CHANGES, Editor
 from map_backup import contents, fields
 
 WHY = {
@@ -23,7 +24,7 @@ FINAL = {
     "JournalFull": "publish, and run the same command again, or give it --publish",
     "AreaFull": "the map no longer fits on its disk: move it to a larger one (docs/DEPLOYING.md), or end features at a smaller zoom",
     "TooManyTiles": "the map has too many tiles for an archive: end features at a smaller zoom",
-    "Device": "the server's disk failed: the last feature may be stored or not. Restart the server when the disk is repaired",
+    "Device": "the server's disk failed: the last edit may be stored or not. Restart the server when the disk is repaired",
     "Broken": "the server's disk has failed before: restart the server when the disk is repaired",
     "NumbersSpent": "the server can take no further edit",
 }
@@ -46,11 +47,11 @@ class Stopped(Exception):
     """Why no further request makes sense."""
 
 
-class Client:
+class Client(Editor):
     """The server at a URL. Each request has a connection of its own: the server has others to serve."""
 
-    def __init__(self, url, publishes):
-        self.url, self.publishes = urllib.parse.urlsplit(url), publishes
+    def __init__(self, url, publishes, most=MOST_CHANGES):
+        self.url, self.publishes, self.most = urllib.parse.urlsplit(url), publishes, most
         self.length = None
 
     def ask(self, method, path, body=b""):
@@ -58,7 +59,8 @@ class Client:
         kind = http.client.HTTPSConnection if self.url.scheme == "https" else http.client.HTTPConnection
         connection = kind(self.url.netloc, timeout=600)
         try:
-            connection.request(method, self.url.path.rstrip("/") + path, body, {"Connection": "close"})
+            kind_of_body = {"Content-Type": "application/json"} if body else {}
+            connection.request(method, self.url.path.rstrip("/") + path, body, {"Connection": "close", **kind_of_body})
             reply = connection.getresponse()
             self.length = reply.getheader("content-length")
             return reply.status, reply.read()
@@ -81,13 +83,10 @@ class Client:
         while left > 0:
             left = self.post("/publish/step")
 
-    def edit(self, method, number, body=b""):
-        """Makes one edit. Returns the refusal, or an empty text."""
-        status, content = self.ask(method, f"/features/{number}", body)
-        if status == 507 and content.startswith(b"JournalFull") and self.publishes:
-            print("        the journal is full: a publication", flush=True)
-            self.publish()
-            status, content = self.ask(method, f"/features/{number}", body)
+    def edit(self, change):
+        """Makes one change alone. Returns the refusal, or an empty text."""
+        method, body = ("DELETE", b"") if change.body is None else ("PUT", change.body)
+        status, content = self.send(method, f"/features/{change.number}", body)
         if status == 200 or (method == "DELETE" and status == 404 and word(content) == "NotFound"):
             return ""
         self.stop_at(status, content)

@@ -412,7 +412,7 @@ class Refuses(http.server.BaseHTTPRequestHandler):
         self.reply(507, b"JournalFull need 1 free 0\n")
 
     def do_POST(self):
-        self.reply(507, b"TooManyTiles\n")
+        self.reply(507, b"JournalFull need 1 free 0\n" if self.path == "/edits" else b"TooManyTiles\n")
 
     def log_message(self, *_):
         pass
@@ -427,7 +427,7 @@ def too_many(cases, folder):
         status, lines = imported(path, f"http://127.0.0.1:{server.server_port}", "--layer", "p", "--publish")
         server.shutdown()
         stopped = lines[-2].startswith("stopped at feature 1: TooManyTiles (")
-        cases.show("import: --publish stops at TooManyTiles", (status, stopped, server.asked), (1, True, ["PUT /features/1", "POST /publish/begin"]))
+        cases.show("import: --publish stops at TooManyTiles", (status, stopped, server.asked), (1, True, ["POST /edits", "POST /publish/begin"]))
 
 
 def interrupted(cases, folder):
@@ -439,7 +439,7 @@ def interrupted(cases, folder):
     with Server(folder, "whole_import", 16384) as whole, Server(folder, "cut_import", 16384) as server:
         status, lines = imported(path, whole.url, *words)
         total = int(lines[-1].split()[0])
-        child = subprocess.Popen([*TOOL, path, "--url", server.url, *words], stdout=subprocess.PIPE, text=True)
+        child = subprocess.Popen([*TOOL, path, "--url", server.url, *words, "--no-batches"], stdout=subprocess.PIPE, text=True)
         while shown(server, 20) is None and child.poll() is None:
             time.sleep(0.01)
         child.send_signal(signal.SIGINT)

@@ -22,6 +22,7 @@ import sys
 import tempfile
 import time
 
+from batches import batches
 from imports import disk_full, imports, kills, large
 from stand import BYTES, EXAMPLES, HALF, JSON, METADATA, MVT, PROGRAM, ROOT, SHOWN, SYSTEM_PYTHON, TEXT, TILE
 from stand import Cases, Nginx, Server, curl, feature, field, parsed, refusal, same, status_of, wanted
@@ -396,12 +397,12 @@ def gdal(cases, folder):
 
 
 def import_to_a_full_journal(cases, folder, tool):
-    """Forty points for a journal of 16 sectors, and a server that isn't there."""
+    """Forty points for a journal of 16 sectors, one by one; and a server that isn't there."""
     path = os.path.join(folder, "forty.geojson")
     points = [{"type": "Feature", "properties": {}, "geometry": {"type": "Point", "coordinates": [at, at]}} for at in range(40)]
     with open(path, "w", encoding="utf-8") as file:
         json.dump({"type": "FeatureCollection", "features": points}, file)
-    words = [*tool, path, "--layer", "p", "--maxzoom", "2"]
+    words = [*tool, path, "--layer", "p", "--maxzoom", "2", "--no-batches"]
     with Server(folder, "narrow", 64) as server:
         told = subprocess.run([*words, "--url", server.url], capture_output=True, text=True)
         lines = [line for line in told.stdout.splitlines() if said(line)]
@@ -572,6 +573,7 @@ def main():
         "gdal": gdal,
         "large": large,
         "import": imports,
+        "batches": batches,
         "steps": steps,
         "disk-full": disk_full,
         "kills": kills,

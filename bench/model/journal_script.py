@@ -278,8 +278,7 @@ def formats():
 
 
 def old_disk(first=FORMAT_64):
-    """A disk of 64 sectors, of version 1 if `first` isn't given, with roots of generations 4 and 5, and with sevens at both ends of the journal and
-    in an area."""
+    """A disk of 64 sectors, of version 1 unless given, with roots of generations 4 and 5, and with sevens at both ends of the journal and in an area."""
     yield from three(first, root_words(4, 0, 0, 0, 0), root_words(5, 0, 0, 0, 0))
     yield from ["write 3 = 07*512", "write 18 = 07*512", "write 19 = 07*512", "sync"]
 
@@ -381,8 +380,8 @@ def reads_that_fail():
 def upgrades():
     yield from heading("A disk of version 1 is upgraded: only sector 0 changes. A disk of version 2 is synced and read, and isn't written.")
     yield from [*old_disk(), "root", "upgrade", "sector 0", "sectors", "root", "upgrade", "root", "stop", "crash", "root"]
-    yield from [*old_disk(LAST_FORMAT_64), "upgrade", "sector 0", "root", "disk 64", "format", "upgrade", "root"]
-    yield from ["disk 64", "format_version 1", "upgrade", "root"]
+    yield from [*old_disk(LAST_FORMAT_64), "upgrade", "sector 0", "root"]
+    yield from ["disk 64", "format", "upgrade", "root", "disk 64", "format_version 1", "upgrade", "root"]
     yield from heading("The disk has more sectors than its format says: the number of sectors stays.")
     yield from [*three(FORMAT_64, root_words(0, 0, 0, 0, 0), None, 70), "upgrade", "sector 0", "root"]
     yield from heading("Faults of sector 0 are reported, and nothing is written. The roots aren't read, so one that is damaged is no fault here.")

@@ -8,7 +8,8 @@ use Rattle.std.specs.Str.{bytes_eq}
 use Rattle.sector_disk.specs.Disk.{Image}
 use Rattle.generations.specs.Areas.{IsSize, journal_sectors, area_sectors, sectors_of}
 use Rattle.generations.specs.Disks.{HasNoMark, HasRoot, IsSound, LiveRoot, IsFaultOf, IsFresh, first_root}
-use Rattle.generations.specs.Sectors.{disk_mark, IsVersion, version_from, format_sector, root_sector, root_from, number_from, zeros, HasMark, AreNumbers, CanStand}
+use Rattle.generations.specs.Sectors.{disk_mark, IsVersion, version_from, format_sector, zeros, HasMark}
+use Rattle.generations.specs.Sectors.{root_sector, root_from, number_from, AreNumbers, CanStand}
 use Rattle.generations.specs.Sectors.{IsFormat, IsRootOf, IsRootSector, IsNoRoot, IsBad, IsSlot, IsNewest}
 use Rattle.generations.specs.declared.sizes.TheConstants.{LEAST_SECTORS, MOST_SECTORS, LAST_VERSION}
 use Rattle.generations.specs.declared.root.Root.{Root}

@@ -214,5 +214,6 @@ module _ (version n : ℕ) (start : History) where
                 }
 
                 -- what a crash may leave at any moment, and what it leaves once the format stands
-                pub fourth : LeavesOnly start four Formats × (four ≡ synced (wrote 0 format three) → (image : Image) → MayLeave four image → IsFresh version n image)
+                pub fourth : LeavesOnly start four Formats
+                    × (four ≡ synced (wrote 0 format three) → (image : Image) → MayLeave four image → IsFresh version n image)
                 fourth = (fourth_leaves, all_fresh)

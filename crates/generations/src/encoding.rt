@@ -1,7 +1,8 @@
 //! The sector of the format and the sector of a root, as bytes.
 ghost use Rattle.std.specs.Prelude.{◌≡◌, ◌+◌, ◌^◌, ◌<◌, ◌≤◌, ◌↔◌, ◌++◌, Some, ℕ, take, drop, IsTrue};
 ghost use Rattle.std.specs.Int.{w64, to_le_bytes};
-ghost use Rattle.generations.specs.Sectors.{IsVersion, IsFormatSector, version_from, format_sector, root_sector, root_from, number_from, AreNumbers, IsRootSector};
+ghost use Rattle.generations.specs.Sectors.{IsVersion, IsFormatSector, version_from, format_sector};
+ghost use Rattle.generations.specs.Sectors.{root_sector, root_from, number_from, AreNumbers, IsRootSector};
 
 use crate::root::Root;
 use crate::sizes::{FIRST_VERSION, LAST_VERSION};

@@ -15,13 +15,15 @@ pub returns-in-Ok-clause-any_moment : goal.returns-in-Ok-clause-any_moment
 returns-in-Ok-clause-any_moment g c honest =
     let same : c.in-Some.layout.sectors ≡ g.D.Sectors.sectors c.args.disk.now = c.in-Some.ensures.size ∙ c.count-sectors.ensures in
     subst (λ (n : ℕ). LeavesOnly (g.D.Sectors.history c.args.disk.now) (g.D.Sectors.history c.write_parts.new.disk)
-    (λ image. MayLeave (g.D.Sectors.history c.args.disk.now) image ⊎ HasNoMark image ⊎ IsFresh c.args.version n image)) same (c.write_parts.ensures.any_moment honest)
+    (λ image. MayLeave (g.D.Sectors.history c.args.disk.now) image ⊎ HasNoMark image ⊎ IsFresh c.args.version n image)) same
+    (c.write_parts.ensures.any_moment honest)
 
 pub returns-in-Err-clause-any_moment : goal.returns-in-Err-clause-any_moment
 returns-in-Err-clause-any_moment g c honest =
     let same : c.in-Some.layout.sectors ≡ g.D.Sectors.sectors c.args.disk.now = c.in-Some.ensures.size ∙ c.count-sectors.ensures in
     subst (λ (n : ℕ). LeavesOnly (g.D.Sectors.history c.args.disk.now) (g.D.Sectors.history c.write_parts.new.disk)
-    (λ image. MayLeave (g.D.Sectors.history c.args.disk.now) image ⊎ HasNoMark image ⊎ IsFresh c.args.version n image)) same (c.write_parts.ensures.any_moment honest)
+    (λ image. MayLeave (g.D.Sectors.history c.args.disk.now) image ⊎ HasNoMark image ⊎ IsFresh c.args.version n image)) same
+    (c.write_parts.ensures.any_moment honest)
 
 pub returns-in-Ok-clause-seen : goal.returns-in-Ok-clause-seen
 returns-in-Ok-clause-seen g c honest =

@@ -1,11 +1,9 @@
 use Rattle.std.proofs.Common.{◌≡◌, inl, inr, ⊎_elim, ℕ, sym, subst, ◌∙◌}
 use Rattle.sector_disk.specs.Disk.{History, seen}
 use Rattle.sector_disk.specs.Disk.History.{synced}
-use Rattle.sector_disk.specs.Moments.{LeavesOnly}
 use Rattle.sector_disk.proofs.History.{any_sync}
 use Rattle.generations.specs.Disks.{IsFaultOf}
 use Rattle.generations.specs.Sectors.{IsFormat, version_from}
-use Rattle.generations.specs.Upgrades.{Upgrades}
 use Rattle.generations.proofs.Upgrades.{sync_upgrades, upgraded_already, write_upgrades, upgraded_now}
 use Rattle.generations.proofs.upgrading.upgrade.Goals as goal
 
@@ -24,15 +22,11 @@ returns-in-Err-read_layout-clause-fault g c = λ honest.
 
 pub returns-in-Err-read_layout-clause-any_moment : goal.returns-in-Err-read_layout-clause-any_moment
 returns-in-Err-read_layout-clause-any_moment g c = λ honest.
-    let mid = c.in-Ok.ensures.syncs (c.read_layout.ensures.honest honest) in
-    subst (λ (h : History). LeavesOnly (g.D.Sectors.history c.args.disk.now) h (Upgrades (g.D.Sectors.sectors c.args.disk.now) (g.D.Sectors.history c.args.disk.now)))
-    (sym (c.read_layout.ensures.history honest)) (sync_upgrades _ _ _ (inr mid))
+    sync_upgrades _ _ _ (inr (c.read_layout.ensures.history honest ∙ c.in-Ok.ensures.syncs (c.read_layout.ensures.honest honest)))
 
 pub returns-then-version-eq-LAST_VERSION-clause-any_moment : goal.returns-then-version-eq-LAST_VERSION-clause-any_moment
 returns-then-version-eq-LAST_VERSION-clause-any_moment g c = λ honest.
-    let mid = c.in-Ok.ensures.syncs (c.read_layout.ensures.honest honest) in
-    subst (λ (h : History). LeavesOnly (g.D.Sectors.history c.args.disk.now) h (Upgrades (g.D.Sectors.sectors c.args.disk.now) (g.D.Sectors.history c.args.disk.now)))
-    (sym (c.read_layout.ensures.history honest)) (sync_upgrades _ _ _ (inr mid))
+    sync_upgrades _ _ _ (inr (c.read_layout.ensures.history honest ∙ c.in-Ok.ensures.syncs (c.read_layout.ensures.honest honest)))
 
 -- what was read of the disk of before
 format_read : (old mid : History) (count there n : ℕ) → there ≡ count → mid ≡ synced old → IsFormat there (seen mid 0) n → IsFormat count (seen old 0) n
