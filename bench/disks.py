@@ -17,7 +17,7 @@ import tempfile
 from collections import Counter
 from pathlib import Path
 
-from commands import Cases, vtserve
+from commands import Cases, refusal, vtserve
 
 sys.path.append(str(Path(__file__).resolve().parent / "model"))
 import disk as model
@@ -383,6 +383,12 @@ def upgrades(cases, folder):
         disk = model.read_disk(upgraded)
         machine = Machine(model.map_of(disk), before + len(edits), disk.layout.places - disk.used)
         serve(cases, f"[upgraded] {name}", path, machine, [[Change(900, LATER), Change(901, POINT)], Change(2, None), [Change(901, None)]])
+    faults = [("zeros", bytes(64 * model.SECTOR), b"NotFormatted"), ("no bytes", b"", b"NotFormatted"), ("version 3", changed(whole(), [(8, 1)]), b"Damaged")]
+    for name, held, fault in [*faults, ("a sector less than it says", whole()[: -model.SECTOR], b"Damaged")]:
+        written_to(path, held)
+        rows = [("upgrade", vtserve(["upgrade", path]), refusal(fault)), ("bytes", Path(path).read_bytes(), held)]
+        cases.show(f"[upgraded] {name}", different(rows), [])
+    cases.show("[upgraded] no file", different([("upgrade", vtserve(["upgrade", os.path.join(folder, "none")]), refusal(b"File"))]), [])
 
 
 # ---- broken disks

@@ -35,17 +35,17 @@ TILES, ARCHIVES = fuzz.all_tiles(), fuzz.all_archives()
 STREAMS = [held for held in fuzz.Corpus().streams if len(held) < LONGEST]
 READ = [("tile", TILES), ("tile", TILES), ("change", CHANGES), ("edit", EDITS), ("directory", DIRECTORIES), ("metadata", TEXTS), ("verify", ARCHIVES),
         ("contents 0,3,12,20", ARCHIVES)]
-MAP = [("json", TEXTS), ("restore", SNAPSHOTS), ("make", EDITS)]
+MAP = [("json", TEXTS), ("restore", SNAPSHOTS), ("make", EDITS), ("changes", fuzz.EDITS), ("record 1", CHANGES), ("record 2", EDITS)]
 
 
 def line(chance, rows):
     """A line about damaged bytes."""
     word, sources = chance.choice(rows)
     held = fuzz.damaged(chance, chance.choice(sources), sources, TIMES)[:LONGEST]
-    if word != "json":
+    if word not in ("json", "changes"):
         return f"{word} {held.hex() or '-'}" if rows is READ else f"{word} {held.hex()}"
     # A line is text, and an angle bracket in it begins a text that is repeated.
-    return "json " + "".join(mark for mark in held.decode("utf-8", "replace") if mark not in "\r\n<>")
+    return f"{word} " + "".join(mark for mark in held.decode("utf-8", "replace") if mark not in "\r\n<>")
 
 
 def differences(program, asked, wanted):

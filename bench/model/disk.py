@@ -354,7 +354,11 @@ def text_at(held, layout, place, left, number, version):
 
 
 def records_of(held, layout, root, most):
-    """The records of the journal, each its version and its text, and how many places they take. Versions up to `most` are expected."""
+    """The records of the journal, each its version and its text, and how many places they take. Versions up to `most` are expected.
+
+    They end before the first place that isn't the next head, so also before a head of a later number, or of a version above `most`. No writer
+    leaves such heads. Opening doesn't look for them: it succeeds, and the next edit replaces what is at that place.
+    """
     records = []
     used = 0
     while used < layout.places and root.edits + len(records) < LAST_NUMBER:
