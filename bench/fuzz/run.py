@@ -3,11 +3,12 @@
 
     python3 bench/fuzz/run.py [--program PROGRAM] [--seed N] [--seconds N] [--only TARGET]
 
-PROGRAM is crates/vtserve/out/vtserve, which `rt run` leaves there. The targets are `verify`, `show`, `demo` and `pipe`; they take turns.
+PROGRAM is crates/vtserve/out/vtserve, which `rt run` leaves there. The targets are `verify`, `show`, `demo`, `pipe` and `upgrade`; they take turns.
 A case is made from the seed and its number alone, so that `--seed S --case N` makes it again. Each process has 10 seconds and 1 GB of
 addresses. It must end with a status and an output that docs/COMMANDS.md and docs/HTTP.md know, and where the models beside this folder
-read the same bytes, with exactly their answer: the line of `verify`, the lines of `show`, the replies of `demo`, and those of `pipe` on a
-disk without an archive or the word for which it isn't opened. A case that does otherwise is printed and its input is kept in `found/`;
+read the same bytes, with exactly their answer: the line of `verify`, the lines of `show`, the replies of `demo`, those of `pipe` on a
+disk of either version without an archive or the word for which it isn't opened, and the answer of `upgrade`. `pipe` and `upgrade` must also leave the
+bytes of the disk that the models leave, and what isn't opened as it was. A case that does otherwise is printed and its input is kept in `found/`;
 the script ends with 1 then. At the end it prints how many cases of each target gave which kind of answer.
 """
 import argparse
@@ -32,14 +33,16 @@ import read_hostile
 import read_script
 import reply_hostile
 from archives import Maker
-from calls import format_disk
+from calls import format_disk, upgrade
 from crashes import Memory
+from disk import Change
 from machine import Service
+from odd_edits import odd_edit
 from reply_random import random_feature, random_request
 from reply_stand import request
 from wire import varint
 
-TARGETS = ["verify", "show", "demo", "pipe"]
+TARGETS = ["verify", "show", "demo", "pipe", "upgrade"]
 SECONDS, ADDRESSES = 10, 2**30
 SECTORS = 128
 KNOWN_LINE = re.compile(
@@ -129,11 +132,13 @@ OTHERS = [held for held in reply_hostile.of_other_protocols() if not isinstance(
 
 
 def one_request(chance):
-    kind = chance.randrange(12)
+    kind = chance.randrange(14)
     if kind == 0:
         return request("PUT", f"/features/{chance.randrange(4)}", chance.choice(BODIES))
     if kind == 1:
         return chance.choice(OTHERS)
+    if kind < 4:
+        return odd_edit(chance)
     return random_request(chance)
 
 
@@ -144,19 +149,42 @@ class Corpus:
         self.archives, self.tiles = all_archives(), all_tiles()
         chance = random.Random(7)
         self.streams = [stream(chance) for _ in range(60)] + OTHERS + BODIES[:20]
-        self.disks = [disk_after(chance, rounds) for rounds in (0, 1, 1, 2, 3, 4)]
+        self.disks = [disk_after(chance, rounds, version) for version in disks.VERSIONS for rounds in (0, 1, 1, 2, 3, 4)]
+        self.disks += [upgraded(chance, rounds) for rounds in (1, 2, 3)]
 
 
-def disk_after(chance, rounds):
-    """The bytes of a disk after some edits, with publications between them."""
-    memory = Memory(SECTORS)
-    format_disk(memory)
-    service = Service(memory)
+def some_edit(chance, service):
+    """An edit; on a disk of version 2 half of them have several changes."""
+    if service.version == disks.FIRST_VERSION or chance.randrange(2):
+        service.put(chance.randrange(6), random_feature(chance))
+    else:
+        service.batch([Change(number, random_feature(chance)) for number in chance.sample(range(6), chance.randrange(1, 4))])
+
+
+def some_edits(chance, service, rounds):
+    """Rounds of edits, with publications between them."""
     for turn in range(rounds):
         for _ in range(chance.randrange(1, 5)):
-            service.put(chance.randrange(6), random_feature(chance))
+            some_edit(chance, service)
         if turn % 2 == 0 and rounds > 1:
             service.publish()
+
+
+def disk_after(chance, rounds, version):
+    """The bytes of a disk of a version after some edits."""
+    memory = Memory(SECTORS)
+    format_disk(memory, version)
+    some_edits(chance, Service(memory), rounds)
+    return bytes_of(memory)
+
+
+def upgraded(chance, rounds):
+    """The bytes of a disk with records of both versions: edits, the upgrade, and edits."""
+    memory = Memory(SECTORS)
+    format_disk(memory, disks.FIRST_VERSION)
+    some_edits(chance, Service(memory), 1)
+    upgrade(memory)
+    some_edits(chance, Service(memory), rounds)
     return bytes_of(memory)
 
 
@@ -167,7 +195,8 @@ def bytes_of(memory):
 # ---- cases
 
 
-Case = collections.namedtuple("Case", "words file stream wanted kind")
+# What is run, and what it must answer and leave of its file, where the models say that.
+Case = collections.namedtuple("Case", "words file stream wanted left")
 
 
 def archive_case(chance, corpus):
@@ -195,17 +224,40 @@ def replies_of(memory, asked):
     return 0, connections.outcome(Service(memory), asked, 4096).written, b""
 
 
+def memory_of(held):
+    """The whole sectors of bytes."""
+    return Memory(len(held) // 512, {at: held[512 * at : 512 * at + 512] for at in range(len(held) // 512)})
+
+
+def left_of(memory, held):
+    """The bytes of a file whose sectors are these now."""
+    return bytes_of(memory) + held[512 * memory.count :]
+
+
+def refusal_of(fault):
+    return 1, b"", f"vtserve: {str(fault).partition('(')[0]}\n".encode()
+
+
 def wanted_of_pipe(held, asked):
-    """The answer on a disk, or None where the model doesn't follow what the archive's bytes lead to."""
+    """The answer on a disk and the bytes that it has then. The answer is None where the model doesn't follow what the archive's bytes lead to."""
     try:
         root = disks.read_disk(held).root
     except disks.Fault as fault:
-        word = str(fault).partition("(")[0]
-        return 1, b"", f"vtserve: {word}\n".encode()
+        return refusal_of(fault), held
     if root.archive_len:
-        return None
-    memory = Memory(len(held) // 512, {at: held[512 * at : 512 * at + 512] for at in range(len(held) // 512)})
-    return replies_of(memory, asked)
+        return None, None
+    memory = memory_of(held)
+    return replies_of(memory, asked), left_of(memory, held)
+
+
+def wanted_of_upgrade(held):
+    """The answer to an upgrade of a disk, and the bytes that it has then."""
+    memory = memory_of(held)
+    try:
+        upgrade(memory)
+    except disks.Fault as fault:
+        return refusal_of(fault), held
+    return (0, b"version 2\n", b""), left_of(memory, held)
 
 
 def case_of(target, seed, number, corpus):
@@ -214,31 +266,32 @@ def case_of(target, seed, number, corpus):
     if target in ("verify", "show"):
         held = archive_case(chance, corpus)
         wanted = wanted_of_verify(held) if target == "verify" else wanted_of_show(held)
-        return Case([target], held, b"", wanted, "archive")
+        return Case([target], held, b"", wanted, held)
     asked = damaged(chance, chance.choice([stream(chance), chance.choice(corpus.streams)]), corpus.streams, (0, 0, 1, 1, 1, 2, 4))
     if target == "demo":
         memory = Memory(SECTORS)
         format_disk(memory)
-        return Case(["demo", str(SECTORS)], None, asked, replies_of(memory, asked), "stream")
+        return Case(["demo", str(SECTORS)], None, asked, replies_of(memory, asked), None)
     held = damaged(chance, chance.choice(corpus.disks), corpus.disks, (0, 0, 1, 1, 1, 2, 4))
-    return Case(["pipe"], held, asked, wanted_of_pipe(held, asked), "disk")
+    if target == "upgrade":
+        return Case(["upgrade"], held, b"", *wanted_of_upgrade(held))
+    return Case(["pipe"], held, asked, *wanted_of_pipe(held, asked))
 
 
 # ---- runs
 
 
 def run(program, case, folder):
-    """The status, standard output and standard error of one process, or why it has none."""
-    words = [program, *case.words]
+    """The status, standard output and standard error of one process, or why it has none; and the bytes that it left of its file."""
+    words, path = [program, *case.words], pathlib.Path(folder) / "file"
     if case.file is not None:
-        path = pathlib.Path(folder) / "file"
         path.write_bytes(case.file)
         words.append(str(path))
     try:
         done = subprocess.run(words, input=case.stream, capture_output=True, timeout=SECONDS)
     except subprocess.TimeoutExpired:
-        return "no end after %d seconds" % SECONDS
-    return done.returncode, done.stdout, done.stderr
+        return "no end after %d seconds" % SECONDS, None
+    return (done.returncode, done.stdout, done.stderr), None if case.file is None else path.read_bytes()
 
 
 def are_replies(written):
@@ -264,13 +317,13 @@ def is_known(target, outcome):
         return status == 0 and told == b"" or status == 1 and written == b"" and told in (b"vtserve: Short\n", b"vtserve: Magic\n", b"vtserve: Version\n")
     if status == 1:
         return written == b"" and told in (b"vtserve: NotFormatted\n", b"vtserve: Damaged\n", b"vtserve: File\n")
-    return status == 0 and told == b"" and are_replies(written)
+    return status == 0 and told == b"" and (written == b"version 2\n" if target == "upgrade" else are_replies(written))
 
 
 def kind_of(target, outcome):
     """A word for an outcome, by which it is counted."""
     status, written, told = outcome
-    if status or target == "show":
+    if status or target in ("show", "upgrade"):
         return (told or written).decode().strip().partition(":")[0] + f" {status}"
     if target == "verify":
         return "ok"
@@ -278,8 +331,8 @@ def kind_of(target, outcome):
     return codes[-1].decode() if codes else "no reply"
 
 
-def fault_of(target, case, outcome):
-    """What is wrong with an outcome, or None."""
+def fault_of(target, case, outcome, left):
+    """What is wrong with an outcome and with what it left of the file, or None."""
     if isinstance(outcome, str):
         return outcome
     if outcome[0] < 0:
@@ -288,6 +341,8 @@ def fault_of(target, case, outcome):
         return "an answer of no known form"
     if case.wanted is not None and outcome != case.wanted:
         return "another answer than the models'"
+    if case.left is not None and left != case.left:
+        return "another file than the models'"
     return None
 
 
@@ -306,8 +361,8 @@ def short(outcome):
 def try_case(options, target, number, corpus, folder, counts):
     """Whether a case is answered as it must be."""
     case = case_of(target, options.seed, number, corpus)
-    outcome = run(options.program, case, folder)
-    fault = fault_of(target, case, outcome)
+    outcome, left = run(options.program, case, folder)
+    fault = fault_of(target, case, outcome, left)
     counts[target, kind_of(target, outcome) if fault is None else fault] += 1
     counts[target, "compared with the models"] += case.wanted is not None
     if fault:
