@@ -3,16 +3,17 @@
 
     python3 bench/stops.py PROGRAM FIRST LAST       PROGRAM is crates/service_runs/out/service_runs, which `rt run` leaves there
 
-For each seed from FIRST to LAST there are 60 runs on a disk of 4,096 sectors with 300 features, and 240 on disks of 80 to 379 sectors. The model
-writes the lines and their answers; the lines of large disks also check the model, that a crash leaves the acknowledged edits. It prints a line for
-each seed, and ends with 1 at the first answer that differs.
+For each seed from FIRST to LAST there are 60 runs on a disk of 4,096 sectors with 300 features, 240 on disks of 80 to 379 sectors, and 200 with
+batches on such disks of both versions, with upgrades between them. The model writes the lines and their answers; they also check the model, that a
+crash leaves the acknowledged edits and all changes of the next one or none. It prints a line for each seed, and ends with 1 at the first answer that
+differs.
 """
 import subprocess
 import sys
 from pathlib import Path
 
 sys.path.append(str(Path(__file__).resolve().parent / "model"))
-from service_random import large_disk, random_runs
+from service_random import batch_turn, large_disk, random_runs
 from service_stand import Trial
 
 
@@ -28,14 +29,14 @@ def difference(program, lines):
 
 def main(program, first, last):
     for seed in range(int(first), int(last) + 1):
-        lines = [*large_disk(seed, 60), *random_runs(seed, 240)]
+        lines = [*large_disk(seed, 60), *random_runs(seed, 240), *random_runs(seed + 10**6, 200, batch_turn)]
         found = difference(program, lines)
         if found:
             print(f"seed {seed}: differs", *found, sep="\n    ")
             return 1
-        stops = sum(line.startswith("crash") for line in lines)
-        steps = sum(line.count("step") for line in lines)
-        print(f"seed {seed}: {stops} runs, {len(lines)} lines, {steps} steps of publications: the same", flush=True)
+        stops, upgrades = (sum(line.startswith(word) for line in lines) for word in ("crash", "upgrade"))
+        steps, batches = (sum(line.count(word) for line in lines) for word in ("step", "batch"))
+        print(f"seed {seed}: {stops} runs, {len(lines)} lines, {steps} steps of publications, {batches} batches, {upgrades} upgrades: the same", flush=True)
     return 0
 
 
