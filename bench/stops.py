@@ -33,9 +33,9 @@ def main(program, first, last):
         if found:
             print(f"seed {seed}: differs", *found, sep="\n    ")
             return 1
-        stops = sum(line.startswith("crash") for line in lines)
-        steps = sum(line.count("step") for line in lines)
-        print(f"seed {seed}: {stops} runs, {len(lines)} lines, {steps} steps of publications: the same", flush=True)
+        stops, upgrades = (sum(line.startswith(word) for line in lines) for word in ("crash", "upgrade"))
+        steps, batches = (sum(line.count(word) for line in lines) for word in ("step", "batch"))
+        print(f"seed {seed}: {stops} runs, {len(lines)} lines, {steps} steps of publications, {batches} batches, {upgrades} upgrades: the same", flush=True)
     return 0
 
 

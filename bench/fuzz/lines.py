@@ -5,8 +5,8 @@
 
 READ_RUNS, MAP_RUNS and REPLY_RUNS are the programs of these crates, which `rt run` leaves in their `out/`. One process answers 1,500
 lines, so some thousand lines a second are compared: tiles, texts of changes and edits, directories, metadata, archives and their
-contents, features as JSON, snapshots, and connections in pieces of two sizes. Each process has the lines of one seed; the next ones have
-those of the next seed. The script prints each line that differs, and ends with 1 if one does or a process ends with another status than 0.
+contents, features and edits as JSON, snapshots, records of both versions, and connections in pieces of two sizes. Each process has the lines of
+one seed; the next ones have those of the next seed. The script prints each line that differs, and ends with 1 if one does or a process ends with another status than 0.
 """
 import argparse
 import random
@@ -22,14 +22,20 @@ from archives import Entry, directory
 from disk import Change, edit_text, text_of
 from map_script import LINE, POLYGONS
 from map_stand import POINT
+from odd_edits import compact, odd_body
+from reply_edits import deletes, of_other_forms, sets
 from reply_stand import Script
 
 LINES, CONNECTIONS, LONGEST = 1500, 150, 3000
 TIMES = (1, 1, 1, 2, 2, 3)
+# Of edits that are nearly right half stay as they are: damage mostly makes JSON unreadable.
+FEWER_TIMES = (0, 0, 0, 1, 1, 2)
 CHANGES = [text_of(made) for made in (Change(7, POINT), Change(258, LINE), Change(9, POLYGONS), Change(9, None))]
 EDITS = [edit_text(made) for made in ([Change(7, POINT), Change(9, None)], [Change(7, LINE)], [Change(1, POLYGONS), Change(2, POINT)])]
 SNAPSHOTS = [CHANGES[0], CHANGES[0] + CHANGES[2] + CHANGES[1]]
 DIRECTORIES = [directory([Entry(3, 2, 300, 0), Entry(5, 1, 9, 300), Entry(7, 0, 5, 2)]), directory([Entry(2 * k, 1, 5, 5 * k) for k in range(20)]), b"\0"]
+EDIT_TEXTS = [body for body in of_other_forms() if isinstance(body, bytes) and len(body) < LONGEST]
+EDIT_TEXTS += [compact({"changes": changes}).encode() for changes in ([sets(7), sets(8)], [sets(7), deletes(9)], [deletes(number) for number in range(64)])]
 TEXTS = [body for body in fuzz.BODIES if len(body) < LONGEST] + [map_hostile.feature().encode()]
 TILES, ARCHIVES = fuzz.all_tiles(), fuzz.all_archives()
 STREAMS = [held for held in fuzz.Corpus().streams if len(held) < LONGEST]

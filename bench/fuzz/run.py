@@ -3,11 +3,12 @@
 
     python3 bench/fuzz/run.py [--program PROGRAM] [--seed N] [--seconds N] [--only TARGET]
 
-PROGRAM is crates/vtserve/out/vtserve, which `rt run` leaves there. The targets are `verify`, `show`, `demo` and `pipe`; they take turns.
+PROGRAM is crates/vtserve/out/vtserve, which `rt run` leaves there. The targets are `verify`, `show`, `demo`, `pipe` and `upgrade`; they take turns.
 A case is made from the seed and its number alone, so that `--seed S --case N` makes it again. Each process has 10 seconds and 1 GB of
 addresses. It must end with a status and an output that docs/COMMANDS.md and docs/HTTP.md know, and where the models beside this folder
-read the same bytes, with exactly their answer: the line of `verify`, the lines of `show`, the replies of `demo`, and those of `pipe` on a
-disk without an archive or the word for which it isn't opened. A case that does otherwise is printed and its input is kept in `found/`;
+read the same bytes, with exactly their answer: the line of `verify`, the lines of `show`, the replies of `demo`, those of `pipe` on a
+disk of either version without an archive or the word for which it isn't opened, and the answer of `upgrade`. `pipe` and `upgrade` must also leave the
+bytes of the disk that the models leave, and what isn't opened as it was. A case that does otherwise is printed and its input is kept in `found/`;
 the script ends with 1 then. At the end it prints how many cases of each target gave which kind of answer.
 """
 import argparse
@@ -35,12 +36,14 @@ import reply_hostile
 from archives import Maker
 from calls import format_disk, upgrade
 from crashes import Memory
+from disk import Change
 from machine import Service
+from odd_edits import odd_edit
 from reply_random import random_feature, random_request
 from reply_stand import request
 from wire import varint
 
-TARGETS = ["verify", "show", "demo", "pipe"]
+TARGETS = ["verify", "show", "demo", "pipe", "upgrade"]
 SECONDS, ADDRESSES = 10, 2**30
 SECTORS = 128
 KNOWN_LINE = re.compile(
@@ -139,6 +142,8 @@ def one_request(chance):
         return request("POST", "/edits", chance.choice(EDITS))
     if kind == 1:
         return chance.choice(OTHERS)
+    if kind < 4:
+        return odd_edit(chance)
     return random_request(chance)
 
 
@@ -159,7 +164,7 @@ def disk_after(chance, rounds, version):
     service = Service(memory)
     for turn in range(rounds):
         for _ in range(chance.randrange(1, 5)):
-            service.put(chance.randrange(6), random_feature(chance))
+            some_edit(chance, service)
         if turn % 2 == 0 and rounds > 1:
             service.publish()
         if service.version < version:
@@ -177,7 +182,8 @@ def bytes_of(memory):
 # ---- cases
 
 
-Case = collections.namedtuple("Case", "words file stream wanted kind")
+# What is run, and what it must answer and leave of its file, where the models say that.
+Case = collections.namedtuple("Case", "words file stream wanted left")
 
 
 def archive_case(chance, corpus):
@@ -205,17 +211,40 @@ def replies_of(memory, asked):
     return 0, connections.outcome(Service(memory), asked, 4096).written, b""
 
 
+def memory_of(held):
+    """The whole sectors of bytes."""
+    return Memory(len(held) // 512, {at: held[512 * at : 512 * at + 512] for at in range(len(held) // 512)})
+
+
+def left_of(memory, held):
+    """The bytes of a file whose sectors are these now."""
+    return bytes_of(memory) + held[512 * memory.count :]
+
+
+def refusal_of(fault):
+    return 1, b"", f"vtserve: {str(fault).partition('(')[0]}\n".encode()
+
+
 def wanted_of_pipe(held, asked):
-    """The answer on a disk, or None where the model doesn't follow what the archive's bytes lead to."""
+    """The answer on a disk and the bytes that it has then. The answer is None where the model doesn't follow what the archive's bytes lead to."""
     try:
         root = disks.read_disk(held).root
     except disks.Fault as fault:
-        word = str(fault).partition("(")[0]
-        return 1, b"", f"vtserve: {word}\n".encode()
+        return refusal_of(fault), held
     if root.archive_len:
-        return None
-    memory = Memory(len(held) // 512, {at: held[512 * at : 512 * at + 512] for at in range(len(held) // 512)})
-    return replies_of(memory, asked)
+        return None, None
+    memory = memory_of(held)
+    return replies_of(memory, asked), left_of(memory, held)
+
+
+def wanted_of_upgrade(held):
+    """The answer to an upgrade of a disk, and the bytes that it has then."""
+    memory = memory_of(held)
+    try:
+        upgrade(memory)
+    except disks.Fault as fault:
+        return refusal_of(fault), held
+    return (0, b"version 2\n", b""), left_of(memory, held)
 
 
 def case_of(target, seed, number, corpus):
@@ -224,31 +253,32 @@ def case_of(target, seed, number, corpus):
     if target in ("verify", "show"):
         held = archive_case(chance, corpus)
         wanted = wanted_of_verify(held) if target == "verify" else wanted_of_show(held)
-        return Case([target], held, b"", wanted, "archive")
+        return Case([target], held, b"", wanted, held)
     asked = damaged(chance, chance.choice([stream(chance), chance.choice(corpus.streams)]), corpus.streams, (0, 0, 1, 1, 1, 2, 4))
     if target == "demo":
         memory = Memory(SECTORS)
         format_disk(memory)
-        return Case(["demo", str(SECTORS)], None, asked, replies_of(memory, asked), "stream")
+        return Case(["demo", str(SECTORS)], None, asked, replies_of(memory, asked), None)
     held = damaged(chance, chance.choice(corpus.disks), corpus.disks, (0, 0, 1, 1, 1, 2, 4))
-    return Case(["pipe"], held, asked, wanted_of_pipe(held, asked), "disk")
+    if target == "upgrade":
+        return Case(["upgrade"], held, b"", *wanted_of_upgrade(held))
+    return Case(["pipe"], held, asked, *wanted_of_pipe(held, asked))
 
 
 # ---- runs
 
 
 def run(program, case, folder):
-    """The status, standard output and standard error of one process, or why it has none."""
-    words = [program, *case.words]
+    """The status, standard output and standard error of one process, or why it has none; and the bytes that it left of its file."""
+    words, path = [program, *case.words], pathlib.Path(folder) / "file"
     if case.file is not None:
-        path = pathlib.Path(folder) / "file"
         path.write_bytes(case.file)
         words.append(str(path))
     try:
         done = subprocess.run(words, input=case.stream, capture_output=True, timeout=SECONDS)
     except subprocess.TimeoutExpired:
-        return "no end after %d seconds" % SECONDS
-    return done.returncode, done.stdout, done.stderr
+        return "no end after %d seconds" % SECONDS, None
+    return (done.returncode, done.stdout, done.stderr), None if case.file is None else path.read_bytes()
 
 
 def are_replies(written):
@@ -274,13 +304,13 @@ def is_known(target, outcome):
         return status == 0 and told == b"" or status == 1 and written == b"" and told in (b"vtserve: Short\n", b"vtserve: Magic\n", b"vtserve: Version\n")
     if status == 1:
         return written == b"" and told in (b"vtserve: NotFormatted\n", b"vtserve: Damaged\n", b"vtserve: File\n")
-    return status == 0 and told == b"" and are_replies(written)
+    return status == 0 and told == b"" and (written == b"version 2\n" if target == "upgrade" else are_replies(written))
 
 
 def kind_of(target, outcome):
     """A word for an outcome, by which it is counted."""
     status, written, told = outcome
-    if status or target == "show":
+    if status or target in ("show", "upgrade"):
         return (told or written).decode().strip().partition(":")[0] + f" {status}"
     if target == "verify":
         return "ok"
@@ -288,8 +318,8 @@ def kind_of(target, outcome):
     return codes[-1].decode() if codes else "no reply"
 
 
-def fault_of(target, case, outcome):
-    """What is wrong with an outcome, or None."""
+def fault_of(target, case, outcome, left):
+    """What is wrong with an outcome and with what it left of the file, or None."""
     if isinstance(outcome, str):
         return outcome
     if outcome[0] < 0:
@@ -298,6 +328,8 @@ def fault_of(target, case, outcome):
         return "an answer of no known form"
     if case.wanted is not None and outcome != case.wanted:
         return "another answer than the models'"
+    if case.left is not None and left != case.left:
+        return "another file than the models'"
     return None
 
 
@@ -316,8 +348,8 @@ def short(outcome):
 def try_case(options, target, number, corpus, folder, counts):
     """Whether a case is answered as it must be."""
     case = case_of(target, options.seed, number, corpus)
-    outcome = run(options.program, case, folder)
-    fault = fault_of(target, case, outcome)
+    outcome, left = run(options.program, case, folder)
+    fault = fault_of(target, case, outcome, left)
     counts[target, kind_of(target, outcome) if fault is None else fault] += 1
     counts[target, "compared with the models"] += case.wanted is not None
     if fault:

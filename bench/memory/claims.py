@@ -9,12 +9,19 @@ from pathlib import Path
 
 sys.path.append(str(Path(__file__).resolve().parents[1] / "model"))
 import disk
-from archives import Maker, judged
+from archives import Entry, Maker, changed, directory, judged
+from wire import part, varint
 
 MOST = 262144
 MOST_ENTRIES = b"\xff\xff\xff\xff\x0f"
-# A point's geometry that claims 2^29 - 1 moves.
-TILE = bytes.fromhex("1a150a0170120b080718012205f9ffffff0f2880207802")
+FAR = 2**63 - 1
+# A point's geometry that claims 2^29 - 1 moves, a layer, a key and a list of tags that claim 2^63 - 1 bytes.
+TILES = {
+    "geometry": bytes.fromhex("1a150a0170120b080718012205f9ffffff0f2880207802"),
+    "layer": b"\x1a" + varint(FAR),
+    "key": part(3, part(1, b"p") + b"\x1a" + varint(FAR)),
+    "tags": part(3, part(1, b"p") + part(2, b"\x12" + varint(FAR))),
+}
 
 
 def archives():
@@ -23,14 +30,30 @@ def archives():
     maker = Maker()
     leaf = maker.leaf(0, MOST_ENTRIES)
     yield "a leaf directory", maker.archive([leaf], addressed=0, entries=0, contents=0)
+    for what, tile in TILES.items():
+        maker = Maker()
+        yield f"a tile's {what}", maker.archive([maker.tile(0, 1, tile)], addressed=1, entries=1, contents=1)
     maker = Maker()
-    yield "a tile's geometry", maker.archive([maker.tile(0, 1, TILE)], addressed=1, entries=1, contents=1)
+    entry = maker.tile(0, 1, part(3, part(1, b"p")))
+    sound = maker.archive([entry], addressed=1, entries=1, contents=1)
+    for section in ("root", "metadata", "leaves", "tiles"):
+        yield f"the section {section}", changed(sound, **{section: FAR})
+    yield "a content", maker.archive(directory([Entry(0, 1, 2**32 - 1, 0)]), addressed=1, entries=1, contents=1)
+
+
+def texts():
+    """Texts of records whose counts have no bytes after them, each with its version: of points, lines and polygons, and of changes."""
+    for kind, name in disk.KINDS.items():
+        claim = b"\x01" + disk.spelled(7, 8) + b"\x01p\x00\x02" + bytes([kind]) + b"\xff\xff"
+        yield name, 1, claim
+        yield f"{name} of the last of 64 changes", 2, b"\x40" + b"".join(b"\x02" + disk.spelled(number, 8) for number in range(8, 71)) + claim
+    yield "changes", 2, b"\x40"
+    yield "changes behind the first", 2, b"\x40\x02" + disk.spelled(7, 8)
 
 
 def disks():
-    """A disk with an edit in its journal, or a snapshot, whose text claims 65,535 points, lines or polygons."""
-    for kind, name in disk.KINDS.items():
-        text = b"\x01" + disk.spelled(7, 8) + b"\x01p\x00\x02" + bytes([kind]) + b"\xff\xff"
+    """A disk with a record in its journal, or a snapshot, whose text claims what it has no bytes for; and one that claims more sectors than it has."""
+    for name, version, text in texts():
         held = bytearray(disk.write_disk(64, 0, {}, [], b"", 0))
         disk.put_records(held, disk.Layout(64), 0, 1, [(1, text)])
         yield f"{name} in the journal", bytes(held)

@@ -5,8 +5,9 @@
 
 Each run must end as it would with memory, or with status 1 and `vtserve: Memory`, or answer 503 to the request that lacked memory
 and go on. The script ends with 1 otherwise. `demo` runs on its stored input; its disk is in memory, so it may also lack memory for
-a write, which is `Device` or 500. The others run on small files. `streams.py` sends requests of every kind to `pipe`, and compares the
-replies and the disk with those of a run without the refused request. `claims.py` refuses large allocations alone.
+a write, which is `Device` or 500. The others run on small files; what `format`, `upgrade` and `export` leave of them is looked at too.
+`streams.py` sends requests of every kind to `pipe` and to `serve`, and compares the replies and the disk with those of a run without the
+refused request. `claims.py` refuses large allocations alone.
 """
 import collections
 import os
@@ -33,14 +34,15 @@ DEVICE = b"vtserve: Device\n"
 
 
 class Command:
-    """A command: its words, what it reads, and what is to be done before each run."""
+    """A command: its words, what it reads, what is to be done before each run, and whether what it left is right for its status."""
 
-    def __init__(self, words, stream=b"", before=None, faults=(MEMORY,), statuses=("503",)):
+    def __init__(self, words, stream=b"", before=None, faults=(MEMORY,), statuses=("503",), leaves=None):
         self.words = words
         self.stream = stream
         self.before = before
         self.faults = faults
         self.statuses = statuses
+        self.leaves = leaves
 
     def run(self, more):
         """The status, standard output and standard error of one process."""
@@ -80,6 +82,8 @@ def codes(written):
 def is_good(command, outcome, whole):
     """Whether a run that lacked memory ended as it may: named, or with an error in the place of one reply."""
     status, written, told = outcome
+    if command.leaves and not command.leaves(status):
+        return False
     if status == 1 and told in command.faults:
         return True
     found, wanted = codes(written), codes(whole[1])
@@ -117,7 +121,8 @@ def commands(folder):
     """Each command, on files in a folder."""
     with open(os.path.join(CRATE, "stdin"), "rb") as file:
         stream = file.read()
-    made, disk, archive, goal = (os.path.join(folder, name) for name in ["made", "disk", "archive", "goal"])
+    made, disk, archive, goal, first = (os.path.join(folder, name) for name in ["made", "disk", "archive", "goal", "first"])
+    old, new = (streams.first_disk(version, *streams.RECORDS[:2]) for version in (1, 2))
     subprocess.run([PROGRAM, "format", disk, "--sectors", "64"], check=True, capture_output=True)
     subprocess.run([PROGRAM, "pipe", disk], input=PUT + PUBLISH, check=True, capture_output=True)
     subprocess.run([PROGRAM, "export", disk, archive], check=True, capture_output=True)
@@ -126,11 +131,23 @@ def commands(folder):
         if os.path.exists(path):
             os.remove(path)
 
+    def write(path, held):
+        with open(path, "wb") as file:
+            file.write(held)
+
+    def holds(path, held):
+        with open(path, "rb") as file:
+            return file.read() == held
+
+    def is_exported(status):
+        return os.path.exists(goal) == (status == 0) and not os.path.exists(goal + ".part")
+
     return [
-        ("format", Command(["format", made, "--sectors", "64"], before=lambda: remove(made))),
+        ("format", Command(["format", made, "--sectors", "64"], before=lambda: remove(made), leaves=lambda status: os.path.exists(made) == (status == 0))),
         ("pipe", Command(["pipe", disk], GET)),
         ("serve", Serving(["serve", disk], GET)),
-        ("export", Command(["export", disk, goal], before=lambda: remove(goal))),
+        ("upgrade", Command(["upgrade", first], before=lambda: write(first, old), leaves=lambda status: holds(first, old if status else new))),
+        ("export", Command(["export", disk, goal], before=lambda: remove(goal), leaves=is_exported)),
         ("show", Command(["show", archive])),
         ("verify", Command(["verify", archive])),
         ("demo", Command(["demo", "256"], stream, faults=(MEMORY, DEVICE), statuses=("503", "500"))),
@@ -142,11 +159,11 @@ def main():
         shim = os.path.join(folder, "refuse.so")
         subprocess.run(["gcc", "-shared", "-fPIC", "-o", shim, os.path.join(HERE, "refuse.c"), "-ldl"], check=True)
         bad = sum(series(name, command, shim) for name, command in commands(folder))
-        total = 0
-        for name, sectors, before, requests in streams.SERIES:
-            allocations, worse = streams.tried(name, streams.Stream(PROGRAM, shim, folder, sectors, before, requests))
-            total, bad = total + allocations, bad + worse
-        print(f"streams: {len(streams.SERIES)}, {total} allocations")
+        for kind, made, rows in [("streams", streams.Stream, streams.SERIES), ("connections", streams.Connection, streams.SERVED)]:
+            tried = [streams.tried(row[0], made(PROGRAM, shim, folder, *row[1:])) for row in rows]
+            requests = sum(len(row[3]) for row in rows)
+            print(f"{kind}: {len(rows)}, {requests} requests, {sum(allocations for allocations, _ in tried)} allocations")
+            bad += sum(worse for _, worse in tried)
         bad += claims.tried(PROGRAM, shim, folder)[1]
     return 1 if bad else 0
 

@@ -1,17 +1,27 @@
-"""Streams of requests to `pipe`, with each allocation of the process refused in turn.
+"""Streams of requests to `pipe` and to a connection of `serve`, with each allocation of the process refused in turn.
 
 A refused allocation must have one of three effects. The process ends with `vtserve: Memory` before it reads, and the disk is as before. One request
 is answered `503 Memory`, and all other replies and the bytes of the disk are those of a run without this request: so each request is sent twice. Or
-the tile is served all the same: it wasn't cached, or it was cut because the archive couldn't be read.
+the tile is served all the same: it wasn't cached, or it was cut because the archive couldn't be read. A connection of `serve` that lacks memory
+before its first read gets no reply, and the log says so.
 """
 import collections
 import json
 import os
 import re
 import shutil
+import socket
 import subprocess
+import sys
+from pathlib import Path
+
+sys.path.append(str(Path(__file__).resolve().parents[1] / "model"))
+import disk
+import tiles
 
 MEMORY = (1, b"", b"vtserve: Memory\n")
+# What a connection of `serve` is without memory for its buffers.
+NO_BUFFERS = (0, b"", b"connection 1: 0 requests, memory\n")
 REFUSED = b"Memory\n"
 TILE = re.compile(r"(GET|HEAD) /map/\d+/\d+/\d+\.")
 
@@ -72,8 +82,31 @@ RANGES = [get("/map.pmtiles", f"range: bytes={part}\r\n") for part in ("0-126", 
 HEADS = [request("HEAD", path) for path in ("/map/0/0/0.mvt", "/map.pmtiles", "/map/metadata")]
 PUBLISH = [post("/publish"), put(11), post("/publish"), *TILES[:2]]
 STEPS = [post("/publish/begin"), put(12), post("/publish/step"), request("DELETE", "/features/8"), post("/publish/step"), TILES[0], post("/publish/cancel")]
+# Batches: of three kinds of features, a replaced one and deletions, and of as many changes as there may be.
+CHANGES = [batch(sets(7), sets(8, KINDS, LINES), sets(9, (), POLYGONS)), batch(sets(8), deletes(9)), batch(deletes(7), deletes(8))]
+MANY = [batch(*map(sets, range(100, 164))), batch(*map(deletes, range(100, 164)))]
+# Each fault of a batch: of its text, its members, its count, its ids, its features, its length, their reach, and of what isn't there.
+WIDE = feature((), {"lines": [[[0, 0], [WORLD, WORLD]]]}).replace('"maxzoom":2', '"maxzoom":16')
+BAD_CHANGES = [request("POST", "/edits", body) for body in ("", "{", "[]", '{"changes":5}')]
+BAD_CHANGES += [batch(sets(7), '{"put":8}'), batch(), batch(*map(deletes, range(65))), batch(sets(7), deletes(7)), batch(sets(7), deletes(2**63)),
+                batch(sets(7), sets(8).replace('"p"', '""')), batch(sets(7), sets(8, (("k", "v"),)).replace('"v"', "1.5")),
+                batch(sets(7, LARGE), sets(8, LARGE)), batch(sets(7), f'{{"put":8,"feature":{WIDE}}}'), batch(sets(7), deletes(9))]
+# A batch that fills the 16 places of a journal of 64 sectors.
+FILL = [batch(*(sets(number, (("k", "x" * 900),)) for number in range(8)))]
+BOTH = [post("/publish/begin"), batch(sets(12), sets(13, KINDS)), post("/publish/step"), batch(deletes(8), sets(12)), post("/publish/step"), TILES[0],
+        post("/publish/cancel")]
+POINT = tiles.feature({"points": [[0, 0]]})
 
-# Each series: its name, the sectors of its disk, what was sent to the disk before, and the requests.
+
+def first_disk(version, *records):
+    """The bytes of a disk of a version, formatted and with records in its journal."""
+    return disk.write_disk(64, 0, {}, records, b"", 0, version=version)
+
+
+# The records of a disk that was upgraded behind its second edit.
+RECORDS = [disk.Record(1, [disk.Change(1, POINT)]), disk.Record(1, [disk.Change(2, POINT)]), disk.Record(2, [disk.Change(1, None), disk.Change(3, POINT)])]
+
+# Each series: its name, the sectors of its disk or the disk, what was sent to the disk before, and the requests.
 SERIES = [
     ("edits, empty disk", 64, [], twice(EDITS)),
     ("bad bodies, empty disk", 64, [], twice([request("PUT", "/features/7", body) for body in BAD])),
@@ -89,6 +122,20 @@ SERIES = [
     ("publication, published disk", 256, PUBLISHED, twice(PUBLISH)),
     ("publication by steps", 1024, PUBLISHED + STEPPED, twice(STEPS)),
     ("publication cancelled", 256, PUBLISHED, twice([*STEPS[:2], STEPS[6], STEPS[0], STEPS[2], TILES[0]])),
+    ("batches, empty disk", 256, [], twice(CHANGES)),
+    ("batches of 64 changes", 256, [], twice(MANY)),
+    ("bad batches, empty disk", 256, [], twice(BAD_CHANGES)),
+    ("batches, published disk", 256, PUBLISHED, twice([*CHANGES, TILES[0]])),
+    ("batches, full journal", 64, FILL, twice([batch(sets(1), sets(2)), batch(deletes(1)), post("/publish"), batch(sets(1), sets(2))])),
+    ("batches between steps", 1024, PUBLISHED + STEPPED, twice(BOTH)),
+    ("batches, disk of version 1", first_disk(1), EDITS[:1], twice([CHANGES[0], batch(), *EDITS[1:], TILES[0]])),
+    ("batches, journal of both versions", first_disk(2, *RECORDS), [], twice([CHANGES[0], batch(deletes(3), deletes(2)), TILES[0]])),
+]
+
+# The same by a connection of `serve`.
+SERVED = [
+    ("serve, edits and a tile", 256, [], twice([put(7), CHANGES[0], TILES[0], get("/features/8")])),
+    ("serve, archive and publication", 256, PUBLISHED, twice([READS[4], RANGES[2], post("/publish"), TILES[1], put(7)])),
 ]
 
 
@@ -112,21 +159,28 @@ class Stream:
         self.first, self.disk, self.count = (os.path.join(folder, name) for name in ("first", "disk", "count"))
         if os.path.exists(self.first):
             os.remove(self.first)
-        subprocess.run([program, "format", self.first, "--sectors", str(sectors)], check=True, capture_output=True)
+        if isinstance(sectors, bytes):
+            Path(self.first).write_bytes(sectors)
+        else:
+            subprocess.run([program, "format", self.first, "--sectors", str(sectors)], check=True, capture_output=True)
         done = subprocess.run([program, "pipe", self.first], input=b"".join(before), check=True, capture_output=True)
         assert len(re.findall(rb"HTTP/1.1 200", done.stdout)) == len(before), done
         self.expected, self.bounds = {}, []
 
+    def served(self, requests, more):
+        """The status, the bytes that the peer reads, and standard error of a process that serves requests."""
+        done = subprocess.run([self.program, "pipe", self.disk], input=requests, capture_output=True, timeout=60, env=more)
+        return done.returncode, done.stdout, done.stderr
+
     def run(self, requests, refused=0):
         """What a process does with requests: the number of its allocations, how it ended, its replies and the disk that it left."""
         shutil.copyfile(self.first, self.disk)
-        more = {"LD_PRELOAD": self.shim, "FAIL_AT": str(refused), "FAIL_COUNT": self.count}
-        done = subprocess.run([self.program, "pipe", self.disk], input=b"".join(requests), capture_output=True, timeout=60, env=more)
+        ended = self.served(b"".join(requests), {"LD_PRELOAD": self.shim, "FAIL_AT": str(refused), "FAIL_COUNT": self.count})
         with open(self.disk, "rb") as file:
             held = file.read()
         with open(self.count) as file:
             allocations = int(file.read())
-        return allocations, (done.returncode, done.stdout, done.stderr), replies_of(requests, done.stdout), held
+        return allocations, ended, replies_of(requests, ended[1]), held
 
     def under_way(self, number):
         """The request that an allocation is made for: the first one with which a stream has so many allocations. None if it is made before all."""
@@ -146,7 +200,7 @@ class Stream:
     def effect(self, number, outcome):
         """What a refused allocation did, or None if that is none of the effects that it may have."""
         _, ended, replies, held = outcome
-        if ended == MEMORY:
+        if ended in (MEMORY, NO_BUFFERS):
             with open(self.first, "rb") as file:
                 return "start" if file.read() == held else None
         if ended[0] != 0 or replies is None:
@@ -168,6 +222,33 @@ class Stream:
 
     def line(self, at):
         return self.requests[at].split(b" HTTP")[0].decode()
+
+
+class Connection(Stream):
+    """The same by a connection of `serve`."""
+
+    def served(self, requests, more):
+        with socket.socket() as free:
+            free.bind(("127.0.0.1", 0))
+            port = free.getsockname()[1]
+        words = [self.program, "serve", self.disk, "--port", str(port), "--connections", "1"]
+        child = subprocess.Popen(words, stdout=subprocess.PIPE, stderr=subprocess.PIPE, env=more)
+        read = b""
+        if child.stdout.readline():
+            with socket.create_connection(("127.0.0.1", port), timeout=60) as peer:
+                peer.sendall(requests)
+                peer.shutdown(socket.SHUT_WR)
+                read = read_all(peer)
+        _, told = child.communicate(timeout=60)
+        return child.returncode, read, told
+
+
+def read_all(peer):
+    """What a peer reads up to the end; nothing where the connection is reset before."""
+    try:
+        return b"".join(iter(lambda: peer.recv(65536), b""))
+    except OSError:
+        return b""
 
 
 def tried(name, stream):
