@@ -4,7 +4,7 @@
     python3 bench/hostile/run.py [--program PROGRAM] [--only WORD] [--limit SECONDS] [--sizes KB,KB,..]
 
 PROGRAM is crates/vtserve/out/vtserve, which `rt run` leaves there. It needs `time` (Debian: time). Each row is an input of a kind in
-four sizes, of 1, 2, 4 and 8 MB if the row has no smaller ones of its own. A process that takes longer than the limit is stopped, and the
+four sizes, of 1, 2, 4 and 8 MB if the row has no smaller ones of its own or counts something else. A process that takes longer than the limit is stopped, and the
 larger sizes of its row are left out. The last column is the factor between the last two sizes: 2 for work in proportion to the input,
 4 for its square. What a process must answer is written beside each row; another answer ends the script with 1.
 """
@@ -203,6 +203,61 @@ POINTS = b'{"layer":"p","minzoom":0,"maxzoom":2,"tags":{},"geometry":{"points":[
 DIGITS = FRONT + b'"a":0.' + b"9" * 65000 + BACK
 
 
+# ---- edits of several changes
+
+POINT = b'{"layer":"p","minzoom":0,"maxzoom":2,"geometry":{"points":[[0,0]]},"tags":{}}'
+# The most tiles that a feature may cover, and one that covers more.
+WIDEST = b'{"layer":"p","minzoom":9,"maxzoom":9,"geometry":{"lines":[[[0,0],[4294967295,4294967295]]]},"tags":{}}'
+TOO_WIDE = WIDEST.replace(b'"minzoom":9', b'"minzoom":8')
+
+
+def sets(number_, feature=POINT):
+    return b'{"put":%d,"feature":%s}' % (number_, feature)
+
+
+def deletes(number_):
+    return b'{"delete":%d}' % number_
+
+
+def batch(*changes):
+    return b'{"changes":[%s]}' % b",".join(changes)
+
+
+def batches(text):
+    return lambda size: repeated(request("POST", "/edits", text), size)
+
+
+def widest(last):
+    """64 changes of the widest reach, the last of them with another feature."""
+    return batch(*(sets(number_, WIDEST) for number_ in range(63)), sets(63, last))
+
+
+def points_of(count):
+    return POINT.replace(b"[[0,0]]", b"[[0,0]" + b",[0,0]" * (count - 1) + b"]")
+
+
+MANY_DELETES = batch(*map(deletes, range(4000)))
+MANY_SETS = batch(*map(sets, range(600)))
+TWICE = batch(*map(deletes, range(63)), deletes(0))
+LAST_TWICE = batch(*map(deletes, range(2**62, 2**62 + 62)), *[deletes(2**62 + 61)] * 2)
+LONGEST = batch(sets(1, points_of(2044)), sets(2, points_of(2044)))
+DEEP_CHANGES = b'{"changes":[' + b",".join([b"[" * 124 + b"]" * 124] * 250) + b"]}"
+KEYED_CHANGES = batch(*(b'{"delete":1,%s}' % b",".join(b'"%04x":0' % key for key in range(90)) for _ in range(64)))
+
+
+def wide_batch(size):
+    """For each MB a batch of eight changes of the widest reach, as one batch, and a publication. An archive has fewer entries than these tiles."""
+    changes = [sets(number_, WIDEST) for number_ in range(8 * size // 2**20)]
+    return request("POST", "/edits", batch(*changes)) + request("POST", "/publish")
+
+
+def wide_polygon(size):
+    """For each MB 30 points of one polygon, which is whole in each of 262,144 tiles; and a publication."""
+    places = b",".join(b"[%d,%d]" % (number_ % 2 * 4294967295, number_ * 10**7) for number_ in range(30 * size // 2**20 - 1))
+    polygon = b'{"layer":"p","minzoom":9,"maxzoom":9,"geometry":{"polygons":[[[%s,[0,4294967295]]]]},"tags":{}}' % places
+    return request("PUT", "/features/1", polygon) + request("POST", "/publish")
+
+
 def wide_features(size):
     """For each MB a feature of 65,536 tiles, the same ones, and a publication. More tiles than 131,072 aren't published."""
     line = b'{"layer":"p","minzoom":16,"maxzoom":16,"geometry":{"lines":[[[0,0],[4294967295,0]]]},"tags":{}}'
@@ -229,6 +284,26 @@ def change_text(number_, points_=1, tags=b"\0"):
     return b"\1" + number_.to_bytes(8, "little") + b"\1p\0\2\1" + points_.to_bytes(2, "little") + bytes(8 * points_) + tags
 
 
+def journal_disk(text, count):
+    """A disk whose journal has so many records of version 2 with this text, and places of zeros after them."""
+    parts = disks.parts_of(len(text))
+    sectors = max(64, 4 * (parts * count + 1))
+    held = bytearray(disks.write_disk(sectors, 0, {}, [], b"", 0))
+    disks.put_records(held, disks.Layout(sectors), 0, 1, [(2, text)] * count)
+    return bytes(held)
+
+
+def records_of(changes):
+    """Disks of a size with records of these changes."""
+    text = bytes([len(changes)]) + b"".join(changes)
+    return lambda size: journal_disk(text, max(1, size // (512 * disks.parts_of(len(text)))))
+
+
+def zeros_of_a_snapshot(size):
+    """A disk whose root claims a snapshot of this length, where it has zeros."""
+    return snapshot_disk(bytes(size))
+
+
 def small_features(size):
     return snapshot_disk(b"".join(change_text(k) for k in range(size // 25)))
 
@@ -243,8 +318,8 @@ def descending_last(size):
     return snapshot_disk(b"".join(change_text(k) for k in range(size // 25)) + change_text(0))
 
 
-# What is measured: a word, the command, the input by its size in bytes, the first bytes of the answer, and sizes in KB where they are
-# smaller than those of the others.
+# What is measured: a word, the command, the input by its size in bytes, the first bytes of the answer (and the last ones), and sizes in KB
+# where they are smaller than those of the others.
 ROWS = [
     ("leaf directory: entries of one small content", "verify", leaf_of_entries, b"ok: "),
     ("leaf directory: its last number is cut", "verify", last_number_cut, b"bad directory at: "),
@@ -279,10 +354,25 @@ ROWS = [
     ("requests: bodies of one key 10,000 times", "demo", bodies(SAME_KEY), b"HTTP/1.1 200"),
     ("requests: bodies of 10,900 points", "demo", bodies(POINTS), b"HTTP/1.1 400"),
     ("requests: bodies of 65,000 digits", "demo", bodies(DIGITS), b"HTTP/1.1 400"),
+    ("batches: 64 changes of the widest reach", "demo 131072", batches(widest(WIDEST)), b"HTTP/1.1 200"),
+    ("batches: the same, the last one too wide", "demo", batches(widest(TOO_WIDE)), (b"HTTP/1.1 400", b"E9 Reach\n")),
+    ("batches: 64 deletions, the first and the last of one id", "demo", batches(TWICE), (b"HTTP/1.1 400", b"E11 Twice\n")),
+    ("batches: 64 deletions, the last two of one id", "demo", batches(LAST_TWICE), (b"HTTP/1.1 400", b"E11 Twice\n")),
+    ("batches: 4,000 deletions", "demo", batches(MANY_DELETES), (b"HTTP/1.1 400", b"E10 Batch\n")),
+    ("batches: 600 features", "demo", batches(MANY_SETS), (b"HTTP/1.1 400", b"E10 Batch\n")),
+    ("batches: 32,768 bytes of points", "demo 131072", batches(LONGEST), b"HTTP/1.1 200"),
+    ("batches: 64 changes of 91 members", "demo", batches(KEYED_CHANGES), (b"HTTP/1.1 400", b"E1 Member\n")),
+    ("batches: lists nested 125 deep", "demo", batches(DEEP_CHANGES), (b"HTTP/1.1 400", b"E1 Member\n")),
     ("publication: 1, 2, 4, 8 features of 65,536 tiles each", "demo", wide_features, b"HTTP/1.1 200"),
+    ("publication: a batch of 8, 16, 32, 64 changes of 262,144 tiles each", "demo", wide_batch, (b"HTTP/1.1 200", b"TooManyTiles\n")),
+    ("publication: a polygon of 30, 60, 120, 240 points in 262,144 tiles", "demo", wide_polygon, (b"HTTP/1.1 200", b"TooManyTiles\n")),
     ("snapshot: points", "pipe", small_features, b""),
     ("snapshot: points with 64 tags", "pipe", tagged_features, b""),
     ("snapshot: points, the last of a number that was there", "pipe", descending_last, b""),
+    ("snapshot: zeros", "pipe", zeros_of_a_snapshot, b""),
+    ("journal: batches of 64 points", "pipe", records_of([change_text(k) for k in range(64)]), b""),
+    ("journal: batches of 64 deletions of what isn't there", "pipe", records_of([b"\2" + k.to_bytes(8, "little") for k in range(64)]), b""),
+    ("journal: batches of 64 changes, the last two of one id", "pipe", records_of([b"\2" + min(k, 62).to_bytes(8, "little") for k in range(64)]), b""),
 ]
 
 
@@ -293,9 +383,10 @@ def measured(program, command, held, folder, limit):
     """Processor seconds, peak MB and standard output of a process, or None where it is stopped."""
     path, told = pathlib.Path(folder) / "input", pathlib.Path(folder) / "time"
     path.write_bytes(held)
+    is_demo = command.startswith("demo")
     words = ["/usr/bin/time", "-o", str(told), "-f", "%U %S %M", "timeout", str(limit), program]
-    words += ["demo", "1024"] if command == "demo" else [command, str(path)]
-    with open(path if command == "demo" else "/dev/null", "rb") as asked:
+    words += (command if " " in command else f"{command} 1024").split() if is_demo else [command, str(path)]
+    with open(path if is_demo else "/dev/null", "rb") as asked:
         done = subprocess.run(words, stdin=asked, capture_output=True)
     if done.returncode == 124:
         return None
@@ -303,6 +394,12 @@ def measured(program, command, held, folder, limit):
         sys.exit(f"status {done.returncode}: {done.stderr[:300]}")
     user, system, memory = told.read_text().split()[-3:]
     return float(user) + float(system), int(memory) / 1024, done.stdout
+
+
+def is_wanted(written, wanted):
+    """Whether an answer has these first bytes, and these last ones."""
+    front, back = wanted if isinstance(wanted, tuple) else (wanted, b"")
+    return written.startswith(front) and written.endswith(back)
 
 
 def cells_of(options, row, folder):
@@ -316,7 +413,7 @@ def cells_of(options, row, folder):
             cells.append(f"over {options.limit} s")
             break
         seconds, memory, written = found
-        good &= written.startswith(wanted)
+        good &= is_wanted(written, wanted)
         last.append(seconds)
         cells.append(f"{seconds:.2f} s, {memory:.0f} MB")
     factor = f"{last[-1] / last[-2]:.1f}" if len(last) > 1 and last[-2] >= 0.02 else ""
