@@ -1,5 +1,5 @@
 #!/usr/bin/env python3
-"""What the commands over a disk in a file do: `vtserve format`, `pipe`, `serve` and `export`, each case by processes of its own.
+"""What the commands over a disk in a file do: `vtserve format`, `pipe`, `serve`, `export` and `upgrade`, each case by processes of its own.
 
     python3 bench/commands.py [PROGRAM]       PROGRAM is crates/vtserve/out/vtserve, which `rt run` leaves there
 
@@ -8,6 +8,7 @@ that is killed leaves is what it asked the system to write: a crash of the machi
 lets calls of the system fail, those cases are left out, and a line says so. It takes some two minutes, most of them for the peers
 that are slow.
 """
+import collections
 import contextlib
 import os
 import re
@@ -23,6 +24,9 @@ import threading
 import time
 
 HERE = os.path.dirname(os.path.abspath(__file__))
+sys.path.append(os.path.join(HERE, "model"))
+import disk as disks
+
 PROGRAM = os.path.abspath(sys.argv[1] if len(sys.argv) > 1 else os.path.join(HERE, "..", "crates", "vtserve", "out", "vtserve"))
 BODY = b'{"layer":"p","minzoom":0,"maxzoom":2,"geometry":{"points":[[0,0]]},"tags":{}}'
 TILE = b"1a130a017012090807180122030900002880207802"
@@ -221,6 +225,47 @@ def fails(cases, folder):
     cases.show("pipe where all reads but the first fail", failing("pread64", large, "2+", ["pipe", large], GET), refusal(b"Device"))
 
 
+def calls_of(words, at):
+    """The calls of the system that the program makes from the first one on that names a path: each by its name, and as which of this name it comes."""
+    with tempfile.NamedTemporaryFile("r") as told:
+        subprocess.run(["strace", "-qq", "-o", told.name, PROGRAM, *words], stdin=subprocess.DEVNULL, capture_output=True, timeout=60)
+        counts, found, begun = collections.Counter(), [], False
+        for line in told:
+            name = line.partition("(")[0]
+            counts[name] += 1
+            begun = begun or at in line and name != "execve"
+            if begun and re.fullmatch(r"\w+", name):
+                found.append((name, counts[name]))
+    return found
+
+
+def killed_at_each_call(words, at, check):
+    """Kills the program on entering each of these calls in turn, each in a process of its own: the number of calls, and what `check` finds wrong
+    with the files behind one. `check` puts them back."""
+    calls = calls_of(words, at)
+    check()
+    for name, number in calls:
+        trace = ["strace", "-qq", "-o", os.devnull, "-e", f"trace={name}", "-e", f"inject={name}:signal=KILL:when={number}"]
+        subprocess.run([*trace, PROGRAM, *words], stdin=subprocess.DEVNULL, capture_output=True, timeout=60)
+        wrong = check()
+        if wrong:
+            return len(calls), f"{name} {number}: {wrong}"
+    return len(calls), None
+
+
+def failed_at_each_call(call, at, words, check, requests=b"", limit=1000):
+    """Each call of this name on a file fails in turn, until a run meets none: how many there are, and what `check` finds wrong with an outcome. It
+    answers None of a run that met none, and nothing of one that ended as it may."""
+    for number in range(1, limit):
+        outcome = failing(call, at, number, words, requests)
+        wrong = check(outcome)
+        if wrong is None:
+            return number - 1, None
+        if wrong:
+            return number, wrong
+    return limit, "it doesn't end"
+
+
 def asked(at, calls, words, requests):
     """The calls of these names that the program asks on the file at a path, in order."""
     with tempfile.NamedTemporaryFile("r") as told:
@@ -361,6 +406,137 @@ def exports(cases, folder):
             cases.show(f"export where {name} fails", failing(call, at, 1, words), refusal(fault))
             cases.show("the goal is as it was, with nothing beside", (content(goal)[0], os.path.exists(goal + ".part")), (b"old", False))
     cases.show("the disk is left as it is, and serves", (content(disk)[0] == before, vtserve(["pipe", disk], GET)), (True, (0, reply(TEXT, TILE), b"")))
+
+
+def write(path, held):
+    with open(path, "wb") as file:
+        file.write(held)
+
+
+def remove(*paths):
+    for path in paths:
+        if os.path.exists(path):
+            os.remove(path)
+
+
+def stopped_exports(cases, folder):
+    """An export that is killed at a call of the system leaves the old file or the new one, and the disk as it was."""
+    if not shutil.which("strace"):
+        print("        no strace: no export is stopped")
+        return
+    folder = os.path.join(folder, "stopped")
+    os.mkdir(folder)
+    disk, archive = published(folder, "disk")
+    goal, before, seen = os.path.join(folder, "map.pmtiles"), content(disk)[0], set()
+    write(goal, b"old")
+
+    def check():
+        found, held = content(goal)[0], content(disk)[0]
+        seen.add(found)
+        write(goal, b"old")
+        remove(goal + ".part")
+        if held != before:
+            return "the disk has changed"
+        return None if found in (archive, b"old") else f"the file has {len(found)} bytes"
+
+    count, wrong = killed_at_each_call(["export", disk, goal], disk, check)
+    cases.show(f"export, killed at each of its {count} calls of the system", (wrong, count > 10, len(seen)), (None, True, 2))
+    cases.show("export after it", (vtserve(["export", disk, goal]), content(goal)[0]), ((0, b"%d bytes\n" % ARCHIVE, b""), archive))
+
+
+def stopped_formats(cases, folder):
+    """A format that is killed leaves no file, one that is no disk, or the empty map."""
+    if not shutil.which("strace"):
+        print("        no strace: no format is stopped")
+        return
+    path, seen = os.path.join(folder, "formatted"), set()
+
+    def check():
+        outcome = vtserve(["pipe", path], GET)
+        seen.add(outcome)
+        remove(path)
+        return None if outcome in [(0, EMPTY, b""), refusal(b"File"), refusal(b"NotFormatted")] else f"pipe is {outcome}"
+
+    count, wrong = killed_at_each_call(["format", path, "--sectors", "64"], path, check)
+    cases.show(f"format, killed at each of its {count} calls of the system", (wrong, count > 10, len(seen)), (None, True, 3))
+
+
+# Two disks with the same edits, of which the first program made one.
+POINT = {"layer": "p", "minzoom": 0, "maxzoom": 2, "geometry": {"points": [[0, 0]]}, "tags": {}}
+RECORDS = [disks.Record(1, [disks.Change(number, POINT)]) for number in (7, 8)]
+FIRST, SECOND = (disks.write_disk(64, 0, {}, RECORDS, b"", 0, version=version) for version in disks.VERSIONS)
+BATCH_BODY = b'{"changes":[{"delete":8},{"put":9,"feature":%s}]}' % BODY
+BATCH = b"POST /edits HTTP/1.1\r\nhost: x\r\ncontent-length: %d\r\n\r\n%s" % (len(BATCH_BODY), BATCH_BODY)
+NEEDS_UPGRADE = b"HTTP/1.1 409 Conflict\r\ncontent-type: text/plain\r\ncontent-length: 13\r\n\r\nNeedsUpgrade\n"
+
+
+def upgrades(cases, folder):
+    """A disk of version 1 is served, upgraded, and served again."""
+    path = os.path.join(folder, "first")
+    write(path, FIRST)
+    tile = vtserve(["pipe", path], GET)
+    cases.show("a batch on a disk of version 1", vtserve(["pipe", path], BATCH), (0, NEEDS_UPGRADE, b""))
+    cases.show("it changes no byte", content(path)[0] == FIRST, True)
+    cases.show("upgrade", vtserve(["upgrade", path]), (0, b"version 2\n", b""))
+    cases.show("it has the bytes of the model", content(path)[0] == SECOND, True)
+    before = content(path)
+    cases.show("upgrade once more", vtserve(["upgrade", path]), (0, b"version 2\n", b""))
+    cases.show("it changes no byte", content(path)[0] == before[0], True)
+    cases.show("the tile is the same", vtserve(["pipe", path], GET), tile)
+    cases.show("a batch", vtserve(["pipe", path], BATCH), (0, edit(3), b""))
+    lost = os.path.join(folder, "none")
+    damaged_root = bytearray(FIRST)
+    damaged_root[512] = 0
+    rows = [("a missing file", lost, None, b"File"), ("a file of zeros", path, bytes(32768), b"NotFormatted"), ("no bytes", path, b"", b"NotFormatted"),
+            ("a disk cut short", path, FIRST[:-512], b"Damaged"), ("version 3", path, FIRST[:8] + b"\3" + FIRST[9:], b"Damaged"),
+            ("version 0", path, FIRST[:8] + b"\0" + FIRST[9:], b"Damaged")]
+    for name, at, held, fault in rows:
+        if held is not None:
+            write(path, held)
+        cases.show(f"upgrade of {name}", vtserve(["upgrade", at]), refusal(fault))
+        cases.show("it is left as it is", os.path.exists(at) and content(at)[0], held is not None and held)
+    write(path, bytes(damaged_root))
+    cases.show("upgrade of a disk whose root is damaged", vtserve(["upgrade", path]), (0, b"version 2\n", b""))
+    cases.show("pipe of it", vtserve(["pipe", path], GET), refusal(b"Damaged"))
+    write(path, FIRST)
+    cases.show("upgrade where standard output is closed", vtserve(["upgrade", path], preexec_fn=lambda: os.close(1)), (0, b"", b""))
+    cases.show("the disk is upgraded", content(path)[0] == SECOND, True)
+    write(path, FIRST)
+    serving = Serving(path, 1)
+    cases.show("upgrade of a disk that is served", vtserve(["upgrade", path]), refusal(b"File"))
+    cases.show("the tile of it", serving.ask(GET), tile[1])
+    serving.end()
+
+
+def stopped_upgrades(cases, folder):
+    """An upgrade that is killed, or of which a call fails, leaves the disk in either version, with its map."""
+    if not shutil.which("strace"):
+        print("        no strace: no upgrade is stopped")
+        return
+    path, seen = os.path.join(folder, "first"), set()
+
+    def left():
+        held = content(path)[0]
+        write(path, FIRST)
+        return {FIRST: 1, SECOND: 2}.get(held, "neither disk")
+
+    def check_killed():
+        version = left()
+        seen.add(version)
+        return None if version in (1, 2) else version
+
+    def check_failed(outcome):
+        version = left()
+        if outcome == (0, b"version 2\n", b""):
+            return None if version == 2 else "not upgraded"
+        return "" if outcome == refusal(b"Device") and version in (1, 2) else f"{outcome}, {version}"
+
+    write(path, FIRST)
+    count, wrong = killed_at_each_call(["upgrade", path], path, check_killed)
+    cases.show(f"upgrade, killed at each of its {count} calls of the system", (wrong, count > 10, seen), (None, True, {1, 2}))
+    for call, least in [("pwrite64", 1), ("fdatasync", 2)]:
+        count, wrong = failed_at_each_call(call, path, ["upgrade", path], check_failed)
+        cases.show(f"upgrade, with each {call} failing: {count}", (wrong, count >= least), (None, True))
 
 
 class Serving:
@@ -613,6 +789,10 @@ def main():
         refuses_unusual_files(cases, folder)
         after_a_failed_sync(cases, folder)
         exports(cases, folder)
+        stopped_exports(cases, folder)
+        stopped_formats(cases, folder)
+        upgrades(cases, folder)
+        stopped_upgrades(cases, folder)
         serves(cases, folder)
         slow_peers(cases, folder)
         words(cases, folder, disk)

@@ -1,4 +1,4 @@
-"""Lines of `map_script.py` about JSON made to do harm, and about snapshots, edits and records that are cut short or damaged: each answer is by
+"""Lines of `map_script.py` about features and edits as JSON made to do harm, and about snapshots, edits and records that are cut short or damaged: each answer is by
 the models, and a line about JSON has beside it what RFC 8259 and docs/HTTP.md say.
 """
 from disk import Change, edit_text, text_of
@@ -58,6 +58,55 @@ def json_lines():
     yield from ((f"json <60000:{text}>", JSON) for text in ["[", '{"a":', "]", '"', "-", "\\"])
 
 
+def changes(*texts):
+    """A line with an edit of these changes."""
+    return f'changes {{"changes":[{",".join(texts)}]}}'
+
+
+def put(number, text=None):
+    return f'{{"put":{number},"feature":{text or feature()}}}'
+
+
+def delete(number):
+    return f'{{"delete":{number}}}'
+
+
+def changes_lines():
+    e1, e2, e10, e11 = "E1 Member", "E2 Number", "E10 Batch", "E11 Twice"
+    yield "# Edits whose values are nested: a tag of a change is in five lists and objects, so 122 more are within the limit of 127, and 123 aren't."
+    for deep, wanted in [(122, E7), (123, JSON), (5000, JSON)]:
+        yield changes(delete(1), put(2, tagged(f"<{deep}:[><{deep}:]>"))), wanted
+    for deep, wanted in [(125, e1), (126, JSON), (30000, JSON)]:
+        yield changes(f"<{deep}:[><{deep}:]>"), wanted
+        yield changes(delete(1), f'<{deep}:{{"put":>1<{deep}:}}>'), wanted
+    yield "# Ids of 60,000 digits, at the ends of 64 bits, with fractions and exponents."
+    for number, wanted in [("<60000:9>", JSON), ("1<60000:0>", JSON), ("0.<60000:0>", e1), ("1.<60000:0>", e1), ("1e-<60000:9>", e1), ("<60000:0>", JSON),
+                           ("18446744073709551615", e2), ("18446744073709551616", e1), ("9223372036854775808", e2), ("9223372036854775807", None),
+                           ("-9223372036854775808", e1), ("-0", e1), ("1e1", e1), ("01", JSON), ("0x1", JSON), ("", JSON)]:
+        yield changes(delete(number)), wanted
+        yield changes(put(1), put(number)), wanted
+    yield "# Members that are repeated: the last one counts, and all are read. Escapes in their names."
+    yield from [(f'changes {{"changes":5,"changes":[{delete(1)}]}}', None), (f'changes {{"changes":[{delete(1)}],"changes":5}}', e1),
+                (f'changes {{"changes":[{delete(1)}],"changes":[]}}', e10), (changes('{"delete":"x","delete":2}'), None),
+                (changes('{"delete":2,"delete":"x"}'), e1), (changes('{"put":1,"put":2,"feature":5,"feature":%s}' % feature()), None),
+                (changes('{"delete":1<3000:,"delete":2>}'), None), (changes('{"\\u0064elete":2}'), None), (changes('{"delete\\u0000":2}'), e1),
+                (changes('{"\\ud800":2}'), JSON), (changes('{"delete":2,"\\ud83c\\udf0d":1}'), e1), (f"changes \ufeff{changes(delete(1))[8:]}", JSON)]
+    yield "# One id twice, far apart, in as many changes as there may be; the same among more; as many changes as a body has bytes for."
+    yield changes(*map(delete, [5, *range(6, 68), 5])), e11
+    yield changes(*map(delete, [*range(62), 2**63 - 1, 2**63 - 1])), e11
+    yield changes(put(5), *map(delete, range(6, 68)), put(5, tagged("null"))), e11
+    yield changes(*map(delete, [5, *range(6, 69), 5])), e10
+    yield 'changes {"changes":[{"delete":1}<4600:,{"delete":1}>]}', e10
+    yield 'changes {"changes":[{}<20000:,{}>]}', e1
+    yield f'changes {{"changes":[{put(1)}<500:,{put(1)}>]}}', e10
+    yield f'changes {{"changes":[{put(1)}<500:,{put(1)}>,[]]}}', e1
+    yield "# 64 changes of the widest reach are within the limits of their texts."
+    yield changes(*(put(number, feature(minzoom="9", maxzoom="9", geometry='{"lines":[[[0,0],[4294967295,4294967295]]]}')) for number in range(64))), None
+    yield "# Texts that never end, or go on behind their end."
+    yield from ((f"changes {text}", JSON) for text in ['{"changes":<60000:[>', '<12000:{"changes":>', '{"changes":[<12000:{"put":>', '{"changes":["<60000:a>',
+                                                       f"{changes(delete(1))[8:]}<1000:}}>", f"{changes(delete(1))[8:]}{changes(delete(1))[8:]}", '{"changes"'])
+
+
 def text_lines():
     point, other = Change(7, POINT), Change(9, POINT | {"layer": "q"})
     yield "# The snapshot of two points, cut behind each byte, and with each byte changed to 0, 255 and its neighbours."
@@ -83,7 +132,7 @@ def each(word, data):
             yield f"{word} {(data[: int(at)] + bytes.fromhex(byte) + data[int(at) + 1 :]).hex()}"
 
 
-PARTS = [json_lines, text_lines]
+PARTS = [json_lines, changes_lines, text_lines]
 
 
 def lines():
