@@ -342,7 +342,7 @@ def head_version(sector, number, most):
 def text_at(held, layout, place, left, number, version):
     """The text of the record of a version whose head is at a place, where so many places are left."""
     length = int.from_bytes(sector_of(held, layout.place(place))[12:16], "little")
-    if not 1 <= length <= LONGEST_OF[version] or parts_of(length) > left:
+    if not 1 <= length <= LONGEST_OF.get(version, 0) or parts_of(length) > left:
         raise Fault("Damaged(Journal)")
     text = b""
     for part in range(parts_of(length)):
