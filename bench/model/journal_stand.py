@@ -1,5 +1,6 @@
 """A model of a disk with its generations and its journal, which answers the lines of `journal_script.py`."""
 from collections import namedtuple
+
 from calls import append, format_disk, install, upgrade, write_area
 from crashes import FROM, MADE, NONE, NOT_MADE, Failed, Faulty, Memory, Seen
 from disk import FORMAT_VERSIONS, LAST_NUMBER, LONGEST_OF, SECTOR, Fault, Layout, Root
