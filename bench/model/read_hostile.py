@@ -283,8 +283,8 @@ def tile_lines():
     for item, other, pairs in [(KEY, VALUE, [(16383, 0), (16384, 0)]), (VALUE, KEY, [(0, 16383), (0, 16384)])]:
         for pair, wanted in zip(pairs, [None, "Tag"]):
             yield f"tile {pool(16384, item, other, feature(b''.join(map(varint, pair))))}", wanted
-    yield "# 100,000 keys without letters, and no feature."
-    yield f"tile {pool(100000, part(3, bytes()))}", '[Layer { name: "p", version: 1, extent: 4096, features: [] }]'
+    yield "# 1,048,576 keys without letters, and no feature."
+    yield f"tile {pool(2**20, part(3, bytes()))}", '[Layer { name: "p", version: 1, extent: 4096, features: [] }]'
     yield "# 20,000 features without fields; one with 20,000 tags of one key; 20,000 points in one place; as many pairs of integers of no kind."
     yield f"tile {pool(20000, part(2, bytes()))}"
     name = part(1, b"p")
@@ -344,6 +344,30 @@ def texts_at_counts():
         yield b"\x02" + number_.to_bytes(8, "little"), None if number_ < FAR else "Bad"
 
 
+def edits_at_counts():
+    """Texts of edits at both ends of the count of changes and beyond, with claims that no bytes follow, with one id twice, and at the longest: the text
+    and its fault."""
+    delete = [b"\x02" + k.to_bytes(8, "little") for k in range(256)]
+    for count in (0, 1, 2, 63, 64, 65, 255):
+        yield bytes([count]) + b"".join(delete[:count]), None if 1 <= count <= 64 else "Bad"
+    for count, there in [(1, 0), (2, 1), (64, 0), (64, 63)]:
+        yield bytes([count]) + b"".join(delete[:there]), "Cut"
+        yield bytes([count]) + b"".join(delete[:there]) + b"\x02\x09", "Cut"
+        yield bytes([count]) + b"".join(delete[:there]) + b"\x03", "Bad"
+    for count in (0, 65, 128, 255):
+        yield bytes([count]), "Bad"
+    for first, second in [(0, 1), (0, 63), (62, 63), (31, 33)]:
+        changes = delete[:64]
+        changes[second] = changes[first]
+        yield b"\x40" + b"".join(changes), "Bad"
+        # The second one is a put, of which no more bytes are there.
+        yield b"\x40" + b"".join(changes[:second]) + b"\x01" + changes[first][1:], "Bad"
+    # Two points, one in 4,083 places, of 32,769 bytes where the other's layer has a name of 63 bytes.
+    many = b"\x01" + bytes(8) + b"\x01p\x00\x02\x01" + counted(2, 4083, bytes(8)) + b"\0"
+    for size in (62, 63, 64):
+        yield b"\x02" + many + b"\x01\x01" + bytes(7) + counted(1, size, b"p") + b"\x00\x02\x01\x01\x00" + bytes(9), "Bad" if size == 64 else None
+
+
 def folded(data):
     """Bytes in hexadecimal, a run of equal pieces of 1, 8, 18, 26, 28 bytes once with its count."""
     words, at = [], 0
@@ -370,6 +394,9 @@ def text_lines():
     yield "# A text that ends behind its first zoom: cut if a zoom may follow, and bad if none may."
     yield from ((f"change {front}{zoom:02x}", "Cut" if zoom <= GREATEST_ZOOM else "Bad") for zoom in ENDS_OF_ZOOMS)
     yield from ((f"edit 01{front}{zoom:02x}", "Cut" if zoom <= GREATEST_ZOOM else "Bad") for zoom in ENDS_OF_ZOOMS)
+    yield "# The texts of edits at both ends of the count of changes, with fewer changes than they claim, with one id twice, near the longest."
+    for data, wanted in edits_at_counts():
+        yield f"edit {folded(data)}", wanted
     yield "# Counts of 65,535 that the bytes behind them can't fill."
     for geometry in ["01ffff", "02ffff", "020100ffff", "03ffff", "030100ffff", "0301000100ffff"]:
         yield f"change {front}0002{geometry}", "Cut"
