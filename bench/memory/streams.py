@@ -236,16 +236,16 @@ class Connection(Stream):
         read = b""
         if child.stdout.readline():
             with socket.create_connection(("127.0.0.1", port), timeout=60) as peer:
-                peer.sendall(requests)
-                peer.shutdown(socket.SHUT_WR)
-                read = read_all(peer)
+                read = asked(peer, requests)
         _, told = child.communicate(timeout=60)
         return child.returncode, read, told
 
 
-def read_all(peer):
-    """What a peer reads up to the end; nothing where the connection is reset before."""
+def asked(peer, requests):
+    """What a peer reads that sends requests and then no more; nothing where the connection is reset before its end."""
     try:
+        peer.sendall(requests)
+        peer.shutdown(socket.SHUT_WR)
         return b"".join(iter(lambda: peer.recv(65536), b""))
     except OSError:
         return b""
