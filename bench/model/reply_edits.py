@@ -308,7 +308,8 @@ def in_connections(script):
     script.note("a body that isn't whole is waited for, and refused at the end of the input; the edit isn't made")
     script.disk(256)
     whole = head("POST /edits HTTP/1.1", "host: a", plain) + body
-    for size in range(len(whole) - len(body) - 4, len(whole)):
+    front = len(whole) - len(body)
+    for size in (front - 1, front, front + 1, len(whole) - 1):
         script.ask(whole[:size])
         script.wait(whole[:size], sizes="4096")
     script.ask(A)
@@ -331,40 +332,4 @@ def damaged_edits(script):
     script.ask(*shown(7, 8), A)
 
 
-def of_lists(before, *parts):
-    """A body with these parts in the list of its changes."""
-    return [b'{"changes":[' + before, *parts, b"]}"]
-
-
-def hostile():
-    yield "thousands of changes: E1 of any of them, then E10"
-    yield from [of_lists(b'{"delete":1}', Often(5000, b',{"delete":1}')), of_lists(b"{}", Often(20000, b",{}")), of_lists(b"0", Often(30000, b",0"))]
-    yield of_lists(b'{"delete":1}', Often(4000, b',{"delete":1}'), b',{"delete":-1}')
-    yield "lists in place of changes, nested as deep as JSON goes and deeper: the object and its list are two levels"
-    yield from [of_lists(b"", Often(deep, b"["), Often(deep, b"]")) for deep in (1, 125, 126, 20000)]
-    yield [Often(65536, b"[")]
-    yield "tags nested in a feature: with the object, the list, the change, the feature and its tags five levels are taken"
-    front, back = b'{"put":7,"feature":{"layer":"p","minzoom":0,"maxzoom":2,"geometry":{"points":[[0,0]]},"tags":{"a":', b"}}}"
-    yield from [of_lists(front, Often(deep, b"["), Often(deep, b"]"), back) for deep in (121, 122, 123)]
-    yield "numbers of 60,000 digits, texts that are none, and keys that are repeated: the last one counts"
-    for text in (b"9", b"1", b"0"):
-        yield of_lists(b'{"delete":', Often(60000, text), b"}")
-    yield from [of_lists(b'{"delete":0.', Often(60000, b"0"), b"}"), of_lists(b'{"delete":1e-', Often(60000, b"9"), b"}")]
-    yield from [of_lists(b'{"\\ud800":1,"delete":9}'), of_lists(b'{"delete":"\\ud800","delete":9}'), of_lists(b'{"delete":9,"\\u0000":1}')]
-    yield from [of_lists(b'{"delete":1', Often(5000, b',"delete":1'), b',"delete":9}'), [b'{"changes":5', Often(4000, b',"changes":[]'), b"}"]]
-    yield [b'{"changes":[]', Often(2000, b',"changes":[{"delete":9}]'), b"}"]
-
-
-def hostile_edits(script):
-    script.say("Bodies of edits that are made to do harm.")
-    script.disk(256)
-    script.ask(put(9), put(1))
-    for parts in hostile():
-        if isinstance(parts, str):
-            script.note(parts)
-        else:
-            script.ask(*post_parts(parts), *shown(9), sizes="65536")
-
-
 BLOCKS = [worked_edits, methods, refused_edits, at_the_limits, first_disks, in_the_journal, on_failing_disks, in_connections, damaged_edits]
-BLOCKS += [hostile_edits]
