@@ -42,20 +42,20 @@ def install(disk, root):
     write_and_sync(disk, 1 + root.generation % 2, root_sector(root))
 
 
-def part_sector(text, part, number):
+def part_sector(text, part, number, version=1):
     """The sector of a part of a record, padded with zeros."""
     piece = text[TEXT_OF_PART * part : TEXT_OF_PART * (part + 1)]
-    return (front(part, number, len(text)) + piece).ljust(SECTOR, b"\0")
+    return (front(part, number, len(text), version) + piece).ljust(SECTOR, b"\0")
 
 
-def append(disk, place_of, place, number, text):
+def append(disk, place_of, place, number, text, version=1):
     """Writes a record from a place on: its bodies, a sync if there are any, its head, a sync."""
     bodies = range(1, parts_of(len(text)))
     for part in bodies:
-        disk.write(place_of(place + part), part_sector(text, part, number))
+        disk.write(place_of(place + part), part_sector(text, part, number, version))
     if bodies:
         disk.sync()
-    write_and_sync(disk, place_of(place), part_sector(text, 0, number))
+    write_and_sync(disk, place_of(place), part_sector(text, 0, number, version))
 
 
 def write_area(disk, layout, generation, held, sectors):

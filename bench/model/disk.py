@@ -11,12 +11,14 @@ SECTOR = 512
 TEXT_OF_PART = 496
 LEAST, MOST = 64, 16777216
 FORMAT_MARK, ROOT_MARK = b"VTILEDSK", b"VTROOT01"
-HEAD, BODY, VERSION = 1, 2, 1
+HEAD, BODY = 1, 2
 FORMAT_VERSIONS = (1, 2)
 PUT, DELETE = 1, 2
 KINDS = {1: "points", 2: "lines", 3: "polygons"}
 LAST_NUMBER = 2**64 - 1
 LONGEST = 32768
+# The longest text of a record, by its version.
+LONGEST_OF = {1: LONGEST, 2: LONGEST + 1}
 
 # What a disk's root says; an edit gives a number its feature, or takes it away (None); what a disk holds. The edits of the journal
 # stand in order, the first of them has the number `root.edits` + 1.
@@ -297,43 +299,51 @@ def parts_of(length):
     return -(-length // TEXT_OF_PART)
 
 
-def front(part, number, length):
+def front(part, number, length, version=1):
     """The bytes with which the sector of a part begins."""
     kind, count = (BODY, part) if part else (HEAD, parts_of(length))
-    return spelled(kind, 1) + spelled(VERSION, 1) + spelled(count, 2) + spelled(number, 8) + spelled(length, 4)
+    return spelled(kind, 1) + spelled(version, 1) + spelled(count, 2) + spelled(number, 8) + spelled(length, 4)
 
 
-def is_head(sector, number):
-    """Whether it is the head of the edit of this number, whatever it says of parts and length."""
-    return sector[:2] == spelled(HEAD, 1) + spelled(VERSION, 1) and sector[4:12] == spelled(number, 8)
+def head_version(sector, number, most):
+    """The version of the head of this edit that a sector is, whatever it says of parts and length. None if it isn't a head of a version up to `most`."""
+    is_head = sector[0] == HEAD and 1 <= sector[1] <= most and sector[4:12] == spelled(number, 8)
+    return sector[1] if is_head else None
 
 
-def record_text(held, layout, place, left, number):
-    """The text of the record whose head stands at a place, where so many places are left."""
+def record_text(held, layout, place, left, number, version):
+    """The text of the record of this version whose head is at a place, where so many places are left."""
     length = int.from_bytes(sector_of(held, layout.place(place))[12:16], "little")
-    if not 1 <= length <= LONGEST or parts_of(length) > left:
+    if not 1 <= length <= LONGEST_OF.get(version, 0) or parts_of(length) > left:
         raise Fault("Damaged(Journal)")
     text = b""
     for part in range(parts_of(length)):
         sector = sector_of(held, layout.place(place + part))
-        if sector[:16] != front(part, number, length):
+        if sector[:16] != front(part, number, length, version):
             raise Fault("Damaged(Journal)")
         text += sector[16:]
     return text[:length]
 
 
-def texts_of(held, layout, root):
-    """The texts of the journal, and how many places their records take."""
-    texts = []
+def records_of(held, layout, root, most):
+    """The records of the journal, each its version and its text, and how many places they take. Versions up to `most` are expected."""
+    records = []
     used = 0
-    while used < layout.places and root.edits + len(texts) < LAST_NUMBER:
-        place, number = root.journal_at + used, root.edits + len(texts) + 1
-        if not is_head(sector_of(held, layout.place(place)), number):
+    while used < layout.places and root.edits + len(records) < LAST_NUMBER:
+        place, number = root.journal_at + used, root.edits + len(records) + 1
+        version = head_version(sector_of(held, layout.place(place)), number, most)
+        if version is None:
             break
-        text = record_text(held, layout, place, layout.places - used, number)
-        texts.append(text)
+        text = record_text(held, layout, place, layout.places - used, number, version)
+        records.append((version, text))
         used += parts_of(len(text))
-    return texts, used
+    return records, used
+
+
+def texts_of(held, layout, root):
+    """The texts of a journal of version 1, and how many places their records take."""
+    records, used = records_of(held, layout, root, 1)
+    return [text for _, text in records], used
 
 
 def read_disk(held):

@@ -4,17 +4,18 @@ from collections import namedtuple
 import words
 from calls import append, format_disk, install, upgrade, write_area
 from crashes import FROM, MADE, NONE, NOT_MADE, Failed, Faulty, Memory, Seen, every_choice
-from disk import FORMAT_VERSIONS, LAST_NUMBER, LONGEST, SECTOR, Fault, Layout, Root, front, is_head, layout_of, parts_of, root_of, texts_of, version_of
+from disk import FORMAT_VERSIONS, LAST_NUMBER, LONGEST_OF, SECTOR, Fault, Layout, Root
+from disk import front, head_version, layout_of, parts_of, records_of, root_of, version_of
 from words import Fields, Variant, briefly, debug, err, ok, read, some, spelled
 
 CRATE = "journal_runs"
 
 Start = namedtuple("Start", "place edits")
-Head = namedtuple("Head", "number length parts")
+Head = namedtuple("Head", "version number length parts")
 
 
 class Ring:
-    """The sectors of a journal, with the members of a `Layout` that `disk.texts_of` uses."""
+    """The sectors of a journal, with the members of a `Layout` that `disk.records_of` uses."""
 
     def __init__(self, first, places):
         self.first, self.places = first, places
@@ -23,12 +24,17 @@ class Ring:
         return self.first + number % self.places
 
 
-def head_of(sector, number):
-    """The head of a record that a sector is, or None."""
+def head_of(sector, version, number):
+    """The head of a record of this version that a sector is, or None."""
     length = int.from_bytes(sector[12:16], "little")
-    if not 1 <= length <= LONGEST or sector[:16] != front(0, number, length):
+    if not 1 <= length <= LONGEST_OF[version] or sector[:16] != front(0, number, length, version):
         return None
-    return Head(number, length, parts_of(length))
+    return Head(version, number, length, parts_of(length))
+
+
+def optional(value):
+    """An optional value, in the form of `{:?}`."""
+    return debug(None if value is None else some(value))
 
 
 class Trial:
@@ -141,34 +147,35 @@ class Trial:
 
     # ---- its journal
 
-    def do_ring(self, first, places, place, edits):
+    def do_ring(self, first, places, place, edits, most=2):
         if first + places > self.disk.count or place >= places:
             return "no ring"
         ring, start, before = Ring(first, places), Start(place, edits), self.disk.calls
         try:
-            texts, used = texts_of(Seen(self.disk), ring, Root(0, edits, place, 0, 0))
+            records, used = records_of(Seen(self.disk), ring, Root(0, edits, place, 0, 0), most)
         except Failed:
             return f"Device in {self.disk.calls - before}"
         except Fault:
             return f"Damaged in {self.disk.calls - before}"
-        self.ring, self.start, self.used, self.last = ring, start, used, edits + len(texts)
-        shown = "".join(" " + briefly(text) for text in texts)
-        return f"used {used} last {self.last}:{shown} in {self.disk.calls - before}"
+        self.ring, self.start, self.used, self.last = ring, start, used, edits + len(records)
+        held = "".join(f" {version}={briefly(text)}" for version, text in records)
+        return f"used {used} last {self.last}:{held} in {self.disk.calls - before}"
 
-    def do_append(self, text):
+    def do_append(self, *words):
+        version, text = words if len(words) == 2 else (1, *words)
         if self.ring.first + self.ring.places > self.disk.count:
             return "no ring"
-        if not 1 <= len(text) <= LONGEST:
+        if not 1 <= len(text) <= LONGEST_OF.get(version, 0):
             return "no text"
         need, free = parts_of(len(text)), self.ring.places - self.used
         if self.last == LAST_NUMBER:
             return "Err(NumbersSpent) in 0"
         if need > free:
             return f"{debug(err(Fields('Full', need=need, free=free)))} in 0"
-        return self.counted(lambda: self.appended(text), Variant("Device"))
+        return self.counted(lambda: self.appended(version, text), Variant("Device"))
 
-    def appended(self, text):
-        append(self.disk, self.ring.place, self.start.place + self.used, self.last + 1, text)
+    def appended(self, version, text):
+        append(self.disk, self.ring.place, self.start.place + self.used, self.last + 1, text, version)
         self.used, self.last = self.used + parts_of(len(text)), self.last + 1
         return self.last
 
@@ -190,15 +197,17 @@ class Trial:
         self.start, self.used = self.mark, self.used - behind
         return self.do_next()
 
-    def do_head(self, at, number):
+    def do_head(self, at, number, most=None):
         sector = self.disk.read(at)
-        says = head_of(sector, number)
-        return f"{debug(is_head(sector, number))} {debug(some(says) if says else None)}"
+        if most is not None:
+            return optional(head_version(sector, number, most))
+        return " ".join([optional(head_version(sector, number, 2)), *(optional(head_of(sector, version, number)) for version in (1, 2))])
 
     def do_part(self, head_at, number, at, part):
-        head, sector = head_of(self.disk.read(head_at), number), self.disk.read(at)
-        has = head and sector[:16] == front(part, number, head.length)
-        return debug(some(has) if head else None)
+        first, sector = self.disk.read(head_at), self.disk.read(at)
+        version = head_version(first, number, 2)
+        head = head_of(first, version, number) if version else None
+        return optional(sector[:16] == front(part, number, head.length, version) if head else None)
 
     def answer(self, line):
         if not line or line.startswith("#"):
@@ -225,6 +234,10 @@ FORMAT_64 = "'VTILEDSK 1:4 64:8"
 LAST_FORMAT_64 = "'VTILEDSK 2:4 64:8"
 # Texts with letters at the bounds of their parts.
 LETTERS = {1: "'a", 496: "'a*495 'b", 497: "'a*495 'b 'c", 992: "'a*495 'b 'c 'a*494 'd", 993: "'a*495 'b 'c 'a*494 'd 'e"}
+
+
+# How a record is appended, by its version.
+APPEND = {1: "append", 2: "append 2"}
 
 
 def heading(*texts):
@@ -441,30 +454,36 @@ def installs():
 
 
 def part_sectors():
-    yield from heading("The bytes of records: texts of one byte, of one part, of two and of three. The bytes of their number are all different.")
-    for words in LETTERS.values():
-        yield from ["disk 8", f"ring 2 4 0 {NUMBER - 1}", f"append = {words}", "sectors", "sector 2", "sector 3", "sector 4"]
+    yield from heading("Records of both versions: texts of one byte, of one part, of two and of three. The bytes of their number are all different.")
+    for command in APPEND.values():
+        for words in LETTERS.values():
+            yield from ["disk 8", f"ring 2 4 0 {NUMBER - 1}", f"{command} = {words}", "sectors", "sector 2", "sector 3", "sector 4"]
 
 
 def heads():
-    yield from heading("Heads: valid ones, wrong lengths and counts of parts, another kind, another version, another number.")
+    yield from heading("Heads of versions 1 and 2: valid ones, wrong lengths and counts of parts, another kind, version or number; up to a version.")
     rows = [(1, 1, 1, 1), (1, 1, 1, 496), (1, 1, 2, 497), (1, 1, 67, 32768), (1, 1, 67, 32769), (1, 1, 0, 0), (1, 1, 1, 497), (1, 1, 258, 497)]
-    for kind, version, parts, length in [*rows, (1, 1, 2, 2**16 + 497), (2, 1, 1, 1), (0, 0, 0, 0), (1, 2, 1, 1), (1, 0, 1, 1)]:
+    rows += [(1, 1, 2, 2**16 + 497), (2, 1, 1, 1), (0, 0, 0, 0), (1, 2, 1, 1), (1, 0, 1, 1), (1, 3, 1, 1), (1, 255, 1, 1), (2, 2, 1, 1)]
+    for kind, version, parts, length in [*rows, (1, 2, 2, 497), (1, 2, 67, 32769), (1, 2, 67, 32770), (1, 2, 0, 0), (1, 2, 1, 497)]:
         yield from ["disk 1", f"write 0 = {kind}:1 {version}:1 {parts}:2 {NUMBER}:8 {length}:4 'a"]
         yield from [f"head 0 {number}" for number in (NUMBER, NUMBER + 1, NUMBER - 1)]
+        yield from [f"head 0 {NUMBER} {most}" for most in (0, 1, 3, 255)]
     yield from heading("The parts of a record of three: sectors 0 to 2. Sector 3 is a body of a shorter text, 4 one of zeros, 5 one of another version.")
     yield from ["disk 6", f"ring 0 3 0 {NUMBER - 1}", f"append = {LETTERS[993]}", f"write 3 = 2:1 1:1 1:2 {NUMBER}:8 992:4 'a"]
     yield from [f"write 4 = 2:1 1:1 1:2 {NUMBER}:8 993:4", f"write 5 = 2:1 2:1 1:2 {NUMBER}:8 993:4"]
     yield from [f"part 0 {NUMBER} {at} {part}" for at in range(6) for part in range(4)]
+    yield from heading("The same in version 2: a body of version 1 isn't one of the record's.")
+    yield from ["disk 5", f"ring 0 3 0 {NUMBER - 1}", f"append 2 = {LETTERS[993]}", f"write 3 = 2:1 1:1 1:2 {NUMBER}:8 993:4"]
+    yield from [f"write 4 = 2:1 2:1 2:2 {NUMBER}:8 993:4", *(f"part 0 {NUMBER} {at} {part}" for at in range(5) for part in range(4))]
 
 
 def append_crashes():
     yield from heading(
         "A text of two parts after one of two bytes, in a ring of four sectors from sector 2 on, from place 2 on: the body goes into place 0. Each of",
-        "the four calls fails in turn (the body, a sync, the head, a sync), and a crash leaves each unsynced sector or not.",
+        "the four calls fails in turn (the body, a sync, the head, a sync), and a crash leaves each unsynced sector or not. In version 1, then in 2.",
     )
-    for stop in stops(4):
-        yield from ["disk 8", "ring 2 4 2 6", "append = 'xx", stop, "append = 'y*497", "next", "fail_none", "ring 2 4 2 6", "stop"]
+    for command, stop in [(command, stop) for command in APPEND.values() for stop in stops(4)]:
+        yield from ["disk 8", "ring 2 4 2 6", "append = 'xx", stop, f"{command} = 'y*497", "next", "fail_none", "ring 2 4 2 6", "stop"]
         for choice in choices(2):
             yield from [f"crash {words_of(choice)}", "ring 2 4 2 6", "sectors"]
     yield from heading("The same with three parts, from place 3 on in a ring of five: the bodies go into places 4 and 0.")
@@ -474,14 +493,13 @@ def append_crashes():
             yield from [f"crash {words_of(choice)}", "ring 2 5 3 41", "sectors"]
     yield from heading(
         "An append of three parts is stopped after one of its bodies, and another of the same number before its head: whichever bodies a crash leaves,",
-        "there is no record. A third append of that number is recovered whole.",
+        "there is no record. A third append of that number is recovered whole. The first and the third are of version 1 or 2, the second is of the other.",
     )
-    for first in ("", " 1"):
-        for calls in (2, 3, 4):
-            for second in choices(2):
-                yield from ["disk 8", "ring 2 5 3 41", "fail_from 2", "append = 'x*993", "stop", f"crash{first}", "ring 2 5 3 41"]
-                yield from [f"fail_from {calls}", "append = 'y*993", "stop", f"crash {words_of(second)}", "ring 2 5 3 41", "append = 'z*993"]
-                yield from ["stop", "crash", "ring 2 5 3 41"]
+    for one, other in [APPEND.values(), reversed(APPEND.values())]:
+        for first, calls, second in [(first, calls, second) for first in ("", " 1") for calls in (2, 3, 4) for second in choices(2)]:
+            yield from ["disk 8", "ring 2 5 3 41", "fail_from 2", f"{one} = 'x*993", "stop", f"crash{first}", "ring 2 5 3 41"]
+            yield from [f"fail_from {calls}", f"{other} = 'y*993", "stop", f"crash {words_of(second)}", "ring 2 5 3 41", f"{one} = 'z*993"]
+            yield from ["stop", "crash", "ring 2 5 3 41"]
 
 
 def full_rings():
@@ -489,8 +507,9 @@ def full_rings():
     yield from ["disk 6", "ring 2 4 2 6", "next", "append = 'y*497", "next", "append = 'y*993", "append = 'y*992", "next", "append = 'x", "ring 2 4 2 6"]
     yield from heading("The last number: NumbersSpent is reported before Full.")
     yield from ["disk 6", f"ring 2 4 3 {LAST - 1}", "append = 'x", "append = 'y*993", "append = 'y*32768", "append = 'x", f"ring 2 4 3 {LAST - 1}"]
-    yield from heading("Texts that are no edit's: of no bytes, and of 32,769.")
-    yield from ["disk 82", "ring 2 80 75 6", "append =", "append = 'x*32769"]
+    yield from heading("Texts that no record has: of no bytes, of 32,769 in version 1, of 32,770 in version 2; and versions that there aren't.")
+    yield from ["disk 82", "ring 2 80 75 6", "append =", "append = 'x*32769", "append 2 =", "append 2 = 'x*32770", "append 0 = 'x", "append 3 = 'x"]
+    yield from [f"append {2**32 + 1} = 'x", "next"]
 
 
 def releases():
@@ -515,6 +534,36 @@ def recoveries():
     yield from ["disk 6", "ring 2 5 0 0", "ring 7 0 0 0", "ring 2 4 4 0", "ring 6 0 0 0"]
 
 
+def versions():
+    yield from heading(
+        "Records of versions 1, 2 and 1 in a ring of six places from place 4 on. On a disk of version 1 the journal ends at the record of version 2, and the",
+        "next record takes its place. Of a version above 2 as of 2, of version 0 there is no record.",
+    )
+    yield from ["disk 8", "ring 2 6 4 6", "append = 'a", "append 2 = 'y*497", "append = 'ccc", "next", "stop", "crash"]
+    yield from [f"ring 2 6 4 6 {most}" for most in (2, 3, 0, 1)]
+    yield from ["append = 'bb", "ring 2 6 4 6", "append 2 = 'dd", "ring 2 6 4 6", "ring 2 6 4 6 1", "ring 2 6 0 8"]
+    yield from heading("The longest texts: of 32,768 bytes in version 1 and of 32,769 in version 2, each of 67 parts, and a release of both.")
+    yield from ["disk 200", "ring 2 140 100 6", "append = 'x*32768", "append 2 = 'a 'y*32768", "stop", "crash", "ring 2 140 100 6 1"]
+    yield from ["ring 2 140 100 6", "mark", "release 134"]
+    yield from heading("A record of 32,769 bytes in version 2, from a head and 66 bodies; the same sectors in version 1 are damaged.")
+    for version in (2, 1):
+        yield "disk 80"
+        for part in range(67):
+            kind, count = (2, part) if part else (1, 67)
+            yield f"write {part} = {kind}:1 {version}:1 {count}:2 {NUMBER}:8 32769:4 {part}:1*496"
+        yield from [f"ring 0 80 0 {NUMBER - 1}", f"ring 0 80 0 {NUMBER - 1} 1", f"ring 0 67 0 {NUMBER - 1}", f"ring 0 66 0 {NUMBER - 1}"]
+    yield from heading("Heads and bodies of versions 1, 2 and others: a record is whole if all of it is of one version, 1 or 2, that is expected.")
+    for head, body in [(1, 2), (2, 1), (2, 2), (1, 1), (3, 3), (0, 0)]:
+        yield from pair(TWO, BODY, versions_of=(head, body))
+        yield from [f"ring 0 2 0 {NUMBER - 1} {most}" for most in (1, 3)]
+    yield from heading("A record of three parts whose first body is of the other version, then its second, then none.")
+    for one, other in [(1, 2), (2, 1)]:
+        for bodies in [(other, one), (one, other), (one, one)]:
+            yield from ["disk 3", f"write 0 = 1:1 {one}:1 3:2 {NUMBER}:8 993:4 'a*496"]
+            yield from (f"write {part} = 2:1 {version}:1 {part}:2 {NUMBER}:8 993:4 'b*496" for part, version in enumerate(bodies, 1))
+            yield f"ring 0 3 0 {NUMBER - 1}"
+
+
 # Sectors of a ring, by kind, part, length and byte of the text.
 ZERO = None
 SHORT = (1, 1, 2, 97)
@@ -522,14 +571,15 @@ TWO = (1, 2, 497, 97)
 BODY = (2, 1, 497, 98)
 
 
-def pair_words(sector, number=NUMBER):
+def pair_words(sector, number=NUMBER, version=1):
     kind, part, length, byte = sector
-    return f"{kind}:1 1:1 {part}:2 {number}:8 {length}:4 {byte}:1*496"
+    return f"{kind}:1 {version}:1 {part}:2 {number}:8 {length}:4 {byte}:1*496"
 
 
-def pair(first, second, start=f"0 {NUMBER - 1}"):
+def pair(first, second, start=f"0 {NUMBER - 1}", versions_of=(1, 1)):
     yield "disk 2"
-    yield from (f"write {at} = {pair_words(sector)}" for at, sector in enumerate([first, second]) if sector)
+    both = enumerate(zip([first, second], versions_of))
+    yield from (f"write {at} = {pair_words(sector, version=version)}" for at, (sector, version) in both if sector)
     yield f"ring 0 2 {start}"
 
 
@@ -559,7 +609,7 @@ def lines():
     yield from ["# Disks, their generations and their journals. Written by bench/model/journal_script.py, with the answers."]
     for block in (layouts, formats, format_crashes, possible_roots, bad_roots, bad_formats, reads_that_fail, upgrades, upgrade_crashes, installs):
         yield from block()
-    for block in (part_sectors, heads, append_crashes, full_rings, releases, recoveries, pairs):
+    for block in (part_sectors, heads, append_crashes, full_rings, releases, recoveries, versions, pairs):
         yield from block()
 
 
