@@ -5,20 +5,24 @@ ghost use Rattle.edit_journal.specs.Releases.{IsBehind, MayTake};
 
 use crate::lines::{Line, RingVerb};
 use crate::trial::{Trial, fixed_text, outcome_text};
-use edit_journal::{FIRST_RECORD_VERSION, Journal, LAST_RECORD_VERSION, MOST_RECORD_BYTES, Record, Start, head_in, head_version};
+use edit_journal::{
+    FIRST_RECORD_VERSION, Journal, LAST_RECORD_VERSION, MOST_RECORD_BYTES, Record, Start, head_in,
+    head_version,
+};
 use script_bytes::spelled_briefly;
 use sector_disk::Sectors;
 use std::alloc::{AllocError, Global};
 
 /// The text of a journal and its records, each its version and its text.
-fn journal_text(
-    alloc: Global,
-    journal: Journal,
-    records: &[Record],
-) -> Result<String, AllocError> {
+fn journal_text(alloc: Global, journal: Journal, records: &[Record]) -> Result<String, AllocError> {
     let mut text = format!(in alloc; "used {} last {}:", journal.used, journal.last)?;
     for next in records {
-        write!(text, " {}={}", next.version, spelled_briefly(alloc, &next.text)?)?;
+        write!(
+            text,
+            " {}={}",
+            next.version,
+            spelled_briefly(alloc, &next.text)?
+        )?;
     }
     Ok(text)
 }
@@ -170,8 +174,9 @@ fn part(
 ) -> Result<Option<String>, AllocError> {
     let first = sector_at(trial, head_at);
     let sector = sector_at(trial, at);
-    let head = head_version(&first, number, LAST_RECORD_VERSION)
-        .and_then(|version| head_in(&first, version, number));
+    let head = head_version(&first, number, LAST_RECORD_VERSION).and_then(|version| head_in(
+        &first, version, number,
+    ));
     let has = head.map(|head| head.has_part(&sector, part));
     Ok(Some(format!(in alloc; "{has:?}")?))
 }
