@@ -12,7 +12,7 @@ WIDEST = tiles.feature({"lines": [[[0, 0], [WORLD, WORLD]]]}, 9, 9)
 
 def cut_edits(script):
     stream = post(sets(7), deletes(8)) + A
-    script.say("An edit of two changes and a tile, cut behind each byte: the input ends, or a read fails. The edit is made once its body is whole, and not before.")
+    script.say("An edit of two changes and a tile, cut behind each byte: the input ends, or a read fails. The edit is made once its body is whole.")
     script.disk(4096)
     for size in range(len(stream)):
         script.ask(put(8), stream[:size])
@@ -61,7 +61,8 @@ def hostile():
     yield "halves of surrogate pairs, NUL, byte order marks, bytes that are no UTF-8"
     for text in (b'"\\ud800"', b'"\\udc00\\ud800"', b'"\\u0000"', b'"\0"', b'"\xef\xbb\xbf"', b'"\xc0\x80"', b'"\xed\xa0\x80"', b'"\xf4\x90\x80\x80"'):
         yield tagged(text)
-    yield from [[b"\xef\xbb\xbf", body_of(deletes(1))], [body_of(deletes(1)), b"\xef\xbb\xbf"], [front, b'{"\\u0064elete":1}', back], [front, b'{"delete\\u0000":1}', back]]
+    yield from [[b"\xef\xbb\xbf", body_of(deletes(1))], [body_of(deletes(1)), b"\xef\xbb\xbf"]]
+    yield from [[front, b'{"\\u0064elete":1}', back], [front, b'{"delete\\u0000":1}', back]]
 
 
 def hostile_edits(script):
