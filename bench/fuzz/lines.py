@@ -6,7 +6,8 @@
 READ_RUNS, MAP_RUNS and REPLY_RUNS are the programs of these crates, which `rt run` leaves in their `out/`. One process answers 1,500
 lines, so some thousand lines a second are compared: tiles, texts of changes and edits, directories, metadata, archives and their
 contents, features and edits as JSON, snapshots, records of both versions, and connections in pieces of two sizes. Each process has the lines of
-one seed; the next ones have those of the next seed. The script prints each line that differs, and ends with 1 if one does or a process ends with another status than 0.
+one seed; the next ones have those of the next seed. The script prints each line that differs, and ends with 1 if one does or a process ends with
+another status than 0.
 """
 import argparse
 import random
