@@ -6,8 +6,7 @@ use Rattle.sector_disk.specs.Disk.History.{wrote, synced}
 use Rattle.sector_disk.specs.Moments.{Within, LeavesOnly}
 use Rattle.sector_disk.specs.declared.disk.DiskFault.{DiskFault}
 use Rattle.sector_disk.proofs.History.{started, seen_same, seen_other, any_write, write_within, write_leaves, any_sync, sync_within, sync_leaves, fits_image}
-use Rattle.edit_journal.specs.declared.sizes.TheConstants.{RECORD_VERSION}
-use Rattle.edit_journal.specs.Records.{parts_of, record_sector}
+use Rattle.edit_journal.specs.Records.{RecordData, parts_of, record_sector}
 use Rattle.edit_journal.specs.Ring.{Ring, sector_at}
 use Rattle.edit_journal.specs.Appends.{OldOrBody, ReadsAsBefore}
 use Rattle.edit_journal.proofs.Places.{places_apart}
@@ -22,28 +21,28 @@ pub sync_reads : (old new : History) (at : ℕ) → (new ≡ old) ⊎ (new ≡ s
 sync_reads old new at (inl same) = ap (λ (h : History). seen h at) same
 sync_reads old new at (inr is) = ap (λ (h : History). seen h at) is
 
-module _ (start : History) (ring : Ring) (place used number : ℕ) (text : List ℕ) (begins : place < ring.places)
-    (room : used + parts_of (length text) ≤ ring.places) where
+module _ (start : History) (ring : Ring) (place used number : ℕ) (r : RecordData) (begins : place < ring.places)
+    (room : used + parts_of (length r.text) ≤ ring.places) where
   -- each sector has what it might have had at the start, or a body
   abbrev pub Staged : Image → Type 0
-  Staged image = (at : ℕ) → OldOrBody start ring place used number text at (image at)
+  Staged image = (at : ℕ) → OldOrBody start ring place used number r at (image at)
 
   pub staged_start : LeavesOnly start start Staged
   staged_start = started start Staged (λ image may at. inl (may at))
 
   -- a body is written, reported as done or as failed
-  module _ (part : ℕ) (pos : 0 < part) (lt : part < parts_of (length text)) (at : ℕ) (at_is : at ≡ sector_at ring (place + (used + part)))
-      (sector : List ℕ) (is : sector ≡ record_sector RECORD_VERSION number text part)
+  module _ (part : ℕ) (pos : 0 < part) (lt : part < parts_of (length r.text)) (at : ℕ) (at_is : at ≡ sector_at ring (place + (used + part)))
+      (sector : List ℕ) (is : sector ≡ record_sector r.version number r.text part)
       (result : Result (Unit {0}) DiskFault) (old new : History) (writes : Writes result at sector old new) where
     written : FailedWrite at sector old new
     written = any_write result at sector old new writes
 
-    pub body_within : Within old (OldOrBody start ring place used number text) → Within new (OldOrBody start ring place used number text)
-    body_within was = write_within at sector old new (OldOrBody start ring place used number text) written was (inr (part, pos, lt, at_is, is))
+    pub body_within : Within old (OldOrBody start ring place used number r) → Within new (OldOrBody start ring place used number r)
+    body_within was = write_within at sector old new (OldOrBody start ring place used number r) written was (inr (part, pos, lt, at_is, is))
 
-    pub body_leaves : Within old (OldOrBody start ring place used number text) → LeavesOnly start old Staged → LeavesOnly start new Staged
+    pub body_leaves : Within old (OldOrBody start ring place used number r) → LeavesOnly start old Staged → LeavesOnly start new Staged
     body_leaves was so_far = write_leaves start old new at sector Staged written so_far
-        (fits_image new (OldOrBody start ring place used number text) Staged (body_within was) (λ image fits. fits))
+        (fits_image new (OldOrBody start ring place used number r) Staged (body_within was) (λ image fits. fits))
 
     pub body_reads : ReadsAsBefore ring place used (seen start) (seen old) → ReadsAsBefore ring place used (seen start) (seen new)
     body_reads was other taken = write_reads at sector old new other written
@@ -51,23 +50,23 @@ module _ (start : History) (ring : Ring) (place used number : ℕ) (text : List 
 
   -- the bodies are synced, reported as done or as failed
   module _ (result : Result (Unit {0}) DiskFault) (old new : History) (syncs : Syncs result old new)
-      (was : Within old (OldOrBody start ring place used number text)) where
-    pub synced_within : Within new (OldOrBody start ring place used number text)
-    synced_within = sync_within old new (OldOrBody start ring place used number text) (any_sync result old new syncs) was
+      (was : Within old (OldOrBody start ring place used number r)) where
+    pub synced_within : Within new (OldOrBody start ring place used number r)
+    synced_within = sync_within old new (OldOrBody start ring place used number r) (any_sync result old new syncs) was
 
     pub synced_leaves : LeavesOnly start old Staged → LeavesOnly start new Staged
     synced_leaves so_far = sync_leaves start old new Staged (any_sync result old new syncs) so_far
-        (fits_image new (OldOrBody start ring place used number text) Staged synced_within (λ image fits. fits))
+        (fits_image new (OldOrBody start ring place used number r) Staged synced_within (λ image fits. fits))
 
   -- a read gives the bodies before this one, and after its write this one too
-  pub body_seen : (part : ℕ) (sector : List ℕ) (at : ℕ) (old new : History) → part < parts_of (length text) → at ≡ sector_at ring (place + (used + part))
-      → sector ≡ record_sector RECORD_VERSION number text part → new ≡ wrote at sector old
-      → ((k : ℕ) → 0 < k → k < part → seen old (sector_at ring (place + (used + k))) ≡ record_sector RECORD_VERSION number text k)
-      → (k : ℕ) → 0 < k → k < part + 1 → seen new (sector_at ring (place + (used + k))) ≡ record_sector RECORD_VERSION number text k
+  pub body_seen : (part : ℕ) (sector : List ℕ) (at : ℕ) (old new : History) → part < parts_of (length r.text) → at ≡ sector_at ring (place + (used + part))
+      → sector ≡ record_sector r.version number r.text part → new ≡ wrote at sector old
+      → ((k : ℕ) → 0 < k → k < part → seen old (sector_at ring (place + (used + k))) ≡ record_sector r.version number r.text k)
+      → (k : ℕ) → 0 < k → k < part + 1 → seen new (sector_at ring (place + (used + k))) ≡ record_sector r.version number r.text k
   body_seen part sector at old new within at_is is new_is so_far k pos lt =
       ap (λ (h : History). seen h (sector_at ring (place + (used + k)))) new_is ∙ ⊎_elim
       (λ (same : k ≡ part). seen_same at sector old (sector_at ring (place + (used + k)))
-      (ap (λ (n : ℕ). sector_at ring (place + (used + n))) same ∙ sym at_is) ∙ is ∙ ap (λ (n : ℕ). record_sector RECORD_VERSION number text n) (sym same))
+      (ap (λ (n : ℕ). sector_at ring (place + (used + n))) same ∙ sym at_is) ∙ is ∙ ap (λ (n : ℕ). record_sector r.version number r.text n) (sym same))
       (λ (apart : k ≡ part → ⊥). seen_other at sector old (sector_at ring (place + (used + k)))
       (λ e. places_apart ring (place + (used + k)) (place + (used + part)) (omega (arith, lt, within)) (omega (arith, within)) (omega (arith, lt, within))
       (omega (arith, lt, within)) (λ same. apart (omega (arith, same))) (e ∙ at_is))

@@ -4,7 +4,7 @@ use Rattle.sector_disk.specs.Disk.{History, seen, MayHold, Writes, Syncs}
 use Rattle.sector_disk.specs.Moments.{Within, LeavesOnly}
 use Rattle.sector_disk.specs.declared.disk.DiskFault.{DiskFault}
 use Rattle.sector_disk.proofs.History.{started, fits_image, any_write, write_within, write_leaves, any_sync, sync_within, sync_leaves, weaken}
-use Rattle.edit_journal.specs.Records.{parts_of}
+use Rattle.edit_journal.specs.Records.{RecordData, parts_of}
 use Rattle.edit_journal.specs.Ring.{Ring, sector_at}
 use Rattle.edit_journal.specs.Appends.{IsFree, AsBefore, ReadsAsBefore, OldOrBody}
 use Rattle.edit_journal.proofs.Bodies.{write_reads, sync_reads}
@@ -13,17 +13,17 @@ use Rattle.edit_journal.proofs.Bodies.{write_reads, sync_reads}
 pub frame_start : (start : History) (ring : Ring) (place used : ℕ) → LeavesOnly start start (AsBefore ring place used start)
 frame_start start ring place used = started start (AsBefore ring place used start) (λ image may at taken. may at)
 
-module _ (start : History) (ring : Ring) (place used number : ℕ) (text : List ℕ) (some : 1 ≤ parts_of (length text))
-    (room : used + parts_of (length text) ≤ ring.places) where
+module _ (start : History) (ring : Ring) (place used number : ℕ) (r : RecordData) (some : 1 ≤ parts_of (length r.text))
+    (room : used + parts_of (length r.text) ≤ ring.places) where
   abbrev Old : ℕ → List ℕ → Type 0
   Old at sector = (IsFree ring place used at → ⊥) → MayHold start at sector
 
-  staged_old : (at : ℕ) (sector : List ℕ) → OldOrBody start ring place used number text at sector → Old at sector
+  staged_old : (at : ℕ) (sector : List ℕ) → OldOrBody start ring place used number r at sector → Old at sector
   staged_old at sector (inl may) taken = may
   staged_old at sector (inr body) taken = absurd (taken (used + body.0, omega arith, omega (arith, room, body.2), body.3))
 
-  module _ (staged : History) (within : Within staged (OldOrBody start ring place used number text))
-      (leaves : LeavesOnly start staged (λ image. (at : ℕ) → OldOrBody start ring place used number text at (image at))) where
+  module _ (staged : History) (within : Within staged (OldOrBody start ring place used number r))
+      (leaves : LeavesOnly start staged (λ image. (at : ℕ) → OldOrBody start ring place used number r at (image at))) where
     pub frame_staged : LeavesOnly start staged (AsBefore ring place used start)
     frame_staged = weaken start staged _ (AsBefore ring place used start) leaves (λ image each at. staged_old at (image at) (each at))
 

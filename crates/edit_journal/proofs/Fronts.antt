@@ -8,7 +8,7 @@ use Rattle.std.proofs.lemmas.List.{take-append-drop, take_at, drop-replicate, ta
 use Rattle.std.proofs.Math.Seq.{drop-append-add}
 use Rattle.edit_journal.specs.declared.sizes.TheConstants.{PART_BYTES}
 use Rattle.edit_journal.proofs.Pieces.{cut_length}
-use Rattle.edit_journal.specs.Records.{IsEditLength, piece, part_front, record_sector, HasFront, number_from, length_from}
+use Rattle.edit_journal.specs.Records.{IsRecordLength, piece, part_front, record_sector, HasFront, number_from, length_from}
 
 -- ---- the front
 
@@ -51,19 +51,20 @@ module _ (version number bytes part : ℕ) (sector : List ℕ) (front : HasFront
   length_there fits = ap length_from (sym whole) ∙ length_back version number bytes part (drop 16 sector) fits
 
 -- a sector has no head of a number where it hasn't the front of the length that is read there
-pub no_head : (version number : ℕ) (sector : List ℕ) (found read : ℕ) (tests : Bool) → found ≡ number → read ≡ length_from sector
-    → (IsTrue tests ↔ HasFront version found read 0 sector) → tests ≡ false
-    → (bytes : ℕ) → IsEditLength bytes → HasFront version number bytes 0 sector → ⊥
-no_head version number sector found read tests same is decides fails bytes fits front =
-    let length_is : bytes ≡ read = sym (is ∙ length_there version number bytes 0 sector front (omega (arith, fits.1))) in
-    iff_false decides fails (subst (λ (n : ℕ). HasFront version n read 0 sector) (sym same)
-    (subst (λ (b : ℕ). HasFront version number b 0 sector) length_is front))
+pub no_head : (version number : ℕ) (sector : List ℕ) (found_version found read : ℕ) (tests : Bool) → found_version ≡ version → found ≡ number
+    → read ≡ length_from sector → (IsTrue tests ↔ HasFront found_version found read 0 sector) → tests ≡ false
+    → (bytes : ℕ) → IsRecordLength version bytes → HasFront version number bytes 0 sector → ⊥
+no_head version number sector found_version found read tests same_version same is decides fails bytes fits front =
+    let length_is : bytes ≡ read = sym (is ∙ length_there version number bytes 0 sector front (omega (arith, fits))) in
+    iff_false decides fails (subst (λ (v : ℕ). HasFront v found read 0 sector) (sym same_version)
+    (subst (λ (n : ℕ). HasFront version n read 0 sector) (sym same)
+    (subst (λ (b : ℕ). HasFront version number b 0 sector) length_is front)))
 
--- nor where that is no edit's
-pub no_length : (version number : ℕ) (sector : List ℕ) (read : ℕ) → read ≡ length_from sector → (IsEditLength read → ⊥)
-    → (bytes : ℕ) → IsEditLength bytes → HasFront version number bytes 0 sector → ⊥
+-- nor where that is the length of no record
+pub no_length : (version number : ℕ) (sector : List ℕ) (read : ℕ) → read ≡ length_from sector → (IsRecordLength version read → ⊥)
+    → (bytes : ℕ) → IsRecordLength version bytes → HasFront version number bytes 0 sector → ⊥
 no_length version number sector read is none bytes fits front =
-    none (subst IsEditLength (sym (is ∙ length_there version number bytes 0 sector front (omega (arith, fits.1)))) fits)
+    none (subst (IsRecordLength version) (sym (is ∙ length_there version number bytes 0 sector front (omega (arith, fits)))) fits)
 
 -- ---- the bytes of the text
 

@@ -3,8 +3,8 @@ use Rattle.std.proofs.Common.{◌≡◌, ⊎_elim, ℕ, ◌<◌, ◌≤◌, ◌+
 use Rattle.std.proofs.lemmas.Bool.{cases_eq}
 use Rattle.std.proofs.lemmas.List.{take_all, take-append-le, drop-append-le, drop_at, length-take, length-drop}
 use Rattle.sector_disk.specs.Disk.{Image}
-use Rattle.edit_journal.specs.declared.sizes.TheConstants.{PART_BYTES, RECORD_VERSION}
-use Rattle.edit_journal.specs.Records.{parts_of, piece, HasFront}
+use Rattle.edit_journal.specs.declared.sizes.TheConstants.{PART_BYTES}
+use Rattle.edit_journal.specs.Records.{record_of, parts_of, piece, HasFront}
 use Rattle.edit_journal.specs.Ring.{Ring, sector_at}
 use Rattle.edit_journal.specs.Recovers.{PartsStand}
 use Rattle.edit_journal.proofs.Fronts.{piece_length}
@@ -39,23 +39,23 @@ new_piece : (text cut : List ℕ) (count : ℕ) → length text ≡ PART_BYTES *
 new_piece text cut count len short = ap (take PART_BYTES) (drop_at text cut (PART_BYTES * count) len) ∙ take_all PART_BYTES cut short
 
 -- so many parts were read: their fronts stand, and the text has their bytes
-pub record AreRead (ring : Ring) (place used number bytes : ℕ) (image : Image) (text : List ℕ) (count : ℕ) : Type 0 where
-  pub fronts : (part : ℕ) → part < count → HasFront RECORD_VERSION number bytes part (image (sector_at ring (place + (used + part))))
+pub record AreRead (ring : Ring) (place used version number bytes : ℕ) (image : Image) (text : List ℕ) (count : ℕ) : Type 0 where
+  pub fronts : (part : ℕ) → part < count → HasFront version number bytes part (image (sector_at ring (place + (used + part))))
   pub pieces : (part : ℕ) → part < count
       → piece text part ≡ take (piece_bytes bytes part) (drop 16 (image (sector_at ring (place + (used + part)))))
 
-module _ (ring : Ring) (place used number bytes : ℕ) (image : Image) where
-  pub none_read : (text : List ℕ) → AreRead ring place used number bytes image text 0
+module _ (ring : Ring) (place used version number bytes : ℕ) (image : Image) where
+  pub none_read : (text : List ℕ) → AreRead ring place used version number bytes image text 0
   none_read text = record { fronts = λ part lt. absurd (omega (arith, lt)); pieces = λ part lt. absurd (omega (arith, lt)) }
 
   one_read : (text cut : List ℕ) (count : ℕ) (sector : List ℕ) → count < parts_of bytes → length text ≡ min (PART_BYTES * count) bytes
-      → length sector ≡ 512 → sector ≡ image (sector_at ring (place + (used + count))) → HasFront RECORD_VERSION number bytes count sector
+      → length sector ≡ 512 → sector ≡ image (sector_at ring (place + (used + count))) → HasFront version number bytes count sector
       → cut ≡ take (piece_bytes bytes count) (drop 16 sector)
-      → AreRead ring place used number bytes image text count → AreRead ring place used number bytes image (text ++ cut) (count + 1)
+      → AreRead ring place used version number bytes image text count → AreRead ring place used version number bytes image (text ++ cut) (count + 1)
   one_read text cut count sector lt len long is front cut_is so_far = record {
     fronts = λ part below. ⊎_elim
-        (λ (same : part ≡ count). subst (λ (p : ℕ). HasFront RECORD_VERSION number bytes p (image (sector_at ring (place + (used + p))))) (sym same)
-        (subst (λ (s : List ℕ). HasFront RECORD_VERSION number bytes count s) is front))
+        (λ (same : part ≡ count). subst (λ (p : ℕ). HasFront version number bytes p (image (sector_at ring (place + (used + p))))) (sym same)
+        (subst (λ (s : List ℕ). HasFront version number bytes count s) is front))
         (λ (apart : part ≡ count → ⊥). so_far.fronts part (omega (arith, below, apart)))
         (cases_eq part count);
     pieces = λ part below. ⊎_elim
@@ -72,20 +72,20 @@ module _ (ring : Ring) (place used number bytes : ℕ) (image : Image) where
       full = omega (arith, lt, len)
 
   pub next_read : (text cut new : List ℕ) (count : ℕ) (sector : List ℕ) → count < parts_of bytes → length text ≡ min (PART_BYTES * count) bytes
-      → length sector ≡ 512 → sector ≡ image (sector_at ring (place + (used + count))) → HasFront RECORD_VERSION number bytes count sector
+      → length sector ≡ 512 → sector ≡ image (sector_at ring (place + (used + count))) → HasFront version number bytes count sector
       → cut ≡ take (piece_bytes bytes count) (drop 16 sector) → new ≡ text ++ cut
-      → AreRead ring place used number bytes image text count → AreRead ring place used number bytes image new (count + 1)
+      → AreRead ring place used version number bytes image text count → AreRead ring place used version number bytes image new (count + 1)
   next_read text cut new count sector lt len long is front cut_is new_is so_far =
-      subst (λ (t : List ℕ). AreRead ring place used number bytes image t (count + 1)) (sym new_is)
+      subst (λ (t : List ℕ). AreRead ring place used version number bytes image t (count + 1)) (sym new_is)
       (one_read text cut count sector lt len long is front cut_is so_far)
 
   -- all parts were read
-  pub all_read : (text : List ℕ) (count : ℕ) → count ≡ parts_of bytes → length text ≡ bytes → AreRead ring place used number bytes image text count
-      → PartsStand RECORD_VERSION ring place used number text image
+  pub all_read : (text : List ℕ) (count : ℕ) → count ≡ parts_of bytes → length text ≡ bytes → AreRead ring place used version number bytes image text count
+      → PartsStand ring place used number (record_of version text) image
   all_read text count all len read part lt =
       let below : part < count = omega (arith, all, len, lt) in
       record {
-        front = subst (λ (n : ℕ). HasFront RECORD_VERSION number n part (image (sector_at ring (place + (used + part))))) (sym len) (read.fronts part below);
+        front = subst (λ (n : ℕ). HasFront version number n part (image (sector_at ring (place + (used + part))))) (sym len) (read.fronts part below);
         bytes = ap (λ (n : ℕ). take n (drop 16 (image (sector_at ring (place + (used + part))))))
             (piece_length text part ∙ ap (λ (n : ℕ). piece_bytes n part) len) ∙ sym (read.pieces part below);
       }

@@ -5,11 +5,10 @@ use Rattle.std.proofs.lemmas.List.{length-take}
 use Rattle.std.proofs.Math.Nat.{mod-add-mod}
 use Rattle.sector_disk.specs.Disk.{History, Image, MayLeave, seen}
 use Rattle.sector_disk.proofs.History.{seen_may}
-use Rattle.edit_journal.specs.declared.sizes.TheConstants.{RECORD_VERSION}
 use Rattle.edit_journal.specs.declared.journal.Journal.{Journal}
 use Rattle.edit_journal.specs.declared.journal.Start.{Start}
-use Rattle.edit_journal.specs.Records.{IsEditLength, parts_of}
-use Rattle.edit_journal.specs.Ring.{Ring, sector_at, AreEdits, places_of, StandsAt, NoLaterHead, HoldsTexts}
+use Rattle.edit_journal.specs.Records.{RecordData, IsRecordLength, parts_of}
+use Rattle.edit_journal.specs.Ring.{Ring, sector_at, AreRecords, places_of, StandsAt, NoLaterHead, HoldsOnly}
 use Rattle.edit_journal.specs.Appends.{ring_of, start_of, Keeps, IsAt}
 use Rattle.edit_journal.specs.Releases.{MayTake, IsCounted, IsBehind}
 use Rattle.edit_journal.proofs.Laws.{holds_behind}
@@ -31,91 +30,91 @@ one_behind n place records some other begins fits fits_too takes takes_too same 
     (wrap n (place + other) (omega (arith, begins, fits_too))))
     (wrap n (place + some) (omega (arith, begins, fits)))
 
--- ---- the texts without the first
+-- ---- the records without the first
 
-places_split : (texts : List (List ℕ)) (count : ℕ) → places_of (take count texts) + places_of (drop count texts) ≡ places_of texts
-places_split texts zero = omega arith
+places_split : (rs : List RecordData) (count : ℕ) → places_of (take count rs) + places_of (drop count rs) ≡ places_of rs
+places_split rs zero = omega arith
 places_split [] (suc count) = omega arith
-places_split (text ∷ texts) (suc count) = omega (arith, places_split texts count)
+places_split (r ∷ rs) (suc count) = omega (arith, places_split rs count)
 
--- texts of edits take as many places as they may
-pub edits_take : (texts : List (List ℕ)) → AreEdits texts → MayTake (length texts) (places_of texts)
-edits_take [] are = (omega arith, omega arith)
-edits_take (text ∷ texts) are =
-    let rest = edits_take texts are.1 in
-    (omega (arith, are.0, rest.0), omega (arith, are.0, rest.1))
+-- records take as many places as they may
+pub records_take : (rs : List RecordData) → AreRecords rs → MayTake (length rs) (places_of rs)
+records_take [] are = (omega arith, omega arith)
+records_take (r ∷ rs) are =
+    let rest = records_take rs are.1 in
+    (omega (arith, are.0.0, are.0.1, are.0.2, rest.0), omega (arith, are.0.0, are.0.1, are.0.2, rest.1))
 
-first_edits : (texts : List (List ℕ)) (count : ℕ) → AreEdits texts → AreEdits (take count texts)
-first_edits texts zero are = tt
-first_edits [] (suc count) are = tt
-first_edits (text ∷ texts) (suc count) are = (are.0, first_edits texts count are.1)
+first_records : (rs : List RecordData) (count : ℕ) → AreRecords rs → AreRecords (take count rs)
+first_records rs zero are = tt
+first_records [] (suc count) are = tt
+first_records (r ∷ rs) (suc count) are = (are.0, first_records rs count are.1)
 
-first_take : (texts : List (List ℕ)) (count : ℕ) → AreEdits texts → count ≤ length texts → MayTake count (places_of (take count texts))
-first_take texts count are le =
-    let len : length (take count texts) ≡ count = omega (arith, length-take count texts, le) in
-    subst (λ (n : ℕ). MayTake n (places_of (take count texts))) len (edits_take (take count texts) (first_edits texts count are))
+first_take : (rs : List RecordData) (count : ℕ) → AreRecords rs → count ≤ length rs → MayTake count (places_of (take count rs))
+first_take rs count are le =
+    let len : length (take count rs) ≡ count = omega (arith, length-take count rs, le) in
+    subst (λ (n : ℕ). MayTake n (places_of (take count rs))) len (records_take (take count rs) (first_records rs count are))
 
 -- only the place in the ring counts
-stands_round : (ring : Ring) (place other number : ℕ) (texts : List (List ℕ)) (at : ℕ) (sector : List ℕ)
+stands_round : (ring : Ring) (place other number : ℕ) (rs : List RecordData) (at : ℕ) (sector : List ℕ)
     → ((offset : ℕ) → sector_at ring (other + offset) ≡ sector_at ring (place + offset))
-    → StandsAt RECORD_VERSION ring (record { place = place; number = number }) texts at sector
-    → StandsAt RECORD_VERSION ring (record { place = other; number = number }) texts at sector
+    → StandsAt ring (record { place = place; number = number }) rs at sector
+    → StandsAt ring (record { place = other; number = number }) rs at sector
 stands_round ring place other number [] at sector same stands = tt
-stands_round ring place other number (text ∷ texts) at sector same stands = (
+stands_round ring place other number (r ∷ rs) at sector same stands = (
   λ part lt is. stands.0 part lt (is ∙ same part),
-  stands_round ring (place + parts_of (length text)) (other + parts_of (length text)) (suc number) texts at sector (λ offset.
-      let here : place + parts_of (length text) + offset ≡ place + (parts_of (length text) + offset) = omega arith in
-      let there : other + parts_of (length text) + offset ≡ other + (parts_of (length text) + offset) = omega arith in
-      ap (sector_at ring) there ∙ same (parts_of (length text) + offset) ∙ sym (ap (sector_at ring) here)) stands.1,
+  stands_round ring (place + parts_of (length r.text)) (other + parts_of (length r.text)) (suc number) rs at sector (λ offset.
+      let here : place + parts_of (length r.text) + offset ≡ place + (parts_of (length r.text) + offset) = omega arith in
+      let there : other + parts_of (length r.text) + offset ≡ other + (parts_of (length r.text) + offset) = omega arith in
+      ap (sector_at ring) there ∙ same (parts_of (length r.text) + offset) ∙ sym (ap (sector_at ring) here)) stands.1,
 )
 
 module _ (ring : Ring) (image : Image) where
-  holds_round : (place number : ℕ) (texts : List (List ℕ)) → HoldsTexts RECORD_VERSION ring (record { place = place; number = number }) texts image
-      → HoldsTexts RECORD_VERSION ring (record { place = place % ring.places; number = number }) texts image
-  holds_round place number texts holds = record {
+  holds_round : (place number : ℕ) (rs : List RecordData) → HoldsOnly ring (record { place = place; number = number }) rs image
+      → HoldsOnly ring (record { place = place % ring.places; number = number }) rs image
+  holds_round place number rs holds = record {
     records = record {
-      edits = holds.records.edits;
+      lengths = holds.records.lengths;
       room = holds.records.room;
       numbers = holds.records.numbers;
-      stand = λ at. stands_round ring place (place % ring.places) number texts at (image at)
+      stand = λ at. stands_round ring place (place % ring.places) number rs at (image at)
           (λ offset. ap (λ (n : ℕ). ring.first + n) (mod-add-mod place ring.places offset)) (holds.records.stand at);
     };
     last = holds.last;
   }
 
-  holds_drop : (texts : List (List ℕ)) (count place number other later : ℕ) → count ≤ length texts → other ≡ place + places_of (take count texts)
-      → later ≡ number + count → HoldsTexts RECORD_VERSION ring (record { place = place; number = number }) texts image
-      → HoldsTexts RECORD_VERSION ring (record { place = other; number = later }) (drop count texts) image
-  holds_drop texts zero place number other later le other_is later_is holds =
+  holds_drop : (rs : List RecordData) (count place number other later : ℕ) → count ≤ length rs → other ≡ place + places_of (take count rs)
+      → later ≡ number + count → HoldsOnly ring (record { place = place; number = number }) rs image
+      → HoldsOnly ring (record { place = other; number = later }) (drop count rs) image
+  holds_drop rs zero place number other later le other_is later_is holds =
       let same : place ≡ other = omega (arith, other_is) in
       let same_number : number ≡ later = omega (arith, later_is) in
-      subst (λ (p : ℕ). HoldsTexts RECORD_VERSION ring (record { place = p; number = later }) texts image) same
-      (subst (λ (n : ℕ). HoldsTexts RECORD_VERSION ring (record { place = place; number = n }) texts image) same_number holds)
+      subst (λ (p : ℕ). HoldsOnly ring (record { place = p; number = later }) rs image) same
+      (subst (λ (n : ℕ). HoldsOnly ring (record { place = place; number = n }) rs image) same_number holds)
   holds_drop [] (suc count) place number other later le other_is later_is holds = absurd (omega (arith, le))
-  holds_drop (text ∷ texts) (suc count) place number other later le other_is later_is holds =
-      holds_drop texts count (place + parts_of (length text)) (suc number) other later (omega (arith, le)) (omega (arith, other_is))
-      (omega (arith, later_is)) (holds_behind RECORD_VERSION ring image (record { place = place; number = number }) text texts holds)
+  holds_drop (r ∷ rs) (suc count) place number other later le other_is later_is holds =
+      holds_drop rs count (place + parts_of (length r.text)) (suc number) other later (omega (arith, le)) (omega (arith, other_is))
+      (omega (arith, later_is)) (holds_behind ring image (record { place = place; number = number }) r rs holds)
 
--- the journal from a start on, where so many texts lie before it
-module _ (ring : Ring) (place edits used last : ℕ) (texts : List (List ℕ)) (history : History) (was : Keeps ring place edits used last texts history)
+-- the journal from a start on, where so many records lie before it
+module _ (ring : Ring) (place edits used last : ℕ) (rs : List RecordData) (history : History) (was : Keeps ring place edits used last rs history)
     (begins : place < ring.places) (room : used ≤ ring.places) where
   pub keeps_behind : (behind left other later count : ℕ) → left + behind ≡ used → MayTake (later - edits) behind
-      → other ≡ (place + behind) % ring.places → count ≤ length texts → later ≡ edits + count
-      → other ≡ (place + places_of (take count texts)) % ring.places → Keeps ring other later left last (drop count texts) history
+      → other ≡ (place + behind) % ring.places → count ≤ length rs → later ≡ edits + count
+      → other ≡ (place + places_of (take count rs)) % ring.places → Keeps ring other later left last (drop count rs) history
   keeps_behind behind left other later count left_is takes is le number first_is =
-      let are : AreEdits texts = (was.keeps (seen history) (λ at. seen_may history at)).records.edits in
+      let are : AreRecords rs = (was.keeps (seen history) (λ at. seen_may history at)).records.lengths in
       let records : later - edits ≡ count = omega (arith, number) in
-      let split = places_split texts count in
-      let same : behind ≡ places_of (take count texts) = one_behind ring.places place count behind (places_of (take count texts)) begins
+      let split = places_split rs count in
+      let same : behind ≡ places_of (take count rs) = one_behind ring.places place count behind (places_of (take count rs)) begins
       (omega (arith, left_is, room)) (omega (arith, split, was.uses, room)) (subst (λ (n : ℕ). MayTake n behind) records takes)
-      (first_take texts count are le) (sym is ∙ first_is) in
+      (first_take rs count are le) (sym is ∙ first_is) in
       record {
-        keeps = λ image may. subst (λ (p : ℕ). HoldsTexts RECORD_VERSION ring (start_of p later) (drop count texts) image) (sym first_is)
-            (holds_round ring image (place + places_of (take count texts)) (suc later) (drop count texts)
-            (holds_drop ring image texts count place (suc edits) (place + places_of (take count texts)) (suc later) le refl (omega (arith, number))
+        keeps = λ image may. subst (λ (p : ℕ). HoldsOnly ring (start_of p later) (drop count rs) image) (sym first_is)
+            (holds_round ring image (place + places_of (take count rs)) (suc later) (drop count rs)
+            (holds_drop ring image rs count place (suc edits) (place + places_of (take count rs)) (suc later) le refl (omega (arith, number))
             (was.keeps image may)));
         uses = omega (arith, was.uses, split, same, left_is);
-        counts = omega (arith, was.counts, number, length-drop count texts, le);
+        counts = omega (arith, was.counts, number, length-drop count rs, le);
       }
 
 -- ---- starts that `next` gave
@@ -148,7 +147,7 @@ module _ (old new : Journal) (ring : ring_of new ≡ ring_of old) (from : start_
       }
 
   -- an append adds what it may
-  module _ (bytes : ℕ) (fits : IsEditLength bytes) (used : new.used ≡ old.used + parts_of bytes) (last : new.last ≡ old.last + 1) where
+  module _ (bytes : ℕ) (version : ℕ) (fits : IsRecordLength version bytes) (used : new.used ≡ old.used + parts_of bytes) (last : new.last ≡ old.last + 1) where
     pub append_is_behind : (start : Start) (behind : ℕ) → IsBehind old start behind → IsBehind new start behind
     append_is_behind start behind was =
         later_is_behind start behind was (omega (arith, used)) (omega (arith, last)) (omega (arith, fits, used, last), omega (arith, fits, used, last))
@@ -158,21 +157,21 @@ module _ (old new : Journal) (ring : ring_of new ≡ ring_of old) (from : start_
         let number : suc new.edits ≡ suc old.edits = ap (λ s. s.number) from in
         (omega (arith, fits, used, last, number, counted, old.counts), omega (arith, fits, used, last, number, counted, old.counts))
 
--- a journal that has texts is counted
-pub at_counted : (journal : Journal) (texts : List (List ℕ)) (history : History) → IsAt texts journal history → IsCounted journal
-at_counted journal texts history is =
-    let takes = edits_take texts (is.keeps (seen history) (λ at. seen_may history at)).records.edits in
+-- a journal that has records is counted
+pub at_counted : (journal : Journal) (rs : List RecordData) (history : History) → IsAt rs journal history → IsCounted journal
+at_counted journal rs history is =
+    let takes = records_take rs (is.keeps (seen history) (λ at. seen_may history at)).records.lengths in
     (omega (arith, takes, is.uses, is.counts), omega (arith, takes, is.uses, is.counts))
 
 -- ---- a ring without records
 
--- where nothing that a crash may leave has a head of a later number, the journal has no text
+-- where nothing that a crash may leave has a head of a later number, the journal has no record
 pub empty_ring : (journal : Journal) (history : History) → journal.used ≡ 0 → journal.last ≡ journal.edits → journal.edits < 2 ^ 64
-    → ((image : Image) → MayLeave history image → NoLaterHead RECORD_VERSION (ring_of journal) (journal.edits + 1) image) → IsAt [] journal history
+    → ((image : Image) → MayLeave history image → NoLaterHead (ring_of journal) (journal.edits + 1) image) → IsAt [] journal history
 empty_ring journal history unused last small none = record {
   keeps = λ image may. record {
-    records = record { edits = tt; room = omega arith; numbers = omega (arith, small); stand = λ at. tt };
-    last = λ at later inside le head. none image may at later inside (omega (arith, le)) head;
+    records = record { lengths = tt; room = omega arith; numbers = omega (arith, small); stand = λ at. tt };
+    last = λ at version later inside is le head. none image may at version later inside is (omega (arith, le)) head;
   };
   uses = unused;
   counts = omega (arith, last);

@@ -13,10 +13,10 @@ EndsAt most ring place used number image =
     (ring.places ≤ used) ⊎ (2 ^ 64 ≤ number) ⊎ (IsExpectedHead most number (image (sector_at ring (place + used))) → ⊥)
 
 -- The image has these records from a start on, each in a version that the disk allows, and the journal ends after them.
-pub record IsJournal (most : ℕ) (ring : Ring) (start : Start) (records : List RecordData) (image : Image) : Type 0 where
-  pub records : HoldsRecords ring start records image
-  pub versions : AreUpTo most records
-  pub ends : EndsAt most ring start.place (places_of records) (start.number + length records) image
+pub record IsJournal (most : ℕ) (ring : Ring) (start : Start) (held : List RecordData) (image : Image) : Type 0 where
+  pub records : HoldsRecords ring start held image
+  pub versions : AreUpTo most held
+  pub ends : EndsAt most ring start.place (places_of held) (start.number + length held) image
 
 -- each part of the record is stored in its place
 abbrev pub PartsStand : Ring → (place used number : ℕ) → RecordData → Image → Type 0

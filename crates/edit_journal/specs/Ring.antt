@@ -56,6 +56,6 @@ NoLaterHead ring next image =
     (at version later : ℕ) → IsInRing ring at → IsRecordVersion version → next ≤ later → IsHeadOf version later (image at) → ⊥
 
 -- The image has these records from a start on, and none after them.
-pub record HoldsOnly (ring : Ring) (start : Start) (records : List RecordData) (image : Image) : Type 0 where
-  pub records : HoldsRecords ring start records image
-  pub last : NoLaterHead ring (start.number + length records) image
+pub record HoldsOnly (ring : Ring) (start : Start) (held : List RecordData) (image : Image) : Type 0 where
+  pub records : HoldsRecords ring start held image
+  pub last : NoLaterHead ring (start.number + length held) image

@@ -1,12 +1,19 @@
 -- A format's sector has the version and the count of sectors at their offsets.
-use Rattle.std.proofs.Common.{◌≡◌, ◌↔◌, ℕ, ◌<◌, ◌^◌, List, Some, None, take, sym, ap, subst, ◌∙◌}
+use Rattle.std.proofs.Common.{◌≡◌, ◌↔◌, inl, inr, ℕ, ◌<◌, ◌^◌, List, Some, None, take, sym, ap, subst, ◌∙◌, arith}
 use Rattle.std.proofs.lemmas.Nat.{from_le_bytes-to_le_bytes_4, from_le_bytes-to_le_bytes_8}
 use Rattle.generations.specs.Sectors.{disk_mark, IsVersion, IsFormatSector, version_from, format_sector, number_from, HasMark}
 
 -- the version and the count are read back
-pub version_back : (version n : ℕ) → version < 2 ^ 32 → version_from (format_sector version n) ≡ version
+version_back : (version n : ℕ) → version < 2 ^ 32 → version_from (format_sector version n) ≡ version
 unfolding disk_mark format_sector
 version_back version n fits = from_le_bytes-to_le_bytes_4 version fits
+
+version_fits : (version : ℕ) → IsVersion version → version < 2 ^ 32
+version_fits version (inl is) = omega (arith, is)
+version_fits version (inr is) = omega (arith, is)
+
+pub has_version : (version n : ℕ) → IsVersion version → version_from (format_sector version n) ≡ version
+has_version version n is = version_back version n (version_fits version is)
 
 pub read_back : (version n : ℕ) → n < 2 ^ 64 → number_from 12 (format_sector version n) ≡ n
 unfolding disk_mark format_sector

@@ -10,7 +10,7 @@ use Rattle.generations.specs.Areas.{IsSize, journal_sectors, area_sectors, secto
 use Rattle.generations.specs.Disks.{HasNoMark, HasRoot, IsSound, LiveRoot, IsFaultOf, IsFresh, first_root}
 use Rattle.generations.specs.Sectors.{disk_mark, IsVersion, version_from, format_sector, root_sector, root_from, number_from, zeros, HasMark, AreNumbers, CanStand}
 use Rattle.generations.specs.Sectors.{IsFormat, IsRootOf, IsRootSector, IsNoRoot, IsBad, IsSlot, IsNewest}
-use Rattle.generations.specs.declared.sizes.TheConstants.{LEAST_SECTORS, MOST_SECTORS, FIRST_VERSION, LAST_VERSION}
+use Rattle.generations.specs.declared.sizes.TheConstants.{LEAST_SECTORS, MOST_SECTORS, LAST_VERSION}
 use Rattle.generations.specs.declared.root.Root.{Root}
 use Rattle.generations.specs.declared.fault.StoreFault.{StoreFault}
 use Rattle.generations.specs.declared.fault.StoreFault.TheVariants.{NotFormatted, TooSmall, Damaged, Device, Memory}
@@ -130,10 +130,14 @@ first_stands n sector size is = record {
   can = record { journal = omega (arith, size.0); area = omega arith };
 }
 
+-- the format of a version names it
+pub format_has_version : (version n : ℕ) → IsVersion version → version_from (format_sector version n) ≡ version
+format_has_version version n is = formats.has_version version n is
+
 -- on a disk that was just formatted the first root counts
 pub fresh_live : (count version n : ℕ) (image : Image) → IsVersion version → IsSize n → n ≤ count → IsFresh version n image → LiveRoot count image n first_root
 fresh_live count version n image is_version size within fresh =
-    let there : version_from (image 0) ≡ version = ap version_from fresh.format ∙ formats.version_back version n (omega (arith, is_version.1)) in
+    let there : version_from (image 0) ≡ version = ap version_from fresh.format ∙ formats.has_version version n is_version in
     let none : image 2 ≡ zeros = fresh.empty 2 (omega arith) (omega arith) in
     let first : IsRootOf n 0 (image 1) first_root = first_stands n (image 1) size fresh.root in
     record {
@@ -170,6 +174,11 @@ moved : {P Q : Type 0} → (P → Q) → (Q → P) → Decided P → Decided Q
 moved there back (inl p) = inl (there p)
 moved there back (inr isnt) = inr (λ q. isnt (back q))
 
+either : {P Q : Type 0} → Decided P → Decided Q → Decided (P ⊎ Q)
+either (inl p) q = inl (inl p)
+either (inr isnt) (inl q) = inl (inr q)
+either (inr isnt) (inr is_none) = inr (λ w. ⊎_elim isnt is_none w)
+
 same_list : (xs ys : List ℕ) → Decided (xs ≡ ys)
 same_list xs ys = ⊎_elim (λ (yes : bytes_eq xs ys ≡ true). inl ((bytes_eq-Decides xs ys).0 yes))
     (λ (no : bytes_eq xs ys ≡ false). inr (λ is. both_ways (bytes_eq xs ys) no ((bytes_eq-Decides xs ys).1 is)))
@@ -186,7 +195,7 @@ format_decided count n sector =
     moved (λ (w : ((IsVersion (version_from sector)) × (sector ≡ format_sector (version_from sector) n)) × (IsSize n × (n ≤ count))).
     record { stands = w.0; size = w.1.0; within = w.1.1 })
     (λ is. (is.stands, (is.size, is.within)))
-    (both (both (both (at_most FIRST_VERSION (version_from sector)) (at_most (version_from sector) LAST_VERSION))
+    (both (both (either (cases_eq (version_from sector) 1) (cases_eq (version_from sector) 2))
     (same_list sector (format_sector (version_from sector) n)))
     (both (both (at_most LEAST_SECTORS n) (at_most n MOST_SECTORS)) (at_most n count)))
 
@@ -328,7 +337,7 @@ pub some_fresh : (n : ℕ) → IsFresh LAST_VERSION n (fresh_image n)
 some_fresh n = record { format = refl; root = refl; empty = λ at le lt. grind (arith, nat_tests) }
 
 pub some_live : LiveRoot 64 (fresh_image 64) 64 first_root
-some_live = fresh_live 64 LAST_VERSION 64 (fresh_image 64) (lit≤ tt, lit≤ tt) (lit≤ tt, lit≤ tt) (lit≤ tt) (some_fresh 64)
+some_live = fresh_live 64 LAST_VERSION 64 (fresh_image 64) (inr refl) (lit≤ tt, lit≤ tt) (lit≤ tt) (some_fresh 64)
 
 pub some_parts : (journal_sectors 64 ≡ 16) × (area_sectors 64 ≡ 22)
 some_parts = (refl, refl)

@@ -5,4 +5,4 @@ pub mod Laws
 mod Live
 mod Parts
 mod Roots
-mod Upgrades
+pub mod Upgrades

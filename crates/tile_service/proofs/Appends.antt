@@ -8,13 +8,11 @@ use Rattle.std.proofs.lemmas.Nat.{mod_below}
 use Rattle.sector_disk.specs.Disk.{Image, History, seen, MayHold, MayLeave}
 use Rattle.sector_disk.proofs.Laws.{seen_is_left}
 use Rattle.generations.specs.Areas.{journal_sectors}
-use Rattle.edit_journal.specs.Ring.{IsInRing, HoldsTexts}
+use Rattle.edit_journal.specs.Records.{RecordData}
+use Rattle.edit_journal.specs.Ring.{IsInRing, HoldsOnly}
 use Rattle.edit_journal.specs.Appends.{IsFree, AsBefore, HoldsOneMore}
-use Rattle.edit_journal.specs.declared.sizes.TheConstants.{RECORD_VERSION}
-use Rattle.feature_model.specs.Data.{ChangeData}
-use Rattle.feature_model.specs.Spelled.{spelled_change}
-use Rattle.feature_model.specs.Types.{IsChange}
-use Rattle.tile_service.specs.Stored.{Stored, Holds, HoldsAt, Keeps, with_edit, texts_of, journal_ring, journal_start}
+use Rattle.edit_text.specs.Recorded.{RecordedEdit}
+use Rattle.tile_service.specs.Stored.{Stored, Holds, HoldsAt, Keeps, with_edit, CanRecord, record_for, stored_records, journal_ring, journal_start}
 
 -- what might have stood in a sector has its part, where all that a crash left held it
 sector_held : (count n : ℕ) (stored : Stored) (history : History) → Keeps count n stored history
@@ -44,6 +42,7 @@ sector_held count n stored history keeps at left may =
 ring_held : (count n : ℕ) (stored : Stored) (at : ℕ) (sector : List ℕ) → IsInRing (journal_ring n) at → HoldsAt count n stored at sector
 ring_held count n stored at sector inside = record {
   format = λ is. absurd (omega (arith, inside.0, is));
+  version = λ is. absurd (omega (arith, inside.0, is));
   live = λ is. absurd (omega (arith, inside.0, is));
   other = λ is. absurd (omega (arith, inside.0, is));
   snapshot_bytes = λ index is. absurd (omega (arith, inside.1, is));
@@ -63,15 +62,15 @@ decided n at = ⊎_elim
 free_inside : (n place used at : ℕ) → IsFree (journal_ring n) place used at → IsInRing (journal_ring n) at
 free_inside n place used at free = (omega (arith, free.3), omega (arith, free.3, mod_below (place + free.0) (journal_sectors n) (omega (arith, free.2))))
 
-pub spelled_with : (edits : List ChangeData) (edit : ChangeData) → map spelled_change (edits ++ edit ∷ []) ≡ map spelled_change edits ++ spelled_change edit ∷ []
-spelled_with [] edit = refl
-spelled_with (first ∷ edits) edit = ap (λ (texts : List (List ℕ)). spelled_change first ∷ texts) (spelled_with edits edit)
+record_with : (edits : List RecordedEdit) (edit : RecordedEdit) → map record_for (edits ++ edit ∷ []) ≡ map record_for edits ++ record_for edit ∷ []
+record_with [] edit = refl
+record_with (first ∷ edits) edit = ap (λ (records : List RecordData). record_for first ∷ records) (record_with edits edit)
 
-pub texts_with : (stored : Stored) (edit : ChangeData) → texts_of (with_edit stored edit) ≡ texts_of stored ++ spelled_change edit ∷ []
-texts_with stored edit = spelled_with stored.since edit
+pub records_with : (stored : Stored) (edit : RecordedEdit) → stored_records (with_edit stored edit) ≡ stored_records stored ++ record_for edit ∷ []
+records_with stored edit = record_with stored.since edit
 
-module _ (count n : ℕ) (stored : Stored) (edit : ChangeData) (old : History) (place used : ℕ) (keeps : Keeps count n stored old) (is_edit : IsChange edit)
-    (image : Image) (as_before : AsBefore (journal_ring n) place used old image) where
+module _ (count n : ℕ) (stored : Stored) (edit : RecordedEdit) (old : History) (place used : ℕ) (keeps : Keeps count n stored old)
+    (can : CanRecord stored.version edit) (image : Image) (as_before : AsBefore (journal_ring n) place used old image) where
   sectors : (at : ℕ) → HoldsAt count n stored at (image at)
   sectors at = ⊎_elim
       (λ (inside : IsInRing (journal_ring n) at). ring_held count n stored at (image at) inside)
@@ -83,22 +82,30 @@ module _ (count n : ℕ) (stored : Stored) (edit : ChangeData) (old : History) (
   before = keeps (seen old) (seen_is_left old)
 
   with_one : {at : ℕ} → HoldsAt count n stored at (image at) → HoldsAt count n (with_edit stored edit) at (image at)
-  with_one is = record { format = is.format; live = is.live; other = is.other; snapshot_bytes = is.snapshot_bytes; archive_bytes = is.archive_bytes }
+  with_one is = record {
+    format = is.format;
+    version = is.version;
+    live = is.live;
+    other = is.other;
+    snapshot_bytes = is.snapshot_bytes;
+    archive_bytes = is.archive_bytes;
+  }
 
   -- Where the journal has the edit too, it holds the same with the edit.
-  pub append_made : HoldsTexts RECORD_VERSION (journal_ring n) (journal_start stored) (texts_of stored ++ spelled_change edit ∷ []) image
+  pub append_made : HoldsOnly (journal_ring n) (journal_start stored) (stored_records stored ++ record_for edit ∷ []) image
       → Holds count n (with_edit stored edit) image
   append_made more = record {
     sectors = λ at. with_one (sectors at);
-    journal = subst (λ (texts : List (List ℕ)). HoldsTexts RECORD_VERSION (journal_ring n) (journal_start stored) texts image)
-        (sym (texts_with stored edit)) more;
+    journal = subst (λ (records : List RecordData). HoldsOnly (journal_ring n) (journal_start stored) records image)
+        (sym (records_with stored edit)) more;
     is_map = before.is_map;
-    are_edits = All-append IsChange stored.since (edit ∷ []) before.are_edits (All-cons IsChange edit [] is_edit (All-nil IsChange));
+    are_edits = All-append (CanRecord stored.version) stored.since (edit ∷ []) before.are_edits
+        (All-cons (CanRecord stored.version) edit [] can (All-nil (CanRecord stored.version)));
     is_archive = before.is_archive;
   }
 
   -- It holds the same, or the same with the edit.
-  pub append_leaves : HoldsOneMore (journal_ring n) (journal_start stored) (texts_of stored) (spelled_change edit) image
+  pub append_leaves : HoldsOneMore (journal_ring n) (journal_start stored) (stored_records stored) (record_for edit) image
       → Holds count n stored image ⊎ Holds count n (with_edit stored edit) image
   append_leaves (inl same) = inl (record {
     sectors = sectors;

@@ -65,6 +65,7 @@ module _ {D : Type 0} (count : ℕ) (history : History) (stored : Stored) (servi
     keeps = subst (λ (c : ℕ). Keeps c service.size stored later) (sym same_count)
         (subst (λ (h : History). Keeps count service.size stored h) (sym same_history) up.keeps);
     unbroken = up.unbroken;
+    version_is = up.version_is;
     generation_is = up.generation_is;
     snapshot_len_is = up.snapshot_len_is;
     archive_len_is = up.archive_len_is;

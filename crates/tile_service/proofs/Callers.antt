@@ -6,12 +6,13 @@ use Rattle.std.specs.Prelude.{IfSome, IfErr, OnOk}
 use Rattle.std.proofs.lemmas.Bool.{false≢true}
 use Rattle.sector_disk.specs.Disk.{History, seen}
 use Rattle.sector_disk.specs.Moments.{LeavesOnly}
-use Rattle.feature_model.specs.Data.{FeatureData, ChangeData}
+use Rattle.edit_text.specs.Recorded.{RecordedEdit}
+use Rattle.feature_model.specs.Data.{FeatureData}
 use Rattle.feature_store.specs.Store.{feature_at}
 use Rattle.map_metadata.specs.Metadata.{IsMetadata}
 use Rattle.serde_json.specs.Data.{Data}
 use Rattle.published_tiles.specs.Published.{PublishedView}
-use Rattle.tile_service.specs.Machine.{ServiceState, OrMemory, Happening, edit, begin, step, cancel, tile, look, metadata, read}
+use Rattle.tile_service.specs.Machine.{ServiceState, OrMemory, Happening, Call, edit, begin, step, cancel, tile, look, metadata, read}
 use Rattle.tile_service.specs.Machine.{IfTold, AnswersEdit, AnswersBegin, AnswersStep, AnswersCancel, Happens, Runs}
 use Rattle.tile_service.specs.Runs.{IsDoubtful, happening_at, all_edits, way_of, Way, Progress, starts, progress_of, NoneInDoubt, Reaches}
 use Rattle.tile_service.specs.Runs.{IsTrusted, Takes, TakesAll, TakesRun}
@@ -24,7 +25,7 @@ use Rattle.tile_service.proofs.Archives.{archive_there, archive_is_shown, shown_
 use Rattle.tile_service.proofs.Fits.{RunLeaves, IsHere, doubt_breaks, run_starts, run_goes_on, run_fits, reaches_on, published_within, sized_as}
 use Rattle.tile_service.proofs.Progress.{Within, IsSince, has_start, has_last, progress_on, progress_edits, way_seen, way_after}
 use Rattle.tile_service.proofs.Runs.{no_known, clash, is_false, doubt_breaks_it, IsQuiet, broken_stays, broken_halts, kept_for}
-use Rattle.tile_service.proofs.Runs.{after_step, after_edit, broken_refuses, happens_less, runs_less, runs_on, writes_nothing}
+use Rattle.tile_service.proofs.Runs.{after_step, after_edit, broken_refuses, edit_version, step_version, happens_less, runs_less, runs_on, writes_nothing}
 
 -- The image that is seen of a disk has the archive that the service continues from.
 pub archive_shown : {D : Type 0} (count : ℕ) (history : History) (stored : Stored) (service : ServiceView D) → IsUp count history stored service
@@ -55,6 +56,7 @@ module _ {D : Type 0} (sectors : D → ℕ) (honest : D → Type 0) (history : D
         → (then_known : Known) × Runs (IsTrusted sectors honest history old now) (state_of known old) events (state_of then_known now)
     pub unbroken : now.broken ≡ false → old.broken ≡ false
     pub size : now.size ≡ old.size
+    pub version : now.version ≡ old.version
     pub count : sectors now.disk ≡ sectors old.disk
     pub stays_honest : honest now.disk → honest old.disk
     pub doubt : (index : ℕ) → index < length events → IsDoubtful (happening_at events index) → now.broken ≡ true
@@ -83,6 +85,7 @@ module _ {D : Type 0} (sectors : D → ℕ) (honest : D → Type 0) (history : D
     machine = λ known. (known, refl);
     unbroken = λ is. is;
     size = refl;
+    version = refl;
     count = refl;
     stays_honest = λ is_honest. is_honest;
     doubt = λ index lt. absurd (omega (arith, lt));
@@ -129,6 +132,7 @@ module _ {D : Type 0} (sectors : D → ℕ) (honest : D → Type 0) (history : D
       keeps_archive = λ other. shows_same;
       doubt = λ is. absurd is;
       size = ap (λ (s : ServiceView D). s.size) same;
+      version = ap (λ (s : ServiceView D). s.version) same;
       count = count;
       stays_honest = stays;
       changes = record { same = same; unwritten = unwritten };
@@ -150,6 +154,7 @@ module _ {D : Type 0} (sectors : D → ℕ) (honest : D → Type 0) (history : D
       machine = λ known. ap (λ (s : ServiceView D). state_of known s) same;
       doubt = λ is. absurd is;
       size = ap (λ (s : ServiceView D). s.size) same;
+      version = ap (λ (s : ServiceView D). s.version) same;
       count = count;
       stays_honest = stays;
       changes = record { same = same; unwritten = unwritten };
@@ -168,6 +173,7 @@ module _ {D : Type 0} (sectors : D → ℕ) (honest : D → Type 0) (history : D
     keeps_archive = λ other. same_archive old old refl (λ is_honest. refl);
     doubt = λ is. absurd is;
     size = refl;
+    version = refl;
     count = refl;
     stays_honest = λ is_honest. is_honest;
     changes = refl;
@@ -186,6 +192,7 @@ module _ {D : Type 0} (sectors : D → ℕ) (honest : D → Type 0) (history : D
     keeps_archive = λ other. same_archive old old refl (λ is_honest. refl);
     doubt = λ is. absurd is;
     size = refl;
+    version = refl;
     count = refl;
     stays_honest = λ is_honest. is_honest;
     changes = refl;
@@ -196,31 +203,32 @@ module _ {D : Type 0} (sectors : D → ℕ) (honest : D → Type 0) (history : D
   }
 
   -- an edit, by what a call of the service with it says
-  pub edit_step : (old new : ServiceView D) (e : ChangeData) (outcome : Result ℕ ServiceFault)
-      → ((known : Known) → AnswersEdit (state_of known old) e outcome (state_of known new))
+  pub edit_step : (old new : ServiceView D) (call : Call) (e : RecordedEdit) (outcome : Result ℕ ServiceFault)
+      → ((known : Known) → AnswersEdit (state_of known old) call e outcome (state_of known new))
       → new.size ≡ old.size → sectors new.disk ≡ sectors old.disk → (honest new.disk → honest old.disk)
       → IfErr outcome (λ fault. fault ≢ Device → new.disk ≡ old.disk)
       → ((stored : Stored) → honest new.disk → IsUp (sectors old.disk) (history old.disk) stored old
-      → LeavesOnly (history old.disk) (history new.disk) (EventLeaves (sectors old.disk) old.size stored old.publication (edit e outcome)))
+      → LeavesOnly (history old.disk) (history new.disk) (EventLeaves (sectors old.disk) old.size stored old.publication (edit call e outcome)))
       → ((stored : Stored) → honest new.disk → IsUp (sectors old.disk) (history old.disk) stored old
       → OnOk outcome (IsUp (sectors new.disk) (history new.disk) (with_edit stored e) new))
       → ((stored : Stored) → honest new.disk → IsUp (sectors old.disk) (history old.disk) stored old
       → IfErr outcome (λ fault. fault ≢ Device → IsUp (sectors new.disk) (history new.disk) stored new))
       → KeepsArchive honest history old new
-      → Takes sectors honest history old (edit e outcome) new
-  edit_step old new e outcome machine size count stays kept moments acknowledged refuses shows = record {
+      → Takes sectors honest history old (edit call e outcome) new
+  edit_step old new call e outcome machine size count stays kept moments acknowledged refuses shows = record {
     machine = machine;
     archive = λ archive shown honest. tt;
     keeps_archive = λ other. shows;
-    doubt = doubt_breaks_it (Unit {0}) (state_of no_known old) (state_of no_known new) (edit e outcome) (machine no_known);
+    doubt = doubt_breaks_it (Unit {0}) (state_of no_known old) (state_of no_known new) (edit call e outcome) (machine no_known);
     size = size;
+    version = edit_version (state_of no_known old) (state_of no_known new) call e outcome (machine no_known);
     count = count;
     stays_honest = stays;
     changes = tt;
-    untouched = λ broken is. broken_refuses (state_of no_known old) (state_of no_known new) e outcome (machine no_known) kept broken;
+    untouched = λ broken is. broken_refuses (state_of no_known old) (state_of no_known new) call e outcome (machine no_known) kept broken;
     any_moment = moments;
     after = λ stored is_honest up not. after_edit (λ (s : Stored). IsUp (sectors new.disk) (history new.disk) s new) old.size stored old.publication
-        e outcome (acknowledged stored is_honest up) (refuses stored is_honest up) not;
+        call e outcome (acknowledged stored is_honest up) (refuses stored is_honest up) not;
   }
 
   -- the beginning of a publication changes nothing on the disk
@@ -235,6 +243,7 @@ module _ {D : Type 0} (sectors : D → ℕ) (honest : D → Type 0) (history : D
     keeps_archive = λ other. same_archive old new (with_published old new same) (λ is_honest. ap (λ (s : ServiceView D). history s.disk) same);
     doubt = λ is. absurd is;
     size = ap (λ (s : ServiceView D). s.size) same;
+    version = ap (λ (s : ServiceView D). s.version) same;
     count = ap (λ (s : ServiceView D). sectors s.disk) same;
     stays_honest = λ is_honest. subst (λ (d : D). honest d) (ap (λ (s : ServiceView D). s.disk) same) is_honest;
     changes = tt;
@@ -261,6 +270,7 @@ module _ {D : Type 0} (sectors : D → ℕ) (honest : D → Type 0) (history : D
     keeps_archive = λ other. shows (λ (is : outcome ≡ Ok 0). other (ap step is));
     doubt = doubt_breaks_it (Unit {0}) (state_of no_known old) (state_of (known_after no_known old (step outcome)) new) (step outcome) (machine no_known);
     size = size;
+    version = step_version (state_of no_known old) (state_of (known_after no_known old (step outcome)) new) outcome (machine no_known);
     count = count;
     stays_honest = stays;
     changes = tt;
@@ -284,6 +294,7 @@ module _ {D : Type 0} (sectors : D → ℕ) (honest : D → Type 0) (history : D
     keeps_archive = λ other. same_archive old new (with_published old new same) (λ is_honest. ap (λ (s : ServiceView D). history s.disk) same);
     doubt = λ is. absurd is;
     size = ap (λ (s : ServiceView D). s.size) same;
+    version = ap (λ (s : ServiceView D). s.version) same;
     count = ap (λ (s : ServiceView D). sectors s.disk) same;
     stays_honest = λ is_honest. subst (λ (d : D). honest d) (ap (λ (s : ServiceView D). s.disk) same) is_honest;
     changes = tt;
@@ -371,7 +382,8 @@ module _ {D : Type 0} (sectors : D → ℕ) (honest : D → Type 0) (history : D
               (history new.disk) leaves is_here.call.follows (none (was unbroken).0) is_here);
           way_is = sym (way_seen stored.edits then_known.publishing new.publication)
               ∙ way_after stored.edits (state_of no_known now) (state_of then_known new) p
-              (way_seen stored.edits no_known.publishing now.publication ∙ so_far.way_is) (IsTrusted sectors honest history now new) event taken counted (was unbroken).1
+              (way_seen stored.edits no_known.publishing now.publication ∙ so_far.way_is) (IsTrusted sectors honest history now new)
+              event taken counted (was unbroken).1
               ∙ sym (ap (λ (q : Progress). q.under_way) (progress_on (starts stored (way stored)) events event));
         }
 
@@ -411,6 +423,7 @@ module _ {D : Type 0} (sectors : D → ℕ) (honest : D → Type 0) (history : D
           );
       unbroken = λ is. so.unbroken (was is).0;
       size = goes.size ∙ so.size;
+      version = goes.version ∙ so.version;
       count = goes.count ∙ so.count;
       stays_honest = λ is_honest. so.stays_honest (goes.stays_honest is_honest);
       doubt = doubt_breaks events event now.broken new.broken goes.doubt (λ broken. (broken_on now new event goes broken).0) so.doubt;

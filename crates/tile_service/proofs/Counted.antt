@@ -75,7 +75,7 @@ pub cancel_no_device : (old new : ServiceState) (fault : ServiceFault) → Answe
 cancel_no_device old new fault goes is = (subst (λ (f : ServiceFault). AnswersCancel old (Err f) new) (device_told fault is) goes).1
 
 -- nor a look at a feature
-pub look_no_device : (id : ℕ) (answer : Answer) (happening : Happening) → Tells (events.Look id) answer happening
+pub look_no_device : (version id : ℕ) (answer : Answer) (happening : Happening) → Tells version (events.Look id) answer happening
     → answer ≡ answers.Refused Device → ⊥
-look_no_device id answer happening tells is =
-    memory_told Device (subst (λ (a : Answer). Tells (events.Look id) a happening) is tells).0 refl
+look_no_device version id answer happening tells is =
+    memory_told Device (subst (λ (a : Answer). Tells version (events.Look id) a happening) is tells).0 refl

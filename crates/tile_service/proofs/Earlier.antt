@@ -4,12 +4,12 @@ use Rattle.std.proofs.Common.{refl, sym, ◌∙◌, ap, subst, arith, length-app
 use Rattle.std.proofs.Math.Nat.{eq-or-lt_of_le}
 use Rattle.std.proofs.lemmas.List.{take-append-le, take_all, length-drop}
 use Rattle.cached_map.specs.Cached.{CachedView, WasMap}
-use Rattle.feature_model.specs.Data.{ChangeData}
-use Rattle.feature_store.specs.Store.{FeatureMap, changed}
-use Rattle.tile_service.specs.After.{after}
+use Rattle.edit_text.specs.Recorded.{RecordedEdit}
+use Rattle.feature_store.specs.Store.{FeatureMap}
+use Rattle.tile_service.specs.After.{made, after}
 use Rattle.tile_service.specs.Tiles.{WereMaps}
 
-none_of : (k : ℕ) → ◌≡◌ {A = List ChangeData} (take k []) []
+none_of : (k : ℕ) → ◌≡◌ {A = List RecordedEdit} (take k []) []
 none_of zero = refl
 none_of (suc k) = refl
 
@@ -18,12 +18,12 @@ pub were_none : (m : FeatureMap) (cells : List ℕ) (last : ℕ) → WasMap m ce
 were_none m cells last now k le =
     let same : last ≡ last + k = omega (arith, le) in
     subst (λ (n : ℕ). WasMap m cells last n (after m (take k []))) same
-    (subst (λ (es : List ChangeData). WasMap m cells last last (after m es)) (sym (none_of k)) now)
+    (subst (λ (es : List RecordedEdit). WasMap m cells last last (after m es)) (sym (none_of k)) now)
 
 -- With one more edit, the map after that edit is known too.
 module _ (m : FeatureMap) (cells : List ℕ) (last : ℕ) (new : FeatureMap) (then : List ℕ) (number : ℕ)
     (since : (n : ℕ) (was : FeatureMap) → WasMap m cells last n was → WasMap new then number n was) (now : WasMap new then number number new) where
-  pub were_one : (start : ℕ) (first : FeatureMap) (edits : List ChangeData) (e : ChangeData) → number ≡ start + suc (length edits)
+  pub were_one : (start : ℕ) (first : FeatureMap) (edits : List RecordedEdit) (e : RecordedEdit) → number ≡ start + suc (length edits)
       → new ≡ after first (edits ++ e ∷ []) → WereMaps m cells last start first edits → WereMaps new then number start first (edits ++ e ∷ [])
   were_one start first edits e number_is map_is were k le =
       let within : k ≤ suc (length edits) = omega (arith, le, length-append edits (e ∷ [])) in go (eq-or-lt_of_le within)
@@ -36,19 +36,19 @@ module _ (m : FeatureMap) (cells : List ℕ) (last : ℕ) (new : FeatureMap) (th
           (subst (λ (was : FeatureMap). WasMap new then number number was) (map_is ∙ ap (after first) (sym every)) now)
       go (inr some) =
           let before : k ≤ length edits = omega (arith, some) in
-          subst (λ (es : List ChangeData). WasMap new then number (start + k) (after first es)) (sym (take-append-le k edits (e ∷ []) before))
+          subst (λ (es : List RecordedEdit). WasMap new then number (start + k) (after first es)) (sym (take-append-le k edits (e ∷ []) before))
           (since (start + k) (after first (take k edits)) (were k before))
 
-after_more : (m : FeatureMap) (edits : List ChangeData) (taken k : ℕ)
+after_more : (m : FeatureMap) (edits : List RecordedEdit) (taken k : ℕ)
     → after (after m (take taken edits)) (take k (drop taken edits)) ≡ after m (take (taken + k) edits)
 after_more m edits zero k = let same : k ≡ 0 + k = omega arith in ap (λ (j : ℕ). after m (take j edits)) same
 after_more m [] (suc taken) k = ap (after m) (none_of k ∙ sym (none_of (suc taken + k)))
 after_more m (edit ∷ edits) (suc taken) k =
     let same : suc (taken + k) ≡ suc taken + k = omega arith in
-    after_more (changed m edit) edits taken k ∙ ap (λ (j : ℕ). after m (take j (edit ∷ edits))) same
+    after_more (made m edit) edits taken k ∙ ap (λ (j : ℕ). after m (take j (edit ∷ edits))) same
 
 -- Those since a later map are known, where it is one of them.
-pub were_published : (m : FeatureMap) (cells : List ℕ) (last start : ℕ) (first : FeatureMap) (edits : List ChangeData) (taken : ℕ)
+pub were_published : (m : FeatureMap) (cells : List ℕ) (last start : ℕ) (first : FeatureMap) (edits : List RecordedEdit) (taken : ℕ)
     → taken ≤ length edits → WereMaps m cells last start first edits
     → WereMaps m cells last (start + taken) (after first (take taken edits)) (drop taken edits)
 were_published m cells last start first edits taken within were k le =

@@ -9,9 +9,10 @@ use Rattle.sector_disk.specs.Disk.{History, Image, MayLeave, moment, LeftSince}
 use Rattle.sector_disk.specs.Moments.{Follows, LeavesOnly}
 use Rattle.sector_disk.proofs.History.{left_before}
 use Rattle.sector_disk.proofs.Moments.{since_now, only_now, is_later, follows_itself}
-use Rattle.feature_model.specs.Data.{ChangeData}
-use Rattle.tile_service.specs.Machine.{no_memory, Happening, edit, step, look}
-use Rattle.tile_service.specs.Runs.{edits_by, IsDoubtful, happening_at, all_edits, published_by, IsInDoubt, Way, way_of, Progress, starts, progress_after, progress_of}
+use Rattle.edit_text.specs.Recorded.{RecordedEdit}
+use Rattle.tile_service.specs.Machine.{no_memory, Happening, Call, edit, step, look}
+use Rattle.tile_service.specs.Runs.{edits_by, IsDoubtful, happening_at, all_edits, published_by, IsInDoubt}
+use Rattle.tile_service.specs.Runs.{Way, way_of, Progress, starts, progress_after, progress_of}
 use Rattle.tile_service.specs.Runs.{IsStepInDoubt, fitting, Fits, ImageFits, NoneInDoubt, RunFits, Reaches}
 use Rattle.tile_service.specs.Service.{PublicationView, left_of, EventLeaves, IsLast, installed, stored_after}
 use Rattle.tile_service.specs.Stored.{Stored, Holds, Keeps, with_edit}
@@ -50,10 +51,11 @@ doubt_breaks events event old new breaks stays before index lt is = ⊎_elim
 
 module _ (events : List Happening) (event : Happening) where
   -- an edit stays in doubt
-  doubt_stays : (e : ChangeData) → IsInDoubt events e → IsInDoubt (events ++ event ∷ []) e
+  doubt_stays : (e : RecordedEdit) → IsInDoubt events e → IsInDoubt (events ++ event ∷ []) e
   doubt_stays e doubt = record {
     index = doubt.index;
     within = omega (arith, doubt.within, one_more events event);
+    call = doubt.call;
     is = below events (event ∷ []) doubt.index (look 0 no_memory) doubt.within ∙ doubt.is;
   }
 
@@ -70,10 +72,11 @@ module _ (events : List Happening) (event : Happening) where
   }
 
   -- the last edit is, where the disk failed
-  last_in_doubt : (e : ChangeData) → event ≡ edit e (Err Device) → IsInDoubt (events ++ event ∷ []) e
-  last_in_doubt e is = record {
+  last_in_doubt : (call : Call) (e : RecordedEdit) → event ≡ edit call e (Err Device) → IsInDoubt (events ++ event ∷ []) e
+  last_in_doubt call e is = record {
     index = length events;
     within = omega (arith, one_more events event);
+    call = call;
     is = last_is events event (look 0 no_memory) (length events) refl ∙ is;
   }
 
@@ -94,7 +97,7 @@ module _ (events : List Happening) (event : Happening) where
 -- ---- images
 
 -- The image holds these edits, this many of them in its snapshot.
-abbrev Whole : (sectors n : ℕ) → Stored → List ChangeData → (j : ℕ) → Image → Type 0
+abbrev Whole : (sectors n : ℕ) → Stored → List RecordedEdit → (j : ℕ) → Image → Type 0
 Whole sectors n start edits j image = Fits sectors n start edits (length edits) j image
 
 -- It holds what is stored after these events.
@@ -102,9 +105,9 @@ abbrev pub Settles : (sectors n : ℕ) → Stored → Option Way → List Happen
 Settles sectors n start way events image = Whole sectors n start (all_edits start events) (published_by start way events) image
 
 -- It holds these edits and one in doubt, or has a publication in doubt.
-abbrev InDoubt : (sectors n : ℕ) → Stored → Option Way → List Happening → List ChangeData → ℕ → Image → Type 0
+abbrev InDoubt : (sectors n : ℕ) → Stored → Option Way → List Happening → List RecordedEdit → ℕ → Image → Type 0
 InDoubt sectors n start way events edits j image =
-    ((e : ChangeData) × IsInDoubt events e × Whole sectors n start (edits ++ e ∷ []) j image)
+    ((e : RecordedEdit) × IsInDoubt events e × Whole sectors n start (edits ++ e ∷ []) j image)
     ⊎ ((index : ℕ) × (m : ℕ) × IsStepInDoubt (starts start way) events index m × Whole sectors n start edits m image)
 
 -- An image from the time on at which the first k events had returned holds what was stored at some time since, or at the end what was
@@ -114,11 +117,11 @@ RunImage sectors n start way events k image =
     ((i : ℕ) × (k ≤ i) × (i ≤ length events) × Settles sectors n start way (take i events) image)
     ⊎ InDoubt sectors n start way events (all_edits start events) (published_by start way events) image
 
-holds_whole : (sectors n : ℕ) (start : Stored) (edits : List ChangeData) (j : ℕ) (s : Stored) (image : Image) → Has start edits j s
+holds_whole : (sectors n : ℕ) (start : Stored) (edits : List RecordedEdit) (j : ℕ) (s : Stored) (image : Image) → Has start edits j s
     → Holds sectors n s image → Whole sectors n start edits j image
 holds_whole sectors n start edits j s image has holds = (has.0, has.1, has.2, subst (λ (x : Stored). Holds sectors n x image) has.3 holds)
 
-no_doubt : (sectors n : ℕ) (start : Stored) (way : Option Way) (events : List Happening) (edits : List ChangeData) (j : ℕ)
+no_doubt : (sectors n : ℕ) (start : Stored) (way : Option Way) (events : List Happening) (edits : List RecordedEdit) (j : ℕ)
     (image : Image) → NoneInDoubt events → InDoubt sectors n start way events edits j image → ⊥
 no_doubt sectors n start way events edits j image none (inl w) = none w.1.index w.1.within (subst IsDoubtful (sym w.1.is) tt)
 no_doubt sectors n start way events edits j image none (inr w) = none w.0 w.2.within (subst IsDoubtful (sym w.2.is) tt)
@@ -137,13 +140,13 @@ module _ (start : Stored) (way : Option Way) (within : Within (starts start way)
       subst (λ (x : Option Way). IfSome x (λ (v : Way). v.edits ≤ (progress_of (starts start way) events).edits)) is now_within.under_way in
       omega (arith, le, progress_edits start way events)
 
-whole_of_more : (sectors n : ℕ) (start : Stored) (first rest edits : List ChangeData) (j : ℕ) (image : Image) → edits ≡ first ++ rest → j ≤ length first
+whole_of_more : (sectors n : ℕ) (start : Stored) (first rest edits : List RecordedEdit) (j : ℕ) (image : Image) → edits ≡ first ++ rest → j ≤ length first
     → Whole sectors n start first j image → Fits sectors n start edits (length first) j image
 whole_of_more sectors n start first rest edits j image is le whole = (
   whole.0,
   whole.1,
   whole.2,
-  subst (λ (l : List ChangeData). Holds sectors n (fitting start l (length first) j whole.0 whole.1 whole.2) image) (sym is)
+  subst (λ (l : List RecordedEdit). Holds sectors n (fitting start l (length first) j whole.0 whole.1 whole.2) image) (sym is)
       (subst (λ (s : Stored). Holds sectors n s image) (fits_more start first j whole.0 whole.1 whole.2 le rest) whole.3),
 )
 
@@ -152,7 +155,7 @@ module _ (sectors n : ℕ) (start : Stored) (way : Option Way) (within : Within 
   image_settled : (i : ℕ) → k ≤ i → i ≤ length events → Settles sectors n start way (take i events) image
       → ImageFits sectors n start way events k image
   image_settled i le in_answers settles =
-      let first : List ChangeData = all_edits start (take i events) in
+      let first : List RecordedEdit = all_edits start (take i events) in
       let more = all_split_at start events i in
       let order : published_by start way (take i events) ≤ length first =
       published_within start way within (take i events) in
@@ -177,7 +180,7 @@ module _ (sectors n : ℕ) (start : Stored) (way : Option Way) (within : Within 
       → InDoubt sectors n start way events (all_edits start events) (published_by start way events) image
       → ImageFits sectors n start way events k image
   image_doubtful le (inl w) =
-      let edits : List ChangeData = all_edits start events ++ w.0 ∷ [] in
+      let edits : List RecordedEdit = all_edits start events ++ w.0 ∷ [] in
       record {
         edits = edits;
         are_edits = inr (w.0, w.1, refl);
@@ -304,23 +307,23 @@ IsStill event = (edits_by event ≡ []) × ((p : Progress) → progress_after p 
 
 -- that's so of one in doubt
 doubt_still : (event : Happening) → IsDoubtful event → IsStill event
-doubt_still (edit e (Err Device)) doubt = (refl, λ p. refl)
+doubt_still (edit call e (Err Device)) doubt = (refl, λ p. refl)
 doubt_still (step (Err Device)) doubt = (refl, λ p. refl)
 doubt_still event doubt = absurd doubt
 
 -- what is stored with an event in doubt
 abbrev Doubtful : (sectors n : ℕ) → Stored → Option PublicationView → Happening → Image → Type 0
-Doubtful sectors n s publication event image = ((e : ChangeData) × (event ≡ edit e (Err Device)) × Holds sectors n (with_edit s e) image)
+Doubtful sectors n s publication event image = ((call : Call) × (e : RecordedEdit) × (event ≡ edit call e (Err Device)) × Holds sectors n (with_edit s e) image)
     ⊎ ((event ≡ step (Err Device)) × IsLast publication × Holds sectors n (installed n s publication) image)
 
 -- An event leaves what was stored before it, what is stored after it, or what is in doubt.
 as_leaves : (sectors n : ℕ) (s : Stored) (publication : Option PublicationView) (event : Happening) (image : Image)
     → EventLeaves sectors n s publication event image
     → Holds sectors n s image ⊎ Holds sectors n (stored_after n s publication event) image ⊎ Doubtful sectors n s publication event image
-as_leaves sectors n s publication (edit e outcome) image (inl holds) = inl holds
-as_leaves sectors n s publication (edit e (Ok number)) image (inr w) = inr (inl w.1)
-as_leaves sectors n s publication (edit e (Err fault)) image (inr w) =
-    inr (inr (inl (e, ap (λ (f : ServiceFault). edit e (Err f)) w.0, w.1)))
+as_leaves sectors n s publication (edit call e outcome) image (inl holds) = inl holds
+as_leaves sectors n s publication (edit call e (Ok number)) image (inr w) = inr (inl w.1)
+as_leaves sectors n s publication (edit call e (Err fault)) image (inr w) =
+    inr (inr (inl (call, e, ap (λ (f : ServiceFault). edit call e (Err f)) w.0, w.1)))
 as_leaves sectors n s publication (step outcome) image (inl holds) = inl holds
 as_leaves sectors n s publication (step outcome) image (inr w) = ⊎_elim
     (λ (done : outcome ≡ Ok 0). inr (inl
@@ -331,7 +334,7 @@ as_leaves sectors n s publication event image holds = inl holds
 -- what is in doubt is so
 is_doubtful : (sectors n : ℕ) (s : Stored) (publication : Option PublicationView) (event : Happening) (image : Image)
     → Doubtful sectors n s publication event image → IsDoubtful event
-is_doubtful sectors n s publication event image (inl w) = subst IsDoubtful (sym w.1) tt
+is_doubtful sectors n s publication event image (inl w) = subst IsDoubtful (sym w.2) tt
 is_doubtful sectors n s publication event image (inr w) = subst IsDoubtful (sym w.0) tt
 
 -- What an event does at a service that isn't broken, of which this is stored and which has this publication under way.
@@ -344,7 +347,8 @@ pub record IsHere (sectors n : ℕ) (start : Stored) (way : Option Way) (events 
   pub call : LeavesOnly h new (EventLeaves sectors n s publication event)
   pub after : (IsDoubtful event → ⊥) → Keeps sectors n (stored_after n s publication event) new
 
-module _ (sectors n : ℕ) (start : Stored) (way : Option Way) (events : List Happening) (event : Happening) (old h new : History) (so_far : RunLeaves sectors n start way events old h) (follows : Follows h new) where
+module _ (sectors n : ℕ) (start : Stored) (way : Option Way) (events : List Happening) (event : Happening) (old h new : History)
+    (so_far : RunLeaves sectors n start way events old h) (follows : Follows h new) where
   abbrev events' : List Happening
   events' = events ++ event ∷ []
 
@@ -469,24 +473,24 @@ module _ (sectors n : ℕ) (start : Stored) (way : Option Way) (events : List Ha
   module _ (is_still : IsStill event) where
     same_edits : all_edits start events' ≡ all_edits start events
     same_edits = all_edits_on start events event
-        ∙ ap (λ (l : List ChangeData). all_edits start events ++ l) is_still.0 ∙ append-nil (all_edits start events)
+        ∙ ap (λ (l : List RecordedEdit). all_edits start events ++ l) is_still.0 ∙ append-nil (all_edits start events)
 
     same_published : published_by start way events' ≡ published_by start way events
     same_published = ap (λ (p : Progress). p.published)
         (progress_on (starts start way) events event ∙ is_still.1 (progress_of (starts start way) events))
 
     still_settles : (image : Image) → Settles sectors n start way events image → Settles sectors n start way events' image
-    still_settles image settles = subst (λ (l : List ChangeData). Whole sectors n start l (published_by start way events') image) (sym same_edits)
+    still_settles image settles = subst (λ (l : List RecordedEdit). Whole sectors n start l (published_by start way events') image) (sym same_edits)
         (subst (λ (j : ℕ). Whole sectors n start (all_edits start events) j image) (sym same_published) settles)
 
     doubt_image : (k : ℕ) (image : Image)
         → InDoubt sectors n start way events' (all_edits start events) (published_by start way events) image
         → RunImage sectors n start way events' k image
     doubt_image k image doubt =
-        inr (subst (λ (l : List ChangeData). InDoubt sectors n start way events' l (published_by start way events') image) (sym same_edits)
+        inr (subst (λ (l : List RecordedEdit). InDoubt sectors n start way events' l (published_by start way events') image) (sym same_edits)
         (subst (λ (j : ℕ). InDoubt sectors n start way events' (all_edits start events) j image) (sym same_published) doubt))
 
-  still_doubt : (edits : List ChangeData) (j : ℕ) (image : Image) → InDoubt sectors n start way events edits j image
+  still_doubt : (edits : List RecordedEdit) (j : ℕ) (image : Image) → InDoubt sectors n start way events edits j image
       → InDoubt sectors n start way events' edits j image
   still_doubt edits j image (inl w) = inl (w.0, doubt_stays events event w.0 w.1, w.2)
   still_doubt edits j image (inr w) = inr (w.0, w.1, step_stays events event (starts start way) w.0 w.1 w.2, w.3)
@@ -515,7 +519,7 @@ module _ (sectors n : ℕ) (start : Stored) (way : Option Way) (events : List Ha
 
   -- one that isn't broken stores what it acknowledges
   module _ (none : NoneInDoubt events) (here : IsHere sectors n start way events event h new) where
-    abbrev edits_now : List ChangeData
+    abbrev edits_now : List RecordedEdit
     edits_now = all_edits start events
 
     order : published_by start way events ≤ length edits_now
@@ -525,7 +529,7 @@ module _ (sectors n : ℕ) (start : Stored) (way : Option Way) (events : List Ha
     before_settles image holds = holds_whole sectors n start edits_now (published_by start way events) here.s image here.reaches holds
 
     pub reaches_on : Reaches start way events' (stored_after n here.s here.publication event)
-    reaches_on = subst (λ (l : List ChangeData). Has start l (published_by start way events') (stored_after n here.s here.publication event))
+    reaches_on = subst (λ (l : List RecordedEdit). Has start l (published_by start way events') (stored_after n here.s here.publication event))
         (sym (all_edits_on start events event))
         (subst (λ (p : Progress). Has start (edits_now ++ edits_by event) p.published (stored_after n here.s here.publication event))
         (sym (progress_on (starts start way) events event))
@@ -558,10 +562,10 @@ module _ (sectors n : ℕ) (start : Stored) (way : Option Way) (events : List Ha
     new_doubt : (image : Image) → Doubtful sectors n here.s here.publication event image
         → InDoubt sectors n start way events' edits_now (published_by start way events) image
     new_doubt image (inl w) = inl (
-      w.0,
-      last_in_doubt events event w.0 w.1,
-      holds_whole sectors n start (edits_now ++ w.0 ∷ []) (published_by start way events) (with_edit here.s w.0) image
-          (has_edit start edits_now (published_by start way events) here.s w.0 order here.reaches) w.2,
+      w.1,
+      last_in_doubt events event w.0 w.1 w.2,
+      holds_whole sectors n start (edits_now ++ w.1 ∷ []) (published_by start way events) (with_edit here.s w.1) image
+          (has_edit start edits_now (published_by start way events) here.s w.1 order here.reaches) w.3,
     )
     new_doubt image (inr w) = last_published here.publication w.0 here.way_is here.since w.1 image w.2
 
@@ -598,7 +602,8 @@ module _ (sectors n : ℕ) (start : Stored) (way : Option Way) (events : List Ha
         (doubtful_or_not event))
 
 -- the event by any service
-pub run_goes_on : (sectors n : ℕ) (start : Stored) (way : Option Way) (events : List Happening) (event : Happening) (old h new : History) → RunLeaves sectors n start way events old h → (broken : Bool)
+pub run_goes_on : (sectors n : ℕ) (start : Stored) (way : Option Way) (events : List Happening) (event : Happening)
+    (old h new : History) → RunLeaves sectors n start way events old h → (broken : Bool)
     → (broken ≡ true → IsQuiet event × (new ≡ h)) → (broken ≡ false → NoneInDoubt events)
     → (broken ≡ false → IsHere sectors n start way events event h new)
     → RunLeaves sectors n start way (events ++ event ∷ []) old new

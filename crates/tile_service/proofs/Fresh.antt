@@ -17,16 +17,15 @@ use Rattle.generations.specs.declared.fault.StoreFault.{StoreFault}
 use Rattle.generations.specs.declared.fault.StoreFault.TheVariants.{TooSmall, Damaged}
 use Rattle.generations.specs.declared.fault.What.TheVariants.{Size}
 use Rattle.generations.specs.declared.root.Root.{Root}
-use Rattle.generations.specs.declared.sizes.TheConstants.{LEAST_SECTORS, MOST_SECTORS}
-use Rattle.generations.specs.Sectors.{IsFormat, IsRootOf}
-use Rattle.generations.proofs.Laws.{fresh_live}
+use Rattle.generations.specs.declared.sizes.TheConstants.{LEAST_SECTORS, MOST_SECTORS, LAST_VERSION}
+use Rattle.generations.specs.Sectors.{IsFormat, IsRootOf, IsVersion, version_from}
+use Rattle.generations.proofs.Laws.{fresh_live, format_has_version}
 use Rattle.edit_journal.specs.Records.{IsHeadOf}
-use Rattle.edit_journal.specs.declared.sizes.TheConstants.{RECORD_VERSION}
 use Rattle.edit_journal.proofs.Laws.{zeros_no_head}
 use Rattle.feature_store.specs.Layers.{layers, is_tile}
 use Rattle.feature_store.specs.Store.{IsMap, snapshot}
 use Rattle.mvt_layer.specs.Tile.{LayerView}
-use Rattle.tile_service.specs.Stored.{Holds, Keeps, HoldsAt, HasBytes, first_state, root_of}
+use Rattle.tile_service.specs.Stored.{Stored, Holds, Keeps, HoldsAt, HasBytes, first_state, root_of}
 use Rattle.area_content.specs.Tiles.{HasNoTile}
 use Rattle.tile_service.proofs.Roots.{root_or_none}
 
@@ -67,9 +66,13 @@ no_bytes first at sector index is = subst (λ (piece : List ℕ). take (length p
 even : 0 % 2 ≡ 0
 even = omega arith
 
-module _ (count n : ℕ) (image : Image) (size : IsSize n) (within : n ≤ count) (fresh : IsFresh n image) where
+-- the state after a format in this version
+abbrev pub first_in : (version : ℕ) → Stored
+first_in version = record first_state { version = version }
+
+module _ (count version n : ℕ) (image : Image) (is_version : IsVersion version) (size : IsSize n) (within : n ≤ count) (fresh : IsFresh version n image) where
   first_live : LiveRoot count image n first_root
-  first_live = fresh_live count n image size within fresh
+  first_live = fresh_live count version n image is_version size within fresh
 
   stands : HasRoot n image first_root → IsRootOf n 0 (image 1) first_root
   stands (inl is) = is
@@ -78,9 +81,13 @@ module _ (count n : ℕ) (image : Image) (size : IsSize n) (within : n ≤ count
   first_sector : (at : ℕ) → at ≡ 1 + 0 % 2 → at ≡ 1
   first_sector at is = omega (arith, is, even)
 
-  each : (at : ℕ) → HoldsAt count n first_state at (image at)
+  version_there : version_from (image 0) ≡ version
+  version_there = ap version_from fresh.format ∙ format_has_version version n is_version
+
+  each : (at : ℕ) → HoldsAt count n (first_in version) at (image at)
   each at = record {
     format = λ is. subst (λ (a : ℕ). IsFormat count (image a) n) (sym is) first_live.format;
+    version = λ is. subst (λ (a : ℕ). version_from (image a) ≡ version) (sym is) version_there;
     live = λ is. subst (λ (p : ℕ). IsRootOf n p (image at) (root_of first_state)) (sym even)
         (subst (λ (r : Root). IsRootOf n 0 (image at) r) (sym same_root)
         (subst (λ (a : ℕ). IsRootOf n 0 (image a) first_root) (sym (first_sector at is)) (stands first_live.stands)));
@@ -89,23 +96,26 @@ module _ (count n : ℕ) (image : Image) (size : IsSize n) (within : n ≤ count
     archive_bytes = no_bytes _ at (image at);
   }
 
-  -- an image of a disk that was just formatted holds the empty map at generation 0
-  pub fresh_holds : Holds count n first_state image
-  fresh_holds = record {
+  -- an image of a disk that was just formatted in a version holds the empty map at generation 0
+  pub fresh_version_holds : Holds count n (first_in version) image
+  fresh_version_holds = record {
     sectors = each;
     journal = record {
-      records = record { edits = tt; room = omega arith; numbers = lit≤ tt; stand = λ at. tt };
-      last = λ at later inside le head. zeros_no_head RECORD_VERSION later
-          (subst (λ (s : List ℕ). IsHeadOf RECORD_VERSION later s) (fresh.empty at (omega (arith, inside.0)) inside.1) head);
+      records = record { lengths = tt; room = omega arith; numbers = lit≤ tt; stand = λ at. tt };
+      last = λ at other later inside is_record le head. zeros_no_head other later
+          (subst (λ (s : List ℕ). IsHeadOf other later s) (fresh.empty at (omega (arith, inside.0)) inside.1) head);
     };
     is_map = empty_map;
     are_edits = All-nil _;
     is_archive = inl (no_tile, refl);
   }
 
+pub fresh_holds : (count n : ℕ) (image : Image) → IsSize n → n ≤ count → IsFresh LAST_VERSION n image → Holds count n first_state image
+fresh_holds count n image size within fresh = fresh_version_holds count LAST_VERSION n image (inr refl) size within fresh
+
 -- ---- formatting
 
-fresh_or : (n : ℕ) (old : History) → IsSize n → (image : Image) → MayLeave old image ⊎ HasNoMark image ⊎ IsFresh n image
+fresh_or : (n : ℕ) (old : History) → IsSize n → (image : Image) → MayLeave old image ⊎ HasNoMark image ⊎ IsFresh LAST_VERSION n image
     → MayLeave old image ⊎ HasNoMark image ⊎ Holds n n first_state image
 fresh_or n old size image (inl was) = inl was
 fresh_or n old size image (inr (inl none)) = inr (inl none)
@@ -123,7 +133,7 @@ size_or n = ⊎_elim
 
 -- what formatting leaves at each moment, in terms of what a disk holds
 pub formatting_leaves : (n : ℕ) (old new : History) → ((IsSize n → ⊥) → new ≡ old)
-    → LeavesOnly old new (λ image. MayLeave old image ⊎ HasNoMark image ⊎ IsFresh n image)
+    → LeavesOnly old new (λ image. MayLeave old image ⊎ HasNoMark image ⊎ IsFresh LAST_VERSION n image)
     → LeavesOnly old new (λ image. MayLeave old image ⊎ HasNoMark image ⊎ Holds n n first_state image)
 formatting_leaves n old new untouched leaves = by (size_or n)
   where
@@ -139,7 +149,7 @@ formatting_leaves n old new untouched leaves = by (size_or n)
 
 -- and what it leaves where it is done
 pub formatted_keeps : (n : ℕ) (new : History) (result : Result (Unit {0}) StoreFault) → (result ≡ Err TooSmall) ↔ (n < LEAST_SECTORS)
-    → (result ≡ Err (Damaged Size)) ↔ (MOST_SECTORS < n) → OnOk result ((image : Image) → MayLeave new image → IsFresh n image)
+    → (result ≡ Err (Damaged Size)) ↔ (MOST_SECTORS < n) → OnOk result ((image : Image) → MayLeave new image → IsFresh LAST_VERSION n image)
     → OnOk result (Keeps n n first_state new)
 formatted_keeps n new result small large fresh = by (size_or n)
   where

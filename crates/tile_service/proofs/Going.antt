@@ -5,7 +5,7 @@ use Rattle.sector_disk.specs.declared.disk.TheConstants.{SECTOR_BYTES}
 use Rattle.generations.specs.Areas.{area_sectors}
 use Rattle.generations.specs.declared.root.Root.{Root}
 use Rattle.edit_journal.specs.Appends.{ring_of, start_of}
-use Rattle.edit_journal.specs.Records.{IsEditLength, parts_of}
+use Rattle.edit_journal.specs.Records.{IsRecordLength, parts_of}
 use Rattle.edit_journal.specs.declared.journal.Journal.{Journal}
 use Rattle.edit_journal.specs.declared.sizes.TheConstants.{PART_BYTES}
 use Rattle.edit_journal.proofs.Releases.{append_is_behind, append_counted}
@@ -18,8 +18,9 @@ abbrev pub AreShort : FeatureMap → (area places : ℕ) → Type 0
 AreShort m area places = length (snapshot m) ≤ area + PART_BYTES * places
 
 -- The record has this many bytes, and the map after the edit is longer by no more than its places.
-module _ (size : ℕ) (root : Root) (old new : Journal) (ring : ring_of new ≡ ring_of old) (from : start_of new.place new.edits ≡ start_of old.place old.edits)
-    (bytes : ℕ) (fits : IsEditLength bytes) (used : new.used ≡ old.used + parts_of bytes) (last : new.last ≡ old.last + 1)
+module _ (size version : ℕ) (root : Root) (old new : Journal) (ring : ring_of new ≡ ring_of old)
+    (from : start_of new.place new.edits ≡ start_of old.place old.edits) (bytes : ℕ) (fits : IsRecordLength version bytes)
+    (used : new.used ≡ old.used + parts_of bytes) (last : new.last ≡ old.last + 1)
     (map later : CachedView) (numbered : later.last ≡ new.last)
     (longer : (area places : ℕ) → AreShort map.features area places → AreShort later.features area (places + parts_of bytes)) where
   texts_on : (some next : ℕ) → some + parts_of bytes ≡ next → AreShort map.features (SECTOR_BYTES * area_sectors size) some
@@ -30,21 +31,22 @@ module _ (size : ℕ) (root : Root) (old new : Journal) (ring : ring_of new ≡ 
       → IfSome publication (IsGoing size root new later.features)
   going_on None was = tt
   going_on (Some p) was = record {
-    behind = append_is_behind old new ring from bytes fits used last p.start p.places was.behind;
+    behind = append_is_behind old new ring from bytes version fits used last p.start p.places was.behind;
     area = was.area;
     written = was.written;
     generation = was.generation;
     texts = texts_on (old.used - p.places) (new.used - p.places) (omega (arith, used, was.behind.in_use)) was.texts;
   }
 
-  pub service_on : (sectors now : ℕ) (publication : Option PublicationView) → now ≡ sectors → IsService sectors size root old map publication
-      → IsService now size root new later publication
+  pub service_on : (sectors now : ℕ) (publication : Option PublicationView) → now ≡ sectors → IsService sectors size version root old map publication
+      → IsService now size version root new later publication
   service_on sectors now publication same was = record {
     within = omega (arith, was.within, same);
+    version_is = was.version_is;
     ring = ring ∙ was.ring;
     area = was.area;
     texts = texts_on old.used new.used (omega (arith, used)) was.texts;
-    counted = append_counted old new ring from bytes fits used last was.counted;
+    counted = append_counted old new ring from bytes version fits used last was.counted;
     last_is = numbered;
     going = going_on publication was.going;
   }

@@ -14,63 +14,61 @@ use Rattle.sector_disk.proofs.Laws.{seen_is_left}
 use Rattle.sector_bytes.specs.Bytes.{sector_piece}
 use Rattle.generations.specs.Areas.{journal_sectors, area_sectors, area_start, sectors_of}
 use Rattle.generations.specs.Installs.{root_at, WithRoot, Installs}
-use Rattle.generations.specs.Sectors.{root_sector, AreNumbers, IsFormat, IsRootOf}
+use Rattle.generations.specs.Sectors.{root_sector, AreNumbers, IsFormat, IsRootOf, version_from}
 use Rattle.generations.proofs.Installs.{installed_image}
-use Rattle.edit_journal.specs.Appends.{Keeps as KeepsTexts}
+use Rattle.edit_journal.specs.Appends.{Keeps as KeepsRecords}
+use Rattle.edit_journal.specs.Records.{RecordData}
 use Rattle.edit_journal.specs.Releases.{MayTake}
-use Rattle.edit_journal.specs.Ring.{Ring, AreEdits, places_of, HoldsTexts}
-use Rattle.edit_journal.specs.declared.sizes.TheConstants.{RECORD_VERSION}
-use Rattle.edit_journal.proofs.Releases.{edits_take, keeps_behind}
-use Rattle.feature_model.specs.Data.{ChangeData}
-use Rattle.feature_model.specs.Spelled.{spelled_change}
-use Rattle.feature_model.specs.Types.{IsChange}
-use Rattle.feature_store.specs.Store.{FeatureMap, IsMap, changed, snapshot}
-use Rattle.tile_service.specs.After.{after}
+use Rattle.edit_journal.specs.Ring.{Ring, AreRecords, places_of, HoldsOnly}
+use Rattle.edit_journal.proofs.Releases.{records_take, keeps_behind}
+use Rattle.edit_text.specs.Recorded.{RecordedEdit}
+use Rattle.feature_store.specs.Store.{FeatureMap, IsMap, snapshot}
+use Rattle.tile_service.specs.After.{after, made}
 use Rattle.published_tiles.specs.Published.{ArePublished}
 use Rattle.tile_service.specs.Publishing.{map_at, published, CanPublish, HasArea}
 use Rattle.tile_service.specs.Service.{ServiceView, PublicationView, Publishes, IsUp, archive_of}
 use Rattle.tile_service.specs.Stored.{Stored, Holds, HasBytes, HasEarlierRoot, Keeps}
-use Rattle.tile_service.specs.Stored.{map_of, last_of, root_of, texts_of, with_edit, journal_ring, journal_start}
+use Rattle.tile_service.specs.Stored.{map_of, last_of, root_of, CanRecord, record_for, stored_records, with_edit, journal_ring, journal_start}
 use Rattle.tile_service.specs.Tiles.{WereMaps}
 use Rattle.area_content.specs.Tiles.{IsArchiveOfMap}
-use Rattle.tile_service.proofs.Appends.{texts_with}
+use Rattle.tile_service.proofs.Appends.{records_with}
 use Rattle.tile_service.proofs.Publishes.{same_ring, live_can}
 
 -- ---- the journal from a later start on
 
-places_split : (texts : List (List ℕ)) (taken : ℕ) → places_of (drop taken texts) + places_of (take taken texts) ≡ places_of texts
-places_split texts zero = omega arith
+places_split : (records : List RecordData) (taken : ℕ) → places_of (drop taken records) + places_of (take taken records) ≡ places_of records
+places_split records zero = omega arith
 places_split [] (suc taken) = omega arith
-places_split (text ∷ texts) (suc taken) = omega (arith, places_split texts taken)
+places_split (r ∷ records) (suc taken) = omega (arith, places_split records taken)
 
-first_edits : (texts : List (List ℕ)) (taken : ℕ) → AreEdits texts → AreEdits (take taken texts)
-first_edits texts zero are = tt
-first_edits [] (suc taken) are = tt
-first_edits (text ∷ texts) (suc taken) are = (are.0, first_edits texts taken are.1)
+first_records : (records : List RecordData) (taken : ℕ) → AreRecords records → AreRecords (take taken records)
+first_records records zero are = tt
+first_records [] (suc taken) are = tt
+first_records (r ∷ records) (suc taken) are = (are.0, first_records records taken are.1)
 
--- An image that holds texts holds those after the first ones, from the place after their records on.
-pub holds_later : (ring : Ring) (place edits taken : ℕ) (texts : List (List ℕ)) (image : Image) → place < ring.places → taken ≤ length texts
-    → HoldsTexts RECORD_VERSION ring (record { place = place; number = suc edits }) texts image
-    → HoldsTexts RECORD_VERSION ring (record { place = (place + places_of (take taken texts)) % ring.places; number = suc (edits + taken) })
-    (drop taken texts) image
-holds_later ring place edits taken texts image begins le holds =
-    (keeps_behind ring place edits (places_of texts) (edits + length texts) texts (begun image) now begins holds.records.room
-    (places_of (take taken texts)) (places_of (drop taken texts)) ((place + places_of (take taken texts)) % ring.places) (edits + taken) taken
-    (places_split texts taken) takes refl le refl refl).keeps image (λ at. refl)
+-- An image that holds records holds those after the first ones, from the place after those on.
+pub holds_later : (ring : Ring) (place edits taken : ℕ) (records : List RecordData) (image : Image) → place < ring.places → taken ≤ length records
+    → HoldsOnly ring (record { place = place; number = suc edits }) records image
+    → HoldsOnly ring (record { place = (place + places_of (take taken records)) % ring.places; number = suc (edits + taken) })
+    (drop taken records) image
+holds_later ring place edits taken records image begins le holds =
+    (keeps_behind ring place edits (places_of records) (edits + length records) records (begun image) now begins holds.records.room
+    (places_of (take taken records)) (places_of (drop taken records)) ((place + places_of (take taken records)) % ring.places) (edits + taken) taken
+    (places_split records taken) takes refl le refl refl).keeps image (λ at. refl)
   where
-    now : KeepsTexts ring place edits (places_of texts) (edits + length texts) texts (begun image)
+    now : KeepsRecords ring place edits (places_of records) (edits + length records) records (begun image)
     now = record {
-      keeps = λ other may. subst (λ (i : Image). HoldsTexts RECORD_VERSION ring (record { place = place; number = suc edits }) texts i)
+      keeps = λ other may. subst (λ (i : Image). HoldsOnly ring (record { place = place; number = suc edits }) records i)
           (λ i at. sym (may at) i) holds;
       uses = refl;
       counts = refl;
     }
 
-    takes : MayTake (edits + taken - edits) (places_of (take taken texts))
+    takes : MayTake (edits + taken - edits) (places_of (take taken records))
     takes =
-        let records : length (take taken texts) ≡ edits + taken - edits = omega (arith, length-take taken texts, le) in
-        subst (λ (r : ℕ). MayTake r (places_of (take taken texts))) records
-        (edits_take (take taken texts) (first_edits texts taken holds.records.edits))
+        let count : length (take taken records) ≡ edits + taken - edits = omega (arith, length-take taken records, le) in
+        subst (λ (k : ℕ). MayTake k (places_of (take taken records))) count
+        (records_take (take taken records) (first_records records taken holds.records.lengths))
 
 -- ---- the next root in its sector
 
@@ -86,12 +84,12 @@ module _ (count n : ℕ) (stored : Stored) (taken : ℕ) (archive : List ℕ) (c
   some_place = omega (arith, (live_can count n stored before holds).journal)
 
   place_below : (root_of next).journal_at < journal_sectors n
-  place_below = mod_below (stored.journal_at + places_of (take taken (texts_of stored))) (journal_sectors n) some_place
+  place_below = mod_below (stored.journal_at + places_of (take taken (stored_records stored))) (journal_sectors n) some_place
 
   numbers : AreNumbers (root_of next)
   numbers = record {
     generation = can.generation;
-    edits = omega (arith, holds.journal.records.numbers, length-map stored.since spelled_change, can.within);
+    edits = omega (arith, holds.journal.records.numbers, length-map stored.since record_for, can.within);
     journal_at = omega (arith, place_below, format.size.1);
     snapshot_len = omega (arith, can.is_map.short);
     archive_len = omega (arith, can.area, format.size.1);
@@ -129,18 +127,20 @@ module _ (count n : ℕ) (stored : Stored) (taken : ℕ) (archive : List ℕ) (c
               ((holds.sectors at).live (omega (arith, is, same)))),
         )
 
-    journal : HoldsTexts RECORD_VERSION (journal_ring n) (journal_start next) (texts_of next) image
-    journal = subst (λ (texts : List (List ℕ)). HoldsTexts RECORD_VERSION (journal_ring n) (journal_start next) texts image)
-        (drop-map spelled_change taken stored.since)
-        (holds_later (journal_ring n) stored.journal_at stored.edits taken (texts_of stored) image (live_can count n stored before holds).journal
-        (omega (arith, can.within, length-map stored.since spelled_change))
-        (same_ring RECORD_VERSION (journal_ring n) (journal_start stored) (texts_of stored) before image some_place
+    journal : HoldsOnly (journal_ring n) (journal_start next) (stored_records next) image
+    journal = subst (λ (records : List RecordData). HoldsOnly (journal_ring n) (journal_start next) records image)
+        (drop-map record_for taken stored.since)
+        (holds_later (journal_ring n) stored.journal_at stored.edits taken (stored_records stored) image (live_can count n stored before holds).journal
+        (omega (arith, can.within, length-map stored.since record_for))
+        (same_ring (journal_ring n) (journal_start stored) (stored_records stored) before image some_place
         (λ at inside. with_root.others at (λ root. omega (arith, inside.0, root))) holds.journal))
 
     -- With the area written before it, the image holds what is published.
     pub installed_holds : Holds count n next image
     installed_holds = record {
       sectors = λ at. record {
+        version = λ is. subst (λ (s : List ℕ). version_from s ≡ stored.version) (sym (with_root.others at (λ root. omega (arith, is, root))))
+            ((holds.sectors at).version is);
         format = λ is. subst (λ (s : List ℕ). IsFormat count s n) (sym (with_root.others at (λ root. omega (arith, is, root)))) ((holds.sectors at).format is);
         live = next_live at;
         other = earlier at;
@@ -150,7 +150,7 @@ module _ (count n : ℕ) (stored : Stored) (taken : ℕ) (archive : List ℕ) (c
       };
       journal = journal;
       is_map = can.is_map;
-      are_edits = All-drop IsChange taken stored.since holds.are_edits;
+      are_edits = All-drop (CanRecord stored.version) taken stored.since holds.are_edits;
       is_archive = can.is_archive;
     }
 
@@ -184,14 +184,14 @@ module _ (count n : ℕ) (stored : Stored) (taken : ℕ) (archive : List ℕ) (c
 
 -- ---- edits while a publication is under way
 
-module _ (n : ℕ) (stored : Stored) (taken : ℕ) (archive : List ℕ) (edit : ChangeData) (within : taken ≤ length stored.since) where
+module _ (n : ℕ) (stored : Stored) (taken : ℕ) (archive : List ℕ) (edit : RecordedEdit) (within : taken ≤ length stored.since) where
   -- The map that is published stays the same.
   pub map_stays : map_at (with_edit stored edit) taken ≡ map_at stored taken
-  map_stays = ap (λ (edits : List ChangeData). after stored.snapshot_map edits) (take-append-le taken stored.since (edit ∷ []) within)
+  map_stays = ap (λ (edits : List RecordedEdit). after stored.snapshot_map edits) (take-append-le taken stored.since (edit ∷ []) within)
 
-  pub texts_stay : take taken (texts_of (with_edit stored edit)) ≡ take taken (texts_of stored)
-  texts_stay = ap (take taken) (texts_with stored edit)
-      ∙ take-append-le taken (texts_of stored) (spelled_change edit ∷ []) (omega (arith, within, length-map stored.since spelled_change))
+  pub records_stay : take taken (stored_records (with_edit stored edit)) ≡ take taken (stored_records stored)
+  records_stay = ap (take taken) (records_with stored edit)
+      ∙ take-append-le taken (stored_records stored) (record_for edit ∷ []) (omega (arith, within, length-map stored.since record_for))
 
   -- So it is still one that can be published,
   pub can_still : CanPublish n stored taken archive → CanPublish n (with_edit stored edit) taken archive
@@ -206,11 +206,12 @@ module _ (n : ℕ) (stored : Stored) (taken : ℕ) (archive : List ℕ) (edit : 
   -- and the edit is then one of those since.
   pub published_stays : published n (with_edit stored edit) taken archive ≡ with_edit (published n stored taken archive) edit
   published_stays = λ i. record {
+    version = stored.version;
     generation = suc stored.generation;
     snapshot_map = map_stays i;
     edits = stored.edits + taken;
     since = drop-append-le taken stored.since (edit ∷ []) within i;
-    journal_at = (stored.journal_at + places_of (texts_stay i)) % journal_sectors n;
+    journal_at = (stored.journal_at + places_of (records_stay i)) % journal_sectors n;
     archive = archive;
   }
 
@@ -218,12 +219,12 @@ module _ (n : ℕ) (stored : Stored) (taken : ℕ) (archive : List ℕ) (edit : 
 
 -- The map after all edits is what is published, where all are taken.
 pub all_taken : (stored : Stored) → map_at stored (length stored.since) ≡ map_of stored
-all_taken stored = ap (λ (edits : List ChangeData). after stored.snapshot_map edits) (take_all (length stored.since) stored.since (omega arith))
+all_taken stored = ap (λ (edits : List RecordedEdit). after stored.snapshot_map edits) (take_all (length stored.since) stored.since (omega arith))
 
-after_both : (m : FeatureMap) (edits : List ChangeData) (taken : ℕ) → after (after m (take taken edits)) (drop taken edits) ≡ after m edits
+after_both : (m : FeatureMap) (edits : List RecordedEdit) (taken : ℕ) → after (after m (take taken edits)) (drop taken edits) ≡ after m edits
 after_both m edits zero = refl
 after_both m [] (suc taken) = refl
-after_both m (edit ∷ edits) (suc taken) = after_both (changed m edit) edits taken
+after_both m (edit ∷ edits) (suc taken) = after_both (made m edit) edits taken
 
 module _ (n : ℕ) (stored : Stored) (taken : ℕ) (archive : List ℕ) (within : taken ≤ length stored.since) where
   -- It represents the same map
@@ -236,22 +237,23 @@ module _ (n : ℕ) (stored : Stored) (taken : ℕ) (archive : List ℕ) (within 
 
   -- A service with the records after the published ones continues from it.
   pub up_published : {D : Type 0} (count : ℕ) (h : History) (service : ServiceView D) → service.size ≡ n
-      → Keeps count n (published n stored taken archive) h → service.broken ≡ false → service.generation ≡ suc stored.generation
-      → service.features ≡ map_of stored → service.journal.place ≡ (published n stored taken archive).journal_at
+      → Keeps count n (published n stored taken archive) h → service.broken ≡ false → service.version ≡ stored.version
+      → service.generation ≡ suc stored.generation → service.features ≡ map_of stored → service.journal.place ≡ (published n stored taken archive).journal_at
       → service.journal.edits ≡ stored.edits + taken
-      → service.journal.used + places_of (take taken (texts_of stored)) ≡ places_of (texts_of stored)
+      → service.journal.used + places_of (take taken (stored_records stored)) ≡ places_of (stored_records stored)
       → service.journal.last ≡ last_of stored → service.snapshot_len ≡ length (snapshot (map_at stored taken))
       → service.archive_len ≡ length archive → service.publication ≡ None
       → WereMaps service.features service.touched service.journal.last (stored.edits + taken) (map_at stored taken) (drop taken stored.since)
       → ArePublished service.published (archive_of service) (map_at stored taken) archive → IsUp count h (published n stored taken archive) service
-  up_published count h service size keeps unbroken generation features place edits used last snapshot_ archive_ publication were archived = record {
+  up_published count h service size keeps unbroken version generation features place edits used last snapshot_ archive_ publication were archived = record {
     keeps = subst (λ (k : ℕ). Keeps count k (published n stored taken archive) h) (sym size) keeps;
     unbroken = unbroken;
+    version_is = version;
     generation_is = generation;
     map_is = features ∙ sym same_map;
     place_is = place;
     edits_are = edits;
-    used_is = left ∙ ap places_of (drop-map spelled_change taken stored.since);
+    used_is = left ∙ ap places_of (drop-map record_for taken stored.since);
     last_is = last ∙ sym same_last;
     snapshot_len_is = snapshot_;
     archive_len_is = archive_;
@@ -260,5 +262,5 @@ module _ (n : ℕ) (stored : Stored) (taken : ℕ) (archive : List ℕ) (within 
     archived = archived;
   }
     where
-      left : service.journal.used ≡ places_of (drop taken (texts_of stored))
-      left = omega (arith, used, places_split (texts_of stored) taken)
+      left : service.journal.used ≡ places_of (drop taken (stored_records stored))
+      left = omega (arith, used, places_split (stored_records stored) taken)

@@ -1,50 +1,64 @@
 -- Laws of what a disk holds, for the crates above.
-use Rattle.std.proofs.Common.{◌≡◌, ℕ, suc, ◌+◌, List, [], ◌∷◌, ◌++◌, length, map, refl, sym, ap, subst, arith}
+use Rattle.std.proofs.Common.{◌≡◌, inl, inr, ℕ, suc, ◌≤◌, ◌+◌, List, [], ◌∷◌, length, map, refl, sym, ◌∙◌, ap, subst, arith}
 use Rattle.std.specs.List.{All}
-use Rattle.std.proofs.lemmas.List.Elements.{All-head, All-tail}
+use Rattle.std.proofs.lemmas.List.Elements.{All-head, All-tail, All-weaker}
 use Rattle.sector_disk.specs.Disk.{Image}
 use Rattle.generations.specs.Areas.{area_start, sectors_of}
+use Rattle.generations.specs.Sectors.{IsVersion}
 use Rattle.generations.specs.declared.root.Root.{Root}
+use Rattle.generations.specs.declared.sizes.TheConstants.{LAST_VERSION}
 use Rattle.generations.proofs.Laws.{one_live}
-use Rattle.edit_journal.specs.Ring.{Ring, Start, HoldsTexts}
-use Rattle.edit_journal.specs.declared.sizes.TheConstants.{RECORD_VERSION}
+use Rattle.edit_journal.specs.Records.{RecordData, record_of}
+use Rattle.edit_journal.specs.Ring.{Ring, Start, HoldsOnly}
 use Rattle.edit_journal.proofs.Laws.{one_list}
-use Rattle.edit_text.proofs.Laws.{one_change}
-use Rattle.feature_model.specs.Data.{ChangeData}
-use Rattle.feature_model.specs.Spelled.{spelled_change}
-use Rattle.feature_model.specs.Types.{IsChange}
+use Rattle.edit_text.specs.Recorded.{RecordedEdit, IsRecorded}
+use Rattle.edit_text.proofs.Recorded.{one_recorded}
 use Rattle.feature_store.specs.Store.{snapshot}
 use Rattle.feature_store.proofs.Laws.{snapshot_of_one_map}
-use Rattle.tile_service.specs.Stored.{Stored, Holds, root_of, HasBytes, texts_of, journal_ring, journal_start}
+use Rattle.tile_service.specs.Stored.{Stored, Holds, CanRecord, root_of, HasBytes, record_for, stored_records, journal_ring, journal_start}
 pub use Rattle.tile_service.proofs.Appends.{append_leaves}
 use Rattle.tile_service.proofs.Bytes.{one_bytes}
 pub use Rattle.tile_service.proofs.Fresh.{fresh_holds}
 use Rattle.tile_service.proofs.Roots.{lives}
 
-abbrev head : List (List ℕ) → List ℕ
-head [] = []
-head (text ∷ texts) = text
+abbrev head : List RecordData → RecordData
+head [] = record_of 0 []
+head (r ∷ records) = r
 
-abbrev rest_of : List (List ℕ) → List (List ℕ)
+abbrev rest_of : List RecordData → List RecordData
 rest_of [] = []
-rest_of (text ∷ texts) = texts
+rest_of (r ∷ records) = records
 
--- edits with the same texts are the same
-pub one_run : (edits others : List ChangeData) → All IsChange edits → All IsChange others → map spelled_change edits ≡ map spelled_change others → edits ≡ others
+-- edits with the same records are the same
+pub one_run : (edits others : List RecordedEdit) → All IsRecorded edits → All IsRecorded others → map record_for edits ≡ map record_for others → edits ≡ others
 one_run [] [] are too same = refl
 one_run [] (other ∷ others) are too same = absurd (omega (arith, ap length same))
 one_run (edit ∷ edits) [] are too same = absurd (omega (arith, ap length same))
 one_run (edit ∷ edits) (other ∷ others) are too same =
     let first : edit ≡ other =
-    (one_change edit other [] [] (All-head IsChange edit edits are) (All-head IsChange other others too) (ap (λ (ts : List (List ℕ)). head ts ++ []) same)).0 in
-    let rest : edits ≡ others = one_run edits others (All-tail IsChange edit edits are) (All-tail IsChange other others too) (ap rest_of same) in
+    one_recorded edit other (All-head IsRecorded edit edits are) (All-head IsRecorded other others too)
+    (ap (λ (records : List RecordData). (head records).version) same) (ap (λ (records : List RecordData). (head records).text) same) in
+    let rest : edits ≡ others = one_run edits others (All-tail IsRecorded edit edits are) (All-tail IsRecorded other others too) (ap rest_of same) in
     λ i. first i ∷ rest i
+
+-- edits that can be recorded are recorded
+pub all_recorded : (version : ℕ) (edits : List RecordedEdit) → All (CanRecord version) edits → All IsRecorded edits
+all_recorded version edits are = All-weaker (CanRecord version) IsRecorded (λ e can. can.recorded) edits are
+
+pub version_known : (count n : ℕ) (stored : Stored) (image : Image) → Holds count n stored image → IsVersion stored.version
+version_known count n stored image holds = subst IsVersion ((holds.sectors 0).version refl) ((holds.sectors 0).format refl).stands.0
+
+-- a version is at most the last one
+pub version_most : (version : ℕ) → IsVersion version → version ≤ LAST_VERSION
+version_most version (inl is) = omega (arith, is)
+version_most version (inr is) = omega (arith, is)
 
 -- An image holds at most one state, on at most one count of sectors.
 pub one_state : (count : ℕ) (image : Image) (n m : ℕ) (a b : Stored) → Holds count n a image → Holds count m b image → (n ≡ m) × (a ≡ b)
 one_state count image n m a b is too =
     let live = one_live count image n m (root_of a) (root_of b) (lives count image n a is) (lives count image m b too) in
     let sectors : n ≡ m = live.0 in
+    let version : a.version ≡ b.version = sym ((is.sectors 0).version refl) ∙ (too.sectors 0).version refl in
     let generation : a.generation ≡ b.generation = ap (λ (r : Root). r.generation) live.1 in
     let edits : a.edits ≡ b.edits = ap (λ (r : Root). r.edits) live.1 in
     let place : a.journal_at ≡ b.journal_at = ap (λ (r : Root). r.journal_at) live.1 in
@@ -64,14 +78,15 @@ one_state count image n m a b is too =
     let maps : a.snapshot_map ≡ b.snapshot_map = snapshot_of_one_map a.snapshot_map b.snapshot_map is.is_map too.is_map same_texts in
     let ring : journal_ring n ≡ journal_ring m = ap journal_ring sectors in
     let start : journal_start a ≡ journal_start b = (λ i. record { place = place i; number = suc (edits i) }) in
-    let there : HoldsTexts RECORD_VERSION (journal_ring n) (journal_start a) (texts_of b) image =
-    subst (λ (r : Ring). HoldsTexts RECORD_VERSION r (journal_start a) (texts_of b) image) (sym ring)
-    (subst (λ (s : Start). HoldsTexts RECORD_VERSION (journal_ring m) s (texts_of b) image) (sym start) too.journal) in
+    let there : HoldsOnly (journal_ring n) (journal_start a) (stored_records b) image =
+    subst (λ (r : Ring). HoldsOnly r (journal_start a) (stored_records b) image) (sym ring)
+    (subst (λ (s : Start). HoldsOnly (journal_ring m) s (stored_records b) image) (sym start) too.journal) in
     let since : a.since ≡ b.since =
-    one_run a.since b.since is.are_edits too.are_edits
-    (one_list RECORD_VERSION (journal_ring n) image (journal_start a) (texts_of a) (texts_of b) is.journal there) in (
+    one_run a.since b.since (all_recorded a.version a.since is.are_edits) (all_recorded b.version b.since too.are_edits)
+    (one_list (journal_ring n) image (journal_start a) (stored_records a) (stored_records b) is.journal there) in (
       sectors,
       λ i. record {
+        version = version i;
         generation = generation i;
         snapshot_map = maps i;
         edits = edits i;

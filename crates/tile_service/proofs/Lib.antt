@@ -1,6 +1,7 @@
 mod Appends
 mod Archives
 mod AreaWrites
+mod Batches
 mod Bytes
 pub mod Callers
 pub mod Contents
@@ -24,4 +25,5 @@ pub mod Runs
 mod Shown
 mod Steps
 mod Tellings
+mod Upgraded
 mod Whole

@@ -1,8 +1,11 @@
 -- What is read as a disk is opened, and what a disk that holds a state opens to.
 use Rattle.std.specs.Prelude.{Option, None, IfSome}
-use Rattle.std.proofs.Common.{◌≡◌, ◌⊎◌, inl, inr, ℕ, suc, Bool, true, false, ◌<◌, ◌≤◌, ◌+◌, ◌*◌, List, [], ◌∷◌, length, map}
+use Rattle.std.proofs.Common.{◌≡◌, ◌⊎◌, inl, inr, ℕ, Bool, true, false, ◌<◌, ◌≤◌, ◌+◌, ◌*◌, List, [], ◌∷◌, length, map}
 use Rattle.std.proofs.Common.{Result, Ok, Err, IfErr, refl, sym, ◌∙◌, ap, subst, arith}
+use Rattle.std.specs.List.{All}
 use Rattle.std.proofs.lemmas.Bool.{false≢true}
+use Rattle.std.proofs.lemmas.List.{length-map}
+use Rattle.std.proofs.lemmas.List.Elements.{All-map, All-weaker}
 use Rattle.sector_disk.specs.Disk.{History, Image, seen, MayLeave}
 use Rattle.sector_disk.specs.Disk.History.{synced}
 use Rattle.sector_disk.specs.declared.disk.TheConstants.{SECTOR_BYTES}
@@ -10,38 +13,38 @@ use Rattle.sector_bytes.specs.Bytes.{StandsIn}
 use Rattle.generations.specs.Areas.{IsSize, journal_sectors, area_sectors, area_start}
 use Rattle.generations.specs.Disks.{LiveRoot, IsFaultOf}
 use Rattle.generations.specs.Faults.{CountsDevice}
+use Rattle.generations.specs.Sectors.{version_from}
 use Rattle.generations.specs.declared.fault.StoreFault.{StoreFault}
 use Rattle.generations.specs.declared.fault.StoreFault.TheVariants.{NotFormatted, TooSmall, Damaged, Device, Memory}
 use Rattle.generations.specs.declared.fault.What.TheVariants.{Size, RootSector, Snapshot, Journal, Text}
 use Rattle.generations.specs.declared.root.Root.{Root}
 use Rattle.generations.proofs.Laws.{one_live, live_no_fault}
 use Rattle.edit_journal.specs.Appends.{start_of}
-use Rattle.edit_journal.specs.Records.{parts_of}
+use Rattle.edit_journal.specs.Records.{RecordData, AreUpTo, parts_of}
 use Rattle.edit_journal.specs.Recovers.{IsRecoverFault}
 use Rattle.edit_journal.specs.Ring.{places_of}
 use Rattle.edit_journal.specs.declared.fault.JournalFault.{JournalFault}
 use Rattle.edit_journal.specs.declared.fault.JournalFault.TheVariants as faults
 use Rattle.edit_journal.specs.declared.journal.Journal as journals
-use Rattle.edit_journal.specs.declared.sizes.TheConstants.{PART_BYTES, RECORD_VERSION}
+use Rattle.edit_journal.specs.declared.sizes.TheConstants.{PART_BYTES}
 use Rattle.edit_journal.proofs.Recovers.{held_is_journal, one_journal}
-use Rattle.feature_model.specs.Data.{ChangeData}
-use Rattle.feature_model.specs.Spelled.{spelled_change}
+use Rattle.edit_text.specs.Recorded.{RecordedEdit}
 use Rattle.feature_store.specs.Snapshots.{IsNoSnapshot}
-use Rattle.feature_store.specs.Store.{FeatureMap, changed, snapshot}
-use Rattle.tile_service.specs.After.{after}
+use Rattle.feature_store.specs.Store.{FeatureMap, snapshot}
+use Rattle.tile_service.specs.After.{made, after}
 use Rattle.feature_store.specs.declared.limit.TheConstants.{TEXTS_END}
 use Rattle.feature_store.proofs.Laws.{snapshot_of_one_map}
 use Rattle.published_tiles.specs.Published.{ArePublished}
 use Rattle.published_tiles.specs.declared.place.ArchivePlace.{ArchivePlace}
-use Rattle.tile_service.specs.Opening.{IsJournalOf, HasSnapshot, IsReplayed, IsRead, IsContentFault, IsOpenFault, HasNoOpenFault, HasLiveRoot}
+use Rattle.tile_service.specs.Opening.{IsJournalOf, HasSnapshot, IsReplayed, IsRead, IsContentFault, IsOpenFault, HasNoOpenFault}
 use Rattle.tile_service.specs.Opening.{recovery_told_as}
-use Rattle.tile_service.specs.Replayed.{AreTextsOf, IsReplayFault, bytes_of}
+use Rattle.tile_service.specs.Replayed.{AreRecordsFor, IsReplayFault, bytes_of}
 use Rattle.tile_service.specs.Service.{PublicationView, ServiceView, Publishes, IsUp, archive_of}
-use Rattle.tile_service.specs.Stored.{Stored, Holds, Keeps, root_of, texts_of, map_of, journal_start, journal_ring}
+use Rattle.tile_service.specs.Stored.{Stored, Holds, Keeps, CanRecord, root_of, record_for, stored_records, map_of, journal_start, journal_ring}
 use Rattle.tile_service.specs.Tiles.{WereMaps}
 use Rattle.tile_service.proofs.Bytes.{one_stands, each_stands}
-use Rattle.tile_service.proofs.Laws.{one_run}
-use Rattle.tile_service.proofs.Replays.{changed_short}
+use Rattle.tile_service.proofs.Laws.{one_run, all_recorded, version_known, version_most}
+use Rattle.tile_service.proofs.Replays.{made_short}
 use Rattle.tile_service.proofs.Roots.{lives}
 
 -- ---- the bytes of texts
@@ -50,32 +53,32 @@ use Rattle.tile_service.proofs.Roots.{lives}
 parts_hold : (bytes : ℕ) → bytes ≤ PART_BYTES * parts_of bytes
 parts_hold bytes = omega arith
 
--- texts have at most the bytes of their places
-pub places_hold : (texts : List (List ℕ)) → bytes_of texts ≤ PART_BYTES * places_of texts
+-- records have at most the bytes of their places
+pub places_hold : (records : List RecordData) → bytes_of records ≤ PART_BYTES * places_of records
 places_hold [] = omega arith
-places_hold (text ∷ texts) = omega (arith, parts_hold (length text), places_hold texts)
+places_hold (r ∷ records) = omega (arith, parts_hold (length r.text), places_hold records)
 
 -- so those of a snapshot and of a journal are short together
-pub texts_short : (n used places len : ℕ) (texts : List (List ℕ)) → IsSize n → len ≤ SECTOR_BYTES * area_sectors n → used ≤ places
-    → places ≡ journal_sectors n → used ≡ places_of texts → len + bytes_of texts < TEXTS_END
-texts_short n used places len texts size short room is uses = omega (arith, places_hold texts, size.1, short, room, is, uses)
+pub texts_short : (n used places len : ℕ) (records : List RecordData) → IsSize n → len ≤ SECTOR_BYTES * area_sectors n → used ≤ places
+    → places ≡ journal_sectors n → used ≡ places_of records → len + bytes_of records < TEXTS_END
+texts_short n used places len records size short room is uses = omega (arith, places_hold records, size.1, short, room, is, uses)
 
--- the texts of a map grow by those of the edits at most
-pub after_short : (m : FeatureMap) (edits : List ChangeData) → length (snapshot (after m edits)) ≤ length (snapshot m) + bytes_of (map spelled_change edits)
+-- the texts of a map grow by those of the edits' records at most
+after_short : (m : FeatureMap) (edits : List RecordedEdit) → length (snapshot (after m edits)) ≤ length (snapshot m) + bytes_of (map record_for edits)
 after_short m [] = omega arith
-after_short m (edit ∷ edits) = omega (arith, after_short (changed m edit) edits, changed_short m edit)
+after_short m (e ∷ edits) = omega (arith, after_short (made m e) edits, made_short m e)
 
--- and those of the map after the texts of a journal by what its places hold
-pub replayed_short : (texts : List (List ℕ)) (edits : List ChangeData) (first m : FeatureMap) (area used : ℕ) → AreTextsOf texts edits
-    → length (snapshot first) ≤ area → m ≡ after first edits → used ≡ places_of texts → length (snapshot m) ≤ area + PART_BYTES * used
-replayed_short texts edits first m area used are short is uses =
+-- and those of the map after the records of a journal by what its places hold
+pub replayed_short : (records : List RecordData) (edits : List RecordedEdit) (first m : FeatureMap) (area used : ℕ) → AreRecordsFor records edits
+    → length (snapshot first) ≤ area → m ≡ after first edits → used ≡ places_of records → length (snapshot m) ≤ area + PART_BYTES * used
+replayed_short records edits first m area used are short is uses =
     omega (
       arith,
       ap (λ (m : FeatureMap). length (snapshot m)) is,
       after_short first edits,
       short,
-      ap bytes_of are.are_texts,
-      places_hold texts,
+      ap bytes_of are.are_records,
+      places_hold records,
       uses,
     )
 
@@ -87,14 +90,14 @@ no_snapshot : (n : ℕ) (root : Root) (image : Image) (text : List ℕ) → Stan
 no_snapshot n root image text stands len none m has = none m has.is_map
     (one_stands image (area_start n root.generation) (snapshot m) text (has.len ∙ sym len) has.stands stands)
 
-pub snapshot_fault : {T : Type 0} (n : ℕ) (root : Root) (image : Image) (text : List ℕ) (result : Result T StoreFault)
+pub snapshot_fault : {T : Type 0} (n version : ℕ) (root : Root) (image : Image) (text : List ℕ) (result : Result T StoreFault)
     → StandsIn (area_start n root.generation) text image → length text ≡ root.snapshot_len
     → IfErr result (λ fault. (fault ≡ Memory) ⊎ ((fault ≡ Damaged Snapshot) × IsNoSnapshot text))
-    → IfErr result (λ fault. (fault ≡ Device) ⊎ (fault ≡ Memory) ⊎ IsContentFault n root image fault)
-snapshot_fault n root image text (Ok done) stands len is = tt
-snapshot_fault n root image text (Err fault) stands len (inl memory) = inr (inl memory)
-snapshot_fault n root image text (Err fault) stands len (inr bad) =
-    inr (inr (subst (IsContentFault n root image) (sym bad.0) (no_snapshot n root image text stands len bad.1)))
+    → IfErr result (λ fault. (fault ≡ Device) ⊎ (fault ≡ Memory) ⊎ IsContentFault n version root image fault)
+snapshot_fault n version root image text (Ok done) stands len is = tt
+snapshot_fault n version root image text (Err fault) stands len (inl memory) = inr (inl memory)
+snapshot_fault n version root image text (Err fault) stands len (inr bad) =
+    inr (inr (subst (IsContentFault n version root image) (sym bad.0) (no_snapshot n root image text stands len bad.1)))
 
 -- ---- the store faults for the faults of a recovery
 
@@ -105,22 +108,22 @@ recovery_counts faults.Device old new is = is
 recovery_counts faults.Damaged old new is = is
 recovery_counts faults.Memory old new is = is
 
-module _ (n : ℕ) (root : Root) (image : Image) (m : FeatureMap) (has : HasSnapshot n root m image) where
+module _ (n version : ℕ) (root : Root) (image : Image) (m : FeatureMap) (has : HasSnapshot n root m image) where
   pub recovery_fault : (fault : JournalFault) (old new : ℕ) → IsRecoverFault old new fault
-      → ((texts : List (List ℕ)) → fault ≡ faults.Damaged → IsJournalOf n root texts image → ⊥)
-      → (recovery_told_as fault ≡ Device) ⊎ (recovery_told_as fault ≡ Memory) ⊎ IsContentFault n root image (recovery_told_as fault)
+      → ((records : List RecordData) → fault ≡ faults.Damaged → IsJournalOf n version root records image → ⊥)
+      → (recovery_told_as fault ≡ Device) ⊎ (recovery_told_as fault ≡ Memory) ⊎ IsContentFault n version root image (recovery_told_as fault)
   recovery_fault faults.NumbersSpent old new is damaged = absurd is
   recovery_fault (faults.Full need free) old new is damaged = absurd is
   recovery_fault faults.Device old new is damaged = inl refl
-  recovery_fault faults.Damaged old new is damaged = inr (inr (m, has, λ texts journal. damaged texts refl journal))
+  recovery_fault faults.Damaged old new is damaged = inr (inr (m, has, λ records journal. damaged records refl journal))
   recovery_fault faults.Memory old new is damaged = inr (inl refl)
 
   -- and of a replay
-  pub text_fault : (texts : List (List ℕ)) (fault : StoreFault) → IsJournalOf n root texts image → IsReplayFault texts fault
-      → (fault ≡ Device) ⊎ (fault ≡ Memory) ⊎ IsContentFault n root image fault
-  text_fault texts fault journal (inl memory) = inr (inl memory.0)
-  text_fault texts fault journal (inr bad) =
-      inr (inr (subst (IsContentFault n root image) (sym bad.0) (m, has, texts, journal, bad.1)))
+  pub text_fault : (records : List RecordData) (fault : StoreFault) → IsJournalOf n version root records image → IsReplayFault records fault
+      → (fault ≡ Device) ⊎ (fault ≡ Memory) ⊎ IsContentFault n version root image fault
+  text_fault records fault journal (inl memory) = inr (inl memory)
+  text_fault records fault journal (inr bad) =
+      inr (inr (subst (IsContentFault n version root image) (sym bad.0) (m, has, records, journal, bad.1)))
 
 -- ---- what was read after a sync stood there before it
 
@@ -129,21 +132,37 @@ pub live_before : (sectors count n : ℕ) (old new : History) (root : Root) → 
 live_before sectors count n old new root same is live =
     subst (λ (h : History). LiveRoot sectors (seen h) n root) is (subst (λ (c : ℕ). LiveRoot c (seen new) n root) same live)
 
-pub read_after : (sectors n : ℕ) (old new : History) (root : Root) (journal : journals.Journal) (features : FeatureMap) (touched : List ℕ)
-    → new ≡ synced old → LiveRoot sectors (seen old) n root → IsReplayed n root (seen new) journal features touched
-    → IsRead sectors n (seen old) root journal features touched
-read_after sectors n old new root journal features touched is live replayed = record {
+pub read_after : (sectors n version : ℕ) (old new : History) (root : Root) (journal : journals.Journal) (features : FeatureMap) (touched : List ℕ)
+    → new ≡ synced old → LiveRoot sectors (seen old) n root → version ≡ version_from (seen old 0)
+    → IsReplayed n version root (seen new) journal features touched → IsRead sectors n version (seen old) root journal features touched
+read_after sectors n version old new root journal features touched is live version_is replayed = record {
   live = live;
-  replayed = subst (λ (h : History). IsReplayed n root (seen h) journal features touched) is replayed;
+  version_is = version_is;
+  replayed = subst (λ (h : History). IsReplayed n version root (seen h) journal features touched) is replayed;
 }
 
-pub fault_after : (sectors n : ℕ) (old new : History) (root : Root) (fault : StoreFault) → new ≡ synced old → LiveRoot sectors (seen old) n root
-    → (fault ≡ Device) ⊎ (fault ≡ Memory) ⊎ IsContentFault n root (seen new) fault
+pub fault_after : (sectors n version : ℕ) (old new : History) (root : Root) (fault : StoreFault) → new ≡ synced old → LiveRoot sectors (seen old) n root
+    → version ≡ version_from (seen old 0) → (fault ≡ Device) ⊎ (fault ≡ Memory) ⊎ IsContentFault n version root (seen new) fault
     → (fault ≡ Device) ⊎ (fault ≡ Memory) ⊎ IsOpenFault sectors (seen old) fault
-fault_after sectors n old new root fault is live (inl device) = inl device
-fault_after sectors n old new root fault is live (inr (inl memory)) = inr (inl memory)
-fault_after sectors n old new root fault is live (inr (inr content)) =
-    inr (inr (inr (n, root, live, subst (λ (h : History). IsContentFault n root (seen h) fault) is content)))
+fault_after sectors n version old new root fault is live version_is (inl device) = inl device
+fault_after sectors n version old new root fault is live version_is (inr (inl memory)) = inr (inl memory)
+fault_after sectors n version old new root fault is live version_is (inr (inr content)) = inr (inr (inr (
+  n,
+  root,
+  live,
+  subst (λ (v : ℕ). IsContentFault n v root (seen old) fault) version_is
+      (subst (λ (h : History). IsContentFault n version root (seen h) fault) is content),
+)))
+
+pub root_fault_after : (sectors count : ℕ) (old new : History) (fault : StoreFault) → count ≡ sectors → new ≡ synced old
+    → (fault ≡ Device) ⊎ IsFaultOf count (seen new) fault → (fault ≡ Device) ⊎ (fault ≡ Memory) ⊎ IsOpenFault sectors (seen old) fault
+root_fault_after sectors count old new fault same is (inl device) = inl device
+root_fault_after sectors count old new fault same is (inr root) =
+    inr (inr (inl (subst (λ (h : History). IsFaultOf sectors (seen h) fault) is (subst (λ (c : ℕ). IsFaultOf c (seen new) fault) same root))))
+
+-- the version that a read gives after a sync is that from before it
+pub version_before : (version : ℕ) (old new : History) → new ≡ synced old → version ≡ version_from (seen new 0) → version ≡ version_from (seen old 0)
+version_before version old new is version_is = subst (λ (h : History). version ≡ version_from (seen h 0)) is version_is
 
 -- ---- want of memory
 
@@ -162,20 +181,20 @@ root_no_memory sectors image fault (inr is) memory = subst (λ (f : StoreFault).
 
 -- ---- a disk that was read
 
-module _ (sectors n : ℕ) (image : Image) (root : Root) (journal : journals.Journal) (features : FeatureMap) (touched : List ℕ)
-    (is : IsRead sectors n image root journal features touched) where
-  read_journal : (texts : List (List ℕ)) → IsJournalOf n root texts image → AreTextsOf texts is.replayed.edits
-  read_journal texts there = subst (λ (ts : List (List ℕ)). AreTextsOf ts is.replayed.edits)
-      (one_journal RECORD_VERSION (journal_ring n) image (start_of root.journal_at root.edits) is.replayed.texts texts is.replayed.are_texts there)
+module _ (sectors n version : ℕ) (image : Image) (root : Root) (journal : journals.Journal) (features : FeatureMap) (touched : List ℕ)
+    (is : IsRead sectors n version image root journal features touched) where
+  read_journal : (records : List RecordData) → IsJournalOf n version root records image → AreRecordsFor records is.replayed.edits
+  read_journal records there = subst (λ (rs : List RecordData). AreRecordsFor rs is.replayed.edits)
+      (one_journal (journal_ring n) image version (start_of root.journal_at root.edits) is.replayed.records records is.replayed.are_records there)
       is.replayed.are_edits
 
-  read_no_fault : (fault : StoreFault) → IsContentFault n root image fault → ⊥
+  read_no_fault : (fault : StoreFault) → IsContentFault n version root image fault → ⊥
   read_no_fault NotFormatted bad = bad
   read_no_fault TooSmall bad = bad
   read_no_fault (Damaged Size) bad = bad
   read_no_fault (Damaged RootSector) bad = bad
   read_no_fault (Damaged Snapshot) bad = bad is.replayed.snapshot_map is.replayed.has_snapshot
-  read_no_fault (Damaged Journal) bad = bad.2 is.replayed.texts is.replayed.are_texts
+  read_no_fault (Damaged Journal) bad = bad.2 is.replayed.records is.replayed.are_records
   read_no_fault (Damaged Text) bad = bad.4 is.replayed.edits (read_journal bad.2 bad.3)
   read_no_fault Device bad = bad
   read_no_fault Memory bad = bad
@@ -185,14 +204,15 @@ module _ (sectors n : ℕ) (image : Image) (root : Root) (journal : journals.Jou
   read_sound fault (inl bad) = live_no_fault sectors image n root fault is.live bad
   read_sound fault (inr bad) =
       let same = one_live sectors image n bad.0 root bad.1 is.live bad.2 in
-      read_no_fault fault (subst (λ (m : ℕ). IsContentFault m root image fault) (sym same.0)
-      (subst (λ (r : Root). IsContentFault bad.0 r image fault) (sym same.1) bad.3))
+      read_no_fault fault (subst (λ (v : ℕ). IsContentFault n v root image fault) (sym is.version_is)
+      (subst (λ (m : ℕ). IsContentFault m (version_from (image 0)) root image fault) (sym same.0)
+      (subst (λ (r : Root). IsContentFault bad.0 (version_from (image 0)) r image fault) (sym same.1) bad.3)))
 
 -- ---- what a disk that holds a state has
 
-texts_count : (edits : List ChangeData) → length (map spelled_change edits) ≡ length edits
-texts_count [] = refl
-texts_count (edit ∷ edits) = ap suc (texts_count edits)
+are_up_to : (version : ℕ) (edits : List RecordedEdit) → All (CanRecord version) edits → AreUpTo version (map record_for edits)
+are_up_to version edits are = All-map (λ (r : RecordData). r.version ≤ version) record_for edits
+    (All-weaker (CanRecord version) (λ (e : RecordedEdit). e.version ≤ version) (λ e can. can.version_is) edits are)
 
 module _ (sectors n : ℕ) (stored : Stored) (image : Image) (holds : Holds sectors n stored image) where
   live : LiveRoot sectors image n (root_of stored)
@@ -209,20 +229,25 @@ module _ (sectors n : ℕ) (stored : Stored) (image : Image) (holds : Holds sect
   one_snapshot m has = snapshot_of_one_map m stored.snapshot_map has.is_map holds.is_map
       (one_stands image (area_start n stored.generation) (snapshot m) (snapshot stored.snapshot_map) has.len has.stands snapshot_there.stands)
 
-  journal_there : IsJournalOf n (root_of stored) (texts_of stored) image
-  journal_there = held_is_journal RECORD_VERSION (journal_ring n) image (journal_start stored) (texts_of stored) holds.journal
+  version_there : version_from (image 0) ≡ stored.version
+  version_there = (holds.sectors 0).version refl
 
-  one_texts : (texts : List (List ℕ)) → IsJournalOf n (root_of stored) texts image → texts ≡ texts_of stored
-  one_texts texts is = one_journal RECORD_VERSION (journal_ring n) image (journal_start stored) texts (texts_of stored) is journal_there
+  journal_there : IsJournalOf n stored.version (root_of stored) (stored_records stored) image
+  journal_there = held_is_journal (journal_ring n) image stored.version (journal_start stored) (stored_records stored)
+      (version_most stored.version (version_known sectors n stored image holds)) (are_up_to stored.version stored.since holds.are_edits) holds.journal
 
-  no_content_fault : (fault : StoreFault) → IsContentFault n (root_of stored) image fault → ⊥
+  one_records : (records : List RecordData) → IsJournalOf n stored.version (root_of stored) records image → records ≡ stored_records stored
+  one_records records is = one_journal (journal_ring n) image stored.version (journal_start stored) records (stored_records stored) is journal_there
+
+  no_content_fault : (fault : StoreFault) → IsContentFault n stored.version (root_of stored) image fault → ⊥
   no_content_fault NotFormatted is = is
   no_content_fault TooSmall is = is
   no_content_fault (Damaged Size) is = is
   no_content_fault (Damaged RootSector) is = is
   no_content_fault (Damaged Snapshot) is = is stored.snapshot_map snapshot_there
-  no_content_fault (Damaged Journal) is = is.2 (texts_of stored) journal_there
-  no_content_fault (Damaged Text) is = is.4 stored.since (record { are_edits = holds.are_edits; are_texts = one_texts is.2 is.3 })
+  no_content_fault (Damaged Journal) is = is.2 (stored_records stored) journal_there
+  no_content_fault (Damaged Text) is = is.4 stored.since
+      (record { are_recorded = all_recorded stored.version stored.since holds.are_edits; are_records = one_records is.2 is.3 })
   no_content_fault Device is = is
   no_content_fault Memory is = is
 
@@ -231,28 +256,35 @@ module _ (sectors n : ℕ) (stored : Stored) (image : Image) (holds : Holds sect
   no_open_fault fault (inl is) = live_no_fault sectors image n (root_of stored) fault live is
   no_open_fault fault (inr is) =
       let same = one_live sectors image n is.0 (root_of stored) is.1 live is.2 in
-      no_content_fault fault (subst (λ (m : ℕ). IsContentFault m (root_of stored) image fault) (sym same.0)
-      (subst (λ (r : Root). IsContentFault is.0 r image fault) (sym same.1) is.3))
+      no_content_fault fault (subst (λ (v : ℕ). IsContentFault n v (root_of stored) image fault) version_there
+      (subst (λ (m : ℕ). IsContentFault m (version_from (image 0)) (root_of stored) image fault) (sym same.0)
+      (subst (λ (r : Root). IsContentFault is.0 (version_from (image 0)) r image fault) (sym same.1) is.3)))
 
-  edits_there : (texts : List (List ℕ)) (edits : List ChangeData) → IsJournalOf n (root_of stored) texts image → AreTextsOf texts edits
-      → edits ≡ stored.since
-  edits_there texts edits is are = one_run edits stored.since are.are_edits holds.are_edits (sym are.are_texts ∙ one_texts texts is)
+  edits_there : (records : List RecordData) (edits : List RecordedEdit) → IsJournalOf n stored.version (root_of stored) records image
+      → AreRecordsFor records edits → edits ≡ stored.since
+  edits_there records edits is are =
+      one_run edits stored.since are.are_recorded (all_recorded stored.version stored.since holds.are_edits) (sym are.are_records ∙ one_records records is)
 
   module _ {D : Type 0} (count : ℕ) (old history : History) (service : ServiceView D) (root : Root)
       (same_image : seen old ≡ image) (same_count : count ≡ sectors) (after_sync : history ≡ synced old)
       (unbroken : service.broken ≡ false) (generation : service.generation ≡ root.generation)
       (snapshot_len : service.snapshot_len ≡ root.snapshot_len) (archive_len : service.archive_len ≡ root.archive_len)
-      (publication : service.publication ≡ None) (is : IsRead sectors service.size image root service.journal service.features service.touched)
+      (publication : service.publication ≡ None)
+      (is : IsRead sectors service.size service.version image root service.journal service.features service.touched)
       (nothing : (place : ArchivePlace) (m : FeatureMap) (bytes : List ℕ) → ArePublished service.published place m bytes) where
     same : (n ≡ service.size) × (root_of stored ≡ root)
     same = one_live sectors image n service.size (root_of stored) root live is.live
 
-    replayed : IsReplayed n (root_of stored) image service.journal service.features service.touched
-    replayed = subst (λ (m : ℕ). IsReplayed m (root_of stored) image service.journal service.features service.touched) (sym same.0)
-        (subst (λ (r : Root). IsReplayed service.size r image service.journal service.features service.touched) (sym same.1) is.replayed)
+    same_version : service.version ≡ stored.version
+    same_version = is.version_is ∙ version_there
 
-    texts_are : replayed.texts ≡ texts_of stored
-    texts_are = one_texts replayed.texts replayed.are_texts
+    replayed : IsReplayed n stored.version (root_of stored) image service.journal service.features service.touched
+    replayed = subst (λ (v : ℕ). IsReplayed n v (root_of stored) image service.journal service.features service.touched) same_version
+        (subst (λ (m : ℕ). IsReplayed m service.version (root_of stored) image service.journal service.features service.touched) (sym same.0)
+        (subst (λ (r : Root). IsReplayed service.size service.version r image service.journal service.features service.touched) (sym same.1) is.replayed))
+
+    records_are : replayed.records ≡ stored_records stored
+    records_are = one_records replayed.records replayed.are_records
 
     -- a crash leaves what a read gave
     one_left : (left : Image) → MayLeave history left → image ≡ left
@@ -268,14 +300,14 @@ module _ (sectors n : ℕ) (stored : Stored) (image : Image) (holds : Holds sect
     same_snapshot = one_snapshot replayed.snapshot_map replayed.has_snapshot
 
     same_edits : replayed.edits ≡ stored.since
-    same_edits = edits_there replayed.texts replayed.edits replayed.are_texts replayed.are_edits
+    same_edits = edits_there replayed.records replayed.edits replayed.are_records replayed.are_edits
 
     map_is : service.features ≡ map_of stored
     map_is = replayed.map_is ∙ (λ i. after (same_snapshot i) (same_edits i))
 
     were : WereMaps service.features service.touched service.journal.last stored.edits stored.snapshot_map stored.since
     were =
-        subst (λ (es : List ChangeData). WereMaps service.features service.touched service.journal.last stored.edits stored.snapshot_map es) same_edits
+        subst (λ (es : List RecordedEdit). WereMaps service.features service.touched service.journal.last stored.edits stored.snapshot_map es) same_edits
         (subst (λ (m : FeatureMap). WereMaps service.features service.touched service.journal.last stored.edits m replayed.edits) same_snapshot
         replayed.were)
 
@@ -286,14 +318,15 @@ module _ (sectors n : ℕ) (stored : Stored) (image : Image) (holds : Holds sect
       record {
         keeps = keeps;
         unbroken = unbroken;
+        version_is = same_version;
         generation_is = generation ∙ sym (ap (λ (r : Root). r.generation) same.1);
         snapshot_len_is = snapshot_len ∙ sym (ap (λ (r : Root). r.snapshot_len) same.1);
         archive_len_is = archive_len ∙ sym (ap (λ (r : Root). r.archive_len) same.1);
         map_is = map_is;
         place_is = replayed.place_is;
         edits_are = replayed.edits_are;
-        used_is = replayed.used_is ∙ ap places_of texts_are;
-        last_is = omega (arith, replayed.last_is, ap length texts_are, texts_count stored.since);
+        used_is = replayed.used_is ∙ ap places_of records_are;
+        last_is = omega (arith, replayed.last_is, ap length records_are, length-map stored.since record_for);
         publication = subst (λ (o : Option PublicationView). IfSome o (Publishes service.size stored history)) (sym publication) tt;
         were = were;
         archived = nothing (archive_of service) stored.snapshot_map stored.archive;

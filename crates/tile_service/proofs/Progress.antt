@@ -3,7 +3,7 @@ use Rattle.std.proofs.Common.{◌≡◌, inl, inr, ℕ, zero, suc, ◌≤◌, �
 use Rattle.std.proofs.Common.{Option, Some, None, refl, sym, ◌∙◌, ap, subst, arith, append_assoc, length-append}
 use Rattle.std.specs.Prelude.{IfSome, option_map, Ok, Err}
 use Rattle.std.proofs.lemmas.List.{take-append-le, take_all, take_at, append-nil, length-drop, drop-append-le}
-use Rattle.feature_model.specs.Data.{ChangeData}
+use Rattle.edit_text.specs.Recorded.{RecordedEdit}
 use Rattle.feature_store.specs.Store.{FeatureMap}
 use Rattle.tile_service.specs.After.{after}
 use Rattle.tile_service.specs.Machine.{Publication, ServiceState, Happening, edit, begin, step, cancel, tile, look, metadata, read}
@@ -19,11 +19,11 @@ use Rattle.tile_service.proofs.Publications.{published_fits, place_behind}
 
 acknowledged_on : (hs : List Happening) (h : Happening) → acknowledged (hs ++ h ∷ []) ≡ acknowledged hs ++ edits_by h
 acknowledged_on [] h = append-nil (edits_by h)
-acknowledged_on (first ∷ hs) h = ap (λ (l : List ChangeData). edits_by first ++ l) (acknowledged_on hs h)
+acknowledged_on (first ∷ hs) h = ap (λ (l : List RecordedEdit). edits_by first ++ l) (acknowledged_on hs h)
     ∙ sym (append_assoc (edits_by first) (acknowledged hs) (edits_by h))
 
 pub all_edits_on : (start : Stored) (hs : List Happening) (h : Happening) → all_edits start (hs ++ h ∷ []) ≡ all_edits start hs ++ edits_by h
-all_edits_on start hs h = ap (λ (l : List ChangeData). start.since ++ l) (acknowledged_on hs h)
+all_edits_on start hs h = ap (λ (l : List RecordedEdit). start.since ++ l) (acknowledged_on hs h)
     ∙ sym (append_assoc start.since (acknowledged hs) (edits_by h))
 
 pub progress_on : (p : Progress) (hs : List Happening) (h : Happening) → progress_of p (hs ++ h ∷ []) ≡ progress_after (progress_of p hs) h
@@ -31,19 +31,19 @@ progress_on p [] h = refl
 progress_on p (first ∷ hs) h = progress_on (progress_after p first) hs h
 
 -- the acknowledged edits of the first happenings, and those of the others
-pub split_at : (hs : List Happening) (i : ℕ) → (rest : List ChangeData) × (acknowledged hs ≡ acknowledged (take i hs) ++ rest)
+pub split_at : (hs : List Happening) (i : ℕ) → (rest : List RecordedEdit) × (acknowledged hs ≡ acknowledged (take i hs) ++ rest)
 split_at hs zero = (acknowledged hs, refl)
 split_at [] (suc i) = ([], refl)
 split_at (h ∷ hs) (suc i) = let more = split_at hs i in (
   more.0,
-  ap (λ (l : List ChangeData). edits_by h ++ l) more.1 ∙ sym (append_assoc (edits_by h) (acknowledged (take i hs)) more.0),
+  ap (λ (l : List RecordedEdit). edits_by h ++ l) more.1 ∙ sym (append_assoc (edits_by h) (acknowledged (take i hs)) more.0),
 )
 
 pub all_split_at : (start : Stored) (hs : List Happening) (i : ℕ)
-    → (rest : List ChangeData) × (all_edits start hs ≡ all_edits start (take i hs) ++ rest)
+    → (rest : List RecordedEdit) × (all_edits start hs ≡ all_edits start (take i hs) ++ rest)
 all_split_at start hs i = let more = split_at hs i in (
   more.0,
-  ap (λ (l : List ChangeData). start.since ++ l) more.1 ∙ sym (append_assoc start.since (acknowledged (take i hs)) more.0),
+  ap (λ (l : List RecordedEdit). start.since ++ l) more.1 ∙ sym (append_assoc start.since (acknowledged (take i hs)) more.0),
 )
 
 -- there are no fewer of more happenings
@@ -71,7 +71,7 @@ stepped_edits p (Some way) zero = refl
 stepped_edits p (Some way) (suc told) = refl
 
 after_edits : (p : Progress) (h : Happening) → (progress_after p h).edits ≡ p.edits + length (edits_by h)
-after_edits p (edit e (Ok number)) = omega arith
+after_edits p (edit call e (Ok number)) = omega arith
 after_edits p (begin (Ok left)) = omega arith
 after_edits p (cancel (Ok done)) = omega arith
 after_edits p (step (Ok left)) = omega (arith, stepped_edits p p.under_way left)
@@ -113,7 +113,7 @@ stepped_within p (Some way) (suc told) is within = record {
 }
 
 after_within : (p : Progress) (h : Happening) → Within p → Within (progress_after p h)
-after_within p (edit e (Ok number)) within = record {
+after_within p (edit call e (Ok number)) within = record {
   published = omega (arith, within.published);
   under_way = still_within p.under_way p.edits (p.edits + 1) (omega arith) within.under_way;
 }
@@ -129,18 +129,19 @@ progress_within p (h ∷ hs) within = progress_within (progress_after p h) hs (a
 -- ---- what is stored
 
 -- all of the edits, this many of them in the snapshot
-abbrev pub Has : Stored → List ChangeData → (j : ℕ) → Stored → Type 0
+abbrev pub Has : Stored → List RecordedEdit → (j : ℕ) → Stored → Type 0
 Has start edits j s =
     (generation : ℕ) × (journal_at : ℕ) × (archive : List ℕ) × (s ≡ fitting start edits (length edits) j generation journal_at archive)
 
-all_taken : (xs : List ChangeData) → take (length xs) xs ≡ xs
+all_taken : (xs : List RecordedEdit) → take (length xs) xs ≡ xs
 all_taken xs = take_all (length xs) xs (omega arith)
 
-module _ (start : Stored) (edits : List ChangeData) (j generation journal_at : ℕ) (archive : List ℕ) (le : j ≤ length edits) where
+module _ (start : Stored) (edits : List RecordedEdit) (j generation journal_at : ℕ) (archive : List ℕ) (le : j ≤ length edits) where
   -- the first edits of more
-  pub fits_more : (rest : List ChangeData)
+  pub fits_more : (rest : List RecordedEdit)
       → fitting start edits (length edits) j generation journal_at archive ≡ fitting start (edits ++ rest) (length edits) j generation journal_at archive
   fits_more rest = λ k. record {
+    version = start.version;
     generation = generation;
     snapshot_map = after start.snapshot_map (snapshot_same k);
     edits = start.edits + j;
@@ -156,9 +157,10 @@ module _ (start : Stored) (edits : List ChangeData) (j generation journal_at : �
       since_same = all_taken edits ∙ sym (take_at edits rest (length edits) refl)
 
   -- one edit more
-  pub fits_edit : (e : ChangeData) → with_edit (fitting start edits (length edits) j generation journal_at archive) e
+  pub fits_edit : (e : RecordedEdit) → with_edit (fitting start edits (length edits) j generation journal_at archive) e
       ≡ fitting start (edits ++ e ∷ []) (length (edits ++ e ∷ [])) j generation journal_at archive
   fits_edit e = λ k. record {
+    version = start.version;
     generation = generation;
     snapshot_map = after start.snapshot_map (snapshot_same k);
     edits = start.edits + j;
@@ -171,8 +173,8 @@ module _ (start : Stored) (edits : List ChangeData) (j generation journal_at : �
       snapshot_same = sym (take-append-le j edits (e ∷ []) le)
 
       since_same : drop j (take (length edits) edits) ++ e ∷ [] ≡ drop j (take (length (edits ++ e ∷ [])) (edits ++ e ∷ []))
-      since_same = ap (λ (l : List ChangeData). drop j l ++ e ∷ []) (all_taken edits) ∙ sym (drop-append-le j edits (e ∷ []) le)
-          ∙ sym (ap (λ (l : List ChangeData). drop j l) (all_taken (edits ++ e ∷ [])))
+      since_same = ap (λ (l : List RecordedEdit). drop j l ++ e ∷ []) (all_taken edits) ∙ sym (drop-append-le j edits (e ∷ []) le)
+          ∙ sym (ap (λ (l : List RecordedEdit). drop j l) (all_taken (edits ++ e ∷ [])))
 
 -- before the first event
 pub has_start : (start : Stored) → Has start (start.since ++ []) 0 start
@@ -181,6 +183,7 @@ has_start start = (
   start.journal_at,
   start.archive,
   λ k. record {
+    version = start.version;
     generation = start.generation;
     snapshot_map = start.snapshot_map;
     edits = none k;
@@ -197,10 +200,10 @@ has_start start = (
     whole = sym (append-nil start.since) ∙ sym (all_taken (start.since ++ []))
 
 -- the same with no edit more
-has_none : (start : Stored) (edits : List ChangeData) (j : ℕ) (s : Stored) → Has start edits j s → Has start (edits ++ []) j s
-has_none start edits j s has = subst (λ (l : List ChangeData). Has start l j s) (sym (append-nil edits)) has
+has_none : (start : Stored) (edits : List RecordedEdit) (j : ℕ) (s : Stored) → Has start edits j s → Has start (edits ++ []) j s
+has_none start edits j s has = subst (λ (l : List RecordedEdit). Has start l j s) (sym (append-nil edits)) has
 
-pub has_edit : (start : Stored) (edits : List ChangeData) (j : ℕ) (s : Stored) (e : ChangeData) → j ≤ length edits → Has start edits j s
+pub has_edit : (start : Stored) (edits : List RecordedEdit) (j : ℕ) (s : Stored) (e : RecordedEdit) → j ≤ length edits → Has start edits j s
     → Has start (edits ++ e ∷ []) j (with_edit s e)
 has_edit start edits j s e le has = (
   has.0,
@@ -210,20 +213,20 @@ has_edit start edits j s e le has = (
 )
 
 -- how many edits it has in all
-pub has_last : (start : Stored) (edits : List ChangeData) (j : ℕ) (s : Stored) → j ≤ length edits → Has start edits j s
+pub has_last : (start : Stored) (edits : List RecordedEdit) (j : ℕ) (s : Stored) → j ≤ length edits → Has start edits j s
     → last_of s ≡ start.edits + length edits
 has_last start edits j s le has = omega (
   arith,
   le,
   ap (λ (x : Stored). x.edits) has.3,
-  ap (λ (x : Stored). length x.since) has.3 ∙ ap (λ (l : List ChangeData). length (drop j l)) (all_taken edits) ∙ length-drop j edits,
+  ap (λ (x : Stored). length x.since) has.3 ∙ ap (λ (l : List RecordedEdit). length (drop j l)) (all_taken edits) ∙ length-drop j edits,
 )
 
 -- what is published can be: it is some of the edits since
 abbrev pub IsSince : Stored → PublicationView → Type 0
 IsSince s p = (s.edits ≤ p.start.edits) × (count_at s p ≤ length s.since)
 
-pub has_published : (n : ℕ) (start : Stored) (edits : List ChangeData) (j : ℕ) (s : Stored) (p : PublicationView) → j ≤ length edits → Has start edits j s
+pub has_published : (n : ℕ) (start : Stored) (edits : List RecordedEdit) (j : ℕ) (s : Stored) (p : PublicationView) → j ≤ length edits → Has start edits j s
     → IsSince s p → Has start edits (p.start.edits - start.edits) (published n s (count_at s p) p.content.archive)
 has_published n start edits j s p le has since = (
   suc has.0,
@@ -239,7 +242,7 @@ has_published n start edits j s p le has since = (
     edits_are = ap (λ (x : Stored). x.edits) has.3
 
     since_are : length s.since ≡ length edits - j
-    since_are = ap (λ (x : Stored). length x.since) has.3 ∙ ap (λ (l : List ChangeData). length (drop j l)) (all_taken edits) ∙ length-drop j edits
+    since_are = ap (λ (x : Stored). length x.since) has.3 ∙ ap (λ (l : List RecordedEdit). length (drop j l)) (all_taken edits) ∙ length-drop j edits
 
     within : j + count_at s p ≤ length edits
     within = omega (arith, since_are, since.1, le)
@@ -247,7 +250,7 @@ has_published n start edits j s p le has since = (
     total : j + count_at s p ≡ p.start.edits - start.edits
     total = omega (arith, edits_are, since.0)
 
-module _ (n : ℕ) (start : Stored) (edits : List ChangeData) (p : Progress) (s : Stored) (le : p.published ≤ length edits)
+module _ (n : ℕ) (start : Stored) (edits : List RecordedEdit) (p : Progress) (s : Stored) (le : p.published ≤ length edits)
     (has : Has start edits p.published s) where
   step_has : (publication : Option PublicationView) (left : ℕ) → IfSome publication (IsSince s)
       → Has start edits (stepped p (way_of start.edits publication) left).published (stored_after n s publication (step (Ok left)))
@@ -259,7 +262,7 @@ module _ (n : ℕ) (start : Stored) (edits : List ChangeData) (p : Progress) (s 
   -- after one happening
   pub has_on : (publication : Option PublicationView) (h : Happening) → way_of start.edits publication ≡ p.under_way
       → IfSome publication (IsSince s) → Has start (edits ++ edits_by h) (progress_after p h).published (stored_after n s publication h)
-  has_on publication (edit e (Ok number)) is since = has_edit start edits p.published s e le has
+  has_on publication (edit call e (Ok number)) is since = has_edit start edits p.published s e le has
   has_on publication (begin (Ok left)) is since = has_none start edits p.published s has
   has_on publication (cancel (Ok done)) is since = has_none start edits p.published s has
   has_on publication (step (Ok left)) is since =
@@ -295,10 +298,10 @@ module _ (last : ℕ) (old new : ServiceState) (p : Progress) (is : way_in last 
   -- after one happening
   pub way_after : (trusted : Type 0) (h : Happening) → Happens trusted old h new → old.last - last ≡ p.edits → (IsDoubtful h → ⊥)
       → way_in last new.publication ≡ (progress_after p h).under_way
-  way_after trusted (edit e (Ok number)) goes edits not = ap (λ (s : ServiceState). way_in last s.publication) goes.made ∙ is
-  way_after trusted (edit e (Err Device)) goes edits not = absurd (not tt)
-  way_after trusted (edit e (Err Broken)) goes edits not = same_way goes.1
-  way_after trusted (edit e (Err fault)) goes edits not = same_way goes.2
+  way_after trusted (edit call e (Ok number)) goes edits not = ap (λ (s : ServiceState). way_in last s.publication) goes.made ∙ is
+  way_after trusted (edit call e (Err Device)) goes edits not = absurd (not tt)
+  way_after trusted (edit call e (Err Broken)) goes edits not = same_way goes.1
+  way_after trusted (edit call e (Err fault)) goes edits not = same_way goes.2
   way_after trusted (begin (Ok left)) goes edits not =
       ap (λ (s : ServiceState). way_in last s.publication) goes.begun ∙ ap (λ (m : ℕ). new_way m left) edits
   way_after trusted (begin (Err Device)) goes edits not = absurd goes.1

@@ -12,9 +12,9 @@ use Rattle.generations.specs.Sectors.{root_sector}
 use Rattle.generations.specs.declared.root.Root.{Root}
 use Rattle.generations.proofs.Laws.{fresh_image, some_fresh}
 use Rattle.edit_journal.specs.Appends.{ReadsAsBefore}
-use Rattle.feature_model.specs.Data.{ChangeData}
-use Rattle.feature_store.specs.Store.{FeatureMap, changed, snapshot}
-use Rattle.tile_service.specs.After.{after}
+use Rattle.edit_text.specs.Recorded.{RecordedEdit}
+use Rattle.feature_store.specs.Store.{FeatureMap, snapshot}
+use Rattle.tile_service.specs.After.{after, made}
 use Rattle.tile_service.specs.Publishing.{map_at, published, CanPublish, IsContentSector, HasFirst, HasArea, IsUnderWay}
 use Rattle.tile_service.specs.Runs.{fitting, Fits}
 use Rattle.tile_service.specs.Stored.{Stored, Holds, first_state, root_of, with_edit, journal_ring}
@@ -39,7 +39,7 @@ module _ (n : ℕ) (stored : Stored) (taken : ℕ) (archive : List ℕ) where
   goes_further (Err fault) written sector old new was is writes = tt
 
   -- With an edit in the journal it is where it was,
-  pub goes_on_with_edit : (edit : ChangeData) (written place used : ℕ) (old new : History) → IsUnderWay n stored taken archive written old
+  pub goes_on_with_edit : (edit : RecordedEdit) (written place used : ℕ) (old new : History) → IsUnderWay n stored taken archive written old
       → ReadsAsBefore (journal_ring n) place used (seen old) (seen new) → IsUnderWay n (with_edit stored edit) taken archive written new
   goes_on_with_edit edit written place used old new was reads = record {
     can = can_still n stored taken archive edit was.can.within was.can;
@@ -58,22 +58,22 @@ module _ (n : ℕ) (stored : Stored) (taken : ℕ) (archive : List ℕ) where
 
 -- ---- publications in a run of edits
 
-none_taken : (taken : ℕ) → ◌≡◌ {A = List ChangeData} (take taken []) []
+none_taken : (taken : ℕ) → ◌≡◌ {A = List RecordedEdit} (take taken []) []
 none_taken zero = refl
 none_taken (suc taken) = refl
 
 -- the map after the edits of one snapshot and those of the next
-both_after : (m : FeatureMap) (j taken i all : ℕ) (edits : List ChangeData) → all ≡ j + taken → all ≤ i
+both_after : (m : FeatureMap) (j taken i all : ℕ) (edits : List RecordedEdit) → all ≡ j + taken → all ≤ i
     → after (after m (take j edits)) (take taken (drop j (take i edits))) ≡ after m (take all edits)
 both_after m zero taken i all edits is le =
     let same : taken ≡ all = omega (arith, is) in
-    ap (λ (l : List ChangeData). after m l) (take-take taken i edits (omega (arith, is, le)) ∙ ap (λ (k : ℕ). take k edits) same)
+    ap (λ (l : List RecordedEdit). after m l) (take-take taken i edits (omega (arith, is, le)) ∙ ap (λ (k : ℕ). take k edits) same)
 both_after m (suc j) taken i zero edits is le = absurd (omega (arith, is))
 both_after m (suc j) taken zero (suc all) edits is le = absurd (omega (arith, le))
-both_after m (suc j) taken (suc i) (suc all) [] is le = ap (λ (l : List ChangeData). after m l) (none_taken taken)
-both_after m (suc j) taken (suc i) (suc all) (edit ∷ edits) is le = both_after (changed m edit) j taken i all edits (omega (arith, is)) (omega (arith, le))
+both_after m (suc j) taken (suc i) (suc all) [] is le = ap (λ (l : List RecordedEdit). after m l) (none_taken taken)
+both_after m (suc j) taken (suc i) (suc all) (edit ∷ edits) is le = both_after (made m edit) j taken i all edits (omega (arith, is)) (omega (arith, le))
 
-module _ (start : Stored) (edits : List ChangeData) (i j taken n generation journal_at : ℕ) (archive next : List ℕ) (le : j + taken ≤ i) where
+module _ (start : Stored) (edits : List RecordedEdit) (i j taken n generation journal_at : ℕ) (archive next : List ℕ) (le : j + taken ≤ i) where
   abbrev pub place_behind : ℕ
   place_behind = (published n (fitting start edits i j generation journal_at archive) taken next).journal_at
 
@@ -81,6 +81,7 @@ module _ (start : Stored) (edits : List ChangeData) (i j taken n generation jour
   pub published_fits : published n (fitting start edits i j generation journal_at archive) taken next
       ≡ fitting start edits i (j + taken) (suc generation) place_behind next
   published_fits = λ k. record {
+    version = start.version;
     generation = suc generation;
     snapshot_map = both_after start.snapshot_map j taken i (j + taken) edits refl le k;
     edits = sum k;

@@ -18,8 +18,7 @@ use Rattle.edit_journal.specs.Appends.{ring_of}
 use Rattle.edit_journal.specs.Ring.{Ring, places_of}
 use Rattle.area_content.specs.Content.{sectors_taken}
 use Rattle.area_content.specs.Tiles.{IsArchiveOfMap}
-use Rattle.feature_model.specs.Data.{ChangeData}
-use Rattle.feature_model.specs.Spelled.{spelled_change}
+use Rattle.edit_text.specs.Recorded.{RecordedEdit}
 use Rattle.feature_store.specs.Store.{FeatureMap, IsMap, snapshot}
 use Rattle.map_metadata.specs.Metadata.{IsMetadata}
 use Rattle.pm_archive.specs.Archive.{IsMetadata as IsMetadataText}
@@ -32,7 +31,7 @@ use Rattle.tile_service.specs.Machine.{step, Begins, AnswersStep, HasPublication
 use Rattle.tile_service.specs.Publishing.{map_at, published, CanPublish, HasFirst, HasArea, IsUnderWay}
 use Rattle.tile_service.specs.Service.{PublicationView, ServiceView, Known, Publishes, IsUp, EventLeaves, count_at, left_of, archive_of}
 use Rattle.tile_service.specs.Service.{going_of, state_of, known_after, known_installed, installed, stored_after, with_publication}
-use Rattle.tile_service.specs.Stored.{Stored, Holds, Keeps, root_of, journal_ring, texts_of}
+use Rattle.tile_service.specs.Stored.{Stored, Holds, Keeps, root_of, journal_ring, record_for, stored_records}
 use Rattle.tile_service.specs.Tiles.{WereMaps}
 use Rattle.tile_service.specs.declared.fault.ServiceFault.{ServiceFault}
 use Rattle.tile_service.specs.declared.fault.ServiceFault.TheVariants.{Device}
@@ -59,6 +58,7 @@ module _ {D : Type 0} (sectors : ℕ) (h : History) (stored : Stored) (service :
   up_with p publishes = record {
     keeps = up.keeps;
     unbroken = up.unbroken;
+    version_is = up.version_is;
     generation_is = up.generation_is;
     snapshot_len_is = up.snapshot_len_is;
     archive_len_is = up.archive_len_is;
@@ -86,8 +86,8 @@ module _ {D : Type 0} (sectors : ℕ) (h : History) (stored : Stored) (service :
     map : map_at stored count ≡ service.features
     map = ap (map_at stored) count_is ∙ all_taken stored ∙ sym up.map_is
 
-    used : service.journal.used ≡ places_of (take count (texts_of stored))
-    used = up.used_is ∙ ap places_of (sym (take_all count (texts_of stored) (omega (arith, count_is, length-map stored.since spelled_change))))
+    used : service.journal.used ≡ places_of (take count (stored_records stored))
+    used = up.used_is ∙ ap places_of (sym (take_all count (stored_records stored) (omega (arith, count_is, length-map stored.since record_for))))
 
     can : CanPublish service.size stored count p.content.archive
     can = record {
@@ -180,17 +180,17 @@ module _ {D : Type 0} (sectors : ℕ) (old : History) (stored : Stored) (service
     -- After it the service continues from what is published.
     pub up_installed : (count : ℕ) (after : ServiceView D) → count ≡ sectors
         → new ≡ synced (wrote (root_at root.generation) (root_sector root) (synced old)) → after.size ≡ service.size
-        → after.broken ≡ service.broken → after.generation ≡ service.generation + 1 → after.features ≡ service.features
+        → after.broken ≡ service.broken → after.version ≡ service.version → after.generation ≡ service.generation + 1 → after.features ≡ service.features
         → after.journal.place ≡ p.start.place → after.journal.edits ≡ p.start.edits
         → after.journal.used + p.places ≡ service.journal.used → after.journal.last ≡ service.journal.last
         → after.snapshot_len ≡ length p.content.snapshot → after.archive_len ≡ length p.content.archive → after.publication ≡ None
         → after.touched ≡ service.touched → after.published ≡ service.published → IsUp count new next after
-    up_installed count after same is size broken generation features place edits freed last text archive none touched published_is =
+    up_installed count after same is size broken version generation features place edits freed last text archive none touched published_is =
         subst (λ (k : ℕ). IsUp k new next after) (sym same)
         (up_published service.size stored (count_at stored p) p.content.archive going.under_way.can.within sectors new after size
         (installed_keeps sectors service.size stored (count_at stored p) p.content.archive going.under_way.can old new up.keeps area_stands
         (subst (λ (r : Root). new ≡ synced (wrote (root_at r.generation) (root_sector r) (synced old))) root_is is))
-        (broken ∙ up.unbroken) (omega (arith, generation, up.generation_is)) (features ∙ up.map_is) (place ∙ going.place_is)
+        (broken ∙ up.unbroken) (version ∙ up.version_is) (omega (arith, generation, up.generation_is)) (features ∙ up.map_is) (place ∙ going.place_is)
         (omega (arith, edits, going.later)) (omega (arith, freed, going.places_are, up.used_is)) (last ∙ up.last_is)
         (text ∙ ap length going.snapshot_is) archive none were archived)
       where
@@ -200,7 +200,7 @@ module _ {D : Type 0} (sectors : ℕ) (old : History) (stored : Stored) (service
         start : ℕ
         start = stored.edits + count_at stored p
 
-        rest : List ChangeData
+        rest : List RecordedEdit
         rest = drop (count_at stored p) stored.since
 
         were : WereMaps after.features after.touched after.journal.last start map rest
@@ -227,6 +227,7 @@ pub up_further : {D : Type 0} (sectors count : ℕ) (old new : History) (stored 
 up_further sectors count old new stored service p generation to disk up same next keeps more = record {
   keeps = subst (λ (k : ℕ). Keeps k service.size stored new) (sym same) keeps;
   unbroken = up.unbroken;
+  version_is = up.version_is;
   generation_is = up.generation_is;
   snapshot_len_is = up.snapshot_len_is;
   archive_len_is = up.archive_len_is;

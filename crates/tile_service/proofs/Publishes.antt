@@ -13,8 +13,8 @@ use Rattle.sector_disk.proofs.History.{started, seen_may, any_write, write_leave
 use Rattle.sector_bytes.specs.Bytes.{sector_piece}
 use Rattle.generations.specs.Areas.{journal_sectors, area_sectors, area_start, sectors_of}
 use Rattle.generations.specs.Sectors.{CanStand}
-use Rattle.edit_journal.specs.Records.{IsHeadOf}
-use Rattle.edit_journal.specs.Ring.{Ring, Start, start_behind, IsInRing, StandsAt, HoldsTexts}
+use Rattle.edit_journal.specs.Records.{RecordData, IsHeadOf}
+use Rattle.edit_journal.specs.Ring.{Ring, Start, start_behind, IsInRing, StandsAt, HoldsOnly}
 use Rattle.feature_store.specs.Store.{snapshot}
 use Rattle.tile_service.specs.Publishing.{IsInArea, IsBeside}
 use Rattle.tile_service.specs.Stored.{Stored, Holds, HoldsAt, HasBytes, Keeps, root_of, journal_ring}
@@ -54,7 +54,7 @@ in_area_or_not n generation at = ⊎_elim
     (cases_lt at (area_start n generation + area_sectors n)))
     (cases_lt at (area_start n generation))
 
--- ---- bytes and texts that lie elsewhere
+-- ---- bytes and records that lie elsewhere
 
 -- after their last sector bytes have no piece
 pub no_piece_behind : (bytes : List ℕ) (index : ℕ) → sectors_of (length bytes) ≤ index → sector_piece bytes index ≡ []
@@ -69,13 +69,13 @@ bytes_elsewhere first bytes at sector apart index is = ⊎_elim
     subst (λ (piece : List ℕ). take (length piece) sector ≡ piece) (sym (no_piece_behind bytes index behind)) refl)
     (cases_lt index (sectors_of (length bytes)))
 
--- so is a sector outside the ring of texts in it
-texts_elsewhere : (version : ℕ) (ring : Ring) (start : Start) (texts : List (List ℕ)) (at : ℕ) (sector : List ℕ) → 0 < ring.places
-    → (IsInRing ring at → ⊥) → StandsAt version ring start texts at sector
-texts_elsewhere version ring start [] at sector pos outside = tt
-texts_elsewhere version ring start (text ∷ texts) at sector pos outside = (
+-- so is a sector outside the ring of records in it
+records_elsewhere : (ring : Ring) (start : Start) (records : List RecordData) (at : ℕ) (sector : List ℕ) → 0 < ring.places
+    → (IsInRing ring at → ⊥) → StandsAt ring start records at sector
+records_elsewhere ring start [] at sector pos outside = tt
+records_elsewhere ring start (r ∷ records) at sector pos outside = (
   λ part lt is. absurd (outside (omega (arith, is), omega (arith, is, mod_below (start.place + part) ring.places pos))),
-  texts_elsewhere version ring (start_behind start text) texts at sector pos outside,
+  records_elsewhere ring (start_behind start r) records at sector pos outside,
 )
 
 in_ring_or_not : (ring : Ring) (at : ℕ) → IsInRing ring at ⊎ (IsInRing ring at → ⊥)
@@ -87,20 +87,21 @@ in_ring_or_not ring at = ⊎_elim
     (cases_lt at (ring.first + ring.places)))
     (cases_lt at ring.first)
 
--- An image that is another one in the ring holds the texts that this one holds.
-pub same_ring : (version : ℕ) (ring : Ring) (start : Start) (texts : List (List ℕ)) (before image : Image) → 0 < ring.places
-    → ((at : ℕ) → IsInRing ring at → image at ≡ before at) → HoldsTexts version ring start texts before → HoldsTexts version ring start texts image
-same_ring version ring start texts before image pos same holds = record {
+-- An image that is another one in the ring holds the records that this one holds.
+pub same_ring : (ring : Ring) (start : Start) (records : List RecordData) (before image : Image) → 0 < ring.places
+    → ((at : ℕ) → IsInRing ring at → image at ≡ before at) → HoldsOnly ring start records before → HoldsOnly ring start records image
+same_ring ring start records before image pos same holds = record {
   records = record {
-    edits = holds.records.edits;
+    lengths = holds.records.lengths;
     room = holds.records.room;
     numbers = holds.records.numbers;
     stand = λ at. ⊎_elim
-        (λ (inside : IsInRing ring at). subst (λ (s : List ℕ). StandsAt version ring start texts at s) (sym (same at inside)) (holds.records.stand at))
-        (λ (outside : IsInRing ring at → ⊥). texts_elsewhere version ring start texts at (image at) pos outside)
+        (λ (inside : IsInRing ring at). subst (λ (s : List ℕ). StandsAt ring start records at s) (sym (same at inside)) (holds.records.stand at))
+        (λ (outside : IsInRing ring at → ⊥). records_elsewhere ring start records at (image at) pos outside)
         (in_ring_or_not ring at);
   };
-  last = λ at later inside le head. holds.last at later inside le (subst (λ (s : List ℕ). IsHeadOf version later s) (same at inside) head);
+  last = λ at version later inside known le head.
+      holds.last at version later inside known le (subst (λ (s : List ℕ). IsHeadOf version later s) (same at inside) head);
 }
 
 -- ---- what is stored takes no sector of the next area
@@ -117,6 +118,7 @@ module _ (count n : ℕ) (stored : Stored) (before : Image) (holds : Holds count
       let fits : sectors_of (length (snapshot stored.snapshot_map)) + sectors_of (length stored.archive) ≤ area_sectors n = live_can.area in
       record {
         format = λ is. absurd (omega (arith, behind, is));
+        version = λ is. absurd (omega (arith, behind, is));
         live = λ is. absurd (omega (arith, behind, is));
         other = λ is. absurd (omega (arith, behind, is));
         snapshot_bytes = bytes_elsewhere (area_start n stored.generation) (snapshot stored.snapshot_map) at sector
@@ -134,7 +136,7 @@ module _ (count n : ℕ) (stored : Stored) (before : Image) (holds : Holds count
         (λ (outside : IsInArea n (suc stored.generation) at → ⊥).
         subst (λ (s : List ℕ). HoldsAt count n stored at s) (sym (beside at outside)) (holds.sectors at))
         (in_area_or_not n (suc stored.generation) at);
-    journal = same_ring _ (journal_ring n) _ _ before image (omega (arith, live_can.journal))
+    journal = same_ring (journal_ring n) _ _ before image (omega (arith, live_can.journal))
         (λ at inside. beside at (λ area. omega (arith, inside.1, behind_ring n (suc stored.generation) at area))) holds.journal;
     is_map = holds.is_map;
     are_edits = holds.are_edits;

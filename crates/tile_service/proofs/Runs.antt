@@ -6,8 +6,8 @@ use Rattle.std.proofs.lemmas.Bool.{false≢true}
 use Rattle.sector_disk.specs.Disk.{History, Image, HasFailed}
 use Rattle.sector_disk.specs.Moments.{LeavesOnly}
 use Rattle.sector_disk.proofs.History.{started}
-use Rattle.feature_model.specs.Data.{ChangeData}
-use Rattle.tile_service.specs.Machine.{ServiceState, got, no_memory, Happening, edit, begin, step, cancel, tile, look, metadata, read}
+use Rattle.edit_text.specs.Recorded.{RecordedEdit}
+use Rattle.tile_service.specs.Machine.{ServiceState, got, no_memory, Happening, Call, edit, begin, step, cancel, tile, look, metadata, read}
 use Rattle.tile_service.specs.Machine.{Refuses, AnswersEdit, AnswersStep, Happens, Runs}
 use Rattle.tile_service.specs.Runs.{Progress, edits_by, IsDoubtful, progress_after}
 use Rattle.tile_service.specs.Service.{PublicationView, Known, CountsDevice, EventLeaves, stored_after}
@@ -22,7 +22,7 @@ no_known = record { archive = record { bytes = []; features = [] }; publishing =
 -- ---- whether it is in doubt
 
 pub doubtful_or_not : (h : Happening) → IsDoubtful h ⊎ (IsDoubtful h → ⊥)
-doubtful_or_not (edit e (Err Device)) = inl tt
+doubtful_or_not (edit call e (Err Device)) = inl tt
 doubtful_or_not (step (Err Device)) = inl tt
 doubtful_or_not h = inr (λ is. is)
 
@@ -35,7 +35,7 @@ broken_is_no_device fault broken device = false≢true (ap is_device (sym broken
 
 -- after a fault of the disk the machine is broken
 pub doubt_breaks_it : (trusted : Type 0) (old new : ServiceState) (h : Happening) → Happens trusted old h new → IsDoubtful h → new.broken ≡ true
-doubt_breaks_it trusted old new (edit e (Err Device)) goes doubt = ap (λ (s : ServiceState). s.broken) goes.2
+doubt_breaks_it trusted old new (edit call e (Err Device)) goes doubt = ap (λ (s : ServiceState). s.broken) goes.2
 doubt_breaks_it trusted old new (step (Err Device)) goes doubt = ap (λ (s : ServiceState). s.broken) goes.2
 doubt_breaks_it trusted old new h goes doubt = absurd doubt
 
@@ -91,10 +91,10 @@ pub record IsQuiet (h : Happening) : Type 0 where
 -- A broken machine does nothing, and its state is unchanged.
 pub broken_stays : (trusted : Type 0) (old new : ServiceState) (h : Happening) → Happens trusted old h new → old.broken ≡ true
     → (new ≡ old) × IsQuiet h
-broken_stays trusted old new (edit e (Ok number)) goes broken = absurd (clash old.broken goes.unbroken broken)
-broken_stays trusted old new (edit e (Err fault)) goes broken = let is = refuses_broken _ old new fault goes broken in (
+broken_stays trusted old new (edit call e (Ok number)) goes broken = absurd (clash old.broken goes.unbroken broken)
+broken_stays trusted old new (edit call e (Err fault)) goes broken = let is = refuses_broken _ old new fault goes broken in (
   is.1,
-  subst (λ (f : ServiceFault). IsQuiet (edit e (Err f))) (sym is.0)
+  subst (λ (f : ServiceFault). IsQuiet (edit call e (Err f))) (sym is.0)
       (record { edits_nothing = refl; publishes_nothing = λ p. refl; no_doubt = λ doubt. doubt }),
 )
 broken_stays trusted old new (begin (Ok left)) goes broken = absurd (clash old.broken goes.unbroken broken)
@@ -119,10 +119,10 @@ broken_stays trusted old new (read at outcome) goes broken =
     (goes, record { edits_nothing = refl; publishes_nothing = λ p. refl; no_doubt = λ doubt. doubt })
 
 -- it refuses an edit for another fault than the disk's,
-pub broken_refuses : {X : Type 0} (old new : ServiceState) (e : ChangeData) (outcome : Result ℕ ServiceFault) → AnswersEdit old e outcome new
-    → IfErr outcome (λ fault. fault ≢ Device → X) → old.broken ≡ true → X
-broken_refuses old new e (Ok number) goes kept broken = absurd (clash old.broken goes.unbroken broken)
-broken_refuses old new e (Err fault) goes kept broken = kept (broken_is_no_device fault (refuses_broken _ old new fault goes broken).0)
+pub broken_refuses : {X : Type 0} (old new : ServiceState) (call : Call) (e : RecordedEdit) (outcome : Result ℕ ServiceFault)
+    → AnswersEdit old call e outcome new → IfErr outcome (λ fault. fault ≢ Device → X) → old.broken ≡ true → X
+broken_refuses old new call e (Ok number) goes kept broken = absurd (clash old.broken goes.unbroken broken)
+broken_refuses old new call e (Err fault) goes kept broken = kept (broken_is_no_device fault (refuses_broken _ old new fault goes broken).0)
 
 -- and a step
 pub broken_halts : {X : Type 0} (old new : ServiceState) (outcome : Result ℕ ServiceFault) → AnswersStep old outcome new
@@ -130,18 +130,39 @@ pub broken_halts : {X : Type 0} (old new : ServiceState) (outcome : Result ℕ S
 broken_halts old new (Ok left) goes kept broken = absurd (clash old.broken goes.0.unbroken broken)
 broken_halts old new (Err fault) goes kept broken = kept (broken_is_no_device fault (refuses_broken _ old new fault goes broken).0)
 
+-- ---- the version of the disk
+
+refused_version : (is_there : Type 0) (old new : ServiceState) (fault : ServiceFault) → Refuses is_there old fault new → new.version ≡ old.version
+refused_version is_there old new Broken goes = ap (λ (s : ServiceState). s.version) goes.1
+refused_version is_there old new Device goes = ap (λ (s : ServiceState). s.version) goes.2
+refused_version is_there old new fault goes = ap (λ (s : ServiceState). s.version) goes.2
+
+-- no edit changes it,
+pub edit_version : (old new : ServiceState) (call : Call) (e : RecordedEdit) (outcome : Result ℕ ServiceFault) → AnswersEdit old call e outcome new
+    → new.version ≡ old.version
+edit_version old new call e (Ok number) goes = ap (λ (s : ServiceState). s.version) goes.made
+edit_version old new call e (Err fault) goes = refused_version _ old new fault goes
+
+-- and no step
+pub step_version : (old new : ServiceState) (outcome : Result ℕ ServiceFault) → AnswersStep old outcome new → new.version ≡ old.version
+step_version old new (Ok left) (way, inl w) = ap (λ (s : ServiceState). s.version) w.2
+step_version old new (Ok left) (way, inr w) = ap (λ (s : ServiceState). s.version) w.2
+step_version old new (Err fault) goes = refused_version _ old new fault goes
+
 -- ---- calls of the disk that failed
 
-pub edit_faults : (old new : ServiceState) (e : ChangeData) (outcome : Result ℕ ServiceFault) (before after : ℕ) → AnswersEdit old e outcome new
-    → OnOk outcome (after ≡ before) → IfErr outcome (λ fault. CountsDevice fault before after) → new.broken ≡ false → after ≡ before
-edit_faults old new e (Ok number) before after goes done counts unbroken = done
-edit_faults old new e (Err fault) before after goes done counts unbroken = fault_counted _ old new fault before after goes counts unbroken
+pub edit_faults : (old new : ServiceState) (call : Call) (e : RecordedEdit) (outcome : Result ℕ ServiceFault) (before after : ℕ)
+    → AnswersEdit old call e outcome new → OnOk outcome (after ≡ before) → IfErr outcome (λ fault. CountsDevice fault before after)
+    → new.broken ≡ false → after ≡ before
+edit_faults old new call e (Ok number) before after goes done counts unbroken = done
+edit_faults old new call e (Err fault) before after goes done counts unbroken = fault_counted _ old new fault before after goes counts unbroken
 
-pub edit_fails : (old new : ServiceState) (e : ChangeData) (outcome : Result ℕ ServiceFault) (before after : ℕ) → AnswersEdit old e outcome new
-    → IfErr outcome (λ fault. CountsDevice fault before after) → old.broken ≡ false → new.broken ≡ true → HasFailed before after
-edit_fails old new e (Ok number) before after goes counts unbroken broken =
+pub edit_fails : (old new : ServiceState) (call : Call) (e : RecordedEdit) (outcome : Result ℕ ServiceFault) (before after : ℕ)
+    → AnswersEdit old call e outcome new → IfErr outcome (λ fault. CountsDevice fault before after)
+    → old.broken ≡ false → new.broken ≡ true → HasFailed before after
+edit_fails old new call e (Ok number) before after goes counts unbroken broken =
     absurd (clash new.broken (ap (λ (s : ServiceState). s.broken) goes.made ∙ unbroken) broken)
-edit_fails old new e (Err fault) before after goes counts unbroken broken = fault_fails _ old new fault before after goes counts unbroken broken
+edit_fails old new call e (Err fault) before after goes counts unbroken broken = fault_fails _ old new fault before after goes counts unbroken broken
 
 pub step_faults : (old new : ServiceState) (outcome : Result ℕ ServiceFault) (before after : ℕ) → AnswersStep old outcome new
     → OnOk outcome (after ≡ before) → IfErr outcome (λ fault. CountsDevice fault before after) → new.broken ≡ false → after ≡ before
@@ -184,12 +205,12 @@ kept_for P old new (Ok told) same holds = tt
 kept_for P old new (Err fault) same holds = λ not. subst P (sym (same not)) holds
 
 -- after an edit that was acknowledged, or refused for another fault than the disk's
-pub after_edit : (P : Stored → Type 0) (n : ℕ) (stored : Stored) (publication : Option PublicationView) (e : ChangeData) (outcome : Result ℕ ServiceFault)
-    → OnOk outcome (P (with_edit stored e)) → IfErr outcome (λ fault. fault ≢ Device → P stored) → (IsDoubtful (edit e outcome) → ⊥)
-    → P (stored_after n stored publication (edit e outcome))
-after_edit P n stored publication e (Ok number) done kept not = done
-after_edit P n stored publication e (Err fault) done kept not =
-    kept (λ device. not (subst (λ (f : ServiceFault). IsDoubtful (edit e (Err f))) (sym device) tt))
+pub after_edit : (P : Stored → Type 0) (n : ℕ) (stored : Stored) (publication : Option PublicationView) (call : Call) (e : RecordedEdit)
+    (outcome : Result ℕ ServiceFault) → OnOk outcome (P (with_edit stored e)) → IfErr outcome (λ fault. fault ≢ Device → P stored)
+    → (IsDoubtful (edit call e outcome) → ⊥) → P (stored_after n stored publication (edit call e outcome))
+after_edit P n stored publication call e (Ok number) done kept not = done
+after_edit P n stored publication call e (Err fault) done kept not =
+    kept (λ device. not (subst (λ (f : ServiceFault). IsDoubtful (edit call e (Err f))) (sym device) tt))
 
 -- after a step that went on, or was refused for another fault than the disk's
 pub after_step : (P : Stored → Type 0) (n : ℕ) (stored : Stored) (publication : Option PublicationView) (outcome : Result ℕ ServiceFault)
@@ -201,7 +222,7 @@ after_step P n stored publication (Err fault) done kept not =
 
 leaves_stored : (sectors n : ℕ) (stored : Stored) (publication : Option PublicationView) (h : Happening) (image : Image)
     → Holds sectors n stored image → EventLeaves sectors n stored publication h image
-leaves_stored sectors n stored publication (edit e outcome) image holds = inl holds
+leaves_stored sectors n stored publication (edit call e outcome) image holds = inl holds
 leaves_stored sectors n stored publication (step outcome) image holds = inl holds
 leaves_stored sectors n stored publication h image holds = holds
 

@@ -1,5 +1,5 @@
 -- What an image of a disk holds: a map as a snapshot and the edits since, and the archive of the snapshot's tiles.
-use Rattle.std.specs.Prelude.{◌≡◌, ◌⊎◌, ◌<◌, ◌+◌, ◌%◌, ℕ, List, [], ◌∷◌, ◌++◌, length, map, take, All}
+use Rattle.std.specs.Prelude.{◌≡◌, ◌⊎◌, ◌<◌, ◌≤◌, ◌+◌, ◌%◌, ℕ, List, [], ◌∷◌, ◌++◌, length, map, take, All}
 use Rattle.std.proofs.Common.{suc}
 use Rattle.sector_disk.specs.Disk.{Image, History, MayLeave}
 use Rattle.sector_bytes.specs.Bytes.{sector_piece}

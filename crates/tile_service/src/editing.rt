@@ -1,11 +1,12 @@
 //! Edits: written to the journal first, then applied to the map.
-ghost use Rattle.std.specs.Prelude.{◌≡◌, ◌≢◌, ◌↔◌, ◌+◌, ◌-◌, ◌<◌, ◌^◌, true, false, [], ◌∷◌, map, All, IfErr, IfOk, OnOk, IsSome, IsTrue, None};
+ghost use Rattle.std.specs.Prelude.{◌≡◌, ◌≢◌, ◌↔◌, ◌+◌, ◌-◌, ◌<◌, ◌^◌, ℕ, true, false, [], ◌∷◌, map, All, IfErr, IfOk, OnOk, IsSome, IsTrue, None};
 ghost use Rattle.sector_disk.specs.Moments.{LeavesOnly};
 ghost use Rattle.edit_journal.specs.Appends.{TakesSteps};
 ghost use Rattle.edit_journal.specs.declared.fault.JournalFault.TheVariants as journals;
 ghost use Rattle.feature_model.specs.Data.{feature_data, change_data, edit_data, put, delete};
 ghost use Rattle.feature_model.specs.Limits.{NumberFits, ChangeFits, IsAllowedEdit};
-ghost use Rattle.edit_text.specs.Recorded.{FitsVersion};
+ghost use Rattle.edit_text.specs.Recorded.{FitsVersion, text_in};
+ghost use Rattle.feature_model.specs.Spelled.{spelled};
 ghost use Rattle.feature_store.specs.Store.{feature_at};
 ghost use Rattle.tile_service.specs.Limits.{KeepsLimits, BreaksLimit, IsNear, KeepsBatchLimits, BreaksBatchLimit};
 ghost use Rattle.tile_service.specs.Machine.{Call, single, batched, edit, recorded_in, recorded_change, places_for, HasTarget, CanMake, Allocates, AnswersEdit};
@@ -16,7 +17,7 @@ ghost use Rattle.tile_service.specs.declared.fault.ServiceFault.TheVariants.{Lim
 use crate::fault::ServiceFault;
 use crate::service::Service;
 use edit_journal::JournalFault;
-use edit_text::{delete_edit_text, delete_text, encode_record};
+use edit_text::{delete_edit_text, encode_record};
 use feature_model::{Change, Edit, EditFault, Feature, check, check_batch};
 use feature_store::Store;
 use generations::FIRST_VERSION;
@@ -50,6 +51,19 @@ fn is_near(change: &Change) -> bool
     }
 }
 
+/// Checks that none of the changes sets a feature that covers too many tiles.
+fn are_near(changes: &[Change]) -> bool
+    requires { All ChangeFits (map change_data changes.now) }
+    ensures { IsTrue result ↔ All IsNear (map change_data changes.now) }
+{
+    for change in changes {
+        if !is_near(change) {
+            return false;
+        }
+    }
+    true
+}
+
 /// Checks changes against the limits of a batch, the reach of features included.
 fn within_batch_limits(changes: &[Change]) -> Result<(), ServiceFault>
     ensures ok { OnOk result (KeepsBatchLimits (map change_data changes.now)) }
@@ -59,7 +73,7 @@ fn within_batch_limits(changes: &[Change]) -> Result<(), ServiceFault>
         Ok(()) => {}
         Err(fault) => return Err(ServiceFault::Limit(fault)),
     }
-    if !changes.iter().all(is_near) {
+    if !are_near(changes) {
         return Err(ServiceFault::Limit(EditFault::Reach));
     }
     Ok(())
@@ -75,14 +89,26 @@ fn has(store: &Store, id: u64) -> bool
     store.get(id).is_some()
 }
 
-/// Whether each feature that the changes delete exists.
-fn has_targets(store: &Store, changes: &[Change]) -> bool
-    ensures found { IsTrue result ↔ All (HasTarget store.now.features) (map change_data changes.now) }
+/// Whether the feature exists, if the change deletes one.
+fn has_target(store: &Store, change: &Change) -> bool
+    ensures { IsTrue result ↔ HasTarget store.now.features (change_data change.now) }
 {
-    changes.iter().all(|change| match change {
+    match change {
         Change::Put { .. } => true,
         Change::Delete { id } => has(store, *id),
-    })
+    }
+}
+
+/// Whether each feature that the changes delete exists.
+fn has_targets(store: &Store, changes: &[Change]) -> bool
+    ensures { IsTrue result ↔ All (HasTarget store.now.features) (map change_data changes.now) }
+{
+    for change in changes {
+        if !has_target(store, change) {
+            return false;
+        }
+    }
+    true
 }
 
 /// The edit of one change.
@@ -92,6 +118,17 @@ fn single_edit(alloc: Global, change: Change) -> Result<Edit, AllocError>
     let mut changes = Vec::with_capacity(alloc, 1)?;
     changes.push(change)?;
     Ok(Edit { changes })
+}
+
+/// The text of a deletion's record in this version, from that of the edit: in version 1 without the count.
+fn deletion_text(version: u32, text: &[u8; 10]) -> &[u8]
+    ensures { (id : ℕ) → text.now ≡ spelled (delete id ∷ []) → result.now ≡ text_in version (delete id ∷ []) }
+{
+    if version == FIRST_VERSION {
+        &text[1..]
+    } else {
+        text
+    }
 }
 
 /// Converts an append's fault. An append never returns `Damaged`, and doesn't allocate.
@@ -123,13 +160,14 @@ impl<D: Sectors + Drop> Service<D> {
 
     /// Makes an edit that is within the limits: writes its record, and applies it to the map. Nothing else allocates, so it fails only for want
     /// of memory or space, or because of the disk.
-    fn write_edit(&mut self, edit: Edit) -> Result<u64, ServiceFault>
+    fn write_edit(&mut self, requested: Edit) -> Result<u64, ServiceFault>
         requires unbroken { self.old.broken ≡ false }
         requires number { self.old.journal.last < 2 ^ 64 - 1 }
-        requires allowed { IsAllowedEdit (edit_data edit) }
-        requires fits { FitsVersion self.old.version (edit_data edit) }
-        ensures machine { (known : Known) (call : Call) → CanMake (state_of known self.old) call (recorded_in self.old.version (edit_data edit))
-            → Allocates call (edit_data edit) → AnswersEdit (state_of known self.old) call (recorded_in self.old.version (edit_data edit)) result (state_of known self.new) }
+        requires allowed { IsAllowedEdit (edit_data requested) }
+        requires fits { FitsVersion self.old.version (edit_data requested) }
+        ensures machine { (known : Known) (call : Call) → CanMake (state_of known self.old) call (recorded_in self.old.version (edit_data requested))
+            → Allocates call (edit_data requested) → AnswersEdit (state_of known self.old) call
+            (recorded_in self.old.version (edit_data requested)) result (state_of known self.new) }
         ensures size { self.new.size ≡ self.old.size }
         ensures publication { OnOk result (self.new.publication ≡ self.old.publication) }
         ensures count { D.sectors self.new.disk ≡ D.sectors self.old.disk }
@@ -143,28 +181,30 @@ impl<D: Sectors + Drop> Service<D> {
         // A crash during the call leaves what was stored, or that with the edit.
         ensures any_moment { (stored : Stored) (call : Call) → D.honest self.new.disk → IsUp (D.sectors self.old.disk) (D.history self.old.disk) stored self.old
             → LeavesOnly (D.history self.old.disk) (D.history self.new.disk)
-            (EventLeaves (D.sectors self.old.disk) self.old.size stored self.old.publication (edit call (recorded_in self.old.version (edit_data edit)) result)) }
+            (EventLeaves (D.sectors self.old.disk) self.old.size stored self.old.publication
+            (edit call (recorded_in self.old.version (edit_data requested)) result)) }
         // After the call: with the edit if it was acknowledged, without it if it was refused.
         ensures acknowledged { (stored : Stored) → D.honest self.new.disk → IsUp (D.sectors self.old.disk) (D.history self.old.disk) stored self.old
-            → OnOk result (IsUp (D.sectors self.new.disk) (D.history self.new.disk) (with_edit stored (recorded_in self.old.version (edit_data edit))) self.new) }
+            → OnOk result (IsUp (D.sectors self.new.disk) (D.history self.new.disk)
+            (with_edit stored (recorded_in self.old.version (edit_data requested))) self.new) }
         ensures refused { (stored : Stored) → D.honest self.new.disk → IsUp (D.sectors self.old.disk) (D.history self.old.disk) stored self.old
             → IfErr result (λ fault. fault ≢ Device → IsUp (D.sectors self.new.disk) (D.history self.new.disk) stored self.new) }
 
         // It makes one write for each sector of the record, and one sync, or two if there are several.
         ensures steps { D.honest self.new.disk
-            → OnOk result (TakesSteps (places_for (recorded_in self.old.version (edit_data edit))) (D.history self.old.disk) (D.history self.new.disk)) }
+            → OnOk result (TakesSteps (places_for (recorded_in self.old.version (edit_data requested))) (D.history self.old.disk) (D.history self.new.disk)) }
     {
-        let text = match encode_record(self.alloc, self.version, &edit) {
+        let text = match encode_record(self.alloc, self.version, &requested) {
             Ok(text) => text,
             Err(AllocError) => return Err(ServiceFault::Memory),
         };
-        match self.map.room_all(&edit.changes) {
+        match self.map.room_all(&requested.changes) {
             Ok(()) => {}
             Err(AllocError) => return Err(ServiceFault::Memory),
         }
         match self.journal.append(&mut self.disk, self.version, &text) {
             Ok(number) => {
-                self.map.make_edit(edit.changes, number);
+                self.map.make_edit(requested.changes, number);
                 Ok(number)
             }
             Err(fault) => Err(self.fail(fault)),
@@ -194,16 +234,19 @@ impl<D: Sectors + Drop> Service<D> {
         // A crash during the call leaves what was stored, or that with the edit.
         ensures any_moment { (stored : Stored) → D.honest self.new.disk → IsUp (D.sectors self.old.disk) (D.history self.old.disk) stored self.old
             → LeavesOnly (D.history self.old.disk) (D.history self.new.disk)
-            (EventLeaves (D.sectors self.old.disk) self.old.size stored self.old.publication (edit single (recorded_change self.old.version (put id (feature_data feature))) result)) }
+            (EventLeaves (D.sectors self.old.disk) self.old.size stored self.old.publication
+            (edit single (recorded_change self.old.version (put id (feature_data feature))) result)) }
         // After the call: with the edit if it was acknowledged, without it if it was refused.
         ensures acknowledged { (stored : Stored) → D.honest self.new.disk → IsUp (D.sectors self.old.disk) (D.history self.old.disk) stored self.old
-            → OnOk result (IsUp (D.sectors self.new.disk) (D.history self.new.disk) (with_edit stored (recorded_change self.old.version (put id (feature_data feature)))) self.new) }
+            → OnOk result (IsUp (D.sectors self.new.disk) (D.history self.new.disk)
+            (with_edit stored (recorded_change self.old.version (put id (feature_data feature)))) self.new) }
         ensures refused { (stored : Stored) → D.honest self.new.disk → IsUp (D.sectors self.old.disk) (D.history self.old.disk) stored self.old
             → IfErr result (λ fault. fault ≢ Device → IsUp (D.sectors self.new.disk) (D.history self.new.disk) stored self.new) }
 
         // It makes one write for each sector of the record, and one sync, or two if there are several.
         ensures steps { D.honest self.new.disk
-            → OnOk result (TakesSteps (places_for (recorded_change self.old.version (put id (feature_data feature)))) (D.history self.old.disk) (D.history self.new.disk)) }
+            → OnOk result (TakesSteps (places_for (recorded_change self.old.version (put id (feature_data feature))))
+            (D.history self.old.disk) (D.history self.new.disk)) }
     {
         if self.broken {
             return Err(ServiceFault::Broken);
@@ -245,16 +288,19 @@ impl<D: Sectors + Drop> Service<D> {
         // A crash during the call leaves what was stored, or that with the edit.
         ensures any_moment { (stored : Stored) → D.honest self.new.disk → IsUp (D.sectors self.old.disk) (D.history self.old.disk) stored self.old
             → LeavesOnly (D.history self.old.disk) (D.history self.new.disk)
-            (EventLeaves (D.sectors self.old.disk) self.old.size stored self.old.publication (edit batched (recorded_in self.old.version (map change_data changes.items)) result)) }
+            (EventLeaves (D.sectors self.old.disk) self.old.size stored self.old.publication
+            (edit batched (recorded_in self.old.version (map change_data changes.items)) result)) }
         // After the call: with the edit if it was acknowledged, without it if it was refused.
         ensures acknowledged { (stored : Stored) → D.honest self.new.disk → IsUp (D.sectors self.old.disk) (D.history self.old.disk) stored self.old
-            → OnOk result (IsUp (D.sectors self.new.disk) (D.history self.new.disk) (with_edit stored (recorded_in self.old.version (map change_data changes.items))) self.new) }
+            → OnOk result (IsUp (D.sectors self.new.disk) (D.history self.new.disk)
+            (with_edit stored (recorded_in self.old.version (map change_data changes.items))) self.new) }
         ensures refused { (stored : Stored) → D.honest self.new.disk → IsUp (D.sectors self.old.disk) (D.history self.old.disk) stored self.old
             → IfErr result (λ fault. fault ≢ Device → IsUp (D.sectors self.new.disk) (D.history self.new.disk) stored self.new) }
 
         // It makes one write for each sector of the record, and one sync, or two if there are several.
         ensures steps { D.honest self.new.disk
-            → OnOk result (TakesSteps (places_for (recorded_in self.old.version (map change_data changes.items))) (D.history self.old.disk) (D.history self.new.disk)) }
+            → OnOk result (TakesSteps (places_for (recorded_in self.old.version (map change_data changes.items)))
+            (D.history self.old.disk) (D.history self.new.disk)) }
     {
         if self.broken {
             return Err(ServiceFault::Broken);
@@ -273,15 +319,6 @@ impl<D: Sectors + Drop> Service<D> {
             return Err(ServiceFault::NumbersSpent);
         }
         self.write_edit(Edit { changes })
-    }
-
-    /// Writes the record of a deletion, in the version of the disk. It doesn't allocate.
-    fn append_delete(&mut self, id: u64) -> Result<u64, JournalFault> {
-        if self.version == FIRST_VERSION {
-            self.journal.append(&mut self.disk, self.version, &delete_text(id))
-        } else {
-            self.journal.append(&mut self.disk, self.version, &delete_edit_text(id))
-        }
     }
 
     /// Deletes the feature with this id, and returns the number of the edit. It doesn't allocate; else it is as `put`.
@@ -303,9 +340,11 @@ impl<D: Sectors + Drop> Service<D> {
         ensures archive { KeepsArchive D.honest D.history self.old self.new }
         ensures any_moment { (stored : Stored) → D.honest self.new.disk → IsUp (D.sectors self.old.disk) (D.history self.old.disk) stored self.old
             → LeavesOnly (D.history self.old.disk) (D.history self.new.disk)
-            (EventLeaves (D.sectors self.old.disk) self.old.size stored self.old.publication (edit single (recorded_change self.old.version (delete id)) result)) }
+            (EventLeaves (D.sectors self.old.disk) self.old.size stored self.old.publication
+            (edit single (recorded_change self.old.version (delete id)) result)) }
         ensures acknowledged { (stored : Stored) → D.honest self.new.disk → IsUp (D.sectors self.old.disk) (D.history self.old.disk) stored self.old
-            → OnOk result (IsUp (D.sectors self.new.disk) (D.history self.new.disk) (with_edit stored (recorded_change self.old.version (delete id))) self.new) }
+            → OnOk result (IsUp (D.sectors self.new.disk) (D.history self.new.disk)
+            (with_edit stored (recorded_change self.old.version (delete id))) self.new) }
         ensures refused { (stored : Stored) → D.honest self.new.disk → IsUp (D.sectors self.old.disk) (D.history self.old.disk) stored self.old
             → IfErr result (λ fault. fault ≢ Device → IsUp (D.sectors self.new.disk) (D.history self.new.disk) stored self.new) }
         ensures steps { D.honest self.new.disk
@@ -317,7 +356,9 @@ impl<D: Sectors + Drop> Service<D> {
         if !has(self.map.store(), id) {
             return Err(ServiceFault::NotFound);
         }
-        match self.append_delete(id) {
+        let text = delete_edit_text(id);
+        let text = deletion_text(self.version, &text);
+        match self.journal.append(&mut self.disk, self.version, text) {
             Ok(number) => {
                 self.map.remove(id, number);
                 Ok(number)

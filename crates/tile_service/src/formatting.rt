@@ -1,13 +1,15 @@
 //! Formats and upgrades a disk for a service.
 ghost use Rattle.std.specs.Prelude.{◌≡◌, ◌⊎◌, ◌<◌, ◌↔◌, ℕ, Err, IfErr, OnOk};
 ghost use Rattle.sector_disk.specs.Disk.{MayLeave, seen};
+ghost use Rattle.sector_disk.specs.Disk.History.{synced};
 ghost use Rattle.sector_disk.specs.Moments.{LeavesOnly};
 ghost use Rattle.generations.specs.Areas.{IsSize};
-ghost use Rattle.generations.specs.Disks.{HasNoMark};
+ghost use Rattle.generations.specs.Disks.{HasNoMark, IsFaultOf};
 ghost use Rattle.generations.specs.Faults.{CountsDevice};
-ghost use Rattle.generations.specs.declared.fault.StoreFault.TheVariants.{TooSmall, Device, Damaged};
+ghost use Rattle.generations.specs.Sectors.{version_from};
+ghost use Rattle.generations.specs.declared.fault.StoreFault.TheVariants.{NotFormatted, TooSmall, Device, Damaged};
 ghost use Rattle.generations.specs.declared.fault.What.TheVariants.{Size};
-ghost use Rattle.generations.specs.declared.sizes.TheConstants.{LEAST_SECTORS, MOST_SECTORS};
+ghost use Rattle.generations.specs.declared.sizes.TheConstants.{LEAST_SECTORS, MOST_SECTORS, LAST_VERSION};
 ghost use Rattle.tile_service.specs.Stored.{Stored, Holds, Keeps, first_state, upgraded};
 
 use crate::service::Service;
@@ -36,18 +38,26 @@ impl<D: Sectors + Drop> Service<D> {
         format(disk)
     }
 
-    /// Upgrades the disk to the last version, which takes batches. On a disk of that version it only syncs and reads. What the disk holds
-    /// stays the same. A crash during the call leaves it in either version.
+    /// Upgrades the disk to the last version, which takes batches. On a disk of that version it only syncs and reads. What the disk
+    /// holds stays the same. A crash during the call leaves it in either version.
     ///
     /// # Errors
     ///
-    /// `NotFormatted`, or `Damaged(Size)` if the disk has no format of a known version: nothing is written. `Device` if a call of the disk fails: the disk
-    /// has either version.
+    /// `NotFormatted`, or `Damaged(Size)` if the disk has no format of a known version: nothing is written. `Device` if a call of the
+    /// disk fails: the disk has either version.
     pub fn upgrade(disk: &mut D) -> Result<(), StoreFault>
         ensures count { D.sectors disk.new ≡ D.sectors disk.old }
         ensures faults { OnOk result (D.faults disk.new ≡ D.faults disk.old) }
         ensures failed { IfErr result (λ fault. CountsDevice fault (D.faults disk.old) (D.faults disk.new)) }
         ensures honest { D.honest disk.new → D.honest disk.old }
+        ensures only { IfErr result (λ fault. (fault ≡ NotFormatted) ⊎ (fault ≡ Damaged Size) ⊎ (fault ≡ Device)) }
+        ensures fault { D.honest disk.new
+            → IfErr result (λ fault. (fault ≡ Device) ⊎ IsFaultOf (D.sectors disk.old) (seen (D.history disk.old)) fault) }
+
+        // Nothing is written on any other error, nor to a disk of the last version.
+        ensures unwritten { D.honest disk.new → IfErr result (λ fault. (fault ≡ Device) ⊎ (D.history disk.new ≡ synced (D.history disk.old))) }
+        ensures already { D.honest disk.new → version_from (seen (D.history disk.old) 0) ≡ LAST_VERSION
+            → (D.history disk.new ≡ D.history disk.old) ⊎ (D.history disk.new ≡ synced (D.history disk.old)) }
 
         // A crash during the call leaves an image from before, or what the disk holds in the last version.
         ensures any_moment { (n : ℕ) (stored : Stored) → D.honest disk.new → Holds (D.sectors disk.old) n stored (seen (D.history disk.old))

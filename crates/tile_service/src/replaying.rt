@@ -22,11 +22,11 @@ use generations::{StoreFault, What};
 use std::alloc::{AllocError, Global};
 
 /// Decodes the edit of a record.
-fn edit_in(alloc: Global, record: &Record) -> Result<Edit, StoreFault>
-    ensures edit { IfOk result (λ edit. IsRecordFor (record_data record.now) (recorded_in record.now.version (edit_data edit))) }
-    ensures fault { IfErr result (IsRecordFault (record_data record.now)) }
+fn edit_in(alloc: Global, recorded: &Record) -> Result<Edit, StoreFault>
+    ensures edit { IfOk result (λ edit. IsRecordFor (record_data recorded.now) (recorded_in recorded.now.version (edit_data edit))) }
+    ensures fault { IfErr result (IsRecordFault (record_data recorded.now)) }
 {
-    match decode_record(alloc, record.version, &record.text) {
+    match decode_record(alloc, recorded.version, &recorded.text) {
         Ok(edit) => Ok(edit),
         Err(TextFault::Memory) => Err(StoreFault::Memory),
         Err(TextFault::Cut | TextFault::Bad) => Err(StoreFault::Damaged(What::Text)),
@@ -55,17 +55,17 @@ fn make(map: &mut CachedMap, edit: Edit) -> Result<(), StoreFault>
 }
 
 /// Applies the edit of a record.
-fn replay_one(alloc: Global, map: &mut CachedMap, record: &Record) -> Result<(), StoreFault>
-    requires texts { length (snapshot map.old.features) + length record.now.text.items < TEXTS_END }
+fn replay_one(alloc: Global, map: &mut CachedMap, recorded: &Record) -> Result<(), StoreFault>
+    requires texts { length (snapshot map.old.features) + length recorded.now.text.items < TEXTS_END }
     requires number { map.old.last + 1 < 2 ^ 64 }
-    ensures made { OnOk result ((e : RecordedEdit) × IsRecordFor (record_data record.now) e × (map.new.features ≡ made map.old.features e)) }
+    ensures made { OnOk result ((e : RecordedEdit) × IsRecordFor (record_data recorded.now) e × (map.new.features ≡ made map.old.features e)) }
     ensures last { OnOk result (map.new.last ≡ map.old.last + 1) }
     ensures now { OnOk result (WasMap map.new.features map.new.touched map.new.last map.new.last map.new.features) }
     ensures since { (n : ℕ) (was : FeatureMap) → WasMap map.old.features map.old.touched map.old.last n was
         → OnOk result (WasMap map.new.features map.new.touched map.new.last n was) }
-    ensures fault { IfErr result (IsRecordFault (record_data record.now)) }
+    ensures fault { IfErr result (IsRecordFault (record_data recorded.now)) }
 {
-    let edit = edit_in(alloc, record)?;
+    let edit = edit_in(alloc, recorded)?;
     make(map, edit)
 }
 
@@ -84,8 +84,8 @@ pub(crate) fn replay(
     ensures last { OnOk result (map.new.last ≡ map.old.last + length records.items) }
     ensures fault { IfErr result (IsReplayFault (records_of records.items)) }
 {
-    for record in records {
-        replay_one(alloc, map, &record)?;
+    for recorded in records {
+        replay_one(alloc, map, &recorded)?;
     }
     Ok(())
 }

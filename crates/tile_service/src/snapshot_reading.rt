@@ -1,5 +1,5 @@
 //! The map of a disk's snapshot.
-ghost use Rattle.std.specs.Prelude.{◌≡◌, ◌⊎◌, ◌≤◌, ◌<◌, ◌+◌, length, IfErr, IfOk, OnOk};
+ghost use Rattle.std.specs.Prelude.{◌≡◌, ◌⊎◌, ◌≤◌, ◌<◌, ◌+◌, ℕ, length, IfErr, IfOk, OnOk};
 ghost use Rattle.sector_disk.specs.Disk.{seen};
 ghost use Rattle.sector_bytes.specs.Bytes.{StandsIn};
 ghost use Rattle.generations.specs.Areas.{area_start, sectors_of};
@@ -86,8 +86,8 @@ pub(crate) fn read_snapshot<D: Sectors>(
     ensures failed { IfErr result (λ fault. CountsDevice fault (D.faults disk.old) (D.faults disk.new)) }
     ensures texts { IfOk result (λ store. length (snapshot store.features) ≡ root.snapshot_len) }
     ensures found { D.honest disk.new → IfOk result (λ store. HasSnapshot layout.sectors root store.features (seen (D.history disk.old))) }
-    ensures fault { D.honest disk.new
-        → IfErr result (λ fault. (fault ≡ Device) ⊎ (fault ≡ Memory) ⊎ IsContentFault layout.sectors root (seen (D.history disk.old)) fault) }
+    ensures fault { (version : ℕ) → D.honest disk.new
+        → IfErr result (λ fault. (fault ≡ Device) ⊎ (fault ≡ Memory) ⊎ IsContentFault layout.sectors version root (seen (D.history disk.old)) fault) }
 {
     let first = area_of(layout, root.generation);
     let text = match read_text(alloc, disk, first, root.snapshot_len) {

@@ -11,7 +11,7 @@ loop-part-init g c =
     let told = c.told-first in
     let long : length c.args.first.now ≡ 512 = omega arith in
     let empty : length c.in-Ok.text.items ≡ 0 = ap length c.in-Ok.ensures.items in
-    let some : 0 < parts_of c.args.head.length = omega (arith, c.args.head.length_is.0) in
+    let some : 0 < parts_of c.args.head.length = omega (arith, c.args.head.length_is.1) in
     let here : c.args.journal.now.place + c.args.journal.now.used ≡ c.args.journal.now.place + (c.args.journal.now.used + 0) = omega arith in
     record {
       count = refl;
@@ -20,12 +20,12 @@ loop-part-init g c =
       history = λ honest. refl;
       bytes = longer c.args.head.length 0 c.in-Ok.text.items c.piece_in.result.now c.add_bytes.new.text.items c.args.first.now some (omega (arith, empty))
           long c.piece_in.ensures c.in_ok-add_bytes.ensures.items;
-      read = λ honest. next_read (ring_of c.args.journal.now) c.args.journal.now.place c.args.journal.now.used c.args.head.number c.args.head.length
+      read = λ honest. next_read (ring_of c.args.journal.now) c.args.journal.now.place c.args.journal.now.used c.args.head.version c.args.head.number c.args.head.length
           (seen (g.D.Sectors.history c.args.disk.now)) c.in-Ok.text.items c.piece_in.result.now c.add_bytes.new.text.items 0 c.args.first.now some
           (omega (arith, empty)) long (c.requires.first honest
           ∙ ap (λ p. seen (g.D.Sectors.history c.args.disk.now) (sector_at (ring_of c.args.journal.now) p)) here)
           c.requires.front c.piece_in.ensures c.in_ok-add_bytes.ensures.items
-          (none_read (ring_of c.args.journal.now) c.args.journal.now.place c.args.journal.now.used c.args.head.number c.args.head.length
+          (none_read (ring_of c.args.journal.now) c.args.journal.now.place c.args.journal.now.used c.args.head.version c.args.head.number c.args.head.length
           (seen (g.D.Sectors.history c.args.disk.now)) c.in-Ok.text.items);
     }
 
@@ -43,7 +43,7 @@ loop-part-preserved g c =
       history = λ honest. ok.history honest ∙ inv.history (ok.honest honest);
       bytes = longer c.args.head.length c.loop-part.part c.loop-part.text.items c.piece_in-in-loop-part.result.now
           c.add_bytes-in-loop-part.new.text.items c.in_ok-sector.sector lt inv.bytes long c.piece_in-in-loop-part.ensures c.in_ok-add_bytes-2.ensures.items;
-      read = λ honest. next_read (ring_of c.args.journal.now) c.args.journal.now.place c.args.journal.now.used c.args.head.number c.args.head.length
+      read = λ honest. next_read (ring_of c.args.journal.now) c.args.journal.now.place c.args.journal.now.used c.args.head.version c.args.head.number c.args.head.length
           (seen (g.D.Sectors.history c.args.disk.now)) c.loop-part.text.items c.piece_in-in-loop-part.result.now c.add_bytes-in-loop-part.new.text.items
           c.loop-part.part c.in_ok-sector.sector lt inv.bytes long
           (ok.gives honest ∙ ap (λ (h : History). seen h (sector_at (ring_of c.args.journal.now)
@@ -54,6 +54,6 @@ loop-part-preserved g c =
 pub returns-clause-stands : goal.returns-clause-stands
 returns-clause-stands g c honest =
     let all : c.loop-part.part ≡ parts_of c.args.head.length = omega (arith, c.loop-part-test.false, c.loop-part.auto.part-end, c.args.head.parts_is) in
-    all_read (ring_of c.args.journal.now) c.args.journal.now.place c.args.journal.now.used c.args.head.number c.args.head.length
+    all_read (ring_of c.args.journal.now) c.args.journal.now.place c.args.journal.now.used c.args.head.version c.args.head.number c.args.head.length
     (seen (g.D.Sectors.history c.args.disk.now)) c.loop-part.text.items c.loop-part.part all (omega (arith, c.loop-part.invariant.bytes, all))
     (c.loop-part.invariant.read honest)

@@ -12,6 +12,6 @@ invariant-loop-part g l = record {
   faults : g.D.Sectors.faults l.disk ≡ g.D.Sectors.faults l.initial.disk;
   history : g.D.Sectors.honest l.disk → g.D.Sectors.history l.disk ≡ g.D.Sectors.history l.initial.disk;
   bytes : length l.text.items ≡ min (PART_BYTES * l.part) l.head.length;
-  read : g.D.Sectors.honest l.disk → AreRead (ring_of l.journal) l.journal.place l.journal.used l.head.number l.head.length
+  read : g.D.Sectors.honest l.disk → AreRead (ring_of l.journal) l.journal.place l.journal.used l.head.version l.head.number l.head.length
       (seen (g.D.Sectors.history l.initial.disk)) l.text.items l.part;
 }

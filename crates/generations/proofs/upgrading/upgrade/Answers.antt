@@ -5,11 +5,12 @@ use Rattle.sector_disk.specs.Moments.{LeavesOnly}
 use Rattle.sector_disk.proofs.History.{any_sync}
 use Rattle.generations.specs.Disks.{IsFaultOf}
 use Rattle.generations.specs.Sectors.{IsFormat, version_from}
-use Rattle.generations.proofs.Upgrades.{Upgrading, sync_upgrading, upgraded_already, write_upgrading, upgraded_now}
+use Rattle.generations.specs.Upgrades.{Upgrades}
+use Rattle.generations.proofs.Upgrades.{sync_upgrades, upgraded_already, write_upgrades, upgraded_now}
 use Rattle.generations.proofs.upgrading.upgrade.Goals as goal
 
 pub returns-in-Err-clause-any_moment : goal.returns-in-Err-clause-any_moment
-returns-in-Err-clause-any_moment g c = λ honest. sync_upgrading _ _ (any_sync c.sync.result _ _ (c.sync.ensures.syncs honest))
+returns-in-Err-clause-any_moment g c = λ honest. sync_upgrades _ _ _ (any_sync c.sync.result _ _ (c.sync.ensures.syncs honest))
 
 pub returns-in-Err-read_layout-clause-fault : goal.returns-in-Err-read_layout-clause-fault
 returns-in-Err-read_layout-clause-fault g c = λ honest.
@@ -24,18 +25,19 @@ returns-in-Err-read_layout-clause-fault g c = λ honest.
 pub returns-in-Err-read_layout-clause-any_moment : goal.returns-in-Err-read_layout-clause-any_moment
 returns-in-Err-read_layout-clause-any_moment g c = λ honest.
     let mid = c.in-Ok.ensures.syncs (c.read_layout.ensures.honest honest) in
-    subst (λ (h : History). LeavesOnly (g.D.Sectors.history c.args.disk.now) h (Upgrading (g.D.Sectors.history c.args.disk.now)))
-    (sym (c.read_layout.ensures.history honest)) (sync_upgrading _ _ (inr mid))
+    subst (λ (h : History). LeavesOnly (g.D.Sectors.history c.args.disk.now) h (Upgrades (g.D.Sectors.sectors c.args.disk.now) (g.D.Sectors.history c.args.disk.now)))
+    (sym (c.read_layout.ensures.history honest)) (sync_upgrades _ _ _ (inr mid))
 
 pub returns-then-version-eq-LAST_VERSION-clause-any_moment : goal.returns-then-version-eq-LAST_VERSION-clause-any_moment
 returns-then-version-eq-LAST_VERSION-clause-any_moment g c = λ honest.
     let mid = c.in-Ok.ensures.syncs (c.read_layout.ensures.honest honest) in
-    subst (λ (h : History). LeavesOnly (g.D.Sectors.history c.args.disk.now) h (Upgrading (g.D.Sectors.history c.args.disk.now)))
-    (sym (c.read_layout.ensures.history honest)) (sync_upgrading _ _ (inr mid))
+    subst (λ (h : History). LeavesOnly (g.D.Sectors.history c.args.disk.now) h (Upgrades (g.D.Sectors.sectors c.args.disk.now) (g.D.Sectors.history c.args.disk.now)))
+    (sym (c.read_layout.ensures.history honest)) (sync_upgrades _ _ _ (inr mid))
 
 -- what was read of the disk of before
-format_read : (old mid : History) (count n : ℕ) → mid ≡ synced old → IsFormat count (seen mid 0) n → IsFormat count (seen old 0) n
-format_read old mid count n is format = subst (λ (h : History). IsFormat count (seen h 0) n) is format
+format_read : (old mid : History) (count there n : ℕ) → there ≡ count → mid ≡ synced old → IsFormat there (seen mid 0) n → IsFormat count (seen old 0) n
+format_read old mid count there n same is format =
+    subst (λ (k : ℕ). IsFormat k (seen old 0) n) same (subst (λ (h : History). IsFormat there (seen h 0) n) is format)
 
 version_read : (old mid : History) (version : ℕ) → mid ≡ synced old → version ≡ version_from (seen mid 0) → version_from (seen old 0) ≡ version
 version_read old mid version is read = sym (subst (λ (h : History). version ≡ version_from (seen h 0)) is read)
@@ -43,31 +45,31 @@ version_read old mid version is read = sym (subst (λ (h : History). version ≡
 pub returns-then-version-eq-LAST_VERSION-clause-upgraded : goal.returns-then-version-eq-LAST_VERSION-clause-upgraded
 returns-then-version-eq-LAST_VERSION-clause-upgraded g c = λ honest.
     let before = c.in-Ok.ensures.syncs (c.read_layout.ensures.honest honest) in
-    let format = format_read _ _ _ c.in-Ok-read_layout.found.0.sectors before (c.in-Ok-read_layout.ensures.format honest) in
+    let format = format_read _ _ _ _ c.in-Ok-read_layout.found.0.sectors c.sync.ensures.count before (c.in-Ok-read_layout.ensures.format honest) in
     let version = version_read _ _ c.in-Ok-read_layout.found.1 before (c.in-Ok-read_layout.ensures.version honest) in
-    upgraded_already _ _ (c.read_layout.ensures.history honest ∙ before) _ c.in-Ok-read_layout.found.0.sectors format
+    upgraded_already _ _ _ (c.read_layout.ensures.history honest ∙ before) c.in-Ok-read_layout.found.0.sectors format
     (version ∙ c.if-version-eq-LAST_VERSION.true)
 
 pub returns-in-Ok-write_and_sync-clause-any_moment : goal.returns-in-Ok-write_and_sync-clause-any_moment
 returns-in-Ok-write_and_sync-clause-any_moment g c = λ honest.
     let there = c.write_and_sync.ensures.honest honest in
     let before = c.in-Ok.ensures.syncs (c.read_layout.ensures.honest there) in
-    let format = format_read _ _ _ c.in-Ok-read_layout.found.0.sectors before (c.in-Ok-read_layout.ensures.format there) in
-    write_upgrading _ _ (c.read_layout.ensures.history there ∙ before) _ c.in-Ok-read_layout.found.0.sectors format
+    let format = format_read _ _ _ _ c.in-Ok-read_layout.found.0.sectors c.sync.ensures.count before (c.in-Ok-read_layout.ensures.format there) in
+    write_upgrades _ _ _ (c.read_layout.ensures.history there ∙ before) c.in-Ok-read_layout.found.0.sectors format
     c.format_bytes-format.result c.format_bytes-format.ensures _ (c.write_and_sync.ensures.leaves honest)
 
 pub returns-in-Ok-write_and_sync-clause-upgraded : goal.returns-in-Ok-write_and_sync-clause-upgraded
 returns-in-Ok-write_and_sync-clause-upgraded g c = λ honest.
     let there = c.write_and_sync.ensures.honest honest in
     let before = c.in-Ok.ensures.syncs (c.read_layout.ensures.honest there) in
-    let format = format_read _ _ _ c.in-Ok-read_layout.found.0.sectors before (c.in-Ok-read_layout.ensures.format there) in
-    upgraded_now _ _ (c.read_layout.ensures.history there ∙ before) _ c.in-Ok-read_layout.found.0.sectors format
+    let format = format_read _ _ _ _ c.in-Ok-read_layout.found.0.sectors c.sync.ensures.count before (c.in-Ok-read_layout.ensures.format there) in
+    upgraded_now _ _ _ (c.read_layout.ensures.history there ∙ before) c.in-Ok-read_layout.found.0.sectors format
     c.format_bytes-format.result c.format_bytes-format.ensures _ (c.in-Ok-write_and_sync.ensures.stands honest)
 
 pub returns-in-Err-write_and_sync-clause-any_moment : goal.returns-in-Err-write_and_sync-clause-any_moment
 returns-in-Err-write_and_sync-clause-any_moment g c = λ honest.
     let there = c.write_and_sync.ensures.honest honest in
     let before = c.in-Ok.ensures.syncs (c.read_layout.ensures.honest there) in
-    let format = format_read _ _ _ c.in-Ok-read_layout.found.0.sectors before (c.in-Ok-read_layout.ensures.format there) in
-    write_upgrading _ _ (c.read_layout.ensures.history there ∙ before) _ c.in-Ok-read_layout.found.0.sectors format
+    let format = format_read _ _ _ _ c.in-Ok-read_layout.found.0.sectors c.sync.ensures.count before (c.in-Ok-read_layout.ensures.format there) in
+    write_upgrades _ _ _ (c.read_layout.ensures.history there ∙ before) c.in-Ok-read_layout.found.0.sectors format
     c.format_bytes-format.result c.format_bytes-format.ensures _ (c.write_and_sync.ensures.leaves honest)

@@ -1,17 +1,17 @@
-use Rattle.std.proofs.Common.{◌≡◌, ℕ, List, ap, ◌∙◌, ◌+◌, ◌*◌, ◌<◌, subst, sym, length, arith, Vec, Global}
+use Rattle.std.proofs.Common.{◌≡◌, ℕ, List, ap, ◌∙◌, ◌+◌, ◌*◌, ◌<◌, subst, sym, length, arith}
 use Rattle.std.proofs.lemmas.List.{length-map}
 use Rattle.edit_journal.specs.Ring.{Ring, Start}
 use Rattle.edit_journal.specs.Appends.{start_of}
 use Rattle.edit_journal.specs.Recovers.{IsJournal}
-use Rattle.edit_journal.specs.declared.sizes.TheConstants.{RECORD_VERSION}
+use Rattle.edit_journal.specs.Records.{record_data, records_of}
 use Rattle.generations.specs.Areas.{area_sectors}
 use Rattle.sector_disk.specs.Disk.{seen}
 use Rattle.sector_disk.specs.declared.disk.TheConstants.{SECTOR_BYTES}
-use Rattle.feature_model.specs.Data.{ChangeData}
+use Rattle.edit_text.specs.Recorded.{RecordedEdit}
 use Rattle.feature_store.specs.Store.{FeatureMap, snapshot}
 use Rattle.tile_service.specs.After.{after}
 use Rattle.feature_store.specs.declared.limit.TheConstants.{TEXTS_END}
-use Rattle.tile_service.specs.Replayed.{bytes_of, views_of}
+use Rattle.tile_service.specs.Replayed.{bytes_of}
 use Rattle.tile_service.specs.Tiles.{WereMaps}
 use Rattle.tile_service.proofs.Opens.{recovery_counts, recovery_fault, text_fault, texts_short, replayed_short}
 use Rattle.tile_service.proofs.opening.read_edits.Goals as goal
@@ -22,46 +22,46 @@ returns-in-Err-clause-failed g c = rw c.told.ensures (recovery_counts c.in-Err.f
 pub returns-in-Err-clause-fault : goal.returns-in-Err-clause-fault
 returns-in-Err-clause-fault g c honest has =
     rw c.told.ensures
-    (recovery_fault c.args.layout.sectors c.args.root (seen (g.D.Sectors.history c.args.disk.now)) c.args.store.features has c.in-Err.fault _ _
+    (recovery_fault c.args.layout.sectors c.args.version c.args.root (seen (g.D.Sectors.history c.args.disk.now)) c.args.store.features has c.in-Err.fault _ _
     c.in-Err.ensures.fault
-    (λ texts is journal. c.in-Err.ensures.damaged texts honest is
-    (subst (λ (places : ℕ). IsJournal RECORD_VERSION (record { first = 3; places = places }) (start_of c.args.root.journal_at c.args.root.edits) texts
+    (λ records is journal. c.in-Err.ensures.damaged records honest is
+    (subst (λ (places : ℕ). IsJournal c.args.version (record { first = 3; places = places }) (start_of c.args.root.journal_at c.args.root.edits) records
     (seen (g.D.Sectors.history c.args.disk.now))) (sym c.args.layout.journal_is) journal)))
 
 pub replay-requires : goal.replay-requires
 replay-requires g c = record {
-  texts = subst (λ (m : FeatureMap). length (snapshot m) + bytes_of (views_of c.in-Ok.found.1.items) < TEXTS_END)
+  texts = subst (λ (m : FeatureMap). length (snapshot m) + bytes_of (records_of c.in-Ok.found.1.items) < TEXTS_END)
       (sym c.in-Ok-new.ensures.features)
       (texts_short c.args.layout.sectors c.in-Ok.found.0.used c.in-Ok.found.0.places (length (snapshot c.args.store.features))
-      (views_of c.in-Ok.found.1.items) c.args.layout.size c.requires.texts
+      (records_of c.in-Ok.found.1.items) c.args.layout.size c.requires.texts
       c.in-Ok.found.0.room (ap (λ (r : Ring). r.places) c.in-Ok.ensures.same.0 ∙ c.args.layout.journal_is) c.in-Ok.ensures.used);
   numbers = omega (arith, c.in-Ok.ensures.last, c.in-Ok-new.ensures.last);
   now = c.in-Ok-new.ensures.now;
 }
 
 pub returns-in-Ok-replay-clause-texts : goal.returns-in-Ok-replay-clause-texts
-returns-in-Ok-replay-clause-texts g c = replayed_short (views_of c.in-Ok.found.1.items) c.in-Ok-replay.ensures.made.edits c.args.store.features
-    c.replay.new.map.features (SECTOR_BYTES * area_sectors c.args.layout.sectors) c.in-Ok.found.0.used c.in-Ok-replay.ensures.made.are_texts c.requires.texts
+returns-in-Ok-replay-clause-texts g c = replayed_short (records_of c.in-Ok.found.1.items) c.in-Ok-replay.ensures.made.edits c.args.store.features
+    c.replay.new.map.features (SECTOR_BYTES * area_sectors c.args.layout.sectors) c.in-Ok.found.0.used c.in-Ok-replay.ensures.made.are_records c.requires.texts
     (c.in-Ok-replay.ensures.made.map_is ∙ ap (λ (m : FeatureMap). after m c.in-Ok-replay.ensures.made.edits) c.in-Ok-new.ensures.features) c.in-Ok.ensures.used
 
 pub returns-in-Ok-replay-clause-found : goal.returns-in-Ok-replay-clause-found
 returns-in-Ok-replay-clause-found g c honest has = record {
   snapshot_map = c.args.store.features;
   has_snapshot = has;
-  texts = views_of c.in-Ok.found.1.items;
+  records = records_of c.in-Ok.found.1.items;
   edits = c.in-Ok-replay.ensures.made.edits;
-  are_texts = subst (λ (places : ℕ). IsJournal RECORD_VERSION (record { first = 3; places = places }) (start_of c.args.root.journal_at c.args.root.edits)
-      (views_of c.in-Ok.found.1.items) (seen (g.D.Sectors.history c.args.disk.now))) c.args.layout.journal_is (c.in-Ok.ensures.found honest);
-  are_edits = c.in-Ok-replay.ensures.made.are_texts;
+  are_records = subst (λ (places : ℕ). IsJournal c.args.version (record { first = 3; places = places }) (start_of c.args.root.journal_at c.args.root.edits)
+      (records_of c.in-Ok.found.1.items) (seen (g.D.Sectors.history c.args.disk.now))) c.args.layout.journal_is (c.in-Ok.ensures.found honest);
+  are_edits = c.in-Ok-replay.ensures.made.are_records;
   place_is = ap (λ (s : Start). s.place) c.in-Ok.ensures.same.1;
   edits_are = omega (arith, ap (λ (s : Start). s.number) c.in-Ok.ensures.same.1);
   used_is = c.in-Ok.ensures.used;
-  last_is = omega (arith, c.in-Ok.ensures.last, length-map c.in-Ok.found.1.items (λ (text : Vec ℕ Global). text.items));
+  last_is = omega (arith, c.in-Ok.ensures.last, length-map c.in-Ok.found.1.items record_data);
   map_is = c.in-Ok-replay.ensures.made.map_is ∙ ap (λ (m : FeatureMap). after m c.in-Ok-replay.ensures.made.edits) c.in-Ok-new.ensures.features;
   were = were;
 }
   where
-    edits : List ChangeData
+    edits : List RecordedEdit
     edits = c.in-Ok-replay.ensures.made.edits
 
     last : c.replay.new.map.last ≡ c.in-Ok.found.0.last
@@ -76,8 +76,8 @@ returns-in-Ok-replay-clause-found g c honest has = record {
 
 pub returns-in-Err-replay-clause-fault : goal.returns-in-Err-replay-clause-fault
 returns-in-Err-replay-clause-fault g c honest has =
-    text_fault c.args.layout.sectors c.args.root (seen (g.D.Sectors.history c.args.disk.now)) c.args.store.features has (views_of c.in-Ok.found.1.items)
-    c.in-Err-replay.fault
-    (subst (λ (places : ℕ). IsJournal RECORD_VERSION (record { first = 3; places = places }) (start_of c.args.root.journal_at c.args.root.edits)
-    (views_of c.in-Ok.found.1.items) (seen (g.D.Sectors.history c.args.disk.now))) c.args.layout.journal_is (c.in-Ok.ensures.found honest))
+    text_fault c.args.layout.sectors c.args.version c.args.root (seen (g.D.Sectors.history c.args.disk.now)) c.args.store.features has
+    (records_of c.in-Ok.found.1.items) c.in-Err-replay.fault
+    (subst (λ (places : ℕ). IsJournal c.args.version (record { first = 3; places = places }) (start_of c.args.root.journal_at c.args.root.edits)
+    (records_of c.in-Ok.found.1.items) (seen (g.D.Sectors.history c.args.disk.now))) c.args.layout.journal_is (c.in-Ok.ensures.found honest))
     c.in-Err-replay.ensures.fault

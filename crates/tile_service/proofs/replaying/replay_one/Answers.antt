@@ -1,6 +1,15 @@
-use Rattle.feature_model.specs.Data.{change_data}
-use Rattle.tile_service.proofs.Replays.{make_fault}
+use Rattle.std.proofs.Common.{arith}
+use Rattle.edit_journal.specs.Records.{record_data}
+use Rattle.feature_model.specs.Data.{edit_data}
+use Rattle.tile_service.specs.Machine.{recorded_in}
+use Rattle.tile_service.proofs.Replays.{text_short}
 use Rattle.tile_service.proofs.replaying.replay_one.Goals as goal
 
-pub returns-clause-fault : goal.returns-clause-fault
-returns-clause-fault c = make_fault c.args.text.now (change_data c.in_ok-edit.edit) c.make.result c.in_ok-edit.ensures.edit c.make.ensures.fault
+pub make-requires-clause-texts : goal.make-requires-clause-texts
+make-requires-clause-texts c =
+    omega (
+      arith,
+      c.requires.texts,
+      text_short (record_data c.args.recorded.now) (recorded_in c.args.recorded.now.version (edit_data c.in_ok-edit.edit))
+          c.in_ok-edit.ensures.edit,
+    )

@@ -8,9 +8,9 @@ use Rattle.tile_service.proofs.Opens.{snapshot_fault}
 use Rattle.tile_service.proofs.snapshot_reading.read_snapshot.Goals as goal
 
 pub returns-clause-fault : goal.returns-clause-fault
-returns-clause-fault g c honest =
+returns-clause-fault g c version honest =
     let image = seen (g.D.Sectors.history c.args.disk.now) in
-    snapshot_fault c.args.layout.sectors c.args.root image c.in-Ok.text.items c.map_in.result
+    snapshot_fault c.args.layout.sectors version c.args.root image c.in-Ok.text.items c.map_in.result
     (subst (λ (first : ℕ). StandsIn first c.in-Ok.text.items image) c.area_of-first.ensures (c.in-Ok.ensures.stands honest))
     c.in-Ok.ensures.len
     (subst (λ (text : List ℕ). IfErr c.map_in.result (λ fault. (fault ≡ Memory) ⊎ ((fault ≡ Damaged Snapshot) × IsNoSnapshot text)))

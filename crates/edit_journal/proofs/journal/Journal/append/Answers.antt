@@ -1,3 +1,4 @@
+use Rattle.edit_journal.specs.Records.{record_of}
 use Rattle.edit_journal.specs.Appends.{ring_of}
 use Rattle.edit_journal.proofs.Frames.{frame_start}
 use Rattle.edit_journal.proofs.Heads.{same_leaves}
@@ -7,12 +8,12 @@ pub returns-then-self-clause-frame : goal.returns-then-self-clause-frame
 returns-then-self-clause-frame g c honest = frame_start _ (ring_of c.args.self.now) c.args.self.now.place c.args.self.now.used
 
 pub returns-then-self-clause-any_moment : goal.returns-then-self-clause-any_moment
-returns-then-self-clause-any_moment g c texts honest before = same_leaves _ (ring_of c.args.self.now) c.args.self.now.place c.args.self.now.edits
-    c.args.self.now.used c.args.self.now.last texts c.args.text.now before
+returns-then-self-clause-any_moment g c rs honest before = same_leaves _ (ring_of c.args.self.now) c.args.self.now.place c.args.self.now.edits
+    c.args.self.now.used c.args.self.now.last rs (record_of c.args.version c.args.text.now) before
 
 pub returns-then-need-free-clause-frame : goal.returns-then-need-free-clause-frame
 returns-then-need-free-clause-frame g c honest = frame_start _ (ring_of c.args.self.now) c.args.self.now.place c.args.self.now.used
 
 pub returns-then-need-free-clause-any_moment : goal.returns-then-need-free-clause-any_moment
-returns-then-need-free-clause-any_moment g c texts honest before = same_leaves _ (ring_of c.args.self.now) c.args.self.now.place c.args.self.now.edits
-    c.args.self.now.used c.args.self.now.last texts c.args.text.now before
+returns-then-need-free-clause-any_moment g c rs honest before = same_leaves _ (ring_of c.args.self.now) c.args.self.now.place c.args.self.now.edits
+    c.args.self.now.used c.args.self.now.last rs (record_of c.args.version c.args.text.now) before

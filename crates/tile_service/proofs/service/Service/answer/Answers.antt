@@ -1,54 +1,71 @@
-use Rattle.std.proofs.Common.{◌∙◌, Ok, Err, option_map, refl, sym, ap, subst}
+use Rattle.std.proofs.Common.{◌∙◌, Ok, Err, map, option_map, refl, sym, ap, subst}
 use Rattle.std.proofs.lemmas.Bool.{false≢true}
-use Rattle.feature_model.specs.Data.{put, delete, feature_data}
+use Rattle.feature_model.specs.Data.{put, delete, feature_data, change_data}
 use Rattle.sector_bytes.proofs.Counts.{same_count}
 use Rattle.tile_service.specs.Events.{IsTile}
-use Rattle.tile_service.specs.Machine.{got, no_memory, edit, begin, step, cancel, tile, look}
+use Rattle.tile_service.specs.Machine.{got, no_memory, single, batched, recorded_in, recorded_change, edit, begin, step, cancel, tile, look}
 use Rattle.tile_service.proofs.Callers.{edit_step, tile_step, look_step, begin_step, step_step, cancel_step}
 use Rattle.tile_service.proofs.Counted.{other_answer, memory_told, outcome_counts, edit_risen, left_risen}
 use Rattle.tile_service.proofs.Counted.{begin_no_device, cancel_no_device, look_no_device}
 use Rattle.tile_service.proofs.Runs.{no_known, edit_faults, edit_fails, step_faults, step_fails}
-use Rattle.tile_service.proofs.Tellings.{told_step, put_told, delete_told, begin_told, step_told}
+use Rattle.tile_service.proofs.Tellings.{told_step, put_told, delete_told, batch_told, begin_told, step_told}
 use Rattle.tile_service.proofs.service.Service.answer.Goals as goal
 
 pub returns-in-Put-clause-takes : goal.returns-in-Put-clause-takes
 returns-in-Put-clause-takes g c = (
-  edit (put c.in-Put.id (feature_data c.in-Put.feature)) c.put.result,
-  told_step _ c.in-Put.is c.edited.ensures (put_told c.in-Put.id c.in-Put.feature c.put.result),
-  (edit_step g.D.Sectors.sectors g.D.Sectors.honest g.D.Sectors.history _ _ (put c.in-Put.id (feature_data c.in-Put.feature)) c.put.result
+  edit single (recorded_change c.args.self.now.version (put c.in-Put.id (feature_data c.in-Put.feature))) c.put.result,
+  told_step c.args.self.now.version _ c.in-Put.is c.edited.ensures (put_told c.args.self.now.version c.in-Put.id c.in-Put.feature c.put.result),
+  (edit_step g.D.Sectors.sectors g.D.Sectors.honest g.D.Sectors.history _ _ single (recorded_change c.args.self.now.version (put c.in-Put.id (feature_data c.in-Put.feature))) c.put.result
       c.put.ensures.machine c.put.ensures.size c.put.ensures.count c.put.ensures.honest c.put.ensures.untouched c.put.ensures.any_moment c.put.ensures.acknowledged c.put.ensures.refused
       c.put.ensures.archive),
 )
 
 pub returns-in-Put-clause-faults : goal.returns-in-Put-clause-faults
 returns-in-Put-clause-faults g c none =
-    edit_faults _ _ _ c.put.result _ _ (c.put.ensures.machine no_known) c.put.ensures.faults c.put.ensures.failed
+    edit_faults _ _ _ _ c.put.result _ _ (c.put.ensures.machine no_known) c.put.ensures.faults c.put.ensures.failed
 
 pub returns-in-Put-clause-failed : goal.returns-in-Put-clause-failed
 returns-in-Put-clause-failed g c =
-    edit_fails _ _ _ c.put.result _ _ (c.put.ensures.machine no_known) c.put.ensures.failed
+    edit_fails _ _ _ _ c.put.result _ _ (c.put.ensures.machine no_known) c.put.ensures.failed
 
 pub returns-in-Delete-clause-takes : goal.returns-in-Delete-clause-takes
 returns-in-Delete-clause-takes g c = (
-  edit (delete c.in-Delete.id) c.delete.result,
-  told_step _ c.in-Delete.is c.edited-in-Delete.ensures (delete_told c.in-Delete.id c.delete.result),
-  (edit_step g.D.Sectors.sectors g.D.Sectors.honest g.D.Sectors.history _ _ (delete c.in-Delete.id) c.delete.result
+  edit single (recorded_change c.args.self.now.version (delete c.in-Delete.id)) c.delete.result,
+  told_step c.args.self.now.version _ c.in-Delete.is c.edited-in-Delete.ensures (delete_told c.args.self.now.version c.in-Delete.id c.delete.result),
+  (edit_step g.D.Sectors.sectors g.D.Sectors.honest g.D.Sectors.history _ _ single (recorded_change c.args.self.now.version (delete c.in-Delete.id)) c.delete.result
       c.delete.ensures.machine c.delete.ensures.size c.delete.ensures.count c.delete.ensures.honest c.delete.ensures.untouched c.delete.ensures.any_moment c.delete.ensures.acknowledged c.delete.ensures.refused
       c.delete.ensures.archive),
 )
 
 pub returns-in-Delete-clause-faults : goal.returns-in-Delete-clause-faults
 returns-in-Delete-clause-faults g c none =
-    edit_faults _ _ _ c.delete.result _ _ (c.delete.ensures.machine no_known) c.delete.ensures.faults c.delete.ensures.failed
+    edit_faults _ _ _ _ c.delete.result _ _ (c.delete.ensures.machine no_known) c.delete.ensures.faults c.delete.ensures.failed
 
 pub returns-in-Delete-clause-failed : goal.returns-in-Delete-clause-failed
 returns-in-Delete-clause-failed g c =
-    edit_fails _ _ _ c.delete.result _ _ (c.delete.ensures.machine no_known) c.delete.ensures.failed
+    edit_fails _ _ _ _ c.delete.result _ _ (c.delete.ensures.machine no_known) c.delete.ensures.failed
+
+pub returns-in-Batch-clause-takes : goal.returns-in-Batch-clause-takes
+returns-in-Batch-clause-takes g c = (
+  edit batched (recorded_in c.args.self.now.version (map change_data c.in-Batch.changes.items)) c.batch.result,
+  told_step c.args.self.now.version _ c.in-Batch.is c.edited-in-Batch.ensures (batch_told c.args.self.now.version c.in-Batch.changes c.batch.result),
+  (edit_step g.D.Sectors.sectors g.D.Sectors.honest g.D.Sectors.history _ _ batched (recorded_in c.args.self.now.version (map change_data c.in-Batch.changes.items)) c.batch.result
+      c.batch.ensures.machine c.batch.ensures.size c.batch.ensures.count c.batch.ensures.honest c.batch.ensures.untouched c.batch.ensures.any_moment c.batch.ensures.acknowledged c.batch.ensures.refused
+      c.batch.ensures.archive),
+)
+
+pub returns-in-Batch-clause-faults : goal.returns-in-Batch-clause-faults
+returns-in-Batch-clause-faults g c none =
+    edit_faults _ _ _ _ c.batch.result _ _ (c.batch.ensures.machine no_known) c.batch.ensures.faults c.batch.ensures.failed
+
+pub returns-in-Batch-clause-failed : goal.returns-in-Batch-clause-failed
+returns-in-Batch-clause-failed g c =
+    edit_fails _ _ _ _ c.batch.result _ _ (c.batch.ensures.machine no_known) c.batch.ensures.failed
 
 pub returns-in-Ok-clause-takes : goal.returns-in-Ok-clause-takes
 returns-in-Ok-clause-takes g c = (
   tile c.in-Tile.at.z c.in-Tile.at.x c.in-Tile.at.y (got (option_map (λ bytes. bytes.items) c.in-Ok.content)),
-  told_step _ c.in-Tile.is refl refl,
+  told_step c.args.self.now.version _ c.in-Tile.is refl refl,
   (tile_step g.D.Sectors.sectors g.D.Sectors.honest g.D.Sectors.history _ _ c.tile.ensures.same c.tile.ensures.count c.tile.ensures.honest c.tile.ensures.history c.tile.ensures.untouched c.tile.ensures.up c.in-Tile.at.z c.in-Tile.at.x c.in-Tile.at.y _ c.in-Ok.ensures.machine),
 )
 
@@ -63,7 +80,7 @@ returns-in-Ok-clause-failed g c unbroken broken =
 pub returns-in-Err-clause-takes : goal.returns-in-Err-clause-takes
 returns-in-Err-clause-takes g c = (
   tile c.in-Tile.at.z c.in-Tile.at.x c.in-Tile.at.y no_memory,
-  told_step _ c.in-Tile.is refl (c.in-Err.ensures.fault, refl),
+  told_step c.args.self.now.version _ c.in-Tile.is refl (c.in-Err.ensures.fault, refl),
   (tile_step g.D.Sectors.sectors g.D.Sectors.honest g.D.Sectors.history _ _ c.tile.ensures.same c.tile.ensures.count c.tile.ensures.honest c.tile.ensures.history c.tile.ensures.untouched c.tile.ensures.up c.in-Tile.at.z c.in-Tile.at.x c.in-Tile.at.y _ c.in-Err.ensures.machine),
 )
 
@@ -78,7 +95,7 @@ returns-in-Err-clause-failed g c unbroken broken =
 pub returns-in-Look-clause-takes : goal.returns-in-Look-clause-takes
 returns-in-Look-clause-takes g c = (
   look c.in-Look.id c.look.ensures.0,
-  told_step _ c.in-Look.is refl c.look.ensures.1,
+  told_step c.args.self.now.version _ c.in-Look.is refl c.look.ensures.1,
   (look_step g.D.Sectors.sectors g.D.Sectors.honest g.D.Sectors.history _ c.in-Look.id c.look.ensures.0 c.look.ensures.2),
 )
 
@@ -89,7 +106,7 @@ returns-in-Look-clause-failed g c unbroken broken =
 pub returns-in-Begin-clause-takes : goal.returns-in-Begin-clause-takes
 returns-in-Begin-clause-takes g c = (
   begin c.publish_begin.result,
-  told_step _ c.in-Begin.is c.left.ensures (begin_told c.publish_begin.result),
+  told_step c.args.self.now.version _ c.in-Begin.is c.left.ensures (begin_told c.args.self.now.version c.publish_begin.result),
   (begin_step g.D.Sectors.sectors g.D.Sectors.honest g.D.Sectors.history _ _ c.publish_begin.result c.publish_begin.ensures.machine c.publish_begin.ensures.same c.publish_begin.ensures.up),
 )
 
@@ -104,7 +121,7 @@ returns-in-Begin-clause-failed g c unbroken broken =
 pub returns-in-Ok-publish_cancel-clause-takes : goal.returns-in-Ok-publish_cancel-clause-takes
 returns-in-Ok-publish_cancel-clause-takes g c = (
   cancel (Ok tt),
-  told_step _ c.in-Cancel.is refl refl,
+  told_step c.args.self.now.version _ c.in-Cancel.is refl refl,
   (cancel_step g.D.Sectors.sectors g.D.Sectors.honest g.D.Sectors.history _ _ _ c.in-Ok-publish_cancel.ensures.machine c.publish_cancel.ensures.same c.publish_cancel.ensures.up),
 )
 
@@ -119,7 +136,7 @@ returns-in-Ok-publish_cancel-clause-failed g c unbroken broken =
 pub returns-in-Err-publish_cancel-clause-takes : goal.returns-in-Err-publish_cancel-clause-takes
 returns-in-Err-publish_cancel-clause-takes g c = (
   cancel (Err c.in-Err-publish_cancel.fault),
-  told_step _ c.in-Cancel.is refl refl,
+  told_step c.args.self.now.version _ c.in-Cancel.is refl refl,
   (cancel_step g.D.Sectors.sectors g.D.Sectors.honest g.D.Sectors.history _ _ _ c.in-Err-publish_cancel.ensures.machine c.publish_cancel.ensures.same c.publish_cancel.ensures.up),
 )
 
@@ -134,7 +151,7 @@ returns-in-Err-publish_cancel-clause-failed g c unbroken broken =
 pub returns-in-Step-clause-takes : goal.returns-in-Step-clause-takes
 returns-in-Step-clause-takes g c = (
   step c.publish_step.result,
-  told_step _ c.in-Step.is c.left-in-Step.ensures (step_told c.publish_step.result),
+  told_step c.args.self.now.version _ c.in-Step.is c.left-in-Step.ensures (step_told c.args.self.now.version c.publish_step.result),
   (step_step g.D.Sectors.sectors g.D.Sectors.honest g.D.Sectors.history _ _ c.publish_step.result
       c.publish_step.ensures.machine c.publish_step.ensures.size c.publish_step.ensures.count c.publish_step.ensures.honest c.publish_step.ensures.refused c.publish_step.ensures.any_moment c.publish_step.ensures.after c.publish_step.ensures.archive),
 )
@@ -161,6 +178,12 @@ returns-in-Delete-clause-never_falls g c = outcome_counts c.delete.result _ _ c.
 pub returns-in-Delete-clause-device : goal.returns-in-Delete-clause-device
 returns-in-Delete-clause-device g c is = edit_risen c.delete.result _ _ c.delete.ensures.failed (sym c.edited-in-Delete.ensures ∙ is)
 
+pub returns-in-Batch-clause-never_falls : goal.returns-in-Batch-clause-never_falls
+returns-in-Batch-clause-never_falls g c = outcome_counts c.batch.result _ _ c.batch.ensures.faults c.batch.ensures.failed
+
+pub returns-in-Batch-clause-device : goal.returns-in-Batch-clause-device
+returns-in-Batch-clause-device g c is = edit_risen c.batch.result _ _ c.batch.ensures.failed (sym c.edited-in-Batch.ensures ∙ is)
+
 pub returns-in-Ok-clause-device : goal.returns-in-Ok-clause-device
 returns-in-Ok-clause-device g c is = absurd (other_answer _ refl is)
 
@@ -171,7 +194,7 @@ pub returns-in-Look-clause-never_falls : goal.returns-in-Look-clause-never_falls
 returns-in-Look-clause-never_falls g c = same_count _ _ refl
 
 pub returns-in-Look-clause-device : goal.returns-in-Look-clause-device
-returns-in-Look-clause-device g c is = absurd (look_no_device c.in-Look.id _ _ c.look.ensures.1 is)
+returns-in-Look-clause-device g c is = absurd (look_no_device c.args.self.now.version c.in-Look.id _ _ c.look.ensures.1 is)
 
 pub returns-in-Begin-clause-never_falls : goal.returns-in-Begin-clause-never_falls
 returns-in-Begin-clause-never_falls g c = same_count _ _ (ap (λ s. g.D.Sectors.faults s.disk) c.publish_begin.ensures.same)

@@ -11,6 +11,7 @@ returns-in-Ok-clause-any_moment g c = rw (← c.self.view_is) (λ stored honest 
     let service : ServiceView g.row.D.Denot = record {
       disk = c.self.inside.disk;
       size = c.self.inside.layout.sectors;
+      version = c.self.inside.version;
       features = c.self.inside.map.features;
       touched = c.self.inside.map.touched;
       journal = c.self.inside.journal;
@@ -38,6 +39,7 @@ returns-in-Ok-clause-after g c = rw (← c.self.view_is) (λ stored honest up.
     let service : ServiceView g.row.D.Denot = record {
       disk = c.self.inside.disk;
       size = c.self.inside.layout.sectors;
+      version = c.self.inside.version;
       features = c.self.inside.map.features;
       touched = c.self.inside.map.touched;
       journal = c.self.inside.journal;
@@ -65,7 +67,7 @@ returns-in-Ok-clause-after g c = rw (← c.self.view_is) (λ stored honest up.
     (subst (λ (j : Journal). IsBehind j c.args.publication.start c.args.publication.places) (sym (ap (λ s. s.journal) c.self.view_is))
     c.requires.going.2.behind) in
     up_installed _ _ stored service c.args.publication up c.requires.written root is _ _ _ c.install.ensures.count (c.in-Ok.ensures.installed honest)
-    refl refl refl refl (c.release.ensures.start.0 ∙ place) (c.release.ensures.start.1 ∙ edits)
+    refl refl refl refl refl (c.release.ensures.start.0 ∙ place) (c.release.ensures.start.1 ∙ edits)
     (c.release.ensures.freed c.args.publication.places behind) c.release.ensures.same.1 text archive
     (ap (λ s. s.publication) c.self.view_is ∙ c.requires.none) refl refl)
 
@@ -74,6 +76,7 @@ returns-clause-any_moment g c = rw (← c.self.view_is) (λ stored honest up.
     let service : ServiceView g.row.D.Denot = record {
       disk = c.self.inside.disk;
       size = c.self.inside.layout.sectors;
+      version = c.self.inside.version;
       features = c.self.inside.map.features;
       touched = c.self.inside.map.touched;
       journal = c.self.inside.journal;

@@ -10,6 +10,7 @@ returns-in-Ok-clause-opened g c n stored holds honest =
     (record {
       disk = c.load.new.disk;
       size = c.in-Ok.found.layout.sectors;
+      version = c.in-Ok.found.version;
       features = c.in-Ok.found.map.features;
       touched = c.in-Ok.found.map.touched;
       journal = c.in-Ok.found.journal;
@@ -39,5 +40,5 @@ returns-in-Ok-clause-read g c honest = record {
 
 pub returns-in-Ok-clause-sound : goal.returns-in-Ok-clause-sound
 returns-in-Ok-clause-sound g c honest =
-    read_sound (g.D.Sectors.sectors c.args.disk) c.in-Ok.found.layout.sectors (seen (g.D.Sectors.history c.args.disk)) c.in-Ok.found.root
+    read_sound (g.D.Sectors.sectors c.args.disk) c.in-Ok.found.layout.sectors c.in-Ok.found.version (seen (g.D.Sectors.history c.args.disk)) c.in-Ok.found.root
     c.in-Ok.found.journal c.in-Ok.found.map.features c.in-Ok.found.map.touched (c.in-Ok.ensures.found honest)

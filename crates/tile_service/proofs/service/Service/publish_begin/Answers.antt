@@ -12,6 +12,7 @@ returns-in-Ok-clause-machine g c = rw (← c.self.view_is) (λ known.
     begins_told {D = g.row.D.Denot} known (record {
       disk = c.self.inside.disk;
       size = c.self.inside.layout.sectors;
+      version = c.self.inside.version;
       features = c.self.inside.map.features;
       touched = c.self.inside.map.touched;
       journal = c.self.inside.journal;

@@ -1,92 +1,42 @@
-use Rattle.std.proofs.Common.{◌≡◌, Ok, Err, ◌≢◌, ◌∙◌, ℕ, List, refl, sym, ap, subst, arith, rules, length}
-use Rattle.edit_journal.specs.Records.{IsEditLength, parts_of}
-use Rattle.edit_journal.specs.Ring.{Ring}
-use Rattle.feature_model.specs.Data.{put, feature_data}
-use Rattle.feature_model.specs.Spelled.{spelled_change}
-use Rattle.feature_store.specs.Store.{with_feature, snapshot}
-use Rattle.tile_service.specs.Service.{IsUp}
-use Rattle.tile_service.specs.Stored.{texts_of}
-use Rattle.tile_service.specs.declared.fault.ServiceFault.TheVariants.{NumbersSpent, Memory, Device}
-use Rattle.tile_service.proofs.Earlier.{since_on, now_on}
-use Rattle.tile_service.proofs.Edits.{up_is_at, same_leaves, append_any_moment, refused_any_moment, up_with_edit}
-use Rattle.tile_service.proofs.Going.{service_on}
-use Rattle.tile_service.proofs.Steps.{put_length, short_after_put, short_enough}
+use Rattle.std.proofs.Common.{Err, refl, sym, subst}
+use Rattle.sector_disk.specs.Moments.{LeavesOnly}
+use Rattle.feature_model.specs.Data.{EditData, put, feature_data}
+use Rattle.feature_model.specs.Limits.{IsAllowedEdit}
+use Rattle.edit_text.specs.Recorded.{FitsVersion}
+use Rattle.tile_service.specs.Machine.{single, edit, recorded_in, recorded_change}
+use Rattle.tile_service.specs.Service.{EventLeaves}
+use Rattle.tile_service.specs.declared.fault.ServiceFault.TheVariants.{NumbersSpent, Memory}
+use Rattle.tile_service.proofs.Edits.{same_leaves}
+use Rattle.tile_service.proofs.Steps.{put_allowed, one_fits}
 use Rattle.tile_service.proofs.service.Service.put.Goals as goal
 
 pub returns-in-Err-clause-any_moment : goal.returns-in-Err-clause-any_moment
 returns-in-Err-clause-any_moment g c = rw (← c.self.view_is) (λ stored honest up.
-    same_leaves g.D.Sectors.sectors g.D.Sectors.history stored _ c.self.invariant.ring up (put c.args.id (feature_data c.args.feature))
-    (Err c.in-Err.fault) _ refl)
+    same_leaves g.D.Sectors.sectors g.D.Sectors.history stored _ c.self.invariant.ring up single
+    (recorded_change c.self.inside.version (put c.args.id (feature_data c.args.feature))) (Err c.in-Err.fault) _ refl)
 
 pub returns-then-self-2-clause-any_moment : goal.returns-then-self-2-clause-any_moment
 returns-then-self-2-clause-any_moment g c = rw (← c.self.view_is) (λ stored honest up.
-    same_leaves g.D.Sectors.sectors g.D.Sectors.history stored _ c.self.invariant.ring up (put c.args.id (feature_data c.args.feature))
-    (Err NumbersSpent) _ refl)
+    same_leaves g.D.Sectors.sectors g.D.Sectors.history stored _ c.self.invariant.ring up single
+    (recorded_change c.self.inside.version (put c.args.id (feature_data c.args.feature))) (Err NumbersSpent) _ refl)
 
-pub returns-in-Err-encode_change-clause-any_moment : goal.returns-in-Err-encode_change-clause-any_moment
-returns-in-Err-encode_change-clause-any_moment g c = rw (← c.self.view_is) (λ stored honest up.
-    same_leaves g.D.Sectors.sectors g.D.Sectors.history stored _ c.self.invariant.ring up (put c.args.id (feature_data c.args.feature))
-    (Err Memory) _ refl)
+pub returns-in-Err-single_edit-clause-any_moment : goal.returns-in-Err-single_edit-clause-any_moment
+returns-in-Err-single_edit-clause-any_moment g c = rw (← c.self.view_is) (λ stored honest up.
+    same_leaves g.D.Sectors.sectors g.D.Sectors.history stored _ c.self.invariant.ring up single
+    (recorded_change c.self.inside.version (put c.args.id (feature_data c.args.feature))) (Err Memory) _ refl)
 
-pub returns-in-Err-room-clause-any_moment : goal.returns-in-Err-room-clause-any_moment
-returns-in-Err-room-clause-any_moment g c = rw (← c.self.view_is) (λ stored honest up.
-    same_leaves g.D.Sectors.sectors g.D.Sectors.history stored _ c.self.invariant.ring up (put c.args.id (feature_data c.args.feature))
-    (Err Memory) _ refl)
+pub write_edit-requires-clause-allowed : goal.write_edit-requires-clause-allowed
+write_edit-requires-clause-allowed g c =
+    subst IsAllowedEdit (sym c.in-Ok-single_edit.ensures.edit) (put_allowed c.args.id (feature_data c.args.feature) c.in-Ok.ensures.ok.allowed)
 
-pub append-requires-clause-text : goal.append-requires-clause-text
-append-requires-clause-text g c = subst (λ (t : List ℕ). IsEditLength (length t)) (sym (c.deref.ensures.value ∙ c.in-Ok-encode_change.ensures.text))
-    (put_length c.args.id (feature_data c.args.feature) c.in-Ok.ensures.ok.allowed)
+pub write_edit-requires-clause-fits : goal.write_edit-requires-clause-fits
+write_edit-requires-clause-fits g c = subst (λ (cs : EditData). FitsVersion c.args.self.now.version cs) (sym c.in-Ok-single_edit.ensures.edit)
+    (one_fits c.args.self.now.version (put c.args.id (feature_data c.args.feature))
+    (rw (← c.self.view_is) c.self.invariant.version_is))
 
-pub apply-requires-clause-texts : goal.apply-requires-clause-texts
-apply-requires-clause-texts g c = rw (ap (λ m. m.features) c.room.ensures.same) (short_enough c.self.inside.map.features c.args.id (feature_data c.args.feature)
-    c.self.inside.layout.sectors c.self.inside.journal.used c.self.inside.layout.size.1
-    (omega (arith, c.self.inside.journal.room, ap (λ (r : Ring). r.places) c.self.invariant.ring)) c.self.invariant.texts c.in-Ok.ensures.ok.allowed)
-
-pub invariant_of-self-in-Ok-append : goal.invariant_of-self-in-Ok-append
-invariant_of-self-in-Ok-append g c =
-    let text : c.deref.result.now ≡ spelled_change (put c.args.id (feature_data c.args.feature)) = c.deref.ensures.value ∙ c.in-Ok-encode_change.ensures.text in
-    let later = c.apply.ensures.map ∙ ap (λ m. with_feature m.features c.args.id (feature_data c.args.feature)) c.room.ensures.same in
-    service_on c.self.inside.layout.sectors c.self.inside.root c.self.inside.journal c.append.new.self c.append.ensures.same.0 c.append.ensures.same.1
-    (length c.deref.result.now)
-    (subst (λ (t : List ℕ). IsEditLength (length t)) (sym text) (put_length c.args.id (feature_data c.args.feature) c.in-Ok.ensures.ok.allowed))
-    c.in-Ok-append.ensures.used c.in-Ok-append.ensures.last c.self.inside.map c.apply.new.map
-    (omega (arith, c.apply.ensures.last, c.in-Ok-append.ensures.number, c.in-Ok-append.ensures.last))
-    (λ area places was. omega (
-      arith,
-      ap (λ m. length (snapshot m)) later,
-      ap (λ (t : List ℕ). parts_of (length t)) text,
-      short_after_put c.self.inside.map.features c.args.id (feature_data c.args.feature) area places was,
-    ))
-    _ _ _ c.append.ensures.count c.self.invariant
-
-pub returns-in-Ok-append-clause-any_moment : goal.returns-in-Ok-append-clause-any_moment
-returns-in-Ok-append-clause-any_moment g c = rw (← c.self.view_is) (λ stored honest up.
-    let at = up_is_at g.D.Sectors.sectors g.D.Sectors.history stored _ c.self.invariant.ring up in
-    append_any_moment g.D.Sectors.sectors g.D.Sectors.history stored _ c.self.invariant.ring up (put c.args.id (feature_data c.args.feature))
-    c.in-Ok-encode_change.ensures.change _ (c.deref.ensures.value ∙ c.in-Ok-encode_change.ensures.text) c.append.new.disk (c.append.ensures.frame honest)
-    (Ok c.in-Ok-append.number) tt (c.append.ensures.any_moment (texts_of stored) honest at))
-
-pub returns-in-Ok-append-clause-acknowledged : goal.returns-in-Ok-append-clause-acknowledged
-returns-in-Ok-append-clause-acknowledged g c = rw (← c.self.view_is) (λ stored honest up.
-    let at = up_is_at g.D.Sectors.sectors g.D.Sectors.history stored _ c.self.invariant.ring up in
-    let last : c.apply.new.map.last ≡ c.append.new.self.last =
-    omega (arith, c.apply.ensures.last, c.in-Ok-append.ensures.number, c.in-Ok-append.ensures.last) in
-    up_with_edit g.D.Sectors.sectors g.D.Sectors.history stored _ c.self.invariant.ring up (put c.args.id (feature_data c.args.feature))
-    c.in-Ok-encode_change.ensures.change _ (c.deref.ensures.value ∙ c.in-Ok-encode_change.ensures.text) c.append.new.disk (c.append.ensures.frame honest)
-    _ refl c.append.ensures.count refl c.append.ensures.same (c.in-Ok-append.ensures.acknowledged (texts_of stored) honest at)
-    (c.apply.ensures.map ∙ ap (λ m. with_feature m.features c.args.id (feature_data c.args.feature)) c.room.ensures.same)
-    (since_on c.self.inside.map c.room.new.self c.apply.new.map c.self.inside.journal.last c.append.new.self.last c.self.invariant.last_is
-    c.room.ensures.same last c.apply.ensures.since)
-    (now_on c.apply.new.map c.append.new.self.last last c.apply.ensures.now) refl refl refl refl refl refl (c.append.ensures.reads honest))
-
-pub returns-in-Err-append-clause-any_moment : goal.returns-in-Err-append-clause-any_moment
-returns-in-Err-append-clause-any_moment g c = rw (ap (λ s. s.disk) c.fail.ensures.same, ← c.self.view_is) (λ stored honest up.
-    let at = up_is_at g.D.Sectors.sectors g.D.Sectors.history stored _ c.self.invariant.ring up in
-    refused_any_moment g.D.Sectors.sectors g.D.Sectors.history stored _ c.self.invariant.ring up (put c.args.id (feature_data c.args.feature))
-    c.in-Ok-encode_change.ensures.change _ (c.deref.ensures.value ∙ c.in-Ok-encode_change.ensures.text) c.append.new.disk (c.append.ensures.frame honest)
-    c.in-Err-append.fault c.fail.result c.fail.ensures.told c.in-Err-append.ensures.refused (c.append.ensures.any_moment (texts_of stored) honest at))
-
-pub returns-in-Err-append-clause-refused : goal.returns-in-Err-append-clause-refused
-returns-in-Err-append-clause-refused g c =
-    let same : c.fail.result ≢ Device → c.fail.new.self ≡ c.args.self.now = search rules in
-    (λ stored honest up other. subst (λ s. IsUp (g.D.Sectors.sectors s.disk) (g.D.Sectors.history s.disk) stored s) (sym (same other)) up)
+pub returns-in-Ok-single_edit-clause-any_moment : goal.returns-in-Ok-single_edit-clause-any_moment
+returns-in-Ok-single_edit-clause-any_moment g c = λ stored honest up.
+    subst (λ (cs : EditData). LeavesOnly (g.D.Sectors.history c.args.self.now.disk) (g.D.Sectors.history c.write_edit.new.self.disk)
+    (EventLeaves (g.D.Sectors.sectors c.args.self.now.disk) c.args.self.now.size stored c.args.self.now.publication
+    (edit single (recorded_in c.args.self.now.version cs) c.write_edit.result)))
+    c.in-Ok-single_edit.ensures.edit (c.write_edit.ensures.any_moment stored single honest up)

@@ -1,4 +1,4 @@
-use Rattle.std.proofs.Common.{◌≡◌, ⊎_elim, ℕ, ◌<◌, ◌+◌, List, [], ◌∷◌, ◌++◌, length, true, false, is_ok, if◌then◌else◌, refl, sym, ◌∙◌, ap, subst}
+use Rattle.std.proofs.Common.{◌≡◌, ⊎_elim, ℕ, ◌+◌, List, [], ◌∷◌, ◌++◌, length, true, false, is_ok, if◌then◌else◌, refl, sym, ◌∙◌, ap, subst}
 use Rattle.std.proofs.Common.{arith, append_assoc, length-append}
 use Rattle.std.proofs.lemmas.Bool.{false≢true}
 use Rattle.std.proofs.lemmas.List.{append-nil}
@@ -8,7 +8,7 @@ use Rattle.std.specs.Vec.{vec_len}
 use Rattle.std.specs.Vec.Iter.{into_iter_items}
 use Rattle.sector_bytes.proofs.Counts.{same_count, failed_risen, risen_on, then_risen}
 use Rattle.sector_disk.specs.Disk.{HasFailed}
-use Rattle.tile_service.specs.Events.{AreTold}
+use Rattle.tile_service.specs.Events.{Tells, AreTold}
 use Rattle.tile_service.specs.declared.event.Answer.TheVariants.{Refused}
 use Rattle.tile_service.specs.declared.fault.ServiceFault.TheVariants.{Device}
 use Rattle.tile_service.proofs.Callers.{run_begins, run_on, takes_run, was_before, broken_on}
@@ -30,7 +30,7 @@ loop-event-init g c = let none = c.in-Ok.ensures.items in record {
   faults = λ none unbroken. refl;
   failed = λ none unbroken broken. absurd (false≢true (sym unbroken ∙ broken));
   untouched = λ broken. (broken, refl);
-  so = ([], subst (λ l. AreTold [] l []) (sym none) tt, run_begins g.D.Sectors.sectors g.D.Sectors.honest g.D.Sectors.history c.args.self.now);
+  so = ([], subst (λ l. AreTold c.args.self.now.version [] l []) (sym none) tt, run_begins g.D.Sectors.sectors g.D.Sectors.honest g.D.Sectors.history c.args.self.now);
 }
 
 pub loop-event-preserved : goal.loop-event-preserved
@@ -47,7 +47,7 @@ loop-event-preserved g c =
     let new = c.answer-answer.new.self in
     let happening = call.takes.0 in
     let goes = call.takes.2 in
-    let no_read = told_no_read event answer happening call.takes.1 in
+    let no_read = told_no_read c.loop-event.self.version event answer happening call.takes.1 in
     let before = was_before g.D.Sectors.sectors g.D.Sectors.honest g.D.Sectors.history c.loop-event.self new happening goes in
     let broken_still = broken_on g.D.Sectors.sectors g.D.Sectors.honest g.D.Sectors.history c.loop-event.self new happening goes in
     record {
@@ -78,8 +78,9 @@ loop-event-preserved g c =
       untouched = λ broken. let was = inv.untouched broken in ((broken_still was.0).0, goes.untouched was.0 no_read ∙ was.1);
       so = (
         inv.so.0 ++ happening ∷ [],
-        subst (λ l. AreTold (yielded ++ event ∷ []) l (inv.so.0 ++ happening ∷ [])) (sym pushed)
-            (told_on yielded given inv.so.0 event answer happening inv.so.1 call.takes.1),
+        subst (λ l. AreTold c.args.self.now.version (yielded ++ event ∷ []) l (inv.so.0 ++ happening ∷ [])) (sym pushed)
+            (told_on c.args.self.now.version yielded given inv.so.0 event answer happening inv.so.1
+            (subst (λ (v : ℕ). Tells v event answer happening) inv.so.2.version call.takes.1)),
         run_on g.D.Sectors.sectors g.D.Sectors.honest g.D.Sectors.history c.args.self.now c.loop-event.self new inv.so.0 happening inv.so.2 goes,
       );
     }
@@ -94,6 +95,6 @@ returns-clause-run g c =
     let empty = nothing_left (into_iter_items c.loop-event.event-iterator) (sym inv.left ∙ c.in-None.ensures.steps.0) in
     let all = sym (append-nil c.loop-event.yielded) ∙ ap (λ l. c.loop-event.yielded ++ l) (sym empty) ∙ inv.items in (
       inv.so.0,
-      subst (λ l. AreTold l c.loop-event.answers.items inv.so.0) all inv.so.1,
+      subst (λ l. AreTold c.args.self.now.version l c.loop-event.answers.items inv.so.0) all inv.so.1,
       takes_run g.D.Sectors.sectors g.D.Sectors.honest g.D.Sectors.history c.args.self.now inv.so.0 c.loop-event.self inv.so.2,
     )

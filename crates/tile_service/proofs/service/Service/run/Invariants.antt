@@ -27,6 +27,6 @@ invariant-loop-event g l = record {
   failed : ¬ AsksTile l.yielded → l.initial.self.broken ≡ false → l.self.broken ≡ true
       → HasFailed (g.D.Sectors.faults l.initial.self.disk) (g.D.Sectors.faults l.self.disk);
   untouched : l.initial.self.broken ≡ true → (l.self.broken ≡ true) × (l.self.disk ≡ l.initial.self.disk);
-  so : (happenings : List Happening) × AreTold l.yielded l.answers.items happenings
+  so : (happenings : List Happening) × AreTold l.initial.self.version l.yielded l.answers.items happenings
       × HasRun g.D.Sectors.sectors g.D.Sectors.honest g.D.Sectors.history l.initial.self happenings l.self;
 }

@@ -1,0 +1,54 @@
+use Rattle.std.proofs.Common.{Err, ◌∙◌, List, map, refl, sym, subst}
+use Rattle.std.specs.List.{All}
+use Rattle.std.proofs.lemmas.Bool.{false≢true}
+use Rattle.feature_model.specs.Data.{change_data}
+use Rattle.feature_model.specs.declared.feature.Change.{Change}
+use Rattle.feature_store.specs.Store.{FeatureMap}
+use Rattle.tile_service.specs.Limits.{KeepsBatchLimits}
+use Rattle.tile_service.specs.Machine.{batched, recorded_in, HasTarget}
+use Rattle.tile_service.specs.declared.fault.ServiceFault.TheVariants.{NeedsUpgrade, NotFound, NumbersSpent}
+use Rattle.tile_service.proofs.Batches.{lacks_from}
+use Rattle.tile_service.proofs.Edits.{same_leaves}
+use Rattle.tile_service.proofs.Steps.{is_later}
+use Rattle.tile_service.proofs.service.Service.batch.Goals as goal
+
+pub returns-then-self-eq-FIRST_VERSION-clause-any_moment : goal.returns-then-self-eq-FIRST_VERSION-clause-any_moment
+returns-then-self-eq-FIRST_VERSION-clause-any_moment g c = rw (← c.self.view_is) (λ stored honest up.
+    same_leaves g.D.Sectors.sectors g.D.Sectors.history stored _ c.self.invariant.ring up batched
+    (recorded_in c.self.inside.version (map change_data c.args.changes.items)) (Err NeedsUpgrade) _ refl)
+
+pub returns-in-Err-clause-any_moment : goal.returns-in-Err-clause-any_moment
+returns-in-Err-clause-any_moment g c = rw (← c.self.view_is) (λ stored honest up.
+    same_leaves g.D.Sectors.sectors g.D.Sectors.history stored _ c.self.invariant.ring up batched
+    (recorded_in c.self.inside.version (map change_data c.args.changes.items)) (Err c.in-Err.fault) _ refl)
+
+pub returns-then-not-has_targets-clause-machine : goal.returns-then-not-has_targets-clause-machine
+returns-then-not-has_targets-clause-machine g c = rw (← c.self.view_is) (λ known.
+    let keeps : KeepsBatchLimits (map change_data c.args.changes.items) =
+    subst (λ (cs : List Change). KeepsBatchLimits (map change_data cs)) c.deref.ensures.value c.in-Ok.ensures.ok in (
+      c.if-self.false,
+      (
+        is_later c.self.inside.version c.self.invariant.version_is c.if-self-eq-FIRST_VERSION.false,
+        (
+          keeps,
+          lacks_from c.self.inside.map.features (map change_data c.args.changes.items) (λ all. false≢true (sym c.if-not-has_targets.true
+              ∙ c.has_targets.ensures.1 (subst (λ (cs : List Change). All (HasTarget c.store.result.now.features) (map change_data cs))
+              (sym c.deref-2.ensures.value)
+              (subst (λ (m : FeatureMap). All (HasTarget m) (map change_data c.args.changes.items)) (sym c.store.ensures.features) all)))),
+        ),
+      ),
+      refl,
+    ))
+
+pub returns-then-not-has_targets-clause-any_moment : goal.returns-then-not-has_targets-clause-any_moment
+returns-then-not-has_targets-clause-any_moment g c = rw (← c.self.view_is) (λ stored honest up.
+    same_leaves g.D.Sectors.sectors g.D.Sectors.history stored _ c.self.invariant.ring up batched
+    (recorded_in c.self.inside.version (map change_data c.args.changes.items)) (Err NotFound) _ refl)
+
+pub returns-then-self-2-clause-any_moment : goal.returns-then-self-2-clause-any_moment
+returns-then-self-2-clause-any_moment g c = rw (← c.self.view_is) (λ stored honest up.
+    same_leaves g.D.Sectors.sectors g.D.Sectors.history stored _ c.self.invariant.ring up batched
+    (recorded_in c.self.inside.version (map change_data c.args.changes.items)) (Err NumbersSpent) _ refl)
+
+pub returns-clause-any_moment : goal.returns-clause-any_moment
+returns-clause-any_moment g c = λ stored honest up. c.write_edit.ensures.any_moment stored batched honest up

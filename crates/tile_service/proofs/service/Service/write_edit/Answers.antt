@@ -1,0 +1,92 @@
+use Rattle.std.proofs.Common.{◌≡◌, Ok, Err, ◌≢◌, ◌∙◌, ℕ, List, refl, sym, ap, subst, arith, rules, length}
+use Rattle.edit_journal.specs.Records.{IsRecordLength, parts_of, record_of}
+use Rattle.edit_journal.specs.Ring.{Ring}
+use Rattle.edit_text.specs.Recorded.{IsRecorded, text_in}
+use Rattle.feature_model.specs.Data.{edit_data}
+use Rattle.feature_store.specs.Store.{edited, snapshot}
+use Rattle.tile_service.specs.Machine.{recorded_in}
+use Rattle.tile_service.specs.Service.{IsUp}
+use Rattle.tile_service.specs.Stored.{stored_records}
+use Rattle.tile_service.specs.declared.fault.ServiceFault.TheVariants.{Memory, Device}
+use Rattle.tile_service.proofs.Earlier.{since_on, now_on}
+use Rattle.tile_service.proofs.Edits.{up_is_at, same_leaves, append_any_moment, refused_any_moment, up_with_edit}
+use Rattle.tile_service.proofs.Going.{service_on}
+use Rattle.tile_service.proofs.Steps.{text_length, short_after_edit, short_enough}
+use Rattle.tile_service.proofs.service.Service.write_edit.Goals as goal
+
+pub returns-in-Err-clause-any_moment : goal.returns-in-Err-clause-any_moment
+returns-in-Err-clause-any_moment g c = rw (← c.self.view_is) (λ stored call honest up.
+    same_leaves g.D.Sectors.sectors g.D.Sectors.history stored _ c.self.invariant.ring up call (recorded_in c.self.inside.version (edit_data c.args.requested))
+    (Err Memory) _ refl)
+
+pub returns-in-Err-room_all-clause-any_moment : goal.returns-in-Err-room_all-clause-any_moment
+returns-in-Err-room_all-clause-any_moment g c = rw (← c.self.view_is) (λ stored call honest up.
+    same_leaves g.D.Sectors.sectors g.D.Sectors.history stored _ c.self.invariant.ring up call (recorded_in c.self.inside.version (edit_data c.args.requested))
+    (Err Memory) _ refl)
+
+pub append-requires-clause-text : goal.append-requires-clause-text
+append-requires-clause-text g c = subst (λ (t : List ℕ). IsRecordLength c.self.inside.version (length t))
+    (sym (c.deref-2.ensures.value ∙ c.in-Ok.ensures.text))
+    (text_length c.self.inside.version (edit_data c.args.requested) c.self.invariant.version_is c.requires.allowed)
+
+pub make_edit-requires-clause-texts : goal.make_edit-requires-clause-texts
+make_edit-requires-clause-texts g c = rw (ap (λ m. m.features) c.room_all.ensures.same)
+    (short_enough c.self.inside.map.features (edit_data c.args.requested) c.self.inside.layout.sectors c.self.inside.journal.used c.self.inside.layout.size.1
+    (omega (arith, c.self.inside.journal.room, ap (λ (r : Ring). r.places) c.self.invariant.ring)) c.self.invariant.texts c.requires.allowed)
+
+pub invariant_of-self-in-Ok-append : goal.invariant_of-self-in-Ok-append
+invariant_of-self-in-Ok-append g c =
+    let version = c.self.inside.version in
+    let text : c.deref-2.result.now ≡ text_in version (edit_data c.args.requested) = c.deref-2.ensures.value ∙ c.in-Ok.ensures.text in
+    let later = c.make_edit.ensures.map ∙ ap (λ m. edited m.features (edit_data c.args.requested)) c.room_all.ensures.same in
+    service_on c.self.inside.layout.sectors version c.self.inside.root c.self.inside.journal c.append.new.self c.append.ensures.same.0 c.append.ensures.same.1
+    (length c.deref-2.result.now)
+    (subst (λ (t : List ℕ). IsRecordLength version (length t)) (sym text)
+    (text_length version (edit_data c.args.requested) c.self.invariant.version_is c.requires.allowed))
+    c.in-Ok-append.ensures.used c.in-Ok-append.ensures.last c.self.inside.map c.make_edit.new.self
+    (omega (arith, c.make_edit.ensures.last, c.in-Ok-append.ensures.number, c.in-Ok-append.ensures.last))
+    (λ area places was. omega (
+      arith,
+      ap (λ m. length (snapshot m)) later,
+      ap (λ (t : List ℕ). parts_of (length t)) text,
+      short_after_edit version c.self.inside.map.features (edit_data c.args.requested) area places c.self.invariant.version_is was,
+    ))
+    _ _ _ c.append.ensures.count c.self.invariant
+
+pub returns-in-Ok-append-clause-any_moment : goal.returns-in-Ok-append-clause-any_moment
+returns-in-Ok-append-clause-any_moment g c = rw (← c.self.view_is) (λ stored call honest up.
+    let version = c.self.inside.version in
+    let recorded : IsRecorded (recorded_in version (edit_data c.args.requested)) = record { fits = c.in-Ok.ensures.record.fits; edit = c.in-Ok.ensures.record.edit } in
+    let at = up_is_at g.D.Sectors.sectors g.D.Sectors.history stored _ c.self.invariant.ring up in
+    append_any_moment g.D.Sectors.sectors g.D.Sectors.history stored _ c.self.invariant.ring up (recorded_in version (edit_data c.args.requested)) recorded refl
+    _ (ap (record_of version) (c.deref-2.ensures.value ∙ c.in-Ok.ensures.text)) c.append.new.disk (c.append.ensures.frame honest)
+    call (Ok c.in-Ok-append.number) tt (c.append.ensures.any_moment (stored_records stored) honest at))
+
+pub returns-in-Ok-append-clause-acknowledged : goal.returns-in-Ok-append-clause-acknowledged
+returns-in-Ok-append-clause-acknowledged g c = rw (← c.self.view_is) (λ stored honest up.
+    let version = c.self.inside.version in
+    let recorded : IsRecorded (recorded_in version (edit_data c.args.requested)) = record { fits = c.in-Ok.ensures.record.fits; edit = c.in-Ok.ensures.record.edit } in
+    let at = up_is_at g.D.Sectors.sectors g.D.Sectors.history stored _ c.self.invariant.ring up in
+    let last : c.make_edit.new.self.last ≡ c.append.new.self.last =
+    omega (arith, c.make_edit.ensures.last, c.in-Ok-append.ensures.number, c.in-Ok-append.ensures.last) in
+    up_with_edit g.D.Sectors.sectors g.D.Sectors.history stored _ c.self.invariant.ring up (recorded_in version (edit_data c.args.requested)) recorded refl
+    _ (ap (record_of version) (c.deref-2.ensures.value ∙ c.in-Ok.ensures.text)) c.append.new.disk (c.append.ensures.frame honest)
+    _ refl c.append.ensures.count refl c.append.ensures.same (c.in-Ok-append.ensures.acknowledged (stored_records stored) honest at)
+    (c.make_edit.ensures.map ∙ ap (λ m. edited m.features (edit_data c.args.requested)) c.room_all.ensures.same)
+    (since_on c.self.inside.map c.room_all.new.self c.make_edit.new.self c.self.inside.journal.last c.append.new.self.last c.self.invariant.last_is
+    c.room_all.ensures.same last c.make_edit.ensures.since)
+    (now_on c.make_edit.new.self c.append.new.self.last last c.make_edit.ensures.now) refl refl refl refl refl refl refl (c.append.ensures.reads honest))
+
+pub returns-in-Err-append-clause-any_moment : goal.returns-in-Err-append-clause-any_moment
+returns-in-Err-append-clause-any_moment g c = rw (ap (λ s. s.disk) c.fail.ensures.same, ← c.self.view_is) (λ stored call honest up.
+    let version = c.self.inside.version in
+    let recorded : IsRecorded (recorded_in version (edit_data c.args.requested)) = record { fits = c.in-Ok.ensures.record.fits; edit = c.in-Ok.ensures.record.edit } in
+    let at = up_is_at g.D.Sectors.sectors g.D.Sectors.history stored _ c.self.invariant.ring up in
+    refused_any_moment g.D.Sectors.sectors g.D.Sectors.history stored _ c.self.invariant.ring up (recorded_in version (edit_data c.args.requested)) recorded refl
+    _ (ap (record_of version) (c.deref-2.ensures.value ∙ c.in-Ok.ensures.text)) c.append.new.disk (c.append.ensures.frame honest)
+    call c.in-Err-append.fault c.fail.result c.fail.ensures.told c.in-Err-append.ensures.refused (c.append.ensures.any_moment (stored_records stored) honest at))
+
+pub returns-in-Err-append-clause-refused : goal.returns-in-Err-append-clause-refused
+returns-in-Err-append-clause-refused g c =
+    let same : c.fail.result ≢ Device → c.fail.new.self ≡ c.args.self.now = search rules in
+    (λ stored honest up other. subst (λ s. IsUp (g.D.Sectors.sectors s.disk) (g.D.Sectors.history s.disk) stored s) (sym (same other)) up)
