@@ -17,11 +17,12 @@ import tempfile
 from collections import Counter
 from pathlib import Path
 
-from commands import Cases, vtserve
+from commands import Cases, refusal, vtserve
 
 sys.path.append(str(Path(__file__).resolve().parent / "model"))
 import disk as model
 from disk import Change, Root
+from disk_faults import AREAS, EMPTY, FORMATS, JOURNAL, RECORDS, ROOTS, SNAPSHOT, TEXT, at, no_texts
 from map_archive import archive_of
 from tiles import feature, tile
 
@@ -38,10 +39,21 @@ def request(method, path, body=b""):
     return b"%s %s HTTP/1.1\r\nhost: x\r\ncontent-length: %d\r\n\r\n%s" % (method.encode(), path.encode(), len(body), body)
 
 
+def json_of(value):
+    return json.dumps(value, separators=(",", ":")).encode()
+
+
+def change_json(made):
+    return {"delete": made.number} if made.feature is None else {"put": made.number, "feature": made.feature}
+
+
 def edit_request(made):
+    """The request of a change alone, or of a list of changes."""
+    if isinstance(made, list):
+        return request("POST", "/edits", json_of({"changes": [*map(change_json, made)]}))
     if made.feature is None:
         return request("DELETE", f"/features/{made.number}")
-    return request("PUT", f"/features/{made.number}", json.dumps(made.feature, separators=(",", ":")).encode())
+    return request("PUT", f"/features/{made.number}", json_of(made.feature))
 
 
 def tile_request(place):
@@ -82,19 +94,22 @@ def tiles_near(found):
 class Machine:
     """What a service over a disk has, and what it answers."""
 
-    def __init__(self, found, last, free):
-        self.map, self.last, self.free, self.made = dict(found), last, free, []
+    def __init__(self, found, last, free, version=model.LAST_VERSION):
+        self.map, self.last, self.free, self.version, self.made = dict(found), last, free, version, []
 
     def edit(self, made):
-        need = model.parts_of(len(model.text_of(made)))
-        if made.feature is None and made.number not in self.map:
+        if isinstance(made, list) and self.version == model.FIRST_VERSION:
+            return 409, "NeedsUpgrade\n"
+        record = model.Record(self.version, made if isinstance(made, list) else [made])
+        need = model.parts_of(len(model.record_text(record)))
+        if any(change.feature is None and change.number not in self.map for change in record.changes):
             return 404, "NotFound\n"
         if self.last == model.LAST_NUMBER:
             return 500, "NumbersSpent\n"
         if need > self.free:
             return 507, f"JournalFull need {need} free {self.free}\n"
-        self.map = model.after(self.map, [made])
-        self.last, self.free, self.made = self.last + 1, self.free - need, [*self.made, made]
+        self.map = model.after(self.map, [record])
+        self.last, self.free, self.made = self.last + 1, self.free - need, [*self.made, record]
         return 200, '{"edit":%d}' % self.last
 
 
@@ -108,7 +123,7 @@ def outcome(held):
         disk = model.read_disk(held)
     except model.Fault as fault:
         return [str(fault)]
-    return [disk.root.edits + len(disk.edits), disk.layout.places - disk.used, *map_lines(model.map_of(disk))]
+    return [disk.root.edits + len(disk.records), disk.layout.places - disk.used, *map_lines(model.map_of(disk))]
 
 
 def different(rows):
@@ -137,7 +152,7 @@ def serve(cases, name, path, machine, edits):
     rows = [("the process", [status, told], [0, b""])]
     rows.append(("replies", replies(written), wanted + [shown(machine.map, place) for place in places]))
     left = Path(path).read_bytes()
-    rows.append(("bytes", left, model.with_edits(before, machine.made)))
+    rows.append(("bytes", left, model.with_records(before, machine.made)))
     rows.append(("the map", outcome(left), [machine.last, machine.free, *map_lines(machine.map)]))
     cases.show(f"{name}: {len(machine.made)} edits, a map of {len(machine.map)}, {machine.free} places left", different(rows), [])
 
@@ -150,6 +165,11 @@ def of_length(length):
     short = len(model.text_of(Change(1, feature({"points": [[1, 2]]}, tags={"t": "", "u": ""}))))
     first = (length - short) // 2
     return feature({"points": [[1, 2]]}, tags={"t": "t" * first, "u": "u" * (length - short - first)})
+
+
+def of_record(length):
+    """A feature whose PUT on a disk of version 2 has a record with a text of this length, a byte more than that of the change."""
+    return of_length(length - 1)
 
 
 def square(x, y, side):
@@ -168,7 +188,7 @@ def chosen():
     yield feature({"points": [[2**31, 2**31]]}, tags={f"{index:02}" + "k" * 62: "v" * 200 for index in range(64)})
     yield feature({"points": [[2**31, 2**31]]}, tags={"\uffff": 1, "\U00010000": 2, "a": 3, "\0": 4, "a\0": 5})
     for length in (496, 497, 992, 993):
-        yield of_length(length)
+        yield of_record(length)
     yield feature({"points": [[index, index] for index in range(4093)]}, maxzoom=1, tags={"t": "uu"})
 
 
@@ -194,9 +214,17 @@ def any_feature(source):
     return feature(geometry, first, source.randrange(first, 15), source.choice(["p", "roads", "ж"]), tags)
 
 
+NUMBERS = [*range(12), *(2**63 - 1 - number for number in range(4))]
+
+
 def any_edit(source):
-    number = source.choice([source.randrange(12), 2**63 - 1 - source.randrange(4)])
-    return Change(number, any_feature(source) if source.random() < 0.7 else None)
+    return Change(source.choice(NUMBERS), any_feature(source) if source.random() < 0.7 else None)
+
+
+def any_batch(source):
+    """Changes of different numbers; few are deletions, which are refused where a feature is gone."""
+    numbers = source.sample(NUMBERS, source.randrange(1, 9))
+    return [Change(number, any_feature(source) if source.random() < 0.9 else None) for number in numbers]
 
 
 # ---- what the program leaves
@@ -220,6 +248,12 @@ def leaves(cases, folder):
     machine, source = fresh(path, 4096), random.Random(7)
     for process in range(12):
         serve(cases, f"edits at random, process {process + 1}", path, machine, [any_edit(source) for _ in range(25)])
+    path = os.path.join(folder, "batches")
+    machine, source = fresh(path, 4096), random.Random(8)
+    for process in range(8):
+        made = [any_batch(source) if source.random() < 0.6 else any_edit(source) for _ in range(20)]
+        serve(cases, f"batches at random, process {process + 1}", path, machine, made)
+    serve(cases, "64 changes", path, machine, [[Change(number, POINT) for number in range(100, 164)], [Change(number, None) for number in range(100, 164)]])
 
 
 def fills(cases, folder):
@@ -227,9 +261,9 @@ def fills(cases, folder):
     path = os.path.join(folder, "full")
     machine = fresh(path, 67)
     serve(cases, "a ring of 16 places", path, machine, [Change(number, POINT) for number in range(13)])
-    serve(cases, "4 parts for 3 places", path, machine, [Change(20, of_length(1489)), Change(21, of_length(496)), Change(22, of_length(993))])
-    serve(cases, "2 parts for 2 places", path, machine, [Change(23, of_length(992))])
-    serve(cases, "no place", path, machine, [Change(24, POINT), Change(1, POINT), Change(1, None), Change(99, None)])
+    serve(cases, "4 parts for 3 places", path, machine, [Change(20, of_record(1489)), Change(21, of_record(496)), Change(22, of_record(993))])
+    serve(cases, "2 parts for 2 places", path, machine, [Change(23, of_record(992))])
+    serve(cases, "no place", path, machine, [Change(24, POINT), Change(1, POINT), Change(1, None), Change(99, None), [Change(1, POINT), Change(2, POINT)]])
 
 
 def refused(cases, folder):
@@ -262,7 +296,12 @@ def small_edits(count):
 
 def across():
     """Edits whose records take 7 places, of which the second has 3."""
-    return [Change(1, POINT), Change(2, of_length(1489 - 496)), Change(3, POINT), Change(1, None), Change(4, of_length(496))]
+    return [Change(1, POINT), Change(2, of_record(993)), Change(3, POINT), Change(1, None), Change(4, of_record(496))]
+
+
+def records_of(edits, versions=(2,)):
+    """The records of edits of one change, of these versions in turn."""
+    return [model.single(made, versions[index % len(versions)]) for index, made in enumerate(edits)]
 
 
 def journals():
@@ -304,27 +343,52 @@ def strewn(held):
     """The disk with sectors in free places that no reader takes for its own: heads of the numbers so far, bodies of the next."""
     found = model.read_disk(held)
     disk = bytearray(held)
-    last, end = found.root.edits + len(found.edits), found.root.journal_at + found.used
+    last, end = found.root.edits + len(found.records), found.root.journal_at + found.used
     for offset in range(found.layout.places - found.used):
-        begun = model.front(offset, (last + 1) % 2**64, 32768) if offset % 2 else model.front(0, max(last - offset, 0), 25)
+        version = 1 + offset // 2 % 2
+        begun = model.front(offset, (last + 1) % 2**64, 32768, version) if offset % 2 else model.front(0, max(last - offset, 0), 25, version)
         model.put_at(disk, found.layout.place(end + offset), begun + other_bytes(496))
     return bytes(disk)
 
 
-def serves(cases, folder, mark, rows):
-    """Disks of another maker: their tiles, edits on top, by two processes each."""
+def serves(cases, folder, mark, rows, version=2, versions=(2,)):
+    """Disks of another maker, of a version and with records of these versions: their tiles, edits on top, by two processes each."""
     path = os.path.join(folder, "foreign")
     for name, sectors, generation, snapshot, edits, archive, journal_at, before, older in rows:
-        held = model.write_disk(sectors, generation, snapshot, edits, archive, journal_at, before, other_bytes, older)
+        records = records_of(edits, versions)
+        held = model.write_disk(sectors, generation, snapshot, records, archive, journal_at, before, other_bytes, older, version)
         disk = model.read_disk(held)
-        found = model.after(snapshot, edits)
-        rows = [("the map", map_lines(model.map_of(disk)), map_lines(found)), ("edits", disk.edits, edits)]
+        found = model.after(snapshot, records)
+        rows = [("the map", map_lines(model.map_of(disk)), map_lines(found)), ("records", disk.records, records)]
         cases.show(f"{mark}{name}: the model reads what it wrote", different(rows), [])
         for filled, more in [("", b""), (", other heads and bodies, a longer file", other_bytes(1333))]:
             written_to(path, (strewn(held) if more else held) + more)
-            machine = Machine(found, before + len(edits), disk.layout.places - disk.used)
-            serve(cases, f"{mark}{name}{filled}", path, machine, [Change(900, LATER), Change(2, None), Change(1, of_length(497))])
-            serve(cases, f"{mark}{name}{filled}, again", path, machine, [Change(900, None), Change(3, POINT), Change(4, POINT), Change(4, None)])
+            machine = Machine(found, before + len(edits), disk.layout.places - disk.used, version)
+            serve(cases, f"{mark}{name}{filled}", path, machine, [Change(900, LATER), Change(2, None), Change(1, of_record(497))])
+            made = [Change(900, None), Change(3, POINT), Change(4, POINT), [Change(5, POINT), Change(3, LATER)], Change(4, None)]
+            serve(cases, f"{mark}{name}{filled}, again", path, machine, made)
+
+
+def upgrades(cases, folder):
+    """Disks of version 1 that are upgraded, twice: only sector 0 changes, and the next edits are of version 2."""
+    path = os.path.join(folder, "upgraded")
+    for name, sectors, generation, snapshot, edits, archive, journal_at, before, older in journals():
+        records = records_of(edits, (1,))
+        held = model.write_disk(sectors, generation, snapshot, records, archive, journal_at, before, other_bytes, older, 1)
+        written_to(path, held)
+        outcomes = [vtserve(["upgrade", path]) for _ in range(2)]
+        upgraded = model.format_sector(sectors) + held[model.SECTOR :]
+        rows = [("upgrade", outcomes, [(0, b"version 2\n", b"")] * 2), ("bytes", Path(path).read_bytes(), upgraded)]
+        cases.show(f"[upgraded] {name}: the upgrade", different(rows), [])
+        disk = model.read_disk(upgraded)
+        machine = Machine(model.map_of(disk), before + len(edits), disk.layout.places - disk.used)
+        serve(cases, f"[upgraded] {name}", path, machine, [[Change(900, LATER), Change(901, POINT)], Change(2, None), [Change(901, None)]])
+    faults = [("zeros", bytes(64 * model.SECTOR), b"NotFormatted"), ("no bytes", b"", b"NotFormatted"), ("version 3", changed(whole(), [(8, 1)]), b"Damaged")]
+    for name, held, fault in [*faults, ("a sector less than it says", whole()[: -model.SECTOR], b"Damaged")]:
+        written_to(path, held)
+        rows = [("upgrade", vtserve(["upgrade", path]), refusal(fault)), ("bytes", Path(path).read_bytes(), held)]
+        cases.show(f"[upgraded] {name}", different(rows), [])
+    cases.show("[upgraded] no file", different([("upgrade", vtserve(["upgrade", os.path.join(folder, "none")]), refusal(b"File"))]), [])
 
 
 # ---- broken disks
@@ -363,167 +427,34 @@ def judged(path, held, wanted):
 # A disk of 256 sectors with 64 places and areas of 94 sectors. Its five records begin in the sectors 65, 66, 5, 6 and 7, the second
 # goes on in 3 and 4. The other root, of generation 1, has an empty map.
 def whole(snapshot=(), archive=b"", before=0):
-    return model.write_disk(256, 2, dict(snapshot), across(), archive, 62, before, other_bytes, Root(1, before, 5, 0, 0))
-
-
-def at(sector, offset):
-    return model.SECTOR * sector + offset
-
-
-def eight(number):
-    return model.spelled(number, 8)
-
-
-NOT, SIZE, ROOT = "NotFormatted", "Damaged(Size)", "Damaged(RootSector)"
-SNAPSHOT, JOURNAL, TEXT = "Damaged(Snapshot)", "Damaged(Journal)", "Damaged(Text)"
-EMPTY, ALL = "empty", 5
-ZEROS = bytes(model.SECTOR)
-
-# What is changed, and what follows: a fault, the empty map of the other root, or a map with so many of the five edits.
-FORMATS = [
-    ("format: the first byte of the mark", NOT, (0, 1)),
-    ("format: the last byte of the mark", NOT, (7, 1)),
-    ("format: the version", SIZE, (8, 3)),
-    ("format: the last byte of the version", SIZE, (11, 1)),
-    ("format: no sectors", SIZE, (12, eight(0))),
-    ("format: 63 sectors", SIZE, (12, eight(63))),
-    ("format: a sector more than there are", SIZE, (12, eight(257))),
-    ("format: 16,777,217 sectors", SIZE, (12, eight(16777217))),
-    ("format: the last byte of the sectors", SIZE, (19, 1)),
-    ("format: the first byte behind", SIZE, (20, 1)),
-    ("format: the last byte", SIZE, (511, 128)),
-]
-ROOTS = [
-    ("root: the first byte of the mark", ROOT, (at(1, 0), 1)),
-    ("root: the last byte of the mark", ROOT, (at(1, 7), 3)),
-    ("root: an odd generation", ROOT, (at(1, 8), 1)),
-    ("root: generation 0, below the other one's", EMPTY, (at(1, 8), 2)),
-    ("root: generation 6", ALL, (at(1, 8), 4)),
-    ("root: generation 2^63 + 2", ALL, (at(1, 15), 128)),
-    ("root: the next place", 0, (at(1, 24), 1)),
-    ("root: a place behind the last", ROOT, (at(1, 24), eight(64))),
-    ("root: the last byte of the place", ROOT, (at(1, 31), 1)),
-    ("root: a snapshot a byte longer than the area", ROOT, (at(1, 32), eight(94 * 512 + 1) + eight(0))),
-    ("root: a snapshot of 2^64 - 1 bytes", ROOT, (at(1, 32), eight(2**64 - 1))),
-    ("root: an archive a byte longer than the area", ROOT, (at(1, 32), eight(0) + eight(94 * 512 + 1))),
-    ("root: an archive of 2^64 - 1 bytes", ROOT, (at(1, 40), eight(2**64 - 1))),
-    ("root: both together a sector longer than the area", ROOT, (at(1, 32), eight(1) + eight(93 * 512 + 1))),
-    ("root: lengths whose sum is 2^64", ROOT, (at(1, 32), eight(2**63) + eight(2**63))),
-    ("root: the first byte behind", ROOT, (at(1, 48), 1)),
-    ("root: the last byte", ROOT, (at(1, 511), 128)),
-    ("root: zeros, so that the other one counts", EMPTY, (at(1, 0), ZEROS)),
-    ("root: zeros in both sectors", ROOT, (at(1, 0), ZEROS), (at(2, 0), ZEROS)),
-    ("root: the other one's sector with zeros", ALL, (at(2, 0), ZEROS)),
-    ("root: the mark of the other one", ROOT, (at(2, 3), 1)),
-    ("root: an even generation of the other one", ROOT, (at(2, 8), 1)),
-    ("root: generation 3 of the other one", EMPTY, (at(2, 8), 2)),
-    ("root: a place of the other one behind the last", ROOT, (at(2, 24), eight(64))),
-    ("root: the last byte of the other one", ROOT, (at(2, 511), 1)),
-]
-RECORDS = [
-    ("head: another kind", 1, (at(66, 0), 1)),
-    ("head: the kind of a body", 1, (at(66, 0), 3)),
-    ("head: another version", 1, (at(66, 1), 3)),
-    ("head: no parts", JOURNAL, (at(66, 2), b"\0\0")),
-    ("head: a part less", JOURNAL, (at(66, 2), b"\2\0")),
-    ("head: a part more", JOURNAL, (at(66, 2), b"\4\0")),
-    ("head: 256 parts more", JOURNAL, (at(66, 3), 1)),
-    ("head: another number", 1, (at(66, 4), 1)),
-    ("head: the last byte of the number", 1, (at(66, 11), 128)),
-    ("head: no text", JOURNAL, (at(66, 12), bytes(4))),
-    ("head: no text and no parts", JOURNAL, (at(66, 2), bytes(2)), (at(66, 12), bytes(4))),
-    ("head: a text of two parts", JOURNAL, (at(66, 12), model.spelled(992, 4))),
-    ("head: a text a byte longer", JOURNAL, (at(66, 12), model.spelled(994, 4))),
-    ("head: the last byte of the length", JOURNAL, (at(66, 15), 1)),
-    ("head: a text of 32,769 bytes", JOURNAL, (at(66, 2), b"\x43\0"), (at(66, 12), model.spelled(32769, 4))),
-    *((f"body {part}: {name}", JOURNAL, (at(2 + part, offset), 1)) for part in (1, 2) for name, offset in [
-        ("the kind", 0), ("the version", 1), ("which part", 2), ("the last byte of which part", 3), ("the number", 4),
-        ("the last byte of the number", 11), ("the length", 12), ("the last byte of the length", 15)]),
-    ("body: the kind of a head", JOURNAL, (at(3, 0), 3)),
-    ("behind the text", ALL, (at(4, 17), 1), (at(4, 511), 128)),
-    ("the last record a byte shorter", TEXT, (at(7, 12), model.spelled(495, 4))),
-    ("the first record a byte longer", TEXT, (at(65, 12), 1 + 25 ^ 25)),
-    ("the last record of two parts", JOURNAL, (at(7, 2), b"\2\0"), (at(7, 12), model.spelled(497, 4))),
-    ("the last record of more parts than places left", JOURNAL, (at(7, 2), b"\x3b\0"), (at(7, 12), model.spelled(58 * 496 + 1, 4))),
-    ("the kind of an edit", TEXT, (at(65, 16), 4)),
-    ("a text and the record behind it", JOURNAL, (at(65, 16), 4), (at(3, 0), 1)),
-    ("the mark and all else", NOT, (0, 1), (9, 1), (at(1, 0), 1), (at(65, 16), 4)),
-    ("the format, a root and a record", SIZE, (8, 1), (at(1, 0), 1), (at(3, 0), 1)),
-    ("a root, a record and a text", ROOT, (at(1, 0), 1), (at(3, 0), 1), (at(65, 16), 4)),
-]
-
-# The same of a disk with a snapshot of 75 bytes, an archive of 700 and 1,000 edits before; area 0 begins in sector 67.
-AREAS = [
-    ("a number of earlier edits that isn't that of the journal", 0, (at(1, 16), 1)),
-    ("the last byte of the earlier edits", 0, (at(1, 23), 1)),
-    ("a snapshot a byte shorter", SNAPSHOT, (at(1, 32), eight(74))),
-    ("a snapshot a byte longer", SNAPSHOT, (at(1, 32), eight(76))),
-    ("a snapshot up to the archive's last place", SNAPSHOT, (at(1, 32), eight(92 * 512))),
-    ("a snapshot a byte longer than that", ROOT, (at(1, 32), eight(92 * 512 + 1))),
-    ("an archive of no bytes", ALL, (at(1, 40), eight(0))),
-    ("an archive up to the area's end", ALL, (at(1, 40), eight(93 * 512))),
-    ("an archive a byte longer", ROOT, (at(1, 40), eight(93 * 512 + 1))),
-    ("a byte of the archive", ALL, (at(68, 0), 255)),
-    ("a byte behind the snapshot", ALL, (at(67, 75), 255)),
-    ("the kind of an edit in the snapshot", SNAPSHOT, (at(67, 25), 2)),
-    ("a DELETE in the snapshot", SNAPSHOT, (at(67, 50), 3)),
-    ("a number of the snapshot again", SNAPSHOT, (at(67, 26), 2 ^ 4)),
-    ("a number of the snapshot below that before it", SNAPSHOT, (at(67, 26), 1 ^ 4)),
-    ("a snapshot, a record and a text", SNAPSHOT, (at(67, 0), 4), (at(3, 0), 1), (at(65, 16), 4)),
-    ("a root and a snapshot", ROOT, (at(2, 0), 1), (at(67, 0), 4)),
-]
+    return model.write_disk(256, 2, dict(snapshot), records_of(across()), archive, 62, before, other_bytes, Root(1, before, 5, 0, 0))
 
 
 def breaks(cases, folder, mark, held, snapshot, rows):
     """A field changed at a time."""
     path = os.path.join(folder, "broken")
-    cases.show(f"{mark}the whole disk", judged(path, held, model.after(snapshot, across())), [])
+    cases.show(f"{mark}the whole disk", judged(path, held, model.after(snapshot, records_of(across()))), [])
     for name, wanted, *changes in rows:
         if wanted == EMPTY:
             wanted = {}
         elif isinstance(wanted, int):
-            wanted = model.after(snapshot, across()[:wanted])
+            wanted = model.after(snapshot, records_of(across())[:wanted])
         cases.show(f"{mark}{name}", judged(path, changed(held, changes), wanted), [])
 
 
-# ---- texts of no edit
+# ---- texts of no change
 
 
-def put_text(number=eight(7), layer=b"\1p", zooms=b"\0\2", geometry=b"\1" + b"\1\0" + bytes(8), tags=b"\0"):
-    return b"\1" + number + layer + zooms + geometry + tags
-
-
-def tags_text(*tags):
-    return put_text(tags=bytes([len(tags)]) + b"".join(tags))
-
-
-def no_texts():
-    """Texts of no edit."""
-    good, two = put_text(), b"\2\0" + bytes(16)
-    yield from [("kind 0", b"\0" + good[1:]), ("kind 3", b"\3" + good[1:]), ("number 2^63", put_text(number=eight(2**63)))]
-    for layer in [b"\0", b"\x41" + b"l" * 65, b"\1\xff", b"\3\xed\xa0\x80", b"\2\xc0\x80", b"\4\xf4\x90\x80\x80"]:
-        yield f"layer {layer[:5].hex()}", put_text(layer=layer)
-    yield from [(f"zooms {zooms.hex()}", put_text(zooms=zooms)) for zooms in (b"\3\2", b"\0\x11", b"\x11\x11")]
-    kinds = [(b"\0" + two, "kind 0"), (b"\4" + two, "kind 4"), (b"\1\0\0", "no point"), (b"\2\0\0", "no line"), (b"\3\0\0", "no polygon")]
-    kinds += [(b"\2\1\0\1\0" + bytes(8), "a line of one point"), (b"\2\1\0\0\0", "a line of none"), (b"\3\1\0\0\0", "no ring")]
-    yield from [(f"geometry: {name}", put_text(geometry=geometry)) for geometry, name in kinds]
-    yield "a ring of two points", put_text(geometry=b"\3\1\0\1\0" + two)
-    yield "65 tags", tags_text(*(b"\2%02d\4" % index for index in range(65)))
-    for key in [b"\0", b"\x41" + b"k" * 65, b"\1\x80"]:
-        yield f"key {key[:3].hex()}", tags_text(key + b"\4")
-    pairs = [(b"\1a", b"\1a"), (b"\1b", b"\1a"), (b"\2ab", b"\1a"), (b"\1a", b"\1Z")]
-    yield from [(f"keys {first.hex()} and {second.hex()}", tags_text(first + b"\4", second + b"\5")) for first, second in pairs]
-    values = [b"\0", b"\6", b"\1\1\4" + b"v" * 1025, b"\1\1\0\xff", b"\3" + eight(0), b"\3" + eight(2**63 - 1)]
-    yield from [(f"value {value[:4].hex()}", tags_text(b"\1a" + value)) for value in values]
-    yield "a byte behind a PUT", good + b"\0"
-    yield "a byte behind a DELETE", b"\2" + eight(7) + b"\0"
-
-
-def in_journal(text):
+def in_journal(text, version=1):
     """A disk whose journal is the record of a text."""
     disk = bytearray(model.write_disk(512, 2, {}, [], b"", 126, 0, other_bytes))
-    model.put_records(disk, model.Layout(512), 126, 1, [text], other_bytes)
+    model.put_records(disk, model.Layout(512), 126, 1, [(version, text)], other_bytes)
     return bytes(disk)
+
+
+def in_batch(text):
+    """A disk whose journal is the record of a batch of one change with this text."""
+    return in_journal(b"\1" + text, 2)
 
 
 def in_snapshot(text, archive=b""):
@@ -537,7 +468,7 @@ def in_snapshot(text, archive=b""):
 
 
 def misspelled(cases, folder, mark, disk_of, fault):
-    """Texts of no edit, in the journal or in the snapshot."""
+    """Texts of no change, in the journal or in the snapshot."""
     path = os.path.join(folder, "misspelled")
     tags = {"a": "text", "b": -1, "c": 1, "d": True}
     good = Change(7, feature({"polygons": [[square(5, 6, 2**30)]]}, tags=tags))
@@ -581,6 +512,7 @@ def broken(cases, folder):
     held, snapshot = whole(), {2: POINT, 4: POINT, 6: POINT}
     breaks(cases, folder, "", held, {}, FORMATS + ROOTS + RECORDS)
     misspelled(cases, folder, "in the journal: ", in_journal, TEXT)
+    misspelled(cases, folder, "in a batch: ", in_batch, TEXT)
     records = [0, 1, 2, 3, 4, 5, 6, 7, 65, 66]
     at_random(cases, folder, "", held, records, [*range(16, 24), *range(32, 48)])
     held = whole(snapshot, other_bytes(700), 1000)
@@ -597,6 +529,9 @@ def main():
         refused(cases, folder)
         serves(cases, folder, "", journals())
         serves(cases, folder, "[area] ", areas())
+        serves(cases, folder, "[version 1] ", journals(), 1, (1,))
+        serves(cases, folder, "[records of both versions] ", journals(), 2, (1, 2))
+        upgrades(cases, folder)
         broken(cases, folder)
     return 1 if cases.differ else 0
 

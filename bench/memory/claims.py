@@ -67,7 +67,7 @@ def disks():
     yield "sectors", bytes(held)
     held = bytearray(disk.write_disk(64, 0, {}, [], b"", 0))
     disk.put_records(held, disk.Layout(64), 0, 1, [(2, b"\x01\x02" + disk.spelled(7, 8))])
-    disk.put_at(held, disk.Layout(64).place(0) + 0, disk.front(2, 0, 1, disk.longest(2)))
+    disk.put_at(held, disk.Layout(64).place(0), disk.front(0, 1, disk.LONGEST_OF[2], 2))
     yield "bytes of a record", bytes(held)
 
 

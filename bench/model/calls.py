@@ -43,20 +43,20 @@ def install(disk, root):
     write_and_sync(disk, 1 + root.generation % 2, root_sector(root))
 
 
-def part_sector(version, text, part, number):
+def part_sector(text, part, number, version):
     """The sector of a part of a record, padded with zeros."""
     piece = text[TEXT_OF_PART * part : TEXT_OF_PART * (part + 1)]
-    return (front(version, part, number, len(text)) + piece).ljust(SECTOR, b"\0")
+    return (front(part, number, len(text), version) + piece).ljust(SECTOR, b"\0")
 
 
-def append(disk, place_of, place, number, version, text):
+def append(disk, place_of, place, number, text, version):
     """Writes a record of a version from a place on: its bodies, a sync if there are any, its head, a sync."""
     bodies = range(1, parts_of(len(text)))
     for part in bodies:
-        disk.write(place_of(place + part), part_sector(version, text, part, number))
+        disk.write(place_of(place + part), part_sector(text, part, number, version))
     if bodies:
         disk.sync()
-    write_and_sync(disk, place_of(place), part_sector(version, text, 0, number))
+    write_and_sync(disk, place_of(place), part_sector(text, 0, number, version))
 
 
 def write_area(disk, layout, generation, held, sectors):

@@ -16,12 +16,14 @@ FORMAT_MARK, ROOT_MARK = b"VTILEDSK", b"VTROOT01"
 HEAD, BODY = 1, 2
 # The versions of the format of a disk. A record has one of them too: one of version 1 has the text of its only change, one of version 2 a
 # count of changes and their texts.
-VERSIONS = FIRST_VERSION, LAST_VERSION = 1, 2
+FORMAT_VERSIONS = FIRST_VERSION, LAST_VERSION = 1, 2
 PUT, DELETE = 1, 2
 MOST_CHANGES = 64
 KINDS = {1: "points", 2: "lines", 3: "polygons"}
 LAST_NUMBER = 2**64 - 1
 LONGEST = 32768
+# The longest text of a record, by its version.
+LONGEST_OF = {1: LONGEST, 2: LONGEST + 1}
 
 # What a disk's root says; a change gives a number its feature, or takes it away (None); an edit is changes of different numbers, in a record
 # of a version; what a disk holds. The records of the journal are in order, the first of them has the number `root.edits` + 1.
@@ -144,16 +146,11 @@ def changes(reader):
     return found
 
 
-def longest(version):
-    """The most bytes that the text of a record has."""
-    return LONGEST if version == FIRST_VERSION else 1 + LONGEST
-
-
 def record_of(version, text):
     """The record of a whole text."""
     reader = Reader(text)
     found = [change(reader)] if version == FIRST_VERSION else changes(reader)
-    if reader.at != len(text) or len(text) > longest(version):
+    if reader.at != len(text) or len(text) > LONGEST_OF[version]:
         raise NoEdit("bytes behind its end")
     return Record(version, found)
 
@@ -270,7 +267,7 @@ def layout_of(held):
     if len(first) < SECTOR or first[:8] != FORMAT_MARK:
         raise Fault("NotFormatted")
     version, sectors = version_of(held), int.from_bytes(first[12:20], "little")
-    if version not in VERSIONS or not LEAST <= sectors <= min(MOST, len(held) // SECTOR) or first != format_sector(sectors, version):
+    if version not in FORMAT_VERSIONS or not LEAST <= sectors <= min(MOST, len(held) // SECTOR) or first != format_sector(sectors, version):
         raise Fault("Damaged(Size)")
     return Layout(sectors)
 
@@ -330,7 +327,7 @@ def parts_of(length):
     return -(-length // TEXT_OF_PART)
 
 
-def front(version, part, number, length):
+def front(part, number, length, version):
     """The bytes with which the sector of a part of a record begins."""
     kind, count = (BODY, part) if part else (HEAD, parts_of(length))
     return spelled(kind, 1) + spelled(version, 1) + spelled(count, 2) + spelled(number, 8) + spelled(length, 4)
@@ -338,36 +335,41 @@ def front(version, part, number, length):
 
 def head_version(sector, number, most):
     """The version of the record of this number, from 1 to `most`, whose head a sector is, whatever it says of parts and length; else None."""
-    is_head = sector[0] == HEAD and sector[4:12] == spelled(number, 8)
-    return sector[1] if is_head and FIRST_VERSION <= sector[1] <= most else None
+    is_head = sector[0] == HEAD and FIRST_VERSION <= sector[1] <= most and sector[4:12] == spelled(number, 8)
+    return sector[1] if is_head else None
 
 
-def text_at(held, layout, place, left, version, number):
+def text_at(held, layout, place, left, number, version):
     """The text of the record of a version whose head is at a place, where so many places are left."""
     length = int.from_bytes(sector_of(held, layout.place(place))[12:16], "little")
-    if not 1 <= length <= longest(version) or parts_of(length) > left:
+    if not 1 <= length <= LONGEST_OF.get(version, 0) or parts_of(length) > left:
         raise Fault("Damaged(Journal)")
     text = b""
     for part in range(parts_of(length)):
         sector = sector_of(held, layout.place(place + part))
-        if sector[:16] != front(version, part, number, length):
+        if sector[:16] != front(part, number, length, version):
             raise Fault("Damaged(Journal)")
         text += sector[16:]
     return text[:length]
 
 
-def texts_of(held, layout, root, version):
-    """The texts of the journal of a disk of this version, each with the version of its record, and how many places these take."""
-    texts = []
+def records_of(held, layout, root, most):
+    """The records of the journal, each its version and its text, and how many places they take. Versions up to `most` are expected.
+
+    They end before the first place that isn't the next head, so also before a head of a later number, or of a version above `most`. No writer
+    leaves such heads. Opening doesn't look for them: it succeeds, and the next edit replaces what is at that place.
+    """
+    records = []
     used = 0
-    while used < layout.places and root.edits + len(texts) < LAST_NUMBER:
-        place, number = root.journal_at + used, root.edits + len(texts) + 1
-        found = head_version(sector_of(held, layout.place(place)), number, version)
-        if found is None:
+    while used < layout.places and root.edits + len(records) < LAST_NUMBER:
+        place, number = root.journal_at + used, root.edits + len(records) + 1
+        version = head_version(sector_of(held, layout.place(place)), number, most)
+        if version is None:
             break
-        texts.append((found, text_at(held, layout, place, layout.places - used, found, number)))
-        used += parts_of(len(texts[-1][1]))
-    return texts, used
+        text = text_at(held, layout, place, layout.places - used, number, version)
+        records.append((version, text))
+        used += parts_of(len(text))
+    return records, used
 
 
 def read_disk(held):
@@ -375,7 +377,7 @@ def read_disk(held):
     layout = layout_of(held)
     version, root = version_of(held), root_of(held, layout)
     snapshot = read_snapshot(held, layout, root)
-    texts, used = texts_of(held, layout, root, version)
+    texts, used = records_of(held, layout, root, version)
     try:
         return Disk(version, layout, root, snapshot, [record_of(*text) for text in texts], used)
     except NoEdit as error:
@@ -409,7 +411,7 @@ def put_records(disk, layout, place, number, texts, padding=bytes):
     for version, text in texts:
         for part in range(parts_of(len(text))):
             piece = text[TEXT_OF_PART * part : TEXT_OF_PART * (part + 1)]
-            put_at(disk, layout.place(place + part), front(version, part, number, len(text)) + piece + padding(TEXT_OF_PART - len(piece)))
+            put_at(disk, layout.place(place + part), front(part, number, len(text), version) + piece + padding(TEXT_OF_PART - len(piece)))
         place += parts_of(len(text))
         number += 1
 

@@ -1,221 +1,10 @@
 """The script of `journal_runs` and its expected output: a model of a disk with its generations and its journal answers each line."""
-from collections import namedtuple
-
 import words
-from calls import append, format_disk, install, upgrade, write_area
-from crashes import FROM, MADE, NONE, NOT_MADE, Failed, Faulty, Memory, Seen, every_choice
-from disk import FORMAT_VERSIONS, LAST_NUMBER, LONGEST, SECTOR, Fault, Layout, Root, front, is_head, layout_of, parts_of, root_of, texts_of, version_of
-from words import Fields, Variant, briefly, debug, err, ok, read, some, spelled
+from crashes import Seen, every_choice
+from disk import SECTOR, Fault, Root, layout_of, root_of, version_of
+from journal_stand import Trial
 
 CRATE = "journal_runs"
-
-Start = namedtuple("Start", "place edits")
-Head = namedtuple("Head", "number length parts")
-
-
-class Ring:
-    """The sectors of a journal, with the members of a `Layout` that `disk.texts_of` uses."""
-
-    def __init__(self, first, places):
-        self.first, self.places = first, places
-
-    def place(self, number):
-        return self.first + number % self.places
-
-
-def head_of(sector, number):
-    """The head of a record that a sector is, or None."""
-    length = int.from_bytes(sector[12:16], "little")
-    if not 1 <= length <= LONGEST or sector[:16] != front(0, number, length):
-        return None
-    return Head(number, length, parts_of(length))
-
-
-class Trial:
-    """The state of a script, and the answer to each command."""
-
-    def __init__(self):
-        self.disk = Faulty(Memory(0))
-        self.stopped = Memory(0)
-        self.ring, self.start, self.used, self.last = Ring(0, 1), Start(0, 0), 0, 0
-        self.mark = Start(0, 0)
-
-    def counted(self, call, device):
-        """The outcome of a call, with the number of calls of the disk. `device` is the fault that a failed call of the disk is reported as."""
-        before = self.disk.calls
-        try:
-            outcome = ok(call())
-        except Failed:
-            outcome = err(device)
-        except Fault as fault:
-            outcome = err(Variant(str(fault)))
-        return f"{debug(outcome)} in {self.disk.calls - before}"
-
-    # ---- the disk
-
-    def do_disk(self, sectors):
-        self.disk = Faulty(Memory(sectors))
-        return "made"
-
-    def do_write(self, at, held=b""):
-        if at >= self.disk.count or len(held) > SECTOR:
-            return "no sector"
-        return self.counted(lambda: self.disk.write(at, held.ljust(SECTOR, b"\0")) or (), Variant("DiskFault"))
-
-    def do_sync(self):
-        return self.counted(lambda: self.disk.sync() or (), Variant("DiskFault"))
-
-    def do_sector(self, at):
-        if at >= self.disk.count:
-            return "no sector"
-        try:
-            return spelled(self.disk.read(at).rstrip(b"\0"))
-        except Failed:
-            return "DiskFault"
-
-    def do_sectors(self):
-        held = [at for at in range(self.disk.count) if any(self.disk.disk.read(at))]
-        self.disk.calls += self.disk.count
-        return " ".join(str(at) for at in held)
-
-    def fail(self, kind, call, shown):
-        self.disk = Faulty(self.disk.disk, kind, call)
-        return f"{shown}({call})"
-
-    def do_fail_from(self, call):
-        return self.fail(FROM, call, "AllFrom")
-
-    def do_fail_not_made(self, call):
-        return self.fail(NOT_MADE, call, "OneNotMade")
-
-    def do_fail_made(self, call):
-        return self.fail(MADE, call, "OneMade")
-
-    def do_fail_none(self):
-        return self.fail(NONE, 0, "OneNotMade")
-
-    def do_stop(self):
-        self.stopped, self.disk = self.disk.disk, Faulty(Memory(0))
-        return "stopped"
-
-    def do_crash(self, *choice):
-        self.disk = Faulty(self.stopped.crash(choice))
-        return "crashed"
-
-    # ---- its generations
-
-    def do_layout(self, sectors):
-        if not 64 <= sectors <= 16777216:
-            return "None"
-        return debug(some(layout_shown(Layout(sectors))))
-
-    def do_format(self):
-        return self.do_format_version(FORMAT_VERSIONS[-1])
-
-    def do_format_version(self, version):
-        if version not in FORMAT_VERSIONS:
-            return "no version"
-        return self.counted(lambda: format_disk(self.disk, version) or (), Variant("Device"))
-
-    def do_upgrade(self):
-        return self.counted(lambda: upgrade(self.disk) or (), Variant("Device"))
-
-    def do_root(self):
-        return self.counted(self.root, Variant("Device"))
-
-    def root(self):
-        seen = Seen(self.disk)
-        layout = layout_of(seen)
-        return Fields("Found", layout=layout_shown(layout), root=root_of(seen, layout), version=version_of(seen))
-
-    def do_area(self, generation, index, held=b""):
-        if not 64 <= self.disk.count <= 16777216 or index >= Layout(self.disk.count).area or len(held) > SECTOR:
-            return "no sector"
-        held = held.rjust(SECTOR * index + len(held), b"\0")
-        return self.counted(lambda: write_area(self.disk, Layout(self.disk.count), generation, held, [index]) or (), Variant("DiskFault"))
-
-    def do_install(self, *numbers):
-        if self.disk.count < 3:
-            return "no sector"
-        return self.counted(lambda: install(self.disk, Root(*numbers)) or (), Variant("DiskFault"))
-
-    # ---- its journal
-
-    def do_ring(self, first, places, place, edits):
-        if first + places > self.disk.count or place >= places:
-            return "no ring"
-        ring, start, before = Ring(first, places), Start(place, edits), self.disk.calls
-        try:
-            texts, used = texts_of(Seen(self.disk), ring, Root(0, edits, place, 0, 0))
-        except Failed:
-            return f"Device in {self.disk.calls - before}"
-        except Fault:
-            return f"Damaged in {self.disk.calls - before}"
-        self.ring, self.start, self.used, self.last = ring, start, used, edits + len(texts)
-        shown = "".join(" " + briefly(text) for text in texts)
-        return f"used {used} last {self.last}:{shown} in {self.disk.calls - before}"
-
-    def do_append(self, text):
-        if self.ring.first + self.ring.places > self.disk.count:
-            return "no ring"
-        if not 1 <= len(text) <= LONGEST:
-            return "no text"
-        need, free = parts_of(len(text)), self.ring.places - self.used
-        if self.last == LAST_NUMBER:
-            return "Err(NumbersSpent) in 0"
-        if need > free:
-            return f"{debug(err(Fields('Full', need=need, free=free)))} in 0"
-        return self.counted(lambda: self.appended(text), Variant("Device"))
-
-    def appended(self, text):
-        append(self.disk, self.ring.place, self.start.place + self.used, self.last + 1, text)
-        self.used, self.last = self.used + parts_of(len(text)), self.last + 1
-        return self.last
-
-    def next(self):
-        return Start((self.start.place + self.used) % self.ring.places, self.last)
-
-    def do_next(self):
-        return f"free {self.ring.places - self.used} {debug(self.next())}"
-
-    def do_mark(self):
-        self.mark = self.next()
-        return debug(self.mark)
-
-    def do_release(self, behind):
-        before, after = self.mark.edits - self.start.edits, self.last - self.mark.edits
-        may = [0 <= before <= behind <= 67 * before, 0 <= after <= self.used - behind <= 67 * after]
-        if not all(may) or self.mark.place != (self.start.place + behind) % self.ring.places:
-            return "no such places"
-        self.start, self.used = self.mark, self.used - behind
-        return self.do_next()
-
-    def do_head(self, at, number):
-        sector = self.disk.read(at)
-        says = head_of(sector, number)
-        return f"{debug(is_head(sector, number))} {debug(some(says) if says else None)}"
-
-    def do_part(self, head_at, number, at, part):
-        head, sector = head_of(self.disk.read(head_at), number), self.disk.read(at)
-        has = head and sector[:16] == front(part, number, head.length)
-        return debug(some(has) if head else None)
-
-    def answer(self, line):
-        if not line or line.startswith("#"):
-            return line
-        front_words, _, spelled_words = line.partition("=")
-        verb, *numbers = front_words.split()
-        numbers = [int(number) for number in numbers]
-        if spelled_words or verb == "append":
-            numbers.append(read(spelled_words))
-        return getattr(self, f"do_{verb}")(*numbers)
-
-
-def layout_shown(layout):
-    return Fields("Layout", sectors=layout.sectors, journal=layout.places, area=layout.area)
-
-
-# ---- the lines
 
 # A number whose bytes are all different, lowest first 1 to 8.
 NUMBER = 0x0807060504030201
@@ -225,6 +14,10 @@ FORMAT_64 = "'VTILEDSK 1:4 64:8"
 LAST_FORMAT_64 = "'VTILEDSK 2:4 64:8"
 # Texts with letters at the bounds of their parts.
 LETTERS = {1: "'a", 496: "'a*495 'b", 497: "'a*495 'b 'c", 992: "'a*495 'b 'c 'a*494 'd", 993: "'a*495 'b 'c 'a*494 'd 'e"}
+
+
+# How a record is appended, by its version.
+APPEND = {1: "append", 2: "append 2"}
 
 
 def heading(*texts):
@@ -442,30 +235,36 @@ def installs():
 
 
 def part_sectors():
-    yield from heading("The bytes of records: texts of one byte, of one part, of two and of three. The bytes of their number are all different.")
-    for words in LETTERS.values():
-        yield from ["disk 8", f"ring 2 4 0 {NUMBER - 1}", f"append = {words}", "sectors", "sector 2", "sector 3", "sector 4"]
+    yield from heading("Records of both versions: texts of one byte, of one part, of two and of three. The bytes of their number are all different.")
+    for command in APPEND.values():
+        for words in LETTERS.values():
+            yield from ["disk 8", f"ring 2 4 0 {NUMBER - 1}", f"{command} = {words}", "sectors", "sector 2", "sector 3", "sector 4"]
 
 
 def heads():
-    yield from heading("Heads: valid ones, wrong lengths and counts of parts, another kind, another version, another number.")
+    yield from heading("Heads of versions 1 and 2: valid ones, wrong lengths and counts of parts, another kind, version or number; up to a version.")
     rows = [(1, 1, 1, 1), (1, 1, 1, 496), (1, 1, 2, 497), (1, 1, 67, 32768), (1, 1, 67, 32769), (1, 1, 0, 0), (1, 1, 1, 497), (1, 1, 258, 497)]
-    for kind, version, parts, length in [*rows, (1, 1, 2, 2**16 + 497), (2, 1, 1, 1), (0, 0, 0, 0), (1, 2, 1, 1), (1, 0, 1, 1)]:
+    rows += [(1, 1, 2, 2**16 + 497), (2, 1, 1, 1), (0, 0, 0, 0), (1, 2, 1, 1), (1, 0, 1, 1), (1, 3, 1, 1), (1, 255, 1, 1), (2, 2, 1, 1)]
+    for kind, version, parts, length in [*rows, (1, 2, 2, 497), (1, 2, 67, 32769), (1, 2, 67, 32770), (1, 2, 0, 0), (1, 2, 1, 497)]:
         yield from ["disk 1", f"write 0 = {kind}:1 {version}:1 {parts}:2 {NUMBER}:8 {length}:4 'a"]
         yield from [f"head 0 {number}" for number in (NUMBER, NUMBER + 1, NUMBER - 1)]
+        yield from [f"head 0 {NUMBER} {most}" for most in (0, 1, 3, 255)]
     yield from heading("The parts of a record of three: sectors 0 to 2. Sector 3 is a body of a shorter text, 4 one of zeros, 5 one of another version.")
     yield from ["disk 6", f"ring 0 3 0 {NUMBER - 1}", f"append = {LETTERS[993]}", f"write 3 = 2:1 1:1 1:2 {NUMBER}:8 992:4 'a"]
     yield from [f"write 4 = 2:1 1:1 1:2 {NUMBER}:8 993:4", f"write 5 = 2:1 2:1 1:2 {NUMBER}:8 993:4"]
     yield from [f"part 0 {NUMBER} {at} {part}" for at in range(6) for part in range(4)]
+    yield from heading("The same in version 2: a body of version 1 isn't one of the record's.")
+    yield from ["disk 5", f"ring 0 3 0 {NUMBER - 1}", f"append 2 = {LETTERS[993]}", f"write 3 = 2:1 1:1 1:2 {NUMBER}:8 993:4"]
+    yield from [f"write 4 = 2:1 2:1 2:2 {NUMBER}:8 993:4", *(f"part 0 {NUMBER} {at} {part}" for at in range(5) for part in range(4))]
 
 
 def append_crashes():
     yield from heading(
         "A text of two parts after one of two bytes, in a ring of four sectors from sector 2 on, from place 2 on: the body goes into place 0. Each of",
-        "the four calls fails in turn (the body, a sync, the head, a sync), and a crash leaves each unsynced sector or not.",
+        "the four calls fails in turn (the body, a sync, the head, a sync), and a crash leaves each unsynced sector or not. In version 1, then in 2.",
     )
-    for stop in stops(4):
-        yield from ["disk 8", "ring 2 4 2 6", "append = 'xx", stop, "append = 'y*497", "next", "fail_none", "ring 2 4 2 6", "stop"]
+    for command, stop in [(command, stop) for command in APPEND.values() for stop in stops(4)]:
+        yield from ["disk 8", "ring 2 4 2 6", "append = 'xx", stop, f"{command} = 'y*497", "next", "fail_none", "ring 2 4 2 6", "stop"]
         for choice in choices(2):
             yield from [f"crash {words_of(choice)}", "ring 2 4 2 6", "sectors"]
     yield from heading("The same with three parts, from place 3 on in a ring of five: the bodies go into places 4 and 0.")
@@ -475,14 +274,13 @@ def append_crashes():
             yield from [f"crash {words_of(choice)}", "ring 2 5 3 41", "sectors"]
     yield from heading(
         "An append of three parts is stopped after one of its bodies, and another of the same number before its head: whichever bodies a crash leaves,",
-        "there is no record. A third append of that number is recovered whole.",
+        "there is no record. A third append of that number is recovered whole. The first and the third are of version 1 or 2, the second is of the other.",
     )
-    for first in ("", " 1"):
-        for calls in (2, 3, 4):
-            for second in choices(2):
-                yield from ["disk 8", "ring 2 5 3 41", "fail_from 2", "append = 'x*993", "stop", f"crash{first}", "ring 2 5 3 41"]
-                yield from [f"fail_from {calls}", "append = 'y*993", "stop", f"crash {words_of(second)}", "ring 2 5 3 41", "append = 'z*993"]
-                yield from ["stop", "crash", "ring 2 5 3 41"]
+    for one, other in [APPEND.values(), reversed(APPEND.values())]:
+        for first, calls, second in [(first, calls, second) for first in ("", " 1") for calls in (2, 3, 4) for second in choices(2)]:
+            yield from ["disk 8", "ring 2 5 3 41", "fail_from 2", f"{one} = 'x*993", "stop", f"crash{first}", "ring 2 5 3 41"]
+            yield from [f"fail_from {calls}", f"{other} = 'y*993", "stop", f"crash {words_of(second)}", "ring 2 5 3 41", f"{one} = 'z*993"]
+            yield from ["stop", "crash", "ring 2 5 3 41"]
 
 
 def full_rings():
@@ -490,8 +288,9 @@ def full_rings():
     yield from ["disk 6", "ring 2 4 2 6", "next", "append = 'y*497", "next", "append = 'y*993", "append = 'y*992", "next", "append = 'x", "ring 2 4 2 6"]
     yield from heading("The last number: NumbersSpent is reported before Full.")
     yield from ["disk 6", f"ring 2 4 3 {LAST - 1}", "append = 'x", "append = 'y*993", "append = 'y*32768", "append = 'x", f"ring 2 4 3 {LAST - 1}"]
-    yield from heading("Texts that are no edit's: of no bytes, and of 32,769.")
-    yield from ["disk 82", "ring 2 80 75 6", "append =", "append = 'x*32769"]
+    yield from heading("Texts that no record has: of no bytes, of 32,769 in version 1, of 32,770 in version 2; and versions that there aren't.")
+    yield from ["disk 82", "ring 2 80 75 6", "append =", "append = 'x*32769", "append 2 =", "append 2 = 'x*32770", "append 0 = 'x", "append 3 = 'x"]
+    yield from [f"append {2**32 + 1} = 'x", "next"]
 
 
 def releases():
@@ -516,6 +315,36 @@ def recoveries():
     yield from ["disk 6", "ring 2 5 0 0", "ring 7 0 0 0", "ring 2 4 4 0", "ring 6 0 0 0"]
 
 
+def versions():
+    yield from heading(
+        "Records of versions 1, 2 and 1 in a ring of six places from place 4 on. On a disk of version 1 the journal ends at the record of version 2, and the",
+        "next record takes its place. Of a version above 2 as of 2, of version 0 there is no record.",
+    )
+    yield from ["disk 8", "ring 2 6 4 6", "append = 'a", "append 2 = 'y*497", "append = 'ccc", "next", "stop", "crash"]
+    yield from [f"ring 2 6 4 6 {most}" for most in (2, 3, 0, 1)]
+    yield from ["append = 'bb", "ring 2 6 4 6", "append 2 = 'dd", "ring 2 6 4 6", "ring 2 6 4 6 1", "ring 2 6 0 8"]
+    yield from heading("The longest texts: of 32,768 bytes in version 1 and of 32,769 in version 2, each of 67 parts, and a release of both.")
+    yield from ["disk 200", "ring 2 140 100 6", "append = 'x*32768", "append 2 = 'a 'y*32768", "stop", "crash", "ring 2 140 100 6 1"]
+    yield from ["ring 2 140 100 6", "mark", "release 134"]
+    yield from heading("A record of 32,769 bytes in version 2, from a head and 66 bodies; the same sectors in version 1 are damaged.")
+    for version in (2, 1):
+        yield "disk 80"
+        for part in range(67):
+            kind, count = (2, part) if part else (1, 67)
+            yield f"write {part} = {kind}:1 {version}:1 {count}:2 {NUMBER}:8 32769:4 {part}:1*496"
+        yield from [f"ring 0 80 0 {NUMBER - 1}", f"ring 0 80 0 {NUMBER - 1} 1", f"ring 0 67 0 {NUMBER - 1}", f"ring 0 66 0 {NUMBER - 1}"]
+    yield from heading("Heads and bodies of versions 1, 2 and others: a record is whole if all of it is of one version, 1 or 2, that is expected.")
+    for head, body in [(1, 2), (2, 1), (2, 2), (1, 1), (3, 3), (0, 0)]:
+        yield from pair(TWO, BODY, versions_of=(head, body))
+        yield from [f"ring 0 2 0 {NUMBER - 1} {most}" for most in (1, 3)]
+    yield from heading("A record of three parts whose first body is of the other version, then its second, then none.")
+    for one, other in [(1, 2), (2, 1)]:
+        for bodies in [(other, one), (one, other), (one, one)]:
+            yield from ["disk 3", f"write 0 = 1:1 {one}:1 3:2 {NUMBER}:8 993:4 'a*496"]
+            yield from (f"write {part} = 2:1 {version}:1 {part}:2 {NUMBER}:8 993:4 'b*496" for part, version in enumerate(bodies, 1))
+            yield f"ring 0 3 0 {NUMBER - 1}"
+
+
 # Sectors of a ring, by kind, part, length and byte of the text.
 ZERO = None
 SHORT = (1, 1, 2, 97)
@@ -523,14 +352,15 @@ TWO = (1, 2, 497, 97)
 BODY = (2, 1, 497, 98)
 
 
-def pair_words(sector, number=NUMBER):
+def pair_words(sector, number=NUMBER, version=1):
     kind, part, length, byte = sector
-    return f"{kind}:1 1:1 {part}:2 {number}:8 {length}:4 {byte}:1*496"
+    return f"{kind}:1 {version}:1 {part}:2 {number}:8 {length}:4 {byte}:1*496"
 
 
-def pair(first, second, start=f"0 {NUMBER - 1}"):
+def pair(first, second, start=f"0 {NUMBER - 1}", versions_of=(1, 1)):
     yield "disk 2"
-    yield from (f"write {at} = {pair_words(sector)}" for at, sector in enumerate([first, second]) if sector)
+    both = enumerate(zip([first, second], versions_of))
+    yield from (f"write {at} = {pair_words(sector, version=version)}" for at, (sector, version) in both if sector)
     yield f"ring 0 2 {start}"
 
 
@@ -560,7 +390,7 @@ def lines():
     yield from ["# Disks, their generations and their journals. Written by bench/model/journal_script.py, with the answers."]
     for block in (layouts, formats, format_crashes, possible_roots, bad_roots, bad_formats, reads_that_fail, upgrades, upgrade_crashes, installs):
         yield from block()
-    for block in (part_sectors, heads, append_crashes, full_rings, releases, recoveries, pairs):
+    for block in (part_sectors, heads, append_crashes, full_rings, releases, recoveries, versions, pairs):
         yield from block()
 
 

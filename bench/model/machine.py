@@ -158,7 +158,7 @@ class Service:
         if need > free:
             raise Refused("JournalFull", need, free)
         self.attempted = changes
-        self.changed(lambda: append(self.disk, self.layout.place, self.next_place(), self.last + 1, self.version, text))
+        self.changed(lambda: append(self.disk, self.layout.place, self.next_place(), self.last + 1, text, self.version))
         self.used += need
         self.apply(changes)
         return self.last

@@ -308,7 +308,8 @@ def in_connections(script):
     script.note("a body that isn't whole is waited for, and refused at the end of the input; the edit isn't made")
     script.disk(256)
     whole = head("POST /edits HTTP/1.1", "host: a", plain) + body
-    for size in range(len(whole) - len(body) - 4, len(whole)):
+    front = len(whole) - len(body)
+    for size in (front - 1, front, front + 1, len(whole) - 1):
         script.ask(whole[:size])
         script.wait(whole[:size], sizes="4096")
     script.ask(A)

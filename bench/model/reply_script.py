@@ -8,6 +8,7 @@ import connections
 import reply_edits
 import reply_heads
 import reply_hostile
+import reply_hostile_edits
 import reply_publications
 import reply_random
 import reply_routes
@@ -84,6 +85,7 @@ def hold_to_examples():
 
 
 BLOCKS = [*reply_heads.BLOCKS, *reply_routes.BLOCKS, *reply_edits.BLOCKS, *reply_publications.BLOCKS, reply_random.at_random, *reply_hostile.BLOCKS]
+BLOCKS += reply_hostile_edits.BLOCKS
 
 
 def files():

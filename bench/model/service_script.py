@@ -1,5 +1,6 @@
 """The script of `service_runs` and its expected output: a model of a service on a disk in memory answers each line."""
 import service_batches
+import service_damage
 import service_edits
 import service_openings
 import service_publications
@@ -10,7 +11,7 @@ from service_stand import Trial
 
 CRATE = "service_runs"
 BLOCKS = [*service_edits.BLOCKS, *service_batches.BLOCKS, *service_publications.BLOCKS, *service_openings.BLOCKS, *service_versions.BLOCKS]
-BLOCKS += service_random.BLOCKS
+BLOCKS += [*service_damage.BLOCKS, *service_random.BLOCKS]
 
 
 def lines():

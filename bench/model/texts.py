@@ -3,7 +3,7 @@
 A text is cut where fewer bytes than the longest text end before it does, and each field that is whole among them is allowed. It shares no
 code with the product.
 """
-from disk import FIRST_VERSION, LONGEST, NoEdit, Reader, change, changes, longest
+from disk import FIRST_VERSION, LONGEST, LONGEST_OF, NoEdit, Reader, change, changes
 
 
 class Cut(NoEdit):
@@ -35,7 +35,7 @@ def read_change(data):
 
 
 def read_edit(data):
-    return read(data, longest(2), changes)
+    return read(data, LONGEST_OF[2], changes)
 
 
 def read_record(version, data):

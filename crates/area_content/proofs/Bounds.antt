@@ -1,28 +1,30 @@
 -- How many bytes an archive of tiles has at most, and which areas it doesn't fit.
-use Rattle.std.proofs.Common.{◌≡◌, ℕ, ◌+◌, ◌*◌, ◌^◌, ◌<◌, ◌≤◌, inl, inr, List, [], length, map, Vec, Result, Ok, Err, refl, sym, ap, subst, arith}
+use Rattle.std.proofs.Common.{◌≡◌, ℕ, ◌+◌, ◌*◌, ◌^◌, ◌<◌, ◌≤◌, inl, inr, List, [], ◌∷◌, ◌++◌, length, map, Vec, Result, Ok, Err, refl, sym, ap, subst, arith}
 use Rattle.std.specs.Prelude.{IfOk}
 use Rattle.std.specs.List.{AllByRecursion, Contains, concat}
 use Rattle.std.specs.declared.alloc.Global.{Global}
-use Rattle.std.proofs.lemmas.Bool.{cases_lt}
+use Rattle.std.proofs.lemmas.List.Elements.{All-nil, All-cons, All-append}
 use Rattle.feature_store.specs.Store.{FeatureMap, snapshot}
-use Rattle.feature_store.specs.Tiles.{AreTiles}
+use Rattle.feature_store.specs.Tiles.{IsNextTile}
+use Rattle.feature_store.proofs.Below.{one_more}
 use Rattle.generations.specs.Areas.{sectors_of}
 use Rattle.pm_build.specs.declared.fault.BuildFault.{BuildFault}
-use Rattle.pm_build.specs.declared.fault.BuildFault.TheVariants.{TooManyEntries}
+use Rattle.pm_build.specs.declared.fault.BuildFault.TheVariants as building
 use Rattle.pm_build.specs.declared.limit.TheConstants.{MAX_ENTRIES}
+use Rattle.pm_build.specs.Building.{AreTooMany}
 use Rattle.pm_build.specs.Placed.{AreDifferent}
 use Rattle.pm_build.specs.Runs.{TileRun, AreLongestRuns}
 use Rattle.pm_build.specs.Tiles.{Tile}
 use Rattle.area_content.specs.Content.{ContentView, sectors_taken}
-use Rattle.area_content.specs.Faults.{IsFirstLong, IsBounded, IsBoundedFor, IsFull}
+use Rattle.area_content.specs.Faults.{IsShort, AreAdded, HasLongTile, HasManyTiles, IsBounded, IsBoundedFor, IsFull, IsContentFault, told_as}
 use Rattle.area_content.specs.Tiles.{IsArchiveOfMap}
 
 -- the size is within the bound of `pm_build`'s contract
 abbrev pub IsSize : List Tile → (metadata size : ℕ) → Type 0
-IsSize ts metadata size = (runs : List TileRun) × (contents : List (List ℕ)) × AreLongestRuns ts runs × AreDifferent contents
+IsSize ts metadata size = (runs : List TileRun) × (contents : List (List ℕ)) × AreLongestRuns ts runs × (length runs ≤ MAX_ENTRIES) × AreDifferent contents
     × AllByRecursion (λ c. Contains (map (λ r. r.content) runs) c) contents × (size ≤ 127 + metadata + 64 * length runs + length (concat contents))
 
-no_runs : AreLongestRuns [] []
+pub no_runs : AreLongestRuns [] []
 no_runs = record { together = refl; each = tt; longest = tt }
 
 -- no bytes are within the bound of no tiles
@@ -40,23 +42,39 @@ none_bounded ts metadata bytes none empty =
     subst (λ (us : List Tile). IsBounded us metadata bytes) (sym none) bounded
 
 -- what was built is within the bound of its tiles
-pub some_bounded : (ts : List Tile) (metadata : ℕ) (r : Result (Vec ℕ Global) BuildFault)
-    → ((runs : List TileRun) → AreLongestRuns ts runs → MAX_ENTRIES < length runs → r ≡ Err TooManyEntries)
+pub some_bounded : {E : Type 0} (ts : List Tile) (metadata : ℕ) (r : Result (Vec ℕ Global) E)
     → IfOk r (λ v. IsSize ts metadata (length v.items)) → IfOk r (λ v. IsBounded ts metadata v.items)
-some_bounded ts metadata (Err fault) many size = tt
-some_bounded ts metadata (Ok bytes) many (runs, contents, longest, different, used, small) =
-    elim (cases_lt MAX_ENTRIES (length runs)) [
-      | inl more ↦ absurd (let no : Ok bytes ≡ Err TooManyEntries = many runs longest more in cc)
-      | inr few ↦ record { runs = runs; longest = longest; few = few; contents = contents; different = different; used = used; size = small }
-    ]
+some_bounded ts metadata (Err fault) size = tt
+some_bounded ts metadata (Ok bytes) (runs, contents, longest, few, different, used, small) =
+    record { runs = runs; longest = longest; few = few; contents = contents; different = different; used = used; size = small }
 
 -- ---- faults
 
 module _ (m : FeatureMap) (metadata area : ℕ) where
   -- no area takes a content of 2^32 bytes or more
-  pub full_of_long : (ts : List Tile) (size need : ℕ) → AreTiles m ts → IsFirstLong ts size → area < 2 ^ 23 → need ≡ sectors_of size
-      → IsFull m metadata area need area
-  full_of_long ts size need are long small is = record { free_is = refl; above = omega (arith, long.above, is); needed = inl (size, (ts, are, long), is) }
+  pub full_of_long : (from size need : ℕ) (ts : List Tile) (t : Tile) → AreAdded m from ts → IsNextTile m from t → 2 ^ 32 ≤ size → size ≡ length t.1
+      → area < 2 ^ 23 → need ≡ sectors_of size → IsFull m metadata area need area
+  full_of_long from size need ts t added next above size_is small is =
+      let long : HasLongTile m size = record {
+        from = from;
+        before = ts;
+        added = added;
+        long = t;
+        next = next;
+        above = above;
+        size_is = size_is;
+      } in
+      record { free_is = refl; above = omega (arith, above, small, is); needed = inl (size, long, is) }
+
+  -- more entries than an archive takes
+  pub many_tiles : (from : ℕ) (ts : List Tile) (t : Tile) → AreAdded m from ts → IsNextTile m from t → IsShort t → AreTooMany (ts ++ t ∷ []) → HasManyTiles m
+  many_tiles from ts t added next short many = record {
+    end = t.0 + 1;
+    tiles = ts ++ t ∷ [];
+    below = one_more m from ts t added.below next;
+    short = All-append IsShort ts (t ∷ []) added.short (All-cons IsShort t [] short (All-nil IsShort));
+    many = many;
+  }
 
   -- an area of fewer sectors than these take
   pub full_of_both : (c : ContentView) → c.snapshot ≡ snapshot m → IsArchiveOfMap m c.archive → IsBoundedFor m metadata c.archive
@@ -65,3 +83,8 @@ module _ (m : FeatureMap) (metadata area : ℕ) where
       let need : sectors_taken c ≡ sectors_of (length (snapshot m)) + sectors_of (length c.archive) =
       ap (λ (bytes : List ℕ). sectors_of (length bytes) + sectors_of (length c.archive)) same in
       record { free_is = refl; above = more; needed = inr (c.archive, archive, bounded, need) }
+
+  -- the fault of a builder, which has too many tiles only where the map has
+  pub fault_told : (fault : BuildFault) → (fault ≡ building.TooManyEntries → HasManyTiles m) → IsContentFault m metadata area (told_as fault)
+  fault_told building.TooManyEntries many = many refl
+  fault_told building.Memory many = tt

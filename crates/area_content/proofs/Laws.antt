@@ -1,8 +1,16 @@
--- Laws of the sectors of an area's content, for the crates above.
-use Rattle.std.proofs.Common.{◌≡◌, ℕ, ◌+◌, ◌-◌, ◌<◌, false, List, length, take, replicate, refl, arith, ltb}
+-- Laws of the sectors of an area's content, and of maps with too many tiles, for the crates above.
+use Rattle.std.proofs.Common.{◌≡◌, ℕ, ◌+◌, ◌-◌, ◌<◌, false, List, length, take, replicate, refl, subst, arith, ltb}
 use Rattle.std.proofs.lemmas.Bool.{lt-ltb, le-ltb}
 use Rattle.std.proofs.lemmas.List.{take_at}
+use Rattle.feature_store.specs.Store.{FeatureMap}
+use Rattle.feature_store.specs.Tiles.{AreTiles}
+use Rattle.feature_store.proofs.Below.{first_of_all}
 use Rattle.generations.specs.Areas.{sectors_of}
+use Rattle.pm_build.specs.declared.limit.TheConstants.{MAX_ENTRIES}
+use Rattle.pm_build.specs.Runs.{TileRun, AreLongestRuns}
+use Rattle.pm_build.specs.Tiles.{Tile}
+use Rattle.pm_build.proofs.Joining.{too_many_behind}
+use Rattle.area_content.specs.Faults.{HasManyTiles}
 use Rattle.sector_bytes.specs.Bytes.{sector_piece}
 use Rattle.area_content.specs.Content.{ContentView, padded, sector_at}
 
@@ -22,3 +30,10 @@ archive_sector c index =
     let behind : ltb (n + index) n ≡ false = le-ltb (n + index) n (omega arith) in
     let index_is : n + index - n ≡ index = omega arith in
     rw (behind, index_is) (begins (sector_piece c.archive index))
+
+-- Where the tiles below some id need more entries than an archive takes, all tiles of the map do.
+pub all_are_many : (m : FeatureMap) → HasManyTiles m → (tiles : List Tile) (runs : List TileRun) → AreTiles m tiles → AreLongestRuns tiles runs
+    → MAX_ENTRIES < length runs
+all_are_many m many tiles runs are longest =
+    let behind = first_of_all m many.end many.tiles tiles many.below are in
+    too_many_behind many.tiles behind.0 runs many.many (subst (λ (ts : List Tile). AreLongestRuns ts runs) behind.1 longest)

@@ -1,5 +1,4 @@
 mod Bounds
 pub mod Laws
-mod Lengths
 mod MapTiles
 mod Pieces

@@ -1,20 +1,17 @@
 -- From the tiles of a map to those of its archive.
-use Rattle.std.proofs.Common.{◌≡◌, ◌≢◌, inl, inr, ℕ, zero, suc, ◌+◌, ◌^◌, ◌<◌, ◌≤◌, Bool, true, false, eqb, if◌then◌else◌, List, [], ◌∷◌, length}
+use Rattle.std.proofs.Common.{◌≡◌, ◌≢◌, inl, inr, ℕ, zero, suc, ◌+◌, ◌^◌, ◌<◌, ◌≤◌, Bool, true, false, eqb, if◌then◌else◌, List, [], ◌∷◌, ◌++◌, length}
 use Rattle.std.proofs.Common.{Option, Some, None, refl, sym, ap, subst, ◌∙◌, arith}
-use Rattle.std.specs.Prelude.{All}
-use Rattle.std.specs.List.{AllByRecursion, Contains}
-use Rattle.std.specs.List.Sorted.{IsStrictlySortedBy}
+use Rattle.std.specs.List.{Contains}
 use Rattle.std.specs.Map.{keys_of}
-use Rattle.std.specs.Ordering.{nat_cmp}
-use Rattle.std.specs.declared.cmp.Ordering.TheVariants.{Less}
 use Rattle.std.proofs.lemmas.Bool.{cases_lt, eqb-true, eqb-false}
 use Rattle.std.proofs.lemmas.Bool.Decides.{nat_tests}
 use Rattle.std.proofs.lemmas.List.{nil_from_length}
-use Rattle.std.proofs.lemmas.List.Elements.{All-head, All-tail, All-contains, Contains-append_right, Contains-get_or}
+use Rattle.std.proofs.lemmas.List.Elements.{All-nil, All-cons, All-head, All-append, All-weaker, All-contains, Contains-append_right, Contains-get_or}
 use Rattle.feature_model.specs.declared.limits.TheConstants.{GREATEST_ZOOM}
 use Rattle.feature_store.specs.Layers.{is_tile, layers}
 use Rattle.feature_store.specs.Store.{FeatureMap, IsMap}
-use Rattle.feature_store.specs.Tiles.{IsTile, AreTiles}
+use Rattle.feature_store.specs.Tiles.{IsTile, AreTiles, AreTilesBelow, IsNextTile}
+use Rattle.feature_store.proofs.Below.{none_below, one_more}
 use Rattle.feature_store.proofs.Laws.{layers_outside, written_layers_read}
 use Rattle.hilbert_id.specs.Curve.{IsTileId, first_id}
 use Rattle.hilbert_id.specs.declared.number.TheConstants.{TILE_IDS}
@@ -26,24 +23,14 @@ use Rattle.mvt_write.specs.Written.{written}
 use Rattle.pb_wire.specs.Varint.{varint, shortest_in}
 use Rattle.pm_archive.specs.Archive.{IsArchiveOf}
 use Rattle.pm_build.specs.Built.{tile_content}
-use Rattle.pm_build.specs.Tiles.{Tile, IdsAscend}
-use Rattle.pm_build.specs.Tiles as build
-use Rattle.area_content.specs.Faults.{IsShort}
+use Rattle.pm_build.specs.Building.{CanAdd, AreFew}
+use Rattle.pm_build.specs.Tiles.{Tile}
+use Rattle.area_content.specs.Faults.{IsShort, AreAdded}
+use Rattle.area_content.proofs.Bounds.{no_runs}
 use Rattle.feature_store.specs.Content.{IsTileContent}
 use Rattle.area_content.specs.Tiles.{AreTilesOf, HasNoTile, IsArchiveOfMap}
 
 -- ---- ids and contents as an archive requires them
-
-ascend_behind : (id : ℕ) (ts : List Tile) → AllByRecursion (λ k. nat_cmp id k ≡ Less) (keys_of ts) → IsStrictlySortedBy nat_cmp (keys_of ts)
-    → IdsAscend (suc id) ts
-unfolding IsStrictlySortedBy
-ascend_behind id [] above sorted = tt
-ascend_behind id (t ∷ ts) above sorted = (let less = above.0 in grind (arith, nat_tests), ascend_behind t.0 ts sorted.0 sorted.1)
-
-ascend : (ts : List Tile) → IsStrictlySortedBy nat_cmp (keys_of ts) → IdsAscend 0 ts
-unfolding IsStrictlySortedBy
-ascend [] sorted = tt
-ascend (t ∷ ts) sorted = (omega arith, ascend_behind t.0 ts sorted.0 sorted.1)
 
 some_written : (ls : List LayerView) → 0 < length ls → 0 < length (written ls)
 unfolding written varint shortest_in
@@ -103,15 +90,30 @@ module _ (m : FeatureMap) where
   some_bytes : (t : Tile) → IsTile m t → 0 < length t.1
   some_bytes t (z, x, y, place, some, is) = omega (arith, some_written (layers m z x y) some, ap (λ (bytes : List ℕ). length bytes) is)
 
-  each_fits : (ts : List Tile) → All (IsTile m) ts → All IsShort ts → AllByRecursion build.IsTile ts
-  each_fits [] each short = tt
-  each_fits (t ∷ ts) each short =
-      let is = All-head (IsTile m) t ts each in
-      ((id_below t is, some_bytes t is, All-head IsShort t ts short), each_fits ts (All-tail (IsTile m) t ts each) (All-tail IsShort t ts short))
+  -- the next tile of a map can be added to an archive of those before it, if its content is short enough
+  pub can_be_added : (from : ℕ) (ts : List Tile) (t : Tile) → AreTilesBelow m from ts → IsNextTile m from t → IsShort t → CanAdd ts t
+  can_be_added from ts t below next short =
+      let here = next.here in (
+        All-weaker (λ (u : Tile). (u.0 < from) × IsTile m u) (λ u. u.0 < t.0) (λ u h. let lt = h.0 in omega (arith, lt, here)) ts below.each,
+        (id_below t next.tile, some_bytes t next.tile, short),
+      )
 
-  -- an archive can be built from the tiles of a map, if each content is short enough
-  pub buildable : (ts : List Tile) → AreTiles m ts → All IsShort ts → build.AreTiles ts
-  buildable ts are short = (ascend ts are.ascending, each_fits ts are.each short)
+  -- ids of tiles are of the curve, so that there is an end
+  pub below_end : (from : ℕ) (t : Tile) → IsNextTile m from t → (from ≤ t.0) × (t.0 < TILE_IDS)
+  below_end from t next = (next.here, id_below t next.tile)
+
+  -- no tile is added at first
+  pub none_added : AreAdded m 0 []
+  none_added = record { below = none_below m; short = All-nil IsShort; few = ([], no_runs, omega arith) }
+
+  -- the next tile is added
+  pub next_added : (from : ℕ) (ts : List Tile) (t : Tile) → AreAdded m from ts → IsNextTile m from t → IsShort t → AreFew (ts ++ t ∷ [])
+      → AreAdded m (t.0 + 1) (ts ++ t ∷ [])
+  next_added from ts t added next short few = record {
+    below = one_more m from ts t added.below next;
+    short = All-append IsShort ts (t ∷ []) added.short (All-cons IsShort t [] short (All-nil IsShort));
+    few = few;
+  }
 
   -- ---- the contents are the tiles of the map
 

@@ -1,12 +1,13 @@
 -- Why a map has no content for an area.
-use Rattle.std.specs.Prelude.{◌≡◌, ◌<◌, ◌≤◌, ◌+◌, ◌*◌, ◌^◌, ◌⊎◌, ◌++◌, ◌∷◌, ℕ, List, length, map, All, Contains, ⊤}
+use Rattle.std.specs.Prelude.{◌≡◌, ◌<◌, ◌≤◌, ◌+◌, ◌*◌, ◌^◌, ◌⊎◌, ℕ, List, length, map, All, Contains, ⊤}
 use Rattle.std.specs.List.{AllByRecursion, concat}
 use Rattle.feature_store.specs.Store.{FeatureMap, snapshot}
-use Rattle.feature_store.specs.Tiles.{AreTiles}
+use Rattle.feature_store.specs.Tiles.{AreTiles, AreTilesBelow, IsNextTile}
 use Rattle.generations.specs.Areas.{sectors_of}
 use Rattle.pm_build.specs.declared.fault.BuildFault.{BuildFault}
 use Rattle.pm_build.specs.declared.fault.BuildFault.TheVariants as building
 use Rattle.pm_build.specs.declared.limit.TheConstants.{MAX_ENTRIES}
+use Rattle.pm_build.specs.Building.{AreFew, AreTooMany}
 use Rattle.pm_build.specs.Placed.{AreDifferent}
 use Rattle.pm_build.specs.Runs.{TileRun, AreLongestRuns}
 use Rattle.pm_build.specs.Tiles.{Tile}
@@ -18,32 +19,29 @@ use Rattle.area_content.specs.declared.fault.ContentFault.TheVariants.{TooManyTi
 abbrev pub IsShort : Tile → Type 0
 IsShort t = length t.1 < 2 ^ 32
 
--- ---- a tile that is too long
+-- the short tiles of the map with ids below `from`, which need no more entries than an archive takes
+pub record AreAdded (m : FeatureMap) (from : ℕ) (tiles : List Tile) : Type 0 where
+  pub below : AreTilesBelow m from tiles
+  pub short : All IsShort tiles
+  pub few : AreFew tiles
 
--- the first of the tiles that isn't short has this many bytes
-pub record IsFirstLong (tiles : List Tile) (size : ℕ) : Type 0 where
+-- The first tile of the map, by its id, that isn't short has this many bytes. Those before it need no more entries than an archive takes.
+pub record HasLongTile (m : FeatureMap) (size : ℕ) : Type 0 where
+  pub from : ℕ
   pub before : List Tile
+  pub added : AreAdded m from before
   pub long : Tile
-  pub behind : List Tile
-  pub tiles_are : tiles ≡ before ++ long ∷ behind
-  pub short : All IsShort before
+  pub next : IsNextTile m from long
   pub above : 2 ^ 32 ≤ size
   pub size_is : size ≡ length long.1
 
--- the first tile of the map, by its id, that isn't short has this many bytes
-abbrev pub HasLongTile : FeatureMap → ℕ → Type 0
-HasLongTile m size = (tiles : List Tile) × AreTiles m tiles × IsFirstLong tiles size
-
--- ---- short tiles
-
--- the tiles of the map need more entries than an archive takes, and each tile is short enough for one
+-- The tiles of the map below some id are short, and need more entries than an archive takes. Then all of its tiles need more.
 pub record HasManyTiles (m : FeatureMap) : Type 0 where
+  pub end : ℕ
   pub tiles : List Tile
-  pub are : AreTiles m tiles
+  pub below : AreTilesBelow m end tiles
   pub short : All IsShort tiles
-  pub runs : List TileRun
-  pub longest : AreLongestRuns tiles runs
-  pub many : MAX_ENTRIES < length runs
+  pub many : AreTooMany tiles
 
 -- The tiles need no more entries than an archive takes. The archive has at most the bytes of a header, metadata of this length, 64 bytes
 -- for each run, and each content of the runs once.

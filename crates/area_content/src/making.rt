@@ -3,27 +3,17 @@ ghost use Rattle.std.specs.Prelude.{◌≡◌, ◌<◌, ◌≤◌, ◌^◌, ℕ,
 ghost use Rattle.feature_store.specs.Store.{FeatureMap, snapshot};
 ghost use Rattle.pm_archive.specs.Archive.{IsMetadata};
 ghost use Rattle.area_content.specs.Content.{sectors_taken};
-ghost use Rattle.area_content.specs.Faults.{IsBoundedFor, IsContentFault, told_as};
+ghost use Rattle.area_content.specs.Faults.{IsBoundedFor, IsContentFault};
 ghost use Rattle.area_content.specs.Tiles.{IsArchiveOfMap};
 
-use crate::archive::{archive_of, large_content};
-use crate::content::{AreaContent, sectors_for};
+use crate::archive::{add_all, archive_of};
+use crate::content::AreaContent;
 use crate::fault::ContentFault;
 use feature_store::Store;
-use pm_build::BuildFault;
+use pm_build::ArchiveBuilder;
 use std::alloc::Global;
 
-/// The fault reported if the archive build fails.
-fn told(fault: BuildFault) -> ContentFault
-    ensures { result ≡ told_as fault }
-{
-    match fault {
-        BuildFault::TooManyEntries => ContentFault::TooManyTiles,
-        BuildFault::Memory => ContentFault::Memory,
-    }
-}
-
-/// The archive of a map. A tile too large for an archive entry is larger than every area.
+/// The archive of a map.
 fn archive_for(
     alloc: Global,
     store: &Store,
@@ -38,19 +28,18 @@ fn archive_for(
 {
     // The contract of this call states that the features satisfy the invariants of a map.
     let _count = store.len();
-    let tiles = match store.tiles() {
+    let mut tiles = match store.tiles() {
         Ok(tiles) => tiles,
         Err(_) => return Err(ContentFault::Memory),
     };
-    if let Some(length) = large_content(&tiles) {
-        return Err(ContentFault::AreaFull {
-            need: sectors_for(length),
-            free: area,
-        });
+    let mut builder = ArchiveBuilder::new(alloc);
+    match add_all(&mut tiles, &mut builder, area) {
+        Ok(()) => {}
+        Err(fault) => return Err(fault),
     }
-    match archive_of(alloc, &tiles, metadata) {
+    match archive_of(alloc, &builder, metadata) {
         Ok(bytes) => Ok(bytes),
-        Err(fault) => Err(told(fault)),
+        Err(_) => Err(ContentFault::Memory),
     }
 }
 
@@ -72,9 +61,9 @@ fn within(content: AreaContent, area: u64) -> Result<AreaContent, ContentFault>
 ///
 /// # Errors
 ///
-/// `AreaFull` if a tile has 2^32 bytes or more: `need` is the number of sectors of the first such tile. Then `TooManyTiles` if the
-/// tiles need more entries than an archive takes. Then `AreaFull` if snapshot and archive need more sectors than the area has: `need`
-/// is the number of sectors of both. `Memory` if an allocation fails.
+/// The tiles are made by ascending id, up to the first that gives a fault: `AreaFull` if the tile has 2^32 bytes or more, and `need` is
+/// its number of sectors; `TooManyTiles` if the tiles up to it need more entries than an archive takes. Then `AreaFull` if snapshot and
+/// archive need more sectors than the area has: `need` is the number of sectors of both. `Memory` if an allocation fails.
 pub fn content_of(
     alloc: Global,
     store: &Store,

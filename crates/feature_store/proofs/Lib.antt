@@ -1,3 +1,4 @@
+pub mod Below
 mod Chosen
 mod Covered
 mod Entries
@@ -8,7 +9,7 @@ mod Near
 mod Pairs
 mod Shown
 mod Sizes
-mod Tiles
+mod Writable
 mod TilesRead
 mod Walk
 pub mod Laws

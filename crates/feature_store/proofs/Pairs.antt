@@ -8,7 +8,7 @@ use Rattle.std.specs.Ordering.{nat_cmp, ordering_then}
 use Rattle.std.specs.declared.cmp.Ordering.TheVariants.{Less, Equal}
 use Rattle.std.proofs.lemmas.Bool.Decides.{nat_tests}
 use Rattle.std.proofs.lemmas.List.Elements.{All-head, All-tail, Contains-append_right}
-use Rattle.feature_store.specs.Pairs.{pair_cmp}
+use Rattle.feature_store.specs.Pairs.{pair_cmp, leading}
 
 -- whether a pair is of this tile
 abbrev pub is_of : ℕ → ℕ × ℕ → Bool
@@ -121,3 +121,45 @@ tiles_ascend (p ∷ ps) s zero (suc j) d le lt = above ps s.0 j (omega arith)
     above (q ∷ qs) all (suc k) within = above qs all.1 k (omega arith)
 tiles_ascend (p ∷ ps) s (suc i) zero d le lt = absurd (omega arith)
 tiles_ascend (p ∷ ps) s (suc i) (suc j) d le lt = tiles_ascend ps s.1 i j d (omega arith) (omega arith)
+
+-- ---- the pairs in front that are of one tile
+
+pub lead_fits : (id : ℕ) (ps : List (ℕ × ℕ)) → length (leading id ps) ≤ length ps
+lead_fits id [] = omega arith
+lead_fits id (p ∷ ps) = by (is_of id p) (lead_fits id ps)
+  where
+    by : (b : Bool) → length (leading id ps) ≤ length ps → length (cond b (p.1 ∷ leading id ps) []) ≤ length (p ∷ ps)
+    by true rest = omega (arith, rest)
+    by false rest = omega arith
+
+pub lead_same : (id : ℕ) (ps : List (ℕ × ℕ)) (k : ℕ) (d : ℕ × ℕ) → k < length (leading id ps) → (get_or ps k d).0 ≡ id
+lead_same id [] k d lt = absurd (omega (arith, lt))
+lead_same id (p ∷ ps) k d lt = by (is_of id p) refl (lead_same id ps) k lt
+  where
+    by : (b : Bool) → is_of id p ≡ b → ((j : ℕ) (e : ℕ × ℕ) → j < length (leading id ps) → (get_or ps j e).0 ≡ id)
+        → (j : ℕ) → j < length (cond b (p.1 ∷ leading id ps) []) → (get_or (p ∷ ps) j d).0 ≡ id
+    by true here rest zero less = let same : p.0 ≡ id = grind (arith, nat_tests) in same
+    by true here rest (suc j) less = rest j d (omega (arith, less))
+    by false away rest j less = absurd (omega (arith, less))
+
+pub lead_stop : (id : ℕ) (ps : List (ℕ × ℕ)) (d : ℕ × ℕ) → length (leading id ps) < length ps → (get_or ps (length (leading id ps)) d).0 ≢ id
+lead_stop id [] d lt = absurd (omega (arith, lt))
+lead_stop id (p ∷ ps) d lt = by (is_of id p) refl (lead_stop id ps d) lt
+  where
+    by : (b : Bool) → is_of id p ≡ b → (length (leading id ps) < length ps → (get_or ps (length (leading id ps)) d).0 ≢ id)
+        → length (cond b (p.1 ∷ leading id ps) []) < length (p ∷ ps) → (get_or (p ∷ ps) (length (cond b (p.1 ∷ leading id ps) [])) d).0 ≢ id
+    by true here rest less same = rest (omega (arith, less)) same
+    by false away rest less same = not_same p.0 id same away
+
+-- where the others are of other tiles, they are all numbers of the tile
+pub lead_at : (id : ℕ) (ps : List (ℕ × ℕ)) → ((k : ℕ) (d : ℕ × ℕ) → length (leading id ps) ≤ k → k < length ps → (get_or ps k d).0 ≢ id)
+    → numbers_at id ps ≡ leading id ps
+lead_at id [] others = refl
+lead_at id (p ∷ ps) others = by (is_of id p) refl (lead_at id ps) others
+  where
+    by : (b : Bool) → is_of id p ≡ b
+        → (((k : ℕ) (d : ℕ × ℕ) → length (leading id ps) ≤ k → k < length ps → (get_or ps k d).0 ≢ id) → numbers_at id ps ≡ leading id ps)
+        → ((k : ℕ) (d : ℕ × ℕ) → length (cond b (p.1 ∷ leading id ps) []) ≤ k → k < length (p ∷ ps) → (get_or (p ∷ ps) k d).0 ≢ id)
+        → map (λ r. r.1) (cond b (p ∷ filter (is_of id) ps) (filter (is_of id) ps)) ≡ cond b (p.1 ∷ leading id ps) []
+    by true here rest apart = ap (λ ns. p.1 ∷ ns) (rest (λ k d ge lt. apart (suc k) d (omega (arith, ge)) (omega (arith, lt))))
+    by false away rest apart = none_at id ps (λ k d lt. apart (suc k) d (omega arith) (omega (arith, lt)))

@@ -1,8 +1,7 @@
 -- How many of some changes set a feature.
-use Rattle.std.proofs.Common.{◌≡◌, ℕ, suc, ◌+◌, ◌<◌, ◌≤◌, List, [], ◌∷◌, ◌++◌, length, get_or, map, take, sym, ap, ◌∙◌, arith}
+use Rattle.std.proofs.Common.{◌≡◌, ℕ, ◌+◌, ◌<◌, ◌≤◌, List, [], ◌∷◌, ◌++◌, length, get_or, map, take, sym, ap, ◌∙◌, arith}
 use Rattle.std.proofs.lemmas.List.{map_more, take_all}
 use Rattle.feature_model.specs.declared.feature.Change.{Change}
-use Rattle.feature_model.specs.declared.feature.Change.TheVariants as changes
 use Rattle.feature_model.specs.Data.{ChangeData, put, delete, change_data}
 use Rattle.feature_store.specs.Store.{puts_in}
 

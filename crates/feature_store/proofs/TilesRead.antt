@@ -13,7 +13,7 @@ use Rattle.mvt_write.proofs.Lengths.{length_written}
 use Rattle.feature_store.specs.Layers.{is_tile, layers}
 use Rattle.feature_store.specs.Store.{FeatureMap, IsMap, snapshot}
 use Rattle.feature_store.proofs.Sizes.{written_in_snapshot}
-use Rattle.feature_store.proofs.Tiles.{layers_can, layers_keep}
+use Rattle.feature_store.proofs.Writable.{layers_can, layers_keep}
 use Rattle.feature_store.proofs.Unique.{the_list_is, outside}
 
 -- a tile is one of the world

@@ -1,24 +1,22 @@
--- From the pairs of a map to its tiles, in ascending order.
-use Rattle.std.proofs.Common.{◌≡◌, ◌≢◌, ℕ, zero, suc, ◌+◌, ◌<◌, ◌≤◌, ◌==◌, Bool, true, false, List, [], ◌∷◌, ◌++◌, length, get_or, map, take, drop, All}
+-- From the pairs of a map to its tiles, one after the other.
+use Rattle.std.proofs.Common.{◌≡◌, ◌≢◌, ℕ, zero, suc, ◌+◌, ◌-◌, ◌<◌, ◌≤◌, Bool, true, false, List, [], ◌∷◌, ◌++◌, length, get_or, map, take, drop, All}
 use Rattle.std.proofs.Common.{IsSome, refl, sym, ap, subst, ◌∙◌}
-use Rattle.std.proofs.Common.{arith, inl, inr, ◌⊎◌, Option, Some, None, is_some, IfSome, Vec}
-use Rattle.std.specs.List.{AllByRecursion, Contains}
+use Rattle.std.proofs.Common.{arith, inl, inr, ◌⊎◌, Option, Some, None, is_some, IfSome, Vec, Global, Result, Ok, Err}
+use Rattle.std.specs.Prelude.{IfNone, OnErr}
+use Rattle.std.specs.Option.{option_map}
+use Rattle.std.specs.List.{Contains}
 use Rattle.std.specs.List.Sorted.{IsStrictlySortedBy}
-use Rattle.std.specs.Map.{keys_of}
-use Rattle.std.specs.declared.alloc.Global.{Global}
 use Rattle.std.specs.Ordering.{nat_cmp}
 use Rattle.std.specs.Cmp.Lexicographic.{slice_cmp}
-use Rattle.std.specs.declared.cmp.Ordering.TheVariants.{Less}
 use mathlib.Core.Bool.{false≢true}
 use Rattle.std.proofs.lemmas.Bool.{cases_lt, cases_eq}
 use Rattle.std.proofs.lemmas.Bool.Decides.{nat_tests}
-use Rattle.std.proofs.lemmas.List.{append-nil, length-map, map-append, take-append-drop, take_more, get_or-take, get_or-drop, get_or_default, length-take}
-use Rattle.std.proofs.lemmas.List.{length-drop}
-use Rattle.std.proofs.lemmas.List.Elements.{All-nil, All-cons, All-head, All-tail, All-append, All-weaker, All-contains, All-contains_itself}
-use Rattle.std.proofs.lemmas.List.Elements.{Contains-append_left, Contains-append_right}
-use Rattle.std.proofs.lemmas.List.Elements.{Contains-push}
+use Rattle.std.proofs.lemmas.List.{length-map, take-append-drop, get_or-take, get_or-drop, get_or_default, length-take}
+use Rattle.std.proofs.lemmas.List.{length-drop, nil_from_length}
+use Rattle.std.proofs.lemmas.List.Elements.{All-nil, All-weaker, All-contains, All-contains_itself}
+use Rattle.std.proofs.lemmas.List.Elements.{Contains-append_right}
 use Rattle.feature_model.specs.declared.limits.TheConstants.{GREATEST_ZOOM}
-use Rattle.hilbert_id.specs.Curve.{IsTileId, curve}
+use Rattle.hilbert_id.specs.Curve.{IsTileId}
 use Rattle.hilbert_id.specs.declared.tile_at.TileAt.{TileAt}
 use Rattle.hilbert_id.specs.declared.number.TheConstants.{TILE_IDS}
 use Rattle.hilbert_id.proofs.Ids.{no_tile_behind, one_tile_of}
@@ -30,114 +28,73 @@ use Rattle.tile_cutter.specs.Pairs.{IsCoveredTile}
 use Rattle.tile_cutter.proofs.CoveredTiles.{nothing_uncovered}
 use Rattle.feature_store.specs.Indexed.{ShowsAll}
 use Rattle.feature_store.specs.Layers.{is_tile, layers, IsLayer}
-use Rattle.feature_store.specs.Pairs.{IsPair, ArePairsOfMap}
+use Rattle.feature_store.specs.Pairs.{IsPair, ArePairsOfMap, leading}
 use Rattle.feature_store.specs.Snapshots.{IsEditOf}
 use Rattle.feature_store.specs.Store.{FeatureMap, IsMap}
-use Rattle.feature_store.specs.Tiles.{IsTile, AreTiles, HasPlace, tile_entry, tile_views, AddsTile}
-use Rattle.feature_store.proofs.Pairs.{numbers_at, numbers_ascend, number_in, none_at, numbers-append, tiles_ascend}
+use Rattle.feature_store.specs.Tiles.{ShowsNothing, ShowsNothingFrom, IsNextTile, TilesView, HasPlace, IsBytesAt, IsStep, tile_bytes}
+use Rattle.feature_store.specs.Walk.{IsSplit}
+use Rattle.feature_store.proofs.Pairs.{numbers_at, numbers_ascend, number_in, none_at, numbers-append, tiles_ascend, lead_same, lead_stop, lead_fits, lead_at}
+use Rattle.feature_store.proofs.Below.{the_place}
 use Rattle.feature_store.proofs.Unique.{is_the_list, outside}
 
--- ---- ascending numbers
-
--- a number behind lower ones
-sorted_push : (ns : List ℕ) (n : ℕ) → IsStrictlySortedBy nat_cmp ns → All (λ k. k < n) ns → IsStrictlySortedBy nat_cmp (ns ++ n ∷ [])
-unfolding IsStrictlySortedBy
-sorted_push [] n s low = (tt, tt)
-sorted_push (k ∷ ns) n s low = (along ns s.0, sorted_push ns n s.1 (All-tail (λ j. j < n) k ns low))
-  where
-    last : nat_cmp k n ≡ Less
-    last = let lt = All-head (λ j. j < n) k ns low in grind (arith, nat_tests)
-
-    along : (js : List ℕ) → AllByRecursion (λ j. nat_cmp k j ≡ Less) js → AllByRecursion (λ j. nat_cmp k j ≡ Less) (js ++ n ∷ [])
-    along [] a = (last, tt)
-    along (j ∷ js) a = (a.0, along js a.1)
-
-no_numbers : IsStrictlySortedBy nat_cmp []
-unfolding IsStrictlySortedBy
-no_numbers = tt
+-- ---- what a step does
 
 no_names : IsStrictlySortedBy (slice_cmp nat_cmp) []
 unfolding IsStrictlySortedBy
 no_names = tt
 
--- ---- the tiles below an id
-
--- all tiles of the map with a lower id
-pub record AreTilesBelow (m : FeatureMap) (bound : ℕ) (ts : List (ℕ × List ℕ)) : Type 0 where
-  pub ascending : IsStrictlySortedBy nat_cmp (keys_of ts)
-  pub each : All (λ t. (t.0 < bound) × IsTile m t) ts
-  pub every : (z x y id : ℕ) → IsTileId z x y id → id < bound → 0 < length (layers m z x y) → Contains (keys_of ts) id
-
 module _ (m : FeatureMap) where
-  none_below : AreTilesBelow m 0 []
-  none_below = record {
-    ascending = no_numbers;
-    each = All-nil (λ t. (t.0 < 0) × IsTile m t);
-    every = λ z x y id is lt some. absurd (omega (arith, lt));
-  }
+  -- the bytes of the tile of an id, by its layers
+  pub bytes_are : (z x y id : ℕ) (bytes : Option (List ℕ)) → IsTileId z x y id → bytes ≡ tile_bytes (layers m z x y) → IsBytesAt m id bytes
+  bytes_are z x y id bytes is same w a b other = same ∙ ap tile_bytes (sym (the_place m z x y w a b id is other))
 
-  keys_below : (id : ℕ) (ts : List (ℕ × List ℕ)) → All (λ t. (t.0 < id) × IsTile m t) ts → All (λ k. k < id) (keys_of ts)
-  keys_below id [] all = All-nil (λ k. k < id)
-  keys_below id (t ∷ ts) all =
-      All-cons (λ k. k < id) t.0 (keys_of ts) (All-head (λ u. (u.0 < id) × IsTile m u) t ts all).0
-      (keys_below id ts (All-tail (λ u. (u.0 < id) × IsTile m u) t ts all))
+  -- those of some layers are what is written of them
+  pub some_written : (ls : List LayerView) (bytes : List ℕ) → 0 < length ls → bytes ≡ written ls → Some bytes ≡ tile_bytes ls
+  some_written [] bytes some same = absurd (omega (arith, some))
+  some_written (l ∷ ls) bytes some same = ap (λ (bs : List ℕ). Some bs) same
 
-  raised : (a b : ℕ) (ts : List (ℕ × List ℕ)) → a ≤ b → All (λ t. (t.0 < a) × IsTile m t) ts → All (λ t. (t.0 < b) × IsTile m t) ts
-  raised a b ts le all = All-weaker (λ t. (t.0 < a) × IsTile m t) (λ t. (t.0 < b) × IsTile m t) (λ t h. let lt = h.0 in (omega arith, h.1)) ts all
+  some_bytes : (ls : List LayerView) (bytes : List ℕ) → Some bytes ≡ tile_bytes ls → (0 < length ls) × (bytes ≡ written ls)
+  some_bytes [] bytes same = absurd (cc)
+  some_bytes (l ∷ ls) bytes same = (omega arith, let is : bytes ≡ written (l ∷ ls) = cc in is)
 
-  -- tiles of one id have the same layers
-  the_place : (z x y w a b id : ℕ) → IsTileId z x y id → IsTileId w a b id → layers m w a b ≡ layers m z x y
-  the_place z x y w a b id is other =
-      let one = one_tile_of w a b z x y id other is in
-      ap (λ k. layers m k a b) one.0 ∙ ap (λ k. layers m z k b) one.1 ∙ ap (λ k. layers m z x k) one.2
+  no_bytes : (ls : List LayerView) → None ≡ tile_bytes ls → ls ≡ []
+  no_bytes [] same = refl
+  no_bytes (l ∷ ls) same = absurd (cc)
 
-  -- nothing is added for a tile without layers
-  pub adds_nothing : (z x y id : ℕ) (old : List (ℕ × List ℕ)) → IsTileId z x y id → layers m z x y ≡ [] → AddsTile m id old old
-  adds_nothing z x y id old is none w a b other =
-      sym (append-nil old) ∙ ap (λ ls. old ++ tile_entry id ls) (sym (the_place z x y w a b id is other ∙ none))
+  -- what was shown nothing of before, and then up to the step's tile
+  both_nothing : (a b c : ℕ) → ShowsNothing m a b → ShowsNothing m b c → ShowsNothing m a c
+  both_nothing a b c first second z x y id is from to = elim (cases_lt id b) [
+    | inl low ↦ first z x y id is from low
+    | inr ge ↦ second z x y id is ge to
+  ]
 
-  entry_of : (id : ℕ) (ls : List LayerView) → 0 < length ls → tile_entry id ls ≡ (id, written ls) ∷ []
-  entry_of id [] some = absurd (omega (arith, some))
-  entry_of id (l ∷ ls) some = refl
+  pub step_shows : (start from id : ℕ) (bytes : List ℕ) → start ≤ from → ShowsNothing m start from → IsStep m from id (Some bytes)
+      → IsNextTile m start (id, bytes)
+  step_shows start from id bytes le nothing step =
+      let here = step.here in
+      let place = step.place in
+      let some = some_bytes (layers m place.0 place.1 place.2) bytes (step.bytes_are place.0 place.1 place.2 place.4) in
+      record {
+        here = omega (arith, le, here);
+        tile = (place.0, place.1, place.2, place.4, some.0, some.1);
+        between = both_nothing start from id nothing step.between;
+      }
 
-  -- and for another what is written of them
-  pub adds_one : (z x y id : ℕ) (old new : List (ℕ × List ℕ)) (bytes : List ℕ) → IsTileId z x y id → 0 < length (layers m z x y)
-      → bytes ≡ written (layers m z x y) → new ≡ old ++ (id, bytes) ∷ [] → AddsTile m id old new
-  adds_one z x y id old new bytes is some same added w a b other =
-      added ∙ ap (λ bs. old ++ (id, bs) ∷ []) same
-      ∙ ap (λ es. old ++ es) (sym (ap (tile_entry id) (the_place z x y w a b id is other) ∙ entry_of id (layers m z x y) some))
-
-  -- with the tile of the id itself
-  with_tile : (z x y id : ℕ) (old new : List (ℕ × List ℕ)) → IsTileId z x y id → AreTilesBelow m id old → AddsTile m id old new → AreTilesBelow m (id + 1) new
-  with_tile z x y id old new is below adds = by (layers m z x y) refl (adds z x y is)
+  pub step_nothing : (start from id : ℕ) → start ≤ from → ShowsNothing m start from → IsStep m from id None → ShowsNothing m start (id + 1)
+  step_nothing start from id le nothing step =
+      let here = step.here in
+      both_nothing start id (id + 1) (both_nothing start from id nothing step.between) only
     where
-      by : (ls : List LayerView) → layers m z x y ≡ ls → new ≡ old ++ tile_entry id ls → AreTilesBelow m (id + 1) new
-      by [] none same =
-          let kept : new ≡ old = same ∙ append-nil old in
-          subst (AreTilesBelow m (id + 1)) (sym kept) (record {
-            ascending = below.ascending;
-            each = raised id (id + 1) old (omega arith) below.each;
-            every = λ w a b k place lt some. elim (cases_lt k id) [
-              | inl less ↦ below.every w a b k place less some
-              | inr ge ↦
-                  let here : k ≡ id = omega (arith, lt) in
-                  absurd (omega (arith, some, ap length (the_place z x y w a b id is (subst (IsTileId w a b) here place) ∙ none)))
-            ];
-          })
-      by (l ∷ ls) one same =
-          let entry : ℕ × List ℕ = (id, written (l ∷ ls)) in
-          let keys : keys_of (old ++ entry ∷ []) ≡ keys_of old ++ id ∷ [] = map-append (λ (t : ℕ × List ℕ). t.0) old (entry ∷ []) in
-          let is_tile_here : IsTile m entry = (z, x, y, is, subst (λ (k : List LayerView). 0 < length k) (sym one) (omega arith), ap written (sym one)) in
-          subst (AreTilesBelow m (id + 1)) (sym same) (record {
-            ascending = subst (IsStrictlySortedBy nat_cmp) (sym keys) (sorted_push (keys_of old) id below.ascending (keys_below id old below.each));
-            each =
-                All-append (λ t. (t.0 < id + 1) × IsTile m t) old (entry ∷ []) (raised id (id + 1) old (omega arith) below.each)
-                (All-cons (λ t. (t.0 < id + 1) × IsTile m t) entry [] (omega arith, is_tile_here) (All-nil (λ t. (t.0 < id + 1) × IsTile m t)));
-            every = λ w a b k place lt some. subst (λ ks. Contains ks k) (sym keys) (elim (cases_lt k id) [
-              | inl less ↦ Contains-append_left (keys_of old) (id ∷ []) k (below.every w a b k place less some)
-              | inr ge ↦ let here : id ≡ k = omega (arith, lt) in subst (Contains (keys_of old ++ id ∷ [])) here (Contains-push (keys_of old) id)
-            ]);
-          })
+      only : ShowsNothing m id (id + 1)
+      only z x y k is above under =
+          let same : k ≡ id = omega (arith, above, under) in
+          no_bytes (layers m z x y) (step.bytes_are z x y (subst (IsTileId z x y) same is))
+
+  pub last_nothing : (start from : ℕ) → ShowsNothing m start from → ShowsNothingFrom m from → ShowsNothingFrom m start
+  last_nothing start from nothing none z x y id is above = elim (cases_lt id from) [
+    | inl low ↦ nothing z x y id is above low
+    | inr ge ↦ none z x y id is ge
+  ]
 
 -- ---- the pairs that were gone through
 
@@ -168,14 +125,6 @@ zoom_within z x y id place is =
     let one = one_tile_of z x y place.0 place.1 place.2 id is place.4 in
     let zoom = place.3 in
     omega (arith, zoom, one.0)
-
--- after some first pairs: the numbers of the last one's tile, and all tiles with a lower id
-pub record IsWalked (m : FeatureMap) (ps : List (ℕ × ℕ)) (i id : ℕ) (ns : List ℕ) (ts : List (ℕ × List ℕ)) : Type 0 where
-  pub numbers : ns ≡ numbers_at id (take i ps)
-  pub before : (k : ℕ) (d : ℕ × ℕ) → k < i → k < length ps → (get_or ps k d).0 ≤ id
-  pub behind : (k : ℕ) (d : ℕ × ℕ) → i ≤ k → k < length ps → id ≤ (get_or ps k d).0
-  pub place : HasPlace id
-  pub tiles : AreTilesBelow m id ts
 
 module _ (m : FeatureMap) (is_map : IsMap m) (ps : List (ℕ × ℕ)) (are : ArePairsOfMap m ps) where
   shows_at : (z x y id : ℕ) → z ≤ GREATEST_ZOOM → IsTileId z x y id → ShowsAll m z x y (numbers_at id ps)
@@ -223,16 +172,12 @@ module _ (m : FeatureMap) (is_map : IsMap m) (ps : List (ℕ × ℕ)) (are : Are
       by false is = absurd (omega (arith, some, ap length (outside m z x y is)))
       by true is = grind (arith, nat_tests)
 
-  -- up to an id whose tile, and those between, are in no pair
-  up_to : (a b : ℕ) (ts : List (ℕ × List ℕ)) → a ≤ b → ((id : ℕ) → a ≤ id → id < b → All (λ p. p.0 ≢ id) ps) → AreTilesBelow m a ts → AreTilesBelow m b ts
-  up_to a b ts le none below = record {
-    ascending = below.ascending;
-    each = raised m a b ts le below.each;
-    every = λ z x y id is lt some. elim (cases_lt id a) [
-      | inl less ↦ below.every z x y id is less some
-      | inr ge ↦ absurd (omega (arith, some, ap length (not_in_pairs z x y id (zoom_of_layers z x y some) is (none id ge lt))))
-    ];
-  }
+  -- an id that is in no pair shows nothing
+  nothing_at : (z x y id : ℕ) → IsTileId z x y id → All (λ p. p.0 ≢ id) ps → layers m z x y ≡ []
+  nothing_at z x y id is none = elim (cases_lt 0 (length (layers m z x y))) [
+    | inl some ↦ not_in_pairs z x y id (zoom_of_layers z x y some) is none
+    | inr least ↦ nil_from_length (layers m z x y) (omega (arith, least))
+  ]
 
   -- a tile that a feature of the map covers has a zoom of the map
   covered_place : (p : ℕ × ℕ) → IsPair m p → HasPlace p.0
@@ -245,147 +190,151 @@ module _ (m : FeatureMap) (is_map : IsMap m) (ps : List (ℕ × ℕ)) (are : Are
 
   -- ---- the steps
 
-  -- the pairs behind are of other tiles
-  abbrev pub IsWhole : ℕ → ℕ → Type 0
-  IsWhole i id = (k : ℕ) (d : ℕ × ℕ) → i ≤ k → k < length ps → id < (get_or ps k d).0
+  module _ (done from : ℕ) (split : IsSplit ps done from) where
+    -- no pair is left
+    pub nothing_left : length ps ≤ done → ShowsNothingFrom m from
+    nothing_left ends z x y id is above =
+        nothing_at z x y id is (λ k d within same. let low = split.before k d (omega (arith, ends, within)) within in omega (arith, low, same, above))
 
-  whole_numbers : (i id : ℕ) → IsWhole i id → numbers_at id ps ≡ numbers_at id (take i ps)
-  whole_numbers i id whole =
-      ap (numbers_at id) (sym (take-append-drop i ps))
-      ∙ numbers-append id (take i ps) (drop i ps)
-      ∙ ap (λ ns. numbers_at id (take i ps) ++ ns) (none_at id (drop i ps) others)
-      ∙ append-nil (numbers_at id (take i ps))
-    where
-      others : All (λ p. p.0 ≢ id) (drop i ps)
-      others k d within same =
-          let long = length-drop i ps in
-          let above : id < (get_or ps (i + k) d).0 = whole (i + k) d (omega arith) (omega arith) in
-          omega (arith, same, ap (λ (p : ℕ × ℕ). p.0) (get_or-drop i ps k d))
+    module _ (id : ℕ) (d : ℕ × ℕ) (within : done < length ps) (id_is : id ≡ (get_or ps done d).0) where
+      abbrev pub qs : List (ℕ × ℕ)
+      qs = drop done ps
 
-  shows_whole : (i id : ℕ) (numbers : List ℕ) (ts : List (ℕ × List ℕ)) → IsWalked m ps i id numbers ts → IsWhole i id
-      → (z x y : ℕ) → z ≤ GREATEST_ZOOM → IsTileId z x y id → ShowsAll m z x y numbers
-  shows_whole i id numbers ts walked whole z x y zoom is =
-      subst (ShowsAll m z x y) (whole_numbers i id whole ∙ sym walked.numbers) (shows_at z x y id zoom is)
+      first_is : (e : ℕ × ℕ) → (get_or ps done e).0 ≡ id
+      first_is e = ap (λ (p : ℕ × ℕ). p.0) (get_or_default ps done e d within) ∙ sym id_is
 
-  -- at a pair of another tile, and at the end, the numbers are whole
-  pub shows_next : (i id : ℕ) (numbers : List ℕ) (ts : List (ℕ × List ℕ)) (d : ℕ × ℕ) → IsWalked m ps i id numbers ts → i < length ps
-      → (get_or ps i d).0 ≢ id → (z x y : ℕ) → z ≤ GREATEST_ZOOM → IsTileId z x y id → ShowsAll m z x y numbers
-  shows_next i id numbers ts d walked lt other =
-      let low = walked.behind i d (omega arith) lt in
-      let above : id < (get_or ps i d).0 = omega (arith, low, other) in
-      shows_whole i id numbers ts walked (λ k e from within.
-      let up = tiles_ascend ps are.ascending i k e from within in
-      omega (arith, above, up, ap (λ (p : ℕ × ℕ). p.0) (get_or_default ps i d e lt)))
+      -- the pairs that aren't done are of this tile or of greater ids
+      not_below : (k : ℕ) (e : ℕ × ℕ) → done ≤ k → k < length ps → id ≤ (get_or ps k e).0
+      not_below k e ge lt = omega (arith, first_is e, tiles_ascend ps are.ascending done k e ge lt)
 
-  pub shows_end : (i id : ℕ) (numbers : List ℕ) (ts : List (ℕ × List ℕ)) → IsWalked m ps i id numbers ts → length ps ≤ i
-      → (z x y : ℕ) → z ≤ GREATEST_ZOOM → IsTileId z x y id → ShowsAll m z x y numbers
-  shows_end i id numbers ts walked ends = shows_whole i id numbers ts walked (λ k e from within. absurd (omega (arith, ends)))
+      pub from_below : from ≤ id
+      from_below = omega (arith, split.behind done d (omega arith) within, id_is)
 
-  first_place : HasPlace 0
-  unfolding curve
-  first_place = (0, 0, 0, omega arith, (0, refl, refl))
+      pub place_here : HasPlace id
+      place_here = subst HasPlace (sym id_is) (covered_place (get_or ps done d) ((are.every (get_or ps done d)).0 (done, within, get_or_default ps done (get_or ps done d) d within)))
 
-  pub walk_start : IsWalked m ps 0 0 [] []
-  walk_start = record {
-    numbers = refl;
-    before = λ k d lt within. absurd (omega arith);
-    behind = λ k d from within. omega arith;
-    place = first_place;
-    tiles = none_below m;
-  }
+      pub nothing_between : ShowsNothing m from id
+      nothing_between z x y j is above under = nothing_at z x y j is (λ k e lt same. elim (cases_lt k done) [
+        | inl low ↦ let less = split.before k e low lt in omega (arith, less, same, above)
+        | inr ge ↦ let least = not_below k e ge lt in omega (arith, least, same, under)
+      ])
 
-  -- a pair more of the same tile
-  pub walk_same : (i id : ℕ) (numbers : List ℕ) (ts : List (ℕ × List ℕ)) (p : ℕ × ℕ) → IsWalked m ps i id numbers ts → i < length ps
-      → p ≡ get_or ps i p → p.0 ≡ id → IsWalked m ps (i + 1) id (numbers ++ p.1 ∷ []) ts
-  walk_same i id numbers ts p walked lt at here = record {
-    numbers =
-        ap (λ ns. ns ++ p.1 ∷ []) walked.numbers
-        ∙ ap (λ ns. numbers_at id (take i ps) ++ ns) (sym (one_number p here))
-        ∙ sym (numbers-append id (take i ps) (p ∷ []))
-        ∙ ap (λ q. numbers_at id (take i ps ++ q ∷ [])) at
-        ∙ ap (numbers_at id) (sym (take_more ps i p lt));
-    before = λ k d less within. elim (cases_lt k i) [
-      | inl low ↦ walked.before k d low within
-      | inr ge ↦ let k_is : k ≡ i = omega arith in omega (arith, here, ap (λ (q : ℕ × ℕ). q.0) (at_place k d k_is))
-    ];
-    behind = λ k d from within. walked.behind k d (omega arith) within;
-    place = walked.place;
-    tiles = walked.tiles;
-  }
-    where
-      at_place : (k : ℕ) (d : ℕ × ℕ) → k ≡ i → get_or ps k d ≡ p
-      at_place k d k_is = ap (λ j. get_or ps j d) k_is ∙ get_or_default ps i d p lt ∙ sym at
+      -- a pair that isn't done, among those that aren't
+      at_qs : (k : ℕ) (e : ℕ × ℕ) → (get_or qs k e).0 ≡ (get_or ps (done + k) e).0
+      at_qs k e = ap (λ (p : ℕ × ℕ). p.0) (get_or-drop done ps k e)
 
-      one_number : (q : ℕ × ℕ) → q.0 ≡ id → numbers_at id (q ∷ []) ≡ q.1 ∷ []
-      one_number q is = let same : (q.0 == id) ≡ true = grind (arith, nat_tests) in rw same refl
+      long : length qs + done ≡ length ps
+      long = omega (arith, length-drop done ps, within)
 
-  -- a pair of the next tile, once the tile before it is done
-  pub walk_next : (i id : ℕ) (numbers : List ℕ) (old new : List (ℕ × List ℕ)) (p : ℕ × ℕ) → IsWalked m ps i id numbers old → i < length ps
-      → p ≡ get_or ps i p → p.0 ≢ id → AddsTile m id old new → IsWalked m ps (i + 1) p.0 (p.1 ∷ []) new
-  walk_next i id numbers old new p walked lt at other adds = record {
-    numbers =
-        sym (ap (numbers_at p.0) (take_more ps i p lt)
-        ∙ ap (λ q. numbers_at p.0 (take i ps ++ q ∷ [])) (sym at)
-        ∙ numbers-append p.0 (take i ps) (p ∷ [])
-        ∙ ap (λ ns. ns ++ numbers_at p.0 (p ∷ [])) (none_at p.0 (take i ps) (lower above))
-        ∙ one_number p);
-    before = λ k d less within. elim (cases_lt k i) [
-      | inl low ↦ let under = walked.before k d low within in omega (arith, above)
-      | inr ge ↦ let k_is : k ≡ i = omega arith in omega (arith, ap (λ (q : ℕ × ℕ). q.0) (at_place k d k_is))
-    ];
-    behind = λ k d from within. let up = tiles_ascend ps are.ascending i k d (omega arith) within in omega (arith, ap (λ (q : ℕ × ℕ). q.0) (at_place i d refl));
-    place = place_of_pair;
-    tiles = up_to (id + 1) p.0 new (omega (arith, above)) (between above) (with_tile m place.0 place.1 place.2 id old new place.4 walked.tiles adds);
-  }
-    where
-      place : HasPlace id
-      place = walked.place
+      -- behind those in front there is none of this tile
+      above_lead : (k : ℕ) (e : ℕ × ℕ) → length (leading id qs) ≤ k → k < length qs → id < (get_or qs k e).0
+      above_lead k e ge lt =
+          let n = length (leading id qs) in
+          let other = lead_stop id qs e (omega (arith, ge, lt)) in
+          let least = not_below (done + n) e (omega arith) (omega (arith, ge, lt, long)) in
+          let up = tiles_ascend ps are.ascending (done + n) (done + k) e (omega (arith, ge)) (omega (arith, lt, long)) in
+          let first : id < (get_or ps (done + n) e).0 = omega (arith, at_qs n e, other, least) in
+          omega (arith, first, up, at_qs k e)
 
-      at_place : (k : ℕ) (d : ℕ × ℕ) → k ≡ i → get_or ps k d ≡ p
-      at_place k d k_is = ap (λ j. get_or ps j d) k_is ∙ get_or_default ps i d p lt ∙ sym at
+      numbers_are : numbers_at id ps ≡ leading id qs
+      numbers_are =
+          ap (numbers_at id) (sym (take-append-drop done ps))
+          ∙ numbers-append id (take done ps) qs
+          ∙ ap (λ ns. ns ++ numbers_at id qs) (none_at id (take done ps) before)
+          ∙ lead_at id qs (λ k e ge lt same. let above = above_lead k e ge lt in omega (arith, above, same))
+        where
+          before : All (λ p. p.0 ≢ id) (take done ps)
+          before k e lt same =
+              let size = length-take done ps in
+              let low = split.before k e (omega (arith, size, lt)) (omega (arith, size, lt, within)) in
+              omega (arith, low, same, from_below, ap (λ (p : ℕ × ℕ). p.0) (get_or-take done ps k e (omega (arith, size, lt))))
 
-      above : id < p.0
-      above = let low = walked.behind i p (omega arith) lt in omega (arith, other, ap (λ (q : ℕ × ℕ). q.0) at)
+      pub shows_step : (numbers : List ℕ) → numbers ≡ leading id qs → (z x y : ℕ) → z ≤ GREATEST_ZOOM → IsTileId z x y id → ShowsAll m z x y numbers
+      shows_step numbers same z x y zoom is = subst (ShowsAll m z x y) (numbers_are ∙ sym same) (shows_at z x y id zoom is)
 
-      lower : id < p.0 → All (λ q. q.0 ≢ p.0) (take i ps)
-      lower gt k d within same =
-          let long = length-take i ps in
-          let under = walked.before k d (omega arith) (omega arith) in
-          omega (arith, same, ap (λ (q : ℕ × ℕ). q.0) (get_or-take i ps k d (omega arith)))
+      pub step_inside : (n : ℕ) → n ≡ length (leading id qs) → done + n ≤ length ps
+      step_inside n same = omega (arith, same, lead_fits id qs, long)
 
-      between : id < p.0 → (j : ℕ) → id + 1 ≤ j → j < p.0 → All (λ q. q.0 ≢ j) ps
-      between gt j from to k d within same = elim (cases_lt k i) [
-        | inl low ↦ let under = walked.before k d low within in omega (arith, same)
-        | inr ge ↦
-            let up = tiles_ascend ps are.ascending i k d ge within in
-            omega (arith, same, ap (λ (q : ℕ × ℕ). q.0) (at_place i d refl))
-      ]
+      pub step_split : (n : ℕ) → n ≡ length (leading id qs) → IsSplit ps (done + n) (id + 1)
+      step_split n same = record {
+        before = λ k e lt within_k. elim (cases_lt k done) [
+          | inl low ↦ let less = split.before k e low within_k in omega (arith, less, from_below)
+          | inr ge ↦
+              let k_is : done + (k - done) ≡ k = omega (arith, ge) in
+              let here = lead_same id qs (k - done) e (omega (arith, lt, same, ge)) in
+              let at : (get_or qs (k - done) e).0 ≡ (get_or ps k e).0 = at_qs (k - done) e ∙ ap (λ (j : ℕ). (get_or ps j e).0) k_is in
+              omega (arith, here, at)
+        ];
+        behind = λ k e ge within_k.
+            let k_is : done + (k - done) ≡ k = omega (arith, ge) in
+            let above = above_lead (k - done) e (omega (arith, ge, same)) (omega (arith, within_k, long, ge)) in
+            let at : (get_or qs (k - done) e).0 ≡ (get_or ps k e).0 = at_qs (k - done) e ∙ ap (λ (j : ℕ). (get_or ps j e).0) k_is in
+            omega (arith, above, at);
+      }
 
-      one_number : (q : ℕ × ℕ) → numbers_at q.0 (q ∷ []) ≡ q.1 ∷ []
-      one_number q = let same : (q.0 == q.0) ≡ true = grind (arith, nat_tests) in rw same refl
+-- ---- the loop over the steps
 
-      place_of_pair : HasPlace p.0
-      place_of_pair = covered_place p ((are.every p).0 (i, lt, sym at))
+abbrev Step : Type 0
+Step = ℕ × Option (Vec ℕ Global)
 
-  -- the end of the pairs
-  pub walk_end : (i id : ℕ) (numbers : List ℕ) (old new : List (ℕ × List ℕ)) → IsWalked m ps i id numbers old → length ps ≤ i
-      → AddsTile m id old new → AreTiles m new
-  walk_end i id numbers old new walked ends adds = record {
-    ascending = done.ascending;
-    each = All-weaker (λ t. (t.0 < id + 1) × IsTile m t) (IsTile m) (λ t h. h.1) new done.each;
-    every = λ z x y j is some. (up_to (id + 1) (id + (j + 2)) new (omega arith) (behind (id + (j + 2))) done).every z x y j is (omega arith) some;
-  }
-    where
-      place : HasPlace id
-      place = walked.place
+abbrev bytes_of : Option (Vec ℕ Global) → Option (List ℕ)
+bytes_of o = option_map (λ (v : Vec ℕ Global). v.items) o
 
-      done : AreTilesBelow m (id + 1) new
-      done = with_tile m place.0 place.1 place.2 id old new place.4 walked.tiles adds
+-- what is told of a step that was made
+pub step_made : (m : FeatureMap) (old new : TilesView) (o : Option Step) (id : ℕ) (bytes : Option (Vec ℕ Global)) → o ≡ Some (id, bytes) → old.features ≡ m
+    → IfSome o (λ t. IsStep old.features old.from t.0 (bytes_of t.1) × (new.from ≡ t.0 + 1))
+    → IsStep m old.from id (bytes_of bytes) × (new.from ≡ id + 1)
+step_made m old new o id bytes is map told =
+    let here = subst (λ (x : Option Step). IfSome x (λ t. IsStep old.features old.from t.0 (bytes_of t.1) × (new.from ≡ t.0 + 1))) is told in
+    (subst (λ (n : FeatureMap). IsStep n old.from id (bytes_of bytes)) map here.0, here.1)
 
-      behind : (b j : ℕ) → id + 1 ≤ j → j < b → All (λ q. q.0 ≢ j) ps
-      behind b j from to k d within same = let under = walked.before k d (omega arith) within in omega (arith, same)
+pub tile_made : (m : FeatureMap) (start : ℕ) (old new : TilesView) (o : Option Step) (id : ℕ) (bytes : Option (Vec ℕ Global)) (found : Vec ℕ Global)
+    → o ≡ Some (id, bytes) → bytes ≡ Some found → old.features ≡ m → start ≤ old.from → ShowsNothing m start old.from
+    → IfSome o (λ t. IsStep old.features old.from t.0 (bytes_of t.1) × (new.from ≡ t.0 + 1))
+    → IsNextTile m start (id, found.items) × (new.from ≡ id + 1)
+tile_made m start old new o id bytes found is there map le nothing told =
+    let step = step_made m old new o id bytes is map told in
+    (step_shows m start old.from id found.items le nothing (subst (λ (b : Option (Vec ℕ Global)). IsStep m old.from id (bytes_of b)) there step.0), step.1)
 
--- ---- what a tile's layers add
+-- after a step that shows nothing
+pub record IsPassed (m : FeatureMap) (start : ℕ) (old new : TilesView) : Type 0 where
+  pub above : start ≤ new.from
+  pub nothing : ShowsNothing m start new.from
+  pub further : old.from < new.from
+  pub within : new.from ≤ TILE_IDS
+
+pub passed : (m : FeatureMap) (start : ℕ) (old new : TilesView) (o : Option Step) (id : ℕ) (bytes : Option (Vec ℕ Global))
+    → o ≡ Some (id, bytes) → bytes ≡ None → old.features ≡ m → start ≤ old.from → ShowsNothing m start old.from
+    → IfSome o (λ t. IsStep old.features old.from t.0 (bytes_of t.1) × (new.from ≡ t.0 + 1))
+    → IsPassed m start old new
+passed m start old new o id bytes is none map le nothing told =
+    let step = step_made m old new o id bytes is map told in
+    let here = step.0.here in
+    let low = place_within id step.0.place in
+    let shows = step_nothing m start old.from id le nothing (subst (λ (b : Option (Vec ℕ Global)). IsStep m old.from id (bytes_of b)) none step.0) in
+    record {
+      above = omega (arith, le, here, step.1);
+      nothing = subst (λ (n : ℕ). ShowsNothing m start n) (sym step.1) shows;
+      further = omega (arith, here, step.1);
+      within = omega (arith, low, step.1);
+    }
+
+pub last_step : (m : FeatureMap) (start : ℕ) (old : TilesView) (o : Option Step) → o ≡ None → old.features ≡ m → ShowsNothing m start old.from
+    → IfNone o (ShowsNothingFrom old.features old.from) → ShowsNothingFrom m start
+last_step m start old o none map nothing told =
+    let here = subst (λ (x : Option Step). IfNone x (ShowsNothingFrom old.features old.from)) none told in
+    last_nothing m start old.from nothing (subst (λ (n : FeatureMap). ShowsNothingFrom n old.from) map here)
+
+-- what holds anyway holds after an error
+pub on_err : {X E P : Type 0} (r : Result X E) → P → OnErr r P
+on_err (Ok x) p = tt
+on_err (Err e) p = p
+
+-- no pair is done at the start
+pub walk_start : (ps : List (ℕ × ℕ)) → IsSplit ps 0 0
+walk_start ps = record { before = λ k d lt within. absurd (omega (arith, lt)); behind = λ k d ge within. omega arith }
+
+-- ---- the tile of an id
 
 -- the tile that is found has the id
 pub tile_found : (found : Option TileAt) (at : TileAt) (id : ℕ) → found ≡ Some at → IfSome found (λ t. IsTileId t.z t.x t.y id) → IsTileId at.z at.x at.y id
@@ -398,7 +347,3 @@ no_layers view (x ∷ xs) ls same none = absurd (omega (arith, none))
 
 pub some_layers : {X : Type 0} (view : X → LayerView) (xs : List X) (ls : List LayerView) → map view xs ≡ ls → 0 < length xs → 0 < length ls
 some_layers view xs ls same some = omega (arith, some, length-map xs view, ap length same)
-
--- a tile behind others
-pub views_push : (ts : List (ℕ × Vec ℕ Global)) (t : ℕ × Vec ℕ Global) → tile_views (ts ++ t ∷ []) ≡ tile_views ts ++ (t.0, t.1.items) ∷ []
-views_push ts t = map-append (λ u. (u.0, u.1.items)) ts (t ∷ [])

@@ -7,3 +7,4 @@ pub mod Pairs
 pub mod Snapshots
 pub mod Store
 pub mod Tiles
+pub mod Walk

@@ -1,10 +1,9 @@
 -- All tiles of a map.
-use Rattle.std.specs.Prelude.{◌≡◌, ◌<◌, ◌≤◌, ◌++◌, ◌∷◌, [], ℕ, List, length, map, All, Vec}
+use Rattle.std.specs.Prelude.{◌≡◌, ◌<◌, ◌≤◌, [], ◌∷◌, ℕ, List, length, All, Option, Some, None}
 use Rattle.std.specs.List.{Contains}
 use Rattle.std.specs.List.Sorted.{IsStrictlySortedBy}
 use Rattle.std.specs.Map.{keys_of}
 use Rattle.std.specs.Ordering.{nat_cmp}
-use Rattle.std.specs.declared.alloc.Global.{Global}
 use Rattle.feature_model.specs.declared.limits.TheConstants.{GREATEST_ZOOM}
 use Rattle.hilbert_id.specs.Curve.{IsTileId}
 use Rattle.mvt_layer.specs.Tile.{LayerView}
@@ -22,21 +21,49 @@ pub record AreTiles (m : FeatureMap) (ts : List (ℕ × List ℕ)) : Type 0 wher
   pub each : All (IsTile m) ts
   pub every : (z x y id : ℕ) → IsTileId z x y id → 0 < length (layers m z x y) → Contains (keys_of ts) id
 
+-- all tiles of the map with a lower id, ascending by id
+pub record AreTilesBelow (m : FeatureMap) (end : ℕ) (ts : List (ℕ × List ℕ)) : Type 0 where
+  pub ascending : IsStrictlySortedBy nat_cmp (keys_of ts)
+  pub each : All (λ t. (t.0 < end) × IsTile m t) ts
+  pub every : (z x y id : ℕ) → IsTileId z x y id → id < end → 0 < length (layers m z x y) → Contains (keys_of ts) id
+
 -- ---- one after the other
+
+-- what contracts see of a walk over the tiles of a map: the map, and the least id that the next tile may have
+pub record TilesView : Type 0 where
+  pub features : FeatureMap
+  pub from : ℕ
+
+-- no tile with an id from `from` on and below `end` shows anything of the map
+abbrev pub ShowsNothing : FeatureMap → (from end : ℕ) → Type 0
+ShowsNothing m from end = (z x y id : ℕ) → IsTileId z x y id → from ≤ id → id < end → layers m z x y ≡ []
+
+-- no tile with an id from `from` on shows anything of the map
+abbrev pub ShowsNothingFrom : FeatureMap → (from : ℕ) → Type 0
+ShowsNothingFrom m from = (z x y id : ℕ) → IsTileId z x y id → from ≤ id → layers m z x y ≡ []
+
+-- the first tile, by its id from `from` on, that shows something of the map
+pub record IsNextTile (m : FeatureMap) (from : ℕ) (t : ℕ × List ℕ) : Type 0 where
+  pub here : from ≤ t.0
+  pub tile : IsTile m t
+  pub between : ShowsNothing m from t.0
 
 -- the id is that of a tile of a zoom that a map has
 abbrev pub HasPlace : ℕ → Type 0
 HasPlace id = (z : ℕ) × (x : ℕ) × (y : ℕ) × (z ≤ GREATEST_ZOOM) × IsTileId z x y id
 
--- a tile of these layers as an entry, and none where there are no layers
-abbrev pub tile_entry : ℕ → List LayerView → List (ℕ × List ℕ)
-tile_entry id [] = []
-tile_entry id (l ∷ ls) = (id, written (l ∷ ls)) ∷ []
+-- the bytes of a tile with these layers, and none where there are no layers
+abbrev pub tile_bytes : List LayerView → Option (List ℕ)
+tile_bytes [] = None
+tile_bytes (l ∷ ls) = Some (written (l ∷ ls))
 
--- behind the tiles stands the one with this id, where it shows something of the map
-abbrev pub AddsTile : FeatureMap → ℕ → List (ℕ × List ℕ) → List (ℕ × List ℕ) → Type 0
-AddsTile m id old new = (z x y : ℕ) → IsTileId z x y id → new ≡ old ++ tile_entry id (layers m z x y)
+-- the bytes of the tile with this id, if it shows something of the map
+abbrev pub IsBytesAt : FeatureMap → ℕ → Option (List ℕ) → Type 0
+IsBytesAt m id bytes = (z x y : ℕ) → IsTileId z x y id → bytes ≡ tile_bytes (layers m z x y)
 
--- tiles without where they lie in memory
-abbrev pub tile_views : List (ℕ × Vec ℕ Global) → List (ℕ × List ℕ)
-tile_views ts = map (λ t. (t.0, t.1.items)) ts
+-- the id of the first tile from `from` on that may show something of the map, and its bytes if it does
+pub record IsStep (m : FeatureMap) (from id : ℕ) (bytes : Option (List ℕ)) : Type 0 where
+  pub here : from ≤ id
+  pub place : HasPlace id
+  pub between : ShowsNothing m from id
+  pub bytes_are : IsBytesAt m id bytes

@@ -1,5 +1,5 @@
-//! All tiles of a map.
-ghost use Rattle.std.specs.Prelude.{◌≡◌, ◌≤◌, ℕ, IfOk, OnOk};
+//! All tiles of a map, one after the other.
+ghost use Rattle.std.specs.Prelude.{◌≡◌, ◌≤◌, ◌+◌, ℕ, IfOk, OnErr, IfSome, IfNone, option_map};
 ghost use Rattle.feature_model.specs.declared.limits.TheConstants.{GREATEST_ZOOM};
 ghost use Rattle.hilbert_id.specs.Curve.{IsTileId};
 ghost use Rattle.mvt_layer.specs.Tile.{layer_views};
@@ -7,9 +7,9 @@ ghost use Rattle.mvt_write.specs.CanWrite.{CanWriteAll};
 ghost use Rattle.feature_store.specs.Indexed.{ShowsAll};
 ghost use Rattle.feature_store.specs.Inside.{entries_data};
 ghost use Rattle.feature_store.specs.Layers.{layers};
-ghost use Rattle.feature_store.specs.Pairs.{ArePairsOfMap};
+ghost use Rattle.feature_store.specs.Pairs.{ArePairsOfMap, leading};
 ghost use Rattle.feature_store.specs.Store.{IsMap};
-ghost use Rattle.feature_store.specs.Tiles.{HasPlace, AddsTile, AreTiles, tile_views};
+ghost use Rattle.feature_store.specs.Tiles.{HasPlace, IsBytesAt, IsNextTile, IsStep, ShowsNothing, ShowsNothingFrom};
 
 use crate::gathered::gather;
 use crate::layers::listed;
@@ -19,9 +19,35 @@ use mvt_layer::Layer;
 use mvt_write::write_tile;
 use number_map::NumberMap;
 use std::alloc::{AllocError, Global};
+use std::marker::Model;
 
 /// The id of a tile, and its bytes.
 pub type Tile = (u64, Vec<u8>);
+
+/// The tiles that show something of a map, in ascending order of their ids, each made when it is asked for.
+#[derive(Debug, Drop)]
+pub struct Tiles<'a> {
+    features: &'a NumberMap<Feature>,
+    /// The pairs of a tile's id and a feature's number, ascending.
+    pairs: Vec<(u64, u64)>,
+    /// How many of the pairs are of tiles that were made.
+    done: usize,
+    /// No such tile has this id or a greater one.
+    from: u64,
+    alloc: Global,
+}
+
+impl<'a> Model for Tiles<'a> {
+    ghost use Rattle.feature_store.specs.Tiles.{TilesView};
+
+    ghost Value = { TilesView };
+
+    ghost use Rattle.feature_store.specs.Walk.{tiles_view, IsWalk};
+
+    ghost view = { tiles_view };
+
+    ghost invariant = { IsWalk };
+}
 
 /// The layers of a tile, by the numbers of the features of which it shows something, and maybe of others.
 pub(crate) fn tile_layers<'a>(
@@ -40,52 +66,93 @@ pub(crate) fn tile_layers<'a>(
     listed(alloc, gathered)
 }
 
-/// Adds the tile of an id, where it shows something, by the numbers as for its layers.
-fn add_tile(
+/// The bytes of the tile of an id, if it shows something, by the numbers as for its layers.
+fn bytes_at(
     alloc: Global,
     features: &NumberMap<Feature>,
     numbers: &[u64],
     id: u64,
-    tiles: &mut Vec<Tile>,
-) -> Result<(), AllocError>
+) -> Result<Option<Vec<u8>>, AllocError>
     requires place { HasPlace id }
     requires map { IsMap (entries_data features.now.entries) }
     requires shown { (z x y : ℕ) → z ≤ GREATEST_ZOOM → IsTileId z x y id → ShowsAll (entries_data features.now.entries) z x y numbers.now }
-    ensures { OnOk result (AddsTile (entries_data features.now.entries) id (tile_views tiles.old.items) (tile_views tiles.new.items)) }
+    ensures { IfOk result (λ o. IsBytesAt (entries_data features.now.entries) id (option_map (λ v. v.items) o)) }
 {
     let at = tile_of(id).unwrap();
     let layers = tile_layers(alloc, features, numbers, at)?;
     if layers.is_empty() {
-        return Ok(());
+        return Ok(None);
     }
     let bytes = write_tile(alloc, &layers)?;
-    tiles.push((id, bytes))?;
-    Ok(())
+    Ok(Some(bytes))
 }
 
-/// The tiles of all pairs, whose numbers are gathered for one tile at a time.
-pub(crate) fn tiles_of(
-    alloc: Global,
-    features: &NumberMap<Feature>,
-    pairs: &[(u64, u64)],
-) -> Result<Vec<Tile>, AllocError>
-    requires map { IsMap (entries_data features.now.entries) }
-    requires pairs { ArePairsOfMap (entries_data features.now.entries) pairs.now }
-    ensures { IfOk result (λ tiles. AreTiles (entries_data features.now.entries) (tile_views tiles.items)) }
+/// The numbers of the pairs in front that are of this tile.
+fn leading(alloc: Global, pairs: &[(u64, u64)], id: u64) -> Result<Vec<u64>, AllocError>
+    ensures { IfOk result (λ numbers. numbers.items ≡ leading id pairs.now) }
 {
-    let mut tiles = Vec::new(alloc);
     let mut numbers = Vec::new(alloc);
-    let mut id = 0;
     for pair in pairs {
-        if pair.0 == id {
-            numbers.push(pair.1)?;
-            continue;
+        if pair.0 != id {
+            return Ok(numbers);
         }
-        add_tile(alloc, features, &numbers, id, &mut tiles)?;
-        id = pair.0;
-        numbers.clear();
         numbers.push(pair.1)?;
     }
-    add_tile(alloc, features, &numbers, id, &mut tiles)?;
-    Ok(tiles)
+    Ok(numbers)
+}
+
+impl<'a> Tiles<'a> {
+    /// The tiles of a map, by all of its pairs.
+    pub(crate) fn of(
+        alloc: Global,
+        features: &'a NumberMap<Feature>,
+        pairs: Vec<(u64, u64)>,
+    ) -> Tiles<'a>
+        requires map { IsMap (entries_data features.now.entries) }
+        requires pairs { ArePairsOfMap (entries_data features.now.entries) pairs.items }
+        ensures map { result.features ≡ entries_data features.entry.now.entries }
+        ensures start { result.from ≡ 0 }
+    {
+        Tiles {
+            features,
+            pairs,
+            done: 0,
+            from: 0,
+            alloc,
+        }
+    }
+
+    /// The id of the next tile that may show something, and its bytes if it does. The only error is out of memory.
+    fn step(&mut self) -> Result<Option<(u64, Option<Vec<u8>>)>, AllocError>
+        ensures map { self.new.features ≡ self.old.features }
+        ensures tile { IfOk result (λ o. IfSome o (λ t. IsStep self.old.features self.old.from t.0 (option_map (λ v. v.items) t.1)
+            × (self.new.from ≡ t.0 + 1))) }
+        ensures none { IfOk result (λ o. IfNone o (ShowsNothingFrom self.old.features self.old.from)) }
+        ensures failed { OnErr result (self.new ≡ self.old) }
+    {
+        if self.done >= self.pairs.len() {
+            return Ok(None);
+        }
+        let id = self.pairs[self.done].0;
+        let numbers = leading(self.alloc, &self.pairs[self.done..], id)?;
+        let bytes = bytes_at(self.alloc, self.features, &numbers, id)?;
+        self.done += numbers.len();
+        self.from = id + 1;
+        Ok(Some((id, bytes)))
+    }
+
+    /// The next tile that shows something, if there is one. The only error is out of memory; the next call makes the same tile then.
+    pub fn next(&mut self) -> Result<Option<Tile>, AllocError>
+        ensures map { self.new.features ≡ self.old.features }
+        ensures tile { IfOk result (λ o. IfSome o (λ t. IsNextTile self.old.features self.old.from (t.0, t.1.items) × (self.new.from ≡ t.0 + 1))) }
+        ensures none { IfOk result (λ o. IfNone o (ShowsNothingFrom self.old.features self.old.from)) }
+        ensures failed { OnErr result ((self.old.from ≤ self.new.from) × ShowsNothing self.old.features self.old.from self.new.from) }
+    {
+        while let Some((id, bytes)) = self.step()? {
+            if let Some(bytes) = bytes {
+                return Ok(Some((id, bytes)));
+            }
+        }
+        Ok(None)
+    }
 }

@@ -12,7 +12,7 @@ mod limit;
 mod snapshot_texts;
 mod store;
 
-pub use all_tiles::Tile;
+pub use all_tiles::{Tile, Tiles};
 pub use fault::SnapshotFault;
 pub use limit::TEXTS_END;
 pub use store::Store;

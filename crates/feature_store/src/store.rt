@@ -8,12 +8,11 @@ ghost use Rattle.feature_store.specs.Inside.{entries_data};
 ghost use Rattle.feature_store.specs.Layers.{layers};
 ghost use Rattle.feature_store.specs.Pairs.{ArePairsOfMap};
 ghost use Rattle.feature_store.specs.Snapshots.{IsNoSnapshot};
-ghost use Rattle.feature_store.specs.Tiles.{AreTiles, tile_views};
 ghost use Rattle.feature_store.specs.declared.fault.SnapshotFault.TheVariants.{Bad, Memory};
 ghost use Rattle.feature_store.specs.Store.{IsMap, HasRoom, feature_at, with_feature, without_feature, snapshot, puts_in};
 
 use crate::all_pairs::all_pairs;
-use crate::all_tiles::{Tile, tile_layers, tiles_of};
+use crate::all_tiles::{Tiles, tile_layers};
 use crate::appended::append_blocks;
 use crate::fault::SnapshotFault;
 use crate::indexed::{index_entry, numbers_near, take_entry};
@@ -202,13 +201,14 @@ impl Store {
         all_pairs(self.alloc, &self.features)
     }
 
-    /// The tiles that show something of the map, in ascending order of their ids, each with its bytes (Mapbox Vector Tile 2.1).
-    /// The only error is out of memory.
-    pub fn tiles(&self) -> Result<Vec<Tile>, AllocError>
-        ensures { IfOk result (λ tiles. AreTiles self.now.features (tile_views tiles.items)) }
+    /// The tiles that show something of the map, in ascending order of their ids, each with its bytes (Mapbox Vector Tile 2.1) and
+    /// made when it is asked for. The pairs are made at once. The only error is out of memory.
+    pub fn tiles(&self) -> Result<Tiles<'_>, AllocError>
+        ensures map { IfOk result (λ tiles. tiles.features ≡ self.now.features) }
+        ensures start { IfOk result (λ tiles. tiles.from ≡ 0) }
     {
         let pairs = self.pairs()?;
-        tiles_of(self.alloc, &self.features, &pairs)
+        Ok(Tiles::of(self.alloc, &self.features, pairs))
     }
 
     /// The snapshot of the map: the texts that give each number its feature, in ascending number. The only error is out of memory.

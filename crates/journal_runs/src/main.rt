@@ -23,11 +23,13 @@
 //! | `area G I = BYTES` | writes sector I of the area of generation G |
 //! | `install G E J S A` | installs a root: generation, edits, journal place, lengths of snapshot and archive |
 //! | `ring FIRST PLACES PLACE EDITS` | recovers the journal in PLACES sectors from FIRST on: EDITS edits came before the record at PLACE |
-//! | `append = BYTES` | appends a text to the journal |
+//! | `ring FIRST PLACES PLACE EDITS V` | the same on a disk of version V, not 2 |
+//! | `append = BYTES`, `append V = BYTES` | appends a record of version 1 or V to the journal |
 //! | `next` | prints the free places and the start of the next record |
 //! | `mark` | remembers the start of the next record |
 //! | `release N` | releases the N places before the mark |
-//! | `head AT NUMBER` | prints whether a sector is the head of record NUMBER, and what it says |
+//! | `head AT NUMBER` | prints which version of the head of record NUMBER a sector is, and what it says as one of version 1 and as one of version 2 |
+//! | `head AT NUMBER V` | prints which version of the head it is, up to V |
 //! | `part HEAD NUMBER AT PART` | prints whether sector AT is this part of record NUMBER, whose head is in sector HEAD |
 #![tactic(auto)]
 

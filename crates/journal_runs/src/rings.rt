@@ -1,24 +1,35 @@
 //! Commands on a journal in a ring of sectors.
-ghost use Rattle.std.specs.Prelude.{◌≡◌, ◌↔◌, ◌+◌, ◌%◌, IsTrue};
+ghost use Rattle.std.specs.Prelude.{◌≡◌, ◌↔◌, ◌+◌, ◌%◌, length, IsTrue};
+ghost use Rattle.edit_journal.specs.Records.{IsRecordLength};
 ghost use Rattle.edit_journal.specs.Releases.{IsBehind, MayTake};
 
 use crate::lines::{Line, RingVerb};
 use crate::trial::{Trial, fixed_text, outcome_text};
-use edit_journal::{Journal, Start, head_in, is_head};
+use edit_journal::{
+    FIRST_RECORD_VERSION, Journal, LAST_RECORD_VERSION, MOST_RECORD_BYTES, Record, Start, head_in,
+    head_version,
+};
 use script_bytes::spelled_briefly;
 use sector_disk::Sectors;
 use std::alloc::{AllocError, Global};
 
-/// The longest text that an edit has.
-const MOST_TEXT: usize = 32_768;
-
-/// The text of a journal and its records.
-fn journal_text(alloc: Global, journal: Journal, texts: &[Vec<u8>]) -> Result<String, AllocError> {
+/// The text of a journal and its records, each its version and its text.
+fn journal_text(alloc: Global, journal: Journal, records: &[Record]) -> Result<String, AllocError> {
     let mut text = format!(in alloc; "used {} last {}:", journal.used, journal.last)?;
-    for bytes in texts {
-        write!(text, " {}", spelled_briefly(alloc, bytes)?)?;
+    for next in records {
+        write!(
+            text,
+            " {}={}",
+            next.version,
+            spelled_briefly(alloc, &next.text)?
+        )?;
     }
     Ok(text)
+}
+
+/// A number as a version; one that is too large as the largest.
+fn version_in(number: u64) -> u32 {
+    u32::try_from(number).unwrap_or(u32::MAX)
 }
 
 /// Recovers the journal of a ring, if the disk has that.
@@ -27,35 +38,52 @@ fn ring(
     trial: &mut Trial,
     [first, places]: [u64; 2],
     start: Start,
+    version: u32,
 ) -> Result<Option<String>, AllocError> {
     let sectors = trial.disk.count();
     if places > sectors || first > sectors - places || start.place >= places {
         return fixed_text(alloc, "no ring");
     }
     let before = trial.disk.calls();
-    let outcome = Journal::recover(alloc, &mut trial.disk, first, places, start);
+    let outcome = Journal::recover(alloc, &mut trial.disk, first, places, start, version);
     let calls = trial.disk.calls().saturating_sub(before);
     match outcome {
-        Ok((journal, texts)) => {
+        Ok((journal, records)) => {
             trial.journal = journal;
-            let text = journal_text(alloc, journal, &texts)?;
+            let text = journal_text(alloc, journal, &records)?;
             Ok(Some(format!(in alloc; "{text} in {calls}")?))
         }
         Err(fault) => outcome_text(alloc, fault, calls),
     }
 }
 
-fn append(alloc: Global, trial: &mut Trial, text: &[u8]) -> Result<Option<String>, AllocError> {
+/// Whether a record of this version may have a text of this length.
+fn is_record(version: u32, text: &[u8]) -> bool
+    ensures { IsTrue result → IsRecordLength version (length text.now) }
+{
+    if version < FIRST_RECORD_VERSION || version > LAST_RECORD_VERSION {
+        return false;
+    }
+    let most = MOST_RECORD_BYTES + (version - FIRST_RECORD_VERSION);
+    !text.is_empty() && text.len() <= most as usize
+}
+
+fn append(
+    alloc: Global,
+    trial: &mut Trial,
+    version: u32,
+    text: &[u8],
+) -> Result<Option<String>, AllocError> {
     let journal = &mut trial.journal;
     let sectors = trial.disk.count();
     if journal.places > sectors || journal.first > sectors - journal.places {
         return fixed_text(alloc, "no ring");
     }
-    if text.is_empty() || text.len() > MOST_TEXT {
+    if !is_record(version, text) {
         return fixed_text(alloc, "no text");
     }
     let before = trial.disk.calls();
-    let outcome = journal.append(&mut trial.disk, text);
+    let outcome = journal.append(&mut trial.disk, version, text);
     outcome_text(alloc, outcome, trial.disk.calls().saturating_sub(before))
 }
 
@@ -121,9 +149,21 @@ fn head(
     [at, number]: [u64; 2],
 ) -> Result<Option<String>, AllocError> {
     let sector = sector_at(trial, at);
-    let is = is_head(&sector, number);
-    let says = head_in(&sector, number);
-    Ok(Some(format!(in alloc; "{is} {says:?}")?))
+    let version = head_version(&sector, number, LAST_RECORD_VERSION);
+    let first = head_in(&sector, FIRST_RECORD_VERSION, number);
+    let last = head_in(&sector, LAST_RECORD_VERSION, number);
+    Ok(Some(format!(in alloc; "{version:?} {first:?} {last:?}")?))
+}
+
+fn head_up_to(
+    alloc: Global,
+    trial: &mut Trial,
+    [at, number]: [u64; 2],
+    most: u32,
+) -> Result<Option<String>, AllocError> {
+    let sector = sector_at(trial, at);
+    let version = head_version(&sector, number, most);
+    Ok(Some(format!(in alloc; "{version:?}")?))
 }
 
 fn part(
@@ -134,7 +174,10 @@ fn part(
 ) -> Result<Option<String>, AllocError> {
     let first = sector_at(trial, head_at);
     let sector = sector_at(trial, at);
-    let has = head_in(&first, number).map(|head| head.has_part(&sector, part));
+    let head = head_version(&first, number, LAST_RECORD_VERSION).and_then(|version| head_in(
+        &first, version, number,
+    ));
+    let has = head.map(|head| head.has_part(&sector, part));
     Ok(Some(format!(in alloc; "{has:?}")?))
 }
 
@@ -151,13 +194,24 @@ pub(crate) fn answered(
                 place: *place,
                 edits: *edits,
             };
-            ring(alloc, trial, [*first, *places], start)
+            ring(alloc, trial, [*first, *places], start, LAST_RECORD_VERSION)
         }
-        (RingVerb::Append, []) => append(alloc, trial, &line.bytes),
+        (RingVerb::Ring, [first, places, place, edits, version]) => {
+            let start = Start {
+                place: *place,
+                edits: *edits,
+            };
+            ring(alloc, trial, [*first, *places], start, version_in(*version))
+        }
+        (RingVerb::Append, []) => append(alloc, trial, FIRST_RECORD_VERSION, &line.bytes),
+        (RingVerb::Append, [version]) => append(alloc, trial, version_in(*version), &line.bytes),
         (RingVerb::Next, []) => next(alloc, trial.journal),
         (RingVerb::Mark, []) => mark(alloc, trial),
         (RingVerb::Release, [behind]) => release(alloc, trial, *behind),
         (RingVerb::Head, [at, number]) => head(alloc, trial, [*at, *number]),
+        (RingVerb::Head, [at, number, most]) => {
+            head_up_to(alloc, trial, [*at, *number], version_in(*most))
+        }
         (RingVerb::Part, [head_at, number, at, index]) => {
             part(
                 alloc,

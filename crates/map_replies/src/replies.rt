@@ -125,7 +125,8 @@ fn service_status(fault: ServiceFault) -> StatusCode
         ServiceFault::Limit(fault) => edit_status(fault),
         ServiceFault::NotFound => StatusCode::NOT_FOUND,
         ServiceFault::Memory => StatusCode::SERVICE_UNAVAILABLE,
-        ServiceFault::Busy | ServiceFault::Idle | ServiceFault::NeedsUpgrade => StatusCode::CONFLICT,
+        ServiceFault::Busy | ServiceFault::Idle | ServiceFault::NeedsUpgrade =>
+            StatusCode::CONFLICT,
         ServiceFault::TooManyTiles
         | ServiceFault::AreaFull { .. }
         | ServiceFault::JournalFull { .. } => StatusCode::INSUFFICIENT_STORAGE,

@@ -148,7 +148,11 @@ fn layers(alloc: Global, store: &Store, at: TileAt) -> Result<String, AllocError
 /// All tiles, each with its id.
 fn tiles(alloc: Global, store: &Store) -> Result<String, AllocError> {
     let mut all = Vec::new(alloc);
-    for tile in &store.tiles()? {
+    let mut tiles = store.tiles()?;
+    for _ in 0..u64::MAX {
+        let Some(tile) = tiles.next()? else {
+            break;
+        };
         all.push((tile.0, hex::encode(alloc, tile.1.as_slice())?))?;
     }
     format!(in alloc; "{all:?}")

@@ -10,7 +10,7 @@ use Rattle.pm_directory.specs.declared.entry.Entry.{Entry}
 use Rattle.pm_build.specs.declared.run.Run.{Run}
 use Rattle.pm_build.specs.Tiles.{Tile, IdsAscend, IsTile, AreTiles}
 use Rattle.pm_build.specs.Runs.{TileRun, repeated, tiles_in, AreLongestRuns}
-use Rattle.pm_build.specs.Joined.{run_views}
+use Rattle.pm_build.specs.Joined.{run_views, runs_end}
 use Rattle.pm_build.specs.Placed.{Names, EachNames, ArePlaced}
 use Rattle.pm_build.specs.Offsets.{IsPlaced, EachPlaced, ArePlacedRuns}
 use Rattle.pm_build.proofs.Joining.{HasCount}
@@ -146,10 +146,20 @@ are_placed tiles rs es cs t l h =
       counted = as_many_spans rs es cs h some;
     }
 
-lengths_of : (runs : List Run) → AllByRecursion IsRun (run_views runs) → AllByRecursion (λ (r : Run). length r.content.now < 2 ^ 32) runs
+lengths_of : (runs : List Run) → AllByRecursion IsRun (run_views runs) → AllByRecursion (λ (r : Run). length r.content.items < 2 ^ 32) runs
 lengths_of [] h = tt
 lengths_of (r ∷ runs) h = (h.0.length_fits, lengths_of runs h.1)
 
 -- a run's content has a length that an entry can say
-pub lengths_fit : (tiles : List Tile) (runs : List Run) → AreTiles tiles → AreLongestRuns tiles (run_views runs) → All (λ r. length r.content.now < 2 ^ 32) runs
-lengths_fit tiles runs t l = All-from_recursion (λ (r : Run). length r.content.now < 2 ^ 32) runs (lengths_of runs (runs_in tiles (run_views runs) t l))
+pub lengths_fit : (tiles : List Tile) (runs : List Run) → AreTiles tiles → AreLongestRuns tiles (run_views runs) → All (λ r. length r.content.items < 2 ^ 32) runs
+lengths_fit tiles runs t l =
+    All-from_recursion (λ (r : Run). length r.content.items < 2 ^ 32) runs (lengths_of runs (runs_in tiles (run_views runs) t l))
+
+end_of_runs : (rs : List TileRun) → AllByRecursion IsRun rs → runs_end rs ≤ TILE_IDS
+end_of_runs [] h = omega arith
+end_of_runs (r ∷ []) h = h.0.ids_fit
+end_of_runs (r ∷ s ∷ rs) h = end_of_runs (s ∷ rs) h.1
+
+-- the id behind the last run is at most that behind the last tile of all
+pub end_low : (tiles : List Tile) (rs : List TileRun) → AreTiles tiles → AreLongestRuns tiles rs → runs_end rs ≤ TILE_IDS
+end_low tiles rs t l = end_of_runs rs (runs_in tiles rs t l)

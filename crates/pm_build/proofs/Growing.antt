@@ -1,5 +1,5 @@
 -- Runs as entries: one run more.
-use Rattle.std.proofs.Common.{◌≡◌, ◌≢◌, ℕ, ◌+◌, ◌<◌, ◌≤◌, List, [], ◌∷◌, ◌++◌, length, map, take, get_or, max, ◌⊎◌, inl, inr, Option, Some, None, refl, sym, ap}
+use Rattle.std.proofs.Common.{◌≡◌, ◌≢◌, ℕ, ◌+◌, ◌^◌, ◌<◌, ◌≤◌, List, [], ◌∷◌, ◌++◌, length, map, take, get_or, max, ◌⊎◌, inl, inr, Option, Some, None, refl, sym, ap}
 use Rattle.std.proofs.Common.{subst, ◌∙◌, arith}
 use Rattle.std.specs.List.{AllByRecursion, Contains, concat}
 use Rattle.std.specs.Str.{bytes_eq}
@@ -159,7 +159,7 @@ placed_none runs contents es no_contents no_entries =
 
 pub placed_more : (runs : List Run) (i : ℕ) (d : Run) (es more : List Entry) (e : Entry) (old new : List (List ℕ)) → i < length runs → more ≡ es ++ e ∷ []
     → ArePlacedRuns (run_views (take i runs)) es old
-    → new ≡ with_content old (get_or runs i d).content.now → IsPlaced new (run_view (get_or runs i d)) e
+    → new ≡ with_content old (get_or runs i d).content.items → IsPlaced new (run_view (get_or runs i d)) e
     → ArePlacedRuns (run_views (take (i + 1) runs)) more new
 placed_more runs i d es more e old new lt pushed h grown p =
     let views : run_views (take (i + 1) runs) ≡ run_views (take i runs) ++ run_view (get_or runs i d) ∷ [] =
@@ -167,6 +167,23 @@ placed_more runs i d es more e old new lt pushed h grown p =
     subst (λ (x : List TileRun). ArePlacedRuns x more new) (sym views)
     (subst (λ (x : List Entry). ArePlacedRuns (run_views (take i runs) ++ run_view (get_or runs i d) ∷ []) x new) (sym pushed)
     (more_placed (run_views (take i runs)) (run_view (get_or runs i d)) es e old new h grown p))
+
+-- the same of a run and the bytes of its content, as the loop has them
+pub placed_item : (runs : List Run) (i : ℕ) (run : Run) (es more : List Entry) (e : Entry) (old new : List (List ℕ)) (bytes : List ℕ) → i < length runs
+    → run ≡ get_or runs i run → more ≡ es ++ e ∷ [] → ArePlacedRuns (run_views (take i runs)) es old → bytes ≡ run.content.items
+    → new ≡ with_content old bytes → e.id ≡ run.first → e.run ≡ run.count → e.length ≡ length run.content.items → offset_from 0 new bytes ≡ Some e.offset
+    → e.offset < 2 ^ 64 → ArePlacedRuns (run_views (take (i + 1) runs)) more new
+placed_item runs i run es more e old new bytes lt at pushed h content grown id count size offset fits =
+    let placed : IsPlaced new (run_view run) e = record {
+      id_is = id;
+      run_is = count;
+      length_is = size;
+      offset_is = ap (λ (bs : List ℕ). offset_from 0 new bs) (sym content) ∙ offset;
+      offset_fits = fits;
+    } in
+    placed_more runs i run es more e old new lt pushed h
+    (grown ∙ ap (λ (bs : List ℕ). with_content old bs) content ∙ ap (λ (r : Run). with_content old r.content.items) at)
+    (subst (λ (r : Run). IsPlaced new (run_view r) e) at placed)
 
 pub placed_all : (runs : List Run) (i : ℕ) (es : List Entry) (contents : List (List ℕ)) → length runs ≤ i → ArePlacedRuns (run_views (take i runs)) es contents
     → ArePlacedRuns (run_views runs) es contents

@@ -1,16 +1,15 @@
--- The longest runs of tiles: what a loop over the tiles keeps, that `runs_of` are the longest runs, and that no others are.
+-- The longest runs of tiles: that `runs_of` are the longest runs, that no others are, and what one tile more does to them.
 use Rattle.std.proofs.Common.{◌≡◌, ℕ, zero, suc, ◌+◌, ◌<◌, ◌≤◌, ◌^◌, Bool, true, false, cond, eqb, ltb, List, [], ◌∷◌, ◌++◌, length, refl, sym}
-use Rattle.std.proofs.Common.{ap, subst, ◌∙◌, arith, Vec}
+use Rattle.std.proofs.Common.{ap, subst, ◌∙◌, arith, if◌then◌else◌}
 use Rattle.std.specs.List.{AllByRecursion}
-use Rattle.std.specs.declared.alloc.Global.{Global}
 use Rattle.std.proofs.lemmas.Bool.{false≢true, eqb-true, eq-eqb, ltb-true, lt-ltb, and_parts, and_from}
-use Rattle.std.proofs.lemmas.List.{nil_from_length}
+use Rattle.std.proofs.lemmas.List.{append_assoc, append-nil, length-append}
 use Rattle.std.proofs.lemmas.Slice.Eq.{bytes_eq-Decides}
-use Rattle.hilbert_id.specs.declared.number.TheConstants.{TILE_IDS}
-use Rattle.pm_build.specs.Tiles.{Tile, IsTile, tile_views}
+use Rattle.pm_build.specs.declared.limit.TheConstants.{MAX_ENTRIES}
+use Rattle.pm_build.specs.Building.{AreTooMany}
+use Rattle.pm_build.specs.Tiles.{Tile}
 use Rattle.pm_build.specs.Runs.{TileRun, repeated, tiles_in, CanJoin, NoneJoin, AreLongestRuns}
-use Rattle.pm_build.specs.declared.run.Run.{Run}
-use Rattle.pm_build.specs.Joined.{run_view, run_views, goes_on, run_of, one_more, runs_from, runs_of}
+use Rattle.pm_build.specs.Joined.{goes_on, run_of, one_more, runs_from, runs_of, goes_on_last, last_grown, with_tile}
 
 -- ---- the test
 
@@ -50,76 +49,6 @@ step_done r = refl
 runs_of_first : (t : Tile) (ts : List Tile) → runs_of (t ∷ ts) ≡ runs_from (run_of t) ts
 unfolding runs_of
 runs_of_first t ts = refl
-
--- the first of tiles in memory
-left_first : (tiles left : List (ℕ × Vec ℕ Global)) (t : ℕ × Vec ℕ Global) (bytes : List ℕ) → tiles ≡ t ∷ left → bytes ≡ t.1.items
-    → tile_views tiles ≡ (t.0, bytes) ∷ tile_views left
-left_first tiles left t bytes is same = ap tile_views is ∙ ap (λ (b : List ℕ). let x : Tile = (t.0, b) in x ∷ tile_views left) (sym same)
-
--- ---- the loop over the tiles of a run
-
--- what the loop keeps, when `left` is left
-pub record InRun (runs : List TileRun) (run : Run) (left : List Tile) : Type 0 where
-  pub so_far : runs_from (run_view run) left ≡ runs
-  pub tiles_left : AllByRecursion IsTile left
-  pub fits : run.first + run.count ≤ TILE_IDS
-
-pub run_begun : (t : ℕ × Vec ℕ Global) (left : List (ℕ × Vec ℕ Global)) (bytes : List ℕ) (run : Run) → bytes ≡ t.1.items
-    → AllByRecursion IsTile (tile_views (t ∷ left)) → run_view run ≡ run_of (t.0, bytes) → InRun (runs_of (tile_views (t ∷ left))) run (tile_views left)
-run_begun t left bytes run same all begun =
-    let e = left_first (t ∷ left) left t bytes refl same in
-    let first : run.first ≡ t.0 = ap (λ (r : TileRun). r.first) begun in
-    let one : run.count ≡ 1 = ap (λ (r : TileRun). r.count) begun in
-    record {
-      so_far = ap (λ r. runs_from r (tile_views left)) begun ∙ sym (ap runs_of e ∙ runs_of_first (t.0, bytes) (tile_views left));
-      tiles_left = all.1;
-      fits = (let low = all.0.0 in omega arith);
-    }
-
-module _ (runs : List TileRun) (tiles left : List (ℕ × Vec ℕ Global)) (t : ℕ × Vec ℕ Global) (bytes : List ℕ) (run : Run)
-    (is : tiles ≡ t ∷ left) (same : bytes ≡ t.1.items) (in_run : InRun runs run (tile_views tiles)) where
-  first_view : tile_views tiles ≡ (t.0, bytes) ∷ tile_views left
-  first_view = left_first tiles left t bytes is same
-
-  -- the first of them goes on with the run
-  pub run_on : (more : Run) → goes_on (run_view run) (t.0, bytes) ≡ true → run_view more ≡ one_more (run_view run) → InRun runs more (tile_views left)
-  run_on more on grown =
-      let these : AllByRecursion IsTile ((t.0, bytes) ∷ tile_views left) = subst (λ (x : List Tile). AllByRecursion IsTile x) first_view in_run.tiles_left in
-      let f = follows (run_view run) (t.0, bytes) on in
-      let first : more.first ≡ run.first = ap (λ (r : TileRun). r.first) grown in
-      let count : more.count ≡ run.count + 1 = ap (λ (r : TileRun). r.count) grown in
-      let step = ap (λ x. runs_from (run_view run) x) first_view ∙ step_on (run_view run) (t.0, bytes) (tile_views left) on in
-      record {
-        so_far = ap (λ r. runs_from r (tile_views left)) grown ∙ sym step ∙ in_run.so_far;
-        tiles_left = these.1;
-        fits = (let low = these.0.0 in let id = f.id_is in omega arith);
-      }
-
-  -- the first of them begins another run
-  pub run_ends : goes_on (run_view run) (t.0, bytes) ≡ false → runs ≡ run_view run ∷ runs_of (tile_views tiles)
-  run_ends off =
-      let step = ap (λ x. runs_from (run_view run) x) first_view ∙ step_off (run_view run) (t.0, bytes) (tile_views left) off in
-      let next = ap runs_of first_view ∙ runs_of_first (t.0, bytes) (tile_views left) in
-      sym in_run.so_far ∙ step ∙ ap (λ x. run_view run ∷ x) (sym next)
-
--- none is left
-pub run_last : (runs : List TileRun) (tiles : List (ℕ × Vec ℕ Global)) (run : Run) → length tiles ≡ 0 → InRun runs run (tile_views tiles)
-    → runs ≡ run_view run ∷ runs_of (tile_views tiles)
-unfolding runs_of
-run_last runs tiles run none in_run =
-    let e = nil_from_length tiles none in
-    sym in_run.so_far ∙ ap (λ (x : List (ℕ × Vec ℕ Global)). runs_from (run_view run) (tile_views x)) e ∙ step_done (run_view run)
-    ∙ sym (ap (λ (x : List (ℕ × Vec ℕ Global)). run_view run ∷ runs_of (tile_views x)) e)
-
--- ---- the loops over the runs
-
-none_of : runs_of [] ≡ []
-unfolding runs_of
-none_of = refl
-
--- no tiles have no runs
-pub no_runs : (tiles : List (ℕ × Vec ℕ Global)) → length tiles ≡ 0 → runs_of (tile_views tiles) ≡ []
-no_runs tiles none = ap (λ (x : List (ℕ × Vec ℕ Global)). runs_of (tile_views x)) (nil_from_length tiles none) ∙ none_of
 
 -- ---- they are the longest runs
 
@@ -213,11 +142,6 @@ none (t ∷ ts) = none_from (run_of t) ts
 pub longest_from_runs_of : (ts : List Tile) → AreLongestRuns ts (runs_of ts)
 longest_from_runs_of ts = record { together = together ts; each = counts ts; longest = none ts }
 
--- runs in memory that are those are the longest
-pub are_longest : (ts : List Tile) (runs found : List Run) → runs ≡ found → run_views found ≡ runs_of ts → AreLongestRuns ts (run_views runs)
-are_longest ts runs found same is =
-    subst (λ (rs : List TileRun). AreLongestRuns ts rs) (sym (ap run_views same ∙ is)) (longest_from_runs_of ts)
-
 -- ---- no others are
 
 -- a run takes up tiles that go on with it
@@ -286,3 +210,70 @@ only_runs (r ∷ rs) each n =
 -- tiles have one list of longest runs
 pub runs_of_from_longest : (ts : List Tile) (runs : List TileRun) → AreLongestRuns ts runs → runs_of ts ≡ runs
 runs_of_from_longest ts runs h = ap runs_of (sym h.together) ∙ only_runs runs h.each h.longest
+
+-- ---- one tile more behind the others
+
+with_behind : (r : TileRun) (rs : List TileRun) (t : Tile) → 0 < length rs → with_tile (r ∷ rs) t ≡ r ∷ with_tile rs t
+with_behind r [] t some = absurd (omega arith)
+with_behind r (s ∷ rs) t some = by (goes_on_last (s ∷ rs) t)
+  where
+    by : (b : Bool) → (if b then r ∷ last_grown (s ∷ rs) else r ∷ s ∷ rs ++ run_of t ∷ []) ≡ r ∷ (if b then last_grown (s ∷ rs) else s ∷ rs ++ run_of t ∷ [])
+    by true = refl
+    by false = refl
+
+some_from : (r : TileRun) (ts : List Tile) → 0 < length (runs_from r ts)
+some_from r ts = let b = begins r ts in omega (arith, ap length b.is)
+
+from_push : (r : TileRun) (ts : List Tile) (t : Tile) → runs_from r (ts ++ t ∷ []) ≡ with_tile (runs_from r ts) t
+unfolding runs_from
+from_push r [] t = refl
+from_push r (u ∷ us) t = by (goes_on r u) (from_push (one_more r) us t) (from_push (run_of u) us t)
+  where
+    by : (b : Bool) → runs_from (one_more r) (us ++ t ∷ []) ≡ with_tile (runs_from (one_more r) us) t
+        → runs_from (run_of u) (us ++ t ∷ []) ≡ with_tile (runs_from (run_of u) us) t
+        → cond b (runs_from (one_more r) (us ++ t ∷ [])) (r ∷ runs_from (run_of u) (us ++ t ∷ []))
+        ≡ with_tile (cond b (runs_from (one_more r) us) (r ∷ runs_from (run_of u) us)) t
+    by true on off = on
+    by false on off = ap (λ x. r ∷ x) off ∙ sym (with_behind r (runs_from (run_of u) us) t (some_from (run_of u) us))
+
+-- the longest runs of tiles with one more behind them
+pub runs_push : (ts : List Tile) (t : Tile) → runs_of (ts ++ t ∷ []) ≡ with_tile (runs_of ts) t
+unfolding runs_of runs_from
+runs_push [] t = refl
+runs_push (u ∷ us) t = from_push (run_of u) us t
+
+-- ---- more tiles have no fewer runs
+
+length_grown : (rs : List TileRun) → length (last_grown rs) ≡ length rs
+length_grown [] = refl
+length_grown (r ∷ []) = refl
+length_grown (r ∷ s ∷ rs) = ap suc (length_grown (s ∷ rs))
+
+no_fewer : (rs : List TileRun) (t : Tile) → length rs ≤ length (with_tile rs t)
+no_fewer rs t = by (goes_on_last rs t)
+  where
+    by : (b : Bool) → length rs ≤ length (if b then last_grown rs else rs ++ run_of t ∷ [])
+    by true = omega (arith, length_grown rs)
+    by false = omega (arith, length-append rs (run_of t ∷ []))
+
+pub runs_behind : (ts us : List Tile) → length (runs_of ts) ≤ length (runs_of (ts ++ us))
+runs_behind ts [] = omega (arith, ap (λ (x : List Tile). length (runs_of x)) (append-nil ts))
+runs_behind ts (u ∷ us) =
+    omega (
+      arith,
+      no_fewer (runs_of ts) u,
+      ap (λ (x : List TileRun). length x) (runs_push ts u),
+      runs_behind (ts ++ u ∷ []) us,
+      ap (λ (x : List Tile). length (runs_of x)) (append_assoc ts (u ∷ []) us),
+    )
+
+-- where tiles need more entries than an archive has, they do with any tiles behind them
+pub too_many_behind : (ts us : List Tile) (runs : List TileRun) → AreTooMany ts → AreLongestRuns (ts ++ us) runs → MAX_ENTRIES < length runs
+too_many_behind ts us runs (found, longest, many) all =
+    omega (
+      arith,
+      many,
+      ap (λ (x : List TileRun). length x) (runs_of_from_longest ts found longest),
+      runs_behind ts us,
+      ap (λ (x : List TileRun). length x) (runs_of_from_longest (ts ++ us) runs all),
+    )

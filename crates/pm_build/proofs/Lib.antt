@@ -1,9 +1,12 @@
+mod Adding
 mod Archive
 mod Counting
+mod Ends
 mod Entries
 mod Growing
 mod Headers
 pub mod Joining
+mod Keeping
 mod Leaves
 mod Listed
 mod Offsets

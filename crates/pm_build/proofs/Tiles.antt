@@ -1,12 +1,11 @@
 -- The contents of runs, by the entries that name them.
 use Rattle.std.proofs.Common.{◌≡◌, ◌≢◌, ℕ, zero, suc, ◌+◌, ◌*◌, ◌^◌, ◌<◌, ◌≤◌, ◌&&◌, Bool, true, false, cond, eqb, leb, ltb, List, [], ◌∷◌, ◌++◌, length, map}
-use Rattle.std.proofs.Common.{get_or, slice_range, Vec, Global, Some, ◌⊎◌, inl, inr, refl, sym, ap, ◌∙◌, arith}
-use Rattle.std.specs.List.{AllByRecursion, concat, Contains, slice_get}
+use Rattle.std.proofs.Common.{slice_range, Some, ◌⊎◌, inl, inr, refl, sym, ap, ◌∙◌, arith}
+use Rattle.std.specs.List.{AllByRecursion, concat, Contains}
 use Rattle.std.proofs.lemmas.Bool.{cases_Bool, and_parts, and_cases, eqb-false, ne_eqb, leb-true, leb-false, ltb-true, ltb-false}
 use Rattle.std.proofs.lemmas.List.{length-append, length-map}
 use Rattle.std.proofs.lemmas.List.Elements.{All-contains, All-from_recursion}
 use Rattle.std.proofs.lemmas.Map.Made.{distinct_count-le}
-use Rattle.hilbert_id.specs.declared.number.TheConstants.{TILE_IDS}
 use Rattle.pm_header.specs.declared.header.Header.{Header}
 use Rattle.pm_directory.specs.declared.entry.Entry.{Entry}
 use Rattle.pm_directory.specs.Directory.{IsEntry, HasEnd}
@@ -14,7 +13,7 @@ use Rattle.pm_directory.specs.Counts.{addressed_by, span_of, same_span}
 use Rattle.pm_archive.specs.Sections.{section_bytes}
 use Rattle.pm_archive.specs.Entries.{entry_bytes, LiesIn, entry_of}
 use Rattle.pm_archive.specs.Archive.{content_of_entry, content_of}
-use Rattle.pm_build.specs.Tiles.{Tile, IsTile, tile_views}
+use Rattle.pm_build.specs.Tiles.{Tile}
 use Rattle.pm_build.specs.Runs.{TileRun, repeated, tiles_in}
 use Rattle.pm_build.specs.Placed.{EachNames, ArePlaced}
 use Rattle.pm_build.specs.Built.{tile_content}
@@ -25,20 +24,6 @@ HasTiles r = (0 < r.count) × (r.count < 2 ^ 32)
 
 abbrev IsShort : List ℕ → Type 0
 IsShort c = length c < 2 ^ 32
-
--- each tile has an id of the pyramid
-pub id_low : (tiles : List (ℕ × Vec ℕ Global)) (i : ℕ) (d : ℕ × Vec ℕ Global) → i < length tiles → AllByRecursion IsTile (tile_views tiles)
-    → (get_or tiles i d).0 < TILE_IDS
-id_low [] i d lt each = absurd (omega arith)
-id_low (t ∷ ts) zero d lt each = each.0.0
-id_low (t ∷ ts) (suc i) d lt each = id_low ts i d (omega arith) each.1
-
--- a tile in memory is one of the tiles
-pub tile_there : (tiles : List (ℕ × Vec ℕ Global)) (i : ℕ) (d : ℕ × Vec ℕ Global) → i < length tiles
-    → slice_get (tile_views tiles) i ≡ Some ((get_or tiles i d).0, (get_or tiles i d).1.items)
-tile_there [] i d lt = absurd (omega arith)
-tile_there (t ∷ ts) zero d lt = refl
-tile_there (t ∷ ts) (suc i) d lt = tile_there ts i d (omega arith)
 
 -- ---- what each entry has
 
@@ -104,7 +89,7 @@ contents_fit tiles es cs placed few =
 
 -- ---- counts
 
-length-repeated : (id count : ℕ) (content : List ℕ) → length (repeated id count content) ≡ count
+pub length-repeated : (id count : ℕ) (content : List ℕ) → length (repeated id count content) ≡ count
 length-repeated id zero content = refl
 length-repeated id (suc more) content = ap (λ (n : ℕ). suc n) (length-repeated (suc id) more content)
 

@@ -1,5 +1,5 @@
 -- The longest runs as a function of the tiles.
-use Rattle.std.specs.Prelude.{◌+◌, ◌&&◌, Bool, cond, List, [], ◌∷◌, map, nat_eq, nat_lt}
+use Rattle.std.specs.Prelude.{ℕ, ◌+◌, ◌&&◌, Bool, false, cond, if◌then◌else◌, List, [], ◌∷◌, ◌++◌, map, nat_eq, nat_lt}
 use Rattle.std.specs.Str.{bytes_eq}
 use Rattle.pm_build.specs.declared.run.Run.{Run}
 use Rattle.pm_build.specs.Tiles.{Tile}
@@ -7,7 +7,7 @@ use Rattle.pm_build.specs.Runs.{TileRun}
 
 -- a run without where it lies in memory
 abbrev pub run_view : Run → TileRun
-run_view r = record { first = r.first; count = r.count; content = r.content.now }
+run_view r = record { first = r.first; count = r.count; content = r.content.items }
 
 abbrev pub run_views : List Run → List TileRun
 run_views rs = map run_view rs
@@ -33,3 +33,27 @@ runs_from r (t ∷ ts) = cond (goes_on r t) (runs_from (one_more r) ts) (r ∷ r
 unfoldable pub runs_of : List Tile → List TileRun
 runs_of [] = []
 runs_of (t ∷ ts) = runs_from (run_of t) ts
+
+-- ---- one tile after the other
+
+-- the id behind the last tile of the runs
+abbrev pub runs_end : List TileRun → ℕ
+runs_end [] = 0
+runs_end (r ∷ []) = r.first + r.count
+runs_end (r ∷ s ∷ rs) = runs_end (s ∷ rs)
+
+-- whether the tile goes on with the last of the runs
+abbrev pub goes_on_last : List TileRun → Tile → Bool
+goes_on_last [] t = false
+goes_on_last (r ∷ []) t = goes_on r t
+goes_on_last (r ∷ s ∷ rs) t = goes_on_last (s ∷ rs) t
+
+-- the runs, the last with one tile more
+abbrev pub last_grown : List TileRun → List TileRun
+last_grown [] = []
+last_grown (r ∷ []) = one_more r ∷ []
+last_grown (r ∷ s ∷ rs) = r ∷ last_grown (s ∷ rs)
+
+-- the runs with one tile more, which goes on with the last of them or is a run of its own
+abbrev pub with_tile : List TileRun → Tile → List TileRun
+with_tile rs t = if goes_on_last rs t then last_grown rs else rs ++ run_of t ∷ []

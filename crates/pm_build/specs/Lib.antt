@@ -1,6 +1,8 @@
+pub mod Building
 pub mod Built
 pub mod Clustered
 pub mod Joined
+pub mod Kept
 pub mod Laid
 pub mod Leaves
 pub mod Offsets

@@ -1,6 +1,5 @@
 -- The tiles of an archive that is to be built.
-use Rattle.std.specs.Prelude.{ℕ, suc, ◌<◌, ◌≤◌, ◌^◌, List, [], ◌∷◌, length, map, ⊤, Vec}
-use Rattle.std.specs.declared.alloc.Global.{Global}
+use Rattle.std.specs.Prelude.{ℕ, suc, ◌<◌, ◌≤◌, ◌^◌, List, [], ◌∷◌, length, ⊤}
 use Rattle.std.specs.List.{AllByRecursion}
 use Rattle.hilbert_id.specs.declared.number.TheConstants.{TILE_IDS}
 
@@ -20,7 +19,3 @@ IsTile t = (t.0 < TILE_IDS) × (0 < length t.1) × (length t.1 < 2 ^ 32)
 -- tiles in ascending order of their ids
 abbrev pub AreTiles : List Tile → Type 0
 AreTiles tiles = IdsAscend 0 tiles × AllByRecursion IsTile tiles
-
--- tiles in memory
-abbrev pub tile_views : List (ℕ × Vec ℕ Global) → List Tile
-tile_views tiles = map (λ t. (t.0, t.1.items)) tiles

@@ -1,20 +1,20 @@
-ghost use Rattle.std.specs.Prelude.{◌≡◌, ◌≢◌, ℕ, ◌+◌, ◌*◌, ◌^◌, ◌<◌, ◌≤◌, List, [], length, Err, IfOk, map, Contains};
+ghost use Rattle.std.specs.Prelude.{◌≡◌, ℕ, ◌+◌, ◌*◌, ◌^◌, ◌<◌, ◌≤◌, List, length, IfOk, map, Contains};
 ghost use Rattle.std.specs.List.{AllByRecursion, concat};
-ghost use Rattle.pm_build.specs.Tiles.{tile_views, AreTiles};
-ghost use Rattle.pm_build.specs.Runs.{TileRun, AreLongestRuns};
-ghost use Rattle.pm_build.specs.Joined.{runs_of};
+ghost use Rattle.pm_build.specs.Tiles.{AreTiles};
+ghost use Rattle.pm_build.specs.Runs.{TileRun, AreLongestRuns, tiles_in};
+ghost use Rattle.pm_build.specs.Joined.{run_views, runs_of};
 ghost use Rattle.pm_build.specs.Placed.{AreDifferent, ArePlaced};
 ghost use Rattle.pm_archive.specs.Archive.{IsArchiveOf, IsMetadata};
 ghost use Rattle.pm_build.specs.Built.{tile_content};
 ghost use Rattle.pm_build.specs.Laid.{AreJoined, AreZooms, BeginFor, header_for, joined_contents, lengths_of};
 
 use crate::directories::{Directories, write_directories};
-use crate::fault::BuildFault;
 use crate::header::{Counts, Lengths, header_of, zoom_of};
 use crate::limit::MAX_ENTRIES;
 use crate::placed::Placed;
 use crate::placing::place_runs;
-use crate::runs::count_runs;
+use crate::run::Run;
+use crate::runs::end_of;
 use pm_header::{HEADER_BYTES, Header};
 use std::alloc::{AllocError, Global};
 
@@ -56,31 +56,39 @@ fn joined(
 }
 
 // The zooms of the first and of the last tile.
-fn zooms_of(tiles: &[(u64, Vec<u8>)]) -> (u8, u8)
-    requires some { 0 < length tiles.now }
-    requires tiles { AreTiles (tile_views tiles.now) }
-    ensures { AreZooms (tile_views tiles.now) result.0 result.1 }
+fn zooms_of(runs: &[Run]) -> (u8, u8)
+    requires some { 0 < length runs.now }
+    requires tiles { AreTiles (tiles_in (run_views runs.now)) }
+    requires longest { AreLongestRuns (tiles_in (run_views runs.now)) (run_views runs.now) }
+    ensures { AreZooms (tiles_in (run_views runs.now)) result.0 result.1 }
 {
-    let first = zoom_of(tiles[0].0);
-    let last = zoom_of(tiles[tiles.len() - 1].0);
+    let first = zoom_of(runs[0].first);
+    let last = zoom_of(end_of(runs) - 1);
     (first, last)
 }
 
-// The header of an archive of these tiles.
-fn header_for_tiles(
-    tiles: &[(u64, Vec<u8>)],
+// The header of an archive of the tiles of these runs.
+fn header_for_runs(
+    runs: &[Run],
+    addressed: u64,
     placed: &Placed,
     directories: &Directories,
     metadata: &[u8],
 ) -> Header
-    requires some { 0 < length tiles.now }
-    requires tiles { AreTiles (tile_views tiles.now) }
+    requires some { 0 < length runs.now }
+    requires tiles { AreTiles (tiles_in (run_views runs.now)) }
+    requires longest { AreLongestRuns (tiles_in (run_views runs.now)) (run_views runs.now) }
+    requires addressed { addressed ≡ length (tiles_in (run_views runs.now)) }
     requires fits { 127 + length directories.now.root.items + length metadata.now + length directories.now.leaves.items
         + length (joined_contents placed.now.contents.items) < 2 ^ 64 }
-    ensures { (min_zoom max_zoom : ℕ) × AreZooms (tile_views tiles.now) min_zoom max_zoom
+    ensures { (min_zoom max_zoom : ℕ) × AreZooms (tiles_in (run_views runs.now)) min_zoom max_zoom
         × (result ≡ header_for
         (lengths_of directories.now.root.items metadata.now directories.now.leaves.items (joined_contents placed.now.contents.items))
-        record { addressed = length tiles.now; entries = length placed.now.entries.items; contents = length placed.now.contents.items } min_zoom max_zoom) }
+        record {
+          addressed = length (tiles_in (run_views runs.now));
+          entries = length placed.now.entries.items;
+          contents = length placed.now.contents.items;
+        } min_zoom max_zoom) }
 {
     let lengths = Lengths {
         root: directories.root.len() as u64,
@@ -89,86 +97,58 @@ fn header_for_tiles(
         tiles: total(&placed.contents) as u64,
     };
     let counts = Counts {
-        addressed: tiles.len() as u64,
+        addressed,
         entries: placed.entries.len() as u64,
         contents: placed.contents.len() as u64,
     };
-    let (min_zoom, max_zoom) = zooms_of(tiles);
+    let (min_zoom, max_zoom) = zooms_of(runs);
     header_of(lengths, counts, min_zoom, max_zoom)
 }
 
-// The archive of these tiles, whose runs are placed.
+// The archive of the tiles of these runs, which are placed.
 fn archive_of(
     alloc: Global,
-    tiles: &[(u64, Vec<u8>)],
+    runs: &[Run],
+    addressed: u64,
     placed: &Placed,
     metadata: &[u8],
 ) -> Result<Vec<u8>, AllocError>
-    requires some { tile_views tiles.now ≢ [] }
-    requires tiles { AreTiles (tile_views tiles.now) }
-    requires placed { ArePlaced (tile_views tiles.now) placed.now.entries.items (map (λ c. c.now) placed.now.contents.items) }
+    requires some { 0 < length runs.now }
+    requires tiles { AreTiles (tiles_in (run_views runs.now)) }
+    requires longest { AreLongestRuns (tiles_in (run_views runs.now)) (run_views runs.now) }
+    requires addressed { addressed ≡ length (tiles_in (run_views runs.now)) }
+    requires placed { ArePlaced (tiles_in (run_views runs.now)) placed.now.entries.items (map (λ c. c.now) placed.now.contents.items) }
     requires few { length placed.now.entries.items ≤ MAX_ENTRIES }
     requires metadata { IsMetadata metadata.now }
-    ensures archive { IfOk result (λ bytes. IsArchiveOf bytes.items (tile_content (tile_views tiles.now))) }
-    ensures header { IfOk result (λ bytes. BeginFor bytes.items (tile_views tiles.now)) }
+    ensures archive { IfOk result (λ bytes. IsArchiveOf bytes.items (tile_content (tiles_in (run_views runs.now)))) }
+    ensures header { IfOk result (λ bytes. BeginFor bytes.items (tiles_in (run_views runs.now))) }
     ensures size { IfOk result
         (λ bytes. length bytes.items ≤ 127 + length metadata.now + 64 * length placed.now.entries.items + length (joined_contents placed.now.contents.items)) }
 {
     let directories = write_directories(alloc, &placed.entries)?;
-    let header = header_for_tiles(tiles, placed, &directories, metadata);
+    let header = header_for_runs(runs, addressed, placed, &directories, metadata);
     joined(alloc, &header, &directories, metadata, &placed.contents)
 }
 
-// The archive of these tiles, whose runs aren't too many.
-fn archive_of_tiles(
+/// The archive of the tiles of these runs, their longest ones, with this metadata.
+pub(crate) fn archive_of_runs(
     alloc: Global,
-    tiles: &[(u64, Vec<u8>)],
+    runs: &[Run],
+    addressed: u64,
     metadata: &[u8],
 ) -> Result<Vec<u8>, AllocError>
-    requires some { tile_views tiles.now ≢ [] }
-    requires tiles { AreTiles (tile_views tiles.now) }
-    requires few { length (runs_of (tile_views tiles.now)) ≤ MAX_ENTRIES }
+    requires some { 0 < length runs.now }
+    requires tiles { AreTiles (tiles_in (run_views runs.now)) }
+    requires longest { AreLongestRuns (tiles_in (run_views runs.now)) (run_views runs.now) }
+    requires addressed { addressed ≡ length (tiles_in (run_views runs.now)) }
+    requires few { length runs.now ≤ MAX_ENTRIES }
     requires metadata { IsMetadata metadata.now }
-    ensures archive { IfOk result (λ bytes. IsArchiveOf bytes.items (tile_content (tile_views tiles.now))) }
-    ensures header { IfOk result (λ bytes. BeginFor bytes.items (tile_views tiles.now)) }
-    ensures size { IfOk result (λ bytes. (runs : List TileRun) × (contents : List (List ℕ)) × AreLongestRuns (tile_views tiles.now) runs
-        × AreDifferent contents × AllByRecursion (λ c. Contains (map (λ r. r.content) runs) c) contents
-        × (length bytes.items ≤ 127 + length metadata.now + 64 * length runs + length (concat contents))) }
+    ensures archive { IfOk result (λ bytes. IsArchiveOf bytes.items (tile_content (tiles_in (run_views runs.now)))) }
+    ensures header { IfOk result (λ bytes. BeginFor bytes.items (tiles_in (run_views runs.now))) }
+    ensures size { IfOk result (λ bytes. (contents : List (List ℕ)) × AreDifferent contents
+        × AllByRecursion (λ c. Contains (map (λ r. r.content) (run_views runs.now)) c) contents
+        × (length bytes.items ≤ 127 + length metadata.now + 64 * length runs.now + length (concat contents))) }
 {
-    let placed = place_runs(alloc, tiles)?;
-    archive_of(alloc, tiles, &placed, metadata)
-}
-
-/// The archive of these tiles, given by their ids and contents, with this metadata, a JSON object.
-///
-/// Tiles of consecutive ids with equal contents share an entry, and equal contents are stored once. Up to 512 entries
-/// stand in the root directory, more in leaf directories of 512 each.
-///
-/// # Errors
-///
-/// `TooManyEntries` where the runs number over `MAX_ENTRIES`, and then no other. `Memory` where an allocation fails.
-pub fn build(
-    alloc: Global,
-    tiles: &[(u64, Vec<u8>)],
-    metadata: &[u8],
-) -> Result<Vec<u8>, BuildFault>
-    requires some { tile_views tiles.now ≢ [] }
-    requires tiles { AreTiles (tile_views tiles.now) }
-    requires metadata { IsMetadata metadata.now }
-    ensures archive { IfOk result (λ bytes. IsArchiveOf bytes.items (tile_content (tile_views tiles.now))) }
-    ensures header { IfOk result (λ bytes. BeginFor bytes.items (tile_views tiles.now)) }
-    ensures few { (runs : List TileRun) → AreLongestRuns (tile_views tiles.now) runs → MAX_ENTRIES < length runs → result ≡ Err BuildFault.TooManyEntries }
-    ensures many { result ≡ Err BuildFault.TooManyEntries
-        → (runs : List TileRun) × AreLongestRuns (tile_views tiles.now) runs × (MAX_ENTRIES < length runs) }
-    ensures size { IfOk result (λ bytes. (runs : List TileRun) × (contents : List (List ℕ)) × AreLongestRuns (tile_views tiles.now) runs
-        × AreDifferent contents × AllByRecursion (λ c. Contains (map (λ r. r.content) runs) c) contents
-        × (length bytes.items ≤ 127 + length metadata.now + 64 * length runs + length (concat contents))) }
-{
-    if count_runs(tiles) > MAX_ENTRIES {
-        return Err(BuildFault::TooManyEntries);
-    }
-    match archive_of_tiles(alloc, tiles, metadata) {
-        Ok(bytes) => Ok(bytes),
-        Err(_) => Err(BuildFault::Memory),
-    }
+    let placed = place_runs(alloc, runs)?;
+    archive_of(alloc, runs, addressed, &placed, metadata)
 }

@@ -1,7 +1,8 @@
 //! Archives made of tiles (PMTiles 3): header, root directory, metadata, leaf directories, contents, without gaps. Runs
-//! of equal contents are joined, and each content is placed once (4.2).
+//! of equal contents are joined while the tiles are added, and each content is placed once (4.2).
 #![tactic(auto)]
 
+mod builder;
 mod building;
 mod checks;
 mod contents;
@@ -14,7 +15,6 @@ mod placing;
 mod run;
 mod runs;
 
-pub use building::build;
-pub use checks::are_tiles;
+pub use builder::ArchiveBuilder;
 pub use fault::BuildFault;
 pub use limit::MAX_ENTRIES;

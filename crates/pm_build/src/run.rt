@@ -1,9 +1,9 @@
 /// Tiles of consecutive ids with one content.
-#[derive(Clone, Copy, Debug)]
-pub(crate) struct Run<'a> {
+#[derive(Debug, Drop)]
+pub(crate) struct Run {
     /// The id of the first.
     pub(crate) first: u64,
     /// How many there are.
     pub(crate) count: u32,
-    pub(crate) content: &'a [u8],
+    pub(crate) content: Vec<u8>,
 }

@@ -1,81 +1,85 @@
-ghost use Rattle.std.specs.Prelude.{◌≡◌, ◌+◌, ◌<◌, ◌≤◌, ◌^◌, ◌∷◌, length, IfOk};
-ghost use Rattle.std.specs.List.{AllByRecursion};
-ghost use Rattle.pm_build.specs.Tiles.{tile_views, AreTiles, IsTile};
-ghost use Rattle.pm_build.specs.Joined.{run_view, run_views, goes_on, run_of, runs_of};
+//! The longest runs of tiles that come one after the other.
+ghost use Rattle.std.specs.Prelude.{◌≡◌, ◌+◌, ◌<◌, ◌≤◌, ◌^◌, ◌↔◌, ◌++◌, ◌∷◌, [], length, Err, OnOk, OnErr, if◌then◌else◌};
+ghost use Rattle.pm_build.specs.Joined.{run_view, run_views, goes_on, run_of, runs_end, goes_on_last, last_grown, with_tile};
 
+use crate::fault::BuildFault;
+use crate::limit::MAX_ENTRIES;
 use crate::run::Run;
-use std::alloc::{AllocError, Global};
 
 /// Whether a tile goes on with a run: its id follows, its content is equal, and there is room.
-fn goes_on(run: &Run<'_>, id: u64, content: &[u8]) -> bool
+fn goes_on(run: &Run, id: u64, content: &[u8]) -> bool
     requires { run.now.first + run.now.count < 2 ^ 64 }
     ensures { result ≡ goes_on (run_view run.now) (id, content.now) }
 {
-    id == run.first + u64::from(run.count) && run.count < u32::MAX && content == run.content
+    id == run.first + u64::from(run.count)
+        && run.count < u32::MAX
+        && content == run.content.as_slice()
 }
 
-/// The run of one tile.
-fn run_of<'a>(id: u64, content: &'a [u8]) -> Run<'a>
-    ensures { run_view result ≡ run_of (id, content.entry.now) }
+/// The id behind the last tile of the runs, and 0 if there is none.
+pub(crate) fn end_of(runs: &[Run]) -> u64
+    requires { runs_end (run_views runs.now) < 2 ^ 64 }
+    ensures { result ≡ runs_end (run_views runs.now) }
 {
-    Run {
+    if runs.is_empty() {
+        return 0;
+    }
+    let last = &runs[runs.len() - 1];
+    last.first + u64::from(last.count)
+}
+
+/// Joins a tile with the last of the runs if it goes on with it, and says whether it did.
+fn join_last(runs: &mut [Run], id: u64, content: &[u8]) -> bool
+    requires { runs_end (run_views runs.old) < 2 ^ 64 }
+    ensures joins { result ≡ goes_on_last (run_views runs.old) (id, content.now) }
+    ensures runs { run_views runs.new ≡ (if result then last_grown (run_views runs.old) else run_views runs.old) }
+    ensures count { length runs.new ≡ length runs.old }
+{
+    if runs.is_empty() {
+        return false;
+    }
+    let last = runs.len() - 1;
+    let run = &mut runs[last];
+    if !goes_on(run, id, content) {
+        return false;
+    }
+    run.count += 1;
+    true
+}
+
+/// Adds a run of one tile.
+fn begin_run(runs: &mut Vec<Run>, id: u64, content: Vec<u8>) -> Result<(), BuildFault>
+    requires few { length runs.old.items ≤ MAX_ENTRIES }
+    ensures begun { OnOk result (run_views runs.new.items ≡ run_views runs.old.items ++ run_of (id, content.items) ∷ []) }
+    ensures unchanged { OnErr result (run_views runs.new.items ≡ run_views runs.old.items) }
+    ensures few { length runs.new.items ≤ MAX_ENTRIES }
+    ensures many { (result ≡ Err BuildFault.TooManyEntries) ↔ (MAX_ENTRIES ≤ length runs.old.items) }
+{
+    if runs.len() >= MAX_ENTRIES {
+        return Err(BuildFault::TooManyEntries);
+    }
+    let run = Run {
         first: id,
         count: 1,
         content,
+    };
+    match runs.push(run) {
+        Ok(()) => Ok(()),
+        Err(_) => Err(BuildFault::Memory),
     }
 }
 
-/// The run that begins with a tile, and the tiles behind it.
-fn first_run<'a>(
-    first: &'a (u64, Vec<u8>),
-    behind: &'a [(u64, Vec<u8>)],
-) -> (Run<'a>, &'a [(u64, Vec<u8>)])
-    requires { AllByRecursion IsTile (tile_views (first.now ∷ behind.now)) }
-    ensures run { runs_of (tile_views (first.now ∷ behind.now)) ≡ run_view result.0 ∷ runs_of (tile_views result.1.now) }
-    ensures tiles { AllByRecursion IsTile (tile_views result.1.now) }
-    ensures shorter { length result.1.now ≤ length behind.now }
+/// Adds a tile to the longest runs of the tiles before it.
+pub(crate) fn add_tile(runs: &mut Vec<Run>, id: u64, content: Vec<u8>) -> Result<(), BuildFault>
+    requires end { runs_end (run_views runs.old.items) < 2 ^ 64 }
+    requires few { length runs.old.items ≤ MAX_ENTRIES }
+    ensures added { OnOk result (run_views runs.new.items ≡ with_tile (run_views runs.old.items) (id, content.items)) }
+    ensures unchanged { OnErr result (run_views runs.new.items ≡ run_views runs.old.items) }
+    ensures few { length runs.new.items ≤ MAX_ENTRIES }
+    ensures many { (result ≡ Err BuildFault.TooManyEntries) ↔ (MAX_ENTRIES < length (with_tile (run_views runs.old.items) (id, content.items))) }
 {
-    let mut run = run_of(first.0, &first.1);
-    let mut rest = behind;
-    while let Some((tile, left)) = rest.split_first() {
-        if !goes_on(&run, tile.0, &tile.1) {
-            return (run, rest);
-        }
-        run.count += 1;
-        rest = left;
+    if join_last(runs, id, &content) {
+        return Ok(());
     }
-    (run, rest)
-}
-
-/// How many longest runs the tiles have.
-pub(crate) fn count_runs(tiles: &[(u64, Vec<u8>)]) -> usize
-    requires { AreTiles (tile_views tiles.now) }
-    ensures { result ≡ length (runs_of (tile_views tiles.now)) }
-{
-    let mut count = 0;
-    let mut rest = tiles;
-    while let Some((first, behind)) = rest.split_first() {
-        let (_, left) = first_run(first, behind);
-        count += 1;
-        rest = left;
-    }
-    count
-}
-
-/// The longest runs of the tiles.
-pub(crate) fn longest_runs<'a>(
-    alloc: Global,
-    tiles: &'a [(u64, Vec<u8>)],
-) -> Result<Vec<Run<'a>>, AllocError>
-    requires { AreTiles (tile_views tiles.now) }
-    ensures { IfOk result (λ v. run_views v.items ≡ runs_of (tile_views tiles.entry.now)) }
-{
-    let mut runs = Vec::new(alloc);
-    let mut rest = tiles;
-    while let Some((first, behind)) = rest.split_first() {
-        let (run, left) = first_run(first, behind);
-        runs.push(run)?;
-        rest = left;
-    }
-    Ok(runs)
+    begin_run(runs, id, content)
 }

@@ -2,7 +2,7 @@
 use crate::lines::{Line, number_in, parted, place};
 use archive_commands::{Verdict, verify};
 use pm_archive::is_metadata;
-use pm_build::{BuildFault, are_tiles, build};
+use pm_build::{ArchiveBuilder, BuildFault};
 use std::alloc::{AllocError, Global};
 
 /// The metadata of a map of one point.
@@ -11,12 +11,33 @@ const METADATA: &[u8] = br#"{"vector_layers":[{"fields":{},"id":"p","maxzoom":2,
 /// The id of a tile, and its content.
 type Tile = (u64, Vec<u8>);
 
+/// Adds tiles to an archive. It is false where one is no tile, or not behind those before it.
+fn add_all(builder: &mut ArchiveBuilder, tiles: Vec<Tile>) -> Result<bool, BuildFault> {
+    for (id, content) in tiles {
+        if !builder.can_add(id, &content) {
+            return Ok(false);
+        }
+        builder.add(id, content)?;
+    }
+    Ok(true)
+}
+
 /// The archive of tiles; none where they are no tiles.
-fn built(alloc: Global, tiles: &[Tile]) -> Result<Option<Result<Vec<u8>, BuildFault>>, AllocError> {
-    if tiles.is_empty() || !are_tiles(tiles) || !is_metadata(alloc, METADATA)? {
+fn built(
+    alloc: Global,
+    tiles: Vec<Tile>,
+) -> Result<Option<Result<Vec<u8>, BuildFault>>, AllocError> {
+    let mut builder = ArchiveBuilder::new(alloc);
+    match add_all(&mut builder, tiles) {
+        Ok(true) => {}
+        Ok(false) => return Ok(None),
+        Err(fault) => return Ok(Some(Err(fault))),
+    }
+    if builder.is_empty() || !is_metadata(alloc, METADATA)? {
         return Ok(None);
     }
-    Ok(Some(build(alloc, tiles, METADATA)))
+    let bytes = builder.finish(METADATA)?;
+    Ok(Some(Ok(bytes)))
 }
 
 /// The bytes of an archive.
@@ -78,22 +99,22 @@ fn apart_tiles(alloc: Global, rest: &str) -> Result<Vec<Tile>, AllocError> {
 
 fn some(alloc: Global, rest: &str) -> Result<String, AllocError> {
     let tiles = tiles_in(alloc, rest)?;
-    told(alloc, built(alloc, &tiles)?)
+    told(alloc, built(alloc, tiles)?)
 }
 
 fn even(alloc: Global, rest: &str) -> Result<String, AllocError> {
     let tiles = even_tiles(alloc, rest)?;
-    told(alloc, built(alloc, &tiles)?)
+    told(alloc, built(alloc, tiles)?)
 }
 
 fn apart(alloc: Global, rest: &str) -> Result<String, AllocError> {
     let tiles = apart_tiles(alloc, rest)?;
-    told(alloc, built(alloc, &tiles)?)
+    told(alloc, built(alloc, tiles)?)
 }
 
 fn even_judged(alloc: Global, rest: &str) -> Result<String, AllocError> {
     let tiles = even_tiles(alloc, rest)?;
-    judged(alloc, built(alloc, &tiles)?)
+    judged(alloc, built(alloc, tiles)?)
 }
 
 /// What a line about an archive that is built comes to.

@@ -79,7 +79,11 @@ fn worked(disk: &mut FaultyDisk<MemoryDisk>, work: Work) -> Result<(), StoreFaul
 }
 
 /// Does the work on the disk with its failing calls, and prints the outcome with the number of calls.
-fn work_answered(alloc: Global, trial: &mut Trial, work: Work) -> Result<Option<String>, AllocError> {
+fn work_answered(
+    alloc: Global,
+    trial: &mut Trial,
+    work: Work,
+) -> Result<Option<String>, AllocError> {
     let (disk, _) = trial.take_disk(alloc)?;
     let mut disk = FaultyDisk::new(disk, trial.take_failing());
     let outcome = worked(&mut disk, work);

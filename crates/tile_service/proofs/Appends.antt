@@ -69,8 +69,8 @@ record_with (first ∷ edits) edit = ap (λ (records : List RecordData). record_
 pub records_with : (stored : Stored) (edit : RecordedEdit) → stored_records (with_edit stored edit) ≡ stored_records stored ++ record_for edit ∷ []
 records_with stored edit = record_with stored.since edit
 
-module _ (count n : ℕ) (stored : Stored) (edit : RecordedEdit) (old : History) (place used : ℕ) (keeps : Keeps count n stored old) (can : CanRecord stored.version edit)
-    (image : Image) (as_before : AsBefore (journal_ring n) place used old image) where
+module _ (count n : ℕ) (stored : Stored) (edit : RecordedEdit) (old : History) (place used : ℕ) (keeps : Keeps count n stored old)
+    (can : CanRecord stored.version edit) (image : Image) (as_before : AsBefore (journal_ring n) place used old image) where
   sectors : (at : ℕ) → HoldsAt count n stored at (image at)
   sectors at = ⊎_elim
       (λ (inside : IsInRing (journal_ring n) at). ring_held count n stored at (image at) inside)
@@ -82,7 +82,14 @@ module _ (count n : ℕ) (stored : Stored) (edit : RecordedEdit) (old : History)
   before = keeps (seen old) (seen_is_left old)
 
   with_one : {at : ℕ} → HoldsAt count n stored at (image at) → HoldsAt count n (with_edit stored edit) at (image at)
-  with_one is = record { format = is.format; version = is.version; live = is.live; other = is.other; snapshot_bytes = is.snapshot_bytes; archive_bytes = is.archive_bytes }
+  with_one is = record {
+    format = is.format;
+    version = is.version;
+    live = is.live;
+    other = is.other;
+    snapshot_bytes = is.snapshot_bytes;
+    archive_bytes = is.archive_bytes;
+  }
 
   -- Where the journal has the edit too, it holds the same with the edit.
   pub append_made : HoldsOnly (journal_ring n) (journal_start stored) (stored_records stored ++ record_for edit ∷ []) image

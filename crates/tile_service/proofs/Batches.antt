@@ -1,11 +1,12 @@
 -- The changes of a batch, tested one by one.
-use Rattle.std.proofs.Common.{◌≡◌, ◌⊎◌, inl, inr, ⊎_elim, ℕ, ◌<◌, ◌≤◌, ◌+◌, List, [], ◌∷◌, length, get_or, map, take, refl, sym, subst, Option, Some, None, arith}
+use Rattle.std.proofs.Common.{◌≡◌, ◌⊎◌, inl, inr, ⊎_elim, ℕ, ◌<◌, ◌≤◌, ◌+◌, List, [], ◌∷◌, length, get_or, map, take}
+use Rattle.std.proofs.Common.{refl, sym, subst, Option, Some, None, arith}
 use Rattle.std.specs.Prelude.{IsSome}
 use Rattle.std.specs.List.{All, Contains}
 use Rattle.std.proofs.lemmas.Bool.{cases_lt}
-use Rattle.std.proofs.lemmas.List.{map_more, take_all, take-map, get_or-map, length-map}
+use Rattle.std.proofs.lemmas.List.{map_more, take_all, get_or-map, length-map}
 use Rattle.std.proofs.lemmas.List.Elements.{All-nil, All-cons, All-push, Contains-append_right}
-use Rattle.feature_model.specs.Data.{FeatureData, ChangeData, EditData, put, delete, change_data}
+use Rattle.feature_model.specs.Data.{ChangeData, EditData, put, delete, change_data}
 use Rattle.feature_model.specs.declared.feature.Change.{Change}
 use Rattle.feature_store.specs.Store.{FeatureMap, feature_at}
 use Rattle.tile_cutter.specs.Covered.{reach_of}

@@ -382,7 +382,8 @@ module _ {D : Type 0} (sectors : D → ℕ) (honest : D → Type 0) (history : D
               (history new.disk) leaves is_here.call.follows (none (was unbroken).0) is_here);
           way_is = sym (way_seen stored.edits then_known.publishing new.publication)
               ∙ way_after stored.edits (state_of no_known now) (state_of then_known new) p
-              (way_seen stored.edits no_known.publishing now.publication ∙ so_far.way_is) (IsTrusted sectors honest history now new) event taken counted (was unbroken).1
+              (way_seen stored.edits no_known.publishing now.publication ∙ so_far.way_is) (IsTrusted sectors honest history now new)
+              event taken counted (was unbroken).1
               ∙ sym (ap (λ (q : Progress). q.under_way) (progress_on (starts stored (way stored)) events event));
         }
 

@@ -123,8 +123,8 @@ module _ {D : Type 0} (sectors : D → ℕ) (history : D → History) (stored : 
     }
 
     -- An append that fails leaves what was stored, and in doubt the same with the edit.
-    pub refused_any_moment : (call : Call) (fault : JournalFault) (told : ServiceFault) → told ≡ told_as fault → (fault ≡ journals.Device) ⊎ (new ≡ service.disk)
-        → OneMore new r → LeavesOnly (history service.disk) (history new) (leaves_by call e (Err told))
+    pub refused_any_moment : (call : Call) (fault : JournalFault) (told : ServiceFault) → told ≡ told_as fault
+        → (fault ≡ journals.Device) ⊎ (new ≡ service.disk) → OneMore new r → LeavesOnly (history service.disk) (history new) (leaves_by call e (Err told))
     refused_any_moment call fault told is (inl device) leaves = append_any_moment call (Err told) (is ∙ ap told_as device) leaves
     refused_any_moment call fault told is (inr same) leaves = same_leaves call e (Err told) new same
 
@@ -135,7 +135,7 @@ module _ {D : Type 0} (sectors : D → ℕ) (history : D → History) (stored : 
         → Keeps (sectors service.disk) service.size (with_edit stored e) (history new)
     keeps_edit journal same begins is image may =
         append_made (sectors service.disk) service.size stored e (history service.disk) service.journal.place service.journal.used up.keeps
-          (can_record e recorded version) image
+        (can_record e recorded version) image
         (as_before image (alone.each image
         (since_now (history new) (moment (history service.disk)) image (is_later (history service.disk) (history new) alone.follows) may)))
         (with_record image
@@ -150,15 +150,16 @@ module _ {D : Type 0} (sectors : D → ℕ) (history : D → History) (stored : 
         → ((n : ℕ) (was : FeatureMap) → WasMap service.features service.touched service.journal.last n was
         → WasMap after.features after.touched after.journal.last n was)
         → WasMap after.features after.touched after.journal.last after.journal.last after.features
-        → after.version ≡ service.version → after.generation ≡ service.generation → after.snapshot_len ≡ service.snapshot_len → after.archive_len ≡ service.archive_len
-        → after.publication ≡ service.publication → after.published ≡ service.published → after.broken ≡ service.broken
+        → after.version ≡ service.version → after.generation ≡ service.generation → after.snapshot_len ≡ service.snapshot_len
+        → after.archive_len ≡ service.archive_len → after.publication ≡ service.publication → after.published ≡ service.published
+        → after.broken ≡ service.broken
         → ReadsAsBefore (ring_of service.journal) service.journal.place service.journal.used (seen (history service.disk)) (seen (history new))
         → IsUp (sectors new) (history new) (with_edit stored e) after
-    up_with_edit after disk count size same is features since now_is version_is generation snapshot_len archive_len publication published broken reads = record {
+    up_with_edit after disk count size same is features since now_is version generation snapshot_len archive_len publication cached broken reads = record {
       keeps = subst (λ (c : ℕ). Keeps c after.size (with_edit stored e) (history new)) (sym count)
           (subst (λ (n : ℕ). Keeps (sectors service.disk) n (with_edit stored e) (history new)) (sym size) (keeps_edit after.journal same.0 same.1 is));
       unbroken = broken ∙ up.unbroken;
-      version_is = version_is ∙ up.version_is;
+      version_is = version ∙ up.version_is;
       generation_is = generation ∙ up.generation_is;
       snapshot_len_is = snapshot_len ∙ up.snapshot_len_is;
       archive_len_is = archive_len ∙ up.archive_len_is;
@@ -175,7 +176,7 @@ module _ {D : Type 0} (sectors : D → ℕ) (history : D → History) (stored : 
       were = were_one service.features service.touched service.journal.last after.features after.touched after.journal.last since now_is stored.edits
           stored.snapshot_map stored.since e
           (omega (arith, now.counts, edits, length-map (stored.since ++ e ∷ []) record_for, length-append stored.since (e ∷ []))) map_is up.were;
-      archived = subst (λ (t : PublishedView). ArePublished t (archive_of after) stored.snapshot_map stored.archive) (sym published)
+      archived = subst (λ (t : PublishedView). ArePublished t (archive_of after) stored.snapshot_map stored.archive) (sym cached)
           (subst (λ (p : ArchivePlace). ArePublished service.published p stored.snapshot_map stored.archive)
           (sym (λ i. archive_place (size i) (generation i) (snapshot_len i) (archive_len i))) up.archived);
     }

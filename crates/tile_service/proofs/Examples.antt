@@ -1,5 +1,5 @@
 -- Images that hold the empty map, and images that hold nothing: a disk that was just formatted, with one sector changed.
-use Rattle.std.proofs.Common.{◌≡◌, ◌⊎◌, inl, inr, ⊎_elim, ℕ, suc, ◌<◌, ◌≤◌, ◌+◌, ◌^◌, ◌%◌, ◌==◌, if◌then◌else◌, ◌∙◌, List, [], ◌∷◌, length, map}
+use Rattle.std.proofs.Common.{◌≡◌, ◌⊎◌, inl, inr, ⊎_elim, ℕ, suc, ◌<◌, ◌≤◌, ◌+◌, ◌%◌, ◌==◌, if◌then◌else◌, ◌∙◌, List, [], ◌∷◌, length, map}
 use Rattle.std.proofs.Common.{refl, sym, ap, subst, arith, lit<, lit≤}
 use Rattle.std.specs.List.{All}
 use Rattle.std.proofs.lemmas.Bool.{cases_eq}

@@ -11,7 +11,8 @@ use Rattle.sector_disk.proofs.History.{left_before}
 use Rattle.sector_disk.proofs.Moments.{since_now, only_now, is_later, follows_itself}
 use Rattle.edit_text.specs.Recorded.{RecordedEdit}
 use Rattle.tile_service.specs.Machine.{no_memory, Happening, Call, edit, step, look}
-use Rattle.tile_service.specs.Runs.{edits_by, IsDoubtful, happening_at, all_edits, published_by, IsInDoubt, Way, way_of, Progress, starts, progress_after, progress_of}
+use Rattle.tile_service.specs.Runs.{edits_by, IsDoubtful, happening_at, all_edits, published_by, IsInDoubt}
+use Rattle.tile_service.specs.Runs.{Way, way_of, Progress, starts, progress_after, progress_of}
 use Rattle.tile_service.specs.Runs.{IsStepInDoubt, fitting, Fits, ImageFits, NoneInDoubt, RunFits, Reaches}
 use Rattle.tile_service.specs.Service.{PublicationView, left_of, EventLeaves, IsLast, installed, stored_after}
 use Rattle.tile_service.specs.Stored.{Stored, Holds, Keeps, with_edit}
@@ -346,7 +347,8 @@ pub record IsHere (sectors n : ℕ) (start : Stored) (way : Option Way) (events 
   pub call : LeavesOnly h new (EventLeaves sectors n s publication event)
   pub after : (IsDoubtful event → ⊥) → Keeps sectors n (stored_after n s publication event) new
 
-module _ (sectors n : ℕ) (start : Stored) (way : Option Way) (events : List Happening) (event : Happening) (old h new : History) (so_far : RunLeaves sectors n start way events old h) (follows : Follows h new) where
+module _ (sectors n : ℕ) (start : Stored) (way : Option Way) (events : List Happening) (event : Happening) (old h new : History)
+    (so_far : RunLeaves sectors n start way events old h) (follows : Follows h new) where
   abbrev events' : List Happening
   events' = events ++ event ∷ []
 
@@ -600,7 +602,8 @@ module _ (sectors n : ℕ) (start : Stored) (way : Option Way) (events : List Ha
         (doubtful_or_not event))
 
 -- the event by any service
-pub run_goes_on : (sectors n : ℕ) (start : Stored) (way : Option Way) (events : List Happening) (event : Happening) (old h new : History) → RunLeaves sectors n start way events old h → (broken : Bool)
+pub run_goes_on : (sectors n : ℕ) (start : Stored) (way : Option Way) (events : List Happening) (event : Happening)
+    (old h new : History) → RunLeaves sectors n start way events old h → (broken : Bool)
     → (broken ≡ true → IsQuiet event × (new ≡ h)) → (broken ≡ false → NoneInDoubt events)
     → (broken ≡ false → IsHere sectors n start way events event h new)
     → RunLeaves sectors n start way (events ++ event ∷ []) old new

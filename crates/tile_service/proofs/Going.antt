@@ -18,8 +18,9 @@ abbrev pub AreShort : FeatureMap → (area places : ℕ) → Type 0
 AreShort m area places = length (snapshot m) ≤ area + PART_BYTES * places
 
 -- The record has this many bytes, and the map after the edit is longer by no more than its places.
-module _ (size version : ℕ) (root : Root) (old new : Journal) (ring : ring_of new ≡ ring_of old) (from : start_of new.place new.edits ≡ start_of old.place old.edits)
-    (bytes : ℕ) (fits : IsRecordLength version bytes) (used : new.used ≡ old.used + parts_of bytes) (last : new.last ≡ old.last + 1)
+module _ (size version : ℕ) (root : Root) (old new : Journal) (ring : ring_of new ≡ ring_of old)
+    (from : start_of new.place new.edits ≡ start_of old.place old.edits) (bytes : ℕ) (fits : IsRecordLength version bytes)
+    (used : new.used ≡ old.used + parts_of bytes) (last : new.last ≡ old.last + 1)
     (map later : CachedView) (numbered : later.last ≡ new.last)
     (longer : (area places : ℕ) → AreShort map.features area places → AreShort later.features area (places + parts_of bytes)) where
   texts_on : (some next : ℕ) → some + parts_of bytes ≡ next → AreShort map.features (SECTOR_BYTES * area_sectors size) some

@@ -237,8 +237,8 @@ module _ (n : ℕ) (stored : Stored) (taken : ℕ) (archive : List ℕ) (within 
 
   -- A service with the records after the published ones continues from it.
   pub up_published : {D : Type 0} (count : ℕ) (h : History) (service : ServiceView D) → service.size ≡ n
-      → Keeps count n (published n stored taken archive) h → service.broken ≡ false → service.version ≡ stored.version → service.generation ≡ suc stored.generation
-      → service.features ≡ map_of stored → service.journal.place ≡ (published n stored taken archive).journal_at
+      → Keeps count n (published n stored taken archive) h → service.broken ≡ false → service.version ≡ stored.version
+      → service.generation ≡ suc stored.generation → service.features ≡ map_of stored → service.journal.place ≡ (published n stored taken archive).journal_at
       → service.journal.edits ≡ stored.edits + taken
       → service.journal.used + places_of (take taken (stored_records stored)) ≡ places_of (stored_records stored)
       → service.journal.last ≡ last_of stored → service.snapshot_len ≡ length (snapshot (map_at stored taken))

@@ -1,6 +1,6 @@
 -- What is read as a disk is opened, and what a disk that holds a state opens to.
 use Rattle.std.specs.Prelude.{Option, None, IfSome}
-use Rattle.std.proofs.Common.{◌≡◌, ◌⊎◌, inl, inr, ℕ, suc, Bool, true, false, ◌<◌, ◌≤◌, ◌+◌, ◌*◌, List, [], ◌∷◌, length, map}
+use Rattle.std.proofs.Common.{◌≡◌, ◌⊎◌, inl, inr, ℕ, Bool, true, false, ◌<◌, ◌≤◌, ◌+◌, ◌*◌, List, [], ◌∷◌, length, map}
 use Rattle.std.proofs.Common.{Result, Ok, Err, IfErr, refl, sym, ◌∙◌, ap, subst, arith}
 use Rattle.std.specs.List.{All}
 use Rattle.std.proofs.lemmas.Bool.{false≢true}
@@ -36,7 +36,7 @@ use Rattle.feature_store.specs.declared.limit.TheConstants.{TEXTS_END}
 use Rattle.feature_store.proofs.Laws.{snapshot_of_one_map}
 use Rattle.published_tiles.specs.Published.{ArePublished}
 use Rattle.published_tiles.specs.declared.place.ArchivePlace.{ArchivePlace}
-use Rattle.tile_service.specs.Opening.{IsJournalOf, HasSnapshot, IsReplayed, IsRead, IsContentFault, IsOpenFault, HasNoOpenFault, HasLiveRoot}
+use Rattle.tile_service.specs.Opening.{IsJournalOf, HasSnapshot, IsReplayed, IsRead, IsContentFault, IsOpenFault, HasNoOpenFault}
 use Rattle.tile_service.specs.Opening.{recovery_told_as}
 use Rattle.tile_service.specs.Replayed.{AreRecordsFor, IsReplayFault, bytes_of}
 use Rattle.tile_service.specs.Service.{PublicationView, ServiceView, Publishes, IsUp, archive_of}
@@ -146,9 +146,13 @@ pub fault_after : (sectors n version : ℕ) (old new : History) (root : Root) (f
     → (fault ≡ Device) ⊎ (fault ≡ Memory) ⊎ IsOpenFault sectors (seen old) fault
 fault_after sectors n version old new root fault is live version_is (inl device) = inl device
 fault_after sectors n version old new root fault is live version_is (inr (inl memory)) = inr (inl memory)
-fault_after sectors n version old new root fault is live version_is (inr (inr content)) = inr (inr (inr (n, root, live,
-    subst (λ (v : ℕ). IsContentFault n v root (seen old) fault) version_is
-    (subst (λ (h : History). IsContentFault n version root (seen h) fault) is content))))
+fault_after sectors n version old new root fault is live version_is (inr (inr content)) = inr (inr (inr (
+  n,
+  root,
+  live,
+  subst (λ (v : ℕ). IsContentFault n v root (seen old) fault) version_is
+      (subst (λ (h : History). IsContentFault n version root (seen h) fault) is content),
+)))
 
 pub root_fault_after : (sectors count : ℕ) (old new : History) (fault : StoreFault) → count ≡ sectors → new ≡ synced old
     → (fault ≡ Device) ⊎ IsFaultOf count (seen new) fault → (fault ≡ Device) ⊎ (fault ≡ Memory) ⊎ IsOpenFault sectors (seen old) fault

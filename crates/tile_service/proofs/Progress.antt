@@ -5,7 +5,7 @@ use Rattle.std.specs.Prelude.{IfSome, option_map, Ok, Err}
 use Rattle.std.proofs.lemmas.List.{take-append-le, take_all, take_at, append-nil, length-drop, drop-append-le}
 use Rattle.edit_text.specs.Recorded.{RecordedEdit}
 use Rattle.feature_store.specs.Store.{FeatureMap}
-use Rattle.tile_service.specs.After.{after, made}
+use Rattle.tile_service.specs.After.{after}
 use Rattle.tile_service.specs.Machine.{Publication, ServiceState, Happening, edit, begin, step, cancel, tile, look, metadata, read}
 use Rattle.tile_service.specs.Machine.{Happens, HasPublication, GoesOn}
 use Rattle.tile_service.specs.Publishing.{published}

@@ -119,8 +119,8 @@ broken_stays trusted old new (read at outcome) goes broken =
     (goes, record { edits_nothing = refl; publishes_nothing = λ p. refl; no_doubt = λ doubt. doubt })
 
 -- it refuses an edit for another fault than the disk's,
-pub broken_refuses : {X : Type 0} (old new : ServiceState) (call : Call) (e : RecordedEdit) (outcome : Result ℕ ServiceFault) → AnswersEdit old call e outcome new
-    → IfErr outcome (λ fault. fault ≢ Device → X) → old.broken ≡ true → X
+pub broken_refuses : {X : Type 0} (old new : ServiceState) (call : Call) (e : RecordedEdit) (outcome : Result ℕ ServiceFault)
+    → AnswersEdit old call e outcome new → IfErr outcome (λ fault. fault ≢ Device → X) → old.broken ≡ true → X
 broken_refuses old new call e (Ok number) goes kept broken = absurd (clash old.broken goes.unbroken broken)
 broken_refuses old new call e (Err fault) goes kept broken = kept (broken_is_no_device fault (refuses_broken _ old new fault goes broken).0)
 
@@ -151,13 +151,15 @@ step_version old new (Err fault) goes = refused_version _ old new fault goes
 
 -- ---- calls of the disk that failed
 
-pub edit_faults : (old new : ServiceState) (call : Call) (e : RecordedEdit) (outcome : Result ℕ ServiceFault) (before after : ℕ) → AnswersEdit old call e outcome new
-    → OnOk outcome (after ≡ before) → IfErr outcome (λ fault. CountsDevice fault before after) → new.broken ≡ false → after ≡ before
+pub edit_faults : (old new : ServiceState) (call : Call) (e : RecordedEdit) (outcome : Result ℕ ServiceFault) (before after : ℕ)
+    → AnswersEdit old call e outcome new → OnOk outcome (after ≡ before) → IfErr outcome (λ fault. CountsDevice fault before after)
+    → new.broken ≡ false → after ≡ before
 edit_faults old new call e (Ok number) before after goes done counts unbroken = done
 edit_faults old new call e (Err fault) before after goes done counts unbroken = fault_counted _ old new fault before after goes counts unbroken
 
-pub edit_fails : (old new : ServiceState) (call : Call) (e : RecordedEdit) (outcome : Result ℕ ServiceFault) (before after : ℕ) → AnswersEdit old call e outcome new
-    → IfErr outcome (λ fault. CountsDevice fault before after) → old.broken ≡ false → new.broken ≡ true → HasFailed before after
+pub edit_fails : (old new : ServiceState) (call : Call) (e : RecordedEdit) (outcome : Result ℕ ServiceFault) (before after : ℕ)
+    → AnswersEdit old call e outcome new → IfErr outcome (λ fault. CountsDevice fault before after)
+    → old.broken ≡ false → new.broken ≡ true → HasFailed before after
 edit_fails old new call e (Ok number) before after goes counts unbroken broken =
     absurd (clash new.broken (ap (λ (s : ServiceState). s.broken) goes.made ∙ unbroken) broken)
 edit_fails old new call e (Err fault) before after goes counts unbroken broken = fault_fails _ old new fault before after goes counts unbroken broken
@@ -204,8 +206,8 @@ kept_for P old new (Err fault) same holds = λ not. subst P (sym (same not)) hol
 
 -- after an edit that was acknowledged, or refused for another fault than the disk's
 pub after_edit : (P : Stored → Type 0) (n : ℕ) (stored : Stored) (publication : Option PublicationView) (call : Call) (e : RecordedEdit)
-    (outcome : Result ℕ ServiceFault) → OnOk outcome (P (with_edit stored e)) → IfErr outcome (λ fault. fault ≢ Device → P stored) → (IsDoubtful (edit call e outcome) → ⊥)
-    → P (stored_after n stored publication (edit call e outcome))
+    (outcome : Result ℕ ServiceFault) → OnOk outcome (P (with_edit stored e)) → IfErr outcome (λ fault. fault ≢ Device → P stored)
+    → (IsDoubtful (edit call e outcome) → ⊥) → P (stored_after n stored publication (edit call e outcome))
 after_edit P n stored publication call e (Ok number) done kept not = done
 after_edit P n stored publication call e (Err fault) done kept not =
     kept (λ device. not (subst (λ (f : ServiceFault). IsDoubtful (edit call e (Err f))) (sym device) tt))

@@ -15,7 +15,8 @@ use Rattle.tile_service.specs.declared.fault.ServiceFault.{ServiceFault}
 -- the same event and answer, stated differently
 pub told_step : (version : ℕ) (happening : Happening) {event event' : Event} {answer answer' : Answer} → event ≡ event' → answer ≡ answer'
     → Tells version event' answer' happening → Tells version event answer happening
-told_step version happening {event} {event'} {answer} {answer'} same_event same_answer tells = subst (λ (x : Event). Tells version x answer happening) (sym same_event)
+told_step version happening {event} {event'} {answer} {answer'} same_event same_answer tells =
+    subst (λ (x : Event). Tells version x answer happening) (sym same_event)
     (subst (λ (x : Answer). Tells version event' x happening) (sym same_answer) tells)
 
 pub put_told : (version id : ℕ) (feature : Feature) (outcome : Result ℕ ServiceFault)
@@ -65,8 +66,8 @@ told_no_read version events.Cancel (answers.Refused fault) happening told = is_n
 told_no_read version event answer happening told = absurd told
 
 -- with one more
-pub told_on : (version : ℕ) (events : List Event) (answers : List Answer) (happenings : List Happening) (event : Event) (answer : Answer) (happening : Happening)
-    → AreTold version events answers happenings → Tells version event answer happening
+pub told_on : (version : ℕ) (events : List Event) (answers : List Answer) (happenings : List Happening)
+    (event : Event) (answer : Answer) (happening : Happening) → AreTold version events answers happenings → Tells version event answer happening
     → AreTold version (events ++ event ∷ []) (answers ++ answer ∷ []) (happenings ++ happening ∷ [])
 told_on version [] [] [] event answer happening told tells = (tells, tt)
 told_on version (e ∷ events) (a ∷ answers) (h ∷ happenings) event answer happening told tells =

@@ -8,7 +8,7 @@ use Rattle.sector_disk.specs.Disk.{Image, History, seen, MayLeave}
 use Rattle.sector_disk.specs.Moments.{LeavesOnly}
 use Rattle.sector_disk.proofs.History.{weaken}
 use Rattle.generations.specs.Areas.{journal_sectors}
-use Rattle.generations.specs.Disks.{LiveRoot, IsFaultOf}
+use Rattle.generations.specs.Disks.{IsFaultOf}
 use Rattle.generations.specs.Sectors.{IsFormat, version_from}
 use Rattle.generations.specs.Upgrades.{IsUpgraded, Upgrades}
 use Rattle.generations.specs.declared.fault.StoreFault.{StoreFault}

@@ -11,12 +11,16 @@ use Rattle.tile_service.specs.declared.fault.ServiceFault.TheVariants.{Memory}
 
 -- The event was requested of a service whose disk has this version, and the answer reports its outcome.
 abbrev pub Tells : (version : ℕ) → Event → Answer → Happening → Type 0
-Tells version (events.Put id feature) (answers.Edited number) happening = happening ≡ edit single (recorded_change version (put id (feature_data feature))) (Ok number)
-Tells version (events.Put id feature) (answers.Refused fault) happening = happening ≡ edit single (recorded_change version (put id (feature_data feature))) (Err fault)
+Tells version (events.Put id feature) (answers.Edited number) happening =
+    happening ≡ edit single (recorded_change version (put id (feature_data feature))) (Ok number)
+Tells version (events.Put id feature) (answers.Refused fault) happening =
+    happening ≡ edit single (recorded_change version (put id (feature_data feature))) (Err fault)
 Tells version (events.Delete id) (answers.Edited number) happening = happening ≡ edit single (recorded_change version (delete id)) (Ok number)
 Tells version (events.Delete id) (answers.Refused fault) happening = happening ≡ edit single (recorded_change version (delete id)) (Err fault)
-Tells version (events.Batch changes) (answers.Edited number) happening = happening ≡ edit batched (recorded_in version (map change_data changes.items)) (Ok number)
-Tells version (events.Batch changes) (answers.Refused fault) happening = happening ≡ edit batched (recorded_in version (map change_data changes.items)) (Err fault)
+Tells version (events.Batch changes) (answers.Edited number) happening =
+    happening ≡ edit batched (recorded_in version (map change_data changes.items)) (Ok number)
+Tells version (events.Batch changes) (answers.Refused fault) happening =
+    happening ≡ edit batched (recorded_in version (map change_data changes.items)) (Err fault)
 Tells version (events.Tile at) (answers.Tile content) happening = happening ≡ tile at.z at.x at.y (got (option_map (λ bytes. bytes.items) content))
 Tells version (events.Tile at) (answers.Refused fault) happening = (fault ≡ Memory) × (happening ≡ tile at.z at.x at.y no_memory)
 Tells version (events.Look id) (answers.Look feature) happening = happening ≡ look id (got (option_map feature_data feature))

@@ -1,5 +1,5 @@
 -- Edits and their records.
-use Rattle.std.specs.Prelude.{◌≡◌, ◌⊎◌, ◌<◌, ◌+◌, ℕ, List, [], ◌∷◌, length, map, All}
+use Rattle.std.specs.Prelude.{◌≡◌, ◌⊎◌, ◌+◌, ℕ, List, [], ◌∷◌, length, map, All}
 use Rattle.cached_map.specs.Cached.{CachedView}
 use Rattle.edit_journal.specs.Records.{RecordData}
 use Rattle.edit_text.specs.Recorded.{RecordedEdit, IsRecorded}

@@ -10,7 +10,8 @@ use Rattle.tile_service.specs.declared.fault.ServiceFault.TheVariants.{Device}
 use Rattle.tile_service.specs.declared.publishing.TheConstants.{STEP_SECTORS}
 use Rattle.tile_service.specs.declared.publishing_whole.Published.{Published}
 use Rattle.tile_service.specs.Machine.{no_memory, Happening, Call, edit, begin, step, cancel, tile, look, metadata, read, Happens, Runs}
-use Rattle.tile_service.specs.Service.{PublicationView, ServiceView, Known, IsUp, state_of, known_after, left_of, ShowsArchive, KeepsArchive, ReadsFrom, EventLeaves, stored_after}
+use Rattle.tile_service.specs.Service.{PublicationView, ServiceView, Known, IsUp, state_of, known_after, left_of}
+use Rattle.tile_service.specs.Service.{ShowsArchive, KeepsArchive, ReadsFrom, EventLeaves, stored_after}
 use Rattle.tile_service.specs.Stored.{Stored, Holds}
 
 -- ---- the edits of a run

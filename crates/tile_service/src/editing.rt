@@ -166,7 +166,8 @@ impl<D: Sectors + Drop> Service<D> {
         requires allowed { IsAllowedEdit (edit_data requested) }
         requires fits { FitsVersion self.old.version (edit_data requested) }
         ensures machine { (known : Known) (call : Call) → CanMake (state_of known self.old) call (recorded_in self.old.version (edit_data requested))
-            → Allocates call (edit_data requested) → AnswersEdit (state_of known self.old) call (recorded_in self.old.version (edit_data requested)) result (state_of known self.new) }
+            → Allocates call (edit_data requested) → AnswersEdit (state_of known self.old) call
+            (recorded_in self.old.version (edit_data requested)) result (state_of known self.new) }
         ensures size { self.new.size ≡ self.old.size }
         ensures publication { OnOk result (self.new.publication ≡ self.old.publication) }
         ensures count { D.sectors self.new.disk ≡ D.sectors self.old.disk }
@@ -180,10 +181,12 @@ impl<D: Sectors + Drop> Service<D> {
         // A crash during the call leaves what was stored, or that with the edit.
         ensures any_moment { (stored : Stored) (call : Call) → D.honest self.new.disk → IsUp (D.sectors self.old.disk) (D.history self.old.disk) stored self.old
             → LeavesOnly (D.history self.old.disk) (D.history self.new.disk)
-            (EventLeaves (D.sectors self.old.disk) self.old.size stored self.old.publication (edit call (recorded_in self.old.version (edit_data requested)) result)) }
+            (EventLeaves (D.sectors self.old.disk) self.old.size stored self.old.publication
+            (edit call (recorded_in self.old.version (edit_data requested)) result)) }
         // After the call: with the edit if it was acknowledged, without it if it was refused.
         ensures acknowledged { (stored : Stored) → D.honest self.new.disk → IsUp (D.sectors self.old.disk) (D.history self.old.disk) stored self.old
-            → OnOk result (IsUp (D.sectors self.new.disk) (D.history self.new.disk) (with_edit stored (recorded_in self.old.version (edit_data requested))) self.new) }
+            → OnOk result (IsUp (D.sectors self.new.disk) (D.history self.new.disk)
+            (with_edit stored (recorded_in self.old.version (edit_data requested))) self.new) }
         ensures refused { (stored : Stored) → D.honest self.new.disk → IsUp (D.sectors self.old.disk) (D.history self.old.disk) stored self.old
             → IfErr result (λ fault. fault ≢ Device → IsUp (D.sectors self.new.disk) (D.history self.new.disk) stored self.new) }
 
@@ -231,16 +234,19 @@ impl<D: Sectors + Drop> Service<D> {
         // A crash during the call leaves what was stored, or that with the edit.
         ensures any_moment { (stored : Stored) → D.honest self.new.disk → IsUp (D.sectors self.old.disk) (D.history self.old.disk) stored self.old
             → LeavesOnly (D.history self.old.disk) (D.history self.new.disk)
-            (EventLeaves (D.sectors self.old.disk) self.old.size stored self.old.publication (edit single (recorded_change self.old.version (put id (feature_data feature))) result)) }
+            (EventLeaves (D.sectors self.old.disk) self.old.size stored self.old.publication
+            (edit single (recorded_change self.old.version (put id (feature_data feature))) result)) }
         // After the call: with the edit if it was acknowledged, without it if it was refused.
         ensures acknowledged { (stored : Stored) → D.honest self.new.disk → IsUp (D.sectors self.old.disk) (D.history self.old.disk) stored self.old
-            → OnOk result (IsUp (D.sectors self.new.disk) (D.history self.new.disk) (with_edit stored (recorded_change self.old.version (put id (feature_data feature)))) self.new) }
+            → OnOk result (IsUp (D.sectors self.new.disk) (D.history self.new.disk)
+            (with_edit stored (recorded_change self.old.version (put id (feature_data feature)))) self.new) }
         ensures refused { (stored : Stored) → D.honest self.new.disk → IsUp (D.sectors self.old.disk) (D.history self.old.disk) stored self.old
             → IfErr result (λ fault. fault ≢ Device → IsUp (D.sectors self.new.disk) (D.history self.new.disk) stored self.new) }
 
         // It makes one write for each sector of the record, and one sync, or two if there are several.
         ensures steps { D.honest self.new.disk
-            → OnOk result (TakesSteps (places_for (recorded_change self.old.version (put id (feature_data feature)))) (D.history self.old.disk) (D.history self.new.disk)) }
+            → OnOk result (TakesSteps (places_for (recorded_change self.old.version (put id (feature_data feature))))
+            (D.history self.old.disk) (D.history self.new.disk)) }
     {
         if self.broken {
             return Err(ServiceFault::Broken);
@@ -282,16 +288,19 @@ impl<D: Sectors + Drop> Service<D> {
         // A crash during the call leaves what was stored, or that with the edit.
         ensures any_moment { (stored : Stored) → D.honest self.new.disk → IsUp (D.sectors self.old.disk) (D.history self.old.disk) stored self.old
             → LeavesOnly (D.history self.old.disk) (D.history self.new.disk)
-            (EventLeaves (D.sectors self.old.disk) self.old.size stored self.old.publication (edit batched (recorded_in self.old.version (map change_data changes.items)) result)) }
+            (EventLeaves (D.sectors self.old.disk) self.old.size stored self.old.publication
+            (edit batched (recorded_in self.old.version (map change_data changes.items)) result)) }
         // After the call: with the edit if it was acknowledged, without it if it was refused.
         ensures acknowledged { (stored : Stored) → D.honest self.new.disk → IsUp (D.sectors self.old.disk) (D.history self.old.disk) stored self.old
-            → OnOk result (IsUp (D.sectors self.new.disk) (D.history self.new.disk) (with_edit stored (recorded_in self.old.version (map change_data changes.items))) self.new) }
+            → OnOk result (IsUp (D.sectors self.new.disk) (D.history self.new.disk)
+            (with_edit stored (recorded_in self.old.version (map change_data changes.items))) self.new) }
         ensures refused { (stored : Stored) → D.honest self.new.disk → IsUp (D.sectors self.old.disk) (D.history self.old.disk) stored self.old
             → IfErr result (λ fault. fault ≢ Device → IsUp (D.sectors self.new.disk) (D.history self.new.disk) stored self.new) }
 
         // It makes one write for each sector of the record, and one sync, or two if there are several.
         ensures steps { D.honest self.new.disk
-            → OnOk result (TakesSteps (places_for (recorded_in self.old.version (map change_data changes.items))) (D.history self.old.disk) (D.history self.new.disk)) }
+            → OnOk result (TakesSteps (places_for (recorded_in self.old.version (map change_data changes.items)))
+            (D.history self.old.disk) (D.history self.new.disk)) }
     {
         if self.broken {
             return Err(ServiceFault::Broken);
@@ -331,9 +340,11 @@ impl<D: Sectors + Drop> Service<D> {
         ensures archive { KeepsArchive D.honest D.history self.old self.new }
         ensures any_moment { (stored : Stored) → D.honest self.new.disk → IsUp (D.sectors self.old.disk) (D.history self.old.disk) stored self.old
             → LeavesOnly (D.history self.old.disk) (D.history self.new.disk)
-            (EventLeaves (D.sectors self.old.disk) self.old.size stored self.old.publication (edit single (recorded_change self.old.version (delete id)) result)) }
+            (EventLeaves (D.sectors self.old.disk) self.old.size stored self.old.publication
+            (edit single (recorded_change self.old.version (delete id)) result)) }
         ensures acknowledged { (stored : Stored) → D.honest self.new.disk → IsUp (D.sectors self.old.disk) (D.history self.old.disk) stored self.old
-            → OnOk result (IsUp (D.sectors self.new.disk) (D.history self.new.disk) (with_edit stored (recorded_change self.old.version (delete id))) self.new) }
+            → OnOk result (IsUp (D.sectors self.new.disk) (D.history self.new.disk)
+            (with_edit stored (recorded_change self.old.version (delete id))) self.new) }
         ensures refused { (stored : Stored) → D.honest self.new.disk → IsUp (D.sectors self.old.disk) (D.history self.old.disk) stored self.old
             → IfErr result (λ fault. fault ≢ Device → IsUp (D.sectors self.new.disk) (D.history self.new.disk) stored self.new) }
         ensures steps { D.honest self.new.disk

@@ -84,7 +84,14 @@ fn read_edits<D: Sectors>(
         place: root.journal_at,
         edits: root.edits,
     };
-    let (journal, records) = match Journal::recover(alloc, disk, 3, layout.journal, start, version) {
+    let (journal, records) = match Journal::recover(
+        alloc,
+        disk,
+        3,
+        layout.journal,
+        start,
+        version,
+    ) {
         Ok(found) => found,
         Err(fault) => return Err(told(fault)),
     };

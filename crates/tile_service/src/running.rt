@@ -55,7 +55,8 @@ impl<D: Sectors + Drop> Service<D> {
 
     /// Answers one event.
     fn answer(&mut self, event: Event) -> Answer
-        ensures takes { (happening : Happening) × Tells self.old.version event result happening × Takes D.sectors D.honest D.history self.old happening self.new }
+        ensures takes { (happening : Happening) × Tells self.old.version event result happening
+            × Takes D.sectors D.honest D.history self.old happening self.new }
         ensures never_falls { NeverFalls (D.faults self.old.disk) (D.faults self.new.disk) }
         ensures device { result ≡ Refused Device → HasRisen (D.faults self.old.disk) (D.faults self.new.disk) }
         ensures faults { ¬ IsTile event → self.new.broken ≡ false → D.faults self.new.disk ≡ D.faults self.old.disk }

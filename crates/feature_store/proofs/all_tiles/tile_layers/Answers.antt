@@ -5,7 +5,7 @@ use Rattle.feature_store.specs.Gathered.{layers_of}
 use Rattle.feature_store.specs.Inside.{entries_data}
 use Rattle.feature_store.specs.Layers.{layers}
 use Rattle.feature_store.proofs.Listed.{are_layers, of_listed}
-use Rattle.feature_store.proofs.Tiles.{layers_can}
+use Rattle.feature_store.proofs.Writable.{layers_can}
 use Rattle.feature_store.proofs.Unique.{is_the_list, a_tile}
 use Rattle.feature_store.proofs.all_tiles.tile_layers.Goals as goal
 

@@ -1,22 +1,42 @@
-use Rattle.std.proofs.Common.{◌≡◌, ℕ, ◌-◌, length, ap, ◌∙◌, arith}
-use Rattle.std.specs.List.{slice_get}
+use Rattle.std.proofs.Common.{◌≡◌, ℕ, ◌-◌, subst, arith}
 use Rattle.std.proofs.lemmas.List.{length-map}
-use Rattle.pm_build.specs.Tiles.{tile_views}
-use Rattle.pm_build.proofs.Tiles.{id_low, tile_there}
+use Rattle.pm_build.specs.Joined.{run_view, run_views}
+use Rattle.pm_build.specs.Laid.{IsZoomOf}
+use Rattle.pm_build.specs.Runs.{tiles_in}
+use Rattle.pm_build.proofs.Ends.{first_tile, first_low, last_tile}
+use Rattle.pm_build.proofs.Entries.{end_low}
 use Rattle.pm_build.proofs.building.zooms_of.Goals as goal
+
+pub zoom_of-first-requires : goal.zoom_of-first-requires
+zoom_of-first-requires c = first_low c.args.runs.now c.index-runs-0.result c.requires.some c.requires.tiles c.requires.longest.each
+
+pub end_of-requires : goal.end_of-requires
+end_of-requires c =
+    let rs = run_views c.args.runs.now in
+    omega (arith, end_low (tiles_in rs) rs c.requires.tiles c.requires.longest)
+
+pub overflow_sub-end_of : goal.overflow_sub-end_of
+overflow_sub-end_of c =
+    let rs = run_views c.args.runs.now in
+    let last = last_tile rs (omega (arith, c.requires.some, length-map c.args.runs.now run_view)) c.requires.longest.each in
+    omega (arith, last.id_is, c.end_of.ensures)
 
 pub zoom_of-last-requires : goal.zoom_of-last-requires
 zoom_of-last-requires c =
-    let tiles = c.args.tiles.now in
-    id_low tiles (length tiles - 1) c.index-tiles-tiles.result (omega arith) c.requires.tiles.1
+    let rs = run_views c.args.runs.now in
+    let last = last_tile rs (omega (arith, c.requires.some, length-map c.args.runs.now run_view)) c.requires.longest.each in
+    omega (arith, last.id_is, c.end_of.ensures, end_low (tiles_in rs) rs c.requires.tiles c.requires.longest)
 
 pub returns : goal.returns
 returns c =
-    let tiles = c.args.tiles.now in
-    let first = c.index-tiles-0.result in
-    let last = c.index-tiles-tiles.result in
-    let views = tile_views tiles in
-    let same : length views ≡ length tiles = length-map tiles _ in
-    let at_first = tile_there tiles 0 first (omega arith) in
-    let at_last = ap (λ (n : ℕ). slice_get views (n - 1)) same ∙ tile_there tiles (length tiles - 1) last (omega arith) in
-    (_, _, at_first, at_last, c.zoom_of-first.ensures, c.zoom_of-last.ensures)
+    let rs = run_views c.args.runs.now in
+    let last = last_tile rs (omega (arith, c.requires.some, length-map c.args.runs.now run_view)) c.requires.longest.each in
+    let id : c.end_of.result - 1 ≡ last.last.0 = omega (arith, last.id_is, c.end_of.ensures) in
+    let zoom = subst (λ (n : ℕ). IsZoomOf n c.zoom_of-last.result) id c.zoom_of-last.ensures in (
+      _,
+      last.last,
+      first_tile c.args.runs.now c.index-runs-0.result c.requires.some c.requires.longest.each,
+      last.there,
+      c.zoom_of-first.ensures,
+      zoom,
+    )

@@ -10,11 +10,15 @@ pub are_near-requires : goal.are_near-requires
 are_near-requires c = all_fit (map change_data c.args.changes.now) (c.in-Ok.ensures.ok.0 refl).changes
 
 pub returns-then-not-are_near-clause-fault : goal.returns-then-not-are_near-clause-fault
-returns-then-not-are_near-clause-fault c = (Reach, refl, inr (
+returns-then-not-are_near-clause-fault c = (
+  Reach,
   refl,
-  c.in-Ok.ensures.ok.0 refl,
-  far_from (map change_data c.args.changes.now) (λ near. false≢true (sym c.if-not-are_near.true ∙ c.are_near.ensures.1 near)),
-))
+  inr (
+    refl,
+    c.in-Ok.ensures.ok.0 refl,
+    far_from (map change_data c.args.changes.now) (λ near. false≢true (sym c.if-not-are_near.true ∙ c.are_near.ensures.1 near)),
+  ),
+)
 
 pub returns-clause-ok : goal.returns-clause-ok
 returns-clause-ok c = record { allowed = c.in-Ok.ensures.ok.0 refl; near = c.are_near.ensures.0 c.if-not-are_near.false }

@@ -7,5 +7,9 @@ use Rattle.tile_service.proofs.replaying.replay_one.Goals as goal
 
 pub make-requires-clause-texts : goal.make-requires-clause-texts
 make-requires-clause-texts c =
-    omega (arith, c.requires.texts, text_short (record_data c.args.recorded.now) (recorded_in c.args.recorded.now.version (edit_data c.in_ok-edit.edit))
-    c.in_ok-edit.ensures.edit)
+    omega (
+      arith,
+      c.requires.texts,
+      text_short (record_data c.args.recorded.now) (recorded_in c.args.recorded.now.version (edit_data c.in_ok-edit.edit))
+          c.in_ok-edit.ensures.edit,
+    )

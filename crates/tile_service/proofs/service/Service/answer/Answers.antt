@@ -14,7 +14,7 @@ use Rattle.tile_service.proofs.service.Service.answer.Goals as goal
 pub returns-in-Put-clause-takes : goal.returns-in-Put-clause-takes
 returns-in-Put-clause-takes g c = (
   edit single (recorded_change c.args.self.now.version (put c.in-Put.id (feature_data c.in-Put.feature))) c.put.result,
-  told_step _ _ c.in-Put.is c.edited.ensures (put_told _ c.in-Put.id c.in-Put.feature c.put.result),
+  told_step c.args.self.now.version _ c.in-Put.is c.edited.ensures (put_told c.args.self.now.version c.in-Put.id c.in-Put.feature c.put.result),
   (edit_step g.D.Sectors.sectors g.D.Sectors.honest g.D.Sectors.history _ _ single (recorded_change c.args.self.now.version (put c.in-Put.id (feature_data c.in-Put.feature))) c.put.result
       c.put.ensures.machine c.put.ensures.size c.put.ensures.count c.put.ensures.honest c.put.ensures.untouched c.put.ensures.any_moment c.put.ensures.acknowledged c.put.ensures.refused
       c.put.ensures.archive),
@@ -31,7 +31,7 @@ returns-in-Put-clause-failed g c =
 pub returns-in-Delete-clause-takes : goal.returns-in-Delete-clause-takes
 returns-in-Delete-clause-takes g c = (
   edit single (recorded_change c.args.self.now.version (delete c.in-Delete.id)) c.delete.result,
-  told_step _ _ c.in-Delete.is c.edited-in-Delete.ensures (delete_told _ c.in-Delete.id c.delete.result),
+  told_step c.args.self.now.version _ c.in-Delete.is c.edited-in-Delete.ensures (delete_told c.args.self.now.version c.in-Delete.id c.delete.result),
   (edit_step g.D.Sectors.sectors g.D.Sectors.honest g.D.Sectors.history _ _ single (recorded_change c.args.self.now.version (delete c.in-Delete.id)) c.delete.result
       c.delete.ensures.machine c.delete.ensures.size c.delete.ensures.count c.delete.ensures.honest c.delete.ensures.untouched c.delete.ensures.any_moment c.delete.ensures.acknowledged c.delete.ensures.refused
       c.delete.ensures.archive),
@@ -48,7 +48,7 @@ returns-in-Delete-clause-failed g c =
 pub returns-in-Batch-clause-takes : goal.returns-in-Batch-clause-takes
 returns-in-Batch-clause-takes g c = (
   edit batched (recorded_in c.args.self.now.version (map change_data c.in-Batch.changes.items)) c.batch.result,
-  told_step _ _ c.in-Batch.is c.edited-in-Batch.ensures (batch_told _ c.in-Batch.changes c.batch.result),
+  told_step c.args.self.now.version _ c.in-Batch.is c.edited-in-Batch.ensures (batch_told c.args.self.now.version c.in-Batch.changes c.batch.result),
   (edit_step g.D.Sectors.sectors g.D.Sectors.honest g.D.Sectors.history _ _ batched (recorded_in c.args.self.now.version (map change_data c.in-Batch.changes.items)) c.batch.result
       c.batch.ensures.machine c.batch.ensures.size c.batch.ensures.count c.batch.ensures.honest c.batch.ensures.untouched c.batch.ensures.any_moment c.batch.ensures.acknowledged c.batch.ensures.refused
       c.batch.ensures.archive),
@@ -65,7 +65,7 @@ returns-in-Batch-clause-failed g c =
 pub returns-in-Ok-clause-takes : goal.returns-in-Ok-clause-takes
 returns-in-Ok-clause-takes g c = (
   tile c.in-Tile.at.z c.in-Tile.at.x c.in-Tile.at.y (got (option_map (λ bytes. bytes.items) c.in-Ok.content)),
-  told_step _ _ c.in-Tile.is refl refl,
+  told_step c.args.self.now.version _ c.in-Tile.is refl refl,
   (tile_step g.D.Sectors.sectors g.D.Sectors.honest g.D.Sectors.history _ _ c.tile.ensures.same c.tile.ensures.count c.tile.ensures.honest c.tile.ensures.history c.tile.ensures.untouched c.tile.ensures.up c.in-Tile.at.z c.in-Tile.at.x c.in-Tile.at.y _ c.in-Ok.ensures.machine),
 )
 
@@ -80,7 +80,7 @@ returns-in-Ok-clause-failed g c unbroken broken =
 pub returns-in-Err-clause-takes : goal.returns-in-Err-clause-takes
 returns-in-Err-clause-takes g c = (
   tile c.in-Tile.at.z c.in-Tile.at.x c.in-Tile.at.y no_memory,
-  told_step _ _ c.in-Tile.is refl (c.in-Err.ensures.fault, refl),
+  told_step c.args.self.now.version _ c.in-Tile.is refl (c.in-Err.ensures.fault, refl),
   (tile_step g.D.Sectors.sectors g.D.Sectors.honest g.D.Sectors.history _ _ c.tile.ensures.same c.tile.ensures.count c.tile.ensures.honest c.tile.ensures.history c.tile.ensures.untouched c.tile.ensures.up c.in-Tile.at.z c.in-Tile.at.x c.in-Tile.at.y _ c.in-Err.ensures.machine),
 )
 
@@ -95,7 +95,7 @@ returns-in-Err-clause-failed g c unbroken broken =
 pub returns-in-Look-clause-takes : goal.returns-in-Look-clause-takes
 returns-in-Look-clause-takes g c = (
   look c.in-Look.id c.look.ensures.0,
-  told_step _ _ c.in-Look.is refl c.look.ensures.1,
+  told_step c.args.self.now.version _ c.in-Look.is refl c.look.ensures.1,
   (look_step g.D.Sectors.sectors g.D.Sectors.honest g.D.Sectors.history _ c.in-Look.id c.look.ensures.0 c.look.ensures.2),
 )
 
@@ -106,7 +106,7 @@ returns-in-Look-clause-failed g c unbroken broken =
 pub returns-in-Begin-clause-takes : goal.returns-in-Begin-clause-takes
 returns-in-Begin-clause-takes g c = (
   begin c.publish_begin.result,
-  told_step _ _ c.in-Begin.is c.left.ensures (begin_told _ c.publish_begin.result),
+  told_step c.args.self.now.version _ c.in-Begin.is c.left.ensures (begin_told c.args.self.now.version c.publish_begin.result),
   (begin_step g.D.Sectors.sectors g.D.Sectors.honest g.D.Sectors.history _ _ c.publish_begin.result c.publish_begin.ensures.machine c.publish_begin.ensures.same c.publish_begin.ensures.up),
 )
 
@@ -121,7 +121,7 @@ returns-in-Begin-clause-failed g c unbroken broken =
 pub returns-in-Ok-publish_cancel-clause-takes : goal.returns-in-Ok-publish_cancel-clause-takes
 returns-in-Ok-publish_cancel-clause-takes g c = (
   cancel (Ok tt),
-  told_step _ _ c.in-Cancel.is refl refl,
+  told_step c.args.self.now.version _ c.in-Cancel.is refl refl,
   (cancel_step g.D.Sectors.sectors g.D.Sectors.honest g.D.Sectors.history _ _ _ c.in-Ok-publish_cancel.ensures.machine c.publish_cancel.ensures.same c.publish_cancel.ensures.up),
 )
 
@@ -136,7 +136,7 @@ returns-in-Ok-publish_cancel-clause-failed g c unbroken broken =
 pub returns-in-Err-publish_cancel-clause-takes : goal.returns-in-Err-publish_cancel-clause-takes
 returns-in-Err-publish_cancel-clause-takes g c = (
   cancel (Err c.in-Err-publish_cancel.fault),
-  told_step _ _ c.in-Cancel.is refl refl,
+  told_step c.args.self.now.version _ c.in-Cancel.is refl refl,
   (cancel_step g.D.Sectors.sectors g.D.Sectors.honest g.D.Sectors.history _ _ _ c.in-Err-publish_cancel.ensures.machine c.publish_cancel.ensures.same c.publish_cancel.ensures.up),
 )
 
@@ -151,7 +151,7 @@ returns-in-Err-publish_cancel-clause-failed g c unbroken broken =
 pub returns-in-Step-clause-takes : goal.returns-in-Step-clause-takes
 returns-in-Step-clause-takes g c = (
   step c.publish_step.result,
-  told_step _ _ c.in-Step.is c.left-in-Step.ensures (step_told _ c.publish_step.result),
+  told_step c.args.self.now.version _ c.in-Step.is c.left-in-Step.ensures (step_told c.args.self.now.version c.publish_step.result),
   (step_step g.D.Sectors.sectors g.D.Sectors.honest g.D.Sectors.history _ _ c.publish_step.result
       c.publish_step.ensures.machine c.publish_step.ensures.size c.publish_step.ensures.count c.publish_step.ensures.honest c.publish_step.ensures.refused c.publish_step.ensures.any_moment c.publish_step.ensures.after c.publish_step.ensures.archive),
 )
@@ -194,7 +194,7 @@ pub returns-in-Look-clause-never_falls : goal.returns-in-Look-clause-never_falls
 returns-in-Look-clause-never_falls g c = same_count _ _ refl
 
 pub returns-in-Look-clause-device : goal.returns-in-Look-clause-device
-returns-in-Look-clause-device g c is = absurd (look_no_device _ c.in-Look.id _ _ c.look.ensures.1 is)
+returns-in-Look-clause-device g c is = absurd (look_no_device c.args.self.now.version c.in-Look.id _ _ c.look.ensures.1 is)
 
 pub returns-in-Begin-clause-never_falls : goal.returns-in-Begin-clause-never_falls
 returns-in-Begin-clause-never_falls g c = same_count _ _ (ap (λ s. g.D.Sectors.faults s.disk) c.publish_begin.ensures.same)

@@ -1,4 +1,4 @@
-use Rattle.std.proofs.Common.{◌≡◌, Ok, Err, ◌∙◌, List, map, refl, sym, ap, subst}
+use Rattle.std.proofs.Common.{Err, ◌∙◌, List, map, refl, sym, subst}
 use Rattle.std.specs.List.{All}
 use Rattle.std.proofs.lemmas.Bool.{false≢true}
 use Rattle.feature_model.specs.Data.{change_data}
@@ -6,7 +6,7 @@ use Rattle.feature_model.specs.declared.feature.Change.{Change}
 use Rattle.feature_store.specs.Store.{FeatureMap}
 use Rattle.tile_service.specs.Limits.{KeepsBatchLimits}
 use Rattle.tile_service.specs.Machine.{batched, recorded_in, HasTarget}
-use Rattle.tile_service.specs.declared.fault.ServiceFault.TheVariants.{Limit, NeedsUpgrade, NotFound, NumbersSpent}
+use Rattle.tile_service.specs.declared.fault.ServiceFault.TheVariants.{NeedsUpgrade, NotFound, NumbersSpent}
 use Rattle.tile_service.proofs.Batches.{lacks_from}
 use Rattle.tile_service.proofs.Edits.{same_leaves}
 use Rattle.tile_service.proofs.Steps.{is_later}
@@ -25,8 +25,7 @@ returns-in-Err-clause-any_moment g c = rw (← c.self.view_is) (λ stored honest
 pub returns-then-not-has_targets-clause-machine : goal.returns-then-not-has_targets-clause-machine
 returns-then-not-has_targets-clause-machine g c = rw (← c.self.view_is) (λ known.
     let keeps : KeepsBatchLimits (map change_data c.args.changes.items) =
-    subst (λ (cs : List Change). KeepsBatchLimits (map change_data cs)) c.deref.ensures.value c.in-Ok.ensures.ok in
-    (
+    subst (λ (cs : List Change). KeepsBatchLimits (map change_data cs)) c.deref.ensures.value c.in-Ok.ensures.ok in (
       c.if-self.false,
       (
         is_later c.self.inside.version c.self.invariant.version_is c.if-self-eq-FIRST_VERSION.false,

@@ -1,4 +1,4 @@
-use Rattle.std.proofs.Common.{◌≡◌, Ok, Err, ◌∙◌, ℕ, List, [], ◌∷◌, refl, sym, ap, subst, arith, rules, length}
+use Rattle.std.proofs.Common.{◌≡◌, Ok, Err, ℕ, List, [], ◌∷◌, refl, sym, ap, subst, arith, rules, length}
 use Rattle.edit_journal.specs.Records.{IsRecordLength, parts_of, record_of}
 use Rattle.edit_text.specs.Recorded.{text_in}
 use Rattle.feature_model.specs.Data.{delete}

@@ -1,12 +1,10 @@
-use Rattle.std.proofs.Common.{◌≡◌, Ok, Err, ℕ, [], ◌∷◌, refl, sym, ap, subst, arith, rules}
+use Rattle.std.proofs.Common.{Err, refl, sym, subst}
 use Rattle.sector_disk.specs.Moments.{LeavesOnly}
-use Rattle.edit_journal.specs.Appends.{TakesSteps}
 use Rattle.feature_model.specs.Data.{EditData, put, feature_data}
 use Rattle.feature_model.specs.Limits.{IsAllowedEdit}
 use Rattle.edit_text.specs.Recorded.{FitsVersion}
-use Rattle.tile_service.specs.Machine.{AnswersEdit, single, edit, recorded_in, recorded_change, places_for}
-use Rattle.tile_service.specs.Service.{state_of, IsUp, EventLeaves}
-use Rattle.tile_service.specs.Stored.{with_edit}
+use Rattle.tile_service.specs.Machine.{single, edit, recorded_in, recorded_change}
+use Rattle.tile_service.specs.Service.{EventLeaves}
 use Rattle.tile_service.specs.declared.fault.ServiceFault.TheVariants.{NumbersSpent, Memory}
 use Rattle.tile_service.proofs.Edits.{same_leaves}
 use Rattle.tile_service.proofs.Steps.{put_allowed, one_fits}

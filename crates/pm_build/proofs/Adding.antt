@@ -1,0 +1,160 @@
+-- Tiles with one more behind them, and the runs that a builder keeps of them.
+use Rattle.std.proofs.Common.{◌≡◌, ◌↔◌, ℕ, zero, suc, ◌+◌, ◌<◌, ◌≤◌, List, [], ◌∷◌, ◌++◌, length, get_or, slice_set, All, refl, sym, ap, subst, ◌∙◌, arith}
+use Rattle.std.specs.List.{AllByRecursion}
+use Rattle.std.proofs.lemmas.List.{length_push}
+use Rattle.std.proofs.lemmas.List.Elements.{All-nil, All-cons, All-head, All-tail, All-weaker}
+use Rattle.hilbert_id.specs.declared.number.TheConstants.{TILE_IDS}
+use Rattle.pm_build.specs.Building.{CanAdd}
+use Rattle.pm_build.specs.Joined.{run_view, run_views, goes_on, one_more, runs_of, runs_end, goes_on_last, last_grown, with_tile}
+use Rattle.pm_build.specs.Runs.{TileRun, repeated, tiles_in, AreLongestRuns}
+use Rattle.pm_build.specs.Tiles.{Tile, IdsAscend, IsTile, AreTiles}
+use Rattle.pm_build.specs.declared.run.Run.{Run}
+use Rattle.pm_build.proofs.Joining.{HasCount, longest_from_runs_of, runs_of_from_longest, runs_push}
+use Rattle.pm_build.proofs.Pieces.{all_push}
+
+-- ---- tiles
+
+ids_push : (from : ℕ) (ts : List Tile) (t : Tile) → from ≤ t.0 → IdsAscend from ts → All (λ u. u.0 < t.0) ts → IdsAscend from (ts ++ t ∷ [])
+ids_push from [] t le h low = (le, tt)
+ids_push from (u ∷ us) t le h low =
+    let less = All-head (λ (v : Tile). v.0 < t.0) u us low in
+    (h.0, ids_push (suc u.0) us t (omega (arith, less)) h.1 (All-tail (λ v. v.0 < t.0) u us low))
+
+pub tiles_push : (ts : List Tile) (t : Tile) → AreTiles ts → CanAdd ts t → AreTiles (ts ++ t ∷ [])
+tiles_push ts t are can = (ids_push 0 ts t (omega arith) are.0 can.0, all_push IsTile ts t are.1 can.1)
+
+-- there are not more tiles than ids
+ids_room : (from : ℕ) (ts : List Tile) → IdsAscend from ts → AllByRecursion IsTile ts → from ≤ TILE_IDS → from + length ts ≤ TILE_IDS
+ids_room from [] h each le = omega (arith, le)
+ids_room from (u ∷ us) h each le = omega (arith, h.0, ids_room (suc u.0) us h.1 each.1 (omega (arith, each.0.0)))
+
+pub tiles_room : (ts : List Tile) → AreTiles ts → length ts ≤ TILE_IDS
+tiles_room ts are = let room = ids_room 0 ts are.0 are.1 (omega arith) in omega (arith, room)
+
+-- ---- the id behind them
+
+abbrev ids_end : ℕ → List Tile → ℕ
+ids_end from [] = from
+ids_end from (t ∷ ts) = ids_end (suc t.0) ts
+
+end_above : (from : ℕ) (ts : List Tile) → IdsAscend from ts → from ≤ ids_end from ts
+end_above from [] h = omega arith
+end_above from (t ∷ ts) h = omega (arith, h.0, end_above (suc t.0) ts h.1)
+
+below_end : (from : ℕ) (ts : List Tile) → IdsAscend from ts → All (λ u. u.0 < ids_end from ts) ts
+below_end from [] h = All-nil (λ (u : Tile). u.0 < from)
+below_end from (t ∷ ts) h =
+    let above = end_above (suc t.0) ts h.1 in
+    All-cons (λ (u : Tile). u.0 < ids_end (suc t.0) ts) t ts (omega (arith, above)) (below_end (suc t.0) ts h.1)
+
+end_least : (from : ℕ) (ts : List Tile) (id : ℕ) → from ≤ id → All (λ u. u.0 < id) ts → ids_end from ts ≤ id
+end_least from [] id le low = le
+end_least from (t ∷ ts) id le low =
+    let less = All-head (λ (u : Tile). u.0 < id) t ts low in end_least (suc t.0) ts id (omega (arith, less)) (All-tail (λ u. u.0 < id) t ts low)
+
+end_repeated : (from first count : ℕ) (content : List ℕ) (ts : List Tile)
+    → ids_end from (repeated first (suc count) content ++ ts) ≡ ids_end (first + suc count) ts
+end_repeated from first zero content ts = let e : suc first ≡ first + 1 = omega arith in ap (λ (n : ℕ). ids_end n ts) e
+end_repeated from first (suc count) content ts =
+    let e : suc first + suc count ≡ first + suc (suc count) = omega arith in
+    end_repeated (suc first) (suc first) count content ts ∙ ap (λ (n : ℕ). ids_end n ts) e
+
+end_run : (from : ℕ) (r : TileRun) (ts : List Tile) → 0 < r.count → ids_end from (repeated r.first r.count r.content ++ ts) ≡ ids_end (r.first + r.count) ts
+end_run from r ts some = by r.count refl some
+  where
+    by : (n : ℕ) → r.count ≡ n → 0 < n → ids_end from (repeated r.first n r.content ++ ts) ≡ ids_end (r.first + r.count) ts
+    by zero e some = absurd (omega arith)
+    by (suc n) e some = end_repeated from r.first n r.content ts ∙ ap (λ (k : ℕ). ids_end (r.first + k) ts) (sym e)
+
+end_runs : (from : ℕ) (r : TileRun) (rs : List TileRun) → AllByRecursion HasCount (r ∷ rs) → ids_end from (tiles_in (r ∷ rs)) ≡ runs_end (r ∷ rs)
+end_runs from r [] h = end_run from r [] h.0.0
+end_runs from r (s ∷ rs) h = end_run from r (tiles_in (s ∷ rs)) h.0.0 ∙ end_runs (r.first + r.count) s rs h.1
+
+end_is : (rs : List TileRun) → AllByRecursion HasCount rs → ids_end 0 (tiles_in rs) ≡ runs_end rs
+end_is [] h = refl
+end_is (r ∷ rs) h = end_runs 0 r rs h
+
+-- a tile can be added if its id is at or behind that end
+pub can_add : (rs : List TileRun) (t : Tile) → AreTiles (tiles_in rs) → AreLongestRuns (tiles_in rs) rs
+    → ((runs_end rs ≤ t.0) × IsTile t) ↔ CanAdd (tiles_in rs) t
+can_add rs t are l = (to, from)
+  where
+    to : (runs_end rs ≤ t.0) × IsTile t → CanAdd (tiles_in rs) t
+    to h =
+        let end = end_is rs l.each in (
+          All-weaker (λ (u : Tile). u.0 < ids_end 0 (tiles_in rs)) (λ u. u.0 < t.0) (λ u lt. omega (arith, lt, end, h.0)) (tiles_in rs)
+              (below_end 0 (tiles_in rs) are.0),
+          h.1,
+        )
+
+    from : CanAdd (tiles_in rs) t → (runs_end rs ≤ t.0) × IsTile t
+    from h = let end = end_is rs l.each in (omega (arith, end, end_least 0 (tiles_in rs) t.0 (omega arith) h.0), h.1)
+
+-- ---- whether there are tiles
+
+pub none_in : (runs : List Run) → length runs ≡ 0 → tiles_in (run_views runs) ≡ []
+none_in [] e = refl
+none_in (r ∷ runs) e = absurd (omega (arith, e))
+
+pub some_in : (runs : List Run) → AllByRecursion HasCount (run_views runs) → tiles_in (run_views runs) ≡ [] → length runs ≡ 0
+some_in [] h e = refl
+some_in (r ∷ runs) h e = absurd (by r.count refl h.0.0 e)
+  where
+    by : (n : ℕ) → r.count ≡ n → 0 < n → repeated r.first n r.content.items ++ tiles_in (run_views runs) ≡ [] → ⊥
+    by zero is some none = omega arith
+    by (suc n) is some none = cc
+
+-- ---- the runs with one tile more
+
+-- what the runs of a builder are after a tile was added
+pub record IsGrown (ts : List Tile) (t : Tile) (rs : List TileRun) : Type 0 where
+  pub tiles_are : tiles_in rs ≡ ts ++ t ∷ []
+  pub tiles : AreTiles (tiles_in rs)
+  pub longest : AreLongestRuns (tiles_in rs) rs
+  pub count : length (tiles_in rs) ≡ length ts + 1
+
+pub grown : (rs new : List TileRun) (t : Tile) → AreTiles (tiles_in rs) → AreLongestRuns (tiles_in rs) rs → CanAdd (tiles_in rs) t
+    → new ≡ with_tile rs t → IsGrown (tiles_in rs) t new
+grown rs new t are l can is =
+    let ts = tiles_in rs in
+    let runs : new ≡ runs_of (ts ++ t ∷ []) = is ∙ ap (λ (x : List TileRun). with_tile x t) (sym (runs_of_from_longest ts rs l)) ∙ sym (runs_push ts t) in
+    let longest : AreLongestRuns (ts ++ t ∷ []) new = subst (AreLongestRuns (ts ++ t ∷ [])) (sym runs) (longest_from_runs_of (ts ++ t ∷ [])) in
+    let same : tiles_in new ≡ ts ++ t ∷ [] = longest.together in
+    record {
+      tiles_are = same;
+      tiles = subst AreTiles (sym same) (tiles_push ts t are can);
+      longest = subst (λ (x : List Tile). AreLongestRuns x new) (sym same) longest;
+      count = ap (λ (x : List Tile). length x) same ∙ length_push ts t;
+    }
+
+-- they are the longest ones of all tiles, added or not
+pub longest_with : (rs : List TileRun) (t : Tile) → AreLongestRuns (tiles_in rs) rs → AreLongestRuns (tiles_in rs ++ t ∷ []) (with_tile rs t)
+longest_with rs t l =
+    let ts = tiles_in rs in
+    subst (AreLongestRuns (ts ++ t ∷ []))
+    (runs_push ts t ∙ ap (λ (x : List TileRun). with_tile x t) (runs_of_from_longest ts rs l)) (longest_from_runs_of (ts ++ t ∷ []))
+
+-- ---- the last of the runs in memory
+
+pub last_goes_on : (runs : List Run) (i : ℕ) (d : Run) (t : Tile) → length runs ≡ suc i
+    → goes_on_last (run_views runs) t ≡ goes_on (run_view (get_or runs i d)) t
+last_goes_on [] i d t e = absurd (omega (arith, e))
+last_goes_on (r ∷ []) zero d t e = refl
+last_goes_on (r ∷ []) (suc i) d t e = absurd (omega (arith, e))
+last_goes_on (r ∷ s ∷ runs) zero d t e = absurd (omega (arith, e))
+last_goes_on (r ∷ s ∷ runs) (suc i) d t e = last_goes_on (s ∷ runs) i d t (omega (arith, e))
+
+pub last_end : (runs : List Run) (i : ℕ) (d : Run) → length runs ≡ suc i → runs_end (run_views runs) ≡ (get_or runs i d).first + (get_or runs i d).count
+last_end [] i d e = absurd (omega (arith, e))
+last_end (r ∷ []) zero d e = refl
+last_end (r ∷ []) (suc i) d e = absurd (omega (arith, e))
+last_end (r ∷ s ∷ runs) zero d e = absurd (omega (arith, e))
+last_end (r ∷ s ∷ runs) (suc i) d e = last_end (s ∷ runs) i d (omega (arith, e))
+
+pub last_set : (runs : List Run) (i : ℕ) (d new : Run) → length runs ≡ suc i → run_view new ≡ one_more (run_view (get_or runs i d))
+    → run_views (slice_set runs i new) ≡ last_grown (run_views runs)
+last_set [] i d new e grown = absurd (omega (arith, e))
+last_set (r ∷ []) zero d new e grown = ap (λ (s : TileRun). s ∷ []) grown
+last_set (r ∷ []) (suc i) d new e grown = absurd (omega (arith, e))
+last_set (r ∷ s ∷ runs) zero d new e grown = absurd (omega (arith, e))
+last_set (r ∷ s ∷ runs) (suc i) d new e grown = ap (λ (rs : List TileRun). run_view r ∷ rs) (last_set (s ∷ runs) i d new (omega (arith, e)) grown)

@@ -1,0 +1,17 @@
+-- Tiles that are added one after the other.
+use Rattle.std.specs.Prelude.{◌<◌, ◌≤◌, List, length, All}
+use Rattle.pm_build.specs.declared.limit.TheConstants.{MAX_ENTRIES}
+use Rattle.pm_build.specs.Tiles.{Tile, IsTile}
+use Rattle.pm_build.specs.Runs.{TileRun, AreLongestRuns}
+
+-- the tile can be added after these: its id is greater than theirs
+abbrev pub CanAdd : List Tile → Tile → Type 0
+CanAdd tiles t = All (λ u. u.0 < t.0) tiles × IsTile t
+
+-- the tiles need more entries than an archive has
+abbrev pub AreTooMany : List Tile → Type 0
+AreTooMany tiles = (runs : List TileRun) × AreLongestRuns tiles runs × (MAX_ENTRIES < length runs)
+
+-- the tiles need no more entries than an archive has
+abbrev pub AreFew : List Tile → Type 0
+AreFew tiles = (runs : List TileRun) × AreLongestRuns tiles runs × (length runs ≤ MAX_ENTRIES)

@@ -1,0 +1,105 @@
+ghost use Rattle.std.specs.Prelude.{ℕ, ◌≡◌, ◌≢◌, ◌+◌, ◌*◌, ◌≤◌, ◌↔◌, List, [], ◌∷◌, ◌++◌, length, Err, OnOk, OnErr, IfOk, IsTrue, map, Contains};
+ghost use Rattle.std.specs.List.{AllByRecursion, concat};
+ghost use Rattle.pm_build.specs.Building.{CanAdd, AreTooMany, AreFew};
+ghost use Rattle.pm_build.specs.Runs.{TileRun, AreLongestRuns};
+ghost use Rattle.pm_build.specs.Placed.{AreDifferent};
+ghost use Rattle.pm_archive.specs.Archive.{IsArchiveOf, IsMetadata};
+ghost use Rattle.pm_build.specs.Built.{tile_content};
+ghost use Rattle.pm_build.specs.Laid.{BeginFor};
+
+use crate::building::archive_of_runs;
+use crate::checks::is_tile;
+use crate::fault::BuildFault;
+use crate::limit::MAX_ENTRIES;
+use crate::run::Run;
+use crate::runs::{add_tile, end_of};
+use std::alloc::{AllocError, Global};
+use std::marker::Model;
+
+/// An archive that is built from tiles, added by ascending id. A tile that follows the last run, with an equal content, is joined
+/// with it, and its bytes are freed.
+#[derive(Debug, Drop)]
+pub struct ArchiveBuilder {
+    runs: Vec<Run>,
+    /// How many tiles were added.
+    addressed: u64,
+    alloc: Global,
+}
+
+impl Model for ArchiveBuilder {
+    ghost use Rattle.std.specs.Prelude.{List};
+    ghost use Rattle.pm_build.specs.Tiles.{Tile};
+
+    ghost Value = { List Tile };
+
+    ghost use Rattle.pm_build.specs.Kept.{tiles_kept, IsBuilder};
+
+    ghost view = { tiles_kept };
+
+    ghost invariant = { IsBuilder };
+}
+
+impl ArchiveBuilder {
+    /// A builder to which no tile was added. It allocates nothing.
+    pub fn new(alloc: Global) -> ArchiveBuilder
+        ensures { result ≡ [] }
+    {
+        ArchiveBuilder {
+            runs: Vec::new(alloc),
+            addressed: 0,
+            alloc,
+        }
+    }
+
+    /// Whether no tile was added.
+    pub fn is_empty(&self) -> bool
+        ensures { IsTrue result ↔ (self.now ≡ []) }
+    {
+        self.runs.is_empty()
+    }
+
+    /// Whether a tile of this id and content can be added: the id is greater than those of the tiles that were added and is that of a
+    /// tile of zooms 0 to 31, and the content has from 1 to 2^32 - 1 bytes.
+    pub fn can_add(&self, id: u64, content: &[u8]) -> bool
+        ensures { IsTrue result ↔ CanAdd self.now (id, content.now) }
+    {
+        is_tile(end_of(&self.runs), id, content)
+    }
+
+    /// Adds a tile. It needs memory only if the tile begins a run.
+    ///
+    /// # Errors
+    ///
+    /// `TooManyEntries` if the runs, with this tile, number over `MAX_ENTRIES`, and then no other. `Memory` if an allocation fails.
+    /// Nothing is added then.
+    pub fn add(&mut self, id: u64, content: Vec<u8>) -> Result<(), BuildFault>
+        requires { CanAdd self.old (id, content.items) }
+        ensures added { OnOk result (self.new ≡ self.old ++ (id, content.items) ∷ []) }
+        ensures unchanged { OnErr result (self.new ≡ self.old) }
+        ensures few { OnOk result (AreFew self.new) }
+        ensures many { (result ≡ Err BuildFault.TooManyEntries) ↔ AreTooMany (self.old ++ (id, content.items) ∷ []) }
+    {
+        match add_tile(&mut self.runs, id, content) {
+            Ok(()) => {}
+            Err(fault) => return Err(fault),
+        }
+        self.addressed += 1;
+        Ok(())
+    }
+
+    /// The archive of the tiles that were added, with this metadata, a JSON object.
+    ///
+    /// Tiles of consecutive ids with equal contents share an entry, and equal contents are stored once. Up to 512 entries
+    /// stand in the root directory, more in leaf directories of 512 each. The only error is out of memory.
+    pub fn finish(&self, metadata: &[u8]) -> Result<Vec<u8>, AllocError>
+        requires some { self.now ≢ [] }
+        requires metadata { IsMetadata metadata.now }
+        ensures archive { IfOk result (λ bytes. IsArchiveOf bytes.items (tile_content self.now)) }
+        ensures header { IfOk result (λ bytes. BeginFor bytes.items self.now) }
+        ensures size { IfOk result (λ bytes. (runs : List TileRun) × (contents : List (List ℕ)) × AreLongestRuns self.now runs × (length runs ≤ MAX_ENTRIES)
+            × AreDifferent contents × AllByRecursion (λ c. Contains (map (λ r. r.content) runs) c) contents
+            × (length bytes.items ≤ 127 + length metadata.now + 64 * length runs + length (concat contents))) }
+    {
+        archive_of_runs(self.alloc, &self.runs, self.addressed, metadata)
+    }
+}
