@@ -42,13 +42,15 @@ TILES, ARCHIVES = fuzz.all_tiles(), fuzz.all_archives()
 STREAMS = [held for held in fuzz.Corpus().streams if len(held) < LONGEST]
 READ = [("tile", TILES), ("tile", TILES), ("change", CHANGES), ("edit", EDITS), ("directory", DIRECTORIES), ("metadata", TEXTS), ("verify", ARCHIVES),
         ("contents 0,3,12,20", ARCHIVES)]
-MAP = [("json", TEXTS), ("restore", SNAPSHOTS), ("make", EDITS), ("changes", fuzz.EDITS), ("record 1", CHANGES), ("record 2", EDITS)]
+MAP = [("json", TEXTS), ("changes", EDIT_TEXTS), ("restore", SNAPSHOTS), ("make", EDITS), ("record 1", CHANGES), ("record 2", EDITS)]
 
 
 def line(chance, rows):
     """A line about damaged bytes."""
     word, sources = chance.choice(rows)
-    held = fuzz.damaged(chance, chance.choice(sources), sources, TIMES)[:LONGEST]
+    source = compact(odd_body(chance)).encode() if word == "changes" and chance.randrange(4) else chance.choice(sources)
+    held = fuzz.damaged(chance, source, sources, FEWER_TIMES if word == "changes" else TIMES)
+    held = held if word == "changes" else held[:LONGEST]
     if word not in ("json", "changes"):
         return f"{word} {held.hex() or '-'}" if rows is READ else f"{word} {held.hex()}"
     # A line is text, and an angle bracket in it begins a text that is repeated.
