@@ -3,9 +3,10 @@
 
     python3 bench/stops.py PROGRAM FIRST LAST       PROGRAM is crates/service_runs/out/service_runs, which `rt run` leaves there
 
-For each seed from FIRST to LAST there are 60 runs on a disk of 4,096 sectors with 300 features, 240 on disks of 80 to 379 sectors, and 120 on disks
-of both versions with batches and upgrades. The model writes the lines and their answers; the lines also check the model, that a crash leaves the
-acknowledged edits, and of the next one all changes or none. It prints a line for each seed, and ends with 1 at the first answer that differs.
+For each seed from FIRST to LAST there are 60 runs on a disk of 4,096 sectors with 300 features, 240 on disks of 80 to 379 sectors, and 200 with
+batches on such disks of both versions, with upgrades between them. The model writes the lines and their answers; they also check the model, that a
+crash leaves the acknowledged edits and all changes of the next one or none. It prints a line for each seed, and ends with 1 at the first answer that
+differs.
 """
 import subprocess
 import sys
@@ -28,7 +29,7 @@ def difference(program, lines):
 
 def main(program, first, last):
     for seed in range(int(first), int(last) + 1):
-        lines = [*large_disk(seed, 60), *random_runs(seed, 240), *random_runs(seed, 120, batch_turn)]
+        lines = [*large_disk(seed, 60), *random_runs(seed, 240), *random_runs(seed + 10**6, 200, batch_turn)]
         found = difference(program, lines)
         if found:
             print(f"seed {seed}: differs", *found, sep="\n    ")

@@ -6,7 +6,8 @@
 READ_RUNS, MAP_RUNS and REPLY_RUNS are the programs of these crates, which `rt run` leaves in their `out/`. One process answers 1,500
 lines, so some thousand lines a second are compared: tiles, texts of changes and edits, directories, metadata, archives and their
 contents, features and edits as JSON, snapshots, records of both versions, and connections in pieces of two sizes. Each process has the lines of
-one seed; the next ones have those of the next seed. The script prints each line that differs, and ends with 1 if one does or a process ends with another status than 0.
+one seed; the next ones have those of the next seed. The script prints each line that differs, and ends with 1 if one does or a process ends with
+another status than 0.
 """
 import argparse
 import random
@@ -41,13 +42,15 @@ TILES, ARCHIVES = fuzz.all_tiles(), fuzz.all_archives()
 STREAMS = [held for held in fuzz.Corpus().streams if len(held) < LONGEST]
 READ = [("tile", TILES), ("tile", TILES), ("change", CHANGES), ("edit", EDITS), ("directory", DIRECTORIES), ("metadata", TEXTS), ("verify", ARCHIVES),
         ("contents 0,3,12,20", ARCHIVES)]
-MAP = [("json", TEXTS), ("restore", SNAPSHOTS), ("make", EDITS), ("changes", fuzz.EDITS), ("record 1", CHANGES), ("record 2", EDITS)]
+MAP = [("json", TEXTS), ("changes", EDIT_TEXTS), ("restore", SNAPSHOTS), ("make", EDITS), ("record 1", CHANGES), ("record 2", EDITS)]
 
 
 def line(chance, rows):
     """A line about damaged bytes."""
     word, sources = chance.choice(rows)
-    held = fuzz.damaged(chance, chance.choice(sources), sources, TIMES)[:LONGEST]
+    source = compact(odd_body(chance)).encode() if word == "changes" and chance.randrange(4) else chance.choice(sources)
+    held = fuzz.damaged(chance, source, sources, FEWER_TIMES if word == "changes" else TIMES)
+    held = held if word == "changes" else held[:LONGEST]
     if word not in ("json", "changes"):
         return f"{word} {held.hex() or '-'}" if rows is READ else f"{word} {held.hex()}"
     # A line is text, and an angle bracket in it begins a text that is repeated.

@@ -31,7 +31,6 @@ import foreign_archives
 import foreign_tiles
 import read_hostile
 import read_script
-import reply_edits
 import reply_hostile
 from archives import Maker
 from calls import format_disk, upgrade
@@ -129,17 +128,13 @@ def joined(parts):
 
 
 BODIES = [joined(parts) for parts in reply_hostile.bodies() if not isinstance(parts, str)]
-EDITS = [body for body in [*reply_edits.of_other_forms(), *reply_edits.with_faults()] if isinstance(body, bytes) and len(body) < 3000]
-EDITS += [reply_edits.body_of(reply_edits.sets(1), reply_edits.sets(2)), reply_edits.body_of(reply_edits.deletes(1), reply_edits.sets(3))]
 OTHERS = [held for held in reply_hostile.of_other_protocols() if not isinstance(held, str)]
 
 
 def one_request(chance):
-    kind = chance.randrange(13)
+    kind = chance.randrange(14)
     if kind == 0:
         return request("PUT", f"/features/{chance.randrange(4)}", chance.choice(BODIES))
-    if kind == 2:
-        return request("POST", "/edits", chance.choice(EDITS))
     if kind == 1:
         return chance.choice(OTHERS)
     if kind < 4:
@@ -154,24 +149,42 @@ class Corpus:
         self.archives, self.tiles = all_archives(), all_tiles()
         chance = random.Random(7)
         self.streams = [stream(chance) for _ in range(60)] + OTHERS + BODIES[:20]
-        self.disks = [disk_after(chance, rounds, version) for version in disks.FORMAT_VERSIONS for rounds in (0, 1, 1, 2, 3, 4)]
+        self.disks = [disk_after(chance, rounds, version) for version in disks.VERSIONS for rounds in (0, 1, 1, 2, 3, 4)]
+        self.disks += [upgraded(chance, rounds) for rounds in (1, 2, 3)]
 
 
-def disk_after(chance, rounds, version):
-    """The bytes of a disk of a version after some edits, with publications between them. Of version 2 there is one that was upgraded."""
-    memory = Memory(SECTORS)
-    format_disk(memory, disks.FIRST_VERSION if rounds == 3 else version)
-    service = Service(memory)
+def some_edit(chance, service):
+    """An edit; on a disk of version 2 half of them have several changes."""
+    if service.version == disks.FIRST_VERSION or chance.randrange(2):
+        service.put(chance.randrange(6), random_feature(chance))
+    else:
+        service.batch([Change(number, random_feature(chance)) for number in chance.sample(range(6), chance.randrange(1, 4))])
+
+
+def some_edits(chance, service, rounds):
+    """Rounds of edits, with publications between them."""
     for turn in range(rounds):
         for _ in range(chance.randrange(1, 5)):
             some_edit(chance, service)
         if turn % 2 == 0 and rounds > 1:
             service.publish()
-        if service.version < version:
-            upgrade(memory)
-            service = Service(memory)
-        if version == disks.LAST_VERSION:
-            service.batch([disks.Change(number, random_feature(chance)) for number in range(chance.randrange(1, 4))])
+
+
+def disk_after(chance, rounds, version):
+    """The bytes of a disk of a version after some edits."""
+    memory = Memory(SECTORS)
+    format_disk(memory, version)
+    some_edits(chance, Service(memory), rounds)
+    return bytes_of(memory)
+
+
+def upgraded(chance, rounds):
+    """The bytes of a disk with records of both versions: edits, the upgrade, and edits."""
+    memory = Memory(SECTORS)
+    format_disk(memory, disks.FIRST_VERSION)
+    some_edits(chance, Service(memory), 1)
+    upgrade(memory)
+    some_edits(chance, Service(memory), rounds)
     return bytes_of(memory)
 
 

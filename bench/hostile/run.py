@@ -4,8 +4,8 @@
     python3 bench/hostile/run.py [--program PROGRAM] [--only WORD] [--limit SECONDS] [--sizes KB,KB,..]
 
 PROGRAM is crates/vtserve/out/vtserve, which `rt run` leaves there. It needs `time` (Debian: time). Each row is an input of a kind in
-four sizes, of 1, 2, 4 and 8 MB if the row has no smaller ones of its own or counts something else. A process that takes longer than the limit is stopped, and the
-larger sizes of its row are left out. The last column is the factor between the last two sizes: 2 for work in proportion to the input,
+four sizes, of 1, 2, 4 and 8 MB if the row has no smaller ones of its own or counts something else. A process that takes longer than the
+limit is stopped, and the larger sizes of its row are left out. The last column is the factor between the last two sizes: 2 for work in proportion to the input,
 4 for its square. What a process must answer is written beside each row; another answer ends the script with 1.
 """
 import argparse

@@ -55,15 +55,20 @@ def disks():
     """A disk with a record in its journal, or a snapshot, whose text claims what it has no bytes for; and one that claims more sectors than it has."""
     for name, version, text in texts():
         held = bytearray(disk.write_disk(64, 0, {}, [], b"", 0))
-        disk.put_records(held, disk.Layout(64), 0, 1, [(1, text)])
+        disk.put_records(held, disk.Layout(64), 0, 1, [(version, text)])
         yield f"{name} in the journal", bytes(held)
-        held = bytearray(disk.write_disk(64, 0, {}, [], b"", 0))
-        disk.put_records(held, disk.Layout(64), 0, 1, [(2, b"\x01" + text)])
-        yield f"{name} in a batch", bytes(held)
-        held = bytearray(disk.write_disk(64, 1, {}, [], b"", 0))
-        disk.put_at(held, 2, disk.root_sector(disk.Root(1, 0, 0, len(text), 0)))
-        disk.put_at(held, disk.Layout(64).area_at(1), text)
-        yield f"{name} in the snapshot", bytes(held)
+        if version == 1:
+            held = bytearray(disk.write_disk(64, 1, {}, [], b"", 0))
+            disk.put_at(held, 2, disk.root_sector(disk.Root(1, 0, 0, len(text), 0)))
+            disk.put_at(held, disk.Layout(64).area_at(1), text)
+            yield f"{name} in the snapshot", bytes(held)
+    held = bytearray(disk.write_disk(64, 0, {}, [], b"", 0))
+    disk.put_at(held, 0, disk.format_sector(disk.MOST))
+    yield "sectors", bytes(held)
+    held = bytearray(disk.write_disk(64, 0, {}, [], b"", 0))
+    disk.put_records(held, disk.Layout(64), 0, 1, [(2, b"\x01\x02" + disk.spelled(7, 8))])
+    disk.put_at(held, disk.Layout(64).place(0), disk.front(0, 1, disk.LONGEST_OF[2], 2))
+    yield "bytes of a record", bytes(held)
 
 
 def cases():

@@ -49,7 +49,7 @@ def post(path):
 
 
 def sets(number, *rest):
-    """A change that sets a feature, as a text."""
+    """A change that sets a feature, as JSON."""
     return f'{{"put":{number},"feature":{feature(*rest)}}}'
 
 
@@ -71,11 +71,9 @@ POLYGONS = {"polygons": [[[[0, 0], [WORLD, 0], [WORLD, WORLD]], [[9, 5], [2**31,
 KINDS = [("a", "x"), ("b", -2), ("c", 3), ("d", True)]
 LARGE = [(f"k{number:02}", chr(97 + number) * 1000) for number in range(20)]
 EDITS = [put(7), put(8, KINDS, LINES), put(9, (), POLYGONS), request("DELETE", "/features/7")]
-BATCHES = [batch(sets(7), sets(8, KINDS, LINES), sets(9, (), POLYGONS)), batch(sets(1, LARGE[:2]), deletes(7)), batch(deletes(9)), batch(deletes(7), sets(7))]
 PUBLISHED = [put(7), put(8, KINDS, LINES), put(9, (), POLYGONS), post("/publish"), put(10, KINDS), request("DELETE", "/features/9")]
 STEPPED = [put(number, LARGE) for number in (1, 2)]
 BAD = ["", "{", "[]", '{"layer":1}', feature().replace("2", "20"), feature((("k", "v"),)).replace('"v"', "1.5"), feature().replace("}", "]", 1)]
-BAD_BATCHES = [batch(), batch(sets(7), deletes(7)), batch("{}"), batch(sets(7), '{"put":8}'), batch(deletes(2**63)), batch(sets(7).replace('"p"', '""'))]
 TILES = [get(path) for path in ("/map/0/0/0.mvt", "/map/0/0/0.hex", "/map/2/3/3.mvt", "/map/2/1/2.mvt", "/map/16/9/9.hex")]
 READS = [*map(get, ("/features/8", "/features/9", "/features/77", "/map/metadata", "/map.pmtiles", "/other", "/features/x")), request("POST", "/map.pmtiles")]
 RANGES = [get("/map.pmtiles", f"range: bytes={part}\r\n") for part in ("0-126", "127-", "100-9999", "9999-10000")]
@@ -110,12 +108,9 @@ RECORDS = [disk.Record(1, [disk.Change(1, POINT)]), disk.Record(1, [disk.Change(
 SERIES = [
     ("edits, empty disk", 64, [], twice(EDITS)),
     ("bad bodies, empty disk", 64, [], twice([request("PUT", "/features/7", body) for body in BAD])),
-    ("batches, empty disk", 64, [], twice(BATCHES)),
-    ("bad batches, empty disk", 64, [], twice(BAD_BATCHES)),
     ("reads, empty disk", 64, [], twice([*TILES, *READS, *RANGES[:1]])),
     ("publication, empty disk", 64, [], twice([post("/publish"), *STEPS[:3], *STEPS[4:5]])),
     ("edits, published disk", 256, PUBLISHED, twice(EDITS)),
-    ("batches, published disk", 256, PUBLISHED, twice([*BATCHES, TILES[0]])),
     ("tiles, published disk", 256, PUBLISHED[:4], twice(TILES)),
     ("tiles after edits", 256, PUBLISHED, twice(TILES)),
     ("reads, published disk", 256, PUBLISHED, twice([*READS, *RANGES, *HEADS])),

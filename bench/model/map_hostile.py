@@ -1,5 +1,5 @@
-"""Lines of `map_script.py` about features and edits as JSON made to do harm, and about snapshots, edits and records that are cut short or damaged:
-each answer is by the models, and a line about JSON has beside it what RFC 8259 and docs/HTTP.md say.
+"""Lines of `map_script.py` about features and edits as JSON made to do harm, and about snapshots, edits and records that are cut short or damaged: each
+answer is by the models, and a line about JSON has beside it what RFC 8259 and docs/HTTP.md say.
 """
 from disk import Change, edit_text, text_of
 from map_stand import POINT
