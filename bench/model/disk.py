@@ -16,7 +16,7 @@ FORMAT_MARK, ROOT_MARK = b"VTILEDSK", b"VTROOT01"
 HEAD, BODY = 1, 2
 # The versions of the format of a disk. A record has one of them too: one of version 1 has the text of its only change, one of version 2 a
 # count of changes and their texts.
-FORMAT_VERSIONS = FIRST_VERSION, LAST_VERSION = 1, 2
+VERSIONS = FIRST_VERSION, LAST_VERSION = 1, 2
 PUT, DELETE = 1, 2
 MOST_CHANGES = 64
 KINDS = {1: "points", 2: "lines", 3: "polygons"}
@@ -267,7 +267,7 @@ def layout_of(held):
     if len(first) < SECTOR or first[:8] != FORMAT_MARK:
         raise Fault("NotFormatted")
     version, sectors = version_of(held), int.from_bytes(first[12:20], "little")
-    if version not in FORMAT_VERSIONS or not LEAST <= sectors <= min(MOST, len(held) // SECTOR) or first != format_sector(sectors, version):
+    if version not in VERSIONS or not LEAST <= sectors <= min(MOST, len(held) // SECTOR) or first != format_sector(sectors, version):
         raise Fault("Damaged(Size)")
     return Layout(sectors)
 

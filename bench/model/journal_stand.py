@@ -3,7 +3,7 @@ from collections import namedtuple
 
 from calls import append, format_disk, install, upgrade, write_area
 from crashes import FROM, MADE, NONE, NOT_MADE, Failed, Faulty, Memory, Seen
-from disk import FORMAT_VERSIONS, LAST_NUMBER, LONGEST_OF, SECTOR, Fault, Layout, Root
+from disk import VERSIONS, LAST_NUMBER, LONGEST_OF, SECTOR, Fault, Layout, Root
 from disk import front, head_version, layout_of, parts_of, records_of, root_of, version_of
 from words import Fields, Variant, briefly, debug, err, ok, read, some, spelled
 
@@ -113,10 +113,10 @@ class Trial:
         return debug(some(layout_shown(Layout(sectors))))
 
     def do_format(self):
-        return self.do_format_version(FORMAT_VERSIONS[-1])
+        return self.do_format_version(VERSIONS[-1])
 
     def do_format_version(self, version):
-        if version not in FORMAT_VERSIONS:
+        if version not in VERSIONS:
             return "no version"
         return self.counted(lambda: format_disk(self.disk, version) or (), Variant("Device"))
 

@@ -1,6 +1,6 @@
 """Blocks of `service_script.py` about disks with one byte changed, or with a sector that ends early: its format sector, its live root, the head and the
 body of a record, and the snapshot. Each is opened, or refused for the fault that it has."""
-from disk import FORMAT_VERSIONS, LAST_VERSION, SECTOR, Change, Layout, Record, Root, format_sector, put_records, read_disk, root_sector, snapshot_text
+from disk import VERSIONS, LAST_VERSION, SECTOR, Change, Layout, Record, Root, format_sector, put_records, read_disk, root_sector, snapshot_text
 from disk import Fault, put_at, versions_and_texts
 from service_lines import heading, long_point, looks, write_words
 
@@ -68,7 +68,7 @@ def damaged_disks():
         "A disk of which a byte is changed to 0, to 255 and to its neighbours, or a sector ends behind each byte, with zeros after it: it is opened, or",
         "refused for its fault. What is opened has the features of what it holds; where a head is changed, the edits in front of it.",
     )
-    for version in FORMAT_VERSIONS:
+    for version in VERSIONS:
         yield from of_version(version, PARTS if version == LAST_VERSION else PARTS[:1] + PARTS[2:5])
 
 

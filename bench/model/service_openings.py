@@ -1,5 +1,5 @@
 """Blocks of `service_script.py` about disks that are opened, whole or damaged, and about their archives and tiles."""
-from disk import FORMAT_VERSIONS, Change, Layout, Root, snapshot_text, text_of
+from disk import VERSIONS, Change, Layout, Root, snapshot_text, text_of
 from service_lines import LAST, WORLD_END, crashed, fresh, heading, image, long_point, looks, opened, opens, put, record_words, stops, with_snapshot
 from service_lines import write_words
 
@@ -29,7 +29,7 @@ def openings():
         yield from [*fresh(), f"write 3 = 1:1 1:1 1:2 1:8 25:4 01 7:8 1:1 'p {zooms} 1:1 1:2 {LAST}:8 00", "open"]
         yield from ["look 7", "tile 16 65535 65535", "tile 19 524287 524287"] if "20" not in zooms else []
     yield from heading("A record without its body, and with it.")
-    for version in FORMAT_VERSIONS:
+    for version in VERSIONS:
         words = list(record_words(Layout(64), 0, 1, Change(7, long_point(467)), version=version))
         yield from [*fresh(), *words[:1], "open", *fresh(), *words, "open", "look 7"]
     yield from heading("Roots of generation 0: with an invalid snapshot; with an archive, which opening doesn't read; with earlier edits.")

@@ -1,6 +1,6 @@
 """Blocks of `service_script.py` about publications, and about forty events of which each call of the disk fails in turn."""
 from crashes import Faulty, every_choice
-from disk import FORMAT_VERSIONS, snapshot_text
+from disk import VERSIONS, snapshot_text
 from machine import Service
 from map_archive import archive_of
 from service_lines import ALL_CHOICES, LAST, WORLD_END, crashed, fresh, heading, long_point, looks, opened, opens, put, put_each, stops, with_snapshot
@@ -133,7 +133,7 @@ def forty_events():
         "Five rounds of eight events, in which the journal wraps around: 20 edits, ten features, and a root of generation 5 with 18 edits that begins at",
         "place 7. Edit 19 is stored there, in sector 10, edit 20 in sector 11, and the next one in sector 12. First on a disk of version 2.",
     )
-    for version in reversed(FORMAT_VERSIONS):
+    for version in reversed(VERSIONS):
         lasting = tried([*opened(64, version), *rounds()]).session
         assert (lasting.last, len(lasting.map), lasting.next_place()) == (20, 10, 9)
         assert (lasting.root.generation, lasting.root.edits, lasting.root.journal_at) == (5, 18, 7)
@@ -173,7 +173,7 @@ def stop_choices():
         "was or as it was written: every choice is opened. The tile shows all acknowledged edits and at most the one that failed, the next edit has the",
         "next number, and the archive is that of the edits of its root. First on disks of version 2.",
     )
-    for version in reversed(FORMAT_VERSIONS):
+    for version in reversed(VERSIONS):
         yield from stop_choices_of(version)
 
 
@@ -206,7 +206,7 @@ def one_failure():
         "The forty events on a disk of which one call fails, before or after its work is done. The events after the failed one are answered all the",
         "same. Then the disk is opened again, and they are run once more. First on disks of version 2.",
     )
-    for version in reversed(FORMAT_VERSIONS):
+    for version in reversed(VERSIONS):
         for stop in [f"{word} {call}" for word in ("fail_not_made", "fail_made") for call in range(1, calls_made(version) + 1)]:
             failed = failed_event(stop, version)
             yield from [*fresh(64, version), stop, "open", *(rounds() if failed else []), "stop", "resume", "open", *rounds(failed), "archive"]

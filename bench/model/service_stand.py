@@ -3,7 +3,7 @@ from collections import namedtuple
 
 from calls import format_disk, upgrade
 from crashes import FROM, MADE, NONE, NOT_MADE, Failed, Faulty, Memory
-from disk import LAST_VERSION, SECTOR, FORMAT_VERSIONS, Change, Fault
+from disk import LAST_VERSION, SECTOR, VERSIONS, Change, Fault
 from machine import NO_NEGATIVE, Refused, Service
 from map_archive import runs_of, tiles_of
 from words import Fields, Tuple, Variant, briefly, debug, digest, err, ok, read, some, spelled
@@ -155,7 +155,7 @@ class Trial:
         return self.do_format_version(LAST_VERSION)
 
     def do_format_version(self, version):
-        if version not in FORMAT_VERSIONS:
+        if version not in VERSIONS:
             return f"? format_version {version}"
         return self.worked(lambda disk: format_disk(disk, version))
 
