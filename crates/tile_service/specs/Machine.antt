@@ -212,7 +212,7 @@ pub record Begins (old : ServiceState) (told : ℕ) (new : ServiceState) : Type 
 abbrev pub IsAreaFull : ServiceState → (need free : ℕ) → Type 0
 IsAreaFull s need free = (d : Data) × IsMetadata s.features d × IsFull s.features (length (compact_text d)) (area_sectors s.size) need free
 
--- The faults of a beginning, in order, but for a tile of 2^32 bytes, which is AreaFull, before TooManyTiles.
+-- The faults of a beginning, in order. A tile of 2^32 bytes or more is AreaFull, unless the tiles before it are TooManyTiles.
 abbrev pub BeginFault : ServiceState → ServiceFault → Type 0
 BeginFault s Busy = IsSome s.publication
 BeginFault s NumbersSpent = (s.publication ≡ None) × (s.generation ≡ 2 ^ 64 - 1)

@@ -237,8 +237,9 @@ impl<D: Sectors + Drop> Service<D> {
     /// # Errors
     ///
     /// `Broken`, `Busy` if a publication is under way, `NumbersSpent` after the last generation, `Memory`, `TooManyTiles`,
-    /// `AreaFull`, the first that applies in this order, but `AreaFull` for a tile of 2^32 bytes comes before `TooManyTiles`.
-    /// `need` is the number of sectors of the first such tile, else of the snapshot and the archive. On error nothing changes.
+    /// `AreaFull`, the first that applies in this order. `AreaFull` for a tile of 2^32 bytes or more comes first if its id is lower than
+    /// that of the tile that is one too many; then `need` is the number of sectors of the first such tile, else of the snapshot and the
+    /// archive. On error nothing changes.
     pub fn publish_begin(&mut self) -> Result<u64, ServiceFault>
         ensures machine { (known : Known) → AnswersBegin (state_of known self.old) result
             (state_of (known_after known self.old (begin result)) self.new) }
