@@ -464,7 +464,7 @@ def stopped_formats(cases, folder):
 # Two disks with the same edits, of which the first program made one.
 POINT = {"layer": "p", "minzoom": 0, "maxzoom": 2, "geometry": {"points": [[0, 0]]}, "tags": {}}
 RECORDS = [disks.Record(1, [disks.Change(number, POINT)]) for number in (7, 8)]
-FIRST, SECOND = (disks.write_disk(64, 0, {}, RECORDS, b"", 0, version=version) for version in disks.FORMAT_VERSIONS)
+FIRST, SECOND = (disks.write_disk(64, 0, {}, RECORDS, b"", 0, version=version) for version in disks.VERSIONS)
 BATCH_BODY = b'{"changes":[{"delete":8},{"put":9,"feature":%s}]}' % BODY
 BATCH = b"POST /edits HTTP/1.1\r\nhost: x\r\ncontent-length: %d\r\n\r\n%s" % (len(BATCH_BODY), BATCH_BODY)
 NEEDS_UPGRADE = b"HTTP/1.1 409 Conflict\r\ncontent-type: text/plain\r\ncontent-length: 13\r\n\r\nNeedsUpgrade\n"

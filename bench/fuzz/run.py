@@ -149,7 +149,7 @@ class Corpus:
         self.archives, self.tiles = all_archives(), all_tiles()
         chance = random.Random(7)
         self.streams = [stream(chance) for _ in range(60)] + OTHERS + BODIES[:20]
-        self.disks = [disk_after(chance, rounds, version) for version in disks.FORMAT_VERSIONS for rounds in (0, 1, 1, 2, 3, 4)]
+        self.disks = [disk_after(chance, rounds, version) for version in disks.VERSIONS for rounds in (0, 1, 1, 2, 3, 4)]
         self.disks += [upgraded(chance, rounds) for rounds in (1, 2, 3)]
 
 
