@@ -283,8 +283,8 @@ def tile_lines():
     for item, other, pairs in [(KEY, VALUE, [(16383, 0), (16384, 0)]), (VALUE, KEY, [(0, 16383), (0, 16384)])]:
         for pair, wanted in zip(pairs, [None, "Tag"]):
             yield f"tile {pool(16384, item, other, feature(b''.join(map(varint, pair))))}", wanted
-    yield "# 1,048,576 keys without letters, and no feature."
-    yield f"tile {pool(2**20, part(3, bytes()))}", '[Layer { name: "p", version: 1, extent: 4096, features: [] }]'
+    yield "# 1,000,000 keys without letters, and no feature."
+    yield f"tile {pool(10**6, part(3, bytes()))}", '[Layer { name: "p", version: 1, extent: 4096, features: [] }]'
     yield "# 20,000 features without fields; one with 20,000 tags of one key; 20,000 points in one place; as many pairs of integers of no kind."
     yield f"tile {pool(20000, part(2, bytes()))}"
     name = part(1, b"p")

@@ -67,7 +67,8 @@ def snapshots():
     yield from heading("Snapshots of a point at zooms 0 to 16, to 19, and past the last zoom.")
     for last in (16, 19, 20):
         yield from [*with_snapshot(text_of(Change(7, {**long_point(0), "maxzoom": last}))), "open"]
-        yield from ["look 7", "tile 16 0 0", "tile 19 0 0"] if last < 20 else []
+        # The disk has no archive, so a tile is one of the map only once an edit touches it.
+        yield from ["look 7", put(8), "tile 16 0 0", "tile 19 0 0"] if last < 20 else []
     yield from heading("Snapshots of other lengths: a byte too few, a byte too many, one feature, none.")
     for length in (654, 656, 25, 0):
         yield from [*with_snapshot(whole, length), "open", looks(7, 9)]

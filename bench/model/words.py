@@ -1,5 +1,7 @@
 """How the scripts of test programs spell bytes, and values in the form of `{:?}`. It shares no code with the programs."""
 
+from rust_text import mark
+
 COUNTED = 5
 LONGEST = 120
 
@@ -43,7 +45,7 @@ def debug(value):
     if isinstance(value, Variant) or isinstance(value, int):
         return str(value)
     if isinstance(value, str):
-        return f'"{value}"'
+        return f'"{"".join(map(mark, value))}"'
     if isinstance(value, Tuple):
         return f"{value.name}({', '.join(debug(field) for field in value.fields)})"
     if isinstance(value, Fields):
