@@ -57,7 +57,7 @@ def of_events(trial, line, answer):
 
 def of_line(trial, line, answer):
     """The same of any line. A disk that can't be opened stays closed."""
-    if line.split()[0] in EVENTS and isinstance(trial.session, Service):
+    if line.split("; ")[0].split()[0] in EVENTS and isinstance(trial.session, Service):
         return of_events(trial, line, answer)
     if line == "open" and answer.startswith(f"{MEMORY} in "):
         trial.session = trial.taken()[0]
