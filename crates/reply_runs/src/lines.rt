@@ -1,5 +1,6 @@
 //! What a line of a script asks for.
 use crate::streams::{Narrowness, WIDE};
+use http_serve::MOST_READS;
 use sector_disk::FailingCalls;
 
 /// Which calls of a disk fail, counted from its opening.
@@ -45,6 +46,8 @@ pub(crate) enum Line<'a> {
     Again(Failing),
     /// What the writer takes from now on.
     Writer(Narrowness),
+    /// How many reads a connection makes from now on.
+    Turns(u64),
     /// A connection: whether its input stays open, the sizes of the pieces, and the text of the bytes.
     Connection {
         open: bool,
@@ -101,6 +104,14 @@ fn number_in(text: &str) -> Option<u64> {
     text.parse::<u64>().ok()
 }
 
+/// How many reads a text says that a connection makes.
+fn turns_in(text: &str) -> Option<u64> {
+    if text.is_empty() {
+        return Some(MOST_READS);
+    }
+    number_in(text)
+}
+
 /// The place of a sector, and its first byte.
 fn sector_in(text: &str) -> Option<Line<'_>> {
     let (at, first) = split_word(text);
@@ -121,6 +132,7 @@ pub(crate) fn line_in(text: &str) -> Option<Line<'_>> {
         "sector" => sector_in(rest),
         "again" => Some(Line::Again(failing_in(rest)?)),
         "writer" => Some(Line::Writer(narrowness_in(rest)?)),
+        "turns" => Some(Line::Turns(turns_in(rest)?)),
         "ask" => Some(connection_in(false, rest)),
         "wait" => Some(connection_in(true, rest)),
         _ => None,

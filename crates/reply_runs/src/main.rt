@@ -14,6 +14,7 @@
 //! | `writer SIZE ROOM fails` | from now on the writer takes SIZE bytes a call at most and ROOM bytes of a connection, and then fails |
 //! | `writer SIZE ROOM full` | the same, but then it takes nothing |
 //! | `writer` | it takes all bytes again |
+//! | `turns N`, `turns` | from now on a connection makes N reads at most; as many as the program lets it |
 //! | `ask SIZES TEXT` | serves a connection of these bytes, whose input then ends |
 //! | `wait SIZES TEXT` | the same, but a read behind these bytes fails, as where a connection stays open and is given up |
 //!
@@ -28,13 +29,14 @@ mod streams;
 mod talks;
 mod texts;
 
+use http_serve::MOST_READS;
 use lines::{Line, line_in};
 use sector_disk::MemoryDisk;
 use stands::{Stand, begin, begin_first, open_again, overwrite, upgrade, zeros};
 use std::alloc::{AllocError, Global};
 use std::io;
-use streams::{Narrowness, Pieces, WIDE};
-use talks::talks;
+use streams::{Pieces, WIDE};
+use talks::{Bounds, talks};
 use texts::bytes_of;
 
 /// Serves a connection, where a map is open.
@@ -42,7 +44,7 @@ fn connected(
     alloc: Global,
     stand: &mut Stand,
     (open, sizes, text): (bool, &str, &str),
-    narrowness: Narrowness,
+    bounds: Bounds,
 ) -> Result<String, AllocError> {
     let Some(bytes) = bytes_of(alloc, text)? else {
         return String::from_str(alloc, "no bytes");
@@ -54,7 +56,7 @@ fn connected(
         failed: 0,
     };
     match stand {
-        Stand::Open(map) => talks(alloc, map, sizes, given, narrowness),
+        Stand::Open(map) => talks(alloc, map, sizes, given, bounds),
         Stand::Closed(_) => String::from_str(alloc, "closed"),
     }
 }
@@ -63,7 +65,7 @@ fn connected(
 fn answer(
     alloc: Global,
     stand: &mut Stand,
-    narrowness: &mut Narrowness,
+    bounds: &mut Bounds,
     text: &str,
 ) -> Result<String, AllocError> {
     let Some(line) = line_in(text) else {
@@ -78,20 +80,27 @@ fn answer(
         Line::Sector(at, first) => overwrite(alloc, stand, at, first),
         Line::Again(failing) => open_again(alloc, stand, failing),
         Line::Writer(next) => {
-            *narrowness = next;
+            bounds.narrowness = next;
             String::from_str(alloc, "writer")
         }
+        Line::Turns(next) => {
+            bounds.turns = next;
+            String::from_str(alloc, "turns")
+        }
         Line::Connection { open, sizes, text } => {
-            connected(alloc, stand, (open, sizes, text), *narrowness)
+            connected(alloc, stand, (open, sizes, text), *bounds)
         }
     }
 }
 
 /// Answers each line. The map is lent: no way out of the loop has it to drop.
 fn answer_lines(rt: &HostRuntime, stand: &mut Stand) -> io::Result<()> {
-    let mut narrowness = WIDE;
+    let mut bounds = Bounds {
+        narrowness: WIDE,
+        turns: MOST_READS,
+    };
     for line in rt.lines(rt.alloc()) {
-        let text = answer(rt.alloc(), stand, &mut narrowness, line?.as_str())?;
+        let text = answer(rt.alloc(), stand, &mut bounds, line?.as_str())?;
         println!(rt; "{text}")?;
     }
     Ok(())

@@ -1,4 +1,4 @@
-//! The two directions of a connection.
+//! The two directions of a connection. A call that fails is interrupted, which ends a connection as any other fault does.
 use std::alloc::Global;
 use std::io::{self, ErrorKind, Read, Write};
 
@@ -18,7 +18,7 @@ impl Read for Pieces<'_> {
     fn read(&mut self, buf: &mut [u8]) -> io::Result<usize> {
         if self.open && self.rest.is_empty() {
             self.failed = self.failed.saturating_add(1);
-            return Err(ErrorKind::ConnectionReset.into());
+            return Err(ErrorKind::Interrupted.into());
         }
         let all = self.rest;
         let count = self.size.min(buf.len()).min(all.len());
@@ -67,7 +67,7 @@ impl Write for Narrow {
         let Narrowness { size, room, fails } = self.narrowness;
         let count = room.min(size).min(buf.len());
         if count == 0 && fails {
-            return Err(ErrorKind::BrokenPipe.into());
+            return Err(ErrorKind::Interrupted.into());
         }
         self.taken.extend_from_slice(&buf[..count])?;
         self.narrowness.room = room - count;

@@ -3,7 +3,7 @@ use crate::stands::Map;
 use crate::streams::{Narrow, Narrowness, Pieces};
 use crate::texts::text_of;
 use http_serve::{ServeFault, Served};
-use map_replies::serve_map;
+use map_replies::serve_map_turns;
 use std::alloc::{AllocError, Global};
 
 /// What a connection came to.
@@ -16,11 +16,18 @@ struct Outcome {
     failed: usize,
 }
 
+/// What a connection may do: what its writer takes, and how many reads are made.
+#[derive(Clone, Copy)]
+pub(crate) struct Bounds {
+    pub(crate) narrowness: Narrowness,
+    pub(crate) turns: u64,
+}
+
 /// Serves a connection.
-fn talk(alloc: Global, map: &mut Map, pieces: Pieces<'_>, narrowness: Narrowness) -> Outcome {
+fn talk(alloc: Global, map: &mut Map, pieces: Pieces<'_>, bounds: Bounds) -> Outcome {
     let mut reader = pieces;
-    let mut writer = Narrow::new(alloc, narrowness);
-    let result = serve_map(alloc, &mut reader, &mut writer, map);
+    let mut writer = Narrow::new(alloc, bounds.narrowness);
+    let result = serve_map_turns(alloc, &mut reader, &mut writer, map, bounds.turns);
     Outcome {
         result,
         reply: writer.taken,
@@ -75,7 +82,7 @@ pub(crate) fn talks(
     map: &mut Map,
     sizes: &str,
     given: Pieces<'_>,
-    narrowness: Narrowness,
+    bounds: Bounds,
 ) -> Result<String, AllocError> {
     let mut text = String::new(alloc);
     let Some(sizes) = sizes_in(alloc, sizes)? else {
@@ -91,7 +98,7 @@ pub(crate) fn talks(
             size: *first,
             ..given
         },
-        narrowness,
+        bounds,
     );
     push_outcome(alloc, &mut text, &told)?;
     for size in others {
@@ -102,7 +109,7 @@ pub(crate) fn talks(
                 size: *size,
                 ..given
             },
-            narrowness,
+            bounds,
         );
         push_other(alloc, &mut text, *size, &other, &told)?;
     }
