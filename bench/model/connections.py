@@ -384,10 +384,10 @@ def broken_off(kind, requests):
 
 
 class Connection:
-    """A connection whose input ends behind these bytes or stays open, and whose output takes so many bytes at most."""
+    """A connection whose input ends behind these bytes, stays open or isn't read on, and whose output takes so many bytes at most."""
 
-    def __init__(self, service, given, is_open=False, room=None):
-        self.service, self.given, self.is_open, self.room = service, given, is_open, room
+    def __init__(self, service, given, is_open=False, room=None, is_spent=False):
+        self.service, self.given, self.is_open, self.room, self.is_spent = service, given, is_open, room, is_spent
         self.at, self.requests, self.written = 0, 0, b""
 
     def write(self, reply, close, bare):
@@ -407,6 +407,8 @@ class Connection:
 
     def end(self, word, bare):
         """What the connection comes to where no more bytes come: its result, and how many reads failed."""
+        if self.is_spent:
+            return served(self.requests, "Turns"), 0
         if self.is_open:
             return broken_off("Read", self.requests), 1
         if self.at == len(self.given):
@@ -429,8 +431,10 @@ class Connection:
                 return broken or served(self.requests, "Asked"), 0, self.at
 
 
-def outcome(service, given, size, is_open=False, room=None):
-    """What a connection comes to that is read in pieces of a size."""
-    connection = Connection(service, given, is_open, room)
+def outcome(service, given, size, is_open=False, room=None, turns=None):
+    """What a connection comes to that is read in pieces of a size, and at most so often. A read that finds the end counts too."""
+    is_spent = turns is not None and turns * size <= len(given) + size - 1
+    given = given[: turns * size] if is_spent else given
+    connection = Connection(service, given, is_open, room, is_spent)
     result, failed, needed = connection.run()
     return Outcome(result, min(len(given), -(-needed // size) * size), failed, connection.written)

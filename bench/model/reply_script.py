@@ -12,6 +12,7 @@ import reply_hostile_edits
 import reply_publications
 import reply_random
 import reply_routes
+import reply_turns
 from reply_stand import BODY, Script, Stand, request
 
 CRATE = "reply_runs"
@@ -85,7 +86,7 @@ def hold_to_examples():
 
 
 BLOCKS = [*reply_heads.BLOCKS, *reply_routes.BLOCKS, *reply_edits.BLOCKS, *reply_publications.BLOCKS, reply_random.at_random, *reply_hostile.BLOCKS]
-BLOCKS += reply_hostile_edits.BLOCKS
+BLOCKS += [*reply_hostile_edits.BLOCKS, *reply_turns.BLOCKS]
 
 
 def files():

@@ -118,7 +118,7 @@ class Script:
     """Lines, and the answer to each."""
 
     def __init__(self):
-        self.lines, self.answers, self.stand, self.room = [], [], Stand(), None
+        self.lines, self.answers, self.stand, self.room, self.most_turns = [], [], Stand(), None, None
 
     def add(self, line, answer):
         self.lines.append(line)
@@ -158,11 +158,15 @@ class Script:
         self.room = room
         self.add("writer" if size is None else f"writer {size} {room} {end}", "writer")
 
+    def turns(self, most=None):
+        self.most_turns = most
+        self.add("turns" if most is None else f"turns {most}", "turns")
+
     def answered(self, held, sizes, is_open):
         """What is told of connections of these bytes."""
         answer, first = "", None
         for size in sizes:
-            found = connections.outcome(self.stand.service, held, size, is_open, self.room)
+            found = connections.outcome(self.stand.service, held, size, is_open, self.room, self.most_turns)
             same = first is not None and (found.result, found.written) == (first.result, first.written)
             answer += f" | {size}: " if first else ""
             answer += "same, " if same else f"{found.result}, "
