@@ -16,7 +16,7 @@ use Rattle.tile_cutter.specs.declared.reach.Corners.{Corners}
 use Rattle.tile_cutter.specs.Corners.{corners_after, range_of}
 use Rattle.tile_cutter.specs.Covered.{all_points, covered, IsInRange}
 use Rattle.tile_cutter.specs.Cut.{feature_cut, has_zoom}
-use Rattle.tile_cutter.specs.Pairs.{IsCoveredTile, ArePairs, AppendsPairs, HoldsWithin, IsInColumns, IsInRows}
+use Rattle.tile_cutter.specs.Pairs.{IsCoveredTile, IsCoveredTileAt, ArePairs, AppendsPairs, HoldsWithin, IsInColumns, IsInRows}
 use Rattle.tile_cutter.proofs.Boxes.{covered_is}
 use Rattle.tile_cutter.proofs.Outside.{outside}
 
@@ -235,3 +235,68 @@ nothing_uncovered f zoom column row id across down is_id uncovered = ⊎_elim
       in_range = inside;
       is_id = is_id;
     }
+
+-- ---- the tiles of one zoom
+
+-- a feature that isn't shown at a zoom covers no tile of it
+pub none_at_zoom : (f : FeatureData) (zoom number : ℕ) (old : List (ℕ × ℕ)) → (f.minzoom ≤ zoom → zoom ≤ f.maxzoom → ⊥)
+    → AppendsPairs (IsCoveredTileAt f zoom) number old old
+none_at_zoom f zoom number old hidden = (
+  [],
+  sym (append-nil old),
+  pairs_none (IsCoveredTileAt f zoom) number
+      (λ id t. hidden
+      (let from = t.0.from_zoom in let at = t.1 in omega (arith, from, at))
+      (let to = t.0.to_zoom in let at = t.1 in omega (arith, to, at))),
+)
+
+-- those of its range are those that a feature covers at a zoom at which it is shown
+pub appends_at_zoom : (f : FeatureData) (zoom number : ℕ) (range : TileRange) (corners : Option Corners) (old new : List (ℕ × ℕ))
+    → f.minzoom ≤ zoom → zoom ≤ f.maxzoom → range ≡ range_of corners zoom → corners ≡ corners_after None (all_points f.geometry)
+    → AppendsPairs (IsOfRange range zoom) number old new → AppendsPairs (IsCoveredTileAt f zoom) number old new
+appends_at_zoom f zoom number range corners old new low high is corners_are all = (
+  all.0,
+  all.1,
+  pairs_same (IsOfRange range zoom) (IsCoveredTileAt f zoom) number all.0 (λ id. (to id, from id)) all.2,
+)
+  where
+    same : range ≡ covered f.geometry zoom
+    same = is ∙ ap (λ c. range_of c zoom) corners_are ∙ covered_is f.geometry zoom
+
+    to : (id : ℕ) → IsOfRange range zoom id → IsCoveredTileAt f zoom id
+    to id here =
+        let rows : IsOfRange (covered f.geometry zoom) zoom id = subst (λ r. IsOfRange r zoom id) same here in
+        let columns = rows.holds in (
+          record {
+            zoom = zoom;
+            column = columns.at;
+            row = rows.at;
+            from_zoom = low;
+            to_zoom = high;
+            in_range = record {
+              left = columns.low;
+              right = let end = columns.high in omega (arith, end);
+              top = rows.low;
+              bottom = let end = rows.high in omega (arith, end);
+            };
+            is_id = columns.holds;
+          },
+          refl,
+        )
+
+    from : (id : ℕ) → IsCoveredTileAt f zoom id → IsOfRange range zoom id
+    from id (t, at) =
+        let right = t.in_range.right in
+        let bottom = t.in_range.bottom in
+        let columns : IsInColumns t.zoom t.row (covered f.geometry t.zoom).x0 ((covered f.geometry t.zoom).x1 + 1) id =
+        record { at = t.column; low = t.in_range.left; high = omega arith; holds = t.is_id } in
+        let rows : IsOfRange (covered f.geometry t.zoom) t.zoom id = record { at = t.row; low = t.in_range.top; high = omega arith; holds = columns } in
+        let there : IsOfRange (covered f.geometry zoom) zoom id = subst (λ z. IsOfRange (covered f.geometry z) z id) at rows in
+        subst (λ r. IsOfRange r zoom id) (sym same) there
+
+-- a tile of the zoom whose id isn't that of a covered one shows nothing of the feature
+pub nothing_uncovered_at : (f : FeatureData) (zoom column row id : ℕ) → column < 2 ^ zoom → row < 2 ^ zoom → IsTileId zoom column row id
+    → ¬ IsCoveredTileAt f zoom id → feature_cut f zoom column row ≡ None
+nothing_uncovered_at f zoom column row id across down is_id uncovered =
+    nothing_uncovered f zoom column row id across down is_id
+    (λ t. uncovered (t, (one_tile_of t.zoom t.column t.row zoom column row id t.is_id is_id).0))

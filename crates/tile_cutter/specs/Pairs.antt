@@ -15,6 +15,10 @@ pub record IsCoveredTile (f : FeatureData) (id : ℕ) : Type 0 where
   pub in_range : IsInRange (covered f.geometry zoom) column row
   pub is_id : IsTileId zoom column row id
 
+-- the same, for a tile of this zoom
+abbrev pub IsCoveredTileAt : FeatureData → ℕ → ℕ → Type 0
+IsCoveredTileAt f zoom id = (tile : IsCoveredTile f id) × (tile.zoom ≡ zoom)
+
 -- a pair of each such id and this number, no other pair, and no id twice
 pub record ArePairs (IsSuch : ℕ → Type 0) (number : ℕ) (pairs : List (ℕ × ℕ)) : Type 0 where
   pub each : (p : ℕ × ℕ) → Contains pairs p ↔ ((p.1 ≡ number) × IsSuch p.0)

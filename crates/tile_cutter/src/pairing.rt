@@ -3,9 +3,9 @@ ghost use Rattle.feature_model.specs.Data.{feature_data};
 ghost use Rattle.hilbert_id.specs.Curve.{IsTileId};
 ghost use Rattle.tile_cutter.specs.Covered.{tiles_of};
 ghost use Rattle.tile_cutter.specs.Cut.{feature_cut};
-ghost use Rattle.tile_cutter.specs.Pairs.{IsCoveredTile, IsInColumns, IsInRows, AppendsPairs};
+ghost use Rattle.tile_cutter.specs.Pairs.{IsCoveredTile, IsCoveredTileAt, IsInColumns, IsInRows, AppendsPairs};
 
-use crate::reach::{TileRange, corners_of, cover_count, range_of};
+use crate::reach::{TileRange, corners_of, cover_count, range_of, tiles_of};
 use feature_model::{Feature, GREATEST_ZOOM};
 use hilbert_id::{TileAt, id_of};
 use std::alloc::AllocError;
@@ -70,5 +70,29 @@ pub fn pairs(feature: &Feature, number: u64, list: &mut Vec<(u64, u64)>) -> Resu
     for zoom in feature.minzoom..feature.maxzoom + 1 {
         push_range(zoom, range_of(corners, zoom), number, list);
     }
+    Ok(())
+}
+
+/// Appends a pair of tile id and number for each tile of a zoom that the feature covers. The list is as it was where memory
+/// is refused, which is the only error.
+pub fn pairs_of_zoom(
+    feature: &Feature,
+    zoom: u8,
+    number: u64,
+    list: &mut Vec<(u64, u64)>,
+) -> Result<(), AllocError>
+    requires { feature.now.maxzoom ≤ GREATEST_ZOOM }
+    ensures appended { OnOk result (AppendsPairs (IsCoveredTileAt (feature_data feature.now) zoom) number list.old.items list.new.items) }
+    ensures unchanged { OnErr result (list.new.items ≡ list.old.items) }
+    // A tile of the zoom that gets no pair shows nothing of the feature.
+    ensures nothing_uncovered { (column row id : ℕ) → column < 2 ^ zoom → row < 2 ^ zoom → IsTileId zoom column row id
+        → ¬ IsCoveredTileAt (feature_data feature.now) zoom id → feature_cut (feature_data feature.now) zoom column row ≡ None }
+{
+    if zoom < feature.minzoom || zoom > feature.maxzoom {
+        return Ok(());
+    }
+    let range = range_of(corners_of(&feature.geometry), zoom);
+    list.reserve(tiles_of(range) as usize)?;
+    push_range(zoom, range, number, list);
     Ok(())
 }

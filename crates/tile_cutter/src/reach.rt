@@ -137,7 +137,7 @@ pub(crate) fn range_of(corners: Option<Corners>, zoom: u8) -> TileRange
 }
 
 /// How many tiles a range has.
-fn tiles_of(range: TileRange) -> u64
+pub(crate) fn tiles_of(range: TileRange) -> u64
     requires columns { range.x1 < 2 ^ GREATEST_ZOOM }
     requires rows { range.y1 < 2 ^ GREATEST_ZOOM }
     ensures tiles { result ≡ tiles_of range }
