@@ -1,10 +1,11 @@
 -- All tiles of a map.
-use Rattle.std.specs.Prelude.{◌≡◌, ◌<◌, ◌≤◌, [], ◌∷◌, ℕ, List, length, All, Option, Some, None}
+use Rattle.std.specs.Prelude.{◌≡◌, ◌<◌, ◌≤◌, ◌+◌, ◌-◌, [], ◌∷◌, ℕ, List, length, All, Option, Some, None}
 use Rattle.std.specs.List.{Contains}
 use Rattle.std.specs.List.Sorted.{IsStrictlySortedBy}
 use Rattle.std.specs.Map.{keys_of}
 use Rattle.std.specs.Ordering.{nat_cmp}
 use Rattle.feature_model.specs.declared.limits.TheConstants.{GREATEST_ZOOM}
+use Rattle.hilbert_id.specs.declared.number.TheConstants.{TILE_IDS}
 use Rattle.hilbert_id.specs.Curve.{IsTileId}
 use Rattle.mvt_layer.specs.Tile.{LayerView}
 use Rattle.mvt_write.specs.Written.{written}
@@ -29,10 +30,12 @@ pub record AreTilesBelow (m : FeatureMap) (end : ℕ) (ts : List (ℕ × List �
 
 -- ---- one after the other
 
--- what contracts see of a walk over the tiles of a map: the map, and the least id that the next tile may have
+-- what contracts see of a walk over the tiles of a map: the map, the least id that the next tile may have, and the first
+-- zoom whose pairs aren't listed yet
 pub record TilesView : Type 0 where
   pub features : FeatureMap
   pub from : ℕ
+  pub zoom : ℕ
 
 -- no tile with an id from `from` on and below `end` shows anything of the map
 abbrev pub ShowsNothing : FeatureMap → (from end : ℕ) → Type 0
@@ -67,3 +70,13 @@ pub record IsStep (m : FeatureMap) (from id : ℕ) (bytes : Option (List ℕ)) :
   pub place : HasPlace id
   pub between : ShowsNothing m from id
   pub bytes_are : IsBytesAt m id bytes
+
+-- what is left of a walk at most: ids, and zooms
+abbrev pub left_of : TilesView → ℕ
+left_of w = TILE_IDS - w.from + (GREATEST_ZOOM + 1 - w.zoom)
+
+-- a walk that went on without a tile: what it left behind shows nothing, and less is left
+pub record IsPassed (old new : TilesView) : Type 0 where
+  pub further : old.from ≤ new.from
+  pub nothing : ShowsNothing old.features old.from new.from
+  pub less : left_of new < left_of old

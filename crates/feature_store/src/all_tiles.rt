@@ -7,12 +7,13 @@ ghost use Rattle.mvt_write.specs.CanWrite.{CanWriteAll};
 ghost use Rattle.feature_store.specs.Indexed.{ShowsAll};
 ghost use Rattle.feature_store.specs.Inside.{entries_data};
 ghost use Rattle.feature_store.specs.Layers.{layers};
-ghost use Rattle.feature_store.specs.Pairs.{ArePairsOfMap, leading};
+ghost use Rattle.feature_store.specs.Pairs.{leading};
 ghost use Rattle.feature_store.specs.Store.{IsMap};
-ghost use Rattle.feature_store.specs.Tiles.{HasPlace, IsBytesAt, IsNextTile, IsStep, ShowsNothing, ShowsNothingFrom};
+ghost use Rattle.feature_store.specs.Tiles.{HasPlace, IsBytesAt, IsNextTile, IsPassed, ShowsNothing, ShowsNothingFrom};
 
 use crate::gathered::gather;
 use crate::layers::listed;
+use crate::zoom_pairs::pairs_of_zoom;
 use feature_model::{Feature, GREATEST_ZOOM};
 use hilbert_id::{TileAt, tile_of};
 use mvt_layer::Layer;
@@ -28,7 +29,9 @@ pub type Tile = (u64, Vec<u8>);
 #[derive(Debug, Drop)]
 pub struct Tiles<'a> {
     features: &'a NumberMap<Feature>,
-    /// The pairs of a tile's id and a feature's number, ascending.
+    /// The first zoom whose pairs aren't listed yet.
+    zoom: u8,
+    /// The pairs of a tile's id and a feature's number at the zoom before, ascending.
     pairs: Vec<(u64, u64)>,
     /// How many of the pairs are of tiles that were made.
     done: usize,
@@ -101,44 +104,60 @@ fn leading(alloc: Global, pairs: &[(u64, u64)], id: u64) -> Result<Vec<u64>, All
     Ok(numbers)
 }
 
+/// The tile of an id, if it has bytes.
+fn shown_tile(id: u64, bytes: Option<Vec<u8>>) -> Option<Tile>
+    ensures { result ≡ option_map (λ v. (id, v)) bytes }
+{
+    match bytes {
+        Some(bytes) => Some((id, bytes)),
+        None => None,
+    }
+}
+
 impl<'a> Tiles<'a> {
-    /// The tiles of a map, by all of its pairs.
-    pub(crate) fn of(
-        alloc: Global,
-        features: &'a NumberMap<Feature>,
-        pairs: Vec<(u64, u64)>,
-    ) -> Tiles<'a>
+    /// The tiles of a map. No pairs are listed yet.
+    pub(crate) fn of(alloc: Global, features: &'a NumberMap<Feature>) -> Tiles<'a>
         requires map { IsMap (entries_data features.now.entries) }
-        requires pairs { ArePairsOfMap (entries_data features.now.entries) pairs.items }
         ensures map { result.features ≡ entries_data features.entry.now.entries }
         ensures start { result.from ≡ 0 }
     {
         Tiles {
             features,
-            pairs,
+            zoom: 0,
+            pairs: Vec::new(alloc),
             done: 0,
             from: 0,
             alloc,
         }
     }
 
-    /// The id of the next tile that may show something, and its bytes if it does. The only error is out of memory.
-    fn step(&mut self) -> Result<Option<(u64, Option<Vec<u8>>)>, AllocError>
+    /// Makes the tile of the next pair, or lists the pairs of the next zoom if none is left: the tile if it shows something.
+    /// `None` at the end, and the only error is out of memory.
+    fn step(&mut self) -> Result<Option<Option<Tile>>, AllocError>
         ensures map { self.new.features ≡ self.old.features }
-        ensures tile { IfOk result (λ o. IfSome o (λ t. IsStep self.old.features self.old.from t.0 (option_map (λ v. v.items) t.1)
-            × (self.new.from ≡ t.0 + 1))) }
+        ensures tile { IfOk result (λ o. IfSome o (λ s. IfSome s (λ t. IsNextTile self.old.features self.old.from (t.0, t.1.items)
+            × (self.new.from ≡ t.0 + 1)))) }
+        ensures passed { IfOk result (λ o. IfSome o (λ s. IfNone s (IsPassed self.old self.new))) }
         ensures none { IfOk result (λ o. IfNone o (ShowsNothingFrom self.old.features self.old.from)) }
         ensures failed { OnErr result (self.new ≡ self.old) }
     {
         if self.done >= self.pairs.len() {
-            return Ok(None);
+            if self.zoom > GREATEST_ZOOM {
+                return Ok(None);
+            }
+            // The pairs of the zoom before are freed first.
+            self.pairs = Vec::new(self.alloc);
+            self.done = 0;
+            self.pairs = pairs_of_zoom(self.alloc, self.features, self.zoom)?;
+            self.zoom += 1;
+            return Ok(Some(None));
         }
         let id = self.pairs[self.done].0;
         let numbers = leading(self.alloc, &self.pairs[self.done..], id)?;
         let bytes = bytes_at(self.alloc, self.features, &numbers, id)?;
         self.done += numbers.len();
         self.from = id + 1;
-        Ok(Some((id, bytes)))
+        Ok(Some(shown_tile(id, bytes)))
     }
 
     /// The next tile that shows something, if there is one. The only error is out of memory; the next call makes the same tile then.
@@ -148,9 +167,9 @@ impl<'a> Tiles<'a> {
         ensures none { IfOk result (λ o. IfNone o (ShowsNothingFrom self.old.features self.old.from)) }
         ensures failed { OnErr result ((self.old.from ≤ self.new.from) × ShowsNothing self.old.features self.old.from self.new.from) }
     {
-        while let Some((id, bytes)) = self.step()? {
-            if let Some(bytes) = bytes {
-                return Ok(Some((id, bytes)));
+        while let Some(found) = self.step()? {
+            if let Some(tile) = found {
+                return Ok(Some(tile));
             }
         }
         Ok(None)

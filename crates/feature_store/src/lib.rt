@@ -1,7 +1,6 @@
 //! The map in memory: its features by number, and the layers of a tile.
 #![tactic(auto)]
 
-mod all_pairs;
 mod all_tiles;
 mod appended;
 mod fault;
@@ -11,6 +10,7 @@ mod layers;
 mod limit;
 mod snapshot_texts;
 mod store;
+mod zoom_pairs;
 
 pub use all_tiles::{Tile, Tiles};
 pub use fault::SnapshotFault;

@@ -6,18 +6,18 @@ ghost use Rattle.mvt_write.specs.CanWrite.{CanWriteAll};
 ghost use Rattle.number_map.specs.Blocks.{joined};
 ghost use Rattle.feature_store.specs.Inside.{entries_data};
 ghost use Rattle.feature_store.specs.Layers.{layers};
-ghost use Rattle.feature_store.specs.Pairs.{ArePairsOfMap};
+ghost use Rattle.feature_store.specs.Pairs.{ArePairsOfZoom};
 ghost use Rattle.feature_store.specs.Snapshots.{IsNoSnapshot};
 ghost use Rattle.feature_store.specs.declared.fault.SnapshotFault.TheVariants.{Bad, Memory};
 ghost use Rattle.feature_store.specs.Store.{IsMap, HasRoom, feature_at, with_feature, without_feature, snapshot, puts_in};
 
-use crate::all_pairs::all_pairs;
 use crate::all_tiles::{Tiles, tile_layers};
 use crate::appended::append_blocks;
 use crate::fault::SnapshotFault;
 use crate::indexed::{index_entry, numbers_near, take_entry};
 use crate::limit::TEXTS_END;
 use crate::snapshot_texts::{append_block_texts, read_map};
+use crate::zoom_pairs::pairs_of_zoom;
 use box_index::BoxIndex;
 use feature_model::{Change, Feature, GREATEST_ZOOM};
 use hilbert_id::TileAt;
@@ -193,22 +193,21 @@ impl Store {
         tile_layers(self.alloc, &self.features, &numbers, at)
     }
 
-    /// The pairs of a tile's id and a feature's number, ascending, for each tile that the feature covers: no other tile shows
-    /// anything of it. The only error is out of memory.
-    pub fn pairs(&self) -> Result<Vec<(u64, u64)>, AllocError>
-        ensures { IfOk result (λ pairs. ArePairsOfMap self.now.features pairs.items) }
+    /// The pairs of a tile's id and a feature's number, ascending, for each tile of a zoom that the feature covers: no other tile
+    /// of the zoom shows anything of it. The only error is out of memory.
+    pub fn pairs_of_zoom(&self, zoom: u8) -> Result<Vec<(u64, u64)>, AllocError>
+        ensures { IfOk result (λ pairs. ArePairsOfZoom self.now.features zoom pairs.items) }
     {
-        all_pairs(self.alloc, &self.features)
+        pairs_of_zoom(self.alloc, &self.features, zoom)
     }
 
     /// The tiles that show something of the map, in ascending order of their ids, each with its bytes (Mapbox Vector Tile 2.1) and
-    /// made when it is asked for. The pairs are made at once. The only error is out of memory.
+    /// made when it is asked for. The pairs of a zoom are listed when its first tile is asked for. The only error is out of memory.
     pub fn tiles(&self) -> Result<Tiles<'_>, AllocError>
         ensures map { IfOk result (λ tiles. tiles.features ≡ self.now.features) }
         ensures start { IfOk result (λ tiles. tiles.from ≡ 0) }
     {
-        let pairs = self.pairs()?;
-        Ok(Tiles::of(self.alloc, &self.features, pairs))
+        Ok(Tiles::of(self.alloc, &self.features))
     }
 
     /// The snapshot of the map: the texts that give each number its feature, in ascending number. The only error is out of memory.
