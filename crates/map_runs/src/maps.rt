@@ -6,7 +6,7 @@ use crate::features::{feature_in, shown};
 use crate::lines::{Line, byte, number_in, parted, short};
 use cached_map::CachedMap;
 use edit_text::{decode, encode_change};
-use feature_model::{Change, Edit, Feature, check};
+use feature_model::{Change, Edit, Feature, GREATEST_ZOOM, check};
 use feature_store::Store;
 use hilbert_id::TileAt;
 use map_metadata::{metadata, metadata_text};
@@ -158,8 +158,12 @@ fn tiles(alloc: Global, store: &Store) -> Result<String, AllocError> {
     format!(in alloc; "{all:?}")
 }
 
+/// All pairs of a tile's id and a feature's number, zoom by zoom.
 fn all_pairs(alloc: Global, store: &Store) -> Result<String, AllocError> {
-    let pairs = store.pairs()?;
+    let mut pairs = Vec::new(alloc);
+    for zoom in 0..GREATEST_ZOOM + 1 {
+        pairs.extend_from_slice(&store.pairs_of_zoom(zoom)?)?;
+    }
     format!(in alloc; "{pairs:?}")
 }
 
