@@ -1,0 +1,8 @@
+//! The tiles of a zoom that numbered boxes have, one after the other along the curve, without a list of all of them.
+#![tactic(auto)]
+
+mod numbered;
+mod walk;
+
+pub use numbered::Numbered;
+pub use walk::Walk;
