@@ -1,22 +1,25 @@
 -- A map with tiles that were made of it, and which of them are still its tiles.
-use Rattle.std.specs.Prelude.{◌≡◌, ℕ, ◌≤◌, List, [], ◌∷◌, All, Option, Some, None}
+use Rattle.std.specs.Prelude.{◌≡◌, ◌⊎◌, ℕ, ◌≤◌, List, [], ◌∷◌, All, Option, Some, None}
 use Rattle.box_index.specs.declared.span.WorldBox.{WorldBox}
 use Rattle.feature_model.specs.Data.{FeatureData, ChangeData, put, delete}
 use Rattle.feature_store.specs.Content.{IsTileContent}
 use Rattle.feature_store.specs.Indexed.{world_box}
 use Rattle.feature_store.specs.Layers.{layers}
 use Rattle.feature_store.specs.Store.{FeatureMap, feature_at, changed}
-use Rattle.tile_cache.specs.Kept.{kept_at}
+use Rattle.tile_cache.specs.Kept.{TileView, CacheView, kept_at, IsSmall, KeepsFewer}
 use Rattle.tile_cache.specs.Touched.{Mark, Reaches, Remembers}
-use Rattle.tile_cache.specs.declared.kept_tiles.TileCache.{TileCache}
+use Rattle.tile_cache.specs.declared.kept_tiles.Origin.{Origin}
+use Rattle.tile_cache.specs.declared.kept_tiles.Origin.TheVariants.{Cut, Read}
 use Rattle.tile_cutter.specs.WorldBox.{bounding_box}
 
--- what contracts see: the map, how many features it takes without memory, the number of its last edit, and the newest edit of each cell of the world
+-- what contracts see: the map, how many features it takes without memory, the number of its last edit, the newest edit of each cell of
+-- the world, and the tiles that are kept
 pub record CachedView : Type 0 where
   pub features : FeatureMap
   pub spare : ℕ
   pub last : ℕ
   pub touched : List ℕ
+  pub kept : CacheView
 
 -- ---- what edits touch
 
@@ -55,14 +58,23 @@ pub record WasMap (m : FeatureMap) (cells : List ℕ) (last n : ℕ) (was : Feat
 
 -- ---- what is kept
 
--- bytes that were kept with this number are the tile of the map, unless an edit behind it may have touched it
-pub record IsKept (m : FeatureMap) (marks : List Mark) (last z x y n : ℕ) (bytes : List ℕ) : Type 0 where
-  pub number : n ≤ last
-  pub tile : IsUntouched marks z x y n → IsTileContent (layers m z x y) (Some bytes)
+-- a kept tile is that of the map, unless an edit behind its number may have touched it
+pub record IsKept (m : FeatureMap) (marks : List Mark) (last z x y : ℕ) (t : TileView) : Type 0 where
+  pub number : t.number ≤ last
+  pub tile : IsUntouched marks z x y t.number → IsTileContent (layers m z x y) (Some t.bytes)
 
--- that is so of each kept tile, for edits up to the last that the numbers of these cells remember
-pub record IsCached (m : FeatureMap) (cells : List ℕ) (kept : TileCache) (last : ℕ) : Type 0 where
+-- that is so of each kept tile of this origin, for edits up to the last that the numbers of these cells remember
+pub record AreKept (origin : Origin) (m : FeatureMap) (cells : List ℕ) (last : ℕ) (kept : CacheView) : Type 0 where
   pub marks : List Mark
   pub remembers : Remembers cells marks
   pub numbers : All (λ m. m.1 ≤ last) marks
-  pub tiles : (z x y number : ℕ) (bytes : List ℕ) → kept_at kept z x y ≡ Some (number, bytes) → IsKept m marks last z x y number bytes
+  pub tiles : (z x y : ℕ) (t : TileView) → kept_at kept z x y ≡ Some t → t.origin ≡ origin → IsKept m marks last z x y t
+
+-- what was read and kept can be relied on: what it was read from told the truth
+abbrev pub AreReadRight : FeatureMap → (cells : List ℕ) → (last : ℕ) → CacheView → Type 0
+AreReadRight = AreKept Read
+
+-- This tile is kept for its place, unless it is too large, and others may have given way for it; or, where memory is refused, the same is
+-- kept as before.
+abbrev pub MayKeep : (z x y : ℕ) → TileView → (old new : CacheView) → Type 0
+MayKeep z x y t old new = ((IsSmall t.bytes → kept_at new z x y ≡ Some t) × KeepsFewer z x y old new) ⊎ (new ≡ old)

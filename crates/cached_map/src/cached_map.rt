@@ -6,8 +6,10 @@ ghost use Rattle.feature_store.specs.Content.{IsTileContent};
 ghost use Rattle.feature_store.specs.Layers.{layers};
 ghost use Rattle.feature_store.specs.Store.{FeatureMap, feature_at, with_feature, without_feature, changed, edited, snapshot, puts_in};
 ghost use Rattle.feature_store.specs.declared.limit.TheConstants.{TEXTS_END};
-ghost use Rattle.tile_cache.specs.Touched.{Mark, Remembers, IsNewest};
-ghost use Rattle.cached_map.specs.Cached.{box_of, with_mark, marks_of, marks_after, WasMap};
+ghost use Rattle.tile_cache.specs.Kept.{kept_at, fresh, KeepsSame};
+ghost use Rattle.tile_cache.specs.Touched.{Mark, Remembers, IsNewest, IsNewestOf};
+ghost use Rattle.tile_cache.specs.declared.kept_tiles.Origin.TheVariants.{Cut, Read};
+ghost use Rattle.cached_map.specs.Cached.{box_of, with_mark, marks_of, marks_after, WasMap, AreReadRight, MayKeep};
 
 use box_index::WorldBox;
 use feature_model::{Change, Feature};
@@ -30,13 +32,16 @@ pub struct CachedMap {
 }
 
 impl Model for CachedMap {
-    ghost use Rattle.cached_map.specs.Cached.{CachedView, IsCached};
+    ghost use Rattle.cached_map.specs.Cached.{CachedView, AreKept};
 
     ghost Value = { CachedView };
 
-    ghost view = { λ m. record { features = m.store.features; spare = m.store.spare; last = m.last; touched = m.touched } };
+    ghost use Rattle.tile_cache.specs.declared.kept_tiles.Origin.TheVariants.{Cut};
 
-    ghost invariant = { λ m. IsCached m.store.features m.touched m.kept m.last };
+    ghost view = { λ m. record { features = m.store.features; spare = m.store.spare; last = m.last; touched = m.touched; kept = m.kept } };
+
+    // What was cut is right whatever any disk says.
+    ghost invariant = { λ m. AreKept Cut m.store.features m.touched m.last m.kept };
 }
 
 /// Notes that an edit of this number touches a feature.
@@ -108,6 +113,8 @@ impl CachedMap {
         ensures last { IfOk result (λ m. m.last ≡ last) }
         ensures untouched { IfOk result (λ m. Remembers m.touched []) }
         ensures now { IfOk result (λ m. WasMap m.features m.touched m.last m.last m.features) }
+        ensures nothing_kept { IfOk result (λ m. m.kept.kept ≡ []) }
+        ensures reads { IfOk result (λ m. AreReadRight m.features m.touched m.last m.kept) }
     {
         let kept = TileCache::new(alloc)?;
         Ok(CachedMap {
@@ -141,19 +148,9 @@ impl CachedMap {
         ensures since { (n : ℕ) (was : FeatureMap) → WasMap self.now.features self.now.touched self.now.last n was → result ≤ n
             → layers self.now.features at.z at.x at.y ≡ layers was at.z at.x at.y }
         ensures most { result ≤ self.now.last }
+        ensures of_cells { IsNewestOf self.now.touched at.z at.x at.y result }
     {
         self.touched.newest(at)
-    }
-
-    /// Makes room for one feature of any number, so that the next `place` allocates nothing.
-    pub fn room(&mut self) -> Result<(), AllocError>
-        ensures same { self.new ≡ record self.old { spare = self.new.spare } }
-        ensures room { OnOk result (0 < self.new.spare) }
-        ensures kept { self.old.spare ≤ self.new.spare }
-        ensures missing { OnErr result (self.old.spare ≡ 0) }
-        ensures unchanged { OnErr result (self.new ≡ self.old) }
-    {
-        self.store.room()
     }
 
     /// Makes room for each feature that the changes set, so that an edit of them allocates nothing.
@@ -177,29 +174,12 @@ impl CachedMap {
         ensures now { WasMap self.new.features self.new.touched self.new.last self.new.last self.new.features }
         ensures since { (n : ℕ) (was : FeatureMap) → WasMap self.old.features self.old.touched self.old.last n was
             → WasMap self.new.features self.new.touched self.new.last n was }
+        ensures kept { self.new.kept ≡ self.old.kept }
+        ensures reads { AreReadRight self.old.features self.old.touched self.old.last self.old.kept
+            → AreReadRight self.new.features self.new.touched self.new.last self.new.kept }
     {
         let _count = self.store.len();
         make_each(&mut self.store, &mut self.touched, changes, number);
-        self.last = number;
-    }
-
-    /// Gives the number this feature, whatever feature it had, by an edit of this number. It allocates nothing.
-    pub fn place(&mut self, id: u64, feature: Feature, number: u64)
-        requires edit { IsChange (put id (feature_data feature)) }
-        requires room { 0 < self.old.spare }
-        requires texts { length (snapshot (with_feature self.old.features id (feature_data feature))) < TEXTS_END }
-        requires later { self.old.last < number }
-        ensures map { self.new.features ≡ with_feature self.old.features id (feature_data feature) }
-        ensures spare { self.old.spare ≤ self.new.spare + 1 }
-        ensures last { self.new.last ≡ number }
-        ensures now { WasMap self.new.features self.new.touched self.new.last self.new.last self.new.features }
-        ensures since { (n : ℕ) (was : FeatureMap) → WasMap self.old.features self.old.touched self.old.last n was
-            → WasMap self.new.features self.new.touched self.new.last n was }
-    {
-        let _count = self.store.len();
-        mark_some(&mut self.touched, self.store.get(id), number);
-        mark(&mut self.touched, &feature, number);
-        self.store.place(id, feature);
         self.last = number;
     }
 
@@ -213,6 +193,9 @@ impl CachedMap {
         ensures now { WasMap self.new.features self.new.touched self.new.last self.new.last self.new.features }
         ensures since { (n : ℕ) (was : FeatureMap) → WasMap self.old.features self.old.touched self.old.last n was
             → WasMap self.new.features self.new.touched self.new.last n was }
+        ensures kept { self.new.kept ≡ self.old.kept }
+        ensures reads { AreReadRight self.old.features self.old.touched self.old.last self.old.kept
+            → AreReadRight self.new.features self.new.touched self.new.last self.new.kept }
     {
         let _count = self.store.len();
         mark_some(&mut self.touched, self.store.get(id), number);
@@ -224,11 +207,25 @@ impl CachedMap {
     /// Keeps the bytes of a tile, if memory is there for it.
     fn keep(&mut self, at: TileAt, bytes: &[u8])
         requires content { IsTileContent (layers self.old.features at.z at.x at.y) (Some bytes.now) }
-        ensures same { self.new ≡ self.old }
+        ensures same { self.new ≡ record self.old { kept = self.new.kept } }
+        ensures keeps { MayKeep at.z at.x at.y (record { origin = Cut; number = self.old.last; bytes = bytes.now }) self.old.kept self.new.kept }
+        ensures reads { AreReadRight self.old.features self.old.touched self.old.last self.old.kept
+            → AreReadRight self.new.features self.new.touched self.new.last self.new.kept }
     {
-        if let Ok(bytes) = Vec::from_slice(self.alloc, bytes) {
-            let _ = self.kept.keep(at, self.last, bytes);
-        }
+        todo
+    }
+
+    /// Keeps the bytes of a tile that were read elsewhere and are those of the map after the edit of this number, if memory is there for
+    /// it. Whether they are rests on what they were read from.
+    pub fn keep_read(&mut self, at: TileAt, number: u64, bytes: &[u8])
+        ensures same { self.new ≡ record self.old { kept = self.new.kept } }
+        ensures keeps { MayKeep at.z at.x at.y (record { origin = Read; number = number; bytes = bytes.now }) self.old.kept self.new.kept }
+        ensures reads { (was : FeatureMap) → WasMap self.old.features self.old.touched self.old.last number was
+            → IsTileContent (layers was at.z at.x at.y) (Some bytes.now)
+            → AreReadRight self.old.features self.old.touched self.old.last self.old.kept
+            → AreReadRight self.new.features self.new.touched self.new.last self.new.kept }
+    {
+        todo
     }
 
     /// The bytes of a tile, cut anew.
@@ -243,15 +240,22 @@ impl CachedMap {
         Ok(Some(bytes))
     }
 
-    /// A copy of the bytes of a tile (Mapbox Vector Tile 2.1) that was made before, and that no edit can have touched since, if they are
-    /// kept. The only error is out of memory.
-    pub fn kept(&mut self, at: TileAt) -> Result<Option<Vec<u8>>, AllocError>
-        ensures tile { IfOk result (λ found. IfSome found (λ bytes. IsTileContent (layers self.old.features at.z at.x at.y) (Some bytes.items))) }
-        ensures same { self.new ≡ self.old }
+    /// A copy of the bytes of a tile (Mapbox Vector Tile 2.1) that was made or read before, and that no edit can have touched since, if they
+    /// are kept; what was read counts only where `reads` is true. The only error is out of memory.
+    pub fn kept(&mut self, at: TileAt, reads: bool) -> Result<Option<Vec<u8>>, AllocError>
+        ensures tile { (reads ≡ true → AreReadRight self.old.features self.old.touched self.old.last self.old.kept)
+            → IfOk result (λ found. IfSome found (λ bytes. IsTileContent (layers self.old.features at.z at.x at.y) (Some bytes.items))) }
+        // What is kept and fresh is given.
+        ensures given { (newest : ℕ) → IsNewestOf self.old.touched at.z at.x at.y newest
+            → IfOk result (λ found. option_map (λ b. b.items) found ≡ fresh newest reads (kept_at self.old.kept at.z at.x at.y)) }
+        ensures same { self.new ≡ record self.old { kept = self.new.kept } }
+        ensures keeps { KeepsSame self.old.kept self.new.kept }
+        ensures reads { AreReadRight self.old.features self.old.touched self.old.last self.old.kept
+            → AreReadRight self.new.features self.new.touched self.new.last self.new.kept }
     {
         let newest = self.newest(at);
         self.kept.promote(at);
-        if let Some(bytes) = self.kept.peek(at, newest) {
+        if let Some(bytes) = self.kept.peek(at, newest, reads) {
             return Ok(Some(Vec::from_slice(self.alloc, bytes)?));
         }
         Ok(None)
@@ -261,7 +265,11 @@ impl CachedMap {
     /// for them. The only error is out of memory.
     pub fn make(&mut self, at: TileAt) -> Result<Option<Vec<u8>>, AllocError>
         ensures tile { IfOk result (λ content. IsTileContent (layers self.old.features at.z at.x at.y) (option_map (λ b. b.items) content)) }
-        ensures same { self.new ≡ self.old }
+        ensures same { self.new ≡ record self.old { kept = self.new.kept } }
+        ensures keeps { IfOk result (λ content. IfSome content (λ bytes.
+            MayKeep at.z at.x at.y (record { origin = Cut; number = self.old.last; bytes = bytes.items }) self.old.kept self.new.kept)) }
+        ensures reads { AreReadRight self.old.features self.old.touched self.old.last self.old.kept
+            → AreReadRight self.new.features self.new.touched self.new.last self.new.kept }
     {
         let content = self.cut_tile(at)?;
         if let Some(bytes) = &content {

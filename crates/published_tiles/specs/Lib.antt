@@ -1,3 +1,2 @@
 pub mod Opened
-pub mod Kept
 pub mod Published

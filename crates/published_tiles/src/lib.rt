@@ -1,8 +1,6 @@
-//! Tiles read from the archive stored on a disk. A tile costs a search and the reads of its content; a cached tile costs no
-//! disk read.
+//! Tiles read from the archive stored on a disk. A tile costs a search and the reads of its content.
 #![tactic(auto)]
 
-mod kept;
 mod opened;
 mod place;
 mod published_tiles;

@@ -1,4 +1,4 @@
-ghost use Rattle.std.specs.Prelude.{◌≡◌, ◌≤◌, ◌+◌, ℕ, List, IfOk, MatchResult, option_map};
+ghost use Rattle.std.specs.Prelude.{◌≡◌, ◌≤◌, ◌+◌, ℕ, List, MatchResult, option_map};
 ghost use Rattle.area_content.specs.Tiles.{IsArchiveOfMap};
 ghost use Rattle.feature_store.specs.Content.{IsTileContent};
 ghost use Rattle.feature_store.specs.Layers.{layers};
@@ -10,22 +10,19 @@ ghost use Rattle.sector_bytes.specs.Source.{AreItsBytes};
 ghost use Rattle.sector_disk.specs.Disk.{seen};
 ghost use Rattle.published_tiles.specs.declared.place.ArchivePlace.{ArchivePlace};
 
-use crate::kept::{keep, kept_bytes, promote};
 use crate::opened::{Opened, read_tile};
 use crate::place::ArchivePlace;
 use hilbert_id::{TileAt, id_of};
 use pm_archive::ArchiveFault;
 use sector_disk::Sectors;
-use std::alloc::{AllocError, Global};
+use std::alloc::Global;
 use std::marker::Model;
-use tile_cache::TileCache;
 
-/// Caches for the archives of a disk: the look-up of the archive read last, and tiles that were requested.
+/// Reads tiles of the archives of a disk, and keeps the look-up of the archive read last.
 #[derive(Drop)]
 pub struct PublishedTiles {
     alloc: Global,
     opened: Option<Opened>,
-    kept: TileCache,
 }
 
 impl Model for PublishedTiles {
@@ -33,30 +30,27 @@ impl Model for PublishedTiles {
 
     ghost Value = { PublishedView };
 
-    ghost view = { λ t. record { opened = t.opened; kept = t.kept } };
+    ghost view = { λ t. record { opened = t.opened } };
 }
 
 impl PublishedTiles {
     ghost use Rattle.published_tiles.specs.Published.{ArePublished};
 
-    /// Empty caches. The error: out of memory.
-    pub fn new(alloc: Global) -> Result<PublishedTiles, AllocError>
-        ensures { (place : ArchivePlace) (m : FeatureMap) (bytes : List ℕ) → IfOk result (λ t. ArePublished t place m bytes) }
+    /// No look-up is kept yet.
+    pub fn new(alloc: Global) -> PublishedTiles
+        ensures { (place : ArchivePlace) (bytes : List ℕ) → ArePublished result place bytes }
     {
-        let kept = TileCache::new(alloc)?;
-        Ok(PublishedTiles {
+        PublishedTiles {
             alloc,
             opened: None,
-            kept,
-        })
+        }
     }
 
     /// The bytes of a tile in the archive stored on a disk, or `None` if the tile is empty. Nothing is written to the disk.
     ///
     /// # Errors
     ///
-    /// `Read` or `Memory`; if the stored bytes aren't an archive, the fault that was found. The caches are still valid for the
-    /// archive.
+    /// `Read` or `Memory`; if the stored bytes aren't an archive, the fault that was found. The look-up is still valid for the archive.
     pub fn tile<D: Sectors>(
         &mut self,
         disk: &mut D,
@@ -69,28 +63,15 @@ impl PublishedTiles {
         ensures history { D.honest disk.new → D.history disk.new ≡ D.history disk.old }
         ensures never_falls { NeverFalls (D.faults disk.old) (D.faults disk.new) }
         ensures tile { (m : FeatureMap) (bytes : List ℕ) → D.honest disk.new
-            → AreItsBytes archive.first archive.len bytes (seen (D.history disk.old)) → IsArchiveOfMap m bytes → ArePublished self.old archive m bytes
+            → AreItsBytes archive.first archive.len bytes (seen (D.history disk.old)) → IsArchiveOfMap m bytes → ArePublished self.old archive bytes
             → MatchResult result (λ content. IsTileContent (layers m at.z at.x at.y) (option_map (λ b. b.items) content)) IsOutside }
-        ensures still { (m : FeatureMap) (bytes : List ℕ) → D.honest disk.new
-            → AreItsBytes archive.first archive.len bytes (seen (D.history disk.old)) → IsArchiveOfMap m bytes → ArePublished self.old archive m bytes
-            → ArePublished self.new archive m bytes }
+        ensures still { (bytes : List ℕ) → D.honest disk.new
+            → AreItsBytes archive.first archive.len bytes (seen (D.history disk.old)) → ArePublished self.old archive bytes
+            → ArePublished self.new archive bytes }
     {
         if archive.len == 0 {
             return Ok(None);
         }
-        promote(&mut self.kept, at);
-        match kept_bytes(self.alloc, &self.kept, at, archive.generation) {
-            Ok(Some(bytes)) => return Ok(Some(bytes)),
-            Ok(None) => {}
-            Err(AllocError) => return Err(ArchiveFault::Memory),
-        }
-        let content = match read_tile(self.alloc, disk, archive, &mut self.opened, id_of(at)) {
-            Ok(content) => content,
-            Err(fault) => return Err(fault),
-        };
-        if let Some(bytes) = &content {
-            keep(self.alloc, &mut self.kept, at, archive.generation, bytes);
-        }
-        Ok(content)
+        read_tile(self.alloc, disk, archive, &mut self.opened, id_of(at))
     }
 }

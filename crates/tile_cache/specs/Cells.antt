@@ -40,6 +40,11 @@ pub record RisesTo (number : ℕ) (old new : List ℕ) : Type 0 where
 abbrev pub IsZeroOrCell : List ℕ → ℕ → Type 0
 IsZeroOrCell cells n = (n ≡ 0) ⊎ ((at : ℕ) × (n ≡ slice_index cells at))
 
+-- the greatest of the numbers of these cells
+pub record IsGreatestIn (cells : List ℕ) (range : Cells) (n : ℕ) : Type 0 where
+  pub reached : (column row : ℕ) → HasCell range column row → cell_at cells column row ≤ n
+  pub found : (n ≡ 0) ⊎ ((column : ℕ) × (row : ℕ) × HasCell range column row × (n ≡ cell_at cells column row))
+
 -- a box has the whole of another
 pub record HasWhole (outer inner : Corners) : Type 0 where
   pub left : outer.least.x ≤ inner.least.x

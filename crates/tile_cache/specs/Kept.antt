@@ -1,59 +1,65 @@
 -- What a cache of tiles keeps.
-use Rattle.std.specs.Prelude.{◌≡◌, ℕ, Bool, false, cond, ◌&&◌, ◌⊎◌, List, length, Option, Some, None, nat_le, nat_eq, option_map}
+use Rattle.std.specs.Prelude.{◌≡◌, ℕ, Bool, true, false, cond, ◌&&◌, ◌||◌, ◌⊎◌, ◌≤◌, List, length, sum_by, Option, Some, None, nat_le, nat_eq}
 use Rattle.std.specs.Map.{lookup}
-use Rattle.tile_cache.specs.declared.kept_tiles.TheConstants.{MOST_TILES_KEPT}
-use Rattle.tile_cache.specs.declared.kept_tiles.Place.{Place}
+use Rattle.tile_cache.specs.declared.kept_tiles.TheConstants.{MOST_BYTES_OF_ONE}
 use Rattle.tile_cache.specs.declared.kept_tiles.KeptTile.{KeptTile}
-use Rattle.tile_cache.specs.declared.kept_tiles.TileCache.{TileCache}
+use Rattle.tile_cache.specs.declared.kept_tiles.Origin.{Origin}
+use Rattle.tile_cache.specs.declared.kept_tiles.Origin.TheVariants.{Cut, Read}
+use Rattle.tile_cache.specs.declared.kept_tiles.Place.{Place}
 
--- a number and the bytes of a tile
-abbrev pub Tile : Type 0
-Tile = ℕ × List ℕ
+-- what is kept of a tile: where its bytes are from, the number of the edit as of which they are right, and the bytes
+pub record TileView : Type 0 where
+  pub origin : Origin
+  pub number : ℕ
+  pub bytes : List ℕ
 
--- the number and the bytes of what is kept
-abbrev pub tile_of : KeptTile → Tile
-tile_of k = (k.number, k.bytes.items)
+abbrev pub tile_view : KeptTile → TileView
+tile_view k = record { origin = k.origin; number = k.number; bytes = k.bytes.items }
+
+-- what contracts see of a cache: what it keeps for each place, that which was asked for last first
+pub record CacheView : Type 0 where
+  pub kept : List (Place × TileView)
 
 -- whether a place is this one
 abbrev pub is_place : Place → Place → Bool
 is_place p q = nat_eq p.z q.z && (nat_eq p.x q.x && nat_eq p.y q.y)
 
--- what is kept for a place, with its number
-abbrev pub kept_at : TileCache → ℕ → ℕ → ℕ → Option Tile
-kept_at c z x y = option_map tile_of (lookup (is_place (record { z = z; x = x; y = y })) c.tiles.entries)
+-- what is kept for a place
+abbrev pub kept_at : CacheView → ℕ → ℕ → ℕ → Option TileView
+kept_at c z x y = lookup (is_place (record { z = z; x = x; y = y })) c.kept
 
--- the bytes, where they were kept with a number of at least this one
-abbrev pub fresh : ℕ → Option Tile → Option (List ℕ)
-fresh newest None = None
-fresh newest (Some t) = cond (nat_le newest t.0) (Some t.1) None
+-- whether bytes from there count, where those that were read may not
+abbrev pub counts : (reads : Bool) → Origin → Bool
+counts reads Cut = true
+counts reads Read = reads
 
--- how many tiles are kept, and the most that can be
-abbrev pub count_kept : TileCache → ℕ
-count_kept c = length c.tiles.entries
+-- the bytes, where they count and are right as of this edit or a later one
+abbrev pub fresh : (newest : ℕ) → (reads : Bool) → Option TileView → Option (List ℕ)
+fresh newest reads None = None
+fresh newest reads (Some t) = cond (nat_le newest t.number && counts reads t.origin) (Some t.bytes) None
 
-abbrev pub most_kept : TileCache → ℕ
-most_kept c = c.tiles.cap
+-- how many bytes all that is kept has
+abbrev pub bytes_in : CacheView → ℕ
+bytes_in c = sum_by (λ e. length e.1.bytes) c.kept
 
--- nothing is kept
-pub record KeepsNothing (c : TileCache) : Type 0 where
-  pub tiles : (z x y : ℕ) → kept_at c z x y ≡ None
-  pub count : count_kept c ≡ 0
-  pub most : most_kept c ≡ MOST_TILES_KEPT
+-- so few bytes that they are kept
+abbrev pub IsSmall : List ℕ → Type 0
+IsSmall bytes = length bytes ≤ MOST_BYTES_OF_ONE
 
 -- the same is kept at each place
-pub record KeepsSame (old new : TileCache) : Type 0 where
+pub record KeepsSame (old new : CacheView) : Type 0 where
   pub tiles : (z x y : ℕ) → kept_at new z x y ≡ kept_at old z x y
-  pub count : count_kept new ≡ count_kept old
-  pub most : most_kept new ≡ most_kept old
+  pub count : length new.kept ≡ length old.kept
+  pub bytes : bytes_in new ≡ bytes_in old
 
 -- another place
 abbrev pub IsOtherPlace : ℕ → ℕ → ℕ → ℕ → ℕ → ℕ → Type 0
 IsOtherPlace z x y z' x' y' = is_place (record { z = z; x = x; y = y }) (record { z = z'; x = x'; y = y' }) ≡ false
 
 -- each place but one keeps what it had
-abbrev pub KeepsOthers : ℕ → ℕ → ℕ → TileCache → TileCache → Type 0
+abbrev pub KeepsOthers : ℕ → ℕ → ℕ → CacheView → CacheView → Type 0
 KeepsOthers z x y old new = (z' x' y' : ℕ) → IsOtherPlace z x y z' x' y' → kept_at new z' x' y' ≡ kept_at old z' x' y'
 
 -- each place but one keeps what it had, or nothing
-abbrev pub KeepsFewer : ℕ → ℕ → ℕ → TileCache → TileCache → Type 0
+abbrev pub KeepsFewer : ℕ → ℕ → ℕ → CacheView → CacheView → Type 0
 KeepsFewer z x y old new = (z' x' y' : ℕ) → IsOtherPlace z x y z' x' y' → (kept_at new z' x' y' ≡ kept_at old z' x' y') ⊎ (kept_at new z' x' y' ≡ None)

@@ -1,3 +1,4 @@
 pub mod Cells
 pub mod Kept
+pub mod KeptInside
 pub mod Touched

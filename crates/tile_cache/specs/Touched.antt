@@ -1,9 +1,10 @@
 -- Which edits a grid remembers, and which of them reach a tile.
-use Rattle.std.specs.Prelude.{◌≡◌, ℕ, ◌≤◌, ◌⊎◌, List, map, All, Contains, slice_index}
+use Rattle.std.specs.Prelude.{◌≡◌, ℕ, ◌^◌, ◌-◌, ◌≤◌, ◌⊎◌, List, map, All, Contains, slice_index, nat_le, if◌then◌else◌}
 use Rattle.box_index.specs.declared.span.WorldBox.{WorldBox}
 use Rattle.tile_cutter.specs.declared.reach.Corners.{Corners}
 use Rattle.tile_cutter.specs.WorldBox.{tile_box, Meets}
-use Rattle.tile_cache.specs.Cells.{cell_at, cells_of, HasCell}
+use Rattle.feature_model.specs.declared.limits.TheConstants.{GREATEST_ZOOM}
+use Rattle.tile_cache.specs.Cells.{cell_at, cells_of, HasCell, IsGreatestIn}
 
 -- an edit that was noted: the box that it touched, and its number
 abbrev pub Mark : Type 0
@@ -41,3 +42,15 @@ pub record Remembers (cells : List ℕ) (marks : List Mark) : Type 0 where
 pub record IsNewest (marks : List Mark) (zoom column row n : ℕ) : Type 0 where
   pub reached : All (λ m. Reaches m.0 zoom column row → m.1 ≤ n) marks
   pub only : IsZeroOrMarked marks n
+
+-- the world
+abbrev pub world : Corners
+world = record { least = record { x = 0; y = 0 }; greatest = record { x = 2 ^ 32 - 1; y = 2 ^ 32 - 1 } }
+
+-- the box that a tile shows: the world above the greatest zoom, where no tile shows anything
+abbrev pub shown_box : (zoom column row : ℕ) → Corners
+shown_box zoom column row = if nat_le zoom GREATEST_ZOOM then tile_box zoom column row else world
+
+-- the newest edit of the cells that a tile's box touches
+abbrev pub IsNewestOf : List ℕ → (zoom column row : ℕ) → ℕ → Type 0
+IsNewestOf cells zoom column row = IsGreatestIn cells (cells_of (shown_box zoom column row))

@@ -1,12 +1,19 @@
-ghost use Rattle.std.specs.Prelude.{◌≡◌, ◌+◌, ◌<◌, ◌≤◌, Some, OnOk, OnErr, IfOk, option_map};
+ghost use Rattle.std.specs.Prelude.{◌≡◌, ◌+◌, ◌<◌, ◌≤◌, [], length, Some, OnOk, OnErr, IfOk, option_map};
 
 use hilbert_id::TileAt;
 use lru::LruCache;
 use std::alloc::{AllocError, Global};
+use std::marker::Model;
 use std::num::NonZeroUsize;
 
 /// The most tiles that are kept.
 pub const MOST_TILES_KEPT: usize = 256;
+
+/// The most bytes that all kept tiles have together: 64 MiB.
+pub const MOST_BYTES_KEPT: usize = 67_108_864;
+
+/// The most bytes of a tile that is kept: a quarter of all.
+pub const MOST_BYTES_OF_ONE: usize = 16_777_216;
 
 /// A zoom, a column and a row.
 #[derive(Clone, Copy, Debug, PartialEq, Eq, Hash)]
@@ -16,17 +23,41 @@ pub struct Place {
     pub y: u32,
 }
 
-/// A tile's bytes, and the number of the last edit when it was made.
+/// Where the bytes of a tile are from.
+#[derive(Clone, Copy, Debug, PartialEq, Eq)]
+pub enum Origin {
+    /// They were cut from the map in memory.
+    Cut,
+    /// They were read from an archive.
+    Read,
+}
+
+/// The bytes of a tile, and the number of the edit as of which they are right.
 #[derive(Debug, Drop)]
 pub struct KeptTile {
+    pub origin: Origin,
     pub number: u64,
     pub bytes: Vec<u8>,
 }
 
-/// Tiles made before, at most 256, by their place, each with the number of the last edit when it was made.
+/// Tiles made or read before, by their place: at most `MOST_TILES_KEPT`, and at most `MOST_BYTES_KEPT` bytes.
 #[derive(Drop)]
 pub struct TileCache {
     tiles: LruCache<Place, KeptTile>,
+    /// How many bytes they have together.
+    bytes: usize,
+}
+
+impl Model for TileCache {
+    ghost use Rattle.tile_cache.specs.Kept.{CacheView};
+
+    ghost Value = { CacheView };
+
+    ghost use Rattle.tile_cache.specs.KeptInside.{cache_view, IsCache};
+
+    ghost view = { cache_view };
+
+    ghost invariant = { IsCache };
 }
 
 /// The place of a tile.
@@ -41,15 +72,16 @@ fn place_of(at: TileAt) -> Place
 }
 
 impl TileCache {
-    ghost use Rattle.tile_cache.specs.Kept.{kept_at, fresh, count_kept, most_kept, KeepsNothing, KeepsSame, KeepsOthers, KeepsFewer};
+    ghost use Rattle.tile_cache.specs.Kept.{kept_at, fresh, bytes_in, tile_view, IsSmall, KeepsSame, KeepsOthers, KeepsFewer};
 
     /// Keeps nothing yet.
     pub fn new(alloc: Global) -> Result<TileCache, AllocError>
-        ensures { IfOk result KeepsNothing }
+        ensures { IfOk result (λ c. c.kept ≡ []) }
     {
         let most = NonZeroUsize::new(MOST_TILES_KEPT).unwrap();
         Ok(TileCache {
             tiles: LruCache::new(alloc, most)?,
+            bytes: 0,
         })
     }
 
@@ -61,38 +93,27 @@ impl TileCache {
         self.tiles.promote(&place);
     }
 
-    /// The bytes kept for a place, if they were kept with a number of at least `newest`.
-    pub fn peek(&self, at: TileAt, newest: u64) -> Option<&[u8]>
-        ensures { option_map (λ b. b.now) result ≡ fresh newest (kept_at self.now at.z at.x at.y) }
+    /// The bytes kept for a place, if they are right as of the edit `newest` or a later one, and were cut where `reads` is false.
+    pub fn peek(&self, at: TileAt, newest: u64, reads: bool) -> Option<&[u8]>
+        ensures { option_map (λ b. b.now) result ≡ fresh newest reads (kept_at self.now at.z at.x at.y) }
     {
-        let place = place_of(at);
-        match self.tiles.peek(&place) {
-            Some(kept) => {
-                if kept.number < newest {
-                    return None;
-                }
-                Some(&kept.bytes)
-            }
-            None => None,
-        }
+        todo
     }
 
-    /// Keeps a tile's bytes with the number of the last edit; the tile asked for longest ago gives way.
+    /// Keeps a tile, if it has at most `MOST_BYTES_OF_ONE` bytes; those asked for longest ago give way, as many as must.
     ///
     /// The error: an allocation failed, and all is kept as it was.
-    pub fn keep(&mut self, at: TileAt, number: u64, bytes: Vec<u8>) -> Result<(), AllocError>
-        ensures kept { OnOk result (kept_at self.new at.z at.x at.y ≡ Some (number, bytes.items)) }
+    pub fn keep(&mut self, at: TileAt, tile: KeptTile) -> Result<(), AllocError>
+        ensures kept { OnOk result (IsSmall tile.bytes.items → kept_at self.new at.z at.x at.y ≡ Some (tile_view tile)) }
+        ensures large { ¬ IsSmall tile.bytes.items → self.new ≡ self.old }
         ensures others { OnOk result (KeepsFewer at.z at.x at.y self.old self.new) }
         // Nothing gives way while there is room.
-        ensures room { count_kept self.old < most_kept self.old → OnOk result (KeepsOthers at.z at.x at.y self.old self.new) }
-        ensures count { OnOk result (count_kept self.new ≤ count_kept self.old + 1) }
-        ensures most { most_kept self.new ≡ most_kept self.old }
-        ensures refused { OnErr result (KeepsSame self.old self.new) }
+        ensures room { length self.old.kept < MOST_TILES_KEPT → bytes_in self.old + length tile.bytes.items ≤ MOST_BYTES_KEPT
+            → OnOk result (KeepsOthers at.z at.x at.y self.old self.new) }
+        ensures most_tiles { length self.new.kept ≤ MOST_TILES_KEPT }
+        ensures most_bytes { bytes_in self.new ≤ MOST_BYTES_KEPT }
+        ensures refused { OnErr result (self.new ≡ self.old) }
     {
-        let kept = KeptTile { number, bytes };
-        match self.tiles.put(place_of(at), kept) {
-            Ok(_) => Ok(()),
-            Err(_) => Err(AllocError),
-        }
+        todo
     }
 }

@@ -1,7 +1,6 @@
 ghost use Rattle.std.specs.Prelude.{◌≡◌, ℕ, ◌/◌, ◌<◌, ◌≤◌, ◌^◌, ◌∷◌, [], List, length, slice_index};
-ghost use Rattle.tile_cutter.specs.WorldBox.{tile_box};
-ghost use Rattle.tile_cache.specs.Cells.{cell_at, cells_of, IsWithin, HasCell, RisesTo, HasWhole, IsZeroOrCell};
-ghost use Rattle.tile_cache.specs.Touched.{Mark, Remembers, IsNewest};
+ghost use Rattle.tile_cache.specs.Cells.{cell_at, cells_of, IsWithin, HasCell, RisesTo, IsGreatestIn};
+ghost use Rattle.tile_cache.specs.Touched.{Mark, Remembers, IsNewest, IsNewestOf, shown_box};
 
 use box_index::WorldBox;
 use feature_model::{GREATEST_ZOOM, World};
@@ -110,8 +109,7 @@ fn greatest(cells: &[u64], first: usize, end: usize) -> u64
 fn greatest_of(cells: &[u64], range: Cells) -> u64
     requires all { length cells.now ≡ CELLS }
     requires within { IsWithin range }
-    ensures reached { (column row : ℕ) → HasCell range column row → cell_at cells.now column row ≤ result }
-    ensures found { IsZeroOrCell cells.now result }
+    ensures { IsGreatestIn cells.now range result }
 {
     let mut newest = 0;
     for row in range.top..range.bottom + 1 {
@@ -120,9 +118,9 @@ fn greatest_of(cells: &[u64], range: Cells) -> u64
     newest
 }
 
-/// A box that has the whole of what a tile shows: the world, where no tile of the zoom is cut.
+/// The box that a tile shows: the world, where no tile of the zoom shows anything.
 fn shown_by(at: TileAt) -> Corners
-    ensures { HasWhole result (tile_box at.z at.x at.y) }
+    ensures { result ≡ shown_box at.z at.x at.y }
 {
     if at.z > GREATEST_ZOOM {
         return Corners {
@@ -166,7 +164,8 @@ impl TouchGrid {
 
     /// At least the number of every marked edit whose box can reach the tile, its margin included; 0 where none was marked.
     pub fn newest(&self, at: TileAt) -> u64
-        ensures { (marks : List Mark) → Remembers self.now marks → IsNewest marks at.z at.x at.y result }
+        ensures marked { (marks : List Mark) → Remembers self.now marks → IsNewest marks at.z at.x at.y result }
+        ensures of_cells { IsNewestOf self.now at.z at.x at.y result }
     {
         greatest_of(&self.cells, cells_of(shown_by(at)))
     }
