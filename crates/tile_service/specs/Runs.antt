@@ -195,9 +195,9 @@ module _ {D : Type 0} (sectors : D → ℕ) (honest : D → Type 0) (history : D
   abbrev pub IsTrusted : ServiceView D → ServiceView D → Type 0
   IsTrusted old new = old.broken ≡ false → honest new.disk × ((stored : Stored) × IsUp (sectors old.disk) (history old.disk) stored old)
 
-  -- The disk is only read, and the service is unchanged but for what it caches of the archive.
+  -- The disk is only read, and the service is unchanged but for what it caches.
   pub record OnlyReads (old new : ServiceView D) : Type 0 where
-    pub same : new ≡ record old { disk = new.disk; published = new.published }
+    pub same : new ≡ record old { disk = new.disk; published = new.published; kept = new.kept }
     pub unwritten : honest new.disk → history new.disk ≡ history old.disk
 
   -- what a call that only reads may change

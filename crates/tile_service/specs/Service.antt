@@ -17,10 +17,11 @@ use Rattle.edit_journal.specs.declared.fault.JournalFault.TheVariants as journal
 use Rattle.edit_journal.specs.declared.journal.Journal.{Journal}
 use Rattle.edit_journal.specs.declared.journal.Start.{Start}
 use Rattle.edit_journal.specs.declared.sizes.TheConstants.{PART_BYTES}
-use Rattle.cached_map.specs.Cached.{CachedView}
+use Rattle.cached_map.specs.Cached.{CachedView, AreReadRight}
 use Rattle.area_content.specs.Content.{ContentView, sectors_taken}
 use Rattle.feature_store.specs.Store.{FeatureMap, snapshot}
 use Rattle.published_tiles.specs.Published.{PublishedView, ArePublished}
+use Rattle.tile_cache.specs.Kept.{CacheView}
 use Rattle.published_tiles.specs.declared.place.ArchivePlace.{ArchivePlace}
 use Rattle.tile_service.specs.declared.fault.ServiceFault.{ServiceFault}
 use Rattle.tile_service.specs.declared.fault.ServiceFault.TheVariants.{NumbersSpent, Memory, JournalFull, Device}
@@ -54,6 +55,8 @@ pub record ServiceView (D : Type 0) : Type 0 where
   pub features : FeatureMap
   -- the newest edit of each cell of the world
   pub touched : List ℕ
+  -- the tiles that are cached
+  pub kept : CacheView
   -- the records of the edits since the snapshot
   pub journal : Journal
   pub generation : ℕ
@@ -61,7 +64,7 @@ pub record ServiceView (D : Type 0) : Type 0 where
   pub snapshot_len : ℕ
   pub archive_len : ℕ
   pub publication : Option PublicationView
-  -- what is cached of the archive that was read last
+  -- the look-up that is cached of the archive that was read last
   pub published : PublishedView
   pub broken : Bool
 
@@ -171,8 +174,9 @@ pub record IsUp {D : Type 0} (sectors : ℕ) (history : History) (stored : Store
   pub publication : IfSome service.publication (Publishes service.size stored history)
   -- it knows the map after any prefix of the edits since, for the tiles that no later edit can have changed
   pub were : WereMaps service.features service.touched service.journal.last stored.edits stored.snapshot_map stored.since
-  -- what it caches of the archive is of this one
-  pub archived : ArePublished service.published (archive_of service) stored.snapshot_map stored.archive
+  -- the look-up that it caches is of this archive, and tiles that it read and cached are tiles of its map
+  pub archived : ArePublished service.published (archive_of service) stored.archive
+  pub reads : AreReadRight service.features service.touched service.journal.last service.kept
 
 -- the archive that an image has for a service: archive_len bytes of the sectors after the snapshot
 abbrev pub shown_archive : {D : Type 0} → Image → ServiceView D → List ℕ

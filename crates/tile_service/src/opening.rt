@@ -160,7 +160,7 @@ fn load<D: Sectors>(alloc: Global, disk: &mut D) -> Result<Found, StoreFault>
     ensures found { D.honest disk.new → IfOk result (λ found.
         IsRead (D.sectors disk.old) found.layout.sectors found.version (seen (D.history disk.old)) found.root found.journal
         found.map.features found.map.touched) }
-    ensures published { IfOk result (λ found. (place : ArchivePlace) (m : FeatureMap) (bytes : List ℕ) → ArePublished found.published place m bytes) }
+    ensures published { IfOk result (λ found. (place : ArchivePlace) (bytes : List ℕ) → ArePublished found.published place bytes) }
     ensures fault { D.honest disk.new
         → IfErr result (λ fault. (fault ≡ Device) ⊎ (fault ≡ Memory) ⊎ IsOpenFault (D.sectors disk.old) (seen (D.history disk.old)) fault) }
     ensures memory { D.honest disk.new → IfErr result (λ fault. fault ≡ Memory → HasLiveRoot (D.sectors disk.old) (seen (D.history disk.old))) }
@@ -177,10 +177,7 @@ fn load<D: Sectors>(alloc: Global, disk: &mut D) -> Result<Found, StoreFault>
         Ok(found) => found,
         Err(fault) => return Err(fault),
     };
-    let published = match PublishedTiles::new(alloc) {
-        Ok(published) => published,
-        Err(AllocError) => return Err(StoreFault::Memory),
-    };
+    let published = PublishedTiles::new(alloc);
     match read_map(alloc, disk, layout, version, root) {
         Ok((journal, map)) => Ok(Found {
             layout,

@@ -37,6 +37,7 @@ impl<D: Sectors + Drop> Model for Service<D> {
       version = s.version;
       features = s.map.features;
       touched = s.map.touched;
+      kept = s.map.kept;
       journal = s.journal;
       generation = s.root.generation;
       snapshot_len = s.root.snapshot_len;

@@ -1,5 +1,5 @@
 //! What a service shows.
-ghost use Rattle.std.specs.Prelude.{◌≡◌, false, true, IfErr, IfOk, IfSome, MatchResult, option_map};
+ghost use Rattle.std.specs.Prelude.{◌≡◌, ℕ, List, Some, not, false, true, IfErr, IfOk, IfSome, MatchResult, option_map};
 ghost use Rattle.feature_model.specs.Data.{feature_data};
 ghost use Rattle.feature_store.specs.Content.{IsTileContent};
 ghost use Rattle.feature_store.specs.Layers.{layers};
@@ -8,6 +8,8 @@ ghost use Rattle.map_metadata.specs.Metadata.{IsMetadata};
 ghost use Rattle.pm_archive.specs.Answers.{IsOutside};
 ghost use Rattle.sector_bytes.specs.Counts.{NeverFalls};
 ghost use Rattle.serde_json.specs.View.{view};
+ghost use Rattle.tile_cache.specs.Kept.{kept_at, fresh};
+ghost use Rattle.tile_cache.specs.Touched.{IsNewestOf};
 ghost use Rattle.tile_service.specs.Machine.{tile, Happens};
 ghost use Rattle.tile_service.specs.Runs.{IsTrusted};
 ghost use Rattle.tile_service.specs.Service.{Known, IsUp, state_of, tile_outcome};
@@ -53,9 +55,9 @@ impl<D: Sectors + Drop> Service<D> {
     }
 
     /// The bytes of a tile in the archive, if no edit since can have changed it; `None` if one may have, if the archive can't be read,
-    /// or if the service is broken.
+    /// or if the service is broken. They are cached.
     fn published_tile(&mut self, at: TileAt) -> Option<Option<Vec<u8>>>
-        ensures same { self.new ≡ record self.old { disk = self.new.disk; published = self.new.published } }
+        ensures same { self.new ≡ record self.old { disk = self.new.disk; published = self.new.published; kept = self.new.kept } }
         ensures count { D.sectors self.new.disk ≡ D.sectors self.old.disk }
         ensures honest { D.honest self.new.disk → D.honest self.old.disk }
         ensures history { D.honest self.new.disk → D.history self.new.disk ≡ D.history self.old.disk }
@@ -74,29 +76,38 @@ impl<D: Sectors + Drop> Service<D> {
             return None;
         }
         match self.archived_tile(at) {
-            Ok(content) => Some(content),
+            Ok(content) => {
+                if let Some(bytes) = &content {
+                    self.map.keep_read(at, self.journal.edits, bytes);
+                }
+                Some(content)
+            }
             Err(_) => None,
         }
     }
 
     /// The bytes of a tile (Mapbox Vector Tile 2.1), after the last acknowledged edit: `None` if it is empty, so above the greatest
-    /// zoom too. A cached tile that no edit since can have changed is copied. Else, if no edit since the publication can have changed
-    /// the tile, it is read from the archive. Else, or if that read fails, it is generated from the map. The only error
-    /// is `Memory`.
+    /// zoom too. A cached tile that no edit since can have changed is copied; a broken service copies only what it cut itself. Else, if
+    /// no edit since the publication can have changed the tile, it is read from the archive. Else, or if that read fails, it is
+    /// generated from the map. What was read or generated is cached. The only error is `Memory`.
     pub fn tile(&mut self, at: TileAt) -> Result<Option<Vec<u8>>, ServiceFault>
         ensures machine { (known : Known) → Happens (IsTrusted D.sectors D.honest D.history self.old self.new)
             (state_of known self.old) (tile at.z at.x at.y (tile_outcome result)) (state_of known self.new) }
         ensures fault { IfErr result (λ fault. fault ≡ Memory) }
-        ensures same { self.new ≡ record self.old { disk = self.new.disk; published = self.new.published } }
+        ensures same { self.new ≡ record self.old { disk = self.new.disk; published = self.new.published; kept = self.new.kept } }
         ensures count { D.sectors self.new.disk ≡ D.sectors self.old.disk }
         ensures honest { D.honest self.new.disk → D.honest self.old.disk }
         ensures history { D.honest self.new.disk → D.history self.new.disk ≡ D.history self.old.disk }
         ensures never_falls { NeverFalls (D.faults self.old.disk) (D.faults self.new.disk) }
         ensures untouched { self.old.broken ≡ true → self.new.disk ≡ self.old.disk }
+        // What is cached and fresh is copied, and the disk isn't read.
+        ensures cached { (newest : ℕ) (bytes : List ℕ) → IsNewestOf self.old.touched at.z at.x at.y newest
+            → fresh newest (not self.old.broken) (kept_at self.old.kept at.z at.x at.y) ≡ Some bytes
+            → (self.new.disk ≡ self.old.disk) × IfOk result (λ content. option_map (λ b. b.items) content ≡ Some bytes) }
         ensures up { (stored : Stored) → IsUp (D.sectors self.old.disk) (D.history self.old.disk) stored self.old → D.honest self.new.disk
             → IsUp (D.sectors self.new.disk) (D.history self.new.disk) stored self.new }
     {
-        match self.map.kept(at) {
+        match self.map.kept(at, !self.broken) {
             Ok(Some(bytes)) => return Ok(Some(bytes)),
             Ok(None) => {}
             Err(AllocError) => return Err(ServiceFault::Memory),
