@@ -1,6 +1,6 @@
 -- Sources that keep what they are.
 use Rattle.std.proofs.Common.{ℕ, List, ◌∙◌}
-use Rattle.pm_archive.specs.Source.{Keeps}
+use Rattle.byte_source.specs.Source.{Keeps}
 
 -- what is kept twice is kept
 pub keeps_on : {S : Type 0} {count : S → ℕ} {holds : S → List ℕ → Type 0} {fails : S → Type 0} {unchanged : S → S → Type 0}

@@ -2,7 +2,7 @@
 
 ghost use Rattle.std.specs.Prelude.{◌≡◌, ◌≢◌, ◌≤◌, ◌↔◌, ℕ, List, false, Err, IfOk, IfErr, OnOk, OnErr, MatchResult, IsTrue};
 ghost use Rattle.std.specs.List.{AllByRecursion};
-ghost use Rattle.pm_archive.specs.Source.{Keeps};
+ghost use Rattle.byte_source.specs.Source.{Keeps};
 ghost use Rattle.pm_archive.specs.Sections.{end_of};
 ghost use Rattle.pm_archive.specs.Entries.{LiesIn, entry_bytes};
 ghost use Rattle.pm_archive.specs.Answers.{IsOutside, UnlessOutside};
@@ -11,7 +11,7 @@ ghost use Rattle.pm_archive.specs.VerifiedPieces.{IsTileFault, IsFirstTileFault,
 
 use crate::fault::ArchiveFault;
 use crate::reading::content_of;
-use crate::source::Bytes;
+use byte_source::Bytes;
 use mvt_layer::{TileFault, read_tile};
 use pm_directory::Entry;
 use pm_header::Header;

@@ -4,7 +4,7 @@ ghost use Rattle.std.specs.Prelude.{◌≡◌, ◌↔◌, ℕ, ◌≤◌, List, 
 ghost use Rattle.reader.specs.Reading.{GivesUnless};
 ghost use Rattle.pm_directory.specs.declared.entry.Entry.{Entry};
 ghost use Rattle.pm_directory.specs.Directory.{IsAscending};
-ghost use Rattle.pm_archive.specs.Source.{Keeps};
+ghost use Rattle.byte_source.specs.Source.{Keeps};
 ghost use Rattle.pm_archive.specs.Sections.{end_of};
 ghost use Rattle.pm_archive.specs.Reading.{ArePlaced, directory_of_entry};
 ghost use Rattle.pm_archive.specs.Answers.{IsOutside};
@@ -15,7 +15,7 @@ use crate::fault::ArchiveFault;
 use crate::limits::{KEPT_LEAF_BYTES, MOST_LEAVES};
 use crate::looking::{content_in, leading};
 use crate::reading::directory_of;
-use crate::source::Bytes;
+use byte_source::Bytes;
 use pm_directory::Entry;
 use pm_header::Header;
 use std::alloc::Global;

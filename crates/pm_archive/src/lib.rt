@@ -18,7 +18,6 @@ mod metadata;
 mod opening;
 mod reading;
 mod report;
-mod source;
 mod verifying;
 
 pub use archive::Archive;
@@ -27,4 +26,3 @@ pub use limits::{KEPT_LEAF_BYTES, MOST_LEAVES, OPENING_END};
 pub use lookup::Lookup;
 pub use metadata::is_metadata;
 pub use report::Report;
-pub use source::{Bytes, ReadFault};

@@ -3,7 +3,7 @@
 ghost use Rattle.std.specs.Prelude.{◌≡◌, ◌≢◌, ℕ, List, Err, IfOk, OnOk, Some, slice_get};
 ghost use Rattle.reader.specs.Reading.{GivesUnless};
 ghost use Rattle.pm_directory.specs.Directory.{IsAscending};
-ghost use Rattle.pm_archive.specs.Source.{Keeps};
+ghost use Rattle.byte_source.specs.Source.{Keeps};
 ghost use Rattle.pm_archive.specs.Entries.{LiesIn, LiesInside, bound_of};
 ghost use Rattle.pm_archive.specs.Reading.{ArePlaced, each_at, leaf_at, list_at, lists_at, stray_fault, stray_id, tile_at};
 ghost use Rattle.pm_archive.specs.Answers.{IsOutside};
@@ -12,7 +12,7 @@ ghost use Rattle.pm_archive.specs.Listing.{behind, stray_of};
 use crate::fault::ArchiveFault;
 use crate::limits::MOST_LEAVES;
 use crate::reading::{directory_of, lies_in};
-use crate::source::Bytes;
+use byte_source::Bytes;
 use hilbert_id::TILE_IDS;
 use pm_directory::Entry;
 use pm_header::Header;

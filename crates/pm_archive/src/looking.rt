@@ -4,7 +4,7 @@ ghost use Rattle.std.specs.Prelude.{◌≡◌, ℕ, ◌<◌, ◌≤◌, List, Ok
 ghost use Rattle.reader.specs.Reading.{GivesUnless};
 ghost use Rattle.pm_directory.specs.declared.entry.Entry.{Entry};
 ghost use Rattle.pm_directory.specs.Directory.{IsAscending};
-ghost use Rattle.pm_archive.specs.Source.{Keeps};
+ghost use Rattle.byte_source.specs.Source.{Keeps};
 ghost use Rattle.pm_archive.specs.Sections.{end_of};
 ghost use Rattle.pm_archive.specs.Entries.{EachLists, LiesIn, LiesInside, Lists};
 ghost use Rattle.pm_archive.specs.Archive.{content_of};
@@ -15,7 +15,7 @@ ghost use Rattle.pm_archive.specs.Looked.{leading_of, leading_at, reached_at, co
 use crate::fault::ArchiveFault;
 use crate::limits::MOST_LEAVES;
 use crate::reading::{content_of, directory_of};
-use crate::source::Bytes;
+use byte_source::Bytes;
 use hilbert_id::TILE_IDS;
 use pm_directory::{Entry, find};
 use pm_header::Header;

@@ -5,14 +5,14 @@ ghost use Rattle.reader.specs.Reading.{GivesUnless};
 ghost use Rattle.std.specs.List.{AllByRecursion};
 ghost use Rattle.pm_directory.specs.Directory.{IsAscending, IsEntry};
 ghost use Rattle.pm_directory.specs.Reading.{directory_at};
-ghost use Rattle.pm_archive.specs.Source.{Keeps};
+ghost use Rattle.byte_source.specs.Source.{Keeps};
 ghost use Rattle.pm_archive.specs.Sections.{end_of};
 ghost use Rattle.pm_archive.specs.Entries.{LiesIn, entry_bytes};
 ghost use Rattle.pm_archive.specs.Reading.{content_of_tile, directory_of_entry, directory_or_fault, fault_at};
 ghost use Rattle.pm_archive.specs.Answers.{IsOutside};
 
 use crate::fault::ArchiveFault;
-use crate::source::Bytes;
+use byte_source::Bytes;
 use pm_directory::{DirectoryFault, Entry, read_directory};
 use pm_header::{Header, Part};
 use std::alloc::Global;

@@ -4,7 +4,7 @@ ghost use Rattle.std.specs.Prelude.{◌≡◌, ◌≢◌, ℕ, ◌^◌, ◌<◌,
 ghost use Rattle.std.specs.List.{AllByRecursion};
 ghost use Rattle.pm_directory.specs.Counts.{addressed_by};
 ghost use Rattle.pm_directory.specs.Directory.{IsAscending, IsEntry};
-ghost use Rattle.pm_archive.specs.Source.{Keeps};
+ghost use Rattle.byte_source.specs.Source.{Keeps};
 ghost use Rattle.pm_archive.specs.Sections.{end_of, section_bytes};
 ghost use Rattle.pm_archive.specs.Entries.{LiesIn};
 ghost use Rattle.pm_archive.specs.Archive.{IsMetadata, HasCounts};
@@ -20,7 +20,7 @@ use crate::listing::entries_below;
 use crate::metadata::is_metadata;
 use crate::reading::bytes_at;
 use crate::report::Report;
-use crate::source::Bytes;
+use byte_source::Bytes;
 use pm_directory::Entry;
 use pm_header::{Header, NOT_COMPRESSED, VECTOR_TILES};
 use std::alloc::Global;

@@ -4,14 +4,15 @@ ghost use Rattle.generations.specs.Areas.{sectors_of};
 ghost use Rattle.pm_archive.specs.Answers.{IsOutside};
 ghost use Rattle.pm_archive.specs.Archive.{IsArchiveOf};
 ghost use Rattle.pm_archive.specs.Lookup.{IsLookupOf};
-ghost use Rattle.pm_archive.specs.Source.{Keeps};
+ghost use Rattle.byte_source.specs.Source.{Keeps};
 ghost use Rattle.sector_bytes.specs.Counts.{NeverFalls};
 ghost use Rattle.sector_bytes.specs.Source.{AreItsBytes};
 ghost use Rattle.sector_disk.specs.Disk.{seen};
 ghost use Rattle.published_tiles.specs.Opened.{OpenedView, IsOpenedOf, IsOpenedUpTo};
 
 use crate::place::ArchivePlace;
-use pm_archive::{ArchiveFault, Bytes, Lookup};
+use byte_source::Bytes;
+use pm_archive::{ArchiveFault, Lookup};
 use sector_bytes::SectorBytes;
 use sector_disk::Sectors;
 use std::alloc::Global;

@@ -1,4 +1,4 @@
-//! The bytes of sectors as a source that `pm_archive` reads.
+//! The bytes of sectors as a source of bytes.
 ghost use Rattle.std.proofs.Common.{refl, ◌∙◌};
 ghost use Rattle.std.specs.Prelude.{◌≡◌, ◌≤◌, ◌<◌, ◌+◌, ◌^◌, length, OnOk, IfSome, Some, slice_range};
 ghost use Rattle.generations.specs.Areas.{sectors_of};
@@ -8,7 +8,7 @@ ghost use Rattle.sector_bytes.specs.Source.{SourceView, AreItsBytes, IsUntouched
 ghost use Rattle.sector_disk.specs.Disk.{seen};
 ghost use Rattle.sector_disk.specs.declared.disk.TheConstants.{SECTOR_BYTES};
 
-use pm_archive::{Bytes, ReadFault};
+use byte_source::{Bytes, ReadFault};
 use sector_disk::{DiskFault, SECTOR_BYTES, Sectors};
 use std::marker::Model;
 

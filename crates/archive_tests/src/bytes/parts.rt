@@ -1,7 +1,7 @@
 //! Parts of bytes, by every offset and length around the borders of their sectors.
 
 use super::{disk_with, numbered};
-use pm_archive::{Bytes, ReadFault};
+use byte_source::{Bytes, ReadFault};
 use sector_bytes::{SectorBytes, read_bytes};
 use sector_disk::FailingCalls::{AllFrom, OneNotMade};
 use sector_disk::{DiskFault, FailingCalls, FaultyDisk, MemoryDisk};

@@ -1,7 +1,7 @@
 use Rattle.std.proofs.Common.{List, ℕ, drop}
 use Rattle.std.specs.List.{AllByRecursion}
 use Rattle.pm_archive.specs.declared.fault.ArchiveFault.{ArchiveFault}
-use Rattle.pm_archive.specs.Source.{Keeps}
+use Rattle.byte_source.specs.Source.{Keeps}
 use Rattle.pm_archive.specs.Verified.{HasTile}
 use Rattle.pm_archive.specs.VerifiedPieces.{AreRead, IsFirstTileFault}
 use Rattle.pm_archive.specs.Entries.{LiesIn}

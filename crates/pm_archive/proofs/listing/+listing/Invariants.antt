@@ -1,5 +1,5 @@
 use Rattle.std.proofs.Common.{◌≡◌, ℕ, ◌+◌, ◌*◌, ◌<◌, List, drop, slice_get}
-use Rattle.pm_archive.specs.Source.{Keeps}
+use Rattle.byte_source.specs.Source.{Keeps}
 use Rattle.pm_archive.specs.Entries.{LiesInside}
 use Rattle.pm_archive.specs.Listing.{behind}
 use Rattle.pm_archive.specs.Reading.{each_at, lists_at}
