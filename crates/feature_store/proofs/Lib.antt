@@ -1,4 +1,5 @@
 pub mod Below
+mod Boxes
 mod Chosen
 mod Covered
 mod Entries
@@ -6,10 +7,10 @@ mod Kept
 mod Listed
 mod Names
 mod Near
-mod Pairs
 mod Shown
 mod Sizes
 mod Writable
+mod TilesLeft
 mod TilesRead
 mod Walk
 pub mod Laws

@@ -8,9 +8,11 @@ mod fault;
 mod gathered;
 mod indexed;
 mod layers;
+mod left;
 mod limit;
 mod snapshot_texts;
 mod store;
+mod zoom_walk;
 
 pub use all_tiles::{Tile, Tiles};
 pub use fault::SnapshotFault;
