@@ -1,6 +1,6 @@
-ghost use Rattle.std.specs.Prelude.{◌≡◌, ℕ, ◌<◌, ◌≤◌, ◌^◌, [], ◌∷◌, IfOk, IfSome, IfNone, IsTrue, OnErr};
-ghost use Rattle.tile_cutter.specs.Covered.{IsInRange};
-ghost use Rattle.tile_walk.specs.Boxes.{has, AreTilesOf};
+ghost use Rattle.std.specs.Prelude.{◌≡◌, ◌≤◌, [], ◌∷◌, IfOk, IfSome, IfNone, OnErr};
+ghost use Rattle.tile_walk.specs.Boxes.{AreTilesOf};
+ghost use Rattle.tile_walk.specs.Quarters.{has_tiles};
 
 use crate::numbered::Numbered;
 use crate::square::Square;
@@ -33,7 +33,7 @@ impl Model for Walk {
 
 /// Whether a range has tiles of a zoom of this side.
 fn has_tiles(range: TileRange, side: u32) -> bool
-    ensures { (column row : ℕ) → column < side → row < side → IsInRange range column row → IsTrue result }
+    ensures { result ≡ has_tiles side range }
 {
     range.x0 <= range.x1 && range.y0 <= range.y1 && range.x0 < side && range.y0 < side
 }

@@ -1,0 +1,30 @@
+use Rattle.std.proofs.Common.{◌≡◌, ◌-◌, ◌++◌, ◌∷◌, [], take, vec_len, sym, ap, ◌∙◌, arith}
+use Rattle.tile_walk.specs.Squares.{tiles_of, left_of, weights, with_tile}
+use Rattle.tile_walk.proofs.Tiles.{split_last, no_last, taken_left, taken_lighter, replaced_left, replaced_lighter, of_one, with_some}
+use Rattle.tile_walk.proofs.squares.next_tile.Goals as goal
+
+pub loop-square-smaller-then-square-gt0 : goal.loop-square-smaller-then-square-gt0
+loop-square-smaller-then-square-gt0 c = replaced_lighter c.loop-square.squares.items c.replace_last.new.squares.items c.in-Some.square.now (vec_len c.loop-square.squares)
+    (split_last c.loop-square.squares.items c.deref.result.now c.in-Some.square.now (vec_len c.loop-square.squares) c.deref.ensures.value c.deref.ensures.len c.in-Some.ensures.value)
+    c.in_ok-quarters.quarters.items c.in_ok-replace_last.ensures.items c.in_ok-quarters.ensures.weight
+
+pub loop-square-preserved-then-square-gt0 : goal.loop-square-preserved-then-square-gt0
+loop-square-preserved-then-square-gt0 c = replaced_left c.loop-square.squares.items c.replace_last.new.squares.items c.in-Some.square.now (vec_len c.loop-square.squares)
+    (split_last c.loop-square.squares.items c.deref.result.now c.in-Some.square.now (vec_len c.loop-square.squares) c.deref.ensures.value c.deref.ensures.len c.in-Some.ensures.value)
+    c.in_ok-quarters.quarters.items c.in_ok-replace_last.ensures.items c.in_ok-quarters.ensures.left
+    ∙ c.loop-square.invariant
+
+pub returns-then-not-is_empty-clause-tile : goal.returns-then-not-is_empty-clause-tile
+returns-then-not-is_empty-clause-tile c = ?
+
+pub loop-square-smaller : goal.loop-square-smaller
+loop-square-smaller c = taken_lighter c.loop-square.squares.items c.pop.new.self.items c.in-Some.square.now (vec_len c.loop-square.squares)
+    (split_last c.loop-square.squares.items c.deref.result.now c.in-Some.square.now (vec_len c.loop-square.squares) c.deref.ensures.value c.deref.ensures.len c.in-Some.ensures.value)
+    c.pop.ensures.rest
+
+pub loop-square-preserved : goal.loop-square-preserved
+loop-square-preserved c = ?
+
+pub returns-clause-none : goal.returns-clause-none
+unfolding left_of
+returns-clause-none c = sym c.loop-square.invariant ∙ ap left_of (no_last c.loop-square.squares.items c.deref.result.now c.deref.ensures.value c.in_default.ensures.value)
