@@ -1,6 +1,7 @@
 -- The tiles of boxes along parts of the curve.
-use Rattle.std.proofs.Common.{◌≡◌, ℕ, zero, suc, ◌+◌, ◌-◌, ◌*◌, ◌^◌, ◌<◌, List, [], ◌∷◌, ◌++◌, length, get_or, map, refl, sym, ap, subst, ◌∙◌, append_assoc, arith, take, Some, None, Bool, false, ◌==◌, ◌≤◌}
+use Rattle.std.proofs.Common.{◌≡◌, ℕ, zero, suc, ◌+◌, ◌-◌, ◌*◌, ◌^◌, ◌<◌, List, [], ◌∷◌, ◌++◌, length, get_or, map, refl, sym, ap, subst, ◌∙◌, append_assoc, arith, take, Some, None, Bool, true, false, ◌==◌, ◌≤◌}
 use Rattle.std.specs.List.{AllByRecursion, slice_get}
+use Rattle.std.proofs.lemmas.Bool.Decides.{nat_tests}
 use Rattle.std.proofs.lemmas.List.{append-nil, map-id, nil_from_length}
 use Rattle.std.proofs.lemmas.List.Elements.{recursion_from_All}
 use Rattle.std.proofs.lemmas.Option.{slice_get-get_or}
@@ -27,8 +28,8 @@ along-append bs id [] qs = let none : id + 0 ≡ id = omega arith in rw none ref
 along-append bs id (p ∷ ps) qs =
     let next : id + suc (length ps) ≡ suc id + length ps = omega arith in
     rw next
-        (ap (with_tile id (numbers_at bs p.0 p.1)) (along-append bs (suc id) ps qs)
-        ∙ with_tile-append id (numbers_at bs p.0 p.1) (tiles_along bs (suc id) ps) (tiles_along bs (suc id + length ps) qs))
+    (ap (with_tile id (numbers_at bs p.0 p.1)) (along-append bs (suc id) ps qs)
+    ∙ with_tile-append id (numbers_at bs p.0 p.1) (tiles_along bs (suc id) ps) (tiles_along bs (suc id + length ps) qs))
 
 along_parts : (bs : List Numbered) (id after : ℕ) (ps qs : List (ℕ × ℕ)) → after ≡ id + length ps
     → tiles_along bs id (ps ++ qs) ≡ tiles_along bs id ps ++ tiles_along bs after qs
@@ -73,7 +74,7 @@ placed_quarter q s bs cs order tiles half boxes quarter each side there =
     let same : ArePlaced q (2 ^ k) s.boxes.items cs = subst (λ h. ArePlaced q h s.boxes.items cs) side (subst (λ l. ArePlaced q half l cs) boxes there) in
     ap (λ i. tiles_along cs i (curve k)) (ap (λ o. s.first + o * tiles) quarter ∙ ap (λ t. s.first + order_of q * t) each)
     ∙ along_map (placed q (2 ^ k)) s.boxes.items cs (s.first + order_of q * 4 ^ k) (curve k)
-        (along_square (λ x y. numbers_at cs x y ≡ numbers_at s.boxes.items (placed q (2 ^ k) (x, y)).0 (placed q (2 ^ k) (x, y)).1) k same)
+    (along_square (λ x y. numbers_at cs x y ≡ numbers_at s.boxes.items (placed q (2 ^ k) (x, y)).0 (placed q (2 ^ k) (x, y)).1) k same)
 
 abbrev part : Quarter → List Numbered → ℕ → ℕ → List (ℕ × List ℕ)
 part q bs id k = tiles_along bs (id + order_of q * 4 ^ k) (map (placed q (2 ^ k)) (curve k))
@@ -87,11 +88,11 @@ along_quarters bs id k =
     let start : id ≡ id + 0 * 4 ^ k = omega arith in
     ap (λ i. tiles_along bs i (map turned c ++ (map (below h) c ++ (map (across h) c ++ map (flipped h) c)))) start
     ∙ along_parts bs (id + 0 * 4 ^ k) (id + 1 * 4 ^ k) (map turned c) (map (below h) c ++ (map (across h) c ++ map (flipped h) c))
-        (omega (arith, len_of k turned))
+    (omega (arith, len_of k turned))
     ∙ ap (λ t. part First bs id k ++ t)
-        (along_parts bs (id + 1 * 4 ^ k) (id + 2 * 4 ^ k) (map (below h) c) (map (across h) c ++ map (flipped h) c) (omega (arith, len_of k (below h)))
-        ∙ ap (λ t. part Second bs id k ++ t)
-            (along_parts bs (id + 2 * 4 ^ k) (id + 3 * 4 ^ k) (map (across h) c) (map (flipped h) c) (omega (arith, len_of k (across h)))))
+    (along_parts bs (id + 1 * 4 ^ k) (id + 2 * 4 ^ k) (map (below h) c) (map (across h) c ++ map (flipped h) c) (omega (arith, len_of k (below h)))
+    ∙ ap (λ t. part Second bs id k ++ t)
+    (along_parts bs (id + 2 * 4 ^ k) (id + 3 * 4 ^ k) (map (across h) c) (map (flipped h) c) (omega (arith, len_of k (across h)))))
 
 pub of_quarters : (s : Square) → 0 < s.zoom → tiles_of s ≡ tiles_in First s ++ (tiles_in Second s ++ (tiles_in Third s ++ tiles_in Fourth s))
 unfolding tiles_of tiles_in
@@ -100,10 +101,11 @@ of_quarters s some =
     ap (λ z. tiles_along s.boxes.items s.first (curve z)) height ∙ along_quarters s.boxes.items s.first (s.zoom - 1)
 
 -- a square of one tile
-pub of_one : (s : Square) (ns : List ℕ) → s.zoom ≡ 0 → ns ≡ numbers_at s.boxes.items 0 0 → tiles_of s ≡ with_tile s.first ns []
+pub of_one : (s : Square) (bs : List Numbered) (ns : List ℕ) → s.zoom ≡ 0 → bs ≡ s.boxes.items → ns ≡ numbers_at bs 0 0 → tiles_of s ≡ with_tile s.first ns []
 unfolding tiles_of tiles_along curve
-of_one s ns none numbers =
-    ap (λ z. tiles_along s.boxes.items s.first (curve z)) none ∙ ap (λ l. with_tile s.first l []) (sym numbers)
+of_one s bs ns none boxes numbers =
+    ap (λ z. tiles_along s.boxes.items s.first (curve z)) none
+    ∙ ap (λ l. with_tile s.first l []) (sym (numbers ∙ ap (λ l. numbers_at l 0 0) boxes))
 
 -- a square of no boxes
 pub of_none : (s : Square) → s.boxes.items ≡ [] → tiles_of s ≡ []
@@ -153,7 +155,7 @@ split_end (a ∷ xs) x (suc m) is len = ap (λ l. a ∷ l) (split_end xs x m is 
 
 -- by what `last` gives
 pub split_last : {X : Type 0} (xs ys : List X) (x : X) (n : ℕ) → ys ≡ xs → length ys ≡ n → Some x ≡ slice_get ys (length ys - 1) → xs ≡ take (n - 1) xs ++ x ∷ []
-split_last xs ys x n same len is =
+split_last {X = X} xs ys x n same len is =
     subst (λ l. l ≡ take (n - 1) l ++ x ∷ []) same (go ys len (sym is))
   where
     go : (zs : List X) → length zs ≡ n → slice_get zs (length zs - 1) ≡ Some x → zs ≡ take (n - 1) zs ++ x ∷ []
@@ -164,7 +166,7 @@ split_last xs ys x n same len is =
         rw k (split_end (z ∷ zs) x (length zs) (rw m at at) refl)
 
 pub no_last : {X : Type 0} (xs ys : List X) → ys ≡ xs → None ≡ slice_get ys (length ys - 1) → xs ≡ []
-no_last xs ys same is = subst (λ l. l ≡ []) same (go ys (sym is))
+no_last {X = X} xs ys same is = subst (λ l. l ≡ []) same (go ys (sym is))
   where
     go : (zs : List X) → slice_get zs (length zs - 1) ≡ None → zs ≡ []
     go [] at = refl
@@ -195,6 +197,19 @@ module _ (old new : List Square) (s : Square) (n : ℕ) (last : old ≡ take (n 
   replaced_lighter others is less =
       omega (arith, ap weights is, ap weights last, weights-append (take (n - 1) old) others, weights_last (take (n - 1) old) s)
 
+zero_from : (n : ℕ) (b : Bool) → b ≡ (n == 0) → b ≡ true → n ≡ 0
+zero_from n b is zeros = grind (arith, nat_tests)
+
+some_from : (n : ℕ) (b : Bool) → b ≡ (n == 0) → b ≡ false → 0 < n
+some_from n b is more = grind (arith, nat_tests)
+
+-- by what `is_empty` gives
+pub empty : {X : Type 0} (xs : List X) (n : ℕ) (b : Bool) → n ≡ length xs → b ≡ (n == 0) → b ≡ true → xs ≡ []
+empty xs n b size is zeros = nil_from_length xs (omega (arith, zero_from n b is zeros, size))
+
+pub filled : {X : Type 0} (xs : List X) (n : ℕ) (b : Bool) → n ≡ length xs → b ≡ (n == 0) → b ≡ false → 0 < length xs
+filled xs n b size is more = omega (arith, some_from n b is more, size)
+
 pub with_some : (id : ℕ) (ns : List ℕ) (ts : List (ℕ × List ℕ)) → 0 < length ns → with_tile id ns ts ≡ (id, ns) ∷ ts
 with_some id [] ts some = absurd (omega arith)
 with_some id (n ∷ ns) ts some = refl
@@ -208,8 +223,8 @@ module _ (s : Square) (some : 0 < s.zoom) (a b c d e : List Square) (none : a �
   four_left fourth third second first =
       let start : left_of a ≡ [] = ap left_of none in
       first ∙ ap (λ t. tiles_in First s ++ t)
-          (second ∙ ap (λ t. tiles_in Second s ++ t)
-          (third ∙ ap (λ t. tiles_in Third s ++ t) (fourth ∙ ap (λ t. tiles_in Fourth s ++ t) start ∙ append-nil (tiles_in Fourth s))))
+      (second ∙ ap (λ t. tiles_in Second s ++ t)
+      (third ∙ ap (λ t. tiles_in Third s ++ t) (fourth ∙ ap (λ t. tiles_in Fourth s ++ t) start ∙ append-nil (tiles_in Fourth s))))
       ∙ sym (of_quarters s some)
 
   pub four_lighter : weights b ≤ weights a + weight (s.zoom - 1) → weights c ≤ weights b + weight (s.zoom - 1) → weights d ≤ weights c + weight (s.zoom - 1)

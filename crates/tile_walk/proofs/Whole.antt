@@ -1,5 +1,5 @@
 -- The tiles along the curve of a zoom are all that boxes have there.
-use Rattle.std.proofs.Common.{◌≡◌, ℕ, zero, suc, ◌+◌, ◌<◌, ◌^◌, Bool, true, false, cond, List, [], ◌∷◌, length, map, Some, All, Contains, refl, sym, ap, subst, arith}
+use Rattle.std.proofs.Common.{◌≡◌, ℕ, zero, suc, ◌+◌, ◌*◌, ◌%◌, ◌<◌, ◌≤◌, ◌^◌, Bool, true, false, cond, List, [], ◌∷◌, length, map, Some, Contains, refl, sym, ap, subst, ◌∙◌, ◌++◌, arith}
 use Rattle.std.specs.List.{slice_get, filter, AllByRecursion}
 use Rattle.std.specs.List.Sorted.{IsStrictlySortedBy}
 use Rattle.std.specs.Map.{keys_of}
@@ -11,10 +11,13 @@ use Rattle.std.proofs.lemmas.List.Elements.{All-from_recursion, Contains-append_
 use Rattle.hilbert_id.specs.Curve.{curve, first_id, StandsAt, IsTileId}
 use Rattle.hilbert_id.proofs.Stands.{stands_turned, stands_first}
 use Rattle.hilbert_id.proofs.Positions.{one_position}
+use Rattle.hilbert_id.proofs.Powers.{two_below}
 use Rattle.tile_walk.specs.Boxes.{has, numbers_at, IsTileOf, AreTilesOf}
 use Rattle.tile_walk.specs.Quarters.{has_tiles}
-use Rattle.tile_walk.specs.Squares.{with_tile, tiles_along}
+use Rattle.tile_walk.specs.Squares.{with_tile, tiles_along, tiles_of, left_of}
 use Rattle.tile_walk.specs.declared.numbered.Numbered.{Numbered}
+use Rattle.tile_walk.specs.declared.square.Square.{Square}
+use Rattle.tile_walk.proofs.Tiles.{along_same}
 
 less : (a b : ℕ) → a < b → nat_cmp a b ≡ Less
 less a b lt = rw (lt-ltb a b lt) refl
@@ -96,7 +99,7 @@ all_tiles zoom bs = record {
       (each_along zoom bs (first_id zoom) (curve zoom) (λ n p is. (n, is, refl)));
   every = λ column row id is some.
       subst (Contains (keys_of (tiles_along bs (first_id zoom) (curve zoom)))) (sym is.2)
-          (found_along bs (first_id zoom) (curve zoom) is.0 (column, row) is.1 some);
+      (found_along bs (first_id zoom) (curve zoom) is.0 (column, row) is.1 some);
 }
 
 -- ---- the first tile of a zoom
@@ -131,3 +134,21 @@ kept_same side (b ∷ bs) column row across down = by (has_tiles side b.range) r
         with_box true same = ap (λ ns. b.number ∷ ns) same
         with_box false same = same
     by false is rest = rw (out_of_side side b column row across down is) rest
+
+-- ---- a walk's first square
+
+pub whole_left : (zoom side : ℕ) (bs : List Numbered) (s : Square) (none ss : List Square) → ss ≡ none ++ s ∷ [] → none ≡ [] → s.zoom ≡ zoom → IsTileId zoom 0 0 s.first
+    → side ≡ 2 ^ zoom → s.boxes.items ≡ filter (λ b. has_tiles side b.range) bs → AreTilesOf zoom bs (left_of ss)
+unfolding left_of tiles_of
+whole_left zoom side bs s none ss is start height first size boxes =
+    let one : ss ≡ s ∷ [] = is ∙ ap (λ l. l ++ s ∷ []) start in
+    let tiles : left_of ss ≡ tiles_along bs (first_id zoom) (curve zoom) =
+    ap left_of one
+    ∙ ap (λ z. tiles_along s.boxes.items s.first (curve z)) height
+    ∙ ap (λ i. tiles_along s.boxes.items i (curve zoom)) (origin_is_first zoom s.first first)
+    ∙ ap (λ l. tiles_along l (first_id zoom) (curve zoom)) (boxes ∙ ap (λ n. filter (λ b. has_tiles n b.range) bs) size)
+    ∙ along_same bs (filter (λ b. has_tiles (2 ^ zoom) b.range) bs) (first_id zoom) zoom (kept_same (2 ^ zoom) bs) in
+    subst (AreTilesOf zoom bs) (sym tiles) (all_tiles zoom bs)
+
+pub side_of : (zoom : ℕ) → zoom ≤ 31 → 1 * 2 ^ zoom % 4294967296 ≡ 2 ^ zoom
+side_of zoom le = omega (arith, two_below zoom 31 le)

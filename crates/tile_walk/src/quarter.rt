@@ -56,18 +56,25 @@ fn range_in(quarter: Quarter, half: u32, range: TileRange) -> Option<TileRange>
             y0: range.y0.saturating_sub(half),
             y1: range.y1 - half,
         }),
-        Quarter::Fourth if range.x1 >= half && range.x0 < 2 * half && range.y0 < half => Some(TileRange {
-            x0: (half - 1).saturating_sub(range.y1),
-            x1: half - 1 - range.y0,
-            y0: (2 * half - 1).saturating_sub(range.x1),
-            y1: 2 * half - 1 - range.x0,
-        }),
+        Quarter::Fourth if range.x1 >= half && range.x0 < 2 * half && range.y0 < half => Some(
+            TileRange {
+                x0: (half - 1).saturating_sub(range.y1),
+                x1: half - 1 - range.y0,
+                y0: (2 * half - 1).saturating_sub(range.x1),
+                y1: 2 * half - 1 - range.x0,
+            },
+        ),
         _ => None,
     }
 }
 
 /// The boxes of a square that have tiles in a quarter, in its columns and rows. The only error is out of memory.
-pub(crate) fn boxes_in(alloc: Global, quarter: Quarter, half: u32, boxes: &[Numbered]) -> Result<Vec<Numbered>, AllocError>
+pub(crate) fn boxes_in(
+    alloc: Global,
+    quarter: Quarter,
+    half: u32,
+    boxes: &[Numbered],
+) -> Result<Vec<Numbered>, AllocError>
     requires half { (0 < half) × (half ≤ 2 ^ 30) }
     ensures { IfOk result (λ v. ArePlaced quarter half boxes.now v.items) }
 {

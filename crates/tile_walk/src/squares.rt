@@ -63,7 +63,12 @@ fn quarter_of(alloc: Global, quarter: Quarter, square: &Square) -> Result<Square
 }
 
 /// Appends a quarter of a square, unless it has no boxes. The only error is out of memory.
-fn push_quarter(alloc: Global, quarter: Quarter, square: &Square, squares: &mut Vec<Square>) -> Result<(), AllocError>
+fn push_quarter(
+    alloc: Global,
+    quarter: Quarter,
+    square: &Square,
+    squares: &mut Vec<Square>,
+) -> Result<(), AllocError>
     requires { 0 < square.now.zoom }
     ensures left { OnOk result (left_of squares.new.items ≡ tiles_in quarter square.now ++ left_of squares.old.items) }
     ensures weight { OnOk result (weights squares.new.items ≤ weights squares.old.items + weight (square.now.zoom - 1)) }
@@ -102,7 +107,10 @@ fn replace_last(squares: &mut Vec<Square>, mut others: Vec<Square>) -> Result<()
 }
 
 /// Takes the next tile of squares, of which the last is the next one. The only error is out of memory; nothing is passed over then.
-pub(crate) fn next_tile(alloc: Global, squares: &mut Vec<Square>) -> Result<Option<(u64, Vec<u64>)>, AllocError>
+pub(crate) fn next_tile(
+    alloc: Global,
+    squares: &mut Vec<Square>,
+) -> Result<Option<(u64, Vec<u64>)>, AllocError>
     ensures tile { IfOk result (λ o. IfSome o (λ t. left_of squares.old.items ≡ (t.0, t.1.items) ∷ left_of squares.new.items)) }
     ensures none { IfOk result (λ o. IfNone o (left_of squares.old.items ≡ [])) }
     ensures failed { OnErr result (left_of squares.new.items ≡ left_of squares.old.items) }

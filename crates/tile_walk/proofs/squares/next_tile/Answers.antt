@@ -1,6 +1,6 @@
-use Rattle.std.proofs.Common.{◌≡◌, ◌-◌, ◌++◌, ◌∷◌, [], take, vec_len, sym, ap, ◌∙◌, arith}
-use Rattle.tile_walk.specs.Squares.{tiles_of, left_of, weights, with_tile}
-use Rattle.tile_walk.proofs.Tiles.{split_last, no_last, taken_left, taken_lighter, replaced_left, replaced_lighter, of_one, with_some}
+use Rattle.std.proofs.Common.{◌∷◌, [], vec_len, sym, ap, ◌∙◌, arith}
+use Rattle.tile_walk.specs.Squares.{left_of, with_tile}
+use Rattle.tile_walk.proofs.Tiles.{split_last, no_last, taken_left, taken_lighter, replaced_left, replaced_lighter, of_one, with_some, empty, filled}
 use Rattle.tile_walk.proofs.squares.next_tile.Goals as goal
 
 pub loop-square-smaller-then-square-gt0 : goal.loop-square-smaller-then-square-gt0
@@ -15,7 +15,17 @@ loop-square-preserved-then-square-gt0 c = replaced_left c.loop-square.squares.it
     ∙ c.loop-square.invariant
 
 pub returns-then-not-is_empty-clause-tile : goal.returns-then-not-is_empty-clause-tile
-returns-then-not-is_empty-clause-tile c = ?
+returns-then-not-is_empty-clause-tile c =
+    let numbers = c.in_ok-numbers.numbers.items in
+    let square = c.in-Some.square.now in
+    let some = filled numbers (vec_len c.in_ok-numbers.numbers) c.is_empty.result c.in_ok-numbers.numbers.ok.0 c.is_empty.ensures c.if-not-is_empty.true in
+    sym c.loop-square.invariant
+    ∙ taken_left c.loop-square.squares.items c.pop.new.self.items square (vec_len c.loop-square.squares)
+    (split_last c.loop-square.squares.items c.deref.result.now square (vec_len c.loop-square.squares) c.deref.ensures.value c.deref.ensures.len
+    c.in-Some.ensures.value)
+    ((square.first, numbers) ∷ []) c.pop.ensures.rest
+    (of_one square c.deref-in-Some.result.now numbers (omega arith) c.deref-in-Some.ensures.value c.in_ok-numbers.ensures
+    ∙ with_some square.first numbers [] some)
 
 pub loop-square-smaller : goal.loop-square-smaller
 loop-square-smaller c = taken_lighter c.loop-square.squares.items c.pop.new.self.items c.in-Some.square.now (vec_len c.loop-square.squares)
@@ -23,7 +33,18 @@ loop-square-smaller c = taken_lighter c.loop-square.squares.items c.pop.new.self
     c.pop.ensures.rest
 
 pub loop-square-preserved : goal.loop-square-preserved
-loop-square-preserved c = ?
+loop-square-preserved c =
+    let numbers = c.in_ok-numbers.numbers.items in
+    let square = c.in-Some.square.now in
+    let none = empty numbers (vec_len c.in_ok-numbers.numbers) c.is_empty.result c.in_ok-numbers.numbers.ok.0 c.is_empty.ensures c.if-not-is_empty.false in
+    sym
+    (taken_left c.loop-square.squares.items c.pop.new.self.items square (vec_len c.loop-square.squares)
+    (split_last c.loop-square.squares.items c.deref.result.now square (vec_len c.loop-square.squares) c.deref.ensures.value c.deref.ensures.len
+    c.in-Some.ensures.value)
+    [] c.pop.ensures.rest
+    (of_one square c.deref-in-Some.result.now numbers (omega arith) c.deref-in-Some.ensures.value c.in_ok-numbers.ensures
+    ∙ ap (λ ns. with_tile square.first ns []) none))
+    ∙ c.loop-square.invariant
 
 pub returns-clause-none : goal.returns-clause-none
 unfolding left_of
