@@ -52,10 +52,10 @@ has_in_range r column row h =
     let bottom = h.bottom in
     grind (arith, nat_tests)
 
-in_front : {X : Type 0} (x : X) (xs : List X) → Contains (x ∷ xs) x
+pub in_front : {X : Type 0} (x : X) (xs : List X) → Contains (x ∷ xs) x
 in_front x xs = (0, omega arith, refl)
 
-behind : {X : Type 0} (x : X) (xs : List X) (y : X) → Contains xs y → Contains (x ∷ xs) y
+pub behind : {X : Type 0} (x : X) (xs : List X) (y : X) → Contains xs y → Contains (x ∷ xs) y
 behind x xs y h = Contains-append_right (x ∷ []) xs y h
 
 pub number_stands : (bs : List Numbered) (b : Numbered) (column row : ℕ) → Contains bs b → IsInRange b.range column row
@@ -65,7 +65,8 @@ number_stands (a ∷ bs) b column row h inside = by (covers column row a) refl (
   where
     by : (t : Bool) → covers column row a ≡ t → (Contains bs b → Contains (numbers_at bs column row) b.number) → (i : ℕ) → i < length (a ∷ bs)
         → get_or (a ∷ bs) i b ≡ b → Contains (numbers (cond t (a ∷ filter (covers column row) bs) (filter (covers column row) bs))) b.number
-    by true is more zero lt same = subst (λ n. Contains (a.number ∷ numbers_at bs column row) n) (ap (λ k. k.number) same) (in_front a.number (numbers_at bs column row))
+    by true is more zero lt same =
+        subst (λ n. Contains (a.number ∷ numbers_at bs column row) n) (ap (λ k. k.number) same) (in_front a.number (numbers_at bs column row))
     by true is more (suc i) lt same = behind a.number (numbers_at bs column row) b.number (more (i, omega arith, same))
     by false is more zero lt same =
         let there : covers column row a ≡ true = ap (covers column row) same ∙ has_in_range b.range column row inside in

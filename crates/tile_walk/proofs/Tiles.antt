@@ -1,5 +1,6 @@
 -- The tiles of boxes along parts of the curve.
-use Rattle.std.proofs.Common.{◌≡◌, ℕ, zero, suc, ◌+◌, ◌-◌, ◌*◌, ◌^◌, ◌<◌, List, [], ◌∷◌, ◌++◌, length, get_or, map, refl, sym, ap, subst, ◌∙◌, append_assoc, arith, take, Some, None, Bool, true, false, ◌==◌, ◌≤◌}
+use Rattle.std.proofs.Common.{◌≡◌, ℕ, zero, suc, ◌+◌, ◌-◌, ◌*◌, ◌^◌, ◌<◌, ◌≤◌, ◌==◌, Bool, true, false, List, [], ◌∷◌, ◌++◌, length, get_or, map, take}
+use Rattle.std.proofs.Common.{Some, None, refl, sym, ap, subst, ◌∙◌, append_assoc, arith}
 use Rattle.std.specs.List.{AllByRecursion, slice_get}
 use Rattle.std.proofs.lemmas.Bool.Decides.{nat_tests}
 use Rattle.std.proofs.lemmas.List.{append-nil, map-id, nil_from_length}
@@ -66,8 +67,8 @@ along_same bs cs id k same =
 
 -- ---- a square and its quarters
 
-pub placed_quarter : (q : Quarter) (s : Square) (bs cs : List Numbered) (order tiles half : ℕ) → bs ≡ s.boxes.items → order ≡ order_of q → tiles ≡ 4 ^ (s.zoom - 1)
-    → half ≡ 2 ^ (s.zoom - 1) → ArePlaced q half bs cs → tiles_along cs (s.first + order * tiles) (curve (s.zoom - 1)) ≡ tiles_in q s
+pub placed_quarter : (q : Quarter) (s : Square) (bs cs : List Numbered) (order tiles half : ℕ) → bs ≡ s.boxes.items → order ≡ order_of q
+    → tiles ≡ 4 ^ (s.zoom - 1) → half ≡ 2 ^ (s.zoom - 1) → ArePlaced q half bs cs → tiles_along cs (s.first + order * tiles) (curve (s.zoom - 1)) ≡ tiles_in q s
 unfolding tiles_in
 placed_quarter q s bs cs order tiles half boxes quarter each side there =
     let k = s.zoom - 1 in
@@ -154,7 +155,8 @@ split_end (a ∷ xs) x zero is len =
 split_end (a ∷ xs) x (suc m) is len = ap (λ l. a ∷ l) (split_end xs x m is (omega arith))
 
 -- by what `last` gives
-pub split_last : {X : Type 0} (xs ys : List X) (x : X) (n : ℕ) → ys ≡ xs → length ys ≡ n → Some x ≡ slice_get ys (length ys - 1) → xs ≡ take (n - 1) xs ++ x ∷ []
+pub split_last : {X : Type 0} (xs ys : List X) (x : X) (n : ℕ) → ys ≡ xs → length ys ≡ n → Some x ≡ slice_get ys (length ys - 1)
+    → xs ≡ take (n - 1) xs ++ x ∷ []
 split_last {X = X} xs ys x n same len is =
     subst (λ l. l ≡ take (n - 1) l ++ x ∷ []) same (go ys len (sym is))
   where

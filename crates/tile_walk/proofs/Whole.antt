@@ -1,5 +1,6 @@
 -- The tiles along the curve of a zoom are all that boxes have there.
-use Rattle.std.proofs.Common.{◌≡◌, ℕ, zero, suc, ◌+◌, ◌*◌, ◌%◌, ◌<◌, ◌≤◌, ◌^◌, Bool, true, false, cond, List, [], ◌∷◌, length, map, Some, Contains, refl, sym, ap, subst, ◌∙◌, ◌++◌, arith}
+use Rattle.std.proofs.Common.{◌≡◌, ℕ, zero, suc, ◌+◌, ◌*◌, ◌%◌, ◌<◌, ◌≤◌, ◌^◌, Bool, true, false, cond, List, [], ◌∷◌, ◌++◌, length, map, Some, Contains}
+use Rattle.std.proofs.Common.{refl, sym, ap, subst, ◌∙◌, arith}
 use Rattle.std.specs.List.{slice_get, filter, AllByRecursion}
 use Rattle.std.specs.List.Sorted.{IsStrictlySortedBy}
 use Rattle.std.specs.Map.{keys_of}
@@ -7,7 +8,7 @@ use Rattle.std.specs.Ordering.{nat_cmp}
 use Rattle.std.specs.declared.cmp.Ordering.TheVariants.{Less}
 use Rattle.std.proofs.lemmas.Bool.{lt-ltb}
 use Rattle.std.proofs.lemmas.Bool.Decides.{nat_tests}
-use Rattle.std.proofs.lemmas.List.Elements.{All-from_recursion, Contains-append_right}
+use Rattle.std.proofs.lemmas.List.Elements.{All-from_recursion}
 use Rattle.hilbert_id.specs.Curve.{curve, first_id, StandsAt, IsTileId}
 use Rattle.hilbert_id.proofs.Stands.{stands_turned, stands_first}
 use Rattle.hilbert_id.proofs.Positions.{one_position}
@@ -17,6 +18,7 @@ use Rattle.tile_walk.specs.Quarters.{has_tiles}
 use Rattle.tile_walk.specs.Squares.{with_tile, tiles_along, tiles_of, left_of}
 use Rattle.tile_walk.specs.declared.numbered.Numbered.{Numbered}
 use Rattle.tile_walk.specs.declared.square.Square.{Square}
+use Rattle.tile_walk.proofs.Laws.{in_front, behind}
 use Rattle.tile_walk.proofs.Tiles.{along_same}
 
 less : (a b : ℕ) → a < b → nat_cmp a b ≡ Less
@@ -67,12 +69,6 @@ each_along zoom bs id (p ∷ ps) ids = by (numbers_at bs p.0 p.1) refl (each_alo
 
 -- ---- each tile is there
 
-in_front : {X : Type 0} (x : X) (xs : List X) → Contains (x ∷ xs) x
-in_front x xs = (0, omega arith, refl)
-
-behind : {X : Type 0} (x : X) (xs : List X) (y : X) → Contains xs y → Contains (x ∷ xs) y
-behind x xs y h = Contains-append_right (x ∷ []) xs y h
-
 found_along : (bs : List Numbered) (id : ℕ) (ps : List (ℕ × ℕ)) (n : ℕ) (p : ℕ × ℕ) → slice_get ps n ≡ Some p → 0 < length (numbers_at bs p.0 p.1)
     → Contains (keys_of (tiles_along bs id ps)) (id + n)
 unfolding tiles_along
@@ -83,12 +79,16 @@ found_along bs id (q ∷ ps) zero p is some =
   where
     by : (ns : List ℕ) → 0 < length ns → Contains (keys_of (with_tile id ns (tiles_along bs (suc id) ps))) (id + 0)
     by [] none = absurd (omega arith)
-    by (m ∷ ms) more = let start : id ≡ id + 0 = omega arith in subst (Contains (id ∷ keys_of (tiles_along bs (suc id) ps))) start (in_front id (keys_of (tiles_along bs (suc id) ps)))
+    by (m ∷ ms) more =
+        let rest = keys_of (tiles_along bs (suc id) ps) in
+        let start : id ≡ id + 0 = omega arith in
+        subst (Contains (id ∷ rest)) start (in_front id rest)
 found_along bs id (q ∷ ps) (suc n) p is some =
     let next : suc id + n ≡ id + suc n = omega arith in
     by (numbers_at bs q.0 q.1) (subst (Contains (keys_of (tiles_along bs (suc id) ps))) next (found_along bs (suc id) ps n p is some))
   where
-    by : (ns : List ℕ) → Contains (keys_of (tiles_along bs (suc id) ps)) (id + suc n) → Contains (keys_of (with_tile id ns (tiles_along bs (suc id) ps))) (id + suc n)
+    by : (ns : List ℕ) → Contains (keys_of (tiles_along bs (suc id) ps)) (id + suc n)
+        → Contains (keys_of (with_tile id ns (tiles_along bs (suc id) ps))) (id + suc n)
     by [] there = there
     by (m ∷ ms) there = behind id (keys_of (tiles_along bs (suc id) ps)) (id + suc n) there
 
@@ -119,26 +119,36 @@ origin_is_first k id is =
 out_of_side : (side : ℕ) (b : Numbered) (column row : ℕ) → column < side → row < side → has_tiles side b.range ≡ false → has b.range column row ≡ false
 out_of_side side b column row across down none = grind (arith, nat_tests)
 
-pub kept_same : (side : ℕ) (bs : List Numbered) (column row : ℕ) → column < side → row < side
-    → numbers_at (filter (λ b. has_tiles side b.range) bs) column row ≡ numbers_at bs column row
+-- the boxes that have tiles in it
+abbrev pub kept : ℕ → List Numbered → List Numbered
+kept side bs = filter (λ b. has_tiles side b.range) bs
+
+-- those of boxes that have a tile
+abbrev those_at : ℕ → ℕ → List Numbered → List Numbered
+those_at column row bs = filter (λ b. has b.range column row) bs
+
+abbrev numbers : List Numbered → List ℕ
+numbers bs = map (λ b. b.number) bs
+
+pub kept_same : (side : ℕ) (bs : List Numbered) (column row : ℕ) → column < side → row < side → numbers_at (kept side bs) column row ≡ numbers_at bs column row
 kept_same side [] column row across down = refl
 kept_same side (b ∷ bs) column row across down = by (has_tiles side b.range) refl (kept_same side bs column row across down)
   where
-    by : (t : Bool) → has_tiles side b.range ≡ t → numbers_at (filter (λ a. has_tiles side a.range) bs) column row ≡ numbers_at bs column row
-        → numbers_at (cond t (b ∷ filter (λ a. has_tiles side a.range) bs) (filter (λ a. has_tiles side a.range) bs)) column row ≡ numbers_at (b ∷ bs) column row
+    with_box : (t : Bool) → numbers_at (kept side bs) column row ≡ numbers_at bs column row
+        → numbers (cond t (b ∷ those_at column row (kept side bs)) (those_at column row (kept side bs)))
+        ≡ numbers (cond t (b ∷ those_at column row bs) (those_at column row bs))
+    with_box true same = ap (λ ns. b.number ∷ ns) same
+    with_box false same = same
+
+    by : (t : Bool) → has_tiles side b.range ≡ t → numbers_at (kept side bs) column row ≡ numbers_at bs column row
+        → numbers_at (cond t (b ∷ kept side bs) (kept side bs)) column row ≡ numbers_at (b ∷ bs) column row
     by true is rest = with_box (has b.range column row) rest
-      where
-        with_box : (t : Bool) → numbers_at (filter (λ a. has_tiles side a.range) bs) column row ≡ numbers_at bs column row
-            → map (λ a. a.number) (cond t (b ∷ filter (λ a. has a.range column row) (filter (λ a. has_tiles side a.range) bs)) (filter (λ a. has a.range column row) (filter (λ a. has_tiles side a.range) bs)))
-            ≡ map (λ a. a.number) (cond t (b ∷ filter (λ a. has a.range column row) bs) (filter (λ a. has a.range column row) bs))
-        with_box true same = ap (λ ns. b.number ∷ ns) same
-        with_box false same = same
     by false is rest = rw (out_of_side side b column row across down is) rest
 
 -- ---- a walk's first square
 
-pub whole_left : (zoom side : ℕ) (bs : List Numbered) (s : Square) (none ss : List Square) → ss ≡ none ++ s ∷ [] → none ≡ [] → s.zoom ≡ zoom → IsTileId zoom 0 0 s.first
-    → side ≡ 2 ^ zoom → s.boxes.items ≡ filter (λ b. has_tiles side b.range) bs → AreTilesOf zoom bs (left_of ss)
+pub whole_left : (zoom side : ℕ) (bs : List Numbered) (s : Square) (none ss : List Square) → ss ≡ none ++ s ∷ [] → none ≡ [] → s.zoom ≡ zoom
+    → IsTileId zoom 0 0 s.first → side ≡ 2 ^ zoom → s.boxes.items ≡ kept side bs → AreTilesOf zoom bs (left_of ss)
 unfolding left_of tiles_of
 whole_left zoom side bs s none ss is start height first size boxes =
     let one : ss ≡ s ∷ [] = is ∙ ap (λ l. l ++ s ∷ []) start in
@@ -146,8 +156,8 @@ whole_left zoom side bs s none ss is start height first size boxes =
     ap left_of one
     ∙ ap (λ z. tiles_along s.boxes.items s.first (curve z)) height
     ∙ ap (λ i. tiles_along s.boxes.items i (curve zoom)) (origin_is_first zoom s.first first)
-    ∙ ap (λ l. tiles_along l (first_id zoom) (curve zoom)) (boxes ∙ ap (λ n. filter (λ b. has_tiles n b.range) bs) size)
-    ∙ along_same bs (filter (λ b. has_tiles (2 ^ zoom) b.range) bs) (first_id zoom) zoom (kept_same (2 ^ zoom) bs) in
+    ∙ ap (λ l. tiles_along l (first_id zoom) (curve zoom)) (boxes ∙ ap (λ n. kept n bs) size)
+    ∙ along_same bs (kept (2 ^ zoom) bs) (first_id zoom) zoom (kept_same (2 ^ zoom) bs) in
     subst (AreTilesOf zoom bs) (sym tiles) (all_tiles zoom bs)
 
 pub side_of : (zoom : ℕ) → zoom ≤ 31 → 1 * 2 ^ zoom % 4294967296 ≡ 2 ^ zoom

@@ -31,7 +31,7 @@ unfoldable pub left_of : List Square → List (ℕ × List ℕ)
 left_of [] = []
 left_of (s ∷ ss) = left_of ss ++ tiles_of s
 
--- more than the quarters of a square have together
+-- a measure of a square: more than that of its four quarters together
 unfoldable pub weight : ℕ → ℕ
 weight zero = 1
 weight (suc k) = 4 * weight k + 1
