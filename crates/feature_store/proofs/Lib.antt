@@ -10,9 +10,9 @@ mod Near
 mod Shown
 mod Sizes
 mod Writable
-mod TilesLeft
 mod TilesRead
 mod Walk
+mod Zooms
 pub mod Laws
 pub mod Maps
 pub mod Puts

@@ -12,7 +12,7 @@ ghost use Rattle.feature_store.specs.Tiles.{HasPlace, IsBytesAt, IsNextTile, IsS
 
 use crate::gathered::gather;
 use crate::layers::listed;
-use crate::left::Left;
+use crate::tiles_left::TilesLeft;
 use feature_model::{Feature, GREATEST_ZOOM};
 use hilbert_id::{TileAt, tile_of};
 use mvt_layer::Layer;
@@ -29,7 +29,7 @@ pub type Tile = (u64, Vec<u8>);
 pub struct Tiles<'a> {
     features: &'a NumberMap<Feature>,
     /// The tiles that aren't made yet.
-    left: Left,
+    left: TilesLeft,
     /// No such tile has this id or a greater one.
     from: u64,
     alloc: Global,
@@ -95,7 +95,7 @@ impl<'a> Tiles<'a> {
         ensures map { IfOk result (λ tiles. tiles.features ≡ entries_data features.entry.now.entries) }
         ensures start { IfOk result (λ tiles. tiles.from ≡ 0) }
     {
-        let left = Left::of(alloc, features)?;
+        let left = TilesLeft::of(alloc, features)?;
         Ok(Tiles {
             features,
             left,

@@ -8,10 +8,10 @@ mod fault;
 mod gathered;
 mod indexed;
 mod layers;
-mod left;
 mod limit;
 mod snapshot_texts;
 mod store;
+mod tiles_left;
 mod zoom_walk;
 
 pub use all_tiles::{Tile, Tiles};

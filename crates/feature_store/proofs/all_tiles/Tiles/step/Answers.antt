@@ -4,7 +4,7 @@ use Rattle.feature_store.specs.Indexed.{ShowsAll}
 use Rattle.feature_store.specs.Inside.{entries_data}
 use Rattle.feature_store.specs.Left.{left_of}
 use Rattle.feature_store.specs.Tiles.{TilesView, IsStep, ShowsNothingFrom}
-use Rattle.feature_store.proofs.TilesLeft.{from_below, place_here, nothing_between, shows_step, one_less, left_some, none_from}
+use Rattle.feature_store.proofs.Zooms.{from_below, place_here, nothing_between, shows_step, one_less, left_some, none_from}
 use Rattle.feature_store.proofs.Walk.{place_within}
 use Rattle.feature_store.proofs.all_tiles.Tiles.step.Goals as goal
 

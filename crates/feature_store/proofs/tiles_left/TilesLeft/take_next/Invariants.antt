@@ -2,7 +2,7 @@ use Rattle.std.proofs.Common.{◌≡◌, ◌≤◌, ◌+◌, ◌-◌}
 use Rattle.feature_model.specs.declared.limits.TheConstants.{GREATEST_ZOOM}
 use Rattle.feature_store.specs.Inside.{entries_data}
 use Rattle.feature_store.specs.Left.{AllStay, left_of}
-use Rattle.feature_store.proofs.left.Left.take_next.Given as goal
+use Rattle.feature_store.proofs.tiles_left.TilesLeft.take_next.Given as goal
 
 abbrev pub invariant-loop-self : goal.invariant-loop-self
 invariant-loop-self l = record {

@@ -1,9 +1,9 @@
 use Rattle.std.proofs.Common.{◌≡◌, ◌∷◌, [], ℕ, Vec, Global, sym, ◌∙◌, arith}
 use Rattle.feature_store.specs.Inside.{entries_data}
 use Rattle.feature_store.specs.Left.{left_of}
-use Rattle.feature_store.proofs.TilesLeft.{stay_same, stay_next, stay_taken, stay_ended, of_some, of_none}
+use Rattle.feature_store.proofs.Zooms.{stay_same, stay_next, stay_taken, stay_ended, of_some, of_none}
 use Rattle.feature_store.proofs.Walk.{on_err}
-use Rattle.feature_store.proofs.left.Left.take_next.Goals as goal
+use Rattle.feature_store.proofs.tiles_left.TilesLeft.take_next.Goals as goal
 
 pub returns-in_err-tile-clause-failed : goal.returns-in_err-tile-clause-failed
 returns-in_err-tile-clause-failed c =

@@ -1,8 +1,8 @@
 use Rattle.std.proofs.Common.{◌≡◌, List, ℕ, sym, ap, ◌∙◌}
 use Rattle.feature_store.specs.Inside.{entries_data}
 use Rattle.feature_store.specs.Left.{left_of, with_next}
-use Rattle.feature_store.proofs.TilesLeft.{stay_same, stay_with, stay_ahead, is_nothing}
-use Rattle.feature_store.proofs.left.Left.look_ahead.Goals as goal
+use Rattle.feature_store.proofs.Zooms.{stay_same, stay_with, stay_ahead, is_nothing}
+use Rattle.feature_store.proofs.tiles_left.TilesLeft.look_ahead.Goals as goal
 
 pub returns-in_err-self-clause-stay : goal.returns-in_err-self-clause-stay
 returns-in_err-self-clause-stay c =

@@ -1,6 +1,6 @@
 use Rattle.feature_store.specs.Inside.{entries_data}
-use Rattle.feature_store.proofs.TilesLeft.{none_begun, next_zoom}
-use Rattle.feature_store.proofs.left.Left.of.Goals as goal
+use Rattle.feature_store.proofs.Zooms.{none_begun, next_zoom}
+use Rattle.feature_store.proofs.tiles_left.TilesLeft.of.Goals as goal
 
 pub returns-clause-left : goal.returns-clause-left
 returns-clause-left c =

@@ -15,16 +15,16 @@ type Covered = (u64, Vec<u64>);
 
 /// The tiles that are left of the zooms of a map, each with the features that cover it.
 #[derive(Debug, Drop)]
-pub(crate) struct Left {
+pub(crate) struct TilesLeft {
     /// The zoom that is walked next.
     pub(crate) zoom: u8,
     /// The walk over the zoom before it, if it isn't at its end.
     pub(crate) walk: Option<Walk>,
-    /// The next tile, once it is taken from the walk. It stays here until its bytes are made.
+    /// The next tile, once it is taken from the walk: it stays here until its bytes are made.
     pub(crate) next: Option<Covered>,
 }
 
-/// Takes the next tile from a walk, which is dropped at its end.
+/// Takes the next tile from a walk, which is dropped at its end. The only error is out of memory; no tile is lost then.
 fn take_tile(walk: &mut Option<Walk>) -> Result<Option<Covered>, AllocError>
     ensures tile { IfOk result (λ o. IfSome o (λ t. left_of walk.old ≡ (t.0, t.1.items) ∷ left_of walk.new)) }
     ensures none { IfOk result (λ o. IfNone o ((left_of walk.old ≡ []) × (left_of walk.new ≡ []))) }
@@ -40,21 +40,21 @@ fn take_tile(walk: &mut Option<Walk>) -> Result<Option<Covered>, AllocError>
     Ok(None)
 }
 
-impl Left {
-    /// All tiles of a map.
-    pub(crate) fn of(alloc: Global, features: &NumberMap<Feature>) -> Result<Left, AllocError>
+impl TilesLeft {
+    /// All tiles of a map. The only error is out of memory.
+    pub(crate) fn of(alloc: Global, features: &NumberMap<Feature>) -> Result<TilesLeft, AllocError>
         ensures zoom { IfOk result (λ left. left.zoom ≤ GREATEST_ZOOM + 1) }
         ensures left { IfOk result (λ left. AreLeft (entries_data features.now.entries) left.zoom 0 (with_next left.next (left_of left.walk))) }
     {
         let walk = walk_of_zoom(alloc, features, 0)?;
-        Ok(Left {
+        Ok(TilesLeft {
             zoom: 1,
             walk: Some(walk),
             next: None,
         })
     }
 
-    /// Takes the next tile from the walks, of which one after the other is made. The only error is out of memory; nothing is passed over
+    /// Takes the next tile from the walk, or from that of the next zoom which has one. The only error is out of memory; no tile is lost
     /// then.
     fn take_next(
         &mut self,
@@ -84,7 +84,7 @@ impl Left {
         Ok(tile)
     }
 
-    /// Sees to it that the next tile is there, if one is left. The only error is out of memory; nothing is passed over then.
+    /// Fills `next`, if it is empty and a tile is left. The only error is out of memory; no tile is lost then.
     pub(crate) fn look_ahead(
         &mut self,
         alloc: Global,
