@@ -1,5 +1,5 @@
 -- The boxes that the features of a map have at a zoom: one feature after the other, and what a tile shows by them.
-use Rattle.std.proofs.Common.{◌≡◌, ◌≢◌, ℕ, zero, suc, ◌^◌, ◌<◌, ◌≤◌, Bool, true, false, cond, List, [], ◌∷◌, ◌++◌, length, get_or, map, All}
+use Rattle.std.proofs.Common.{◌≡◌, ◌≢◌, ℕ, zero, suc, ◌^◌, ◌<◌, Bool, true, false, cond, List, [], ◌∷◌, ◌++◌, length, get_or, map}
 use Rattle.std.proofs.Common.{IsSome, is_some, inl, inr, ◌⊎◌, refl, sym, ap, subst, ◌∙◌, append_assoc, arith, Option, None}
 use mathlib.Core.Bool.{false≢true}
 use Rattle.std.specs.List.{filter, AllByRecursion, Contains}
@@ -15,7 +15,6 @@ use Rattle.number_map.proofs.Entries.{ascends_head, ascends_tail}
 use Rattle.feature_model.specs.Data.{FeatureData}
 use Rattle.mvt_layer.specs.Tile.{FeatureView}
 use Rattle.tile_cutter.specs.Covered.{covered}
-use Rattle.tile_cutter.specs.Covered.{IsInRange}
 use Rattle.tile_cutter.specs.Cut.{has_zoom, feature_cut}
 use Rattle.tile_cutter.proofs.Outside.{outside}
 use Rattle.tile_walk.specs.declared.numbered.Numbered.{Numbered}
@@ -84,7 +83,8 @@ module _ (z : ℕ) where
     where
       by : (b : Bool) → shown d ≡ b → (Contains m e → Contains (boxes (filter shown m)) (box_of z e)) → (i : ℕ) → i < length (d ∷ m)
           → get_or (d ∷ m) i e ≡ e → Contains (boxes (cond b (d ∷ filter shown m) (filter shown m))) (box_of z e)
-      by true here more zero lt same = subst (λ b. Contains (box_of z d ∷ boxes (filter shown m)) b) (ap (box_of z) same) (contains_here (box_of z d) (boxes (filter shown m)))
+      by true here more zero lt same =
+          subst (Contains (box_of z d ∷ boxes (filter shown m))) (ap (box_of z) same) (contains_here (box_of z d) (boxes (filter shown m)))
       by true here more (suc i) lt same = contains_on (box_of z d) (boxes (filter shown m)) (box_of z e) (more (i, omega arith, same))
       by false away more zero lt same = absurd (false≢true (sym away ∙ ap shown same ∙ is))
       by false away more (suc i) lt same = more (i, omega arith, same)

@@ -160,7 +160,8 @@ none_begun m = record {
 }
 
 -- where none is left of the zooms that were begun, the next zoom's are all
-pub next_zoom : (m : FeatureMap) (end from : ℕ) → AreLeft m end from [] → (ts : List (ℕ × List ℕ)) → AreTilesOf end (boxes_at end m) ts → AreLeft m (end + 1) from ts
+pub next_zoom : (m : FeatureMap) (end from : ℕ) → AreLeft m end from [] → (ts : List (ℕ × List ℕ)) → AreTilesOf end (boxes_at end m) ts
+    → AreLeft m (end + 1) from ts
 next_zoom m end from left ts are = record {
   ascending = are.ascending;
   each = All-weaker (IsTileOf end (boxes_at end m)) (λ t. (from ≤ t.0) × IsTileBelow m (end + 1) t)

@@ -22,7 +22,7 @@ pub record AreLeft (m : FeatureMap) (end from : ℕ) (ts : List (ℕ × List ℕ
       → Contains (keys_of ts) id
   pub reach : from ≤ first_id end
 
--- whatever is left before, those tiles are left after
+-- where the first tiles are those left from some id on, of the zooms below `end`, the new ones are too, of the zooms below `new_end`
 abbrev pub AllStay : FeatureMap → (end : ℕ) (old : List (ℕ × List ℕ)) (new_end : ℕ) (new : List (ℕ × List ℕ)) → Type 0
 AllStay m end old new_end new = (from : ℕ) → AreLeft m end from old → AreLeft m new_end from new
 

@@ -1,5 +1,5 @@
 -- How a walk over the tiles of a map is kept.
-use Rattle.std.specs.Prelude.{ℕ, ◌+◌, ◌≤◌}
+use Rattle.std.specs.Prelude.{◌+◌, ◌≤◌}
 use Rattle.feature_model.specs.declared.limits.TheConstants.{GREATEST_ZOOM}
 use Rattle.feature_store.specs.declared.all_tiles.Tiles.TheInside.{Inside}
 use Rattle.feature_store.specs.Inside.{entries_data}

@@ -202,8 +202,7 @@ impl Store {
     }
 
     /// The tiles that show something of the map, in ascending order of their ids, each with its bytes (Mapbox Vector Tile 2.1) and
-    /// made when it is asked for: `pairs` isn't called, and of the tiles that are left at most one is found before. The only error is
-    /// out of memory.
+    /// made when it is asked for, without a list of them. The only error is out of memory.
     pub fn tiles(&self) -> Result<Tiles<'_>, AllocError>
         ensures map { IfOk result (λ tiles. tiles.features ≡ self.now.features) }
         ensures start { IfOk result (λ tiles. tiles.from ≡ 0) }

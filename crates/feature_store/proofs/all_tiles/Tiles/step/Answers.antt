@@ -1,4 +1,4 @@
-use Rattle.std.proofs.Common.{◌≡◌, ◌∷◌, ℕ, List, Option, Vec, Global, refl, sym, subst, arith}
+use Rattle.std.proofs.Common.{◌≡◌, ℕ, List, Option, Vec, Global, refl, sym, subst, arith}
 use Rattle.std.specs.Option.{option_map}
 use Rattle.feature_store.specs.Indexed.{ShowsAll}
 use Rattle.feature_store.specs.Inside.{entries_data}

@@ -1,4 +1,4 @@
-use Rattle.std.proofs.Common.{◌≡◌, List, ℕ, sym, ap, ◌∙◌}
+use Rattle.std.proofs.Common.{◌≡◌, sym, ap, ◌∙◌}
 use Rattle.feature_store.specs.Inside.{entries_data}
 use Rattle.feature_store.specs.Left.{left_of, with_next}
 use Rattle.feature_store.proofs.Zooms.{stay_same, stay_with, stay_ahead, is_nothing}
