@@ -12,6 +12,7 @@ mod positions;
 mod refusals;
 mod replies;
 mod searches;
+pub mod status;
 mod writes;
 
 pub use connection::{End, MOST_READS, ServeFault, Served, serve, serve_turns};
