@@ -1,6 +1,5 @@
--- How long the head of a reply may be.
-use Rattle.std.proofs.Common.{◌≡◌, ◌++◌, ◌∙◌, ap, append_assoc, sym, ◌≤◌, ℕ, List, [], Option, Bool, true, false, cond, ◌==◌, length}
-use Rattle.std.proofs.Common.{unwrap_or, if◌then◌else◌, lit≤}
+-- Texts that are added in sequence.
+use Rattle.std.proofs.Common.{◌≡◌, ◌++◌, ◌∙◌, ap, append_assoc, sym, ℕ, List, Bool, false, cond}
 
 -- three texts are added in sequence
 pub three_added : (front a b c x y z : List ℕ) → x ≡ front ++ a → y ≡ x ++ b → z ≡ y ++ c → z ≡ front ++ (a ++ b ++ c)

@@ -1,6 +1,6 @@
 -- Replies, and their bytes.
 use Rattle.std.specs.Prelude.{ℕ, List, [], ◌∷◌, ◌++◌, ◌==◌, ◌||◌, Bool, true, false, nat_eq, cond, length, codes, decimal, Option, Some, None, option_map}
-use Rattle.std.specs.Prelude.{unwrap_or, IfSome, ◌≤◌, ◌≡◌, ◌+◌, take, drop, ⊤}
+use Rattle.std.specs.Prelude.{IfSome, ◌≤◌, ◌≡◌, ◌+◌, take, drop, ⊤}
 use Rattle.status_phrase.specs.Phrases.{phrase_of}
 use Rattle.std.specs.Cmp.Lexicographic.{pointwise}
 use Rattle.httparse.specs.Grammar.{RequestHead}

@@ -7,7 +7,7 @@ use crate::{Content, Reply, status};
 
 /// Why bytes begin with no request: the first reason that applies.
 #[derive(Clone, Copy, Debug, PartialEq, Eq)]
-pub enum Refusal {
+pub(crate) enum Refusal {
     /// There is no head.
     Head,
     /// An HTTP/1.1 head has no host, or more than one.
