@@ -30,7 +30,7 @@ zeros zero at = refl
 zeros (suc n) zero = refl
 zeros (suc n) (suc at) = zeros n at
 
-marked_more : (m : Mark) (marks : List Mark) (n : ℕ) → IsZeroOrMarked marks n → IsZeroOrMarked (m ∷ marks) n
+pub marked_more : (m : Mark) (marks : List Mark) (n : ℕ) → IsZeroOrMarked marks n → IsZeroOrMarked (m ∷ marks) n
 marked_more m marks n (inl is) = inl is
 marked_more m marks n (inr is) = inr (Contains-append_right (m.1 ∷ []) (map (λ (k : Mark). k.1) marks) n is)
 
@@ -99,19 +99,14 @@ common_cell b zoom column row whole has reaches =
 
 -- ---- the greatest number of the cells of a tile
 
-pub newest_of : (cells : List ℕ) (marks : List Mark) (zoom column row n : ℕ) → IsNewestOf cells zoom column row n → Remembers cells marks
-    → IsNewest marks zoom column row n
-newest_of cells marks zoom column row n newest remembers = record {
-  reached = each marks (λ across down. remembers.reached across down);
-  only = only newest.found;
-}
+-- the number of each mark that reaches the tile is at most that of a cell that the tile's box touches
+pub reached_at_most : (cells : List ℕ) (marks : List Mark) (zoom column row n : ℕ)
+    → ((across down : ℕ) → HasCell (cells_of (shown_box zoom column row)) across down → cell_at cells across down ≤ n) → Remembers cells marks
+    → All (λ (m : Mark). Reaches m.0 zoom column row → m.1 ≤ n) marks
+reached_at_most cells marks zoom column row n most remembers = each marks (λ across down. remembers.reached across down)
   where
     whole : Corners
     whole = shown_box zoom column row
-
-    only : IsZeroOrCell cells (cells_of whole) n → IsZeroOrMarked marks n
-    only (inl is) = inl is
-    only (inr one) = subst (IsZeroOrMarked marks) (sym one.3) (remembers.only (32 * one.1 + one.0))
 
     each : (ms : List Mark) → ((across down : ℕ) → All (λ (m : Mark). Touches m.0 across down → m.1 ≤ cell_at cells across down) ms)
         → All (λ (m : Mark). Reaches m.0 zoom column row → m.1 ≤ n) ms
@@ -119,5 +114,16 @@ newest_of cells marks zoom column row n newest remembers = record {
     each (m ∷ ms) all = All-cons (λ (k : Mark). Reaches k.0 zoom column row → k.1 ≤ n) m ms
         (λ reaches. let cell = common_cell m.0 zoom column row whole (shown_whole zoom column row) reaches in
         let below = All-head (λ (k : Mark). Touches k.0 cell.0 cell.1 → k.1 ≤ cell_at cells cell.0 cell.1) m ms (all cell.0 cell.1) in
-        omega (arith, below cell.2, newest.reached cell.0 cell.1 cell.3))
+        omega (arith, below cell.2, most cell.0 cell.1 cell.3))
         (each ms (λ across down. All-tail (λ (k : Mark). Touches k.0 across down → k.1 ≤ cell_at cells across down) m ms (all across down)))
+
+pub newest_of : (cells : List ℕ) (marks : List Mark) (zoom column row n : ℕ) → IsNewestOf cells zoom column row n → Remembers cells marks
+    → IsNewest marks zoom column row n
+newest_of cells marks zoom column row n newest remembers = record {
+  reached = reached_at_most cells marks zoom column row n newest.reached remembers;
+  only = only newest.found;
+}
+  where
+    only : IsZeroOrCell cells (cells_of (shown_box zoom column row)) n → IsZeroOrMarked marks n
+    only (inl is) = inl is
+    only (inr one) = subst (IsZeroOrMarked marks) (sym one.3) (remembers.only (32 * one.1 + one.0))
