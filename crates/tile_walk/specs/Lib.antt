@@ -1,2 +1,5 @@
 pub mod Boxes
+pub mod Inside
+pub mod Quarters
+pub mod Squares
 pub mod Walk

@@ -2,6 +2,9 @@
 #![tactic(auto)]
 
 mod numbered;
+mod quarter;
+mod square;
+mod squares;
 mod walk;
 
 pub use numbered::Numbered;

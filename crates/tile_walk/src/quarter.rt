@@ -1,0 +1,91 @@
+ghost use Rattle.std.specs.Prelude.{◌≡◌, ℕ, ◌<◌, ◌≤◌, ◌^◌, false, IfOk, MatchOption};
+ghost use Rattle.tile_walk.specs.Boxes.{has};
+ghost use Rattle.tile_walk.specs.Quarters.{order_of, placed, ArePlaced, IsPlaced, IsApart};
+
+use crate::numbered::Numbered;
+use std::alloc::{AllocError, Global};
+use tile_cutter::TileRange;
+
+/// A quarter of a square, by its place along the curve.
+#[derive(Clone, Copy, Debug)]
+pub(crate) enum Quarter {
+    /// The upper left one, with columns and rows exchanged.
+    First,
+    /// The lower left one.
+    Second,
+    /// The lower right one.
+    Third,
+    /// The upper right one, with columns and rows exchanged and both counted backwards.
+    Fourth,
+}
+
+/// How many quarters the curve goes through before this one.
+pub(crate) fn order_of(quarter: Quarter) -> u64
+    ensures order { result ≡ order_of quarter }
+    ensures few { result ≤ 3 }
+{
+    match quarter {
+        Quarter::First => 0,
+        Quarter::Second => 1,
+        Quarter::Third => 2,
+        Quarter::Fourth => 3,
+    }
+}
+
+/// A range of a square in the columns and rows of a quarter, whose side is `half`. `None` if it has no tile there.
+fn range_in(quarter: Quarter, half: u32, range: TileRange) -> Option<TileRange>
+    requires half { (0 < half) × (half ≤ 2 ^ 30) }
+    ensures placed { MatchOption result (IsApart quarter half range) (λ r. IsPlaced quarter half range r) }
+{
+    match quarter {
+        Quarter::First if range.x0 < half && range.y0 < half => Some(TileRange {
+            x0: range.y0,
+            x1: range.y1,
+            y0: range.x0,
+            y1: range.x1,
+        }),
+        Quarter::Second if range.x0 < half && range.y1 >= half => Some(TileRange {
+            x0: range.x0,
+            x1: range.x1,
+            y0: range.y0.saturating_sub(half),
+            y1: range.y1 - half,
+        }),
+        Quarter::Third if range.x1 >= half && range.y1 >= half => Some(TileRange {
+            x0: range.x0.saturating_sub(half),
+            x1: range.x1 - half,
+            y0: range.y0.saturating_sub(half),
+            y1: range.y1 - half,
+        }),
+        Quarter::Fourth if range.x1 >= half && range.x0 < 2 * half && range.y0 < half => Some(
+            TileRange {
+                x0: (half - 1).saturating_sub(range.y1),
+                x1: half - 1 - range.y0,
+                y0: (2 * half - 1).saturating_sub(range.x1),
+                y1: 2 * half - 1 - range.x0,
+            },
+        ),
+        _ => None,
+    }
+}
+
+/// The boxes of a square that have tiles in a quarter, in its columns and rows. The only error is out of memory.
+pub(crate) fn boxes_in(
+    alloc: Global,
+    quarter: Quarter,
+    half: u32,
+    boxes: &[Numbered],
+) -> Result<Vec<Numbered>, AllocError>
+    requires half { (0 < half) × (half ≤ 2 ^ 30) }
+    ensures { IfOk result (λ v. ArePlaced quarter half boxes.now v.items) }
+{
+    let mut placed = Vec::new(alloc);
+    for numbered in boxes {
+        if let Some(range) = range_in(quarter, half, numbered.range) {
+            placed.push(Numbered {
+                range,
+                number: numbered.number,
+            })?;
+        }
+    }
+    Ok(placed)
+}
