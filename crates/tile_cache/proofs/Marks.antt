@@ -1,7 +1,8 @@
 -- What a grid remembers of marks.
 use Rattle.std.proofs.Common.{◌≡◌, ℕ, zero, suc, replicate, slice_index, ◌+◌, ◌-◌, ◌*◌, ◌^◌, ◌≤◌, ◌⊎◌, List, [], ◌∷◌}
 use Rattle.std.proofs.Common.{map, max, refl, sym, subst, inl, inr, arith}
-use Rattle.std.specs.Prelude.{All}
+use Rattle.std.specs.Prelude.{All, Bool, true, false, nat_le, if◌then◌else◌}
+use Rattle.feature_model.specs.declared.limits.TheConstants.{GREATEST_ZOOM}
 use Rattle.std.proofs.Math.ListN.{get_or}
 use Rattle.std.proofs.Math.Nat.{one-le-pow, mul-le-mul_right}
 use Rattle.std.proofs.lemmas.List.Elements.{All-nil, All-cons, All-head, All-tail, All-weaker, Contains-append_right}
@@ -10,7 +11,7 @@ use Rattle.tile_cutter.specs.declared.reach.Corners.{Corners}
 use Rattle.tile_cutter.specs.declared.coordinates.TheConstants.{EXTENT, MARGIN, WORLD_ZOOM}
 use Rattle.tile_cutter.specs.WorldBox.{tile_box, first_shown, last_shown}
 use Rattle.tile_cache.specs.Cells.{cell_at, cell_of, cells_of, HasCell, RisesTo, HasWhole, IsZeroOrCell}
-use Rattle.tile_cache.specs.Touched.{Mark, Reaches, Touches, IsZeroOrMarked, Remembers, IsNewest}
+use Rattle.tile_cache.specs.Touched.{Mark, Reaches, Touches, IsZeroOrMarked, Remembers, IsNewest, IsNewestOf, shown_box, world}
 
 either : {P Q R : Type 0} → (P → R) → (Q → R) → P ⊎ Q → R
 either f g (inl p) = f p
@@ -29,7 +30,7 @@ zeros zero at = refl
 zeros (suc n) zero = refl
 zeros (suc n) (suc at) = zeros n at
 
-marked_more : (m : Mark) (marks : List Mark) (n : ℕ) → IsZeroOrMarked marks n → IsZeroOrMarked (m ∷ marks) n
+pub marked_more : (m : Mark) (marks : List Mark) (n : ℕ) → IsZeroOrMarked marks n → IsZeroOrMarked (m ∷ marks) n
 marked_more m marks n (inl is) = inl is
 marked_more m marks n (inr is) = inr (Contains-append_right (m.1 ∷ []) (map (λ (k : Mark). k.1) marks) n is)
 
@@ -59,10 +60,17 @@ shown_rises zoom at =
     omega (arith, unit, mul-le-mul_right (2 ^ (WORLD_ZOOM - zoom)) near)
 
 -- the world has the whole of each tile's box
-pub whole_world : (zoom column row : ℕ)
-    → HasWhole (record { least = record { x = 0; y = 0 }; greatest = record { x = 2 ^ 32 - 1; y = 2 ^ 32 - 1 } }) (tile_box zoom column row)
+whole_world : (zoom column row : ℕ) → HasWhole world (tile_box zoom column row)
 unfolding tile_box
 whole_world zoom column row = record { left = omega arith; right = omega arith; top = omega arith; bottom = omega arith }
+
+-- so has the box that it shows
+shown_whole : (zoom column row : ℕ) → HasWhole (shown_box zoom column row) (tile_box zoom column row)
+shown_whole zoom column row = go (nat_le zoom GREATEST_ZOOM)
+  where
+    go : (b : Bool) → HasWhole (if b then tile_box zoom column row else world) (tile_box zoom column row)
+    go true = record { left = omega arith; right = omega arith; top = omega arith; bottom = omega arith }
+    go false = whole_world zoom column row
 
 -- of two overlapping ranges one cell is in both
 common : (a b c d : ℕ) → a ≤ b → c ≤ d → a ≤ d → c ≤ b → (n : ℕ) × (cell_of a ≤ n) × (n ≤ cell_of b) × (cell_of c ≤ n) × (n ≤ cell_of d)
@@ -91,20 +99,31 @@ common_cell b zoom column row whole has reaches =
 
 -- ---- the greatest number of the cells of a tile
 
-pub newest_of : (cells : List ℕ) (marks : List Mark) (zoom column row n : ℕ) (whole : Corners) → HasWhole whole (tile_box zoom column row)
-    → ((across down : ℕ) → HasCell (cells_of whole) across down → cell_at cells across down ≤ n) → IsZeroOrCell cells n → Remembers cells marks
-    → IsNewest marks zoom column row n
-newest_of cells marks zoom column row n whole has greatest found remembers = record {
-  reached = each marks (λ across down. remembers.reached across down);
-  only = either (λ (zero_is : n ≡ 0). inl zero_is) (λ (one : (at : ℕ) × (n ≡ get_or cells at 0)). subst (IsZeroOrMarked marks) (sym one.1)
-      (remembers.only one.0)) found;
-}
+-- the number of each mark that reaches the tile is at most that of a cell that the tile's box touches
+pub reached_at_most : (cells : List ℕ) (marks : List Mark) (zoom column row n : ℕ)
+    → ((across down : ℕ) → HasCell (cells_of (shown_box zoom column row)) across down → cell_at cells across down ≤ n) → Remembers cells marks
+    → All (λ (m : Mark). Reaches m.0 zoom column row → m.1 ≤ n) marks
+reached_at_most cells marks zoom column row n most remembers = each marks (λ across down. remembers.reached across down)
   where
+    whole : Corners
+    whole = shown_box zoom column row
+
     each : (ms : List Mark) → ((across down : ℕ) → All (λ (m : Mark). Touches m.0 across down → m.1 ≤ cell_at cells across down) ms)
         → All (λ (m : Mark). Reaches m.0 zoom column row → m.1 ≤ n) ms
     each [] all = All-nil (λ (m : Mark). Reaches m.0 zoom column row → m.1 ≤ n)
     each (m ∷ ms) all = All-cons (λ (k : Mark). Reaches k.0 zoom column row → k.1 ≤ n) m ms
-        (λ reaches. let cell = common_cell m.0 zoom column row whole has reaches in
+        (λ reaches. let cell = common_cell m.0 zoom column row whole (shown_whole zoom column row) reaches in
         let below = All-head (λ (k : Mark). Touches k.0 cell.0 cell.1 → k.1 ≤ cell_at cells cell.0 cell.1) m ms (all cell.0 cell.1) in
-        omega (arith, below cell.2, greatest cell.0 cell.1 cell.3))
+        omega (arith, below cell.2, most cell.0 cell.1 cell.3))
         (each ms (λ across down. All-tail (λ (k : Mark). Touches k.0 across down → k.1 ≤ cell_at cells across down) m ms (all across down)))
+
+pub newest_of : (cells : List ℕ) (marks : List Mark) (zoom column row n : ℕ) → IsNewestOf cells zoom column row n → Remembers cells marks
+    → IsNewest marks zoom column row n
+newest_of cells marks zoom column row n newest remembers = record {
+  reached = reached_at_most cells marks zoom column row n newest.reached remembers;
+  only = only newest.found;
+}
+  where
+    only : IsZeroOrCell cells (cells_of (shown_box zoom column row)) n → IsZeroOrMarked marks n
+    only (inl is) = inl is
+    only (inr one) = subst (IsZeroOrMarked marks) (sym one.3) (remembers.only (32 * one.1 + one.0))

@@ -1,11 +1,11 @@
 -- Numbers that rise, and the greatest of some.
-use Rattle.std.proofs.Common.{◌≡◌, ℕ, ◌+◌, ◌*◌, ◌<◌, ◌≤◌, ◌⊎◌, List, length, max, refl, sym, subst, ◌∙◌, inl, inr, arith}
+use Rattle.std.proofs.Common.{◌≡◌, ℕ, ◌+◌, ◌-◌, ◌*◌, ◌<◌, ◌≤◌, ◌⊎◌, List, length, max, refl, sym, ap, subst, ◌∙◌, inl, inr, arith}
 use Rattle.std.proofs.Math.ListN.{get_or, set}
 use Rattle.std.proofs.lemmas.List.{get_or-set_same, get_or-set_other, length-set}
 use Rattle.std.proofs.lemmas.Bool.{cases_eq, cases_lt}
 use Rattle.tile_cache.specs.declared.touch_grid.Cells.{Cells}
 use Rattle.tile_cache.specs.declared.touch_grid.TheConstants.{SIDE}
-use Rattle.tile_cache.specs.Cells.{cell_at, HasCell, RisesTo, IsZeroOrCell}
+use Rattle.tile_cache.specs.Cells.{cell_at, HasCell, RisesTo, IsZeroOrOneOf, IsZeroOrCell}
 
 either : {P Q R : Type 0} → (P → R) → (Q → R) → P ⊎ Q → R
 either f g (inl p) = f p
@@ -56,10 +56,22 @@ module _ (number : ℕ) where
       (λ (not_less : at ≤ row). let same : at ≡ row = omega (arith, lt, not_less) in
       here (SIDE * row + column) (omega (arith, same, has.left)) (omega (arith, same, has.right))) (cases_lt row at)
 
--- the greatest so far, and one number more
-pub zero_or_max : (cells : List ℕ) (m n : ℕ) → IsZeroOrCell cells m → IsZeroOrCell cells n → IsZeroOrCell cells (max m n)
-zero_or_max cells m n p q =
-    either (λ (is : max m n ≡ m). subst (IsZeroOrCell cells) (sym is) p) (λ (is : max m n ≡ n). subst (IsZeroOrCell cells) (sym is) q) (max_is m n)
+-- what is so of two numbers is so of the greater
+pub of_max : (P : ℕ → Type 0) (m n : ℕ) → P m → P n → P (max m n)
+of_max P m n p q = either (λ (is : max m n ≡ m). subst P (sym is) p) (λ (is : max m n ≡ n). subst P (sym is) q) (max_is m n)
+
+-- one of the numbers of a row of cells
+pub row_cell : (cells : List ℕ) (range : Cells) (row n : ℕ) → range.top ≤ row → row ≤ range.bottom
+    → IsZeroOrOneOf cells (SIDE * row + range.left) (SIDE * row + range.right + 1) n → IsZeroOrCell cells range n
+row_cell cells range row n top bottom (inl is) = inl is
+row_cell cells range row n top bottom (inr one) =
+    let column : ℕ = one.0 - SIDE * row in
+    let place : one.0 ≡ SIDE * row + column = omega (arith, one.1) in inr (
+      column,
+      row,
+      record { left = omega (arith, one.1); right = omega (arith, one.1, one.2); top = top; bottom = bottom },
+      one.3 ∙ ap (λ at. get_or cells at 0) place,
+    )
 
 pub reached_more : (cells : List ℕ) (first at newest : ℕ) → ((i : ℕ) → first ≤ i → i < at → get_or cells i 0 ≤ newest)
     → (i : ℕ) → first ≤ i → i < at + 1 → get_or cells i 0 ≤ max (get_or cells at 0) newest

@@ -36,14 +36,18 @@ pub record RisesTo (number : ℕ) (old new : List ℕ) : Type 0 where
   pub rises : (at : ℕ) → slice_index old at ≤ slice_index new at
   pub only : (at : ℕ) → (slice_index new at ≡ slice_index old at) ⊎ (slice_index new at ≡ number)
 
--- 0, or the number of a cell
-abbrev pub IsZeroOrCell : List ℕ → ℕ → Type 0
-IsZeroOrCell cells n = (n ≡ 0) ⊎ ((at : ℕ) × (n ≡ slice_index cells at))
+-- 0, or one of the numbers from one place up to another
+abbrev pub IsZeroOrOneOf : List ℕ → (first end : ℕ) → ℕ → Type 0
+IsZeroOrOneOf cells first end n = (n ≡ 0) ⊎ ((at : ℕ) × (first ≤ at) × (at < end) × (n ≡ slice_index cells at))
+
+-- 0, or the number of one of these cells
+abbrev pub IsZeroOrCell : List ℕ → Cells → ℕ → Type 0
+IsZeroOrCell cells range n = (n ≡ 0) ⊎ ((column : ℕ) × (row : ℕ) × HasCell range column row × (n ≡ cell_at cells column row))
 
 -- the greatest of the numbers of these cells
 pub record IsGreatestIn (cells : List ℕ) (range : Cells) (n : ℕ) : Type 0 where
   pub reached : (column row : ℕ) → HasCell range column row → cell_at cells column row ≤ n
-  pub found : (n ≡ 0) ⊎ ((column : ℕ) × (row : ℕ) × HasCell range column row × (n ≡ cell_at cells column row))
+  pub found : IsZeroOrCell cells range n
 
 -- a box has the whole of another
 pub record HasWhole (outer inner : Corners) : Type 0 where

@@ -1,5 +1,5 @@
 -- What a cache of tiles keeps.
-use Rattle.std.specs.Prelude.{◌≡◌, ℕ, Bool, true, false, cond, ◌&&◌, ◌||◌, ◌⊎◌, ◌≤◌, List, length, sum_by, Option, Some, None, nat_le, nat_eq}
+use Rattle.std.specs.Prelude.{◌≡◌, ℕ, Bool, true, false, cond, ◌&&◌, ◌⊎◌, ◌≤◌, List, length, sum_by, Option, Some, None, nat_le, nat_eq}
 use Rattle.std.specs.Map.{lookup}
 use Rattle.tile_cache.specs.declared.kept_tiles.TheConstants.{MOST_BYTES_OF_ONE}
 use Rattle.tile_cache.specs.declared.kept_tiles.KeptTile.{KeptTile}

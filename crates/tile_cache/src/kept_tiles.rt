@@ -1,4 +1,8 @@
 ghost use Rattle.std.specs.Prelude.{◌≡◌, ◌+◌, ◌<◌, ◌≤◌, [], length, Some, OnOk, OnErr, IfOk, option_map};
+ghost use Rattle.std.specs.Option.{option_map_or};
+ghost use Rattle.lru.specs.LruCache.{lru_cache, put_entries};
+ghost use Rattle.tile_cache.specs.Kept.{counts, is_place, IsSmall};
+ghost use Rattle.tile_cache.specs.Entries.{bytes_of, IsFirstSmall, IsFront};
 
 use hilbert_id::TileAt;
 use lru::LruCache;
@@ -13,7 +17,7 @@ pub const MOST_TILES_KEPT: usize = 256;
 pub const MOST_BYTES_KEPT: usize = 67_108_864;
 
 /// The most bytes of a tile that is kept: a quarter of all.
-pub const MOST_BYTES_OF_ONE: usize = 16_777_216;
+pub const MOST_BYTES_OF_ONE: usize = MOST_BYTES_KEPT / 4;
 
 /// A zoom, a column and a row.
 #[derive(Clone, Copy, Debug, PartialEq, Eq, Hash)]
@@ -71,8 +75,66 @@ fn place_of(at: TileAt) -> Place
     }
 }
 
+/// Whether bytes from there count, where those that were read may not.
+fn counts(origin: Origin, reads: bool) -> bool
+    ensures { result ≡ counts reads origin }
+{
+    match origin {
+        Origin::Cut => true,
+        Origin::Read => reads,
+    }
+}
+
+/// How many bytes the tile that gave way had, if one did.
+fn bytes_freed(displaced: Option<(Place, KeptTile)>) -> usize
+    ensures { result ≡ option_map_or (λ e. length e.1.bytes.items) displaced 0 }
+{
+    match displaced {
+        Some((_, tile)) => tile.bytes.len(),
+        None => 0,
+    }
+}
+
+/// Puts a tile first, and returns how many bytes all have together then.
+fn put_first(
+    tiles: &mut LruCache<Place, KeptTile>,
+    bytes: usize,
+    place: Place,
+    tile: KeptTile,
+) -> Result<usize, AllocError>
+    requires count { bytes ≡ bytes_of tiles.old.entries }
+    requires cap { length tiles.old.entries ≤ tiles.old.cap }
+    requires most { bytes ≤ MOST_BYTES_KEPT }
+    requires small { IsSmall tile.bytes.items }
+    ensures entries { OnOk result (tiles.new ≡ lru_cache (put_entries is_place tiles.old place tile) tiles.old.cap) }
+    ensures count { IfOk result (λ n. n ≡ bytes_of tiles.new.entries) }
+    ensures most { IfOk result (λ n. n ≤ bytes + length tile.bytes.items) }
+    ensures refused { OnErr result (tiles.new ≡ tiles.old) }
+{
+    let size = tile.bytes.len();
+    match tiles.push(place, tile) {
+        Ok(displaced) => Ok(bytes + size - bytes_freed(displaced)),
+        Err(_) => Err(AllocError),
+    }
+}
+
+/// Lets tiles go, the one asked for longest ago first, until the others have few enough bytes together. Returns how many they have.
+fn drop_oldest(tiles: &mut LruCache<Place, KeptTile>, mut bytes: usize) -> usize
+    requires count { bytes ≡ bytes_of tiles.old.entries }
+    requires first { IsFirstSmall tiles.old.entries }
+    ensures front { IsFront tiles.old tiles.new }
+    ensures count { result ≡ bytes_of tiles.new.entries }
+    ensures most { result ≤ MOST_BYTES_KEPT }
+    ensures same { bytes ≤ MOST_BYTES_KEPT → tiles.new ≡ tiles.old }
+{
+    while bytes > MOST_BYTES_KEPT {
+        bytes -= bytes_freed(tiles.pop_lru());
+    }
+    bytes
+}
+
 impl TileCache {
-    ghost use Rattle.tile_cache.specs.Kept.{kept_at, fresh, bytes_in, tile_view, IsSmall, KeepsSame, KeepsOthers, KeepsFewer};
+    ghost use Rattle.tile_cache.specs.Kept.{kept_at, fresh, bytes_in, tile_view, KeepsSame, KeepsOthers, KeepsFewer};
 
     /// Keeps nothing yet.
     pub fn new(alloc: Global) -> Result<TileCache, AllocError>
@@ -97,7 +159,19 @@ impl TileCache {
     pub fn peek(&self, at: TileAt, newest: u64, reads: bool) -> Option<&[u8]>
         ensures { option_map (λ b. b.now) result ≡ fresh newest reads (kept_at self.now at.z at.x at.y) }
     {
-        todo
+        let place = place_of(at);
+        match self.tiles.peek(&place) {
+            Some(kept) => {
+                if kept.number < newest {
+                    return None;
+                }
+                if !counts(kept.origin, reads) {
+                    return None;
+                }
+                Some(&kept.bytes)
+            }
+            None => None,
+        }
     }
 
     /// Keeps a tile, if it has at most `MOST_BYTES_OF_ONE` bytes; those asked for longest ago give way, as many as must.
@@ -114,6 +188,16 @@ impl TileCache {
         ensures most_bytes { bytes_in self.new ≤ MOST_BYTES_KEPT }
         ensures refused { OnErr result (self.new ≡ self.old) }
     {
-        todo
+        let before = self.bytes;
+        if tile.bytes.len() > MOST_BYTES_OF_ONE {
+            return Ok(());
+        }
+        match put_first(&mut self.tiles, before, place_of(at), tile) {
+            Ok(bytes) => {
+                self.bytes = drop_oldest(&mut self.tiles, bytes);
+                Ok(())
+            }
+            Err(fault) => Err(fault),
+        }
     }
 }

@@ -1,5 +1,5 @@
 ghost use Rattle.std.specs.Prelude.{◌≡◌, ℕ, ◌/◌, ◌<◌, ◌≤◌, ◌^◌, ◌∷◌, [], List, length, slice_index};
-ghost use Rattle.tile_cache.specs.Cells.{cell_at, cells_of, IsWithin, HasCell, RisesTo, IsGreatestIn};
+ghost use Rattle.tile_cache.specs.Cells.{cell_at, cells_of, IsWithin, HasCell, RisesTo, IsZeroOrOneOf, IsGreatestIn};
 ghost use Rattle.tile_cache.specs.Touched.{Mark, Remembers, IsNewest, IsNewestOf, shown_box};
 
 use box_index::WorldBox;
@@ -96,7 +96,7 @@ fn raise_cells(cells: &mut [u64], range: Cells, number: u64)
 fn greatest(cells: &[u64], first: usize, end: usize) -> u64
     requires { end ≤ length cells.now }
     ensures reached { (at : ℕ) → first ≤ at → at < end → slice_index cells.now at ≤ result }
-    ensures found { IsZeroOrCell cells.now result }
+    ensures found { IsZeroOrOneOf cells.now first end result }
 {
     let mut newest = 0;
     for at in first..end {

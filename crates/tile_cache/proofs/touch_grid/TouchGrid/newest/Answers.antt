@@ -2,6 +2,9 @@ use Rattle.tile_cache.proofs.Marks.{newest_of}
 use Rattle.tile_cache.proofs.touch_grid.TouchGrid.newest.Goals as goal
 
 pub returns : goal.returns
-returns c marks before =
-    newest_of c.self.inside.cells marks c.args.at.z c.args.at.x c.args.at.y c.greatest_of.result c.shown_by.result c.shown_by.ensures
-    (rw c.cells_of.ensures.cells at c.greatest_of.ensures.reached) c.greatest_of.ensures.found (rw c.self.view_is before)
+returns c =
+    let of_shown = rw c.shown_by.ensures at (rw c.cells_of.ensures.cells at c.greatest_of.ensures) in
+    let of_cells = rw c.self.view_is at of_shown in record {
+      marked = λ marks before. newest_of c.args.self.now marks c.args.at.z c.args.at.x c.args.at.y c.greatest_of.result of_cells before;
+      of_cells = of_cells;
+    }
