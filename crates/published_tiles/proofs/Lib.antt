@@ -1,2 +1,1 @@
-pub mod KeptLaws
 pub mod PublishedLaws

@@ -1,8 +1,35 @@
--- The archive on a disk, and its caches.
-use Rattle.std.proofs.Common.{◌≡◌, ◌∙◌, ℕ, ◌<◌, List, length, Option, Some, None, inl, inr, sym, ap, subst, arith}
+-- The archive on a disk, and its cached look-up.
+use Rattle.std.proofs.Common.{
+  ◌≡◌,
+  ◌∙◌,
+  ℕ,
+  ◌<◌,
+  List,
+  length,
+  Option,
+  Some,
+  None,
+  option_map,
+  Result,
+  Ok,
+  Err,
+  MatchResult,
+  Vec,
+  Global,
+  inl,
+  inr,
+  sym,
+  ap,
+  subst,
+  arith,
+}
 use Rattle.area_content.specs.Tiles.{AreTilesOf, IsArchiveOfMap}
+use Rattle.feature_store.specs.Content.{IsTileContent}
+use Rattle.feature_store.specs.Layers.{layers}
 use Rattle.feature_store.specs.Store.{FeatureMap}
+use Rattle.pm_archive.specs.Answers.{IsOutside}
 use Rattle.pm_archive.specs.Archive.{IsArchiveOf}
+use Rattle.pm_archive.specs.declared.fault.ArchiveFault.{ArchiveFault}
 use Rattle.sector_disk.specs.Disk.{History, seen}
 use Rattle.sector_bytes.specs.Bytes.{StandsIn}
 use Rattle.sector_bytes.specs.Source.{SourceView, AreItsBytes}
@@ -26,6 +53,13 @@ pub contents_of_map : (m : FeatureMap) (bytes : List ℕ) (len : ℕ) → length
 contents_of_map m bytes len long some (inl none) = let nothing = ap length none.1 in absurd (omega (arith, nothing, long, some))
 contents_of_map m bytes len long some (inr has) = (has.1.0, has.1.1, has.1.2)
 
+-- the content of a tile's id is that of the tile
+pub tile_told : (m : FeatureMap) (z x y : ℕ) (content : Option (List ℕ)) (r : Result (Option (Vec ℕ Global)) ArchiveFault)
+    → MatchResult r (λ found. option_map (λ v. v.items) found ≡ content) IsOutside → IsTileContent (layers m z x y) content
+    → MatchResult r (λ found. IsTileContent (layers m z x y) (option_map (λ v. v.items) found)) IsOutside
+tile_told m z x y content (Ok found) is tile = subst (IsTileContent (layers m z x y)) (sym is) tile
+tile_told m z x y content (Err fault) is tile = is
+
 -- the cached look-up belongs to no generation after this one
 opened_next : (o : Option OpenedView) (place next : ArchivePlace) (bytes : List ℕ) → IsOpenedUpTo place.generation o → place.generation < next.generation
     → IsOpenedOf next bytes o
@@ -37,12 +71,10 @@ opened_up_to : (o : Option OpenedView) (place next : ArchivePlace) → IsOpenedU
 opened_up_to None place next le later = tt
 opened_up_to (Some o) place next le later = omega (arith, le, later)
 
--- So the caches are valid for the archive of any later generation, and for its map: nothing cached belongs to it.
-pub published_next : (t : PublishedView) (place next : ArchivePlace) (m then : FeatureMap) (bytes last : List ℕ) → ArePublished t place m bytes
-    → place.generation < next.generation → ArePublished t next then last
-published_next t place next m then bytes last are later = record {
-  opened = opened_next t.opened place next last are.opened_up_to later;
-  tiles = λ z x y n b is from. absurd (omega (arith, are.kept_up_to z x y n b is, later, from));
-  opened_up_to = opened_up_to t.opened place next are.opened_up_to later;
-  kept_up_to = λ z x y n b is. omega (arith, are.kept_up_to z x y n b is, later);
+-- So the cached look-up is valid for any later archive: it doesn't belong to it.
+pub published_next : (t : PublishedView) (place next : ArchivePlace) (bytes last : List ℕ) → ArePublished t place bytes
+    → place.generation < next.generation → ArePublished t next last
+published_next t place next bytes last are later = record {
+  opened = opened_next t.opened place next last are.up_to later;
+  up_to = opened_up_to t.opened place next are.up_to later;
 }
