@@ -8,7 +8,7 @@ use Rattle.std.specs.Prelude.{Vec, Result, Ok, Err, IfOk, IfErr, OnOk, OnErr}
 use Rattle.http_serve.specs.declared.replies.Content.{Content}
 use Rattle.http_serve.specs.declared.replies.Content.TheVariants as contents
 use Rattle.http_serve.specs.declared.replies.Reply.{Reply}
-use Rattle.http_serve.specs.Reply.{ReplyView, IsWhole, InParts, FitsParts, content_bytes, reply_view, with_part}
+use Rattle.http_serve.specs.Reply.{ReplyView, IsWhole, HasShortWords, head_view, InParts, FitsParts, content_bytes, reply_view, with_part}
 use Rattle.http_serve.proofs.HandlerLemmas.{shown_reply, whole_reply, none_in_parts}
 use Rattle.http_serve.proofs.PartLemmas.{in_parts}
 use Rattle.sector_disk.specs.Disk.{History, seen, HasFailed}
@@ -102,6 +102,10 @@ whole_is P Q reply is meant = (reply_view [] reply, whole_reply reply is.1, mean
 pub whole_answer : (P Q : ReplyView → Type 0) (r : Result Reply RequestFault) → IsAnswered P r → IfOk r IsWhole → IsAnsweredInParts P Q r
 whole_answer P Q (Ok reply) meant is = whole_is P Q reply is meant
 whole_answer P Q (Err fault) meant is = meant
+
+pub whole_words : (r : Result Reply RequestFault) → IfOk r IsWhole → IfOk r (λ reply. HasShortWords (head_view reply))
+whole_words (Ok reply) is = is.0
+whole_words (Err fault) is = tt
 
 all_in_parts : (content : Content) (fact : Type 0) → fact → InParts content fact
 all_in_parts contents.Empty fact is = tt

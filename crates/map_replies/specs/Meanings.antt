@@ -8,9 +8,9 @@ use Rattle.tile_routes.specs.declared.method.Method.TheVariants.{Put, Delete}
 use Rattle.tile_routes.specs.declared.fault.RouteFault.{RouteFault}
 use Rattle.tile_routes.specs.declared.fault.RouteFault.TheVariants as routes
 use Rattle.tile_routes.specs.declared.target.Action.{Action}
-use Rattle.tile_routes.specs.declared.target.Action.TheVariants.{Edits, Publish, PublishBegin, PublishStep, PublishCancel}
+use Rattle.tile_routes.specs.declared.target.Action.TheVariants as actions
 use Rattle.tile_routes.specs.declared.target.View.{View}
-use Rattle.tile_routes.specs.declared.target.View.TheVariants.{Metadata, Archive}
+use Rattle.tile_routes.specs.declared.target.View.TheVariants as views
 use Rattle.tile_routes.specs.Methods.{method_on}
 use Rattle.tile_routes.specs.Paths.{Asked, asked_tile, asked_feature, asked_view, asked_action, asked_nothing, asked_by}
 use Rattle.feature_model.specs.Data.{FeatureData, EditData, put, delete}
@@ -114,16 +114,16 @@ MeansOnFeature failed version id method body = MeansCall (look id) (shown_reply 
 
 -- what GET and HEAD show
 abbrev pub MeansView : (failed : Type 0) → (old : Published) → View → Method → Option (List ℕ) → ReplyView → List Happening → Type 0
-MeansView failed old Metadata method range = MeansCall metadata (shown_reply metadata_reply)
-MeansView failed old Archive method range = OrNoMemory (MeansArchive failed old.archive_len (range_for method range))
+MeansView failed old views.Metadata method range = MeansCall metadata (shown_reply metadata_reply)
+MeansView failed old views.Archive method range = OrNoMemory (MeansArchive failed old.archive_len (range_for method range))
 
 -- what POST does
 abbrev pub MeansAction : (failed : Type 0) → (version : ℕ) → (old new : Published) → Action → List ℕ → ReplyView → List Happening → Type 0
-MeansAction failed version old new Edits body = MeansBatch failed version body
-MeansAction failed version old new Publish body = OrNoMemory (MeansPublish failed old new)
-MeansAction failed version old new PublishBegin body = OrNoMemory (MeansCall begin left_reply)
-MeansAction failed version old new PublishStep body = OrNoMemory (MeansChange failed step left_reply)
-MeansAction failed version old new PublishCancel body = OrNoMemory (MeansCall cancel cancel_reply)
+MeansAction failed version old new actions.Edits body = MeansBatch failed version body
+MeansAction failed version old new actions.Publish body = OrNoMemory (MeansPublish failed old new)
+MeansAction failed version old new actions.PublishBegin body = OrNoMemory (MeansCall begin left_reply)
+MeansAction failed version old new actions.PublishStep body = OrNoMemory (MeansChange failed step left_reply)
+MeansAction failed version old new actions.PublishCancel body = OrNoMemory (MeansCall cancel cancel_reply)
 
 -- a method that the path allows
 abbrev pub MeansAllowed : (failed : Type 0) → (version : ℕ) → (old new : Published) → Asked → Method → Option (List ℕ) → List ℕ

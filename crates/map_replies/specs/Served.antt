@@ -16,12 +16,12 @@ pub record ServesMap {D R W : Type 0} (sectors : D → ℕ) (honest : D → Type
     (old : MapReplies D) (reader : R) (writer : W) (result : Result Served ServeFault)
     (new : MapReplies D) (next_reader : R) (next_writer : W) : Type 0 where
   -- all requests of a known input are answered, unless the limit on reads was reached
-  pub input : IfOk result (λ end. AnswersInput (ServiceReplies sectors honest history faults) old (remaining reader) (contents writer) end
+  pub input : IfOk result (λ outcome. AnswersInput (ServiceReplies sectors honest history faults) old (remaining reader) (contents writer) outcome
       new (contents next_writer))
   -- The replies report what happens to the service, in order. A crash at any point of the connection leaves a prefix of the edits of this run:
   -- every edit acknowledged by then, and none requested later.
-  pub served : IfOk result (λ end. (run : List Happening)
-      × IsServed (Tells sectors honest history faults) (course old []) (remaining reader) (contents writer) end
+  pub served : IfOk result (λ outcome. (run : List Happening)
+      × IsServed (Tells sectors honest history faults) (course old []) (remaining reader) (contents writer) outcome
       (course new run) (remaining next_reader) (contents next_writer)
       × TakesRun sectors honest history (asked_service old) run (asked_service new))
   -- the same up to a fault of the connection
@@ -32,6 +32,6 @@ pub record ServesMap {D R W : Type 0} (sectors : D → ℕ) (honest : D → Type
   -- the fault is the disk's only while the archive is being sent
   pub content : IfErr result (HasContent (sending_size new))
   -- the limit on reads is reached only after that many reads
-  pub turns : IfOk result (λ end. MeetsTurns remaining limit reader next_reader end.end)
+  pub turns : IfOk result (λ outcome. MeetsTurns remaining limit reader next_reader outcome.end)
   -- no more reads are made
   pub reads : KeepsTurns limit result (remaining reader) (remaining next_reader)

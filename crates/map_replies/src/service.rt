@@ -2,7 +2,6 @@
 ghost use Rattle.std.specs.Prelude.{◌≡◌, IfOk, option_map};
 ghost use Rattle.http_serve.specs.declared.connection.TheConstants.{MOST_READS};
 ghost use Rattle.http_serve.specs.Reply.{head_view, HasShortWords, IsWhole};
-ghost use Rattle.tile_routes.specs.Methods.{method_on};
 ghost use Rattle.tile_routes.specs.Paths.{asked_view};
 ghost use Rattle.tile_routes.specs.Targets.{asked_of};
 ghost use Rattle.map_replies.specs.Meanings.{numbers_of, MeansOnFeature, MeansView, MeansAction, Answers, AnswersAllowed, AnswersMethod, DiskFailed};
@@ -72,7 +71,7 @@ impl<D: Sectors + Drop> MapReplies<D> {
     }
 
     /// Handles GET or HEAD of a view.
-    #[tactic(auto, using(crate::proofs::SendingLemmas::whole_answer))]
+    #[tactic(auto, using(crate::proofs::SendingLemmas::whole_answer, crate::proofs::SendingLemmas::whole_words))]
     fn on_view(
         &mut self,
         view: View,
@@ -111,7 +110,7 @@ impl<D: Sectors + Drop> MapReplies<D> {
     }
 
     /// Handles an allowed method on any target.
-    #[tactic(auto, using(crate::proofs::SendingLemmas::whole_answer))]
+    #[tactic(auto, using(crate::proofs::SendingLemmas::whole_answer, crate::proofs::SendingLemmas::whole_words))]
     fn allowed(
         &mut self,
         target: Target,
@@ -135,22 +134,22 @@ impl<D: Sectors + Drop> MapReplies<D> {
         }
     }
 
-    /// Handles the method with this name on any target.
+    /// Handles a method on any target, or one that the target refuses.
     fn respond(
         &mut self,
         target: Target,
-        name: &[u8],
+        method: Result<Method, RouteFault>,
         range: Option<&[u8]>,
         body: &[u8],
     ) -> Result<Reply, RequestFault>
         ensures answered { IsAnsweredInParts
-            (AnswersMethod D.sectors D.honest D.history D.faults (asked_of target) (method_on name.now (asked_of target))
+            (AnswersMethod D.sectors D.honest D.history D.faults (asked_of target) method
             (option_map (λ value. value.now) range.entry) body.now (asked_service self.old) (asked_service self.new))
-            (SendsMethod D.sectors D.honest D.history D.faults (asked_of target) (method_on name.now (asked_of target))
+            (SendsMethod D.sectors D.honest D.history D.faults (asked_of target) method
             (option_map (λ value. value.now) range.entry) (asked_service self.old) self.new.sending (asked_service self.new)) result }
         ensures words { IfOk result (λ reply. HasShortWords (head_view reply)) }
     {
-        match target.method(name) {
+        match method {
             Ok(method) => self.allowed(target, method, range, body),
             Err(RouteFault::NotFound) => Err(RequestFault::NotFound),
             Err(RouteFault::NotAllowed) => Ok(replies::not_allowed(target)),
@@ -171,7 +170,8 @@ impl<D: Sectors + Drop> Handler for MapReplies<D> {
 
     fn answer(&mut self, request: &Request<'_>) -> Reply {
         let target = self.routes.target(request.path);
-        match self.respond(target, request.method, request.range, request.body) {
+        let method = target.method(request.method);
+        match self.respond(target, method, request.range, request.body) {
             Ok(reply) => reply,
             Err(fault) => replies::refusal(fault),
         }

@@ -15,10 +15,10 @@ pub returns-in-Ok-clause-answered : goal.returns-in-Ok-clause-answered
 returns-in-Ok-clause-answered g c =
     let d = g.D.Sectors in
     let old = asked_service c.args.self.now in
-    let d = view c.in-Ok.value in
-    shown d.sectors d.honest d.history metadata metadata_reply old old d c.json_value.result
+    let value = view c.in-Ok.value in
+    shown d.sectors d.honest d.history metadata metadata_reply old old value c.json_value.result
     c.json_value.ensures.reply c.json_value.ensures.fault
-    (metadata_step d.sectors d.honest d.history old (got d) c.in-Ok.ensures.metadata)
+    (metadata_step d.sectors d.honest d.history old (got value) c.in-Ok.ensures.metadata)
     (metadata_step d.sectors d.honest d.history old no_memory tt)
 
 pub returns-in-Err-clause-answered : goal.returns-in-Err-clause-answered
