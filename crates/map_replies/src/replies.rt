@@ -1,8 +1,9 @@
 //! The replies of the service.
 ghost use Rattle.std.specs.Prelude.{◌≡◌, ◌≤◌, [], length, vec_capacity, IfOk, option_map};
 ghost use Rattle.http_serve.specs.Reply.{content_bytes, reply_view, InParts, IsWhole};
-ghost use Rattle.map_replies.specs.Words.{fault_word, service_word, edit_word, full_word, fault_status, service_status, edit_status, edit_body, edit_reply};
-ghost use Rattle.map_replies.specs.Words.{service_refusal, not_allowed_reply, json_reply, empty_reply, outcome_reply, left_body, left_reply};
+ghost use Rattle.map_replies.specs.Words.{fault_word, service_word, edit_word, full_word, fault_status, service_status, edit_status};
+ghost use Rattle.map_replies.specs.Words.{service_refusal, not_allowed_reply, json_reply, empty_reply, number_body, number_reply};
+ghost use Rattle.map_replies.specs.Words.{outcome_reply, left_reply};
 ghost use Rattle.map_replies.specs.Words.{published_body, published_reply, cancel_reply};
 ghost use Rattle.map_replies.specs.Words.{format_type, format_content, content_reply, tile_reply, refusal_of};
 ghost use Rattle.tile_routes.specs.Targets.{asked_of};
@@ -219,58 +220,55 @@ pub(crate) fn outcome_space(alloc: Global) -> Result<Vec<u8>, AllocError>
     Vec::with_capacity(alloc, MOST_TEXT)
 }
 
-/// The text with an edit's sequence number.
-#[tactic(auto, unfolding(crate::specs::Words::edit_body))]
-fn edit_body(text: Vec<u8>, number: u64) -> Vec<u8>
+/// The text of a JSON object with one number, which begins with `start`.
+#[tactic(auto, unfolding(crate::specs::Words::number_body))]
+fn number_body(text: Vec<u8>, start: &[u8], number: u64) -> Vec<u8>
+    requires start { length start.now ≤ 8 }
     requires empty { text.items ≡ [] }
     requires room { MOST_TEXT ≤ vec_capacity text }
-    ensures { result.items ≡ edit_body number }
+    ensures { result.items ≡ number_body start.now number }
 {
     let mut text = text;
-    push_text(&mut text, b"{\"edit\":");
+    push_text(&mut text, start);
     push_number(&mut text, number);
     push_text(&mut text, b"}");
     text
 }
 
+/// The reply with the outcome of a call that returns a number. It doesn't allocate.
+fn number(text: Vec<u8>, start: &[u8], outcome: Result<u64, ServiceFault>) -> Reply
+    requires start { length start.now ≤ 8 }
+    requires empty { text.items ≡ [] }
+    requires room { MOST_TEXT ≤ vec_capacity text }
+    ensures reply { reply_view [] result ≡ number_reply start.now outcome }
+    ensures writable { IsWhole result }
+{
+    match outcome {
+        Ok(number) => json(number_body(text, start, number)),
+        Err(fault) => service_refusal(text, fault),
+    }
+}
+
 /// The reply with the outcome of an edit. It doesn't allocate: an edit that was made is always reported.
+#[tactic(auto, unfolding(crate::specs::Words::edit_start))]
 pub(crate) fn outcome(text: Vec<u8>, outcome: Result<u64, ServiceFault>) -> Reply
     requires empty { text.items ≡ [] }
     requires room { MOST_TEXT ≤ vec_capacity text }
     ensures reply { reply_view [] result ≡ outcome_reply outcome }
     ensures writable { IsWhole result }
 {
-    match outcome {
-        Ok(number) => json(edit_body(text, number)),
-        Err(fault) => service_refusal(text, fault),
-    }
-}
-
-/// The text with how much of a publication is left.
-#[tactic(auto, unfolding(crate::specs::Words::left_body))]
-fn left_body(text: Vec<u8>, left: u64) -> Vec<u8>
-    requires empty { text.items ≡ [] }
-    requires room { MOST_TEXT ≤ vec_capacity text }
-    ensures { result.items ≡ left_body left }
-{
-    let mut text = text;
-    push_text(&mut text, b"{\"left\":");
-    push_number(&mut text, left);
-    push_text(&mut text, b"}");
-    text
+    number(text, b"{\"edit\":", outcome)
 }
 
 /// The reply with the outcome of the beginning or a step of a publication. It doesn't allocate.
+#[tactic(auto, unfolding(crate::specs::Words::left_start))]
 pub(crate) fn left(text: Vec<u8>, outcome: Result<u64, ServiceFault>) -> Reply
     requires empty { text.items ≡ [] }
     requires room { MOST_TEXT ≤ vec_capacity text }
     ensures reply { reply_view [] result ≡ left_reply outcome }
     ensures writable { IsWhole result }
 {
-    match outcome {
-        Ok(left) => json(left_body(text, left)),
-        Err(fault) => service_refusal(text, fault),
-    }
+    number(text, b"{\"left\":", outcome)
 }
 
 /// The text with what was published.
