@@ -13,8 +13,7 @@ ghost use Rattle.map_replies.specs.declared.replies.TheConstants.{MOST_TEXT};
 use crate::fault::RequestFault;
 use decimal_number::{MOST_DIGITS, push_number, push_text};
 use feature_model::EditFault;
-use http::StatusCode;
-use http_serve::{Content, Reply};
+use http_serve::{Content, Reply, status};
 use std::alloc::{AllocError, Global};
 use tile_routes::{Target, TileFormat};
 use tile_service::{Published, ServiceFault};
@@ -109,42 +108,42 @@ fn fault_word(fault: RequestFault) -> &'static [u8]
 }
 
 /// The status of a fault of an edit.
-fn edit_status(fault: EditFault) -> StatusCode
+fn edit_status(fault: EditFault) -> u16
     ensures { result ≡ edit_status fault }
 {
     match fault {
-        EditFault::Memory => StatusCode::SERVICE_UNAVAILABLE,
-        _ => StatusCode::BAD_REQUEST,
+        EditFault::Memory => status::SERVICE_UNAVAILABLE,
+        _ => status::BAD_REQUEST,
     }
 }
 
 /// The status of a refusal by the service.
-fn service_status(fault: ServiceFault) -> StatusCode
+fn service_status(fault: ServiceFault) -> u16
     ensures { result ≡ service_status fault }
 {
     match fault {
         ServiceFault::Limit(fault) => edit_status(fault),
-        ServiceFault::NotFound => StatusCode::NOT_FOUND,
-        ServiceFault::Memory => StatusCode::SERVICE_UNAVAILABLE,
+        ServiceFault::NotFound => status::NOT_FOUND,
+        ServiceFault::Memory => status::SERVICE_UNAVAILABLE,
         ServiceFault::Busy | ServiceFault::Idle | ServiceFault::NeedsUpgrade =>
-            StatusCode::CONFLICT,
+            status::CONFLICT,
         ServiceFault::TooManyTiles
         | ServiceFault::AreaFull { .. }
-        | ServiceFault::JournalFull { .. } => StatusCode::INSUFFICIENT_STORAGE,
+        | ServiceFault::JournalFull { .. } => status::INSUFFICIENT_STORAGE,
         ServiceFault::Broken | ServiceFault::NumbersSpent | ServiceFault::Device =>
-            StatusCode::INTERNAL_SERVER_ERROR,
+            status::INTERNAL_SERVER_ERROR,
     }
 }
 
 /// The status of a fault.
-fn fault_status(fault: RequestFault) -> StatusCode
+fn fault_status(fault: RequestFault) -> u16
     ensures { result ≡ fault_status fault }
 {
     match fault {
-        RequestFault::NotFound => StatusCode::NOT_FOUND,
-        RequestFault::Json => StatusCode::BAD_REQUEST,
+        RequestFault::NotFound => status::NOT_FOUND,
+        RequestFault::Json => status::BAD_REQUEST,
         RequestFault::Edit(fault) => edit_status(fault),
-        RequestFault::Memory => StatusCode::SERVICE_UNAVAILABLE,
+        RequestFault::Memory => status::SERVICE_UNAVAILABLE,
     }
 }
 
@@ -183,7 +182,7 @@ pub(crate) fn not_allowed(target: Target) -> Reply
     ensures writable { IsWhole result }
 {
     Reply {
-        status: StatusCode::METHOD_NOT_ALLOWED,
+        status: status::METHOD_NOT_ALLOWED,
         kind: Some("text/plain"),
         range: None,
         allow: Some(target.allow()),
@@ -198,7 +197,7 @@ pub(crate) fn json(text: Vec<u8>) -> Reply
     ensures writable { IsWhole result }
 {
     Reply::plain(
-        StatusCode::OK,
+        status::OK,
         Some("application/json"),
         Content::Whole(text),
     )
@@ -209,7 +208,7 @@ pub(crate) fn empty() -> Reply
     ensures reply { reply_view [] result ≡ empty_reply }
     ensures writable { IsWhole result }
 {
-    Reply::plain(StatusCode::NO_CONTENT, None, Content::Empty)
+    Reply::plain(status::NO_CONTENT, None, Content::Empty)
 }
 
 /// Empty text with capacity for each outcome.
@@ -344,7 +343,7 @@ fn some_tile(alloc: Global, format: TileFormat, bytes: Vec<u8>) -> Result<Reply,
 {
     let kind = format_type(format);
     let content = format_content(alloc, format, bytes)?;
-    Ok(Reply::plain(StatusCode::OK, Some(kind), Content::Whole(content)))
+    Ok(Reply::plain(status::OK, Some(kind), Content::Whole(content)))
 }
 
 /// The reply with a tile, or 204 if the tile is empty.
