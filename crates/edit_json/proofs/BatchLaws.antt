@@ -16,7 +16,8 @@ use Rattle.edit_json.specs.Asked.{asked_data}
 use Rattle.edit_json.specs.Json.{name_bytes, outline_of, json_of}
 use Rattle.edit_json.specs.Faults.{IsFeature}
 use Rattle.edit_json.specs.Batches.{AskedData, put_asked, delete_asked, asked_number, asked_json, asked_of, list_json, asks_json}
-use Rattle.edit_json.specs.Batches.{IsJsonChange, IsBatch, HasMembers, Asks, BeginsAsked, NumbersDiffer, IsSound, IsFirstAskedFault, IsFirstAsked, IsFirstBatchFault}
+use Rattle.edit_json.specs.Batches.{IsJsonChange, IsBatch, HasMembers, Asks, BeginsAsked, NumbersDiffer}
+use Rattle.edit_json.specs.Batches.{IsSound, IsFirstAskedFault, IsFirstAsked, IsFirstBatchFault}
 use Rattle.edit_json.proofs.FaultLaws.{feature-one, feature-faultless}
 
 -- ---- a value asks for one list of changes
