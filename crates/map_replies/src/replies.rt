@@ -125,8 +125,7 @@ fn service_status(fault: ServiceFault) -> u16
         ServiceFault::Limit(fault) => edit_status(fault),
         ServiceFault::NotFound => status::NOT_FOUND,
         ServiceFault::Memory => status::SERVICE_UNAVAILABLE,
-        ServiceFault::Busy | ServiceFault::Idle | ServiceFault::NeedsUpgrade =>
-            status::CONFLICT,
+        ServiceFault::Busy | ServiceFault::Idle | ServiceFault::NeedsUpgrade => status::CONFLICT,
         ServiceFault::TooManyTiles
         | ServiceFault::AreaFull { .. }
         | ServiceFault::JournalFull { .. } => status::INSUFFICIENT_STORAGE,
@@ -196,11 +195,7 @@ pub(crate) fn json(text: Vec<u8>) -> Reply
     ensures reply { reply_view [] result ≡ json_reply text.items }
     ensures writable { IsWhole result }
 {
-    Reply::plain(
-        status::OK,
-        Some("application/json"),
-        Content::Whole(text),
-    )
+    Reply::plain(status::OK, Some("application/json"), Content::Whole(text))
 }
 
 /// The reply without content.
