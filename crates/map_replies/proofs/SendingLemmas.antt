@@ -139,7 +139,7 @@ module _ {D : Type 0} (sectors : D → ℕ) (honest : D → Type 0) (history : D
       → ((archive : List ℕ) → ShowsArchive (history old.disk) old archive → honest next.disk → ReadsFrom archive (read at outcome))
       → Takes sectors honest history old (read at outcome) next
   reads_on old new next a b at x y outcome first second from = read_step sectors honest history old next
-      (second.changes.same ∙ ap (λ (s : ServiceView D). record s { disk = next.disk; published = next.published }) first.changes.same)
+      (second.changes.same ∙ ap (λ (s : ServiceView D). record s { disk = next.disk; published = next.published; kept = next.kept }) first.changes.same)
       (second.count ∙ first.count)
       (λ is_honest. first.stays_honest (second.stays_honest is_honest))
       (λ is_honest. second.changes.unwritten is_honest ∙ first.changes.unwritten (second.stays_honest is_honest))
@@ -155,8 +155,13 @@ module _ {D : Type 0} (sectors : D → ℕ) (honest : D → Type 0) (history : D
         → ((archive : List ℕ) → ShowsArchive (history old.disk) old archive → honest new.disk → ReadsFrom archive (read at outcome))
         → Takes sectors honest history old (read at outcome) new
     read_as at outcome from = read_step sectors honest history old new
-        (same ∙ ap (λ p. record old { disk = new.disk; published = p }) (sym (ap (λ (s : ServiceView D). s.published) same)))
-        count stays unwritten up at outcome from
+        (same ∙ (λ i. record old { disk = new.disk; published = published i; kept = kept i })) count stays unwritten up at outcome from
+      where
+        published : old.published ≡ new.published
+        published = sym (ap (λ (s : ServiceView D). s.published) same)
+
+        kept : old.kept ≡ new.kept
+        kept = sym (ap (λ (s : ServiceView D). s.kept) same)
 
     pub gives_bytes : (at size : ℕ) (bytes : List ℕ) → length bytes ≡ size
         → ((archive : List ℕ) → ShowsArchive (history old.disk) old archive → honest new.disk → bytes ≡ slice_range archive at (at + size))

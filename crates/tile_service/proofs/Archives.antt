@@ -9,10 +9,11 @@ use Rattle.sector_bytes.proofs.Laws.{stands_read}
 use Rattle.generations.specs.Areas.{area_start, sectors_of}
 use Rattle.sector_bytes.specs.Source.{AreItsBytes}
 use Rattle.area_content.specs.Tiles.{IsArchiveOfMap}
-use Rattle.cached_map.specs.Cached.{WasMap}
+use Rattle.cached_map.specs.Cached.{WasMap, AreReadRight}
 use Rattle.feature_store.specs.Layers.{layers}
 use Rattle.feature_store.specs.Store.{FeatureMap, snapshot}
 use Rattle.published_tiles.specs.Published.{PublishedView, ArePublished}
+use Rattle.tile_cache.specs.Kept.{CacheView}
 use Rattle.tile_service.specs.Service.{ServiceView, Publishes, IsUp, archive_of, shown_archive, ShowsArchive}
 use Rattle.tile_service.specs.Stored.{Stored, Keeps}
 use Rattle.tile_service.proofs.Bytes.{each_stands}
@@ -57,11 +58,11 @@ module _ {D : Type 0} (count : ℕ) (history : History) (stored : Stored) (servi
   archive_is_read first at n into is within read =
       read ∙ stands_read (seen history) first at n stored.archive (archive_stands first is) (omega (arith, within, up.archive_len_is))
 
-  -- The service continues if nothing was written, whatever it caches of the archive.
-  pub up_read : (disk : D) (kept : PublishedView) (sectors : ℕ) (later : History) → sectors ≡ count → later ≡ history
-      → ArePublished kept (archive_of service) stored.snapshot_map stored.archive
-      → IsUp sectors later stored (record service { disk = disk; published = kept })
-  up_read disk kept sectors later same_count same_history archived = record {
+  -- The service continues if nothing was written, whatever it caches.
+  pub up_read : (disk : D) (lookup : PublishedView) (kept : CacheView) (sectors : ℕ) (later : History) → sectors ≡ count → later ≡ history
+      → ArePublished lookup (archive_of service) stored.archive → AreReadRight service.features service.touched service.journal.last kept
+      → IsUp sectors later stored (record service { disk = disk; published = lookup; kept = kept })
+  up_read disk lookup kept sectors later same_count same_history archived reads = record {
     keeps = subst (λ (c : ℕ). Keeps c service.size stored later) (sym same_count)
         (subst (λ (h : History). Keeps count service.size stored h) (sym same_history) up.keeps);
     unbroken = up.unbroken;
@@ -77,11 +78,13 @@ module _ {D : Type 0} (count : ℕ) (history : History) (stored : Stored) (servi
     publication = subst (λ (h : History). IfSome service.publication (Publishes service.size stored h)) (sym same_history) up.publication;
     were = up.were;
     archived = archived;
+    reads = reads;
   }
 
   pub up_unwritten : (disk : D) (sectors : ℕ) (later : History) → sectors ≡ count → later ≡ history
       → IsUp sectors later stored (record service { disk = disk })
-  up_unwritten disk sectors later same_count same_history = up_read disk service.published sectors later same_count same_history up.archived
+  up_unwritten disk sectors later same_count same_history =
+      up_read disk service.published service.kept sectors later same_count same_history up.archived up.reads
 
   -- ---- tiles of the archive
 

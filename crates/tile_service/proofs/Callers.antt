@@ -11,7 +11,6 @@ use Rattle.feature_model.specs.Data.{FeatureData}
 use Rattle.feature_store.specs.Store.{feature_at}
 use Rattle.map_metadata.specs.Metadata.{IsMetadata}
 use Rattle.serde_json.specs.Data.{Data}
-use Rattle.published_tiles.specs.Published.{PublishedView}
 use Rattle.tile_service.specs.Machine.{ServiceState, OrMemory, Happening, Call, edit, begin, step, cancel, tile, look, metadata, read}
 use Rattle.tile_service.specs.Machine.{IfTold, AnswersEdit, AnswersBegin, AnswersStep, AnswersCancel, Happens, Runs}
 use Rattle.tile_service.specs.Runs.{IsDoubtful, happening_at, all_edits, way_of, Way, Progress, starts, progress_of, NoneInDoubt, Reaches}
@@ -95,7 +94,8 @@ module _ {D : Type 0} (sectors : D → ℕ) (honest : D → Type 0) (history : D
   }
 
   -- the archive that is shown stays where nothing is written, and neither its place nor its lengths change
-  same_archive : (old new : ServiceView D) → new ≡ record old { disk = new.disk; publication = new.publication; published = new.published }
+  same_archive : (old new : ServiceView D)
+      → new ≡ record old { disk = new.disk; publication = new.publication; published = new.published; kept = new.kept }
       → (honest new.disk → history new.disk ≡ history old.disk) → KeepsArchive honest history old new
   same_archive old new same unwritten = record {
     generation = ap (λ (s : ServiceView D). s.generation) same;
@@ -106,18 +106,28 @@ module _ {D : Type 0} (sectors : D → ℕ) (honest : D → Type 0) (history : D
   }
 
   with_published : (old new : ServiceView D) → new ≡ record old { publication = new.publication }
-      → new ≡ record old { disk = new.disk; publication = new.publication; published = new.published }
-  with_published old new same = subst (λ (d : D). new ≡ record old { disk = d; publication = new.publication; published = new.published })
-      (sym (ap (λ (s : ServiceView D). s.disk) same))
-      (subst (λ (kept : PublishedView). new ≡ record old { publication = new.publication; published = kept })
-      (sym (ap (λ (s : ServiceView D). s.published) same)) same)
+      → new ≡ record old { disk = new.disk; publication = new.publication; published = new.published; kept = new.kept }
+  with_published old new same = same
+      ∙ (λ i. record old { disk = disk i; publication = new.publication; published = published i; kept = kept i })
+    where
+      disk : old.disk ≡ new.disk
+      disk = sym (ap (λ (s : ServiceView D). s.disk) same)
+
+      published : old.published ≡ new.published
+      published = sym (ap (λ (s : ServiceView D). s.published) same)
+
+      kept : old.kept ≡ new.kept
+      kept = sym (ap (λ (s : ServiceView D). s.kept) same)
 
   -- what leaves all but what is read of the disk
-  module _ (old new : ServiceView D) (same : new ≡ record old { disk = new.disk; published = new.published }) (count : sectors new.disk ≡ sectors old.disk)
-      (stays : honest new.disk → honest old.disk) (unwritten : honest new.disk → history new.disk ≡ history old.disk) where
+  module _ (old new : ServiceView D) (same : new ≡ record old { disk = new.disk; published = new.published; kept = new.kept })
+      (count : sectors new.disk ≡ sectors old.disk) (stays : honest new.disk → honest old.disk) (unwritten : honest new.disk → history new.disk ≡ history old.disk) where
     shows_same : KeepsArchive honest history old new
-    shows_same = same_archive old new (subst (λ (p : Option PublicationView). new ≡ record old { disk = new.disk; publication = p; published = new.published })
-        (sym (ap (λ (s : ServiceView D). s.publication) same)) same) unwritten
+    shows_same = same_archive old new (same
+        ∙ (λ i. record old { disk = new.disk; publication = publication i; published = new.published; kept = new.kept })) unwritten
+      where
+        publication : old.publication ≡ new.publication
+        publication = sym (ap (λ (s : ServiceView D). s.publication) same)
 
     -- a tile that is shown reads the disk at most
     pub tile_step : (old.broken ≡ true → new.disk ≡ old.disk)

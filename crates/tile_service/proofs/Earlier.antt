@@ -3,7 +3,7 @@ use Rattle.std.proofs.Common.{◌≡◌, ◌⊎◌, inl, inr, ℕ, zero, suc, �
 use Rattle.std.proofs.Common.{refl, sym, ◌∙◌, ap, subst, arith, length-append}
 use Rattle.std.proofs.Math.Nat.{eq-or-lt_of_le}
 use Rattle.std.proofs.lemmas.List.{take-append-le, take_all, length-drop}
-use Rattle.cached_map.specs.Cached.{CachedView, WasMap}
+use Rattle.cached_map.specs.Cached.{AreReadRight, CachedView, WasMap}
 use Rattle.edit_text.specs.Recorded.{RecordedEdit}
 use Rattle.feature_store.specs.Store.{FeatureMap}
 use Rattle.tile_service.specs.After.{made, after}
@@ -70,3 +70,12 @@ since_on old room new journal number last same number_is since n was is =
 pub now_on : (new : CachedView) (number : ℕ) → new.last ≡ number → WasMap new.features new.touched new.last new.last new.features
     → WasMap new.features new.touched number number new.features
 now_on new number is now = subst (λ (l : ℕ). WasMap new.features new.touched l l new.features) is now
+
+-- and what was read and cached is right still
+pub right_on : (old room new : CachedView) (journal number : ℕ) → old.last ≡ journal → room ≡ record old { spare = room.spare } → new.last ≡ number
+    → (AreReadRight room.features room.touched room.last room.kept → AreReadRight new.features new.touched new.last new.kept)
+    → AreReadRight old.features old.touched journal old.kept → AreReadRight new.features new.touched number new.kept
+right_on old room new journal number last same number_is on right =
+    subst (λ (l : ℕ). AreReadRight new.features new.touched l new.kept) number_is
+    (on (subst (λ (v : CachedView). AreReadRight v.features v.touched v.last v.kept) (sym same)
+    (subst (λ (l : ℕ). AreReadRight old.features old.touched l old.kept) (sym last) right)))

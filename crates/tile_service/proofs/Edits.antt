@@ -12,7 +12,7 @@ use Rattle.edit_journal.specs.Appends.{ring_of, start_of, IsAt, AsBefore, ReadsA
 use Rattle.edit_journal.specs.declared.fault.JournalFault.{JournalFault}
 use Rattle.edit_journal.specs.declared.fault.JournalFault.TheVariants as journals
 use Rattle.edit_journal.specs.declared.journal.Journal.{Journal}
-use Rattle.cached_map.specs.Cached.{WasMap}
+use Rattle.cached_map.specs.Cached.{WasMap, AreReadRight}
 use Rattle.edit_text.specs.Recorded.{RecordedEdit, IsRecorded}
 use Rattle.feature_store.specs.Store.{FeatureMap, snapshot}
 use Rattle.published_tiles.specs.Published.{PublishedView, ArePublished}
@@ -150,12 +150,14 @@ module _ {D : Type 0} (sectors : D → ℕ) (history : D → History) (stored : 
         → ((n : ℕ) (was : FeatureMap) → WasMap service.features service.touched service.journal.last n was
         → WasMap after.features after.touched after.journal.last n was)
         → WasMap after.features after.touched after.journal.last after.journal.last after.features
+        → (AreReadRight service.features service.touched service.journal.last service.kept
+        → AreReadRight after.features after.touched after.journal.last after.kept)
         → after.version ≡ service.version → after.generation ≡ service.generation → after.snapshot_len ≡ service.snapshot_len
         → after.archive_len ≡ service.archive_len → after.publication ≡ service.publication → after.published ≡ service.published
         → after.broken ≡ service.broken
         → ReadsAsBefore (ring_of service.journal) service.journal.place service.journal.used (seen (history service.disk)) (seen (history new))
         → IsUp (sectors new) (history new) (with_edit stored e) after
-    up_with_edit after disk count size same is features since now_is version generation snapshot_len archive_len publication cached broken reads = record {
+    up_with_edit after disk count size same is features since now_is right version generation snapshot_len archive_len publication cached broken reads = record {
       keeps = subst (λ (c : ℕ). Keeps c after.size (with_edit stored e) (history new)) (sym count)
           (subst (λ (n : ℕ). Keeps (sectors service.disk) n (with_edit stored e) (history new)) (sym size) (keeps_edit after.journal same.0 same.1 is));
       unbroken = broken ∙ up.unbroken;
@@ -176,9 +178,10 @@ module _ {D : Type 0} (sectors : D → ℕ) (history : D → History) (stored : 
       were = were_one service.features service.touched service.journal.last after.features after.touched after.journal.last since now_is stored.edits
           stored.snapshot_map stored.since e
           (omega (arith, now.counts, edits, length-map (stored.since ++ e ∷ []) record_for, length-append stored.since (e ∷ []))) map_is up.were;
-      archived = subst (λ (t : PublishedView). ArePublished t (archive_of after) stored.snapshot_map stored.archive) (sym cached)
-          (subst (λ (p : ArchivePlace). ArePublished service.published p stored.snapshot_map stored.archive)
+      archived = subst (λ (t : PublishedView). ArePublished t (archive_of after) stored.archive) (sym cached)
+          (subst (λ (p : ArchivePlace). ArePublished service.published p stored.archive)
           (sym (λ i. archive_place (size i) (generation i) (snapshot_len i) (archive_len i))) up.archived);
+      reads = right up.reads;
     }
       where
         map_is : after.features ≡ map_of (with_edit stored e)

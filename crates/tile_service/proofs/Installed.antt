@@ -24,6 +24,7 @@ use Rattle.edit_journal.proofs.Releases.{records_take, keeps_behind}
 use Rattle.edit_text.specs.Recorded.{RecordedEdit}
 use Rattle.feature_store.specs.Store.{FeatureMap, IsMap, snapshot}
 use Rattle.tile_service.specs.After.{after, made}
+use Rattle.cached_map.specs.Cached.{AreReadRight}
 use Rattle.published_tiles.specs.Published.{ArePublished}
 use Rattle.tile_service.specs.Publishing.{map_at, published, CanPublish, HasArea}
 use Rattle.tile_service.specs.Service.{ServiceView, PublicationView, Publishes, IsUp, archive_of}
@@ -244,8 +245,9 @@ module _ (n : ℕ) (stored : Stored) (taken : ℕ) (archive : List ℕ) (within 
       → service.journal.last ≡ last_of stored → service.snapshot_len ≡ length (snapshot (map_at stored taken))
       → service.archive_len ≡ length archive → service.publication ≡ None
       → WereMaps service.features service.touched service.journal.last (stored.edits + taken) (map_at stored taken) (drop taken stored.since)
-      → ArePublished service.published (archive_of service) (map_at stored taken) archive → IsUp count h (published n stored taken archive) service
-  up_published count h service size keeps unbroken version generation features place edits used last snapshot_ archive_ publication were archived = record {
+      → ArePublished service.published (archive_of service) archive → AreReadRight service.features service.touched service.journal.last service.kept
+      → IsUp count h (published n stored taken archive) service
+  up_published count h service size keeps unbroken version generation features place edits used last snapshot_ archive_ publication were archived reads = record {
     keeps = subst (λ (k : ℕ). Keeps count k (published n stored taken archive) h) (sym size) keeps;
     unbroken = unbroken;
     version_is = version;
@@ -260,6 +262,7 @@ module _ (n : ℕ) (stored : Stored) (taken : ℕ) (archive : List ℕ) (within 
     publication = subst (λ (o : Option PublicationView). IfSome o (Publishes service.size (published n stored taken archive) h)) (sym publication) tt;
     were = were;
     archived = archived;
+    reads = reads;
   }
     where
       left : service.journal.used ≡ places_of (drop taken (stored_records stored))

@@ -14,6 +14,7 @@ mod Fresh
 mod Going
 pub mod Laws
 pub mod Installed
+mod Kept
 mod Opens
 pub mod Progress
 pub mod Publications

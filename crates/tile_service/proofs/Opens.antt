@@ -28,6 +28,7 @@ use Rattle.edit_journal.specs.declared.fault.JournalFault.TheVariants as faults
 use Rattle.edit_journal.specs.declared.journal.Journal as journals
 use Rattle.edit_journal.specs.declared.sizes.TheConstants.{PART_BYTES}
 use Rattle.edit_journal.proofs.Recovers.{held_is_journal, one_journal}
+use Rattle.cached_map.specs.Cached.{AreReadRight}
 use Rattle.edit_text.specs.Recorded.{RecordedEdit}
 use Rattle.feature_store.specs.Snapshots.{IsNoSnapshot}
 use Rattle.feature_store.specs.Store.{FeatureMap, snapshot}
@@ -271,7 +272,8 @@ module _ (sectors n : ℕ) (stored : Stored) (image : Image) (holds : Holds sect
       (snapshot_len : service.snapshot_len ≡ root.snapshot_len) (archive_len : service.archive_len ≡ root.archive_len)
       (publication : service.publication ≡ None)
       (is : IsRead sectors service.size service.version image root service.journal service.features service.touched)
-      (nothing : (place : ArchivePlace) (m : FeatureMap) (bytes : List ℕ) → ArePublished service.published place m bytes) where
+      (nothing : (place : ArchivePlace) (bytes : List ℕ) → ArePublished service.published place bytes)
+      (reads : AreReadRight service.features service.touched service.journal.last service.kept) where
     same : (n ≡ service.size) × (root_of stored ≡ root)
     same = one_live sectors image n service.size (root_of stored) root live is.live
 
@@ -329,7 +331,8 @@ module _ (sectors n : ℕ) (stored : Stored) (image : Image) (holds : Holds sect
         last_is = omega (arith, replayed.last_is, ap length records_are, length-map stored.since record_for);
         publication = subst (λ (o : Option PublicationView). IfSome o (Publishes service.size stored history)) (sym publication) tt;
         were = were;
-        archived = nothing (archive_of service) stored.snapshot_map stored.archive;
+        archived = nothing (archive_of service) stored.archive;
+        reads = reads;
       },
     )
 

@@ -18,6 +18,7 @@ use Rattle.edit_journal.specs.Appends.{ring_of}
 use Rattle.edit_journal.specs.Ring.{Ring, places_of}
 use Rattle.area_content.specs.Content.{sectors_taken}
 use Rattle.area_content.specs.Tiles.{IsArchiveOfMap}
+use Rattle.cached_map.specs.Cached.{AreReadRight}
 use Rattle.edit_text.specs.Recorded.{RecordedEdit}
 use Rattle.feature_store.specs.Store.{FeatureMap, IsMap, snapshot}
 use Rattle.map_metadata.specs.Metadata.{IsMetadata}
@@ -27,6 +28,7 @@ use Rattle.published_tiles.proofs.PublishedLaws.{published_next}
 use Rattle.serde_json.specs.Data.{Data}
 use Rattle.serde_json.specs.Read.{read}
 use Rattle.serde_json.specs.Written.{compact_text}
+use Rattle.tile_cache.specs.Kept.{CacheView}
 use Rattle.tile_service.specs.Machine.{step, Begins, AnswersStep, HasPublication, after_install}
 use Rattle.tile_service.specs.Publishing.{map_at, published, CanPublish, HasFirst, HasArea, IsUnderWay}
 use Rattle.tile_service.specs.Service.{PublicationView, ServiceView, Known, Publishes, IsUp, EventLeaves, count_at, left_of, archive_of}
@@ -70,6 +72,7 @@ module _ {D : Type 0} (sectors : ℕ) (h : History) (stored : Stored) (service :
     publication = publishes;
     were = up.were;
     archived = up.archived;
+    reads = up.reads;
   }
 
   module _ (p : PublicationView) (is_map : IsMap service.features) (is_archive : IsArchiveOfMap service.features p.content.archive)
@@ -184,15 +187,15 @@ module _ {D : Type 0} (sectors : ℕ) (old : History) (stored : Stored) (service
         → after.journal.place ≡ p.start.place → after.journal.edits ≡ p.start.edits
         → after.journal.used + p.places ≡ service.journal.used → after.journal.last ≡ service.journal.last
         → after.snapshot_len ≡ length p.content.snapshot → after.archive_len ≡ length p.content.archive → after.publication ≡ None
-        → after.touched ≡ service.touched → after.published ≡ service.published → IsUp count new next after
-    up_installed count after same is size broken version generation features place edits freed last text archive none touched published_is =
+        → after.touched ≡ service.touched → after.published ≡ service.published → after.kept ≡ service.kept → IsUp count new next after
+    up_installed count after same is size broken version generation features place edits freed last text archive none touched published_is kept =
         subst (λ (k : ℕ). IsUp k new next after) (sym same)
         (up_published service.size stored (count_at stored p) p.content.archive going.under_way.can.within sectors new after size
         (installed_keeps sectors service.size stored (count_at stored p) p.content.archive going.under_way.can old new up.keeps area_stands
         (subst (λ (r : Root). new ≡ synced (wrote (root_at r.generation) (root_sector r) (synced old))) root_is is))
         (broken ∙ up.unbroken) (version ∙ up.version_is) (omega (arith, generation, up.generation_is)) (features ∙ up.map_is) (place ∙ going.place_is)
         (omega (arith, edits, going.later)) (omega (arith, freed, going.places_are, up.used_is)) (last ∙ up.last_is)
-        (text ∙ ap length going.snapshot_is) archive none were archived)
+        (text ∙ ap length going.snapshot_is) archive none were archived reads)
       where
         map : FeatureMap
         map = map_at stored (count_at stored p)
@@ -210,10 +213,16 @@ module _ {D : Type 0} (sectors : ℕ) (old : History) (stored : Stored) (service
             (were_published service.features service.touched service.journal.last stored.edits stored.snapshot_map stored.since (count_at stored p)
             going.under_way.can.within up.were)))
 
-        archived : ArePublished after.published (archive_of after) map p.content.archive
-        archived = subst (λ (t : PublishedView). ArePublished t (archive_of after) map p.content.archive) (sym published_is)
-            (published_next service.published (archive_of service) (archive_of after) stored.snapshot_map map stored.archive p.content.archive up.archived
+        archived : ArePublished after.published (archive_of after) p.content.archive
+        archived = subst (λ (t : PublishedView). ArePublished t (archive_of after) p.content.archive) (sym published_is)
+            (published_next service.published (archive_of service) (archive_of after) stored.archive p.content.archive up.archived
             (omega (arith, generation)))
+
+        reads : AreReadRight after.features after.touched after.journal.last after.kept
+        reads = subst (λ (m : FeatureMap). AreReadRight m after.touched after.journal.last after.kept) (sym features)
+            (subst (λ (cells : List ℕ). AreReadRight service.features cells after.journal.last after.kept) (sym touched)
+            (subst (λ (n : ℕ). AreReadRight service.features service.touched n after.kept) (sym last)
+            (subst (λ (kept : CacheView). AreReadRight service.features service.touched service.journal.last kept) (sym kept) up.reads)))
 
 -- ---- its steps
 
@@ -251,6 +260,7 @@ up_further sectors count old new stored service p generation to disk up same nex
   };
   were = up.were;
   archived = up.archived;
+  reads = up.reads;
 }
   where
     was : Publishes service.size stored old p

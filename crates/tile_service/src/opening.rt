@@ -10,7 +10,8 @@ ghost use Rattle.generations.specs.declared.fault.StoreFault.TheVariants.{Device
 ghost use Rattle.edit_journal.specs.Appends.{ring_of};
 ghost use Rattle.edit_journal.specs.Releases.{IsCounted};
 ghost use Rattle.edit_journal.specs.declared.sizes.TheConstants.{PART_BYTES};
-ghost use Rattle.feature_store.specs.Store.{FeatureMap, snapshot};
+ghost use Rattle.cached_map.specs.Cached.{AreReadRight};
+ghost use Rattle.feature_store.specs.Store.{snapshot};
 ghost use Rattle.published_tiles.specs.Published.{ArePublished};
 ghost use Rattle.published_tiles.specs.declared.place.ArchivePlace.{ArchivePlace};
 ghost use Rattle.tile_service.specs.Opening.{HasSnapshot, IsReplayed, IsRead, IsOpened, IsContentFault, IsOpenFault, HasNoOpenFault, HasLiveRoot};
@@ -75,6 +76,7 @@ fn read_edits<D: Sectors>(
         length (snapshot found.1.features) ≤ SECTOR_BYTES * area_sectors layout.sectors + PART_BYTES * found.0.used) }
     ensures counted { IfOk result (λ found. IsCounted found.0) }
     ensures last { IfOk result (λ found. found.1.last ≡ found.0.last) }
+    ensures reads { IfOk result (λ found. AreReadRight found.1.features found.1.touched found.0.last found.1.kept) }
     ensures found { D.honest disk.new → HasSnapshot layout.sectors root store.features (seen (D.history disk.old))
         → IfOk result (λ found. IsReplayed layout.sectors version root (seen (D.history disk.old)) found.0 found.1.features found.1.touched) }
     ensures fault { D.honest disk.new → HasSnapshot layout.sectors root store.features (seen (D.history disk.old))
@@ -126,6 +128,7 @@ fn read_map<D: Sectors>(
         length (snapshot found.1.features) ≤ SECTOR_BYTES * area_sectors layout.sectors + PART_BYTES * found.0.used) }
     ensures counted { IfOk result (λ found. IsCounted found.0) }
     ensures last { IfOk result (λ found. found.1.last ≡ found.0.last) }
+    ensures reads { IfOk result (λ found. AreReadRight found.1.features found.1.touched found.0.last found.1.kept) }
     ensures found { D.honest disk.new
         → IfOk result (λ found. IsReplayed layout.sectors version root (seen (D.history disk.old)) found.0 found.1.features found.1.touched) }
     ensures fault { D.honest disk.new
@@ -157,6 +160,7 @@ fn load<D: Sectors>(alloc: Global, disk: &mut D) -> Result<Found, StoreFault>
         length (snapshot found.map.features) ≤ SECTOR_BYTES * area_sectors found.layout.sectors + PART_BYTES * found.journal.used) }
     ensures counted { IfOk result (λ found. IsCounted found.journal) }
     ensures last { IfOk result (λ found. found.map.last ≡ found.journal.last) }
+    ensures reads { IfOk result (λ found. AreReadRight found.map.features found.map.touched found.journal.last found.map.kept) }
     ensures found { D.honest disk.new → IfOk result (λ found.
         IsRead (D.sectors disk.old) found.layout.sectors found.version (seen (D.history disk.old)) found.root found.journal
         found.map.features found.map.touched) }

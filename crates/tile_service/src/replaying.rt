@@ -1,6 +1,6 @@
 //! The map after the edits in the journal.
 ghost use Rattle.std.specs.Prelude.{◌≡◌, ◌<◌, ◌+◌, ◌^◌, ℕ, length, IfOk, IfErr, OnOk};
-ghost use Rattle.cached_map.specs.Cached.{WasMap};
+ghost use Rattle.cached_map.specs.Cached.{WasMap, AreReadRight};
 ghost use Rattle.edit_journal.specs.Records.{record_data, records_of};
 ghost use Rattle.edit_text.specs.Recorded.{RecordedEdit};
 ghost use Rattle.feature_model.specs.Data.{edit_data};
@@ -43,6 +43,8 @@ fn make(map: &mut CachedMap, edit: Edit) -> Result<(), StoreFault>
     ensures now { OnOk result (WasMap map.new.features map.new.touched map.new.last map.new.last map.new.features) }
     ensures since { (n : ℕ) (was : FeatureMap) → WasMap map.old.features map.old.touched map.old.last n was
         → OnOk result (WasMap map.new.features map.new.touched map.new.last n was) }
+    ensures reads { AreReadRight map.old.features map.old.touched map.old.last map.old.kept
+        → OnOk result (AreReadRight map.new.features map.new.touched map.new.last map.new.kept) }
     ensures fault { IfErr result (λ fault. fault ≡ Memory) }
 {
     let number = map.last() + 1;
@@ -63,6 +65,8 @@ fn replay_one(alloc: Global, map: &mut CachedMap, recorded: &Record) -> Result<(
     ensures now { OnOk result (WasMap map.new.features map.new.touched map.new.last map.new.last map.new.features) }
     ensures since { (n : ℕ) (was : FeatureMap) → WasMap map.old.features map.old.touched map.old.last n was
         → OnOk result (WasMap map.new.features map.new.touched map.new.last n was) }
+    ensures reads { AreReadRight map.old.features map.old.touched map.old.last map.old.kept
+        → OnOk result (AreReadRight map.new.features map.new.touched map.new.last map.new.kept) }
     ensures fault { IfErr result (IsRecordFault (record_data recorded.now)) }
 {
     let edit = edit_in(alloc, recorded)?;
@@ -82,6 +86,8 @@ pub(crate) fn replay(
     requires now { WasMap map.old.features map.old.touched map.old.last map.old.last map.old.features }
     ensures made { OnOk result (AreMade (records_of records.items) map.old map.new) }
     ensures last { OnOk result (map.new.last ≡ map.old.last + length records.items) }
+    ensures reads { AreReadRight map.old.features map.old.touched map.old.last map.old.kept
+        → OnOk result (AreReadRight map.new.features map.new.touched map.new.last map.new.kept) }
     ensures fault { IfErr result (IsReplayFault (records_of records.items)) }
 {
     for recorded in records {

@@ -40,16 +40,6 @@ returns-in-Err-read_root-clause-memory g c honest is =
     absurd (root_no_memory (g.D.Sectors.sectors c.sync.new.self) (seen (g.D.Sectors.history c.sync.new.self)) c.in-Err-read_root.fault
     (c.in-Err-read_root.ensures.fault honest) is)
 
-pub returns-in-Err-new-clause-memory : goal.returns-in-Err-new-clause-memory
-returns-in-Err-new-clause-memory g c honest is =
-    let sync_is = c.in-Ok.ensures.syncs (c.read_root.ensures.honest honest) in (
-      c.in-Ok-read_root.found.layout.sectors,
-      c.in-Ok-read_root.found.root,
-      live_before (g.D.Sectors.sectors c.args.disk.now) (g.D.Sectors.sectors c.sync.new.self) c.in-Ok-read_root.found.layout.sectors
-          (g.D.Sectors.history c.args.disk.now) (g.D.Sectors.history c.sync.new.self) c.in-Ok-read_root.found.root c.in-Ok.ensures.count
-          sync_is (c.in-Ok-read_root.ensures.root honest),
-    )
-
 pub returns-in-Err-read_map-clause-memory : goal.returns-in-Err-read_map-clause-memory
 returns-in-Err-read_map-clause-memory g c honest is =
     let root_honest = c.read_map.ensures.honest honest in

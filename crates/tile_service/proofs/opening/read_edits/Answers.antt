@@ -7,6 +7,7 @@ use Rattle.edit_journal.specs.Records.{record_data, records_of}
 use Rattle.generations.specs.Areas.{area_sectors}
 use Rattle.sector_disk.specs.Disk.{seen}
 use Rattle.sector_disk.specs.declared.disk.TheConstants.{SECTOR_BYTES}
+use Rattle.cached_map.specs.Cached.{AreReadRight}
 use Rattle.edit_text.specs.Recorded.{RecordedEdit}
 use Rattle.feature_store.specs.Store.{FeatureMap, snapshot}
 use Rattle.tile_service.specs.After.{after}
@@ -81,3 +82,10 @@ returns-in-Err-replay-clause-fault g c honest has =
     (subst (λ (places : ℕ). IsJournal c.args.version (record { first = 3; places = places }) (start_of c.args.root.journal_at c.args.root.edits)
     (records_of c.in-Ok.found.1.items) (seen (g.D.Sectors.history c.args.disk.now))) c.args.layout.journal_is (c.in-Ok.ensures.found honest))
     c.in-Err-replay.ensures.fault
+
+pub returns-in-Ok-replay-clause-reads : goal.returns-in-Ok-replay-clause-reads
+returns-in-Ok-replay-clause-reads g c =
+    let map = c.replay.new.map in
+    let last : map.last ≡ c.in-Ok.found.0.last =
+    omega (arith, c.in-Ok.ensures.last, c.in-Ok-replay.ensures.last, c.in-Ok-new.ensures.last) in
+    subst (λ (n : ℕ). AreReadRight map.features map.touched n map.kept) last (c.in-Ok-replay.ensures.reads c.in-Ok-new.ensures.reads)

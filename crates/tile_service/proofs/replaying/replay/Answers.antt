@@ -38,6 +38,7 @@ loop-recorded-preserved c =
             length-map yielded record_data,
           ))
           c.in_ok-replay_one.ensures.now c.in_ok-replay_one.ensures.since);
+      reads = λ first. c.in_ok-replay_one.ensures.reads (inv.reads first);
       last = omega (arith, c.in_ok-replay_one.ensures.last, ap length steps.0, inv.last);
       short = short_one (records_of rest) (record_data record_is) TEXTS_END old c.replay_one.new.map.features
           (subst (λ (l : List Record). length (snapshot old) + bytes_of (records_of l) < TEXTS_END) steps.0 inv.short)

@@ -16,22 +16,20 @@ returns-clause-tile g c = rw (← c.self.view_is) (λ stored up honest.
     (subst (λ (p : ArchivePlace). AreItsBytes p.first p.len stored.archive (seen (g.D.Sectors.history c.self.inside.disk))) (sym place)
     there)
     is_map
-    (subst (λ (p : ArchivePlace). ArePublished c.self.inside.published p stored.snapshot_map stored.archive) (sym place) up.archived))
+    (subst (λ (p : ArchivePlace). ArePublished c.self.inside.published p stored.archive) (sym place) up.archived))
 
 pub returns-clause-up : goal.returns-clause-up
 returns-clause-up g c = rw (← c.self.view_is) (λ stored up honest.
     let place = c.archive-archive.ensures ∙ ap (λ s. archive_of s) (sym c.self.view_is) in
     let there = archive_there (g.D.Sectors.sectors c.self.inside.disk) (g.D.Sectors.history c.self.inside.disk) stored _ up in
-    let is_map = archive_of_map (g.D.Sectors.sectors c.self.inside.disk) (g.D.Sectors.history c.self.inside.disk) stored _ up in
-    up_read (g.D.Sectors.sectors c.self.inside.disk) (g.D.Sectors.history c.self.inside.disk) stored _ up c.tile.new.disk c.tile.new.self _ _
-    c.tile.ensures.count (c.tile.ensures.history honest)
-    (subst (λ (p : ArchivePlace). ArePublished c.tile.new.self p stored.snapshot_map stored.archive) place
-    (c.tile.ensures.still stored.snapshot_map stored.archive honest
+    up_read (g.D.Sectors.sectors c.self.inside.disk) (g.D.Sectors.history c.self.inside.disk) stored _ up c.tile.new.disk c.tile.new.self
+    c.self.inside.map.kept _ _ c.tile.ensures.count (c.tile.ensures.history honest)
+    (subst (λ (p : ArchivePlace). ArePublished c.tile.new.self p stored.archive) place
+    (c.tile.ensures.still stored.archive honest
     (subst (λ (p : ArchivePlace). AreItsBytes p.first p.len stored.archive (seen (g.D.Sectors.history c.self.inside.disk))) (sym place)
     there)
-    is_map
-    (subst (λ (p : ArchivePlace). ArePublished c.self.inside.published p stored.snapshot_map stored.archive) (sym place)
-    up.archived))))
+    (subst (λ (p : ArchivePlace). ArePublished c.self.inside.published p stored.archive) (sym place)
+    up.archived))) up.reads)
 
 pub returns-clause-never_falls : goal.returns-clause-never_falls
 returns-clause-never_falls g c = rw (← c.self.view_is) c.tile.ensures.never_falls

@@ -7,7 +7,7 @@ use Rattle.feature_store.specs.Store.{snapshot}
 use Rattle.tile_service.specs.Machine.{single, recorded_change}
 use Rattle.tile_service.specs.Stored.{stored_records}
 use Rattle.tile_service.specs.declared.fault.ServiceFault.TheVariants.{NotFound}
-use Rattle.tile_service.proofs.Earlier.{since_on, now_on}
+use Rattle.tile_service.proofs.Earlier.{since_on, now_on, right_on}
 use Rattle.tile_service.proofs.Edits.{up_is_at, same_leaves, append_any_moment, refused_any_moment, up_with_edit}
 use Rattle.tile_service.proofs.Going.{service_on}
 use Rattle.tile_service.proofs.Steps.{delete_recorded, text_length, short_after_edit}
@@ -65,7 +65,9 @@ returns-in-Ok-clause-acknowledged g c = rw (← c.self.view_is) (λ stored hones
     _ refl c.append.ensures.count refl c.append.ensures.same (c.in-Ok.ensures.acknowledged (stored_records stored) honest at) c.remove.ensures.map
     (since_on c.self.inside.map c.self.inside.map c.remove.new.self c.self.inside.journal.last c.append.new.self.last c.self.invariant.last_is refl last
     c.remove.ensures.since)
-    (now_on c.remove.new.self c.append.new.self.last last c.remove.ensures.now) refl refl refl refl refl refl refl (c.append.ensures.reads honest))
+    (now_on c.remove.new.self c.append.new.self.last last c.remove.ensures.now)
+    (right_on c.self.inside.map c.self.inside.map c.remove.new.self c.self.inside.journal.last c.append.new.self.last c.self.invariant.last_is refl last
+    c.remove.ensures.reads) refl refl refl refl refl refl refl (c.append.ensures.reads honest))
 
 pub returns-in-Err-clause-any_moment : goal.returns-in-Err-clause-any_moment
 returns-in-Err-clause-any_moment g c = rw (ap (λ s. s.disk) c.fail.ensures.same, ← c.self.view_is) (λ stored honest up.

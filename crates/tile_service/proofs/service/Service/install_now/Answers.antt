@@ -14,6 +14,7 @@ returns-in-Ok-clause-any_moment g c = rw (← c.self.view_is) (λ stored honest 
       version = c.self.inside.version;
       features = c.self.inside.map.features;
       touched = c.self.inside.map.touched;
+      kept = c.self.inside.map.kept;
       journal = c.self.inside.journal;
       generation = c.self.inside.root.generation;
       snapshot_len = c.self.inside.root.snapshot_len;
@@ -42,6 +43,7 @@ returns-in-Ok-clause-after g c = rw (← c.self.view_is) (λ stored honest up.
       version = c.self.inside.version;
       features = c.self.inside.map.features;
       touched = c.self.inside.map.touched;
+      kept = c.self.inside.map.kept;
       journal = c.self.inside.journal;
       generation = c.self.inside.root.generation;
       snapshot_len = c.self.inside.root.snapshot_len;
@@ -69,7 +71,7 @@ returns-in-Ok-clause-after g c = rw (← c.self.view_is) (λ stored honest up.
     up_installed _ _ stored service c.args.publication up c.requires.written root is _ _ _ c.install.ensures.count (c.in-Ok.ensures.installed honest)
     refl refl refl refl refl (c.release.ensures.start.0 ∙ place) (c.release.ensures.start.1 ∙ edits)
     (c.release.ensures.freed c.args.publication.places behind) c.release.ensures.same.1 text archive
-    (ap (λ s. s.publication) c.self.view_is ∙ c.requires.none) refl refl)
+    (ap (λ s. s.publication) c.self.view_is ∙ c.requires.none) refl refl refl)
 
 pub returns-clause-any_moment : goal.returns-clause-any_moment
 returns-clause-any_moment g c = rw (← c.self.view_is) (λ stored honest up.
@@ -79,6 +81,7 @@ returns-clause-any_moment g c = rw (← c.self.view_is) (λ stored honest up.
       version = c.self.inside.version;
       features = c.self.inside.map.features;
       touched = c.self.inside.map.touched;
+      kept = c.self.inside.map.kept;
       journal = c.self.inside.journal;
       generation = c.self.inside.root.generation;
       snapshot_len = c.self.inside.root.snapshot_len;

@@ -13,6 +13,7 @@ returns-in-Ok-clause-opened g c n stored holds honest =
       version = c.in-Ok.found.version;
       features = c.in-Ok.found.map.features;
       touched = c.in-Ok.found.map.touched;
+      kept = c.in-Ok.found.map.kept;
       journal = c.in-Ok.found.journal;
       generation = c.in-Ok.found.root.generation;
       snapshot_len = c.in-Ok.found.root.snapshot_len;
@@ -22,7 +23,7 @@ returns-in-Ok-clause-opened g c n stored holds honest =
       broken = false;
     })
     c.in-Ok.found.root refl c.load.ensures.count (c.in-Ok.ensures.synced honest) refl refl refl refl refl (c.in-Ok.ensures.found honest)
-    c.in-Ok.ensures.published
+    c.in-Ok.ensures.published c.in-Ok.ensures.reads
 
 pub returns-in-Err-clause-refused : goal.returns-in-Err-clause-refused
 returns-in-Err-clause-refused g c n stored holds honest =

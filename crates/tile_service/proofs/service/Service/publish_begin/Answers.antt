@@ -15,6 +15,7 @@ returns-in-Ok-clause-machine g c = rw (← c.self.view_is) (λ known.
       version = c.self.inside.version;
       features = c.self.inside.map.features;
       touched = c.self.inside.map.touched;
+      kept = c.self.inside.map.kept;
       journal = c.self.inside.journal;
       generation = c.self.inside.root.generation;
       snapshot_len = c.self.inside.root.snapshot_len;

@@ -8,7 +8,7 @@ use Rattle.tile_service.specs.Machine.{recorded_in}
 use Rattle.tile_service.specs.Service.{IsUp}
 use Rattle.tile_service.specs.Stored.{stored_records}
 use Rattle.tile_service.specs.declared.fault.ServiceFault.TheVariants.{Memory, Device}
-use Rattle.tile_service.proofs.Earlier.{since_on, now_on}
+use Rattle.tile_service.proofs.Earlier.{since_on, now_on, right_on}
 use Rattle.tile_service.proofs.Edits.{up_is_at, same_leaves, append_any_moment, refused_any_moment, up_with_edit}
 use Rattle.tile_service.proofs.Going.{service_on}
 use Rattle.tile_service.proofs.Steps.{text_length, short_after_edit, short_enough}
@@ -75,7 +75,9 @@ returns-in-Ok-append-clause-acknowledged g c = rw (← c.self.view_is) (λ store
     (c.make_edit.ensures.map ∙ ap (λ m. edited m.features (edit_data c.args.requested)) c.room_all.ensures.same)
     (since_on c.self.inside.map c.room_all.new.self c.make_edit.new.self c.self.inside.journal.last c.append.new.self.last c.self.invariant.last_is
     c.room_all.ensures.same last c.make_edit.ensures.since)
-    (now_on c.make_edit.new.self c.append.new.self.last last c.make_edit.ensures.now) refl refl refl refl refl refl refl (c.append.ensures.reads honest))
+    (now_on c.make_edit.new.self c.append.new.self.last last c.make_edit.ensures.now)
+    (right_on c.self.inside.map c.room_all.new.self c.make_edit.new.self c.self.inside.journal.last c.append.new.self.last c.self.invariant.last_is
+    c.room_all.ensures.same last c.make_edit.ensures.reads) refl refl refl refl refl refl refl (c.append.ensures.reads honest))
 
 pub returns-in-Err-append-clause-any_moment : goal.returns-in-Err-append-clause-any_moment
 returns-in-Err-append-clause-any_moment g c = rw (ap (λ s. s.disk) c.fail.ensures.same, ← c.self.view_is) (λ stored call honest up.
