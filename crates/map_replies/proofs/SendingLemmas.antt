@@ -364,14 +364,14 @@ module _ {D : Type 0} (sectors : D → ℕ) (honest : D → Type 0) (history : D
         → AnswersMethod sectors honest history faults asked result range body old next view
     asked_answers view answers =
         subst (λ (r : Result Method RouteFault). AnswersMethod sectors honest history faults asked r range body old next view) (sym is.1)
-        (subst (λ (a : Asked). AnswersAllowed sectors honest history faults a is.0 range body old next view) (sym is.2) answers)
+        (subst (λ (a : Asked). AnswersAllowed sectors honest history faults a is.0 range body old next view) (sym is.2.0) answers)
 
     -- the disk fails
     pub sends_fails : (at : ℕ) (outcome : Option (List ℕ)) → Takes sectors honest history new (read at outcome) next → DiskFailed faults new next
         → AnswersMethod sectors honest history faults asked result range body old next reply × DiskFailed faults old next
     sends_fails at outcome takes failed = (
-      asked_answers reply (still_answers (range_for is.0 range) old sending new reply is.3 next at outcome takes),
-      subst (λ (n : ℕ). HasFailed n (faults next.disk)) is.3.sends.unfailed failed,
+      asked_answers reply (still_answers (range_for is.0 range) old sending new reply is.2.1 next at outcome takes),
+      subst (λ (n : ℕ). HasFailed n (faults next.disk)) is.2.1.sends.unfailed failed,
     )
 
     pub sends_more : (now : Sending) (offset n : ℕ) (piece : List ℕ) → now ≡ sending → length piece ≡ n
@@ -380,12 +380,14 @@ module _ {D : Type 0} (sectors : D → ℕ) (honest : D → Type 0) (history : D
         → SendsMethod sectors honest history faults asked result range old now next (with_part offset piece reply)
         × AnswersMethod sectors honest history faults asked result range body old next (with_part offset piece reply)
     sends_more now offset n piece same long within unfailed takes =
-        let more = sent_more (range_for is.0 range) old sending new reply is.3 next offset piece takes unfailed (omega (arith, long, within)) in (
+        let more = sent_more (range_for is.0 range) old sending new reply is.2.1 next offset piece takes unfailed (omega (arith, long, within)) in (
           (
             is.0,
             is.1,
-            is.2,
-            subst (λ (s : Sending). IsSending sectors honest history faults (range_for is.0 range) old s next (with_part offset piece reply)) (sym same) more,
+            (
+              is.2.0,
+              subst (λ (s : Sending). IsSending sectors honest history faults (range_for is.0 range) old s next (with_part offset piece reply)) (sym same) more,
+            ),
           ),
           asked_answers (with_part offset piece reply)
               (sent_answers (range_for is.0 range) old sending next (with_part offset piece reply) more),

@@ -35,7 +35,7 @@ returns-in-Ok-clause-replied g c =
       by_path (λ a m. AnswersMethod d.sectors d.honest d.history d.faults a m range body old new told.0) _ _ _ _ method asked told.2,
       in_parts c.in-Ok.reply.content _ _ (λ sent. (
         by_path (λ a m. SendsMethod d.sectors d.honest d.history d.faults a m range old sending new told.0) _ _ _ _ method asked sent,
-        sent_size d.sectors d.honest d.history d.faults _ old _ new told.0 sent.3,
+        sent_size d.sectors d.honest d.history d.faults _ old _ new told.0 sent.2.1,
       )) told.3,
     )
 
