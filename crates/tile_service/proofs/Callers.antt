@@ -14,7 +14,7 @@ use Rattle.serde_json.specs.Data.{Data}
 use Rattle.tile_service.specs.Machine.{ServiceState, OrMemory, Happening, Call, edit, begin, step, cancel, tile, look, metadata, read}
 use Rattle.tile_service.specs.Machine.{IfTold, AnswersEdit, AnswersBegin, AnswersStep, AnswersCancel, Happens, Runs}
 use Rattle.tile_service.specs.Runs.{IsDoubtful, happening_at, all_edits, way_of, Way, Progress, starts, progress_of, NoneInDoubt, Reaches}
-use Rattle.tile_service.specs.Runs.{IsTrusted, Takes, TakesAll, TakesRun}
+use Rattle.tile_service.specs.Runs.{IsTrusted, Takes, TakesEdit, TakesAll, TakesRun}
 use Rattle.tile_service.specs.Service.{PublicationView, ServiceView, Known, Publishes, IsUp, state_of, known_after}
 use Rattle.tile_service.specs.Service.{ShowsArchive, KeepsArchive, ReadsFrom, EventLeaves, shown_archive, stored_after}
 use Rattle.tile_service.specs.Stored.{Stored, Keeps, last_of, with_edit}
@@ -213,32 +213,23 @@ module _ {D : Type 0} (sectors : D → ℕ) (honest : D → Type 0) (history : D
   }
 
   -- an edit, by what a call of the service with it says
-  pub edit_step : (old new : ServiceView D) (call : Call) (e : RecordedEdit) (outcome : Result ℕ ServiceFault)
+  pub edit_step : (failures : D → ℕ) (old new : ServiceView D) (call : Call) (e : RecordedEdit) (outcome : Result ℕ ServiceFault)
       → ((known : Known) → AnswersEdit (state_of known old) call e outcome (state_of known new))
-      → new.size ≡ old.size → sectors new.disk ≡ sectors old.disk → (honest new.disk → honest old.disk)
-      → IfErr outcome (λ fault. fault ≢ Device → new.disk ≡ old.disk)
-      → ((stored : Stored) → honest new.disk → IsUp (sectors old.disk) (history old.disk) stored old
-      → LeavesOnly (history old.disk) (history new.disk) (EventLeaves (sectors old.disk) old.size stored old.publication (edit call e outcome)))
-      → ((stored : Stored) → honest new.disk → IsUp (sectors old.disk) (history old.disk) stored old
-      → OnOk outcome (IsUp (sectors new.disk) (history new.disk) (with_edit stored e) new))
-      → ((stored : Stored) → honest new.disk → IsUp (sectors old.disk) (history old.disk) stored old
-      → IfErr outcome (λ fault. fault ≢ Device → IsUp (sectors new.disk) (history new.disk) stored new))
-      → KeepsArchive honest history old new
-      → Takes sectors honest history old (edit call e outcome) new
-  edit_step old new call e outcome machine size count stays kept moments acknowledged refuses shows = record {
+      → TakesEdit sectors honest history failures old call e outcome new → Takes sectors honest history old (edit call e outcome) new
+  edit_step failures old new call e outcome machine takes = record {
     machine = machine;
     archive = λ archive shown honest. tt;
-    keeps_archive = λ other. shows;
+    keeps_archive = λ other. takes.keeps_archive;
     doubt = doubt_breaks_it (Unit {0}) (state_of no_known old) (state_of no_known new) (edit call e outcome) (machine no_known);
-    size = size;
+    size = takes.size;
     version = edit_version (state_of no_known old) (state_of no_known new) call e outcome (machine no_known);
-    count = count;
-    stays_honest = stays;
+    count = takes.count;
+    stays_honest = takes.stays_honest;
     changes = tt;
-    untouched = λ broken is. broken_refuses (state_of no_known old) (state_of no_known new) call e outcome (machine no_known) kept broken;
-    any_moment = moments;
+    untouched = λ broken is. broken_refuses (state_of no_known old) (state_of no_known new) call e outcome (machine no_known) takes.unwritten broken;
+    any_moment = takes.any_moment;
     after = λ stored is_honest up not. after_edit (λ (s : Stored). IsUp (sectors new.disk) (history new.disk) s new) old.size stored old.publication
-        call e outcome (acknowledged stored is_honest up) (refuses stored is_honest up) not;
+        call e outcome (takes.acknowledged stored is_honest up) (takes.refused stored is_honest up) not;
   }
 
   -- the beginning of a publication changes nothing on the disk

@@ -15,9 +15,9 @@ returns-clause-answered g c =
     let cs = map change_data c.in-Ok.changes.items in
     let e = recorded_in (asked_service c.args.self.now).version cs in
     let is = changed g.D.Sectors.sectors g.D.Sectors.honest g.D.Sectors.history _ _ (edit batched e) outcome_reply _ _ c.batch-outcome.result _
-    c.outcome.ensures.reply call.failed
-    (edit_step g.D.Sectors.sectors g.D.Sectors.honest g.D.Sectors.history _ _ batched e c.batch-outcome.result call.machine
-    call.size call.count call.honest call.untouched call.any_moment call.acknowledged call.refused call.archive) in
+    c.outcome.ensures.reply call.takes.failed
+    (edit_step g.D.Sectors.sectors g.D.Sectors.honest g.D.Sectors.history g.D.Sectors.faults _ _ batched e c.batch-outcome.result
+    call.machine call.takes) in
     (is.0, inl (cs, c.in-Ok.ensures.found, is.1), is.2)
 
 pub returns-in-Err-clause-answered : goal.returns-in-Err-clause-answered

@@ -15,9 +15,9 @@ returns-clause-answered g c =
     let f = feature_data c.in-Ok.feature in
     let e = recorded_change (asked_service c.args.self.now).version (put c.args.id f) in
     let is = changed g.D.Sectors.sectors g.D.Sectors.honest g.D.Sectors.history _ _ (edit single e) outcome_reply _ _ c.put-outcome.result _
-    c.outcome.ensures.reply call.failed
-    (edit_step g.D.Sectors.sectors g.D.Sectors.honest g.D.Sectors.history _ _ single e c.put-outcome.result call.machine
-    call.size call.count call.honest call.untouched call.any_moment call.acknowledged call.refused call.archive) in
+    c.outcome.ensures.reply call.takes.failed
+    (edit_step g.D.Sectors.sectors g.D.Sectors.honest g.D.Sectors.history g.D.Sectors.faults _ _ single e c.put-outcome.result
+    call.machine call.takes) in
     (is.0, inl (f, c.in-Ok.ensures.found, is.1), is.2)
 
 pub returns-in-Err-clause-answered : goal.returns-in-Err-clause-answered
