@@ -2,7 +2,8 @@
 use Rattle.std.proofs.Common.{◌≡◌, ◌≢◌, ℕ, ◌<◌, ◌+◌, ◌-◌, List, [], ◌∷◌, ◌++◌, length, Option, Some, None, Result, Ok, true, false, refl, sym, ◌∙◌}
 use Rattle.std.proofs.Common.{ap, subst, arith, append_assoc}
 use Rattle.std.proofs.lemmas.List.{append-nil}
-use Rattle.std.specs.Prelude.{IfSome, IfErr, OnOk}
+use Rattle.std.proofs.lemmas.List.Elements.{Contains-append_left, Contains-append_right}
+use Rattle.std.specs.Prelude.{Contains, IfSome, IfErr, OnOk}
 use Rattle.std.proofs.lemmas.Bool.{false≢true}
 use Rattle.sector_disk.specs.Disk.{History, seen}
 use Rattle.sector_disk.specs.Moments.{LeavesOnly}
@@ -23,6 +24,7 @@ use Rattle.tile_service.specs.declared.fault.ServiceFault.TheVariants.{Device}
 use Rattle.tile_service.proofs.Archives.{archive_there, archive_is_shown, shown_is_seen}
 use Rattle.tile_service.proofs.Fits.{RunLeaves, IsHere, doubt_breaks, run_starts, run_goes_on, run_fits, reaches_on, published_within, sized_as}
 use Rattle.tile_service.proofs.Progress.{Within, IsSince, has_start, has_last, progress_on, progress_edits, way_seen, way_after}
+use Rattle.tile_service.proofs.Shown.{keeps_on}
 use Rattle.tile_service.proofs.Runs.{no_known, clash, is_false, doubt_breaks_it, IsQuiet, broken_stays, broken_halts, kept_for}
 use Rattle.tile_service.proofs.Runs.{after_step, after_edit, broken_refuses, edit_version, step_version, happens_less, runs_less, runs_on, writes_nothing}
 
@@ -59,6 +61,7 @@ module _ {D : Type 0} (sectors : D → ℕ) (honest : D → Type 0) (history : D
     pub count : sectors now.disk ≡ sectors old.disk
     pub stays_honest : honest now.disk → honest old.disk
     pub doubt : (index : ℕ) → index < length events → IsDoubtful (happening_at events index) → now.broken ≡ true
+    pub keeps_archive : ¬ Contains events (step (Ok 0)) → KeepsArchive honest history old now
     pub up : (stored : Stored) → honest now.disk → IsUp (sectors old.disk) (history old.disk) stored old → now.broken ≡ false
         → IsUpAfter old events now stored
     pub leaves : (stored : Stored) → honest now.disk → IsUp (sectors old.disk) (history old.disk) stored old
@@ -88,6 +91,7 @@ module _ {D : Type 0} (sectors : D → ℕ) (honest : D → Type 0) (history : D
     count = refl;
     stays_honest = λ is_honest. is_honest;
     doubt = λ index lt. absurd (omega (arith, lt));
+    keeps_archive = λ none. record { generation = refl; snapshot_len = refl; archive_len = refl; shows = λ archive shown is_honest. shown };
     up = λ stored is_honest up unbroken. record { reached = stored; is_up = up; reaches = has_start stored; way_is = refl };
     leaves = λ stored is_honest up. run_starts (sectors old.disk) old.size stored (way_of stored.edits old.publication) (history old.disk)
         (within_of stored old.publication (up_since stored old up)) up.keeps;
@@ -428,6 +432,9 @@ module _ {D : Type 0} (sectors : D → ℕ) (honest : D → Type 0) (history : D
       count = goes.count ∙ so.count;
       stays_honest = λ is_honest. so.stays_honest (goes.stays_honest is_honest);
       doubt = doubt_breaks events event now.broken new.broken goes.doubt (λ broken. (broken_on now new event goes broken).0) so.doubt;
+      keeps_archive = λ none. keeps_on honest history old now new
+          (so.keeps_archive (λ has. none (Contains-append_left events (event ∷ []) (step (Ok 0)) has))) goes.stays_honest
+          (goes.keeps_archive (λ is. none (Contains-append_right events (event ∷ []) (step (Ok 0)) (0, omega arith, is))));
       up = up_on;
       leaves = leaves_on;
     }
@@ -455,4 +462,5 @@ module _ {D : Type 0} (sectors : D → ℕ) (honest : D → Type 0) (history : D
     any_moment = λ stored is_honest up. run_fits (sectors old.disk) old.size stored (way_of stored.edits old.publication) events
         (history old.disk) (history now.disk) (so.leaves stored is_honest up);
     after = λ stored is_honest up unbroken. let then_up = so.up stored is_honest up unbroken in (then_up.reached, then_up.is_up, then_up.reaches);
+    keeps_archive = so.keeps_archive;
   }

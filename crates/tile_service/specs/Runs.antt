@@ -1,6 +1,6 @@
 -- What a disk may hold during a run of calls.
 use Rattle.std.specs.Prelude.{◌≡◌, ◌⊎◌, ◌<◌, ◌≤◌, ◌+◌, ◌-◌, ℕ, zero, suc, true, false, List, [], ◌∷◌, ◌++◌, length, take, drop, get_or}
-use Rattle.std.specs.Prelude.{◌≢◌, map, Option, Some, None, option_map, Result, Ok, Err, OnOk, IfErr}
+use Rattle.std.specs.Prelude.{◌≢◌, map, Contains, Option, Some, None, option_map, Result, Ok, Err, OnOk, IfErr}
 use Rattle.sector_disk.specs.Disk.{History, Image, MayLeave, moment, LeftSince}
 use Rattle.sector_disk.specs.Moments.{Follows, LeavesOnly}
 use Rattle.edit_journal.specs.Appends.{TakesSteps}
@@ -272,6 +272,8 @@ module _ {D : Type 0} (sectors : D → ℕ) (honest : D → Type 0) (history : D
     pub after : (stored : Stored) → honest new.disk → IsUp (sectors old.disk) (history old.disk) stored old → new.broken ≡ false
         → (reached : Stored) × IsUp (sectors new.disk) (history new.disk) reached new
         × Reaches stored (way_of stored.edits old.publication) happenings reached
+    -- the archive is unchanged, unless another one was installed
+    pub keeps_archive : ¬ Contains happenings (step (Ok 0)) → KeepsArchive honest history old new
 
   -- The service begins a publication and continues it until it is installed or a call is refused.
   pub record TakesPublication (old : ServiceView D) (result : Result Published ServiceFault) (new : ServiceView D) : Type 0 where
