@@ -15,16 +15,17 @@ use Rattle.serde_json.specs.Data.{Data}
 use Rattle.tile_service.specs.Machine.{ServiceState, OrMemory, Happening, Call, edit, begin, step, cancel, tile, look, metadata, read}
 use Rattle.tile_service.specs.Machine.{IfTold, AnswersEdit, AnswersBegin, AnswersStep, AnswersCancel, Happens, Runs}
 use Rattle.tile_service.specs.Runs.{IsDoubtful, happening_at, all_edits, way_of, Way, Progress, starts, progress_of, NoneInDoubt, Reaches}
-use Rattle.tile_service.specs.Runs.{IsTrusted, Takes, TakesEdit, TakesAll, TakesRun}
+use Rattle.tile_service.specs.Runs.{begin_and_steps, IsTrusted, ChangesOnly, Takes, TakesEdit, TakesAll, TakesRun}
 use Rattle.tile_service.specs.Service.{PublicationView, ServiceView, Known, Publishes, IsUp, state_of, known_after}
 use Rattle.tile_service.specs.Service.{ShowsArchive, KeepsArchive, ReadsFrom, EventLeaves, shown_archive, stored_after}
-use Rattle.tile_service.specs.Stored.{Stored, Keeps, last_of, with_edit}
+use Rattle.tile_service.specs.Stored.{Stored, Keeps, last_of}
 use Rattle.tile_service.specs.declared.fault.ServiceFault.{ServiceFault}
 use Rattle.tile_service.specs.declared.fault.ServiceFault.TheVariants.{Device}
 use Rattle.tile_service.proofs.Archives.{archive_there, archive_is_shown, shown_is_seen}
 use Rattle.tile_service.proofs.Fits.{RunLeaves, IsHere, doubt_breaks, run_starts, run_goes_on, run_fits, reaches_on, published_within, sized_as}
 use Rattle.tile_service.proofs.Progress.{Within, IsSince, has_start, has_last, progress_on, progress_edits, way_seen, way_after}
 use Rattle.tile_service.proofs.Shown.{keeps_on}
+use Rattle.tile_service.proofs.Whole.{steps_more}
 use Rattle.tile_service.proofs.Runs.{no_known, clash, is_false, doubt_breaks_it, IsQuiet, broken_stays, broken_halts, kept_for}
 use Rattle.tile_service.proofs.Runs.{after_step, after_edit, broken_refuses, edit_version, step_version, happens_less, runs_less, runs_on, writes_nothing}
 
@@ -125,7 +126,8 @@ module _ {D : Type 0} (sectors : D → ℕ) (honest : D → Type 0) (history : D
 
   -- what leaves all but what is read of the disk
   module _ (old new : ServiceView D) (same : new ≡ record old { disk = new.disk; published = new.published; kept = new.kept })
-      (count : sectors new.disk ≡ sectors old.disk) (stays : honest new.disk → honest old.disk) (unwritten : honest new.disk → history new.disk ≡ history old.disk) where
+      (count : sectors new.disk ≡ sectors old.disk) (stays : honest new.disk → honest old.disk)
+      (unwritten : honest new.disk → history new.disk ≡ history old.disk) where
     shows_same : KeepsArchive honest history old new
     shows_same = same_archive old new (same
         ∙ (λ i. record old { disk = new.disk; publication = publication i; published = new.published; kept = new.kept })) unwritten
@@ -236,27 +238,47 @@ module _ {D : Type 0} (sectors : D → ℕ) (honest : D → Type 0) (history : D
         call e outcome (takes.acknowledged stored is_honest up) (takes.refused stored is_honest up) not;
   }
 
-  -- the beginning of a publication changes nothing on the disk
+  -- a call that may change the publication in memory, and nothing else
+  publication_step : (old new : ServiceView D) (happening : Happening)
+      → ((known : Known) → Happens (IsTrusted sectors honest history old new) (state_of known old) happening (state_of (known_after known old happening) new))
+      → new ≡ record old { publication = new.publication }
+      → ((stored : Stored) → IsUp (sectors old.disk) (history old.disk) stored old → IsUp (sectors new.disk) (history new.disk) stored new)
+      → ((archive : List ℕ) → ReadsFrom archive happening) → ¬ IsDoubtful happening → ChangesOnly sectors honest history happening old new
+      → ((stored : Stored) → stored_after old.size stored old.publication happening ≡ stored) → Takes sectors honest history old happening new
+  publication_step old new happening machine same up_still reads sure changes stays_stored = record {
+    machine = machine;
+    archive = λ archive shows honest. reads archive;
+    keeps_archive = λ other. same_archive old new (with_published old new same) (λ is_honest. ap (λ (s : ServiceView D). history s.disk) same);
+    doubt = λ is. absurd (sure is);
+    size = ap (λ (s : ServiceView D). s.size) same;
+    version = ap (λ (s : ServiceView D). s.version) same;
+    count = ap (λ (s : ServiceView D). sectors s.disk) same;
+    stays_honest = λ is_honest. subst (λ (d : D). honest d) (ap (λ (s : ServiceView D). s.disk) same) is_honest;
+    changes = changes;
+    untouched = λ broken is. ap (λ (s : ServiceView D). s.disk) same;
+    any_moment = λ stored is_honest up. writes_nothing (sectors old.disk) old.size stored old.publication happening
+        (history old.disk) (history new.disk) (ap (λ (s : ServiceView D). history s.disk) same) up.keeps;
+    after = λ stored is_honest up not. subst (λ (s : Stored). IsUp (sectors new.disk) (history new.disk) s new) (sym (stays_stored stored))
+        (up_still stored up);
+  }
+
+  -- the beginning of a publication is one
   pub begin_step : (old new : ServiceView D) (outcome : Result ℕ ServiceFault)
       → ((known : Known) → AnswersBegin (state_of known old) outcome (state_of (known_after known old (begin outcome)) new))
       → new ≡ record old { publication = new.publication }
       → ((stored : Stored) → IsUp (sectors old.disk) (history old.disk) stored old → IsUp (sectors new.disk) (history new.disk) stored new)
       → Takes sectors honest history old (begin outcome) new
-  begin_step old new outcome machine same up_still = record {
-    machine = machine;
-    archive = λ archive shows honest. tt;
-    keeps_archive = λ other. same_archive old new (with_published old new same) (λ is_honest. ap (λ (s : ServiceView D). history s.disk) same);
-    doubt = λ is. absurd is;
-    size = ap (λ (s : ServiceView D). s.size) same;
-    version = ap (λ (s : ServiceView D). s.version) same;
-    count = ap (λ (s : ServiceView D). sectors s.disk) same;
-    stays_honest = λ is_honest. subst (λ (d : D). honest d) (ap (λ (s : ServiceView D). s.disk) same) is_honest;
-    changes = tt;
-    untouched = λ broken is. ap (λ (s : ServiceView D). s.disk) same;
-    any_moment = λ stored is_honest up. writes_nothing (sectors old.disk) old.size stored old.publication (begin outcome)
-        (history old.disk) (history new.disk) (ap (λ (s : ServiceView D). history s.disk) same) up.keeps;
-    after = λ stored is_honest up not. up_still stored up;
-  }
+  begin_step old new outcome machine same up_still =
+      publication_step old new (begin outcome) machine same up_still (λ archive. tt) (λ is. is) tt (λ stored. refl)
+
+  -- and so is its cancellation
+  pub cancel_step : (old new : ServiceView D) (outcome : Result (Unit {0}) ServiceFault)
+      → ((known : Known) → AnswersCancel (state_of known old) outcome (state_of known new))
+      → new ≡ record old { publication = new.publication }
+      → ((stored : Stored) → IsUp (sectors old.disk) (history old.disk) stored old → IsUp (sectors new.disk) (history new.disk) stored new)
+      → Takes sectors honest history old (cancel outcome) new
+  cancel_step old new outcome machine same up_still =
+      publication_step old new (cancel outcome) machine same up_still (λ archive. tt) (λ is. is) tt (λ stored. refl)
 
   -- what a step of it does
   pub step_step : (old new : ServiceView D) (outcome : Result ℕ ServiceFault)
@@ -285,28 +307,6 @@ module _ {D : Type 0} (sectors : D → ℕ) (honest : D → Type 0) (history : D
     after = λ stored is_honest up not. after_step (λ (s : Stored). IsUp (sectors new.disk) (history new.disk) s new) old.size stored old.publication
         outcome (up_after stored is_honest up)
         (kept_for (λ (s : ServiceView D). IsUp (sectors s.disk) (history s.disk) stored s) old new outcome same up) not;
-  }
-
-  -- nor does its cancellation
-  pub cancel_step : (old new : ServiceView D) (outcome : Result (Unit {0}) ServiceFault)
-      → ((known : Known) → AnswersCancel (state_of known old) outcome (state_of known new))
-      → new ≡ record old { publication = new.publication }
-      → ((stored : Stored) → IsUp (sectors old.disk) (history old.disk) stored old → IsUp (sectors new.disk) (history new.disk) stored new)
-      → Takes sectors honest history old (cancel outcome) new
-  cancel_step old new outcome machine same up_still = record {
-    machine = machine;
-    archive = λ archive shows honest. tt;
-    keeps_archive = λ other. same_archive old new (with_published old new same) (λ is_honest. ap (λ (s : ServiceView D). history s.disk) same);
-    doubt = λ is. absurd is;
-    size = ap (λ (s : ServiceView D). s.size) same;
-    version = ap (λ (s : ServiceView D). s.version) same;
-    count = ap (λ (s : ServiceView D). sectors s.disk) same;
-    stays_honest = λ is_honest. subst (λ (d : D). honest d) (ap (λ (s : ServiceView D). s.disk) same) is_honest;
-    changes = tt;
-    untouched = λ broken is. ap (λ (s : ServiceView D). s.disk) same;
-    any_moment = λ stored is_honest up. writes_nothing (sectors old.disk) old.size stored old.publication (cancel outcome)
-        (history old.disk) (history new.disk) (ap (λ (s : ServiceView D). history s.disk) same) up.keeps;
-    after = λ stored is_honest up not. up_still stored up;
   }
 
   module _ (now new : ServiceView D) (event : Happening) (goes : Takes sectors honest history now event new) where
@@ -453,6 +453,19 @@ module _ {D : Type 0} (sectors : D → ℕ) (honest : D → Type 0) (history : D
       → Takes sectors honest history now event new → TakesAll sectors honest history old (events ++ event ∷ []) new
   events_on old now new [] event so goes = (new, subst (λ (s : ServiceView D). Takes sectors honest history s event new) so goes, refl)
   events_on old now new (first ∷ events) event so goes = (so.0, so.1, events_on so.0 now new events event so.2 goes)
+
+  -- the beginning and the steps of a publication, and one step more
+  pub one_step_more : (first old new : ServiceView D) (before : List (Result ℕ ServiceFault)) (last outcome : Result ℕ ServiceFault)
+      → HasRun first (begin_and_steps (before ++ last ∷ [])) old → TakesAll sectors honest history first (begin_and_steps (before ++ last ∷ [])) old
+      → Takes sectors honest history old (step outcome) new
+      → HasRun first (begin_and_steps ((before ++ last ∷ []) ++ outcome ∷ [])) new
+      × TakesAll sectors honest history first (begin_and_steps ((before ++ last ∷ []) ++ outcome ∷ [])) new
+  one_step_more first old new before last outcome run taken goes = (
+    steps_more (λ (l : List Happening). HasRun first l new) before last outcome
+        (run_on first old new (begin_and_steps (before ++ last ∷ [])) (step outcome) run goes),
+    steps_more (λ (l : List Happening). TakesAll sectors honest history first l new) before last outcome
+        (events_on first old new (begin_and_steps (before ++ last ∷ [])) (step outcome) taken goes),
+  )
 
   -- What a run says of itself.
   pub takes_run : (old : ServiceView D) (events : List Happening) (now : ServiceView D) → HasRun old events now
