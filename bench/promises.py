@@ -17,8 +17,15 @@ NAME = r"`((?:\w+::)+\w+)`"
 LIST = r"(?: \(((?:`\w+`(?:, )?)+)\))?"
 
 
+def fields_of(crate, record):
+    """The names of the fields of a record in a crate's specs/."""
+    texts = [specs.read_text() for specs in (CRATES / crate / "specs").rglob("*.antt")]
+    bodies = [body for text in texts for body in re.findall(rf"^ *pub record {record} .*\n(?:.+\n)*", text, re.M)]
+    return [field for body in bodies for field in re.findall(r"^ +pub (\w+) :", body, re.M)]
+
+
 def functions_of(crate):
-    """The names of a crate's functions, each with the clauses of all functions of that name."""
+    """The names of a crate's functions, each with the clauses of all functions of that name. A lone clause that is a record counts as its fields."""
     found = {}
     for source in (CRATES / crate / "src").rglob("*.rt"):
         clauses = None
@@ -29,6 +36,9 @@ def functions_of(crate):
             clause = re.match(r"\s*ensures (\w+) \{", line)
             if clause and clauses is not None:
                 clauses.append(clause.group(1))
+            record = re.match(r"\s*ensures \{ (\w+)", line)
+            if record and clauses is not None:
+                clauses += fields_of(crate, record.group(1))
     return found
 
 

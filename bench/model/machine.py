@@ -123,7 +123,7 @@ class Service:
         self.disk, self.version, self.layout, self.root, self.used = disk, found.version, found.layout, found.root, found.used
         self.publication, self.broken, self.attempted = None, False, []
         self.snapshot, self.map, self.last, self.cells = found.snapshot, dict(found.snapshot), found.root.edits, {}
-        self.kept, self.directories, self.published = {}, None, {}
+        self.kept, self.directories = {}, None
         for record in found.records:
             self.apply(record.changes)
 
@@ -231,7 +231,7 @@ class Service:
         root = Root(generation, going.edits, going.place, *going.lengths)
         install(self.disk, root)
         self.root, self.snapshot, self.used = root, going.map, self.used - going.used
-        self.publication, self.directories, self.published = None, None, {}
+        self.publication, self.directories = None, None
 
     def cancel(self):
         self.going()
@@ -263,22 +263,24 @@ class Service:
         return max((self.cells.get(cell, 0) for cell in cells_of_tile(*place)), default=0)
 
     def tile(self, *place):
-        """The bytes of a tile: cached if no edit touched its cells since it was cut; read from the archive if none touched them since it was
-        published; cut otherwise, and if it can't be read."""
+        """The bytes of a tile: cached if no edit touched its cells since the one as of which they are right; read from the archive if none
+        touched them since it was published; cut otherwise, and if it can't be read. If the service is broken, what was read doesn't count."""
         newest = self.newest(place)
-        number, held = self.kept.get(place, (-1, b""))
-        if number >= newest:
+        origin, number, held = self.kept.get(place, ("cut", -1, b""))
+        if number >= newest and (origin == "cut" or not self.broken):
             return held
         held = tile(self.map, *place) if place[0] <= GREATEST_ZOOM else b""
-        if newest <= self.root.edits and not self.broken and self.is_looked_up(place, held):
-            return held
+        if newest <= self.root.edits and not self.broken and self.is_looked_up(place):
+            origin, number = "read", self.root.edits
+        else:
+            origin, number = "cut", self.last
         if held:
-            self.kept[place] = (self.last, held)
+            self.kept[place] = (origin, number, held)
         return held
 
-    def is_looked_up(self, place, held):
+    def is_looked_up(self, place):
         """Looks a tile up in the archive, and returns whether that succeeded. Directories are cached."""
-        if not self.root.archive_len or place in self.published:
+        if not self.root.archive_len:
             return True
         sectors = Consecutive(self.disk, self.archive_at())
         try:
@@ -287,7 +289,6 @@ class Service:
             at = self.directories.find(sectors, id_of(*place))
             if at:
                 sectors.read(*at)
-                self.published[place] = held
         except Failed:
             return False
         return True

@@ -14,8 +14,9 @@ use Rattle.feature_store.specs.Store.{FeatureMap, IsMap, feature_at, with_featur
 use Rattle.feature_store.specs.declared.limit.TheConstants.{TEXTS_END}
 use Rattle.feature_store.proofs.Laws.{layers_outside, map_after_change, snapshot_after_put, snapshot_after_delete}
 use Rattle.tile_cache.specs.Touched.{Mark, Reaches, Remembers}
-use Rattle.tile_cache.specs.declared.kept_tiles.TileCache.{TileCache}
-use Rattle.cached_map.specs.Cached.{CachedView, box_of, with_mark, marks_of, marks_after, IsUntouched, IsCached, WasMap}
+use Rattle.tile_cache.specs.Kept.{CacheView}
+use Rattle.tile_cache.specs.declared.kept_tiles.Origin.{Origin}
+use Rattle.cached_map.specs.Cached.{CachedView, box_of, with_mark, marks_of, marks_after, IsUntouched, AreKept, WasMap}
 use Rattle.cached_map.proofs.Unreached.{IsHidden, layers_put, layers_removed, unreached}
 
 -- ---- features of a map
@@ -70,12 +71,9 @@ pub record IsEdited (old new : CachedView) (marked : List Mark → List Mark) : 
   pub leaves : (marks : List Mark) (z x y n : ℕ) → n ≤ old.last → IsUntouched (marked marks) z x y n → layers new.features z x y ≡ layers old.features z x y
 
 module _ (old new : CachedView) (id : ℕ) where
-  -- the marks of what the number had, and of the feature that it gets
+  -- the marks of what the number had
   abbrev pub removal : List Mark → List Mark
   removal marks = with_mark (feature_at old.features id) new.last marks
-
-  abbrev pub placement : FeatureData → List Mark → List Mark
-  placement f marks = (box_of f, new.last) ∷ removal marks
 
   -- what the tile shows of the number's feature, once an edit with a greater number is known not to reach it
   hidden_before : IsMap old.features → old.last < new.last → (z x y n : ℕ) (marks : List Mark) → is_tile z x y ≡ true → n ≤ old.last
@@ -83,28 +81,6 @@ module _ (old new : CachedView) (id : ℕ) where
   hidden_before is_map later z x y n marks tile below all f is =
       unreached f z x y tile (lies_at old.features id f (in_world old.features is_map) is)
       (beyond f new.last old.last n z x y marks later below (subst (λ o. IsUntouched (with_mark o new.last marks) z x y n) is all))
-
-  pub placed : (f : FeatureData) → LiesInWorld f.geometry → IsMap old.features → old.last < new.last → new.features ≡ with_feature old.features id f
-      → ((marks : List Mark) → Remembers old.touched marks → Remembers new.touched (placement f marks)) → IsEdited old new (placement f)
-  placed f lies is_map later is remembers = record {
-    later = later;
-    remembers = remembers;
-    numbers = λ marks all. All-cons (λ (m : Mark). m.1 ≤ new.last) (box_of f, new.last) (removal marks) (omega arith)
-        (numbers_with (feature_at old.features id) old.last new.last marks later all);
-    before = λ marks z x y n all. rest_of (feature_at old.features id) new.last n z x y marks (rest marks z x y n all);
-    leaves = λ marks z x y n below all.
-        subst (λ m. layers m z x y ≡ layers old.features z x y) (sym is) (go marks z x y n below all (is_tile z x y) refl);
-  }
-    where
-      rest : (marks : List Mark) (z x y n : ℕ) → IsUntouched (placement f marks) z x y n → IsUntouched (removal marks) z x y n
-      rest marks z x y n all = All-tail (λ (m : Mark). Reaches m.0 z x y → m.1 ≤ n) (box_of f, new.last) (removal marks) all
-
-      go : (marks : List Mark) (z x y n : ℕ) → n ≤ old.last → IsUntouched (placement f marks) z x y n
-          → (b : Bool) → is_tile z x y ≡ b → layers (with_feature old.features id f) z x y ≡ layers old.features z x y
-      go marks z x y n below all false none = layers_outside (with_feature old.features id f) z x y none ∙ sym (layers_outside old.features z x y none)
-      go marks z x y n below all true tile = layers_put z x y old.features id f
-          (unreached f z x y tile lies (beyond f new.last old.last n z x y (removal marks) later below all))
-          (hidden_before is_map later z x y n marks tile below (rest marks z x y n all))
 
   pub removed : IsMap old.features → old.last < new.last → new.features ≡ without_feature old.features id
       → ((marks : List Mark) → Remembers old.touched marks → Remembers new.touched (removal marks)) → IsEdited old new removal
@@ -238,17 +214,18 @@ edited_push m cs c = fold-append changed m cs (c ∷ [])
 -- ---- what stays so over an edit
 
 module _ (old new : CachedView) (marked : List Mark → List Mark) (edited : IsEdited old new marked) where
-  pub still_cached : (kept : TileCache) → IsCached old.features old.touched kept old.last → IsCached new.features new.touched kept new.last
-  still_cached kept before = record {
+  pub still_kept : (origin : Origin) (kept : CacheView) → AreKept origin old.features old.touched old.last kept
+      → AreKept origin new.features new.touched new.last kept
+  still_kept origin kept before = record {
     marks = marked before.marks;
     remembers = edited.remembers before.marks before.remembers;
     numbers = edited.numbers before.marks before.numbers;
-    tiles = λ z x y n bytes is.
-        let was = before.tiles z x y n bytes is in
+    tiles = λ z x y t is from.
+        let was = before.tiles z x y t is from in
         record {
           number = omega (arith, was.number, edited.later);
-          tile = λ all. subst (λ ls. IsTileContent ls (Some bytes)) (sym (edited.leaves before.marks z x y n was.number all))
-              (was.tile (edited.before before.marks z x y n all));
+          tile = λ all. subst (λ ls. IsTileContent ls (Some t.bytes)) (sym (edited.leaves before.marks z x y t.number was.number all))
+              (was.tile (edited.before before.marks z x y t.number all));
         };
   }
 

@@ -1,79 +1,206 @@
 -- Kept tiles stay those of the map.
-use Rattle.std.proofs.Common.{◌≡◌, ℕ, ◌≤◌, ◌⊎◌, inl, inr, Bool, true, false, cond, List, [], All}
-use Rattle.std.proofs.Common.{Option, Some, None, refl, sym, subst, ◌∙◌, arith, map}
-use Rattle.std.specs.Prelude.{nat_le, Result, Ok, Err, OnOk, OnErr}
-use Rattle.std.proofs.lemmas.Bool.{leb-true}
-use Rattle.std.proofs.lemmas.List.Elements.{All-nil, All-contains, All-map, All-weaker}
+use Rattle.std.proofs.Common.{◌≡◌, ℕ, ◌+◌, ◌*◌, ◌≤◌, ◌⊎◌, ◌&&◌, inl, inr, Bool, true, false, cond, min, List, [], ◌∷◌, All}
+use Rattle.std.proofs.Common.{Option, Some, None, refl, sym, ap, subst, ◌∙◌, arith, length, map}
+use Rattle.std.specs.Prelude.{nat_le, slice_index, Result, Ok, Err, OnOk, OnErr}
+use Rattle.std.specs.Map.{lookup}
+use Rattle.std.proofs.lemmas.Bool.{leb-true, and_parts, cases_lt}
+use Rattle.std.proofs.lemmas.List.Elements.{All-nil, All-cons, All-head, All-tail, All-contains, All-map, All-weaker}
 use Rattle.feature_store.specs.Content.{IsTileContent}
 use Rattle.feature_store.specs.Layers.{layers}
 use Rattle.feature_store.specs.Store.{FeatureMap}
-use Rattle.tile_cache.specs.Kept.{is_place, kept_at, fresh, KeepsNothing, KeepsSame, KeepsFewer}
-use Rattle.tile_cache.specs.Touched.{Mark, Reaches, Remembers, IsNewest, IsZeroOrMarked}
+use Rattle.tile_cache.specs.Cells.{cell_at}
+use Rattle.tile_cache.specs.Kept.{TileView, CacheView, is_place, kept_at, counts, fresh, IsSmall, KeepsSame, KeepsFewer}
+use Rattle.tile_cache.specs.Touched.{Mark, Reaches, Touches, Remembers, IsNewest, IsNewestOf, IsZeroOrMarked}
+use Rattle.tile_cache.specs.declared.kept_tiles.Origin.{Origin}
+use Rattle.tile_cache.specs.declared.kept_tiles.Origin.TheVariants.{Cut, Read}
 use Rattle.tile_cache.specs.declared.kept_tiles.Place.{Place}
-use Rattle.tile_cache.specs.declared.kept_tiles.TileCache.{TileCache}
+use Rattle.tile_cache.specs.declared.kept_tiles.TheConstants.{MOST_BYTES_OF_ONE}
+use Rattle.tile_cache.proofs.Marks.{marked_more, reached_at_most}
 use Rattle.tile_cache.proofs.Places.{place_is}
-use Rattle.cached_map.specs.Cached.{IsUntouched, IsKept, IsCached, WasMap}
+use Rattle.cached_map.specs.Cached.{IsUntouched, IsKept, AreKept, AreReadRight, KeepsOrNot, MayKeep, WasMap}
+
+none_is_none : {T : Type 0} {t : T} → ◌≡◌ {A = Option T} None (Some t) → ⊥
+none_is_none is = cc
+
+of_some : {T : Type 0} {s t : T} → Some s ≡ Some t → s ≡ t
+of_some same = cc
+
+cut_is_not_read : Cut ≡ Read → ⊥
+cut_is_not_read is = cc
+
+-- ---- marks that are joined
+
+-- marks with numbers up to the last, before others
+abbrev with_marks : (last : ℕ) → List Mark → List Mark → List Mark
+with_marks last [] marks = marks
+with_marks last (m ∷ ms) marks = (m.0, min m.1 last) ∷ with_marks last ms marks
+
+at_most : (marks : List Mark) (n last : ℕ) → All (λ k. k.1 ≤ last) marks → IsZeroOrMarked marks n → n ≤ last
+at_most marks n last all (inl none) = omega (arith, none)
+at_most marks n last all (inr has) =
+    All-contains (λ k. k ≤ last) (map (λ (k : Mark). k.1) marks) n (All-map (λ k. k ≤ last) (λ (k : Mark). k.1) marks all) has
+
+module _ (last : ℕ) where
+  numbers_joined : (ms marks : List Mark) → All (λ (m : Mark). m.1 ≤ last) marks → All (λ (m : Mark). m.1 ≤ last) (with_marks last ms marks)
+  numbers_joined [] marks all = all
+  numbers_joined (m ∷ ms) marks all =
+      All-cons (λ (k : Mark). k.1 ≤ last) (m.0, min m.1 last) (with_marks last ms marks) (omega arith) (numbers_joined ms marks all)
+
+  only_joined : (ms marks : List Mark) (n : ℕ) → IsZeroOrMarked marks n → IsZeroOrMarked (with_marks last ms marks) n
+  only_joined [] marks n is = is
+  only_joined (m ∷ ms) marks n is = marked_more (m.0, min m.1 last) (with_marks last ms marks) n (only_joined ms marks n is)
+
+  reached_joined : (cells : List ℕ) (column row : ℕ) (ms marks : List Mark)
+      → All (λ (m : Mark). Touches m.0 column row → m.1 ≤ cell_at cells column row) ms
+      → All (λ (m : Mark). Touches m.0 column row → m.1 ≤ cell_at cells column row) marks
+      → All (λ (m : Mark). Touches m.0 column row → m.1 ≤ cell_at cells column row) (with_marks last ms marks)
+  reached_joined cells column row [] marks of_ms all = all
+  reached_joined cells column row (m ∷ ms) marks of_ms all =
+      let P : Mark → Type 0 = λ k. Touches k.0 column row → k.1 ≤ cell_at cells column row in
+      All-cons P (m.0, min m.1 last) (with_marks last ms marks) (λ touches. omega (arith, All-head P m ms of_ms touches))
+      (reached_joined cells column row ms marks (All-tail P m ms of_ms) all)
+
+  remembers_joined : (cells : List ℕ) (ms marks : List Mark) → Remembers cells ms → Remembers cells marks → Remembers cells (with_marks last ms marks)
+  remembers_joined cells ms marks of_ms of_marks = record {
+    reached = λ column row. reached_joined cells column row ms marks (of_ms.reached column row) (of_marks.reached column row);
+    only = λ at. only_joined ms marks (slice_index cells at) (of_marks.only at);
+  }
+
+  module _ (z x y n : ℕ) where
+    -- what no joined mark reaches, the others don't reach
+    untouched_others : (ms marks : List Mark) → IsUntouched (with_marks last ms marks) z x y n → IsUntouched marks z x y n
+    untouched_others [] marks all = all
+    untouched_others (m ∷ ms) marks all =
+        untouched_others ms marks (All-tail (λ (k : Mark). Reaches k.0 z x y → k.1 ≤ n) (m.0, min m.1 last) (with_marks last ms marks) all)
+
+    -- nor do the first ones, where the number of each that reaches the tile is at most the last
+    untouched_first : (ms marks : List Mark) → All (λ (m : Mark). Reaches m.0 z x y → m.1 ≤ last) ms
+        → IsUntouched (with_marks last ms marks) z x y n → IsUntouched ms z x y n
+    untouched_first [] marks low all = All-nil (λ (k : Mark). Reaches k.0 z x y → k.1 ≤ n)
+    untouched_first (m ∷ ms) marks low all =
+        let P : Mark → Type 0 = λ k. Reaches k.0 z x y → k.1 ≤ n in
+        let L : Mark → Type 0 = λ k. Reaches k.0 z x y → k.1 ≤ last in
+        All-cons P m ms (λ reaches. omega (arith, All-head P (m.0, min m.1 last) (with_marks last ms marks) all reaches, All-head L m ms low reaches))
+        (untouched_first ms marks (All-tail L m ms low) (All-tail P (m.0, min m.1 last) (with_marks last ms marks) all))
 
 -- ---- what is kept
 
-pub nothing_kept : (m : FeatureMap) (cells : List ℕ) (kept : TileCache) (last : ℕ) → Remembers cells [] → KeepsNothing kept → IsCached m cells kept last
-nothing_kept m cells kept last none nothing = record {
-  marks = [];
-  remembers = none;
-  numbers = All-nil (λ (k : Mark). k.1 ≤ last);
-  tiles = λ z x y n bytes is. absurd (never (sym (nothing.tiles z x y) ∙ is));
-}
+module _ (origin : Origin) (m : FeatureMap) (cells : List ℕ) (last : ℕ) where
+  pub nothing_kept : (kept : CacheView) → Remembers cells [] → kept.kept ≡ [] → AreKept origin m cells last kept
+  nothing_kept kept none nothing = record {
+    marks = [];
+    remembers = none;
+    numbers = All-nil (λ (k : Mark). k.1 ≤ last);
+    tiles = λ z x y t is from.
+        let found : kept_at kept z x y ≡ None = ap (λ es. lookup (is_place (record { z = z; x = x; y = y })) es) nothing in
+        absurd (none_is_none (sym found ∙ is));
+  }
+
+  pub same_kept : (old new : CacheView) → KeepsSame old new → AreKept origin m cells last old → AreKept origin m cells last new
+  same_kept old new same before = record {
+    marks = before.marks;
+    remembers = before.remembers;
+    numbers = before.numbers;
+    tiles = λ z x y t is from. before.tiles z x y t (sym (same.tiles z x y) ∙ is) from;
+  }
+
+  -- a tile more, which is that of the map if it is of this origin
+  one_kept : (old new : CacheView) (z x y : ℕ) (t : TileView) (before : AreKept origin m cells last old)
+      → (t.origin ≡ origin → IsKept m before.marks last z x y t)
+      → kept_at new z x y ≡ Some t → KeepsFewer z x y old new → AreKept origin m cells last new
+  one_kept old new z x y t before tile here others = record {
+    marks = before.marks;
+    remembers = before.remembers;
+    numbers = before.numbers;
+    tiles = λ z' x' y' s is from. go z' x' y' s is from (is_place (record { z = z; x = x; y = y }) (record { z = z'; x = x'; y = y' })) refl;
+  }
+    where
+      there : (s : TileView) → kept_at new z x y ≡ Some s → s.origin ≡ origin → IsKept m before.marks last z x y s
+      there s is =
+          let same : t ≡ s = of_some (sym here ∙ is) in
+          subst (λ (k : TileView). k.origin ≡ origin → IsKept m before.marks last z x y k) same tile
+
+      elsewhere : (z' x' y' : ℕ) (s : TileView) → kept_at new z' x' y' ≡ Some s → s.origin ≡ origin
+          → (kept_at new z' x' y' ≡ kept_at old z' x' y') ⊎ (kept_at new z' x' y' ≡ None) → IsKept m before.marks last z' x' y' s
+      elsewhere z' x' y' s is from (inl same) = before.tiles z' x' y' s (sym same ∙ is) from
+      elsewhere z' x' y' s is from (inr none) = absurd (none_is_none (sym none ∙ is))
+
+      go : (z' x' y' : ℕ) (s : TileView) → kept_at new z' x' y' ≡ Some s → s.origin ≡ origin → (same : Bool)
+          → is_place (record { z = z; x = x; y = y }) (record { z = z'; x = x'; y = y' }) ≡ same → IsKept m before.marks last z' x' y' s
+      go z' x' y' s is from false other = elsewhere z' x' y' s is from (others z' x' y' other)
+      go z' x' y' s is from true same =
+          let place : (record { z = z; x = x; y = y }) ≡ (record { z = z'; x = x'; y = y' }) = place_is _ _ same in
+          subst (λ (p : Place). kept_at new p.z p.x p.y ≡ Some s → IsKept m before.marks last p.z p.x p.y s) place (λ h. there s h from) is
+
+  -- a tile more, or the same
+  pub one_or_same : (old new : CacheView) (z x y : ℕ) (t : TileView) (before : AreKept origin m cells last old)
+      → (t.origin ≡ origin → IsKept m before.marks last z x y t) → KeepsOrNot z x y t old new → AreKept origin m cells last new
+  one_or_same old new z x y t before tile (inl kept) = one_kept old new z x y t before tile kept.0 kept.1
+  one_or_same old new z x y t before tile (inr same) = subst (AreKept origin m cells last) (sym same) before
+
+  -- marks more that the cells remember
+  abbrev joined : (kept : CacheView) (marks : List Mark) → Remembers cells marks → AreKept origin m cells last kept → AreKept origin m cells last kept
+  joined kept marks remembers before = record {
+    marks = with_marks last marks before.marks;
+    remembers = remembers_joined last cells marks before.marks remembers before.remembers;
+    numbers = numbers_joined last marks before.marks before.numbers;
+    tiles = λ z x y t is from. let was = before.tiles z x y t is from in record {
+      number = was.number;
+      tile = λ all. was.tile (untouched_others last z x y t.number marks before.marks all);
+    };
+  }
+
+-- what was cut of the map as it is
+pub cut_kept : (m : FeatureMap) (cells : List ℕ) (last : ℕ) (old new : CacheView) (z x y : ℕ) (bytes : List ℕ)
+    → IsTileContent (layers m z x y) (Some bytes) → KeepsOrNot z x y (record { origin = Cut; number = last; bytes = bytes }) old new
+    → AreKept Cut m cells last old → AreKept Cut m cells last new
+cut_kept m cells last old new z x y bytes content kept before =
+    one_or_same Cut m cells last old new z x y (record { origin = Cut; number = last; bytes = bytes }) before
+    (λ from. record { number = omega arith; tile = λ all. content }) kept
+
+pub cut_beside_reads : (m : FeatureMap) (cells : List ℕ) (last number : ℕ) (old new : CacheView) (z x y : ℕ) (bytes : List ℕ)
+    → KeepsOrNot z x y (record { origin = Cut; number = number; bytes = bytes }) old new → AreReadRight m cells last old → AreReadRight m cells last new
+cut_beside_reads m cells last number old new z x y bytes kept before =
+    one_or_same Read m cells last old new z x y (record { origin = Cut; number = number; bytes = bytes }) before
+    (λ from. absurd (cut_is_not_read from)) kept
+
+pub read_beside_cut : (m : FeatureMap) (cells : List ℕ) (last number : ℕ) (old new : CacheView) (z x y : ℕ) (bytes : List ℕ)
+    → KeepsOrNot z x y (record { origin = Read; number = number; bytes = bytes }) old new → AreKept Cut m cells last old → AreKept Cut m cells last new
+read_beside_cut m cells last number old new z x y bytes kept before =
+    one_or_same Cut m cells last old new z x y (record { origin = Read; number = number; bytes = bytes }) before
+    (λ from. absurd (cut_is_not_read (sym from))) kept
+
+-- what was read of an earlier map that has the layers of this one where no edit behind its number reaches
+pub read_kept : (m : FeatureMap) (cells : List ℕ) (last number : ℕ) (old new : CacheView) (z x y : ℕ) (bytes : List ℕ) (was : FeatureMap)
+    → KeepsOrNot z x y (record { origin = Read; number = number; bytes = bytes }) old new
+    → WasMap m cells last number was → IsTileContent (layers was z x y) (Some bytes) → AreReadRight m cells last old → AreReadRight m cells last new
+read_kept m cells last number old new z x y bytes was kept earlier content before =
+    one_or_same Read m cells last old new z x y (record { origin = Read; number = number; bytes = bytes })
+    (joined Read m cells last old earlier.marks earlier.remembers before) (λ from. record {
+      number = earlier.number;
+      tile = λ all. subst (λ ls. IsTileContent ls (Some bytes))
+          (sym (earlier.tiles z x y (untouched_first last z x y number earlier.marks before.marks low all))) content;
+    }) kept
   where
-    never : {t : ℕ × List ℕ} → ◌≡◌ {A = Option (ℕ × List ℕ)} None (Some t) → ⊥
-    never is = cc
+    low : All (λ (k : Mark). Reaches k.0 z x y → k.1 ≤ last) earlier.marks
+    low = reached_at_most cells earlier.marks z x y last
+        (λ column row has. at_most before.marks (cell_at cells column row) last before.numbers (before.remembers.only (32 * row + column)))
+        earlier.remembers
 
-pub same_kept : (m : FeatureMap) (cells : List ℕ) (old new : TileCache) (last : ℕ) → KeepsSame old new → IsCached m cells old last → IsCached m cells new last
-same_kept m cells old new last same before = record {
-  marks = before.marks;
-  remembers = before.remembers;
-  numbers = before.numbers;
-  tiles = λ z x y n bytes is. before.tiles z x y n bytes (sym (same.tiles z x y) ∙ is);
-}
+-- ---- a tile that is offered to be kept
 
--- a tile more
-pub one_kept : (m : FeatureMap) (cells : List ℕ) (old new : TileCache) (last z x y : ℕ) (bytes : List ℕ) → IsTileContent (layers m z x y) (Some bytes)
-    → kept_at new z x y ≡ Some (last, bytes) → KeepsFewer z x y old new → IsCached m cells old last → IsCached m cells new last
-one_kept m cells old new last z x y bytes content here others before = record {
-  marks = before.marks;
-  remembers = before.remembers;
-  numbers = before.numbers;
-  tiles = λ z' x' y' n b is. go z' x' y' n b is (is_place (record { z = z; x = x; y = y }) (record { z = z'; x = x'; y = y' })) refl;
-}
-  where
-    there : (n : ℕ) (b : List ℕ) → kept_at new z x y ≡ Some (n, b) → IsKept m before.marks last z x y n b
-    there n b is =
-        let same : (last, bytes) ≡ (n, b) = of_some (sym here ∙ is) in
-        subst (λ t. IsKept m before.marks last z x y t.0 t.1) same (record { number = omega arith; tile = λ all. content })
-      where
-        of_some : {s t : ℕ × List ℕ} → Some s ≡ Some t → s ≡ t
-        of_some same = cc
+pub keeps_or_not : {T E : Type 0} (r : Result T E) (old new : CacheView) (z x y : ℕ) (t : TileView)
+    → OnOk r (IsSmall t.bytes → kept_at new z x y ≡ Some t) → (¬ IsSmall t.bytes → new ≡ old) → OnOk r (KeepsFewer z x y old new)
+    → OnErr r (new ≡ old) → KeepsOrNot z x y t old new
+keeps_or_not (Ok done) old new z x y t kept large others same = elim (cases_lt MOST_BYTES_OF_ONE (length t.bytes)) [
+  | inl more ↦ inr (large (λ small. absurd (omega (arith, more, small))))
+  | inr small ↦ inl (kept small, others)
+]
+keeps_or_not (Err fault) old new z x y t kept large others same = inr same
 
-    elsewhere : (z' x' y' n : ℕ) (b : List ℕ) → kept_at new z' x' y' ≡ Some (n, b)
-        → (kept_at new z' x' y' ≡ kept_at old z' x' y') ⊎ (kept_at new z' x' y' ≡ None) → IsKept m before.marks last z' x' y' n b
-    elsewhere z' x' y' n b is (inl same) = before.tiles z' x' y' n b (sym same ∙ is)
-    elsewhere z' x' y' n b is (inr none) = absurd (never (sym none ∙ is))
-      where
-        never : {t : ℕ × List ℕ} → ◌≡◌ {A = Option (ℕ × List ℕ)} None (Some t) → ⊥
-        never is = cc
-
-    go : (z' x' y' n : ℕ) (b : List ℕ) → kept_at new z' x' y' ≡ Some (n, b) → (same : Bool)
-        → is_place (record { z = z; x = x; y = y }) (record { z = z'; x = x'; y = y' }) ≡ same → IsKept m before.marks last z' x' y' n b
-    go z' x' y' n b is false other = elsewhere z' x' y' n b is (others z' x' y' other)
-    go z' x' y' n b is true same =
-        let place : (record { z = z; x = x; y = y }) ≡ (record { z = z'; x = x'; y = y' }) = place_is _ _ same in
-        subst (λ (p : Place). kept_at new p.z p.x p.y ≡ Some (n, b) → IsKept m before.marks last p.z p.x p.y n b) place (there n b) is
-
--- a tile more, or the same
-pub kept_or_not : {T E : Type 0} (r : Result T E) (m : FeatureMap) (cells : List ℕ) (old new : TileCache) (last z x y : ℕ) (bytes : List ℕ)
-    → IsTileContent (layers m z x y) (Some bytes) → OnOk r (kept_at new z x y ≡ Some (last, bytes)) → OnOk r (KeepsFewer z x y old new)
-    → OnErr r (KeepsSame old new) → IsCached m cells old last → IsCached m cells new last
-kept_or_not (Ok done) m cells old new last z x y bytes content here others same before = one_kept m cells old new last z x y bytes content here others before
-kept_or_not (Err fault) m cells old new last z x y bytes content here others same before = same_kept m cells old new last same before
+pub may_keep : (old new : CacheView) (z x y : ℕ) (t : TileView) → KeepsOrNot z x y t old new → MayKeep z x y t old new
+may_keep old new z x y t (inl kept) = inl (λ small. kept.0, kept.1)
+may_keep old new z x y t (inr same) = inr same
 
 -- ---- the newest edit that reaches a tile
 
@@ -83,10 +210,21 @@ untouched_behind marks z x y newest n is le =
     All-weaker (λ (k : Mark). Reaches k.0 z x y → k.1 ≤ newest) (λ (k : Mark). Reaches k.0 z x y → k.1 ≤ n)
     (λ k h reaches. omega (arith, h reaches, le)) marks is.reached
 
-at_most : (marks : List Mark) (n last : ℕ) → All (λ k. k.1 ≤ last) marks → IsZeroOrMarked marks n → n ≤ last
-at_most marks n last all (inl none) = omega (arith, none)
-at_most marks n last all (inr has) =
-    All-contains (λ k. k ≤ last) (map (λ (k : Mark). k.1) marks) n (All-map (λ k. k ≤ last) (λ (k : Mark). k.1) marks all) has
+-- cells have one newest edit of a tile
+one_newest : (cells : List ℕ) (z x y m n : ℕ) → IsNewestOf cells z x y m → IsNewestOf cells z x y n → m ≡ n
+one_newest cells z x y m n of_m of_n = omega (arith, below m n of_m of_n, below n m of_n of_m)
+  where
+    below : (a b : ℕ) → IsNewestOf cells z x y a → IsNewestOf cells z x y b → a ≤ b
+    below a b of_a of_b = elim (of_a.found) [
+      | inl none ↦ omega (arith, none)
+      | inr one ↦ omega (arith, one.3, of_b.reached one.0 one.1 one.2)
+    ]
+
+-- what is fresh is the same where the same is kept
+pub fresh_same : (cells : List ℕ) (old new : CacheView) (z x y m n : ℕ) (reads : Bool) (found : Option (List ℕ)) → KeepsSame old new
+    → IsNewestOf cells z x y m → IsNewestOf cells z x y n → found ≡ fresh m reads (kept_at new z x y) → found ≡ fresh n reads (kept_at old z x y)
+fresh_same cells old new z x y m n reads found same of_m of_n is =
+    is ∙ ap (λ k. fresh k reads (kept_at new z x y)) (one_newest cells z x y m n of_m of_n) ∙ ap (fresh n reads) (same.tiles z x y)
 
 module _ (z x y newest : ℕ) where
   -- an earlier map whose number isn't below it has the same layers
@@ -95,31 +233,45 @@ module _ (z x y newest : ℕ) where
       → layers m z x y ≡ layers was z x y
   same_since m cells last n was newest_is h le = h.tiles z x y (untouched_behind h.marks z x y newest n (newest_is h.marks h.remembers) le)
 
-  pub newest_most : (m : FeatureMap) (cells : List ℕ) (kept : TileCache) (last : ℕ) → IsCached m cells kept last
+  pub newest_most : (origin : Origin) (m : FeatureMap) (cells : List ℕ) (last : ℕ) (kept : CacheView) → AreKept origin m cells last kept
       → ((marks : List Mark) → Remembers cells marks → IsNewest marks z x y newest) → newest ≤ last
-  newest_most m cells kept last cached newest_is =
-      at_most cached.marks newest last cached.numbers (newest_is cached.marks cached.remembers).only
+  newest_most origin m cells last kept are newest_is = at_most are.marks newest last are.numbers (newest_is are.marks are.remembers).only
 
 -- ---- what is found
 
 -- a tile that is new enough is that of the map
-pub found_is : (m : FeatureMap) (cells : List ℕ) (kept : TileCache) (last z x y newest : ℕ) (bytes : List ℕ) → IsCached m cells kept last
-    → ((marks : List Mark) → Remembers cells marks → IsNewest marks z x y newest) → Some bytes ≡ fresh newest (kept_at kept z x y)
+right_since : (origin : Origin) (m : FeatureMap) (cells : List ℕ) (last : ℕ) (kept : CacheView) (z x y newest : ℕ) (t : TileView)
+    → AreKept origin m cells last kept → t.origin ≡ origin
+    → ((marks : List Mark) → Remembers cells marks → IsNewest marks z x y newest) → kept_at kept z x y ≡ Some t → newest ≤ t.number
+    → IsTileContent (layers m z x y) (Some t.bytes)
+right_since origin m cells last kept z x y newest t are from newest_is here le =
+    (are.tiles z x y t here from).tile (untouched_behind are.marks z x y newest t.number (newest_is are.marks are.remembers) le)
+
+-- a tile that counts is
+right_origin : (m : FeatureMap) (cells : List ℕ) (last : ℕ) (kept : CacheView) (z x y newest : ℕ) (reads : Bool) (t : TileView)
+    → (from : Origin) → t.origin ≡ from → counts reads from ≡ true
+    → AreKept Cut m cells last kept → (reads ≡ true → AreReadRight m cells last kept)
+    → ((marks : List Mark) → Remembers cells marks → IsNewest marks z x y newest) → kept_at kept z x y ≡ Some t → newest ≤ t.number
+    → IsTileContent (layers m z x y) (Some t.bytes)
+right_origin m cells last kept z x y newest reads t Cut from counted cut read newest_is here le =
+    right_since Cut m cells last kept z x y newest t cut from newest_is here le
+right_origin m cells last kept z x y newest reads t Read from counted cut read newest_is here le =
+    right_since Read m cells last kept z x y newest t (read counted) from newest_is here le
+
+pub found_is : (m : FeatureMap) (cells : List ℕ) (last : ℕ) (kept : CacheView) (z x y newest : ℕ) (reads : Bool) (bytes : List ℕ)
+    → AreKept Cut m cells last kept → (reads ≡ true → AreReadRight m cells last kept)
+    → ((marks : List Mark) → Remembers cells marks → IsNewest marks z x y newest) → Some bytes ≡ fresh newest reads (kept_at kept z x y)
     → IsTileContent (layers m z x y) (Some bytes)
-found_is m cells kept last z x y newest bytes cached newest_is is = go (kept_at kept z x y) refl is
+found_is m cells last kept z x y newest reads bytes cut read newest_is is = go (kept_at kept z x y) refl is
   where
-    go : (o : Option (ℕ × List ℕ)) → kept_at kept z x y ≡ o → Some bytes ≡ fresh newest o → IsTileContent (layers m z x y) (Some bytes)
-    go None here is = cc
-    go (Some t) here is = by (nat_le newest t.0) refl is
+    go : (o : Option TileView) → kept_at kept z x y ≡ o → Some bytes ≡ fresh newest reads o → IsTileContent (layers m z x y) (Some bytes)
+    go None here is = absurd (none_is_none (sym is))
+    go (Some t) here is = by (nat_le newest t.number && counts reads t.origin) refl is
       where
-        by : (b : Bool) → nat_le newest t.0 ≡ b → Some bytes ≡ cond b (Some t.1) None → IsTileContent (layers m z x y) (Some bytes)
-        by false old is = cc
+        by : (b : Bool) → (nat_le newest t.number && counts reads t.origin) ≡ b → Some bytes ≡ cond b (Some t.bytes) None
+            → IsTileContent (layers m z x y) (Some bytes)
+        by false old is = absurd (none_is_none (sym is))
         by true new is =
-            let le = leb-true newest t.0 new in
-            let same : t.1 ≡ bytes = of_some (sym is) in
-            subst (λ b. IsTileContent (layers m z x y) (Some b)) same
-            ((cached.tiles z x y t.0 t.1 here).tile
-            (untouched_behind cached.marks z x y newest t.0 (newest_is cached.marks cached.remembers) le))
-          where
-            of_some : {a b : List ℕ} → Some a ≡ Some b → a ≡ b
-            of_some same = cc
+            let parts = and_parts (nat_le newest t.number) (counts reads t.origin) new in
+            subst (λ b. IsTileContent (layers m z x y) (Some b)) (of_some (sym is))
+            (right_origin m cells last kept z x y newest reads t t.origin refl parts.1 cut read newest_is here (leb-true newest t.number parts.0))

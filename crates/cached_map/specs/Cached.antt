@@ -9,7 +9,7 @@ use Rattle.feature_store.specs.Store.{FeatureMap, feature_at, changed}
 use Rattle.tile_cache.specs.Kept.{TileView, CacheView, kept_at, IsSmall, KeepsFewer}
 use Rattle.tile_cache.specs.Touched.{Mark, Reaches, Remembers}
 use Rattle.tile_cache.specs.declared.kept_tiles.Origin.{Origin}
-use Rattle.tile_cache.specs.declared.kept_tiles.Origin.TheVariants.{Cut, Read}
+use Rattle.tile_cache.specs.declared.kept_tiles.Origin.TheVariants.{Read}
 use Rattle.tile_cutter.specs.WorldBox.{bounding_box}
 
 -- what contracts see: the map, how many features it takes without memory, the number of its last edit, the newest edit of each cell of
@@ -73,6 +73,10 @@ pub record AreKept (origin : Origin) (m : FeatureMap) (cells : List ℕ) (last :
 -- what was read and kept can be relied on: what it was read from told the truth
 abbrev pub AreReadRight : FeatureMap → (cells : List ℕ) → (last : ℕ) → CacheView → Type 0
 AreReadRight = AreKept Read
+
+-- this tile is kept for its place, and others may have given way for it; or the same is kept as before
+abbrev pub KeepsOrNot : (z x y : ℕ) → TileView → (old new : CacheView) → Type 0
+KeepsOrNot z x y t old new = ((kept_at new z x y ≡ Some t) × KeepsFewer z x y old new) ⊎ (new ≡ old)
 
 -- This tile is kept for its place, unless it is too large, and others may have given way for it; or, where memory is refused, the same is
 -- kept as before.

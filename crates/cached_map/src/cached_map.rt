@@ -1,4 +1,5 @@
-ghost use Rattle.std.specs.Prelude.{◌≡◌, ◌↔◌, ◌≢◌, ◌<◌, ◌≤◌, ◌+◌, ℕ, List, [], ◌∷◌, length, map, All, IsSome, IsTrue, Some, None, IfOk, IfSome, OnOk, OnErr, option_map};
+ghost use Rattle.std.specs.Prelude.{◌≡◌, ◌↔◌, ◌≢◌, ◌<◌, ◌≤◌, ◌+◌, ℕ, List, [], ◌∷◌, length, map, All, true, Some, None};
+ghost use Rattle.std.specs.Prelude.{IsSome, IsTrue, IfOk, IfSome, OnOk, OnErr, option_map};
 ghost use Rattle.feature_model.specs.Data.{feature_data, put, change_data};
 ghost use Rattle.feature_model.specs.Spelled.{spelled_changes};
 ghost use Rattle.feature_model.specs.Types.{IsChange};
@@ -9,7 +10,7 @@ ghost use Rattle.feature_store.specs.declared.limit.TheConstants.{TEXTS_END};
 ghost use Rattle.tile_cache.specs.Kept.{kept_at, fresh, KeepsSame};
 ghost use Rattle.tile_cache.specs.Touched.{Mark, Remembers, IsNewest, IsNewestOf};
 ghost use Rattle.tile_cache.specs.declared.kept_tiles.Origin.TheVariants.{Cut, Read};
-ghost use Rattle.cached_map.specs.Cached.{box_of, with_mark, marks_of, marks_after, WasMap, AreReadRight, MayKeep};
+ghost use Rattle.cached_map.specs.Cached.{box_of, with_mark, marks_of, marks_after, WasMap, AreReadRight, KeepsOrNot, MayKeep};
 
 use box_index::WorldBox;
 use feature_model::{Change, Feature};
@@ -18,7 +19,7 @@ use hilbert_id::TileAt;
 use mvt_write::write_tile;
 use std::alloc::{AllocError, Global};
 use std::marker::Model;
-use tile_cache::{TileCache, TouchGrid};
+use tile_cache::{KeptTile, Origin, TileCache, TouchGrid};
 use tile_cutter::bounding_box;
 
 /// A map, the newest edit of each part of the world, and tiles that were made of it.
@@ -102,6 +103,27 @@ fn make_each(store: &mut Store, touched: &mut TouchGrid, changes: Vec<Change>, n
 {
     for change in changes {
         make_one(store, touched, change, number);
+    }
+}
+
+/// Keeps a copy of the bytes of a tile, if memory is there for it.
+fn keep_copy(
+    kept: &mut TileCache,
+    alloc: Global,
+    at: TileAt,
+    origin: Origin,
+    number: u64,
+    bytes: &[u8],
+)
+    ensures { KeepsOrNot at.z at.x at.y (record { origin = origin; number = number; bytes = bytes.now }) kept.old kept.new }
+{
+    if let Ok(bytes) = Vec::from_slice(alloc, bytes) {
+        let tile = KeptTile {
+            origin,
+            number,
+            bytes,
+        };
+        let _ = kept.keep(at, tile);
     }
 }
 
@@ -212,7 +234,14 @@ impl CachedMap {
         ensures reads { AreReadRight self.old.features self.old.touched self.old.last self.old.kept
             → AreReadRight self.new.features self.new.touched self.new.last self.new.kept }
     {
-        todo
+        keep_copy(
+            &mut self.kept,
+            self.alloc,
+            at,
+            Origin::Cut,
+            self.last,
+            bytes,
+        );
     }
 
     /// Keeps the bytes of a tile that were read elsewhere and are those of the map after the edit of this number, if memory is there for
@@ -225,7 +254,7 @@ impl CachedMap {
             → AreReadRight self.old.features self.old.touched self.old.last self.old.kept
             → AreReadRight self.new.features self.new.touched self.new.last self.new.kept }
     {
-        todo
+        keep_copy(&mut self.kept, self.alloc, at, Origin::Read, number, bytes);
     }
 
     /// The bytes of a tile, cut anew.

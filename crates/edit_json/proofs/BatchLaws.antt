@@ -1,8 +1,8 @@
 -- A value is the value of one edit, or has a first fault, and never both.
-use Rattle.std.proofs.Common.{◌≡◌, ◌≢◌, ◌⊎◌, inl, inr, ⊎_elim, ℕ, ◌+◌, ◌<◌, List, [], ◌∷◌, ◌++◌, length, get_or, map, take, All}
+use Rattle.std.proofs.Common.{◌≡◌, ◌≢◌, ◌⊎◌, inl, inr, ⊎_elim, ℕ, zero, suc, ◌+◌, ◌<◌, List, [], ◌∷◌, ◌++◌, length, get_or, map, take, All}
 use Rattle.std.proofs.Common.{refl, sym, ap, subst, ◌∙◌, arith}
 use Rattle.std.proofs.lemmas.Bool.{cases_eq}
-use Rattle.std.proofs.lemmas.List.{get_or-map, get_or_default, length-map, map-append, map_more, take-map}
+use Rattle.std.proofs.lemmas.List.{get_or-map, get_or_default, length-map, map-append, map_more, take-map, take_all}
 use Rattle.std.proofs.lemmas.List.Elements.{All-head, All-tail, All-map}
 use Rattle.serde_json.specs.Data.{Data}
 use Rattle.serde_json.specs.View.{view, items_of}
@@ -16,7 +16,8 @@ use Rattle.edit_json.specs.Asked.{asked_data}
 use Rattle.edit_json.specs.Json.{name_bytes, outline_of, json_of}
 use Rattle.edit_json.specs.Faults.{IsFeature}
 use Rattle.edit_json.specs.Batches.{AskedData, put_asked, delete_asked, asked_number, asked_json, asked_of, list_json, asks_json}
-use Rattle.edit_json.specs.Batches.{IsJsonChange, IsBatch, HasMembers, Asks, NumbersDiffer, IsSound, IsFirstAskedFault, IsFirstAsked, IsFirstBatchFault}
+use Rattle.edit_json.specs.Batches.{IsJsonChange, IsBatch, HasMembers, Asks, BeginsAsked, NumbersDiffer}
+use Rattle.edit_json.specs.Batches.{IsSound, IsFirstAskedFault, IsFirstAsked, IsFirstBatchFault}
 use Rattle.edit_json.proofs.FaultLaws.{feature-one, feature-faultless}
 
 -- ---- a value asks for one list of changes
@@ -194,6 +195,17 @@ read-more vs i v ys a l is here so_far =
     map_more view vs i v l ∙ ap (λ ds. ds ++ view (get_or vs i v) ∷ []) so_far
     ∙ ap (λ d. map asked_json ys ++ d ∷ []) (ap view (sym is) ∙ here) ∙ sym (map-append asked_json ys (a ∷ []))
 
+-- some objects are read, so the first value asks for a change
+pub begins-asked : (vs : List Value) (k : ℕ) (ys : List AskedData) → map view (take k vs) ≡ map asked_json ys → All HasMembers ys
+    → 0 < length ys → BeginsAsked (map view vs)
+begins-asked vs k [] so_far members some = absurd (omega (arith, some))
+begins-asked [] zero (y ∷ ys) so_far members some = absurd (cc)
+begins-asked [] (suc k) (y ∷ ys) so_far members some = absurd (cc)
+begins-asked (v ∷ vs) zero (y ∷ ys) so_far members some = absurd (cc)
+begins-asked (v ∷ vs) (suc k) (y ∷ ys) so_far members some =
+    let first : view v ≡ asked_json y = cc in
+    (y, map view vs, λ j. first j ∷ map view vs, All-head HasMembers y ys members)
+
 -- one that asks for nothing
 pub read-refused : (vs : List Value) (i : ℕ) (v : Value) → i < length vs → v ≡ get_or vs i v
     → ((a : AskedData) → view v ≡ asked_json a → HasMembers a → ⊥)
@@ -264,13 +276,17 @@ twice-never : (a : AskedData) → IsFirstAskedFault a faults.Twice → ⊥
 twice-never (put_asked id d) h = h.1
 twice-never (delete_asked id) h = h
 
+memory-never : (a : AskedData) → IsFirstAskedFault a faults.Memory → ⊥
+memory-never (put_asked id d) h = h
+memory-never (delete_asked id) h = h
+
 pub first-fault : (d : Data) (ys : List AskedData) (e : EditFault) → Asks d ys → AreEnough (length ys) → NumbersDiffer (map asked_number ys)
     → IsFirstAsked ys e → IsFirstBatchFault d e
 first-fault d ys faults.Member asks enough differ first =
     absurd (member-never first.asked (subst HasMembers first.is (asks.members first.index first.asked first.within)) first.fault_is)
 first-fault d ys faults.Batch asks enough differ first = absurd (batch-never first.asked first.fault_is)
 first-fault d ys faults.Twice asks enough differ first = absurd (twice-never first.asked first.fault_is)
-first-fault d ys faults.Memory asks enough differ first = tt
+first-fault d ys faults.Memory asks enough differ first = absurd (memory-never first.asked first.fault_is)
 first-fault d ys e asks enough differ first = (ys, asks, (enough, differ, first))
 
 -- what was read of a list, and what follows from it
@@ -283,6 +299,14 @@ module _ (d : Data) (vs : List Value) (xs : List Asked) (is : d ≡ list_json (m
   few-refused few = (map asked_data xs, asks-read, λ enough. few (subst AreEnough (length-map xs asked_data) enough))
 
   module _ (enough : AreEnough (length xs)) where
+    pub memory-refused : IsFirstBatchFault d faults.Memory
+    memory-refused = (
+      map view vs,
+      is,
+      begins-asked vs (length vs) (map asked_data xs) (ap (map view) (take_all (length vs) vs (omega arith)) ∙ found) members
+          (omega (arith, enough, length-map xs asked_data)),
+    )
+
     enough-asked : AreEnough (length (map asked_data xs))
     enough-asked = subst AreEnough (sym (length-map xs asked_data)) enough
 
@@ -295,14 +319,15 @@ module _ (d : Data) (vs : List Value) (xs : List Asked) (is : d ≡ list_json (m
         differ-there = subst NumbersDiffer numbers differ
 
         pub change-refused : (e : EditFault) → (e ≡ faults.Memory) ⊎ IsFirstAsked (map asked_data xs) e → IsFirstBatchFault d e
-        change-refused e (inl memory) = subst (IsFirstBatchFault d) (sym memory) tt
+        change-refused e (inl memory) = subst (IsFirstBatchFault d) (sym memory) memory-refused
         change-refused e (inr first) = first-fault d (map asked_data xs) e asks-read enough-asked differ-there first
 
         pub batch-read : (cs : EditData) → map asked_data xs ≡ map asked_of cs → All IsJsonChange cs → IsBatch d cs
         batch-read cs are each = batch-found d (map asked_data xs) cs (asks-read.is) are enough-asked differ-there each
 
 -- a list that isn't read
-pub list-refused : (d : Data) (vs : List Value) (e : EditFault) → d ≡ list_json (map view vs) → (e ≡ faults.Memory) ⊎ ((e ≡ faults.Member)
-    × ((ys : List AskedData) → map view vs ≡ map asked_json ys → All HasMembers ys → ⊥)) → IsFirstBatchFault d e
-list-refused d vs e is (inl memory) = subst (IsFirstBatchFault d) (sym memory) tt
+pub list-refused : (d : Data) (vs : List Value) (e : EditFault) → d ≡ list_json (map view vs)
+    → ((e ≡ faults.Memory) × BeginsAsked (map view vs))
+    ⊎ ((e ≡ faults.Member) × ((ys : List AskedData) → map view vs ≡ map asked_json ys → All HasMembers ys → ⊥)) → IsFirstBatchFault d e
+list-refused d vs e is (inl memory) = subst (IsFirstBatchFault d) (sym memory.0) (map view vs, is, memory.1)
 list-refused d vs e is (inr none) = subst (IsFirstBatchFault d) (sym none.0) (none-asked d (map view vs) is none.1)

@@ -107,14 +107,14 @@ is_memory _ = inr (λ e. cc)
 pub geometry-refused : (d : Data) (o : OutlineData) (e : EditFault) → IsOutline d o → NameFits o → RangeFits o
     → (e ≢ faults.Memory → geometry_at o.shape ≡ Err e) → IsFirstJsonFault d e
 geometry-refused d o e h n r met = elim (is_memory e) [
-  | inl m ↦ rw m tt
+  | inl m ↦ rw m (o, h, (n, r))
   | inr other ↦ let is = met other in rw (geometry_at-fault o.shape e is) (o, h, (n, r, no-geometry o e is))
 ]
 
 pub tags-refused : (d : Data) (o : OutlineData) (e : EditFault) → IsOutline d o → NameFits o → RangeFits o → HasGeometry o → HasKeys o
     → (e ≢ faults.Memory → tags_at o.tags ≡ Err e) → IsFirstJsonFault d e
 tags-refused d o e h n r g k met = elim (is_memory e) [
-  | inl m ↦ rw m tt
+  | inl m ↦ rw m (o, h, (n, r))
   | inr other ↦ let is = met other in rw (tags_at-fault o.tags e is) (o, h, (n, r, g, k, no-tags o e is))
 ]
 

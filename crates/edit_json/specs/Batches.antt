@@ -1,5 +1,5 @@
 -- What a JSON value says of an edit: that it is the edit's value, or the first fault that it has.
-use Rattle.std.specs.Prelude.{◌≡◌, ◌≢◌, ℕ, ◌<◌, List, length, get_or, map, take, All, ⊤}
+use Rattle.std.specs.Prelude.{◌≡◌, ◌≢◌, ℕ, ◌<◌, List, ◌∷◌, length, get_or, map, take, All, ⊤}
 use Rattle.serde_json.specs.Data.{unsigned, Data, number, array, object, no_members, member}
 use Rattle.serde_json.specs.View.{items_of}
 use Rattle.feature_model.specs.declared.fault.EditFault.{EditFault}
@@ -68,6 +68,10 @@ pub record Asks (d : Data) (ys : List AskedData) : Type 0 where
 abbrev pub HasAsked : Data → (List AskedData → Type 0) → Type 0
 HasAsked d P = (ys : List AskedData) × Asks d ys × P ys
 
+-- the first value of the list asks for a change, which has its members
+abbrev pub BeginsAsked : List Data → Type 0
+BeginsAsked ds = (a : AskedData) × (rest : List Data) × (ds ≡ asked_json a ∷ rest) × HasMembers a
+
 -- none of the numbers stands before itself
 abbrev pub NumbersDiffer : List ℕ → Type 0
 NumbersDiffer ns = (k d : ℕ) → k < length ns → All (λ n. n ≢ get_or ns k d) (take k ns)
@@ -94,10 +98,10 @@ pub record IsFirstAsked (ys : List AskedData) (fault : EditFault) : Type 0 where
   pub fault_is : IsFirstAskedFault asked fault
 
 -- The fault is the value's, and none before it is: first the members of all, then the count, then the numbers, and then the faults of
--- each change. Out of memory says nothing of the value.
+-- each change. Memory is asked for only once the first value of the list asks for a change.
 abbrev pub IsFirstBatchFault : Data → EditFault → Type 0
 IsFirstBatchFault d faults.Member = (ys : List AskedData) → ¬ Asks d ys
 IsFirstBatchFault d faults.Batch = HasAsked d (λ ys. ¬ AreEnough (length ys))
 IsFirstBatchFault d faults.Twice = HasAsked d (λ ys. AreEnough (length ys) × ¬ NumbersDiffer (map asked_number ys))
-IsFirstBatchFault d faults.Memory = ⊤
+IsFirstBatchFault d faults.Memory = (ds : List Data) × (d ≡ list_json ds) × BeginsAsked ds
 IsFirstBatchFault d fault = HasAsked d (λ ys. AreEnough (length ys) × NumbersDiffer (map asked_number ys) × IsFirstAsked ys fault)

@@ -1,5 +1,5 @@
 -- What a JSON value says of a feature: that it is the feature's value, or the first fault that it has.
-use Rattle.std.specs.Prelude.{◌≡◌, ℕ, ◌<◌, ◌≤◌, List, [], ◌∷◌, length, All, ⊤}
+use Rattle.std.specs.Prelude.{◌≡◌, ℕ, ◌<◌, ◌≤◌, List, [], ◌∷◌, length, All}
 use Rattle.serde_json.specs.Data.{Data, Members, no_members, member}
 use Rattle.feature_model.specs.declared.limits.TheConstants.{MOST_TAGS}
 use Rattle.feature_model.specs.declared.fault.EditFault.{EditFault}
@@ -54,7 +54,7 @@ HasKeys o = (length (names_of o.tags) ≤ MOST_TAGS) × All IsName (names_of o.t
 abbrev pub HasTags : OutlineData → Type 0
 HasTags o = (tags : List TagData) × (o.tags ≡ tags_json tags) × ValuesFit tags
 
--- the fault is the value's, and none before it is; out of memory says nothing of the value
+-- The fault is the value's, and none before it is. Memory is asked for only after the members, the name and the zooms are tested.
 abbrev pub IsFirstJsonFault : Data → EditFault → Type 0
 IsFirstJsonFault d faults.Member = (o : OutlineData) → ¬ IsOutline d o
 IsFirstJsonFault d faults.Layer = HasOutline d (λ o. ¬ NameFits o)
@@ -63,6 +63,6 @@ IsFirstJsonFault d faults.Geometry = HasOutline d (λ o. NameFits o × RangeFits
 IsFirstJsonFault d faults.Tags = HasOutline d (λ o. NameFits o × RangeFits o × HasGeometry o × ¬ HasKeys o)
 IsFirstJsonFault d faults.Value = HasOutline d (λ o.
     NameFits o × RangeFits o × HasGeometry o × HasKeys o × ¬ HasTags o)
-IsFirstJsonFault d faults.Memory = ⊤
+IsFirstJsonFault d faults.Memory = HasOutline d (λ o. NameFits o × RangeFits o)
 -- no other fault is returned
 IsFirstJsonFault d _ = ⊥

@@ -7,7 +7,7 @@ ghost use Rattle.feature_model.specs.Data.{EditData, change_data};
 ghost use Rattle.feature_model.specs.Limits.{AreEnough};
 ghost use Rattle.feature_model.specs.Types.{ChangeFitsTypes};
 ghost use Rattle.edit_json.specs.Asked.{asked_data};
-ghost use Rattle.edit_json.specs.Batches.{AskedData, delete_asked, put_asked, asked_number, asked_json, asked_of, list_json, HasMembers};
+ghost use Rattle.edit_json.specs.Batches.{AskedData, delete_asked, put_asked, asked_number, asked_json, asked_of, list_json, HasMembers, BeginsAsked};
 ghost use Rattle.edit_json.specs.Batches.{IsJsonChange, IsBatch, NumbersDiffer, IsFirstAskedFault, IsFirstAsked, IsFirstBatchFault};
 
 use crate::outline::{next_named, read_outline};
@@ -89,7 +89,7 @@ fn read_asked(value: &Value) -> Option<Asked<'_>>
 fn read_all(alloc: Global, list: &[Value]) -> Result<Vec<Asked<'_>>, EditFault>
     ensures found { IfOk result (λ all. map view list.now ≡ map asked_json (map asked_data all.items)) }
     ensures members { IfOk result (λ all. All HasMembers (map asked_data all.items)) }
-    ensures fault { IfErr result (λ fault. (fault ≡ EditFault.Memory) ⊎ ((fault ≡ EditFault.Member)
+    ensures fault { IfErr result (λ fault. ((fault ≡ EditFault.Memory) × BeginsAsked (map view list.now)) ⊎ ((fault ≡ EditFault.Member)
         × ((ys : List AskedData) → map view list.now ≡ map asked_json ys → All HasMembers ys → ⊥))) }
 {
     let mut all = Vec::new(alloc);

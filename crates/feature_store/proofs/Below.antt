@@ -35,7 +35,7 @@ sorted_push (k ∷ ns) n s low = (along ns s.0, sorted_push ns n s.1 (All-tail (
     along [] a = (last, tt)
     along (j ∷ js) a = (a.0, along js a.1)
 
-no_numbers : IsStrictlySortedBy nat_cmp []
+pub no_numbers : IsStrictlySortedBy nat_cmp []
 unfolding IsStrictlySortedBy
 no_numbers = tt
 
@@ -104,7 +104,7 @@ module _ (m : FeatureMap) where
 -- ---- they are the first of all tiles
 
 -- a number among ascending ones isn't below the first
-first_least : (k n : ℕ) (ns : List ℕ) → IsStrictlySortedBy nat_cmp (k ∷ ns) → Contains (k ∷ ns) n → k ≤ n
+pub first_least : (k n : ℕ) (ns : List ℕ) → IsStrictlySortedBy nat_cmp (k ∷ ns) → Contains (k ∷ ns) n → k ≤ n
 unfolding IsStrictlySortedBy
 first_least k n ns sorted (zero, lt, is) = omega (arith, is)
 first_least k n ns sorted (suc i, lt, is) = least ns sorted.0 i (omega (arith, lt)) is
@@ -115,15 +115,15 @@ first_least k n ns sorted (suc i, lt, is) = least ns sorted.0 i (omega (arith, l
     least (j ∷ js) all (suc i) within is = least js all.1 i (omega (arith, within)) is
 
 -- and if it isn't the first, it is one of the others
-not_first : (k n : ℕ) (ns : List ℕ) → k ≢ n → Contains (k ∷ ns) n → Contains ns n
+pub not_first : (k n : ℕ) (ns : List ℕ) → k ≢ n → Contains (k ∷ ns) n → Contains ns n
 not_first k n ns other (zero, lt, is) = absurd (other is)
 not_first k n ns other (suc i, lt, is) = (i, omega (arith, lt), is)
 
-sorted_tail : (k : ℕ) (ns : List ℕ) → IsStrictlySortedBy nat_cmp (k ∷ ns) → IsStrictlySortedBy nat_cmp ns
+pub sorted_tail : (k : ℕ) (ns : List ℕ) → IsStrictlySortedBy nat_cmp (k ∷ ns) → IsStrictlySortedBy nat_cmp ns
 unfolding IsStrictlySortedBy
 sorted_tail k ns sorted = sorted.1
 
-above_first : (k n : ℕ) (ns : List ℕ) → IsStrictlySortedBy nat_cmp (k ∷ ns) → Contains ns n → k < n
+pub above_first : (k n : ℕ) (ns : List ℕ) → IsStrictlySortedBy nat_cmp (k ∷ ns) → Contains ns n → k < n
 unfolding IsStrictlySortedBy
 above_first k n ns sorted (i, lt, is) = above ns sorted.0 i lt is
   where
@@ -132,7 +132,7 @@ above_first k n ns sorted (i, lt, is) = above ns sorted.0 i lt is
     above (j ∷ js) all zero within is = let less = all.0 in let same : j ≡ n = is in grind (arith, nat_tests)
     above (j ∷ js) all (suc i) within is = above js all.1 i (omega (arith, within)) is
 
-key_there : (ts : List (ℕ × List ℕ)) (k : ℕ) (d : ℕ × List ℕ) → k < length ts → Contains (keys_of ts) (get_or ts k d).0
+pub key_there : (ts : List (ℕ × List ℕ)) (k : ℕ) (d : ℕ × List ℕ) → k < length ts → Contains (keys_of ts) (get_or ts k d).0
 key_there ts k d within = (k, omega (arith, within, length-map ts (λ (t : ℕ × List ℕ). t.0)), key_is ts k d within (get_or ts k d).0)
   where
     key_is : (us : List (ℕ × List ℕ)) (k : ℕ) (d : ℕ × List ℕ) → k < length us → (n : ℕ) → get_or (keys_of us) k n ≡ (get_or us k d).0

@@ -1,4 +1,5 @@
 pub mod Below
+mod Boxes
 mod Chosen
 mod Covered
 mod Entries
@@ -6,12 +7,12 @@ mod Kept
 mod Listed
 mod Names
 mod Near
-mod Pairs
 mod Shown
 mod Sizes
 mod Writable
 mod TilesRead
 mod Walk
+mod Zooms
 pub mod Laws
 pub mod Maps
 pub mod Puts

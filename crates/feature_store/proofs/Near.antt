@@ -37,7 +37,7 @@ ids_rise (e ∷ m) up (suc i) zero d le lt = absurd (omega arith)
 ids_rise (e ∷ m) up (suc i) (suc j) d le lt = ids_rise m (ascends_tail e m up) i j d (omega arith) (omega arith)
 
 -- a tile of a zoom that a feature hasn't shows nothing of it
-no_zoom : (f : FeatureData) (z x y : ℕ) → has_zoom f z ≡ false → feature_cut f z x y ≡ None
+pub no_zoom : (f : FeatureData) (z x y : ℕ) → has_zoom f z ≡ false → feature_cut f z x y ≡ None
 unfolding feature_cut
 no_zoom f z x y none = ap (λ b. cond b (option_map (shown_with f.tags) (geometry_cut z x y f.geometry)) None) none
 

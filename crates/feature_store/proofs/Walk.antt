@@ -1,47 +1,23 @@
--- From the pairs of a map to its tiles, one after the other.
-use Rattle.std.proofs.Common.{◌≡◌, ◌≢◌, ℕ, zero, suc, ◌+◌, ◌-◌, ◌<◌, ◌≤◌, Bool, true, false, List, [], ◌∷◌, ◌++◌, length, get_or, map, take, drop, All}
-use Rattle.std.proofs.Common.{IsSome, refl, sym, ap, subst, ◌∙◌}
-use Rattle.std.proofs.Common.{arith, inl, inr, ◌⊎◌, Option, Some, None, is_some, IfSome, Vec, Global, Result, Ok, Err}
+-- The tiles of a map, one after the other.
+use Rattle.std.proofs.Common.{◌≡◌, ℕ, ◌+◌, ◌<◌, ◌≤◌, List, [], ◌∷◌, length, map, refl, sym, ap, subst, ◌∙◌}
+use Rattle.std.proofs.Common.{arith, inl, inr, Option, Some, None, IfSome, Vec, Global, Result, Ok, Err}
 use Rattle.std.specs.Prelude.{IfNone, OnErr}
 use Rattle.std.specs.Option.{option_map}
-use Rattle.std.specs.List.{Contains}
-use Rattle.std.specs.List.Sorted.{IsStrictlySortedBy}
-use Rattle.std.specs.Ordering.{nat_cmp}
-use Rattle.std.specs.Cmp.Lexicographic.{slice_cmp}
-use mathlib.Core.Bool.{false≢true}
-use Rattle.std.proofs.lemmas.Bool.{cases_lt, cases_eq}
-use Rattle.std.proofs.lemmas.Bool.Decides.{nat_tests}
-use Rattle.std.proofs.lemmas.List.{length-map, take-append-drop, get_or-take, get_or-drop, get_or_default, length-take}
-use Rattle.std.proofs.lemmas.List.{length-drop, nil_from_length}
-use Rattle.std.proofs.lemmas.List.Elements.{All-nil, All-weaker, All-contains, All-contains_itself}
-use Rattle.std.proofs.lemmas.List.Elements.{Contains-append_right}
+use Rattle.std.proofs.lemmas.Bool.{cases_lt}
+use Rattle.std.proofs.lemmas.List.{length-map}
 use Rattle.feature_model.specs.declared.limits.TheConstants.{GREATEST_ZOOM}
 use Rattle.hilbert_id.specs.Curve.{IsTileId}
 use Rattle.hilbert_id.specs.declared.tile_at.TileAt.{TileAt}
 use Rattle.hilbert_id.specs.declared.number.TheConstants.{TILE_IDS}
 use Rattle.hilbert_id.proofs.Ids.{no_tile_behind, one_tile_of}
-use Rattle.hilbert_id.proofs.Positions.{in_square}
-use Rattle.mvt_layer.specs.Tile.{FeatureView, LayerView}
+use Rattle.mvt_layer.specs.Tile.{LayerView}
 use Rattle.mvt_write.specs.Written.{written}
-use Rattle.tile_cutter.specs.Cut.{feature_cut}
-use Rattle.tile_cutter.specs.Pairs.{IsCoveredTile}
-use Rattle.tile_cutter.proofs.CoveredTiles.{nothing_uncovered}
-use Rattle.feature_store.specs.Indexed.{ShowsAll}
-use Rattle.feature_store.specs.Layers.{is_tile, layers, IsLayer}
-use Rattle.feature_store.specs.Pairs.{IsPair, ArePairsOfMap, leading}
-use Rattle.feature_store.specs.Snapshots.{IsEditOf}
-use Rattle.feature_store.specs.Store.{FeatureMap, IsMap}
+use Rattle.feature_store.specs.Layers.{layers}
+use Rattle.feature_store.specs.Store.{FeatureMap}
 use Rattle.feature_store.specs.Tiles.{ShowsNothing, ShowsNothingFrom, IsNextTile, TilesView, HasPlace, IsBytesAt, IsStep, tile_bytes}
-use Rattle.feature_store.specs.Walk.{IsSplit}
-use Rattle.feature_store.proofs.Pairs.{numbers_at, numbers_ascend, number_in, none_at, numbers-append, tiles_ascend, lead_same, lead_stop, lead_fits, lead_at}
 use Rattle.feature_store.proofs.Below.{the_place}
-use Rattle.feature_store.proofs.Unique.{is_the_list, outside}
 
 -- ---- what a step does
-
-no_names : IsStrictlySortedBy (slice_cmp nat_cmp) []
-unfolding IsStrictlySortedBy
-no_names = tt
 
 module _ (m : FeatureMap) where
   -- the bytes of the tile of an id, by its layers
@@ -96,23 +72,6 @@ module _ (m : FeatureMap) where
     | inr ge ↦ none z x y id is ge
   ]
 
--- ---- the pairs that were gone through
-
--- a number stands in a list, or it doesn't
-stands_or_not : (n : ℕ) (ns : List ℕ) → Contains ns n ⊎ (Contains ns n → ⊥)
-stands_or_not n [] = inr (λ c. omega (arith, c.1))
-stands_or_not n (k ∷ ns) = elim (cases_eq k n) [
-  | inl same ↦ inl (0, omega arith, same)
-  | inr other ↦ elim (stands_or_not n ns) [
-    | inl behind ↦ inl (Contains-append_right (k ∷ []) ns n behind)
-    | inr nowhere ↦ inr (λ c. neither c.0 c.1 c.2 other nowhere)
-  ]
-]
-  where
-    neither : (i : ℕ) → i < length (k ∷ ns) → get_or (k ∷ ns) i n ≡ n → k ≢ n → (Contains ns n → ⊥) → ⊥
-    neither zero lt is other nowhere = other is
-    neither (suc i) lt is other nowhere = nowhere (i, omega arith, is)
-
 -- an id of a zoom of the map is one of a tile, and the tile is of that zoom
 pub place_within : (id : ℕ) → HasPlace id → id < TILE_IDS
 place_within id place = elim (cases_lt id TILE_IDS) [
@@ -125,152 +84,6 @@ zoom_within z x y id place is =
     let one = one_tile_of z x y place.0 place.1 place.2 id is place.4 in
     let zoom = place.3 in
     omega (arith, zoom, one.0)
-
-module _ (m : FeatureMap) (is_map : IsMap m) (ps : List (ℕ × ℕ)) (are : ArePairsOfMap m ps) where
-  shows_at : (z x y id : ℕ) → z ≤ GREATEST_ZOOM → IsTileId z x y id → ShowsAll m z x y (numbers_at id ps)
-  shows_at z x y id zoom is = record {
-    ascending = numbers_ascend id ps are.ascending;
-    every =
-        All-weaker (Contains m) (λ e. IsSome (feature_cut e.1 z x y) → Contains (numbers_at id ps) e.0)
-        (λ e stands shown. elim (stands_or_not e.0 (numbers_at id ps)) [
-          | inl among ↦ among
-          | inr nowhere ↦
-              let uncovered : IsCoveredTile e.1 id → ⊥ = λ covered. nowhere (number_in id e.0 ps ((are.every (id, e.0)).1 (e.1, stands, covered))) in
-              let inside = in_square z x y is.0 is.1 in
-              absurd (nothing_there (feature_cut e.1 z x y) shown (nothing_uncovered e.1 z x y id inside.0 inside.1 is uncovered))
-        ]) m (All-contains_itself m);
-  }
-    where
-      nothing_there : (o : Option FeatureView) → IsSome o → o ≡ None → ⊥
-      nothing_there o some none = false≢true (ap is_some (sym none) ∙ some)
-
-  -- where no number shows all, there are no layers
-  nothing_shown : (z x y : ℕ) → ShowsAll m z x y [] → layers m z x y ≡ []
-  nothing_shown z x y shows = by (is_tile z x y) refl
-    where
-      by : (b : Bool) → is_tile z x y ≡ b → layers m z x y ≡ []
-      by false is = outside m z x y is
-      by true is =
-          sym (is_the_list m z x y is [] (record {
-            ascending = no_names;
-            layers = All-nil (λ l. IsLayer m z x y l);
-            every =
-                All-weaker (λ e. IsSome (feature_cut e.1 z x y) → Contains [] e.0) (λ e. IsSome (feature_cut e.1 z x y) → Contains [] e.1.layer)
-                (λ e none shown. absurd (omega (arith, (none shown).1))) m shows.every;
-          }))
-
-  -- a tile of the map that is in no pair shows nothing
-  not_in_pairs : (z x y id : ℕ) → z ≤ GREATEST_ZOOM → IsTileId z x y id → All (λ p. p.0 ≢ id) ps → layers m z x y ≡ []
-  not_in_pairs z x y id zoom is none =
-      nothing_shown z x y (subst (ShowsAll m z x y) (none_at id ps none) (shows_at z x y id zoom is))
-
-  -- above the greatest zoom of a map nothing is shown
-  zoom_of_layers : (z x y : ℕ) → 0 < length (layers m z x y) → z ≤ GREATEST_ZOOM
-  zoom_of_layers z x y some = by (is_tile z x y) refl
-    where
-      by : (b : Bool) → is_tile z x y ≡ b → z ≤ GREATEST_ZOOM
-      by false is = absurd (omega (arith, some, ap length (outside m z x y is)))
-      by true is = grind (arith, nat_tests)
-
-  -- an id that is in no pair shows nothing
-  nothing_at : (z x y id : ℕ) → IsTileId z x y id → All (λ p. p.0 ≢ id) ps → layers m z x y ≡ []
-  nothing_at z x y id is none = elim (cases_lt 0 (length (layers m z x y))) [
-    | inl some ↦ not_in_pairs z x y id (zoom_of_layers z x y some) is none
-    | inr least ↦ nil_from_length (layers m z x y) (omega (arith, least))
-  ]
-
-  -- a tile that a feature of the map covers has a zoom of the map
-  covered_place : (p : ℕ × ℕ) → IsPair m p → HasPlace p.0
-  covered_place p pair =
-      let covers = pair.2 in
-      let allowed = All-contains IsEditOf m (p.1, pair.0) is_map.edits pair.1 in
-      let last = allowed.0.feature.zooms.1 in
-      let to = covers.to_zoom in
-      (covers.zoom, covers.column, covers.row, omega (arith, to, last), covers.is_id)
-
-  -- ---- the steps
-
-  module _ (done from : ℕ) (split : IsSplit ps done from) where
-    -- no pair is left
-    pub nothing_left : length ps ≤ done → ShowsNothingFrom m from
-    nothing_left ends z x y id is above =
-        nothing_at z x y id is (λ k d within same. let low = split.before k d (omega (arith, ends, within)) within in omega (arith, low, same, above))
-
-    module _ (id : ℕ) (d : ℕ × ℕ) (within : done < length ps) (id_is : id ≡ (get_or ps done d).0) where
-      abbrev pub qs : List (ℕ × ℕ)
-      qs = drop done ps
-
-      first_is : (e : ℕ × ℕ) → (get_or ps done e).0 ≡ id
-      first_is e = ap (λ (p : ℕ × ℕ). p.0) (get_or_default ps done e d within) ∙ sym id_is
-
-      -- the pairs that aren't done are of this tile or of greater ids
-      not_below : (k : ℕ) (e : ℕ × ℕ) → done ≤ k → k < length ps → id ≤ (get_or ps k e).0
-      not_below k e ge lt = omega (arith, first_is e, tiles_ascend ps are.ascending done k e ge lt)
-
-      pub from_below : from ≤ id
-      from_below = omega (arith, split.behind done d (omega arith) within, id_is)
-
-      pub place_here : HasPlace id
-      place_here = subst HasPlace (sym id_is) (covered_place (get_or ps done d) ((are.every (get_or ps done d)).0 (done, within, get_or_default ps done (get_or ps done d) d within)))
-
-      pub nothing_between : ShowsNothing m from id
-      nothing_between z x y j is above under = nothing_at z x y j is (λ k e lt same. elim (cases_lt k done) [
-        | inl low ↦ let less = split.before k e low lt in omega (arith, less, same, above)
-        | inr ge ↦ let least = not_below k e ge lt in omega (arith, least, same, under)
-      ])
-
-      -- a pair that isn't done, among those that aren't
-      at_qs : (k : ℕ) (e : ℕ × ℕ) → (get_or qs k e).0 ≡ (get_or ps (done + k) e).0
-      at_qs k e = ap (λ (p : ℕ × ℕ). p.0) (get_or-drop done ps k e)
-
-      long : length qs + done ≡ length ps
-      long = omega (arith, length-drop done ps, within)
-
-      -- behind those in front there is none of this tile
-      above_lead : (k : ℕ) (e : ℕ × ℕ) → length (leading id qs) ≤ k → k < length qs → id < (get_or qs k e).0
-      above_lead k e ge lt =
-          let n = length (leading id qs) in
-          let other = lead_stop id qs e (omega (arith, ge, lt)) in
-          let least = not_below (done + n) e (omega arith) (omega (arith, ge, lt, long)) in
-          let up = tiles_ascend ps are.ascending (done + n) (done + k) e (omega (arith, ge)) (omega (arith, lt, long)) in
-          let first : id < (get_or ps (done + n) e).0 = omega (arith, at_qs n e, other, least) in
-          omega (arith, first, up, at_qs k e)
-
-      numbers_are : numbers_at id ps ≡ leading id qs
-      numbers_are =
-          ap (numbers_at id) (sym (take-append-drop done ps))
-          ∙ numbers-append id (take done ps) qs
-          ∙ ap (λ ns. ns ++ numbers_at id qs) (none_at id (take done ps) before)
-          ∙ lead_at id qs (λ k e ge lt same. let above = above_lead k e ge lt in omega (arith, above, same))
-        where
-          before : All (λ p. p.0 ≢ id) (take done ps)
-          before k e lt same =
-              let size = length-take done ps in
-              let low = split.before k e (omega (arith, size, lt)) (omega (arith, size, lt, within)) in
-              omega (arith, low, same, from_below, ap (λ (p : ℕ × ℕ). p.0) (get_or-take done ps k e (omega (arith, size, lt))))
-
-      pub shows_step : (numbers : List ℕ) → numbers ≡ leading id qs → (z x y : ℕ) → z ≤ GREATEST_ZOOM → IsTileId z x y id → ShowsAll m z x y numbers
-      shows_step numbers same z x y zoom is = subst (ShowsAll m z x y) (numbers_are ∙ sym same) (shows_at z x y id zoom is)
-
-      pub step_inside : (n : ℕ) → n ≡ length (leading id qs) → done + n ≤ length ps
-      step_inside n same = omega (arith, same, lead_fits id qs, long)
-
-      pub step_split : (n : ℕ) → n ≡ length (leading id qs) → IsSplit ps (done + n) (id + 1)
-      step_split n same = record {
-        before = λ k e lt within_k. elim (cases_lt k done) [
-          | inl low ↦ let less = split.before k e low within_k in omega (arith, less, from_below)
-          | inr ge ↦
-              let k_is : done + (k - done) ≡ k = omega (arith, ge) in
-              let here = lead_same id qs (k - done) e (omega (arith, lt, same, ge)) in
-              let at : (get_or qs (k - done) e).0 ≡ (get_or ps k e).0 = at_qs (k - done) e ∙ ap (λ (j : ℕ). (get_or ps j e).0) k_is in
-              omega (arith, here, at)
-        ];
-        behind = λ k e ge within_k.
-            let k_is : done + (k - done) ≡ k = omega (arith, ge) in
-            let above = above_lead (k - done) e (omega (arith, ge, same)) (omega (arith, within_k, long, ge)) in
-            let at : (get_or qs (k - done) e).0 ≡ (get_or ps k e).0 = at_qs (k - done) e ∙ ap (λ (j : ℕ). (get_or ps j e).0) k_is in
-            omega (arith, above, at);
-      }
 
 -- ---- the loop over the steps
 
@@ -329,10 +142,6 @@ last_step m start old o none map nothing told =
 pub on_err : {X E P : Type 0} (r : Result X E) → P → OnErr r P
 on_err (Ok x) p = tt
 on_err (Err e) p = p
-
--- no pair is done at the start
-pub walk_start : (ps : List (ℕ × ℕ)) → IsSplit ps 0 0
-walk_start ps = record { before = λ k d lt within. absurd (omega (arith, lt)); behind = λ k d ge within. omega arith }
 
 -- ---- the tile of an id
 

@@ -1,8 +1,10 @@
+pub mod Boxes
 pub mod Content
 pub mod Gathered
 pub mod Indexed
 pub mod Inside
 pub mod Layers
+pub mod Left
 pub mod Pairs
 pub mod Snapshots
 pub mod Store

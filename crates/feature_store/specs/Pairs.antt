@@ -1,5 +1,5 @@
 -- The tiles that the features of a map cover.
-use Rattle.std.specs.Prelude.{ℕ, List, [], ◌∷◌, ◌↔◌, ◌⊎◌, if◌then◌else◌, nat_eq}
+use Rattle.std.specs.Prelude.{ℕ, List, ◌↔◌, ◌⊎◌}
 use Rattle.std.specs.List.{Contains}
 use Rattle.std.specs.List.Sorted.{IsStrictlySortedBy}
 use Rattle.std.specs.Ordering.{nat_cmp, ordering_then}
@@ -24,8 +24,3 @@ pub record ArePairsOfMap (m : FeatureMap) (ps : List (ℕ × ℕ)) : Type 0 wher
 -- a list with the pairs of a map, and no others, besides what it had
 abbrev pub AddsPairs : FeatureMap → List (ℕ × ℕ) → List (ℕ × ℕ) → Type 0
 AddsPairs m old new = (p : ℕ × ℕ) → Contains new p ↔ (Contains old p ⊎ IsPair m p)
-
--- the numbers of the pairs in front that are of this tile
-abbrev pub leading : ℕ → List (ℕ × ℕ) → List ℕ
-leading id [] = []
-leading id (p ∷ ps) = if nat_eq p.0 id then p.1 ∷ leading id ps else []

@@ -1,8 +1,9 @@
 -- How a walk over the tiles of a map is kept.
-use Rattle.std.specs.Prelude.{ℕ, ◌<◌, ◌≤◌, List, length, get_or}
+use Rattle.std.specs.Prelude.{◌+◌, ◌≤◌}
+use Rattle.feature_model.specs.declared.limits.TheConstants.{GREATEST_ZOOM}
 use Rattle.feature_store.specs.declared.all_tiles.Tiles.TheInside.{Inside}
 use Rattle.feature_store.specs.Inside.{entries_data}
-use Rattle.feature_store.specs.Pairs.{ArePairsOfMap}
+use Rattle.feature_store.specs.Left.{AreLeft, left_of, with_next}
 use Rattle.feature_store.specs.Store.{IsMap}
 use Rattle.feature_store.specs.Tiles.{TilesView}
 
@@ -10,14 +11,8 @@ use Rattle.feature_store.specs.Tiles.{TilesView}
 abbrev pub tiles_view : Inside → TilesView
 tiles_view w = record { features = entries_data w.features.now.entries; from = w.from }
 
--- the first pairs are of tiles with ids below `from`, the others aren't
-pub record IsSplit (ps : List (ℕ × ℕ)) (done from : ℕ) : Type 0 where
-  pub before : (k : ℕ) (d : ℕ × ℕ) → k < done → k < length ps → (get_or ps k d).0 < from
-  pub behind : (k : ℕ) (d : ℕ × ℕ) → done ≤ k → k < length ps → from ≤ (get_or ps k d).0
-
--- the pairs are those of the map, and parted
+-- the tile that was taken and those of the walk are all that are left of the zooms that were begun
 pub record IsWalk (w : Inside) : Type 0 where
   pub is_map : IsMap (entries_data w.features.now.entries)
-  pub pairs : ArePairsOfMap (entries_data w.features.now.entries) w.pairs.items
-  pub inside : w.done ≤ length w.pairs.items
-  pub split : IsSplit w.pairs.items w.done w.from
+  pub zoom : w.left.zoom ≤ GREATEST_ZOOM + 1
+  pub left : AreLeft (entries_data w.features.now.entries) w.left.zoom w.from (with_next w.left.next (left_of w.left.walk))

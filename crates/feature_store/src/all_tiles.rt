@@ -7,12 +7,12 @@ ghost use Rattle.mvt_write.specs.CanWrite.{CanWriteAll};
 ghost use Rattle.feature_store.specs.Indexed.{ShowsAll};
 ghost use Rattle.feature_store.specs.Inside.{entries_data};
 ghost use Rattle.feature_store.specs.Layers.{layers};
-ghost use Rattle.feature_store.specs.Pairs.{ArePairsOfMap, leading};
 ghost use Rattle.feature_store.specs.Store.{IsMap};
 ghost use Rattle.feature_store.specs.Tiles.{HasPlace, IsBytesAt, IsNextTile, IsStep, ShowsNothing, ShowsNothingFrom};
 
 use crate::gathered::gather;
 use crate::layers::listed;
+use crate::tiles_left::TilesLeft;
 use feature_model::{Feature, GREATEST_ZOOM};
 use hilbert_id::{TileAt, tile_of};
 use mvt_layer::Layer;
@@ -28,10 +28,8 @@ pub type Tile = (u64, Vec<u8>);
 #[derive(Debug, Drop)]
 pub struct Tiles<'a> {
     features: &'a NumberMap<Feature>,
-    /// The pairs of a tile's id and a feature's number, ascending.
-    pairs: Vec<(u64, u64)>,
-    /// How many of the pairs are of tiles that were made.
-    done: usize,
+    /// The tiles that aren't made yet.
+    left: TilesLeft,
     /// No such tile has this id or a greater one.
     from: u64,
     alloc: Global,
@@ -87,39 +85,23 @@ fn bytes_at(
     Ok(Some(bytes))
 }
 
-/// The numbers of the pairs in front that are of this tile.
-fn leading(alloc: Global, pairs: &[(u64, u64)], id: u64) -> Result<Vec<u64>, AllocError>
-    ensures { IfOk result (λ numbers. numbers.items ≡ leading id pairs.now) }
-{
-    let mut numbers = Vec::new(alloc);
-    for pair in pairs {
-        if pair.0 != id {
-            return Ok(numbers);
-        }
-        numbers.push(pair.1)?;
-    }
-    Ok(numbers)
-}
-
 impl<'a> Tiles<'a> {
-    /// The tiles of a map, by all of its pairs.
+    /// The tiles of a map. The only error is out of memory.
     pub(crate) fn of(
         alloc: Global,
         features: &'a NumberMap<Feature>,
-        pairs: Vec<(u64, u64)>,
-    ) -> Tiles<'a>
-        requires map { IsMap (entries_data features.now.entries) }
-        requires pairs { ArePairsOfMap (entries_data features.now.entries) pairs.items }
-        ensures map { result.features ≡ entries_data features.entry.now.entries }
-        ensures start { result.from ≡ 0 }
+    ) -> Result<Tiles<'a>, AllocError>
+        requires { IsMap (entries_data features.now.entries) }
+        ensures map { IfOk result (λ tiles. tiles.features ≡ entries_data features.entry.now.entries) }
+        ensures start { IfOk result (λ tiles. tiles.from ≡ 0) }
     {
-        Tiles {
+        let left = TilesLeft::of(alloc, features)?;
+        Ok(Tiles {
             features,
-            pairs,
-            done: 0,
+            left,
             from: 0,
             alloc,
-        }
+        })
     }
 
     /// The id of the next tile that may show something, and its bytes if it does. The only error is out of memory.
@@ -130,13 +112,13 @@ impl<'a> Tiles<'a> {
         ensures none { IfOk result (λ o. IfNone o (ShowsNothingFrom self.old.features self.old.from)) }
         ensures failed { OnErr result (self.new ≡ self.old) }
     {
-        if self.done >= self.pairs.len() {
+        self.left.look_ahead(self.alloc, self.features)?;
+        let Some((id, numbers)) = &self.left.next else {
             return Ok(None);
-        }
-        let id = self.pairs[self.done].0;
-        let numbers = leading(self.alloc, &self.pairs[self.done..], id)?;
-        let bytes = bytes_at(self.alloc, self.features, &numbers, id)?;
-        self.done += numbers.len();
+        };
+        let id = *id;
+        let bytes = bytes_at(self.alloc, self.features, numbers, id)?;
+        self.left.next = None;
         self.from = id + 1;
         Ok(Some((id, bytes)))
     }

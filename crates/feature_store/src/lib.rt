@@ -11,6 +11,8 @@ mod layers;
 mod limit;
 mod snapshot_texts;
 mod store;
+mod tiles_left;
+mod zoom_walk;
 
 pub use all_tiles::{Tile, Tiles};
 pub use fault::SnapshotFault;

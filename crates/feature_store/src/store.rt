@@ -202,13 +202,12 @@ impl Store {
     }
 
     /// The tiles that show something of the map, in ascending order of their ids, each with its bytes (Mapbox Vector Tile 2.1) and
-    /// made when it is asked for. The pairs are made at once. The only error is out of memory.
+    /// made when it is asked for, without a list of them. The only error is out of memory.
     pub fn tiles(&self) -> Result<Tiles<'_>, AllocError>
         ensures map { IfOk result (λ tiles. tiles.features ≡ self.now.features) }
         ensures start { IfOk result (λ tiles. tiles.from ≡ 0) }
     {
-        let pairs = self.pairs()?;
-        Ok(Tiles::of(self.alloc, &self.features, pairs))
+        Tiles::of(self.alloc, &self.features)
     }
 
     /// The snapshot of the map: the texts that give each number its feature, in ascending number. The only error is out of memory.

@@ -84,10 +84,10 @@ where
 ///
 /// A connection's fault ends that connection alone. A line that can't be written is left out.
 ///
-/// A peer has `WAIT_SECONDS` to begin a request, as long again to its end, and as long for a reply and a second more for each
-/// `BYTES_A_SECOND` of it, but never more than `WAIT_SECONDS` at once. The replies to requests that were read together count as one.
+/// A peer has 60 seconds to begin a request, as long again to its end, and as long for a reply and a second more for each
+/// 16,384 bytes of it, but never more than 60 seconds at once. The replies to requests that were read together count as one.
 /// A slower peer's connection is given up, as where a read or a write fails. What it sends after its last reply is dropped for
-/// `WAIT_SECONDS` at most.
+/// 60 seconds at most.
 ///
 /// # Errors
 ///

@@ -10,10 +10,10 @@ use std::time::{Clock, Duration};
 pub const LAST_WAIT_SECONDS: u64 = 2;
 
 /// The bytes that are dropped at most of what a peer still sends: 16 MiB.
-pub const MOST_DROPPED: usize = 16_777_216;
+const MOST_DROPPED: usize = 16_777_216;
 
 /// The reads that drop it at most. So many segments of Ethernet have 16 MiB.
-pub const MOST_DROPPING_READS: u64 = 16_384;
+const MOST_DROPPING_READS: u64 = 16_384;
 
 /// How many bytes are dropped at once.
 const PIECE: usize = 4_096;

@@ -10,6 +10,5 @@ mod paces;
 mod turns;
 
 pub use connections::{ListenFault, serve_on};
-pub use ends::{LAST_WAIT_SECONDS, MOST_DROPPED, MOST_DROPPING_READS};
+pub use ends::LAST_WAIT_SECONDS;
 pub use lines::write_line;
-pub use paces::{BYTES_A_SECOND, WAIT_SECONDS};

@@ -4,10 +4,10 @@ ghost use Rattle.http_listen.specs.Paces.{begun, less_time, earned};
 ghost use Rattle.http_listen.specs.declared.paces.Stage.TheVariants.{Idle, Request, Reply};
 
 /// The time that a peer has for each stage, in seconds.
-pub const WAIT_SECONDS: u64 = 60;
+pub(crate) const WAIT_SECONDS: u64 = 60;
 
 /// How many bytes of a reply earn its peer a second more.
-pub const BYTES_A_SECOND: u64 = 16_384;
+const BYTES_A_SECOND: u64 = 16_384;
 
 /// A second in nanoseconds.
 const SECOND: u64 = 1_000_000_000;

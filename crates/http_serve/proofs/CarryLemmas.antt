@@ -1,5 +1,5 @@
 -- Sequences of requests, and their replies.
-use Rattle.std.proofs.Common.{◌≡◌, ℕ, List, [], ◌∷◌, ◌++◌, Option, true, false, take, drop, length, ◌+◌, ◌-◌, ◌^◌, ◌<◌, min, inl, inr, arith, length-append}
+use Rattle.std.proofs.Common.{◌≡◌, ℕ, List, [], ◌∷◌, ◌++◌, Option, true, false, take, drop, length, ◌+◌, ◌-◌, ◌^◌, ◌<◌, min, inr, arith, length-append}
 use Rattle.std.proofs.Common.{refl, sym, ap, ◌∙◌, subst, append_assoc}
 use Rattle.std.proofs.lemmas.List.{append-nil}
 use Rattle.std.specs.Io.KnownBytes.{Appends}

@@ -1,7 +1,7 @@
 -- A connection, read by read.
 use Rattle.std.proofs.Common.{◌≡◌, ◌≢◌, ℕ, ◌<◌, ◌≤◌, List, [], ◌∷◌, ◌++◌, Option, Some, None, take, length, ◌+◌, ◌*◌, refl, sym, ap, ◌∙◌, subst}
 use Rattle.std.proofs.Common.{append_assoc, arith, inl, inr, length-append, zero, suc}
-use Rattle.std.specs.Prelude.{⊤, ◌⊎◌, Result, Ok, Err, IfOk, IfErr}
+use Rattle.std.specs.Prelude.{⊤, Result, Ok, Err, IfOk, IfErr}
 use Rattle.httparse.specs.Grammar.{RequestHead}
 use Rattle.std.proofs.lemmas.List.{append-nil}
 use Rattle.std.specs.Io.KnownBytes.{Appends, Consumes, IsAtEnd}

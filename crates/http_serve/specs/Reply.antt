@@ -1,7 +1,7 @@
 -- Replies, and their bytes.
 use Rattle.std.specs.Prelude.{ℕ, List, [], ◌∷◌, ◌++◌, ◌==◌, ◌||◌, Bool, true, false, nat_eq, cond, length, codes, decimal, Option, Some, None, option_map}
-use Rattle.std.specs.Prelude.{unwrap_or, IfSome, ◌≤◌, ◌≡◌, ◌+◌, take, drop, ⊤}
-use Rattle.http.specs.StatusCode.{code_digits, reason_phrase}
+use Rattle.std.specs.Prelude.{IfSome, ◌≤◌, ◌≡◌, ◌+◌, take, drop, ⊤}
+use Rattle.status_phrase.specs.Phrases.{phrase_of}
 use Rattle.std.specs.Cmp.Lexicographic.{pointwise}
 use Rattle.httparse.specs.Grammar.{RequestHead}
 use Rattle.httparse.specs.Spans.{span_bytes}
@@ -111,10 +111,6 @@ with_part offset part reply =
 abbrev pub line_end : List ℕ
 line_end = 13 ∷ 10 ∷ []
 
--- the reason phrase, which is empty if the status has none
-unfoldable pub phrase_of : ℕ → List ℕ
-phrase_of status = unwrap_or (reason_phrase status) []
-
 -- the line of a field whose value is a word, if there is one; the name ends with a colon and a space
 unfoldable pub word_line : List ℕ → Option (List ℕ) → List ℕ
 word_line name None = []
@@ -165,7 +161,7 @@ field_lines head =
 -- the head of a reply, with its empty line; it says whether the reply is the last one
 unfoldable pub reply_head : Bool → HeadView → List ℕ
 reply_head close head =
-    codes "HTTP/1.1 " ++ code_digits head.status ++ codes " " ++ phrase_of head.status ++ line_end
+    codes "HTTP/1.1 " ++ decimal head.status ++ codes " " ++ phrase_of head.status ++ line_end
     ++ field_lines head ++ closing_line close ++ line_end
 
 -- the content that is sent: none in a 204 reply or if only the head is sent

@@ -8,12 +8,12 @@ ghost use Rattle.httparse.specs.Grammar.{is_ows, skip_ows, trim_ows};
 ghost use Rattle.http_serve.specs.Fields.{is_word, IsStated, values_of, limited, numeral_length, range_of, lists_close, says_close};
 ghost use Rattle.http_serve.specs.Fields.{body_length, has_field, is_hosted, framing};
 
-use crate::Refusal;
+use crate::refusals::Refusal;
 use decimal_number::{are_digits, digits_number};
 use httparse::spans::{HeaderSpan, Span};
 
 /// Maximum length of a body in bytes.
-pub const MOST_BODY: u64 = 65_536;
+pub(crate) const MOST_BODY: u64 = 65_536;
 
 /// How often a field name occurs.
 #[derive(Clone, Copy, Debug)]

@@ -6,16 +6,15 @@ ghost use Rattle.http_serve.specs.declared.frames.TheConstants.{MOST_HEAD, MOST_
 ghost use Rattle.http_serve.specs.Frame.{IsNext};
 ghost use Rattle.http_serve.specs.Reply.{is_head};
 
-use crate::Refusal;
 use crate::fields::{MOST_BODY, framing, range_of, says_close};
-use crate::refusals::{NO_HEAD, Rejection};
+use crate::refusals::{NO_HEAD, Refusal, Rejection};
 use httparse::Status;
 use httparse::spans::{EMPTY_HEADER_SPAN, HeaderSpan, RequestSpans, Span, parse_request};
 
 /// Maximum length of a head in bytes.
-pub const MOST_HEAD: usize = 8_192;
+pub(crate) const MOST_HEAD: usize = 8_192;
 /// Maximum number of fields in a head.
-pub const MOST_FIELDS: usize = 32;
+pub(crate) const MOST_FIELDS: usize = 32;
 /// Maximum length of a request in bytes.
 pub(crate) const MOST_REQUEST: usize = MOST_HEAD + MOST_BODY as usize;
 

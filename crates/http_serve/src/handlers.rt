@@ -25,7 +25,7 @@ pub struct Request<'a> {
     pub path: &'a [u8],
     /// The value of the only range field, without surrounding white space. `None` if there is no such field, or several.
     pub range: Option<&'a [u8]>,
-    /// The body, of at most `MOST_BODY` bytes.
+    /// The body, of at most 65,536 bytes.
     pub body: &'a [u8],
     /// Whether the connection ends after the reply.
     pub close: bool,

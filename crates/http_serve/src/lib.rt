@@ -12,12 +12,10 @@ mod positions;
 mod refusals;
 mod replies;
 mod searches;
+pub mod status;
 mod writes;
 
 pub use connection::{End, MOST_READS, ServeFault, Served, serve, serve_turns};
-pub use fields::MOST_BODY;
-pub use frames::{MOST_FIELDS, MOST_HEAD};
 pub use handlers::{ContentFault, Handler, PART_SIZE, Request};
 pub use inputs::READ_SPACE;
-pub use refusals::Refusal;
 pub use replies::{Content, ContentRange, MOST_WORD, Reply};

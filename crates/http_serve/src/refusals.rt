@@ -3,12 +3,11 @@ ghost use Rattle.std.specs.Prelude.{◌≡◌, codes, Some};
 ghost use Rattle.http_serve.specs.Parts.{front_content};
 ghost use Rattle.http_serve.specs.Reply.{HasShortWords, head_of, head_view, refusal_view, refused_by};
 
-use crate::{Content, Reply};
-use http::StatusCode;
+use crate::{Content, Reply, status};
 
 /// Why bytes begin with no request: the first reason that applies.
 #[derive(Clone, Copy, Debug, PartialEq, Eq)]
-pub enum Refusal {
+pub(crate) enum Refusal {
     /// There is no head.
     Head,
     /// An HTTP/1.1 head has no host, or more than one.
@@ -39,7 +38,7 @@ pub(crate) const NO_HEAD: Rejection = Rejection {
 };
 
 /// A reply of a status and a text.
-fn refused_by(status: StatusCode, text: &'static [u8]) -> Reply
+fn refused_by(status: u16, text: &'static [u8]) -> Reply
     ensures head { head_view result ≡ head_of (refused_by status text.now) }
     ensures content { front_content result.content ≡ text.now }
     ensures words { HasShortWords (head_view result) }
@@ -56,13 +55,13 @@ impl Refusal {
         ensures words { HasShortWords (head_view result) }
     {
         match self {
-            Refusal::Head => refused_by(StatusCode::BAD_REQUEST, b"Head\n"),
-            Refusal::Host => refused_by(StatusCode::BAD_REQUEST, b"Host\n"),
-            Refusal::Coding => refused_by(StatusCode::NOT_IMPLEMENTED, b"Coding\n"),
-            Refusal::Expect => refused_by(StatusCode::EXPECTATION_FAILED, b"Expect\n"),
-            Refusal::Length => refused_by(StatusCode::BAD_REQUEST, b"Length\n"),
-            Refusal::Body => refused_by(StatusCode::PAYLOAD_TOO_LARGE, b"Body\n"),
-            Refusal::Short => refused_by(StatusCode::BAD_REQUEST, b"Short\n"),
+            Refusal::Head => refused_by(status::BAD_REQUEST, b"Head\n"),
+            Refusal::Host => refused_by(status::BAD_REQUEST, b"Host\n"),
+            Refusal::Coding => refused_by(status::NOT_IMPLEMENTED, b"Coding\n"),
+            Refusal::Expect => refused_by(status::EXPECTATION_FAILED, b"Expect\n"),
+            Refusal::Length => refused_by(status::BAD_REQUEST, b"Length\n"),
+            Refusal::Body => refused_by(status::PAYLOAD_TOO_LARGE, b"Body\n"),
+            Refusal::Short => refused_by(status::BAD_REQUEST, b"Short\n"),
         }
     }
 }

@@ -3,14 +3,15 @@ ghost use Rattle.std.specs.Prelude.{◌≡◌, ◌≤◌, ◌<◌, ◌+◌, ◌*
 ghost use Rattle.std.specs.Option.{option_map};
 ghost use Rattle.decimal_number.specs.declared.TheConstants.{MOST_DIGITS};
 ghost use Rattle.http_serve.specs.Parts.{front_content, front_bytes};
-ghost use Rattle.http_serve.specs.Reply.{HasShortWords, head_view, content_size, phrase_of, part_line, unsatisfied_line};
+ghost use Rattle.http_serve.specs.Reply.{HasShortWords, head_view, content_size, part_line, unsatisfied_line};
 ghost use Rattle.http_serve.specs.Reply.{range_line, word_line, length_line, closing_line, field_lines, reply_head, has_no_content};
 ghost use Rattle.http_serve.specs.Sent.{Sends};
 ghost use Rattle.http_serve.specs.declared.replies.TheConstants.{MOST_WORD};
 
+use crate::status;
 use crate::writes::{WriteFault, send_all, send_both};
 use decimal_number::{push_number, push_text};
-use http::StatusCode;
+use status_phrase::phrase_of;
 use std::io::Write;
 
 /// Maximum length in bytes of a content type and of a list of methods.
@@ -65,7 +66,8 @@ pub enum ContentRange {
 /// A reply to a request. A 204 reply is sent without its content, its type and its range.
 #[derive(Drop)]
 pub struct Reply {
-    pub status: StatusCode,
+    /// The status code, such as `status::OK`.
+    pub status: u16,
     /// The content type, such as `text/plain`: at most `MOST_WORD` bytes.
     pub kind: Option<&'static str>,
     /// Which part of a whole the content is.
@@ -77,7 +79,7 @@ pub struct Reply {
 
 impl Reply {
     /// A reply with only a status, a type and a content.
-    pub fn plain(status: StatusCode, kind: Option<&'static str>, content: Content) -> Reply
+    pub fn plain(status: u16, kind: Option<&'static str>, content: Content) -> Reply
         ensures { result ≡ record { status = status; kind = kind.entry; range = None; allow = None; content = content } }
     {
         Reply {
@@ -93,7 +95,7 @@ impl Reply {
     fn has_no_content(&self) -> bool
         ensures { result ≡ has_no_content self.now.status }
     {
-        self.status == StatusCode::NO_CONTENT
+        self.status == status::NO_CONTENT
     }
 
     /// Whether its content is sent. It isn't in a reply that is only a head.
@@ -101,17 +103,6 @@ impl Reply {
         ensures { result ≡ not (bare || has_no_content self.now.status) }
     {
         !(bare || self.has_no_content())
-    }
-}
-
-/// The reason phrase of a status, or nothing if it has none.
-fn phrase_of(status: StatusCode) -> &'static str
-    ensures value { result.now ≡ phrase_of status }
-    ensures short { length result.now ≤ 32 }
-{
-    match status.canonical_reason() {
-        Some(phrase) => phrase,
-        None => "",
     }
 }
 
@@ -227,7 +218,7 @@ fn put_reply_head(out: &mut Vec<u8>, reply: &Reply, close: bool)
 {
     out.clear();
     push_text(out, b"HTTP/1.1 ");
-    push_text(out, reply.status.as_str().as_bytes());
+    push_number(out, u64::from(reply.status));
     push_text(out, b" ");
     push_text(out, phrase_of(reply.status).as_bytes());
     push_text(out, b"\r\n");

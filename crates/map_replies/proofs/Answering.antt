@@ -12,7 +12,7 @@ use Rattle.tile_service.specs.declared.publishing_whole.Published.{Published}
 use Rattle.tile_service.specs.declared.fault.ServiceFault.{ServiceFault}
 use Rattle.map_replies.specs.Meanings.{numbers_of, MeansCall, MeansChange, OrNoMemory, MeansEdit, MeansPublish, Answers}
 use Rattle.map_replies.specs.Sending.{IsAnswered}
-use Rattle.map_replies.specs.Words.{refusal_of, shown_reply, published_reply}
+use Rattle.map_replies.specs.Words.{refusal_of, shown_reply, published_reply, outcome_reply}
 use Rattle.map_replies.specs.declared.fault.RequestFault.{RequestFault}
 use Rattle.map_replies.specs.declared.fault.RequestFault.TheVariants.{Memory}
 
@@ -60,6 +60,15 @@ module _ {D : Type 0} (sectors : D → ℕ) (honest : D → Type 0) (history : D
   shown call reply_of old new a (Ok reply) is fault takes takes_none = called call (shown_reply reply_of) old new (got a) (reply_view [] reply) is takes
   shown call reply_of old new a (Err fault) is same takes takes_none =
       called call (shown_reply reply_of) old new no_memory (refusal_of fault) (ap refusal_of same) takes_none
+
+  -- the body says what to edit, and a call was made for that
+  pub edited : {A : Type 0} (before after : ℕ) (Says : A → Type 0) (Has : RequestFault → Type 0) (call : A → Result ℕ ServiceFault → Happening)
+      (old new : ServiceView D) (a : A) (outcome : Result ℕ ServiceFault) (reply : ReplyView) → Says a → reply ≡ outcome_reply outcome
+      → IfErr outcome (λ fault. CountsDevice fault before after) → Takes sectors honest history old (call a outcome) new
+      → Answers sectors honest history (MeansEdit (HasFailed before after) Says Has call) old new reply
+  edited before after Says Has call old new a outcome reply says is counts takes =
+      let made = changed before after (call a) outcome_reply old new outcome reply is counts takes in
+      (made.0, inl (a, says, made.1), made.2)
 
   -- the body has a fault, or there is no memory
   pub body_refused : {A : Type 0} (failed : Type 0) (Says : A → Type 0) (Has : RequestFault → Type 0) (call : A → Result ℕ ServiceFault → Happening)

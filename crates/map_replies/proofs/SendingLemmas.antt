@@ -8,7 +8,7 @@ use Rattle.std.specs.Prelude.{Vec, Result, Ok, Err, IfOk, IfErr, OnOk, OnErr}
 use Rattle.http_serve.specs.declared.replies.Content.{Content}
 use Rattle.http_serve.specs.declared.replies.Content.TheVariants as contents
 use Rattle.http_serve.specs.declared.replies.Reply.{Reply}
-use Rattle.http_serve.specs.Reply.{ReplyView, IsWhole, InParts, FitsParts, content_bytes, reply_view, with_part}
+use Rattle.http_serve.specs.Reply.{ReplyView, IsWhole, HasShortWords, head_view, InParts, FitsParts, content_bytes, reply_view, with_part}
 use Rattle.http_serve.proofs.HandlerLemmas.{shown_reply, whole_reply, none_in_parts}
 use Rattle.http_serve.proofs.PartLemmas.{in_parts}
 use Rattle.sector_disk.specs.Disk.{History, seen, HasFailed}
@@ -18,15 +18,17 @@ use Rattle.tile_service.specs.Service.{ServiceView, IsUp, ShowsArchive, ReadsFro
 use Rattle.tile_service.specs.Stored.{Stored}
 use Rattle.tile_service.proofs.Callers.{read_step, shown_seen}
 use Rattle.tile_service.specs.declared.fault.ServiceFault.TheVariants.{Device}
-use Rattle.tile_routes.specs.Methods.{Wanted}
+use Rattle.tile_routes.specs.declared.fault.RouteFault.{RouteFault}
+use Rattle.tile_routes.specs.declared.method.Method.{Method}
+use Rattle.tile_routes.specs.Paths.{Asked}
 use Rattle.map_replies.specs.declared.fault.RequestFault.{RequestFault}
 use Rattle.map_replies.specs.declared.fault.RequestFault.TheVariants.{Memory}
 use Rattle.map_replies.specs.declared.parts.Part.{Part}
 use Rattle.map_replies.specs.declared.parts.Part.TheVariants.{Whole, Between, Beyond}
 use Rattle.map_replies.specs.declared.parts.Sending.{Sending}
-use Rattle.map_replies.specs.Meanings.{OrNoMemory, MeansPart, MeansArchive, Answers, AnswersWanted, DiskFailed}
+use Rattle.map_replies.specs.Meanings.{OrNoMemory, MeansPart, MeansArchive, Answers, AnswersAllowed, AnswersMethod, DiskFailed}
 use Rattle.map_replies.specs.Parts.{range_for, IsPart, start_of, size_of, part_reply}
-use Rattle.map_replies.specs.Sending.{IsAnswered, IsAnswer, IsAnsweredInParts, IsInside, read_outcome, Begins, SendsPart, AnswersPart, IsSending, SendsWanted}
+use Rattle.map_replies.specs.Sending.{IsAnswered, IsAnswer, IsAnsweredInParts, IsInside, read_outcome, Begins, SendsPart, AnswersPart, IsSending, SendsMethod}
 use Rattle.map_replies.specs.Words.{refusal_of, service_refusal}
 use Rattle.map_replies.proofs.Answering.{no_memory_first}
 
@@ -100,6 +102,10 @@ whole_is P Q reply is meant = (reply_view [] reply, whole_reply reply is.1, mean
 pub whole_answer : (P Q : ReplyView → Type 0) (r : Result Reply RequestFault) → IsAnswered P r → IfOk r IsWhole → IsAnsweredInParts P Q r
 whole_answer P Q (Ok reply) meant is = whole_is P Q reply is meant
 whole_answer P Q (Err fault) meant is = meant
+
+pub whole_words : (r : Result Reply RequestFault) → IfOk r IsWhole → IfOk r (λ reply. HasShortWords (head_view reply))
+whole_words (Ok reply) is = is.0
+whole_words (Err fault) is = tt
 
 all_in_parts : (content : Content) (fact : Type 0) → fact → InParts content fact
 all_in_parts contents.Empty fact is = tt
@@ -352,33 +358,36 @@ module _ {D : Type 0} (sectors : D → ℕ) (honest : D → Type 0) (history : D
           };
         }
 
-  module _ (wanted : Wanted) (range : Option (List ℕ)) (body : List ℕ) (old : ServiceView D) (sending : Sending) (new next : ServiceView D)
-      (reply : ReplyView) (is : SendsWanted sectors honest history faults wanted range old sending new reply) where
-    wanted_answers : (view : ReplyView) → AnswersArchive (range_for is.0 range) old sending next view
-        → AnswersWanted sectors honest history faults wanted range body old next view
-    wanted_answers view answers = subst (λ (w : Wanted). AnswersWanted sectors honest history faults w range body old next view) (sym is.1) answers
+  module _ (asked : Asked) (result : Result Method RouteFault) (range : Option (List ℕ)) (body : List ℕ) (old : ServiceView D) (sending : Sending)
+      (new next : ServiceView D) (reply : ReplyView) (is : SendsMethod sectors honest history faults asked result range old sending new reply) where
+    asked_answers : (view : ReplyView) → AnswersArchive (range_for is.0 range) old sending next view
+        → AnswersMethod sectors honest history faults asked result range body old next view
+    asked_answers view answers =
+        subst (λ (r : Result Method RouteFault). AnswersMethod sectors honest history faults asked r range body old next view) (sym is.1)
+        (subst (λ (a : Asked). AnswersAllowed sectors honest history faults a is.0 range body old next view) (sym is.2) answers)
 
     -- the disk fails
     pub sends_fails : (at : ℕ) (outcome : Option (List ℕ)) → Takes sectors honest history new (read at outcome) next → DiskFailed faults new next
-        → AnswersWanted sectors honest history faults wanted range body old next reply × DiskFailed faults old next
+        → AnswersMethod sectors honest history faults asked result range body old next reply × DiskFailed faults old next
     sends_fails at outcome takes failed = (
-      wanted_answers reply (still_answers (range_for is.0 range) old sending new reply is.2 next at outcome takes),
-      subst (λ (n : ℕ). HasFailed n (faults next.disk)) is.2.sends.unfailed failed,
+      asked_answers reply (still_answers (range_for is.0 range) old sending new reply is.3 next at outcome takes),
+      subst (λ (n : ℕ). HasFailed n (faults next.disk)) is.3.sends.unfailed failed,
     )
 
     pub sends_more : (now : Sending) (offset n : ℕ) (piece : List ℕ) → now ≡ sending → length piece ≡ n
         → offset + n ≤ min sending.length (new.archive_len - sending.first) → faults next.disk ≡ faults new.disk
         → Takes sectors honest history new (read (sending.first + offset) (Some piece)) next
-        → SendsWanted sectors honest history faults wanted range old now next (with_part offset piece reply)
-        × AnswersWanted sectors honest history faults wanted range body old next (with_part offset piece reply)
+        → SendsMethod sectors honest history faults asked result range old now next (with_part offset piece reply)
+        × AnswersMethod sectors honest history faults asked result range body old next (with_part offset piece reply)
     sends_more now offset n piece same long within unfailed takes =
-        let more = sent_more (range_for is.0 range) old sending new reply is.2 next offset piece takes unfailed (omega (arith, long, within)) in (
+        let more = sent_more (range_for is.0 range) old sending new reply is.3 next offset piece takes unfailed (omega (arith, long, within)) in (
           (
             is.0,
             is.1,
+            is.2,
             subst (λ (s : Sending). IsSending sectors honest history faults (range_for is.0 range) old s next (with_part offset piece reply)) (sym same) more,
           ),
-          wanted_answers (with_part offset piece reply)
+          asked_answers (with_part offset piece reply)
               (sent_answers (range_for is.0 range) old sending next (with_part offset piece reply) more),
         )
 

@@ -4,8 +4,7 @@ use Rattle.serde_json.specs.Data.{Data}
 use Rattle.serde_json.specs.View.{items_of}
 use Rattle.serde_json.specs.Written.{has_float, items_have_float, members_have_float}
 use Rattle.tile_routes.specs.Methods.{allow_of, name_of}
-use Rattle.tile_routes.specs.Paths.{Asked, asked_tile, asked_metadata, asked_archive, asked_feature, asked_nothing}
-use Rattle.tile_routes.specs.Paths.{asked_edits, asked_publish, asked_begin, asked_step, asked_cancel}
+use Rattle.tile_routes.specs.Paths.{Asked, asked_tile, asked_feature, asked_view, asked_action, asked_nothing}
 use Rattle.feature_model.specs.declared.feature.World.{World}
 use Rattle.feature_model.specs.Data.{GeometryData, world_points, world_lines, world_polygons, ValueData, text_value}
 use Rattle.feature_model.specs.Data.{natural_value, negative_value, truth_value, TagData, FeatureData}
@@ -17,14 +16,9 @@ use Rattle.map_metadata.specs.Metadata.{LayerData, fields_json, layer_json, IsMe
 pub allow_short : (asked : Asked) → length (allow_of asked) ≤ 64
 unfolding name_of
 allow_short (asked_tile z x y format) = omega arith
-allow_short asked_metadata = omega arith
-allow_short asked_archive = omega arith
 allow_short (asked_feature id) = omega arith
-allow_short asked_edits = omega arith
-allow_short asked_publish = omega arith
-allow_short asked_begin = omega arith
-allow_short asked_step = omega arith
-allow_short asked_cancel = omega arith
+allow_short (asked_view view) = omega arith
+allow_short (asked_action action) = omega arith
 allow_short asked_nothing = omega arith
 
 -- ---- metadata has no float

@@ -2,5 +2,6 @@ pub mod Bodies
 pub mod Meanings
 pub mod Parts
 pub mod Sending
+pub mod Served
 pub mod State
 pub mod Words

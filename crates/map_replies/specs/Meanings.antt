@@ -5,9 +5,14 @@ use Rattle.http_serve.specs.Reply.{ReplyView}
 use Rattle.sector_disk.specs.Disk.{History, HasFailed}
 use Rattle.tile_routes.specs.declared.method.Method.{Method}
 use Rattle.tile_routes.specs.declared.method.Method.TheVariants.{Put, Delete}
-use Rattle.tile_routes.specs.Methods.{Wanted, not_found, not_allowed, allowed, wanted_by}
-use Rattle.tile_routes.specs.Paths.{Asked, asked_tile, asked_metadata, asked_archive, asked_feature, asked_nothing}
-use Rattle.tile_routes.specs.Paths.{asked_edits, asked_publish, asked_begin, asked_step, asked_cancel}
+use Rattle.tile_routes.specs.declared.fault.RouteFault.{RouteFault}
+use Rattle.tile_routes.specs.declared.fault.RouteFault.TheVariants as routes
+use Rattle.tile_routes.specs.declared.target.Action.{Action}
+use Rattle.tile_routes.specs.declared.target.Action.TheVariants as actions
+use Rattle.tile_routes.specs.declared.target.View.{View}
+use Rattle.tile_routes.specs.declared.target.View.TheVariants as views
+use Rattle.tile_routes.specs.Methods.{method_on}
+use Rattle.tile_routes.specs.Paths.{Asked, asked_tile, asked_feature, asked_view, asked_action, asked_nothing, asked_by}
 use Rattle.feature_model.specs.Data.{FeatureData, EditData, put, delete}
 use Rattle.tile_service.specs.Machine.{Happening, single, batched, recorded_in, recorded_change, edit, begin, step, cancel, tile, look, metadata, read}
 use Rattle.tile_service.specs.Runs.{begin_and_steps, TakesAll}
@@ -107,30 +112,40 @@ MeansOnFeature failed version id Put body = MeansPut failed version id body
 MeansOnFeature failed version id Delete body = MeansDelete failed version id
 MeansOnFeature failed version id method body = MeansCall (look id) (shown_reply found_reply)
 
+-- what GET and HEAD show
+abbrev pub MeansView : (failed : Type 0) → (old : Published) → View → Method → Option (List ℕ) → ReplyView → List Happening → Type 0
+MeansView failed old views.Metadata method range = MeansCall metadata (shown_reply metadata_reply)
+MeansView failed old views.Archive method range = OrNoMemory (MeansArchive failed old.archive_len (range_for method range))
+
+-- what POST does
+abbrev pub MeansAction : (failed : Type 0) → (version : ℕ) → (old new : Published) → Action → List ℕ → ReplyView → List Happening → Type 0
+MeansAction failed version old new actions.Edits body = MeansBatch failed version body
+MeansAction failed version old new actions.Publish body = OrNoMemory (MeansPublish failed old new)
+MeansAction failed version old new actions.PublishBegin body = OrNoMemory (MeansCall begin left_reply)
+MeansAction failed version old new actions.PublishStep body = OrNoMemory (MeansChange failed step left_reply)
+MeansAction failed version old new actions.PublishCancel body = OrNoMemory (MeansCall cancel cancel_reply)
+
 -- a method that the path allows
 abbrev pub MeansAllowed : (failed : Type 0) → (version : ℕ) → (old new : Published) → Asked → Method → Option (List ℕ) → List ℕ
     → ReplyView → List Happening → Type 0
 MeansAllowed failed version old new (asked_tile z x y format) method range body = MeansCall (tile z x y) (shown_reply (content_reply format))
 MeansAllowed failed version old new (asked_feature id) method range body = MeansOnFeature failed version id method body
-MeansAllowed failed version old new asked_metadata method range body = MeansCall metadata (shown_reply metadata_reply)
-MeansAllowed failed version old new asked_archive method range body = OrNoMemory (MeansArchive failed old.archive_len (range_for method range))
-MeansAllowed failed version old new asked_edits method range body = MeansBatch failed version body
-MeansAllowed failed version old new asked_publish method range body = OrNoMemory (MeansPublish failed old new)
-MeansAllowed failed version old new asked_begin method range body = OrNoMemory (MeansCall begin left_reply)
-MeansAllowed failed version old new asked_step method range body = OrNoMemory (MeansChange failed step left_reply)
-MeansAllowed failed version old new asked_cancel method range body = OrNoMemory (MeansCall cancel cancel_reply)
+MeansAllowed failed version old new (asked_view view) method range body = MeansView failed old view method range
+MeansAllowed failed version old new (asked_action action) method range body = MeansAction failed version old new action body
 MeansAllowed failed version old new asked_nothing method range body = MeansRefusal NotFound
 
-abbrev pub MeansWanted : (failed : Type 0) → (version : ℕ) → (old new : Published) → Wanted → Option (List ℕ) → List ℕ
+-- a method, or why the path refuses it
+abbrev pub MeansMethod : (failed : Type 0) → (version : ℕ) → (old new : Published) → Asked → Result Method RouteFault → Option (List ℕ) → List ℕ
     → ReplyView → List Happening → Type 0
-MeansWanted failed version old new not_found range body reply happenings = MeansRefusal NotFound reply happenings
-MeansWanted failed version old new (not_allowed asked) range body reply happenings = (reply ≡ not_allowed_reply asked) × (happenings ≡ [])
-MeansWanted failed version old new (allowed asked method) range body reply happenings =
+MeansMethod failed version old new asked (Ok method) range body reply happenings =
     MeansAllowed failed version old new asked method range body reply happenings
+MeansMethod failed version old new asked (Err routes.NotFound) range body reply happenings = MeansRefusal NotFound reply happenings
+MeansMethod failed version old new asked (Err routes.NotAllowed) range body reply happenings = (reply ≡ not_allowed_reply asked) × (happenings ≡ [])
 
 -- the reply to a request, which is routed by its method and its path
 abbrev pub Means : (failed : Type 0) → (version : ℕ) → (old new : Published) → RequestView → ReplyView → List Happening → Type 0
-Means failed version old new request = MeansWanted failed version old new (wanted_by request.method request.path) request.range request.body
+Means failed version old new request =
+    MeansMethod failed version old new (asked_by request.path) (method_on request.method (asked_by request.path)) request.range request.body
 
 -- ---- a single reply
 
@@ -150,10 +165,10 @@ module _ {D : Type 0} (sectors : D → ℕ) (honest : D → Type 0) (history : D
     AnswersAllowed asked method range body old new =
         Answers (MeansAllowed (DiskFailed faults old new) old.version (numbers_of old) (numbers_of new) asked method range body) old new
 
-    -- the reply to a routed request
-    abbrev pub AnswersWanted : Wanted → Option (List ℕ) → List ℕ → (old new : ServiceView D) → ReplyView → Type 0
-    AnswersWanted wanted range body old new =
-        Answers (MeansWanted (DiskFailed faults old new) old.version (numbers_of old) (numbers_of new) wanted range body) old new
+    -- the reply to a method, or to one that the path refuses
+    abbrev pub AnswersMethod : Asked → Result Method RouteFault → Option (List ℕ) → List ℕ → (old new : ServiceView D) → ReplyView → Type 0
+    AnswersMethod asked method range body old new =
+        Answers (MeansMethod (DiskFailed faults old new) old.version (numbers_of old) (numbers_of new) asked method range body) old new
 
     -- the reply to a request
     abbrev pub Replies : ServiceView D → RequestView → ReplyView → ServiceView D → Type 0

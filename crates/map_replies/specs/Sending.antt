@@ -5,8 +5,9 @@ use Rattle.http_serve.specs.declared.replies.Content.{Content}
 use Rattle.http_serve.specs.declared.replies.Reply.{Reply}
 use Rattle.sector_disk.specs.Disk.{History}
 use Rattle.tile_routes.specs.declared.method.Method.{Method}
-use Rattle.tile_routes.specs.Methods.{Wanted, allowed}
-use Rattle.tile_routes.specs.Paths.{asked_archive}
+use Rattle.tile_routes.specs.declared.fault.RouteFault.{RouteFault}
+use Rattle.tile_routes.specs.declared.target.View.TheVariants.{Archive}
+use Rattle.tile_routes.specs.Paths.{Asked, asked_view}
 use Rattle.tile_service.specs.Machine.{read}
 use Rattle.tile_service.specs.Runs.{Takes}
 use Rattle.tile_service.specs.Service.{ServiceView}
@@ -81,7 +82,12 @@ module _ {D : Type 0} (sectors : D → ℕ) (honest : D → Type 0) (history : D
       pub asked : IsPart range old.archive_len part
       pub sends : SendsPart part old sending new reply
 
-    -- the same for a routed request, which is for the archive
-    abbrev pub SendsWanted : Wanted → Option (List ℕ) → (old : ServiceView D) → Sending → (new : ServiceView D) → ReplyView → Type 0
-    SendsWanted wanted range old sending new reply =
-        (method : Method) × (wanted ≡ allowed asked_archive method) × IsSending (range_for method range) old sending new reply
+    -- the same for a method that the path allows: the path is that of the archive
+    abbrev pub SendsAllowed : Asked → Method → Option (List ℕ) → (old : ServiceView D) → Sending → (new : ServiceView D) → ReplyView → Type 0
+    SendsAllowed asked method range old sending new reply = (asked ≡ asked_view Archive) × IsSending (range_for method range) old sending new reply
+
+    -- the same for a method, or one that the path refuses: it allows this one
+    abbrev pub SendsMethod : Asked → Result Method RouteFault → Option (List ℕ) → (old : ServiceView D) → Sending → (new : ServiceView D) → ReplyView
+        → Type 0
+    SendsMethod asked result range old sending new reply =
+        (method : Method) × (result ≡ Ok method) × SendsAllowed asked method range old sending new reply

@@ -8,8 +8,9 @@ use Rattle.tile_service.specs.Runs.{TakesAll}
 use Rattle.tile_service.specs.Service.{ServiceView}
 use Rattle.map_replies.specs.declared.service.MapReplies.{MapReplies}
 use Rattle.map_replies.specs.Meanings.{numbers_of, Means, DiskFailed, Replies}
-use Rattle.map_replies.specs.Sending.{SendsWanted}
-use Rattle.tile_routes.specs.Methods.{wanted_by}
+use Rattle.map_replies.specs.Sending.{SendsMethod}
+use Rattle.tile_routes.specs.Methods.{method_on}
+use Rattle.tile_routes.specs.Paths.{asked_by}
 
 -- the service that it calls
 abbrev pub asked_service : {D : Type 0} → MapReplies D → ServiceView D
@@ -28,8 +29,8 @@ module _ {D : Type 0} (sectors : D → ℕ) (honest : D → Type 0) (history : D
   -- the same for a reply whose content is being read in parts: the request is for the archive
   abbrev pub ServiceSends : MapReplies D → RequestView → ReplyView → MapReplies D → Type 0
   ServiceSends old request reply new =
-      SendsWanted sectors honest history faults (wanted_by request.method request.path) request.range (asked_service old) new.sending
-      (asked_service new) reply
+      SendsMethod sectors honest history faults (asked_by request.path) (method_on request.method (asked_by request.path)) request.range
+      (asked_service old) new.sending (asked_service new) reply
 
   -- the same for a reply whose content couldn't be read to its end: the disk has failed
   abbrev pub ServiceFails : MapReplies D → RequestView → ReplyView → MapReplies D → Type 0

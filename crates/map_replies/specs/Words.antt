@@ -121,26 +121,28 @@ json_reply text = plain_reply 200 (Some json_type) text
 abbrev pub empty_reply : ReplyView
 empty_reply = plain_reply 204 None (codes "")
 
--- the sequence number of an edit that was made
-unfoldable pub edit_body : ℕ → List ℕ
-edit_body number = codes "{\"edit\":" ++ decimal number ++ codes "}"
+-- a JSON object with one number, whose text begins thus
+unfoldable pub number_body : (start : List ℕ) → ℕ → List ℕ
+number_body start number = start ++ decimal number ++ codes "}"
 
-abbrev pub edit_reply : ℕ → ReplyView
-edit_reply number = json_reply (edit_body number)
+-- the outcome of a call that returns a number: the number, or why the service refuses the call
+abbrev pub number_reply : (start : List ℕ) → Result ℕ ServiceFault → ReplyView
+number_reply start (Ok number) = json_reply (number_body start number)
+number_reply start (Err fault) = service_refusal fault
 
--- the outcome of an edit: its sequence number, or why the service refuses it
+unfoldable pub edit_start : List ℕ
+edit_start = codes "{\"edit\":"
+
+unfoldable pub left_start : List ℕ
+left_start = codes "{\"left\":"
+
+-- the outcome of an edit, with its sequence number
 abbrev pub outcome_reply : Result ℕ ServiceFault → ReplyView
-outcome_reply (Ok number) = edit_reply number
-outcome_reply (Err fault) = service_refusal fault
+outcome_reply = number_reply edit_start
 
--- how much of a publication is left
-unfoldable pub left_body : ℕ → List ℕ
-left_body left = codes "{\"left\":" ++ decimal left ++ codes "}"
-
--- the outcome of the beginning or of a step of a publication
+-- the outcome of the beginning or of a step of a publication, with how much of it is left
 abbrev pub left_reply : Result ℕ ServiceFault → ReplyView
-left_reply (Ok left) = json_reply (left_body left)
-left_reply (Err fault) = service_refusal fault
+left_reply = number_reply left_start
 
 -- what was published: the length of the archive in bytes, the sequence number of the last edit in it, and its generation
 unfoldable pub published_body : Published → List ℕ

@@ -14,6 +14,7 @@ use sector_disk::Sectors;
 
 impl<D: Sectors + Drop> MapReplies<D> {
     /// Sets the feature of an id to the one in the body.
+    #[tactic(auto, using(crate::proofs::Answering::body_refused))]
     pub(crate) fn put(&mut self, id: u64, body: &[u8]) -> Result<Reply, RequestFault>
         ensures answered { IsAnswered (Answers D.sectors D.honest D.history
             (MeansPut (DiskFailed D.faults (asked_service self.old) (asked_service self.new)) (asked_service self.old).version id body.now)
@@ -32,6 +33,7 @@ impl<D: Sectors + Drop> MapReplies<D> {
     }
 
     /// Makes the changes in the body as one edit, all of them or none.
+    #[tactic(auto, using(crate::proofs::Answering::body_refused))]
     pub(crate) fn batch(&mut self, body: &[u8]) -> Result<Reply, RequestFault>
         ensures answered { IsAnswered (Answers D.sectors D.honest D.history
             (MeansBatch (DiskFailed D.faults (asked_service self.old) (asked_service self.new)) (asked_service self.old).version body.now)

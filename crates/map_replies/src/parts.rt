@@ -6,8 +6,7 @@ ghost use Rattle.map_replies.specs.Parts.{range_for, IsPart, octets_type, range_
 ghost use Rattle.map_replies.specs.Words.{text_type, service_refusal};
 
 use byte_range::byte_range;
-use http::StatusCode;
-use http_serve::{Content, ContentRange, Reply};
+use http_serve::{Content, ContentRange, Reply, status};
 use sector_disk::SECTOR_BYTES;
 use tile_routes::Method;
 
@@ -82,7 +81,7 @@ pub(crate) fn whole(content: Content) -> Reply
     ensures content { result.content ≡ content }
     ensures words { HasShortWords (head_view result) }
 {
-    Reply::plain(StatusCode::OK, Some("application/octet-stream"), content)
+    Reply::plain(status::OK, Some("application/octet-stream"), content)
 }
 
 /// The reply with a part of the archive.
@@ -93,7 +92,7 @@ pub(crate) fn between(first: u64, last: u64, total: u64, content: Content) -> Re
     ensures words { HasShortWords (head_view result) }
 {
     Reply {
-        status: StatusCode::PARTIAL_CONTENT,
+        status: status::PARTIAL_CONTENT,
         kind: Some("application/octet-stream"),
         range: Some(ContentRange::Part { first, last, total }),
         allow: None,
@@ -108,7 +107,7 @@ pub(crate) fn beyond(total: u64) -> Reply
     ensures writable { IsWhole result }
 {
     Reply {
-        status: StatusCode::RANGE_NOT_SATISFIABLE,
+        status: status::RANGE_NOT_SATISFIABLE,
         kind: Some("text/plain"),
         range: Some(ContentRange::Unsatisfied { total }),
         allow: None,
@@ -123,7 +122,7 @@ pub(crate) fn unread() -> Reply
     ensures writable { IsWhole result }
 {
     Reply::plain(
-        StatusCode::INTERNAL_SERVER_ERROR,
+        status::INTERNAL_SERVER_ERROR,
         Some("text/plain"),
         Content::Fixed(b"Device\n"),
     )

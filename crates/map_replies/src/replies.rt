@@ -1,8 +1,9 @@
 //! The replies of the service.
 ghost use Rattle.std.specs.Prelude.{◌≡◌, ◌≤◌, [], length, vec_capacity, IfOk, option_map};
 ghost use Rattle.http_serve.specs.Reply.{content_bytes, reply_view, InParts, IsWhole};
-ghost use Rattle.map_replies.specs.Words.{fault_word, service_word, edit_word, full_word, fault_status, service_status, edit_status, edit_body, edit_reply};
-ghost use Rattle.map_replies.specs.Words.{service_refusal, not_allowed_reply, json_reply, empty_reply, outcome_reply, left_body, left_reply};
+ghost use Rattle.map_replies.specs.Words.{fault_word, service_word, edit_word, full_word, fault_status, service_status, edit_status};
+ghost use Rattle.map_replies.specs.Words.{service_refusal, not_allowed_reply, json_reply, empty_reply, number_body, number_reply};
+ghost use Rattle.map_replies.specs.Words.{outcome_reply, left_reply};
 ghost use Rattle.map_replies.specs.Words.{published_body, published_reply, cancel_reply};
 ghost use Rattle.map_replies.specs.Words.{format_type, format_content, content_reply, tile_reply, refusal_of};
 ghost use Rattle.tile_routes.specs.Targets.{asked_of};
@@ -12,8 +13,7 @@ ghost use Rattle.map_replies.specs.declared.replies.TheConstants.{MOST_TEXT};
 use crate::fault::RequestFault;
 use decimal_number::{MOST_DIGITS, push_number, push_text};
 use feature_model::EditFault;
-use http::StatusCode;
-use http_serve::{Content, Reply};
+use http_serve::{Content, Reply, status};
 use std::alloc::{AllocError, Global};
 use tile_routes::{Target, TileFormat};
 use tile_service::{Published, ServiceFault};
@@ -108,42 +108,41 @@ fn fault_word(fault: RequestFault) -> &'static [u8]
 }
 
 /// The status of a fault of an edit.
-fn edit_status(fault: EditFault) -> StatusCode
+fn edit_status(fault: EditFault) -> u16
     ensures { result ≡ edit_status fault }
 {
     match fault {
-        EditFault::Memory => StatusCode::SERVICE_UNAVAILABLE,
-        _ => StatusCode::BAD_REQUEST,
+        EditFault::Memory => status::SERVICE_UNAVAILABLE,
+        _ => status::BAD_REQUEST,
     }
 }
 
 /// The status of a refusal by the service.
-fn service_status(fault: ServiceFault) -> StatusCode
+fn service_status(fault: ServiceFault) -> u16
     ensures { result ≡ service_status fault }
 {
     match fault {
         ServiceFault::Limit(fault) => edit_status(fault),
-        ServiceFault::NotFound => StatusCode::NOT_FOUND,
-        ServiceFault::Memory => StatusCode::SERVICE_UNAVAILABLE,
-        ServiceFault::Busy | ServiceFault::Idle | ServiceFault::NeedsUpgrade =>
-            StatusCode::CONFLICT,
+        ServiceFault::NotFound => status::NOT_FOUND,
+        ServiceFault::Memory => status::SERVICE_UNAVAILABLE,
+        ServiceFault::Busy | ServiceFault::Idle | ServiceFault::NeedsUpgrade => status::CONFLICT,
         ServiceFault::TooManyTiles
         | ServiceFault::AreaFull { .. }
-        | ServiceFault::JournalFull { .. } => StatusCode::INSUFFICIENT_STORAGE,
+        | ServiceFault::JournalFull { .. } => status::INSUFFICIENT_STORAGE,
         ServiceFault::Broken | ServiceFault::NumbersSpent | ServiceFault::Device =>
-            StatusCode::INTERNAL_SERVER_ERROR,
+            status::INTERNAL_SERVER_ERROR,
     }
 }
 
 /// The status of a fault.
-fn fault_status(fault: RequestFault) -> StatusCode
+fn fault_status(fault: RequestFault) -> u16
     ensures { result ≡ fault_status fault }
 {
     match fault {
-        RequestFault::NotFound => StatusCode::NOT_FOUND,
-        RequestFault::Json => StatusCode::BAD_REQUEST,
+        RequestFault::NotFound => status::NOT_FOUND,
+        RequestFault::Json => status::BAD_REQUEST,
         RequestFault::Edit(fault) => edit_status(fault),
-        RequestFault::Memory => StatusCode::SERVICE_UNAVAILABLE,
+        RequestFault::Memory => status::SERVICE_UNAVAILABLE,
     }
 }
 
@@ -182,7 +181,7 @@ pub(crate) fn not_allowed(target: Target) -> Reply
     ensures writable { IsWhole result }
 {
     Reply {
-        status: StatusCode::METHOD_NOT_ALLOWED,
+        status: status::METHOD_NOT_ALLOWED,
         kind: Some("text/plain"),
         range: None,
         allow: Some(target.allow()),
@@ -196,11 +195,7 @@ pub(crate) fn json(text: Vec<u8>) -> Reply
     ensures reply { reply_view [] result ≡ json_reply text.items }
     ensures writable { IsWhole result }
 {
-    Reply::plain(
-        StatusCode::OK,
-        Some("application/json"),
-        Content::Whole(text),
-    )
+    Reply::plain(status::OK, Some("application/json"), Content::Whole(text))
 }
 
 /// The reply without content.
@@ -208,7 +203,7 @@ pub(crate) fn empty() -> Reply
     ensures reply { reply_view [] result ≡ empty_reply }
     ensures writable { IsWhole result }
 {
-    Reply::plain(StatusCode::NO_CONTENT, None, Content::Empty)
+    Reply::plain(status::NO_CONTENT, None, Content::Empty)
 }
 
 /// Empty text with capacity for each outcome.
@@ -219,58 +214,55 @@ pub(crate) fn outcome_space(alloc: Global) -> Result<Vec<u8>, AllocError>
     Vec::with_capacity(alloc, MOST_TEXT)
 }
 
-/// The text with an edit's sequence number.
-#[tactic(auto, unfolding(crate::specs::Words::edit_body))]
-fn edit_body(text: Vec<u8>, number: u64) -> Vec<u8>
+/// The text of a JSON object with one number, which begins with `start`.
+#[tactic(auto, unfolding(crate::specs::Words::number_body))]
+fn number_body(text: Vec<u8>, start: &[u8], number: u64) -> Vec<u8>
+    requires start { length start.now ≤ 8 }
     requires empty { text.items ≡ [] }
     requires room { MOST_TEXT ≤ vec_capacity text }
-    ensures { result.items ≡ edit_body number }
+    ensures { result.items ≡ number_body start.now number }
 {
     let mut text = text;
-    push_text(&mut text, b"{\"edit\":");
+    push_text(&mut text, start);
     push_number(&mut text, number);
     push_text(&mut text, b"}");
     text
 }
 
+/// The reply with the outcome of a call that returns a number. It doesn't allocate.
+fn number(text: Vec<u8>, start: &[u8], outcome: Result<u64, ServiceFault>) -> Reply
+    requires start { length start.now ≤ 8 }
+    requires empty { text.items ≡ [] }
+    requires room { MOST_TEXT ≤ vec_capacity text }
+    ensures reply { reply_view [] result ≡ number_reply start.now outcome }
+    ensures writable { IsWhole result }
+{
+    match outcome {
+        Ok(number) => json(number_body(text, start, number)),
+        Err(fault) => service_refusal(text, fault),
+    }
+}
+
 /// The reply with the outcome of an edit. It doesn't allocate: an edit that was made is always reported.
+#[tactic(auto, unfolding(crate::specs::Words::edit_start))]
 pub(crate) fn outcome(text: Vec<u8>, outcome: Result<u64, ServiceFault>) -> Reply
     requires empty { text.items ≡ [] }
     requires room { MOST_TEXT ≤ vec_capacity text }
     ensures reply { reply_view [] result ≡ outcome_reply outcome }
     ensures writable { IsWhole result }
 {
-    match outcome {
-        Ok(number) => json(edit_body(text, number)),
-        Err(fault) => service_refusal(text, fault),
-    }
-}
-
-/// The text with how much of a publication is left.
-#[tactic(auto, unfolding(crate::specs::Words::left_body))]
-fn left_body(text: Vec<u8>, left: u64) -> Vec<u8>
-    requires empty { text.items ≡ [] }
-    requires room { MOST_TEXT ≤ vec_capacity text }
-    ensures { result.items ≡ left_body left }
-{
-    let mut text = text;
-    push_text(&mut text, b"{\"left\":");
-    push_number(&mut text, left);
-    push_text(&mut text, b"}");
-    text
+    number(text, b"{\"edit\":", outcome)
 }
 
 /// The reply with the outcome of the beginning or a step of a publication. It doesn't allocate.
+#[tactic(auto, unfolding(crate::specs::Words::left_start))]
 pub(crate) fn left(text: Vec<u8>, outcome: Result<u64, ServiceFault>) -> Reply
     requires empty { text.items ≡ [] }
     requires room { MOST_TEXT ≤ vec_capacity text }
     ensures reply { reply_view [] result ≡ left_reply outcome }
     ensures writable { IsWhole result }
 {
-    match outcome {
-        Ok(left) => json(left_body(text, left)),
-        Err(fault) => service_refusal(text, fault),
-    }
+    number(text, b"{\"left\":", outcome)
 }
 
 /// The text with what was published.
@@ -346,7 +338,7 @@ fn some_tile(alloc: Global, format: TileFormat, bytes: Vec<u8>) -> Result<Reply,
 {
     let kind = format_type(format);
     let content = format_content(alloc, format, bytes)?;
-    Ok(Reply::plain(StatusCode::OK, Some(kind), Content::Whole(content)))
+    Ok(Reply::plain(status::OK, Some(kind), Content::Whole(content)))
 }
 
 /// The reply with a tile, or 204 if the tile is empty.

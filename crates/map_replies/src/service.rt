@@ -1,17 +1,13 @@
 //! The replies of a map.
-ghost use Rattle.std.specs.Prelude.{◌≡◌, ◌≢◌, ℕ, List, [], Option, IfOk, IfErr, option_map};
+ghost use Rattle.std.specs.Prelude.{◌≡◌, IfOk, option_map};
 ghost use Rattle.http_serve.specs.declared.connection.TheConstants.{MOST_READS};
-ghost use Rattle.http_serve.specs.Told.{IsServed, IsServedUpTo, HasContent, MeetsTurns, KeepsTurns, AnswersInput};
 ghost use Rattle.http_serve.specs.Reply.{head_view, HasShortWords, IsWhole};
-ghost use Rattle.tile_routes.specs.Paths.{asked_archive};
+ghost use Rattle.tile_routes.specs.Paths.{asked_view};
 ghost use Rattle.tile_routes.specs.Targets.{asked_of};
-ghost use Rattle.tile_routes.specs.Wanted.{wanted_view};
-ghost use Rattle.tile_service.specs.Machine.{Happening};
-ghost use Rattle.tile_service.specs.Runs.{TakesRun};
-ghost use Rattle.map_replies.specs.Meanings.{MeansOnFeature, Answers, AnswersAllowed, AnswersWanted, DiskFailed};
-ghost use Rattle.map_replies.specs.Parts.{range_for};
-ghost use Rattle.map_replies.specs.Sending.{IsAnswered, IsAnsweredInParts, IsSending, SendsWanted};
-ghost use Rattle.map_replies.specs.State.{asked_service, sending_size, ServiceReplies, Tells, TellsCut, course};
+ghost use Rattle.map_replies.specs.Meanings.{numbers_of, MeansOnFeature, MeansView, MeansAction, Answers, AnswersAllowed, AnswersMethod, DiskFailed};
+ghost use Rattle.map_replies.specs.Sending.{IsAnswered, IsAnsweredInParts, SendsAllowed, SendsMethod};
+ghost use Rattle.map_replies.specs.Served.{ServesMap};
+ghost use Rattle.map_replies.specs.State.{asked_service};
 
 use crate::fault::RequestFault;
 use crate::parts::{Sending, is_head, range_for};
@@ -22,7 +18,7 @@ use http_serve::{
 use sector_disk::Sectors;
 use std::alloc::Global;
 use std::io::{Read, Write};
-use tile_routes::{Method, Routes, Target, Wanted};
+use tile_routes::{Action, Method, RouteFault, Routes, Target, View};
 use tile_service::Service;
 
 /// The request handler of a map.
@@ -74,32 +70,47 @@ impl<D: Sectors + Drop> MapReplies<D> {
         }
     }
 
-    /// Handles an allowed method on any target but the archive.
-    fn allowed_but_archive(
+    /// Handles GET or HEAD of a view.
+    #[tactic(auto, using(crate::proofs::SendingLemmas::whole_answer, crate::proofs::SendingLemmas::whole_words))]
+    fn on_view(
         &mut self,
-        target: Target,
+        view: View,
         method: Method,
-        body: &[u8],
+        range: Option<&[u8]>,
     ) -> Result<Reply, RequestFault>
-        requires other { asked_of target ≢ asked_archive }
-        ensures answered { (range : Option (List ℕ)) → IsAnswered (AnswersAllowed D.sectors D.honest D.history D.faults
-            (asked_of target) method range body.now (asked_service self.old) (asked_service self.new)) result }
+        ensures answered { IsAnsweredInParts
+            (Answers D.sectors D.honest D.history (MeansView (DiskFailed D.faults (asked_service self.old) (asked_service self.new))
+            (numbers_of (asked_service self.old)) view method (option_map (λ value. value.now) range.entry))
+            (asked_service self.old) (asked_service self.new))
+            (SendsAllowed D.sectors D.honest D.history D.faults (asked_view view) method
+            (option_map (λ value. value.now) range.entry) (asked_service self.old) self.new.sending (asked_service self.new)) result }
+        ensures words { IfOk result (λ reply. HasShortWords (head_view reply)) }
+    {
+        match view {
+            View::Metadata => self.metadata(),
+            View::Archive => self.archive(range_for(method, range), is_head(method)),
+        }
+    }
+
+    /// Handles POST of an action.
+    fn on_action(&mut self, action: Action, body: &[u8]) -> Result<Reply, RequestFault>
+        ensures answered { IsAnswered (Answers D.sectors D.honest D.history
+            (MeansAction (DiskFailed D.faults (asked_service self.old) (asked_service self.new)) (asked_service self.old).version
+            (numbers_of (asked_service self.old)) (numbers_of (asked_service self.new)) action body.now)
+            (asked_service self.old) (asked_service self.new)) result }
         ensures writable { IfOk result IsWhole }
     {
-        match target {
-            Target::Tile(at, format) => self.tile(at, format),
-            Target::Feature(id) => self.on_feature(id, method, body),
-            Target::Metadata => self.metadata(),
-            Target::Edits => self.batch(body),
-            Target::Publish => self.publish(),
-            Target::PublishBegin => self.publish_begin(),
-            Target::PublishStep => self.publish_step(),
-            Target::PublishCancel => self.publish_cancel(),
-            Target::Archive | Target::Nothing => Err(RequestFault::NotFound),
+        match action {
+            Action::Edits => self.batch(body),
+            Action::Publish => self.publish(),
+            Action::PublishBegin => self.publish_begin(),
+            Action::PublishStep => self.publish_step(),
+            Action::PublishCancel => self.publish_cancel(),
         }
     }
 
     /// Handles an allowed method on any target.
+    #[tactic(auto, using(crate::proofs::SendingLemmas::whole_answer, crate::proofs::SendingLemmas::whole_words))]
     fn allowed(
         &mut self,
         target: Target,
@@ -110,35 +121,38 @@ impl<D: Sectors + Drop> MapReplies<D> {
         ensures answered { IsAnsweredInParts
             (AnswersAllowed D.sectors D.honest D.history D.faults (asked_of target) method
             (option_map (λ value. value.now) range.entry) body.now (asked_service self.old) (asked_service self.new))
-            (λ reply. (asked_of target ≡ asked_archive) × IsSending D.sectors D.honest D.history D.faults
-            (range_for method (option_map (λ value. value.now) range.entry)) (asked_service self.old) self.new.sending (asked_service self.new) reply)
-            result }
+            (SendsAllowed D.sectors D.honest D.history D.faults (asked_of target) method
+            (option_map (λ value. value.now) range.entry) (asked_service self.old) self.new.sending (asked_service self.new)) result }
         ensures words { IfOk result (λ reply. HasShortWords (head_view reply)) }
     {
         match target {
-            Target::Archive => self.archive(range_for(method, range), is_head(method)),
-            target => self.allowed_but_archive(target, method, body),
+            Target::Tile(at, format) => self.tile(at, format),
+            Target::Feature(id) => self.on_feature(id, method, body),
+            Target::View(view) => self.on_view(view, method, range),
+            Target::Action(action) => self.on_action(action, body),
+            Target::Nothing => Err(RequestFault::NotFound),
         }
     }
 
-    /// Serves a route.
+    /// Handles a method on any target, or one that the target refuses.
     fn respond(
         &mut self,
-        wanted: Wanted,
+        target: Target,
+        method: Result<Method, RouteFault>,
         range: Option<&[u8]>,
         body: &[u8],
     ) -> Result<Reply, RequestFault>
         ensures answered { IsAnsweredInParts
-            (AnswersWanted D.sectors D.honest D.history D.faults (wanted_view wanted)
+            (AnswersMethod D.sectors D.honest D.history D.faults (asked_of target) method
             (option_map (λ value. value.now) range.entry) body.now (asked_service self.old) (asked_service self.new))
-            (SendsWanted D.sectors D.honest D.history D.faults (wanted_view wanted)
+            (SendsMethod D.sectors D.honest D.history D.faults (asked_of target) method
             (option_map (λ value. value.now) range.entry) (asked_service self.old) self.new.sending (asked_service self.new)) result }
         ensures words { IfOk result (λ reply. HasShortWords (head_view reply)) }
     {
-        match wanted {
-            Wanted::NotFound => Err(RequestFault::NotFound),
-            Wanted::NotAllowed(target) => Ok(replies::not_allowed(target)),
-            Wanted::Allowed(target, method) => self.allowed(target, method, range, body),
+        match method {
+            Ok(method) => self.allowed(target, method, range, body),
+            Err(RouteFault::NotFound) => Err(RequestFault::NotFound),
+            Err(RouteFault::NotAllowed) => Ok(replies::not_allowed(target)),
         }
     }
 }
@@ -155,8 +169,9 @@ impl<D: Sectors + Drop> Handler for MapReplies<D> {
     ghost size = { sending_size };
 
     fn answer(&mut self, request: &Request<'_>) -> Reply {
-        let wanted = self.routes.wanted(request.method, request.path);
-        match self.respond(wanted, request.range, request.body) {
+        let target = self.routes.target(request.path);
+        let method = target.method(request.method);
+        match self.respond(target, method, request.range, request.body) {
             Ok(reply) => reply,
             Err(fault) => replies::refusal(fault),
         }
@@ -176,23 +191,8 @@ pub fn serve_map_turns<D: Sectors + Drop, R: Read, W: Write>(
     service: &mut MapReplies<D>,
     turns: u64,
 ) -> Result<Served, ServeFault>
-    ensures input { IfOk result (λ served. AnswersInput (ServiceReplies D.sectors D.honest D.history D.faults)
-        service.old (R.remaining reader.old) (W.contents writer.old) served service.new (W.contents writer.new)) }
-
-    // The replies report what happens to the service, in order. A crash at any point of the connection leaves a prefix of the edits
-    // of this run: every edit acknowledged by then, and none requested later.
-    ensures served { IfOk result (λ served. (run : List Happening)
-        × IsServed (Tells D.sectors D.honest D.history D.faults) (course service.old []) (R.remaining reader.old) (W.contents writer.old) served
-        (course service.new run) (R.remaining reader.new) (W.contents writer.new)
-        × TakesRun D.sectors D.honest D.history (asked_service service.old) run (asked_service service.new)) }
-    ensures fault { IfErr result (λ fault. (run : List Happening)
-        × IsServedUpTo (Tells D.sectors D.honest D.history D.faults) (TellsCut D.sectors D.honest D.history D.faults)
-        (course service.old []) (R.remaining reader.old) (W.contents writer.old) fault
-        (course service.new run) (R.remaining reader.new) (W.contents writer.new)
-        × TakesRun D.sectors D.honest D.history (asked_service service.old) run (asked_service service.new)) }
-    ensures content { IfErr result (HasContent (sending_size service.new)) }
-    ensures turns { IfOk result (λ served. MeetsTurns R.remaining turns reader.old reader.new served.end) }
-    ensures reads { KeepsTurns turns result (R.remaining reader.old) (R.remaining reader.new) }
+    ensures { ServesMap D.sectors D.honest D.history D.faults R.remaining W.contents turns
+        service.old reader.old writer.old result service.new reader.new writer.new }
 {
     serve_turns(alloc, reader, writer, service, turns)
 }
@@ -205,20 +205,8 @@ pub fn serve_map<D: Sectors + Drop, R: Read, W: Write>(
     writer: &mut W,
     service: &mut MapReplies<D>,
 ) -> Result<Served, ServeFault>
-    ensures input { IfOk result (λ served. AnswersInput (ServiceReplies D.sectors D.honest D.history D.faults)
-        service.old (R.remaining reader.old) (W.contents writer.old) served service.new (W.contents writer.new)) }
-    ensures served { IfOk result (λ served. (run : List Happening)
-        × IsServed (Tells D.sectors D.honest D.history D.faults) (course service.old []) (R.remaining reader.old) (W.contents writer.old) served
-        (course service.new run) (R.remaining reader.new) (W.contents writer.new)
-        × TakesRun D.sectors D.honest D.history (asked_service service.old) run (asked_service service.new)) }
-    ensures fault { IfErr result (λ fault. (run : List Happening)
-        × IsServedUpTo (Tells D.sectors D.honest D.history D.faults) (TellsCut D.sectors D.honest D.history D.faults)
-        (course service.old []) (R.remaining reader.old) (W.contents writer.old) fault
-        (course service.new run) (R.remaining reader.new) (W.contents writer.new)
-        × TakesRun D.sectors D.honest D.history (asked_service service.old) run (asked_service service.new)) }
-    ensures content { IfErr result (HasContent (sending_size service.new)) }
-    ensures turns { IfOk result (λ served. MeetsTurns R.remaining MOST_READS reader.old reader.new served.end) }
-    ensures reads { KeepsTurns MOST_READS result (R.remaining reader.old) (R.remaining reader.new) }
+    ensures { ServesMap D.sectors D.honest D.history D.faults R.remaining W.contents MOST_READS
+        service.old reader.old writer.old result service.new reader.new writer.new }
 {
     serve_map_turns(alloc, reader, writer, service, MOST_READS)
 }

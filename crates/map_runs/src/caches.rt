@@ -3,7 +3,7 @@ use crate::lines::{Line, byte, short};
 use box_index::WorldBox;
 use hilbert_id::TileAt;
 use std::alloc::{AllocError, Global};
-use tile_cache::{TileCache, TouchGrid};
+use tile_cache::{KeptTile, Origin, TileCache, TouchGrid};
 
 /// A grid of cells, and a cache of tiles.
 #[derive(Drop)]
@@ -42,14 +42,19 @@ impl Caches {
         first: u64,
     ) -> Result<String, AllocError> {
         let bytes = Vec::from_array(alloc, [byte(first), 1, 2])?;
-        self.cache.keep(at, number, bytes)?;
+        let tile = KeptTile {
+            origin: Origin::Cut,
+            number,
+            bytes,
+        };
+        self.cache.keep(at, tile)?;
         String::from_str(alloc, "held")
     }
 
     /// The tile that is kept for a place, if it is as new as this number.
     fn held(&mut self, alloc: Global, at: TileAt, newest: u64) -> Result<String, AllocError> {
         self.cache.promote(at);
-        match self.cache.peek(at, newest) {
+        match self.cache.peek(at, newest, false) {
             Some(bytes) => hex::encode(alloc, bytes),
             None => String::from_str(alloc, "none"),
         }

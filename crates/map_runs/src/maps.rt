@@ -1,6 +1,9 @@
 //! Lines over a map.
+ghost use Rattle.std.specs.Prelude.{◌≤◌, All, length};
 ghost use Rattle.feature_model.specs.Data.{edit_data};
-ghost use Rattle.feature_model.specs.Types.{IsEdit};
+ghost use Rattle.feature_model.specs.Spelled.{spelled_changes};
+ghost use Rattle.feature_model.specs.Types.{IsChange};
+ghost use Rattle.feature_model.specs.declared.limits.TheConstants.{MOST_EDIT_BYTES};
 
 use crate::features::{feature_in, shown};
 use crate::lines::{Line, byte, number_in, parted, short};
@@ -40,17 +43,9 @@ fn put(
     }
     let change = Change::Put { id, feature };
     let _text = encode_change(alloc, &change)?;
-    let Some(number) = map.last().checked_add(1) else {
-        return String::from_str(alloc, "numbers spent");
-    };
-    if map.store().len() > MOST {
-        return String::from_str(alloc, "too many features");
-    }
-    map.room()?;
-    if let Change::Put { id, feature } = change {
-        map.place(id, feature, number);
-    }
-    edited(alloc, number, map)
+    let mut changes = Vec::new(alloc);
+    changes.push(change)?;
+    make(alloc, map, Edit { changes })
 }
 
 fn put_json(alloc: Global, map: &mut CachedMap, rest: &str) -> Result<String, AllocError> {
@@ -73,7 +68,8 @@ fn delete(alloc: Global, map: &mut CachedMap, id: u64) -> Result<String, AllocEr
 
 /// Makes the changes of an edit together.
 fn make(alloc: Global, map: &mut CachedMap, edit: Edit) -> Result<String, AllocError>
-    requires { IsEdit (edit_data edit) }
+    requires changes { All IsChange (edit_data edit) }
+    requires text { length (spelled_changes (edit_data edit)) ≤ MOST_EDIT_BYTES }
 {
     let Some(number) = map.last().checked_add(1) else {
         return String::from_str(alloc, "numbers spent");
@@ -106,7 +102,7 @@ fn look(alloc: Global, store: &Store, id: u64) -> Result<String, AllocError> {
 
 /// A tile: as it is kept, or made.
 fn tile(alloc: Global, map: &mut CachedMap, at: TileAt) -> Result<String, AllocError> {
-    if let Some(bytes) = map.kept(at)? {
+    if let Some(bytes) = map.kept(at, false)? {
         let text = hex::encode(alloc, bytes.as_slice())?;
         return format!(in alloc; "kept {text}");
     }

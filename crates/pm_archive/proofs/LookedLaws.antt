@@ -6,11 +6,10 @@ use Rattle.std.specs.List.{AllByRecursion, slice_get}
 use Rattle.std.proofs.lemmas.Bool.{cases_lt, ne_eqb, eq-eqb, lt-ltb, le-ltb, le-leb, lt-leb}
 use Rattle.pm_header.specs.declared.header.Header.{Header}
 use Rattle.pm_directory.specs.declared.entry.Entry.{Entry}
-use Rattle.pm_directory.specs.Directory.{ids_behind, AscendFrom, IsAscending}
+use Rattle.pm_directory.specs.Directory.{ids_behind, AscendFrom}
 use Rattle.pm_directory.specs.Lookup.{up_to}
 use Rattle.pm_directory.proofs.DirectoryLaws.{directory_only}
 use Rattle.pm_archive.specs.Entries.{bound_of, EachLists, LiesIn, ListsTile, IsLeaf, Lists, entry_of, entry_bytes}
-use Rattle.reader.proofs.Steps.{same_value}
 use Rattle.pm_archive.specs.Reading.{directory_of_entry}
 use Rattle.pm_archive.specs.Archive.{content_of_entry, content_of}
 use Rattle.pm_archive.specs.Looked.{last_up_to, where_leads, leading_of, leading_at, reached_at, content_at}
@@ -302,16 +301,8 @@ unfolding content_at
 found_of bytes h id [] lie = refl
 found_of bytes h id (t ∷ ts) lie = found_either bytes h (leb t.id id && ltb id (t.id + t.run)) t (entry_of ts id) lie.0 (found_of bytes h id ts lie.1)
 
--- what stands where a look-up ends is the content of the id
-module _ (bytes : List ℕ) (h : Header) (id more bound : ℕ) (root tiles : List Entry) (start : Option Entry) where
-  abbrev pub Listed : Type 0
-  Listed = (start ≡ leading_of id root) × IsAscending root × EachLists (Lists bytes h more) bound root tiles
-
-  pub looked_up : Listed → reached_at bytes h id more start ≡ Ok (entry_of tiles id)
-  looked_up l = ap (reached_at bytes h id more) l.0 ∙ reaches bytes h id more 0 bound root tiles l.1 l.2
-
-  pub content_found : Listed → (found : Option Entry) → reached_at bytes h id more start ≡ Ok found
-      → content_at bytes h found ≡ Ok (content_of bytes h tiles id)
-  content_found l found is =
-      let same = same_value found (entry_of tiles id) (sym is ∙ looked_up l) in
-      ap (content_at bytes h) same ∙ found_of bytes h id tiles (each_lie h (Lists bytes h more) (lists_lie bytes h more) bound root tiles l.2)
+-- the content of the id is that of its entry
+pub content_found : (bytes : List ℕ) (h : Header) (id more bound : ℕ) (root tiles : List Entry) → EachLists (Lists bytes h more) bound root tiles
+    → content_at bytes h (entry_of tiles id) ≡ Ok (content_of bytes h tiles id)
+content_found bytes h id more bound root tiles l =
+    found_of bytes h id tiles (each_lie h (Lists bytes h more) (lists_lie bytes h more) bound root tiles l)

@@ -1,5 +1,5 @@
 -- What is looked up below the root directory of an archive is the content of the id.
-use Rattle.std.proofs.Common.{◌≡◌, ◌∙◌, ℕ, List, Ok, Option, refl, sym, ap, subst}
+use Rattle.std.proofs.Common.{◌≡◌, ◌∙◌, ℕ, List, Ok, Option, sym, ap, subst}
 use Rattle.reader.proofs.Steps.{then_is}
 use Rattle.hilbert_id.specs.declared.number.TheConstants.{TILE_IDS}
 use Rattle.pm_header.specs.declared.header.Header.{Header}
@@ -11,18 +11,16 @@ use Rattle.pm_archive.specs.Entries.{HasEntries, entry_of}
 use Rattle.pm_archive.specs.Archive.{IsArchiveOf, content_of}
 use Rattle.pm_archive.specs.Looked.{leading_of, reached_at, content_at, looked_at}
 use Rattle.pm_archive.proofs.ListedClauses.{has_each}
-use Rattle.pm_archive.proofs.LookedLaws.{looked_up, content_found}
+use Rattle.pm_archive.proofs.LookedLaws.{reaches, content_found}
 use Rattle.pm_archive.proofs.OpenedLaws.{one_header}
 
-looked_below : (bytes : List ℕ) (h : Header) (root tiles : List Entry) (id : ℕ) → IsDirectory (section_bytes h.root bytes) root → HasEntries bytes h tiles
+pub looked_below : (bytes : List ℕ) (h : Header) (root tiles : List Entry) (id : ℕ) → IsDirectory (section_bytes h.root bytes) root → HasEntries bytes h tiles
     → looked_at bytes h root id ≡ Ok (content_of bytes h tiles id)
 unfolding looked_at
 looked_below bytes h root tiles id dir has =
     let lists = has_each bytes h root tiles dir has in
-    let start = leading_of id root in
-    let reached = looked_up bytes h id MOST_LEAVES TILE_IDS root tiles start (refl, dir.ascending, lists) in
-    then_is (reached_at bytes h id MOST_LEAVES start) (content_at bytes h) (entry_of tiles id) (Ok (content_of bytes h tiles id)) reached
-    (content_found bytes h id MOST_LEAVES TILE_IDS root tiles start (refl, dir.ascending, lists) (entry_of tiles id) reached)
+    then_is (reached_at bytes h id MOST_LEAVES (leading_of id root)) (content_at bytes h) (entry_of tiles id) (Ok (content_of bytes h tiles id))
+    (reaches bytes h id MOST_LEAVES 0 TILE_IDS root tiles dir.ascending lists) (content_found bytes h id MOST_LEAVES TILE_IDS root tiles lists)
 
 pub looked_content : (bytes : List ℕ) (h : Header) (root : List Entry) (content : ℕ → Option (List ℕ)) (id : ℕ) → HasSections bytes h
     → IsDirectory (section_bytes h.root bytes) root → IsArchiveOf bytes content → looked_at bytes h root id ≡ Ok (content id)

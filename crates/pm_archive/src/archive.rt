@@ -1,6 +1,6 @@
 //! Archives that are open.
 
-ghost use Rattle.std.specs.Prelude.{◌≡◌, ◌≢◌, ◌↔◌, ℕ, ◌≤◌, List, length, Option, Some, None, slice_get, IfOk, IfErr, MatchResult, option_map};
+ghost use Rattle.std.specs.Prelude.{◌≡◌, ℕ, List, Option, None, slice_get, IfOk, IfErr, MatchResult, option_map};
 ghost use Rattle.reader.specs.Reading.{GivesUnless};
 ghost use Rattle.std.specs.List.{AllByRecursion};
 ghost use Rattle.pm_header.specs.declared.header.Header.{Header};
@@ -22,8 +22,8 @@ use crate::listing::entries_below;
 use crate::looking::content_below;
 use crate::opening::header_and_root;
 use crate::report::Report;
-use byte_source::Bytes;
 use crate::verifying::verdict_below;
+use byte_source::Bytes;
 use pm_directory::Entry;
 use pm_header::Header;
 use std::alloc::Global;
@@ -128,7 +128,15 @@ impl<B: Bytes + Drop> Archive<B> {
         ensures read { result ≡ Err ArchiveFault.Read → B.fails self.old.source }
         ensures memory { result ≡ Err ArchiveFault.Memory → LiesInside self.old.header (leading_of id self.old.root) }
     {
-        content_below(alloc, &mut self.source, &self.header, &self.root, id)
+        let mut kept = None;
+        content_below(
+            alloc,
+            &mut self.source,
+            &self.header,
+            &self.root,
+            &mut kept,
+            id,
+        )
     }
 
     /// Judges the archive: its metadata, its directories, the counts of its header, and each tile where they are Mapbox

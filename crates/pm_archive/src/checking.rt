@@ -1,11 +1,11 @@
 //! Whether the contents of tiles can be read.
 
-ghost use Rattle.std.specs.Prelude.{◌≡◌, ◌≢◌, ◌≤◌, ◌↔◌, ℕ, List, false, Err, IfOk, IfErr, OnOk, OnErr, MatchResult, IsTrue};
+ghost use Rattle.std.specs.Prelude.{◌≡◌, ◌≢◌, ◌≤◌, ◌↔◌, ℕ, List, false, Err, IfOk, IfErr, OnOk, OnErr, IsTrue};
 ghost use Rattle.std.specs.List.{AllByRecursion};
 ghost use Rattle.byte_source.specs.Source.{Keeps};
 ghost use Rattle.pm_archive.specs.Sections.{end_of};
-ghost use Rattle.pm_archive.specs.Entries.{LiesIn, entry_bytes};
-ghost use Rattle.pm_archive.specs.Answers.{IsOutside, UnlessOutside};
+ghost use Rattle.pm_archive.specs.Entries.{LiesIn};
+ghost use Rattle.pm_archive.specs.Answers.{UnlessOutside};
 ghost use Rattle.pm_archive.specs.Verified.{IsTile, HasTile};
 ghost use Rattle.pm_archive.specs.VerifiedPieces.{IsTileFault, IsFirstTileFault, AreRead};
 

@@ -1,25 +1,34 @@
-//! The leaf directory that is kept between look-ups, and the way to a tile by it.
+//! The leaf directory that is kept between look-ups.
 
-ghost use Rattle.std.specs.Prelude.{◌≡◌, ◌↔◌, ℕ, ◌≤◌, List, Err, IfOk, IsTrue, Option, option_map};
+ghost use Rattle.std.specs.Prelude.{◌≡◌, ◌↔◌, ℕ, ◌≤◌, List, Err, IfOk, OnOk, IsTrue, Option, None};
 ghost use Rattle.reader.specs.Reading.{GivesUnless};
 ghost use Rattle.pm_directory.specs.declared.entry.Entry.{Entry};
 ghost use Rattle.pm_directory.specs.Directory.{IsAscending};
 ghost use Rattle.byte_source.specs.Source.{Keeps};
 ghost use Rattle.pm_archive.specs.Sections.{end_of};
-ghost use Rattle.pm_archive.specs.Reading.{ArePlaced, directory_of_entry};
+ghost use Rattle.pm_archive.specs.Entries.{LiesIn};
+ghost use Rattle.pm_archive.specs.Reading.{directory_of_entry};
 ghost use Rattle.pm_archive.specs.Answers.{IsOutside};
-ghost use Rattle.pm_archive.specs.Looked.{leading_of, leading_at, reached_at, looked_at};
+ghost use Rattle.pm_archive.specs.Looked.{leading_of, leading_at};
 ghost use Rattle.pm_archive.specs.Lookup.{LeafView, IsKeptOf, IsSmall};
 
 use crate::fault::ArchiveFault;
-use crate::limits::{KEPT_LEAF_BYTES, MOST_LEAVES};
-use crate::looking::{content_in, leading};
+use crate::limits::KEPT_LEAF_BYTES;
 use crate::reading::directory_of;
 use byte_source::Bytes;
-use pm_directory::Entry;
+use pm_directory::{Entry, find};
 use pm_header::Header;
 use std::alloc::Global;
 use std::marker::Model;
+
+// The entry of a directory that leads to an id.
+#[tactic(auto, unfolding(crate::specs::Looked::leading_of))]
+pub(crate) fn leading(entries: &[Entry], id: u64) -> Option<Entry>
+    requires { IsAscending entries.now }
+    ensures { result ≡ leading_of id entries.now }
+{
+    find(entries, id)
+}
 
 // A leaf directory that was read.
 #[derive(Drop)]
@@ -47,9 +56,11 @@ impl Leaf {
         requires { end_of header.now.leaves ≤ B.count source.old }
         ensures source { Keeps B.count B.holds B.fails B.unchanged source.old source.new }
         ensures entry { IfOk result (λ leaf. leaf.entry ≡ entry) }
+        ensures inside { OnOk result (LiesIn header.now.leaves entry) }
         ensures directory { (bytes : List ℕ) → B.holds source.new bytes
             → GivesUnless IsOutside (λ leaf. leaf.entries) result (directory_of_entry bytes header.now entry) }
         ensures read { result ≡ Err ArchiveFault.Read → B.fails source.old }
+        ensures memory { result ≡ Err ArchiveFault.Memory → LiesIn header.now.leaves entry }
     {
         match directory_of(alloc, source, header, entry) {
             Ok(entries) => Ok(Leaf { entry, entries }),
@@ -74,7 +85,7 @@ impl Leaf {
 
 // The entry that leads to an id, of the leaf directory that an entry names. It is the kept one, or is read, and then kept.
 #[tactic(auto, unfolding(crate::specs::Looked::leading_at))]
-fn leading_below<B: Bytes>(
+pub(crate) fn leading_below<B: Bytes>(
     alloc: Global,
     source: &mut B,
     header: &Header,
@@ -89,6 +100,8 @@ fn leading_below<B: Bytes>(
     ensures first { (bytes : List ℕ) → B.holds source.new bytes → IsKeptOf bytes header.now kept.old
         → GivesUnless IsOutside (λ found. found) result (leading_at bytes header.now id entry) }
     ensures read { result ≡ Err ArchiveFault.Read → B.fails source.old }
+    ensures memory { result ≡ Err ArchiveFault.Memory → LiesIn header.now.leaves entry }
+    ensures inside { kept.old ≡ None → OnOk result (LiesIn header.now.leaves entry) }
 {
     match &*kept {
         Some(leaf) if leaf.is_of(entry) => return Ok(leaf.leading(id)),
@@ -100,67 +113,4 @@ fn leading_below<B: Bytes>(
         *kept = Some(leaf);
     }
     Ok(found)
-}
-
-// The tile entry that an entry is, or to which its leaf directory leads, below which so many more may stand.
-#[tactic(auto, unfolding(crate::specs::Looked::reached_at))]
-fn tile_entry<B: Bytes>(
-    alloc: Global,
-    source: &mut B,
-    header: &Header,
-    entry: Option<Entry>,
-    kept: &mut Option<Leaf>,
-    id: u64,
-    more: u8,
-) -> Result<Option<Entry>, ArchiveFault>
-    requires { end_of header.now.leaves ≤ B.count source.old }
-    ensures source { Keeps B.count B.holds B.fails B.unchanged source.old source.new }
-    ensures still { (bytes : List ℕ) → B.holds source.new bytes → IsKeptOf bytes header.now kept.old → IsKeptOf bytes header.now kept.new }
-    ensures room { IsSmall kept.old → IsSmall kept.new }
-    ensures first { (bytes : List ℕ) → B.holds source.new bytes → IsKeptOf bytes header.now kept.old
-        → GivesUnless IsOutside (λ e. e) result (reached_at bytes header.now id more entry) }
-    ensures read { result ≡ Err ArchiveFault.Read → B.fails source.old }
-{
-    let entry = match entry {
-        Some(entry) => entry,
-        None => return Ok(None),
-    };
-    if entry.run > 0 {
-        return Ok(Some(entry));
-    }
-    if more == 0 {
-        return Err(ArchiveFault::Depth);
-    }
-    let below = leading_below(alloc, source, header, entry, kept, id)?;
-    tile_entry(alloc, source, header, below, kept, id, more - 1)
-}
-
-// The content of an id, by the directories on the way to its entry.
-pub(crate) fn content_by<B: Bytes>(
-    alloc: Global,
-    source: &mut B,
-    header: &Header,
-    root: &[Entry],
-    kept: &mut Option<Leaf>,
-    id: u64,
-) -> Result<Option<Vec<u8>>, ArchiveFault>
-    requires placed { ArePlaced (B.count source.old) header.now }
-    requires ascending { IsAscending root.now }
-    ensures source { Keeps B.count B.holds B.fails B.unchanged source.old source.new }
-    ensures still { (bytes : List ℕ) → B.holds source.new bytes → IsKeptOf bytes header.now kept.old → IsKeptOf bytes header.now kept.new }
-    ensures room { IsSmall kept.old → IsSmall kept.new }
-    ensures first { (bytes : List ℕ) → B.holds source.new bytes → IsKeptOf bytes header.now kept.old
-        → GivesUnless IsOutside (option_map (λ v. v.items)) result (looked_at bytes header.now root.now id) }
-    ensures read { result ≡ Err ArchiveFault.Read → B.fails source.old }
-{
-    let entry = tile_entry(
-        alloc,
-        source,
-        header,
-        leading(root, id),
-        kept,
-        id,
-        MOST_LEAVES,
-    )?;
-    content_in(alloc, source, header, entry)
 }

@@ -22,7 +22,6 @@ mod verifying;
 
 pub use archive::Archive;
 pub use fault::{ArchiveFault, Count, Section};
-pub use limits::{KEPT_LEAF_BYTES, MOST_LEAVES, OPENING_END};
 pub use lookup::Lookup;
 pub use metadata::is_metadata;
 pub use report::Report;

@@ -1,8 +1,8 @@
 /// The root directory ends by this offset (PMTiles 3, 4).
-pub const OPENING_END: u64 = 16_384;
+pub(crate) const OPENING_END: u64 = 16_384;
 
 /// So many leaf directories may stand one below the other.
-pub const MOST_LEAVES: u8 = 3;
+pub(crate) const MOST_LEAVES: u8 = 3;
 
 /// A leaf directory of more bytes isn't kept between look-ups. This bounds the room that is taken for it.
-pub const KEPT_LEAF_BYTES: u32 = 65_536;
+pub(crate) const KEPT_LEAF_BYTES: u32 = 65_536;

@@ -14,7 +14,8 @@ ghost use Rattle.pm_archive.specs.Lookup.{LookupView, IsLookupOf, IsSmall};
 ghost use Rattle.pm_archive.specs.Answers.{IsOutside, UnlessOutside};
 
 use crate::fault::ArchiveFault;
-use crate::kept::{Leaf, content_by};
+use crate::kept::Leaf;
+use crate::looking::content_below;
 use crate::opening::header_and_root;
 use byte_source::Bytes;
 use pm_directory::Entry;
@@ -23,7 +24,7 @@ use std::alloc::Global;
 use std::marker::Model;
 
 /// What is kept of an archive between look-ups: its header, its root directory, and the leaf directory that was read last,
-/// where that has at most `KEPT_LEAF_BYTES` bytes. It owns no source: each call is passed it.
+/// where that has at most 65,536 bytes. It owns no source: each call is passed it.
 #[derive(Drop)]
 pub struct Lookup {
     count: u64,
@@ -95,6 +96,6 @@ impl Lookup {
             → GivesUnless IsOutside (option_map (λ v. v.items)) result (looked_at bytes self.old.header self.old.root id) }
         ensures read { result ≡ Err ArchiveFault.Read → B.fails source.old }
     {
-        content_by(alloc, source, &self.header, &self.root, &mut self.leaf, id)
+        content_below(alloc, source, &self.header, &self.root, &mut self.leaf, id)
     }
 }

@@ -9,7 +9,7 @@ ghost use Rattle.pm_directory.specs.Directory.{IsAscending, IsDirectory, IsEntry
 ghost use Rattle.byte_source.specs.Source.{Keeps};
 ghost use Rattle.pm_archive.specs.Sections.{HasSections, end_of, section_bytes};
 ghost use Rattle.pm_archive.specs.Reading.{ArePlaced, OpeningHas, IsMisplaced};
-ghost use Rattle.pm_archive.specs.Answers.{IsOutside, UnlessOutside};
+ghost use Rattle.pm_archive.specs.Answers.{UnlessOutside};
 
 use crate::fault::{ArchiveFault, Section};
 use crate::limits::OPENING_END;

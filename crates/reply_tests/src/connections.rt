@@ -7,8 +7,7 @@ mod costs;
 mod faults;
 mod fields;
 
-use http::StatusCode;
-use http_serve::{Content, ContentFault, ContentRange, Handler, Reply, Request};
+use http_serve::{Content, ContentFault, ContentRange, Handler, Reply, Request, status};
 use std::alloc::{AllocError, Global};
 use std::cell::Cell;
 use std::io::{self, ErrorKind, Read, Write};
@@ -56,11 +55,11 @@ fn echo_reply(alloc: Global, request: &Request<'_>) -> Reply
     }
     let kind = Some("text/plain");
     if request.path == b"/none".as_slice() {
-        return Reply::plain(StatusCode::NO_CONTENT, kind, Content::Fixed(b"never sent"));
+        return Reply::plain(status::NO_CONTENT, kind, Content::Fixed(b"never sent"));
     }
     match echo_of(alloc, request) {
-        Ok(text) => Reply::plain(StatusCode::OK, kind, Content::Whole(text)),
-        Err(_) => Reply::plain(StatusCode::SERVICE_UNAVAILABLE, None, Content::Empty),
+        Ok(text) => Reply::plain(status::OK, kind, Content::Whole(text)),
+        Err(_) => Reply::plain(status::SERVICE_UNAVAILABLE, None, Content::Empty),
     }
 }
 
@@ -69,7 +68,7 @@ fn part_of_all() -> Reply
     ensures { IsWhole result }
 {
     Reply {
-        status: StatusCode::PARTIAL_CONTENT,
+        status: status::PARTIAL_CONTENT,
         kind: None,
         range: Some(ContentRange::Part {
             first: 42,
@@ -86,7 +85,7 @@ fn outside_all() -> Reply
     ensures { IsWhole result }
 {
     Reply {
-        status: StatusCode::RANGE_NOT_SATISFIABLE,
+        status: status::RANGE_NOT_SATISFIABLE,
         kind: Some("text/plain"),
         range: Some(ContentRange::Unsatisfied { total: 1_234 }),
         allow: Some("GET, HEAD"),

@@ -8,8 +8,7 @@ mod peers;
 mod slow;
 mod yields;
 
-use http::StatusCode;
-use http_serve::{Content, ContentFault, Handler, Reply, Request};
+use http_serve::{Content, ContentFault, Handler, Reply, Request, status};
 
 /// Answers each request with how many there were before it: `0`, `1`, `2`, and then `many`.
 #[derive(Clone, Copy)]
@@ -26,7 +25,7 @@ fn reply_after(before: usize) -> Reply
         2 => b"2",
         _ => b"many",
     };
-    Reply::plain(StatusCode::OK, None, Content::Fixed(text))
+    Reply::plain(status::OK, None, Content::Fixed(text))
 }
 
 impl Handler for Counter {

@@ -1,3 +1,4 @@
+mod Inserts
 mod Keys
 mod Methods
 mod Texts

@@ -6,6 +6,7 @@ use Rattle.std.specs.List.{list_all}
 use Rattle.std.specs.Char.{is_ascii}
 use Rattle.std.specs.Str.{IsAscii, IsUtf8}
 use Rattle.std.proofs.lemmas.Str.{IsUtf8-from_ascii, IsAscii-take, IsAscii-drop, IsUtf8-nil}
+use Rattle.std.proofs.lemmas.Bool.{false≢true}
 use Rattle.std.proofs.lemmas.Bool.Decides.{nat_tests}
 use Rattle.matchit.specs.Rows.{RowsOf}
 use Rattle.matchit.specs.Router.{RouteOf}
@@ -14,7 +15,7 @@ use Rattle.matchit.specs.Seek.{first}
 use Rattle.matchit.specs.declared.params.Params.{Params}
 use Rattle.matchit.proofs.OnLiterals.{matchit_on_literals}
 use Rattle.tile_routes.specs.declared.routes.Route.{Route}
-use Rattle.tile_routes.specs.Paths.{served_paths, served_rows, Asked, asked_at, asked_by, asked_nothing}
+use Rattle.tile_routes.specs.Paths.{served_paths, served_rows, with_route, Asked, asked_at, asked_by, asked_nothing}
 use Rattle.tile_routes.specs.Targets.{parts_of}
 use Rattle.tile_routes.proofs.Keys.{EachKey, IfKey, seek-key}
 
@@ -42,9 +43,21 @@ walk-text pattern text path (name ∷ rest) token at is here = (
 HasText : RouteOf Route → Type 0
 HasText route = list_all is_ascii route.text ≡ true
 
+each_text : RowsOf (RouteOf Route) → Bool
+each_text rows = list_all (λ row. list_all is_ascii row.1.text) rows
+
+both_true : (a b : Bool) → (a && b) ≡ true → (a ≡ true) × (b ≡ true)
+both_true true b is = (refl, is)
+both_true false b is = absurd (false≢true is)
+
+each_has_text : (rows : RowsOf (RouteOf Route)) → each_text rows ≡ true → EachKey HasText rows
+unfolding each_text HasText
+each_has_text [] is = tt
+each_has_text (row ∷ more) is = let both = both_true (list_all is_ascii row.1.text) (each_text more) is in (both.0, each_has_text more both.1)
+
 rows-text : EachKey HasText served_rows
-unfolding matchit_on_literals served_rows served_paths HasText
-rows-text = (refl, (refl, (refl, (refl, (refl, (refl, (refl, (refl, (refl, tt)))))))))
+unfolding matchit_on_literals served_rows served_paths with_route each_text
+rows-text = each_has_text served_rows refl
 
 first-ascii : (b : ℕ) (bs : List ℕ) → list_all is_ascii (b ∷ bs) ≡ true → (b < 128) × (list_all is_ascii bs ≡ true)
 first-ascii b bs is = (grind (arith, nat_tests), grind (arith, nat_tests))

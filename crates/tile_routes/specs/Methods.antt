@@ -1,11 +1,12 @@
--- The methods that a path allows (RFC 9110, 9.1), and what a request asks for by its method and its path.
-use Rattle.std.specs.Prelude.{ℕ, Bool, nat_eq, List, [], ◌∷◌, codes, Option, Some, None, if◌then◌else◌}
+-- The methods that a path allows (RFC 9110, 9.1).
+use Rattle.std.specs.Prelude.{ℕ, Bool, nat_eq, List, [], ◌∷◌, codes, Option, Some, None, Result, Ok, Err, if◌then◌else◌}
 use Rattle.std.specs.List.{find, join_by, list_any}
 use Rattle.std.specs.Cmp.Lexicographic.{pointwise}
+use Rattle.tile_routes.specs.declared.fault.RouteFault.{RouteFault}
+use Rattle.tile_routes.specs.declared.fault.RouteFault.TheVariants.{NotFound, NotAllowed}
 use Rattle.tile_routes.specs.declared.method.Method.{Method}
 use Rattle.tile_routes.specs.declared.method.Method.TheVariants.{Get, Head, Put, Delete, Post}
-use Rattle.tile_routes.specs.Paths.{Asked, asked_tile, asked_metadata, asked_archive, asked_feature, asked_nothing, asked_by}
-use Rattle.tile_routes.specs.Paths.{asked_edits, asked_publish, asked_begin, asked_step, asked_cancel}
+use Rattle.tile_routes.specs.Paths.{Asked, asked_tile, asked_feature, asked_view, asked_action, asked_nothing}
 
 -- a method's name, which stands in a request's first line
 unfoldable pub name_of : Method → List ℕ
@@ -29,14 +30,9 @@ method_named name = find (has_name name) methods
 -- the methods that a path allows; where GET is, HEAD is
 abbrev pub methods_of : Asked → List Method
 methods_of (asked_tile z x y format) = Get ∷ Head ∷ []
-methods_of asked_metadata = Get ∷ Head ∷ []
-methods_of asked_archive = Get ∷ Head ∷ []
 methods_of (asked_feature id) = Get ∷ Head ∷ Put ∷ Delete ∷ []
-methods_of asked_edits = Post ∷ []
-methods_of asked_publish = Post ∷ []
-methods_of asked_begin = Post ∷ []
-methods_of asked_step = Post ∷ []
-methods_of asked_cancel = Post ∷ []
+methods_of (asked_view view) = Get ∷ Head ∷ []
+methods_of (asked_action action) = Post ∷ []
 methods_of asked_nothing = []
 
 -- whether this method is one of them: each has a name of its own
@@ -47,24 +43,12 @@ is_among allowed method = list_any (has_name (name_of method)) allowed
 abbrev pub allow_of : Asked → List ℕ
 allow_of asked = join_by name_of (codes ", ") (methods_of asked)
 
--- what a request asks for
-pub data Wanted : Type 0 where
-  -- a path that isn't served
-  not_found : Wanted
-  -- what the path doesn't allow
-  not_allowed : Asked → Wanted
-  -- this, by a method of the path
-  allowed : Asked → Method → Wanted
+-- a method that the path allows
+abbrev pub if_allowed : Asked → Option Method → Result Method RouteFault
+if_allowed asked None = Err NotAllowed
+if_allowed asked (Some method) = if is_among (methods_of asked) method then Ok method else Err NotAllowed
 
-abbrev pub wanted_as : Asked → Option Method → Wanted
-wanted_as asked None = not_allowed asked
-wanted_as asked (Some method) = if is_among (methods_of asked) method then allowed asked method else not_allowed asked
-
--- what a method's name asks for of a path: whether the path is served comes first
-abbrev pub wanted_of : List ℕ → Asked → Wanted
-wanted_of name asked_nothing = not_found
-wanted_of name asked = wanted_as asked (method_named name)
-
--- what a request with this method and this path asks for
-abbrev pub wanted_by : List ℕ → List ℕ → Wanted
-wanted_by name path = wanted_of name (asked_by path)
+-- the method with this name at a path: whether the path is served comes first, then whether it allows the method
+abbrev pub method_on : List ℕ → Asked → Result Method RouteFault
+method_on name asked_nothing = Err NotFound
+method_on name asked = if_allowed asked (method_named name)

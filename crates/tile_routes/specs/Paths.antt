@@ -14,8 +14,12 @@ use Rattle.matchit.specs.declared.error.InsertError.{InsertError}
 use Rattle.feature_model.specs.declared.limits.TheConstants.{GREATEST_ZOOM}
 use Rattle.tile_routes.specs.declared.routes.Route.{Route}
 use Rattle.tile_routes.specs.declared.routes.Route.TheVariants as routes
+use Rattle.tile_routes.specs.declared.target.Action.{Action}
+use Rattle.tile_routes.specs.declared.target.Action.TheVariants as actions
 use Rattle.tile_routes.specs.declared.target.TileFormat.{TileFormat}
 use Rattle.tile_routes.specs.declared.target.TileFormat.TheVariants.{Mvt, Hex}
+use Rattle.tile_routes.specs.declared.target.View.{View}
+use Rattle.tile_routes.specs.declared.target.View.TheVariants as views
 use Rattle.tile_routes.specs.Number.{number_of}
 
 -- the rows with a route's text in its place
@@ -23,7 +27,7 @@ abbrev pub with_scan : Result Scan InsertError → Route → RowsOf (RouteOf Rou
 with_scan (Ok scan) route rows = placed ((route_from scan route).pattern, route_from scan route) rows
 with_scan (Err error) route rows = rows
 
-abbrev pub with_route : List ℕ → Route → RowsOf (RouteOf Route) → RowsOf (RouteOf Route)
+unfoldable pub with_route : List ℕ → Route → RowsOf (RouteOf Route) → RowsOf (RouteOf Route)
 with_route text route rows = with_scan (parse_route text) route rows
 
 abbrev pub with_routes : List (List ℕ × Route) → RowsOf (RouteOf Route) → RowsOf (RouteOf Route)
@@ -34,14 +38,14 @@ with_routes (path ∷ more) rows = with_routes more (with_route path.0 path.1 ro
 unfoldable pub served_paths : List (List ℕ × Route)
 served_paths =
     (codes "/map/{z}/{x}/{y}", routes.Tile)
-    ∷ (codes "/map/metadata", routes.Metadata)
-    ∷ (codes "/map.pmtiles", routes.Archive)
+    ∷ (codes "/map/metadata", routes.View views.Metadata)
+    ∷ (codes "/map.pmtiles", routes.View views.Archive)
     ∷ (codes "/features/{id}", routes.Feature)
-    ∷ (codes "/edits", routes.Edits)
-    ∷ (codes "/publish", routes.Publish)
-    ∷ (codes "/publish/begin", routes.PublishBegin)
-    ∷ (codes "/publish/step", routes.PublishStep)
-    ∷ (codes "/publish/cancel", routes.PublishCancel)
+    ∷ (codes "/edits", routes.Action actions.Edits)
+    ∷ (codes "/publish", routes.Action actions.Publish)
+    ∷ (codes "/publish/begin", routes.Action actions.PublishBegin)
+    ∷ (codes "/publish/step", routes.Action actions.PublishStep)
+    ∷ (codes "/publish/cancel", routes.Action actions.PublishCancel)
     ∷ []
 
 -- these, as the router keeps them
@@ -51,14 +55,9 @@ served_rows = with_routes served_paths []
 -- what a path asks for
 pub data Asked : Type 0 where
   asked_tile : ℕ → ℕ → ℕ → TileFormat → Asked
-  asked_metadata : Asked
-  asked_archive : Asked
   asked_feature : ℕ → Asked
-  asked_edits : Asked
-  asked_publish : Asked
-  asked_begin : Asked
-  asked_step : Asked
-  asked_cancel : Asked
+  asked_view : View → Asked
+  asked_action : Action → Asked
   asked_nothing : Asked
 
 abbrev pub ends_as : List ℕ → List ℕ → Bool
@@ -105,14 +104,9 @@ part_named name parts = text_or_nothing (named name parts)
 abbrev pub asked_on : Route → List (List ℕ × List ℕ) → Asked
 asked_on routes.Tile parts =
     named_tile (number_of (part_named (codes "z") parts)) (number_of (part_named (codes "x") parts)) (row_and_format (part_named (codes "y") parts))
-asked_on routes.Metadata parts = asked_metadata
-asked_on routes.Archive parts = asked_archive
 asked_on routes.Feature parts = feature_asked (number_of (part_named (codes "id") parts))
-asked_on routes.Edits parts = asked_edits
-asked_on routes.Publish parts = asked_publish
-asked_on routes.PublishBegin parts = asked_begin
-asked_on routes.PublishStep parts = asked_step
-asked_on routes.PublishCancel parts = asked_cancel
+asked_on (routes.View view) parts = asked_view view
+asked_on (routes.Action action) parts = asked_action action
 
 abbrev pub asked_at : Option (RouteOf Route) → List ℕ → Asked
 asked_at None path = asked_nothing

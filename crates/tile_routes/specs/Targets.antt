@@ -4,23 +4,18 @@ use Rattle.std.specs.Borrow.{Bor}
 use Rattle.matchit.specs.Params.{walk}
 use Rattle.matchit.specs.declared.params.Params.{Params}
 use Rattle.feature_model.specs.declared.limits.TheConstants.{GREATEST_ZOOM, NUMBER_END}
+use Rattle.tile_routes.specs.declared.routes.Route.{Route}
 use Rattle.tile_routes.specs.declared.target.Target.{Target}
-use Rattle.tile_routes.specs.declared.target.Target.TheVariants.{Tile, Metadata, Archive, Feature, Edits, Publish, PublishBegin, PublishStep, PublishCancel, Nothing}
+use Rattle.tile_routes.specs.declared.target.Target.TheVariants.{Tile, Feature, View, Action, Nothing}
 use Rattle.tile_routes.specs.declared.target.TileFormat.{TileFormat}
-use Rattle.tile_routes.specs.Paths.{Asked, asked_tile, asked_metadata, asked_archive, asked_feature, asked_nothing}
-use Rattle.tile_routes.specs.Paths.{asked_edits, asked_publish, asked_begin, asked_step, asked_cancel}
+use Rattle.tile_routes.specs.Paths.{Asked, asked_tile, asked_feature, asked_view, asked_action, asked_nothing}
 
 -- what a target asks for
 abbrev pub asked_of : Target → Asked
 asked_of (Tile at format) = asked_tile at.z at.x at.y format
-asked_of Metadata = asked_metadata
-asked_of Archive = asked_archive
 asked_of (Feature id) = asked_feature id
-asked_of Edits = asked_edits
-asked_of Publish = asked_publish
-asked_of PublishBegin = asked_begin
-asked_of PublishStep = asked_step
-asked_of PublishCancel = asked_cancel
+asked_of (View view) = asked_view view
+asked_of (Action action) = asked_action action
 asked_of Nothing = asked_nothing
 
 -- a number of a feature, and a tile up to the greatest zoom
@@ -28,6 +23,10 @@ abbrev pub IsInRange : Target → Type 0
 IsInRange (Tile at format) = at.z ≤ GREATEST_ZOOM
 IsInRange (Feature id) = id < NUMBER_END
 IsInRange other = Unit {0}
+
+-- a path's text with its route
+abbrev pub row_path : Bor (List ℕ) × Route → List ℕ × Route
+row_path r = (r.0.now, r.1)
 
 abbrev pub row_view : Bor (List ℕ) × TileFormat → List ℕ × TileFormat
 row_view r = (r.0.now, r.1)

@@ -1,13 +1,13 @@
 //! What the path of a request asks for, and by which methods.
 #![tactic(auto)]
 
+mod fault;
 mod method;
 mod number;
 mod routes;
 mod target;
-mod wanted;
 
+pub use fault::RouteFault;
 pub use method::Method;
-pub use routes::{Route, Routes};
-pub use target::{Target, TileFormat};
-pub use wanted::Wanted;
+pub use routes::Routes;
+pub use target::{Action, Target, TileFormat, View};

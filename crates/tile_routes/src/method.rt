@@ -1,7 +1,8 @@
 ghost use Rattle.std.specs.Prelude.{◌≡◌};
-ghost use Rattle.tile_routes.specs.Methods.{methods_of, method_named, is_among, allow_of};
+ghost use Rattle.tile_routes.specs.Methods.{methods_of, method_named, method_on, is_among, allow_of};
 ghost use Rattle.tile_routes.specs.Targets.{asked_of};
 
+use crate::fault::RouteFault;
 use crate::target::Target;
 
 /// A method that some path allows (RFC 9110, 9.1).
@@ -50,13 +51,9 @@ impl Target {
         ensures { result.now ≡ methods_of (asked_of self) }
     {
         match self {
-            Target::Tile(..) | Target::Metadata | Target::Archive => &[Method::Get, Method::Head],
+            Target::Tile(..) | Target::View(_) => &[Method::Get, Method::Head],
             Target::Feature(_) => &[Method::Get, Method::Head, Method::Put, Method::Delete],
-            Target::Edits
-            | Target::Publish
-            | Target::PublishBegin
-            | Target::PublishStep
-            | Target::PublishCancel => &[Method::Post],
+            Target::Action(_) => &[Method::Post],
             Target::Nothing => &[],
         }
     }
@@ -68,19 +65,28 @@ impl Target {
         self.methods().contains(&method)
     }
 
+    /// The method with this name, if the path is served and allows it.
+    pub fn method(self, name: &[u8]) -> Result<Method, RouteFault>
+        ensures { result ≡ method_on name.now (asked_of self) }
+    {
+        if self == Target::Nothing {
+            return Err(RouteFault::NotFound);
+        }
+        match Method::of(name) {
+            Some(method) if self.allows(method) => Ok(method),
+            _ => Err(RouteFault::NotAllowed),
+        }
+    }
+
     /// The value of the field `allow` (RFC 9110, 10.2.1), empty where the path isn't served.
     #[tactic(auto, unfolding(crate::specs::Methods::name_of))]
     pub fn allow(self) -> &'static str
         ensures { result.now ≡ allow_of (asked_of self) }
     {
         match self {
-            Target::Tile(..) | Target::Metadata | Target::Archive => "GET, HEAD",
+            Target::Tile(..) | Target::View(_) => "GET, HEAD",
             Target::Feature(_) => "GET, HEAD, PUT, DELETE",
-            Target::Edits
-            | Target::Publish
-            | Target::PublishBegin
-            | Target::PublishStep
-            | Target::PublishCancel => "POST",
+            Target::Action(_) => "POST",
             Target::Nothing => "",
         }
     }

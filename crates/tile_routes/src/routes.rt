@@ -1,61 +1,73 @@
-ghost use Rattle.std.specs.Prelude.{◌≡◌, true, false, IfOk, MatchOption};
+ghost use Rattle.std.specs.Prelude.{◌≡◌, [], map, true, false, IfOk, MatchOption};
 ghost use Rattle.std.specs.List.{list_all};
 ghost use Rattle.std.specs.Char.{is_ascii};
 ghost use Rattle.matchit.specs.Seek.{first};
 ghost use Rattle.matchit.specs.Params.{AllText};
-ghost use Rattle.tile_routes.specs.Kept.{rows-prop};
-ghost use Rattle.tile_routes.specs.Paths.{served_rows, asked_on, part_named, asked_at, asked_by};
-ghost use Rattle.tile_routes.specs.Targets.{asked_of, IsInRange, parts_of};
+ghost use Rattle.tile_routes.specs.Paths.{served_rows, with_routes, asked_on, part_named, asked_at, asked_by};
+ghost use Rattle.tile_routes.specs.Targets.{asked_of, IsInRange, parts_of, row_path};
 
-use crate::target::{Target, feature_target, tile_target};
+use crate::target::{Action, Target, View, feature_target, tile_target};
 use matchit::{InsertError, Params, Router};
 use std::alloc::{AllocError, Global};
+use std::marker::Model;
 
-/// The routes that are served.
+/// What a row of `SERVED` is for.
 #[derive(Clone, Copy, Debug, PartialEq, Eq)]
-pub enum Route {
-    /// A tile of the map.
+pub(crate) enum Route {
     Tile,
-    /// What the map has.
-    Metadata,
-    /// The archive that was published last.
-    Archive,
-    /// A feature of the map.
     Feature,
-    /// Several changes of the map as one edit.
-    Edits,
-    /// A publication.
-    Publish,
-    /// The begin of one by steps.
-    PublishBegin,
-    /// A step of it.
-    PublishStep,
-    /// Its end before it is done.
-    PublishCancel,
+    View(View),
+    Action(Action),
 }
 
 /// The paths that are served.
 #[derive(Drop)]
 pub struct Routes {
     router: Router<Route>,
-    ghost rows: { router ≡ served_rows } by { rows-prop router },
 }
 
-/// The router of the paths.
+impl Model for Routes {
+    ghost use Rattle.std.specs.Prelude.{◌≡◌, ⊤};
+
+    ghost Value = { ⊤ };
+
+    ghost use Rattle.tile_routes.specs.Paths.{served_rows};
+
+    ghost view = { λ routes. tt };
+
+    ghost invariant = { λ routes. routes.router ≡ served_rows };
+}
+
+/// Each path that is served, with its route.
+const SERVED: &[(&str, Route)] = &[
+    ("/map/{z}/{x}/{y}", Route::Tile),
+    ("/map/metadata", Route::View(View::Metadata)),
+    ("/map.pmtiles", Route::View(View::Archive)),
+    ("/features/{id}", Route::Feature),
+    ("/edits", Route::Action(Action::Edits)),
+    ("/publish", Route::Action(Action::Publish)),
+    ("/publish/begin", Route::Action(Action::PublishBegin)),
+    ("/publish/step", Route::Action(Action::PublishStep)),
+    ("/publish/cancel", Route::Action(Action::PublishCancel)),
+];
+
+/// The router of a table of paths.
+fn router_of(alloc: Global, rows: &[(&str, Route)]) -> Result<Router<Route>, InsertError>
+    ensures { IfOk result (λ router. router ≡ with_routes (map row_path rows.now) []) }
+{
+    let mut router = Router::new(alloc);
+    for (path, route) in rows {
+        router.insert(path, *route)?;
+    }
+    Ok(router)
+}
+
+/// The router of the paths that are served.
+#[tactic(auto, unfolding(crate::specs::Paths::served_paths, crate::specs::Paths::served_rows))]
 fn served(alloc: Global) -> Result<Router<Route>, InsertError>
     ensures { IfOk result (λ router. router ≡ served_rows) }
 {
-    let mut router = Router::new(alloc);
-    router.insert("/map/{z}/{x}/{y}", Route::Tile)?;
-    router.insert("/map/metadata", Route::Metadata)?;
-    router.insert("/map.pmtiles", Route::Archive)?;
-    router.insert("/features/{id}", Route::Feature)?;
-    router.insert("/edits", Route::Edits)?;
-    router.insert("/publish", Route::Publish)?;
-    router.insert("/publish/begin", Route::PublishBegin)?;
-    router.insert("/publish/step", Route::PublishStep)?;
-    router.insert("/publish/cancel", Route::PublishCancel)?;
-    Ok(router)
+    router_of(alloc, SERVED)
 }
 
 /// Whether each byte is ASCII.
@@ -97,14 +109,9 @@ fn route_target(route: Route, params: &Params<'_, '_>) -> Target
 {
     match route {
         Route::Tile => tile_target(part(params, "z"), part(params, "x"), part(params, "y")),
-        Route::Metadata => Target::Metadata,
-        Route::Archive => Target::Archive,
         Route::Feature => feature_target(part(params, "id")),
-        Route::Edits => Target::Edits,
-        Route::Publish => Target::Publish,
-        Route::PublishBegin => Target::PublishBegin,
-        Route::PublishStep => Target::PublishStep,
-        Route::PublishCancel => Target::PublishCancel,
+        Route::View(view) => Target::View(view),
+        Route::Action(action) => Target::Action(action),
     }
 }
 

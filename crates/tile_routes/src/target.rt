@@ -17,27 +17,41 @@ pub enum TileFormat {
     Hex,
 }
 
+/// What GET and HEAD show at a path without parameters.
+#[derive(Clone, Copy, Debug, PartialEq, Eq)]
+pub enum View {
+    /// `/map/metadata`: what the map has, as JSON.
+    Metadata,
+    /// `/map.pmtiles`: the archive that was published last.
+    Archive,
+}
+
+/// What POST does at a path without parameters.
+#[derive(Clone, Copy, Debug, PartialEq, Eq)]
+pub enum Action {
+    /// `/edits`: makes several changes of the map as one edit, all of them or none.
+    Edits,
+    /// `/publish`: publishes the whole map.
+    Publish,
+    /// `/publish/begin`: begins a publication by steps.
+    PublishBegin,
+    /// `/publish/step`: continues it.
+    PublishStep,
+    /// `/publish/cancel`: cancels it.
+    PublishCancel,
+}
+
 /// What a path asks for.
 #[derive(Clone, Copy, Debug, PartialEq, Eq)]
 pub enum Target {
     /// `/map/{z}/{x}/{y}.mvt` and `.hex`: a tile of a zoom up to `feature_model::GREATEST_ZOOM`.
     Tile(TileAt, TileFormat),
-    /// `/map/metadata`: what the map has, as JSON.
-    Metadata,
-    /// `/map.pmtiles`: the archive that was published last.
-    Archive,
     /// `/features/{id}`: the feature of this number, which is below `feature_model::NUMBER_END`.
     Feature(u64),
-    /// `/edits`: several changes of the map as one edit, all of them or none.
-    Edits,
-    /// `/publish`: a publication, whole.
-    Publish,
-    /// `/publish/begin`: to begin one by steps.
-    PublishBegin,
-    /// `/publish/step`: to go on with it.
-    PublishStep,
-    /// `/publish/cancel`: to give it up.
-    PublishCancel,
+    /// A path that GET and HEAD show.
+    View(View),
+    /// A path that POST does something at.
+    Action(Action),
     /// Any other path.
     Nothing,
 }

@@ -10,7 +10,8 @@ const ASKED: &str = "GET /none HTTP/1.1\r\nhost: a\r\n\r\n\
 
 const TOLD: &str = "HTTP/1.1 204 No Content\r\n\r\n\
     HTTP/1.1 206 Partial Content\r\ncontent-range: bytes 42-43/1234\r\ncontent-length: 2\r\n\r\n42\
-    HTTP/1.1 416 Range Not Satisfiable\r\ncontent-type: text/plain\r\ncontent-range: bytes */1234\r\nallow: GET, HEAD\r\ncontent-length: 0\r\nconnection: close\r\n\r\n";
+    HTTP/1.1 416 Range Not Satisfiable\r\ncontent-type: text/plain\r\ncontent-range: bytes */1234\r\nallow: GET, HEAD\r\n\
+    content-length: 0\r\nconnection: close\r\n\r\n";
 
 const THREE: Served = Served {
     requests: 3,

@@ -174,17 +174,44 @@ fn accepting(accepts: u64) -> Asked {
     Asked { accepts, ..NOTHING }
 }
 
+/// A listener of streams with one request each.
+fn listener_of(asked: &Cell<Asked>, stubborn: bool) -> Listener<'_> {
+    Listener {
+        request: LAST.as_bytes(),
+        stubborn,
+        asked,
+    }
+}
+
+/// What serving these connections returns, and its log.
+fn served(
+    rt: &HostRuntime,
+    listener: &Listener<'_>,
+    connections: u64,
+) -> (Result<(), ListenFault>, Vec<u8>) {
+    let mut log = Vec::new(rt.alloc());
+    let mut handler = Counter { before: 0 };
+    let ended = serve_on(
+        rt,
+        rt.alloc(),
+        listener,
+        connections,
+        &mut handler,
+        &mut log,
+    );
+    (ended, log)
+}
+
+/// The log of one connection.
+const ONE_LINE: &str = "connection 1: 1 requests, asked\n";
+
+/// The log of two connections.
+const TWO_LINES: &str = "connection 1: 1 requests, asked\nconnection 2: 1 requests, asked\n";
+
 #[test]
 fn a_peer_that_sends_on_is_read_for_a_while(rt: HostRuntime) -> Result<(), Fail> {
     let asked = Cell::new(accepting(1));
-    let listener = Listener {
-        request: LAST.as_bytes(),
-        stubborn: false,
-        asked: &asked,
-    };
-    let mut log = Vec::new(rt.alloc());
-    let mut handler = Counter { before: 0 };
-    serve_on(&rt, rt.alloc(), &listener, 1, &mut handler, &mut log)?;
+    let (ended, log) = served(&rt, &listener_of(&asked, false), 1);
     let want = Asked {
         accepts: 0,
         no_delay: true,
@@ -195,10 +222,7 @@ fn a_peer_that_sends_on_is_read_for_a_while(rt: HostRuntime) -> Result<(), Fail>
         wrong: 0,
     };
     assert_eq!(rt; asked.get(), want);
-    assert_eq!(rt;
-        log.as_slice(),
-        b"connection 1: 1 requests, asked\n".as_slice()
-    );
+    assert_eq!(rt; (ended, log.as_slice()), (Ok(()), ONE_LINE.as_bytes()));
     Ok(())
 }
 
@@ -206,14 +230,7 @@ fn a_peer_that_sends_on_is_read_for_a_while(rt: HostRuntime) -> Result<(), Fail>
 #[test]
 fn a_stubborn_stream_is_served(rt: HostRuntime) -> Result<(), Fail> {
     let asked = Cell::new(accepting(1));
-    let listener = Listener {
-        request: LAST.as_bytes(),
-        stubborn: true,
-        asked: &asked,
-    };
-    let mut log = Vec::new(rt.alloc());
-    let mut handler = Counter { before: 0 };
-    serve_on(&rt, rt.alloc(), &listener, 1, &mut handler, &mut log)?;
+    let (ended, log) = served(&rt, &listener_of(&asked, true), 1);
     assert_eq!(rt;
         asked.get(),
         Asked {
@@ -221,38 +238,23 @@ fn a_stubborn_stream_is_served(rt: HostRuntime) -> Result<(), Fail> {
             ..NOTHING
         }
     );
-    assert_eq!(rt;
-        log.as_slice(),
-        b"connection 1: 1 requests, asked\n".as_slice()
-    );
+    assert_eq!(rt; (ended, log.as_slice()), (Ok(()), ONE_LINE.as_bytes()));
     Ok(())
 }
 
 #[test]
 fn an_accept_that_fails_ends_it(rt: HostRuntime) -> Result<(), Fail> {
     let asked = Cell::new(accepting(2));
-    let listener = Listener {
-        request: LAST.as_bytes(),
-        stubborn: true,
-        asked: &asked,
-    };
-    let mut log = Vec::new(rt.alloc());
-    let mut handler = Counter { before: 0 };
-    let ended = serve_on(&rt, rt.alloc(), &listener, 4, &mut handler, &mut log);
-    assert_eq!(rt; ended, Err(ListenFault::Accept));
-    let lines = "connection 1: 1 requests, asked\nconnection 2: 1 requests, asked\n";
-    assert_eq!(rt; log.as_slice(), lines.as_bytes());
+    let (ended, log) = served(&rt, &listener_of(&asked, true), 4);
+    let want = (Err(ListenFault::Accept), TWO_LINES.as_bytes());
+    assert_eq!(rt; (ended, log.as_slice()), want);
     Ok(())
 }
 
 #[test]
 fn a_full_log_is_passed_over(rt: HostRuntime) -> Result<(), Fail> {
     let asked = Cell::new(accepting(3));
-    let listener = Listener {
-        request: LAST.as_bytes(),
-        stubborn: true,
-        asked: &asked,
-    };
+    let listener = listener_of(&asked, true);
     let mut handler = Counter { before: 0 };
     serve_on(&rt, rt.alloc(), &listener, 3, &mut handler, &mut Full)?;
     assert_eq!(rt; handler.before, 3);

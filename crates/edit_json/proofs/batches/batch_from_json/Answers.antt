@@ -5,7 +5,7 @@ use Rattle.feature_model.specs.declared.fault.EditFault.TheVariants as faults
 use Rattle.feature_model.specs.Data.{change_data}
 use Rattle.feature_model.specs.Limits.{AreEnough}
 use Rattle.edit_json.specs.Batches.{asked_json}
-use Rattle.edit_json.proofs.BatchLaws.{batch-one, batch-faultless, list-refused, few-refused, twice-refused, change-refused, batch-read}
+use Rattle.edit_json.proofs.BatchLaws.{batch-one, batch-faultless, list-refused, few-refused, memory-refused, twice-refused, change-refused, batch-read}
 use Rattle.edit_json.proofs.batches.batch_from_json.Goals as goal
 
 pub returns-in_default-clause-refused : goal.returns-in_default-clause-refused
@@ -28,6 +28,11 @@ returns-then-not-are_enough-clause-refused c =
 pub returns-then-not-are_enough-clause-reads_back : goal.returns-then-not-are_enough-clause-reads_back
 returns-then-not-are_enough-clause-reads_back c = λ cs is.
     batch-faultless (view c.args.value.now) cs faults.Batch is (returns-then-not-are_enough-clause-refused c)
+
+pub returns-in-Err-read_numbers-clause-refused : goal.returns-in-Err-read_numbers-clause-refused
+returns-in-Err-read_numbers-clause-refused c =
+    rw c.in-Err-read_numbers.ensures.memory (memory-refused (view c.args.value.now) c.in-Some.list.now c.in-Ok.all.items c.in-Some.ensures
+    c.in-Ok.ensures.found c.in-Ok.ensures.members (rw c.deref.ensures.value at (c.are_enough.ensures.0 c.if-not-are_enough.false)))
 
 pub returns-then-not-differ-clause-refused : goal.returns-then-not-differ-clause-refused
 returns-then-not-differ-clause-refused c =

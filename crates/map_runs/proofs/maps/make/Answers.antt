@@ -7,4 +7,4 @@ pub make_edit-requires-clause-texts : goal.make_edit-requires-clause-texts
 make_edit-requires-clause-texts c =
     let same : c.room_all.new.self.features ≡ c.store.result.now.features =
     ap (λ (m : CachedView). m.features) c.in_ok-room_all.ensures.same ∙ sym c.store.ensures.features in
-    rw same (omega (arith, snapshot_short _ c.len.ensures.map.edits, c.len.ensures.count, c.requires.allowed.text))
+    rw same (omega (arith, snapshot_short _ c.len.ensures.map.edits, c.len.ensures.count, c.requires.text))

@@ -5,6 +5,6 @@ use Rattle.pm_archive.proofs.looking.+tile_entry.Goals as goal
 pub returns-in_err-below-clause-first : goal.returns-in_err-below-clause-first
 returns-in_err-below-clause-first g t c =
     let p = err_from_is_err_and c.from_residual.result c.from_residual.ensures.1 in
-    rw (p.1, p.2) (λ bytes holds. rw c.in-Some.is
+    rw (p.1, p.2) (λ bytes holds kept. rw c.in-Some.is
     (reached_fault bytes c.args.header.now c.args.id c.args.more c.in-Some.leaf c.in_err-below.field-0.0 c.if-leaf-gt0.false c.if-more-eq0.false
-    (c.in_err-below.ensures.first bytes holds)))
+    (c.in_err-below.ensures.first bytes holds kept)))

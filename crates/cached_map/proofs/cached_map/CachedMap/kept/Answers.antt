@@ -1,14 +1,54 @@
-use Rattle.std.proofs.Common.{Some, sym, subst}
+use Rattle.std.proofs.Common.{Some, sym, ap, ◌∙◌, subst}
+use Rattle.tile_cache.specs.declared.kept_tiles.Origin.TheVariants.{Cut, Read}
 use Rattle.feature_store.specs.Content.{IsTileContent}
 use Rattle.feature_store.specs.Layers.{layers}
-use Rattle.cached_map.proofs.Kept.{found_is, same_kept}
+use Rattle.cached_map.proofs.Kept.{found_is, same_kept, fresh_same}
 use Rattle.cached_map.proofs.cached_map.CachedMap.kept.Goals as goal
 
 pub returns-in-Some-clause-tile : goal.returns-in-Some-clause-tile
 returns-in-Some-clause-tile c =
+    let at = c.args.at in let inside = c.self.inside in let kept = c.promote.new.self in
+    rw (← c.self.view_is)
+    (λ read. subst (λ b. IsTileContent (layers inside.store.features at.z at.x at.y) (Some b)) (sym c.in_ok-from_slice.ensures.items)
+    (found_is inside.store.features inside.touched inside.last kept at.z at.x at.y c.newest-newest.result c.args.reads c.in-Some.bytes.now
+    (same_kept Cut inside.store.features inside.touched inside.last inside.kept kept c.promote.ensures c.self.invariant)
+    (λ counted. same_kept Read inside.store.features inside.touched inside.last inside.kept kept c.promote.ensures (read counted))
+    (rw (← c.self.view_is) at c.newest-newest.ensures.marked) c.in-Some.ensures))
+
+pub returns-in-Some-clause-given : goal.returns-in-Some-clause-given
+returns-in-Some-clause-given c =
     let at = c.args.at in let inside = c.self.inside in
     rw (← c.self.view_is)
-    (subst (λ b. IsTileContent (layers inside.store.features at.z at.x at.y) (Some b)) (sym c.in_ok-from_slice.ensures.items)
-    (found_is inside.store.features inside.touched c.promote.new.self inside.last at.z at.x at.y c.newest-newest.result c.in-Some.bytes.now
-    (same_kept inside.store.features inside.touched inside.kept c.promote.new.self inside.last c.promote.ensures c.self.invariant)
-    (rw (← c.self.view_is) at c.newest-newest.ensures.marked) c.in-Some.ensures))
+    (λ newest is. fresh_same inside.touched inside.kept c.promote.new.self at.z at.x at.y c.newest-newest.result newest c.args.reads
+    (Some c.in_ok-from_slice.field-0.items) c.promote.ensures (rw (← c.self.view_is) at c.newest-newest.ensures.of_cells) is
+    (ap Some c.in_ok-from_slice.ensures.items ∙ c.in-Some.ensures))
+
+pub invariant_of-self : goal.invariant_of-self
+invariant_of-self c =
+    let inside = c.self.inside in
+    same_kept Cut inside.store.features inside.touched inside.last inside.kept c.promote.new.self c.promote.ensures c.self.invariant
+
+pub invariant_of-self-in-Some : goal.invariant_of-self-in-Some
+invariant_of-self-in-Some c =
+    let inside = c.self.inside in
+    same_kept Cut inside.store.features inside.touched inside.last inside.kept c.promote.new.self c.promote.ensures c.self.invariant
+
+pub invariant_of-self-2 : goal.invariant_of-self-2
+invariant_of-self-2 c =
+    let inside = c.self.inside in
+    same_kept Cut inside.store.features inside.touched inside.last inside.kept c.promote.new.self c.promote.ensures c.self.invariant
+
+pub returns-in_err-from_slice-clause-reads : goal.returns-in_err-from_slice-clause-reads
+returns-in_err-from_slice-clause-reads c =
+    let inside = c.self.inside in
+    rw (← c.self.view_is) (same_kept Read inside.store.features inside.touched inside.last inside.kept c.promote.new.self c.promote.ensures)
+
+pub returns-in-Some-clause-reads : goal.returns-in-Some-clause-reads
+returns-in-Some-clause-reads c =
+    let inside = c.self.inside in
+    rw (← c.self.view_is) (same_kept Read inside.store.features inside.touched inside.last inside.kept c.promote.new.self c.promote.ensures)
+
+pub returns-clause-reads : goal.returns-clause-reads
+returns-clause-reads c =
+    let inside = c.self.inside in
+    rw (← c.self.view_is) (same_kept Read inside.store.features inside.touched inside.last inside.kept c.promote.new.self c.promote.ensures)

@@ -1,18 +1,25 @@
 use Rattle.std.proofs.Common.{map}
 use Rattle.feature_model.specs.Data.{change_data}
+use Rattle.tile_cache.specs.declared.kept_tiles.Origin.TheVariants.{Cut, Read}
 use Rattle.cached_map.specs.Cached.{CachedView, marks_after}
-use Rattle.cached_map.proofs.Edits.{IsEdited, edited_by, still_cached, still_was}
+use Rattle.cached_map.proofs.Edits.{IsEdited, edited_by, still_kept, still_was}
 use Rattle.cached_map.proofs.cached_map.CachedMap.make_edit.Goals as goal
 use Rattle.cached_map.proofs.cached_map.CachedMap.make_edit.Goals.{After-make_each}
 
 abbrev before : After-make_each → CachedView
 before c =
     let inside = c.self.inside in
-    record { features = inside.store.features; spare = inside.store.spare; last = inside.last; touched = inside.touched }
+    record { features = inside.store.features; spare = inside.store.spare; last = inside.last; touched = inside.touched; kept = inside.kept }
 
 abbrev after : After-make_each → CachedView
 after c =
-    record { features = c.make_each.new.store.features; spare = c.make_each.new.store.spare; last = c.args.number; touched = c.make_each.new.touched }
+    record {
+      features = c.make_each.new.store.features;
+      spare = c.make_each.new.store.spare;
+      last = c.args.number;
+      touched = c.make_each.new.touched;
+      kept = c.self.inside.kept;
+    }
 
 edited : (c : After-make_each) → IsEdited (before c) (after c) (marks_after (before c).features (map change_data c.args.changes.items) c.args.number)
 edited c = edited_by (before c) (after c) (map change_data c.args.changes.items) c.len-count.ensures.map (rw (← c.self.view_is) at c.requires.later)
@@ -21,9 +28,14 @@ edited c = edited_by (before c) (after c) (map change_data c.args.changes.items)
 pub invariant_of-self : goal.invariant_of-self
 invariant_of-self c =
     let at = (goal.at.invariant_of-self c).After-make_each in
-    still_cached (before at) (after at) _ (edited at) c.self.inside.kept c.self.invariant
+    still_kept (before at) (after at) _ (edited at) Cut c.self.inside.kept c.self.invariant
 
 pub returns-clause-since : goal.returns-clause-since
 returns-clause-since c =
     let at = (goal.at.returns-clause-since c).After-make_each in
     rw (← c.self.view_is) (still_was (before at) (after at) _ (edited at))
+
+pub returns-clause-reads : goal.returns-clause-reads
+returns-clause-reads c =
+    let at = (goal.at.returns-clause-reads c).After-make_each in
+    rw (← c.self.view_is) (still_kept (before at) (after at) _ (edited at) Read c.self.inside.kept)

@@ -1,14 +1,15 @@
 use Rattle.std.proofs.Common.{subst}
 use Rattle.tile_cache.specs.Touched.{Remembers}
+use Rattle.tile_cache.specs.declared.kept_tiles.Origin.TheVariants.{Cut, Read}
 use Rattle.cached_map.specs.Cached.{CachedView, with_mark}
-use Rattle.cached_map.proofs.Edits.{IsEdited, removal, removed, still_cached, still_was}
+use Rattle.cached_map.proofs.Edits.{IsEdited, removal, removed, still_kept, still_was}
 use Rattle.cached_map.proofs.cached_map.CachedMap.remove.Goals as goal
 use Rattle.cached_map.proofs.cached_map.CachedMap.remove.Goals.{After-remove-found}
 
 abbrev before : After-remove-found → CachedView
 before c =
     let inside = c.self.inside in
-    record { features = inside.store.features; spare = inside.store.spare; last = inside.last; touched = inside.touched }
+    record { features = inside.store.features; spare = inside.store.spare; last = inside.last; touched = inside.touched; kept = inside.kept }
 
 abbrev after : After-remove-found → CachedView
 after c =
@@ -17,6 +18,7 @@ after c =
       spare = c.remove-found.new.self.spare;
       last = c.args.number;
       touched = c.mark_some.new.touched;
+      kept = c.self.inside.kept;
     }
 
 edited : (c : After-remove-found) → IsEdited (before c) (after c) (removal (before c) (after c) c.args.id)
@@ -26,9 +28,14 @@ edited c = removed (before c) (after c) c.args.id c.len-count.ensures.map (rw (�
 pub invariant_of-self : goal.invariant_of-self
 invariant_of-self c =
     let at = (goal.at.invariant_of-self c).After-remove-found in
-    still_cached (before at) (after at) (removal (before at) (after at) c.args.id) (edited at) c.self.inside.kept c.self.invariant
+    still_kept (before at) (after at) (removal (before at) (after at) c.args.id) (edited at) Cut c.self.inside.kept c.self.invariant
 
 pub returns-clause-since : goal.returns-clause-since
 returns-clause-since c =
     let at = (goal.at.returns-clause-since c).After-remove-found in
     rw (← c.self.view_is) (still_was (before at) (after at) (removal (before at) (after at) c.args.id) (edited at))
+
+pub returns-clause-reads : goal.returns-clause-reads
+returns-clause-reads c =
+    let at = (goal.at.returns-clause-reads c).After-remove-found in
+    rw (← c.self.view_is) (still_kept (before at) (after at) (removal (before at) (after at) c.args.id) (edited at) Read c.self.inside.kept)

@@ -1,84 +1,98 @@
-use Rattle.std.proofs.Common.{◌≡◌, ◌<◌, ◌≤◌, ℕ, List, Option, Vec, Global, length, drop, refl, ap, subst, ◌∙◌, arith}
-use Rattle.std.proofs.lemmas.List.{take_rest}
+use Rattle.std.proofs.Common.{◌≡◌, ℕ, List, Option, Vec, Global, refl, sym, subst, arith}
 use Rattle.std.specs.Option.{option_map}
+use Rattle.feature_store.specs.Indexed.{ShowsAll}
 use Rattle.feature_store.specs.Inside.{entries_data}
-use Rattle.feature_store.specs.Pairs.{leading}
+use Rattle.feature_store.specs.Left.{left_of}
 use Rattle.feature_store.specs.Tiles.{TilesView, IsStep, ShowsNothingFrom}
-use Rattle.feature_store.proofs.Walk.{nothing_left, from_below, place_here, place_within, nothing_between, shows_step, step_inside, step_split}
+use Rattle.feature_store.proofs.Zooms.{from_below, place_here, nothing_between, shows_step, one_less, left_some, none_from}
+use Rattle.feature_store.proofs.Walk.{place_within}
 use Rattle.feature_store.proofs.all_tiles.Tiles.step.Goals as goal
 
-pub returns-then-self-len-clause-none : goal.returns-then-self-len-clause-none
-returns-then-self-len-clause-none c =
+pub invariant_of-self : goal.invariant_of-self
+invariant_of-self c = record {
+  is_map = c.self.invariant.is_map;
+  zoom = c.look_ahead.ensures.zoom;
+  left = c.look_ahead.ensures.stay c.self.inside.from c.self.invariant.left;
+}
+
+pub invariant_of-self-in_default : goal.invariant_of-self-in_default
+invariant_of-self-in_default c = record {
+  is_map = c.self.invariant.is_map;
+  zoom = c.look_ahead.ensures.zoom;
+  left = c.look_ahead.ensures.stay c.self.inside.from c.self.invariant.left;
+}
+
+pub invariant_of-self-in_err-bytes : goal.invariant_of-self-in_err-bytes
+invariant_of-self-in_err-bytes c = record {
+  is_map = c.self.invariant.is_map;
+  zoom = c.look_ahead.ensures.zoom;
+  left = c.look_ahead.ensures.stay c.self.inside.from c.self.invariant.left;
+}
+
+pub returns-in_default-clause-none : goal.returns-in_default-clause-none
+returns-in_default-clause-none c =
     let m = entries_data c.self.inside.features.now.entries in
-    let is = c.self.invariant in
-    let ends : length c.self.inside.pairs.items ≤ c.self.inside.done = omega (arith, c.if-self-len.true, c.len.ensures, c.self.inside.pairs.ok) in
+    let new = c.look_ahead.new.self in
     subst (λ (v : TilesView). ShowsNothingFrom v.features v.from) c.self.view_is
-    (nothing_left m is.is_map c.self.inside.pairs.items is.pairs c.self.inside.done c.self.inside.from is.split ends)
+    (none_from m c.self.invariant.is_map new.zoom c.self.inside.from (left_of new.walk) new.next c.in_default.is c.in_ok-look_ahead.ensures.none
+    (c.look_ahead.ensures.stay c.self.inside.from c.self.invariant.left))
 
 pub bytes_at-requires-clause-place : goal.bytes_at-requires-clause-place
 bytes_at-requires-clause-place c =
     let m = entries_data c.self.inside.features.now.entries in
-    let is = c.self.invariant in
-    let pair = c.index.result.now in
-    let within : c.self.inside.done < length c.self.inside.pairs.items = omega (arith, c.if-self-len.false, c.len.ensures, c.self.inside.pairs.ok) in
-    place_here m is.is_map c.self.inside.pairs.items is.pairs c.self.inside.done c.self.inside.from is.split pair.0 pair within
-    (ap (λ (p : ℕ × ℕ). p.0) c.index.ensures)
+    let new = c.look_ahead.new.self in
+    let left = left_some m new.zoom c.self.inside.from (left_of new.walk) new.next c.in-Some.id c.in-Some.numbers c.in-Some.is
+    (c.look_ahead.ensures.stay c.self.inside.from c.self.invariant.left) in
+    place_here m c.self.invariant.is_map new.zoom c.self.inside.from (c.in-Some.id, c.in-Some.numbers.items) (left_of new.walk) left c.look_ahead.ensures.zoom
 
 pub bytes_at-requires-clause-shown : goal.bytes_at-requires-clause-shown
-bytes_at-requires-clause-shown c =
+bytes_at-requires-clause-shown c z x y zoom is =
     let m = entries_data c.self.inside.features.now.entries in
-    let is = c.self.invariant in
-    let pair = c.index.result.now in
-    let within : c.self.inside.done < length c.self.inside.pairs.items = omega (arith, c.if-self-len.false, c.len.ensures, c.self.inside.pairs.ok) in
-    let numbers : c.in_ok-numbers.numbers.items ≡ leading pair.0 (drop c.self.inside.done c.self.inside.pairs.items) =
-    (rw c.deref.ensures.value at c.in_ok-numbers.ensures) ∙ ap (leading pair.0) (take_rest c.self.inside.pairs.items c.self.inside.done) in
-    shows_step m is.is_map c.self.inside.pairs.items is.pairs c.self.inside.done c.self.inside.from is.split pair.0 pair within
-    (ap (λ (p : ℕ × ℕ). p.0) c.index.ensures) c.deref-2.result.now (c.deref-2.ensures.value ∙ numbers)
+    let new = c.look_ahead.new.self in
+    let left = left_some m new.zoom c.self.inside.from (left_of new.walk) new.next c.in-Some.id c.in-Some.numbers c.in-Some.is
+    (c.look_ahead.ensures.stay c.self.inside.from c.self.invariant.left) in
+    let same : c.deref.result.now ≡ c.in-Some.numbers.items = c.deref.ensures.value in
+    subst (ShowsAll m z x y) (sym same)
+    (shows_step m c.self.invariant.is_map new.zoom c.self.inside.from (c.in-Some.id, c.in-Some.numbers.items) (left_of new.walk) left z x y zoom is)
 
-pub overflow_add-self-2 : goal.overflow_add-self-2
-overflow_add-self-2 c =
+pub overflow_add-self : goal.overflow_add-self
+overflow_add-self c =
     let m = entries_data c.self.inside.features.now.entries in
-    let is = c.self.invariant in
-    let pair = c.index.result.now in
-    let within : c.self.inside.done < length c.self.inside.pairs.items = omega (arith, c.if-self-len.false, c.len.ensures, c.self.inside.pairs.ok) in
+    let new = c.look_ahead.new.self in
+    let left = left_some m new.zoom c.self.inside.from (left_of new.walk) new.next c.in-Some.id c.in-Some.numbers c.in-Some.is
+    (c.look_ahead.ensures.stay c.self.inside.from c.self.invariant.left) in
     omega (
       arith,
-      place_within pair.0
-          (place_here m is.is_map c.self.inside.pairs.items is.pairs c.self.inside.done c.self.inside.from is.split pair.0 pair within
-          (ap (λ (p : ℕ × ℕ). p.0) c.index.ensures)),
+      place_within c.in-Some.id
+          (place_here m c.self.invariant.is_map new.zoom c.self.inside.from (c.in-Some.id, c.in-Some.numbers.items) (left_of new.walk) left
+          c.look_ahead.ensures.zoom),
     )
 
-pub invariant_of-self : goal.invariant_of-self
-invariant_of-self c =
+pub invariant_of-self-2 : goal.invariant_of-self-2
+invariant_of-self-2 c =
     let m = entries_data c.self.inside.features.now.entries in
-    let is = c.self.invariant in
-    let pair = c.index.result.now in
-    let within : c.self.inside.done < length c.self.inside.pairs.items = omega (arith, c.if-self-len.false, c.len.ensures, c.self.inside.pairs.ok) in
-    let numbers : c.in_ok-numbers.numbers.items ≡ leading pair.0 (drop c.self.inside.done c.self.inside.pairs.items) =
-    (rw c.deref.ensures.value at c.in_ok-numbers.ensures) ∙ ap (leading pair.0) (take_rest c.self.inside.pairs.items c.self.inside.done) in
-    let count : c.len-2.result ≡ length (leading pair.0 (drop c.self.inside.done c.self.inside.pairs.items)) =
-    omega (arith, c.len-2.ensures, c.in_ok-numbers.numbers.ok, ap length numbers) in
+    let new = c.look_ahead.new.self in
+    let left = left_some m new.zoom c.self.inside.from (left_of new.walk) new.next c.in-Some.id c.in-Some.numbers c.in-Some.is
+    (c.look_ahead.ensures.stay c.self.inside.from c.self.invariant.left) in
     record {
-      is_map = is.is_map;
-      pairs = is.pairs;
-      inside = step_inside m is.is_map c.self.inside.pairs.items is.pairs c.self.inside.done c.self.inside.from is.split pair.0 pair within
-          (ap (λ (p : ℕ × ℕ). p.0) c.index.ensures) c.len-2.result count;
-      split = step_split m is.is_map c.self.inside.pairs.items is.pairs c.self.inside.done c.self.inside.from is.split pair.0 pair within
-          (ap (λ (p : ℕ × ℕ). p.0) c.index.ensures) c.len-2.result count;
+      is_map = c.self.invariant.is_map;
+      zoom = c.look_ahead.ensures.zoom;
+      left = one_less m c.self.invariant.is_map new.zoom c.self.inside.from (c.in-Some.id, c.in-Some.numbers.items) (left_of new.walk) left;
     }
 
 pub returns-clause-tile : goal.returns-clause-tile
 returns-clause-tile c =
     let m = entries_data c.self.inside.features.now.entries in
-    let is = c.self.invariant in
-    let pair = c.index.result.now in
-    let within : c.self.inside.done < length c.self.inside.pairs.items = omega (arith, c.if-self-len.false, c.len.ensures, c.self.inside.pairs.ok) in
-    let at = ap (λ (p : ℕ × ℕ). p.0) c.index.ensures in
+    let new = c.look_ahead.new.self in
+    let is_map = c.self.invariant.is_map in
+    let t : ℕ × List ℕ = (c.in-Some.id, c.in-Some.numbers.items) in
+    let left = left_some m new.zoom c.self.inside.from (left_of new.walk) new.next c.in-Some.id c.in-Some.numbers c.in-Some.is
+    (c.look_ahead.ensures.stay c.self.inside.from c.self.invariant.left) in
     let bytes : Option (List ℕ) = option_map (λ (v : Vec ℕ Global). v.items) c.in_ok-bytes.bytes in
-    let step : IsStep m c.self.inside.from pair.0 bytes = record {
-      here = from_below m is.is_map c.self.inside.pairs.items is.pairs c.self.inside.done c.self.inside.from is.split pair.0 pair within at;
-      place = place_here m is.is_map c.self.inside.pairs.items is.pairs c.self.inside.done c.self.inside.from is.split pair.0 pair within at;
-      between = nothing_between m is.is_map c.self.inside.pairs.items is.pairs c.self.inside.done c.self.inside.from is.split pair.0 pair within at;
+    let step : IsStep m c.self.inside.from c.in-Some.id bytes = record {
+      here = from_below m is_map new.zoom c.self.inside.from t (left_of new.walk) left;
+      place = place_here m is_map new.zoom c.self.inside.from t (left_of new.walk) left c.look_ahead.ensures.zoom;
+      between = nothing_between m is_map new.zoom c.self.inside.from t (left_of new.walk) left;
       bytes_are = c.in_ok-bytes.ensures;
     } in
-    (subst (λ (v : TilesView). IsStep v.features v.from pair.0 bytes) c.self.view_is step, refl)
+    (subst (λ (v : TilesView). IsStep v.features v.from c.in-Some.id bytes) c.self.view_is step, refl)

@@ -22,17 +22,19 @@ returns-in-Beyond-clause-answered g c =
 
 pub returns-in-Whole-clause-answered : goal.returns-in-Whole-clause-answered
 returns-in-Whole-clause-answered g c =
+    let d = g.D.Sectors in
     let total = c.archive_len-total.ensures in
     let range = option_map (λ value. value.now) c.args.range in
-    archive_answered g.D.Sectors.sectors g.D.Sectors.honest g.D.Sectors.history g.D.Sectors.faults range (asked_service c.args.self.now) c.whole_archive.new.self.sending
+    archive_answered d.sectors d.honest d.history d.faults range (asked_service c.args.self.now) c.whole_archive.new.self.sending
     (asked_service c.whole_archive.new.self) Whole c.whole_archive.result (omega (arith, total, c.if-total-eq0.false))
     (subst (λ (n : ℕ). IsPart range n Whole) total c.in-Whole.ensures) c.whole_archive.ensures.answered c.whole_archive.ensures.refused
 
 pub returns-in-Between-clause-answered : goal.returns-in-Between-clause-answered
 returns-in-Between-clause-answered g c =
+    let d = g.D.Sectors in
     let total = c.archive_len-total.ensures in
     let range = option_map (λ value. value.now) c.args.range in
     let part = Between c.in-Between.first c.in-Between.last in
-    archive_answered g.D.Sectors.sectors g.D.Sectors.honest g.D.Sectors.history g.D.Sectors.faults range (asked_service c.args.self.now) c.archive_part.new.self.sending
+    archive_answered d.sectors d.honest d.history d.faults range (asked_service c.args.self.now) c.archive_part.new.self.sending
     (asked_service c.archive_part.new.self) part c.archive_part.result (omega (arith, total, c.if-total-eq0.false))
     (subst (λ (n : ℕ). IsPart range n part) total c.in-Between.ensures) c.archive_part.ensures.answered c.archive_part.ensures.refused

@@ -8,17 +8,20 @@ use Rattle.map_replies.proofs.service.MapReplies.archive_part.Goals as goal
 
 pub returns-in-Ok-Some-clause-answered : goal.returns-in-Ok-Some-clause-answered
 returns-in-Ok-Some-clause-answered g c =
+    let d = g.D.Sectors in
     let begun = rw c.in-Ok-Some.field-0-is at c.in-Ok-Some.ensures.begun in
     let sending = rw c.in-Ok-Some.field-0-is at c.in-Ok-Some.ensures.sending in
     let part = Between c.args.first c.args.last in
     let unfailed = rw c.in-Ok-Some.field-0-is at c.in-Ok-Some.ensures.unfailed in
-    part_sent g.D.Sectors.sectors g.D.Sectors.honest g.D.Sectors.history g.D.Sectors.faults (asked_service c.args.self.now) (asked_service c.send.new.self) part _ c.between.result c.in-Ok-Some.content
+    part_sent d.sectors d.honest d.history d.faults (asked_service c.args.self.now) (asked_service c.send.new.self) part _ c.between.result c.in-Ok-Some.content
     (c.requires.order, omega (arith, c.requires.within, c.requires.total)) begun unfailed c.between.ensures.content
     (λ bytes. c.between.ensures.reply bytes ∙ ap (λ (n : ℕ). part_reply part n (content_bytes bytes c.in-Ok-Some.content)) c.requires.total)
     sending
 
 pub returns-in-Ok-None-clause-answered : goal.returns-in-Ok-None-clause-answered
 returns-in-Ok-None-clause-answered g c =
-    part_failed g.D.Sectors.sectors g.D.Sectors.honest g.D.Sectors.history g.D.Sectors.faults (asked_service c.args.self.now) (asked_service c.send.new.self) (Between c.args.first c.args.last) _
+    let d = g.D.Sectors in
+    part_failed d.sectors d.honest d.history d.faults (asked_service c.args.self.now) (asked_service c.send.new.self) (Between c.args.first c.args.last) _
     c.unread.result (c.requires.order, omega (arith, c.requires.within, c.requires.total))
-    c.unread.ensures.writable c.unread.ensures.reply (c.in-Ok-None.ensures.failed c.in-Ok-None.field-0-is) (rw c.in-Ok-None.field-0-is at c.in-Ok-None.ensures.begun)
+    c.unread.ensures.writable c.unread.ensures.reply
+    (c.in-Ok-None.ensures.failed c.in-Ok-None.field-0-is) (rw c.in-Ok-None.field-0-is at c.in-Ok-None.ensures.begun)

@@ -8,9 +8,9 @@ use Rattle.map_replies.proofs.service.MapReplies.delete.Goals as goal
 
 pub returns-clause-answered : goal.returns-clause-answered
 returns-clause-answered g c =
+    let d = g.D.Sectors in
     let call = c.delete-outcome.ensures in
     let e = recorded_change (asked_service c.args.self.now).version (delete c.args.id) in
-    changed_first g.D.Sectors.sectors g.D.Sectors.honest g.D.Sectors.history _ _ (edit single e) outcome_reply _ _ c.delete-outcome.result _
+    changed_first d.sectors d.honest d.history _ _ (edit single e) outcome_reply _ _ c.delete-outcome.result _
     c.outcome.ensures.reply call.takes.failed
-    (edit_step g.D.Sectors.sectors g.D.Sectors.honest g.D.Sectors.history g.D.Sectors.faults _ _ single e c.delete-outcome.result
-    call.machine call.takes)
+    (edit_step d.sectors d.honest d.history d.faults _ _ single e c.delete-outcome.result call.machine call.takes)

@@ -9,15 +9,17 @@ use Rattle.map_replies.proofs.service.MapReplies.feature.Goals as goal
 
 pub returns-in-Some-clause-answered : goal.returns-in-Some-clause-answered
 returns-in-Some-clause-answered g c =
+    let d = g.D.Sectors in
     let old = asked_service c.args.self.now in
     let f = Some (feature_data c.in-Some.feature.now) in
-    shown g.D.Sectors.sectors g.D.Sectors.honest g.D.Sectors.history (look c.args.id) found_reply old old f c.feature_value.result
+    shown d.sectors d.honest d.history (look c.args.id) found_reply old old f c.feature_value.result
     c.feature_value.ensures.reply c.feature_value.ensures.fault
-    (look_step g.D.Sectors.sectors g.D.Sectors.honest g.D.Sectors.history old c.args.id (got f) c.in-Some.ensures.found)
-    (look_step g.D.Sectors.sectors g.D.Sectors.honest g.D.Sectors.history old c.args.id no_memory tt)
+    (look_step d.sectors d.honest d.history old c.args.id (got f) c.in-Some.ensures.found)
+    (look_step d.sectors d.honest d.history old c.args.id no_memory tt)
 
 pub returns-in-None-clause-answered : goal.returns-in-None-clause-answered
 returns-in-None-clause-answered g c =
+    let d = g.D.Sectors in
     let old = asked_service c.args.self.now in
-    called g.D.Sectors.sectors g.D.Sectors.honest g.D.Sectors.history (look c.args.id) (shown_reply found_reply) old old (got None) _ refl
-    (look_step g.D.Sectors.sectors g.D.Sectors.honest g.D.Sectors.history old c.args.id (got None) c.in-None.ensures.found)
+    called d.sectors d.honest d.history (look c.args.id) (shown_reply found_reply) old old (got None) _ refl
+    (look_step d.sectors d.honest d.history old c.args.id (got None) c.in-None.ensures.found)

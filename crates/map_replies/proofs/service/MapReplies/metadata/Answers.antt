@@ -13,15 +13,17 @@ json_value-requires g c = record { whole = metadata_whole _ (view c.in-Ok.value)
 
 pub returns-in-Ok-clause-answered : goal.returns-in-Ok-clause-answered
 returns-in-Ok-clause-answered g c =
+    let d = g.D.Sectors in
     let old = asked_service c.args.self.now in
-    let d = view c.in-Ok.value in
-    shown g.D.Sectors.sectors g.D.Sectors.honest g.D.Sectors.history metadata metadata_reply old old d c.json_value.result
+    let value = view c.in-Ok.value in
+    shown d.sectors d.honest d.history metadata metadata_reply old old value c.json_value.result
     c.json_value.ensures.reply c.json_value.ensures.fault
-    (metadata_step g.D.Sectors.sectors g.D.Sectors.honest g.D.Sectors.history old (got d) c.in-Ok.ensures.metadata)
-    (metadata_step g.D.Sectors.sectors g.D.Sectors.honest g.D.Sectors.history old no_memory tt)
+    (metadata_step d.sectors d.honest d.history old (got value) c.in-Ok.ensures.metadata)
+    (metadata_step d.sectors d.honest d.history old no_memory tt)
 
 pub returns-in-Err-clause-answered : goal.returns-in-Err-clause-answered
 returns-in-Err-clause-answered g c =
+    let d = g.D.Sectors in
     let old = asked_service c.args.self.now in
-    called g.D.Sectors.sectors g.D.Sectors.honest g.D.Sectors.history metadata (shown_reply metadata_reply) old old no_memory _ refl
-    (metadata_step g.D.Sectors.sectors g.D.Sectors.honest g.D.Sectors.history old no_memory tt)
+    called d.sectors d.honest d.history metadata (shown_reply metadata_reply) old old no_memory _ refl
+    (metadata_step d.sectors d.honest d.history old no_memory tt)

@@ -3,5 +3,6 @@ use Rattle.map_replies.proofs.service.MapReplies.publish.Goals as goal
 
 pub returns-clause-answered : goal.returns-clause-answered
 returns-clause-answered g c =
-    published g.D.Sectors.sectors g.D.Sectors.honest g.D.Sectors.history _ _ _ _ c.publish-outcome.result _ c.published.ensures.reply
+    let d = g.D.Sectors in
+    published d.sectors d.honest d.history _ _ _ _ c.publish-outcome.result _ c.published.ensures.reply
     c.publish-outcome.ensures.failed c.publish-outcome.ensures.run

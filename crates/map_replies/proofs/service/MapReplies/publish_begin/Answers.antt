@@ -6,6 +6,7 @@ use Rattle.map_replies.proofs.service.MapReplies.publish_begin.Goals as goal
 
 pub returns-clause-answered : goal.returns-clause-answered
 returns-clause-answered g c =
+    let d = g.D.Sectors in
     let call = c.publish_begin-outcome.ensures in
-    called_first g.D.Sectors.sectors g.D.Sectors.honest g.D.Sectors.history begin left_reply _ _ c.publish_begin-outcome.result _ c.left.ensures.reply
-    (begin_step g.D.Sectors.sectors g.D.Sectors.honest g.D.Sectors.history _ _ c.publish_begin-outcome.result call.machine call.same call.up)
+    called_first d.sectors d.honest d.history begin left_reply _ _ c.publish_begin-outcome.result _ c.left.ensures.reply
+    (begin_step d.sectors d.honest d.history _ _ c.publish_begin-outcome.result call.machine call.same call.up)

@@ -6,8 +6,9 @@ use Rattle.map_replies.proofs.service.MapReplies.publish_step.Goals as goal
 
 pub returns-clause-answered : goal.returns-clause-answered
 returns-clause-answered g c =
+    let d = g.D.Sectors in
     let call = c.publish_step-outcome.ensures in
-    changed_first g.D.Sectors.sectors g.D.Sectors.honest g.D.Sectors.history _ _ step left_reply _ _ c.publish_step-outcome.result _ c.left.ensures.reply
+    changed_first d.sectors d.honest d.history _ _ step left_reply _ _ c.publish_step-outcome.result _ c.left.ensures.reply
     call.failed
-    (step_step g.D.Sectors.sectors g.D.Sectors.honest g.D.Sectors.history _ _ c.publish_step-outcome.result call.machine call.size call.count call.honest
+    (step_step d.sectors d.honest d.history _ _ c.publish_step-outcome.result call.machine call.size call.count call.honest
     call.refused call.any_moment call.after call.archive)

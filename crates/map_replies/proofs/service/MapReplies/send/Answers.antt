@@ -5,8 +5,9 @@ use Rattle.map_replies.proofs.service.MapReplies.send.Goals as goal
 
 pub returns-in-Ok-Some-clause-begun : goal.returns-in-Ok-Some-clause-begun
 returns-in-Ok-Some-clause-begun g c =
+    let d = g.D.Sectors in
     let long = rw c.in-Ok-Some.field-0-is at c.in-Ok-Some.ensures.length in
     let read = rw c.in-Ok-Some.field-0-is at c.in-Ok-Some.ensures.read in
     let few : length c.in-Ok-Some.begun.items ≤ c.args.length = omega (arith, long, c.begin_size.ensures) in
-    begins g.D.Sectors.sectors g.D.Sectors.honest g.D.Sectors.history (asked_service c.args.self.now)
+    begins d.sectors d.honest d.history (asked_service c.args.self.now)
     (asked_service c.archive_bytes.new.self) c.args.first c.args.length c.in-Ok-Some.begun c.requires few read

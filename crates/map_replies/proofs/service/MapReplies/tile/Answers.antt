@@ -8,26 +8,29 @@ use Rattle.map_replies.proofs.service.MapReplies.tile.Goals as goal
 
 pub returns-in-Ok-tile-clause-answered : goal.returns-in-Ok-tile-clause-answered
 returns-in-Ok-tile-clause-answered g c =
+    let d = g.D.Sectors in
     let at = c.args.at in
     let call = c.tile.ensures in
     let outcome = got (option_map (λ bytes. bytes.items) c.in-Ok.content) in
-    called g.D.Sectors.sectors g.D.Sectors.honest g.D.Sectors.history (tile at.z at.x at.y) (shown_reply (content_reply c.args.format)) _ _ outcome _ c.in-Ok-tile.ensures.reply
-    (tile_step g.D.Sectors.sectors g.D.Sectors.honest g.D.Sectors.history _ _ call.same call.count call.honest call.history call.untouched call.up at.z at.x at.y outcome
+    called d.sectors d.honest d.history (tile at.z at.x at.y) (shown_reply (content_reply c.args.format)) _ _ outcome _ c.in-Ok-tile.ensures.reply
+    (tile_step d.sectors d.honest d.history _ _ call.same call.count call.honest call.history call.untouched call.up at.z at.x at.y outcome
     c.in-Ok.ensures.machine)
 
 -- it was shown, and there is no memory for the reply
 pub returns-in-Err-clause-answered : goal.returns-in-Err-clause-answered
 returns-in-Err-clause-answered g c =
+    let d = g.D.Sectors in
     let at = c.args.at in
     let call = c.tile.ensures in
-    called g.D.Sectors.sectors g.D.Sectors.honest g.D.Sectors.history (tile at.z at.x at.y) (shown_reply (content_reply c.args.format)) _ _ no_memory _ refl
-    (tile_step g.D.Sectors.sectors g.D.Sectors.honest g.D.Sectors.history _ _ call.same call.count call.honest call.history call.untouched call.up at.z at.x at.y no_memory
+    called d.sectors d.honest d.history (tile at.z at.x at.y) (shown_reply (content_reply c.args.format)) _ _ no_memory _ refl
+    (tile_step d.sectors d.honest d.history _ _ call.same call.count call.honest call.history call.untouched call.up at.z at.x at.y no_memory
     (λ known. (tt, ap (λ s. state_of known s) call.same)))
 
 pub returns-in_default-clause-answered : goal.returns-in_default-clause-answered
 returns-in_default-clause-answered g c =
+    let d = g.D.Sectors in
     let at = c.args.at in
     let call = c.tile.ensures in
-    called g.D.Sectors.sectors g.D.Sectors.honest g.D.Sectors.history (tile at.z at.x at.y) (shown_reply (content_reply c.args.format)) _ _ no_memory _ refl
-    (tile_step g.D.Sectors.sectors g.D.Sectors.honest g.D.Sectors.history _ _ call.same call.count call.honest call.history call.untouched call.up at.z at.x at.y no_memory
+    called d.sectors d.honest d.history (tile at.z at.x at.y) (shown_reply (content_reply c.args.format)) _ _ no_memory _ refl
+    (tile_step d.sectors d.honest d.history _ _ call.same call.count call.honest call.history call.untouched call.up at.z at.x at.y no_memory
     (λ known. (tt, ap (λ s. state_of known s) call.same)))

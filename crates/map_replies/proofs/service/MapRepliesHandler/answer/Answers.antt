@@ -1,38 +1,54 @@
-use Rattle.std.proofs.Common.{sym, subst}
+use Rattle.std.proofs.Common.{◌≡◌, ℕ, List, Result, sym, subst}
 use Rattle.std.specs.Prelude.{option_map}
 use Rattle.http_serve.proofs.PartLemmas.{in_parts}
 use Rattle.http_serve.specs.Reply.{ReplyView}
-use Rattle.tile_routes.specs.Methods.{Wanted, wanted_by}
-use Rattle.map_replies.specs.Meanings.{AnswersWanted}
-use Rattle.map_replies.specs.Sending.{SendsWanted}
+use Rattle.tile_routes.specs.declared.fault.RouteFault.{RouteFault}
+use Rattle.tile_routes.specs.declared.method.Method.{Method}
+use Rattle.tile_routes.specs.Methods.{method_on}
+use Rattle.tile_routes.specs.Paths.{Asked, asked_by}
+use Rattle.map_replies.specs.Meanings.{AnswersMethod}
+use Rattle.map_replies.specs.Sending.{SendsMethod}
 use Rattle.map_replies.specs.State.{asked_service}
 use Rattle.map_replies.specs.Words.{refusal_of}
 use Rattle.map_replies.proofs.SendingLemmas.{whole_is, sent_size}
 use Rattle.map_replies.proofs.service.MapRepliesHandler.answer.Goals as goal
 
+-- what holds of the target and its method holds of the path and the method's name
+by_path : (P : Asked → Result Method RouteFault → Type 0) (name : List ℕ) (target path : Asked) (method : Result Method RouteFault)
+    → method ≡ method_on name target → target ≡ path → P target method → P path (method_on name path)
+by_path P name target path method is same holds =
+    subst (λ (a : Asked). P a (method_on name a)) same (subst (P target) is holds)
+
 pub returns-in-Ok-clause-replied : goal.returns-in-Ok-clause-replied
 returns-in-Ok-clause-replied g c =
+    let d = g.D.Sectors in
     let told = c.in-Ok.ensures.answered in
     let old = asked_service c.args.self.now in
     let new = asked_service c.respond.new.self in
+    let sending = c.respond.new.self.sending in
     let range = option_map (λ range. range.now) c.args.request.now.range in
-    let wanted = c.wanted-wanted.ensures in (
+    let body = c.args.request.now.body.now in
+    let method = c.method-method.ensures in
+    let asked = c.target-target.ensures.asked in (
       told.0,
       told.1,
-      subst (λ (w : Wanted). AnswersWanted g.D.Sectors.sectors g.D.Sectors.honest g.D.Sectors.history g.D.Sectors.faults w range c.args.request.now.body.now old new told.0) wanted told.2,
+      by_path (λ a m. AnswersMethod d.sectors d.honest d.history d.faults a m range body old new told.0) _ _ _ _ method asked told.2,
       in_parts c.in-Ok.reply.content _ _ (λ sent. (
-        subst (λ (w : Wanted). SendsWanted g.D.Sectors.sectors g.D.Sectors.honest g.D.Sectors.history g.D.Sectors.faults w range old c.respond.new.self.sending new told.0) wanted sent,
-        sent_size g.D.Sectors.sectors g.D.Sectors.honest g.D.Sectors.history g.D.Sectors.faults _ old _ new told.0 sent.2,
+        by_path (λ a m. SendsMethod d.sectors d.honest d.history d.faults a m range old sending new told.0) _ _ _ _ method asked sent,
+        sent_size d.sectors d.honest d.history d.faults _ old _ new told.0 sent.3,
       )) told.3,
     )
 
 pub returns-in-Err-clause-replied : goal.returns-in-Err-clause-replied
 returns-in-Err-clause-replied g c =
+    let d = g.D.Sectors in
     let old = asked_service c.args.self.now in
     let new = asked_service c.respond.new.self in
     let range = option_map (λ range. range.now) c.args.request.now.range in
     let body = c.args.request.now.body.now in
-    let wanted = wanted_by c.args.request.now.method.now c.args.request.now.path.now in
+    let path = asked_by c.args.request.now.path.now in
+    let method = method_on c.args.request.now.method.now path in
     whole_is _ _ c.refusal.result c.refusal.ensures.writable
-    (subst (λ (view : ReplyView). AnswersWanted g.D.Sectors.sectors g.D.Sectors.honest g.D.Sectors.history g.D.Sectors.faults wanted range body old new view) (sym c.refusal.ensures.reply)
-    (subst (λ (w : Wanted). AnswersWanted g.D.Sectors.sectors g.D.Sectors.honest g.D.Sectors.history g.D.Sectors.faults w range body old new (refusal_of c.in-Err.fault)) c.wanted-wanted.ensures c.in-Err.ensures.answered))
+    (subst (λ (view : ReplyView). AnswersMethod d.sectors d.honest d.history d.faults path method range body old new view) (sym c.refusal.ensures.reply)
+    (by_path (λ a m. AnswersMethod d.sectors d.honest d.history d.faults a m range body old new (refusal_of c.in-Err.fault)) _ _ _ _
+    c.method-method.ensures c.target-target.ensures.asked c.in-Err.ensures.answered))

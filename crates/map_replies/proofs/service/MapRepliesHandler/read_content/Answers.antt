@@ -8,20 +8,22 @@ use Rattle.map_replies.proofs.service.MapRepliesHandler.read_content.Goals as go
 
 pub returns-clause-read : goal.returns-clause-read
 returns-clause-read g c =
+    let d = g.D.Sectors in
     let call = c.read_sent.ensures in
     let now = asked_service c.args.self.now in
     let next = asked_service c.read_sent.new.self in
     let sending = c.args.self.now.sending in
     read_on c.read_sent.result c.read_sent.new.part
-    (λ outcome. Takes g.D.Sectors.sectors g.D.Sectors.honest g.D.Sectors.history now (read (sending.first + c.args.offset) outcome) next) _ _ call.read
+    (λ outcome. Takes d.sectors d.honest d.history now (read (sending.first + c.args.offset) outcome) next) _ _ call.read
     call.unfailed
     (λ takes unfailed old request reply is.
-    sends_more g.D.Sectors.sectors g.D.Sectors.honest g.D.Sectors.history g.D.Sectors.faults _ request.range request.body (asked_service old) sending now
+    sends_more d.sectors d.honest d.history d.faults _ _ request.range request.body (asked_service old) sending now
     next reply is c.read_sent.new.self.sending c.args.offset _ c.read_sent.new.part call.sending call.length c.requires.within unfailed takes)
 
 pub returns-clause-unread : goal.returns-clause-unread
 returns-clause-unread g c =
+    let d = g.D.Sectors in
     err_on c.read_sent.result _ _ c.read_sent.ensures.failed (λ fault failed old request reply is.
-    sends_fails g.D.Sectors.sectors g.D.Sectors.honest g.D.Sectors.history g.D.Sectors.faults _ request.range request.body (asked_service old)
+    sends_fails d.sectors d.honest d.history d.faults _ _ request.range request.body (asked_service old)
     c.args.self.now.sending (asked_service c.args.self.now) (asked_service c.read_sent.new.self) reply is
     _ (read_outcome c.read_sent.result c.read_sent.new.part) c.read_sent.ensures.read failed)

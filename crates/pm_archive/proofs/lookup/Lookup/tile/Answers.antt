@@ -11,12 +11,12 @@ use Rattle.pm_archive.proofs.lookup.Lookup.tile.Goals as goal
 
 pub returns-clause-content : goal.returns-clause-content
 returns-clause-content g c =
-    subst (λ (l : LookupView). (bytes : List ℕ) (content : ℕ → Option (List ℕ)) → g.B.Bytes.holds c.content_by.new.source bytes → IsLookupOf bytes l
-    → IsArchiveOf bytes content → MatchResult c.content_by.result (λ found. option_map (λ v. v.items) found ≡ content c.args.id) IsOutside) c.self.view_is
+    subst (λ (l : LookupView). (bytes : List ℕ) (content : ℕ → Option (List ℕ)) → g.B.Bytes.holds c.content_below.new.source bytes → IsLookupOf bytes l
+    → IsArchiveOf bytes content → MatchResult c.content_below.result (λ found. option_map (λ v. v.items) found ≡ content c.args.id) IsOutside) c.self.view_is
     (λ bytes content holds of archive.
     let root = c.deref.ensures.value in
-    gives_found IsOutside inside_or_outside (option_map (λ v. v.items)) c.content_by.result
+    gives_found IsOutside inside_or_outside (option_map (λ v. v.items)) c.content_below.result
     (looked_at bytes c.self.inside.header c.deref.result.now c.args.id) (content c.args.id)
     (subst (λ (es : List Entry). looked_at bytes c.self.inside.header es c.args.id ≡ Ok (content c.args.id)) (sym root)
     (looked_content bytes c.self.inside.header c.self.inside.root.items content c.args.id of.sections of.root archive))
-    (c.content_by.ensures.first bytes holds of.leaf))
+    (c.content_below.ensures.first bytes holds of.leaf))

@@ -3,5 +3,5 @@ use Rattle.tile_routes.proofs.routes.Routes.found.Goals as goal
 
 pub route_target-requires : goal.route_target-requires
 route_target-requires c =
-    found-parts c.args.self.now.router c.in-Ok.found.params c.in-Ok.found.value.now c.args.path.now c.args.self.now.rows
+    found-parts c.self.inside.router c.in-Ok.found.params c.in-Ok.found.value.now c.args.path.now c.self.invariant
     c.in-Ok.ensures.found c.in-Ok.ensures.path c.requires

@@ -1,0 +1,137 @@
+-- The boxes that the features of a map have at a zoom: one feature after the other, and what a tile shows by them.
+use Rattle.std.proofs.Common.{◌≡◌, ◌≢◌, ℕ, zero, suc, ◌^◌, ◌<◌, Bool, true, false, cond, List, [], ◌∷◌, ◌++◌, length, get_or, map}
+use Rattle.std.proofs.Common.{IsSome, is_some, inl, inr, ◌⊎◌, refl, sym, ap, subst, ◌∙◌, append_assoc, arith, Option, None}
+use mathlib.Core.Bool.{false≢true}
+use Rattle.std.specs.List.{filter, AllByRecursion, Contains}
+use Rattle.std.specs.List.Sorted.{IsStrictlySortedBy}
+use Rattle.std.specs.Ordering.{nat_cmp}
+use Rattle.std.specs.declared.cmp.Ordering.TheVariants.{Less}
+use Rattle.std.proofs.lemmas.Bool.{cases_eq, cases_Bool}
+use Rattle.std.proofs.lemmas.List.{map-append, append-nil}
+use Rattle.std.proofs.lemmas.List.Elements.{All-weaker, All-contains_itself, Contains-append_right, filter-append}
+use Rattle.number_map.specs.Blocks.{Ascends, AreAbove}
+use Rattle.number_map.proofs.Numbers.{less}
+use Rattle.number_map.proofs.Entries.{ascends_head, ascends_tail}
+use Rattle.feature_model.specs.Data.{FeatureData}
+use Rattle.mvt_layer.specs.Tile.{FeatureView}
+use Rattle.tile_cutter.specs.Covered.{covered}
+use Rattle.tile_cutter.specs.Cut.{has_zoom, feature_cut}
+use Rattle.tile_cutter.proofs.Outside.{outside}
+use Rattle.tile_walk.specs.declared.numbered.Numbered.{Numbered}
+use Rattle.tile_walk.specs.Boxes.{numbers_at}
+use Rattle.tile_walk.proofs.Laws.{numbers_ascend, number_stands}
+use Rattle.feature_store.specs.Boxes.{box_of, boxes_at}
+use Rattle.feature_store.specs.Indexed.{ShowsAll}
+use Rattle.feature_store.specs.Store.{FeatureMap, IsMap}
+use Rattle.feature_store.proofs.Listed.{contains_here, contains_on}
+use Rattle.feature_store.proofs.Near.{no_zoom}
+
+-- ---- one feature after the other
+
+pub no_boxes : (zoom : ℕ) (front : List Numbered) → front ≡ front ++ boxes_at zoom []
+unfolding boxes_at
+no_boxes zoom front = sym (append-nil front)
+
+boxes_both : (zoom : ℕ) (a b : FeatureMap) → boxes_at zoom (a ++ b) ≡ boxes_at zoom a ++ boxes_at zoom b
+unfolding boxes_at
+boxes_both zoom a b =
+    ap (map (box_of zoom)) (filter-append (λ e. has_zoom e.1 zoom) a b)
+    ∙ map-append (box_of zoom) (filter (λ e. has_zoom e.1 zoom) a) (filter (λ e. has_zoom e.1 zoom) b)
+
+-- the boxes of a map so far, and of more of it
+pub boxes_more : (zoom : ℕ) (a b both : FeatureMap) (front out next : List Numbered) → a ++ b ≡ both → out ≡ front ++ boxes_at zoom a
+    → next ≡ out ++ boxes_at zoom b → next ≡ front ++ boxes_at zoom both
+boxes_more zoom a b both front out next is before after =
+    after ∙ ap (λ r. r ++ boxes_at zoom b) before ∙ append_assoc front (boxes_at zoom a) (boxes_at zoom b)
+    ∙ ap (λ r. front ++ r) (sym (boxes_both zoom a b) ∙ ap (boxes_at zoom) is)
+
+-- ---- what a tile shows by them
+
+module _ (z : ℕ) where
+  abbrev numbers : List Numbered → List ℕ
+  numbers bs = map (λ b. b.number) bs
+
+  abbrev shown : ℕ × FeatureData → Bool
+  shown e = has_zoom e.1 z
+
+  -- the boxes of some features
+  abbrev boxes : FeatureMap → List Numbered
+  boxes m = map (box_of z) m
+
+  numbers_above : (n : ℕ) (m : FeatureMap) → AreAbove n m → AllByRecursion (λ k. nat_cmp n k ≡ Less) (numbers (boxes (filter shown m)))
+  numbers_above n [] above = tt
+  numbers_above n (e ∷ m) above = by (shown e) (numbers_above n m above.1)
+    where
+      by : (b : Bool) → AllByRecursion (λ k. nat_cmp n k ≡ Less) (numbers (boxes (filter shown m)))
+          → AllByRecursion (λ k. nat_cmp n k ≡ Less) (numbers (boxes (cond b (e ∷ filter shown m) (filter shown m))))
+      by true rest = (less n e.0 above.0, rest)
+      by false rest = rest
+
+  numbers_rise : (m : FeatureMap) → Ascends m → IsStrictlySortedBy nat_cmp (numbers (boxes (filter shown m)))
+  unfolding IsStrictlySortedBy
+  numbers_rise [] up = tt
+  numbers_rise (e ∷ m) up = by (shown e) (numbers_rise m (ascends_tail e m up))
+    where
+      by : (b : Bool) → IsStrictlySortedBy nat_cmp (numbers (boxes (filter shown m)))
+          → IsStrictlySortedBy nat_cmp (numbers (boxes (cond b (e ∷ filter shown m) (filter shown m))))
+      by true rest = (numbers_above e.0 m (ascends_head e m up), rest)
+      by false rest = rest
+
+  box_stands : (m : FeatureMap) (e : ℕ × FeatureData) → Contains m e → shown e ≡ true → Contains (boxes (filter shown m)) (box_of z e)
+  box_stands [] e h is = absurd (omega (arith, h.1))
+  box_stands (d ∷ m) e h is = by (shown d) refl (λ c. box_stands m e c is) h.0 h.1 h.2
+    where
+      by : (b : Bool) → shown d ≡ b → (Contains m e → Contains (boxes (filter shown m)) (box_of z e)) → (i : ℕ) → i < length (d ∷ m)
+          → get_or (d ∷ m) i e ≡ e → Contains (boxes (cond b (d ∷ filter shown m) (filter shown m))) (box_of z e)
+      by true here more zero lt same =
+          subst (Contains (box_of z d ∷ boxes (filter shown m))) (ap (box_of z) same) (contains_here (box_of z d) (boxes (filter shown m)))
+      by true here more (suc i) lt same = contains_on (box_of z d) (boxes (filter shown m)) (box_of z e) (more (i, omega arith, same))
+      by false away more zero lt same = absurd (false≢true (sym away ∙ ap shown same ∙ is))
+      by false away more (suc i) lt same = more (i, omega arith, same)
+
+-- a number stands in a list, or it doesn't
+stands_or_not : (n : ℕ) (ns : List ℕ) → Contains ns n ⊎ (Contains ns n → ⊥)
+stands_or_not n [] = inr (λ c. omega (arith, c.1))
+stands_or_not n (k ∷ ns) = elim (cases_eq k n) [
+  | inl same ↦ inl (0, omega arith, same)
+  | inr other ↦ elim (stands_or_not n ns) [
+    | inl behind ↦ inl (Contains-append_right (k ∷ []) ns n behind)
+    | inr nowhere ↦ inr (λ c. neither c.0 c.1 c.2 other nowhere)
+  ]
+]
+  where
+    neither : (i : ℕ) → i < length (k ∷ ns) → get_or (k ∷ ns) i n ≡ n → k ≢ n → (Contains ns n → ⊥) → ⊥
+    neither zero lt is other nowhere = other is
+    neither (suc i) lt is other nowhere = nowhere (i, omega arith, is)
+
+module _ (m : FeatureMap) (z x y : ℕ) (across : x < 2 ^ z) (down : y < 2 ^ z) where
+  abbrev numbers_here : List ℕ
+  numbers_here = numbers_at (boxes_at z m) x y
+
+  -- a feature whose number isn't there shows nothing
+  nothing_there : (e : ℕ × FeatureData) → Contains m e → (Contains numbers_here e.0 → ⊥) → feature_cut e.1 z x y ≡ None
+  unfolding boxes_at
+  nothing_there e stands nowhere = elim (cases_Bool (has_zoom e.1 z)) [
+    | inl shown ↦ outside e.1 z x y (covered e.1.geometry z) refl across down (λ inside.
+        nowhere (number_stands (map (box_of z) (filter (λ d. has_zoom d.1 z) m)) (box_of z e) x y (box_stands z m e stands shown) inside))
+    | inr hidden ↦ no_zoom e.1 z x y hidden
+  ]
+
+  not_shown : (o : Option FeatureView) → IsSome o → o ≡ None → ⊥
+  not_shown o some none = false≢true (ap is_some (sym none) ∙ some)
+
+  ascend : IsMap m → IsStrictlySortedBy nat_cmp numbers_here
+  unfolding boxes_at
+  ascend is_map = numbers_ascend (map (box_of z) (filter (λ e. has_zoom e.1 z) m)) x y (numbers_rise z m is_map.ascending)
+
+  -- the numbers of the boxes that have a tile are those of all features of which it shows something, and maybe of others
+  pub boxes_show : IsMap m → ShowsAll m z x y numbers_here
+  boxes_show is_map = record {
+    ascending = ascend is_map;
+    every =
+        All-weaker (Contains m) (λ e. IsSome (feature_cut e.1 z x y) → Contains numbers_here e.0)
+        (λ e stands shown. elim (stands_or_not e.0 numbers_here) [
+          | inl among ↦ among
+          | inr nowhere ↦ absurd (not_shown (feature_cut e.1 z x y) shown (nothing_there e stands nowhere))
+        ]) m (All-contains_itself m);
+  }

@@ -1,0 +1,15 @@
+-- The boxes of tiles that the features of a map have at a zoom.
+use Rattle.std.specs.Prelude.{ℕ, List, map, filter}
+use Rattle.feature_model.specs.Data.{FeatureData}
+use Rattle.tile_cutter.specs.Covered.{covered}
+use Rattle.tile_cutter.specs.Cut.{has_zoom}
+use Rattle.tile_walk.specs.declared.numbered.Numbered.{Numbered}
+use Rattle.feature_store.specs.Store.{FeatureMap}
+
+-- the tiles of a zoom that a feature covers, with its number
+abbrev pub box_of : ℕ → ℕ × FeatureData → Numbered
+box_of zoom e = record { range = covered e.1.geometry zoom; number = e.0 }
+
+-- those of the features that are shown at the zoom, in the order of the map
+unfoldable pub boxes_at : ℕ → FeatureMap → List Numbered
+boxes_at zoom m = map (box_of zoom) (filter (λ e. has_zoom e.1 zoom) m)
