@@ -1,5 +1,5 @@
 -- The archive of a service, as its disk is read.
-use Rattle.std.specs.Prelude.{IfSome}
+use Rattle.std.specs.Prelude.{Option, IfSome}
 use Rattle.std.proofs.Common.{◌≡◌, ℕ, ◌≤◌, ◌+◌, ◌-◌, List, length, take, slice_range, refl, sym, ap, ◌∙◌, subst, arith}
 use Rattle.std.proofs.lemmas.List.{take_all}
 use Rattle.sector_disk.specs.Disk.{History, seen}
@@ -14,7 +14,7 @@ use Rattle.feature_store.specs.Layers.{layers}
 use Rattle.feature_store.specs.Store.{FeatureMap, snapshot}
 use Rattle.published_tiles.specs.Published.{PublishedView, ArePublished}
 use Rattle.tile_cache.specs.Kept.{CacheView}
-use Rattle.tile_service.specs.Service.{ServiceView, Publishes, IsUp, archive_of, shown_archive, ShowsArchive}
+use Rattle.tile_service.specs.Service.{PublicationView, ServiceView, Publishes, IsUp, archive_of, shown_archive, ShowsArchive}
 use Rattle.tile_service.specs.Stored.{Stored, Keeps}
 use Rattle.tile_service.proofs.Bytes.{each_stands}
 
@@ -58,13 +58,13 @@ module _ {D : Type 0} (count : ℕ) (history : History) (stored : Stored) (servi
   archive_is_read first at n into is within read =
       read ∙ stands_read (seen history) first at n stored.archive (archive_stands first is) (omega (arith, within, up.archive_len_is))
 
-  -- The service continues if nothing was written, whatever it caches.
-  pub up_read : (disk : D) (lookup : PublishedView) (kept : CacheView) (sectors : ℕ) (later : History) → sectors ≡ count → later ≡ history
+  -- The service continues on a disk that keeps what is stored, with another publication of that, and whatever it caches.
+  pub up_moved : (disk : D) (publication : Option PublicationView) (lookup : PublishedView) (kept : CacheView) (sectors : ℕ) (later : History)
+      → Keeps sectors service.size stored later → IfSome publication (Publishes service.size stored later)
       → ArePublished lookup (archive_of service) stored.archive → AreReadRight service.features service.touched service.journal.last kept
-      → IsUp sectors later stored (record service { disk = disk; published = lookup; kept = kept })
-  up_read disk lookup kept sectors later same_count same_history archived reads = record {
-    keeps = subst (λ (c : ℕ). Keeps c service.size stored later) (sym same_count)
-        (subst (λ (h : History). Keeps count service.size stored h) (sym same_history) up.keeps);
+      → IsUp sectors later stored (record service { disk = disk; publication = publication; published = lookup; kept = kept })
+  up_moved disk publication lookup kept sectors later keeps publishes archived reads = record {
+    keeps = keeps;
     unbroken = up.unbroken;
     version_is = up.version_is;
     generation_is = up.generation_is;
@@ -75,11 +75,20 @@ module _ {D : Type 0} (count : ℕ) (history : History) (stored : Stored) (servi
     edits_are = up.edits_are;
     used_is = up.used_is;
     last_is = up.last_is;
-    publication = subst (λ (h : History). IfSome service.publication (Publishes service.size stored h)) (sym same_history) up.publication;
+    publication = publishes;
     were = up.were;
     archived = archived;
     reads = reads;
   }
+
+  -- So it does if nothing was written.
+  pub up_read : (disk : D) (lookup : PublishedView) (kept : CacheView) (sectors : ℕ) (later : History) → sectors ≡ count → later ≡ history
+      → ArePublished lookup (archive_of service) stored.archive → AreReadRight service.features service.touched service.journal.last kept
+      → IsUp sectors later stored (record service { disk = disk; published = lookup; kept = kept })
+  up_read disk lookup kept sectors later same_count same_history archived reads = up_moved disk service.publication lookup kept sectors later
+      (subst (λ (c : ℕ). Keeps c service.size stored later) (sym same_count)
+      (subst (λ (h : History). Keeps count service.size stored h) (sym same_history) up.keeps))
+      (subst (λ (h : History). IfSome service.publication (Publishes service.size stored h)) (sym same_history) up.publication) archived reads
 
   pub up_unwritten : (disk : D) (sectors : ℕ) (later : History) → sectors ≡ count → later ≡ history
       → IsUp sectors later stored (record service { disk = disk })

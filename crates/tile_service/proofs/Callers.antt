@@ -2,7 +2,8 @@
 use Rattle.std.proofs.Common.{◌≡◌, ◌≢◌, ℕ, ◌<◌, ◌+◌, ◌-◌, List, [], ◌∷◌, ◌++◌, length, Option, Some, None, Result, Ok, true, false, refl, sym, ◌∙◌}
 use Rattle.std.proofs.Common.{ap, subst, arith, append_assoc}
 use Rattle.std.proofs.lemmas.List.{append-nil}
-use Rattle.std.specs.Prelude.{IfSome, IfErr, OnOk}
+use Rattle.std.proofs.lemmas.List.Elements.{Contains-append_left, Contains-append_right}
+use Rattle.std.specs.Prelude.{Contains, IfSome, IfErr, OnOk}
 use Rattle.std.proofs.lemmas.Bool.{false≢true}
 use Rattle.sector_disk.specs.Disk.{History, seen}
 use Rattle.sector_disk.specs.Moments.{LeavesOnly}
@@ -14,15 +15,17 @@ use Rattle.serde_json.specs.Data.{Data}
 use Rattle.tile_service.specs.Machine.{ServiceState, OrMemory, Happening, Call, edit, begin, step, cancel, tile, look, metadata, read}
 use Rattle.tile_service.specs.Machine.{IfTold, AnswersEdit, AnswersBegin, AnswersStep, AnswersCancel, Happens, Runs}
 use Rattle.tile_service.specs.Runs.{IsDoubtful, happening_at, all_edits, way_of, Way, Progress, starts, progress_of, NoneInDoubt, Reaches}
-use Rattle.tile_service.specs.Runs.{IsTrusted, Takes, TakesAll, TakesRun}
+use Rattle.tile_service.specs.Runs.{begin_and_steps, IsTrusted, ChangesOnly, Takes, TakesEdit, TakesAll, TakesRun}
 use Rattle.tile_service.specs.Service.{PublicationView, ServiceView, Known, Publishes, IsUp, state_of, known_after}
 use Rattle.tile_service.specs.Service.{ShowsArchive, KeepsArchive, ReadsFrom, EventLeaves, shown_archive, stored_after}
-use Rattle.tile_service.specs.Stored.{Stored, Keeps, last_of, with_edit}
+use Rattle.tile_service.specs.Stored.{Stored, Keeps, last_of}
 use Rattle.tile_service.specs.declared.fault.ServiceFault.{ServiceFault}
 use Rattle.tile_service.specs.declared.fault.ServiceFault.TheVariants.{Device}
 use Rattle.tile_service.proofs.Archives.{archive_there, archive_is_shown, shown_is_seen}
 use Rattle.tile_service.proofs.Fits.{RunLeaves, IsHere, doubt_breaks, run_starts, run_goes_on, run_fits, reaches_on, published_within, sized_as}
 use Rattle.tile_service.proofs.Progress.{Within, IsSince, has_start, has_last, progress_on, progress_edits, way_seen, way_after}
+use Rattle.tile_service.proofs.Shown.{keeps_on}
+use Rattle.tile_service.proofs.Whole.{steps_more}
 use Rattle.tile_service.proofs.Runs.{no_known, clash, is_false, doubt_breaks_it, IsQuiet, broken_stays, broken_halts, kept_for}
 use Rattle.tile_service.proofs.Runs.{after_step, after_edit, broken_refuses, edit_version, step_version, happens_less, runs_less, runs_on, writes_nothing}
 
@@ -59,6 +62,7 @@ module _ {D : Type 0} (sectors : D → ℕ) (honest : D → Type 0) (history : D
     pub count : sectors now.disk ≡ sectors old.disk
     pub stays_honest : honest now.disk → honest old.disk
     pub doubt : (index : ℕ) → index < length events → IsDoubtful (happening_at events index) → now.broken ≡ true
+    pub keeps_archive : ¬ Contains events (step (Ok 0)) → KeepsArchive honest history old now
     pub up : (stored : Stored) → honest now.disk → IsUp (sectors old.disk) (history old.disk) stored old → now.broken ≡ false
         → IsUpAfter old events now stored
     pub leaves : (stored : Stored) → honest now.disk → IsUp (sectors old.disk) (history old.disk) stored old
@@ -88,6 +92,7 @@ module _ {D : Type 0} (sectors : D → ℕ) (honest : D → Type 0) (history : D
     count = refl;
     stays_honest = λ is_honest. is_honest;
     doubt = λ index lt. absurd (omega (arith, lt));
+    keeps_archive = λ none. record { generation = refl; snapshot_len = refl; archive_len = refl; shows = λ archive shown is_honest. shown };
     up = λ stored is_honest up unbroken. record { reached = stored; is_up = up; reaches = has_start stored; way_is = refl };
     leaves = λ stored is_honest up. run_starts (sectors old.disk) old.size stored (way_of stored.edits old.publication) (history old.disk)
         (within_of stored old.publication (up_since stored old up)) up.keeps;
@@ -121,7 +126,8 @@ module _ {D : Type 0} (sectors : D → ℕ) (honest : D → Type 0) (history : D
 
   -- what leaves all but what is read of the disk
   module _ (old new : ServiceView D) (same : new ≡ record old { disk = new.disk; published = new.published; kept = new.kept })
-      (count : sectors new.disk ≡ sectors old.disk) (stays : honest new.disk → honest old.disk) (unwritten : honest new.disk → history new.disk ≡ history old.disk) where
+      (count : sectors new.disk ≡ sectors old.disk) (stays : honest new.disk → honest old.disk)
+      (unwritten : honest new.disk → history new.disk ≡ history old.disk) where
     shows_same : KeepsArchive honest history old new
     shows_same = same_archive old new (same
         ∙ (λ i. record old { disk = new.disk; publication = publication i; published = new.published; kept = new.kept })) unwritten
@@ -213,55 +219,66 @@ module _ {D : Type 0} (sectors : D → ℕ) (honest : D → Type 0) (history : D
   }
 
   -- an edit, by what a call of the service with it says
-  pub edit_step : (old new : ServiceView D) (call : Call) (e : RecordedEdit) (outcome : Result ℕ ServiceFault)
+  pub edit_step : (failures : D → ℕ) (old new : ServiceView D) (call : Call) (e : RecordedEdit) (outcome : Result ℕ ServiceFault)
       → ((known : Known) → AnswersEdit (state_of known old) call e outcome (state_of known new))
-      → new.size ≡ old.size → sectors new.disk ≡ sectors old.disk → (honest new.disk → honest old.disk)
-      → IfErr outcome (λ fault. fault ≢ Device → new.disk ≡ old.disk)
-      → ((stored : Stored) → honest new.disk → IsUp (sectors old.disk) (history old.disk) stored old
-      → LeavesOnly (history old.disk) (history new.disk) (EventLeaves (sectors old.disk) old.size stored old.publication (edit call e outcome)))
-      → ((stored : Stored) → honest new.disk → IsUp (sectors old.disk) (history old.disk) stored old
-      → OnOk outcome (IsUp (sectors new.disk) (history new.disk) (with_edit stored e) new))
-      → ((stored : Stored) → honest new.disk → IsUp (sectors old.disk) (history old.disk) stored old
-      → IfErr outcome (λ fault. fault ≢ Device → IsUp (sectors new.disk) (history new.disk) stored new))
-      → KeepsArchive honest history old new
-      → Takes sectors honest history old (edit call e outcome) new
-  edit_step old new call e outcome machine size count stays kept moments acknowledged refuses shows = record {
+      → TakesEdit sectors honest history failures old call e outcome new → Takes sectors honest history old (edit call e outcome) new
+  edit_step failures old new call e outcome machine takes = record {
     machine = machine;
     archive = λ archive shown honest. tt;
-    keeps_archive = λ other. shows;
+    keeps_archive = λ other. takes.keeps_archive;
     doubt = doubt_breaks_it (Unit {0}) (state_of no_known old) (state_of no_known new) (edit call e outcome) (machine no_known);
-    size = size;
+    size = takes.size;
     version = edit_version (state_of no_known old) (state_of no_known new) call e outcome (machine no_known);
-    count = count;
-    stays_honest = stays;
+    count = takes.count;
+    stays_honest = takes.stays_honest;
     changes = tt;
-    untouched = λ broken is. broken_refuses (state_of no_known old) (state_of no_known new) call e outcome (machine no_known) kept broken;
-    any_moment = moments;
+    untouched = λ broken is. broken_refuses (state_of no_known old) (state_of no_known new) call e outcome (machine no_known) takes.unwritten broken;
+    any_moment = takes.any_moment;
     after = λ stored is_honest up not. after_edit (λ (s : Stored). IsUp (sectors new.disk) (history new.disk) s new) old.size stored old.publication
-        call e outcome (acknowledged stored is_honest up) (refuses stored is_honest up) not;
+        call e outcome (takes.acknowledged stored is_honest up) (takes.refused stored is_honest up) not;
   }
 
-  -- the beginning of a publication changes nothing on the disk
+  -- a call that may change the publication in memory, and nothing else
+  publication_step : (old new : ServiceView D) (happening : Happening)
+      → ((known : Known) → Happens (IsTrusted sectors honest history old new) (state_of known old) happening (state_of (known_after known old happening) new))
+      → new ≡ record old { publication = new.publication }
+      → ((stored : Stored) → IsUp (sectors old.disk) (history old.disk) stored old → IsUp (sectors new.disk) (history new.disk) stored new)
+      → ((archive : List ℕ) → ReadsFrom archive happening) → ¬ IsDoubtful happening → ChangesOnly sectors honest history happening old new
+      → ((stored : Stored) → stored_after old.size stored old.publication happening ≡ stored) → Takes sectors honest history old happening new
+  publication_step old new happening machine same up_still reads sure changes stays_stored = record {
+    machine = machine;
+    archive = λ archive shows honest. reads archive;
+    keeps_archive = λ other. same_archive old new (with_published old new same) (λ is_honest. ap (λ (s : ServiceView D). history s.disk) same);
+    doubt = λ is. absurd (sure is);
+    size = ap (λ (s : ServiceView D). s.size) same;
+    version = ap (λ (s : ServiceView D). s.version) same;
+    count = ap (λ (s : ServiceView D). sectors s.disk) same;
+    stays_honest = λ is_honest. subst (λ (d : D). honest d) (ap (λ (s : ServiceView D). s.disk) same) is_honest;
+    changes = changes;
+    untouched = λ broken is. ap (λ (s : ServiceView D). s.disk) same;
+    any_moment = λ stored is_honest up. writes_nothing (sectors old.disk) old.size stored old.publication happening
+        (history old.disk) (history new.disk) (ap (λ (s : ServiceView D). history s.disk) same) up.keeps;
+    after = λ stored is_honest up not. subst (λ (s : Stored). IsUp (sectors new.disk) (history new.disk) s new) (sym (stays_stored stored))
+        (up_still stored up);
+  }
+
+  -- the beginning of a publication is one
   pub begin_step : (old new : ServiceView D) (outcome : Result ℕ ServiceFault)
       → ((known : Known) → AnswersBegin (state_of known old) outcome (state_of (known_after known old (begin outcome)) new))
       → new ≡ record old { publication = new.publication }
       → ((stored : Stored) → IsUp (sectors old.disk) (history old.disk) stored old → IsUp (sectors new.disk) (history new.disk) stored new)
       → Takes sectors honest history old (begin outcome) new
-  begin_step old new outcome machine same up_still = record {
-    machine = machine;
-    archive = λ archive shows honest. tt;
-    keeps_archive = λ other. same_archive old new (with_published old new same) (λ is_honest. ap (λ (s : ServiceView D). history s.disk) same);
-    doubt = λ is. absurd is;
-    size = ap (λ (s : ServiceView D). s.size) same;
-    version = ap (λ (s : ServiceView D). s.version) same;
-    count = ap (λ (s : ServiceView D). sectors s.disk) same;
-    stays_honest = λ is_honest. subst (λ (d : D). honest d) (ap (λ (s : ServiceView D). s.disk) same) is_honest;
-    changes = tt;
-    untouched = λ broken is. ap (λ (s : ServiceView D). s.disk) same;
-    any_moment = λ stored is_honest up. writes_nothing (sectors old.disk) old.size stored old.publication (begin outcome)
-        (history old.disk) (history new.disk) (ap (λ (s : ServiceView D). history s.disk) same) up.keeps;
-    after = λ stored is_honest up not. up_still stored up;
-  }
+  begin_step old new outcome machine same up_still =
+      publication_step old new (begin outcome) machine same up_still (λ archive. tt) (λ is. is) tt (λ stored. refl)
+
+  -- and so is its cancellation
+  pub cancel_step : (old new : ServiceView D) (outcome : Result (Unit {0}) ServiceFault)
+      → ((known : Known) → AnswersCancel (state_of known old) outcome (state_of known new))
+      → new ≡ record old { publication = new.publication }
+      → ((stored : Stored) → IsUp (sectors old.disk) (history old.disk) stored old → IsUp (sectors new.disk) (history new.disk) stored new)
+      → Takes sectors honest history old (cancel outcome) new
+  cancel_step old new outcome machine same up_still =
+      publication_step old new (cancel outcome) machine same up_still (λ archive. tt) (λ is. is) tt (λ stored. refl)
 
   -- what a step of it does
   pub step_step : (old new : ServiceView D) (outcome : Result ℕ ServiceFault)
@@ -290,28 +307,6 @@ module _ {D : Type 0} (sectors : D → ℕ) (honest : D → Type 0) (history : D
     after = λ stored is_honest up not. after_step (λ (s : Stored). IsUp (sectors new.disk) (history new.disk) s new) old.size stored old.publication
         outcome (up_after stored is_honest up)
         (kept_for (λ (s : ServiceView D). IsUp (sectors s.disk) (history s.disk) stored s) old new outcome same up) not;
-  }
-
-  -- nor does its cancellation
-  pub cancel_step : (old new : ServiceView D) (outcome : Result (Unit {0}) ServiceFault)
-      → ((known : Known) → AnswersCancel (state_of known old) outcome (state_of known new))
-      → new ≡ record old { publication = new.publication }
-      → ((stored : Stored) → IsUp (sectors old.disk) (history old.disk) stored old → IsUp (sectors new.disk) (history new.disk) stored new)
-      → Takes sectors honest history old (cancel outcome) new
-  cancel_step old new outcome machine same up_still = record {
-    machine = machine;
-    archive = λ archive shows honest. tt;
-    keeps_archive = λ other. same_archive old new (with_published old new same) (λ is_honest. ap (λ (s : ServiceView D). history s.disk) same);
-    doubt = λ is. absurd is;
-    size = ap (λ (s : ServiceView D). s.size) same;
-    version = ap (λ (s : ServiceView D). s.version) same;
-    count = ap (λ (s : ServiceView D). sectors s.disk) same;
-    stays_honest = λ is_honest. subst (λ (d : D). honest d) (ap (λ (s : ServiceView D). s.disk) same) is_honest;
-    changes = tt;
-    untouched = λ broken is. ap (λ (s : ServiceView D). s.disk) same;
-    any_moment = λ stored is_honest up. writes_nothing (sectors old.disk) old.size stored old.publication (cancel outcome)
-        (history old.disk) (history new.disk) (ap (λ (s : ServiceView D). history s.disk) same) up.keeps;
-    after = λ stored is_honest up not. up_still stored up;
   }
 
   module _ (now new : ServiceView D) (event : Happening) (goes : Takes sectors honest history now event new) where
@@ -437,6 +432,9 @@ module _ {D : Type 0} (sectors : D → ℕ) (honest : D → Type 0) (history : D
       count = goes.count ∙ so.count;
       stays_honest = λ is_honest. so.stays_honest (goes.stays_honest is_honest);
       doubt = doubt_breaks events event now.broken new.broken goes.doubt (λ broken. (broken_on now new event goes broken).0) so.doubt;
+      keeps_archive = λ none. keeps_on honest history old now new
+          (so.keeps_archive (λ has. none (Contains-append_left events (event ∷ []) (step (Ok 0)) has))) goes.stays_honest
+          (goes.keeps_archive (λ is. none (Contains-append_right events (event ∷ []) (step (Ok 0)) (0, omega arith, is))));
       up = up_on;
       leaves = leaves_on;
     }
@@ -456,6 +454,19 @@ module _ {D : Type 0} (sectors : D → ℕ) (honest : D → Type 0) (history : D
   events_on old now new [] event so goes = (new, subst (λ (s : ServiceView D). Takes sectors honest history s event new) so goes, refl)
   events_on old now new (first ∷ events) event so goes = (so.0, so.1, events_on so.0 now new events event so.2 goes)
 
+  -- the beginning and the steps of a publication, and one step more
+  pub one_step_more : (first old new : ServiceView D) (before : List (Result ℕ ServiceFault)) (last outcome : Result ℕ ServiceFault)
+      → HasRun first (begin_and_steps (before ++ last ∷ [])) old → TakesAll sectors honest history first (begin_and_steps (before ++ last ∷ [])) old
+      → Takes sectors honest history old (step outcome) new
+      → HasRun first (begin_and_steps ((before ++ last ∷ []) ++ outcome ∷ [])) new
+      × TakesAll sectors honest history first (begin_and_steps ((before ++ last ∷ []) ++ outcome ∷ [])) new
+  one_step_more first old new before last outcome run taken goes = (
+    steps_more (λ (l : List Happening). HasRun first l new) before last outcome
+        (run_on first old new (begin_and_steps (before ++ last ∷ [])) (step outcome) run goes),
+    steps_more (λ (l : List Happening). TakesAll sectors honest history first l new) before last outcome
+        (events_on first old new (begin_and_steps (before ++ last ∷ [])) (step outcome) taken goes),
+  )
+
   -- What a run says of itself.
   pub takes_run : (old : ServiceView D) (events : List Happening) (now : ServiceView D) → HasRun old events now
       → TakesRun sectors honest history old events now
@@ -464,4 +475,5 @@ module _ {D : Type 0} (sectors : D → ℕ) (honest : D → Type 0) (history : D
     any_moment = λ stored is_honest up. run_fits (sectors old.disk) old.size stored (way_of stored.edits old.publication) events
         (history old.disk) (history now.disk) (so.leaves stored is_honest up);
     after = λ stored is_honest up unbroken. let then_up = so.up stored is_honest up unbroken in (then_up.reached, then_up.is_up, then_up.reaches);
+    keeps_archive = so.keeps_archive;
   }

@@ -1,6 +1,6 @@
 -- What an edit leaves of what a disk holds, and the service that it leaves.
 use Rattle.std.specs.Prelude.{Option, None, Some, IfSome, Result, Err}
-use Rattle.std.proofs.Common.{◌≡◌, ◌⊎◌, inl, inr, ⊎_elim, ℕ, suc, List, [], ◌∷◌, ◌++◌, sym, ◌∙◌, ap, subst, arith, length-append}
+use Rattle.std.proofs.Common.{◌≡◌, ◌≢◌, ◌⊎◌, inl, inr, ⊎_elim, ℕ, suc, List, [], ◌∷◌, ◌++◌, refl, sym, ◌∙◌, ap, subst, arith, length-append}
 use Rattle.std.proofs.lemmas.List.{length-map}
 use Rattle.sector_disk.specs.Disk.{Image, History, seen, moment}
 use Rattle.sector_disk.specs.Moments.{LeavesOnly}
@@ -19,10 +19,12 @@ use Rattle.published_tiles.specs.Published.{PublishedView, ArePublished}
 use Rattle.published_tiles.specs.declared.place.ArchivePlace.{ArchivePlace}
 use Rattle.tile_service.specs.After.{made}
 use Rattle.tile_service.specs.Machine.{Call, edit}
+use Rattle.tile_service.specs.Runs.{TakesEdit}
 use Rattle.tile_service.specs.Service.{PublicationView, ServiceView, count_at, Publishes, IsUp, MayStand, EventLeaves, told_as, archive_of}
 use Rattle.tile_service.specs.Stored.{Stored, Holds, Keeps, CanRecord, record_for, with_edit, map_of, stored_records, journal_ring, journal_start}
 use Rattle.tile_service.specs.Tiles.{archive_place}
 use Rattle.tile_service.specs.declared.fault.ServiceFault.{ServiceFault}
+use Rattle.tile_service.specs.declared.fault.ServiceFault.TheVariants.{Device}
 use Rattle.tile_service.proofs.Appends.{append_leaves, append_made, records_with}
 use Rattle.tile_service.proofs.Earlier.{were_one}
 use Rattle.tile_service.proofs.Installed.{map_stays, records_stay, published_stays}
@@ -46,6 +48,27 @@ module _ (n : ℕ) (stored : Stored) (e : RecordedEdit) (place used : ℕ) (old 
       → IfSome publication (Publishes n (with_edit stored e) new)
   all_on None was = tt
   all_on (Some p) was = publishes_on p was
+
+-- A call that refuses an edit, for a fault that isn't the disk's, changes nothing.
+pub refuses_edit : {D : Type 0} (sectors : D → ℕ) (honest : D → Type 0) (history : D → History) (failures : D → ℕ) (old new : ServiceView D)
+    (call : Call) (e : RecordedEdit) (fault : ServiceFault) → new ≡ old → fault ≢ Device
+    → TakesEdit sectors honest history failures old call e (Err fault) new
+refuses_edit sectors honest history failures old new call e fault same other =
+    subst (TakesEdit sectors honest history failures old call e (Err fault)) (sym same) (record {
+      size = refl;
+      publication = tt;
+      count = refl;
+      stays_honest = λ is_honest. is_honest;
+      succeeded = tt;
+      failed = inr (other, refl);
+      unwritten = λ not. refl;
+      unchanged = λ not. refl;
+      keeps_archive = record { generation = refl; snapshot_len = refl; archive_len = refl; shows = λ archive shown is_honest. shown };
+      any_moment = λ stored is_honest up. started (history old.disk) _ (λ image may. inl (up.keeps image may));
+      acknowledged = λ stored is_honest up. tt;
+      refused = λ stored is_honest up not. up;
+      steps = λ is_honest. tt;
+    })
 
 module _ {D : Type 0} (sectors : D → ℕ) (history : D → History) (stored : Stored) (service : ServiceView D)
     (ring : ring_of service.journal ≡ journal_ring service.size) (up : IsUp (sectors service.disk) (history service.disk) stored service) where
@@ -81,12 +104,6 @@ module _ {D : Type 0} (sectors : D → ℕ) (history : D → History) (stored : 
     uses = up.used_is;
     counts = omega (arith, up.last_is, up.edits_are, length-map stored.since record_for);
   }
-
-  -- Where the disk isn't touched, a crash leaves what was stored.
-  pub same_leaves : (call : Call) (e : RecordedEdit) (outcome : Result ℕ ServiceFault) (new : D) → new ≡ service.disk
-      → LeavesOnly (history service.disk) (history new) (leaves_by call e outcome)
-  same_leaves call e outcome new same = subst (λ (d : D). LeavesOnly (history service.disk) (history d) (leaves_by call e outcome)) (sym same)
-      (started (history service.disk) _ (λ image may. inl (up.keeps image may)))
 
   as_before : (image : Image) → AsBefore (ring_of service.journal) service.journal.place service.journal.used (history service.disk) image
       → AsBefore (journal_ring service.size) service.journal.place service.journal.used (history service.disk) image
@@ -126,7 +143,8 @@ module _ {D : Type 0} (sectors : D → ℕ) (history : D → History) (stored : 
     pub refused_any_moment : (call : Call) (fault : JournalFault) (told : ServiceFault) → told ≡ told_as fault
         → (fault ≡ journals.Device) ⊎ (new ≡ service.disk) → OneMore new r → LeavesOnly (history service.disk) (history new) (leaves_by call e (Err told))
     refused_any_moment call fault told is (inl device) leaves = append_any_moment call (Err told) (is ∙ ap told_as device) leaves
-    refused_any_moment call fault told is (inr same) leaves = same_leaves call e (Err told) new same
+    refused_any_moment call fault told is (inr same) leaves = subst (λ (d : D). LeavesOnly (history service.disk) (history d) (leaves_by call e (Err told)))
+        (sym same) (started (history service.disk) _ (λ image may. inl (up.keeps image may)))
 
     -- Where the journal has the edit, every image that is left now holds the same with the edit.
     keeps_edit : (journal : Journal) → ring_of journal ≡ ring_of service.journal
@@ -157,32 +175,33 @@ module _ {D : Type 0} (sectors : D → ℕ) (history : D → History) (stored : 
         → after.broken ≡ service.broken
         → ReadsAsBefore (ring_of service.journal) service.journal.place service.journal.used (seen (history service.disk)) (seen (history new))
         → IsUp (sectors new) (history new) (with_edit stored e) after
-    up_with_edit after disk count size same is features since now_is right version generation snapshot_len archive_len publication cached broken reads = record {
-      keeps = subst (λ (c : ℕ). Keeps c after.size (with_edit stored e) (history new)) (sym count)
-          (subst (λ (n : ℕ). Keeps (sectors service.disk) n (with_edit stored e) (history new)) (sym size) (keeps_edit after.journal same.0 same.1 is));
-      unbroken = broken ∙ up.unbroken;
-      version_is = version ∙ up.version_is;
-      generation_is = generation ∙ up.generation_is;
-      snapshot_len_is = snapshot_len ∙ up.snapshot_len_is;
-      archive_len_is = archive_len ∙ up.archive_len_is;
-      map_is = map_is;
-      place_is = ap (λ (s : Start). s.place) same.1 ∙ up.place_is;
-      edits_are = edits;
-      used_is = now.uses;
-      last_is = omega (arith, now.counts, edits, length-map (stored.since ++ e ∷ []) record_for);
-      publication = subst (λ (k : ℕ). IfSome after.publication (Publishes k (with_edit stored e) (history new))) (sym size)
-          (subst (λ (o : Option PublicationView). IfSome o (Publishes service.size (with_edit stored e) (history new))) (sym publication)
-          (all_on service.size stored e service.journal.place service.journal.used (history service.disk) (history new)
-          (subst (λ (r : Ring). ReadsAsBefore r service.journal.place service.journal.used (seen (history service.disk)) (seen (history new))) ring reads)
-          service.publication up.publication));
-      were = were_one service.features service.touched service.journal.last after.features after.touched after.journal.last since now_is stored.edits
-          stored.snapshot_map stored.since e
-          (omega (arith, now.counts, edits, length-map (stored.since ++ e ∷ []) record_for, length-append stored.since (e ∷ []))) map_is up.were;
-      archived = subst (λ (t : PublishedView). ArePublished t (archive_of after) stored.archive) (sym cached)
-          (subst (λ (p : ArchivePlace). ArePublished service.published p stored.archive)
-          (sym (λ i. archive_place (size i) (generation i) (snapshot_len i) (archive_len i))) up.archived);
-      reads = right up.reads;
-    }
+    up_with_edit after disk count size same is features since now_is right version generation snapshot_len archive_len publication cached broken
+        reads = record {
+          keeps = subst (λ (c : ℕ). Keeps c after.size (with_edit stored e) (history new)) (sym count)
+              (subst (λ (n : ℕ). Keeps (sectors service.disk) n (with_edit stored e) (history new)) (sym size) (keeps_edit after.journal same.0 same.1 is));
+          unbroken = broken ∙ up.unbroken;
+          version_is = version ∙ up.version_is;
+          generation_is = generation ∙ up.generation_is;
+          snapshot_len_is = snapshot_len ∙ up.snapshot_len_is;
+          archive_len_is = archive_len ∙ up.archive_len_is;
+          map_is = map_is;
+          place_is = ap (λ (s : Start). s.place) same.1 ∙ up.place_is;
+          edits_are = edits;
+          used_is = now.uses;
+          last_is = omega (arith, now.counts, edits, length-map (stored.since ++ e ∷ []) record_for);
+          publication = subst (λ (k : ℕ). IfSome after.publication (Publishes k (with_edit stored e) (history new))) (sym size)
+              (subst (λ (o : Option PublicationView). IfSome o (Publishes service.size (with_edit stored e) (history new))) (sym publication)
+              (all_on service.size stored e service.journal.place service.journal.used (history service.disk) (history new)
+              (subst (λ (r : Ring). ReadsAsBefore r service.journal.place service.journal.used (seen (history service.disk)) (seen (history new))) ring reads)
+              service.publication up.publication));
+          were = were_one service.features service.touched service.journal.last after.features after.touched after.journal.last since now_is stored.edits
+              stored.snapshot_map stored.since e
+              (omega (arith, now.counts, edits, length-map (stored.since ++ e ∷ []) record_for, length-append stored.since (e ∷ []))) map_is up.were;
+          archived = subst (λ (t : PublishedView). ArePublished t (archive_of after) stored.archive) (sym cached)
+              (subst (λ (p : ArchivePlace). ArePublished service.published p stored.archive)
+              (sym (λ i. archive_place (size i) (generation i) (snapshot_len i) (archive_len i))) up.archived);
+          reads = right up.reads;
+        }
       where
         map_is : after.features ≡ map_of (with_edit stored e)
         map_is = features ∙ ap (λ (m : FeatureMap). made m e) up.map_is ∙ sym (after_one stored.snapshot_map stored.since e)

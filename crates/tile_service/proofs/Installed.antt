@@ -247,23 +247,24 @@ module _ (n : ℕ) (stored : Stored) (taken : ℕ) (archive : List ℕ) (within 
       → WereMaps service.features service.touched service.journal.last (stored.edits + taken) (map_at stored taken) (drop taken stored.since)
       → ArePublished service.published (archive_of service) archive → AreReadRight service.features service.touched service.journal.last service.kept
       → IsUp count h (published n stored taken archive) service
-  up_published count h service size keeps unbroken version generation features place edits used last snapshot_ archive_ publication were archived reads = record {
-    keeps = subst (λ (k : ℕ). Keeps count k (published n stored taken archive) h) (sym size) keeps;
-    unbroken = unbroken;
-    version_is = version;
-    generation_is = generation;
-    map_is = features ∙ sym same_map;
-    place_is = place;
-    edits_are = edits;
-    used_is = left ∙ ap places_of (drop-map record_for taken stored.since);
-    last_is = last ∙ sym same_last;
-    snapshot_len_is = snapshot_;
-    archive_len_is = archive_;
-    publication = subst (λ (o : Option PublicationView). IfSome o (Publishes service.size (published n stored taken archive) h)) (sym publication) tt;
-    were = were;
-    archived = archived;
-    reads = reads;
-  }
+  up_published count h service size keeps unbroken version generation features place edits used last snapshot_ archive_ publication were archived
+      reads = record {
+        keeps = subst (λ (k : ℕ). Keeps count k (published n stored taken archive) h) (sym size) keeps;
+        unbroken = unbroken;
+        version_is = version;
+        generation_is = generation;
+        map_is = features ∙ sym same_map;
+        place_is = place;
+        edits_are = edits;
+        used_is = left ∙ ap places_of (drop-map record_for taken stored.since);
+        last_is = last ∙ sym same_last;
+        snapshot_len_is = snapshot_;
+        archive_len_is = archive_;
+        publication = subst (λ (o : Option PublicationView). IfSome o (Publishes service.size (published n stored taken archive) h)) (sym publication) tt;
+        were = were;
+        archived = archived;
+        reads = reads;
+      }
     where
       left : service.journal.used ≡ places_of (drop taken (stored_records stored))
       left = omega (arith, used, places_split (stored_records stored) taken)

@@ -38,6 +38,7 @@ use Rattle.tile_service.specs.Tiles.{WereMaps}
 use Rattle.tile_service.specs.declared.fault.ServiceFault.{ServiceFault}
 use Rattle.tile_service.specs.declared.fault.ServiceFault.TheVariants.{Device}
 use Rattle.tile_service.specs.declared.publishing.TheConstants.{STEP_SECTORS}
+use Rattle.tile_service.proofs.Archives.{up_moved}
 use Rattle.tile_service.proofs.Earlier.{were_published}
 use Rattle.tile_service.proofs.Installed.{all_taken, install_leaves, installed_keeps, up_published}
 use Rattle.tile_service.proofs.Publications.{begins, all_written}
@@ -57,23 +58,8 @@ metadata_is_text m text (d, (ls, are, is), same, reads) = (IsUtf8-string_bytes t
 module _ {D : Type 0} (sectors : ℕ) (h : History) (stored : Stored) (service : ServiceView D) (up : IsUp sectors h stored service) where
   -- A service with another publication continues from what is stored, if the publication is one of that.
   pub up_with : (p : Option PublicationView) → IfSome p (Publishes service.size stored h) → IsUp sectors h stored (record service { publication = p })
-  up_with p publishes = record {
-    keeps = up.keeps;
-    unbroken = up.unbroken;
-    version_is = up.version_is;
-    generation_is = up.generation_is;
-    snapshot_len_is = up.snapshot_len_is;
-    archive_len_is = up.archive_len_is;
-    map_is = up.map_is;
-    place_is = up.place_is;
-    edits_are = up.edits_are;
-    used_is = up.used_is;
-    last_is = up.last_is;
-    publication = publishes;
-    were = up.were;
-    archived = up.archived;
-    reads = up.reads;
-  }
+  up_with p publishes = up_moved sectors h stored service up service.disk p service.published service.kept sectors h up.keeps publishes
+      up.archived up.reads
 
   module _ (p : PublicationView) (is_map : IsMap service.features) (is_archive : IsArchiveOfMap service.features p.content.archive)
       (text : p.content.snapshot ≡ snapshot service.features) (area : sectors_taken p.content ≤ area_sectors service.size)
@@ -233,35 +219,21 @@ pub up_further : {D : Type 0} (sectors count : ℕ) (old new : History) (stored 
     → (HasFirst service.size generation p.content.snapshot p.content.archive p.written (seen old)
     → HasFirst service.size generation p.content.snapshot p.content.archive to (seen new))
     → IsUp count new stored (with_publication (record service { disk = disk }) (record p { written = to }))
-up_further sectors count old new stored service p generation to disk up same next keeps more = record {
-  keeps = subst (λ (k : ℕ). Keeps k service.size stored new) (sym same) keeps;
-  unbroken = up.unbroken;
-  version_is = up.version_is;
-  generation_is = up.generation_is;
-  snapshot_len_is = up.snapshot_len_is;
-  archive_len_is = up.archive_len_is;
-  map_is = up.map_is;
-  place_is = up.place_is;
-  edits_are = up.edits_are;
-  used_is = up.used_is;
-  last_is = up.last_is;
-  publication = record {
-    later = was.later;
-    under_way = record {
-      can = was.under_way.can;
-      first = subst (λ (g : ℕ). HasFirst service.size g texts p.content.archive to (seen new)) is
-          (subst (λ (t : List ℕ). HasFirst service.size generation t p.content.archive to (seen new)) was.snapshot_is
-          (more (subst (λ (t : List ℕ). HasFirst service.size generation t p.content.archive p.written (seen old)) (sym was.snapshot_is)
-          (subst (λ (g : ℕ). HasFirst service.size g texts p.content.archive p.written (seen old)) (sym is) was.under_way.first))));
-    };
-    snapshot_is = was.snapshot_is;
-    place_is = was.place_is;
-    places_are = was.places_are;
-  };
-  were = up.were;
-  archived = up.archived;
-  reads = up.reads;
-}
+up_further sectors count old new stored service p generation to disk up same next keeps more =
+    up_moved sectors old stored (with_publication service p) up disk (Some (record p { written = to })) service.published service.kept count new
+    (subst (λ (k : ℕ). Keeps k service.size stored new) (sym same) keeps) (record {
+      later = was.later;
+      under_way = record {
+        can = was.under_way.can;
+        first = subst (λ (g : ℕ). HasFirst service.size g texts p.content.archive to (seen new)) is
+            (subst (λ (t : List ℕ). HasFirst service.size generation t p.content.archive to (seen new)) was.snapshot_is
+            (more (subst (λ (t : List ℕ). HasFirst service.size generation t p.content.archive p.written (seen old)) (sym was.snapshot_is)
+            (subst (λ (g : ℕ). HasFirst service.size g texts p.content.archive p.written (seen old)) (sym is) was.under_way.first))));
+      };
+      snapshot_is = was.snapshot_is;
+      place_is = was.place_is;
+      places_are = was.places_are;
+    }) up.archived up.reads
   where
     was : Publishes service.size stored old p
     was = up.publication

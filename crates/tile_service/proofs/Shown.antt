@@ -8,9 +8,12 @@ use Rattle.sector_bytes.specs.Bytes.{sector_piece}
 use Rattle.sector_bytes.specs.Source.{AreItsBytes}
 use Rattle.generations.specs.Areas.{journal_sectors, area_sectors, area_start, sectors_of}
 use Rattle.edit_journal.specs.Appends.{IsFree, ReadsAsBefore}
+use Rattle.edit_journal.specs.Ring.{Ring}
+use Rattle.published_tiles.specs.declared.place.ArchivePlace.{ArchivePlace}
 use Rattle.tile_service.specs.Publishing.{IsBeside}
-use Rattle.tile_service.specs.Service.{PublicationView, ServiceView, KeepsArchive}
+use Rattle.tile_service.specs.Service.{PublicationView, ServiceView, KeepsArchive, archive_of}
 use Rattle.tile_service.specs.Stored.{journal_ring}
+use Rattle.tile_service.specs.Tiles.{archive_place}
 use Rattle.tile_service.specs.declared.fault.ServiceFault.{ServiceFault}
 use Rattle.tile_service.proofs.Publishes.{no_piece_behind, areas_apart}
 
@@ -75,6 +78,26 @@ module _ {D : Type 0} (honest : D → Type 0) (history : D → History) where
             (seen (history inside.disk)) (seen (history disk))
             (subst (λ (g : ℕ). IsBeside inside.size g (seen (history inside.disk)) (seen (history disk))) next_is (beside is_honest)) shown;
       })
+
+  -- and so does an append to the journal, done or failed
+  pub append_keeps : (old new : ServiceView D) → new.size ≡ old.size → new.generation ≡ old.generation → new.snapshot_len ≡ old.snapshot_len
+      → new.archive_len ≡ old.archive_len → sectors_of old.snapshot_len + sectors_of old.archive_len ≤ area_sectors old.size
+      → (ring : Ring) → ring ≡ journal_ring old.size → (place used : ℕ) (disk : D) → new.disk ≡ disk
+      → (honest disk → ReadsAsBefore ring place used (seen (history old.disk)) (seen (history disk))) → KeepsArchive honest history old new
+  append_keeps old new size generation snapshot_len archive_len fits ring ring_is place used disk disk_is reads = record {
+    generation = generation;
+    snapshot_len = snapshot_len;
+    archive_len = archive_len;
+    shows = λ archive shown is_honest.
+        subst (λ (p : ArchivePlace). AreItsBytes p.first p.len archive (seen (history new.disk))) (sym same_place)
+        (append_shown old.size old.generation old.snapshot_len old.archive_len fits archive (seen (history old.disk)) (seen (history new.disk)) place used
+        (subst (λ (d : D). ReadsAsBefore (journal_ring old.size) place used (seen (history old.disk)) (seen (history d))) (sym disk_is)
+        (subst (λ (r : Ring). ReadsAsBefore r place used (seen (history old.disk)) (seen (history disk))) ring_is
+        (reads (subst honest disk_is is_honest)))) shown);
+  }
+    where
+      same_place : archive_of new ≡ archive_of old
+      same_place = λ i. archive_place (size i) (generation i) (snapshot_len i) (archive_len i)
 
   -- what stays shown from one service to another, and to a third
   pub keeps_on : (old middle new : ServiceView D) → KeepsArchive honest history old middle → (honest new.disk → honest middle.disk)

@@ -1,8 +1,8 @@
 -- The limits of edits, and the lengths of their texts and of those of a map.
-use Rattle.std.proofs.Common.{◌≡◌, inl, inr, ⊎_elim, ℕ, Bool, false, cond, ◌<◌, ◌≤◌, ◌+◌, ◌-◌, ◌*◌, ◌^◌, List, [], ◌∷◌, length, take, drop}
+use Rattle.std.proofs.Common.{◌≡◌, inl, inr, ⊎_elim, ℕ, Bool, false, true, cond, ◌<◌, ◌≤◌, ◌+◌, ◌-◌, ◌*◌, ◌^◌, List, [], ◌∷◌, length, take, drop}
 use Rattle.std.proofs.Common.{sym, refl, ◌∙◌, ap, subst, arith, lit≤, Some}
 use Rattle.std.proofs.Common.{append-nil, length-append}
-use Rattle.std.specs.Prelude.{IsSome}
+use Rattle.std.specs.Prelude.{Option, None, IsSome, IfSome, option_map}
 use Rattle.std.specs.List.{All}
 use Rattle.std.specs.Ordering.{nat_cmp}
 use Rattle.std.specs.BTreeMap.{is_at}
@@ -36,18 +36,38 @@ use Rattle.tile_service.specs.Machine.{ServiceState, single, batched, recorded_i
 at_other : (id other : ℕ) → (id ≡ other → ⊥) → is_at (nat_cmp id) other ≡ false
 at_other id other apart = grind (arith, nat_tests)
 
-looked_up : (m : FeatureMap) (id : ℕ) → All (λ e. IsChange (put e.0 e.1)) m → IsSome (lookup (is_at (nat_cmp id)) m) → NumberFits id
-looked_up [] id edits is = absurd (false≢true is)
-looked_up (e ∷ m) id edits is = ⊎_elim
-    (λ (same : id ≡ e.0). subst NumberFits (sym same) (All-head (λ e. IsChange (put e.0 e.1)) e m edits).0.number)
-    (λ (apart : id ≡ e.0 → ⊥). looked_up m id (All-tail (λ e. IsChange (put e.0 e.1)) e m edits)
-    (subst (λ (b : Bool). IsSome (cond b (Some e.1) (lookup (is_at (nat_cmp id)) m))) (at_other id e.0 apart) is))
+at_same : (id other : ℕ) → id ≡ other → is_at (nat_cmp id) other ≡ true
+at_same id other same = grind (arith, nat_tests)
+
+looked_up : (m : FeatureMap) (id : ℕ) → All (λ e. IsChange (put e.0 e.1)) m → IfSome (lookup (is_at (nat_cmp id)) m) (IsAllowed id)
+looked_up [] id edits = tt
+looked_up (e ∷ m) id edits =
+    let holds : Bool → Type 0 = λ b. IfSome (cond b (Some e.1) (lookup (is_at (nat_cmp id)) m)) (IsAllowed id) in
+    ⊎_elim
+    (λ (same : id ≡ e.0). subst holds (sym (at_same id e.0 same))
+    (subst (λ (n : ℕ). IsAllowed n e.1) (sym same) (All-head (λ e. IsChange (put e.0 e.1)) e m edits).0))
+    (λ (apart : id ≡ e.0 → ⊥). subst holds (sym (at_other id e.0 apart))
+    (looked_up m id (All-tail (λ e. IsChange (put e.0 e.1)) e m edits)))
     (cases_eq id e.0)
+
+-- the feature of an id is within the limits
+pub allowed_there : (m : FeatureMap) (id : ℕ) → IsMap m → IfSome (feature_at m id) (IsAllowed id)
+unfolding feature_at
+allowed_there m id is_map = looked_up m id is_map.edits
+
+fits_of : (id : ℕ) (f : Option FeatureData) → IfSome f (IsAllowed id) → IsSome f → NumberFits id
+fits_of id None allowed is = absurd (false≢true is)
+fits_of id (Some f) allowed is = allowed.number
 
 -- what has a feature is a number of one
 pub number_there : (m : FeatureMap) (id : ℕ) → IsMap m → IsSome (feature_at m id) → NumberFits id
-unfolding feature_at
-number_there m id is_map is = looked_up m id is_map.edits is
+number_there m id is_map = fits_of id (feature_at m id) (allowed_there m id is_map)
+
+-- what holds of the value of each item holds of the item
+pub of_value : {A B : Type 0} (value : A → B) (Holds : B → Type 0) (item : Option A) → IfSome (option_map value item) Holds
+    → IfSome item (λ a. Holds (value a))
+of_value value Holds None holds = tt
+of_value value Holds (Some a) holds = holds
 
 -- ---- the limits of edits
 

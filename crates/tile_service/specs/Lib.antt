@@ -9,3 +9,4 @@ pub mod Runs
 pub mod Service
 pub mod Stored
 pub mod Tiles
+pub mod Inside

@@ -1,18 +1,19 @@
 -- What a disk may hold during a run of calls.
 use Rattle.std.specs.Prelude.{◌≡◌, ◌⊎◌, ◌<◌, ◌≤◌, ◌+◌, ◌-◌, ℕ, zero, suc, true, false, List, [], ◌∷◌, ◌++◌, length, take, drop, get_or}
-use Rattle.std.specs.Prelude.{map, Option, Some, None, option_map, Result, Ok, Err}
+use Rattle.std.specs.Prelude.{◌≢◌, map, Contains, Option, Some, None, option_map, Result, Ok, Err, OnOk, IfErr}
 use Rattle.sector_disk.specs.Disk.{History, Image, MayLeave, moment, LeftSince}
 use Rattle.sector_disk.specs.Moments.{Follows, LeavesOnly}
+use Rattle.edit_journal.specs.Appends.{TakesSteps}
 use Rattle.edit_text.specs.Recorded.{RecordedEdit}
 use Rattle.tile_service.specs.After.{after}
 use Rattle.tile_service.specs.declared.fault.ServiceFault.{ServiceFault}
 use Rattle.tile_service.specs.declared.fault.ServiceFault.TheVariants.{Device}
 use Rattle.tile_service.specs.declared.publishing.TheConstants.{STEP_SECTORS}
 use Rattle.tile_service.specs.declared.publishing_whole.Published.{Published}
-use Rattle.tile_service.specs.Machine.{no_memory, Happening, Call, edit, begin, step, cancel, tile, look, metadata, read, Happens, Runs}
+use Rattle.tile_service.specs.Machine.{no_memory, Happening, Call, edit, begin, step, cancel, tile, look, metadata, read, places_for, Happens, Runs}
 use Rattle.tile_service.specs.Service.{PublicationView, ServiceView, Known, IsUp, state_of, known_after, left_of}
-use Rattle.tile_service.specs.Service.{ShowsArchive, KeepsArchive, ReadsFrom, EventLeaves, stored_after}
-use Rattle.tile_service.specs.Stored.{Stored, Holds}
+use Rattle.tile_service.specs.Service.{ShowsArchive, KeepsArchive, ReadsFrom, EventLeaves, CountsDevice, stored_after}
+use Rattle.tile_service.specs.Stored.{Stored, Holds, with_edit}
 
 -- ---- the edits of a run
 
@@ -230,6 +231,33 @@ module _ {D : Type 0} (sectors : D → ℕ) (honest : D → Type 0) (history : D
     pub after : (stored : Stored) → honest new.disk → IsUp (sectors old.disk) (history old.disk) stored old → ¬ IsDoubtful happening
         → IsUp (sectors new.disk) (history new.disk) (stored_after old.size stored old.publication happening) new
 
+  -- What a call that makes an edit does to the service, whether the edit is made or refused.
+  pub record TakesEdit (failures : D → ℕ) (old : ServiceView D) (call : Call) (e : RecordedEdit) (outcome : Result ℕ ServiceFault)
+      (new : ServiceView D) : Type 0 where
+    pub size : new.size ≡ old.size
+    -- a publication under way continues after an edit
+    pub publication : OnOk outcome (new.publication ≡ old.publication)
+    pub count : sectors new.disk ≡ sectors old.disk
+    pub stays_honest : honest new.disk → honest old.disk
+    -- no call of the disk has failed, unless the fault is Device
+    pub succeeded : OnOk outcome (failures new.disk ≡ failures old.disk)
+    pub failed : IfErr outcome (λ fault. CountsDevice fault (failures old.disk) (failures new.disk))
+    -- any other fault writes nothing and changes nothing
+    pub unwritten : IfErr outcome (λ fault. fault ≢ Device → new.disk ≡ old.disk)
+    pub unchanged : IfErr outcome (λ fault. fault ≢ Device → new ≡ old)
+    -- the archive is unchanged
+    pub keeps_archive : KeepsArchive honest history old new
+    -- a crash during the call leaves what was stored, or that with the edit
+    pub any_moment : (stored : Stored) → honest new.disk → IsUp (sectors old.disk) (history old.disk) stored old
+        → LeavesOnly (history old.disk) (history new.disk) (EventLeaves (sectors old.disk) old.size stored old.publication (edit call e outcome))
+    -- after the call the service continues with the edit if it was acknowledged, and without it if it was refused
+    pub acknowledged : (stored : Stored) → honest new.disk → IsUp (sectors old.disk) (history old.disk) stored old
+        → OnOk outcome (IsUp (sectors new.disk) (history new.disk) (with_edit stored e) new)
+    pub refused : (stored : Stored) → honest new.disk → IsUp (sectors old.disk) (history old.disk) stored old
+        → IfErr outcome (λ fault. fault ≢ Device → IsUp (sectors new.disk) (history new.disk) stored new)
+    -- it makes one write for each sector of the record, and one sync, or two if there are several
+    pub steps : honest new.disk → OnOk outcome (TakesSteps (places_for e) (history old.disk) (history new.disk))
+
   -- the happenings in order
   abbrev pub TakesAll : ServiceView D → List Happening → ServiceView D → Type 0
   TakesAll old [] new = new ≡ old
@@ -244,6 +272,8 @@ module _ {D : Type 0} (sectors : D → ℕ) (honest : D → Type 0) (history : D
     pub after : (stored : Stored) → honest new.disk → IsUp (sectors old.disk) (history old.disk) stored old → new.broken ≡ false
         → (reached : Stored) × IsUp (sectors new.disk) (history new.disk) reached new
         × Reaches stored (way_of stored.edits old.publication) happenings reached
+    -- the archive is unchanged, unless another one was installed
+    pub keeps_archive : ¬ Contains happenings (step (Ok 0)) → KeepsArchive honest history old new
 
   -- The service begins a publication and continues it until it is installed or a call is refused.
   pub record TakesPublication (old : ServiceView D) (result : Result Published ServiceFault) (new : ServiceView D) : Type 0 where

@@ -1,7 +1,5 @@
 //! Edits: written to the journal first, then applied to the map.
 ghost use Rattle.std.specs.Prelude.{◌≡◌, ◌≢◌, ◌↔◌, ◌+◌, ◌-◌, ◌<◌, ◌^◌, ℕ, true, false, [], ◌∷◌, map, All, IfErr, IfOk, OnOk, IsSome, IsTrue, None};
-ghost use Rattle.sector_disk.specs.Moments.{LeavesOnly};
-ghost use Rattle.edit_journal.specs.Appends.{TakesSteps};
 ghost use Rattle.edit_journal.specs.declared.fault.JournalFault.TheVariants as journals;
 ghost use Rattle.feature_model.specs.Data.{feature_data, change_data, edit_data, put, delete};
 ghost use Rattle.feature_model.specs.Limits.{NumberFits, ChangeFits, IsAllowedEdit};
@@ -9,10 +7,10 @@ ghost use Rattle.edit_text.specs.Recorded.{FitsVersion, text_in};
 ghost use Rattle.feature_model.specs.Spelled.{spelled};
 ghost use Rattle.feature_store.specs.Store.{feature_at};
 ghost use Rattle.tile_service.specs.Limits.{KeepsLimits, BreaksLimit, IsNear, KeepsBatchLimits, BreaksBatchLimit};
-ghost use Rattle.tile_service.specs.Machine.{Call, single, batched, edit, recorded_in, recorded_change, places_for, HasTarget, CanMake, Allocates, AnswersEdit};
-ghost use Rattle.tile_service.specs.Service.{Known, IsUp, state_of, KeepsArchive, EventLeaves, CountsDevice, told_as};
-ghost use Rattle.tile_service.specs.Stored.{Stored, with_edit};
-ghost use Rattle.tile_service.specs.declared.fault.ServiceFault.TheVariants.{Limit, Device};
+ghost use Rattle.tile_service.specs.Machine.{Call, single, batched, recorded_in, recorded_change, HasTarget, CanMake, Allocates, AnswersEdit};
+ghost use Rattle.tile_service.specs.Runs.{TakesEdit};
+ghost use Rattle.tile_service.specs.Service.{Known, state_of, told_as};
+ghost use Rattle.tile_service.specs.declared.fault.ServiceFault.TheVariants.{Limit};
 
 use crate::fault::ServiceFault;
 use crate::service::Service;
@@ -168,31 +166,8 @@ impl<D: Sectors + Drop> Service<D> {
         ensures machine { (known : Known) (call : Call) → CanMake (state_of known self.old) call (recorded_in self.old.version (edit_data requested))
             → Allocates call (edit_data requested) → AnswersEdit (state_of known self.old) call
             (recorded_in self.old.version (edit_data requested)) result (state_of known self.new) }
-        ensures size { self.new.size ≡ self.old.size }
-        ensures publication { OnOk result (self.new.publication ≡ self.old.publication) }
-        ensures count { D.sectors self.new.disk ≡ D.sectors self.old.disk }
-        ensures honest { D.honest self.new.disk → D.honest self.old.disk }
-        ensures faults { OnOk result (D.faults self.new.disk ≡ D.faults self.old.disk) }
-        ensures failed { IfErr result (λ fault. CountsDevice fault (D.faults self.old.disk) (D.faults self.new.disk)) }
-        ensures untouched { IfErr result (λ fault. fault ≢ Device → self.new.disk ≡ self.old.disk) }
-        ensures kept { IfErr result (λ fault. fault ≢ Device → self.new ≡ self.old) }
-        ensures archive { KeepsArchive D.honest D.history self.old self.new }
-
-        // A crash during the call leaves what was stored, or that with the edit.
-        ensures any_moment { (stored : Stored) (call : Call) → D.honest self.new.disk → IsUp (D.sectors self.old.disk) (D.history self.old.disk) stored self.old
-            → LeavesOnly (D.history self.old.disk) (D.history self.new.disk)
-            (EventLeaves (D.sectors self.old.disk) self.old.size stored self.old.publication
-            (edit call (recorded_in self.old.version (edit_data requested)) result)) }
-        // After the call: with the edit if it was acknowledged, without it if it was refused.
-        ensures acknowledged { (stored : Stored) → D.honest self.new.disk → IsUp (D.sectors self.old.disk) (D.history self.old.disk) stored self.old
-            → OnOk result (IsUp (D.sectors self.new.disk) (D.history self.new.disk)
-            (with_edit stored (recorded_in self.old.version (edit_data requested))) self.new) }
-        ensures refused { (stored : Stored) → D.honest self.new.disk → IsUp (D.sectors self.old.disk) (D.history self.old.disk) stored self.old
-            → IfErr result (λ fault. fault ≢ Device → IsUp (D.sectors self.new.disk) (D.history self.new.disk) stored self.new) }
-
-        // It makes one write for each sector of the record, and one sync, or two if there are several.
-        ensures steps { D.honest self.new.disk
-            → OnOk result (TakesSteps (places_for (recorded_in self.old.version (edit_data requested))) (D.history self.old.disk) (D.history self.new.disk)) }
+        ensures takes { (call : Call) → TakesEdit D.sectors D.honest D.history D.faults self.old call
+            (recorded_in self.old.version (edit_data requested)) result self.new }
     {
         let text = match encode_record(self.alloc, self.version, &requested) {
             Ok(text) => text,
@@ -221,32 +196,8 @@ impl<D: Sectors + Drop> Service<D> {
     pub fn put(&mut self, id: u64, feature: Feature) -> Result<u64, ServiceFault>
         ensures machine { (known : Known)
             → AnswersEdit (state_of known self.old) single (recorded_change self.old.version (put id (feature_data feature))) result (state_of known self.new) }
-        ensures size { self.new.size ≡ self.old.size }
-        ensures publication { OnOk result (self.new.publication ≡ self.old.publication) }
-        ensures count { D.sectors self.new.disk ≡ D.sectors self.old.disk }
-        ensures honest { D.honest self.new.disk → D.honest self.old.disk }
-        ensures faults { OnOk result (D.faults self.new.disk ≡ D.faults self.old.disk) }
-        ensures failed { IfErr result (λ fault. CountsDevice fault (D.faults self.old.disk) (D.faults self.new.disk)) }
-        ensures untouched { IfErr result (λ fault. fault ≢ Device → self.new.disk ≡ self.old.disk) }
-        ensures kept { IfErr result (λ fault. fault ≢ Device → self.new ≡ self.old) }
-        ensures archive { KeepsArchive D.honest D.history self.old self.new }
-
-        // A crash during the call leaves what was stored, or that with the edit.
-        ensures any_moment { (stored : Stored) → D.honest self.new.disk → IsUp (D.sectors self.old.disk) (D.history self.old.disk) stored self.old
-            → LeavesOnly (D.history self.old.disk) (D.history self.new.disk)
-            (EventLeaves (D.sectors self.old.disk) self.old.size stored self.old.publication
-            (edit single (recorded_change self.old.version (put id (feature_data feature))) result)) }
-        // After the call: with the edit if it was acknowledged, without it if it was refused.
-        ensures acknowledged { (stored : Stored) → D.honest self.new.disk → IsUp (D.sectors self.old.disk) (D.history self.old.disk) stored self.old
-            → OnOk result (IsUp (D.sectors self.new.disk) (D.history self.new.disk)
-            (with_edit stored (recorded_change self.old.version (put id (feature_data feature)))) self.new) }
-        ensures refused { (stored : Stored) → D.honest self.new.disk → IsUp (D.sectors self.old.disk) (D.history self.old.disk) stored self.old
-            → IfErr result (λ fault. fault ≢ Device → IsUp (D.sectors self.new.disk) (D.history self.new.disk) stored self.new) }
-
-        // It makes one write for each sector of the record, and one sync, or two if there are several.
-        ensures steps { D.honest self.new.disk
-            → OnOk result (TakesSteps (places_for (recorded_change self.old.version (put id (feature_data feature))))
-            (D.history self.old.disk) (D.history self.new.disk)) }
+        ensures takes { TakesEdit D.sectors D.honest D.history D.faults self.old single
+            (recorded_change self.old.version (put id (feature_data feature))) result self.new }
     {
         if self.broken {
             return Err(ServiceFault::Broken);
@@ -275,32 +226,8 @@ impl<D: Sectors + Drop> Service<D> {
     pub fn batch(&mut self, changes: Vec<Change>) -> Result<u64, ServiceFault>
         ensures machine { (known : Known)
             → AnswersEdit (state_of known self.old) batched (recorded_in self.old.version (map change_data changes.items)) result (state_of known self.new) }
-        ensures size { self.new.size ≡ self.old.size }
-        ensures publication { OnOk result (self.new.publication ≡ self.old.publication) }
-        ensures count { D.sectors self.new.disk ≡ D.sectors self.old.disk }
-        ensures honest { D.honest self.new.disk → D.honest self.old.disk }
-        ensures faults { OnOk result (D.faults self.new.disk ≡ D.faults self.old.disk) }
-        ensures failed { IfErr result (λ fault. CountsDevice fault (D.faults self.old.disk) (D.faults self.new.disk)) }
-        ensures untouched { IfErr result (λ fault. fault ≢ Device → self.new.disk ≡ self.old.disk) }
-        ensures kept { IfErr result (λ fault. fault ≢ Device → self.new ≡ self.old) }
-        ensures archive { KeepsArchive D.honest D.history self.old self.new }
-
-        // A crash during the call leaves what was stored, or that with the edit.
-        ensures any_moment { (stored : Stored) → D.honest self.new.disk → IsUp (D.sectors self.old.disk) (D.history self.old.disk) stored self.old
-            → LeavesOnly (D.history self.old.disk) (D.history self.new.disk)
-            (EventLeaves (D.sectors self.old.disk) self.old.size stored self.old.publication
-            (edit batched (recorded_in self.old.version (map change_data changes.items)) result)) }
-        // After the call: with the edit if it was acknowledged, without it if it was refused.
-        ensures acknowledged { (stored : Stored) → D.honest self.new.disk → IsUp (D.sectors self.old.disk) (D.history self.old.disk) stored self.old
-            → OnOk result (IsUp (D.sectors self.new.disk) (D.history self.new.disk)
-            (with_edit stored (recorded_in self.old.version (map change_data changes.items))) self.new) }
-        ensures refused { (stored : Stored) → D.honest self.new.disk → IsUp (D.sectors self.old.disk) (D.history self.old.disk) stored self.old
-            → IfErr result (λ fault. fault ≢ Device → IsUp (D.sectors self.new.disk) (D.history self.new.disk) stored self.new) }
-
-        // It makes one write for each sector of the record, and one sync, or two if there are several.
-        ensures steps { D.honest self.new.disk
-            → OnOk result (TakesSteps (places_for (recorded_in self.old.version (map change_data changes.items)))
-            (D.history self.old.disk) (D.history self.new.disk)) }
+        ensures takes { TakesEdit D.sectors D.honest D.history D.faults self.old batched
+            (recorded_in self.old.version (map change_data changes.items)) result self.new }
     {
         if self.broken {
             return Err(ServiceFault::Broken);
@@ -329,26 +256,7 @@ impl<D: Sectors + Drop> Service<D> {
     pub fn delete(&mut self, id: u64) -> Result<u64, ServiceFault>
         ensures machine { (known : Known)
             → AnswersEdit (state_of known self.old) single (recorded_change self.old.version (delete id)) result (state_of known self.new) }
-        ensures size { self.new.size ≡ self.old.size }
-        ensures publication { OnOk result (self.new.publication ≡ self.old.publication) }
-        ensures count { D.sectors self.new.disk ≡ D.sectors self.old.disk }
-        ensures honest { D.honest self.new.disk → D.honest self.old.disk }
-        ensures faults { OnOk result (D.faults self.new.disk ≡ D.faults self.old.disk) }
-        ensures failed { IfErr result (λ fault. CountsDevice fault (D.faults self.old.disk) (D.faults self.new.disk)) }
-        ensures untouched { IfErr result (λ fault. fault ≢ Device → self.new.disk ≡ self.old.disk) }
-        ensures kept { IfErr result (λ fault. fault ≢ Device → self.new ≡ self.old) }
-        ensures archive { KeepsArchive D.honest D.history self.old self.new }
-        ensures any_moment { (stored : Stored) → D.honest self.new.disk → IsUp (D.sectors self.old.disk) (D.history self.old.disk) stored self.old
-            → LeavesOnly (D.history self.old.disk) (D.history self.new.disk)
-            (EventLeaves (D.sectors self.old.disk) self.old.size stored self.old.publication
-            (edit single (recorded_change self.old.version (delete id)) result)) }
-        ensures acknowledged { (stored : Stored) → D.honest self.new.disk → IsUp (D.sectors self.old.disk) (D.history self.old.disk) stored self.old
-            → OnOk result (IsUp (D.sectors self.new.disk) (D.history self.new.disk)
-            (with_edit stored (recorded_change self.old.version (delete id))) self.new) }
-        ensures refused { (stored : Stored) → D.honest self.new.disk → IsUp (D.sectors self.old.disk) (D.history self.old.disk) stored self.old
-            → IfErr result (λ fault. fault ≢ Device → IsUp (D.sectors self.new.disk) (D.history self.new.disk) stored self.new) }
-        ensures steps { D.honest self.new.disk
-            → OnOk result (TakesSteps (places_for (recorded_change self.old.version (delete id))) (D.history self.old.disk) (D.history self.new.disk)) }
+        ensures takes { TakesEdit D.sectors D.honest D.history D.faults self.old single (recorded_change self.old.version (delete id)) result self.new }
     {
         if self.broken {
             return Err(ServiceFault::Broken);

@@ -45,7 +45,9 @@ impl Model for Publication {
 
     ghost Value = { PublicationView };
 
-    ghost view = { λ p. record { content = p.content; start = p.start; places = p.places; written = p.written } };
+    ghost use Rattle.tile_service.specs.Inside.{publication_view};
+
+    ghost view = { publication_view };
 }
 
 /// Converts the fault of `content_of`.

@@ -31,21 +31,9 @@ impl<D: Sectors + Drop> Model for Service<D> {
 
     ghost Value = { ServiceView D };
 
-    ghost view = { λ s. record {
-      disk = s.disk;
-      size = s.layout.sectors;
-      version = s.version;
-      features = s.map.features;
-      touched = s.map.touched;
-      kept = s.map.kept;
-      journal = s.journal;
-      generation = s.root.generation;
-      snapshot_len = s.root.snapshot_len;
-      archive_len = s.root.archive_len;
-      publication = s.publication;
-      published = s.published;
-      broken = s.broken;
-    } };
+    ghost use Rattle.tile_service.specs.Inside.{service_view};
+
+    ghost view = { service_view };
 
     ghost invariant = { λ s. IsService (D.sectors s.disk) s.layout.sectors s.version s.root s.journal s.map s.publication };
 }

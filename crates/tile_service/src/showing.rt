@@ -1,6 +1,7 @@
 //! What a service shows.
 ghost use Rattle.std.specs.Prelude.{◌≡◌, ℕ, List, Some, not, false, true, IfErr, IfOk, IfSome, MatchResult, option_map};
 ghost use Rattle.feature_model.specs.Data.{feature_data};
+ghost use Rattle.feature_model.specs.Limits.{IsAllowed};
 ghost use Rattle.feature_store.specs.Content.{IsTileContent};
 ghost use Rattle.feature_store.specs.Layers.{layers};
 ghost use Rattle.feature_store.specs.Store.{feature_at};
@@ -27,11 +28,15 @@ use serde_json::Value;
 use std::alloc::AllocError;
 
 impl<D: Sectors + Drop> Service<D> {
-    /// The feature of an id, after the last acknowledged edit. It doesn't allocate.
+    /// The feature of an id, after the last acknowledged edit. It is within the limits. It doesn't allocate.
     pub fn feature(&self, id: u64) -> Option<&Feature>
-        ensures { option_map (λ f. feature_data f.now) result ≡ feature_at self.now.features id }
+        ensures found { option_map (λ f. feature_data f.now) result ≡ feature_at self.now.features id }
+        ensures allowed { IfSome result (λ f. IsAllowed id (feature_data f.now)) }
     {
-        self.map.store().get(id)
+        let store = self.map.store();
+        // The contract of `len` states that the features are a map, so they are within the limits.
+        let _count = store.len();
+        store.get(id)
     }
 
     /// The bytes of a tile in the last published archive, `None` if it is empty there.

@@ -2,7 +2,8 @@ use Rattle.std.proofs.Common.{◌∙◌, ℕ, List, Ok, refl, sym, subst, arith}
 use Rattle.sector_disk.proofs.History.{started, any_write, any_sync}
 use Rattle.tile_service.specs.Publishing.{IsContentSector}
 use Rattle.tile_service.specs.Stored.{Holds}
-use Rattle.tile_service.proofs.AreaWrites.{write_moment, is_content_sector, next_area_keeps, next_area_leaves, sync_keeps, sync_holds, write_beside, sync_beside}
+use Rattle.tile_service.proofs.AreaWrites.{write_moment, is_content_sector, next_area_keeps, next_area_leaves, sync_keeps, sync_holds}
+use Rattle.tile_service.proofs.AreaWrites.{write_beside, sync_beside}
 use Rattle.tile_service.proofs.Contents.{write_stands}
 use Rattle.tile_service.proofs.publishing.write_sectors.Goals as goal
 

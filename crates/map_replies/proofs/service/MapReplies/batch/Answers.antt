@@ -10,6 +10,5 @@ returns-clause-answered g c =
     let d = g.D.Sectors in
     let call = c.batch-outcome.ensures in
     edited d.sectors d.honest d.history _ _ _ _ _ _ _ (map change_data c.in-Ok.changes.items) c.batch-outcome.result _ c.in-Ok.ensures.found
-    c.outcome.ensures.reply call.failed
-    (edit_step d.sectors d.honest d.history _ _ batched _ c.batch-outcome.result call.machine call.size call.count call.honest call.untouched
-    call.any_moment call.acknowledged call.refused call.archive)
+    c.outcome.ensures.reply call.takes.failed
+    (edit_step d.sectors d.honest d.history d.faults _ _ batched _ c.batch-outcome.result call.machine call.takes)

@@ -12,6 +12,5 @@ returns-clause-answered g c =
     let call = c.delete-outcome.ensures in
     let e = recorded_change (asked_service c.args.self.now).version (delete c.args.id) in
     changed_first d.sectors d.honest d.history _ _ (edit single e) outcome_reply _ _ c.delete-outcome.result _
-    c.outcome.ensures.reply call.failed
-    (edit_step d.sectors d.honest d.history _ _ single e c.delete-outcome.result call.machine call.size call.count
-    call.honest call.untouched call.any_moment call.acknowledged call.refused call.archive)
+    c.outcome.ensures.reply call.takes.failed
+    (edit_step d.sectors d.honest d.history d.faults _ _ single e c.delete-outcome.result call.machine call.takes)

@@ -14,7 +14,7 @@ returns-in-Some-clause-answered g c =
     let f = Some (feature_data c.in-Some.feature.now) in
     shown d.sectors d.honest d.history (look c.args.id) found_reply old old f c.feature_value.result
     c.feature_value.ensures.reply c.feature_value.ensures.fault
-    (look_step d.sectors d.honest d.history old c.args.id (got f) c.in-Some.ensures)
+    (look_step d.sectors d.honest d.history old c.args.id (got f) c.in-Some.ensures.found)
     (look_step d.sectors d.honest d.history old c.args.id no_memory tt)
 
 pub returns-in-None-clause-answered : goal.returns-in-None-clause-answered
@@ -22,4 +22,4 @@ returns-in-None-clause-answered g c =
     let d = g.D.Sectors in
     let old = asked_service c.args.self.now in
     called d.sectors d.honest d.history (look c.args.id) (shown_reply found_reply) old old (got None) _ refl
-    (look_step d.sectors d.honest d.history old c.args.id (got None) c.in-None.ensures)
+    (look_step d.sectors d.honest d.history old c.args.id (got None) c.in-None.ensures.found)

@@ -9,6 +9,5 @@ returns-clause-answered g c =
     let d = g.D.Sectors in
     let call = c.put-outcome.ensures in
     edited d.sectors d.honest d.history _ _ _ _ _ _ _ (feature_data c.in-Ok.feature) c.put-outcome.result _ c.in-Ok.ensures.found
-    c.outcome.ensures.reply call.failed
-    (edit_step d.sectors d.honest d.history _ _ single _ c.put-outcome.result call.machine call.size call.count call.honest call.untouched
-    call.any_moment call.acknowledged call.refused call.archive)
+    c.outcome.ensures.reply call.takes.failed
+    (edit_step d.sectors d.honest d.history d.faults _ _ single _ c.put-outcome.result call.machine call.takes)

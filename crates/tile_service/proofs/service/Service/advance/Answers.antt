@@ -1,5 +1,6 @@
 use Rattle.std.proofs.Common.{true, Ok, Err, ◌+◌, ◌-◌, ◌≤◌, refl, sym, ◌∙◌, ap, subst, arith}
 use Rattle.area_content.specs.Content.{sectors_taken}
+use Rattle.tile_service.specs.Inside.{publication_view, service_view}
 use Rattle.tile_service.specs.Service.{ServiceView, PublicationView, IsUp, with_publication}
 use Rattle.tile_service.specs.declared.fault.ServiceFault.TheVariants.{Device}
 use Rattle.tile_service.proofs.Shown.{beside_keeps, install_keeps}
@@ -8,38 +9,14 @@ use Rattle.tile_service.proofs.service.Service.advance.Goals as goal
 
 pub returns-in-Err-clause-any_moment : goal.returns-in-Err-clause-any_moment
 returns-in-Err-clause-any_moment g c = rw (← c.self.view_is, ← c.publication.view_is) (λ stored honest up.
-    let p : PublicationView = record {
-      content = c.publication.inside.content;
-      start = c.publication.inside.start;
-      places = c.publication.inside.places;
-      written = c.publication.inside.written;
-    } in
+    let p : PublicationView = publication_view c.publication.inside in
     step_leaves _ _ stored p _ _ (Err Device)
     (c.write_sectors.ensures.leaves stored honest (omega (arith, up.generation_is)) up.keeps))
 
 pub returns-then-left-le-STEP_SECTORS-clause-machine : goal.returns-then-left-le-STEP_SECTORS-clause-machine
 returns-then-left-le-STEP_SECTORS-clause-machine g c = rw (← c.self.view_is, ← c.publication.view_is) (λ known.
-    let service : ServiceView g.row.D.Denot = record {
-      disk = c.self.inside.disk;
-      size = c.self.inside.layout.sectors;
-      version = c.self.inside.version;
-      features = c.self.inside.map.features;
-      touched = c.self.inside.map.touched;
-      kept = c.self.inside.map.kept;
-      journal = c.self.inside.journal;
-      generation = c.self.inside.root.generation;
-      snapshot_len = c.self.inside.root.snapshot_len;
-      archive_len = c.self.inside.root.archive_len;
-      publication = c.self.inside.publication;
-      published = c.self.inside.published;
-      broken = c.self.inside.broken;
-    } in
-    let p : PublicationView = record {
-      content = c.publication.inside.content;
-      start = c.publication.inside.start;
-      places = c.publication.inside.places;
-      written = c.publication.inside.written;
-    } in
+    let service : ServiceView g.row.D.Denot = service_view c.self.inside in
+    let p : PublicationView = publication_view c.publication.inside in
     last_step_told known service p (ap (λ s. s.broken) c.self.view_is ∙ c.requires.unbroken)
     (c.publication.inside.written + c.min-more.result) c.install_now.result c.install_now.new.self.disk c.install_now.new.self
     (ap (λ s. s.publication) c.self.view_is ∙ c.requires.none)
@@ -48,27 +25,8 @@ returns-then-left-le-STEP_SECTORS-clause-machine g c = rw (← c.self.view_is, �
 
 pub returns-then-left-le-STEP_SECTORS-clause-any_moment : goal.returns-then-left-le-STEP_SECTORS-clause-any_moment
 returns-then-left-le-STEP_SECTORS-clause-any_moment g c = rw (← c.self.view_is, ← c.publication.view_is) (λ stored honest up.
-    let service : ServiceView g.row.D.Denot = record {
-      disk = c.self.inside.disk;
-      size = c.self.inside.layout.sectors;
-      version = c.self.inside.version;
-      features = c.self.inside.map.features;
-      touched = c.self.inside.map.touched;
-      kept = c.self.inside.map.kept;
-      journal = c.self.inside.journal;
-      generation = c.self.inside.root.generation;
-      snapshot_len = c.self.inside.root.snapshot_len;
-      archive_len = c.self.inside.root.archive_len;
-      publication = c.self.inside.publication;
-      published = c.self.inside.published;
-      broken = c.self.inside.broken;
-    } in
-    let p : PublicationView = record {
-      content = c.publication.inside.content;
-      start = c.publication.inside.start;
-      places = c.publication.inside.places;
-      written = c.publication.inside.written;
-    } in
+    let service : ServiceView g.row.D.Denot = service_view c.self.inside in
+    let p : PublicationView = publication_view c.publication.inside in
     let written = c.install_now.ensures.honest honest in
     let between : IsUp (g.D.Sectors.sectors c.write_sectors.new.disk) (g.D.Sectors.history c.write_sectors.new.disk) stored
     (with_publication (record service { disk = c.write_sectors.new.disk }) (record p { written = c.publication.inside.written + c.min-more.result })) =
@@ -82,27 +40,8 @@ returns-then-left-le-STEP_SECTORS-clause-any_moment g c = rw (← c.self.view_is
 
 pub returns-then-left-le-STEP_SECTORS-clause-after : goal.returns-then-left-le-STEP_SECTORS-clause-after
 returns-then-left-le-STEP_SECTORS-clause-after g c = rw (← c.self.view_is, ← c.publication.view_is) (λ stored honest up.
-    let service : ServiceView g.row.D.Denot = record {
-      disk = c.self.inside.disk;
-      size = c.self.inside.layout.sectors;
-      version = c.self.inside.version;
-      features = c.self.inside.map.features;
-      touched = c.self.inside.map.touched;
-      kept = c.self.inside.map.kept;
-      journal = c.self.inside.journal;
-      generation = c.self.inside.root.generation;
-      snapshot_len = c.self.inside.root.snapshot_len;
-      archive_len = c.self.inside.root.archive_len;
-      publication = c.self.inside.publication;
-      published = c.self.inside.published;
-      broken = c.self.inside.broken;
-    } in
-    let p : PublicationView = record {
-      content = c.publication.inside.content;
-      start = c.publication.inside.start;
-      places = c.publication.inside.places;
-      written = c.publication.inside.written;
-    } in
+    let service : ServiceView g.row.D.Denot = service_view c.self.inside in
+    let p : PublicationView = publication_view c.publication.inside in
     let written = c.install_now.ensures.honest honest in
     let between : IsUp (g.D.Sectors.sectors c.write_sectors.new.disk) (g.D.Sectors.history c.write_sectors.new.disk) stored
     (with_publication (record service { disk = c.write_sectors.new.disk }) (record p { written = c.publication.inside.written + c.min-more.result })) =
@@ -114,27 +53,8 @@ returns-then-left-le-STEP_SECTORS-clause-after g c = rw (← c.self.view_is, ←
 
 pub returns-clause-machine : goal.returns-clause-machine
 returns-clause-machine g c = rw (← c.self.view_is, ← c.publication.view_is) (λ known.
-    let service : ServiceView g.row.D.Denot = record {
-      disk = c.self.inside.disk;
-      size = c.self.inside.layout.sectors;
-      version = c.self.inside.version;
-      features = c.self.inside.map.features;
-      touched = c.self.inside.map.touched;
-      kept = c.self.inside.map.kept;
-      journal = c.self.inside.journal;
-      generation = c.self.inside.root.generation;
-      snapshot_len = c.self.inside.root.snapshot_len;
-      archive_len = c.self.inside.root.archive_len;
-      publication = c.self.inside.publication;
-      published = c.self.inside.published;
-      broken = c.self.inside.broken;
-    } in
-    let p : PublicationView = record {
-      content = c.publication.inside.content;
-      start = c.publication.inside.start;
-      places = c.publication.inside.places;
-      written = c.publication.inside.written;
-    } in
+    let service : ServiceView g.row.D.Denot = service_view c.self.inside in
+    let p : PublicationView = publication_view c.publication.inside in
     let within : c.publication.inside.written ≤ sectors_taken c.publication.inside.content =
     subst (λ (q : PublicationView). q.written ≤ sectors_taken q.content) (sym c.publication.view_is) c.requires.going.2.written in
     step_told known service p (ap (λ s. s.broken) c.self.view_is ∙ c.requires.unbroken)
@@ -143,38 +63,14 @@ returns-clause-machine g c = rw (← c.self.view_is, ← c.publication.view_is) 
 
 pub returns-clause-any_moment : goal.returns-clause-any_moment
 returns-clause-any_moment g c = rw (← c.self.view_is, ← c.publication.view_is) (λ stored honest up.
-    let p : PublicationView = record {
-      content = c.publication.inside.content;
-      start = c.publication.inside.start;
-      places = c.publication.inside.places;
-      written = c.publication.inside.written;
-    } in
+    let p : PublicationView = publication_view c.publication.inside in
     step_leaves _ _ stored p _ _ (Ok (c.sectors.result - c.publication.inside.written - c.min-more.result + 1))
     (c.write_sectors.ensures.leaves stored honest (omega (arith, up.generation_is)) up.keeps))
 
 pub returns-clause-after : goal.returns-clause-after
 returns-clause-after g c = rw (← c.self.view_is, ← c.publication.view_is) (λ stored written up.
-    let service : ServiceView g.row.D.Denot = record {
-      disk = c.self.inside.disk;
-      size = c.self.inside.layout.sectors;
-      version = c.self.inside.version;
-      features = c.self.inside.map.features;
-      touched = c.self.inside.map.touched;
-      kept = c.self.inside.map.kept;
-      journal = c.self.inside.journal;
-      generation = c.self.inside.root.generation;
-      snapshot_len = c.self.inside.root.snapshot_len;
-      archive_len = c.self.inside.root.archive_len;
-      publication = c.self.inside.publication;
-      published = c.self.inside.published;
-      broken = c.self.inside.broken;
-    } in
-    let p : PublicationView = record {
-      content = c.publication.inside.content;
-      start = c.publication.inside.start;
-      places = c.publication.inside.places;
-      written = c.publication.inside.written;
-    } in
+    let service : ServiceView g.row.D.Denot = service_view c.self.inside in
+    let p : PublicationView = publication_view c.publication.inside in
     let between : IsUp (g.D.Sectors.sectors c.write_sectors.new.disk) (g.D.Sectors.history c.write_sectors.new.disk) stored
     (with_publication (record service { disk = c.write_sectors.new.disk }) (record p { written = c.publication.inside.written + c.min-more.result })) =
     up_further _ _ _ _ stored service p (c.self.inside.root.generation + 1) (c.publication.inside.written + c.min-more.result) c.write_sectors.new.disk up

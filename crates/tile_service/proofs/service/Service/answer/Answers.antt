@@ -15,58 +15,59 @@ pub returns-in-Put-clause-takes : goal.returns-in-Put-clause-takes
 returns-in-Put-clause-takes g c = (
   edit single (recorded_change c.args.self.now.version (put c.in-Put.id (feature_data c.in-Put.feature))) c.put.result,
   told_step c.args.self.now.version _ c.in-Put.is c.edited.ensures (put_told c.args.self.now.version c.in-Put.id c.in-Put.feature c.put.result),
-  (edit_step g.D.Sectors.sectors g.D.Sectors.honest g.D.Sectors.history _ _ single (recorded_change c.args.self.now.version (put c.in-Put.id (feature_data c.in-Put.feature))) c.put.result
-      c.put.ensures.machine c.put.ensures.size c.put.ensures.count c.put.ensures.honest c.put.ensures.untouched c.put.ensures.any_moment c.put.ensures.acknowledged c.put.ensures.refused
-      c.put.ensures.archive),
+  edit_step g.D.Sectors.sectors g.D.Sectors.honest g.D.Sectors.history g.D.Sectors.faults _ _ single
+      (recorded_change c.args.self.now.version (put c.in-Put.id (feature_data c.in-Put.feature)))
+      c.put.result c.put.ensures.machine c.put.ensures.takes,
 )
 
 pub returns-in-Put-clause-faults : goal.returns-in-Put-clause-faults
 returns-in-Put-clause-faults g c none =
-    edit_faults _ _ _ _ c.put.result _ _ (c.put.ensures.machine no_known) c.put.ensures.faults c.put.ensures.failed
+    edit_faults _ _ _ _ c.put.result _ _ (c.put.ensures.machine no_known) c.put.ensures.takes.succeeded c.put.ensures.takes.failed
 
 pub returns-in-Put-clause-failed : goal.returns-in-Put-clause-failed
 returns-in-Put-clause-failed g c =
-    edit_fails _ _ _ _ c.put.result _ _ (c.put.ensures.machine no_known) c.put.ensures.failed
+    edit_fails _ _ _ _ c.put.result _ _ (c.put.ensures.machine no_known) c.put.ensures.takes.failed
 
 pub returns-in-Delete-clause-takes : goal.returns-in-Delete-clause-takes
 returns-in-Delete-clause-takes g c = (
   edit single (recorded_change c.args.self.now.version (delete c.in-Delete.id)) c.delete.result,
   told_step c.args.self.now.version _ c.in-Delete.is c.edited-in-Delete.ensures (delete_told c.args.self.now.version c.in-Delete.id c.delete.result),
-  (edit_step g.D.Sectors.sectors g.D.Sectors.honest g.D.Sectors.history _ _ single (recorded_change c.args.self.now.version (delete c.in-Delete.id)) c.delete.result
-      c.delete.ensures.machine c.delete.ensures.size c.delete.ensures.count c.delete.ensures.honest c.delete.ensures.untouched c.delete.ensures.any_moment c.delete.ensures.acknowledged c.delete.ensures.refused
-      c.delete.ensures.archive),
+  edit_step g.D.Sectors.sectors g.D.Sectors.honest g.D.Sectors.history g.D.Sectors.faults _ _ single
+      (recorded_change c.args.self.now.version (delete c.in-Delete.id))
+      c.delete.result c.delete.ensures.machine c.delete.ensures.takes,
 )
 
 pub returns-in-Delete-clause-faults : goal.returns-in-Delete-clause-faults
 returns-in-Delete-clause-faults g c none =
-    edit_faults _ _ _ _ c.delete.result _ _ (c.delete.ensures.machine no_known) c.delete.ensures.faults c.delete.ensures.failed
+    edit_faults _ _ _ _ c.delete.result _ _ (c.delete.ensures.machine no_known) c.delete.ensures.takes.succeeded c.delete.ensures.takes.failed
 
 pub returns-in-Delete-clause-failed : goal.returns-in-Delete-clause-failed
 returns-in-Delete-clause-failed g c =
-    edit_fails _ _ _ _ c.delete.result _ _ (c.delete.ensures.machine no_known) c.delete.ensures.failed
+    edit_fails _ _ _ _ c.delete.result _ _ (c.delete.ensures.machine no_known) c.delete.ensures.takes.failed
 
 pub returns-in-Batch-clause-takes : goal.returns-in-Batch-clause-takes
 returns-in-Batch-clause-takes g c = (
   edit batched (recorded_in c.args.self.now.version (map change_data c.in-Batch.changes.items)) c.batch.result,
   told_step c.args.self.now.version _ c.in-Batch.is c.edited-in-Batch.ensures (batch_told c.args.self.now.version c.in-Batch.changes c.batch.result),
-  (edit_step g.D.Sectors.sectors g.D.Sectors.honest g.D.Sectors.history _ _ batched (recorded_in c.args.self.now.version (map change_data c.in-Batch.changes.items)) c.batch.result
-      c.batch.ensures.machine c.batch.ensures.size c.batch.ensures.count c.batch.ensures.honest c.batch.ensures.untouched c.batch.ensures.any_moment c.batch.ensures.acknowledged c.batch.ensures.refused
-      c.batch.ensures.archive),
+  edit_step g.D.Sectors.sectors g.D.Sectors.honest g.D.Sectors.history g.D.Sectors.faults _ _ batched
+      (recorded_in c.args.self.now.version (map change_data c.in-Batch.changes.items))
+      c.batch.result c.batch.ensures.machine c.batch.ensures.takes,
 )
 
 pub returns-in-Batch-clause-faults : goal.returns-in-Batch-clause-faults
 returns-in-Batch-clause-faults g c none =
-    edit_faults _ _ _ _ c.batch.result _ _ (c.batch.ensures.machine no_known) c.batch.ensures.faults c.batch.ensures.failed
+    edit_faults _ _ _ _ c.batch.result _ _ (c.batch.ensures.machine no_known) c.batch.ensures.takes.succeeded c.batch.ensures.takes.failed
 
 pub returns-in-Batch-clause-failed : goal.returns-in-Batch-clause-failed
 returns-in-Batch-clause-failed g c =
-    edit_fails _ _ _ _ c.batch.result _ _ (c.batch.ensures.machine no_known) c.batch.ensures.failed
+    edit_fails _ _ _ _ c.batch.result _ _ (c.batch.ensures.machine no_known) c.batch.ensures.takes.failed
 
 pub returns-in-Ok-clause-takes : goal.returns-in-Ok-clause-takes
 returns-in-Ok-clause-takes g c = (
   tile c.in-Tile.at.z c.in-Tile.at.x c.in-Tile.at.y (got (option_map (λ bytes. bytes.items) c.in-Ok.content)),
   told_step c.args.self.now.version _ c.in-Tile.is refl refl,
-  (tile_step g.D.Sectors.sectors g.D.Sectors.honest g.D.Sectors.history _ _ c.tile.ensures.same c.tile.ensures.count c.tile.ensures.honest c.tile.ensures.history c.tile.ensures.untouched c.tile.ensures.up c.in-Tile.at.z c.in-Tile.at.x c.in-Tile.at.y _ c.in-Ok.ensures.machine),
+  tile_step g.D.Sectors.sectors g.D.Sectors.honest g.D.Sectors.history _ _ c.tile.ensures.same c.tile.ensures.count c.tile.ensures.honest
+      c.tile.ensures.history c.tile.ensures.untouched c.tile.ensures.up c.in-Tile.at.z c.in-Tile.at.x c.in-Tile.at.y _ c.in-Ok.ensures.machine,
 )
 
 pub returns-in-Ok-clause-faults : goal.returns-in-Ok-clause-faults
@@ -81,7 +82,8 @@ pub returns-in-Err-clause-takes : goal.returns-in-Err-clause-takes
 returns-in-Err-clause-takes g c = (
   tile c.in-Tile.at.z c.in-Tile.at.x c.in-Tile.at.y no_memory,
   told_step c.args.self.now.version _ c.in-Tile.is refl (c.in-Err.ensures.fault, refl),
-  (tile_step g.D.Sectors.sectors g.D.Sectors.honest g.D.Sectors.history _ _ c.tile.ensures.same c.tile.ensures.count c.tile.ensures.honest c.tile.ensures.history c.tile.ensures.untouched c.tile.ensures.up c.in-Tile.at.z c.in-Tile.at.x c.in-Tile.at.y _ c.in-Err.ensures.machine),
+  tile_step g.D.Sectors.sectors g.D.Sectors.honest g.D.Sectors.history _ _ c.tile.ensures.same c.tile.ensures.count c.tile.ensures.honest
+      c.tile.ensures.history c.tile.ensures.untouched c.tile.ensures.up c.in-Tile.at.z c.in-Tile.at.x c.in-Tile.at.y _ c.in-Err.ensures.machine,
 )
 
 pub returns-in-Err-clause-faults : goal.returns-in-Err-clause-faults
@@ -107,7 +109,8 @@ pub returns-in-Begin-clause-takes : goal.returns-in-Begin-clause-takes
 returns-in-Begin-clause-takes g c = (
   begin c.publish_begin.result,
   told_step c.args.self.now.version _ c.in-Begin.is c.left.ensures (begin_told c.args.self.now.version c.publish_begin.result),
-  (begin_step g.D.Sectors.sectors g.D.Sectors.honest g.D.Sectors.history _ _ c.publish_begin.result c.publish_begin.ensures.machine c.publish_begin.ensures.same c.publish_begin.ensures.up),
+  begin_step g.D.Sectors.sectors g.D.Sectors.honest g.D.Sectors.history _ _ c.publish_begin.result c.publish_begin.ensures.machine
+      c.publish_begin.ensures.same c.publish_begin.ensures.up,
 )
 
 pub returns-in-Begin-clause-faults : goal.returns-in-Begin-clause-faults
@@ -122,7 +125,8 @@ pub returns-in-Ok-publish_cancel-clause-takes : goal.returns-in-Ok-publish_cance
 returns-in-Ok-publish_cancel-clause-takes g c = (
   cancel (Ok tt),
   told_step c.args.self.now.version _ c.in-Cancel.is refl refl,
-  (cancel_step g.D.Sectors.sectors g.D.Sectors.honest g.D.Sectors.history _ _ _ c.in-Ok-publish_cancel.ensures.machine c.publish_cancel.ensures.same c.publish_cancel.ensures.up),
+  cancel_step g.D.Sectors.sectors g.D.Sectors.honest g.D.Sectors.history _ _ _ c.in-Ok-publish_cancel.ensures.machine
+      c.publish_cancel.ensures.same c.publish_cancel.ensures.up,
 )
 
 pub returns-in-Ok-publish_cancel-clause-faults : goal.returns-in-Ok-publish_cancel-clause-faults
@@ -137,7 +141,8 @@ pub returns-in-Err-publish_cancel-clause-takes : goal.returns-in-Err-publish_can
 returns-in-Err-publish_cancel-clause-takes g c = (
   cancel (Err c.in-Err-publish_cancel.fault),
   told_step c.args.self.now.version _ c.in-Cancel.is refl refl,
-  (cancel_step g.D.Sectors.sectors g.D.Sectors.honest g.D.Sectors.history _ _ _ c.in-Err-publish_cancel.ensures.machine c.publish_cancel.ensures.same c.publish_cancel.ensures.up),
+  cancel_step g.D.Sectors.sectors g.D.Sectors.honest g.D.Sectors.history _ _ _ c.in-Err-publish_cancel.ensures.machine
+      c.publish_cancel.ensures.same c.publish_cancel.ensures.up,
 )
 
 pub returns-in-Err-publish_cancel-clause-faults : goal.returns-in-Err-publish_cancel-clause-faults
@@ -153,7 +158,8 @@ returns-in-Step-clause-takes g c = (
   step c.publish_step.result,
   told_step c.args.self.now.version _ c.in-Step.is c.left-in-Step.ensures (step_told c.args.self.now.version c.publish_step.result),
   (step_step g.D.Sectors.sectors g.D.Sectors.honest g.D.Sectors.history _ _ c.publish_step.result
-      c.publish_step.ensures.machine c.publish_step.ensures.size c.publish_step.ensures.count c.publish_step.ensures.honest c.publish_step.ensures.refused c.publish_step.ensures.any_moment c.publish_step.ensures.after c.publish_step.ensures.archive),
+      c.publish_step.ensures.machine c.publish_step.ensures.size c.publish_step.ensures.count c.publish_step.ensures.honest
+      c.publish_step.ensures.refused c.publish_step.ensures.any_moment c.publish_step.ensures.after c.publish_step.ensures.archive),
 )
 
 pub returns-in-Step-clause-faults : goal.returns-in-Step-clause-faults
@@ -167,22 +173,22 @@ returns-in-Step-clause-failed g c =
 -- ---- how the count of faults changes
 
 pub returns-in-Put-clause-never_falls : goal.returns-in-Put-clause-never_falls
-returns-in-Put-clause-never_falls g c = outcome_counts c.put.result _ _ c.put.ensures.faults c.put.ensures.failed
+returns-in-Put-clause-never_falls g c = outcome_counts c.put.result _ _ c.put.ensures.takes.succeeded c.put.ensures.takes.failed
 
 pub returns-in-Put-clause-device : goal.returns-in-Put-clause-device
-returns-in-Put-clause-device g c is = edit_risen c.put.result _ _ c.put.ensures.failed (sym c.edited.ensures ∙ is)
+returns-in-Put-clause-device g c is = edit_risen c.put.result _ _ c.put.ensures.takes.failed (sym c.edited.ensures ∙ is)
 
 pub returns-in-Delete-clause-never_falls : goal.returns-in-Delete-clause-never_falls
-returns-in-Delete-clause-never_falls g c = outcome_counts c.delete.result _ _ c.delete.ensures.faults c.delete.ensures.failed
+returns-in-Delete-clause-never_falls g c = outcome_counts c.delete.result _ _ c.delete.ensures.takes.succeeded c.delete.ensures.takes.failed
 
 pub returns-in-Delete-clause-device : goal.returns-in-Delete-clause-device
-returns-in-Delete-clause-device g c is = edit_risen c.delete.result _ _ c.delete.ensures.failed (sym c.edited-in-Delete.ensures ∙ is)
+returns-in-Delete-clause-device g c is = edit_risen c.delete.result _ _ c.delete.ensures.takes.failed (sym c.edited-in-Delete.ensures ∙ is)
 
 pub returns-in-Batch-clause-never_falls : goal.returns-in-Batch-clause-never_falls
-returns-in-Batch-clause-never_falls g c = outcome_counts c.batch.result _ _ c.batch.ensures.faults c.batch.ensures.failed
+returns-in-Batch-clause-never_falls g c = outcome_counts c.batch.result _ _ c.batch.ensures.takes.succeeded c.batch.ensures.takes.failed
 
 pub returns-in-Batch-clause-device : goal.returns-in-Batch-clause-device
-returns-in-Batch-clause-device g c is = edit_risen c.batch.result _ _ c.batch.ensures.failed (sym c.edited-in-Batch.ensures ∙ is)
+returns-in-Batch-clause-device g c is = edit_risen c.batch.result _ _ c.batch.ensures.takes.failed (sym c.edited-in-Batch.ensures ∙ is)
 
 pub returns-in-Ok-clause-device : goal.returns-in-Ok-clause-device
 returns-in-Ok-clause-device g c is = absurd (other_answer _ refl is)

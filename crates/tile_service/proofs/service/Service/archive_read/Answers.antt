@@ -8,7 +8,8 @@ use Rattle.tile_service.proofs.service.Service.archive_read.Goals.{in-Ok, in-Err
 pub returns-clause-shown : goal.returns-clause-shown
 returns-clause-shown g c = rw (← c.self.view_is) (λ archive shows honest.
     let is = shown_is_read (g.D.Sectors.history c.self.inside.disk) _ _ archive shows
-    _ c.args.at (length c.args.into.now) c.read_bytes.new.into (ap (λ (p : ArchivePlace). p.first) (c.archive-first.ensures ∙ ap (λ s. archive_of s) (sym c.self.view_is)))
+    _ c.args.at (length c.args.into.now) c.read_bytes.new.into
+    (ap (λ (p : ArchivePlace). p.first) (c.archive-first.ensures ∙ ap (λ s. archive_of s) (sym c.self.view_is)))
     (omega (arith, c.requires.within, ap (λ s. s.archive_len) c.self.view_is)) in
     elim c.match-read_bytes.branch [
       | in-Ok w ↦ subst (λ result. OnOk result (c.read_bytes.new.into ≡ slice_range archive c.args.at (c.args.at + length c.args.into.now)))
@@ -20,7 +21,8 @@ returns-clause-shown g c = rw (← c.self.view_is) (λ archive shows honest.
 pub returns-clause-read : goal.returns-clause-read
 returns-clause-read g c = rw (← c.self.view_is) (λ stored up honest.
     let is = archive_is_read (g.D.Sectors.sectors c.self.inside.disk) (g.D.Sectors.history c.self.inside.disk) stored _ up
-    _ c.args.at (length c.args.into.now) c.read_bytes.new.into (ap (λ (p : ArchivePlace). p.first) (c.archive-first.ensures ∙ ap (λ s. archive_of s) (sym c.self.view_is)))
+    _ c.args.at (length c.args.into.now) c.read_bytes.new.into
+    (ap (λ (p : ArchivePlace). p.first) (c.archive-first.ensures ∙ ap (λ s. archive_of s) (sym c.self.view_is)))
     (omega (arith, c.requires.within, ap (λ s. s.archive_len) c.self.view_is)) in
     elim c.match-read_bytes.branch [
       | in-Ok w ↦ subst (λ result. OnOk result (c.read_bytes.new.into ≡ slice_range stored.archive c.args.at (c.args.at + length c.args.into.now)))

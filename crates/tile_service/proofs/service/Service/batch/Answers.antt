@@ -1,4 +1,4 @@
-use Rattle.std.proofs.Common.{Err, ◌∙◌, List, map, refl, sym, subst}
+use Rattle.std.proofs.Common.{◌∙◌, List, map, refl, sym, subst}
 use Rattle.std.specs.List.{All}
 use Rattle.std.proofs.lemmas.Bool.{false≢true}
 use Rattle.feature_model.specs.Data.{change_data}
@@ -6,21 +6,26 @@ use Rattle.feature_model.specs.declared.feature.Change.{Change}
 use Rattle.feature_store.specs.Store.{FeatureMap}
 use Rattle.tile_service.specs.Limits.{KeepsBatchLimits}
 use Rattle.tile_service.specs.Machine.{batched, recorded_in, HasTarget}
-use Rattle.tile_service.specs.declared.fault.ServiceFault.TheVariants.{NeedsUpgrade, NotFound, NumbersSpent}
+use Rattle.tile_service.specs.declared.fault.ServiceFault.TheVariants.{Broken, NeedsUpgrade, NotFound, NumbersSpent}
 use Rattle.tile_service.proofs.Batches.{lacks_from}
-use Rattle.tile_service.proofs.Edits.{same_leaves}
+use Rattle.tile_service.proofs.Edits.{refuses_edit}
 use Rattle.tile_service.proofs.Steps.{is_later}
 use Rattle.tile_service.proofs.service.Service.batch.Goals as goal
 
-pub returns-then-self-eq-FIRST_VERSION-clause-any_moment : goal.returns-then-self-eq-FIRST_VERSION-clause-any_moment
-returns-then-self-eq-FIRST_VERSION-clause-any_moment g c = rw (← c.self.view_is) (λ stored honest up.
-    same_leaves g.D.Sectors.sectors g.D.Sectors.history stored _ c.self.invariant.ring up batched
-    (recorded_in c.self.inside.version (map change_data c.args.changes.items)) (Err NeedsUpgrade) _ refl)
+pub returns-then-self-clause-takes : goal.returns-then-self-clause-takes
+returns-then-self-clause-takes g c = rw (← c.self.view_is)
+    (refuses_edit g.D.Sectors.sectors g.D.Sectors.honest g.D.Sectors.history g.D.Sectors.faults _ _ batched
+    (recorded_in c.self.inside.version (map change_data c.args.changes.items)) Broken refl (λ is. cc))
 
-pub returns-in-Err-clause-any_moment : goal.returns-in-Err-clause-any_moment
-returns-in-Err-clause-any_moment g c = rw (← c.self.view_is) (λ stored honest up.
-    same_leaves g.D.Sectors.sectors g.D.Sectors.history stored _ c.self.invariant.ring up batched
-    (recorded_in c.self.inside.version (map change_data c.args.changes.items)) (Err c.in-Err.fault) _ refl)
+pub returns-then-self-eq-FIRST_VERSION-clause-takes : goal.returns-then-self-eq-FIRST_VERSION-clause-takes
+returns-then-self-eq-FIRST_VERSION-clause-takes g c = rw (← c.self.view_is)
+    (refuses_edit g.D.Sectors.sectors g.D.Sectors.honest g.D.Sectors.history g.D.Sectors.faults _ _ batched
+    (recorded_in c.self.inside.version (map change_data c.args.changes.items)) NeedsUpgrade refl (λ is. cc))
+
+pub returns-in-Err-clause-takes : goal.returns-in-Err-clause-takes
+returns-in-Err-clause-takes g c = rw (← c.self.view_is)
+    (refuses_edit g.D.Sectors.sectors g.D.Sectors.honest g.D.Sectors.history g.D.Sectors.faults _ _ batched
+    (recorded_in c.self.inside.version (map change_data c.args.changes.items)) c.in-Err.fault refl (λ is. cc c.in-Err.ensures.fault.1))
 
 pub returns-then-not-has_targets-clause-machine : goal.returns-then-not-has_targets-clause-machine
 returns-then-not-has_targets-clause-machine g c = rw (← c.self.view_is) (λ known.
@@ -40,15 +45,15 @@ returns-then-not-has_targets-clause-machine g c = rw (← c.self.view_is) (λ kn
       refl,
     ))
 
-pub returns-then-not-has_targets-clause-any_moment : goal.returns-then-not-has_targets-clause-any_moment
-returns-then-not-has_targets-clause-any_moment g c = rw (← c.self.view_is) (λ stored honest up.
-    same_leaves g.D.Sectors.sectors g.D.Sectors.history stored _ c.self.invariant.ring up batched
-    (recorded_in c.self.inside.version (map change_data c.args.changes.items)) (Err NotFound) _ refl)
+pub returns-then-not-has_targets-clause-takes : goal.returns-then-not-has_targets-clause-takes
+returns-then-not-has_targets-clause-takes g c = rw (← c.self.view_is)
+    (refuses_edit g.D.Sectors.sectors g.D.Sectors.honest g.D.Sectors.history g.D.Sectors.faults _ _ batched
+    (recorded_in c.self.inside.version (map change_data c.args.changes.items)) NotFound refl (λ is. cc))
 
-pub returns-then-self-2-clause-any_moment : goal.returns-then-self-2-clause-any_moment
-returns-then-self-2-clause-any_moment g c = rw (← c.self.view_is) (λ stored honest up.
-    same_leaves g.D.Sectors.sectors g.D.Sectors.history stored _ c.self.invariant.ring up batched
-    (recorded_in c.self.inside.version (map change_data c.args.changes.items)) (Err NumbersSpent) _ refl)
+pub returns-then-self-2-clause-takes : goal.returns-then-self-2-clause-takes
+returns-then-self-2-clause-takes g c = rw (← c.self.view_is)
+    (refuses_edit g.D.Sectors.sectors g.D.Sectors.honest g.D.Sectors.history g.D.Sectors.faults _ _ batched
+    (recorded_in c.self.inside.version (map change_data c.args.changes.items)) NumbersSpent refl (λ is. cc))
 
-pub returns-clause-any_moment : goal.returns-clause-any_moment
-returns-clause-any_moment g c = λ stored honest up. c.write_edit.ensures.any_moment stored batched honest up
+pub returns-clause-takes : goal.returns-clause-takes
+returns-clause-takes g c = c.write_edit.ensures.takes batched

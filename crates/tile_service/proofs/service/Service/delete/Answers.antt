@@ -1,4 +1,5 @@
-use Rattle.std.proofs.Common.{◌≡◌, Ok, Err, ℕ, List, [], ◌∷◌, refl, sym, ap, subst, arith, rules, length}
+use Rattle.std.proofs.Common.{◌≡◌, Ok, ℕ, List, [], ◌∷◌, refl, sym, ap, subst, arith, rules, length}
+use Rattle.edit_journal.specs.Appends.{ring_of}
 use Rattle.edit_journal.specs.Records.{IsRecordLength, parts_of, record_of}
 use Rattle.edit_text.specs.Recorded.{text_in}
 use Rattle.feature_model.specs.Data.{delete}
@@ -6,17 +7,23 @@ use Rattle.feature_model.specs.Limits.{NumberFits}
 use Rattle.feature_store.specs.Store.{snapshot}
 use Rattle.tile_service.specs.Machine.{single, recorded_change}
 use Rattle.tile_service.specs.Stored.{stored_records}
-use Rattle.tile_service.specs.declared.fault.ServiceFault.TheVariants.{NotFound}
+use Rattle.tile_service.specs.declared.fault.ServiceFault.TheVariants.{Broken, NotFound}
 use Rattle.tile_service.proofs.Earlier.{since_on, now_on, right_on}
-use Rattle.tile_service.proofs.Edits.{up_is_at, same_leaves, append_any_moment, refused_any_moment, up_with_edit}
+use Rattle.tile_service.proofs.Edits.{up_is_at, refuses_edit, append_any_moment, refused_any_moment, up_with_edit}
 use Rattle.tile_service.proofs.Going.{service_on}
+use Rattle.tile_service.proofs.Shown.{append_keeps}
 use Rattle.tile_service.proofs.Steps.{delete_recorded, text_length, short_after_edit}
 use Rattle.tile_service.proofs.service.Service.delete.Goals as goal
 
-pub returns-then-not-has-clause-any_moment : goal.returns-then-not-has-clause-any_moment
-returns-then-not-has-clause-any_moment g c = rw (← c.self.view_is)
-    (λ stored honest up. same_leaves g.D.Sectors.sectors g.D.Sectors.history stored _ c.self.invariant.ring up single
-    (recorded_change c.self.inside.version (delete c.args.id)) (Err NotFound) _ refl)
+pub returns-then-self-clause-takes : goal.returns-then-self-clause-takes
+returns-then-self-clause-takes g c = rw (← c.self.view_is)
+    (refuses_edit g.D.Sectors.sectors g.D.Sectors.honest g.D.Sectors.history g.D.Sectors.faults _ _ single
+    (recorded_change c.self.inside.version (delete c.args.id)) Broken refl (λ is. cc))
+
+pub returns-then-not-has-clause-takes : goal.returns-then-not-has-clause-takes
+returns-then-not-has-clause-takes g c = rw (← c.self.view_is)
+    (refuses_edit g.D.Sectors.sectors g.D.Sectors.honest g.D.Sectors.history g.D.Sectors.faults _ _ single
+    (recorded_change c.self.inside.version (delete c.args.id)) NotFound refl (λ is. cc))
 
 pub append-requires-clause-text : goal.append-requires-clause-text
 append-requires-clause-text g c =
@@ -29,7 +36,8 @@ pub invariant_of-self : goal.invariant_of-self
 invariant_of-self g c =
     let version = c.self.inside.version in
     let fits : NumberFits c.args.id = search rules in
-    let text : c.deletion_text-text.result.now ≡ text_in version (delete c.args.id ∷ []) = c.deletion_text-text.ensures c.args.id c.delete_edit_text-text.ensures in
+    let text : c.deletion_text-text.result.now ≡ text_in version (delete c.args.id ∷ []) =
+    c.deletion_text-text.ensures c.args.id c.delete_edit_text-text.ensures in
     service_on c.self.inside.layout.sectors version c.self.inside.root c.self.inside.journal c.append.new.self c.append.ensures.same.0 c.append.ensures.same.1
     (length c.deletion_text-text.result.now) (subst (λ (t : List ℕ). IsRecordLength version (length t)) (sym text)
     (text_length version (delete c.args.id ∷ []) c.self.invariant.version_is (delete_recorded version c.args.id c.self.invariant.version_is fits).edit.allowed))
@@ -43,38 +51,69 @@ invariant_of-self g c =
     ))
     _ _ _ c.append.ensures.count c.self.invariant
 
-pub returns-in-Ok-clause-any_moment : goal.returns-in-Ok-clause-any_moment
-returns-in-Ok-clause-any_moment g c = rw (← c.self.view_is) (λ stored honest up.
-    let version = c.self.inside.version in
-    let fits : NumberFits c.args.id = search rules in
-    let at = up_is_at g.D.Sectors.sectors g.D.Sectors.history stored _ c.self.invariant.ring up in
-    append_any_moment g.D.Sectors.sectors g.D.Sectors.history stored _ c.self.invariant.ring up (recorded_change version (delete c.args.id))
-    (delete_recorded version c.args.id c.self.invariant.version_is fits) refl
-    _ (ap (record_of version) (c.deletion_text-text.ensures c.args.id c.delete_edit_text-text.ensures)) c.append.new.disk (c.append.ensures.frame honest)
-    single (Ok c.in-Ok.number) tt (c.append.ensures.any_moment (stored_records stored) honest at))
+pub returns-in-Ok-clause-takes : goal.returns-in-Ok-clause-takes
+returns-in-Ok-clause-takes g c = rw (← c.self.view_is) (record {
+  size = refl;
+  publication = refl;
+  count = c.append.ensures.count;
+  stays_honest = c.append.ensures.honest;
+  succeeded = c.in-Ok.ensures.faults;
+  failed = tt;
+  unwritten = tt;
+  unchanged = tt;
+  keeps_archive = append_keeps g.D.Sectors.honest g.D.Sectors.history _ _ refl refl refl refl c.self.invariant.area
+      (ring_of c.self.inside.journal) c.self.invariant.ring c.self.inside.journal.place c.self.inside.journal.used c.append.new.disk refl
+      c.append.ensures.reads;
+  any_moment = (λ stored honest up.
+      let version = c.self.inside.version in
+      let fits : NumberFits c.args.id = search rules in
+      let at = up_is_at g.D.Sectors.sectors g.D.Sectors.history stored _ c.self.invariant.ring up in
+      append_any_moment g.D.Sectors.sectors g.D.Sectors.history stored _ c.self.invariant.ring up (recorded_change version (delete c.args.id))
+      (delete_recorded version c.args.id c.self.invariant.version_is fits) refl
+      _ (ap (record_of version) (c.deletion_text-text.ensures c.args.id c.delete_edit_text-text.ensures)) c.append.new.disk (c.append.ensures.frame honest)
+      single (Ok c.in-Ok.number) tt (c.append.ensures.any_moment (stored_records stored) honest at));
+  acknowledged = (λ stored honest up.
+      let version = c.self.inside.version in
+      let fits : NumberFits c.args.id = search rules in
+      let at = up_is_at g.D.Sectors.sectors g.D.Sectors.history stored _ c.self.invariant.ring up in
+      let last : c.remove.new.self.last ≡ c.append.new.self.last = omega (arith, c.remove.ensures.last, c.in-Ok.ensures.number, c.in-Ok.ensures.last) in
+      up_with_edit g.D.Sectors.sectors g.D.Sectors.history stored _ c.self.invariant.ring up (recorded_change version (delete c.args.id))
+      (delete_recorded version c.args.id c.self.invariant.version_is fits) refl
+      _ (ap (record_of version) (c.deletion_text-text.ensures c.args.id c.delete_edit_text-text.ensures)) c.append.new.disk (c.append.ensures.frame honest)
+      _ refl c.append.ensures.count refl c.append.ensures.same (c.in-Ok.ensures.acknowledged (stored_records stored) honest at) c.remove.ensures.map
+      (since_on c.self.inside.map c.self.inside.map c.remove.new.self c.self.inside.journal.last c.append.new.self.last c.self.invariant.last_is refl last
+      c.remove.ensures.since)
+      (now_on c.remove.new.self c.append.new.self.last last c.remove.ensures.now)
+      (right_on c.self.inside.map c.self.inside.map c.remove.new.self c.self.inside.journal.last c.append.new.self.last c.self.invariant.last_is refl last
+      c.remove.ensures.reads) refl refl refl refl refl refl refl (c.append.ensures.reads honest));
+  refused = λ stored honest up. tt;
+  steps = search rules;
+})
 
-pub returns-in-Ok-clause-acknowledged : goal.returns-in-Ok-clause-acknowledged
-returns-in-Ok-clause-acknowledged g c = rw (← c.self.view_is) (λ stored honest up.
-    let version = c.self.inside.version in
-    let fits : NumberFits c.args.id = search rules in
-    let at = up_is_at g.D.Sectors.sectors g.D.Sectors.history stored _ c.self.invariant.ring up in
-    let last : c.remove.new.self.last ≡ c.append.new.self.last = omega (arith, c.remove.ensures.last, c.in-Ok.ensures.number, c.in-Ok.ensures.last) in
-    up_with_edit g.D.Sectors.sectors g.D.Sectors.history stored _ c.self.invariant.ring up (recorded_change version (delete c.args.id))
-    (delete_recorded version c.args.id c.self.invariant.version_is fits) refl
-    _ (ap (record_of version) (c.deletion_text-text.ensures c.args.id c.delete_edit_text-text.ensures)) c.append.new.disk (c.append.ensures.frame honest)
-    _ refl c.append.ensures.count refl c.append.ensures.same (c.in-Ok.ensures.acknowledged (stored_records stored) honest at) c.remove.ensures.map
-    (since_on c.self.inside.map c.self.inside.map c.remove.new.self c.self.inside.journal.last c.append.new.self.last c.self.invariant.last_is refl last
-    c.remove.ensures.since)
-    (now_on c.remove.new.self c.append.new.self.last last c.remove.ensures.now)
-    (right_on c.self.inside.map c.self.inside.map c.remove.new.self c.self.inside.journal.last c.append.new.self.last c.self.invariant.last_is refl last
-    c.remove.ensures.reads) refl refl refl refl refl refl refl (c.append.ensures.reads honest))
-
-pub returns-in-Err-clause-any_moment : goal.returns-in-Err-clause-any_moment
-returns-in-Err-clause-any_moment g c = rw (ap (λ s. s.disk) c.fail.ensures.same, ← c.self.view_is) (λ stored honest up.
-    let version = c.self.inside.version in
-    let fits : NumberFits c.args.id = search rules in
-    let at = up_is_at g.D.Sectors.sectors g.D.Sectors.history stored _ c.self.invariant.ring up in
-    refused_any_moment g.D.Sectors.sectors g.D.Sectors.history stored _ c.self.invariant.ring up (recorded_change version (delete c.args.id))
-    (delete_recorded version c.args.id c.self.invariant.version_is fits) refl
-    _ (ap (record_of version) (c.deletion_text-text.ensures c.args.id c.delete_edit_text-text.ensures)) c.append.new.disk (c.append.ensures.frame honest)
-    single c.in-Err.fault c.fail.result c.fail.ensures.told c.in-Err.ensures.refused (c.append.ensures.any_moment (stored_records stored) honest at))
+pub returns-in-Err-clause-takes : goal.returns-in-Err-clause-takes
+returns-in-Err-clause-takes g c = rw (← c.self.view_is) (record {
+  size = ap (λ s. s.size) c.fail.ensures.same;
+  publication = tt;
+  count = search rules;
+  stays_honest = search rules;
+  succeeded = tt;
+  failed = search rules;
+  unwritten = search rules;
+  unchanged = search rules;
+  keeps_archive = append_keeps g.D.Sectors.honest g.D.Sectors.history _ _ (ap (λ s. s.size) c.fail.ensures.same)
+      (ap (λ s. s.generation) c.fail.ensures.same) (ap (λ s. s.snapshot_len) c.fail.ensures.same) (ap (λ s. s.archive_len) c.fail.ensures.same)
+      c.self.invariant.area
+      (ring_of c.self.inside.journal) c.self.invariant.ring c.self.inside.journal.place c.self.inside.journal.used c.append.new.disk
+      (ap (λ s. s.disk) c.fail.ensures.same) c.append.ensures.reads;
+  any_moment = rw (ap (λ s. s.disk) c.fail.ensures.same) (λ stored honest up.
+      let version = c.self.inside.version in
+      let fits : NumberFits c.args.id = search rules in
+      let at = up_is_at g.D.Sectors.sectors g.D.Sectors.history stored _ c.self.invariant.ring up in
+      refused_any_moment g.D.Sectors.sectors g.D.Sectors.history stored _ c.self.invariant.ring up (recorded_change version (delete c.args.id))
+      (delete_recorded version c.args.id c.self.invariant.version_is fits) refl
+      _ (ap (record_of version) (c.deletion_text-text.ensures c.args.id c.delete_edit_text-text.ensures)) c.append.new.disk (c.append.ensures.frame honest)
+      single c.in-Err.fault c.fail.result c.fail.ensures.told c.in-Err.ensures.refused (c.append.ensures.any_moment (stored_records stored) honest at));
+  acknowledged = λ stored honest up. tt;
+  refused = search rules;
+  steps = λ honest. tt;
+})

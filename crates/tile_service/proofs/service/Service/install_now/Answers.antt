@@ -2,27 +2,14 @@ use Rattle.std.proofs.Common.{◌+◌, length, refl, sym, ◌∙◌, ap, subst}
 use Rattle.edit_journal.specs.Releases.{IsBehind}
 use Rattle.edit_journal.specs.declared.journal.Journal.{Journal}
 use Rattle.generations.specs.declared.root.Root.{Root}
+use Rattle.tile_service.specs.Inside.{service_view}
 use Rattle.tile_service.specs.Service.{ServiceView, PublicationView}
 use Rattle.tile_service.proofs.PublishSteps.{next_root_is, installing_leaves, up_installed}
 use Rattle.tile_service.proofs.service.Service.install_now.Goals as goal
 
 pub returns-in-Ok-clause-any_moment : goal.returns-in-Ok-clause-any_moment
 returns-in-Ok-clause-any_moment g c = rw (← c.self.view_is) (λ stored honest up.
-    let service : ServiceView g.row.D.Denot = record {
-      disk = c.self.inside.disk;
-      size = c.self.inside.layout.sectors;
-      version = c.self.inside.version;
-      features = c.self.inside.map.features;
-      touched = c.self.inside.map.touched;
-      kept = c.self.inside.map.kept;
-      journal = c.self.inside.journal;
-      generation = c.self.inside.root.generation;
-      snapshot_len = c.self.inside.root.snapshot_len;
-      archive_len = c.self.inside.root.archive_len;
-      publication = c.self.inside.publication;
-      published = c.self.inside.published;
-      broken = c.self.inside.broken;
-    } in
+    let service : ServiceView g.row.D.Denot = service_view c.self.inside in
     let root : Root = record {
       generation = c.self.inside.root.generation + 1;
       edits = c.publication.inside.start.edits;
@@ -37,21 +24,7 @@ returns-in-Ok-clause-any_moment g c = rw (← c.self.view_is) (λ stored honest 
 
 pub returns-in-Ok-clause-after : goal.returns-in-Ok-clause-after
 returns-in-Ok-clause-after g c = rw (← c.self.view_is) (λ stored honest up.
-    let service : ServiceView g.row.D.Denot = record {
-      disk = c.self.inside.disk;
-      size = c.self.inside.layout.sectors;
-      version = c.self.inside.version;
-      features = c.self.inside.map.features;
-      touched = c.self.inside.map.touched;
-      kept = c.self.inside.map.kept;
-      journal = c.self.inside.journal;
-      generation = c.self.inside.root.generation;
-      snapshot_len = c.self.inside.root.snapshot_len;
-      archive_len = c.self.inside.root.archive_len;
-      publication = c.self.inside.publication;
-      published = c.self.inside.published;
-      broken = c.self.inside.broken;
-    } in
+    let service : ServiceView g.row.D.Denot = service_view c.self.inside in
     let root : Root = record {
       generation = c.self.inside.root.generation + 1;
       edits = c.publication.inside.start.edits;
@@ -75,21 +48,7 @@ returns-in-Ok-clause-after g c = rw (← c.self.view_is) (λ stored honest up.
 
 pub returns-clause-any_moment : goal.returns-clause-any_moment
 returns-clause-any_moment g c = rw (← c.self.view_is) (λ stored honest up.
-    let service : ServiceView g.row.D.Denot = record {
-      disk = c.self.inside.disk;
-      size = c.self.inside.layout.sectors;
-      version = c.self.inside.version;
-      features = c.self.inside.map.features;
-      touched = c.self.inside.map.touched;
-      kept = c.self.inside.map.kept;
-      journal = c.self.inside.journal;
-      generation = c.self.inside.root.generation;
-      snapshot_len = c.self.inside.root.snapshot_len;
-      archive_len = c.self.inside.root.archive_len;
-      publication = c.self.inside.publication;
-      published = c.self.inside.published;
-      broken = c.self.inside.broken;
-    } in
+    let service : ServiceView g.row.D.Denot = service_view c.self.inside in
     let root : Root = record {
       generation = c.self.inside.root.generation + 1;
       edits = c.publication.inside.start.edits;

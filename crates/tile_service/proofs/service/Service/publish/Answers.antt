@@ -1,12 +1,12 @@
 use Rattle.std.proofs.Common.{◌≡◌, inr, ℕ, [], ◌∷◌, ◌++◌, Result, Ok, Err, refl, ◌∙◌, ap, subst, arith}
 use Rattle.tile_service.specs.Machine.{begin, step}
-use Rattle.tile_service.specs.Runs.{begin_and_steps, Takes, TakesAll}
+use Rattle.tile_service.specs.Runs.{begin_and_steps, Takes}
 use Rattle.tile_service.specs.declared.fault.ServiceFault.{ServiceFault}
 use Rattle.tile_service.specs.Service.{state_of, known_after, CountsDevice}
-use Rattle.tile_service.proofs.Callers.{HasRun, begin_step, step_step, run_begins, run_on, events_on, takes_run}
+use Rattle.tile_service.proofs.Callers.{begin_step, step_step, run_begins, run_on, one_step_more, takes_run}
 use Rattle.tile_service.proofs.Runs.{no_known}
 use Rattle.tile_service.proofs.Shown.{keeps_on}
-use Rattle.tile_service.proofs.Whole.{Stands, begun_stands, on_stands, falls, only_device, device_gives_up, begin_counts, none_seen, begin_given_up, steps_more}
+use Rattle.tile_service.proofs.Whole.{Stands, begun_stands, on_stands, falls, only_device, device_gives_up, begin_counts, none_seen, begin_given_up}
 use Rattle.tile_service.proofs.Whole.{begin_no_step, left_not_done, refused_not_done}
 use Rattle.tile_service.proofs.service.Service.publish.Goals as goal
 
@@ -16,7 +16,8 @@ loop-rest-init g c =
     let old = c.args.self.now in
     let new = c.publish_begin.new.self in
     let goes = begin_step g.D.Sectors.sectors g.D.Sectors.honest g.D.Sectors.history old new (Ok c.in-Ok.told) call.machine call.same call.up in
-    let run = run_on g.D.Sectors.sectors g.D.Sectors.honest g.D.Sectors.history old old new [] (begin (Ok c.in-Ok.told)) (run_begins g.D.Sectors.sectors g.D.Sectors.honest g.D.Sectors.history old) goes in
+    let run = run_on g.D.Sectors.sectors g.D.Sectors.honest g.D.Sectors.history old old new [] (begin (Ok c.in-Ok.told))
+    (run_begins g.D.Sectors.sectors g.D.Sectors.honest g.D.Sectors.history old) goes in
     record {
       stands = (
         known_after no_known old (begin (Ok c.in-Ok.told)),
@@ -39,12 +40,8 @@ loop-rest-preserved g c =
     let goes : Takes g.D.Sectors.sectors g.D.Sectors.honest g.D.Sectors.history old (step outcome) new =
     step_step g.D.Sectors.sectors g.D.Sectors.honest g.D.Sectors.history old new outcome
     call.machine call.size call.count call.honest call.refused call.any_moment call.after call.archive in
-    let run : HasRun g.D.Sectors.sectors g.D.Sectors.honest g.D.Sectors.history c.args.self.now (begin_and_steps ((inv.run.0 ++ Ok rest ∷ []) ++ outcome ∷ [])) new =
-    steps_more (λ happenings. HasRun g.D.Sectors.sectors g.D.Sectors.honest g.D.Sectors.history c.args.self.now happenings new) inv.run.0 (Ok rest) outcome
-    (run_on g.D.Sectors.sectors g.D.Sectors.honest g.D.Sectors.history c.args.self.now old new (begin_and_steps (inv.run.0 ++ Ok rest ∷ [])) (step outcome) inv.run.1 goes) in
-    let taken : TakesAll g.D.Sectors.sectors g.D.Sectors.honest g.D.Sectors.history c.args.self.now (begin_and_steps ((inv.run.0 ++ Ok rest ∷ []) ++ outcome ∷ [])) new =
-    steps_more (λ happenings. TakesAll g.D.Sectors.sectors g.D.Sectors.honest g.D.Sectors.history c.args.self.now happenings new) inv.run.0 (Ok rest) outcome
-    (events_on g.D.Sectors.sectors g.D.Sectors.honest g.D.Sectors.history c.args.self.now old new (begin_and_steps (inv.run.0 ++ Ok rest ∷ [])) (step outcome) inv.run.2 goes) in
+    let more = one_step_more g.D.Sectors.sectors g.D.Sectors.honest g.D.Sectors.history c.args.self.now old new inv.run.0 (Ok rest) outcome
+    inv.run.1 inv.run.2 goes in
     let known = inv.stands.0 in
     let moved = call.machine known in
     record {
@@ -58,7 +55,7 @@ loop-rest-preserved g c =
       archive = λ some. keeps_on g.D.Sectors.honest g.D.Sectors.history c.args.self.now old new
           (inv.archive (λ none. omega (arith, c.loop-rest-test.true, none))) call.honest
           (call.archive (left_not_done c.in-Ok-publish_step.told some));
-      run = (inv.run.0 ++ Ok rest ∷ [], run, taken);
+      run = (inv.run.0 ++ Ok rest ∷ [], more.0, more.1);
     }
 
 pub loop-rest-smaller : goal.loop-rest-smaller
@@ -75,7 +72,8 @@ returns-in-Err-clause-run g c =
     let old = c.args.self.now in
     let new = c.publish_begin.new.self in
     let goes = begin_step g.D.Sectors.sectors g.D.Sectors.honest g.D.Sectors.history old new (Err c.in-Err.fault) call.machine call.same call.up in
-    let run = run_on g.D.Sectors.sectors g.D.Sectors.honest g.D.Sectors.history old old new [] (begin (Err c.in-Err.fault)) (run_begins g.D.Sectors.sectors g.D.Sectors.honest g.D.Sectors.history old) goes in
+    let run = run_on g.D.Sectors.sectors g.D.Sectors.honest g.D.Sectors.history old old new [] (begin (Err c.in-Err.fault))
+    (run_begins g.D.Sectors.sectors g.D.Sectors.honest g.D.Sectors.history old) goes in
     record {
       before = [];
       last = Err c.in-Err.fault;
@@ -126,17 +124,14 @@ returns-in-Err-publish_step-clause-run g c =
     let goes : Takes g.D.Sectors.sectors g.D.Sectors.honest g.D.Sectors.history old (step outcome) new =
     step_step g.D.Sectors.sectors g.D.Sectors.honest g.D.Sectors.history old new outcome
     call.machine call.size call.count call.honest call.refused call.any_moment call.after call.archive in
-    let run : HasRun g.D.Sectors.sectors g.D.Sectors.honest g.D.Sectors.history c.args.self.now (begin_and_steps ((inv.run.0 ++ Ok rest ∷ []) ++ outcome ∷ [])) new =
-    steps_more (λ happenings. HasRun g.D.Sectors.sectors g.D.Sectors.honest g.D.Sectors.history c.args.self.now happenings new) inv.run.0 (Ok rest) outcome
-    (run_on g.D.Sectors.sectors g.D.Sectors.honest g.D.Sectors.history c.args.self.now old new (begin_and_steps (inv.run.0 ++ Ok rest ∷ [])) (step outcome) inv.run.1 goes) in
-    let taken : TakesAll g.D.Sectors.sectors g.D.Sectors.honest g.D.Sectors.history c.args.self.now (begin_and_steps ((inv.run.0 ++ Ok rest ∷ []) ++ outcome ∷ [])) new =
-    steps_more (λ happenings. TakesAll g.D.Sectors.sectors g.D.Sectors.honest g.D.Sectors.history c.args.self.now happenings new) inv.run.0 (Ok rest) outcome
-    (events_on g.D.Sectors.sectors g.D.Sectors.honest g.D.Sectors.history c.args.self.now old new (begin_and_steps (inv.run.0 ++ Ok rest ∷ [])) (step outcome) inv.run.2 goes) in
+    let more = one_step_more g.D.Sectors.sectors g.D.Sectors.honest g.D.Sectors.history c.args.self.now old new inv.run.0 (Ok rest) outcome
+    inv.run.1 inv.run.2 goes in
     record {
       before = inv.run.0 ++ Ok rest ∷ [];
       last = outcome;
-      takes = taken;
-      run = takes_run g.D.Sectors.sectors g.D.Sectors.honest g.D.Sectors.history c.args.self.now (begin_and_steps ((inv.run.0 ++ Ok rest ∷ []) ++ outcome ∷ [])) new run;
+      takes = more.1;
+      run = takes_run g.D.Sectors.sectors g.D.Sectors.honest g.D.Sectors.history c.args.self.now
+          (begin_and_steps ((inv.run.0 ++ Ok rest ∷ []) ++ outcome ∷ [])) new more.0;
       ends = refl;
     }
 
@@ -190,7 +185,8 @@ returns-clause-run g c =
       before = inv.run.0;
       last = Ok c.loop-rest.rest;
       takes = inv.run.2;
-      run = takes_run g.D.Sectors.sectors g.D.Sectors.honest g.D.Sectors.history c.args.self.now (begin_and_steps (inv.run.0 ++ Ok c.loop-rest.rest ∷ [])) c.loop-rest.self inv.run.1;
+      run = takes_run g.D.Sectors.sectors g.D.Sectors.honest g.D.Sectors.history c.args.self.now
+          (begin_and_steps (inv.run.0 ++ Ok c.loop-rest.rest ∷ [])) c.loop-rest.self inv.run.1;
       ends = (
         ap (λ (n : ℕ). Ok n) done,
         ap (λ s. s.generation) c.self-2.view_is,

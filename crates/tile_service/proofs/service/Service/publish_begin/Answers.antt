@@ -2,6 +2,7 @@ use Rattle.std.proofs.Common.{◌≡◌, ◌+◌, ◌∙◌, refl, ap, subst, ar
 use Rattle.std.specs.Prelude.{None}
 use Rattle.area_content.specs.Tiles.{IsArchiveOfMap}
 use Rattle.feature_store.specs.Store.{IsMap, snapshot}
+use Rattle.tile_service.specs.Inside.{service_view}
 use Rattle.tile_service.specs.Service.{PublicationView}
 use Rattle.tile_service.proofs.PublishSteps.{up_with, begins_publishing, begins_told}
 use Rattle.tile_service.proofs.service.Service.publish_begin.Goals as goal
@@ -9,21 +10,8 @@ use Rattle.tile_service.proofs.service.Service.publish_begin.Goals as goal
 pub returns-in-Ok-clause-machine : goal.returns-in-Ok-clause-machine
 returns-in-Ok-clause-machine g c = rw (← c.self.view_is) (λ known.
     let none : c.self.inside.publication ≡ None = search rules in
-    begins_told {D = g.row.D.Denot} known (record {
-      disk = c.self.inside.disk;
-      size = c.self.inside.layout.sectors;
-      version = c.self.inside.version;
-      features = c.self.inside.map.features;
-      touched = c.self.inside.map.touched;
-      kept = c.self.inside.map.kept;
-      journal = c.self.inside.journal;
-      generation = c.self.inside.root.generation;
-      snapshot_len = c.self.inside.root.snapshot_len;
-      archive_len = c.self.inside.root.archive_len;
-      publication = c.self.inside.publication;
-      published = c.self.inside.published;
-      broken = c.self.inside.broken;
-    }) (record { content = c.in-Ok.content; start = c.next.result; places = c.self.inside.journal.used; written = 0 })
+    begins_told {D = g.row.D.Denot} known (service_view c.self.inside)
+    (record { content = c.in-Ok.content; start = c.next.result; places = c.self.inside.journal.used; written = 0 })
     (c.sectors-left.result + 1) (search rules) none (omega arith)
     (subst (λ m. IsArchiveOfMap m c.in-Ok.content.archive) c.store.ensures.features c.in-Ok.ensures.archive)
     (c.in-Ok.ensures.snapshot ∙ ap (λ m. snapshot m) c.store.ensures.features)

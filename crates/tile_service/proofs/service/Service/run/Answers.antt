@@ -30,7 +30,11 @@ loop-event-init g c = let none = c.in-Ok.ensures.items in record {
   faults = λ none unbroken. refl;
   failed = λ none unbroken broken. absurd (false≢true (sym unbroken ∙ broken));
   untouched = λ broken. (broken, refl);
-  so = ([], subst (λ l. AreTold c.args.self.now.version [] l []) (sym none) tt, run_begins g.D.Sectors.sectors g.D.Sectors.honest g.D.Sectors.history c.args.self.now);
+  so = (
+    [],
+    subst (λ l. AreTold c.args.self.now.version [] l []) (sym none) tt,
+    run_begins g.D.Sectors.sectors g.D.Sectors.honest g.D.Sectors.history c.args.self.now,
+  );
 }
 
 pub loop-event-preserved : goal.loop-event-preserved

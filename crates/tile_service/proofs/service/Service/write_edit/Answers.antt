@@ -1,28 +1,29 @@
-use Rattle.std.proofs.Common.{◌≡◌, Ok, Err, ◌≢◌, ◌∙◌, ℕ, List, refl, sym, ap, subst, arith, rules, length}
+use Rattle.std.proofs.Common.{◌≡◌, Ok, ◌∙◌, ℕ, List, refl, sym, ap, subst, arith, rules, length}
+use Rattle.edit_journal.specs.Appends.{ring_of}
 use Rattle.edit_journal.specs.Records.{IsRecordLength, parts_of, record_of}
 use Rattle.edit_journal.specs.Ring.{Ring}
 use Rattle.edit_text.specs.Recorded.{IsRecorded, text_in}
 use Rattle.feature_model.specs.Data.{edit_data}
 use Rattle.feature_store.specs.Store.{edited, snapshot}
 use Rattle.tile_service.specs.Machine.{recorded_in}
-use Rattle.tile_service.specs.Service.{IsUp}
 use Rattle.tile_service.specs.Stored.{stored_records}
-use Rattle.tile_service.specs.declared.fault.ServiceFault.TheVariants.{Memory, Device}
+use Rattle.tile_service.specs.declared.fault.ServiceFault.TheVariants.{Memory}
 use Rattle.tile_service.proofs.Earlier.{since_on, now_on, right_on}
-use Rattle.tile_service.proofs.Edits.{up_is_at, same_leaves, append_any_moment, refused_any_moment, up_with_edit}
+use Rattle.tile_service.proofs.Edits.{up_is_at, refuses_edit, append_any_moment, refused_any_moment, up_with_edit}
 use Rattle.tile_service.proofs.Going.{service_on}
+use Rattle.tile_service.proofs.Shown.{append_keeps}
 use Rattle.tile_service.proofs.Steps.{text_length, short_after_edit, short_enough}
 use Rattle.tile_service.proofs.service.Service.write_edit.Goals as goal
 
-pub returns-in-Err-clause-any_moment : goal.returns-in-Err-clause-any_moment
-returns-in-Err-clause-any_moment g c = rw (← c.self.view_is) (λ stored call honest up.
-    same_leaves g.D.Sectors.sectors g.D.Sectors.history stored _ c.self.invariant.ring up call (recorded_in c.self.inside.version (edit_data c.args.requested))
-    (Err Memory) _ refl)
+pub returns-in-Err-clause-takes : goal.returns-in-Err-clause-takes
+returns-in-Err-clause-takes g c = rw (← c.self.view_is)
+    (λ call. refuses_edit g.D.Sectors.sectors g.D.Sectors.honest g.D.Sectors.history g.D.Sectors.faults _ _ call
+    (recorded_in c.self.inside.version (edit_data c.args.requested)) Memory refl (λ is. cc))
 
-pub returns-in-Err-room_all-clause-any_moment : goal.returns-in-Err-room_all-clause-any_moment
-returns-in-Err-room_all-clause-any_moment g c = rw (← c.self.view_is) (λ stored call honest up.
-    same_leaves g.D.Sectors.sectors g.D.Sectors.history stored _ c.self.invariant.ring up call (recorded_in c.self.inside.version (edit_data c.args.requested))
-    (Err Memory) _ refl)
+pub returns-in-Err-room_all-clause-takes : goal.returns-in-Err-room_all-clause-takes
+returns-in-Err-room_all-clause-takes g c = rw (← c.self.view_is)
+    (λ call. refuses_edit g.D.Sectors.sectors g.D.Sectors.honest g.D.Sectors.history g.D.Sectors.faults _ _ call
+    (recorded_in c.self.inside.version (edit_data c.args.requested)) Memory (search rules) (λ is. cc))
 
 pub append-requires-clause-text : goal.append-requires-clause-text
 append-requires-clause-text g c = subst (λ (t : List ℕ). IsRecordLength c.self.inside.version (length t))
@@ -53,42 +54,74 @@ invariant_of-self-in-Ok-append g c =
     ))
     _ _ _ c.append.ensures.count c.self.invariant
 
-pub returns-in-Ok-append-clause-any_moment : goal.returns-in-Ok-append-clause-any_moment
-returns-in-Ok-append-clause-any_moment g c = rw (← c.self.view_is) (λ stored call honest up.
-    let version = c.self.inside.version in
-    let recorded : IsRecorded (recorded_in version (edit_data c.args.requested)) = record { fits = c.in-Ok.ensures.record.fits; edit = c.in-Ok.ensures.record.edit } in
-    let at = up_is_at g.D.Sectors.sectors g.D.Sectors.history stored _ c.self.invariant.ring up in
-    append_any_moment g.D.Sectors.sectors g.D.Sectors.history stored _ c.self.invariant.ring up (recorded_in version (edit_data c.args.requested)) recorded refl
-    _ (ap (record_of version) (c.deref-2.ensures.value ∙ c.in-Ok.ensures.text)) c.append.new.disk (c.append.ensures.frame honest)
-    call (Ok c.in-Ok-append.number) tt (c.append.ensures.any_moment (stored_records stored) honest at))
+pub returns-in-Ok-append-clause-takes : goal.returns-in-Ok-append-clause-takes
+returns-in-Ok-append-clause-takes g c = rw (← c.self.view_is) (λ call. record {
+  size = refl;
+  publication = refl;
+  count = c.append.ensures.count;
+  stays_honest = c.append.ensures.honest;
+  succeeded = c.in-Ok-append.ensures.faults;
+  failed = tt;
+  unwritten = tt;
+  unchanged = tt;
+  keeps_archive = append_keeps g.D.Sectors.honest g.D.Sectors.history _ _ refl refl refl refl c.self.invariant.area
+      (ring_of c.self.inside.journal) c.self.invariant.ring c.self.inside.journal.place c.self.inside.journal.used c.append.new.disk refl
+      c.append.ensures.reads;
+  any_moment = (λ stored honest up.
+      let version = c.self.inside.version in
+      let recorded : IsRecorded (recorded_in version (edit_data c.args.requested)) =
+      record { fits = c.in-Ok.ensures.record.fits; edit = c.in-Ok.ensures.record.edit } in
+      let at = up_is_at g.D.Sectors.sectors g.D.Sectors.history stored _ c.self.invariant.ring up in
+      append_any_moment g.D.Sectors.sectors g.D.Sectors.history stored _ c.self.invariant.ring up (recorded_in version (edit_data c.args.requested))
+      recorded refl
+      _ (ap (record_of version) (c.deref-2.ensures.value ∙ c.in-Ok.ensures.text)) c.append.new.disk (c.append.ensures.frame honest)
+      call (Ok c.in-Ok-append.number) tt (c.append.ensures.any_moment (stored_records stored) honest at));
+  acknowledged = (λ stored honest up.
+      let version = c.self.inside.version in
+      let recorded : IsRecorded (recorded_in version (edit_data c.args.requested)) =
+      record { fits = c.in-Ok.ensures.record.fits; edit = c.in-Ok.ensures.record.edit } in
+      let at = up_is_at g.D.Sectors.sectors g.D.Sectors.history stored _ c.self.invariant.ring up in
+      let last : c.make_edit.new.self.last ≡ c.append.new.self.last =
+      omega (arith, c.make_edit.ensures.last, c.in-Ok-append.ensures.number, c.in-Ok-append.ensures.last) in
+      up_with_edit g.D.Sectors.sectors g.D.Sectors.history stored _ c.self.invariant.ring up (recorded_in version (edit_data c.args.requested)) recorded refl
+      _ (ap (record_of version) (c.deref-2.ensures.value ∙ c.in-Ok.ensures.text)) c.append.new.disk (c.append.ensures.frame honest)
+      _ refl c.append.ensures.count refl c.append.ensures.same (c.in-Ok-append.ensures.acknowledged (stored_records stored) honest at)
+      (c.make_edit.ensures.map ∙ ap (λ m. edited m.features (edit_data c.args.requested)) c.room_all.ensures.same)
+      (since_on c.self.inside.map c.room_all.new.self c.make_edit.new.self c.self.inside.journal.last c.append.new.self.last c.self.invariant.last_is
+      c.room_all.ensures.same last c.make_edit.ensures.since)
+      (now_on c.make_edit.new.self c.append.new.self.last last c.make_edit.ensures.now)
+      (right_on c.self.inside.map c.room_all.new.self c.make_edit.new.self c.self.inside.journal.last c.append.new.self.last c.self.invariant.last_is
+      c.room_all.ensures.same last c.make_edit.ensures.reads) refl refl refl refl refl refl refl (c.append.ensures.reads honest));
+  refused = λ stored honest up. tt;
+  steps = search rules;
+})
 
-pub returns-in-Ok-append-clause-acknowledged : goal.returns-in-Ok-append-clause-acknowledged
-returns-in-Ok-append-clause-acknowledged g c = rw (← c.self.view_is) (λ stored honest up.
-    let version = c.self.inside.version in
-    let recorded : IsRecorded (recorded_in version (edit_data c.args.requested)) = record { fits = c.in-Ok.ensures.record.fits; edit = c.in-Ok.ensures.record.edit } in
-    let at = up_is_at g.D.Sectors.sectors g.D.Sectors.history stored _ c.self.invariant.ring up in
-    let last : c.make_edit.new.self.last ≡ c.append.new.self.last =
-    omega (arith, c.make_edit.ensures.last, c.in-Ok-append.ensures.number, c.in-Ok-append.ensures.last) in
-    up_with_edit g.D.Sectors.sectors g.D.Sectors.history stored _ c.self.invariant.ring up (recorded_in version (edit_data c.args.requested)) recorded refl
-    _ (ap (record_of version) (c.deref-2.ensures.value ∙ c.in-Ok.ensures.text)) c.append.new.disk (c.append.ensures.frame honest)
-    _ refl c.append.ensures.count refl c.append.ensures.same (c.in-Ok-append.ensures.acknowledged (stored_records stored) honest at)
-    (c.make_edit.ensures.map ∙ ap (λ m. edited m.features (edit_data c.args.requested)) c.room_all.ensures.same)
-    (since_on c.self.inside.map c.room_all.new.self c.make_edit.new.self c.self.inside.journal.last c.append.new.self.last c.self.invariant.last_is
-    c.room_all.ensures.same last c.make_edit.ensures.since)
-    (now_on c.make_edit.new.self c.append.new.self.last last c.make_edit.ensures.now)
-    (right_on c.self.inside.map c.room_all.new.self c.make_edit.new.self c.self.inside.journal.last c.append.new.self.last c.self.invariant.last_is
-    c.room_all.ensures.same last c.make_edit.ensures.reads) refl refl refl refl refl refl refl (c.append.ensures.reads honest))
-
-pub returns-in-Err-append-clause-any_moment : goal.returns-in-Err-append-clause-any_moment
-returns-in-Err-append-clause-any_moment g c = rw (ap (λ s. s.disk) c.fail.ensures.same, ← c.self.view_is) (λ stored call honest up.
-    let version = c.self.inside.version in
-    let recorded : IsRecorded (recorded_in version (edit_data c.args.requested)) = record { fits = c.in-Ok.ensures.record.fits; edit = c.in-Ok.ensures.record.edit } in
-    let at = up_is_at g.D.Sectors.sectors g.D.Sectors.history stored _ c.self.invariant.ring up in
-    refused_any_moment g.D.Sectors.sectors g.D.Sectors.history stored _ c.self.invariant.ring up (recorded_in version (edit_data c.args.requested)) recorded refl
-    _ (ap (record_of version) (c.deref-2.ensures.value ∙ c.in-Ok.ensures.text)) c.append.new.disk (c.append.ensures.frame honest)
-    call c.in-Err-append.fault c.fail.result c.fail.ensures.told c.in-Err-append.ensures.refused (c.append.ensures.any_moment (stored_records stored) honest at))
-
-pub returns-in-Err-append-clause-refused : goal.returns-in-Err-append-clause-refused
-returns-in-Err-append-clause-refused g c =
-    let same : c.fail.result ≢ Device → c.fail.new.self ≡ c.args.self.now = search rules in
-    (λ stored honest up other. subst (λ s. IsUp (g.D.Sectors.sectors s.disk) (g.D.Sectors.history s.disk) stored s) (sym (same other)) up)
+pub returns-in-Err-append-clause-takes : goal.returns-in-Err-append-clause-takes
+returns-in-Err-append-clause-takes g c = rw (← c.self.view_is) (λ call. record {
+  size = ap (λ s. s.size) c.fail.ensures.same;
+  publication = tt;
+  count = search rules;
+  stays_honest = search rules;
+  succeeded = tt;
+  failed = search rules;
+  unwritten = search rules;
+  unchanged = search rules;
+  keeps_archive = append_keeps g.D.Sectors.honest g.D.Sectors.history _ _ (ap (λ s. s.size) c.fail.ensures.same)
+      (ap (λ s. s.generation) c.fail.ensures.same) (ap (λ s. s.snapshot_len) c.fail.ensures.same) (ap (λ s. s.archive_len) c.fail.ensures.same)
+      c.self.invariant.area
+      (ring_of c.self.inside.journal) c.self.invariant.ring c.self.inside.journal.place c.self.inside.journal.used c.append.new.disk
+      (ap (λ s. s.disk) c.fail.ensures.same) c.append.ensures.reads;
+  any_moment = rw (ap (λ s. s.disk) c.fail.ensures.same) (λ stored honest up.
+      let version = c.self.inside.version in
+      let recorded : IsRecorded (recorded_in version (edit_data c.args.requested)) =
+      record { fits = c.in-Ok.ensures.record.fits; edit = c.in-Ok.ensures.record.edit } in
+      let at = up_is_at g.D.Sectors.sectors g.D.Sectors.history stored _ c.self.invariant.ring up in
+      refused_any_moment g.D.Sectors.sectors g.D.Sectors.history stored _ c.self.invariant.ring up (recorded_in version (edit_data c.args.requested))
+      recorded refl
+      _ (ap (record_of version) (c.deref-2.ensures.value ∙ c.in-Ok.ensures.text)) c.append.new.disk (c.append.ensures.frame honest)
+      call c.in-Err-append.fault c.fail.result c.fail.ensures.told c.in-Err-append.ensures.refused
+      (c.append.ensures.any_moment (stored_records stored) honest at));
+  acknowledged = λ stored honest up. tt;
+  refused = search rules;
+  steps = λ honest. tt;
+})
