@@ -18,7 +18,7 @@ sys.path.append(str(HERE / "model"))
 import map_stand
 import service_stand
 from disk import LAST_NUMBER
-from limits import GREATEST_ZOOM
+from limits import MAX_ZOOM
 from machine import Refused, Service
 from tiles import tile
 
@@ -55,7 +55,7 @@ def out_of_memory(*_):
 
 def cut(service, *place):
     """A tile that is cut each time."""
-    return tile(service.map, *place) if place[0] <= GREATEST_ZOOM else b""
+    return tile(service.map, *place) if place[0] <= MAX_ZOOM else b""
 
 
 def greatest(*_):

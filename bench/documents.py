@@ -29,7 +29,7 @@ TOP = os.path.dirname(HERE)
 PAGES = ["README.md", "docs/HTTP.md", "docs/COMMANDS.md", "docs/DEPLOYING.md"]
 OWN = ["/etc", "/usr/local", "/var/lib"]
 SECONDS = 600
-MOST_LINES = 40
+MAX_LINES = 40
 
 
 def commands(text):
@@ -73,7 +73,7 @@ def tidy(text):
 def short(text):
     """The first lines of a text."""
     lines = text.splitlines(True)
-    return "".join(lines[:MOST_LINES]) + (f"(and {len(lines) - MOST_LINES} lines)\n" if len(lines) > MOST_LINES else "")
+    return "".join(lines[:MAX_LINES]) + (f"(and {len(lines) - MAX_LINES} lines)\n" if len(lines) > MAX_LINES else "")
 
 
 class Shell:

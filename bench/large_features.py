@@ -20,7 +20,7 @@ import sys
 HERE = os.path.dirname(os.path.abspath(__file__))
 PROGRAM = os.path.abspath(sys.argv[1] if len(sys.argv) > 1 else os.path.join(HERE, "..", "crates", "vtserve", "out", "vtserve"))
 EARTH = 40075016.685578488
-GREATEST_ZOOM = 19
+MAX_ZOOM = 19
 SAFE, REACH, LEAST, GREATEST = 4031, 4160, -8192, 8191
 
 
@@ -90,7 +90,7 @@ def square(zoom, left, top, width, height):
 
 def main():
     sent, cases = b"", []
-    for zoom in range(GREATEST_ZOOM + 1):
+    for zoom in range(MAX_ZOOM + 1):
         for width in (SAFE, SAFE + 1):
             shape = square(zoom, 0, 0, 4096 << zoom, 4096 << zoom) if zoom < 2 else square(zoom, REACH, 100, width, 100)
             sent += put(1, zoom, shape) + request("GET", f"/map/{zoom}/0/0.mvt")
@@ -102,7 +102,7 @@ def main():
         right &= status == 200 and max(numbers) == ((4096 << zoom) - 1 if zoom < 2 else REACH + width)
     print("| Zoom | Units of the world | Metres at the equator | at 50° | Greatest coordinate at this width | one unit of the tile wider |")
     print("|---|---|---|---|---|---|")
-    for zoom in range(GREATEST_ZOOM + 1):
+    for zoom in range(MAX_ZOOM + 1):
         units = SAFE << (20 - zoom)
         metres = units * EARTH / 2 ** 32
         widths = [f"{number:,}" for number in (units, round(metres), round(metres * math.cos(math.radians(50))))] if zoom > 1 else ["any"] * 3

@@ -266,7 +266,7 @@ def random_changes(count):
 # ---- the program
 
 # So many that didn't agree are printed of each part.
-MOST_PRINTED = 20
+MAX_PRINTED = 20
 
 
 class Runs:
@@ -280,7 +280,7 @@ class Runs:
         self.all += 1
         if told == (status, out, err):
             self.agreed += 1
-        elif self.all - self.agreed <= MOST_PRINTED:
+        elif self.all - self.agreed <= MAX_PRINTED:
             print(f"{name}: {words[0]} is to give {(status, out, err)} and gave {told}")
 
     def over(self, name, command, archive, status, out, err=""):

@@ -37,7 +37,7 @@ SECTOR, DISK = 512, 65536
 # The first sector of the journal.
 JOURNAL = 3
 ROUNDS, TURNS = 9, 40
-LEAST_CHANGES, MOST_TIME = 20, 1.3
+MIN_CHANGES, MAX_TIME = 20, 1.3
 IMPORTS, POINTS = 3, 3000
 
 
@@ -156,7 +156,7 @@ def measured(folder):
         for at in range(ROUNDS):
             times = {name: [] for name in rounds}
             for turn in range(at * TURNS, (at + 1) * TURNS):
-                alone, group = point(1, turn), [point(number, turn) for number in range(101, 101 + edits.MOST_CHANGES)]
+                alone, group = point(1, turn), [point(number, turn) for number in range(101, 101 + edits.MAX_CHANGES)]
                 count = edits.sectors(group)
                 times["alone"].append(peer.ask(request(b"PUT", b"/features/1", alone.body)))
                 times["bare"].append(ordered.write(slot, 1))
@@ -172,7 +172,7 @@ def measured(folder):
 def edits_a_second(folder):
     """Prints the times of changes alone and in batches. Returns whether the ratios are as wanted."""
     rounds, count = measured(folder)
-    rate, times = 1 / statistics.median(rounds["alone"]), edits.MOST_CHANGES
+    rate, times = 1 / statistics.median(rounds["alone"]), edits.MAX_CHANGES
     print(f"a change alone: {told(rounds['alone'])}, {rate:,.0f} a second; a write and a sync of its sector {told(rounds['bare'])}; "
         f"ratio {ratio(rounds['alone'], rounds['bare'])[1]}", flush=True)
     rate = times / statistics.median(rounds["batch"])
@@ -183,8 +183,8 @@ def edits_a_second(folder):
     more, more_said = ratio([times * took for took in rounds["alone"]], rounds["batch"])
     print(f"changes a second in batches, relative to those alone: {more_said}")
     rows = [
-        (more >= LEAST_CHANGES, f"at least {LEAST_CHANGES} times the changes a second"),
-        (beside <= MOST_TIME, f"a batch at most {MOST_TIME} times the bare writes and syncs"),
+        (more >= MIN_CHANGES, f"at least {MIN_CHANGES} times the changes a second"),
+        (beside <= MAX_TIME, f"a batch at most {MAX_TIME} times the bare writes and syncs"),
     ]
     for is_met, wanted in rows:
         print(f"wanted: {wanted}: {'met' if is_met else 'MISSED'}", flush=True)

@@ -13,7 +13,7 @@ from archives import Entry, Maker, changed, directory, judged
 from wire import part, varint
 
 MOST = 262144
-MOST_ENTRIES = b"\xff\xff\xff\xff\x0f"
+MAX_ENTRIES = b"\xff\xff\xff\xff\x0f"
 FAR = 2**63 - 1
 # A point's geometry that claims 2^29 - 1 moves, a layer, a key and a list of tags that claim 2^63 - 1 bytes.
 TILES = {
@@ -26,9 +26,9 @@ TILES = {
 
 def archives():
     maker = Maker()
-    yield "a root directory", maker.archive(MOST_ENTRIES)
+    yield "a root directory", maker.archive(MAX_ENTRIES)
     maker = Maker()
-    leaf = maker.leaf(0, MOST_ENTRIES)
+    leaf = maker.leaf(0, MAX_ENTRIES)
     yield "a leaf directory", maker.archive([leaf], addressed=0, entries=0, contents=0)
     for what, tile in TILES.items():
         maker = Maker()

@@ -8,13 +8,13 @@ from collections import namedtuple
 
 import features
 from disk import SECTOR, Change
-from limits import GREATEST_ZOOM
+from limits import MAX_ZOOM
 from machine import Refused, as_stored
 
-MOST_HEAD = 8192
-MOST_FIELDS = 32
-MOST_BODY = 65536
-MOST_OF_A_PART = 65536
+MAX_HEAD = 8192
+MAX_FIELDS = 32
+MAX_BODY = 65536
+MAX_OF_A_PART = 65536
 CR, LF = 13, 10
 TOKEN = frozenset(b"!#$%&'*+-.^_`|~0123456789abcdefghijklmnopqrstuvwxyzABCDEFGHIJKLMNOPQRSTUVWXYZ")
 TARGET = frozenset(range(0x21, 0x100)) - {0x7F}
@@ -112,7 +112,7 @@ def target_in(taken):
 
 def head_in(held):
     """The head that bytes begin with."""
-    taken = Bytes(held[:MOST_HEAD])
+    taken = Bytes(held[:MAX_HEAD])
     while (byte := taken.take()) in (CR, LF):
         taken.line_end(byte)
     if byte not in TOKEN:
@@ -127,7 +127,7 @@ def head_in(held):
     while (first := taken.take()) not in (CR, LF):
         fields.append(field_in(taken, first))
     taken.line_end(first)
-    if len(fields) > MOST_FIELDS:
+    if len(fields) > MAX_FIELDS:
         raise Fault(taken.at)
     return Head(bytes([byte]) + method, target, minor, fields, taken.at)
 
@@ -150,7 +150,7 @@ def body_size(head):
     if len(lengths) > 1 or lengths and not re.fullmatch(rb"[0-9]+", lengths[0]):
         raise Rejected("Length")
     size = int(lengths[0]) if lengths else 0
-    if size > MOST_BODY:
+    if size > MAX_BODY:
         raise Rejected("Body")
     return size
 
@@ -167,7 +167,7 @@ def request_in(held):
     except Fault as fault:
         raise Rejected("Head", False, fault.args[0]) from fault
     except More:
-        raise Rejected("Head", False, MOST_HEAD if len(held) >= MOST_HEAD else None) from None
+        raise Rejected("Head", False, MAX_HEAD if len(held) >= MAX_HEAD else None) from None
     bare = head.method == b"HEAD"
     try:
         size = head.size + body_size(head)
@@ -243,7 +243,7 @@ ROUTES = [
 def is_in_range(name, numbers):
     if name == "feature":
         return numbers[0] < 2**63
-    return name != "tile" or numbers[0] <= GREATEST_ZOOM and max(numbers[1:]) < 2 ** numbers[0]
+    return name != "tile" or numbers[0] <= MAX_ZOOM and max(numbers[1:]) < 2 ** numbers[0]
 
 
 def route_of(path):
@@ -299,7 +299,7 @@ def parts_read(service, first, count):
             parts.append(service.read(at, min(size, end - at)))
         except Refused:
             break
-        at, size = at + size, MOST_OF_A_PART
+        at, size = at + size, MAX_OF_A_PART
     return parts
 
 

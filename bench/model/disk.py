@@ -7,7 +7,7 @@ import json
 import sys
 from collections import namedtuple
 
-from limits import GREATEST_ZOOM
+from limits import MAX_ZOOM
 
 SECTOR = 512
 TEXT_OF_PART = 496
@@ -18,7 +18,7 @@ HEAD, BODY = 1, 2
 # count of changes and their texts.
 VERSIONS = FIRST_VERSION, LAST_VERSION = 1, 2
 PUT, DELETE = 1, 2
-MOST_CHANGES = 64
+MAX_CHANGES = 64
 KINDS = {1: "points", 2: "lines", 3: "polygons"}
 LAST_NUMBER = 2**64 - 1
 LONGEST = 32768
@@ -122,8 +122,8 @@ def tags(reader):
 
 def feature(reader):
     layer = reader.text(1, 1, 64)
-    first = reader.number(1, 0, GREATEST_ZOOM)
-    last = reader.number(1, first, GREATEST_ZOOM)
+    first = reader.number(1, 0, MAX_ZOOM)
+    last = reader.number(1, first, MAX_ZOOM)
     kind = KINDS[reader.number(1, 1, 3)]
     geometry = {kind: listed(reader, 1, ITEMS[kind])}
     return {"layer": layer, "minzoom": first, "maxzoom": last, "geometry": geometry, "tags": tags(reader)}
@@ -141,7 +141,7 @@ def change(reader, numbers=()):
 def changes(reader):
     """The changes of the edit whose text the reader's bytes go on with."""
     found = []
-    for _ in range(reader.number(1, 1, MOST_CHANGES)):
+    for _ in range(reader.number(1, 1, MAX_CHANGES)):
         found.append(change(reader, [before.number for before in found]))
     return found
 

@@ -7,8 +7,8 @@ import json
 
 import json_text
 import tiles
-from disk import LONGEST, MOST_CHANGES, Change, text_of
-from limits import GREATEST_ZOOM, MOST_TILES
+from disk import LONGEST, MAX_CHANGES, Change, text_of
+from limits import MAX_ZOOM, MAX_TILES
 
 GEOMETRIES = ("points", "lines", "polygons")
 
@@ -84,7 +84,7 @@ def check_geometry(geometry):
 def check_layer_and_zooms(feature):
     if not is_name(feature["layer"]):
         raise Fault("E3 Layer")
-    if not feature["minzoom"] <= feature["maxzoom"] <= GREATEST_ZOOM:
+    if not feature["minzoom"] <= feature["maxzoom"] <= MAX_ZOOM:
         raise Fault("E4 Zoom")
 
 
@@ -170,13 +170,13 @@ def check(number, feature):
 
 
 def check_reach(feature):
-    if tiles.reach(feature) > MOST_TILES:
+    if tiles.reach(feature) > MAX_TILES:
         raise Fault("E9 Reach")
 
 
 def check_changes(changes):
     """E10, E11, and of each change E2 to E7, the first in this order."""
-    if not 1 <= len(changes) <= MOST_CHANGES:
+    if not 1 <= len(changes) <= MAX_CHANGES:
         raise Fault("E10 Batch")
     if len({change.number for change in changes}) < len(changes):
         raise Fault("E11 Twice")

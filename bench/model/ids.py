@@ -1,12 +1,12 @@
 """Ids of tiles (PMTiles 3, 4.1): zoom by zoom, and in one along a Hilbert curve."""
 
-GREATEST_ZOOM = 31
+MAX_ZOOM = 31
 # How many ids the zooms 0 to 31 have.
-ALL_IDS = sum(4**zoom for zoom in range(GREATEST_ZOOM + 1))
+ALL_IDS = sum(4**zoom for zoom in range(MAX_ZOOM + 1))
 
 
 def is_tile(z, x, y):
-    return 0 <= z <= GREATEST_ZOOM and 0 <= x < 2**z and 0 <= y < 2**z
+    return 0 <= z <= MAX_ZOOM and 0 <= x < 2**z and 0 <= y < 2**z
 
 
 def turned(side, x, y, right, down):

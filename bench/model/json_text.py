@@ -4,7 +4,7 @@ a number is within a double, and no text has half of a surrogate pair. It shares
 import json
 import math
 
-MOST_NESTED = 127
+MAX_NESTED = 127
 # A number that isn't whole: one with a fraction or an exponent, -0, or one outside of -2^63 to 2^64 - 1.
 NOT_WHOLE = object()
 
@@ -61,7 +61,7 @@ def members(pairs):
 
 def value_of(text):
     """The value of a text, or a ValueError."""
-    if nested(text) > MOST_NESTED:
+    if nested(text) > MAX_NESTED:
         raise ValueError("nested too deep")
     value = json.loads(text, parse_int=whole_or_not, parse_float=fraction, parse_constant=refused, object_pairs_hook=members)
     "".join(texts_of(value)).encode()

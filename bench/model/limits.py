@@ -1,6 +1,6 @@
 """The limits of a map that more than one model or script names (docs/HTTP.md). It shares no code with the product."""
 
 # The greatest zoom of a feature and of a tile of the map.
-GREATEST_ZOOM = 19
+MAX_ZOOM = 19
 # The most tiles that a feature may cover on all its zooms together.
-MOST_TILES = 262144
+MAX_TILES = 262144

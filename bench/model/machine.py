@@ -2,14 +2,14 @@
 docs/DECISIONS.md. It shares no code with the product."""
 from calls import append, install, write_area
 from crashes import Failed, Seen
-from disk import FIRST_VERSION, LAST_NUMBER, LONGEST, MOST_CHANGES, SECTOR, Change, Record, Root, after, in_order, parts_of, read_disk, record_text
+from disk import FIRST_VERSION, LAST_NUMBER, LONGEST, MAX_CHANGES, SECTOR, Change, Record, Root, after, in_order, parts_of, read_disk, record_text
 from disk import snapshot_text, text_of, whole_sectors
-from limits import GREATEST_ZOOM, MOST_TILES
+from limits import MAX_ZOOM, MAX_TILES
 from map_archive import archive_of, id_of, metadata, points_of, reach
 from tiles import tile
 
 NUMBER_END = 2**63
-MOST_ELEMENTS = 65535
+MAX_ELEMENTS = 65535
 STEP_SECTORS = 64
 
 
@@ -25,7 +25,7 @@ class Refused(Exception):
 
 
 def is_list(items, least=1):
-    return least <= len(items) <= MOST_ELEMENTS
+    return least <= len(items) <= MAX_ELEMENTS
 
 
 def fits_geometry(geometry):
@@ -65,7 +65,7 @@ def first_limit(change):
     keys = [key.encode() for key in feature["tags"]]
     rows = [
         ("Layer", fits_name(feature["layer"])),
-        ("Zoom", feature["minzoom"] <= feature["maxzoom"] <= GREATEST_ZOOM),
+        ("Zoom", feature["minzoom"] <= feature["maxzoom"] <= MAX_ZOOM),
         ("Geometry", fits_geometry(feature["geometry"])),
         ("Tags", len(keys) <= 64 and all(fits_name(key) for key in feature["tags"]) and all(a < b for a, b in zip(keys, keys[1:]))),
         ("Value", all(fits_value(value) for value in feature["tags"].values())),
@@ -76,7 +76,7 @@ def first_limit(change):
 def limit(changes):
     """The first limit that the changes of an edit break, or None."""
     numbers = [change.number for change in changes]
-    if not 1 <= len(changes) <= MOST_CHANGES:
+    if not 1 <= len(changes) <= MAX_CHANGES:
         return "Batch"
     if len(set(numbers)) < len(numbers):
         return "Twice"
@@ -85,7 +85,7 @@ def limit(changes):
         return broken
     if sum(len(text_of(change)) for change in changes) > LONGEST:
         return "Long"
-    return "Reach" if any(change.feature and reach(change.feature) > MOST_TILES for change in changes) else None
+    return "Reach" if any(change.feature and reach(change.feature) > MAX_TILES for change in changes) else None
 
 
 def as_stored(change):
@@ -269,7 +269,7 @@ class Service:
         origin, number, held = self.kept.get(place, ("cut", -1, b""))
         if number >= newest and (origin == "cut" or not self.broken):
             return held
-        held = tile(self.map, *place) if place[0] <= GREATEST_ZOOM else b""
+        held = tile(self.map, *place) if place[0] <= MAX_ZOOM else b""
         if newest <= self.root.edits and not self.broken and self.is_looked_up(place):
             origin, number = "read", self.root.edits
         else:
@@ -315,7 +315,7 @@ def cells_of_feature(feature):
 
 def cells_of_tile(zoom, x, y):
     """The cells of a tile with its margin; all cells for a zoom that no feature is shown on."""
-    if zoom > GREATEST_ZOOM:
+    if zoom > MAX_ZOOM:
         return cells_between([0, WORLD_END], [0, WORLD_END])
     spans = [[(4096 * number - 64) << (20 - zoom), ((4096 * number + 4161) << (20 - zoom)) - 1] for number in (x, y)]
     return cells_between(*spans)

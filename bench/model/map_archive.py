@@ -1,11 +1,11 @@
 """An independent writer of the archive of a map (PMTiles 3), from docs/FORMATS.md. It shares no code with the product."""
 import json
 
-from limits import GREATEST_ZOOM
+from limits import MAX_ZOOM
 from tiles import tile, varint
 
 LEAF_ENTRIES = 512
-MOST_ENTRIES = 131072
+MAX_ENTRIES = 131072
 LONGEST_RUN = 2**32 - 1
 WORLD = [-1800000000, -850511287, 1800000000, 850511287]
 
@@ -64,7 +64,7 @@ def reach(feature):
 
 def tiles_of(found):
     """Yields the tiles of a map in ascending id."""
-    for zoom in range(GREATEST_ZOOM + 1):
+    for zoom in range(MAX_ZOOM + 1):
         shown = [(number, feature, covered(feature, zoom)) for number, feature in found.items() if feature["minzoom"] <= zoom <= feature["maxzoom"]]
         for number, place in sorted((id_of(zoom, *place), place) for place in set().union(*(places for _, _, places in shown))):
             held = tile({feature: found[feature] for feature, _, places in shown if place in places}, zoom, *place)
@@ -78,7 +78,7 @@ def runs_of(tiles):
     for number, held in tiles:
         if entries and entries[-1][2] == held and entries[-1][0] + entries[-1][1] == number and entries[-1][1] < LONGEST_RUN:
             entries[-1][1] += 1
-        elif len(entries) == MOST_ENTRIES:
+        elif len(entries) == MAX_ENTRIES:
             return None
         else:
             entries.append([number, 1, held])
@@ -120,7 +120,7 @@ def metadata(found):
     """The metadata of a map: compact JSON, members in byte order."""
     layers = {}
     for feature in found.values():
-        layer = layers.setdefault(feature["layer"], {"fields": {}, "id": feature["layer"], "maxzoom": 0, "minzoom": GREATEST_ZOOM})
+        layer = layers.setdefault(feature["layer"], {"fields": {}, "id": feature["layer"], "maxzoom": 0, "minzoom": MAX_ZOOM})
         layer["maxzoom"] = max(layer["maxzoom"], feature["maxzoom"])
         layer["minzoom"] = min(layer["minzoom"], feature["minzoom"])
         for key, value in feature["tags"].items():

@@ -14,7 +14,7 @@ import tiles
 from chance import Chance
 from disk import Change, edit_text, text_of
 from ids import tile_of
-from limits import GREATEST_ZOOM, MOST_TILES
+from limits import MAX_ZOOM, MAX_TILES
 from map_stand import POINT, Stand
 
 CRATE = "map_runs"
@@ -366,7 +366,7 @@ def cut_lines():
                      {(0, 0, 0): SQUARE_SHOWN})
     yield from cases("Nothing of a polygon is in reach.", drawn("polygons", [[SQUARE, TRIANGLE]]), {(1, 1, 1): []})
     yield "# Points on the edges of boxes, at three zooms and in both directions."
-    for z in (1, 5, 16, GREATEST_ZOOM):
+    for z in (1, 5, 16, MAX_ZOOM):
         yield from edge_lines(z)
 
 
@@ -400,8 +400,8 @@ def edge_lines(z):
     for u in (-65, -64, 4160, 4161):
         column, row = 1 if u < 0 or z > 1 else 0, 0 if z == 1 else 1
         point = [(4096 * column + u) * side, (4096 * row + 2048) * side]
-        yield from [f"# {u}, zoom {z}", "map 0", put(1, drawn("points", [point], 0, GREATEST_ZOOM)), f"tile {z} {column} {row}"]
-        yield from ["map 0", put(1, drawn("points", [point[::-1]], 0, GREATEST_ZOOM)), f"tile {z} {row} {column}"]
+        yield from [f"# {u}, zoom {z}", "map 0", put(1, drawn("points", [point], 0, MAX_ZOOM)), f"tile {z} {column} {row}"]
+        yield from ["map 0", put(1, drawn("points", [point[::-1]], 0, MAX_ZOOM)), f"tile {z} {row} {column}"]
 
 
 def tag_lines():
@@ -467,9 +467,9 @@ def reach_lines():
     for first, last, told in [(16, 16, "65536"), (17, 17, "131072"), (18, 18, "262144"), (17, 18, "393216: E9 Reach"), (19, 19, "524288: E9 Reach")]:
         yield f"reach {said(drawn('lines', [[[0, 0], [LAST, 0]]], first, last))}", told
     yield "# Boxes of zoom 19 with the most tiles, and with more: columns and rows."
-    for columns, rows in [(MOST_TILES, 1), (1, MOST_TILES), (512, 512), (65536, 4)]:
+    for columns, rows in [(MAX_TILES, 1), (1, MAX_TILES), (512, 512), (65536, 4)]:
         yield f"reach {said(drawn('points', [[0, 0], box_end(columns, rows)], 19, 19))}", "262144"
-    for columns, rows in [(MOST_TILES + 1, 1), (1, MOST_TILES + 1), (52429, 5), (5, 52429)]:
+    for columns, rows in [(MAX_TILES + 1, 1), (1, MAX_TILES + 1), (52429, 5), (5, 52429)]:
         yield f"reach {said(drawn('points', [[0, 0], box_end(columns, rows)], 19, 19))}", "262145: E9 Reach"
     yield "# The last coordinate of the world that 262,144 columns of zoom 19 reach, and the next one, which the margin of one more column has."
     yield f"reach {said(drawn('lines', [[[0, 9], [2147483519, 9]]], 19, 19))}", "262144"

@@ -11,7 +11,7 @@ import texts
 import tiles
 from disk import Change, NoEdit, Record, edit_text, record_text, snapshot_of, snapshot_text, text_of, whole_sectors
 from ids import is_tile
-from limits import GREATEST_ZOOM
+from limits import MAX_ZOOM
 from rust_text import clipped, debug, option
 
 LAST = 2**32 - 1
@@ -64,7 +64,7 @@ def reach(rest):
 
 def covers(rest):
     zoom, feature = numbered(rest)
-    if zoom > GREATEST_ZOOM:
+    if zoom > MAX_ZOOM:
         raise features.Fault("E4 Zoom")
     (x0, x1), (y0, y1) = tiles.covered(feature, zoom)
     return f"{x0} to {x1}, {y0} to {y1}"
@@ -148,7 +148,7 @@ ALONE = {
 
 def axis_cells(z, at):
     """The first and the last of 32 cells of an axis that the box of a tile's column, or row, touches."""
-    if z > GREATEST_ZOOM:
+    if z > MAX_ZOOM:
         return 0, 31
     side = 2 ** (20 - z)
     first, behind = (4096 * at - 64) * side, (4096 * at + 4161) * side
@@ -243,14 +243,14 @@ class Map:
         content = self.cache.get(place, self.grid.newest(*place))
         if content:
             return f"kept {content.hex()}"
-        content = tiles.tile(self.held, *place) if place[0] <= GREATEST_ZOOM else b""
+        content = tiles.tile(self.held, *place) if place[0] <= MAX_ZOOM else b""
         if not content:
             return "nothing"
         self.cache.hold(place, self.last, content)
         return f"made {content.hex()}"
 
     def anew(self, place):
-        return tiles.tile(self.held, *place).hex() if place[0] <= GREATEST_ZOOM else ""
+        return tiles.tile(self.held, *place).hex() if place[0] <= MAX_ZOOM else ""
 
     def layers(self, place):
         return debug([(name, 2, 4096, numbers) for name, numbers in tiles.layers(self.held, *place).items()])

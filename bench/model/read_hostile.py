@@ -4,7 +4,7 @@ worst of them has beside it what the formats say.
 import archives
 from archives import ALL_IDS, Entry, Maker, changed, directory
 from disk import Change, edit_text, text_of
-from limits import GREATEST_ZOOM
+from limits import MAX_ZOOM
 from map_stand import POINT
 from tile_reading import LINE, MOVE
 from wire import number, part, varint
@@ -315,7 +315,7 @@ def texts_at_counts():
     for count in (0, 1, 64, 65, 255):
         yield put_ + counted(1, count, b"p") + zooms + points + no_tags, None if 1 <= count <= 64 else "Bad"
     for first, last in [(0, 0), (0, 16), (16, 16), (0, 17), (17, 17), (0, 19), (19, 19), (0, 20), (1, 0), (19, 18), (20, 20), (255, 255), (0, 255)]:
-        yield put_ + layer_ + bytes([first, last]) + points + no_tags, None if first <= last <= GREATEST_ZOOM else "Bad"
+        yield put_ + layer_ + bytes([first, last]) + points + no_tags, None if first <= last <= MAX_ZOOM else "Bad"
     for kind in (0, 4, 255):
         yield put_ + layer_ + zooms + bytes([kind]) + points[1:] + no_tags, "Bad"
     for count in (0, 1, 4093):
@@ -392,8 +392,8 @@ def text_lines():
         yield f"change {folded(data)}", wanted
     front = "01" + "07" + "00" * 7 + "0170"
     yield "# A text that ends behind its first zoom: cut if a zoom may follow, and bad if none may."
-    yield from ((f"change {front}{zoom:02x}", "Cut" if zoom <= GREATEST_ZOOM else "Bad") for zoom in ENDS_OF_ZOOMS)
-    yield from ((f"edit 01{front}{zoom:02x}", "Cut" if zoom <= GREATEST_ZOOM else "Bad") for zoom in ENDS_OF_ZOOMS)
+    yield from ((f"change {front}{zoom:02x}", "Cut" if zoom <= MAX_ZOOM else "Bad") for zoom in ENDS_OF_ZOOMS)
+    yield from ((f"edit 01{front}{zoom:02x}", "Cut" if zoom <= MAX_ZOOM else "Bad") for zoom in ENDS_OF_ZOOMS)
     yield "# The texts of edits at both ends of the count of changes, with fewer changes than they claim, with one id twice, near the longest."
     for data, wanted in edits_at_counts():
         yield f"edit {folded(data)}", wanted

@@ -8,7 +8,7 @@ from features import compact
 from machine import Service
 
 FORMAT = {13: "\\r", 10: "\\n", 9: "\\t", 92: "\\x5c"}
-MOST_TOLD, FRONT = 2000, 300
+MAX_TOLD, FRONT = 2000, 300
 WORLD = 2**32 - 1
 POINT = tiles.feature({"points": [[0, 0]]})
 BODY = b'{"layer":"p","minzoom":0,"maxzoom":2,"geometry":{"points":[[0,0]]},"tags":{}}'
@@ -26,7 +26,7 @@ def text_of(held):
 
 def told_of(held):
     """Bytes as an answer tells them: of many the first ones, how many there are, and their hash by FNV-1a."""
-    if len(held) <= MOST_TOLD:
+    if len(held) <= MAX_TOLD:
         return text_of(held)
     found = 0xCBF29CE484222325
     for byte in held:

@@ -107,7 +107,7 @@ def round_of(tens):
 
 ROUNDS = [round_of(tens) for tens in range(1, 6)]
 EVENTS_MADE = [event for events in ROUNDS for event in events]
-MOST_UNSYNCED = 10
+MAX_UNSYNCED = 10
 
 
 def rounds(after=0):
@@ -184,7 +184,7 @@ def stop_choices_of(version):
         trial = tried(ran)
         acknowledged, generation = (trial.session.last, trial.session.root.generation) if call > 5 else (0, 0)
         trial.answer("stop")
-        assert len(trial.stopped.writes) <= MOST_UNSYNCED
+        assert len(trial.stopped.writes) <= MAX_UNSYNCED
         yield from [*ran, "stop"]
         for choice in every_choice(trial.stopped):
             assert history.fits(Service(Faulty(trial.stopped.crash(choice))), acknowledged, generation)

@@ -7,7 +7,7 @@ It shares no code with the product. Its answers are the expected values of tests
 import json
 
 from ids import id_of, tile_of
-from limits import GREATEST_ZOOM
+from limits import MAX_ZOOM
 from wire import number, part, varint, zigzag
 
 LIMIT = 4294967296
@@ -144,7 +144,7 @@ def tile(features, z, c, r):
 def layers(features, z, c, r):
     """The layers of a tile in the order of their names' bytes, each with the ascending numbers of its features."""
     shown = {}
-    if z > GREATEST_ZOOM:
+    if z > MAX_ZOOM:
         return shown
     for id in sorted(features):
         if cut(features[id], z, c, r):
@@ -232,14 +232,14 @@ def examples():
     yield "last point", {7: feature({"points": [[last, last]]})}, (2, 3, 3)
     other = feature({"points": [[0, 0]]}, layer="a")
     yield "two layers, three features", {9: one, 2: one, 5: other}, (0, 0, 0)
-    for z in (1, 5, 16, GREATEST_ZOOM):
+    for z in (1, 5, 16, MAX_ZOOM):
         side = 1 << (20 - z)
         for u in (-65, -64, 4160, 4161):
             column = 1 if u < 0 or z > 1 else 0
             row = 0 if z == 1 else 1
             point = [(4096 * column + u) * side, (4096 * row + 2048) * side]
-            yield f"point at u {u}, zoom {z}", {1: feature({"points": [point]}, maxzoom=GREATEST_ZOOM)}, (z, column, row)
-            yield f"point at v {u}, zoom {z}", {1: feature({"points": [point[::-1]]}, maxzoom=GREATEST_ZOOM)}, (z, row, column)
+            yield f"point at u {u}, zoom {z}", {1: feature({"points": [point]}, maxzoom=MAX_ZOOM)}, (z, column, row)
+            yield f"point at v {u}, zoom {z}", {1: feature({"points": [point[::-1]]}, maxzoom=MAX_ZOOM)}, (z, row, column)
 
 
 if __name__ == "__main__":

@@ -1,7 +1,7 @@
 -- From the contracts of an archive over a slice, which can't fail to be read.
 use Rattle.std.proofs.Common.{◌≡◌, ℕ, List, Result, Ok, Err, MatchResult, IfErr, inl, inr, ap}
 use Rattle.pm_header.specs.declared.header.Header.{Header}
-use Rattle.pm_directory.specs.declared.entry.Entry.{Entry}
+use Rattle.pm_directory.specs.declared.entry.DirectoryEntry.{DirectoryEntry}
 use Rattle.pm_directory.specs.Directory.{IsDirectory}
 use Rattle.pm_archive.specs.declared.report.Report.{Report}
 use Rattle.pm_archive.specs.declared.fault.ArchiveFault.{ArchiveFault}
@@ -27,7 +27,7 @@ UnlessOutside-weaker P Q d f h = λ inside. f d (h inside)
 
 -- the opening of a sound archive fails only out of memory
 pub only_at_opening : (bytes : List ℕ) (d : ArchiveFault)
-    → ((h : Header) (root : List Entry) → HasSections bytes h → IsDirectory (section_bytes h.root bytes) root → IsOutside d)
+    → ((h : Header) (root : List DirectoryEntry) → HasSections bytes h → IsDirectory (section_bytes h.root bytes) root → IsOutside d)
     → (d ≡ Read → ⊥) → (report : Report) → IsSound bytes report → d ≡ Memory
 only_at_opening bytes d only unread report sound =
     let root = sound.archive.entries in memory_from_outside d (only sound.header root.0 sound.archive.sections root.1) unread
@@ -40,7 +40,7 @@ only_at_judging report (Err d) unread h = memory_from_outside d h (λ e. unread 
 pub fault_at_opening : (bytes : List ℕ) (d : ArchiveFault) → UnlessOutside (OpeningHas bytes) d → UnlessOutside (FirstFault bytes) d
 fault_at_opening bytes d h = UnlessOutside-weaker (OpeningHas bytes) (FirstFault bytes) d (λ e has. of_opening has) h
 
-pub fault_at_judging : (bytes : List ℕ) (h : Header) (root : List Entry) → HasSections bytes h → IsDirectory (section_bytes h.root bytes) root
+pub fault_at_judging : (bytes : List ℕ) (h : Header) (root : List DirectoryEntry) → HasSections bytes h → IsDirectory (section_bytes h.root bytes) root
     → (r : Result Report ArchiveFault) → IfErr r (UnlessOutside (VerifyingHas bytes h root)) → IfErr r (UnlessOutside (FirstFault bytes))
 fault_at_judging bytes h root sections directory (Ok found) has = has
 fault_at_judging bytes h root sections directory (Err d) has =

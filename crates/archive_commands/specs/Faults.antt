@@ -1,7 +1,7 @@
 -- The first fault of bytes that are no sound archive.
 use Rattle.std.specs.Prelude.{ℕ, List}
 use Rattle.pm_header.specs.declared.header.Header.{Header}
-use Rattle.pm_directory.specs.declared.entry.Entry.{Entry}
+use Rattle.pm_directory.specs.declared.entry.DirectoryEntry.{DirectoryEntry}
 use Rattle.pm_directory.specs.Directory.{IsDirectory}
 use Rattle.pm_archive.specs.declared.fault.ArchiveFault.{ArchiveFault}
 use Rattle.pm_archive.specs.Sections.{HasSections, section_bytes}
@@ -11,5 +11,5 @@ use Rattle.pm_archive.specs.Verified.{VerifyingHas}
 -- the first fault of the bytes: one of their opening, or one of the archive that they open as
 pub data FirstFault (bytes : List ℕ) (d : ArchiveFault) : Type 0 where
   of_opening : OpeningHas bytes d → FirstFault bytes d
-  of_archive : (h : Header) → (root : List Entry) → HasSections bytes h → IsDirectory (section_bytes h.root bytes) root → VerifyingHas bytes h root d
+  of_archive : (h : Header) → (root : List DirectoryEntry) → HasSections bytes h → IsDirectory (section_bytes h.root bytes) root → VerifyingHas bytes h root d
       → FirstFault bytes d

@@ -7,7 +7,7 @@ use Rattle.std.proofs.lemmas.Bool.{cases_lt, eqb-true, eqb-false}
 use Rattle.std.proofs.lemmas.Bool.Decides.{nat_tests}
 use Rattle.std.proofs.lemmas.List.{nil_from_length}
 use Rattle.std.proofs.lemmas.List.Elements.{All-nil, All-cons, All-head, All-append, All-weaker, All-contains, Contains-append_right, Contains-get_or}
-use Rattle.feature_model.specs.declared.limits.TheConstants.{GREATEST_ZOOM}
+use Rattle.feature_model.specs.declared.limits.TheConstants.{MAX_ZOOM}
 use Rattle.feature_store.specs.Layers.{is_tile, layers}
 use Rattle.feature_store.specs.Store.{FeatureMap, IsMap}
 use Rattle.feature_store.specs.Tiles.{IsTile, AreTiles, AreTilesBelow, IsNextTile}
@@ -37,7 +37,7 @@ unfolding written varint shortest_in
 some_written [] some = absurd (omega (arith, some))
 some_written (l ∷ ls) some = omega arith
 
-zoom_within : (z x y : ℕ) → is_tile z x y ≡ true → z ≤ GREATEST_ZOOM
+zoom_within : (z x y : ℕ) → is_tile z x y ≡ true → z ≤ MAX_ZOOM
 zoom_within z x y is = grind (arith, nat_tests)
 
 column_within : (z x y : ℕ) → is_tile z x y ≡ true → x < 2 ^ z

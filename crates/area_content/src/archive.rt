@@ -14,7 +14,7 @@ use pm_build::{ArchiveBuilder, BuildFault};
 use std::alloc::{AllocError, Global};
 
 /// The fault reported if a tile can't be added to an archive.
-fn told(fault: BuildFault) -> ContentFault
+fn to_content_fault(fault: BuildFault) -> ContentFault
     ensures { result ≡ told_as fault }
 {
     match fault {
@@ -51,7 +51,7 @@ fn add_next(
     }
     match builder.add(tile.0, tile.1) {
         Ok(()) => Ok(true),
-        Err(fault) => Err(told(fault)),
+        Err(fault) => Err(to_content_fault(fault)),
     }
 }
 

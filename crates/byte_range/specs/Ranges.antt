@@ -3,11 +3,11 @@ use Rattle.std.specs.Prelude.{◌≡◌, ◌≤◌, ℕ, ◌==◌, ◌&&◌, Boo
 use Rattle.std.specs.List.{list_all}
 use Rattle.std.specs.Char.{is_ascii_digit}
 use Rattle.std.specs.Str.Parse.{digits_value}
-use Rattle.byte_range.specs.declared.positions.TheConstants.{MOST_POSITION_DIGITS}
+use Rattle.byte_range.specs.declared.positions.TheConstants.{MAX_POSITION_DIGITS}
 
 -- one digit or more, and not too many
 abbrev pub is_numeral : List ℕ → Bool
-is_numeral text = nat_lt 0 (length text) && (nat_le (length text) MOST_POSITION_DIGITS && list_all is_ascii_digit text)
+is_numeral text = nat_lt 0 (length text) && (nat_le (length text) MAX_POSITION_DIGITS && list_all is_ascii_digit text)
 
 -- the text writes this position of a byte; zeros in front are digits
 abbrev pub IsPosition : List ℕ → ℕ → Type 0

@@ -4,5 +4,5 @@
 mod positions;
 mod ranges;
 
-pub use positions::MOST_POSITION_DIGITS;
+pub use positions::MAX_POSITION_DIGITS;
 pub use ranges::{ByteRange, at_most_one_range, byte_range};

@@ -7,13 +7,13 @@ ghost use Rattle.byte_range.specs.Ranges.{IsPosition, is_numeral};
 use decimal_number::{are_digits, digits_number};
 
 /// The most digits of a position. A number of so many digits is below 2^64.
-pub const MOST_POSITION_DIGITS: usize = 18;
+pub const MAX_POSITION_DIGITS: usize = 18;
 
 /// Whether the text is one digit or more, and not too many.
 fn is_numeral(text: &[u8]) -> bool
     ensures { result ≡ is_numeral text.now }
 {
-    !text.is_empty() && text.len() <= MOST_POSITION_DIGITS && are_digits(text)
+    !text.is_empty() && text.len() <= MAX_POSITION_DIGITS && are_digits(text)
 }
 
 /// The position that the text writes. Zeros in front are digits as others are.

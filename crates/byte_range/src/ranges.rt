@@ -43,7 +43,7 @@ fn range_in(text: &[u8]) -> Option<ByteRange>
 }
 
 /// The range that the value of a field `range` asks for. None where the value has any other form than `bytes=`, one to
-/// `MOST_POSITION_DIGITS` digits, `-` and one to as many digits, or where the last byte is before the first one.
+/// `MAX_POSITION_DIGITS` digits, `-` and one to as many digits, or where the last byte is before the first one.
 pub fn byte_range(value: &[u8]) -> Option<ByteRange>
     ensures { (range : ByteRange) → (result ≡ Some range) ↔ IsRange value.now range.first range.last }
 {

@@ -15,7 +15,7 @@ use Rattle.feature_store.specs.declared.limit.TheConstants.{TEXTS_END}
 use Rattle.feature_store.proofs.Laws.{layers_outside, map_after_change, snapshot_after_put, snapshot_after_delete}
 use Rattle.tile_cache.specs.Touched.{Mark, Reaches, Remembers}
 use Rattle.tile_cache.specs.Kept.{CacheView}
-use Rattle.tile_cache.specs.declared.kept_tiles.Origin.{Origin}
+use Rattle.tile_cache.specs.declared.cached_tiles.Origin.{Origin}
 use Rattle.cached_map.specs.Cached.{CachedView, box_of, with_mark, marks_of, marks_after, IsUntouched, AreKept, WasMap}
 use Rattle.cached_map.proofs.Unreached.{IsHidden, layers_put, layers_removed, unreached}
 

@@ -11,10 +11,10 @@ use Rattle.feature_store.specs.Store.{FeatureMap}
 use Rattle.tile_cache.specs.Cells.{cell_at}
 use Rattle.tile_cache.specs.Kept.{TileView, CacheView, is_place, kept_at, counts, fresh, IsSmall, KeepsSame, KeepsFewer}
 use Rattle.tile_cache.specs.Touched.{Mark, Reaches, Touches, Remembers, IsNewest, IsNewestOf, IsZeroOrMarked}
-use Rattle.tile_cache.specs.declared.kept_tiles.Origin.{Origin}
-use Rattle.tile_cache.specs.declared.kept_tiles.Origin.TheVariants.{Cut, Read}
-use Rattle.tile_cache.specs.declared.kept_tiles.Place.{Place}
-use Rattle.tile_cache.specs.declared.kept_tiles.TheConstants.{MOST_BYTES_OF_ONE}
+use Rattle.tile_cache.specs.declared.cached_tiles.Origin.{Origin}
+use Rattle.tile_cache.specs.declared.cached_tiles.Origin.TheVariants.{Cut, Read}
+use Rattle.tile_cache.specs.declared.cached_tiles.TileKey.{TileKey}
+use Rattle.tile_cache.specs.declared.cached_tiles.TheConstants.{MAX_TILE_BYTES}
 use Rattle.tile_cache.proofs.Marks.{marked_more, reached_at_most}
 use Rattle.tile_cache.proofs.Places.{place_is}
 use Rattle.cached_map.specs.Cached.{IsUntouched, IsKept, AreKept, AreReadRight, KeepsOrNot, MayKeep, WasMap}
@@ -130,7 +130,7 @@ module _ (origin : Origin) (m : FeatureMap) (cells : List ℕ) (last : ℕ) wher
       go z' x' y' s is from false other = elsewhere z' x' y' s is from (others z' x' y' other)
       go z' x' y' s is from true same =
           let place : (record { z = z; x = x; y = y }) ≡ (record { z = z'; x = x'; y = y' }) = place_is _ _ same in
-          subst (λ (p : Place). kept_at new p.z p.x p.y ≡ Some s → IsKept m before.marks last p.z p.x p.y s) place (λ h. there s h from) is
+          subst (λ (p : TileKey). kept_at new p.z p.x p.y ≡ Some s → IsKept m before.marks last p.z p.x p.y s) place (λ h. there s h from) is
 
   -- a tile more, or the same
   pub one_or_same : (old new : CacheView) (z x y : ℕ) (t : TileView) (before : AreKept origin m cells last old)
@@ -192,7 +192,7 @@ read_kept m cells last number old new z x y bytes was kept earlier content befor
 pub keeps_or_not : {T E : Type 0} (r : Result T E) (old new : CacheView) (z x y : ℕ) (t : TileView)
     → OnOk r (IsSmall t.bytes → kept_at new z x y ≡ Some t) → (¬ IsSmall t.bytes → new ≡ old) → OnOk r (KeepsFewer z x y old new)
     → OnErr r (new ≡ old) → KeepsOrNot z x y t old new
-keeps_or_not (Ok done) old new z x y t kept large others same = elim (cases_lt MOST_BYTES_OF_ONE (length t.bytes)) [
+keeps_or_not (Ok done) old new z x y t kept large others same = elim (cases_lt MAX_TILE_BYTES (length t.bytes)) [
   | inl more ↦ inr (large (λ small. absurd (omega (arith, more, small))))
   | inr small ↦ inl (kept small, others)
 ]

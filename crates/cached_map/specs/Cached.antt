@@ -8,8 +8,8 @@ use Rattle.feature_store.specs.Layers.{layers}
 use Rattle.feature_store.specs.Store.{FeatureMap, feature_at, changed}
 use Rattle.tile_cache.specs.Kept.{TileView, CacheView, kept_at, IsSmall, KeepsFewer}
 use Rattle.tile_cache.specs.Touched.{Mark, Reaches, Remembers}
-use Rattle.tile_cache.specs.declared.kept_tiles.Origin.{Origin}
-use Rattle.tile_cache.specs.declared.kept_tiles.Origin.TheVariants.{Read}
+use Rattle.tile_cache.specs.declared.cached_tiles.Origin.{Origin}
+use Rattle.tile_cache.specs.declared.cached_tiles.Origin.TheVariants.{Read}
 use Rattle.tile_cutter.specs.WorldBox.{bounding_box}
 
 -- what contracts see: the map, how many features it takes without memory, the number of its last edit, the newest edit of each cell of

@@ -9,7 +9,7 @@ ghost use Rattle.feature_store.specs.Store.{FeatureMap, feature_at, with_feature
 ghost use Rattle.feature_store.specs.declared.limit.TheConstants.{TEXTS_END};
 ghost use Rattle.tile_cache.specs.Kept.{kept_at, fresh, KeepsSame};
 ghost use Rattle.tile_cache.specs.Touched.{Mark, Remembers, IsNewest, IsNewestOf};
-ghost use Rattle.tile_cache.specs.declared.kept_tiles.Origin.TheVariants.{Cut, Read};
+ghost use Rattle.tile_cache.specs.declared.cached_tiles.Origin.TheVariants.{Cut, Read};
 ghost use Rattle.cached_map.specs.Cached.{box_of, with_mark, marks_of, marks_after, WasMap, AreReadRight, KeepsOrNot, MayKeep};
 
 use box_index::WorldBox;
@@ -19,7 +19,7 @@ use hilbert_id::TileAt;
 use mvt_write::write_tile;
 use std::alloc::{AllocError, Global};
 use std::marker::Model;
-use tile_cache::{KeptTile, Origin, TileCache, TouchGrid};
+use tile_cache::{CachedTile, Origin, TileCache, TouchGrid};
 use tile_cutter::bounding_box;
 
 /// A map, the newest edit of each part of the world, and tiles that were made of it.
@@ -37,7 +37,7 @@ impl Model for CachedMap {
 
     ghost Value = { CachedView };
 
-    ghost use Rattle.tile_cache.specs.declared.kept_tiles.Origin.TheVariants.{Cut};
+    ghost use Rattle.tile_cache.specs.declared.cached_tiles.Origin.TheVariants.{Cut};
 
     ghost view = { λ m. record { features = m.store.features; spare = m.store.spare; last = m.last; touched = m.touched; kept = m.kept } };
 
@@ -118,7 +118,7 @@ fn keep_copy(
     ensures { KeepsOrNot at.z at.x at.y (record { origin = origin; number = number; bytes = bytes.now }) kept.old kept.new }
 {
     if let Ok(bytes) = Vec::from_slice(alloc, bytes) {
-        let tile = KeptTile {
+        let tile = CachedTile {
             origin,
             number,
             bytes,

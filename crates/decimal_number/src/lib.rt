@@ -5,12 +5,12 @@ ghost use Rattle.std.specs.Prelude.{◌≡◌, ◌^◌, ◌<◌, ◌≤◌, ◌+
 ghost use Rattle.std.specs.List.{list_all};
 ghost use Rattle.std.specs.Char.{is_ascii_digit};
 ghost use Rattle.std.specs.Str.Parse.{digits_value};
-ghost use Rattle.decimal_number.specs.declared.TheConstants.{MOST_DIGITS};
+ghost use Rattle.decimal_number.specs.declared.TheConstants.{MAX_DIGITS};
 
 use itoa::Buffer;
 
 /// The most digits of a number below 2^64.
-pub const MOST_DIGITS: usize = 20;
+pub const MAX_DIGITS: usize = 20;
 
 /// Whether each byte is a digit.
 pub fn are_digits(bytes: &[u8]) -> bool
@@ -43,9 +43,9 @@ pub fn push_text(out: &mut Vec<u8>, text: &[u8])
 
 /// Adds a number in decimal digits, without zeros in front, where there is room. It takes no memory.
 pub fn push_number(out: &mut Vec<u8>, number: u64)
-    requires room { vec_len out.old + MOST_DIGITS ≤ vec_capacity out.old }
+    requires room { vec_len out.old + MAX_DIGITS ≤ vec_capacity out.old }
     ensures items { out.new.items ≡ out.old.items ++ decimal number }
-    ensures len { vec_len out.new ≤ vec_len out.old + MOST_DIGITS }
+    ensures len { vec_len out.new ≤ vec_len out.old + MAX_DIGITS }
     ensures capacity { vec_capacity out.old ≤ vec_capacity out.new }
 {
     push_text(out, Buffer::new().format(number).as_bytes());

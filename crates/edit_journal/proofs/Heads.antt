@@ -9,13 +9,13 @@ use Rattle.sector_disk.specs.declared.disk.DiskFault.{DiskFault}
 use Rattle.sector_disk.proofs.History.{started, each_sector, seen_may, seen_same, fits_image, any_write, write_within, write_leaves}
 use Rattle.sector_disk.proofs.History.{any_sync, sync_within, sync_leaves, weaken}
 use Rattle.edit_journal.specs.Records.{RecordData, IsRecordVersion, IsRecordLength, parts_of, record_sector, IsPart, IsHeadOf}
-use Rattle.edit_journal.specs.Ring.{Ring, Start, sector_at, IsInRing, start_behind, AreRecords, places_of, StandsAt, HoldsOnly}
+use Rattle.edit_journal.specs.Ring.{Ring, RecordStart, sector_at, IsInRing, start_behind, AreRecords, places_of, StandsAt, HoldsOnly}
 use Rattle.edit_journal.specs.Appends.{start_of, Keeps, HoldsOneMore, OldOrBody, BodiesStand}
 use Rattle.edit_journal.proofs.Laws.{written_is_part, first_is_head, body_no_head, one_number}
 use Rattle.edit_journal.proofs.Places.{places_apart}
 
 -- nothing is asked of what lies after the records
-past_end : (ring : Ring) (start : Start) (rs : List RecordData) (at : ℕ) (sector : List ℕ) (place : ℕ)
+past_end : (ring : Ring) (start : RecordStart) (rs : List RecordData) (at : ℕ) (sector : List ℕ) (place : ℕ)
     → start.place + places_of rs ≤ place → place < start.place + ring.places → place < ring.places + ring.places
     → at ≡ sector_at ring place → StandsAt ring start rs at sector
 past_end ring start [] at sector place le near small is = tt
@@ -30,7 +30,7 @@ renumbered : (n m : ℕ) (r : RecordData) (part : ℕ) (sector : List ℕ) → n
     → IsPart r.version m r.text part sector
 renumbered n m r part sector same is = subst (λ (k : ℕ). IsPart r.version k r.text part sector) same is
 
-pub stands_push : (ring : Ring) (start : Start) (rs : List RecordData) (r : RecordData) (at : ℕ) (sector : List ℕ)
+pub stands_push : (ring : Ring) (start : RecordStart) (rs : List RecordData) (r : RecordData) (at : ℕ) (sector : List ℕ)
     → StandsAt ring start rs at sector
     → ((part : ℕ) → part < parts_of (length r.text) → at ≡ sector_at ring (start.place + places_of rs + part)
     → IsPart r.version (start.number + length rs) r.text part sector)
@@ -65,7 +65,7 @@ on_ok (Ok done) old new syncs then = then syncs
 on_ok (Err fault) old new syncs then = tt
 
 -- what the journal says of one sector
-record Holds (ring : Ring) (start : Start) (rs : List RecordData) (at : ℕ) (sector : List ℕ) : Type 0 where
+record Holds (ring : Ring) (start : RecordStart) (rs : List RecordData) (at : ℕ) (sector : List ℕ) : Type 0 where
   stands : StandsAt ring start rs at sector
   last : IsInRing ring at → (version later : ℕ) → IsRecordVersion version → start.number + length rs ≤ later → IsHeadOf version later sector → ⊥
 

@@ -10,7 +10,7 @@ use Rattle.sector_disk.specs.Disk.History.{begun, wrote}
 use Rattle.sector_disk.proofs.History.{seen_same, seen_other}
 use Rattle.edit_journal.specs.declared.sizes.TheConstants.{PART_BYTES}
 use Rattle.edit_journal.specs.Records.{RecordData, record_of, IsRecordVersion, IsRecordLength, parts_of, piece, part_front, record_sector, IsPart, IsHeadOf}
-use Rattle.edit_journal.specs.Ring.{Ring, Start, sector_at, start_behind, NoLaterHead, HoldsOnly}
+use Rattle.edit_journal.specs.Ring.{Ring, RecordStart, sector_at, start_behind, NoLaterHead, HoldsOnly}
 use Rattle.edit_journal.proofs.Pieces.{one_cut, same_bytes}
 use Rattle.edit_journal.proofs.Places.{in_ring}
 use Rattle.edit_journal.proofs.Fronts.{front_length, kind_there, version_there, number_there, length_there}
@@ -93,7 +93,7 @@ same_first_record number r other sectors fits fits_too is too =
 
 module _ (ring : Ring) (image : Image) where
   -- after the first record the image has the others
-  pub holds_behind : (start : Start) (r : RecordData) (rs : List RecordData) → HoldsOnly ring start (r ∷ rs) image
+  pub holds_behind : (start : RecordStart) (r : RecordData) (rs : List RecordData) → HoldsOnly ring start (r ∷ rs) image
       → HoldsOnly ring (start_behind start r) rs image
   holds_behind start r rs holds = record {
     records = record {
@@ -106,12 +106,12 @@ module _ (ring : Ring) (image : Image) where
   }
 
   -- each part of the first record is stored in its place
-  pub first_stands : (start : Start) (r : RecordData) (rs : List RecordData) → HoldsOnly ring start (r ∷ rs) image
+  pub first_stands : (start : RecordStart) (r : RecordData) (rs : List RecordData) → HoldsOnly ring start (r ∷ rs) image
       → (part : ℕ) → part < parts_of (length r.text) → IsPart r.version start.number r.text part (image (sector_at ring (start.place + part)))
   first_stands start r rs holds part lt = (holds.records.stand (sector_at ring (start.place + part))).0 part lt refl
 
   -- an image without a head of this number has no first record
-  not_both : (start : Start) (r : RecordData) (rs : List RecordData) → HoldsOnly ring start (r ∷ rs) image
+  not_both : (start : RecordStart) (r : RecordData) (rs : List RecordData) → HoldsOnly ring start (r ∷ rs) image
       → HoldsOnly ring start [] image → ⊥
   not_both start r rs holds none =
       let some : 1 ≤ parts_of (length r.text) = omega (arith, holds.records.lengths.0.1) in
@@ -121,14 +121,14 @@ module _ (ring : Ring) (image : Image) where
       (first_stands start r rs holds 0 (omega (arith, some))))
 
   -- the first records of two lists are one: the head has the version and the length, and the parts have the bytes
-  first_same : (start : Start) (r : RecordData) (rs : List RecordData) (other : RecordData) (others : List RecordData)
+  first_same : (start : RecordStart) (r : RecordData) (rs : List RecordData) (other : RecordData) (others : List RecordData)
       → HoldsOnly ring start (r ∷ rs) image → HoldsOnly ring start (other ∷ others) image → r ≡ other
   first_same start r rs other others is too =
       same_first_record start.number r other (λ part. image (sector_at ring (start.place + part))) is.records.lengths.0 too.records.lengths.0
       (first_stands start r rs is) (first_stands start other others too)
 
   -- an image holds at most one list of records from a start on
-  pub one_list : (start : Start) (rs others : List RecordData) → HoldsOnly ring start rs image
+  pub one_list : (start : RecordStart) (rs others : List RecordData) → HoldsOnly ring start rs image
       → HoldsOnly ring start others image → rs ≡ others
   one_list start [] [] is too = refl
   one_list start [] (other ∷ others) is too = absurd (not_both start other others too is)
@@ -143,18 +143,18 @@ module _ (ring : Ring) (image : Image) where
 -- ---- the definitions aren't empty
 
 -- a ring of zeros has no record
-pub zeros_hold_none : (ring : Ring) (start : Start) → start.number ≤ 2 ^ 64 → HoldsOnly ring start [] all_zeros
+pub zeros_hold_none : (ring : Ring) (start : RecordStart) → start.number ≤ 2 ^ 64 → HoldsOnly ring start [] all_zeros
 zeros_hold_none ring start fits = record {
   records = record { lengths = tt; room = omega arith; numbers = omega (arith, fits); stand = λ at. tt };
   last = λ at version later inside is le head. zeros_no_head version later head;
 }
 
 -- a disk of zeros to which the record of a short text was written
-abbrev pub one_record : (version : ℕ) → Ring → Start → List ℕ → Image
+abbrev pub one_record : (version : ℕ) → Ring → RecordStart → List ℕ → Image
 one_record version ring start text =
     seen (wrote (sector_at ring start.place) (record_sector version start.number text 0) (begun all_zeros))
 
-module _ (version : ℕ) (ring : Ring) (start : Start) (text : List ℕ) (fits : start.number < 2 ^ 64) where
+module _ (version : ℕ) (ring : Ring) (start : RecordStart) (text : List ℕ) (fits : start.number < 2 ^ 64) where
   written_head : IsHeadOf version start.number (record_sector version start.number text 0)
   written_head = first_is_head version start.number text (record_sector version start.number text 0) fits (written_is_part version start.number text 0)
 

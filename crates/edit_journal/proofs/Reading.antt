@@ -7,7 +7,7 @@ use Rattle.edit_journal.specs.declared.fault.JournalFault.{JournalFault}
 use Rattle.edit_journal.specs.declared.records.Record.{Record}
 use Rattle.edit_journal.specs.declared.sizes.TheConstants.{FIRST_RECORD_VERSION}
 use Rattle.edit_journal.specs.Records.{RecordData, record_data, records_of, IsRecordLength, AreUpTo, parts_of, HasFront, IsPart, IsHeadOf, IsExpectedHead}
-use Rattle.edit_journal.specs.Ring.{Ring, Start, sector_at, AreRecords, places_of, HoldsRecords}
+use Rattle.edit_journal.specs.Ring.{Ring, RecordStart, sector_at, AreRecords, places_of, HoldsRecords}
 use Rattle.edit_journal.specs.Appends.{start_of}
 use Rattle.edit_journal.specs.Recovers.{EndsAt, IsJournal, PartsStand, FrontsStand, IsNext, IsDamaged}
 use Rattle.edit_journal.specs.Releases.{MayTake}
@@ -88,16 +88,16 @@ counted rs edits used last are used_is last_is =
     (omega (arith, used_is, last_is, takes.0), omega (arith, used_is, last_is, takes.1))
 
 -- the journal that is read so far has these records
-module _ (ring now : Ring) (start : Start) (place edits used last : ℕ) (rs : List RecordData) (image : Image)
+module _ (ring now : Ring) (start : RecordStart) (place edits used last : ℕ) (rs : List RecordData) (image : Image)
     (same_ring : now ≡ ring) (same_start : start_of place edits ≡ start) (used_is : used ≡ places_of rs) (last_is : last ≡ edits + length rs)
     (holds : HoldsRecords ring start rs image) where
   next_number : last + 1 ≡ start.number + length rs
-  next_number = omega (arith, last_is, ap (λ (s : Start). s.number) same_start)
+  next_number = omega (arith, last_is, ap (λ (s : RecordStart). s.number) same_start)
 
   moved : (P : Ring → ℕ → ℕ → ℕ → Type 0) → P now place used (last + 1) → P ring start.place (places_of rs) (start.number + length rs)
   moved P found =
       subst (λ (q : Ring). P q start.place (places_of rs) (start.number + length rs)) same_ring
-      (subst (λ (p : ℕ). P now p (places_of rs) (start.number + length rs)) (ap (λ (s : Start). s.place) same_start)
+      (subst (λ (p : ℕ). P now p (places_of rs) (start.number + length rs)) (ap (λ (s : RecordStart). s.place) same_start)
       (subst (λ (u : ℕ). P now place u (start.number + length rs)) used_is
       (subst (λ (n : ℕ). P now place used n) next_number found)))
 

@@ -7,7 +7,7 @@ use Rattle.std.proofs.lemmas.List.Elements.{All-head, All-tail}
 use Rattle.sector_disk.specs.Disk.{Image}
 use Rattle.edit_journal.specs.declared.sizes.TheConstants.{LAST_RECORD_VERSION}
 use Rattle.edit_journal.specs.Records.{RecordData, IsRecordLength, AreUpTo, parts_of, IsPart, IsExpectedHead}
-use Rattle.edit_journal.specs.Ring.{Ring, Start, sector_at, start_behind, AreRecords, places_of, StandsAt, HoldsRecords, HoldsOnly}
+use Rattle.edit_journal.specs.Ring.{Ring, RecordStart, sector_at, start_behind, AreRecords, places_of, StandsAt, HoldsRecords, HoldsOnly}
 use Rattle.edit_journal.specs.Recovers.{EndsAt, IsJournal, IsNext, IsDamaged}
 use Rattle.edit_journal.proofs.Heads.{stands_push, places_push, records_push}
 use Rattle.edit_journal.proofs.Laws.{first_is_head, same_first_record}
@@ -29,7 +29,7 @@ behind_room : (rs : List RecordData) (r : RecordData) (rest : List RecordData)
 behind_room [] r rest = omega arith
 behind_room (first ∷ rs) r rest = omega (arith, behind_room rs r rest)
 
-behind_stands : (ring : Ring) (start : Start) (rs : List RecordData) (r : RecordData) (rest : List RecordData) (at : ℕ) (sector : List ℕ)
+behind_stands : (ring : Ring) (start : RecordStart) (rs : List RecordData) (r : RecordData) (rest : List RecordData) (at : ℕ) (sector : List ℕ)
     → StandsAt ring start (rs ++ r ∷ rest) at sector → (part : ℕ) → part < parts_of (length r.text)
     → at ≡ sector_at ring (start.place + (places_of rs + part)) → IsPart r.version (start.number + length rs) r.text part sector
 behind_stands ring start [] r rest at sector stands part lt is =
@@ -46,7 +46,7 @@ behind_stands ring start (first ∷ rs) r rest at sector stands part lt is =
 module _ (ring : Ring) (image : Image) where
   -- ---- what is stored after records is the next record
 
-  next_behind : (start : Start) (rs : List RecordData) (r : RecordData) (rest : List RecordData)
+  next_behind : (start : RecordStart) (rs : List RecordData) (r : RecordData) (rest : List RecordData)
       → HoldsRecords ring start (rs ++ r ∷ rest) image
       → IsNext ring start.place (places_of rs) (start.number + length rs) r image
   next_behind start rs r rest holds = record {
@@ -56,7 +56,7 @@ module _ (ring : Ring) (image : Image) where
         (image (sector_at ring (start.place + (places_of rs + part)))) (holds.stand (sector_at ring (start.place + (places_of rs + part)))) part lt refl;
   }
 
-  number_behind : (start : Start) (rs : List RecordData) (r : RecordData) (rest : List RecordData)
+  number_behind : (start : RecordStart) (rs : List RecordData) (r : RecordData) (rest : List RecordData)
       → HoldsRecords ring start (rs ++ r ∷ rest) image → start.number + length rs < 2 ^ 64
   number_behind start rs r rest holds = omega (arith, holds.numbers, length-append rs (r ∷ rest))
 
@@ -86,7 +86,7 @@ module _ (ring : Ring) (image : Image) where
 
   -- ---- two lists of records begin alike
 
-  records_behind : (start : Start) (r : RecordData) (rs : List RecordData) → HoldsRecords ring start (r ∷ rs) image
+  records_behind : (start : RecordStart) (r : RecordData) (rs : List RecordData) → HoldsRecords ring start (r ∷ rs) image
       → HoldsRecords ring (start_behind start r) rs image
   records_behind start r rs holds = record {
     lengths = holds.lengths.1;
@@ -95,17 +95,17 @@ module _ (ring : Ring) (image : Image) where
     stand = λ at. (holds.stand at).1;
   }
 
-  part_of_first : (start : Start) (r : RecordData) (rs : List RecordData) → HoldsRecords ring start (r ∷ rs) image
+  part_of_first : (start : RecordStart) (r : RecordData) (rs : List RecordData) → HoldsRecords ring start (r ∷ rs) image
       → (part : ℕ) → part < parts_of (length r.text) → IsPart r.version start.number r.text part (image (sector_at ring (start.place + part)))
   part_of_first start r rs holds part lt = (holds.stand (sector_at ring (start.place + part))).0 part lt refl
 
-  same_first : (start : Start) (r : RecordData) (rs : List RecordData) (other : RecordData) (others : List RecordData)
+  same_first : (start : RecordStart) (r : RecordData) (rs : List RecordData) (other : RecordData) (others : List RecordData)
       → HoldsRecords ring start (r ∷ rs) image → HoldsRecords ring start (other ∷ others) image → r ≡ other
   same_first start r rs other others is too =
       same_first_record start.number r other (λ part. image (sector_at ring (start.place + part))) is.lengths.0 too.lengths.0
       (part_of_first start r rs is) (part_of_first start other others too)
 
-  pub begin_alike : (start : Start) (rs others : List RecordData) → HoldsRecords ring start rs image
+  pub begin_alike : (start : RecordStart) (rs others : List RecordData) → HoldsRecords ring start rs image
       → HoldsRecords ring start others image → Begins rs others ⊎ Begins others rs
   begin_alike start [] others is too = inl (others, refl)
   begin_alike start (r ∷ rs) [] is too = inr (r ∷ rs, refl)
@@ -127,7 +127,7 @@ module _ (ring : Ring) (image : Image) where
       version_behind most rs r rest (All-tail (λ (q : RecordData). q.version ≤ most) first (rs ++ r ∷ rest) are)
 
   -- after a journal there are no more records of allowed versions
-  no_more : (most : ℕ) (start : Start) (rs others rest : List RecordData) → IsJournal most ring start rs image
+  no_more : (most : ℕ) (start : RecordStart) (rs others rest : List RecordData) → IsJournal most ring start rs image
       → HoldsRecords ring start others image → AreUpTo most others → others ≡ rs ++ rest → others ≡ rs
   no_more most start rs others [] journal holds allowed is = is ∙ append-nil rs
   no_more most start rs others (r ∷ rest) journal holds allowed is =
@@ -137,7 +137,7 @@ module _ (ring : Ring) (image : Image) where
       (number_behind start rs r rest whole) (version_behind most rs r rest (subst (AreUpTo most) is allowed)) journal.ends)
 
   -- a ring has at most one journal from a start on
-  pub one_journal : (most : ℕ) (start : Start) (rs others : List RecordData) → IsJournal most ring start rs image
+  pub one_journal : (most : ℕ) (start : RecordStart) (rs others : List RecordData) → IsJournal most ring start rs image
       → IsJournal most ring start others image → rs ≡ others
   one_journal most start rs others is too = ⊎_elim
       (λ (b : Begins rs others). sym (no_more most start rs others b.0 is too.records too.versions b.1))
@@ -145,7 +145,7 @@ module _ (ring : Ring) (image : Image) where
       (begin_alike start rs others is.records too.records)
 
   -- a ring that holds only records of versions that the disk allows has their journal
-  pub held_is_journal : (most : ℕ) (start : Start) (rs : List RecordData) → most ≤ LAST_RECORD_VERSION → AreUpTo most rs
+  pub held_is_journal : (most : ℕ) (start : RecordStart) (rs : List RecordData) → most ≤ LAST_RECORD_VERSION → AreUpTo most rs
       → HoldsOnly ring start rs image → IsJournal most ring start rs image
   held_is_journal most start rs known allowed holds = record {
     records = holds.records;
@@ -159,7 +159,7 @@ module _ (ring : Ring) (image : Image) where
   }
 
   -- a ring with a damaged record after others has no journal
-  pub damaged_is_none : (most : ℕ) (start : Start) (rs : List RecordData) → HoldsRecords ring start rs image → AreUpTo most rs
+  pub damaged_is_none : (most : ℕ) (start : RecordStart) (rs : List RecordData) → HoldsRecords ring start rs image → AreUpTo most rs
       → IsDamaged most ring start.place (places_of rs) (start.number + length rs) image
       → (others : List RecordData) → IsJournal most ring start others image → ⊥
   damaged_is_none most start rs holds allowed damaged others journal = ⊎_elim
@@ -178,11 +178,11 @@ module _ (ring : Ring) (image : Image) where
 
 -- ---- while records are read
 
-pub no_records : (ring : Ring) (start : Start) (image : Image) → start.number ≤ 2 ^ 64 → HoldsRecords ring start [] image
+pub no_records : (ring : Ring) (start : RecordStart) (image : Image) → start.number ≤ 2 ^ 64 → HoldsRecords ring start [] image
 no_records ring start image fits = record { lengths = tt; room = omega arith; numbers = omega (arith, fits); stand = λ at. tt }
 
 -- the next record, after others
-pub one_more : (ring : Ring) (start : Start) (rs : List RecordData) (r : RecordData) (image : Image) → HoldsRecords ring start rs image
+pub one_more : (ring : Ring) (start : RecordStart) (rs : List RecordData) (r : RecordData) (image : Image) → HoldsRecords ring start rs image
     → start.number + length rs < 2 ^ 64 → IsNext ring start.place (places_of rs) (start.number + length rs) r image
     → HoldsRecords ring start (rs ++ r ∷ []) image
 one_more ring start rs r image holds fits next = record {

@@ -6,7 +6,7 @@ use Rattle.std.proofs.Math.Nat.{mod-add-mod}
 use Rattle.sector_disk.specs.Disk.{History, Image, MayLeave, seen}
 use Rattle.sector_disk.proofs.History.{seen_may}
 use Rattle.edit_journal.specs.declared.journal.Journal.{Journal}
-use Rattle.edit_journal.specs.declared.journal.Start.{Start}
+use Rattle.edit_journal.specs.declared.journal.JournalPosition.{JournalPosition}
 use Rattle.edit_journal.specs.Records.{RecordData, IsRecordLength, parts_of}
 use Rattle.edit_journal.specs.Ring.{Ring, sector_at, AreRecords, places_of, StandsAt, NoLaterHead, HoldsOnly}
 use Rattle.edit_journal.specs.Appends.{ring_of, start_of, Keeps, IsAt}
@@ -120,7 +120,7 @@ module _ (ring : Ring) (place edits used last : ℕ) (rs : List RecordData) (his
 -- ---- starts that `next` gave
 
 -- the start that `next` gives lies behind all records in use
-pub next_is_behind : (journal : Journal) (start : Start) → IsCounted journal
+pub next_is_behind : (journal : Journal) (start : JournalPosition) → IsCounted journal
     → start.place ≡ (journal.place + journal.used) % journal.places → start.edits ≡ journal.last → IsBehind journal start journal.used
 next_is_behind journal start counted place edits = record {
   place = place;
@@ -132,7 +132,7 @@ next_is_behind journal start counted place edits = record {
 
 module _ (old new : Journal) (ring : ring_of new ≡ ring_of old) (from : start_of new.place new.edits ≡ start_of old.place old.edits) where
   -- a start goes on to lie there while records are added
-  pub later_is_behind : (start : Start) (behind : ℕ) → IsBehind old start behind → old.used ≤ new.used → old.last ≤ new.last
+  pub later_is_behind : (start : JournalPosition) (behind : ℕ) → IsBehind old start behind → old.used ≤ new.used → old.last ≤ new.last
       → MayTake (new.last - old.last) (new.used - old.used) → IsBehind new start behind
   later_is_behind start behind was used last added =
       let places : new.places ≡ old.places = ap (λ (r : Ring). r.places) ring in
@@ -148,7 +148,7 @@ module _ (old new : Journal) (ring : ring_of new ≡ ring_of old) (from : start_
 
   -- an append adds what it may
   module _ (bytes : ℕ) (version : ℕ) (fits : IsRecordLength version bytes) (used : new.used ≡ old.used + parts_of bytes) (last : new.last ≡ old.last + 1) where
-    pub append_is_behind : (start : Start) (behind : ℕ) → IsBehind old start behind → IsBehind new start behind
+    pub append_is_behind : (start : JournalPosition) (behind : ℕ) → IsBehind old start behind → IsBehind new start behind
     append_is_behind start behind was =
         later_is_behind start behind was (omega (arith, used)) (omega (arith, last)) (omega (arith, fits, used, last), omega (arith, fits, used, last))
 

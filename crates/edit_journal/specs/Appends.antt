@@ -4,7 +4,7 @@ use Rattle.std.proofs.Common.{suc}
 use Rattle.sector_disk.specs.Disk.{History, Image, MayHold, MayLeave, HasFailed}
 use Rattle.sector_disk.specs.Disk.History.{begun, wrote, tried, synced}
 use Rattle.edit_journal.specs.Records.{RecordData, parts_of, record_sector}
-use Rattle.edit_journal.specs.Ring.{Ring, Start, sector_at, places_of, HoldsOnly}
+use Rattle.edit_journal.specs.Ring.{Ring, RecordStart, sector_at, places_of, HoldsOnly}
 use Rattle.edit_journal.specs.declared.journal.Journal.{Journal}
 use Rattle.edit_journal.specs.declared.fault.JournalFault.{JournalFault}
 use Rattle.edit_journal.specs.declared.fault.JournalFault.TheVariants.{NumbersSpent, Full, Device, Damaged, Memory}
@@ -14,7 +14,7 @@ abbrev pub ring_of : Journal → Ring
 ring_of journal = record { first = journal.first; places = journal.places }
 
 -- where the records in use begin
-abbrev pub start_of : (place edits : ℕ) → Start
+abbrev pub start_of : (place edits : ℕ) → RecordStart
 start_of place edits = record { place = place; number = suc edits }
 
 -- Each image that a crash now may leave holds these records, which take the places in use and have the numbers up to the last.
@@ -40,7 +40,7 @@ abbrev pub ReadsAsBefore : Ring → (place used : ℕ) → (old new : Image) →
 ReadsAsBefore ring place used old new = (at : ℕ) → (IsFree ring place used at → ⊥) → new at ≡ old at
 
 -- the image holds the records, or the records with this one
-abbrev pub HoldsOneMore : Ring → Start → List RecordData → RecordData → Image → Type 0
+abbrev pub HoldsOneMore : Ring → RecordStart → List RecordData → RecordData → Image → Type 0
 HoldsOneMore ring start records r image = HoldsOnly ring start records image ⊎ HoldsOnly ring start (records ++ r ∷ []) image
 
 -- in the sector is stored what might have stood there, or a body of the record

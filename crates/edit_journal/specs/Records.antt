@@ -1,7 +1,7 @@
 -- Records of a journal, and their sectors. Numbers are stored lowest byte first.
 use Rattle.std.specs.Prelude.{◌≡◌, ◌≤◌, ◌+◌, ◌-◌, ◌*◌, ◌/◌, ◌==◌, if◌then◌else◌, ℕ, List, map, ◌∷◌, ◌++◌, length, replicate, take, drop, slice_index, slice_range, All}
 use Rattle.std.specs.Int.{w16, w32, w64, to_le_bytes, from_le_bytes}
-use Rattle.edit_journal.specs.declared.sizes.TheConstants.{FIRST_RECORD_VERSION, LAST_RECORD_VERSION, MOST_RECORD_BYTES, PART_BYTES}
+use Rattle.edit_journal.specs.declared.sizes.TheConstants.{FIRST_RECORD_VERSION, LAST_RECORD_VERSION, MAX_RECORD_BYTES, PART_BYTES}
 use Rattle.edit_journal.specs.declared.records.Record.{Record}
 
 -- what a record of the journal has, beside its number
@@ -25,7 +25,7 @@ IsRecordVersion version = (FIRST_RECORD_VERSION ≤ version) × (version ≤ LAS
 
 -- The greatest length of the text of a record of this version. Version 2 has a count byte before what version 1 has.
 abbrev pub most_bytes : (version : ℕ) → ℕ
-most_bytes version = MOST_RECORD_BYTES + (version - FIRST_RECORD_VERSION)
+most_bytes version = MAX_RECORD_BYTES + (version - FIRST_RECORD_VERSION)
 
 -- a record of this version may have a text of this length
 abbrev pub IsRecordLength : (version bytes : ℕ) → Type 0

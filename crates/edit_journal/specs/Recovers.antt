@@ -2,7 +2,7 @@
 use Rattle.std.specs.Prelude.{◌≡◌, ◌⊎◌, ◌<◌, ◌≤◌, ◌+◌, ◌^◌, ℕ, List, length}
 use Rattle.sector_disk.specs.Disk.{Image, HasFailed}
 use Rattle.edit_journal.specs.Records.{RecordData, IsRecordLength, AreUpTo, parts_of, HasFront, IsPart, IsExpectedHead}
-use Rattle.edit_journal.specs.Ring.{Ring, Start, sector_at, places_of, HoldsRecords}
+use Rattle.edit_journal.specs.Ring.{Ring, RecordStart, sector_at, places_of, HoldsRecords}
 use Rattle.edit_journal.specs.declared.fault.JournalFault.{JournalFault}
 use Rattle.edit_journal.specs.declared.fault.JournalFault.TheVariants.{NumbersSpent, Full, Device, Damaged, Memory}
 
@@ -13,7 +13,7 @@ EndsAt most ring place used number image =
     (ring.places ≤ used) ⊎ (2 ^ 64 ≤ number) ⊎ (IsExpectedHead most number (image (sector_at ring (place + used))) → ⊥)
 
 -- The image has these records from a start on, each in a version that the disk allows, and the journal ends after them.
-pub record IsJournal (most : ℕ) (ring : Ring) (start : Start) (held : List RecordData) (image : Image) : Type 0 where
+pub record IsJournal (most : ℕ) (ring : Ring) (start : RecordStart) (held : List RecordData) (image : Image) : Type 0 where
   pub records : HoldsRecords ring start held image
   pub versions : AreUpTo most held
   pub ends : EndsAt most ring start.place (places_of held) (start.number + length held) image

@@ -3,7 +3,7 @@ use Rattle.std.specs.Prelude.{◌≡◌, ◌≤◌, ◌+◌, ◌-◌, ◌*◌, �
 use Rattle.edit_journal.specs.declared.sizes.TheConstants.{LAST_RECORD_VERSION}
 use Rattle.edit_journal.specs.Records.{most_bytes, parts_of}
 use Rattle.edit_journal.specs.declared.journal.Journal.{Journal}
-use Rattle.edit_journal.specs.declared.journal.Start.{Start}
+use Rattle.edit_journal.specs.declared.journal.JournalPosition.{JournalPosition}
 
 -- So many records may have so many places: each has one at least, and none has more than that of the longest text.
 abbrev pub MayTake : (records places : ℕ) → Type 0
@@ -14,7 +14,7 @@ abbrev pub IsCounted : Journal → Type 0
 IsCounted journal = MayTake (journal.last - journal.edits) journal.used
 
 -- The start lies so many of the places in use behind that of the journal, and parts the records in use accordingly.
-pub record IsBehind (journal : Journal) (start : Start) (behind : ℕ) : Type 0 where
+pub record IsBehind (journal : Journal) (start : JournalPosition) (behind : ℕ) : Type 0 where
   pub place : start.place ≡ (journal.place + behind) % journal.places
   pub in_use : behind ≤ journal.used
   pub numbers : (journal.edits ≤ start.edits) × (start.edits ≤ journal.last)

@@ -10,7 +10,7 @@ pub record Ring : Type 0 where
   pub places : ℕ
 
 -- where records begin: the place and the number of the first
-pub record Start : Type 0 where
+pub record RecordStart : Type 0 where
   pub place : ℕ
   pub number : ℕ
 
@@ -23,7 +23,7 @@ abbrev pub IsInRing : Ring → ℕ → Type 0
 IsInRing ring at = (ring.first ≤ at) × (at < ring.first + ring.places)
 
 -- where the records after this one begin
-abbrev pub start_behind : Start → RecordData → Start
+abbrev pub start_behind : RecordStart → RecordData → RecordStart
 start_behind start r = record { place = start.place + parts_of (length r.text); number = suc start.number }
 
 -- each record has a version and a length that a record may have
@@ -37,14 +37,14 @@ places_of [] = 0
 places_of (r ∷ records) = parts_of (length r.text) + places_of records
 
 -- The parts of the records are stored in consecutive places, by ascending numbers, each part in its record's version: this sector is as they say.
-abbrev pub StandsAt : Ring → Start → List RecordData → (at : ℕ) → List ℕ → Type 0
+abbrev pub StandsAt : Ring → RecordStart → List RecordData → (at : ℕ) → List ℕ → Type 0
 StandsAt ring start [] at sector = Unit {0}
 StandsAt ring start (r ∷ records) at sector =
     ((part : ℕ) → part < parts_of (length r.text) → at ≡ sector_at ring (start.place + part) → IsPart r.version start.number r.text part sector)
     × StandsAt ring (start_behind start r) records at sector
 
 -- The image has these records from a start on, and the ring has room for them.
-pub record HoldsRecords (ring : Ring) (start : Start) (records : List RecordData) (image : Image) : Type 0 where
+pub record HoldsRecords (ring : Ring) (start : RecordStart) (records : List RecordData) (image : Image) : Type 0 where
   pub lengths : AreRecords records
   pub room : places_of records ≤ ring.places
   pub numbers : start.number + length records ≤ 2 ^ 64
@@ -56,6 +56,6 @@ NoLaterHead ring next image =
     (at version later : ℕ) → IsInRing ring at → IsRecordVersion version → next ≤ later → IsHeadOf version later (image at) → ⊥
 
 -- The image has these records from a start on, and none after them.
-pub record HoldsOnly (ring : Ring) (start : Start) (held : List RecordData) (image : Image) : Type 0 where
+pub record HoldsOnly (ring : Ring) (start : RecordStart) (held : List RecordData) (image : Image) : Type 0 where
   pub records : HoldsRecords ring start held image
   pub last : NoLaterHead ring (start.number + length held) image

@@ -4,7 +4,7 @@ ghost use Rattle.edit_journal.specs.declared.sizes.TheConstants.{FIRST_RECORD_VE
 ghost use Rattle.edit_journal.specs.Records.{IsRecordLength, parts_of, number_from, length_from, IsHeadOf, IsExpectedHead, HasFront};
 
 use crate::encoding::{count_parts, front_bytes};
-use crate::sizes::{FIRST_RECORD_VERSION, LAST_RECORD_VERSION, MOST_RECORD_BYTES};
+use crate::sizes::{FIRST_RECORD_VERSION, LAST_RECORD_VERSION, MAX_RECORD_BYTES};
 use sector_disk::SECTOR_BYTES;
 
 /// What the head of a record says.
@@ -31,7 +31,7 @@ impl Head {
         if version < FIRST_RECORD_VERSION || version > LAST_RECORD_VERSION {
             return None;
         }
-        if length == 0 || length > MOST_RECORD_BYTES + (version - FIRST_RECORD_VERSION) {
+        if length == 0 || length > MAX_RECORD_BYTES + (version - FIRST_RECORD_VERSION) {
             return None;
         }
         Some(Head {

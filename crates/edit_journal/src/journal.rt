@@ -3,7 +3,7 @@ ghost use Rattle.std.specs.Prelude.{◌≡◌, ◌≤◌, ◌<◌, ◌+◌, ◌-
 
 /// Where the records in use begin.
 #[derive(Clone, Copy, Debug, PartialEq, Eq)]
-pub struct Start {
+pub struct JournalPosition {
     /// The place of the first of them, or of the next one where there is none.
     pub place: u64,
     /// How many edits came before it: its number is one more.
@@ -40,17 +40,17 @@ impl Journal {
     }
 
     /// Where the next record begins.
-    pub fn next(&self) -> Start
+    pub fn next(&self) -> JournalPosition
         ensures { (result.place ≡ (self.now.place + self.now.used) % self.now.places) × (result.edits ≡ self.now.last) }
     {
         let behind = self.places - self.place;
         if self.used < behind {
-            Start {
+            JournalPosition {
                 place: self.place + self.used,
                 edits: self.last,
             }
         } else {
-            Start {
+            JournalPosition {
                 place: self.used - behind,
                 edits: self.last,
             }

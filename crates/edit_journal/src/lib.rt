@@ -14,6 +14,6 @@ mod sizes;
 pub use encoding::part_sector;
 pub use fault::JournalFault;
 pub use head::{Head, head_in, head_version};
-pub use journal::{Journal, Start};
+pub use journal::{Journal, JournalPosition};
 pub use records::Record;
-pub use sizes::{FIRST_RECORD_VERSION, LAST_RECORD_VERSION, MOST_RECORD_BYTES, PART_BYTES};
+pub use sizes::{FIRST_RECORD_VERSION, LAST_RECORD_VERSION, MAX_RECORD_BYTES, PART_BYTES};

@@ -12,7 +12,7 @@ ghost use Rattle.edit_journal.specs.declared.fault.JournalFault.TheVariants.{Dam
 use crate::encoding::count_parts;
 use crate::fault::JournalFault;
 use crate::head::{Head, head_in, head_version};
-use crate::journal::{Journal, Start};
+use crate::journal::{Journal, JournalPosition};
 use crate::records::Record;
 use crate::sizes::PART_BYTES;
 use sector_disk::{DiskFault, SECTOR_BYTES, Sectors};
@@ -192,7 +192,7 @@ impl Journal {
         disk: &mut D,
         first: u64,
         places: u64,
-        start: Start,
+        start: JournalPosition,
         version: u32,
     ) -> Result<(Journal, Vec<Record>), JournalFault>
         requires ring { first + places ≤ D.sectors disk.old }

@@ -6,11 +6,11 @@ ghost use Rattle.edit_journal.specs.Ring.{places_of};
 ghost use Rattle.edit_journal.specs.Appends.{ring_of, IsAt};
 ghost use Rattle.edit_journal.specs.Releases.{IsBehind, IsCounted};
 
-use crate::journal::{Journal, Start};
+use crate::journal::{Journal, JournalPosition};
 
 impl Journal {
     /// How many places lie between the first record in use and a start.
-    fn places_before(&self, start: Start) -> u64
+    fn places_before(&self, start: JournalPosition) -> u64
         requires { (behind : ℕ) × IsBehind self.now start behind }
         ensures { (behind : ℕ) → IsBehind self.now start behind → result ≡ behind }
     {
@@ -25,7 +25,7 @@ impl Journal {
 
     /// Frees the places of the first records in use: of all that come before a start that `next` gave since the first of them was
     /// written. Nothing is written: until they are written over, the records stand there.
-    pub fn release(&mut self, start: Start)
+    pub fn release(&mut self, start: JournalPosition)
         requires { (behind : ℕ) × IsBehind self.old start behind }
         ensures same { (ring_of self.new ≡ ring_of self.old) × (self.new.last ≡ self.old.last) }
         ensures start { (self.new.place ≡ start.place) × (self.new.edits ≡ start.edits) }

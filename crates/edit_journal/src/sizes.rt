@@ -7,4 +7,4 @@ pub const FIRST_RECORD_VERSION: u32 = 1;
 /// The last version of records: a count byte, and the texts of so many changes.
 pub const LAST_RECORD_VERSION: u32 = 2;
 /// The most bytes of the text of a record of the first version. One of the last version has at most a byte more, its count.
-pub const MOST_RECORD_BYTES: u32 = 32_768;
+pub const MAX_RECORD_BYTES: u32 = 32_768;

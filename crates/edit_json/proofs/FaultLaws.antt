@@ -3,7 +3,7 @@ use Rattle.std.proofs.Common.{◌≡◌, ℕ, ◌≤◌, List, length, All, Ok, 
 use Rattle.std.specs.Cmp.Lexicographic.{slice_cmp}
 use Rattle.std.specs.List.Sorted.{IsStrictlySortedBy}
 use Rattle.serde_json.specs.Data.{Data, Members}
-use Rattle.feature_model.specs.declared.limits.TheConstants.{MOST_TAGS}
+use Rattle.feature_model.specs.declared.limits.TheConstants.{MAX_TAGS}
 use Rattle.reader.proofs.Steps.{same_value, not_both}
 use Rattle.feature_model.specs.declared.fault.EditFault.{EditFault}
 use Rattle.feature_model.specs.declared.fault.EditFault.TheVariants as faults
@@ -62,9 +62,9 @@ feature-one d f g a b =
 outline-one : (d : Data) (f : FeatureData) (P : OutlineData → Type 0) → IsFeature d f → HasOutline d P → P (outline_of f)
 outline-one d f P a h = subst P (outline_json-one h.0 (outline_of f) (sym h.1.is ∙ a.is)) h.2
 
-tags-keys : (ts : List TagData) → TagsFit ts → (length (names_of (tags_json ts)) ≤ MOST_TAGS) × All IsName (names_of (tags_json ts))
-tags-keys ts h = let P : List (List ℕ) → Type 0 = λ ns. (length ns ≤ MOST_TAGS) × All IsName ns in
-    let few : length (keys_of ts) ≤ MOST_TAGS = rw (length-keys_of ts) h.few in
+tags-keys : (ts : List TagData) → TagsFit ts → (length (names_of (tags_json ts)) ≤ MAX_TAGS) × All IsName (names_of (tags_json ts))
+tags-keys ts h = let P : List (List ℕ) → Type 0 = λ ns. (length ns ≤ MAX_TAGS) × All IsName ns in
+    let few : length (keys_of ts) ≤ MAX_TAGS = rw (length-keys_of ts) h.few in
     subst P (sym (names_of-tags ts)) (few, h.names)
 
 -- the value of a feature has no fault
@@ -82,7 +82,7 @@ feature-faultless d f _ a h = absurd h
 
 -- ---- what the reader's steps return
 
-keys-fit : (ms : Members) (ts : List TagData) → ms ≡ tags_json ts → length (names_of ms) ≤ MOST_TAGS → All IsName (names_of ms)
+keys-fit : (ms : Members) (ts : List TagData) → ms ≡ tags_json ts → length (names_of ms) ≤ MAX_TAGS → All IsName (names_of ms)
     → IsStrictlySortedBy (slice_cmp nat_cmp) (names_of ms) → TagsFit ts
 keys-fit ms ts e few names ascending =
     let f : names_of ms ≡ keys_of ts = ap names_of e ∙ names_of-tags ts in

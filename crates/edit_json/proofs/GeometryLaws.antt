@@ -9,7 +9,7 @@ use Rattle.serde_json.specs.Data.{Data, null, boolean, number, string, array, ob
 use Rattle.serde_json.specs.Events.{items_len}
 use Rattle.serde_json.specs.Find.{as_array}
 use Rattle.serde_json.specs.View.{items_of}
-use Rattle.feature_model.specs.declared.limits.TheConstants.{LEAST_LINE, LEAST_RING}
+use Rattle.feature_model.specs.declared.limits.TheConstants.{MIN_LINE, MIN_RING}
 use Rattle.reader.specs.Reading.{Read, ◌>>=◌}
 use Rattle.reader.proofs.Steps.{same_value, same_fault, not_both, then_faults}
 use Rattle.feature_model.specs.declared.fault.EditFault.{EditFault}
@@ -214,12 +214,12 @@ geometry_at-says (point_list ds) g e =
     let f = list_of-says point_in point_json IsOfWorld points-read 1 ds h.0 h.1.0 in
     rw h.1.1 (ap point_list f.0, f.1.0, f.1.1)
 geometry_at-says (line_list ds) g e =
-    let h = some-world world_lines (list_of 1 (points_at LEAST_LINE) ds) g e in
-    let f = list_of-says (points_at LEAST_LINE) points_json (ArePoints LEAST_LINE) (line-read LEAST_LINE) 1 ds h.0 h.1.0 in
+    let h = some-world world_lines (list_of 1 (points_at MIN_LINE) ds) g e in
+    let f = list_of-says (points_at MIN_LINE) points_json (ArePoints MIN_LINE) (line-read MIN_LINE) 1 ds h.0 h.1.0 in
     rw h.1.1 (ap line_list f.0, (f.1.0, λ k d l. (f.1.1 k d l).0), λ k d l. (f.1.1 k d l).1)
 geometry_at-says (polygon_list ds) g e =
-    let h = some-world world_polygons (list_of 1 (lines_at LEAST_RING) ds) g e in
-    let f = list_of-says (lines_at LEAST_RING) lines_json (AreLines LEAST_RING) (polygon-read LEAST_RING) 1 ds h.0 h.1.0 in
+    let h = some-world world_polygons (list_of 1 (lines_at MIN_RING) ds) g e in
+    let f = list_of-says (lines_at MIN_RING) lines_json (AreLines MIN_RING) (polygon-read MIN_RING) 1 ds h.0 h.1.0 in
     rw h.1.1 (
       ap polygon_list f.0,
       (f.1.0, λ k d l. ((f.1.1 k d l).0, λ i c j. ((f.1.1 k d l).1 i c j).0)),
@@ -231,11 +231,11 @@ unfolding geometry_at
 geometry_at-finds (world_points points) h w = ap (λ read. read >>= (λ xs. Ok (world_points xs)))
     (list_of-finds point_in point_json IsOfWorld points-read 1 points (h, w))
 geometry_at-finds (world_lines lines) h w =
-    ap (λ read. read >>= (λ xs. Ok (world_lines xs))) (list_of-finds (points_at LEAST_LINE) points_json (ArePoints LEAST_LINE) (line-read LEAST_LINE) 1 lines
+    ap (λ read. read >>= (λ xs. Ok (world_lines xs))) (list_of-finds (points_at MIN_LINE) points_json (ArePoints MIN_LINE) (line-read MIN_LINE) 1 lines
     (h.0, λ k d l. (h.1 k d l, w k d l)))
 geometry_at-finds (world_polygons polygons) h w =
     ap (λ read. read >>= (λ xs. Ok (world_polygons xs)))
-    (list_of-finds (lines_at LEAST_RING) lines_json (AreLines LEAST_RING) (polygon-read LEAST_RING) 1 polygons
+    (list_of-finds (lines_at MIN_RING) lines_json (AreLines MIN_RING) (polygon-read MIN_RING) 1 polygons
     (h.0, λ k d l. ((h.1 k d l).0, λ i c j. ((h.1 k d l).1 i c j, w k d l i c j))))
 
 world-fault : {A : Type 0} (to : A → GeometryData) (o : Read EditFault A) (e : EditFault)
@@ -247,8 +247,8 @@ unfolding geometry_at
 geometry_at-fault (point_list ds) e h =
     world-fault world_points (list_of 1 point_in ds) e (list_of-fault point_in point_json IsOfWorld points-read 1 ds) h
 geometry_at-fault (line_list ds) e h =
-    world-fault world_lines (list_of 1 (points_at LEAST_LINE) ds) e
-    (list_of-fault (points_at LEAST_LINE) points_json (ArePoints LEAST_LINE) (line-read LEAST_LINE) 1 ds) h
+    world-fault world_lines (list_of 1 (points_at MIN_LINE) ds) e
+    (list_of-fault (points_at MIN_LINE) points_json (ArePoints MIN_LINE) (line-read MIN_LINE) 1 ds) h
 geometry_at-fault (polygon_list ds) e h =
-    world-fault world_polygons (list_of 1 (lines_at LEAST_RING) ds) e
-    (list_of-fault (lines_at LEAST_RING) lines_json (AreLines LEAST_RING) (polygon-read LEAST_RING) 1 ds) h
+    world-fault world_polygons (list_of 1 (lines_at MIN_RING) ds) e
+    (list_of-fault (lines_at MIN_RING) lines_json (AreLines MIN_RING) (polygon-read MIN_RING) 1 ds) h

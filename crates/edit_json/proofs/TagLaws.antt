@@ -6,7 +6,7 @@ use Rattle.std.proofs.lemmas.Int.{ints}
 use Rattle.std.proofs.lemmas.Bool.Decides.{nat_tests}
 use Rattle.std.proofs.lemmas.List.Elements.{All-nil, All-cons, All-head, All-tail}
 use Rattle.serde_json.specs.Data.{Data, null, boolean, number, string, array, object, unsigned, negative, float, Members, no_members, member}
-use Rattle.feature_model.specs.declared.limits.TheConstants.{MOST_TEXT_BYTES}
+use Rattle.feature_model.specs.declared.limits.TheConstants.{MAX_TEXT_BYTES}
 use Rattle.reader.specs.Reading.{Read, ◌>>=◌}
 use Rattle.reader.proofs.Steps.{same_value, not_both, then_faults}
 use Rattle.feature_model.specs.declared.fault.EditFault.{EditFault}
@@ -31,9 +31,9 @@ value_at-says (number (negative (pos n))) v e =
 value_at-says (number (negative (negsuc n))) v e = let f : v ≡ negative_value (negsuc n) = cc in rw f (refl, omega (arith, ints))
 value_at-says (number (float x)) v e = cc
 value_at-says (string t) v e =
-    let h = if-ok (nat_le (length t) MOST_TEXT_BYTES) (Ok (text_value t)) faults.Value v e in
+    let h = if-ok (nat_le (length t) MAX_TEXT_BYTES) (Ok (text_value t)) faults.Value v e in
     let f : v ≡ text_value t = let g = h.1 in cc in
-    rw f (refl, leb-true (length t) MOST_TEXT_BYTES h.0)
+    rw f (refl, leb-true (length t) MAX_TEXT_BYTES h.0)
 value_at-says (array ds) v e = cc
 value_at-says (object ms) v e = cc
 
@@ -46,7 +46,7 @@ value_at-fault (number (negative z)) e h =
     if-fault (int_lt z (pos 0)) (Ok (negative_value z)) faults.Value e (λ k. absurd (not_both (negative_value z) e k)) h
 value_at-fault (number (float x)) e h = cc
 value_at-fault (string t) e h =
-    if-fault (nat_le (length t) MOST_TEXT_BYTES) (Ok (text_value t)) faults.Value e (λ k. absurd (not_both (text_value t) e k)) h
+    if-fault (nat_le (length t) MAX_TEXT_BYTES) (Ok (text_value t)) faults.Value e (λ k. absurd (not_both (text_value t) e k)) h
 value_at-fault (array ds) e h = cc
 value_at-fault (object ms) e h = cc
 

@@ -1,7 +1,7 @@
 -- What a JSON value says of a feature: that it is the feature's value, or the first fault that it has.
 use Rattle.std.specs.Prelude.{◌≡◌, ℕ, ◌<◌, ◌≤◌, List, [], ◌∷◌, length, All}
 use Rattle.serde_json.specs.Data.{Data, Members, no_members, member}
-use Rattle.feature_model.specs.declared.limits.TheConstants.{MOST_TAGS}
+use Rattle.feature_model.specs.declared.limits.TheConstants.{MAX_TAGS}
 use Rattle.feature_model.specs.declared.fault.EditFault.{EditFault}
 use Rattle.feature_model.specs.declared.fault.EditFault.TheVariants as faults
 use Rattle.feature_model.specs.Data.{GeometryData, TagData, FeatureData}
@@ -48,7 +48,7 @@ names_of (member name d ms) = name ∷ names_of ms
 
 -- the tags are few, and their keys are names; an object's names ascend
 abbrev pub HasKeys : OutlineData → Type 0
-HasKeys o = (length (names_of o.tags) ≤ MOST_TAGS) × All IsName (names_of o.tags)
+HasKeys o = (length (names_of o.tags) ≤ MAX_TAGS) × All IsName (names_of o.tags)
 
 -- each member is a tag
 abbrev pub HasTags : OutlineData → Type 0

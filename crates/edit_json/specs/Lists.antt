@@ -4,7 +4,7 @@ use Rattle.reader.specs.Reading.{Read, ◌>>=◌}
 use Rattle.serde_json.specs.Data.{Data, Items, no_items, item}
 use Rattle.serde_json.specs.Events.{items_len}
 use Rattle.serde_json.specs.Find.{as_u64, as_number, as_array}
-use Rattle.feature_model.specs.declared.limits.TheConstants.{LEAST_LINE, LEAST_RING}
+use Rattle.feature_model.specs.declared.limits.TheConstants.{MIN_LINE, MIN_RING}
 use Rattle.feature_model.specs.declared.fault.EditFault.{EditFault}
 use Rattle.feature_model.specs.declared.fault.EditFault.TheVariants as faults
 use Rattle.feature_model.specs.declared.feature.World.{World}
@@ -53,5 +53,5 @@ lines_at least d = items_in d >>= list_of 1 (points_at least)
 
 unfoldable pub geometry_at : ShapeData → Read EditFault GeometryData
 geometry_at (point_list ds) = list_of 1 point_in ds >>= (λ points. Ok (world_points points))
-geometry_at (line_list ds) = list_of 1 (points_at LEAST_LINE) ds >>= (λ lines. Ok (world_lines lines))
-geometry_at (polygon_list ds) = list_of 1 (lines_at LEAST_RING) ds >>= (λ polygons. Ok (world_polygons polygons))
+geometry_at (line_list ds) = list_of 1 (points_at MIN_LINE) ds >>= (λ lines. Ok (world_lines lines))
+geometry_at (polygon_list ds) = list_of 1 (lines_at MIN_RING) ds >>= (λ polygons. Ok (world_polygons polygons))

@@ -5,12 +5,12 @@ ghost use Rattle.serde_json.specs.View.{view, items_view};
 ghost use Rattle.reader.specs.Reading.{Reads, Gives};
 ghost use Rattle.edit_json.specs.Lists.{below, point_at, point_in, items_in, list_of, points_at, lines_at, geometry_at};
 ghost use Rattle.edit_json.specs.Outline.{shape_data};
-ghost use Rattle.feature_model.specs.declared.limits.TheConstants.{LEAST_RING};
+ghost use Rattle.feature_model.specs.declared.limits.TheConstants.{MIN_RING};
 ghost use Rattle.feature_model.specs.Limits.{is_count};
 ghost use Rattle.feature_model.specs.Data.{geometry_data};
 
 use crate::outline::Shape;
-use feature_model::{EditFault, Geometry, LEAST_LINE, LEAST_RING, World, count_fits};
+use feature_model::{EditFault, Geometry, MIN_LINE, MIN_RING, World, count_fits};
 use serde_json::Value;
 use std::alloc::Global;
 
@@ -106,17 +106,17 @@ fn read_lines(alloc: Global, list: &[Value], least: usize) -> Result<Vec<Vec<Wor
 #[tactic(auto, unfolding(crate::specs::Lists::lines_at))]
 fn read_polygon(alloc: Global, value: &Value) -> Result<Vec<Vec<World>>, EditFault>
     ensures { Gives EditFault.Memory (λ v. map (λ l. l.items) v.items) result
-        (lines_at LEAST_RING (view value.now)) }
+        (lines_at MIN_RING (view value.now)) }
 {
     let list = list_in(value)?;
-    read_lines(alloc, list, LEAST_RING)
+    read_lines(alloc, list, MIN_RING)
 }
 
 /// Polygons.
 #[tactic(auto, unfolding(crate::specs::Lists::list_of, crate::specs::Lists::each))]
 fn read_polygons(alloc: Global, list: &[Value]) -> Result<Vec<Vec<Vec<World>>>, EditFault>
     ensures { Gives EditFault.Memory (λ v. map (λ p. map (λ r. r.items) p.items) v.items) result
-        (list_of 1 (lines_at LEAST_RING) (items_view list.now)) }
+        (list_of 1 (lines_at MIN_RING) (items_view list.now)) }
 {
     check_count(list.len(), 1)?;
     let mut polygons = Vec::with_capacity(alloc, list.len())?;
@@ -133,7 +133,7 @@ pub(crate) fn read_geometry(alloc: Global, shape: Shape<'_>) -> Result<Geometry,
 {
     match shape {
         Shape::Points(list) => Ok(Geometry::Points(read_points(alloc, list, 1)?)),
-        Shape::Lines(list) => Ok(Geometry::Lines(read_lines(alloc, list, LEAST_LINE)?)),
+        Shape::Lines(list) => Ok(Geometry::Lines(read_lines(alloc, list, MIN_LINE)?)),
         Shape::Polygons(list) => Ok(Geometry::Polygons(read_polygons(alloc, list)?)),
     }
 }

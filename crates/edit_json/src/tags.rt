@@ -5,7 +5,7 @@ ghost use Rattle.std.specs.Cmp.Lexicographic.{slice_cmp};
 ghost use Rattle.std.specs.List.Sorted.{IsStrictlySortedBy};
 ghost use Rattle.std.specs.Ordering.{nat_cmp};
 ghost use Rattle.serde_json.specs.View.{view, members_view};
-ghost use Rattle.feature_model.specs.declared.limits.TheConstants.{MOST_TAGS};
+ghost use Rattle.feature_model.specs.declared.limits.TheConstants.{MAX_TAGS};
 ghost use Rattle.feature_model.specs.Data.{value_data, tag_data};
 ghost use Rattle.feature_model.specs.Limits.{IsName};
 ghost use Rattle.feature_model.specs.Types.{ValueFitsTypes, TagFitsTypes};
@@ -32,7 +32,7 @@ fn keys_fit(tags: &Map<String, Value>) -> bool
 
 /// Whether the tags are few, and their keys are names.
 fn tags_fit(tags: &Map<String, Value>) -> bool
-    ensures fits { IsTrue result ↔ ((length (names_of (members_view tags.now.entries)) ≤ MOST_TAGS)
+    ensures fits { IsTrue result ↔ ((length (names_of (members_view tags.now.entries)) ≤ MAX_TAGS)
         × All IsName (names_of (members_view tags.now.entries))) }
     // An object's names ascend.
     ensures ascending { IsStrictlySortedBy (slice_cmp nat_cmp)
@@ -43,9 +43,9 @@ fn tags_fit(tags: &Map<String, Value>) -> bool
 
 /// The tags are few, and their keys are names.
 pub(crate) fn check_tags(tags: &Map<String, Value>) -> Result<(), EditFault>
-    ensures ok { OnOk result ((length (names_of (members_view tags.now.entries)) ≤ MOST_TAGS) × All IsName (names_of (members_view tags.now.entries))) }
+    ensures ok { OnOk result ((length (names_of (members_view tags.now.entries)) ≤ MAX_TAGS) × All IsName (names_of (members_view tags.now.entries))) }
     ensures fault { IfErr result (λ e. (e ≡ EditFault.Tags)
-        × ¬ ((length (names_of (members_view tags.now.entries)) ≤ MOST_TAGS) × All IsName (names_of (members_view tags.now.entries)))) }
+        × ¬ ((length (names_of (members_view tags.now.entries)) ≤ MAX_TAGS) × All IsName (names_of (members_view tags.now.entries)))) }
     // An object's names ascend.
     ensures ascending { IsStrictlySortedBy (slice_cmp nat_cmp) (names_of (members_view tags.now.entries)) }
 {

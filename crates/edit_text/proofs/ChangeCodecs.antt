@@ -3,7 +3,7 @@ use Rattle.std.proofs.Common.{◌≡◌, ℕ, ◌<◌, ◌≤◌, ◌⊎◌, inl
 use Rattle.std.specs.Str.{IsUtf8}
 use Rattle.std.proofs.lemmas.Bool.{le-leb, leb-true}
 use Rattle.std.proofs.lemmas.Bool.Decides.{nat_tests}
-use Rattle.feature_model.specs.declared.limits.TheConstants.{GREATEST_ZOOM}
+use Rattle.feature_model.specs.declared.limits.TheConstants.{MAX_ZOOM}
 use Rattle.feature_model.specs.Data.{GeometryData, TagData, FeatureData, ChangeData, put, delete}
 use Rattle.feature_model.specs.Limits.{IsName, NumberFits}
 use Rattle.feature_model.specs.Spelled.{eight_bytes, spelled_name, spelled_geometry, spelled_tags, spelled_feature, spelled_change}
@@ -21,35 +21,35 @@ use Rattle.edit_text.proofs.TagCodecs.{IsTags, codec_tags}
 
 -- ---- zooms
 
-zooms_pass : (first last : ℕ) → first ≤ last → last ≤ GREATEST_ZOOM → nat_le first last && nat_le last GREATEST_ZOOM ≡ true
+zooms_pass : (first last : ℕ) → first ≤ last → last ≤ MAX_ZOOM → nat_le first last && nat_le last MAX_ZOOM ≡ true
 zooms_pass first last low high = grind (arith, nat_tests)
 
-zooms_fit : (first last : ℕ) → nat_le first last && nat_le last GREATEST_ZOOM ≡ true → (first ≤ last) × (last ≤ GREATEST_ZOOM)
+zooms_fit : (first last : ℕ) → nat_le first last && nat_le last MAX_ZOOM ≡ true → (first ≤ last) × (last ≤ MAX_ZOOM)
 zooms_fit first last t = grind (arith, nat_tests)
 
 abbrev IsZooms : ℕ × ℕ → Type 0
-IsZooms zooms = (zooms.0 ≤ zooms.1) × (zooms.1 ≤ GREATEST_ZOOM)
+IsZooms zooms = (zooms.0 ≤ zooms.1) × (zooms.1 ≤ MAX_ZOOM)
 
 abbrev zooms_text : ℕ × ℕ → List ℕ
 zooms_text zooms = zooms.0 ∷ zooms.1 ∷ []
 
-codec_last_zoom : (first : ℕ) → Codec (λ bytes. read_if (λ last. nat_le first last && nat_le last GREATEST_ZOOM) (byte_at bytes)) one_byte
-    (λ last. (first ≤ last) × (last ≤ GREATEST_ZOOM)) (EndsWithin 1)
-codec_last_zoom first = codec_if byte_at one_byte (λ b. b < 256) (EndsWithin 1) (λ last. nat_le first last && nat_le last GREATEST_ZOOM)
-    (λ last. (first ≤ last) × (last ≤ GREATEST_ZOOM)) codec_byte
+codec_last_zoom : (first : ℕ) → Codec (λ bytes. read_if (λ last. nat_le first last && nat_le last MAX_ZOOM) (byte_at bytes)) one_byte
+    (λ last. (first ≤ last) × (last ≤ MAX_ZOOM)) (EndsWithin 1)
+codec_last_zoom first = codec_if byte_at one_byte (λ b. b < 256) (EndsWithin 1) (λ last. nat_le first last && nat_le last MAX_ZOOM)
+    (λ last. (first ≤ last) × (last ≤ MAX_ZOOM)) codec_byte
     (λ last l t. zooms_fit first last t) (λ last is. (omega (arith, is.1), zooms_pass first last is.0 is.1))
 
 codec_zooms : Codec zooms_at zooms_text IsZooms EndsInZooms
 unfolding zooms_at
-codec_zooms = codec_then (λ bytes. read_if (λ zoom. nat_le zoom GREATEST_ZOOM) (byte_at bytes)) one_byte (λ zoom. zoom ≤ GREATEST_ZOOM) (EndsWithin 1)
-    (λ first rest. read_as (λ last. (first, last)) (read_if (λ last. nat_le first last && nat_le last GREATEST_ZOOM) (byte_at rest)))
-    (λ first zooms. one_byte zooms.1) (λ first zooms. (zooms.0 ≡ first) × ((first ≤ zooms.1) × (zooms.1 ≤ GREATEST_ZOOM))) (λ first. EndsWithin 1)
+codec_zooms = codec_then (λ bytes. read_if (λ zoom. nat_le zoom MAX_ZOOM) (byte_at bytes)) one_byte (λ zoom. zoom ≤ MAX_ZOOM) (EndsWithin 1)
+    (λ first rest. read_as (λ last. (first, last)) (read_if (λ last. nat_le first last && nat_le last MAX_ZOOM) (byte_at rest)))
+    (λ first zooms. one_byte zooms.1) (λ first zooms. (zooms.0 ≡ first) × ((first ≤ zooms.1) × (zooms.1 ≤ MAX_ZOOM))) (λ first. EndsWithin 1)
     zooms_text IsZooms
-    (codec_if byte_at one_byte (λ b. b < 256) (EndsWithin 1) (λ zoom. nat_le zoom GREATEST_ZOOM) (λ zoom. zoom ≤ GREATEST_ZOOM) codec_byte
-    (λ n l t. leb-true n GREATEST_ZOOM t) (λ n l. (omega arith, le-leb n GREATEST_ZOOM l)))
-    (λ first fits. codec_as (λ bytes. read_if (λ last. nat_le first last && nat_le last GREATEST_ZOOM) (byte_at bytes)) one_byte
-    (λ last. (first ≤ last) × (last ≤ GREATEST_ZOOM)) (EndsWithin 1) (λ last. (first, last))
-    (λ zooms. one_byte zooms.1) (λ zooms. (zooms.0 ≡ first) × ((first ≤ zooms.1) × (zooms.1 ≤ GREATEST_ZOOM))) (codec_last_zoom first)
+    (codec_if byte_at one_byte (λ b. b < 256) (EndsWithin 1) (λ zoom. nat_le zoom MAX_ZOOM) (λ zoom. zoom ≤ MAX_ZOOM) codec_byte
+    (λ n l t. leb-true n MAX_ZOOM t) (λ n l. (omega arith, le-leb n MAX_ZOOM l)))
+    (λ first fits. codec_as (λ bytes. read_if (λ last. nat_le first last && nat_le last MAX_ZOOM) (byte_at bytes)) one_byte
+    (λ last. (first ≤ last) × (last ≤ MAX_ZOOM)) (EndsWithin 1) (λ last. (first, last))
+    (λ zooms. one_byte zooms.1) (λ zooms. (zooms.0 ≡ first) × ((first ≤ zooms.1) × (zooms.1 ≤ MAX_ZOOM))) (codec_last_zoom first)
     (λ last h is. ((refl, is), refl))
     (λ zooms is. (zooms.1, is.1, ap (λ z. (z, zooms.1)) is.0, refl)))
     (λ first zooms fits is. ((subst (λ z. z ≤ zooms.1) (sym is.0) is.1.0, is.1.1), ap (λ z. z ∷ zooms.1 ∷ []) is.0))

@@ -3,7 +3,7 @@ use Rattle.std.proofs.Common.{◌≡◌, ℕ, ◌<◌, ◌≤◌, true, ◌&&◌
 use Rattle.std.specs.List.{flat_map}
 use Rattle.std.proofs.lemmas.Bool.Decides.{nat_tests}
 use Rattle.std.proofs.lemmas.List.Elements.{All-nil, All-push}
-use Rattle.feature_model.specs.declared.limits.TheConstants.{MOST_CHANGES}
+use Rattle.feature_model.specs.declared.limits.TheConstants.{MAX_CHANGES}
 use Rattle.feature_model.specs.Data.{FeatureData, ChangeData, put, delete, EditData, number_of}
 use Rattle.feature_model.specs.Limits.{AreEnough, IsNew, ChangeFits, FeatureFits}
 use Rattle.feature_model.specs.Spelled.{spelled_change, spelled}
@@ -58,13 +58,13 @@ change_steps = record {
 
 -- ---- edits
 
-enough_pass : (count : ℕ) → AreEnough count → nat_le 1 count && nat_le count MOST_CHANGES ≡ true
+enough_pass : (count : ℕ) → AreEnough count → nat_le 1 count && nat_le count MAX_CHANGES ≡ true
 enough_pass count is = enough_by count is.0 is.1
   where
-    enough_by : (count : ℕ) → 1 ≤ count → count ≤ MOST_CHANGES → nat_le 1 count && nat_le count MOST_CHANGES ≡ true
+    enough_by : (count : ℕ) → 1 ≤ count → count ≤ MAX_CHANGES → nat_le 1 count && nat_le count MAX_CHANGES ≡ true
     enough_by count low high = grind (arith, nat_tests)
 
-enough_fit : (count : ℕ) → nat_le 1 count && nat_le count MOST_CHANGES ≡ true → AreEnough count
+enough_fit : (count : ℕ) → nat_le 1 count && nat_le count MAX_CHANGES ≡ true → AreEnough count
 enough_fit count t = grind (arith, nat_tests)
 
 -- what the table allows, of any length
@@ -72,7 +72,7 @@ abbrev pub IsEditOfTable : EditData → Type 0
 IsEditOfTable cs = AreEnough (length cs) × AreChanges cs
 
 pub codec_count : Codec change_count_at one_byte AreEnough (EndsWithin 1)
-codec_count = codec_if byte_at one_byte (λ b. b < 256) (EndsWithin 1) (λ count. nat_le 1 count && nat_le count MOST_CHANGES) AreEnough codec_byte
+codec_count = codec_if byte_at one_byte (λ b. b < 256) (EndsWithin 1) (λ count. nat_le 1 count && nat_le count MAX_CHANGES) AreEnough codec_byte
     (λ n l t. enough_fit n t) (λ n is. (omega (arith, is.1), enough_pass n is))
 
 pub codec_edit : Codec edit_at spelled IsEditOfTable EndsInEdit

@@ -9,7 +9,7 @@ use Rattle.std.proofs.lemmas.List.{take-append-drop, length-take}
 use Rattle.std.proofs.lemmas.Nat.{le_bytes_2, le_bytes_4, le_bytes_8, from_le_bytes-to_le_bytes_2, from_le_bytes-to_le_bytes_4, from_le_bytes-to_le_bytes_8}
 use Rattle.std.proofs.lemmas.Str.{IsUtf8-from_is_utf8, is_utf8-from_IsUtf8}
 use Rattle.std.proofs.Math.Seq.{take-append_seam, drop-append_seam}
-use Rattle.feature_model.specs.declared.limits.TheConstants.{NUMBER_END, MOST_NAME_BYTES, MOST_TEXT_BYTES}
+use Rattle.feature_model.specs.declared.limits.TheConstants.{NUMBER_END, MAX_NAME_BYTES, MAX_TEXT_BYTES}
 use Rattle.feature_model.specs.Limits.{IsName, NumberFits}
 use Rattle.feature_model.specs.Spelled.{two_bytes, four_bytes, eight_bytes, spelled_name}
 use Rattle.feature_model.proofs.TextLengths.{length-two_bytes, length-four_bytes, length-eight_bytes}
@@ -126,32 +126,32 @@ codec_text n = codec_if (front_at n) (λ xs. xs) (λ xs. length xs ≡ n) (EndsW
     (λ xs len t. (len, IsUtf8-from_is_utf8 xs t))
     (λ xs is. (is.0, is_utf8-from_IsUtf8 xs is.1))
 
-name_len_passes : (len : ℕ) → 1 ≤ len → len ≤ MOST_NAME_BYTES → nat_le 1 len && nat_le len MOST_NAME_BYTES ≡ true
+name_len_passes : (len : ℕ) → 1 ≤ len → len ≤ MAX_NAME_BYTES → nat_le 1 len && nat_le len MAX_NAME_BYTES ≡ true
 name_len_passes len low high = grind (arith, nat_tests)
 
-name_len_fits : (len : ℕ) → nat_le 1 len && nat_le len MOST_NAME_BYTES ≡ true → (1 ≤ len) × (len ≤ MOST_NAME_BYTES)
+name_len_fits : (len : ℕ) → nat_le 1 len && nat_le len MAX_NAME_BYTES ≡ true → (1 ≤ len) × (len ≤ MAX_NAME_BYTES)
 name_len_fits len t = grind (arith, nat_tests)
 
 pub codec_name : Codec name_at spelled_name (λ xs. IsName xs × IsUtf8 xs) EndsInName
 unfolding name_at spelled_name
-codec_name = codec_then (λ bytes. read_if (λ len. nat_le 1 len && nat_le len MOST_NAME_BYTES) (byte_at bytes)) one_byte
-    (λ len. (1 ≤ len) × (len ≤ MOST_NAME_BYTES)) (EndsWithin 1)
+codec_name = codec_then (λ bytes. read_if (λ len. nat_le 1 len && nat_le len MAX_NAME_BYTES) (byte_at bytes)) one_byte
+    (λ len. (1 ≤ len) × (len ≤ MAX_NAME_BYTES)) (EndsWithin 1)
     text_at (λ len xs. xs) (λ len xs. (length xs ≡ len) × IsUtf8 xs) EndsWithin
     spelled_name (λ xs. IsName xs × IsUtf8 xs)
-    (codec_if byte_at one_byte (λ b. b < 256) (EndsWithin 1) (λ len. nat_le 1 len && nat_le len MOST_NAME_BYTES)
-    (λ len. (1 ≤ len) × (len ≤ MOST_NAME_BYTES)) codec_byte
+    (codec_if byte_at one_byte (λ b. b < 256) (EndsWithin 1) (λ len. nat_le 1 len && nat_le len MAX_NAME_BYTES)
+    (λ len. (1 ≤ len) × (len ≤ MAX_NAME_BYTES)) codec_byte
     (λ len l t. name_len_fits len t) (λ len fits. (omega arith, name_len_passes len fits.0 fits.1)))
     (λ len fits. codec_text len)
-    (λ len xs fits is. ((subst (λ n. (1 ≤ n) × (n ≤ MOST_NAME_BYTES)) (sym is.0) fits, is.1), ap (λ n. n ∷ xs) is.0))
+    (λ len xs fits is. ((subst (λ n. (1 ≤ n) × (n ≤ MAX_NAME_BYTES)) (sym is.0) fits, is.1), ap (λ n. n ∷ xs) is.0))
     (λ xs is. (length xs, is.0, (refl, is.1)))
 
-pub codec_long_text : Codec long_text_at (λ xs. two_bytes (length xs) ++ xs) (λ xs. (length xs ≤ MOST_TEXT_BYTES) × IsUtf8 xs) EndsInText
+pub codec_long_text : Codec long_text_at (λ xs. two_bytes (length xs) ++ xs) (λ xs. (length xs ≤ MAX_TEXT_BYTES) × IsUtf8 xs) EndsInText
 unfolding long_text_at
-codec_long_text = codec_then (λ bytes. read_if (λ len. nat_le len MOST_TEXT_BYTES) (two_at bytes)) two_bytes (λ len. len ≤ MOST_TEXT_BYTES) (EndsWithin 2)
+codec_long_text = codec_then (λ bytes. read_if (λ len. nat_le len MAX_TEXT_BYTES) (two_at bytes)) two_bytes (λ len. len ≤ MAX_TEXT_BYTES) (EndsWithin 2)
     text_at (λ len xs. xs) (λ len xs. (length xs ≡ len) × IsUtf8 xs) EndsWithin
-    (λ xs. two_bytes (length xs) ++ xs) (λ xs. (length xs ≤ MOST_TEXT_BYTES) × IsUtf8 xs)
-    (codec_if two_at two_bytes (λ n. n < 2 ^ 16) (EndsWithin 2) (λ len. nat_le len MOST_TEXT_BYTES) (λ len. len ≤ MOST_TEXT_BYTES) codec_two
-    (λ len l t. leb-true len MOST_TEXT_BYTES t) (λ len fits. (omega arith, le-leb len MOST_TEXT_BYTES fits)))
+    (λ xs. two_bytes (length xs) ++ xs) (λ xs. (length xs ≤ MAX_TEXT_BYTES) × IsUtf8 xs)
+    (codec_if two_at two_bytes (λ n. n < 2 ^ 16) (EndsWithin 2) (λ len. nat_le len MAX_TEXT_BYTES) (λ len. len ≤ MAX_TEXT_BYTES) codec_two
+    (λ len l t. leb-true len MAX_TEXT_BYTES t) (λ len fits. (omega arith, le-leb len MAX_TEXT_BYTES fits)))
     (λ len fits. codec_text len)
-    (λ len xs fits is. ((subst (λ n. n ≤ MOST_TEXT_BYTES) (sym is.0) fits, is.1), ap (λ n. two_bytes n ++ xs) is.0))
+    (λ len xs fits is. ((subst (λ n. n ≤ MAX_TEXT_BYTES) (sym is.0) fits, is.1), ap (λ n. two_bytes n ++ xs) is.0))
     (λ xs is. (length xs, is.0, (refl, is.1)))

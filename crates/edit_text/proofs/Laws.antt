@@ -1,7 +1,7 @@
 -- Laws of the texts of changes and edits.
 use Rattle.std.proofs.Common.{◌≡◌, ℕ, ◌+◌, ◌≤◌, List, [], ◌++◌, length, get_or, ap, All, arith}
 use Rattle.std.proofs.lemmas.List.Elements.{All-nil}
-use Rattle.feature_model.specs.declared.limits.TheConstants.{MOST_EDIT_BYTES}
+use Rattle.feature_model.specs.declared.limits.TheConstants.{MAX_EDIT_BYTES}
 use Rattle.feature_model.specs.Data.{ChangeData, put, delete, EditData, number_of}
 use Rattle.feature_model.specs.Limits.{IsAllowedChange}
 use Rattle.feature_model.specs.Spelled.{spelled_change, spelled_changes, spelled}
@@ -22,7 +22,7 @@ long_from (put id f) = omega (arith, length-spelled_change id f)
 long_from (delete id) = omega (arith, length-spelled_delete id)
 
 -- and at most as many as the longest
-pub short_from : (c : ChangeData) → IsChange c → length (spelled_change c) ≤ MOST_EDIT_BYTES
+pub short_from : (c : ChangeData) → IsChange c → length (spelled_change c) ≤ MAX_EDIT_BYTES
 short_from (put id f) is = is.0.text
 short_from (delete id) is = omega (arith, length-spelled_delete id)
 
@@ -30,7 +30,7 @@ one_of : (c : ChangeData) → IsChange c → IsOne c
 one_of (put id f) is = ((is.0.number, is.0.feature), is.1)
 one_of (delete id) is = (is, tt)
 
-change_of : (c : ChangeData) → IsOne c → length (spelled_change c) ≤ MOST_EDIT_BYTES → IsChange c
+change_of : (c : ChangeData) → IsOne c → length (spelled_change c) ≤ MAX_EDIT_BYTES → IsChange c
 change_of (put id f) is short = (record { number = is.0.0; feature = is.0.1; text = short }, is.1)
 change_of (delete id) is short = is.0
 
@@ -38,12 +38,12 @@ change_of (delete id) is short = is.0
 pub table_from : (c : ChangeData) → IsChange c → IsOfTable [] c
 table_from c is = one_to [] c (one_of c is) (All-nil (λ d. number_of d ≡ number_of c → ⊥))
 
-change_to : (c : ChangeData) → IsOfTable [] c → length (spelled_change c) ≤ MOST_EDIT_BYTES → IsChange c
+change_to : (c : ChangeData) → IsOfTable [] c → length (spelled_change c) ≤ MAX_EDIT_BYTES → IsChange c
 change_to c is short = change_of c (one_from [] c is).0 short
 
-pub limited_change : Limited MOST_EDIT_BYTES decode_change_at spelled_change IsChange (EndsInChange [])
+pub limited_change : Limited MAX_EDIT_BYTES decode_change_at spelled_change IsChange (EndsInChange [])
 unfolding decode_change_at
-limited_change = limited MOST_EDIT_BYTES (change_at []) spelled_change (IsOfTable []) IsChange (EndsInChange []) (codec_change []) change_to table_from short_from
+limited_change = limited MAX_EDIT_BYTES (change_at []) spelled_change (IsOfTable []) IsChange (EndsInChange []) (codec_change []) change_to table_from short_from
 
 -- No two changes have one text, and no text of a change begins another's: where the same bytes begin with the texts of two
 -- changes, these are the same change, and the same bytes follow.
@@ -69,7 +69,7 @@ edit_table_from cs is = (is.allowed.count, (λ k d l. one_of (get_or cs k d) (is
 
 edit_to : (cs : EditData) → IsEditOfTable cs → length (spelled cs) ≤ edit_most → IsEdit cs
 edit_to cs is short =
-    let texts : length (spelled_changes cs) ≤ MOST_EDIT_BYTES = omega (arith, length-spelled cs, short) in
+    let texts : length (spelled_changes cs) ≤ MAX_EDIT_BYTES = omega (arith, length-spelled cs, short) in
     let allowed : All IsAllowedChange cs = all_allowed cs (λ k d l. (is.1.0 k d l).0) texts in
     record {
       allowed = record { count = is.0; distinct = is.1.1; changes = allowed; text = texts };

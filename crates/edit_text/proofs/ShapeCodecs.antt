@@ -6,7 +6,7 @@ use Rattle.std.specs.Int.{w32, from_le_bytes}
 use Rattle.std.proofs.lemmas.Bool.{cases_lt}
 use Rattle.std.proofs.lemmas.Bool.Decides.{nat_tests}
 use Rattle.std.proofs.lemmas.List.Elements.{All-nil, All-push}
-use Rattle.feature_model.specs.declared.limits.TheConstants.{LEAST_LINE, LEAST_RING}
+use Rattle.feature_model.specs.declared.limits.TheConstants.{MIN_LINE, MIN_RING}
 use Rattle.feature_model.specs.declared.feature.World.{World}
 use Rattle.feature_model.specs.Data.{GeometryData, world_points, world_lines, world_polygons}
 use Rattle.feature_model.specs.Limits.{IsCount, is_count, CountFits, GeometryFits}
@@ -106,7 +106,7 @@ codec_lines least = codec_list 1 (line_at least) spelled_line (IsLine least) (En
 codec_polygons : Codec polygons_at (spelled_list (spelled_list spelled_line)) (λ ps. CountFits 1 ps × All IsPolygon ps)
     (EndsInList 1 (spelled_list spelled_line) IsPolygon EndsInRings)
 unfolding polygons_at
-codec_polygons = codec_list 1 (lines_at LEAST_RING) (spelled_list spelled_line) IsPolygon EndsInRings (codec_lines LEAST_RING)
+codec_polygons = codec_list 1 (lines_at MIN_RING) (spelled_list spelled_line) IsPolygon EndsInRings (codec_lines MIN_RING)
 
 -- ---- kinds
 
@@ -123,7 +123,7 @@ ArePoints (world_polygons polygons) = ⊥
 
 abbrev AreLines : GeometryData → Type 0
 AreLines (world_points points) = ⊥
-AreLines (world_lines lines) = CountFits 1 lines × All (IsLine LEAST_LINE) lines
+AreLines (world_lines lines) = CountFits 1 lines × All (IsLine MIN_LINE) lines
 AreLines (world_polygons polygons) = ⊥
 
 abbrev ArePolygons : GeometryData → Type 0
@@ -136,7 +136,7 @@ split_points (world_points points) is = (points, is, refl, refl)
 split_points (world_lines lines) is = absurd is
 split_points (world_polygons polygons) is = absurd is
 
-split_lines : (g : GeometryData) → AreLines g → (lines : List (List World)) × (CountFits 1 lines × All (IsLine LEAST_LINE) lines) × (g ≡ world_lines lines)
+split_lines : (g : GeometryData) → AreLines g → (lines : List (List World)) × (CountFits 1 lines × All (IsLine MIN_LINE) lines) × (g ≡ world_lines lines)
     × (shape_text g ≡ spelled_list spelled_line lines)
 split_lines (world_points points) is = absurd is
 split_lines (world_lines lines) is = (lines, is, refl, refl)
@@ -207,10 +207,10 @@ points_here : Codec (λ bytes. read_as world_points (line_at 1 bytes)) shape_tex
 points_here = codec_as (line_at 1) spelled_line (IsLine 1) (EndsInLine 1) world_points shape_text ArePoints (codec_line 1)
     (λ points h is. (is, refl)) split_points
 
-lines_here : Codec (λ bytes. read_as world_lines (lines_at LEAST_LINE bytes)) shape_text AreLines
-    (EndsInList 1 spelled_line (IsLine LEAST_LINE) (EndsInLine LEAST_LINE))
-lines_here = codec_as (lines_at LEAST_LINE) (spelled_list spelled_line) (λ ls. CountFits 1 ls × All (IsLine LEAST_LINE) ls)
-    (EndsInList 1 spelled_line (IsLine LEAST_LINE) (EndsInLine LEAST_LINE)) world_lines shape_text AreLines (codec_lines LEAST_LINE)
+lines_here : Codec (λ bytes. read_as world_lines (lines_at MIN_LINE bytes)) shape_text AreLines
+    (EndsInList 1 spelled_line (IsLine MIN_LINE) (EndsInLine MIN_LINE))
+lines_here = codec_as (lines_at MIN_LINE) (spelled_list spelled_line) (λ ls. CountFits 1 ls × All (IsLine MIN_LINE) ls)
+    (EndsInList 1 spelled_line (IsLine MIN_LINE) (EndsInLine MIN_LINE)) world_lines shape_text AreLines (codec_lines MIN_LINE)
     (λ lines h is. (is, refl)) split_lines
 
 polygons_here : Codec (λ bytes. read_as world_polygons (polygons_at bytes)) shape_text ArePolygons
@@ -223,7 +223,7 @@ abbrev read_points : List ℕ → Part GeometryData
 read_points bytes = read_as world_points (line_at 1 bytes)
 
 abbrev read_lines : List ℕ → Part GeometryData
-read_lines bytes = read_as world_lines (lines_at LEAST_LINE bytes)
+read_lines bytes = read_as world_lines (lines_at MIN_LINE bytes)
 
 abbrev read_polygons : List ℕ → Part GeometryData
 read_polygons bytes = read_as world_polygons (polygons_at bytes)
@@ -237,30 +237,30 @@ kinds_three = kind_or 3 read_polygons shape_text ArePolygons (EndsInList 1 (spel
     (λ g. ⊥) (λ b. ⊥) polygons_here (kind_none 4 spelled_geometry) polygons_text
 
 kinds_two : KindCodec 2 (pick 2 read_lines (pick 3 read_polygons no_kind)) spelled_geometry (λ g. AreLines g ⊎ (ArePolygons g ⊎ ⊥))
-    (λ b. EndsBehindKind 2 (EndsInList 1 spelled_line (IsLine LEAST_LINE) (EndsInLine LEAST_LINE)) b
+    (λ b. EndsBehindKind 2 (EndsInList 1 spelled_line (IsLine MIN_LINE) (EndsInLine MIN_LINE)) b
     ⊎ (EndsBehindKind 3 (EndsInList 1 (spelled_list spelled_line) IsPolygon EndsInRings) b ⊎ ⊥))
-kinds_two = kind_or 2 read_lines shape_text AreLines (EndsInList 1 spelled_line (IsLine LEAST_LINE) (EndsInLine LEAST_LINE))
+kinds_two = kind_or 2 read_lines shape_text AreLines (EndsInList 1 spelled_line (IsLine MIN_LINE) (EndsInLine MIN_LINE))
     (pick 3 read_polygons no_kind) spelled_geometry (λ g. ArePolygons g ⊎ ⊥)
     (λ b. EndsBehindKind 3 (EndsInList 1 (spelled_list spelled_line) IsPolygon EndsInRings) b ⊎ ⊥) lines_here kinds_three lines_text
 
 kinds_one : KindCodec 1 (pick 1 read_points (pick 2 read_lines (pick 3 read_polygons no_kind))) spelled_geometry
     (λ g. ArePoints g ⊎ (AreLines g ⊎ (ArePolygons g ⊎ ⊥)))
-    (λ b. EndsBehindKind 1 (EndsInLine 1) b ⊎ (EndsBehindKind 2 (EndsInList 1 spelled_line (IsLine LEAST_LINE) (EndsInLine LEAST_LINE)) b
+    (λ b. EndsBehindKind 1 (EndsInLine 1) b ⊎ (EndsBehindKind 2 (EndsInList 1 spelled_line (IsLine MIN_LINE) (EndsInLine MIN_LINE)) b
     ⊎ (EndsBehindKind 3 (EndsInList 1 (spelled_list spelled_line) IsPolygon EndsInRings) b ⊎ ⊥)))
 kinds_one = kind_or 1 read_points shape_text ArePoints (EndsInLine 1) (pick 2 read_lines (pick 3 read_polygons no_kind)) spelled_geometry
     (λ g. AreLines g ⊎ (ArePolygons g ⊎ ⊥))
-    (λ b. EndsBehindKind 2 (EndsInList 1 spelled_line (IsLine LEAST_LINE) (EndsInLine LEAST_LINE)) b
+    (λ b. EndsBehindKind 2 (EndsInList 1 spelled_line (IsLine MIN_LINE) (EndsInLine MIN_LINE)) b
     ⊎ (EndsBehindKind 3 (EndsInList 1 (spelled_list spelled_line) IsPolygon EndsInRings) b ⊎ ⊥)) points_here kinds_two points_text
 
 pub codec_geometry : Codec geometry_at spelled_geometry IsGeometry EndsInGeometry
 unfolding geometry_at geometry_behind
 codec_geometry = codec_same geometry_at spelled_geometry (λ g. ArePoints g ⊎ (AreLines g ⊎ (ArePolygons g ⊎ ⊥))) IsGeometry
     (λ b. EndsWithin 1 b ⊎ (EndsBehindKind 1 (EndsInLine 1) b
-    ⊎ (EndsBehindKind 2 (EndsInList 1 spelled_line (IsLine LEAST_LINE) (EndsInLine LEAST_LINE)) b
+    ⊎ (EndsBehindKind 2 (EndsInList 1 spelled_line (IsLine MIN_LINE) (EndsInLine MIN_LINE)) b
     ⊎ (EndsBehindKind 3 (EndsInList 1 (spelled_list spelled_line) IsPolygon EndsInRings) b ⊎ ⊥))))
     EndsInGeometry
     (codec_kinds (pick 1 read_points (pick 2 read_lines (pick 3 read_polygons no_kind))) spelled_geometry
     (λ g. ArePoints g ⊎ (AreLines g ⊎ (ArePolygons g ⊎ ⊥)))
-    (λ b. EndsBehindKind 1 (EndsInLine 1) b ⊎ (EndsBehindKind 2 (EndsInList 1 spelled_line (IsLine LEAST_LINE) (EndsInLine LEAST_LINE)) b
+    (λ b. EndsBehindKind 1 (EndsInLine 1) b ⊎ (EndsBehindKind 2 (EndsInList 1 spelled_line (IsLine MIN_LINE) (EndsInLine MIN_LINE)) b
     ⊎ (EndsBehindKind 3 (EndsInList 1 (spelled_list spelled_line) IsPolygon EndsInRings) b ⊎ ⊥))) 1 kinds_one)
     geometry_to geometry_from (λ b e. three_to e) (λ b e. three_from e)

@@ -5,7 +5,7 @@ use Rattle.std.specs.Str.{IsUtf8}
 use Rattle.std.proofs.lemmas.Bool.{le-leb, leb-true}
 use Rattle.std.proofs.lemmas.List.{map-append}
 use Rattle.std.proofs.lemmas.List.Elements.{All-nil, All-push, All-map}
-use Rattle.feature_model.specs.declared.limits.TheConstants.{MOST_TAGS}
+use Rattle.feature_model.specs.declared.limits.TheConstants.{MAX_TAGS}
 use Rattle.feature_model.specs.Data.{TagData}
 use Rattle.feature_model.specs.Limits.{IsName, ValueFits, ValuesFit, TagsFit, HasAscendingKeys, keys_of}
 use Rattle.feature_model.specs.Spelled.{spelled_name, spelled_value, spelled_tag, spelled_tags}
@@ -68,29 +68,29 @@ tag_steps = record {
 abbrev pub IsTags : List TagData → Type 0
 IsTags tags = TagsFit tags × ValuesFit tags × All TagFitsTypes tags
 
-tags_to : (tags : List TagData) → (length tags ≤ MOST_TAGS) × AreTags tags → IsTags tags
+tags_to : (tags : List TagData) → (length tags ≤ MAX_TAGS) × AreTags tags → IsTags tags
 tags_to tags is = (
   record { few = is.0; names = All-map IsName (λ t. t.key) tags (λ k d l. (is.1.0 k d l).0); ascending = is.1.1 },
   λ k d l. (is.1.0 k d l).1,
   λ k d l. (is.1.0 k d l).2,
 )
 
-tags_from : (tags : List TagData) → IsTags tags → (length tags ≤ MOST_TAGS) × AreTags tags
+tags_from : (tags : List TagData) → IsTags tags → (length tags ≤ MAX_TAGS) × AreTags tags
 tags_from tags is =
     (is.0.few, (λ k d l. (All-from_map IsName (λ t. t.key) tags is.0.names k d l, is.1 k d l, is.2 k d l), is.0.ascending))
 
-codec_all_tags : Codec tags_at spelled_tags (λ tags. (length tags ≤ MOST_TAGS) × AreTags tags) EndsInTags
+codec_all_tags : Codec tags_at spelled_tags (λ tags. (length tags ≤ MAX_TAGS) × AreTags tags) EndsInTags
 unfolding tags_at spelled_tags
-codec_all_tags = codec_then (λ bytes. read_if (λ count. nat_le count MOST_TAGS) (byte_at bytes)) one_byte (λ count. count ≤ MOST_TAGS) (EndsWithin 1)
+codec_all_tags = codec_then (λ bytes. read_if (λ count. nat_le count MAX_TAGS) (byte_at bytes)) one_byte (λ count. count ≤ MAX_TAGS) (EndsWithin 1)
     (λ count. many_at tag_at count []) (λ count tags. flat_map spelled_tag tags) (λ count tags. (length tags ≡ count) × AreTags tags)
     (EndsAmong spelled_tag AreTags EndsInTag)
-    spelled_tags (λ tags. (length tags ≤ MOST_TAGS) × AreTags tags)
-    (codec_if byte_at one_byte (λ b. b < 256) (EndsWithin 1) (λ count. nat_le count MOST_TAGS) (λ count. count ≤ MOST_TAGS) codec_byte
-    (λ n l t. leb-true n MOST_TAGS t) (λ n l. (omega arith, le-leb n MOST_TAGS l)))
+    spelled_tags (λ tags. (length tags ≤ MAX_TAGS) × AreTags tags)
+    (codec_if byte_at one_byte (λ b. b < 256) (EndsWithin 1) (λ count. nat_le count MAX_TAGS) (λ count. count ≤ MAX_TAGS) codec_byte
+    (λ n l t. leb-true n MAX_TAGS t) (λ n l. (omega arith, le-leb n MAX_TAGS l)))
     (λ count fits. codec_many tag_at spelled_tag AreTags EndsInTag tag_steps (All-nil IsOneTag, sorted_none) count)
-    (λ count tags fits is. ((subst (λ n. n ≤ MOST_TAGS) (sym is.0) fits, is.1), ap (λ n. n ∷ flat_map spelled_tag tags) is.0))
+    (λ count tags fits is. ((subst (λ n. n ≤ MAX_TAGS) (sym is.0) fits, is.1), ap (λ n. n ∷ flat_map spelled_tag tags) is.0))
     (λ tags is. (length tags, is.0, (refl, is.1)))
 
 pub codec_tags : Codec tags_at spelled_tags IsTags EndsInTags
-codec_tags = codec_same tags_at spelled_tags (λ tags. (length tags ≤ MOST_TAGS) × AreTags tags) IsTags EndsInTags EndsInTags codec_all_tags tags_to tags_from
+codec_tags = codec_same tags_at spelled_tags (λ tags. (length tags ≤ MAX_TAGS) × AreTags tags) IsTags EndsInTags EndsInTags codec_all_tags tags_to tags_from
     (λ b e. e) (λ b e. e)

@@ -6,7 +6,7 @@ use Rattle.std.specs.Int.{w64, cast_signed, cast_unsigned}
 use Rattle.std.specs.Str.{IsUtf8}
 use Rattle.std.proofs.lemmas.Bool.{le-ltb, le-leb, leb-true}
 use Rattle.std.proofs.lemmas.Int.{to_z-of_z, of_z-to_z, ints}
-use Rattle.feature_model.specs.declared.limits.TheConstants.{MOST_TEXT_BYTES}
+use Rattle.feature_model.specs.declared.limits.TheConstants.{MAX_TEXT_BYTES}
 use Rattle.feature_model.specs.Data.{ValueData, text_value, natural_value, negative_value, truth_value}
 use Rattle.feature_model.specs.Limits.{ValueFits}
 use Rattle.feature_model.specs.Spelled.{two_bytes, eight_bytes, spelled_value}
@@ -50,7 +50,7 @@ value_text (negative_value z) = eight_bytes (cast_unsigned w64 z)
 value_text (truth_value b) = []
 
 abbrev IsText : ValueData → Type 0
-IsText (text_value bytes) = (length bytes ≤ MOST_TEXT_BYTES) × IsUtf8 bytes
+IsText (text_value bytes) = (length bytes ≤ MAX_TEXT_BYTES) × IsUtf8 bytes
 IsText (natural_value n) = ⊥
 IsText (negative_value z) = ⊥
 IsText (truth_value b) = ⊥
@@ -67,7 +67,7 @@ IsNegative (natural_value n) = ⊥
 IsNegative (negative_value z) = (z <ℤ pos 0) × FitsSigned w64 z
 IsNegative (truth_value b) = ⊥
 
-split_text : (v : ValueData) → IsText v → (bytes : List ℕ) × ((length bytes ≤ MOST_TEXT_BYTES) × IsUtf8 bytes) × (v ≡ text_value bytes)
+split_text : (v : ValueData) → IsText v → (bytes : List ℕ) × ((length bytes ≤ MAX_TEXT_BYTES) × IsUtf8 bytes) × (v ≡ text_value bytes)
     × (value_text v ≡ two_bytes (length bytes) ++ bytes)
 split_text (text_value bytes) is = (bytes, is, refl, refl)
 split_text (natural_value n) is = absurd is
@@ -142,7 +142,7 @@ no_kind k bytes = Err Bad
 
 text_here : Codec read_text value_text IsText EndsInText
 text_here = codec_as long_text_at (λ t. two_bytes (length t) ++ t)
-    (λ t. (length t ≤ MOST_TEXT_BYTES) × IsUtf8 t) EndsInText text_value value_text IsText codec_long_text (λ t h is. (is, refl)) split_text
+    (λ t. (length t ≤ MAX_TEXT_BYTES) × IsUtf8 t) EndsInText text_value value_text IsText codec_long_text (λ t h is. (is, refl)) split_text
 
 natural_here : Codec read_natural value_text IsNatural (EndsWithin 8)
 natural_here = codec_as eight_at eight_bytes (λ n. n < 2 ^ 64) (EndsWithin 8) natural_value value_text IsNatural codec_eight

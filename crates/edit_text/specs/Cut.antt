@@ -5,7 +5,7 @@ use Rattle.std.specs.Cmp.Lexicographic.{slice_cmp}
 use Rattle.std.specs.List.{flat_map}
 use Rattle.std.specs.List.Sorted.{IsStrictlySortedBy}
 use Rattle.std.specs.Str.{IsUtf8}
-use Rattle.feature_model.specs.declared.limits.TheConstants.{GREATEST_ZOOM, MOST_NAME_BYTES, LEAST_LINE, LEAST_RING, MOST_TAGS, MOST_TEXT_BYTES}
+use Rattle.feature_model.specs.declared.limits.TheConstants.{MAX_ZOOM, MAX_NAME_BYTES, MIN_LINE, MIN_RING, MAX_TAGS, MAX_TEXT_BYTES}
 use Rattle.feature_model.specs.declared.feature.World.{World}
 use Rattle.feature_model.specs.Data.{TagData, ChangeData}
 use Rattle.feature_model.specs.Limits.{IsName, IsCount, AreZooms, CountFits, NumberFits, GeometryFits, ValueFits, HasAscendingKeys, keys_of}
@@ -38,10 +38,10 @@ EndsAmong {A} spell Are Ends count bytes = (xs : List A) × (rest : List ℕ) ×
 -- ---- names and texts
 
 abbrev pub EndsInName : List ℕ → Type 0
-EndsInName bytes = EndsWithin 1 bytes ⊎ EndsBehind one_byte (λ len. (1 ≤ len) × (len ≤ MOST_NAME_BYTES)) EndsWithin bytes
+EndsInName bytes = EndsWithin 1 bytes ⊎ EndsBehind one_byte (λ len. (1 ≤ len) × (len ≤ MAX_NAME_BYTES)) EndsWithin bytes
 
 abbrev pub EndsInText : List ℕ → Type 0
-EndsInText bytes = EndsWithin 2 bytes ⊎ EndsBehind two_bytes (λ len. len ≤ MOST_TEXT_BYTES) EndsWithin bytes
+EndsInText bytes = EndsWithin 2 bytes ⊎ EndsBehind two_bytes (λ len. len ≤ MAX_TEXT_BYTES) EndsWithin bytes
 
 -- ---- geometry
 
@@ -58,15 +58,15 @@ abbrev pub IsLine : ℕ → List World → Type 0
 IsLine least points = CountFits least points × All IsOfWorld points
 
 abbrev pub EndsInRings : List ℕ → Type 0
-EndsInRings bytes = EndsInList 1 spelled_line (IsLine LEAST_RING) (EndsInLine LEAST_RING) bytes
+EndsInRings bytes = EndsInList 1 spelled_line (IsLine MIN_RING) (EndsInLine MIN_RING) bytes
 
 abbrev pub IsPolygon : List (List World) → Type 0
-IsPolygon rings = CountFits 1 rings × All (IsLine LEAST_RING) rings
+IsPolygon rings = CountFits 1 rings × All (IsLine MIN_RING) rings
 
 abbrev pub EndsInGeometry : List ℕ → Type 0
 EndsInGeometry bytes = EndsWithin 1 bytes
     ⊎ EndsBehindKind 1 (EndsInLine 1) bytes
-    ⊎ EndsBehindKind 2 (EndsInList 1 spelled_line (IsLine LEAST_LINE) (EndsInLine LEAST_LINE)) bytes
+    ⊎ EndsBehindKind 2 (EndsInList 1 spelled_line (IsLine MIN_LINE) (EndsInLine MIN_LINE)) bytes
     ⊎ EndsBehindKind 3 (EndsInList 1 (spelled_list spelled_line) IsPolygon EndsInRings) bytes
 
 -- ---- tags
@@ -89,12 +89,12 @@ abbrev pub AreTags : List TagData → Type 0
 AreTags tags = All (λ t. IsName t.key × ValueFits t.value × TagFitsTypes t) tags × HasAscendingKeys tags
 
 abbrev pub EndsInTags : List ℕ → Type 0
-EndsInTags bytes = EndsWithin 1 bytes ⊎ EndsBehind one_byte (λ count. count ≤ MOST_TAGS) (EndsAmong spelled_tag AreTags EndsInTag) bytes
+EndsInTags bytes = EndsWithin 1 bytes ⊎ EndsBehind one_byte (λ count. count ≤ MAX_TAGS) (EndsAmong spelled_tag AreTags EndsInTag) bytes
 
 -- ---- features, changes and edits
 
 abbrev pub EndsInZooms : List ℕ → Type 0
-EndsInZooms bytes = EndsWithin 1 bytes ⊎ EndsBehind one_byte (λ zoom. zoom ≤ GREATEST_ZOOM) (λ _. EndsWithin 1) bytes
+EndsInZooms bytes = EndsWithin 1 bytes ⊎ EndsBehind one_byte (λ zoom. zoom ≤ MAX_ZOOM) (λ _. EndsWithin 1) bytes
 
 -- behind the zooms
 abbrev pub EndsInShape : List ℕ → Type 0

@@ -1,6 +1,6 @@
 -- What stands in front of bytes.
 use Rattle.std.specs.Prelude.{◌≡◌, ℕ, ◌<◌, List, [], ◌∷◌, ◌++◌, length}
-use Rattle.feature_model.specs.declared.limits.TheConstants.{MOST_EDIT_BYTES}
+use Rattle.feature_model.specs.declared.limits.TheConstants.{MAX_EDIT_BYTES}
 use Rattle.feature_model.specs.Data.{ChangeData, EditData}
 use Rattle.feature_model.specs.Limits.{AreEnough}
 use Rattle.feature_model.specs.Spelled.{spelled_change, spelled}
@@ -29,7 +29,7 @@ BeginsAsEdit bytes = (count : ℕ) × (rest : List ℕ) × (bytes ≡ count ∷ 
 
 -- They are shorter than the longest text, and end before the text does, and each whole field is allowed.
 abbrev pub IsCutChange : List ℕ → Type 0
-IsCutChange bytes = (length bytes < MOST_EDIT_BYTES) × EndsInChange [] bytes
+IsCutChange bytes = (length bytes < MAX_EDIT_BYTES) × EndsInChange [] bytes
 
 abbrev pub IsCut : List ℕ → Type 0
 IsCut bytes = (length bytes < edit_most) × EndsInEdit bytes

@@ -4,8 +4,8 @@ use Rattle.std.specs.Ordering.{nat_cmp, is_lt}
 use Rattle.std.specs.Cmp.Lexicographic.{slice_cmp}
 use Rattle.std.specs.Int.{w16, w32, w64, from_le_bytes, cast_signed}
 use Rattle.std.specs.Str.{is_utf8}
-use Rattle.feature_model.specs.declared.limits.TheConstants.{LEAST_LINE, LEAST_RING, MOST_TAGS, MOST_TEXT_BYTES, MOST_EDIT_BYTES}
-use Rattle.feature_model.specs.declared.limits.TheConstants.{NUMBER_END, GREATEST_ZOOM, MOST_NAME_BYTES, MOST_CHANGES}
+use Rattle.feature_model.specs.declared.limits.TheConstants.{MIN_LINE, MIN_RING, MAX_TAGS, MAX_TEXT_BYTES, MAX_EDIT_BYTES}
+use Rattle.feature_model.specs.declared.limits.TheConstants.{NUMBER_END, MAX_ZOOM, MAX_NAME_BYTES, MAX_CHANGES}
 use Rattle.feature_model.specs.declared.feature.World.{World}
 use Rattle.feature_model.specs.Data.{GeometryData, world_points, world_lines, world_polygons, ValueData, text_value, natural_value}
 use Rattle.feature_model.specs.Data.{negative_value, truth_value, TagData, FeatureData, ChangeData, put, delete, EditData, number_of}
@@ -62,10 +62,10 @@ unfoldable pub text_at : ℕ → List ℕ → Part (List ℕ)
 text_at len bytes = read_if is_utf8 (front_at len bytes)
 
 unfoldable pub name_at : List ℕ → Part (List ℕ)
-name_at bytes = then_read (read_if (λ len. nat_le 1 len && nat_le len MOST_NAME_BYTES) (byte_at bytes)) text_at
+name_at bytes = then_read (read_if (λ len. nat_le 1 len && nat_le len MAX_NAME_BYTES) (byte_at bytes)) text_at
 
 unfoldable pub long_text_at : List ℕ → Part (List ℕ)
-long_text_at bytes = then_read (read_if (λ len. nat_le len MOST_TEXT_BYTES) (two_at bytes)) text_at
+long_text_at bytes = then_read (read_if (λ len. nat_le len MAX_TEXT_BYTES) (two_at bytes)) text_at
 
 -- ---- geometry
 
@@ -91,12 +91,12 @@ abbrev pub HasFirstLine : ℕ → List ℕ → Type 0
 HasFirstLine least bytes = (x : ℕ × List ℕ) × (two_at bytes ≡ Ok x) × IsOk (line_at least x.1)
 
 unfoldable pub polygons_at : List ℕ → Part (List (List (List World)))
-polygons_at bytes = list_at 1 (lines_at LEAST_RING) bytes
+polygons_at bytes = list_at 1 (lines_at MIN_RING) bytes
 
 unfoldable pub geometry_behind : ℕ → List ℕ → Part GeometryData
 geometry_behind kind bytes =
     if kind == 1 then read_as world_points (line_at 1 bytes)
-    else (if kind == 2 then read_as world_lines (lines_at LEAST_LINE bytes)
+    else (if kind == 2 then read_as world_lines (lines_at MIN_LINE bytes)
     else (if kind == 3 then read_as world_polygons (polygons_at bytes)
     else Err Bad))
 
@@ -132,7 +132,7 @@ unfoldable pub tag_at : List TagData → List ℕ → Part TagData
 tag_at tags bytes = then_read (read_if (is_next_key tags) (name_at bytes)) (λ key rest. read_as (λ value. record { key = key; value = value }) (value_at rest))
 
 abbrev pub tag_count_at : List ℕ → Part ℕ
-tag_count_at bytes = read_if (λ count. nat_le count MOST_TAGS) (byte_at bytes)
+tag_count_at bytes = read_if (λ count. nat_le count MAX_TAGS) (byte_at bytes)
 
 unfoldable pub tags_at : List ℕ → Part (List TagData)
 tags_at bytes = then_read (tag_count_at bytes) (λ count. many_at tag_at count [])
@@ -140,8 +140,8 @@ tags_at bytes = then_read (tag_count_at bytes) (λ count. many_at tag_at count [
 -- ---- features and edits
 
 unfoldable pub zooms_at : List ℕ → Part (ℕ × ℕ)
-zooms_at bytes = then_read (read_if (λ zoom. nat_le zoom GREATEST_ZOOM) (byte_at bytes))
-    (λ first rest. read_as (λ last. (first, last)) (read_if (λ last. nat_le first last && nat_le last GREATEST_ZOOM) (byte_at rest)))
+zooms_at bytes = then_read (read_if (λ zoom. nat_le zoom MAX_ZOOM) (byte_at bytes))
+    (λ first rest. read_as (λ last. (first, last)) (read_if (λ last. nat_le first last && nat_le last MAX_ZOOM) (byte_at rest)))
 
 unfoldable pub feature_at : List ℕ → Part FeatureData
 feature_at bytes = then_read (name_at bytes) (λ layer behind_layer.
@@ -175,7 +175,7 @@ unfoldable pub change_at : List ChangeData → List ℕ → Part ChangeData
 change_at done bytes = then_read (byte_at bytes) (change_behind done)
 
 abbrev pub change_count_at : List ℕ → Part ℕ
-change_count_at bytes = read_if (λ count. nat_le 1 count && nat_le count MOST_CHANGES) (byte_at bytes)
+change_count_at bytes = read_if (λ count. nat_le 1 count && nat_le count MAX_CHANGES) (byte_at bytes)
 
 unfoldable pub edit_at : List ℕ → Part EditData
 edit_at bytes = then_read (change_count_at bytes) (λ count. many_at change_at count [])
@@ -191,11 +191,11 @@ read_within most read bytes = if nat_lt (length bytes) most then read bytes else
 
 -- the most bytes of the text of an edit: its count, and the longest texts
 abbrev pub edit_most : ℕ
-edit_most = 1 + MOST_EDIT_BYTES
+edit_most = 1 + MAX_EDIT_BYTES
 
 -- the change in front, and the edit in front, whose text is no longer than the longest
 unfoldable pub decode_change_at : List ℕ → Part ChangeData
-decode_change_at bytes = read_within MOST_EDIT_BYTES (change_at []) bytes
+decode_change_at bytes = read_within MAX_EDIT_BYTES (change_at []) bytes
 
 unfoldable pub decode_at : List ℕ → Part EditData
 decode_at bytes = read_within edit_most edit_at bytes

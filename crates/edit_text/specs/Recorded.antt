@@ -1,6 +1,6 @@
 -- Edits as records have them, by the version of the record's form.
 use Rattle.std.specs.Prelude.{◌≡◌, ◌⊎◌, ◌==◌, if◌then◌else◌, ℕ, List, length}
-use Rattle.feature_model.specs.declared.limits.TheConstants.{MOST_EDIT_BYTES}
+use Rattle.feature_model.specs.declared.limits.TheConstants.{MAX_EDIT_BYTES}
 use Rattle.feature_model.specs.Data.{EditData}
 use Rattle.feature_model.specs.Spelled.{spelled_changes, spelled}
 use Rattle.feature_model.specs.Types.{IsEdit}
@@ -20,7 +20,7 @@ recorded_text e = text_in e.version e.changes
 
 -- the most bytes of such a text
 abbrev pub most_in : ℕ → ℕ
-most_in version = if version == 1 then MOST_EDIT_BYTES else edit_most
+most_in version = if version == 1 then MAX_EDIT_BYTES else edit_most
 
 -- the versions of records
 abbrev pub IsRecordVersion : ℕ → Type 0

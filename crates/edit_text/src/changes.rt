@@ -10,7 +10,7 @@ use crate::fault::TextFault;
 use crate::fields::{read_byte, read_name, read_number};
 use crate::shapes::read_geometry;
 use crate::tags::read_tags;
-use feature_model::{Change, Feature, GREATEST_ZOOM, is_new, zooms_fit};
+use feature_model::{Change, Feature, MAX_ZOOM, is_new, zooms_fit};
 use std::alloc::Global;
 
 /// The first and the last zoom.
@@ -19,7 +19,7 @@ fn read_zooms(bytes: &[u8]) -> Result<((u8, u8), &[u8]), TextFault>
     ensures { Reads (λ r. (r.0, r.1.now)) result (zooms_at bytes.now) }
 {
     let (first, rest) = read_byte(bytes)?;
-    if first > GREATEST_ZOOM {
+    if first > MAX_ZOOM {
         return Err(TextFault::Bad);
     }
     let (last, rest) = read_byte(rest)?;

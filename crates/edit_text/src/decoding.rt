@@ -10,14 +10,14 @@ ghost use Rattle.edit_text.specs.Reading.{decode_change_at, decode_at};
 use crate::changes::read_change;
 use crate::edits::read_edit;
 use crate::fault::TextFault;
-use feature_model::{Change, Edit, MOST_EDIT_BYTES};
+use feature_model::{Change, Edit, MAX_EDIT_BYTES};
 use std::alloc::Global;
 
 /// The most bytes of the text of a change.
-const MOST_CHANGE_BYTES: usize = MOST_EDIT_BYTES as usize;
+const MAX_CHANGE_BYTES: usize = MAX_EDIT_BYTES as usize;
 
 /// The most bytes of the text of an edit: its count, and the texts of its changes.
-const MOST_BYTES: usize = 1 + MOST_CHANGE_BYTES;
+const MAX_BYTES: usize = 1 + MAX_CHANGE_BYTES;
 
 /// The change in front, whose text is no longer than the longest, and the bytes up to there that are behind it.
 #[tactic(auto, unfolding(crate::specs::Reading::decode_change_at))]
@@ -25,10 +25,10 @@ fn read_short_change(alloc: Global, bytes: &[u8]) -> Result<(Change, &[u8]), Tex
     ensures change { Gives TextFault.Memory (λ r. (change_data r.0, r.1.now)) result (decode_change_at bytes.now) }
     ensures memory { result ≡ Err TextFault.Memory → BeginsAsPut bytes.now }
 {
-    if bytes.len() < MOST_CHANGE_BYTES {
+    if bytes.len() < MAX_CHANGE_BYTES {
         return read_change(alloc, &[], bytes);
     }
-    match read_change(alloc, &[], &bytes[..MOST_CHANGE_BYTES]) {
+    match read_change(alloc, &[], &bytes[..MAX_CHANGE_BYTES]) {
         Ok((change, rest)) => Ok((change, rest)),
         Err(TextFault::Cut | TextFault::Bad) => Err(TextFault::Bad),
         Err(TextFault::Memory) => Err(TextFault::Memory),
@@ -53,7 +53,7 @@ pub fn decode_change(alloc: Global, bytes: &[u8]) -> Result<(Change, usize), Tex
     ensures bad { result ≡ Err TextFault.Bad → ¬ IsCutChange bytes.now × ((c : ChangeData) → ¬ BeginsWithChange c bytes.now) }
 {
     let (change, rest) = read_short_change(alloc, bytes)?;
-    let len = bytes.len().min(MOST_CHANGE_BYTES) - rest.len();
+    let len = bytes.len().min(MAX_CHANGE_BYTES) - rest.len();
     Ok((change, len))
 }
 
@@ -63,10 +63,10 @@ fn read_short(alloc: Global, bytes: &[u8]) -> Result<(Edit, &[u8]), TextFault>
     ensures edit { Gives TextFault.Memory (λ r. (edit_data r.0, r.1.now)) result (decode_at bytes.now) }
     ensures memory { result ≡ Err TextFault.Memory → BeginsAsEdit bytes.now }
 {
-    if bytes.len() < MOST_BYTES {
+    if bytes.len() < MAX_BYTES {
         return read_edit(alloc, bytes);
     }
-    match read_edit(alloc, &bytes[..MOST_BYTES]) {
+    match read_edit(alloc, &bytes[..MAX_BYTES]) {
         Ok((edit, rest)) => Ok((edit, rest)),
         Err(TextFault::Cut | TextFault::Bad) => Err(TextFault::Bad),
         Err(TextFault::Memory) => Err(TextFault::Memory),
@@ -88,6 +88,6 @@ pub fn decode(alloc: Global, bytes: &[u8]) -> Result<(Edit, usize), TextFault>
     ensures bad { result ≡ Err TextFault.Bad → ¬ IsCut bytes.now × ((e : EditData) → ¬ BeginsWith e bytes.now) }
 {
     let (edit, rest) = read_short(alloc, bytes)?;
-    let len = bytes.len().min(MOST_BYTES) - rest.len();
+    let len = bytes.len().min(MAX_BYTES) - rest.len();
     Ok((edit, len))
 }

@@ -30,7 +30,7 @@ fn read_each_change(
     Ok((changes, rest))
 }
 
-/// How many changes there are: one, and at most `MOST_CHANGES`.
+/// How many changes there are: one, and at most `MAX_CHANGES`.
 fn read_change_count(bytes: &[u8]) -> Result<(u8, &[u8]), TextFault>
     ensures { Reads (λ r. (r.0, r.1.now)) result (change_count_at bytes.now) }
 {

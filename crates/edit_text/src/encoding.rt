@@ -2,7 +2,7 @@
 
 ghost use Rattle.std.specs.Prelude.{◌≡◌, ℕ, ◌<◌, ◌≤◌, ◌^◌, [], ◌∷◌, ◌++◌, length, map, All, OnOk, IfOk};
 ghost use Rattle.std.specs.Str.{IsUtf8};
-ghost use Rattle.feature_model.specs.declared.limits.TheConstants.{MOST_ELEMENTS, MOST_TEXT_BYTES};
+ghost use Rattle.feature_model.specs.declared.limits.TheConstants.{MAX_ELEMENTS, MAX_TEXT_BYTES};
 ghost use Rattle.feature_model.specs.Data.{put, delete, feature_data, geometry_data, value_data, tag_data, change_data, edit_data};
 ghost use Rattle.feature_model.specs.Limits.{IsName, LayerFits, GeometryFits, TagsFit, ValueFits, ValuesFit, IsAllowed, IsAllowedChange, IsAllowedEdit, NumberFits};
 ghost use Rattle.feature_model.specs.Spelled.{two_bytes, eight_bytes, spelled_name, spelled_list, spelled_point, spelled_line};
@@ -16,7 +16,7 @@ use std::alloc::{AllocError, Global};
 
 #[tactic(auto, unfolding(feature_model::specs::Spelled::two_bytes))]
 fn put_count(out: &mut Vec<u8>, count: usize) -> Result<(), AllocError>
-    requires { count ≤ MOST_ELEMENTS }
+    requires { count ≤ MAX_ELEMENTS }
     ensures { OnOk result (out.new.items ≡ out.old.items ++ two_bytes count) }
 {
     out.extend_from_slice(&(count as u16).to_le_bytes())
@@ -42,7 +42,7 @@ fn put_point(out: &mut Vec<u8>, point: &World) -> Result<(), AllocError>
 }
 
 fn put_line(out: &mut Vec<u8>, points: &[World]) -> Result<(), AllocError>
-    requires { length points.now ≤ MOST_ELEMENTS }
+    requires { length points.now ≤ MAX_ELEMENTS }
     ensures text { OnOk result (out.new.items ≡ out.old.items ++ spelled_line points.now) }
     ensures types { OnOk result (All IsOfWorld points.now) }
 {
@@ -54,8 +54,8 @@ fn put_line(out: &mut Vec<u8>, points: &[World]) -> Result<(), AllocError>
 }
 
 fn put_lines(out: &mut Vec<u8>, lines: &[Vec<World>]) -> Result<(), AllocError>
-    requires count { length lines.now ≤ MOST_ELEMENTS }
-    requires points { All (λ l. length l.items ≤ MOST_ELEMENTS) lines.now }
+    requires count { length lines.now ≤ MAX_ELEMENTS }
+    requires points { All (λ l. length l.items ≤ MAX_ELEMENTS) lines.now }
     ensures text { OnOk result
         (out.new.items ≡ out.old.items ++ spelled_list spelled_line (map (λ l. l.items) lines.now)) }
     ensures types { OnOk result (All (All IsOfWorld) (map (λ l. l.items) lines.now)) }
@@ -68,9 +68,9 @@ fn put_lines(out: &mut Vec<u8>, lines: &[Vec<World>]) -> Result<(), AllocError>
 }
 
 fn put_polygons(out: &mut Vec<u8>, polygons: &[Vec<Vec<World>>]) -> Result<(), AllocError>
-    requires count { length polygons.now ≤ MOST_ELEMENTS }
-    requires rings { All (λ p. length p.items ≤ MOST_ELEMENTS) polygons.now }
-    requires points { All (λ p. All (λ r. length r.items ≤ MOST_ELEMENTS) p.items) polygons.now }
+    requires count { length polygons.now ≤ MAX_ELEMENTS }
+    requires rings { All (λ p. length p.items ≤ MAX_ELEMENTS) polygons.now }
+    requires points { All (λ p. All (λ r. length r.items ≤ MAX_ELEMENTS) p.items) polygons.now }
     ensures text { OnOk result (out.new.items ≡ out.old.items
         ++ spelled_list (spelled_list spelled_line) (map (λ p. map (λ r. r.items) p.items) polygons.now)) }
     ensures types { OnOk result
@@ -114,7 +114,7 @@ fn put_number(out: &mut Vec<u8>, number: u64) -> Result<(), AllocError>
 }
 
 fn put_text(out: &mut Vec<u8>, text: &str) -> Result<(), AllocError>
-    requires { length text.now ≤ MOST_TEXT_BYTES }
+    requires { length text.now ≤ MAX_TEXT_BYTES }
     ensures text { OnOk result
         (out.new.items ≡ out.old.items ++ (two_bytes (length text.now) ++ text.now)) }
     ensures types { IsUtf8 text.now }

@@ -7,7 +7,7 @@ use thiserror::Error;
 /// Why no text of an edit stands in front of some bytes.
 #[derive(Clone, Copy, Debug, PartialEq, Eq, Error)]
 pub enum TextFault {
-    /// Fewer than `MOST_EDIT_BYTES` bytes, which end before the text does, and each field that is whole among them is allowed.
+    /// Fewer than `MAX_EDIT_BYTES` bytes, which end before the text does, and each field that is whole among them is allowed.
     #[error("the text of an edit is cut short")]
     Cut,
     /// Bytes that begin no text of an edit.

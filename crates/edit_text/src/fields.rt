@@ -5,7 +5,7 @@ ghost use Rattle.reader.specs.Reading.{Reads};
 ghost use Rattle.edit_text.specs.Reading.{byte_at, front_at, two_at, four_at, eight_at, number_at, text_at, name_at, long_text_at};
 
 use crate::fault::TextFault;
-use feature_model::{MOST_NAME_BYTES, MOST_TEXT_BYTES, NUMBER_END};
+use feature_model::{MAX_NAME_BYTES, MAX_TEXT_BYTES, NUMBER_END};
 
 #[tactic(auto, unfolding(crate::specs::Reading::byte_at))]
 pub(crate) fn read_byte(bytes: &[u8]) -> Result<(u8, &[u8]), TextFault>
@@ -83,27 +83,27 @@ fn read_text(bytes: &[u8], len: usize) -> Result<(&str, &[u8]), TextFault>
     }
 }
 
-/// The name of a layer or a key: 1 to `MOST_NAME_BYTES` bytes.
+/// The name of a layer or a key: 1 to `MAX_NAME_BYTES` bytes.
 #[tactic(auto, unfolding(crate::specs::Reading::name_at))]
 pub(crate) fn read_name(bytes: &[u8]) -> Result<(&str, &[u8]), TextFault>
     ensures { Reads (λ r. (r.0.now, r.1.now)) result (name_at bytes.now) }
 {
     let (len, rest) = read_byte(bytes)?;
     let len = usize::from(len);
-    if len < 1 || len > MOST_NAME_BYTES {
+    if len < 1 || len > MAX_NAME_BYTES {
         return Err(TextFault::Bad);
     }
     read_text(rest, len)
 }
 
-/// The text of a value: at most `MOST_TEXT_BYTES` bytes.
+/// The text of a value: at most `MAX_TEXT_BYTES` bytes.
 #[tactic(auto, unfolding(crate::specs::Reading::long_text_at))]
 pub(crate) fn read_long_text(bytes: &[u8]) -> Result<(&str, &[u8]), TextFault>
     ensures { Reads (λ r. (r.0.now, r.1.now)) result (long_text_at bytes.now) }
 {
     let (len, rest) = read_u16(bytes)?;
     let len = usize::from(len);
-    if len > MOST_TEXT_BYTES {
+    if len > MAX_TEXT_BYTES {
         return Err(TextFault::Bad);
     }
     read_text(rest, len)

@@ -1,20 +1,20 @@
 //! Geometries in front of bytes.
 
 ghost use Rattle.std.specs.Prelude.{◌≡◌, ℕ, ◌<◌, ◌≤◌, [], map, IsOk};
-ghost use Rattle.feature_model.specs.declared.limits.TheConstants.{LEAST_RING};
+ghost use Rattle.feature_model.specs.declared.limits.TheConstants.{MIN_RING};
 ghost use Rattle.feature_model.specs.Data.{geometry_data};
 ghost use Rattle.reader.specs.Reading.{Reads, Finds, Gives};
 ghost use Rattle.edit_text.specs.Reading.{many_at, count_at, point_at, line_at, lines_at, HasFirstLine, polygons_at, geometry_behind, geometry_at};
 
 use crate::fault::TextFault;
 use crate::fields::{read_byte, read_u16, read_u32};
-use feature_model::{Geometry, LEAST_LINE, LEAST_RING, World, count_fits};
+use feature_model::{Geometry, MIN_LINE, MIN_RING, World, count_fits};
 use std::alloc::Global;
 
 /// The bytes of a point.
 const POINT_LEN: usize = 8;
 
-/// A count of at least so many, and at most `MOST_ELEMENTS`.
+/// A count of at least so many, and at most `MAX_ELEMENTS`.
 fn read_count(bytes: &[u8], least: usize) -> Result<(u16, &[u8]), TextFault>
     ensures { Reads (λ r. (r.0, r.1.now)) result (count_at least bytes.now) }
 {
@@ -101,14 +101,14 @@ fn read_each_polygon(
     bytes: &[u8],
 ) -> Result<(Vec<Vec<Vec<World>>>, &[u8]), TextFault>
     ensures polygons { Gives TextFault.Memory (λ r. (map (λ p. map (λ l. l.items) p.items) r.0.items, r.1.now)) result
-        (many_at (λ _. lines_at LEAST_RING) count [] bytes.now) }
+        (many_at (λ _. lines_at MIN_RING) count [] bytes.now) }
     // An allocation fails only where a first ring is there.
-    ensures first { result ≡ Err TextFault.Memory → HasFirstLine LEAST_RING bytes.now }
+    ensures first { result ≡ Err TextFault.Memory → HasFirstLine MIN_RING bytes.now }
 {
     let mut polygons = Vec::new(alloc);
     let mut rest = bytes;
     for _ in 0..count {
-        let (rings, behind) = read_lines(alloc, rest, LEAST_RING)?;
+        let (rings, behind) = read_lines(alloc, rest, MIN_RING)?;
         polygons.push(rings)?;
         rest = behind;
     }
@@ -137,7 +137,7 @@ fn read_shape(alloc: Global, kind: u8, bytes: &[u8]) -> Result<(Geometry, &[u8])
             Ok((Geometry::Points(points), rest))
         }
         2 => {
-            let (lines, rest) = read_lines(alloc, bytes, LEAST_LINE)?;
+            let (lines, rest) = read_lines(alloc, bytes, MIN_LINE)?;
             Ok((Geometry::Lines(lines), rest))
         }
         3 => {

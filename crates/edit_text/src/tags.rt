@@ -103,7 +103,7 @@ fn read_each_tag(alloc: Global, count: u8, bytes: &[u8]) -> Result<(Vec<Tag>, &[
     Ok((tags, rest))
 }
 
-/// How many tags there are: at most `MOST_TAGS`.
+/// How many tags there are: at most `MAX_TAGS`.
 fn read_tag_count(bytes: &[u8]) -> Result<(u8, &[u8]), TextFault>
     ensures { Reads (λ r. (r.0, r.1.now)) result (tag_count_at bytes.now) }
 {
@@ -114,7 +114,7 @@ fn read_tag_count(bytes: &[u8]) -> Result<(u8, &[u8]), TextFault>
     Ok((count, rest))
 }
 
-/// At most `MOST_TAGS` tags, with strictly ascending keys.
+/// At most `MAX_TAGS` tags, with strictly ascending keys.
 #[tactic(auto, unfolding(crate::specs::Reading::tags_at))]
 pub(crate) fn read_tags(alloc: Global, bytes: &[u8]) -> Result<(Vec<Tag>, &[u8]), TextFault>
     ensures { Gives TextFault.Memory (λ r. (map tag_data r.0.items, r.1.now)) result (tags_at bytes.now) }

@@ -5,7 +5,7 @@ use Rattle.std.proofs.lemmas.List.{take-append-le, get_or_append_left, get_or_de
 use Rattle.std.proofs.Math.Seq.{get_or-append_seam}
 use Rattle.std.proofs.lemmas.List.Elements.{All-push}
 use Rattle.std.proofs.lemmas.List.Folds.{length-flat_map-take}
-use Rattle.feature_model.specs.declared.limits.TheConstants.{MOST_EDIT_BYTES}
+use Rattle.feature_model.specs.declared.limits.TheConstants.{MAX_EDIT_BYTES}
 use Rattle.feature_model.specs.declared.fault.EditFault.{EditFault}
 use Rattle.feature_model.specs.declared.feature.Change.{Change}
 use Rattle.feature_model.specs.Data.{ChangeData, put, delete, EditData, number_of, change_data}
@@ -106,7 +106,7 @@ first_within i xs x fault l is so_far first = record {
 each_short : (cs : EditData) (k : ℕ) (d : ChangeData) → k < length cs → length (spelled_change (get_or cs k d)) ≤ length (spelled_changes cs)
 each_short cs k d l = omega (arith, length-flat_map-take spelled_change cs k d l)
 
-allowed_from : (c : ChangeData) → ChangeFits c → length (spelled_change c) ≤ MOST_EDIT_BYTES → IsAllowedChange c
+allowed_from : (c : ChangeData) → ChangeFits c → length (spelled_change c) ≤ MAX_EDIT_BYTES → IsAllowedChange c
 allowed_from (put id f) fits short = record { number = fits.0; feature = fits.1; text = short }
 allowed_from (delete id) fits short = fits
 

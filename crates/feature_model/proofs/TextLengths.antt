@@ -3,7 +3,7 @@ use Rattle.std.proofs.Common.{◌≡◌, ℕ, ℤ, ◌+◌, ◌*◌, ◌≤◌, 
 use Rattle.std.proofs.Common.{Vec, Global, All, arith}
 use Rattle.std.proofs.lemmas.List.{take_all, length-map}
 use Rattle.std.specs.List.{flat_map}
-use Rattle.feature_model.specs.declared.limits.TheConstants.{MOST_ELEMENTS, LEAST_LINE, LEAST_RING}
+use Rattle.feature_model.specs.declared.limits.TheConstants.{MAX_ELEMENTS, MIN_LINE, MIN_RING}
 use Rattle.feature_model.specs.declared.feature.World.{World}
 use Rattle.feature_model.specs.declared.feature.Geometry.{Geometry}
 use Rattle.feature_model.specs.declared.feature.Geometry.TheVariants as kinds
@@ -132,37 +132,37 @@ length-tags_all f xs i len h e = rw (length-spelled_tags (map f xs), ← take_al
 
 -- ---- limits, as the functions on the lists of a geometry ask for them
 
-lines_within : {X : Type 0} (f : X → List World) (xs : List X) → All (CountFits LEAST_LINE) (map f xs) → All (λ x. length (f x) ≤ MOST_ELEMENTS) xs
-lines_within f xs h = λ k d l. (All-from_map (CountFits LEAST_LINE) f xs h k d l).1
+lines_within : {X : Type 0} (f : X → List World) (xs : List X) → All (CountFits MIN_LINE) (map f xs) → All (λ x. length (f x) ≤ MAX_ELEMENTS) xs
+lines_within f xs h = λ k d l. (All-from_map (CountFits MIN_LINE) f xs h k d l).1
 
 polygons_within : {X Y : Type 0} (f : X → List Y) (g : Y → List World) (xs : List X) → All RingsFit (map (λ x. map g (f x)) xs)
-    → All (λ x. length (f x) ≤ MOST_ELEMENTS) xs
+    → All (λ x. length (f x) ≤ MAX_ELEMENTS) xs
 polygons_within f g xs h = λ k d l.
     let fit = All-from_map RingsFit (λ x. map g (f x)) xs h k d l in
     let e = length-map (f (get_or xs k d)) g in
     omega (arith, e, fit.0.1)
 
 rings_within : {X Y : Type 0} (f : X → List Y) (g : Y → List World) (xs : List X) → All RingsFit (map (λ x. map g (f x)) xs)
-    → All (λ x. All (λ y. length (g y) ≤ MOST_ELEMENTS) (f x)) xs
+    → All (λ x. All (λ y. length (g y) ≤ MAX_ELEMENTS) (f x)) xs
 rings_within f g xs h = λ k d l.
     let fit = All-from_map RingsFit (λ x. map g (f x)) xs h k d l in
-    λ j y m. (All-from_map (CountFits LEAST_RING) g (f (get_or xs k d)) fit.1 j y m).1
+    λ j y m. (All-from_map (CountFits MIN_RING) g (f (get_or xs k d)) fit.1 j y m).1
 
 module _ {geometry : Geometry} where
   pub lines_short : {lines : Vec (Vec World Global) Global} {xs : List (Vec World Global)} → geometry ≡ kinds.Lines lines → xs ≡ lines.items
-      → GeometryFits (geometry_data geometry) → All (λ l. length l.items ≤ MOST_ELEMENTS) xs
+      → GeometryFits (geometry_data geometry) → All (λ l. length l.items ≤ MAX_ELEMENTS) xs
   lines_short {lines} is whole fits =
       let fit = rw is at fits in
       rw whole (lines_within (λ l. l.items) lines.items fit.1)
 
   module _ {polygons : Vec (Vec (Vec World Global) Global) Global} {xs : List (Vec (Vec World Global) Global)} (is : geometry ≡ kinds.Polygons polygons)
       (whole : xs ≡ polygons.items) (fits : GeometryFits (geometry_data geometry)) where
-    pub polygons_short : All (λ p. length p.items ≤ MOST_ELEMENTS) xs
+    pub polygons_short : All (λ p. length p.items ≤ MAX_ELEMENTS) xs
     polygons_short =
         let fit = rw is at fits in
         rw whole (polygons_within (λ p. p.items) (λ r. r.items) polygons.items fit.1)
 
-    pub rings_short : All (λ p. All (λ r. length r.items ≤ MOST_ELEMENTS) p.items) xs
+    pub rings_short : All (λ p. All (λ r. length r.items ≤ MAX_ELEMENTS) p.items) xs
     rings_short =
         let fit = rw is at fits in
         rw whole (rings_within (λ p. p.items) (λ r. r.items) polygons.items fit.1)

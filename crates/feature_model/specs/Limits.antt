@@ -4,8 +4,8 @@ use Rattle.std.specs.Ordering.{nat_cmp}
 use Rattle.std.specs.Cmp.Lexicographic.{slice_cmp}
 use Rattle.std.specs.List.Sorted.{IsStrictlySortedBy}
 use Rattle.feature_model.specs.declared.feature.World.{World}
-use Rattle.feature_model.specs.declared.limits.TheConstants.{NUMBER_END, GREATEST_ZOOM, MOST_NAME_BYTES, MOST_ELEMENTS}
-use Rattle.feature_model.specs.declared.limits.TheConstants.{LEAST_LINE, LEAST_RING, MOST_TAGS, MOST_TEXT_BYTES, MOST_EDIT_BYTES, MOST_CHANGES}
+use Rattle.feature_model.specs.declared.limits.TheConstants.{NUMBER_END, MAX_ZOOM, MAX_NAME_BYTES, MAX_ELEMENTS}
+use Rattle.feature_model.specs.declared.limits.TheConstants.{MIN_LINE, MIN_RING, MAX_TAGS, MAX_TEXT_BYTES, MAX_EDIT_BYTES, MAX_CHANGES}
 use Rattle.feature_model.specs.declared.fault.EditFault.{EditFault}
 use Rattle.feature_model.specs.declared.fault.EditFault.TheVariants as faults
 use Rattle.feature_model.specs.Data.{GeometryData, world_points, world_lines, world_polygons, ValueData, text_value, natural_value}
@@ -14,15 +14,15 @@ use Rattle.feature_model.specs.Spelled.{spelled_change, spelled_changes}
 
 -- a name has a byte, and not too many
 abbrev pub IsName : List ℕ → Type 0
-IsName bytes = (1 ≤ length bytes) × (length bytes ≤ MOST_NAME_BYTES)
+IsName bytes = (1 ≤ length bytes) × (length bytes ≤ MAX_NAME_BYTES)
 
 -- so many are enough, and not too many
 abbrev pub IsCount : ℕ → ℕ → Type 0
-IsCount least count = (least ≤ count) × (count ≤ MOST_ELEMENTS)
+IsCount least count = (least ≤ count) × (count ≤ MAX_ELEMENTS)
 
 -- the same, as a test
 abbrev pub is_count : ℕ → ℕ → Bool
-is_count least count = nat_le least count && nat_le count MOST_ELEMENTS
+is_count least count = nat_le least count && nat_le count MAX_ELEMENTS
 
 -- a list has enough, and not too many
 abbrev pub CountFits : {A : Type 0} → ℕ → List A → Type 0
@@ -30,15 +30,15 @@ CountFits least xs = IsCount least (length xs)
 
 -- a polygon has a ring, and each ring enough points
 abbrev pub RingsFit : List (List World) → Type 0
-RingsFit rings = CountFits 1 rings × All (CountFits LEAST_RING) rings
+RingsFit rings = CountFits 1 rings × All (CountFits MIN_RING) rings
 
 -- the first zoom is not above the last, and this is one of the map
 abbrev pub AreZooms : ℕ → ℕ → Type 0
-AreZooms first last = (first ≤ last) × (last ≤ GREATEST_ZOOM)
+AreZooms first last = (first ≤ last) × (last ≤ MAX_ZOOM)
 
 -- a tag's text is short
 abbrev pub IsTagText : List ℕ → Type 0
-IsTagText bytes = length bytes ≤ MOST_TEXT_BYTES
+IsTagText bytes = length bytes ≤ MAX_TEXT_BYTES
 
 -- ---- the limits
 
@@ -53,7 +53,7 @@ ZoomsFit f = AreZooms f.minzoom f.maxzoom
 
 abbrev pub GeometryFits : GeometryData → Type 0
 GeometryFits (world_points points) = CountFits 1 points
-GeometryFits (world_lines lines) = CountFits 1 lines × All (CountFits LEAST_LINE) lines
+GeometryFits (world_lines lines) = CountFits 1 lines × All (CountFits MIN_LINE) lines
 GeometryFits (world_polygons polygons) = CountFits 1 polygons × All RingsFit polygons
 
 -- the keys of tags, in their order
@@ -65,7 +65,7 @@ abbrev pub HasAscendingKeys : List TagData → Type 0
 HasAscendingKeys tags = IsStrictlySortedBy (slice_cmp nat_cmp) (keys_of tags)
 
 pub record TagsFit (tags : List TagData) : Type 0 where
-  pub few : length tags ≤ MOST_TAGS
+  pub few : length tags ≤ MAX_TAGS
   pub names : All IsName (keys_of tags)
   pub ascending : HasAscendingKeys tags
 
@@ -81,7 +81,7 @@ ValuesFit tags = All (λ t. ValueFits t.value) tags
 
 -- the text that sets the number's feature is short
 abbrev pub TextFits : ℕ → FeatureData → Type 0
-TextFits id f = length (spelled_change (put id f)) ≤ MOST_EDIT_BYTES
+TextFits id f = length (spelled_change (put id f)) ≤ MAX_EDIT_BYTES
 
 -- ---- all of them
 
@@ -120,7 +120,7 @@ IsFirstFault id f _ = ⊥
 
 -- so many changes are one at least, and not too many
 abbrev pub AreEnough : ℕ → Type 0
-AreEnough count = (1 ≤ count) × (count ≤ MOST_CHANGES)
+AreEnough count = (1 ≤ count) × (count ≤ MAX_CHANGES)
 
 abbrev pub HasChanges : EditData → Type 0
 HasChanges cs = AreEnough (length cs)
@@ -140,7 +140,7 @@ ChangeFits (delete id) = NumberFits id
 
 -- the texts of the changes are short together
 abbrev pub TextsFit : EditData → Type 0
-TextsFit cs = length (spelled_changes cs) ≤ MOST_EDIT_BYTES
+TextsFit cs = length (spelled_changes cs) ≤ MAX_EDIT_BYTES
 
 pub record IsAllowedEdit (cs : EditData) : Type 0 where
   pub count : HasChanges cs

@@ -13,28 +13,28 @@ pub enum EditFault {
     /// E2: a number not below `NUMBER_END`.
     #[error("E2 Number")]
     Number,
-    /// E3: a layer's name not of 1 to `MOST_NAME_BYTES` bytes.
+    /// E3: a layer's name not of 1 to `MAX_NAME_BYTES` bytes.
     #[error("E3 Layer")]
     Layer,
-    /// E4: `minzoom` above `maxzoom`, or `maxzoom` above `GREATEST_ZOOM`.
+    /// E4: `minzoom` above `maxzoom`, or `maxzoom` above `MAX_ZOOM`.
     #[error("E4 Zoom")]
     Zoom,
-    /// E5: a list too short or of over `MOST_ELEMENTS`, or what is no list of points inside one.
+    /// E5: a list too short or of over `MAX_ELEMENTS`, or what is no list of points inside one.
     #[error("E5 Geometry")]
     Geometry,
-    /// E6: over `MOST_TAGS` tags, a key not of 1 to `MOST_NAME_BYTES` bytes, keys not strictly ascending.
+    /// E6: over `MAX_TAGS` tags, a key not of 1 to `MAX_NAME_BYTES` bytes, keys not strictly ascending.
     #[error("E6 Tags")]
     Tags,
     /// E7: a value that no tag has.
     #[error("E7 Value")]
     Value,
-    /// E8: a text of over `MOST_EDIT_BYTES` bytes, of an edit's changes together.
+    /// E8: a text of over `MAX_EDIT_BYTES` bytes, of an edit's changes together.
     #[error("E8 Long")]
     Long,
     /// E9: a reach over the most tiles that a feature may cover.
     #[error("E9 Reach")]
     Reach,
-    /// E10: an edit not of 1 to `MOST_CHANGES` changes.
+    /// E10: an edit not of 1 to `MAX_CHANGES` changes.
     #[error("E10 Batch")]
     Batch,
     /// E11: an edit of which two changes are of one number.

@@ -1,7 +1,7 @@
 //! The lengths of texts, without building them.
 
 ghost use Rattle.std.specs.Prelude.{◌≡◌, ℕ, ◌+◌, ◌*◌, ◌<◌, ◌≤◌, length, map, All};
-ghost use Rattle.feature_model.specs.declared.limits.TheConstants.{MOST_ELEMENTS, MOST_CHANGES};
+ghost use Rattle.feature_model.specs.declared.limits.TheConstants.{MAX_ELEMENTS, MAX_CHANGES};
 ghost use Rattle.feature_model.specs.Lengths.{line_most, lines_most, polygons_most, value_most, tag_most, tags_most, change_most};
 ghost use Rattle.feature_model.specs.Data.{feature_data, geometry_data, value_data, tag_data, put, change_data};
 ghost use Rattle.feature_model.specs.Limits.{LayerFits, GeometryFits, TagsFit, ValueFits, ValuesFit, IsName, ChangeFits};
@@ -12,7 +12,7 @@ use crate::feature::{Change, EditValue, Feature, Geometry, Tag, World};
 /// How many bytes a list of points takes.
 #[tactic(auto, using(crate::proofs::TextLengths::lines))]
 fn line_len(points: &[World]) -> u64
-    requires { length points.now ≤ MOST_ELEMENTS }
+    requires { length points.now ≤ MAX_ELEMENTS }
     ensures exact { result ≡ length (spelled_line points.now) }
     ensures small { result ≤ line_most }
 {
@@ -22,8 +22,8 @@ fn line_len(points: &[World]) -> u64
 /// How many bytes a list of lines, or the rings of a polygon, take.
 #[tactic(auto, using(crate::proofs::TextLengths::lists))]
 fn lines_len(lines: &[Vec<World>]) -> u64
-    requires count { length lines.now ≤ MOST_ELEMENTS }
-    requires points { All (λ l. length l.items ≤ MOST_ELEMENTS) lines.now }
+    requires count { length lines.now ≤ MAX_ELEMENTS }
+    requires points { All (λ l. length l.items ≤ MAX_ELEMENTS) lines.now }
     ensures exact { result ≡ length (spelled_list spelled_line (map (λ l. l.items) lines.now)) }
     ensures small { result ≤ lines_most }
 {
@@ -37,9 +37,9 @@ fn lines_len(lines: &[Vec<World>]) -> u64
 /// How many bytes a list of polygons takes.
 #[tactic(auto, using(crate::proofs::TextLengths::lists))]
 fn polygons_len(polygons: &[Vec<Vec<World>>]) -> u64
-    requires count { length polygons.now ≤ MOST_ELEMENTS }
-    requires rings { All (λ p. length p.items ≤ MOST_ELEMENTS) polygons.now }
-    requires points { All (λ p. All (λ r. length r.items ≤ MOST_ELEMENTS) p.items) polygons.now }
+    requires count { length polygons.now ≤ MAX_ELEMENTS }
+    requires rings { All (λ p. length p.items ≤ MAX_ELEMENTS) polygons.now }
+    requires points { All (λ p. All (λ r. length r.items ≤ MAX_ELEMENTS) p.items) polygons.now }
     ensures exact { result
         ≡ length (spelled_list (spelled_list spelled_line) (map (λ p. map (λ r. r.items) p.items) polygons.now)) }
     ensures small { result ≤ polygons_most }
@@ -133,7 +133,7 @@ pub fn change_text_len(change: &Change) -> u64
 
 /// How many bytes the texts of changes take together.
 pub(crate) fn changes_len(changes: &[Change]) -> u64
-    requires count { length changes.now ≤ MOST_CHANGES }
+    requires count { length changes.now ≤ MAX_CHANGES }
     requires each { All ChangeFits (map change_data changes.now) }
     ensures { result ≡ length (spelled_changes (map change_data changes.now)) }
 {

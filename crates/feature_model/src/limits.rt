@@ -5,7 +5,7 @@ ghost use Rattle.std.specs.Ordering.{nat_cmp, is_lt};
 ghost use Rattle.std.specs.Cmp.Lexicographic.{slice_cmp};
 ghost use Rattle.std.specs.List.Sorted.{IsStrictlySortedBy};
 ghost use Rattle.std.specs.String.{string_bytes};
-ghost use Rattle.feature_model.specs.declared.limits.TheConstants.{MOST_TAGS};
+ghost use Rattle.feature_model.specs.declared.limits.TheConstants.{MAX_TAGS};
 ghost use Rattle.feature_model.specs.Data.{put, world_polygons, feature_data, geometry_data, value_data, tag_data, change_data, number_of};
 ghost use Rattle.feature_model.specs.Limits.{IsName, AreZooms, IsCount, IsTagText, CountFits, RingsFit, GeometryFits};
 ghost use Rattle.feature_model.specs.Limits.{TagsFit, ValueFits, ValuesFit, HasAscendingKeys, keys_of, IsAllowed, IsFirstFault};
@@ -18,43 +18,43 @@ use crate::lengths::{changes_len, put_text_len};
 /// One above the greatest number of a feature.
 pub const NUMBER_END: u64 = 1 << 63;
 /// The greatest zoom of a feature, and of a tile of the map.
-pub const GREATEST_ZOOM: u8 = 19;
+pub const MAX_ZOOM: u8 = 19;
 /// The most bytes of a name of a layer or a key of a tag, below 256, since one byte counts them in a text.
-pub const MOST_NAME_BYTES: usize = 64;
+pub const MAX_NAME_BYTES: usize = 64;
 /// The most elements of a list of points, lines, rings or polygons, below 65,536, since two bytes count them in a text.
-pub const MOST_ELEMENTS: usize = 65_535;
+pub const MAX_ELEMENTS: usize = 65_535;
 /// The least points of a line.
-pub const LEAST_LINE: usize = 2;
+pub const MIN_LINE: usize = 2;
 /// The least points of a ring.
-pub const LEAST_RING: usize = 3;
+pub const MIN_RING: usize = 3;
 /// The most tags of a feature, below 256, since one byte counts them in a text.
-pub const MOST_TAGS: usize = 64;
+pub const MAX_TAGS: usize = 64;
 /// The most bytes of a tag's text, below 65,536, since two bytes count them in a text.
-pub const MOST_TEXT_BYTES: usize = 1024;
+pub const MAX_TEXT_BYTES: usize = 1024;
 /// The most bytes of the texts of an edit's changes together.
-pub const MOST_EDIT_BYTES: u64 = 32_768;
+pub const MAX_EDIT_BYTES: u64 = 32_768;
 /// The most changes of an edit, below 256, since one byte counts them in a text.
-pub const MOST_CHANGES: usize = 64;
+pub const MAX_CHANGES: usize = 64;
 
-/// Whether a name of a layer or a key of a tag has 1 to `MOST_NAME_BYTES` bytes.
+/// Whether a name of a layer or a key of a tag has 1 to `MAX_NAME_BYTES` bytes.
 pub fn is_name(name: &str) -> bool
     ensures { IsTrue result ↔ IsName name.now }
 {
-    !name.is_empty() && name.len() <= MOST_NAME_BYTES
+    !name.is_empty() && name.len() <= MAX_NAME_BYTES
 }
 
-/// Whether a feature may have these zooms: the first is not above the last, and this is at most `GREATEST_ZOOM`.
+/// Whether a feature may have these zooms: the first is not above the last, and this is at most `MAX_ZOOM`.
 pub fn zooms_fit(minzoom: u8, maxzoom: u8) -> bool
     ensures { IsTrue result ↔ AreZooms minzoom maxzoom }
 {
-    minzoom <= maxzoom && maxzoom <= GREATEST_ZOOM
+    minzoom <= maxzoom && maxzoom <= MAX_ZOOM
 }
 
-/// Whether a list of so many elements has enough, and at most `MOST_ELEMENTS`.
+/// Whether a list of so many elements has enough, and at most `MAX_ELEMENTS`.
 pub fn count_fits(count: usize, least: usize) -> bool
     ensures { IsTrue result ↔ IsCount least count }
 {
-    least <= count && count <= MOST_ELEMENTS
+    least <= count && count <= MAX_ELEMENTS
 }
 
 /// Whether each line or ring has enough points, and not too many.
@@ -68,7 +68,7 @@ fn lines_fit(lines: &[Vec<World>], least: usize) -> bool
 fn rings_fit(rings: &[Vec<World>]) -> bool
     ensures { IsTrue result ↔ RingsFit (map (λ r. r.items) rings.now) }
 {
-    count_fits(rings.len(), 1) && lines_fit(rings, LEAST_RING)
+    count_fits(rings.len(), 1) && lines_fit(rings, MIN_RING)
 }
 
 /// Whether each polygon has enough rings and points.
@@ -90,7 +90,7 @@ fn geometry_fits(geometry: &Geometry) -> bool
 {
     match geometry {
         Geometry::Points(points) => count_fits(points.len(), 1),
-        Geometry::Lines(lines) => count_fits(lines.len(), 1) && lines_fit(lines, LEAST_LINE),
+        Geometry::Lines(lines) => count_fits(lines.len(), 1) && lines_fit(lines, MIN_LINE),
         Geometry::Polygons(polygons) => polygons_fit(polygons),
     }
 }
@@ -121,11 +121,11 @@ fn keys_ascend(tags: &[Tag]) -> bool
     true
 }
 
-/// Whether a feature may have so many tags: at most `MOST_TAGS`.
+/// Whether a feature may have so many tags: at most `MAX_TAGS`.
 pub fn tag_count_fits(count: usize) -> bool
-    ensures { IsTrue result ↔ (count ≤ MOST_TAGS) }
+    ensures { IsTrue result ↔ (count ≤ MAX_TAGS) }
 {
-    count <= MOST_TAGS
+    count <= MAX_TAGS
 }
 
 fn tags_fit(tags: &[Tag]) -> bool
@@ -134,11 +134,11 @@ fn tags_fit(tags: &[Tag]) -> bool
     tag_count_fits(tags.len()) && keys_are_names(tags) && keys_ascend(tags)
 }
 
-/// Whether a text may be the value of a tag: of at most `MOST_TEXT_BYTES` bytes.
+/// Whether a text may be the value of a tag: of at most `MAX_TEXT_BYTES` bytes.
 pub fn is_tag_text(text: &str) -> bool
     ensures { IsTrue result ↔ IsTagText text.now }
 {
-    text.len() <= MOST_TEXT_BYTES
+    text.len() <= MAX_TEXT_BYTES
 }
 
 fn value_fits(value: &EditValue) -> bool
@@ -193,7 +193,7 @@ pub fn check(id: u64, feature: &Feature) -> Result<(), EditFault>
         Ok(()) => {}
         Err(fault) => return Err(fault),
     }
-    if put_text_len(feature) > MOST_EDIT_BYTES {
+    if put_text_len(feature) > MAX_EDIT_BYTES {
         return Err(EditFault::Long);
     }
     Ok(())
@@ -210,11 +210,11 @@ impl Change {
     }
 }
 
-/// Whether an edit may have so many changes: one, and at most `MOST_CHANGES`.
+/// Whether an edit may have so many changes: one, and at most `MAX_CHANGES`.
 pub fn change_count_fits(count: usize) -> bool
     ensures { IsTrue result ↔ AreEnough count }
 {
-    count >= 1 && count <= MOST_CHANGES
+    count >= 1 && count <= MAX_CHANGES
 }
 
 /// Whether none of the changes is of this number.
@@ -279,7 +279,7 @@ pub fn check_batch(changes: &[Change]) -> Result<(), EditFault>
         Ok(()) => {}
         Err(fault) => return Err(fault),
     }
-    if changes_len(changes) > MOST_EDIT_BYTES {
+    if changes_len(changes) > MAX_EDIT_BYTES {
         return Err(EditFault::Long);
     }
     Ok(())

@@ -18,7 +18,7 @@ use Rattle.std.proofs.lemmas.List.Sums.{sum_by-cons}
 use Rattle.number_map.specs.Blocks.{Ascends}
 use Rattle.number_map.proofs.Numbers.{less, equal, greater, by_order}
 use Rattle.number_map.proofs.Entries.{ascends_head, ascends_tail, raised, lookup_here, lookup_on, removed_here, removed_on, remove_above, set_step}
-use Rattle.box_index.specs.declared.entry.Entry.{Entry}
+use Rattle.box_index.specs.declared.entry.IndexEntry.{IndexEntry}
 use Rattle.feature_model.specs.Data.{FeatureData}
 use Rattle.feature_store.specs.Indexed.{index_entry, IsIndexed}
 use Rattle.feature_store.specs.Store.{FeatureMap, feature_at, with_feature, without_feature}
@@ -26,12 +26,12 @@ use Rattle.feature_store.specs.Store.{FeatureMap, feature_at, with_feature, with
 -- ---- lists of the same entries
 
 -- whether two entries are equal
-same : Entry → Entry → Bool
+same : IndexEntry → IndexEntry → Bool
 same a b =
     a.id == b.id && a.span.bounds.x0 == b.span.bounds.x0 && a.span.bounds.x1 == b.span.bounds.x1 && a.span.bounds.y0 == b.span.bounds.y0
     && a.span.bounds.y1 == b.span.bounds.y1 && a.span.minzoom == b.span.minzoom && a.span.maxzoom == b.span.maxzoom
 
-same_is : (a b : Entry) → same a b ≡ true → a ≡ b
+same_is : (a b : IndexEntry) → same a b ≡ true → a ≡ b
 unfolding same
 same_is a b h =
     let id : a.id ≡ b.id = grind (arith, nat_tests) in
@@ -46,19 +46,19 @@ same_is a b h =
       span = record { bounds = record { x0 = left i; x1 = right i; y0 = top i; y1 = bottom i }; minzoom = first i; maxzoom = last i };
     }
 
-same_self : (a : Entry) → same a a ≡ true
+same_self : (a : IndexEntry) → same a a ≡ true
 unfolding same
 same_self a = grind (arith, nat_tests)
 
 -- 1 where it is the entry
-one_at : Entry → Entry → ℕ
+one_at : IndexEntry → IndexEntry → ℕ
 one_at x e = cond (same e x) 1 0
 
-one_at_self : (x : Entry) → one_at x x ≡ 1
+one_at_self : (x : IndexEntry) → one_at x x ≡ 1
 unfolding one_at
 one_at_self x = ap (λ b. cond b 1 0) (same_self x)
 
-contains_counted : (x : Entry) (es : List Entry) → 0 < sum_by (one_at x) es → Contains es x
+contains_counted : (x : IndexEntry) (es : List IndexEntry) → 0 < sum_by (one_at x) es → Contains es x
 unfolding one_at
 contains_counted x [] some = absurd (omega arith)
 contains_counted x (e ∷ es) some = by (same e x) (same_is e x) (subst (λ n. 0 < n) (sum_by-cons (one_at x) e es) some)
@@ -69,9 +69,9 @@ contains_counted x (e ∷ es) some = by (same e x) (same_is e x) (subst (λ n. 0
     by false is more rest = Contains-append_right (e ∷ []) es x (rest (omega arith))
 
 -- lists of which whatever is summed is the same have the same entries
-same_entries : (xs ys : List Entry) → ((f : Entry → ℕ) → sum_by f xs ≡ sum_by f ys) → IsPermutation xs ys
+same_entries : (xs ys : List IndexEntry) → ((f : IndexEntry → ℕ) → sum_by f xs ≡ sum_by f ys) → IsPermutation xs ys
 same_entries [] [] sums = IsPermutation-refl []
-same_entries [] (y ∷ ys) sums = absurd (omega (arith, sums (λ e. 1), sum_by-cons (λ (e : Entry). 1) y ys))
+same_entries [] (y ∷ ys) sums = absurd (omega (arith, sums (λ e. 1), sum_by-cons (λ (e : IndexEntry). 1) y ys))
 same_entries (x ∷ xs) ys sums =
     let there = contains_counted x ys (omega (arith, sums (one_at x), sum_by-cons (one_at x) x xs, one_at_self x)) in
     let rest = remove ys there.0 in
@@ -82,7 +82,7 @@ same_entries (x ∷ xs) ys sums =
 
 -- ---- sums over the entries of a map
 
-module _ (f : Entry → ℕ) where
+module _ (f : IndexEntry → ℕ) where
   abbrev total : FeatureMap → ℕ
   total m = sum_by f (map index_entry m)
 
@@ -139,7 +139,7 @@ removed_none (e ∷ m) id h = elim (cases_eq id e.0) [
 -- ---- the index
 
 -- it has the entry of a number's feature
-has_entry : (m : FeatureMap) (id : ℕ) (v : FeatureData) (es : List Entry) → feature_at m id ≡ Some v → IsIndexed m es → Contains es (index_entry (id, v))
+has_entry : (m : FeatureMap) (id : ℕ) (v : FeatureData) (es : List IndexEntry) → feature_at m id ≡ Some v → IsIndexed m es → Contains es (index_entry (id, v))
 unfolding feature_at
 has_entry m id v es found indexed =
     let x = index_entry (id, v) in
@@ -152,7 +152,7 @@ has_entry m id v es found indexed =
     ))
 
 -- without it, it has what the map without the number has
-taken_away : (m : FeatureMap) (id : ℕ) (v : FeatureData) (es rest : List Entry) → feature_at m id ≡ Some v → IsIndexed m es
+taken_away : (m : FeatureMap) (id : ℕ) (v : FeatureData) (es rest : List IndexEntry) → feature_at m id ≡ Some v → IsIndexed m es
     → IsPermutation es (index_entry (id, v) ∷ rest) → IsIndexed (without_feature m id) rest
 unfolding feature_at without_feature
 taken_away m id v es rest found indexed taken =
@@ -160,18 +160,18 @@ taken_away m id v es rest found indexed taken =
     same_entries (map index_entry (remove_entry (is_at (nat_cmp id)) m)) rest
     (λ f. omega (arith, sum_by-IsPermutation f (map index_entry m) es indexed, total_without f m id v found, sum_by_popped f x es rest taken))
 
-pub entry_gone : (m : FeatureMap) (id : ℕ) (v : FeatureData) (es rest : List Entry) (e : Entry) (b : Bool) → e ≡ index_entry (id, v)
+pub entry_gone : (m : FeatureMap) (id : ℕ) (v : FeatureData) (es rest : List IndexEntry) (e : IndexEntry) (b : Bool) → e ≡ index_entry (id, v)
     → (Contains es e → b ≡ true) → OnTrue b (IsPermutation es (e ∷ rest)) → feature_at m id ≡ Some v → IsIndexed m es → IsIndexed (without_feature m id) rest
 entry_gone m id v es rest e true is there taken found indexed = taken_away m id v es rest found indexed (subst (λ x. IsPermutation es (x ∷ rest)) is taken)
 entry_gone m id v es rest e false is there taken found indexed =
     absurd (false≢true (there (subst (Contains es) (sym is) (has_entry m id v es found indexed))))
 
-pub nothing_taken : (m : FeatureMap) (id : ℕ) (es : List Entry) → feature_at m id ≡ None → IsIndexed m es → IsIndexed (without_feature m id) es
+pub nothing_taken : (m : FeatureMap) (id : ℕ) (es : List IndexEntry) → feature_at m id ≡ None → IsIndexed m es → IsIndexed (without_feature m id) es
 unfolding feature_at without_feature
 nothing_taken m id es none indexed = subst (λ n. IsIndexed n es) (sym (removed_none m id none)) indexed
 
 -- with an entry more, it has what the map with the number's feature has
-pub put_in : (m : FeatureMap) (id : ℕ) (v : FeatureData) (es more : List Entry) → Ascends m → IsIndexed (without_feature m id) es
+pub put_in : (m : FeatureMap) (id : ℕ) (v : FeatureData) (es more : List IndexEntry) → Ascends m → IsIndexed (without_feature m id) es
     → IsPermutation (index_entry (id, v) ∷ es) more → IsIndexed (with_feature m id v) more
 unfolding with_feature without_feature
 put_in m id v es more up indexed pushed =

@@ -2,7 +2,7 @@
 use Rattle.std.proofs.Common.{◌≡◌, ◌+◌, ◌*◌, ◌<◌, ◌≤◌, ℕ, true, false, List, [], length}
 use Rattle.std.specs.Prelude.{◌↔◌}
 use Rattle.feature_model.specs.Data.{FeatureData, ChangeData, put}
-use Rattle.feature_model.specs.declared.limits.TheConstants.{MOST_EDIT_BYTES}
+use Rattle.feature_model.specs.declared.limits.TheConstants.{MAX_EDIT_BYTES}
 use Rattle.feature_model.specs.Spelled.{spelled_change}
 use Rattle.feature_model.specs.Types.{IsChange}
 use Rattle.mvt_layer.specs.Reads.{ReadsAs}
@@ -40,8 +40,8 @@ written_layers_short = tile_short
 pub snapshot_of_one_map : (m n : FeatureMap) → IsMap m → IsMap n → snapshot m ≡ snapshot n → m ≡ n
 snapshot_of_one_map m n is_m is_n = one_map m n is_m.edits is_n.edits
 
--- Each text of a map has at most `MOST_EDIT_BYTES`.
-pub snapshot_of_many : (m : FeatureMap) → IsMap m → length (snapshot m) ≤ MOST_EDIT_BYTES * length m
+-- Each text of a map has at most `MAX_EDIT_BYTES`.
+pub snapshot_of_many : (m : FeatureMap) → IsMap m → length (snapshot m) ≤ MAX_EDIT_BYTES * length m
 snapshot_of_many m is_map = snapshot_short m is_map.edits
 
 -- ---- edits

@@ -12,7 +12,7 @@ use Rattle.std.proofs.lemmas.List.Elements.{All-nil, All-cons, All-head, All-tai
 use Rattle.number_map.specs.Blocks.{Ascends, AreAbove}
 use Rattle.number_map.proofs.Numbers.{less}
 use Rattle.number_map.proofs.Entries.{ascends_head, ascends_tail}
-use Rattle.box_index.specs.declared.entry.Entry.{Entry}
+use Rattle.box_index.specs.declared.entry.IndexEntry.{IndexEntry}
 use Rattle.box_index.specs.Shown.{shows, ids_shown}
 use Rattle.feature_model.specs.Data.{FeatureData, put}
 use Rattle.feature_model.specs.Types.{IsChange, LiesInWorld}
@@ -23,13 +23,13 @@ use Rattle.feature_store.specs.Indexed.{index_entry, world_box, IsIndexed, Shows
 use Rattle.feature_store.specs.Store.{FeatureMap, IsMap}
 use Rattle.feature_store.proofs.Listed.{contains_here, contains_on}
 
-above_at : (n : ℕ) (m : FeatureMap) (j : ℕ) (d : Entry) → AreAbove n m → j < length (map index_entry m) → n < (get_or (map index_entry m) j d).id
+above_at : (n : ℕ) (m : FeatureMap) (j : ℕ) (d : IndexEntry) → AreAbove n m → j < length (map index_entry m) → n < (get_or (map index_entry m) j d).id
 above_at n [] j d above lt = absurd (omega arith)
 above_at n (e ∷ m) zero d above lt = above.0
 above_at n (e ∷ m) (suc j) d above lt = above_at n m j d above.1 (omega arith)
 
 -- the ids ascend as the numbers do
-ids_rise : (m : FeatureMap) → Ascends m → IsNonDecreasingBy (λ (e : Entry). e.id) (map index_entry m)
+ids_rise : (m : FeatureMap) → Ascends m → IsNonDecreasingBy (λ (e : IndexEntry). e.id) (map index_entry m)
 ids_rise [] up i j d le lt = absurd (omega arith)
 ids_rise (e ∷ m) up zero zero d le lt = omega arith
 ids_rise (e ∷ m) up zero (suc j) d le lt = let h = above_at e.0 m j d (ascends_head e m up) (omega arith) in omega arith
@@ -111,8 +111,8 @@ module _ (corners : Corners) (z x y : ℕ) where
         subst (ShowsAll m z x y) (sym is) (record { ascending = near_ascend m is_map.ascending; every = every_near m lies })
 
     -- what is found in the index
-    pub found_near : {V E : Type 0} (items : V → List ℕ) (index : List Entry) (r : Result V E)
-        → IfOk r (λ v. (es : List Entry) → IsPermutation es index → IsNonDecreasingBy (λ e. e.id) es → items v ≡ ids_shown (world_box corners) z es)
+    pub found_near : {V E : Type 0} (items : V → List ℕ) (index : List IndexEntry) (r : Result V E)
+        → IfOk r (λ v. (es : List IndexEntry) → IsPermutation es index → IsNonDecreasingBy (λ e. e.id) es → items v ≡ ids_shown (world_box corners) z es)
         → IfOk r (λ v. (m : FeatureMap) → IsMap m → IsIndexed m index → ShowsAll m z x y (items v))
     found_near items index (Ok v) found =
         λ m is_map indexed. near_shows m (items v) is_map (found (map index_entry m) indexed (ids_rise m is_map.ascending))

@@ -12,7 +12,7 @@ use Rattle.feature_model.specs.Limits.{IsName, keys_of}
 use Rattle.feature_model.specs.Spelled.{spelled_change, spelled_feature, spelled_name, spelled_value, spelled_tag, spelled_tags, eight_bytes, spelled_geometry}
 use Rattle.feature_model.specs.Types.{IsChange}
 use Rattle.edit_text.proofs.Laws.{short_from}
-use Rattle.feature_model.specs.declared.limits.TheConstants.{MOST_EDIT_BYTES}
+use Rattle.feature_model.specs.declared.limits.TheConstants.{MAX_EDIT_BYTES}
 use Rattle.feature_store.specs.declared.limit.TheConstants.{TEXTS_END}
 use Rattle.feature_store.specs.Store.{FeatureMap, IsMap, entry_text, snapshot, with_feature, without_feature}
 use Rattle.number_map.proofs.Entries.{set_step, removed_here, removed_on}
@@ -77,7 +77,7 @@ tags_in_snapshot (e ∷ m) edits =
     )
 
 -- each text is short
-pub snapshot_short : (m : FeatureMap) → All (λ e. IsChange (put e.0 e.1)) m → length (snapshot m) ≤ MOST_EDIT_BYTES * length m
+pub snapshot_short : (m : FeatureMap) → All (λ e. IsChange (put e.0 e.1)) m → length (snapshot m) ≤ MAX_EDIT_BYTES * length m
 snapshot_short [] edits = omega (arith, none_takes)
 snapshot_short (e ∷ m) edits =
     let P : ℕ × FeatureData → Type 0 = λ d. IsChange (put d.0 d.1) in
@@ -113,7 +113,7 @@ unfolding without_feature
 without_takes m id = removed_takes m id
 
 -- room for one more text is left where there are few features
-pub few_are_short : (m : FeatureMap) (id : ℕ) (f : FeatureData) → IsMap m → IsChange (put id f) → MOST_EDIT_BYTES * (length m + 1) < TEXTS_END
+pub few_are_short : (m : FeatureMap) (id : ℕ) (f : FeatureData) → IsMap m → IsChange (put id f) → MAX_EDIT_BYTES * (length m + 1) < TEXTS_END
     → length (snapshot (with_feature m id f)) < TEXTS_END
 few_are_short m id f is_map edit few =
     omega (arith, with_takes m id f, snapshot_short m is_map.edits, short_from (put id f) edit)

@@ -2,7 +2,7 @@
 use Rattle.std.proofs.Common.{◌≡◌, ℕ, ◌*◌, ◌^◌, ◌<◌, ◌≤◌, Bool, true, false, List, [], length, refl, sym, ap, subst, arith}
 use Rattle.std.proofs.lemmas.List.Elements.{All-nil}
 use Rattle.std.proofs.lemmas.Bool.Decides.{nat_tests}
-use Rattle.feature_model.specs.declared.limits.TheConstants.{GREATEST_ZOOM}
+use Rattle.feature_model.specs.declared.limits.TheConstants.{MAX_ZOOM}
 use Rattle.mvt_layer.specs.Tile.{LayerView}
 use Rattle.mvt_layer.specs.Reads.{ReadsAs}
 use Rattle.mvt_write.specs.CanWrite.{CanWriteLayer}
@@ -18,7 +18,7 @@ use Rattle.feature_store.proofs.Unique.{the_list_is, outside}
 
 -- a tile is one of the world
 module _ (z x y : ℕ) (is : is_tile z x y ≡ true) where
-  zoom_within : z ≤ GREATEST_ZOOM
+  zoom_within : z ≤ MAX_ZOOM
   zoom_within = grind (arith, nat_tests)
 
   column_within : x < 2 ^ z

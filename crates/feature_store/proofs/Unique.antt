@@ -12,7 +12,7 @@ use Rattle.std.proofs.lemmas.Cmp.{nat_list_cmp_total}
 use Rattle.std.proofs.lemmas.List.Elements.{All-head, All-tail, All-map, All-weaker, All-contains, All-from_recursion, Contains-append_right}
 use Rattle.std.proofs.lemmas.Map.Keys.{sorted_head, sorted_tail}
 use Rattle.std.proofs.lemmas.Slice.Eq.{bytes_eq-Decides}
-use Rattle.feature_model.specs.declared.limits.TheConstants.{GREATEST_ZOOM}
+use Rattle.feature_model.specs.declared.limits.TheConstants.{MAX_ZOOM}
 use Rattle.mvt_layer.specs.Tile.{FeatureView, LayerView}
 use Rattle.tile_cutter.specs.Cut.{feature_cut}
 use Rattle.feature_store.specs.Store.{FeatureMap}
@@ -115,8 +115,8 @@ module _ (m : FeatureMap) (z x y : ℕ) where
   outside is = rw is refl
 
 -- a tile of a zoom up to the greatest, and one above it
-pub a_tile : (z x y : ℕ) → z ≤ GREATEST_ZOOM → x < 2 ^ z → y < 2 ^ z → is_tile z x y ≡ true
+pub a_tile : (z x y : ℕ) → z ≤ MAX_ZOOM → x < 2 ^ z → y < 2 ^ z → is_tile z x y ≡ true
 a_tile z x y zoom column row = grind (arith, nat_tests)
 
-pub no_tile : (z x y : ℕ) → GREATEST_ZOOM < z → is_tile z x y ≡ false
+pub no_tile : (z x y : ℕ) → MAX_ZOOM < z → is_tile z x y ≡ false
 no_tile z x y above = grind (arith, nat_tests)

@@ -5,7 +5,7 @@ use Rattle.std.specs.Prelude.{IfNone, OnErr}
 use Rattle.std.specs.Option.{option_map}
 use Rattle.std.proofs.lemmas.Bool.{cases_lt}
 use Rattle.std.proofs.lemmas.List.{length-map}
-use Rattle.feature_model.specs.declared.limits.TheConstants.{GREATEST_ZOOM}
+use Rattle.feature_model.specs.declared.limits.TheConstants.{MAX_ZOOM}
 use Rattle.hilbert_id.specs.Curve.{IsTileId}
 use Rattle.hilbert_id.specs.declared.tile_at.TileAt.{TileAt}
 use Rattle.hilbert_id.specs.declared.number.TheConstants.{TILE_IDS}
@@ -79,7 +79,7 @@ place_within id place = elim (cases_lt id TILE_IDS) [
   | inr ge ↦ let zoom = place.3 in absurd (no_tile_behind place.0 place.1 place.2 id (omega (arith, zoom)) place.4 ge)
 ]
 
-pub zoom_within : (z x y id : ℕ) → HasPlace id → IsTileId z x y id → z ≤ GREATEST_ZOOM
+pub zoom_within : (z x y id : ℕ) → HasPlace id → IsTileId z x y id → z ≤ MAX_ZOOM
 zoom_within z x y id place is =
     let one = one_tile_of z x y place.0 place.1 place.2 id is place.4 in
     let zoom = place.3 in

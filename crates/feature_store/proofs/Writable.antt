@@ -9,7 +9,7 @@ use Rattle.std.proofs.lemmas.List.Elements.{All-nil, All-cons, All-head, All-tai
 use Rattle.std.proofs.lemmas.Slice.Eq.{bytes_eq-Decides}
 use Rattle.feature_model.specs.Data.{FeatureData, TagData, ValueData, text_value, natural_value, negative_value, truth_value, put}
 use Rattle.feature_model.specs.Types.{IsChange, ValueFitsTypes, TagFitsTypes}
-use Rattle.feature_model.specs.declared.limits.TheConstants.{GREATEST_ZOOM}
+use Rattle.feature_model.specs.declared.limits.TheConstants.{MAX_ZOOM}
 use Rattle.geometry_commands.specs.Encodable.{CanSpell, FitsShape}
 use Rattle.geometry_commands.proofs.Laws.{spelled_is}
 use Rattle.mvt_layer.specs.Tile.{FeatureView, LayerView}
@@ -77,7 +77,7 @@ module _ (z x y : ℕ) where
       by true same some rest = subst IsUtf8 ((bytes_eq-Decides e.1.layer name).0 same) (All-head IsEditOf e m all).1.layer
       by false differs some rest = rest some
 
-  module _ (allowed : z ≤ GREATEST_ZOOM) (across : x < 2 ^ z) (down : y < 2 ^ z) (m : FeatureMap) (is_map : IsMap m) where
+  module _ (allowed : z ≤ MAX_ZOOM) (across : x < 2 ^ z) (down : y < 2 ^ z) (m : FeatureMap) (is_map : IsMap m) where
     spelled_change : (e : ℕ × FeatureData) (v : FeatureView) → IsEditOf e → feature_cut e.1 z x y ≡ Some v → CanSpell v.shape × FitsShape v.shape
     spelled_change e v edit cut = feature_shown e.1 z x y v allowed across down edit.0.feature.geometry edit.1.geometry cut
 

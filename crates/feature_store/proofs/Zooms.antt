@@ -12,7 +12,7 @@ use Rattle.std.proofs.lemmas.Bool.{cases_lt}
 use Rattle.std.proofs.lemmas.Bool.Decides.{nat_tests}
 use Rattle.std.proofs.lemmas.List.{nil_from_length}
 use Rattle.std.proofs.lemmas.List.Elements.{All-nil, All-head, All-tail, All-weaker}
-use Rattle.feature_model.specs.declared.limits.TheConstants.{GREATEST_ZOOM}
+use Rattle.feature_model.specs.declared.limits.TheConstants.{MAX_ZOOM}
 use Rattle.hilbert_id.specs.Curve.{IsTileId, first_id}
 use Rattle.hilbert_id.proofs.Ids.{first_next, one_tile_of}
 use Rattle.hilbert_id.proofs.Positions.{in_square, position_below}
@@ -70,7 +70,7 @@ nothing_shown m z x y shows = by (is_tile z x y) refl
         }))
 
 -- above the greatest zoom of a map nothing is shown
-nothing_above : (m : FeatureMap) (z x y : ℕ) → GREATEST_ZOOM < z → layers m z x y ≡ []
+nothing_above : (m : FeatureMap) (z x y : ℕ) → MAX_ZOOM < z → layers m z x y ≡ []
 nothing_above m z x y above = outside m z x y (grind (arith, nat_tests))
 
 module _ (m : FeatureMap) (is_map : IsMap m) where
@@ -96,7 +96,7 @@ module _ (m : FeatureMap) (is_map : IsMap m) where
     ]
 
     -- where none is left of all zooms
-    pub nothing_left : AreLeft m end from [] → end ≡ GREATEST_ZOOM + 1 → ShowsNothingFrom m from
+    pub nothing_left : AreLeft m end from [] → end ≡ MAX_ZOOM + 1 → ShowsNothingFrom m from
     nothing_left left last z x y id is above = elim (cases_lt z end) [
       | inl lt ↦ nothing_passed [] left z x y id lt is above (λ c. omega (arith, c.1))
       | inr ge ↦ nothing_above m z x y (omega (arith, ge, last))
@@ -109,7 +109,7 @@ module _ (m : FeatureMap) (is_map : IsMap m) where
       pub from_below : from ≤ t.0
       from_below = head.0
 
-      pub place_here : end ≤ GREATEST_ZOOM + 1 → HasPlace t.0
+      pub place_here : end ≤ MAX_ZOOM + 1 → HasPlace t.0
       place_here within =
           let tile = head.1 in
           let lt = tile.1 in
@@ -126,7 +126,7 @@ module _ (m : FeatureMap) (is_map : IsMap m) where
         | inr ge ↦ absurd (omega (arith, before_end, first_rises end z ge, from_first z x y id is, under))
       ]
 
-      pub shows_step : (z x y : ℕ) → z ≤ GREATEST_ZOOM → IsTileId z x y t.0 → ShowsAll m z x y t.1
+      pub shows_step : (z x y : ℕ) → z ≤ MAX_ZOOM → IsTileId z x y t.0 → ShowsAll m z x y t.1
       shows_step z x y zoom is =
           let tile = head.1 in
           let inside = in_square z x y is.0 is.1 in
@@ -227,7 +227,7 @@ left_some m end from ts o id numbers is left = subst (λ p. AreLeft m end from (
 
 -- and where none is left
 pub none_from : (m : FeatureMap) (is_map : IsMap m) (end from : ℕ) (ts : List (ℕ × List ℕ)) (o : Option (ℕ × Vec ℕ Global)) → o ≡ None
-    → IfNone o ((end ≡ GREATEST_ZOOM + 1) × (ts ≡ [])) → AreLeft m end from (with_next o ts) → ShowsNothingFrom m from
+    → IfNone o ((end ≡ MAX_ZOOM + 1) × (ts ≡ [])) → AreLeft m end from (with_next o ts) → ShowsNothingFrom m from
 none_from m is_map end from ts o is told left =
-    let last = of_none ((end ≡ GREATEST_ZOOM + 1) × (ts ≡ [])) o is told in
+    let last = of_none ((end ≡ MAX_ZOOM + 1) × (ts ≡ [])) o is told in
     nothing_left m is_map end from (subst (AreLeft m end from) (ap (λ p. with_next p ts) is ∙ last.1) left) last.0

@@ -6,7 +6,7 @@ use Rattle.std.specs.Str.{bytes_eq}
 use Rattle.std.specs.Cmp.Lexicographic.{slice_cmp}
 use Rattle.std.specs.List.Sorted.{IsStrictlySortedBy}
 use Rattle.feature_model.specs.Data.{FeatureData}
-use Rattle.feature_model.specs.declared.limits.TheConstants.{GREATEST_ZOOM}
+use Rattle.feature_model.specs.declared.limits.TheConstants.{MAX_ZOOM}
 use Rattle.mvt_layer.specs.declared.layers.TheConstants.{CURRENT_VERSION, DEFAULT_EXTENT}
 use Rattle.mvt_layer.specs.Tile.{FeatureView, LayerView}
 use Rattle.tile_cutter.specs.Cut.{feature_cut}
@@ -43,7 +43,7 @@ layer_with name (f ∷ fs) = Some (record { name = name; version = CURRENT_VERSI
 
 -- a tile of a zoom that a map has
 abbrev pub is_tile : ℕ → ℕ → ℕ → Bool
-is_tile z x y = nat_le z GREATEST_ZOOM && (nat_lt x (2 ^ z) && nat_lt y (2 ^ z))
+is_tile z x y = nat_le z MAX_ZOOM && (nat_lt x (2 ^ z) && nat_lt y (2 ^ z))
 
 -- The layers of a tile: for each layer of the map all that the tile shows of it, and none where that is nothing. Where
 -- the map has no such tile there are none.

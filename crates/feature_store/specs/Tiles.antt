@@ -4,7 +4,7 @@ use Rattle.std.specs.List.{Contains}
 use Rattle.std.specs.List.Sorted.{IsStrictlySortedBy}
 use Rattle.std.specs.Map.{keys_of}
 use Rattle.std.specs.Ordering.{nat_cmp}
-use Rattle.feature_model.specs.declared.limits.TheConstants.{GREATEST_ZOOM}
+use Rattle.feature_model.specs.declared.limits.TheConstants.{MAX_ZOOM}
 use Rattle.hilbert_id.specs.Curve.{IsTileId}
 use Rattle.mvt_layer.specs.Tile.{LayerView}
 use Rattle.mvt_write.specs.Written.{written}
@@ -50,7 +50,7 @@ pub record IsNextTile (m : FeatureMap) (from : ℕ) (t : ℕ × List ℕ) : Type
 
 -- the id is that of a tile of a zoom that a map has
 abbrev pub HasPlace : ℕ → Type 0
-HasPlace id = (z : ℕ) × (x : ℕ) × (y : ℕ) × (z ≤ GREATEST_ZOOM) × IsTileId z x y id
+HasPlace id = (z : ℕ) × (x : ℕ) × (y : ℕ) × (z ≤ MAX_ZOOM) × IsTileId z x y id
 
 -- the bytes of a tile with these layers, and none where there are no layers
 abbrev pub tile_bytes : List LayerView → Option (List ℕ)

@@ -1,6 +1,6 @@
 -- How a walk over the tiles of a map is kept.
 use Rattle.std.specs.Prelude.{◌+◌, ◌≤◌}
-use Rattle.feature_model.specs.declared.limits.TheConstants.{GREATEST_ZOOM}
+use Rattle.feature_model.specs.declared.limits.TheConstants.{MAX_ZOOM}
 use Rattle.feature_store.specs.declared.all_tiles.Tiles.TheInside.{Inside}
 use Rattle.feature_store.specs.Inside.{entries_data}
 use Rattle.feature_store.specs.Left.{AreLeft, left_of, with_next}
@@ -14,5 +14,5 @@ tiles_view w = record { features = entries_data w.features.now.entries; from = w
 -- the tile that was taken and those of the walk are all that are left of the zooms that were begun
 pub record IsWalk (w : Inside) : Type 0 where
   pub is_map : IsMap (entries_data w.features.now.entries)
-  pub zoom : w.left.zoom ≤ GREATEST_ZOOM + 1
+  pub zoom : w.left.zoom ≤ MAX_ZOOM + 1
   pub left : AreLeft (entries_data w.features.now.entries) w.left.zoom w.from (with_next w.left.next (left_of w.left.walk))

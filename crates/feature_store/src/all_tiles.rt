@@ -1,6 +1,6 @@
 //! All tiles of a map, one after the other.
 ghost use Rattle.std.specs.Prelude.{◌≡◌, ◌≤◌, ◌+◌, ℕ, IfOk, OnErr, IfSome, IfNone, option_map};
-ghost use Rattle.feature_model.specs.declared.limits.TheConstants.{GREATEST_ZOOM};
+ghost use Rattle.feature_model.specs.declared.limits.TheConstants.{MAX_ZOOM};
 ghost use Rattle.hilbert_id.specs.Curve.{IsTileId};
 ghost use Rattle.mvt_layer.specs.Tile.{layer_views};
 ghost use Rattle.mvt_write.specs.CanWrite.{CanWriteAll};
@@ -13,7 +13,7 @@ ghost use Rattle.feature_store.specs.Tiles.{HasPlace, IsBytesAt, IsNextTile, IsS
 use crate::gathered::gather;
 use crate::layers::listed;
 use crate::tiles_left::TilesLeft;
-use feature_model::{Feature, GREATEST_ZOOM};
+use feature_model::{Feature, MAX_ZOOM};
 use hilbert_id::{TileAt, tile_of};
 use mvt_layer::Layer;
 use mvt_write::write_tile;
@@ -54,7 +54,7 @@ pub(crate) fn tile_layers<'a>(
     numbers: &[u64],
     at: TileAt,
 ) -> Result<Vec<Layer<'a>>, AllocError>
-    requires zoom { at.z ≤ GREATEST_ZOOM }
+    requires zoom { at.z ≤ MAX_ZOOM }
     requires map { IsMap (entries_data features.now.entries) }
     requires shown { ShowsAll (entries_data features.now.entries) at.z at.x at.y numbers.now }
     ensures layers { IfOk result (λ v. layer_views v.items ≡ layers (entries_data features.now.entries) at.z at.x at.y) }
@@ -73,7 +73,7 @@ fn bytes_at(
 ) -> Result<Option<Vec<u8>>, AllocError>
     requires place { HasPlace id }
     requires map { IsMap (entries_data features.now.entries) }
-    requires shown { (z x y : ℕ) → z ≤ GREATEST_ZOOM → IsTileId z x y id → ShowsAll (entries_data features.now.entries) z x y numbers.now }
+    requires shown { (z x y : ℕ) → z ≤ MAX_ZOOM → IsTileId z x y id → ShowsAll (entries_data features.now.entries) z x y numbers.now }
     ensures { IfOk result (λ o. IsBytesAt (entries_data features.now.entries) id (option_map (λ v. v.items) o)) }
 {
     let at = tile_of(id).unwrap();

@@ -8,7 +8,7 @@ ghost use Rattle.feature_store.specs.Inside.{entries_data};
 ghost use Rattle.feature_store.specs.Layers.{numbered_cut, cuts_of};
 ghost use Rattle.feature_store.specs.Store.{IsMap, entry_at};
 
-use feature_model::{Feature, GREATEST_ZOOM};
+use feature_model::{Feature, MAX_ZOOM};
 use hilbert_id::TileAt;
 use mvt_layer::TileFeature;
 use number_map::NumberMap;
@@ -26,7 +26,7 @@ fn shown<'a>(
     feature: &'a Feature,
     at: TileAt,
 ) -> Result<Option<TileFeature<'a>>, AllocError>
-    requires zoom { at.z ≤ GREATEST_ZOOM }
+    requires zoom { at.z ≤ MAX_ZOOM }
     requires allowed { IsAllowed id (feature_data feature.now) }
     ensures cut { IfOk result (λ o. option_map feature_view o ≡ numbered_cut at.z at.x at.y (id, feature_data feature.now)) }
 {
@@ -61,7 +61,7 @@ fn add_shown<'a>(
     feature: &'a Feature,
     at: TileAt,
 ) -> Result<(), AllocError>
-    requires zoom { at.z ≤ GREATEST_ZOOM }
+    requires zoom { at.z ≤ MAX_ZOOM }
     requires allowed { IsAllowed id (feature_data feature.now) }
     ensures added { OnOk result ((name : List ℕ)
         → gathered_for gathered.new name ≡ gathered_for gathered.old name ++ cuts_of ((id, feature_data feature.now) ∷ []) name at.z at.x at.y) }
@@ -81,7 +81,7 @@ fn add_number<'a>(
     number: u64,
     at: TileAt,
 ) -> Result<(), AllocError>
-    requires zoom { at.z ≤ GREATEST_ZOOM }
+    requires zoom { at.z ≤ MAX_ZOOM }
     requires allowed { All (λ e. IsAllowed e.0 (feature_data e.1)) features.now.entries }
     ensures added { OnOk result ((name : List ℕ) → gathered_for gathered.new name
         ≡ gathered_for gathered.old name ++ cuts_of (entry_at (entries_data features.now.entries) number) name at.z at.x at.y) }
@@ -100,7 +100,7 @@ pub(crate) fn gather<'a>(
     numbers: &[u64],
     at: TileAt,
 ) -> Result<Gathered<'a>, AllocError>
-    requires zoom { at.z ≤ GREATEST_ZOOM }
+    requires zoom { at.z ≤ MAX_ZOOM }
     requires map { IsMap (entries_data features.now.entries) }
     requires shown { ShowsAll (entries_data features.now.entries) at.z at.x at.y numbers.now }
     ensures cuts { IfOk result (λ g. (name : List ℕ) → gathered_for g name ≡ cuts_of (entries_data features.now.entries) name at.z at.x at.y) }

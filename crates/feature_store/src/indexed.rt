@@ -4,8 +4,8 @@ ghost use Rattle.feature_model.specs.Data.{feature_data};
 ghost use Rattle.feature_store.specs.Indexed.{index_entry, world_box, IsIndexed, ShowsAll};
 ghost use Rattle.feature_store.specs.Store.{FeatureMap, IsMap, feature_at, without_feature};
 
-use box_index::{BoxIndex, Entry, Span, WorldBox};
-use feature_model::{Feature, GREATEST_ZOOM};
+use box_index::{BoxIndex, IndexEntry, Span, WorldBox};
+use feature_model::{Feature, MAX_ZOOM};
 use hilbert_id::TileAt;
 use std::alloc::{AllocError, Global};
 use tile_cutter::{Corners, bounding_box, tile_box};
@@ -22,10 +22,10 @@ fn world_box(corners: Corners) -> WorldBox
 }
 
 /// The number of a feature, its bounding box and its zooms.
-pub(crate) fn index_entry(id: u64, feature: &Feature) -> Entry
+pub(crate) fn index_entry(id: u64, feature: &Feature) -> IndexEntry
     ensures { result ≡ index_entry (id, feature_data feature.now) }
 {
-    Entry {
+    IndexEntry {
         id,
         span: Span {
             bounds: world_box(bounding_box(feature)),
@@ -52,7 +52,7 @@ pub(crate) fn numbers_near(
     index: &BoxIndex,
     at: TileAt,
 ) -> Result<Vec<u64>, AllocError>
-    requires { at.z ≤ GREATEST_ZOOM }
+    requires { at.z ≤ MAX_ZOOM }
     ensures { IfOk result (λ numbers. (m : FeatureMap) → IsMap m → IsIndexed m index.now.entries → ShowsAll m at.z at.x at.y numbers.items) }
 {
     index.query(alloc, &world_box(tile_box(at)), at.z)

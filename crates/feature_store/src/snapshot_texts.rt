@@ -44,7 +44,7 @@ pub(crate) fn append_block_texts(
 }
 
 /// What is told of a text that isn't decoded.
-fn told(fault: TextFault) -> SnapshotFault
+fn to_snapshot_fault(fault: TextFault) -> SnapshotFault
     ensures either { (result ≡ Memory) ⊎ (result ≡ Bad) }
     ensures memory { (result ≡ Memory) ↔ (fault ≡ TextFault.Memory) }
 {
@@ -67,7 +67,7 @@ fn read_entry(alloc: Global, text: &[u8]) -> Result<(Entry<Feature>, &[u8]), Sna
             Change::Put { id, feature } => Ok(((id, feature), &text[len..])),
             Change::Delete { .. } => Err(SnapshotFault::Bad),
         },
-        Err(fault) => Err(told(fault)),
+        Err(fault) => Err(to_snapshot_fault(fault)),
     }
 }
 

@@ -19,7 +19,7 @@ use crate::indexed::{index_entry, numbers_near, take_entry};
 use crate::limit::TEXTS_END;
 use crate::snapshot_texts::{append_block_texts, read_map};
 use box_index::BoxIndex;
-use feature_model::{Change, Feature, GREATEST_ZOOM};
+use feature_model::{Change, Feature, MAX_ZOOM};
 use hilbert_id::TileAt;
 use mvt_layer::Layer;
 use number_map::{Block, NumberMap};
@@ -83,7 +83,7 @@ impl Store {
         }
     }
 
-    /// How many features there are. The text of each has at most `MOST_EDIT_BYTES`.
+    /// How many features there are. The text of each has at most `MAX_EDIT_BYTES`.
     pub fn len(&self) -> usize
         ensures count { result ≡ length self.now.features }
         ensures map { IsMap self.now.features }
@@ -186,7 +186,7 @@ impl Store {
         // They can be written as a tile.
         ensures can_write { IfOk result (λ v. CanWriteAll (layer_views v.items)) }
     {
-        if at.z > GREATEST_ZOOM {
+        if at.z > MAX_ZOOM {
             return Ok(Vec::new(self.alloc));
         }
         let numbers = numbers_near(self.alloc, &self.index, at)?;

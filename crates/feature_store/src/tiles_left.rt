@@ -1,11 +1,11 @@
 //! The tiles of a map that are left to make, zoom by zoom.
 ghost use Rattle.std.specs.Prelude.{◌≡◌, ◌≤◌, ◌+◌, ◌∷◌, [], IfOk, IfSome, IfNone, OnOk, OnErr};
-ghost use Rattle.feature_model.specs.declared.limits.TheConstants.{GREATEST_ZOOM};
+ghost use Rattle.feature_model.specs.declared.limits.TheConstants.{MAX_ZOOM};
 ghost use Rattle.feature_store.specs.Inside.{entries_data};
 ghost use Rattle.feature_store.specs.Left.{AreLeft, AllStay, left_of, with_next};
 
 use crate::zoom_walk::walk_of_zoom;
-use feature_model::{Feature, GREATEST_ZOOM};
+use feature_model::{Feature, MAX_ZOOM};
 use number_map::NumberMap;
 use std::alloc::{AllocError, Global};
 use tile_walk::Walk;
@@ -43,7 +43,7 @@ fn take_tile(walk: &mut Option<Walk>) -> Result<Option<Covered>, AllocError>
 impl TilesLeft {
     /// All tiles of a map. The only error is out of memory.
     pub(crate) fn of(alloc: Global, features: &NumberMap<Feature>) -> Result<TilesLeft, AllocError>
-        ensures zoom { IfOk result (λ left. left.zoom ≤ GREATEST_ZOOM + 1) }
+        ensures zoom { IfOk result (λ left. left.zoom ≤ MAX_ZOOM + 1) }
         ensures left { IfOk result (λ left. AreLeft (entries_data features.now.entries) left.zoom 0 (with_next left.next (left_of left.walk))) }
     {
         let walk = walk_of_zoom(alloc, features, 0)?;
@@ -61,18 +61,18 @@ impl TilesLeft {
         alloc: Global,
         features: &NumberMap<Feature>,
     ) -> Result<Option<Covered>, AllocError>
-        requires { self.old.zoom ≤ GREATEST_ZOOM + 1 }
-        ensures zoom { self.new.zoom ≤ GREATEST_ZOOM + 1 }
+        requires { self.old.zoom ≤ MAX_ZOOM + 1 }
+        ensures zoom { self.new.zoom ≤ MAX_ZOOM + 1 }
         ensures next { self.new.next ≡ self.old.next }
         ensures tile { IfOk result (λ o. IfSome o (λ t. AllStay (entries_data features.now.entries) self.old.zoom (left_of self.old.walk)
             self.new.zoom ((t.0, t.1.items) ∷ left_of self.new.walk))) }
         ensures none { IfOk result (λ o. IfNone o (AllStay (entries_data features.now.entries) self.old.zoom (left_of self.old.walk)
             self.new.zoom (left_of self.new.walk))) }
-        ensures end { IfOk result (λ o. IfNone o ((self.new.zoom ≡ GREATEST_ZOOM + 1) × (left_of self.new.walk ≡ []))) }
+        ensures end { IfOk result (λ o. IfNone o ((self.new.zoom ≡ MAX_ZOOM + 1) × (left_of self.new.walk ≡ []))) }
         ensures failed { OnErr result (AllStay (entries_data features.now.entries) self.old.zoom (left_of self.old.walk)
             self.new.zoom (left_of self.new.walk)) }
     {
-        while self.zoom <= GREATEST_ZOOM {
+        while self.zoom <= MAX_ZOOM {
             if let Some(tile) = take_tile(&mut self.walk)? {
                 return Ok(Some(tile));
             }
@@ -90,11 +90,11 @@ impl TilesLeft {
         alloc: Global,
         features: &NumberMap<Feature>,
     ) -> Result<(), AllocError>
-        requires { self.old.zoom ≤ GREATEST_ZOOM + 1 }
-        ensures zoom { self.new.zoom ≤ GREATEST_ZOOM + 1 }
+        requires { self.old.zoom ≤ MAX_ZOOM + 1 }
+        ensures zoom { self.new.zoom ≤ MAX_ZOOM + 1 }
         ensures stay { AllStay (entries_data features.now.entries) self.old.zoom (with_next self.old.next (left_of self.old.walk))
             self.new.zoom (with_next self.new.next (left_of self.new.walk)) }
-        ensures none { OnOk result (IfNone self.new.next ((self.new.zoom ≡ GREATEST_ZOOM + 1) × (left_of self.new.walk ≡ []))) }
+        ensures none { OnOk result (IfNone self.new.next ((self.new.zoom ≡ MAX_ZOOM + 1) × (left_of self.new.walk ≡ []))) }
     {
         if self.next.is_none() {
             self.next = self.take_next(alloc, features)?;

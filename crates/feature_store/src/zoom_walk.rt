@@ -1,13 +1,13 @@
 //! The tiles of a zoom that the features of a map cover.
 ghost use Rattle.std.specs.Prelude.{◌≡◌, ◌≤◌, ◌++◌, ◌∷◌, [], IfOk, OnOk};
 ghost use Rattle.feature_model.specs.Data.{feature_data};
-ghost use Rattle.feature_model.specs.declared.limits.TheConstants.{GREATEST_ZOOM};
+ghost use Rattle.feature_model.specs.declared.limits.TheConstants.{MAX_ZOOM};
 ghost use Rattle.number_map.specs.Blocks.{joined};
 ghost use Rattle.tile_walk.specs.Boxes.{AreTilesOf};
 ghost use Rattle.feature_store.specs.Boxes.{boxes_at};
 ghost use Rattle.feature_store.specs.Inside.{entries_data};
 
-use feature_model::{Feature, GREATEST_ZOOM};
+use feature_model::{Feature, MAX_ZOOM};
 use number_map::{Block, Entry, NumberMap};
 use std::alloc::{AllocError, Global};
 use tile_cutter::covers;
@@ -21,7 +21,7 @@ fn append_box(
     number: u64,
     feature: &Feature,
 ) -> Result<(), AllocError>
-    requires { zoom ≤ GREATEST_ZOOM }
+    requires { zoom ≤ MAX_ZOOM }
     ensures { OnOk result (boxes.new.items ≡ boxes.old.items ++ boxes_at zoom ((number, feature_data feature.now) ∷ [])) }
 {
     if feature.minzoom <= zoom && zoom <= feature.maxzoom {
@@ -37,7 +37,7 @@ fn append_boxes(
     zoom: u8,
     entries: &[Entry<Feature>],
 ) -> Result<(), AllocError>
-    requires { zoom ≤ GREATEST_ZOOM }
+    requires { zoom ≤ MAX_ZOOM }
     ensures { OnOk result (boxes.new.items ≡ boxes.old.items ++ boxes_at zoom (entries_data entries.now)) }
 {
     for entry in entries {
@@ -52,7 +52,7 @@ fn append_block_boxes(
     zoom: u8,
     blocks: &[Block<Feature>],
 ) -> Result<(), AllocError>
-    requires { zoom ≤ GREATEST_ZOOM }
+    requires { zoom ≤ MAX_ZOOM }
     ensures { OnOk result (boxes.new.items ≡ boxes.old.items ++ boxes_at zoom (entries_data (joined blocks.now))) }
 {
     for block in blocks {
@@ -67,7 +67,7 @@ pub(crate) fn walk_of_zoom(
     features: &NumberMap<Feature>,
     zoom: u8,
 ) -> Result<Walk, AllocError>
-    requires { zoom ≤ GREATEST_ZOOM }
+    requires { zoom ≤ MAX_ZOOM }
     ensures { IfOk result (λ walk. AreTilesOf zoom (boxes_at zoom (entries_data features.now.entries)) walk.left) }
 {
     let mut boxes = Vec::new(alloc);

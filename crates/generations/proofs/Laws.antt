@@ -11,7 +11,7 @@ use Rattle.generations.specs.Disks.{HasNoMark, HasRoot, IsSound, LiveRoot, IsFau
 use Rattle.generations.specs.Sectors.{disk_mark, IsVersion, version_from, format_sector, zeros, HasMark}
 use Rattle.generations.specs.Sectors.{root_sector, root_from, number_from, AreNumbers, CanStand}
 use Rattle.generations.specs.Sectors.{IsFormat, IsRootOf, IsRootSector, IsNoRoot, IsBad, IsSlot, IsNewest}
-use Rattle.generations.specs.declared.sizes.TheConstants.{LEAST_SECTORS, MOST_SECTORS, LAST_VERSION}
+use Rattle.generations.specs.declared.sizes.TheConstants.{MIN_SECTORS, MAX_SECTORS, LAST_VERSION}
 use Rattle.generations.specs.declared.root.Root.{Root}
 use Rattle.generations.specs.declared.fault.StoreFault.{StoreFault}
 use Rattle.generations.specs.declared.fault.StoreFault.TheVariants.{NotFormatted, TooSmall, Damaged, Device, Memory}
@@ -198,7 +198,7 @@ format_decided count n sector =
     (λ is. (is.stands, (is.size, is.within)))
     (both (both (either (cases_eq (version_from sector) 1) (cases_eq (version_from sector) 2))
     (same_list sector (format_sector (version_from sector) n)))
-    (both (both (at_most LEAST_SECTORS n) (at_most n MOST_SECTORS)) (at_most n count)))
+    (both (both (at_most MIN_SECTORS n) (at_most n MAX_SECTORS)) (at_most n count)))
 
 -- the five numbers of a root, taken by two
 abbrev TwoAndThree : Root → Type 0

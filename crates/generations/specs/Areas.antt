@@ -1,10 +1,10 @@
 -- How the sectors of a disk are divided.
 use Rattle.std.specs.Prelude.{◌≤◌, ◌+◌, ◌-◌, ◌*◌, ◌/◌, ◌%◌, ℕ}
-use Rattle.generations.specs.declared.sizes.TheConstants.{LEAST_SECTORS, MOST_SECTORS}
+use Rattle.generations.specs.declared.sizes.TheConstants.{MIN_SECTORS, MAX_SECTORS}
 
 -- a disk can be formatted with so many sectors
 abbrev pub IsSize : ℕ → Type 0
-IsSize n = (LEAST_SECTORS ≤ n) × (n ≤ MOST_SECTORS)
+IsSize n = (MIN_SECTORS ≤ n) × (n ≤ MAX_SECTORS)
 
 -- how many of n sectors are the journal's
 abbrev pub journal_sectors : ℕ → ℕ

@@ -6,7 +6,7 @@ pub enum StoreFault {
     /// The disk doesn't begin with the mark of a format.
     #[error("the disk isn't formatted")]
     NotFormatted,
-    /// The disk has fewer than `LEAST_SECTORS` sectors.
+    /// The disk has fewer than `MIN_SECTORS` sectors.
     #[error("the disk has too few sectors")]
     TooSmall,
     /// What stands on the disk doesn't have its form.

@@ -10,13 +10,13 @@ ghost use Rattle.generations.specs.Written.{IsOldOr, IsOldOrEmpty};
 ghost use Rattle.generations.specs.Sectors.{zeros, IsVersion};
 ghost use Rattle.generations.specs.declared.fault.StoreFault.TheVariants.{TooSmall, Device, Damaged};
 ghost use Rattle.generations.specs.declared.fault.What.TheVariants.{Size};
-ghost use Rattle.generations.specs.declared.sizes.TheConstants.{LEAST_SECTORS, MOST_SECTORS, LAST_VERSION};
+ghost use Rattle.generations.specs.declared.sizes.TheConstants.{MIN_SECTORS, MAX_SECTORS, LAST_VERSION};
 
 use crate::encoding::{format_bytes, root_bytes};
 use crate::fault::{StoreFault, What};
 use crate::layout::Layout;
 use crate::root::Root;
-use crate::sizes::{LAST_VERSION, LEAST_SECTORS};
+use crate::sizes::{LAST_VERSION, MIN_SECTORS};
 use sector_disk::{DiskFault, Sectors};
 
 const EMPTY: [u8; 512] = [0; 512];
@@ -130,12 +130,12 @@ fn clear<D: Sectors>(disk: &mut D, end: u64) -> Result<(), DiskFault>
     Ok(())
 }
 
-/// Formats a disk of `LEAST_SECTORS` to `MOST_SECTORS` sectors in this version of the format, and else leaves it untouched.
+/// Formats a disk of `MIN_SECTORS` to `MAX_SECTORS` sectors in this version of the format, and else leaves it untouched.
 /// What it held is lost: after a fault of the disk or a crash it holds what it held before, or has no format, or is formatted.
 pub fn format_version<D: Sectors>(disk: &mut D, version: u32) -> Result<(), StoreFault>
     requires { IsVersion version }
-    ensures small { (result ≡ Err TooSmall) ↔ (D.sectors disk.old < LEAST_SECTORS) }
-    ensures large { (result ≡ Err (Damaged Size)) ↔ (MOST_SECTORS < D.sectors disk.old) }
+    ensures small { (result ≡ Err TooSmall) ↔ (D.sectors disk.old < MIN_SECTORS) }
+    ensures large { (result ≡ Err (Damaged Size)) ↔ (MAX_SECTORS < D.sectors disk.old) }
     ensures only { IfErr result (λ fault. (fault ≡ TooSmall) ⊎ (fault ≡ Damaged Size) ⊎ (fault ≡ Device)) }
     ensures untouched { (IsSize (D.sectors disk.old) → ⊥) → disk.new ≡ disk.old }
     ensures count { D.sectors disk.new ≡ D.sectors disk.old }
@@ -151,7 +151,7 @@ pub fn format_version<D: Sectors>(disk: &mut D, version: u32) -> Result<(), Stor
     ensures seen { D.honest disk.new → OnOk result (IsFresh version (D.sectors disk.old) (seen (D.history disk.new))) }
 {
     let sectors = disk.count();
-    if sectors < LEAST_SECTORS {
+    if sectors < MIN_SECTORS {
         return Err(StoreFault::TooSmall);
     }
     let Some(layout) = Layout::of(sectors) else {
@@ -163,11 +163,11 @@ pub fn format_version<D: Sectors>(disk: &mut D, version: u32) -> Result<(), Stor
     }
 }
 
-/// Formats a disk of `LEAST_SECTORS` to `MOST_SECTORS` sectors in the last version of the format, and else leaves it untouched.
+/// Formats a disk of `MIN_SECTORS` to `MAX_SECTORS` sectors in the last version of the format, and else leaves it untouched.
 /// What it held is lost: after a fault of the disk or a crash it holds what it held before, or has no format, or is formatted.
 pub fn format<D: Sectors>(disk: &mut D) -> Result<(), StoreFault>
-    ensures small { (result ≡ Err TooSmall) ↔ (D.sectors disk.old < LEAST_SECTORS) }
-    ensures large { (result ≡ Err (Damaged Size)) ↔ (MOST_SECTORS < D.sectors disk.old) }
+    ensures small { (result ≡ Err TooSmall) ↔ (D.sectors disk.old < MIN_SECTORS) }
+    ensures large { (result ≡ Err (Damaged Size)) ↔ (MAX_SECTORS < D.sectors disk.old) }
     ensures only { IfErr result (λ fault. (fault ≡ TooSmall) ⊎ (fault ≡ Damaged Size) ⊎ (fault ≡ Device)) }
     ensures untouched { (IsSize (D.sectors disk.old) → ⊥) → disk.new ≡ disk.old }
     ensures count { D.sectors disk.new ≡ D.sectors disk.old }

@@ -2,13 +2,13 @@
 ghost use Rattle.std.specs.Prelude.{◌≡◌, ◌≤◌, ◌+◌, ◌*◌, ◌↔◌, MatchOption};
 ghost use Rattle.generations.specs.Areas.{IsSize, journal_sectors, area_sectors};
 
-use crate::sizes::{LEAST_SECTORS, MOST_SECTORS};
+use crate::sizes::{MAX_SECTORS, MIN_SECTORS};
 
 /// How many sectors each part of a disk has. Behind the format's sector and two sectors of roots lies the journal, and
 /// behind the journal lie the areas of the even and of the odd generations, one as long as the other.
 #[derive(Clone, Copy, Debug, PartialEq, Eq)]
 pub struct Layout {
-    /// How many sectors the disk was formatted with, from `LEAST_SECTORS` to `MOST_SECTORS`.
+    /// How many sectors the disk was formatted with, from `MIN_SECTORS` to `MAX_SECTORS`.
     pub sectors: u64,
     /// How many of them are the journal's.
     pub journal: u64,
@@ -21,11 +21,11 @@ pub struct Layout {
 }
 
 impl Layout {
-    /// The layout of a disk of so many sectors, which has none outside `LEAST_SECTORS` to `MOST_SECTORS`.
+    /// The layout of a disk of so many sectors, which has none outside `MIN_SECTORS` to `MAX_SECTORS`.
     pub fn of(sectors: u64) -> Option<Layout>
         ensures size { MatchOption result (IsSize sectors → ⊥) (λ layout. layout.sectors ≡ sectors) }
     {
-        if sectors < LEAST_SECTORS || sectors > MOST_SECTORS {
+        if sectors < MIN_SECTORS || sectors > MAX_SECTORS {
             return None;
         }
         let journal = sectors / 4;

@@ -19,5 +19,5 @@ pub use installing::{install, write_area};
 pub use layout::Layout;
 pub use reading::{Found, read_root};
 pub use root::Root;
-pub use sizes::{FIRST_VERSION, LAST_VERSION, LEAST_SECTORS, MOST_SECTORS};
+pub use sizes::{FIRST_VERSION, LAST_VERSION, MAX_SECTORS, MIN_SECTORS};
 pub use upgrading::upgrade;

@@ -1,7 +1,7 @@
 /// The fewest sectors that a disk can be formatted with.
-pub const LEAST_SECTORS: u64 = 64;
+pub const MIN_SECTORS: u64 = 64;
 /// The most sectors that a disk can be formatted with.
-pub const MOST_SECTORS: u64 = 16_777_216;
+pub const MAX_SECTORS: u64 = 16_777_216;
 /// The first version of the format of a disk.
 pub const FIRST_VERSION: u32 = 1;
 /// The last version of the format of a disk. `format` writes it, and `upgrade` raises a disk to it.

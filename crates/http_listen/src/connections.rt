@@ -23,7 +23,7 @@ pub enum ListenFault {
 }
 
 /// How many yielded connections are kept open for their last replies.
-const MOST_LINGERING: usize = 16;
+const MAX_LINGERING: usize = 16;
 
 /// Sets what a new connection has: no delay of small replies, and bounds on how long its peer is waited for. What the system
 /// doesn't let be set is left as it is.
@@ -38,7 +38,7 @@ fn prepare<S: OpenStream>(stream: &S) {
 /// just then doesn't cut off its last reply. The oldest of those that are kept is dropped where there are too many.
 fn linger<S: OpenStream + Drop>(kept: &mut Vec<S>, stream: S) {
     let _ = stream.shutdown(Shutdown::Write);
-    if kept.len() >= MOST_LINGERING {
+    if kept.len() >= MAX_LINGERING {
         drop(kept.remove(0));
     }
     let _ = kept.push(stream);

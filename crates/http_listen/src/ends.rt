@@ -10,10 +10,10 @@ use std::time::{Clock, Duration};
 pub const LAST_WAIT_SECONDS: u64 = 2;
 
 /// The bytes that are dropped at most of what a peer still sends: 16 MiB.
-const MOST_DROPPED: usize = 16_777_216;
+const MAX_DROPPED: usize = 16_777_216;
 
 /// The reads that drop it at most. So many segments of Ethernet have 16 MiB.
-const MOST_DROPPING_READS: u64 = 16_384;
+const MAX_DROPPING_READS: u64 = 16_384;
 
 /// How many bytes are dropped at once.
 const PIECE: usize = 4_096;
@@ -32,9 +32,9 @@ fn drop_piece<S: Read, C: Clock>(clock: &C, stream: &mut S, pace: Pace) -> Optio
 
 /// Reads and drops what comes, up to the input's end, a read that fails, or the bounds on bytes, reads and time.
 fn drop_rest<S: Read, C: Clock>(clock: &C, stream: &mut S) {
-    let mut left = MOST_DROPPED;
+    let mut left = MAX_DROPPED;
     let mut pace = Pace::new();
-    for _ in 0..MOST_DROPPING_READS {
+    for _ in 0..MAX_DROPPING_READS {
         if left == 0 {
             return;
         }

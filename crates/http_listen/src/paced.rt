@@ -10,7 +10,7 @@ use std::time::{Clock, Duration};
 pub(crate) const ROUND_MILLISECONDS: u64 = 100;
 
 /// How many times a read or a write is tried at most.
-pub(crate) const MOST_ROUNDS: u64 = WAIT_SECONDS * 1_000 / ROUND_MILLISECONDS;
+pub(crate) const MAX_ROUNDS: u64 = WAIT_SECONDS * 1_000 / ROUND_MILLISECONDS;
 
 /// How many nanoseconds have passed since a time of the clock.
 pub(crate) fn nanoseconds_since<C: Clock>(clock: &C, start: Duration) -> io::Result<u64> {
@@ -130,7 +130,7 @@ pub(crate) struct PacedWriter<'a, S, C>(pub(crate) &'a Paced<'a, S, C>);
 impl<S: Write, C: Clock> Write for PacedWriter<'_, S, C> {
     fn write(&mut self, buf: &[u8]) -> io::Result<usize> {
         self.0.pace.set(self.0.pace.get().writes());
-        for _ in 0..MOST_ROUNDS {
+        for _ in 0..MAX_ROUNDS {
             match self.0.write_round(buf) {
                 Err(e) if e.kind() == ErrorKind::WouldBlock => {}
                 Ok(count) => return Ok(count),

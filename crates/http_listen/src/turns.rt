@@ -1,6 +1,6 @@
 //! A reader that yields between two requests.
 use crate::doors::Door;
-use crate::paced::{MOST_ROUNDS, Paced};
+use crate::paced::{MAX_ROUNDS, Paced};
 use http_serve::READ_SPACE;
 use std::io::{self, ErrorKind, Read};
 use std::net::OpenListener;
@@ -65,7 +65,7 @@ where
     fn read(&mut self, buf: &mut [u8]) -> io::Result<usize> {
         let idle = buf.len() >= READ_SPACE;
         self.stream.begin_read(idle);
-        for before in 0..MOST_ROUNDS {
+        for before in 0..MAX_ROUNDS {
             match self.stream.read_round(buf) {
                 Err(e) if e.kind() == ErrorKind::WouldBlock => {}
                 Ok(count) => {

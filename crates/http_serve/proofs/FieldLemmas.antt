@@ -18,7 +18,7 @@ use Rattle.std.proofs.lemmas.List.Splits.{slice_split_first, slice_split_none}
 use Rattle.std.proofs.lemmas.List.Sums.{fails_before_first, prefix_len-le-length}
 use Rattle.httparse.specs.Ascii.{comma}
 use Rattle.httparse.specs.Grammar.{trim_ows}
-use Rattle.http_serve.specs.declared.fields.TheConstants.{MOST_BODY}
+use Rattle.http_serve.specs.declared.fields.TheConstants.{MAX_BODY}
 use Rattle.http_serve.specs.declared.refusals.Refusal.{Refusal}
 use Rattle.http_serve.specs.declared.refusals.Refusal.TheVariants.{Host, Coding, Expect, Length, Body}
 use Rattle.http_serve.specs.Fields.{NamedValue, values_of, limited, stated_length, only_value, is_numeral, is_word, lists_close, is_close, says_close}
@@ -78,20 +78,20 @@ spared : (b : Bool) (e : Refusal) (r : Result ℕ Refusal) (n : ℕ) → cond b 
 spared true e r n is = cc
 spared false e r n is = is
 
-limited_bound : (k n : ℕ) → limited k ≡ Ok n → n ≤ MOST_BODY
-limited_bound k n is = by (nat_le k MOST_BODY) refl is
+limited_bound : (k n : ℕ) → limited k ≡ Ok n → n ≤ MAX_BODY
+limited_bound k n is = by (nat_le k MAX_BODY) refl is
   where
-    by : (b : Bool) → b ≡ nat_le k MOST_BODY → ◌≡◌ {A = Result ℕ Refusal} (cond b (Ok k) (Err Body)) (Ok n) → n ≤ MOST_BODY
+    by : (b : Bool) → b ≡ nat_le k MAX_BODY → ◌≡◌ {A = Result ℕ Refusal} (cond b (Ok k) (Err Body)) (Ok n) → n ≤ MAX_BODY
     by true is e = let same : k ≡ n = cc in grind (arith, nat_tests)
     by false is e = cc
 
-stated_bound : (values : List (List ℕ)) (n : ℕ) → stated_length values ≡ Ok n → n ≤ MOST_BODY
+stated_bound : (values : List (List ℕ)) (n : ℕ) → stated_length values ≡ Ok n → n ≤ MAX_BODY
 stated_bound [] n e = let same : 0 ≡ n = cc in omega arith
 stated_bound (v ∷ []) n e = limited_bound (digits_value 10 v) n (taken (is_numeral v) (limited (digits_value 10 v)) Length n e)
 stated_bound (v ∷ w ∷ more) n e = cc
 
 -- no length above the limit is stated
-pub framing_bound : (minor : ℕ) (fields : List NamedValue) (n : ℕ) → framing minor fields ≡ Ok n → n ≤ MOST_BODY
+pub framing_bound : (minor : ℕ) (fields : List NamedValue) (n : ℕ) → framing minor fields ≡ Ok n → n ≤ MAX_BODY
 framing_bound minor fields n e =
     let length : Result ℕ Refusal = body_length fields in
     let behind_expect : Result ℕ Refusal = cond (has_field (codes "expect") fields) (Err Expect) length in

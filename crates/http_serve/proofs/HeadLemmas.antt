@@ -19,7 +19,7 @@ use Rattle.http_serve.specs.declared.refusals.Refusal.TheVariants.{Short}
 use Rattle.http_serve.specs.Fields.{NamedValue, framing, range_of, says_close}
 use Rattle.http_serve.specs.Frame.{IsFrameOf}
 use Rattle.http_serve.specs.Reply.{has_head_method}
-use Rattle.http_serve.specs.declared.frames.TheConstants.{MOST_REQUEST}
+use Rattle.http_serve.specs.declared.frames.TheConstants.{MAX_REQUEST}
 use Rattle.http_serve.specs.Requests.{Request, IsHead, IsRequest, HasNoHead, HasFault, IsFault, IsRefused, fields_of}
 
 pub IsHead-append : (bytes more : List ℕ) (head : RequestHead) (rest : List ℕ) → IsHead bytes head rest
@@ -225,7 +225,7 @@ refused_none bytes (Some head) refusal m r fault x =
 
 -- what holds if no request is complete
 pub missing_now : (bytes : List ℕ) (rejection : Rejection) (until : ℕ) → IsMissing bytes rejection until
-    → (length bytes < MOST_REQUEST) × (head : Option RequestHead) × (rejection.bare ≡ has_head_method head) × IsRefused bytes head rejection.refusal
+    → (length bytes < MAX_REQUEST) × (head : Option RequestHead) × (rejection.bare ≡ has_head_method head) × IsRefused bytes head rejection.refusal
 missing_now bytes rejection until is =
     let few = is.few in
     let bound = is.bound in

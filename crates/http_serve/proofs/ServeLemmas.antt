@@ -16,7 +16,7 @@ use Rattle.http_serve.specs.declared.connection.ServeFault.TheVariants.{Memory, 
 use Rattle.http_serve.specs.declared.contents.SendFault.{SendFault}
 use Rattle.http_serve.specs.declared.contents.SendFault.TheVariants as cuts
 use Rattle.http_serve.specs.declared.frames.Frame.{Frame}
-use Rattle.http_serve.specs.declared.frames.TheConstants.{MOST_REQUEST}
+use Rattle.http_serve.specs.declared.frames.TheConstants.{MAX_REQUEST}
 use Rattle.http_serve.specs.Input.{buffer_size}
 use Rattle.http_serve.specs.Reads.{Gives, GivesTimes}
 use Rattle.http_serve.specs.Frame.{IsFrameOf}
@@ -64,7 +64,7 @@ pub record IsSoFar {S : Type 0} (replies : S → RequestView → ReplyView → S
   pub bytes : List ℕ
   pub read : Consumes left leaves bytes
   pub carries : Carries replies old bytes held 0 new waiting holds requests
-  pub few : length waiting < MOST_REQUEST
+  pub few : length waiting < MAX_REQUEST
   pub head : Option RequestHead
   pub bare : reason.bare ≡ has_head_method head
   pub refused : IsRefused waiting head reason.refusal
@@ -216,7 +216,7 @@ module _ {S : Type 0} (replies : S → RequestView → ReplyView → S → Type 
       -- more came, and the whole requests in it are answered
       pub SoFar_goes : (rest : List ℕ) (after : ℕ) (head : Option RequestHead) (next : Rejection)
           → Carries replies middle full holds requests new rest now after
-          → length rest < MOST_REQUEST → next.bare ≡ has_head_method head → IsRefused rest head next.refusal
+          → length rest < MAX_REQUEST → next.bare ≡ has_head_method head → IsRefused rest head next.refusal
           → IsSoFar replies old left held new last now after rest next
       SoFar_goes rest after head next y few bare none = record {
         bytes = so.bytes ++ more;

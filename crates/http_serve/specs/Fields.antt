@@ -8,7 +8,7 @@ use Rattle.std.specs.Str.Parse.{digits_value}
 use Rattle.httparse.specs.Ascii.{comma}
 use Rattle.httparse.specs.Grammar.{trim_ows}
 use Rattle.httparse.specs.Spans.{IsWithin, span_bytes}
-use Rattle.http_serve.specs.declared.fields.TheConstants.{MOST_BODY}
+use Rattle.http_serve.specs.declared.fields.TheConstants.{MAX_BODY}
 use Rattle.http_serve.specs.declared.fields.Stated.{Stated}
 use Rattle.http_serve.specs.declared.fields.Stated.TheVariants.{Never, Once, Often}
 use Rattle.http_serve.specs.declared.refusals.Refusal.{Refusal}
@@ -38,9 +38,9 @@ IsStated bytes Often values = 1 < length values
 abbrev pub is_numeral : List ℕ → Bool
 is_numeral value = nat_lt 0 (length value) && list_all is_ascii_digit value
 
--- the size if it is at most MOST_BODY, otherwise the refusal Body
+-- the size if it is at most MAX_BODY, otherwise the refusal Body
 abbrev pub limited : ℕ → Result ℕ Refusal
-limited size = cond (nat_le size MOST_BODY) (Ok size) (Err Body)
+limited size = cond (nat_le size MAX_BODY) (Ok size) (Err Body)
 
 -- the number that a content-length value states (RFC 9110, 8.6)
 abbrev pub numeral_length : List ℕ → Result ℕ Refusal

@@ -2,7 +2,7 @@
 use Rattle.std.specs.Prelude.{◌≡◌, ℕ, ◌<◌, ◌≤◌, List, ◌++◌, length, drop, Option, option_map, IfSome}
 use Rattle.httparse.specs.Grammar.{RequestHead}
 use Rattle.httparse.specs.Spans.{span_bytes, IsWithin}
-use Rattle.http_serve.specs.declared.frames.TheConstants.{MOST_REQUEST}
+use Rattle.http_serve.specs.declared.frames.TheConstants.{MAX_REQUEST}
 use Rattle.http_serve.specs.declared.frames.Frame.{Frame}
 use Rattle.http_serve.specs.declared.frames.Next.{Next}
 use Rattle.http_serve.specs.declared.frames.Next.TheVariants.{Whole, Refused, More}
@@ -28,7 +28,7 @@ pub record IsFrameOf (bytes : List ℕ) (frame : Frame) (request : Request) : Ty
 -- bytes begin with no request, nor do they with more bytes appended while the total length is below until
 pub record IsMissing (bytes : List ℕ) (rejection : Rejection) (until : ℕ) : Type 0 where
   pub few : length bytes < until
-  pub bound : until ≤ MOST_REQUEST
+  pub bound : until ≤ MAX_REQUEST
   pub head : Option RequestHead
   pub bare : rejection.bare ≡ has_head_method head
   pub refused : (more : List ℕ) → length (bytes ++ more) < until → IsRefused (bytes ++ more) head rejection.refusal

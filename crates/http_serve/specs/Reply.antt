@@ -9,7 +9,7 @@ use Rattle.http_serve.specs.Requests.{Request, asks_to_close}
 use Rattle.http_serve.specs.declared.frames.Frame.{Frame}
 use Rattle.http_serve.specs.declared.refusals.Refusal.{Refusal}
 use Rattle.http_serve.specs.declared.refusals.Refusal.TheVariants.{Head, Host, Coding, Expect, Length, Body, Short}
-use Rattle.http_serve.specs.declared.replies.TheConstants.{MOST_WORD}
+use Rattle.http_serve.specs.declared.replies.TheConstants.{MAX_WORD}
 use Rattle.http_serve.specs.declared.replies.Content.{Content}
 use Rattle.http_serve.specs.declared.replies.Content.TheVariants.{Empty, Fixed, Whole, Parts}
 use Rattle.http_serve.specs.declared.replies.ContentRange.{ContentRange}
@@ -82,9 +82,9 @@ head_view reply = record {
   size = content_size reply.content;
 }
 
--- the content type and the list of methods have at most MOST_WORD bytes each, so that the head of a reply is bounded
+-- the content type and the list of methods have at most MAX_WORD bytes each, so that the head of a reply is bounded
 abbrev pub HasShortWords : HeadView → Type 0
-HasShortWords head = IfSome head.kind (λ kind. length kind ≤ MOST_WORD) × IfSome head.allow (λ allow. length allow ≤ MOST_WORD)
+HasShortWords head = IfSome head.kind (λ kind. length kind ≤ MAX_WORD) × IfSome head.allow (λ allow. length allow ≤ MAX_WORD)
 
 -- the view is what a reply says, also if its content is read in parts
 abbrev pub IsReply : Reply → ReplyView → Type 0

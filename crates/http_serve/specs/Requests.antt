@@ -5,7 +5,7 @@ use Rattle.std.specs.List.{before_first}
 use Rattle.httparse.specs.Grammar.{RequestHead, ReadsRequest, print_request}
 use Rattle.httparse.specs.Spans.{name_and_value, span_bytes}
 use Rattle.http_serve.specs.declared.frames.Frame.{Frame}
-use Rattle.http_serve.specs.declared.frames.TheConstants.{MOST_HEAD, MOST_FIELDS}
+use Rattle.http_serve.specs.declared.frames.TheConstants.{MAX_HEAD, MAX_FIELDS}
 use Rattle.http_serve.specs.declared.refusals.Refusal.{Refusal}
 use Rattle.http_serve.specs.declared.refusals.Refusal.TheVariants.{Head, Short}
 use Rattle.http_serve.specs.Fields.{NamedValue, framing, range_of, says_close}
@@ -21,8 +21,8 @@ fields_of head = map name_and_value head.fields
 -- bytes are this head, within its limits, followed by rest; empty lines before a head belong to it
 pub record IsHead (bytes : List ℕ) (head : RequestHead) (rest : List ℕ) : Type 0 where
   pub reads : ReadsRequest bytes head rest
-  pub size : length (print_request head) ≤ MOST_HEAD
-  pub fields : length head.fields ≤ MOST_FIELDS
+  pub size : length (print_request head) ≤ MAX_HEAD
+  pub fields : length head.fields ≤ MAX_FIELDS
 
 -- bytes are this request followed by rest
 pub record IsRequest (bytes : List ℕ) (request : Request) (rest : List ℕ) : Type 0 where

@@ -4,7 +4,7 @@ use Rattle.httparse.specs.Grammar.{RequestHead}
 use Rattle.http_serve.specs.declared.lines.Lines.TheVariants.{Blank}
 use Rattle.http_serve.specs.declared.searches.Search.{Search}
 use Rattle.http_serve.specs.declared.searches.Search.TheVariants.{Head, Until}
-use Rattle.http_serve.specs.declared.frames.TheConstants.{MOST_REQUEST}
+use Rattle.http_serve.specs.declared.frames.TheConstants.{MAX_REQUEST}
 use Rattle.http_serve.specs.Lines.{after_bytes}
 use Rattle.http_serve.specs.Reply.{has_head_method}
 use Rattle.http_serve.specs.Requests.{IsRefused}
@@ -14,7 +14,7 @@ abbrev pub IsKnown : List ℕ → Search → Type 0
 IsKnown bytes (Head scanned lines position) =
     (scanned ≤ length bytes) × (after_bytes Blank (take scanned bytes) ≡ lines)
 IsKnown bytes (Until missing) =
-    (missing.until ≤ MOST_REQUEST)
+    (missing.until ≤ MAX_REQUEST)
     × (head : Option RequestHead)
     × (missing.rejection.bare ≡ has_head_method head)
     × ((more : List ℕ) → length (bytes ++ more) < missing.until → IsRefused (bytes ++ more) head missing.rejection.refusal)

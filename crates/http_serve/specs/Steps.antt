@@ -8,7 +8,7 @@ use Rattle.http_serve.specs.declared.connection.Pause.TheVariants.{Ended, More}
 use Rattle.http_serve.specs.declared.connection.ServeFault.{ServeFault}
 use Rattle.http_serve.specs.declared.connection.ServeFault.TheVariants.{Memory, Read, Write, Content}
 use Rattle.http_serve.specs.declared.connection.Served.{Served}
-use Rattle.http_serve.specs.declared.frames.TheConstants.{MOST_REQUEST}
+use Rattle.http_serve.specs.declared.frames.TheConstants.{MAX_REQUEST}
 use Rattle.http_serve.specs.declared.refusals.Refusal.{Refusal}
 use Rattle.http_serve.specs.Requests.{IsRefused, EndsAs, Ending, going, closed, asked, refused}
 use Rattle.http_serve.specs.Requests.{RequestView}
@@ -50,7 +50,7 @@ module _ {S : Type 0} (replies : S → RequestView → ReplyView → S → Type 
       (ending : Ending) × Ends replies old waiting Anything held before ending new holds served.requests
       × (served.end ≡ end_of ending) × (served.end ≢ Turns)
   IsPaused old waiting held before (More requests rejection) new rest holds =
-      Carries replies old waiting held before new rest holds requests × (length rest < MOST_REQUEST)
+      Carries replies old waiting held before new rest holds requests × (length rest < MAX_REQUEST)
       × (head : Option RequestHead) × (rejection.bare ≡ has_head_method head) × IsRefused rest head rejection.refusal
 
 -- the same with fails, which describes replies whose content the handler couldn't read

@@ -8,7 +8,7 @@ ghost use Rattle.http_serve.specs.Reply.{ReplyView, reply_at, refusal_bytes, has
 ghost use Rattle.http_serve.specs.Search.{IsKnown};
 ghost use Rattle.http_serve.specs.Sent.{Sends};
 ghost use Rattle.http_serve.specs.Steps.{IsPaused, IsBroken, IsFinished, IsUnfinished};
-ghost use Rattle.http_serve.specs.declared.connection.TheConstants.{MOST_READS};
+ghost use Rattle.http_serve.specs.declared.connection.TheConstants.{MAX_READS};
 ghost use Rattle.http_serve.specs.Told.{IsServed, IsServedUpTo, HasContent, MeetsTurns, KeepsTurns, AnswersInput};
 ghost use Rattle.http_serve.specs.Parts.{GivesOrFails, IsCutIn};
 
@@ -278,9 +278,9 @@ pub fn serve_turns<R: Read, W: Write, H: Handler>(
 }
 
 /// The maximum number of reads per connection.
-pub const MOST_READS: u64 = 4_294_967_296;
+pub const MAX_READS: u64 = 4_294_967_296;
 
-/// Serves a connection with at most `MOST_READS` reads: one reply per request, in order, and one to invalid input.
+/// Serves a connection with at most `MAX_READS` reads: one reply per request, in order, and one to invalid input.
 pub fn serve<R: Read, W: Write, H: Handler>(
     alloc: Global,
     reader: &mut R,
@@ -294,8 +294,8 @@ pub fn serve<R: Read, W: Write, H: Handler>(
     ensures fault { IfErr result (λ fault. IsServedUpTo H.replies H.fails handler.old (R.remaining reader.old) (W.contents writer.old) fault
         handler.new (R.remaining reader.new) (W.contents writer.new)) }
     ensures content { IfErr result (HasContent (H.size handler.new)) }
-    ensures turns { IfOk result (λ served. MeetsTurns R.remaining MOST_READS reader.old reader.new served.end) }
-    ensures reads { KeepsTurns MOST_READS result (R.remaining reader.old) (R.remaining reader.new) }
+    ensures turns { IfOk result (λ served. MeetsTurns R.remaining MAX_READS reader.old reader.new served.end) }
+    ensures reads { KeepsTurns MAX_READS result (R.remaining reader.old) (R.remaining reader.new) }
 {
-    serve_turns(alloc, reader, writer, handler, MOST_READS)
+    serve_turns(alloc, reader, writer, handler, MAX_READS)
 }

@@ -13,7 +13,7 @@ use decimal_number::{are_digits, digits_number};
 use httparse::spans::{HeaderSpan, Span};
 
 /// Maximum length of a body in bytes.
-pub(crate) const MOST_BODY: u64 = 65_536;
+pub(crate) const MAX_BODY: u64 = 65_536;
 
 /// How often a field name occurs.
 #[derive(Clone, Copy, Debug)]
@@ -55,12 +55,12 @@ fn find_stated(bytes: &[u8], fields: &[HeaderSpan], word: &[u8]) -> Stated
     }
 }
 
-/// The number, if at most `MOST_BODY`. `None` is 2^64 or more.
+/// The number, if at most `MAX_BODY`. `None` is 2^64 or more.
 fn limited(number: Option<u64>) -> Result<u64, Refusal>
     ensures { (size : ℕ) → MatchOption number (2 ^ 64 ≤ size) (λ number. number ≡ size) → result ≡ limited size }
 {
     match number {
-        Some(size) if size <= MOST_BODY => Ok(size),
+        Some(size) if size <= MAX_BODY => Ok(size),
         _ => Err(Refusal::Body),
     }
 }

@@ -2,21 +2,21 @@
 ghost use Rattle.std.specs.Prelude.{◌≡◌, ◌≤◌, ◌<◌, ◌==◌, ◌||◌, length, map, All};
 ghost use Rattle.httparse.specs.Spans.{IsRequestWithin, IsRequestOf, IsHeaderWithin, header_bytes};
 ghost use Rattle.http_serve.specs.Fields.{says_close};
-ghost use Rattle.http_serve.specs.declared.frames.TheConstants.{MOST_HEAD, MOST_FIELDS};
+ghost use Rattle.http_serve.specs.declared.frames.TheConstants.{MAX_HEAD, MAX_FIELDS};
 ghost use Rattle.http_serve.specs.Frame.{IsNext};
 ghost use Rattle.http_serve.specs.Reply.{is_head};
 
-use crate::fields::{MOST_BODY, framing, range_of, says_close};
+use crate::fields::{MAX_BODY, framing, range_of, says_close};
 use crate::refusals::{NO_HEAD, Refusal, Rejection};
 use httparse::Status;
 use httparse::spans::{EMPTY_HEADER_SPAN, HeaderSpan, RequestSpans, Span, parse_request};
 
 /// Maximum length of a head in bytes.
-pub(crate) const MOST_HEAD: usize = 8_192;
+pub(crate) const MAX_HEAD: usize = 8_192;
 /// Maximum number of fields in a head.
-pub(crate) const MOST_FIELDS: usize = 32;
+pub(crate) const MAX_FIELDS: usize = 32;
 /// Maximum length of a request in bytes.
-pub(crate) const MOST_REQUEST: usize = MOST_HEAD + MOST_BODY as usize;
+pub(crate) const MAX_REQUEST: usize = MAX_HEAD + MAX_BODY as usize;
 
 /// Where the parts of a request are.
 #[derive(Clone, Copy, Debug)]
@@ -61,10 +61,10 @@ pub(crate) fn find_request(bytes: &[u8]) -> Next
             until: 1,
         });
     }
-    let full = bytes.len() >= MOST_HEAD;
-    let mut fields = [EMPTY_HEADER_SPAN; MOST_FIELDS];
+    let full = bytes.len() >= MAX_HEAD;
+    let mut fields = [EMPTY_HEADER_SPAN; MAX_FIELDS];
     match parse_request(bytes, &mut fields) {
-        Ok(Status::Complete(head)) if head.len > MOST_HEAD => Next::Refused(rejection),
+        Ok(Status::Complete(head)) if head.len > MAX_HEAD => Next::Refused(rejection),
         Ok(Status::Complete(head)) => framed(bytes, &head, &fields),
         Ok(Status::Partial) if full => Next::Refused(rejection),
         Ok(Status::Partial) => Next::More(Missing {
@@ -95,8 +95,8 @@ fn framed(bytes: &[u8], head: &RequestSpans, fields: &[HeaderSpan]) -> Next
     requires within { IsRequestWithin bytes.now fields.now head.now }
     requires is { IsRequestOf bytes.now fields.now head.now }
     requires some { 0 < length bytes.now }
-    requires size { head.now.len ≤ MOST_HEAD }
-    requires room { length fields.now ≤ MOST_FIELDS }
+    requires size { head.now.len ≤ MAX_HEAD }
+    requires room { length fields.now ≤ MAX_FIELDS }
     ensures { IsNext bytes.now result }
 {
     let fields = &fields[..head.headers];

@@ -45,7 +45,7 @@ pub trait Handler {
     // The length in bytes of the content of the last reply, if it is read in parts.
     ghost size: { Self → ℕ };
 
-    /// Answers a request. The type of the content and the list of methods have at most `MOST_WORD` bytes.
+    /// Answers a request. The type of the content and the list of methods have at most `MAX_WORD` bytes.
     /// The reply to a HEAD request is written without its content.
     /// If the first bytes of content in parts can't be read, reply otherwise: after the head it is too late.
     fn answer(&mut self, request: &Request<'_>) -> Reply

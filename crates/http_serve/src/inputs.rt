@@ -1,10 +1,10 @@
 //! The bytes read but not answered.
 ghost use Rattle.std.specs.Prelude.{◌≡◌, ◌≤◌, ◌<◌, ◌+◌, ◌-◌, ◌++◌, ℕ, List, [], length, take, drop, slice_range, vec_len, IfOk, OnErr};
-ghost use Rattle.http_serve.specs.declared.frames.TheConstants.{MOST_REQUEST};
+ghost use Rattle.http_serve.specs.declared.frames.TheConstants.{MAX_REQUEST};
 ghost use Rattle.http_serve.specs.Input.{InputView, buffer_size};
 ghost use Rattle.std.specs.Io.KnownBytes.{Consumes, IsAtEnd};
 
-use crate::frames::MOST_REQUEST;
+use crate::frames::MAX_REQUEST;
 use std::alloc::{AllocError, Global};
 use std::io::Read;
 use std::marker::Model;
@@ -16,7 +16,7 @@ pub(crate) struct ReadFault;
 /// The size of the buffer in bytes. If it is used up and less than one request waits, more bytes were
 /// answered than wait, so moving the waiting bytes to its front costs less than reading the others did.
 /// A read with room for this many bytes is made if none wait: before the first request, or between two.
-pub const READ_SPACE: usize = 2 * MOST_REQUEST;
+pub const READ_SPACE: usize = 2 * MAX_REQUEST;
 
 /// Makes one read into the buffer, from an offset.
 fn read_behind<R: Read>(reader: &mut R, buffer: &mut [u8], end: usize) -> Result<usize, ReadFault>
@@ -84,7 +84,7 @@ impl Input {
 
     /// Moves the waiting bytes to the front of the buffer if it is used up. Returns how many bytes it moved.
     pub(crate) fn make_room(&mut self) -> usize
-        requires { length self.old.waiting < MOST_REQUEST }
+        requires { length self.old.waiting < MAX_REQUEST }
         ensures same { self.new.waiting ≡ self.old.waiting }
         ensures room { 0 < self.new.room }
         ensures moved { result ≤ length self.old.waiting }
@@ -100,7 +100,7 @@ impl Input {
 
     /// Makes one read and adds its bytes.
     pub(crate) fn read_from<R: Read>(&mut self, reader: &mut R) -> Result<usize, ReadFault>
-        requires { length self.old.waiting < MOST_REQUEST }
+        requires { length self.old.waiting < MAX_REQUEST }
         ensures ok { IfOk result (λ n. (more : List ℕ) × Consumes (R.remaining reader.old) (R.remaining reader.new) more
             × (self.new.waiting ≡ self.old.waiting ++ more) × (n ≡ length more) × (n ≡ 0 → IsAtEnd (R.remaining reader.new))) }
         ensures few { IfOk result (λ n. n ≤ buffer_size) }

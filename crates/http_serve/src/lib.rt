@@ -15,7 +15,7 @@ mod searches;
 pub mod status;
 mod writes;
 
-pub use connection::{End, MOST_READS, ServeFault, Served, serve, serve_turns};
+pub use connection::{End, MAX_READS, ServeFault, Served, serve, serve_turns};
 pub use handlers::{ContentFault, Handler, PART_SIZE, Request};
 pub use inputs::READ_SPACE;
-pub use replies::{Content, ContentRange, MOST_WORD, Reply};
+pub use replies::{Content, ContentRange, MAX_WORD, Reply};

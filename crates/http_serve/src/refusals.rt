@@ -18,7 +18,7 @@ pub(crate) enum Refusal {
     Expect,
     /// There is more than one content-length, or it isn't digits alone.
     Length,
-    /// The body is longer than `MOST_BODY`.
+    /// The body is longer than `MAX_BODY`.
     Body,
     /// The input ends before the body does.
     Short,

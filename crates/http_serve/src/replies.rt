@@ -1,12 +1,12 @@
 //! Replies and their bytes.
 ghost use Rattle.std.specs.Prelude.{◌≡◌, ◌≤◌, ◌<◌, ◌+◌, ◌*◌, ◌++◌, length, vec_len, vec_capacity, IfSome, None, not, ◌||◌};
 ghost use Rattle.std.specs.Option.{option_map};
-ghost use Rattle.decimal_number.specs.declared.TheConstants.{MOST_DIGITS};
+ghost use Rattle.decimal_number.specs.declared.TheConstants.{MAX_DIGITS};
 ghost use Rattle.http_serve.specs.Parts.{front_content, front_bytes};
 ghost use Rattle.http_serve.specs.Reply.{HasShortWords, head_view, content_size, part_line, unsatisfied_line};
 ghost use Rattle.http_serve.specs.Reply.{range_line, word_line, length_line, closing_line, field_lines, reply_head, has_no_content};
 ghost use Rattle.http_serve.specs.Sent.{Sends};
-ghost use Rattle.http_serve.specs.declared.replies.TheConstants.{MOST_WORD};
+ghost use Rattle.http_serve.specs.declared.replies.TheConstants.{MAX_WORD};
 
 use crate::status;
 use crate::writes::{WriteFault, send_all, send_both};
@@ -15,7 +15,7 @@ use status_phrase::phrase_of;
 use std::io::Write;
 
 /// Maximum length in bytes of a content type and of a list of methods.
-pub const MOST_WORD: usize = 64;
+pub const MAX_WORD: usize = 64;
 
 /// The content of a reply.
 #[derive(Drop)]
@@ -68,11 +68,11 @@ pub enum ContentRange {
 pub struct Reply {
     /// The status code, such as `status::OK`.
     pub status: u16,
-    /// The content type, such as `text/plain`: at most `MOST_WORD` bytes.
+    /// The content type, such as `text/plain`: at most `MAX_WORD` bytes.
     pub kind: Option<&'static str>,
     /// Which part of a whole the content is.
     pub range: Option<ContentRange>,
-    /// The allowed methods, such as `GET, HEAD`: at most `MOST_WORD` bytes.
+    /// The allowed methods, such as `GET, HEAD`: at most `MAX_WORD` bytes.
     pub allow: Option<&'static str>,
     pub content: Content,
 }
@@ -117,9 +117,9 @@ fn closing_line(close: bool) -> &'static [u8]
 /// Adds the line of a part.
 #[tactic(auto, unfolding(crate::specs::Reply::part_line))]
 fn put_part_line(out: &mut Vec<u8>, first: u64, last: u64, total: u64)
-    requires room { vec_len out.old + 3 * MOST_DIGITS + 25 ≤ vec_capacity out.old }
+    requires room { vec_len out.old + 3 * MAX_DIGITS + 25 ≤ vec_capacity out.old }
     ensures items { out.new.items ≡ out.old.items ++ part_line first last total }
-    ensures len { vec_len out.new ≤ vec_len out.old + 3 * MOST_DIGITS + 25 }
+    ensures len { vec_len out.new ≤ vec_len out.old + 3 * MAX_DIGITS + 25 }
     ensures capacity { vec_capacity out.old ≤ vec_capacity out.new }
 {
     push_text(out, b"content-range: bytes ");
@@ -134,9 +134,9 @@ fn put_part_line(out: &mut Vec<u8>, first: u64, last: u64, total: u64)
 /// Adds the line of an unsatisfied range.
 #[tactic(auto, unfolding(crate::specs::Reply::unsatisfied_line))]
 fn put_unsatisfied_line(out: &mut Vec<u8>, total: u64)
-    requires room { vec_len out.old + MOST_DIGITS + 25 ≤ vec_capacity out.old }
+    requires room { vec_len out.old + MAX_DIGITS + 25 ≤ vec_capacity out.old }
     ensures items { out.new.items ≡ out.old.items ++ unsatisfied_line total }
-    ensures len { vec_len out.new ≤ vec_len out.old + MOST_DIGITS + 25 }
+    ensures len { vec_len out.new ≤ vec_len out.old + MAX_DIGITS + 25 }
     ensures capacity { vec_capacity out.old ≤ vec_capacity out.new }
 {
     push_text(out, b"content-range: bytes */");
@@ -146,9 +146,9 @@ fn put_unsatisfied_line(out: &mut Vec<u8>, total: u64)
 
 /// Adds the line of the range, if there is one.
 fn put_range_line(out: &mut Vec<u8>, range: Option<ContentRange>)
-    requires room { vec_len out.old + 3 * MOST_DIGITS + 25 ≤ vec_capacity out.old }
+    requires room { vec_len out.old + 3 * MAX_DIGITS + 25 ≤ vec_capacity out.old }
     ensures items { out.new.items ≡ out.old.items ++ range_line range }
-    ensures len { vec_len out.new ≤ vec_len out.old + 3 * MOST_DIGITS + 25 }
+    ensures len { vec_len out.new ≤ vec_len out.old + 3 * MAX_DIGITS + 25 }
     ensures capacity { vec_capacity out.old ≤ vec_capacity out.new }
 {
     match range {
@@ -161,7 +161,7 @@ fn put_range_line(out: &mut Vec<u8>, range: Option<ContentRange>)
 /// Adds the line of a field whose value is `word`, if there is one. `name` ends with a colon and a space.
 #[tactic(auto, unfolding(crate::specs::Reply::word_line))]
 fn put_word_line(out: &mut Vec<u8>, name: &[u8], word: Option<&str>)
-    requires short { IfSome (option_map (λ word. word.now) word) (λ word. length word ≤ MOST_WORD) }
+    requires short { IfSome (option_map (λ word. word.now) word) (λ word. length word ≤ MAX_WORD) }
     requires room { vec_len out.old + 66 + length name.now ≤ vec_capacity out.old }
     ensures items { out.new.items ≡ out.old.items ++ word_line name.now (option_map (λ word. word.now) word.entry) }
     ensures len { vec_len out.new ≤ vec_len out.old + 66 + length name.now }
@@ -178,9 +178,9 @@ fn put_word_line(out: &mut Vec<u8>, name: &[u8], word: Option<&str>)
 /// Adds the line of the length.
 #[tactic(auto, unfolding(crate::specs::Reply::length_line))]
 fn put_length_line(out: &mut Vec<u8>, size: u64)
-    requires { vec_len out.old + MOST_DIGITS + 18 ≤ vec_capacity out.old }
+    requires { vec_len out.old + MAX_DIGITS + 18 ≤ vec_capacity out.old }
     ensures items { out.new.items ≡ out.old.items ++ length_line size }
-    ensures len { vec_len out.new ≤ vec_len out.old + MOST_DIGITS + 18 }
+    ensures len { vec_len out.new ≤ vec_len out.old + MAX_DIGITS + 18 }
     ensures capacity { vec_capacity out.old ≤ vec_capacity out.new }
 {
     push_text(out, b"content-length: ");
@@ -192,9 +192,9 @@ fn put_length_line(out: &mut Vec<u8>, size: u64)
 #[tactic(auto, unfolding(crate::specs::Reply::type_name, crate::specs::Reply::allow_name))]
 fn put_field_lines(out: &mut Vec<u8>, reply: &Reply)
     requires words { HasShortWords (head_view reply.now) }
-    requires room { vec_len out.old + 4 * MOST_DIGITS + 196 ≤ vec_capacity out.old }
+    requires room { vec_len out.old + 4 * MAX_DIGITS + 196 ≤ vec_capacity out.old }
     ensures items { out.new.items ≡ out.old.items ++ field_lines (head_view reply.now) }
-    ensures len { vec_len out.new ≤ vec_len out.old + 4 * MOST_DIGITS + 196 }
+    ensures len { vec_len out.new ≤ vec_len out.old + 4 * MAX_DIGITS + 196 }
     ensures capacity { vec_capacity out.old ≤ vec_capacity out.new }
 {
     if reply.has_no_content() {

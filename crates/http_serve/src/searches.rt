@@ -5,7 +5,7 @@ ghost use Rattle.http_serve.specs.Frame.{IsNext, IsMissing};
 ghost use Rattle.http_serve.specs.Lines.{after_bytes};
 ghost use Rattle.http_serve.specs.Search.{IsKnown};
 
-use crate::frames::{MOST_HEAD, Missing, Next, find_request};
+use crate::frames::{MAX_HEAD, Missing, Next, find_request};
 use crate::lines::Lines;
 use crate::positions::Position;
 use crate::refusals::NO_HEAD;
@@ -54,7 +54,7 @@ fn scan_head(
     if lines.has_empty() {
         return None;
     }
-    if doubtful || scanned >= MOST_HEAD {
+    if doubtful || scanned >= MAX_HEAD {
         return None;
     }
     Some(Missing {

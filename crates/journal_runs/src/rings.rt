@@ -6,8 +6,8 @@ ghost use Rattle.edit_journal.specs.Releases.{IsBehind, MayTake};
 use crate::lines::{Line, RingVerb};
 use crate::trial::{Trial, fixed_text, outcome_text};
 use edit_journal::{
-    FIRST_RECORD_VERSION, Journal, LAST_RECORD_VERSION, MOST_RECORD_BYTES, Record, Start, head_in,
-    head_version,
+    FIRST_RECORD_VERSION, Journal, JournalPosition, LAST_RECORD_VERSION, MAX_RECORD_BYTES, Record,
+    head_in, head_version,
 };
 use script_bytes::spelled_briefly;
 use sector_disk::Sectors;
@@ -37,7 +37,7 @@ fn ring(
     alloc: Global,
     trial: &mut Trial,
     [first, places]: [u64; 2],
-    start: Start,
+    start: JournalPosition,
     version: u32,
 ) -> Result<Option<String>, AllocError> {
     let sectors = trial.disk.count();
@@ -64,7 +64,7 @@ fn is_record(version: u32, text: &[u8]) -> bool
     if version < FIRST_RECORD_VERSION || version > LAST_RECORD_VERSION {
         return false;
     }
-    let most = MOST_RECORD_BYTES + (version - FIRST_RECORD_VERSION);
+    let most = MAX_RECORD_BYTES + (version - FIRST_RECORD_VERSION);
     !text.is_empty() && text.len() <= most as usize
 }
 
@@ -106,7 +106,7 @@ fn may_take(records: u64, places: u64) -> bool
 }
 
 /// Whether a start is `behind` places after the first record in use.
-fn is_placed(journal: &Journal, start: Start, behind: u64) -> bool
+fn is_placed(journal: &Journal, start: JournalPosition, behind: u64) -> bool
     ensures { IsTrue result → start.place ≡ (journal.now.place + behind) % journal.now.places }
 {
     let place = (u128::from(journal.place) + u128::from(behind)) % u128::from(journal.places);
@@ -114,7 +114,7 @@ fn is_placed(journal: &Journal, start: Start, behind: u64) -> bool
 }
 
 /// Whether a start is between two records in use or at one of their ends, `behind` places after the first.
-fn is_behind(journal: &Journal, start: Start, behind: u64) -> bool
+fn is_behind(journal: &Journal, start: JournalPosition, behind: u64) -> bool
     ensures { IsTrue result → IsBehind journal.now start behind }
 {
     if behind > journal.used || start.edits < journal.edits || start.edits > journal.last {
@@ -190,14 +190,14 @@ pub(crate) fn answered(
 ) -> Result<Option<String>, AllocError> {
     match (verb, line.numbers.as_slice()) {
         (RingVerb::Ring, [first, places, place, edits]) => {
-            let start = Start {
+            let start = JournalPosition {
                 place: *place,
                 edits: *edits,
             };
             ring(alloc, trial, [*first, *places], start, LAST_RECORD_VERSION)
         }
         (RingVerb::Ring, [first, places, place, edits, version]) => {
-            let start = Start {
+            let start = JournalPosition {
                 place: *place,
                 edits: *edits,
             };

@@ -1,5 +1,5 @@
 //! The state of a script.
-use edit_journal::{Journal, Start};
+use edit_journal::{Journal, JournalPosition};
 use sector_disk::{FailingCalls, FaultyDisk, MemoryDisk};
 use std::alloc::{AllocError, Global};
 use std::fmt::Debug;
@@ -11,7 +11,7 @@ pub(crate) struct Trial {
     pub(crate) disk: FaultyDisk<MemoryDisk>,
     pub(crate) stopped: MemoryDisk,
     pub(crate) journal: Journal,
-    pub(crate) mark: Start,
+    pub(crate) mark: JournalPosition,
 }
 
 /// A journal of one place.
@@ -35,7 +35,7 @@ impl Trial {
             disk: sound(MemoryDisk::new(alloc, 0)?),
             stopped: MemoryDisk::new(alloc, 0)?,
             journal: LEAST,
-            mark: Start { place: 0, edits: 0 },
+            mark: JournalPosition { place: 0, edits: 0 },
         })
     }
 

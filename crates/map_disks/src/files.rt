@@ -5,12 +5,12 @@ ghost use Rattle.sector_disk.specs.Disk.History.{begun};
 ghost use Rattle.generations.specs.Areas.{IsSize};
 ghost use Rattle.generations.specs.declared.fault.StoreFault.TheVariants.{TooSmall, Damaged, Device};
 ghost use Rattle.generations.specs.declared.fault.What.TheVariants.{Size};
-ghost use Rattle.generations.specs.declared.sizes.TheConstants.{LEAST_SECTORS, MOST_SECTORS};
+ghost use Rattle.generations.specs.declared.sizes.TheConstants.{MIN_SECTORS, MAX_SECTORS};
 ghost use Rattle.tile_service.specs.Stored.{Keeps, first_state};
 ghost use Rattle.map_disks.specs.declared.fault.FileFault.TheVariants.{File, Store};
 
 use crate::fault::FileFault;
-use generations::{LEAST_SECTORS, MOST_SECTORS, StoreFault, What};
+use generations::{MAX_SECTORS, MIN_SECTORS, StoreFault, What};
 use sector_disk::{FileDisk, Sectors, Start, SystemFile};
 use std::fs::OpenFile;
 use std::io::{self, Read, Seek, Write};
@@ -21,13 +21,13 @@ use tile_service::Service;
 
 /// Checks that a disk can be formatted with this many sectors.
 fn check_size(sectors: u64) -> Result<(), StoreFault>
-    ensures small { sectors < LEAST_SECTORS → result ≡ Err TooSmall }
-    ensures large { MOST_SECTORS < sectors → result ≡ Err (Damaged Size) }
+    ensures small { sectors < MIN_SECTORS → result ≡ Err TooSmall }
+    ensures large { MAX_SECTORS < sectors → result ≡ Err (Damaged Size) }
     ensures fine { IsSize sectors → IsOk result }
 {
-    if sectors < LEAST_SECTORS {
+    if sectors < MIN_SECTORS {
         Err(StoreFault::TooSmall)
-    } else if sectors > MOST_SECTORS {
+    } else if sectors > MAX_SECTORS {
         Err(StoreFault::Damaged(What::Size))
     } else {
         Ok(())
@@ -70,8 +70,8 @@ pub fn formatted_file<
     S: Start,
 >(files: &R, path: &str, sectors: u64, start: S) -> Result<FileDisk<SystemFile<F>, S>, FileFault>
     requires zeros { S.found ≡ begun all_zeros }
-    ensures small { sectors < LEAST_SECTORS → result ≡ Err (Store TooSmall) }
-    ensures large { MOST_SECTORS < sectors → result ≡ Err (Store (Damaged Size)) }
+    ensures small { sectors < MIN_SECTORS → result ≡ Err (Store TooSmall) }
+    ensures large { MAX_SECTORS < sectors → result ≡ Err (Store (Damaged Size)) }
     ensures only { IsSize sectors → IfErr result (λ fault. (fault ≡ File) ⊎ (fault ≡ Store Device)) }
     ensures count { IfOk result (λ disk. ⟦<FileDisk<SystemFile<F>, S> as Sectors>⟧.sectors disk ≡ sectors) }
     ensures holds { IfOk result (λ disk. ⟦<FileDisk<SystemFile<F>, S> as Sectors>⟧.honest disk

@@ -4,7 +4,7 @@ ghost use Rattle.sector_disk.specs.Views.{memory_history, memory_sectors};
 ghost use Rattle.generations.specs.Areas.{IsSize};
 ghost use Rattle.generations.specs.declared.fault.StoreFault.TheVariants.{TooSmall, Damaged, Device, Memory};
 ghost use Rattle.generations.specs.declared.fault.What.TheVariants.{Size};
-ghost use Rattle.generations.specs.declared.sizes.TheConstants.{LEAST_SECTORS, MOST_SECTORS};
+ghost use Rattle.generations.specs.declared.sizes.TheConstants.{MIN_SECTORS, MAX_SECTORS};
 ghost use Rattle.map_replies.specs.State.{asked_service};
 ghost use Rattle.tile_service.specs.Service.{IsUp};
 ghost use Rattle.tile_service.specs.Stored.{Keeps, first_state};
@@ -18,8 +18,8 @@ use tile_service::Service;
 
 /// A disk in memory that holds the empty map.
 fn fresh_disk(alloc: Global, sectors: u64) -> Result<MemoryDisk, StoreFault>
-    ensures small { sectors < LEAST_SECTORS → result ≡ Err TooSmall }
-    ensures large { MOST_SECTORS < sectors → result ≡ Err (Damaged Size) }
+    ensures small { sectors < MIN_SECTORS → result ≡ Err TooSmall }
+    ensures large { MAX_SECTORS < sectors → result ≡ Err (Damaged Size) }
     ensures only { IsSize sectors → IfErr result (λ fault. fault ≡ Device) }
     ensures count { IfOk result (λ disk. memory_sectors disk ≡ sectors) }
     ensures holds { IfOk result (λ disk. Keeps sectors sectors first_state (memory_history disk)) }
@@ -36,8 +36,8 @@ fn fresh_disk(alloc: Global, sectors: u64) -> Result<MemoryDisk, StoreFault>
 
 /// A service over the empty map on a disk in memory.
 pub fn fresh_service(alloc: Global, sectors: u64) -> Result<MapReplies<MemoryDisk>, StoreFault>
-    ensures small { sectors < LEAST_SECTORS → result ≡ Err TooSmall }
-    ensures large { MOST_SECTORS < sectors → result ≡ Err (Damaged Size) }
+    ensures small { sectors < MIN_SECTORS → result ≡ Err TooSmall }
+    ensures large { MAX_SECTORS < sectors → result ≡ Err (Damaged Size) }
     ensures only { IsSize sectors → IfErr result (λ fault. (fault ≡ Device) ⊎ (fault ≡ Memory)) }
     ensures ready { IfOk result (λ replies. IsUp sectors (memory_history (asked_service replies).disk) first_state (asked_service replies)) }
 {

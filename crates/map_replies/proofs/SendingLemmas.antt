@@ -23,8 +23,8 @@ use Rattle.tile_routes.specs.declared.method.Method.{Method}
 use Rattle.tile_routes.specs.Paths.{Asked}
 use Rattle.map_replies.specs.declared.fault.RequestFault.{RequestFault}
 use Rattle.map_replies.specs.declared.fault.RequestFault.TheVariants.{Memory}
-use Rattle.map_replies.specs.declared.parts.Part.{Part}
-use Rattle.map_replies.specs.declared.parts.Part.TheVariants.{Whole, Between, Beyond}
+use Rattle.map_replies.specs.declared.parts.ArchiveRange.{ArchiveRange}
+use Rattle.map_replies.specs.declared.parts.ArchiveRange.TheVariants.{Whole, Between, Beyond}
 use Rattle.map_replies.specs.declared.parts.Sending.{Sending}
 use Rattle.map_replies.specs.Meanings.{OrNoMemory, MeansPart, MeansArchive, Answers, AnswersAllowed, AnswersMethod, DiskFailed}
 use Rattle.map_replies.specs.Parts.{range_for, IsPart, start_of, size_of, part_reply}
@@ -115,17 +115,17 @@ all_in_parts (contents.Parts first size) fact is = is
 
 -- ---- parts of an archive
 
-inside_end : (part : Part) (total : ℕ) → IsInside part total → start_of part + size_of part total ≤ total
+inside_end : (part : ArchiveRange) (total : ℕ) → IsInside part total → start_of part + size_of part total ≤ total
 inside_end Whole total inside = omega arith
 inside_end (Between first last) total inside = omega (arith, inside.0, inside.1)
 inside_end Beyond total inside = absurd inside
 
-content_of : (part : Part) (total : ℕ) (a : List ℕ) → IsInside part total → (part_reply part total a).content ≡ a
+content_of : (part : ArchiveRange) (total : ℕ) (a : List ℕ) → IsInside part total → (part_reply part total a).content ≡ a
 content_of Whole total a inside = refl
 content_of (Between first last) total a inside = refl
 content_of Beyond total a inside = absurd inside
 
-with_content : (part : Part) (total : ℕ) (a b : List ℕ) → IsInside part total → record (part_reply part total a) { content = b } ≡ part_reply part total b
+with_content : (part : ArchiveRange) (total : ℕ) (a b : List ℕ) → IsInside part total → record (part_reply part total a) { content = b } ≡ part_reply part total b
 with_content Whole total a b inside = refl
 with_content (Between first last) total a b inside = refl
 with_content Beyond total a b inside = absurd inside
@@ -219,7 +219,7 @@ module _ {D : Type 0} (sectors : D → ℕ) (honest : D → Type 0) (history : D
 module _ {D : Type 0} (sectors : D → ℕ) (honest : D → Type 0) (history : D → History) (faults : D → ℕ) where
   -- ---- a part that is sent
 
-  answers_read : (part : Part) (old new : ServiceView D) (reply : ReplyView) (content : List ℕ) → IsInside part old.archive_len
+  answers_read : (part : ArchiveRange) (old new : ServiceView D) (reply : ReplyView) (content : List ℕ) → IsInside part old.archive_len
       → length content ≡ size_of part old.archive_len → reply ≡ part_reply part old.archive_len content
       → Takes sectors honest history old (read (start_of part) (Some content)) new
       → Answers sectors honest history (MeansPart (DiskFailed faults old new) old.archive_len part) old new reply
@@ -229,13 +229,13 @@ module _ {D : Type 0} (sectors : D → ℕ) (honest : D → Type 0) (history : D
       (read first (Some content) ∷ [], (Some content, long, (λ none. absurd (none-some content (sym none))), shows, refl), (new, takes, refl))
   answers_read Beyond old new reply content inside long shows takes = absurd inside
 
-  answers_part : (part : Part) (old : ServiceView D) (sending : Sending) (new : ServiceView D) (reply : ReplyView)
+  answers_part : (part : ArchiveRange) (old : ServiceView D) (sending : Sending) (new : ServiceView D) (reply : ReplyView)
       → SendsPart sectors honest history faults part old sending new reply
       → Answers sectors honest history (MeansPart (DiskFailed faults old new) old.archive_len part) old new reply
   answers_part part old sending new reply sends = answers_read part old new reply sends.content sends.sent.0 sends.long sends.shows sends.reads
 
   -- the reply with such a content
-  pub part_sent : (old new : ServiceView D) (part : Part) (sending : Sending) (reply : Reply) (content : Content) → IsInside part old.archive_len
+  pub part_sent : (old new : ServiceView D) (part : ArchiveRange) (sending : Sending) (reply : Reply) (content : Content) → IsInside part old.archive_len
       → Begins sectors honest history old new (start_of part) (size_of part old.archive_len) content → faults new.disk ≡ faults old.disk
       → reply.content ≡ content → ((bytes : List ℕ) → reply_view bytes reply ≡ part_reply part old.archive_len (content_bytes bytes content))
       → sending ≡ record { first = start_of part; length = size_of part old.archive_len }
@@ -257,7 +257,7 @@ module _ {D : Type 0} (sectors : D → ℕ) (honest : D → Type 0) (history : D
       )
 
   -- the reply if the disk failed
-  pub part_failed : (old new : ServiceView D) (part : Part) (sending : Sending) (reply : Reply) → IsInside part old.archive_len → IsWhole reply
+  pub part_failed : (old new : ServiceView D) (part : ArchiveRange) (sending : Sending) (reply : Reply) → IsInside part old.archive_len → IsWhole reply
       → reply_view [] reply ≡ service_refusal Device → DiskFailed faults old new → Takes sectors honest history old (read (start_of part) None) new
       → AnswersPart sectors honest history faults part old sending new reply
   part_failed old new Whole sending reply inside whole is failed takes =
@@ -273,11 +273,11 @@ module _ {D : Type 0} (sectors : D → ℕ) (honest : D → Type 0) (history : D
     AnswersArchive reply = Answers sectors honest history (OrNoMemory (MeansArchive (DiskFailed faults old new) old.archive_len range)) old new reply
 
     -- a part of it
-    asked_part : (part : Part) (reply : ReplyView) → 0 < old.archive_len → IsPart range old.archive_len part
+    asked_part : (part : ArchiveRange) (reply : ReplyView) → 0 < old.archive_len → IsPart range old.archive_len part
         → Answers sectors honest history (MeansPart (DiskFailed faults old new) old.archive_len part) old new reply → AnswersArchive reply
     asked_part part reply some asked is = (is.0, inl (inr (some, part, asked, is.1)), is.2)
 
-    pub archive_answered : (part : Part) (r : Result Reply RequestFault) → 0 < old.archive_len → IsPart range old.archive_len part
+    pub archive_answered : (part : ArchiveRange) (r : Result Reply RequestFault) → 0 < old.archive_len → IsPart range old.archive_len part
         → IfOk r (AnswersPart sectors honest history faults part old sending new) → IfErr r (λ fault. (new ≡ old) × (fault ≡ Memory))
         → IsAnsweredInParts AnswersArchive (IsSending sectors honest history faults range old sending new) r
     archive_answered part (Ok reply) some asked is refused = answer_on _ _ _ _ reply (λ view. asked_part part view some asked)

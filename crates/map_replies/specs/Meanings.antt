@@ -22,8 +22,8 @@ use Rattle.tile_service.specs.declared.fault.ServiceFault.{ServiceFault}
 use Rattle.tile_service.specs.declared.fault.ServiceFault.TheVariants.{Device}
 use Rattle.map_replies.specs.declared.fault.RequestFault.{RequestFault}
 use Rattle.map_replies.specs.declared.fault.RequestFault.TheVariants.{NotFound, Memory}
-use Rattle.map_replies.specs.declared.parts.Part.{Part}
-use Rattle.map_replies.specs.declared.parts.Part.TheVariants.{Beyond}
+use Rattle.map_replies.specs.declared.parts.ArchiveRange.{ArchiveRange}
+use Rattle.map_replies.specs.declared.parts.ArchiveRange.TheVariants.{Beyond}
 use Rattle.map_replies.specs.Bodies.{SaysFeature, SaysChanges, HasBodyFault, HasBatchFault}
 use Rattle.map_replies.specs.Parts.{range_for, IsPart, start_of, size_of, part_reply, bytes_reply}
 use Rattle.map_replies.specs.Words.{refusal_of, not_allowed_reply, outcome_reply, left_reply, published_reply, cancel_reply}
@@ -94,7 +94,7 @@ MeansPublish failed old new reply happenings = (outcome : Result Published Servi
 
 -- A part is read in full, or the disk has failed. Bytes that are never sent count as read: for HEAD, and after a fault of the disk or of the
 -- connection. For a range that starts after the archive's last byte nothing is read.
-abbrev pub MeansPart : (failed : Type 0) → (total : ℕ) → Part → ReplyView → List Happening → Type 0
+abbrev pub MeansPart : (failed : Type 0) → (total : ℕ) → ArchiveRange → ReplyView → List Happening → Type 0
 MeansPart failed total Beyond reply happenings = (reply ≡ part_reply Beyond total []) × (happenings ≡ [])
 MeansPart failed total part reply happenings = (outcome : Option (List ℕ)) × IfSome outcome (λ content. length content ≡ size_of part total)
     × (outcome ≡ None → failed) × (reply ≡ bytes_reply part total outcome) × (happenings ≡ read (start_of part) outcome ∷ [])
@@ -102,7 +102,7 @@ MeansPart failed total part reply happenings = (outcome : Option (List ℕ)) × 
 -- The part that a range selects of an archive of total bytes. There is no archive exactly if total is 0.
 abbrev pub MeansArchive : (failed : Type 0) → (total : ℕ) → Option (List ℕ) → ReplyView → List Happening → Type 0
 MeansArchive failed total range reply happenings = ((total ≡ 0) × MeansRefusal NotFound reply happenings)
-    ⊎ ((0 < total) × (part : Part) × IsPart range total part × MeansPart failed total part reply happenings)
+    ⊎ ((0 < total) × (part : ArchiveRange) × IsPart range total part × MeansPart failed total part reply happenings)
 
 -- ---- routed requests: version is that of the service's disk, old and new are the service's numbers before and after, failed says that
 -- its disk has failed meanwhile

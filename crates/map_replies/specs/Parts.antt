@@ -6,8 +6,8 @@ use Rattle.http_serve.specs.declared.replies.ContentRange.TheVariants as ranges
 use Rattle.tile_routes.specs.declared.method.Method.{Method}
 use Rattle.tile_routes.specs.declared.method.Method.TheVariants.{Get}
 use Rattle.tile_service.specs.declared.fault.ServiceFault.TheVariants.{Device}
-use Rattle.map_replies.specs.declared.parts.Part.{Part}
-use Rattle.map_replies.specs.declared.parts.Part.TheVariants.{Whole, Between, Beyond}
+use Rattle.map_replies.specs.declared.parts.ArchiveRange.{ArchiveRange}
+use Rattle.map_replies.specs.declared.parts.ArchiveRange.TheVariants.{Whole, Between, Beyond}
 use Rattle.map_replies.specs.Words.{text_type, service_refusal}
 
 -- a range is ignored unless the method is GET (RFC 9110, 14.2)
@@ -21,19 +21,19 @@ Asks None first last = ⊥
 Asks (Some value) first last = IsRange value first last
 
 -- The part of total bytes that a range selects. A missing or ignored range selects all of them; one that ends after the last byte is cut there.
-abbrev pub IsPart : Option (List ℕ) → (total : ℕ) → Part → Type 0
+abbrev pub IsPart : Option (List ℕ) → (total : ℕ) → ArchiveRange → Type 0
 IsPart range total Whole = (first last : ℕ) → ¬ (Asks range first last)
 IsPart range total (Between first last) = (asked : ℕ) × Asks range first asked × (first < total) × (last ≡ min asked (total - 1))
 IsPart range total Beyond = (first : ℕ) × (last : ℕ) × Asks range first last × (total ≤ first)
 
 -- how many bytes a part has
-abbrev pub size_of : Part → (total : ℕ) → ℕ
+abbrev pub size_of : ArchiveRange → (total : ℕ) → ℕ
 size_of Whole total = total
 size_of (Between first last) total = last + 1 - first
 size_of Beyond total = 0
 
 -- where it begins
-abbrev pub start_of : Part → ℕ
+abbrev pub start_of : ArchiveRange → ℕ
 start_of Whole = 0
 start_of (Between first last) = first
 start_of Beyond = 0
@@ -46,7 +46,7 @@ unfoldable pub range_word : List ℕ
 range_word = codes "Range\n"
 
 -- the reply with a part of total bytes: 200 OK, 206 Partial Content, or 416 Range Not Satisfiable
-abbrev pub part_reply : Part → (total : ℕ) → (content : List ℕ) → ReplyView
+abbrev pub part_reply : ArchiveRange → (total : ℕ) → (content : List ℕ) → ReplyView
 part_reply Whole total content = plain_reply 200 (Some octets_type) content
 part_reply (Between first last) total content =
     record { status = 206; kind = Some octets_type; range = Some (ranges.Part first last total); allow = None; content = content }
@@ -54,6 +54,6 @@ part_reply Beyond total content =
     record { status = 416; kind = Some text_type; range = Some (ranges.Unsatisfied total); allow = None; content = range_word }
 
 -- the same if its bytes were read, or the refusal Device if the disk failed
-abbrev pub bytes_reply : Part → (total : ℕ) → Option (List ℕ) → ReplyView
+abbrev pub bytes_reply : ArchiveRange → (total : ℕ) → Option (List ℕ) → ReplyView
 bytes_reply part total None = service_refusal Device
 bytes_reply part total (Some content) = part_reply part total content

@@ -12,8 +12,8 @@ use Rattle.tile_service.specs.Machine.{read}
 use Rattle.tile_service.specs.Runs.{Takes}
 use Rattle.tile_service.specs.Service.{ServiceView}
 use Rattle.map_replies.specs.declared.fault.RequestFault.{RequestFault}
-use Rattle.map_replies.specs.declared.parts.Part.{Part}
-use Rattle.map_replies.specs.declared.parts.Part.TheVariants.{Whole, Between, Beyond}
+use Rattle.map_replies.specs.declared.parts.ArchiveRange.{ArchiveRange}
+use Rattle.map_replies.specs.declared.parts.ArchiveRange.TheVariants.{Whole, Between, Beyond}
 use Rattle.map_replies.specs.declared.parts.Sending.{Sending}
 use Rattle.map_replies.specs.Meanings.{MeansPart, Answers, DiskFailed}
 use Rattle.map_replies.specs.Parts.{range_for, IsPart, start_of, size_of, part_reply}
@@ -34,13 +34,13 @@ IsAnsweredInParts P Q (Ok reply) = IsAnswer P Q reply
 IsAnsweredInParts P Q (Err fault) = P (refusal_of fault)
 
 -- a part lies within an archive of total bytes
-abbrev pub IsInside : Part → (total : ℕ) → Type 0
+abbrev pub IsInside : ArchiveRange → (total : ℕ) → Type 0
 IsInside Whole total = ⊤
 IsInside (Between first last) total = (first ≤ last) × (last < total)
 IsInside Beyond total = ⊥
 
 -- what is sent is this part
-abbrev pub IsSent : Part → (total : ℕ) → Sending → Type 0
+abbrev pub IsSent : ArchiveRange → (total : ℕ) → Sending → Type 0
 IsSent part total sending = IsInside part total × (sending ≡ record { first = start_of part; length = size_of part total })
 
 -- the bytes that a read returned, or None if it failed
@@ -62,7 +62,7 @@ module _ {D : Type 0} (sectors : D → ℕ) (honest : D → Type 0) (history : D
   -- over a disk that counts its faults
   module _ (faults : D → ℕ) where
     -- a part is being sent: the reply contains what was read so far, and no read has failed
-    pub record SendsPart (part : Part) (old : ServiceView D) (sending : Sending) (new : ServiceView D) (reply : ReplyView) : Type 0 where
+    pub record SendsPart (part : ArchiveRange) (old : ServiceView D) (sending : Sending) (new : ServiceView D) (reply : ReplyView) : Type 0 where
       pub sent : IsSent part old.archive_len sending
       pub content : List ℕ
       pub long : length content ≡ size_of part old.archive_len
@@ -71,14 +71,14 @@ module _ {D : Type 0} (sectors : D → ℕ) (honest : D → Type 0) (history : D
       pub unfailed : faults new.disk ≡ faults old.disk
 
     -- a part is read, and is being sent, or the disk failed
-    abbrev pub AnswersPart : Part → (old : ServiceView D) → Sending → (new : ServiceView D) → Reply → Type 0
+    abbrev pub AnswersPart : ArchiveRange → (old : ServiceView D) → Sending → (new : ServiceView D) → Reply → Type 0
     AnswersPart part old sending new =
         IsAnswer (Answers sectors honest history (MeansPart (DiskFailed faults old new) old.archive_len part) old new) (SendsPart part old sending new)
 
     -- the part that a range selects is being sent
     pub record IsSending (range : Option (List ℕ)) (old : ServiceView D) (sending : Sending) (new : ServiceView D) (reply : ReplyView) : Type 0 where
       pub some : 0 < old.archive_len
-      pub part : Part
+      pub part : ArchiveRange
       pub asked : IsPart range old.archive_len part
       pub sends : SendsPart part old sending new reply
 

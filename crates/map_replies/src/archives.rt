@@ -9,7 +9,7 @@ ghost use Rattle.map_replies.specs.Sending.{IsAnsweredInParts, read_outcome, Beg
 ghost use Rattle.map_replies.specs.State.{asked_service, sending_size};
 
 use crate::fault::RequestFault;
-use crate::parts::{self, Part, Sending, begin_size, part_of};
+use crate::parts::{self, ArchiveRange, Sending, begin_size, part_of};
 use crate::service::MapReplies;
 use http_serve::{Content, ContentFault, Reply};
 use sector_disk::Sectors;
@@ -65,7 +65,7 @@ impl<D: Sectors + Drop> MapReplies<D> {
     /// The whole archive, `total` bytes.
     fn whole_archive(&mut self, total: u64, bare: bool) -> Result<Reply, RequestFault>
         requires { total ≡ (asked_service self.old).archive_len }
-        ensures answered { IfOk result (AnswersPart D.sectors D.honest D.history D.faults Part.Whole
+        ensures answered { IfOk result (AnswersPart D.sectors D.honest D.history D.faults ArchiveRange.Whole
             (asked_service self.old) self.new.sending (asked_service self.new)) }
         ensures words { IfOk result (λ reply. HasShortWords (head_view reply)) }
         ensures refused { IfErr result (λ fault. (asked_service self.new ≡ asked_service self.old) × (fault ≡ RequestFault.Memory)) }
@@ -88,7 +88,7 @@ impl<D: Sectors + Drop> MapReplies<D> {
         requires total { total ≡ (asked_service self.old).archive_len }
         requires order { first ≤ last }
         requires within { last < total }
-        ensures answered { IfOk result (AnswersPart D.sectors D.honest D.history D.faults (Part.Between first last)
+        ensures answered { IfOk result (AnswersPart D.sectors D.honest D.history D.faults (ArchiveRange.Between first last)
             (asked_service self.old) self.new.sending (asked_service self.new)) }
         ensures words { IfOk result (λ reply. HasShortWords (head_view reply)) }
         ensures refused { IfErr result (λ fault. (asked_service self.new ≡ asked_service self.old) × (fault ≡ RequestFault.Memory)) }
@@ -120,9 +120,9 @@ impl<D: Sectors + Drop> MapReplies<D> {
             return Err(RequestFault::NotFound);
         }
         match part_of(range, total) {
-            Part::Whole => self.whole_archive(total, bare),
-            Part::Between { first, last } => self.archive_part(first, last, total, bare),
-            Part::Beyond => Ok(parts::beyond(total)),
+            ArchiveRange::Whole => self.whole_archive(total, bare),
+            ArchiveRange::Between { first, last } => self.archive_part(first, last, total, bare),
+            ArchiveRange::Beyond => Ok(parts::beyond(total)),
         }
     }
 

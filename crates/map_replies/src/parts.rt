@@ -12,7 +12,7 @@ use tile_routes::Method;
 
 /// The bytes of the archive to send.
 #[derive(Clone, Copy, Debug, PartialEq, Eq)]
-pub(crate) enum Part {
+pub(crate) enum ArchiveRange {
     /// All of them.
     Whole,
     /// From `first` to `last` inclusive, counted from 0.
@@ -37,17 +37,17 @@ pub(crate) fn is_head(method: Method) -> bool {
 }
 
 /// The part of `total` bytes that a range selects.
-pub(crate) fn part_of(range: Option<&[u8]>, total: u64) -> Part
+pub(crate) fn part_of(range: Option<&[u8]>, total: u64) -> ArchiveRange
     requires { 0 < total }
     ensures { IsPart (option_map (λ value. value.now) range.entry) total result }
 {
     let Some(value) = range else {
-        return Part::Whole;
+        return ArchiveRange::Whole;
     };
     match byte_range(value) {
-        None => Part::Whole,
-        Some(range) if range.first >= total => Part::Beyond,
-        Some(range) => Part::Between {
+        None => ArchiveRange::Whole,
+        Some(range) if range.first >= total => ArchiveRange::Beyond,
+        Some(range) => ArchiveRange::Between {
             first: range.first,
             last: range.last.min(total - 1),
         },
@@ -77,7 +77,7 @@ pub(crate) fn begin_size(first: u64, length: u64, bare: bool) -> u64
 /// The reply with the whole archive.
 #[tactic(auto, unfolding(crate::specs::Parts::octets_type))]
 pub(crate) fn whole(content: Content) -> Reply
-    ensures reply { (bytes : List ℕ) → reply_view bytes result ≡ part_reply Part.Whole 0 (content_bytes bytes content) }
+    ensures reply { (bytes : List ℕ) → reply_view bytes result ≡ part_reply ArchiveRange.Whole 0 (content_bytes bytes content) }
     ensures content { result.content ≡ content }
     ensures words { HasShortWords (head_view result) }
 {
@@ -87,7 +87,7 @@ pub(crate) fn whole(content: Content) -> Reply
 /// The reply with a part of the archive.
 #[tactic(auto, unfolding(crate::specs::Parts::octets_type))]
 pub(crate) fn between(first: u64, last: u64, total: u64, content: Content) -> Reply
-    ensures reply { (bytes : List ℕ) → reply_view bytes result ≡ part_reply (Part.Between first last) total (content_bytes bytes content) }
+    ensures reply { (bytes : List ℕ) → reply_view bytes result ≡ part_reply (ArchiveRange.Between first last) total (content_bytes bytes content) }
     ensures content { result.content ≡ content }
     ensures words { HasShortWords (head_view result) }
 {
@@ -103,7 +103,7 @@ pub(crate) fn between(first: u64, last: u64, total: u64, content: Content) -> Re
 /// The reply to a range after the last byte.
 #[tactic(auto, unfolding(crate::specs::Words::text_type, crate::specs::Parts::range_word))]
 pub(crate) fn beyond(total: u64) -> Reply
-    ensures reply { reply_view [] result ≡ part_reply Part.Beyond total [] }
+    ensures reply { reply_view [] result ≡ part_reply ArchiveRange.Beyond total [] }
     ensures writable { IsWhole result }
 {
     Reply {

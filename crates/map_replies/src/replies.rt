@@ -8,10 +8,10 @@ ghost use Rattle.map_replies.specs.Words.{published_body, published_reply, cance
 ghost use Rattle.map_replies.specs.Words.{format_type, format_content, content_reply, tile_reply, refusal_of};
 ghost use Rattle.tile_routes.specs.Targets.{asked_of};
 ghost use Rattle.map_replies.specs.Words.{text_type, json_type, tile_type};
-ghost use Rattle.map_replies.specs.declared.replies.TheConstants.{MOST_TEXT};
+ghost use Rattle.map_replies.specs.declared.replies.TheConstants.{MAX_TEXT};
 
 use crate::fault::RequestFault;
-use decimal_number::{MOST_DIGITS, push_number, push_text};
+use decimal_number::{MAX_DIGITS, push_number, push_text};
 use feature_model::EditFault;
 use http_serve::{Content, Reply, status};
 use std::alloc::{AllocError, Global};
@@ -19,7 +19,7 @@ use tile_routes::{Target, TileFormat};
 use tile_service::{Published, ServiceFault};
 
 /// Capacity for the longest text of an outcome: that of a publication, with three numbers.
-const MOST_TEXT: usize = 3 * MOST_DIGITS + 35;
+const MAX_TEXT: usize = 3 * MAX_DIGITS + 35;
 
 /// The word of a fault of an edit, with a line feed.
 #[tactic(auto, unfolding(crate::specs::Words::edit_word))]
@@ -47,7 +47,7 @@ fn edit_word(fault: EditFault) -> &'static [u8]
 fn full_word(text: Vec<u8>, name: &[u8], need: u64, free: u64) -> Vec<u8>
     requires name { length name.now ≤ 11 }
     requires empty { text.items ≡ [] }
-    requires room { MOST_TEXT ≤ vec_capacity text }
+    requires room { MAX_TEXT ≤ vec_capacity text }
     ensures { result.items ≡ full_word name.now need free }
 {
     let mut text = text;
@@ -64,7 +64,7 @@ fn full_word(text: Vec<u8>, name: &[u8], need: u64, free: u64) -> Vec<u8>
 #[tactic(auto, unfolding(crate::specs::Words::service_word))]
 fn service_word(text: Vec<u8>, fault: ServiceFault) -> Content
     requires empty { text.items ≡ [] }
-    requires room { MOST_TEXT ≤ vec_capacity text }
+    requires room { MAX_TEXT ≤ vec_capacity text }
     ensures word { content_bytes [] result ≡ service_word fault }
     ensures whole { InParts result ⊥ }
 {
@@ -163,7 +163,7 @@ pub(crate) fn refusal(fault: RequestFault) -> Reply
 #[tactic(auto, unfolding(crate::specs::Words::text_type))]
 fn service_refusal(text: Vec<u8>, fault: ServiceFault) -> Reply
     requires empty { text.items ≡ [] }
-    requires room { MOST_TEXT ≤ vec_capacity text }
+    requires room { MAX_TEXT ≤ vec_capacity text }
     ensures reply { reply_view [] result ≡ service_refusal fault }
     ensures writable { IsWhole result }
 {
@@ -209,9 +209,9 @@ pub(crate) fn empty() -> Reply
 /// Empty text with capacity for each outcome.
 pub(crate) fn outcome_space(alloc: Global) -> Result<Vec<u8>, AllocError>
     ensures empty { IfOk result (λ text. text.items ≡ []) }
-    ensures room { IfOk result (λ text. MOST_TEXT ≤ vec_capacity text) }
+    ensures room { IfOk result (λ text. MAX_TEXT ≤ vec_capacity text) }
 {
-    Vec::with_capacity(alloc, MOST_TEXT)
+    Vec::with_capacity(alloc, MAX_TEXT)
 }
 
 /// The text of a JSON object with one number, which begins with `start`.
@@ -219,7 +219,7 @@ pub(crate) fn outcome_space(alloc: Global) -> Result<Vec<u8>, AllocError>
 fn number_body(text: Vec<u8>, start: &[u8], number: u64) -> Vec<u8>
     requires start { length start.now ≤ 8 }
     requires empty { text.items ≡ [] }
-    requires room { MOST_TEXT ≤ vec_capacity text }
+    requires room { MAX_TEXT ≤ vec_capacity text }
     ensures { result.items ≡ number_body start.now number }
 {
     let mut text = text;
@@ -233,7 +233,7 @@ fn number_body(text: Vec<u8>, start: &[u8], number: u64) -> Vec<u8>
 fn number(text: Vec<u8>, start: &[u8], outcome: Result<u64, ServiceFault>) -> Reply
     requires start { length start.now ≤ 8 }
     requires empty { text.items ≡ [] }
-    requires room { MOST_TEXT ≤ vec_capacity text }
+    requires room { MAX_TEXT ≤ vec_capacity text }
     ensures reply { reply_view [] result ≡ number_reply start.now outcome }
     ensures writable { IsWhole result }
 {
@@ -247,7 +247,7 @@ fn number(text: Vec<u8>, start: &[u8], outcome: Result<u64, ServiceFault>) -> Re
 #[tactic(auto, unfolding(crate::specs::Words::edit_start))]
 pub(crate) fn outcome(text: Vec<u8>, outcome: Result<u64, ServiceFault>) -> Reply
     requires empty { text.items ≡ [] }
-    requires room { MOST_TEXT ≤ vec_capacity text }
+    requires room { MAX_TEXT ≤ vec_capacity text }
     ensures reply { reply_view [] result ≡ outcome_reply outcome }
     ensures writable { IsWhole result }
 {
@@ -258,7 +258,7 @@ pub(crate) fn outcome(text: Vec<u8>, outcome: Result<u64, ServiceFault>) -> Repl
 #[tactic(auto, unfolding(crate::specs::Words::left_start))]
 pub(crate) fn left(text: Vec<u8>, outcome: Result<u64, ServiceFault>) -> Reply
     requires empty { text.items ≡ [] }
-    requires room { MOST_TEXT ≤ vec_capacity text }
+    requires room { MAX_TEXT ≤ vec_capacity text }
     ensures reply { reply_view [] result ≡ left_reply outcome }
     ensures writable { IsWhole result }
 {
@@ -269,7 +269,7 @@ pub(crate) fn left(text: Vec<u8>, outcome: Result<u64, ServiceFault>) -> Reply
 #[tactic(auto, unfolding(crate::specs::Words::published_body))]
 fn published_body(text: Vec<u8>, published: Published) -> Vec<u8>
     requires empty { text.items ≡ [] }
-    requires room { MOST_TEXT ≤ vec_capacity text }
+    requires room { MAX_TEXT ≤ vec_capacity text }
     ensures { result.items ≡ published_body published }
 {
     let mut text = text;
@@ -286,7 +286,7 @@ fn published_body(text: Vec<u8>, published: Published) -> Vec<u8>
 /// The reply with the outcome of a whole publication. It doesn't allocate.
 pub(crate) fn published(text: Vec<u8>, outcome: Result<Published, ServiceFault>) -> Reply
     requires empty { text.items ≡ [] }
-    requires room { MOST_TEXT ≤ vec_capacity text }
+    requires room { MAX_TEXT ≤ vec_capacity text }
     ensures reply { reply_view [] result ≡ published_reply outcome }
     ensures writable { IsWhole result }
 {
@@ -299,7 +299,7 @@ pub(crate) fn published(text: Vec<u8>, outcome: Result<Published, ServiceFault>)
 /// The reply with the outcome of a cancellation. It doesn't allocate.
 pub(crate) fn cancelled(text: Vec<u8>, outcome: Result<(), ServiceFault>) -> Reply
     requires empty { text.items ≡ [] }
-    requires room { MOST_TEXT ≤ vec_capacity text }
+    requires room { MAX_TEXT ≤ vec_capacity text }
     ensures reply { reply_view [] result ≡ cancel_reply outcome }
     ensures writable { IsWhole result }
 {

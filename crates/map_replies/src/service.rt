@@ -1,6 +1,6 @@
 //! The replies of a map.
 ghost use Rattle.std.specs.Prelude.{◌≡◌, IfOk, option_map};
-ghost use Rattle.http_serve.specs.declared.connection.TheConstants.{MOST_READS};
+ghost use Rattle.http_serve.specs.declared.connection.TheConstants.{MAX_READS};
 ghost use Rattle.http_serve.specs.Reply.{head_view, HasShortWords, IsWhole};
 ghost use Rattle.tile_routes.specs.Paths.{asked_view};
 ghost use Rattle.tile_routes.specs.Targets.{asked_of};
@@ -13,7 +13,7 @@ use crate::fault::RequestFault;
 use crate::parts::{Sending, is_head, range_for};
 use crate::replies;
 use http_serve::{
-    ContentFault, Handler, MOST_READS, Reply, Request, ServeFault, Served, serve_turns,
+    ContentFault, Handler, MAX_READS, Reply, Request, ServeFault, Served, serve_turns,
 };
 use sector_disk::Sectors;
 use std::alloc::Global;
@@ -197,7 +197,7 @@ pub fn serve_map_turns<D: Sectors + Drop, R: Read, W: Write>(
     serve_turns(alloc, reader, writer, service, turns)
 }
 
-/// Serves a connection in at most `http_serve::MOST_READS` reads: one reply to each request, in order, and one to an
+/// Serves a connection in at most `http_serve::MAX_READS` reads: one reply to each request, in order, and one to an
 /// invalid request.
 pub fn serve_map<D: Sectors + Drop, R: Read, W: Write>(
     alloc: Global,
@@ -205,8 +205,8 @@ pub fn serve_map<D: Sectors + Drop, R: Read, W: Write>(
     writer: &mut W,
     service: &mut MapReplies<D>,
 ) -> Result<Served, ServeFault>
-    ensures { ServesMap D.sectors D.honest D.history D.faults R.remaining W.contents MOST_READS
+    ensures { ServesMap D.sectors D.honest D.history D.faults R.remaining W.contents MAX_READS
         service.old reader.old writer.old result service.new reader.new writer.new }
 {
-    serve_map_turns(alloc, reader, writer, service, MOST_READS)
+    serve_map_turns(alloc, reader, writer, service, MAX_READS)
 }

@@ -1,6 +1,6 @@
 //! Lines over an index of boxes.
 use crate::lines::{Line, byte, short};
-use box_index::{BoxIndex, Entry, Span, WorldBox};
+use box_index::{BoxIndex, IndexEntry, Span, WorldBox};
 use std::alloc::{AllocError, Global};
 use std::mem;
 
@@ -22,8 +22,8 @@ fn bounds_of(x0: u64, x1: u64, y0: u64, y1: u64) -> WorldBox {
 }
 
 /// The entry of a number, columns, rows, and zooms.
-fn entry_of([id, x0, x1, y0, y1, minzoom, maxzoom, _]: [u64; 8]) -> Entry {
-    Entry {
+fn entry_of([id, x0, x1, y0, y1, minzoom, maxzoom, _]: [u64; 8]) -> IndexEntry {
+    IndexEntry {
         id,
         span: Span {
             bounds: bounds_of(x0, x1, y0, y1),
@@ -35,10 +35,10 @@ fn entry_of([id, x0, x1, y0, y1, minzoom, maxzoom, _]: [u64; 8]) -> Entry {
 
 /// The entry of three columns and three rows for a place of a row of such: columns ascend by this step, rows by the other one,
 /// both modulo 2^32.
-fn nth(index: u32, across: u64, down: u64) -> Entry {
+fn nth(index: u32, across: u64, down: u64) -> IndexEntry {
     let x = index.wrapping_mul(short(across));
     let y = index.wrapping_mul(short(down));
-    Entry {
+    IndexEntry {
         id: u64::from(index),
         span: Span {
             bounds: WorldBox {
@@ -70,13 +70,13 @@ impl Boxes {
         }
     }
 
-    fn add(&mut self, alloc: Global, entry: Entry) -> Result<String, AllocError> {
+    fn add(&mut self, alloc: Global, entry: IndexEntry) -> Result<String, AllocError> {
         self.index.room()?;
         self.index.insert(entry);
         String::from_str(alloc, "added")
     }
 
-    fn take(&mut self, alloc: Global, entry: Entry) -> Result<String, AllocError> {
+    fn take(&mut self, alloc: Global, entry: IndexEntry) -> Result<String, AllocError> {
         let found = if self.index.remove(&entry) {
             "taken"
         } else {

@@ -3,7 +3,7 @@ use crate::lines::{Line, byte, short};
 use box_index::WorldBox;
 use hilbert_id::TileAt;
 use std::alloc::{AllocError, Global};
-use tile_cache::{KeptTile, Origin, TileCache, TouchGrid};
+use tile_cache::{CachedTile, Origin, TileCache, TouchGrid};
 
 /// A grid of cells, and a cache of tiles.
 #[derive(Drop)]
@@ -42,7 +42,7 @@ impl Caches {
         first: u64,
     ) -> Result<String, AllocError> {
         let bytes = Vec::from_array(alloc, [byte(first), 1, 2])?;
-        let tile = KeptTile {
+        let tile = CachedTile {
             origin: Origin::Cut,
             number,
             bytes,

@@ -3,7 +3,7 @@ use crate::limits::batch_text;
 use crate::lines::{Line, expanded, number_in, parted};
 use edit_json::{batch_from_json, feature_from_json, feature_to_json};
 use edit_text::encode_change;
-use feature_model::{Change, EditFault, Feature, GREATEST_ZOOM, check, copy};
+use feature_model::{Change, EditFault, Feature, MAX_ZOOM, check, copy};
 use serde_json::Value;
 use std::alloc::{AllocError, Global};
 use std::fmt;
@@ -101,7 +101,7 @@ fn text(alloc: Global, rest: &str) -> Result<String, AllocError> {
 
 /// How many tiles a feature covers, and whether these are too many.
 fn reach_of(alloc: Global, feature: &Feature) -> Result<String, AllocError> {
-    if feature.maxzoom > GREATEST_ZOOM {
+    if feature.maxzoom > MAX_ZOOM {
         return EditFault::Zoom.to_string(alloc);
     }
     let count = cover_count(feature);
@@ -120,7 +120,7 @@ fn reach(alloc: Global, text: &str) -> Result<String, AllocError> {
 
 /// The columns and rows of a zoom that a feature covers.
 fn covered(alloc: Global, zoom: u64, feature: &Feature) -> Result<String, AllocError> {
-    if zoom > u64::from(GREATEST_ZOOM) {
+    if zoom > u64::from(MAX_ZOOM) {
         return EditFault::Zoom.to_string(alloc);
     }
     let range = covers(feature, zoom as u8);
@@ -140,7 +140,7 @@ fn cover(alloc: Global, rest: &str) -> Result<String, AllocError> {
 
 /// The pairs of a feature's tiles and a number, behind one that was there.
 fn paired(alloc: Global, id: u64, feature: &Feature) -> Result<String, AllocError> {
-    if feature.maxzoom > GREATEST_ZOOM {
+    if feature.maxzoom > MAX_ZOOM {
         return EditFault::Zoom.to_string(alloc);
     }
     let mut list = vec![in alloc; (9, 9)]?;

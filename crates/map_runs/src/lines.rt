@@ -10,7 +10,7 @@ pub(crate) struct Line<'a> {
 }
 
 /// The most repetitions that a line may ask for.
-const MOST_TIMES: usize = 100_000;
+const MAX_TIMES: usize = 100_000;
 
 /// The text up to the first blank, and what stands behind it.
 pub(crate) fn parted(text: &str) -> (&str, &str) {
@@ -37,9 +37,7 @@ pub(crate) fn byte(number: u64) -> u8 {
 
 /// A count that a line asks for.
 pub(crate) fn times(number: u64) -> usize {
-    usize::try_from(number)
-        .unwrap_or(MOST_TIMES)
-        .min(MOST_TIMES)
+    usize::try_from(number).unwrap_or(MAX_TIMES).min(MAX_TIMES)
 }
 
 fn numbers_in(text: &str) -> [u64; 8] {

@@ -3,7 +3,7 @@ ghost use Rattle.std.specs.Prelude.{◌≤◌, All, length};
 ghost use Rattle.feature_model.specs.Data.{edit_data};
 ghost use Rattle.feature_model.specs.Spelled.{spelled_changes};
 ghost use Rattle.feature_model.specs.Types.{IsChange};
-ghost use Rattle.feature_model.specs.declared.limits.TheConstants.{MOST_EDIT_BYTES};
+ghost use Rattle.feature_model.specs.declared.limits.TheConstants.{MAX_EDIT_BYTES};
 
 use crate::features::{feature_in, shown};
 use crate::lines::{Line, byte, number_in, parted, short};
@@ -69,7 +69,7 @@ fn delete(alloc: Global, map: &mut CachedMap, id: u64) -> Result<String, AllocEr
 /// Makes the changes of an edit together.
 fn make(alloc: Global, map: &mut CachedMap, edit: Edit) -> Result<String, AllocError>
     requires changes { All IsChange (edit_data edit) }
-    requires text { length (spelled_changes (edit_data edit)) ≤ MOST_EDIT_BYTES }
+    requires text { length (spelled_changes (edit_data edit)) ≤ MAX_EDIT_BYTES }
 {
     let Some(number) = map.last().checked_add(1) else {
         return String::from_str(alloc, "numbers spent");

@@ -9,7 +9,7 @@ use Rattle.reader.proofs.Steps.{same_fault, not_both, then_err}
 use Rattle.pb_wire.specs.declared.fault.FaultKind.{FaultKind}
 use Rattle.pb_wire.specs.declared.fault.WireFault.{WireFault}
 use Rattle.pb_wire.specs.Varint.{varint_at}
-use Rattle.pb_wire.specs.Message.{Value, varint_value, eight_bytes, some_bytes, four_bytes, Entry, IsField, field_at}
+use Rattle.pb_wire.specs.Message.{Value, varint_value, eight_bytes, some_bytes, four_bytes, FieldData, IsField, field_at}
 use Rattle.pb_wire.specs.Items.{Item, item_then, items_in, items_of}
 use Rattle.pb_wire.proofs.Message.{varint_len}
 use Rattle.pb_wire.proofs.MessageLaws.{field_takes, message_items}
@@ -31,30 +31,30 @@ use Rattle.mvt_layer.proofs.TileLaws.{fields_message, pass_whole, tags_read}
 
 -- ---- the fields in front of a fault
 
-item : Entry → Item
+item : FieldData → Item
 item f = Ok f
 
-pub items_begin : (more at : ℕ) (bytes : List ℕ) (fields : List Entry) (others : List Item) → items_in more at bytes ≡ fine fields ++ others
+pub items_begin : (more at : ℕ) (bytes : List ℕ) (fields : List FieldData) (others : List Item) → items_in more at bytes ≡ fine fields ++ others
     → BeginsWith bytes fields
 unfolding items_in item_then
 items_begin more at bytes [] others e = ([], bytes, refl, refl)
 items_begin zero at bytes (f ∷ fs) others e = absurd (nothing f (fine fs ++ others) e)
   where
-    nothing : (f : Entry) (is : List Item) → [] ≡ Ok f ∷ is → ⊥
+    nothing : (f : FieldData) (is : List Item) → [] ≡ Ok f ∷ is → ⊥
     nothing f is h = cc
 items_begin (suc more) at [] (f ∷ fs) others e = absurd (nothing f (fine fs ++ others) e)
   where
-    nothing : (f : Entry) (is : List Item) → [] ≡ Ok f ∷ is → ⊥
+    nothing : (f : FieldData) (is : List Item) → [] ≡ Ok f ∷ is → ⊥
     nothing f is h = cc
 items_begin (suc more) at (b ∷ bs) (f ∷ fs) others e = go (λ k rest. items_begin more k rest fs others) (field_at (b ∷ bs)) refl e
   where
-    same_first : (a c : Entry) (xs ys : List Item) → Ok a ∷ xs ≡ Ok c ∷ ys → (a ≡ c) × (xs ≡ ys)
+    same_first : (a c : FieldData) (xs ys : List Item) → Ok a ∷ xs ≡ Ok c ∷ ys → (a ≡ c) × (xs ≡ ys)
     same_first a c xs ys h = (cc, cc)
 
-    fault_first : (w : WireFault) (c : Entry) (xs ys : List Item) → Err w ∷ xs ≡ Ok c ∷ ys → ⊥
+    fault_first : (w : WireFault) (c : FieldData) (xs ys : List Item) → Err w ∷ xs ≡ Ok c ∷ ys → ⊥
     fault_first w c xs ys h = cc
 
-    go : ((k : ℕ) (rest : List ℕ) → items_in more k rest ≡ fine fs ++ others → BeginsWith rest fs) → (r : Result (Entry × ℕ) FaultKind) → field_at (b ∷ bs) ≡ r
+    go : ((k : ℕ) (rest : List ℕ) → items_in more k rest ≡ fine fs ++ others → BeginsWith rest fs) → (r : Result (FieldData × ℕ) FaultKind) → field_at (b ∷ bs) ≡ r
         → item_then at (λ len. items_in more (at + len) (drop len (b ∷ bs))) r ≡ Ok f ∷ (fine fs ++ others) → BeginsWith (b ∷ bs) (f ∷ fs)
     go next (Err kind) read h = absurd (fault_first (record { at = at; kind = kind }) f [] (fine fs ++ others) h)
     go next (Ok x) read h =
@@ -71,11 +71,11 @@ items_begin (suc more) at (b ∷ bs) (f ∷ fs) others e = go (λ k rest. items_
 -- where going over items meets a fault
 module _ {S : Type 0} (number : ℕ) (step : S → Value → Read TileFault S) where
   abbrev Met : List Item → TileFault → Type 0
-  Met items d = ((d ≡ faults.Wire) × ((fields : List Entry) × (w : WireFault) × (others : List Item) × (items ≡ fine fields ++ Err w ∷ others)))
-      ⊎ ((fields : List Entry) × (f : Entry) × (others : List Item) × (before : S) × (items ≡ fine fields ++ Ok f ∷ others) × (f.number ≡ number)
+  Met items d = ((d ≡ faults.Wire) × ((fields : List FieldData) × (w : WireFault) × (others : List Item) × (items ≡ fine fields ++ Err w ∷ others)))
+      ⊎ ((fields : List FieldData) × (f : FieldData) × (others : List Item) × (before : S) × (items ≡ fine fields ++ Ok f ∷ others) × (f.number ≡ number)
       × (step before f.value ≡ Err d))
 
-  met_more : (g : Entry) (is : List Item) (d : TileFault) → Met is d → Met (Ok g ∷ is) d
+  met_more : (g : FieldData) (is : List Item) (d : TileFault) → Met is d → Met (Ok g ∷ is) d
   met_more g is d (inl (wire, (fields, w, others, e))) = inl (wire, (g ∷ fields, w, others, ap (λ (k : List Item). Ok g ∷ k) e))
   met_more g is d (inr (fields, f, others, before, e, n, bad)) = inr (g ∷ fields, f, others, before, ap (λ (k : List Item). Ok g ∷ k) e, n, bad)
 
@@ -92,7 +92,7 @@ module _ {S : Type 0} (number : ℕ) (step : S → Value → Read TileFault S) w
           [ inl bad ↦ inr ([], g, is, s, refl, eqb-true g.number number same, bad) | inr x ↦ met_more g is d (more x.0 x.2) ]
       go more false same h = met_more g is d (more s h)
 
-pub no_fault : (fields fs : List Entry) (w : WireFault) (others : List Item) → fine fields ++ Err w ∷ others ≡ fine fs → ⊥
+pub no_fault : (fields fs : List FieldData) (w : WireFault) (others : List Item) → fine fields ++ Err w ∷ others ≡ fine fs → ⊥
 no_fault [] [] w others e = cc
 no_fault [] (f ∷ fs) w others e = cc
 no_fault (g ∷ gs) [] w others e = cc
@@ -101,7 +101,7 @@ no_fault (g ∷ gs) (f ∷ fs) w others e = no_fault gs fs w others (rest (Ok g)
     rest : (a b : Item) (xs ys : List Item) → a ∷ xs ≡ b ∷ ys → xs ≡ ys
     rest a b xs ys h = cc
 
-pub fine_snoc : (fields : List Entry) (f : Entry) (others : List Item) → fine fields ++ Ok f ∷ others ≡ fine (fields ++ f ∷ []) ++ others
+pub fine_snoc : (fields : List FieldData) (f : FieldData) (others : List Item) → fine fields ++ Ok f ∷ others ≡ fine (fields ++ f ∷ []) ++ others
 fine_snoc [] f others = refl
 fine_snoc (g ∷ gs) f others = ap (λ (k : List Item). Ok g ∷ k) (fine_snoc gs f others)
 
@@ -269,7 +269,7 @@ module _ (keys : List (List ℕ)) (values : List TagView) where
       feature : Option ℕ → List Tagged → ShapeView → FeatureView
       feature a b c = record { id = a; tags = b; shape = c }
 
-      numbers_of : (number : ℕ) (bytes : List ℕ) (fields : List Entry) (ns : List ℕ) → items_of bytes ≡ fine fields → numbers_in number bytes ≡ Ok ns
+      numbers_of : (number : ℕ) (bytes : List ℕ) (fields : List FieldData) (ns : List ℕ) → items_of bytes ≡ fine fields → numbers_in number bytes ≡ Ok ns
           → AreNumbers (values_of number fields) ns
       numbers_of number bytes fields ns e h =
           let p = numbers_say (values_of number fields) [] ns (sym (pass_at number numbers_after bytes fields [] e) ∙ h) in

@@ -6,7 +6,7 @@ use Rattle.std.proofs.lemmas.List.{append-nil, length-append, length-drop, take-
 use Rattle.reader.specs.Reading.{Read, ◌>>=◌, folded}
 use Rattle.reader.proofs.Steps.{done, same_value, not_both, then_ok, then_stop, then_is, then_same, guard_ok}
 use Rattle.pb_wire.specs.declared.fault.WireFault.{WireFault}
-use Rattle.pb_wire.specs.Message.{Value, varint_value, eight_bytes, some_bytes, four_bytes, Entry}
+use Rattle.pb_wire.specs.Message.{Value, varint_value, eight_bytes, some_bytes, four_bytes, FieldData}
 use Rattle.pb_wire.specs.Items.{Item, items_of}
 use Rattle.pb_wire.proofs.Message.{varint_len}
 use Rattle.pb_wire.proofs.VarintLaws.{found_is, spelling_is_found}
@@ -18,11 +18,11 @@ use Rattle.mvt_layer.proofs.Folds.{number_found, packed_first}
 
 -- ---- fields and items
 
-abbrev pub fine : List Entry → List Item
+abbrev pub fine : List FieldData → List Item
 fine fields = map (λ f. Ok f) fields
 
 module _ {S : Type 0} (step : S → Item → Read TileFault S) (broken : (s : S) (w : WireFault) → step s (Err w) ≡ Err faults.Wire) where
-  pub whole_of : (items : List Item) (s last : S) → folded step s items ≡ Ok last → (fields : List Entry) × (items ≡ fine fields)
+  pub whole_of : (items : List Item) (s last : S) → folded step s items ≡ Ok last → (fields : List FieldData) × (items ≡ fine fields)
   unfolding folded
   whole_of [] s last e = ([], refl)
   whole_of (Err w ∷ is) s last e =
@@ -33,7 +33,7 @@ module _ {S : Type 0} (step : S → Item → Read TileFault S) (broken : (s : S)
       (f ∷ more.0, ap (λ (k : List Item). Ok f ∷ k) more.1)
 
 module _ {S : Type 0} (number : ℕ) (step : S → Value → Read TileFault S) where
-  passes : (fields : List Entry) (s : S) → folded (after number step) s (fine fields) ≡ folded step s (values_of number fields)
+  passes : (fields : List FieldData) (s : S) → folded (after number step) s (fine fields) ≡ folded step s (values_of number fields)
   unfolding folded
   passes [] s = refl
   passes (f ∷ fs) s = go (passes fs) (eqb f.number number)
@@ -45,7 +45,7 @@ module _ {S : Type 0} (number : ℕ) (step : S → Value → Read TileFault S) w
           then_same (step s f.value) (λ next. folded (after number step) next (fine fs)) (λ next. folded step next (values_of number fs)) (λ s _. more s)
       go more false = more s
 
-  pub pass_at : (bytes : List ℕ) (fields : List Entry) (s : S) → items_of bytes ≡ fine fields
+  pub pass_at : (bytes : List ℕ) (fields : List FieldData) (s : S) → items_of bytes ≡ fine fields
       → pass number step s bytes ≡ folded step s (values_of number fields)
   pass_at bytes fields s e = ap (folded (after number step) s) e ∙ passes fields s
 

@@ -7,7 +7,7 @@ use Rattle.std.specs.Str.{IsUtf8, is_utf8}
 use Rattle.std.proofs.lemmas.Bool.{eqb-true, eqb-false, ltb-true}
 use Rattle.reader.specs.Reading.{Read, ◌>>=◌, folded}
 use Rattle.reader.proofs.Steps.{same_value, same_fault, not_both, then_ok, then_err, guard_ok, pass_ok}
-use Rattle.pb_wire.specs.Message.{Value, varint_value, eight_bytes, some_bytes, four_bytes, Entry, IsMessage}
+use Rattle.pb_wire.specs.Message.{Value, varint_value, eight_bytes, some_bytes, four_bytes, FieldData, IsMessage}
 use Rattle.pb_wire.specs.Items.{Item, items_of}
 use Rattle.pb_wire.proofs.MessageLaws.{message_items}
 use Rattle.mvt_layer.specs.declared.fault.TileFault.{TileFault}
@@ -34,60 +34,60 @@ text_err p d e = (go (is_utf8 p) e, λ h. not_both p d (sym (text_reads p p (ref
     go true h = absurd cc
     go false h = sym (same_fault {A = List ℕ} faults.Utf8 d h)
 
-stands : (bytes : List ℕ) (front : List Entry) (f : Entry) (others : List Item) → items_of bytes ≡ fine front ++ Ok f ∷ others → HasField bytes f
+stands : (bytes : List ℕ) (front : List FieldData) (f : FieldData) (others : List Item) → items_of bytes ≡ fine front ++ Ok f ∷ others → HasField bytes f
 stands bytes front f others e = (front, items_begin (length bytes) 0 bytes (front ++ f ∷ []) others (e ∙ fine_snoc front f others))
 
-abbrev Seen : List ℕ → Option Entry → Type 0
+abbrev Seen : List ℕ → Option FieldData → Type 0
 Seen bytes None = Unit {0}
 Seen bytes (Some g) = HasField bytes g × (is_known g.number ≡ true)
 
-abbrev chosen : Option Entry → Entry → Read TileFault (Option Entry)
+abbrev chosen : Option FieldData → FieldData → Read TileFault (Option FieldData)
 chosen s f = cond (has_kind f.number f.value) (cond (may_follow s f.number) (Ok (Some f)) (Err faults.Value)) (Err faults.Kind)
 
-chosen_err : (bytes : List ℕ) (s : Option Entry) (f : Entry) (d : TileFault) → HasField bytes f → is_known f.number ≡ true → Seen bytes s → chosen s f ≡ Err d
+chosen_err : (bytes : List ℕ) (s : Option FieldData) (f : FieldData) (d : TileFault) → HasField bytes f → is_known f.number ≡ true → Seen bytes s → chosen s f ≡ Err d
     → ValueHas bytes d
 chosen_err bytes s f d here known seen e = go (has_kind f.number f.value) refl s seen e
   where
-    go : (b : Bool) → has_kind f.number f.value ≡ b → (s : Option Entry) → Seen bytes s
-        → ◌≡◌ {A = Read TileFault (Option Entry)} (cond b (cond (may_follow s f.number) (Ok (Some f)) (Err faults.Value)) (Err faults.Kind)) (Err d)
+    go : (b : Bool) → has_kind f.number f.value ≡ b → (s : Option FieldData) → Seen bytes s
+        → ◌≡◌ {A = Read TileFault (Option FieldData)} (cond b (cond (may_follow s f.number) (Ok (Some f)) (Err faults.Value)) (Err faults.Kind)) (Err d)
         → ValueHas bytes d
-    go false k s seen h = value_kind (sym (same_fault {A = Option Entry} faults.Kind d h)) f here known k
+    go false k s seen h = value_kind (sym (same_fault {A = Option FieldData} faults.Kind d h)) f here known k
     go true k None seen h = absurd cc
     go true k (Some g) seen h = two (eqb g.number f.number) refl h
       where
-        two : (c : Bool) → eqb g.number f.number ≡ c → ◌≡◌ {A = Read TileFault (Option Entry)} (cond c (Ok (Some f)) (Err faults.Value)) (Err d)
+        two : (c : Bool) → eqb g.number f.number ≡ c → ◌≡◌ {A = Read TileFault (Option FieldData)} (cond c (Ok (Some f)) (Err faults.Value)) (Err d)
             → ValueHas bytes d
         two true t h = absurd cc
-        two false t h = two_kinds (sym (same_fault {A = Option Entry} faults.Value d h)) g f seen.0 here seen.1 known (eqb-false g.number f.number t)
+        two false t h = two_kinds (sym (same_fault {A = Option FieldData} faults.Value d h)) g f seen.0 here seen.1 known (eqb-false g.number f.number t)
 
-chosen_ok : (s next : Option Entry) (f : Entry) → chosen s f ≡ Ok next → Some f ≡ next
+chosen_ok : (s next : Option FieldData) (f : FieldData) → chosen s f ≡ Ok next → Some f ≡ next
 chosen_ok s next f e =
     let kind = pass_ok (has_kind f.number f.value) faults.Kind (cond (may_follow s f.number) (Ok (Some f)) (Err faults.Value)) next e in
     let follows = pass_ok (may_follow s f.number) faults.Value (Ok (Some f)) next kind.1 in
     same_value {Fault = TileFault} (Some f) next follows.1
 
-value_met : (bytes : List ℕ) (d : TileFault) (items : List Item) (front : List Entry) (s : Option Entry) → items_of bytes ≡ fine front ++ items → Seen bytes s
+value_met : (bytes : List ℕ) (d : TileFault) (items : List Item) (front : List FieldData) (s : Option FieldData) → items_of bytes ≡ fine front ++ items → Seen bytes s
     → folded value_after s items ≡ Err d → ValueHas bytes d
 unfolding folded
 value_met bytes d [] front s all seen e = absurd cc
 value_met bytes d (Err w ∷ is) front s all seen e =
-    value_broken (sym (same_fault {A = Option Entry} faults.Wire d e)) (λ fs m. no_fault front fs w is (sym all ∙ message_items fs 0 bytes m))
+    value_broken (sym (same_fault {A = Option FieldData} faults.Wire d e)) (λ fs m. no_fault front fs w is (sym all ∙ message_items fs 0 bytes m))
 value_met bytes d (Ok f ∷ is) front s all seen e =
     go (λ k h1 h2. value_met bytes d is (front ++ f ∷ []) k (all ∙ fine_snoc front f is) h1 h2) (is_known f.number) refl e
   where
-    go : ((k : Option Entry) → Seen bytes k → folded value_after k is ≡ Err d → ValueHas bytes d) → (b : Bool) → is_known f.number ≡ b
+    go : ((k : Option FieldData) → Seen bytes k → folded value_after k is ≡ Err d → ValueHas bytes d) → (b : Bool) → is_known f.number ≡ b
         → (cond b (chosen s f) (Ok s) >>= λ next. folded value_after next is) ≡ Err d → ValueHas bytes d
     go more false known h = more s seen h
     go more true known h = elim (then_err (chosen s f) (λ next. folded value_after next is) d h) [
       | inl bad ↦ chosen_err bytes s f d (stands bytes front f is all) known seen bad
-      | inr x ↦ more (Some f) (stands bytes front f is all, known) (ap (λ (k : Option Entry). folded value_after k is) (chosen_ok s x.0 f x.1) ∙ x.2)
+      | inr x ↦ more (Some f) (stands bytes front f is all, known) (ap (λ (k : Option FieldData). folded value_after k is) (chosen_ok s x.0 f x.1) ∙ x.2)
     ]
 
-last_some : (fs : List Entry) (f : Entry) → LastValue (Some f) fs None → ⊥
+last_some : (fs : List FieldData) (f : FieldData) → LastValue (Some f) fs None → ⊥
 last_some [] f h = cc
 last_some (g ∷ gs) f h = last_some gs g h.2
 
-last_none : (fs : List Entry) → LastValue None fs None → fs ≡ []
+last_none : (fs : List FieldData) → LastValue None fs None → fs ≡ []
 last_none [] h = refl
 last_none (f ∷ fs) h = absurd (last_some fs f h.2)
 
@@ -119,7 +119,7 @@ value_has bytes d e = elim (then_err (last_value_in bytes) meant d e) [
       go last.0 whole.0 (fields_message bytes whole.0 whole.1) (value_says whole.0 None last.0 (ap (folded value_after None) (sym whole.1) ∙ last.1)) last.2)
 ]
   where
-    go : (last : Option Entry) (fields : List Entry) → IsMessage bytes fields → LastValue None (filter (λ f. is_known f.number) fields) last
+    go : (last : Option FieldData) (fields : List FieldData) → IsMessage bytes fields → LastValue None (filter (λ f. is_known f.number) fields) last
         → meant last ≡ Err d → ValueHas bytes d
     go None fields message is h =
         no_kind (sym (same_fault {A = TagView} faults.Value d h)) fields message (last_none (filter (λ f. is_known f.number) fields) is)
@@ -198,7 +198,7 @@ extent_err last d e =
     go n true ea (inr is) h = (sym (same_fault {A = ℕ} faults.Extent d h), is ∙ ap (λ (k : ℕ). Some k) (eqb-true n 0 ea))
 
 -- a version or an extent that 32 bits can't hold
-too_large : (bytes : List ℕ) (d : TileFault) (fields : List Entry) → IsMessage bytes fields → (number : ℕ) → (number ≡ 15) ⊎ (number ≡ 5)
+too_large : (bytes : List ℕ) (d : TileFault) (fields : List FieldData) → IsMessage bytes fields → (number : ℕ) → (number ≡ 15) ⊎ (number ≡ 5)
     → (last : Option ℕ) → LastNumber None (values_of number fields) last
     → (d ≡ faults.Range) × ((n : ℕ) × (last ≡ Some n) × (4294967295 < n)) → LayerHas bytes d
 too_large bytes d fields m number which last is (range, (n, some, large)) =
@@ -211,7 +211,7 @@ layer_has bytes d e =
       | inl bad ↦ at_name (pass_has BadBytes 1 bytes_after None bytes d (bytes_bad d) bad)
       | inr raw_name ↦
           (let whole = pass_whole 1 bytes_after None raw_name.0 bytes raw_name.1 in
-          let fields : List Entry = whole.0 in
+          let fields : List FieldData = whole.0 in
           let m = fields_message bytes whole.0 whole.1 in
           let number : (k : ℕ) (n : Option ℕ) → last_number_in k bytes ≡ Ok n → LastNumber None (values_of k whole.0) n =
           λ k n h. number_says (values_of k whole.0) None n (sym (pass_at k number_after bytes whole.0 None whole.1) ∙ h) in
@@ -301,7 +301,7 @@ each_snoc Says [] (y ∷ ys) p x h s = absurd h
 each_snoc Says (q ∷ qs) [] p x h s = absurd h
 each_snoc Says (q ∷ qs) (y ∷ ys) p x h s = (h.0, each_snoc Says qs ys p x h.1 s)
 
-layers_err : (bytes : List ℕ) (fields : List Entry) (d : TileFault) → IsMessage bytes fields → (parts front : List (List ℕ)) (before : List LayerView)
+layers_err : (bytes : List ℕ) (fields : List FieldData) (d : TileFault) → IsMessage bytes fields → (parts front : List (List ℕ)) (before : List LayerView)
     → AreParts (values_of 3 fields) (front ++ parts) → Each SaysLayer front before → folded layer_more before parts ≡ Err d → TileHas bytes d
 unfolding folded
 layers_err bytes fields d m [] front before are so_far e = absurd cc

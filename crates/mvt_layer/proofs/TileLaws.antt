@@ -9,7 +9,7 @@ use Rattle.std.proofs.lemmas.Bool.{eqb-true, eqb-false, ltb-false, le-ltb, ne_eq
 use Rattle.std.proofs.lemmas.List.{append-nil}
 use Rattle.reader.specs.Reading.{Read, ◌>>=◌, folded}
 use Rattle.reader.proofs.Steps.{done, same_value, then_ok, then_is, guard_ok, pass_ok}
-use Rattle.pb_wire.specs.Message.{Value, Entry, IsMessage}
+use Rattle.pb_wire.specs.Message.{Value, FieldData, IsMessage}
 use Rattle.pb_wire.specs.Items.{items_of}
 use Rattle.pb_wire.proofs.MessageLaws.{items_message, message_items}
 use Rattle.geometry_commands.specs.declared.decoding.GeometryFault.{GeometryFault}
@@ -30,15 +30,15 @@ use Rattle.mvt_layer.proofs.Said.{fine, whole_of, pass_at, number_says, number_r
 
 -- ---- fields
 
-pub fields_message : (bytes : List ℕ) (fields : List Entry) → items_of bytes ≡ fine fields → IsMessage bytes fields
+pub fields_message : (bytes : List ℕ) (fields : List FieldData) → items_of bytes ≡ fine fields → IsMessage bytes fields
 fields_message bytes fields e = items_message (length bytes) 0 bytes fields (omega arith) e
 
-pub message_fields : (bytes : List ℕ) (fields : List Entry) → IsMessage bytes fields → items_of bytes ≡ fine fields
+pub message_fields : (bytes : List ℕ) (fields : List FieldData) → IsMessage bytes fields → items_of bytes ≡ fine fields
 message_fields bytes fields h = message_items fields 0 bytes h
 
 -- a pass that ends without a fault has gone over a message
 pub pass_whole : {S : Type 0} (number : ℕ) (step : S → Value → Read TileFault S) (s last : S) (bytes : List ℕ) → pass number step s bytes ≡ Ok last
-    → (fields : List Entry) × (items_of bytes ≡ fine fields)
+    → (fields : List FieldData) × (items_of bytes ≡ fine fields)
 pass_whole number step s last bytes e = whole_of (after number step) (λ s w. refl) (items_of bytes) s last e
 
 -- ---- texts and values
@@ -51,16 +51,16 @@ text_says bytes text e =
 pub text_reads : (bytes text : List ℕ) → IsText bytes text → text_at bytes ≡ Ok text
 text_reads bytes text h = rw (is_utf8-from_IsUtf8 bytes h.1, h.0) refl
 
-pub value_says : (fields : List Entry) (before last : Option Entry) → folded value_after before (fine fields) ≡ Ok last
+pub value_says : (fields : List FieldData) (before last : Option FieldData) → folded value_after before (fine fields) ≡ Ok last
     → LastValue before (filter (λ f. is_known f.number) fields) last
 unfolding folded
 value_says [] before last e = sym (same_value {Fault = TileFault} before last e)
 value_says (f ∷ fs) before last e = go (value_says fs) (is_known f.number) e
   where
-    K : List Entry
+    K : List FieldData
     K = filter (λ f. is_known f.number) fs
 
-    go : ((b l : Option Entry) → folded value_after b (fine fs) ≡ Ok l → LastValue b (filter (λ f. is_known f.number) fs) l) → (b : Bool)
+    go : ((b l : Option FieldData) → folded value_after b (fine fs) ≡ Ok l → LastValue b (filter (λ f. is_known f.number) fs) l) → (b : Bool)
         → (cond b (cond (has_kind f.number f.value) (cond (may_follow before f.number) (Ok (Some f)) (Err faults.Value)) (Err faults.Kind)) (Ok before)
         >>= λ next. folded value_after next (fine fs)) ≡ Ok last → LastValue before (cond b (f ∷ filter (λ f. is_known f.number) fs)
         (filter (λ f. is_known f.number) fs)) last
@@ -71,18 +71,18 @@ value_says (f ∷ fs) before last e = go (value_says fs) (is_known f.number) e
         let follows = pass_ok (may_follow before f.number) faults.Value (Ok (Some f)) one.0 kind.1 in (
           kind.0,
           follows.0,
-          more (Some f) last (ap (λ (n : Option Entry). folded value_after n (fine fs))
+          more (Some f) last (ap (λ (n : Option FieldData). folded value_after n (fine fs))
               (same_value {Fault = TileFault} (Some f) one.0 follows.1) ∙ one.2),
         )
     go more false h = more before last h
 
-value_reads : (fields : List Entry) (before last : Option Entry) → LastValue before (filter (λ f. is_known f.number) fields) last
+value_reads : (fields : List FieldData) (before last : Option FieldData) → LastValue before (filter (λ f. is_known f.number) fields) last
     → folded value_after before (fine fields) ≡ Ok last
 unfolding folded
 value_reads [] before last h = ap (done {Fault = TileFault}) (sym h)
 value_reads (f ∷ fs) before last h = go (value_reads fs) (is_known f.number) h
   where
-    go : ((b l : Option Entry) → LastValue b (filter (λ f. is_known f.number) fs) l → folded value_after b (fine fs) ≡ Ok l) → (b : Bool)
+    go : ((b l : Option FieldData) → LastValue b (filter (λ f. is_known f.number) fs) l → folded value_after b (fine fs) ≡ Ok l) → (b : Bool)
         → LastValue before (cond b (f ∷ filter (λ f. is_known f.number) fs) (filter (λ f. is_known f.number) fs)) last
         → (cond b (cond (has_kind f.number f.value) (cond (may_follow before f.number) (Ok (Some f)) (Err faults.Value)) (Err faults.Kind)) (Ok before)
         >>= λ next. folded value_after next (fine fs)) ≡ Ok last
@@ -96,7 +96,7 @@ tag_value_says bytes v e =
     let whole = whole_of value_after (λ s w. refl) (items_of bytes) None last.0 last.1 in
     go last.0 whole.0 (fields_message bytes whole.0 whole.1) (value_says whole.0 None last.0 (ap (folded value_after None) (sym whole.1) ∙ last.1)) last.2
   where
-    go : (last : Option Entry) (fields : List Entry) → IsMessage bytes fields → LastValue None (filter (λ f. is_known f.number) fields) last → meant last ≡ Ok v
+    go : (last : Option FieldData) (fields : List FieldData) → IsMessage bytes fields → LastValue None (filter (λ f. is_known f.number) fields) last → meant last ≡ Ok v
         → SaysValue bytes v
     go None fields message is e = absurd cc
     go (Some f) fields message is e = record { fields = fields; message = message; field = f; last = is; means = e }
@@ -283,14 +283,14 @@ extent_reads last n h some =
     let t : eqb n 0 ≡ false = ne_eqb n 0 (λ z. absurd (omega (arith, z))) in
     then_is (small_at DEFAULT_EXTENT last) _ n (Ok n) (small_reads DEFAULT_EXTENT last n h) (rw t refl)
 
-pub parts_of : (number : ℕ) (bytes : List ℕ) (fields : List Entry) (raw : List (List ℕ)) → items_of bytes ≡ fine fields → parts_in number bytes ≡ Ok raw
+pub parts_of : (number : ℕ) (bytes : List ℕ) (fields : List FieldData) (raw : List (List ℕ)) → items_of bytes ≡ fine fields → parts_in number bytes ≡ Ok raw
     → AreParts (values_of number fields) raw
 parts_of number bytes fields raw e h =
     let p = parts_say (values_of number fields) [] raw (sym (pass_at number parts_after bytes fields [] e) ∙ h) in
     let G : List (List ℕ) → Type 0 = λ k. AreParts (values_of number fields) k in
     subst G (sym p.1) p.2
 
-parts_back : (number : ℕ) (bytes : List ℕ) (fields : List Entry) (raw : List (List ℕ)) → items_of bytes ≡ fine fields → AreParts (values_of number fields) raw
+parts_back : (number : ℕ) (bytes : List ℕ) (fields : List FieldData) (raw : List (List ℕ)) → items_of bytes ≡ fine fields → AreParts (values_of number fields) raw
     → parts_in number bytes ≡ Ok raw
 parts_back number bytes fields raw e h = pass_at number parts_after bytes fields [] e ∙ (ap (folded parts_after []) h ∙ parts_read raw [])
 

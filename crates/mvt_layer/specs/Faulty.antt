@@ -4,7 +4,7 @@ use Rattle.std.specs.Prelude.{true, false}
 use Rattle.std.specs.List.{filter}
 use Rattle.std.specs.Str.{IsUtf8}
 use Rattle.pb_wire.specs.Varint.{IsVarint}
-use Rattle.pb_wire.specs.Message.{Value, varint_value, eight_bytes, some_bytes, four_bytes, Entry, IsMessage}
+use Rattle.pb_wire.specs.Message.{Value, varint_value, eight_bytes, some_bytes, four_bytes, FieldData, IsMessage}
 use Rattle.geometry_commands.specs.Shapes.{ShapeView, IsShape}
 use Rattle.mvt_layer.specs.declared.fault.TileFault.{TileFault}
 use Rattle.mvt_layer.specs.declared.fault.TileFault.TheVariants as faults
@@ -15,15 +15,15 @@ use Rattle.mvt_layer.specs.Reads.{values_of, LastNumber, LastBytes, AreParts, Ea
 
 -- the bytes are no message
 abbrev pub IsBroken : List ℕ → Type 0
-IsBroken bytes = (fields : List Entry) → IsMessage bytes fields → ⊥
+IsBroken bytes = (fields : List FieldData) → IsMessage bytes fields → ⊥
 
 -- the bytes begin with a message of these fields
-abbrev pub BeginsWith : List ℕ → List Entry → Type 0
+abbrev pub BeginsWith : List ℕ → List FieldData → Type 0
 BeginsWith bytes fields = (front : List ℕ) × (rest : List ℕ) × (bytes ≡ front ++ rest) × IsMessage front fields
 
 -- in the bytes stands this field, with nothing but fields in front of it
-abbrev pub HasField : List ℕ → Entry → Type 0
-HasField bytes f = (fields : List Entry) × BeginsWith bytes (fields ++ f ∷ [])
+abbrev pub HasField : List ℕ → FieldData → Type 0
+HasField bytes f = (fields : List FieldData) × BeginsWith bytes (fields ++ f ∷ [])
 
 -- no number stands in front
 abbrev pub NoVarint : List ℕ → Type 0
@@ -61,7 +61,7 @@ BadNumbers (four_bytes part) d = d ≡ faults.Kind
 -- the bytes are no message, or a field of this number has a bad value
 pub data PassHas (Bad : Value → TileFault → Type 0) (number : ℕ) (bytes : List ℕ) (d : TileFault) : Type 0 where
   broken : d ≡ faults.Wire → IsBroken bytes → PassHas Bad number bytes d
-  bad_value : (f : Entry) → HasField bytes f → f.number ≡ number → Bad f.value d → PassHas Bad number bytes d
+  bad_value : (f : FieldData) → HasField bytes f → f.number ≡ number → Bad f.value d → PassHas Bad number bytes d
 
 -- a fault of a feature, with the pools of its layer
 pub data FeatureHas (keys : List (List ℕ)) (values : List TagView) (bytes : List ℕ) (d : TileFault) : Type 0 where
@@ -70,20 +70,20 @@ pub data FeatureHas (keys : List (List ℕ)) (values : List TagView) (bytes : Li
   at_indices : PassHas BadNumbers 2 bytes d → FeatureHas keys values bytes d
   at_ints : PassHas BadNumbers 4 bytes d → FeatureHas keys values bytes d
   -- the indices name no tags
-  at_tags : d ≡ faults.Tag → (fields : List Entry) → IsMessage bytes fields → (indices : List ℕ) → AreNumbers (values_of 2 fields) indices
+  at_tags : d ≡ faults.Tag → (fields : List FieldData) → IsMessage bytes fields → (indices : List ℕ) → AreNumbers (values_of 2 fields) indices
       → ((ts : List Tagged) → AreTags keys values [] indices ts → ⊥) → FeatureHas keys values bytes d
   -- the integers spell no shape of the kind
-  at_shape : d ≡ faults.Geometry → (fields : List Entry) → IsMessage bytes fields → (kind : Option ℕ) → LastNumber None (values_of 3 fields) kind
+  at_shape : d ≡ faults.Geometry → (fields : List FieldData) → IsMessage bytes fields → (kind : Option ℕ) → LastNumber None (values_of 3 fields) kind
       → (ints : List ℕ) → AreNumbers (values_of 4 fields) ints → ((s : ShapeView) → IsShape (kind_of kind) ints s → ⊥) → FeatureHas keys values bytes d
 
 -- a fault of the value of a tag
 pub data ValueHas (bytes : List ℕ) (d : TileFault) : Type 0 where
   value_broken : d ≡ faults.Wire → IsBroken bytes → ValueHas bytes d
-  value_kind : d ≡ faults.Kind → (f : Entry) → HasField bytes f → is_known f.number ≡ true → has_kind f.number f.value ≡ false → ValueHas bytes d
-  two_kinds : d ≡ faults.Value → (f : Entry) → (g : Entry) → HasField bytes f → HasField bytes g → is_known f.number ≡ true → is_known g.number ≡ true
+  value_kind : d ≡ faults.Kind → (f : FieldData) → HasField bytes f → is_known f.number ≡ true → has_kind f.number f.value ≡ false → ValueHas bytes d
+  two_kinds : d ≡ faults.Value → (f : FieldData) → (g : FieldData) → HasField bytes f → HasField bytes g → is_known f.number ≡ true → is_known g.number ≡ true
       → (f.number ≡ g.number → ⊥) → ValueHas bytes d
-  no_kind : d ≡ faults.Value → (fields : List Entry) → IsMessage bytes fields → filter (λ f. is_known f.number) fields ≡ [] → ValueHas bytes d
-  value_text : d ≡ faults.Utf8 → (fields : List Entry) → IsMessage bytes fields → (f : Entry) → LastValue None (filter (λ f. is_known f.number) fields) (Some f)
+  no_kind : d ≡ faults.Value → (fields : List FieldData) → IsMessage bytes fields → filter (λ f. is_known f.number) fields ≡ [] → ValueHas bytes d
+  value_text : d ≡ faults.Utf8 → (fields : List FieldData) → IsMessage bytes fields → (f : FieldData) → LastValue None (filter (λ f. is_known f.number) fields) (Some f)
       → (part : List ℕ) → f.value ≡ some_bytes part → (IsUtf8 part → ⊥) → ValueHas bytes d
 
 -- a part among others
@@ -98,19 +98,19 @@ pub data LayerHas (bytes : List ℕ) (d : TileFault) : Type 0 where
   at_keys : PassHas BadBytes 3 bytes d → LayerHas bytes d
   at_values : PassHas BadBytes 4 bytes d → LayerHas bytes d
   at_features : PassHas BadBytes 2 bytes d → LayerHas bytes d
-  no_name : d ≡ faults.Name → (fields : List Entry) → IsMessage bytes fields → LastBytes None (values_of 1 fields) None → LayerHas bytes d
-  name_text : d ≡ faults.Utf8 → (fields : List Entry) → IsMessage bytes fields → (part : List ℕ) → LastBytes None (values_of 1 fields) (Some part)
+  no_name : d ≡ faults.Name → (fields : List FieldData) → IsMessage bytes fields → LastBytes None (values_of 1 fields) None → LayerHas bytes d
+  name_text : d ≡ faults.Utf8 → (fields : List FieldData) → IsMessage bytes fields → (part : List ℕ) → LastBytes None (values_of 1 fields) (Some part)
       → (IsUtf8 part → ⊥) → LayerHas bytes d
-  large_number : d ≡ faults.Range → (fields : List Entry) → IsMessage bytes fields → (number : ℕ) → (number ≡ 15) ⊎ (number ≡ 5) → (n : ℕ)
+  large_number : d ≡ faults.Range → (fields : List FieldData) → IsMessage bytes fields → (number : ℕ) → (number ≡ 15) ⊎ (number ≡ 5) → (n : ℕ)
       → LastNumber None (values_of number fields) (Some n) → 4294967295 < n → LayerHas bytes d
-  other_version : d ≡ faults.Version → (fields : List Entry) → IsMessage bytes fields → (n : ℕ) → LastNumber None (values_of 15 fields) (Some n)
+  other_version : d ≡ faults.Version → (fields : List FieldData) → IsMessage bytes fields → (n : ℕ) → LastNumber None (values_of 15 fields) (Some n)
       → (n ≡ DEFAULT_VERSION → ⊥) → (n ≡ CURRENT_VERSION → ⊥) → LayerHas bytes d
-  no_extent : d ≡ faults.Extent → (fields : List Entry) → IsMessage bytes fields → LastNumber None (values_of 5 fields) (Some 0) → LayerHas bytes d
-  key_text : d ≡ faults.Utf8 → (fields : List Entry) → IsMessage bytes fields → (raw : List (List ℕ)) → AreParts (values_of 3 fields) raw → (p : List ℕ)
+  no_extent : d ≡ faults.Extent → (fields : List FieldData) → IsMessage bytes fields → LastNumber None (values_of 5 fields) (Some 0) → LayerHas bytes d
+  key_text : d ≡ faults.Utf8 → (fields : List FieldData) → IsMessage bytes fields → (raw : List (List ℕ)) → AreParts (values_of 3 fields) raw → (p : List ℕ)
       → IsAmong p raw → (IsUtf8 p → ⊥) → LayerHas bytes d
-  in_value : (fields : List Entry) → IsMessage bytes fields → (raw : List (List ℕ)) → AreParts (values_of 4 fields) raw → (p : List ℕ) → IsAmong p raw
+  in_value : (fields : List FieldData) → IsMessage bytes fields → (raw : List (List ℕ)) → AreParts (values_of 4 fields) raw → (p : List ℕ) → IsAmong p raw
       → ValueHas p d → LayerHas bytes d
-  in_feature : (fields : List Entry) → IsMessage bytes fields → (raw_keys : List (List ℕ)) → AreParts (values_of 3 fields) raw_keys → (keys : List (List ℕ))
+  in_feature : (fields : List FieldData) → IsMessage bytes fields → (raw_keys : List (List ℕ)) → AreParts (values_of 3 fields) raw_keys → (keys : List (List ℕ))
       → Each IsText raw_keys keys → (raw_values : List (List ℕ)) → AreParts (values_of 4 fields) raw_values → (values : List TagView)
       → Each SaysValue raw_values values → (raw : List (List ℕ)) → AreParts (values_of 2 fields) raw → (p : List ℕ) → IsAmong p raw → FeatureHas keys values p d
       → LayerHas bytes d
@@ -118,9 +118,9 @@ pub data LayerHas (bytes : List ℕ) (d : TileFault) : Type 0 where
 -- a fault of a tile
 pub data TileHas (bytes : List ℕ) (d : TileFault) : Type 0 where
   at_layers : PassHas BadBytes 3 bytes d → TileHas bytes d
-  in_layer : (fields : List Entry) → IsMessage bytes fields → (raw : List (List ℕ)) → AreParts (values_of 3 fields) raw → (p : List ℕ) → IsAmong p raw
+  in_layer : (fields : List FieldData) → IsMessage bytes fields → (raw : List (List ℕ)) → AreParts (values_of 3 fields) raw → (p : List ℕ) → IsAmong p raw
       → LayerHas p d → TileHas bytes d
   -- two of the layers have one name
-  layer_twice : d ≡ faults.LayerTwice → (fields : List Entry) → IsMessage bytes fields → (front : List (List ℕ)) → (p : List ℕ) → (rest : List (List ℕ))
+  layer_twice : d ≡ faults.LayerTwice → (fields : List FieldData) → IsMessage bytes fields → (front : List (List ℕ)) → (p : List ℕ) → (rest : List (List ℕ))
       → AreParts (values_of 3 fields) (front ++ p ∷ rest) → (ls : List LayerView) → Each SaysLayer front ls → (l : LayerView) → SaysLayer p l
       → has_name ls l.name ≡ true → TileHas bytes d

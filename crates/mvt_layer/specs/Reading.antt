@@ -5,7 +5,7 @@ use Rattle.std.specs.Str.{is_utf8, bytes_eq}
 use Rattle.reader.specs.Reading.{Read, ◌>>=◌, folded}
 use Rattle.pb_wire.specs.Varint.{varint_at}
 use Rattle.pb_wire.specs.declared.fault.FaultKind.{FaultKind}
-use Rattle.pb_wire.specs.Message.{Value, varint_value, eight_bytes, some_bytes, four_bytes, Entry}
+use Rattle.pb_wire.specs.Message.{Value, varint_value, eight_bytes, some_bytes, four_bytes, FieldData}
 use Rattle.pb_wire.specs.Items.{Item, items_of}
 use Rattle.geometry_commands.specs.declared.decoding.GeometryFault.{GeometryFault}
 use Rattle.geometry_commands.specs.declared.kinds.ShapeKind.{ShapeKind}
@@ -131,12 +131,12 @@ has_kind number (four_bytes part) = number == 2
 has_kind number (eight_bytes part) = number == 3
 has_kind number (varint_value n) = nat_lt 3 number
 
-abbrev pub may_follow : Option Entry → ℕ → Bool
+abbrev pub may_follow : Option FieldData → ℕ → Bool
 may_follow None number = true
 may_follow (Some f) number = f.number == number
 
 -- the last field that says a value, where all that do have one number
-abbrev pub value_after : Option Entry → Item → Read TileFault (Option Entry)
+abbrev pub value_after : Option FieldData → Item → Read TileFault (Option FieldData)
 value_after last (Err fault) = Err faults.Wire
 value_after last (Ok f) =
     if is_known f.number then (if has_kind f.number f.value then (if may_follow last f.number then Ok (Some f) else Err faults.Value) else Err faults.Kind)
@@ -153,11 +153,11 @@ meaning number (varint_value n) =
     else (if number == 6 then Ok (zigzag_tag n)
     else Ok (truth (not (n == 0)))))
 
-abbrev pub meant : Option Entry → Read TileFault TagView
+abbrev pub meant : Option FieldData → Read TileFault TagView
 meant None = Err faults.Value
 meant (Some f) = meaning f.number f.value
 
-abbrev pub last_value_in : List ℕ → Read TileFault (Option Entry)
+abbrev pub last_value_in : List ℕ → Read TileFault (Option FieldData)
 last_value_in bytes = folded value_after None (items_of bytes)
 
 unfoldable pub tag_value_at : List ℕ → Read TileFault TagView

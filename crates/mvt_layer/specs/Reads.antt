@@ -3,14 +3,14 @@ use Rattle.std.specs.Prelude.{◌≡◌, ℕ, ◌<◌, ◌==◌, ◌⊎◌, if�
 use Rattle.std.specs.List.{filter}
 use Rattle.std.specs.Str.{IsUtf8}
 use Rattle.pb_wire.specs.Varint.{IsVarint}
-use Rattle.pb_wire.specs.Message.{Value, varint_value, eight_bytes, some_bytes, four_bytes, Entry, IsMessage}
+use Rattle.pb_wire.specs.Message.{Value, varint_value, eight_bytes, some_bytes, four_bytes, FieldData, IsMessage}
 use Rattle.geometry_commands.specs.Shapes.{IsShape}
 use Rattle.mvt_layer.specs.declared.layers.TheConstants.{DEFAULT_EXTENT, DEFAULT_VERSION, CURRENT_VERSION}
 use Rattle.mvt_layer.specs.Tile.{TagView, Tagged, FeatureView, LayerView}
 use Rattle.mvt_layer.specs.Reading.{is_known, has_kind, may_follow, meaning, has_number, has_name, kind_of}
 
 -- the values of the fields of this number, in order
-abbrev pub values_of : ℕ → List Entry → List Value
+abbrev pub values_of : ℕ → List FieldData → List Value
 values_of number [] = []
 values_of number (f ∷ fs) = if f.number == number then f.value ∷ values_of number fs else values_of number fs
 
@@ -55,15 +55,15 @@ AreNumbers (eight_bytes _ ∷ vs) ns = ⊥
 AreNumbers (four_bytes _ ∷ vs) ns = ⊥
 
 -- the last of the fields, where each has the wire type of its number, and all have one number
-abbrev pub LastValue : Option Entry → List Entry → Option Entry → Type 0
+abbrev pub LastValue : Option FieldData → List FieldData → Option FieldData → Type 0
 LastValue before [] last = last ≡ before
 LastValue before (f ∷ fs) last = IsTrue (has_kind f.number f.value) × IsTrue (may_follow before f.number) × LastValue (Some f) fs last
 
 -- the bytes say the value of a tag, in one kind of field
 pub record SaysValue (bytes : List ℕ) (v : TagView) : Type 0 where
-  pub fields : List Entry
+  pub fields : List FieldData
   pub message : IsMessage bytes fields
-  pub field : Entry
+  pub field : FieldData
   pub last : LastValue None (filter (λ f. is_known f.number) fields) (Some field)
   pub means : meaning field.number field.value ≡ Ok v
 
@@ -77,7 +77,7 @@ AreTags keys values used (k ∷ v ∷ ns) tags =
 
 -- with these pools, the bytes say a feature
 pub record SaysFeature (keys : List (List ℕ)) (values : List TagView) (bytes : List ℕ) (f : FeatureView) : Type 0 where
-  pub fields : List Entry
+  pub fields : List FieldData
   pub message : IsMessage bytes fields
   pub id : LastNumber None (values_of 1 fields) f.id
   pub kind : Option ℕ
@@ -98,7 +98,7 @@ SmallOr otherwise None n = n ≡ otherwise
 SmallOr otherwise (Some m) n = (n ≡ m) × (m < 4294967296)
 
 pub record SaysLayer (bytes : List ℕ) (l : LayerView) : Type 0 where
-  pub fields : List Entry
+  pub fields : List FieldData
   pub message : IsMessage bytes fields
   pub name : LastBytes None (values_of 1 fields) (Some l.name)
   pub name_text : IsUtf8 l.name
@@ -128,7 +128,7 @@ AreNamed before [] = Unit {0}
 AreNamed before (l ∷ ls) = (has_name before l.name ≡ false) × AreNamed (before ++ l ∷ []) ls
 
 pub record ReadsAs (bytes : List ℕ) (ls : List LayerView) : Type 0 where
-  pub fields : List Entry
+  pub fields : List FieldData
   pub message : IsMessage bytes fields
   pub parts : List (List ℕ)
   pub parts_are : AreParts (values_of 3 fields) parts

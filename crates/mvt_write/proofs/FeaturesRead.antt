@@ -10,7 +10,7 @@ use Rattle.std.proofs.lemmas.Cmp.{nat_list_cmp_total}
 use Rattle.std.proofs.lemmas.List.{length-append}
 use Rattle.std.proofs.lemmas.List.Elements.{recursion_from_All}
 use Rattle.pb_wire.specs.Varint.{varint}
-use Rattle.pb_wire.specs.Message.{varint_value, some_bytes, Entry, IsMessage}
+use Rattle.pb_wire.specs.Message.{varint_value, some_bytes, FieldData, IsMessage}
 use Rattle.geometry_commands.specs.Shapes as shapes
 use Rattle.geometry_commands.specs.Shapes.{ShapeView, points, lines, rings, raw, shape_spelled}
 use Rattle.mvt_layer.specs.Tile.{TagView, Tagged, FeatureView}
@@ -83,11 +83,11 @@ module _ (keys messages : List (List ℕ)) (values : List TagView) where
 
   -- ---- the fields of a feature
 
-  abbrev tags_entries : List Tagged → List Entry
+  abbrev tags_entries : List Tagged → List FieldData
   tags_entries [] = []
   tags_entries (t ∷ ts) = bytes_entry 2 (flat_map varint (tag_indices keys messages (t ∷ ts))) ∷ []
 
-  tags_message : (tags : List Tagged) (rest : List ℕ) (fs : List Entry) → length (tags_written keys messages tags) < 2 ^ 64 → IsMessage rest fs
+  tags_message : (tags : List Tagged) (rest : List ℕ) (fs : List FieldData) → length (tags_written keys messages tags) < 2 ^ 64 → IsMessage rest fs
       → IsMessage (tags_written keys messages tags ++ rest) (tags_entries tags ++ fs)
   tags_message [] rest fs below others = others
   tags_message (t ∷ ts) rest fs below others =
@@ -97,7 +97,7 @@ module _ (keys messages : List (List ℕ)) (values : List TagView) where
   abbrev shape_bytes : ShapeView → List ℕ
   shape_bytes shape = flat_map varint (shape_spelled shape)
 
-  abbrev last_entries : ShapeView → List Entry
+  abbrev last_entries : ShapeView → List FieldData
   last_entries shape = number_entry 3 (kind_number shape) ∷ bytes_entry 4 (shape_bytes shape) ∷ []
 
   abbrev last_fields : ShapeView → List ℕ

@@ -10,7 +10,7 @@ use Rattle.std.proofs.lemmas.List.Elements.{All-map, All-append, recursion_from_
 use Rattle.std.proofs.lemmas.List.Folds.{list_any_at}
 use Rattle.std.proofs.lemmas.Option.{slice_get-map}
 use Rattle.std.proofs.lemmas.Slice.Eq.{bytes_eq-Decides}
-use Rattle.pb_wire.specs.Message.{Value, some_bytes, Entry, IsMessage}
+use Rattle.pb_wire.specs.Message.{Value, some_bytes, FieldData, IsMessage}
 use Rattle.mvt_layer.specs.Tile.{TagView, truth, Tagged, FeatureView, LayerView}
 use Rattle.mvt_layer.specs.Reads.{values_of, Each, IsText, SaysValue, SaysFeature, SaysLayer, ReadsAs}
 use Rattle.mvt_write.specs.CanWrite.{CanWriteValue, CanWriteFeature, CanWriteLayer, CanWriteAll}
@@ -126,7 +126,7 @@ texts_say (key ∷ keys) all = (λ below. (refl, all.0), texts_say keys all.1)
 abbrev end_fields : LayerView → List ℕ
 end_fields l = number_field 5 l.extent ++ number_field 15 l.version
 
-abbrev end_entries : LayerView → List Entry
+abbrev end_entries : LayerView → List FieldData
 end_entries l = number_entry 5 l.extent ∷ number_entry 15 l.version ∷ []
 
 end_message : (l : LayerView) → CanWriteLayer l → IsMessage (end_fields l) (end_entries l)
@@ -136,7 +136,7 @@ end_message l can =
 
 -- the parts that a layer's message has, behind its name
 module _ (write : FeatureView → List ℕ) (fs : List FeatureView) (keys messages : List (List ℕ)) (l : LayerView) where
-  abbrev middle : List Entry
+  abbrev middle : List FieldData
   middle = entries 2 write fs ++ (entries 3 (λ k. k) keys ++ (entries 4 (λ m. m) messages ++ end_entries l))
 
   none_of : (number : ℕ) → eqb 2 number ≡ false → eqb 3 number ≡ false → eqb 4 number ≡ false → values_of number middle ≡ values_of number (end_entries l)

@@ -5,19 +5,19 @@ use Rattle.std.specs.List.{flat_map, AllByRecursion}
 use Rattle.std.proofs.lemmas.List.{length-append}
 use Rattle.pb_wire.specs.Varint.{IsVarint, varint}
 use Rattle.pb_wire.specs.Faulty.{IsFieldNumber}
-use Rattle.pb_wire.specs.Message.{Value, varint_value, some_bytes, Entry, IsMessage}
+use Rattle.pb_wire.specs.Message.{Value, varint_value, some_bytes, FieldData, IsMessage}
 use Rattle.pb_wire.proofs.Varints.{varint_spells}
 use Rattle.mvt_layer.specs.Reads.{values_of, Each, ArePacked, AreNumbers}
 use Rattle.mvt_write.specs.Written.{number_field, bytes_field}
 
-abbrev pub number_entry : ℕ → ℕ → Entry
+abbrev pub number_entry : ℕ → ℕ → FieldData
 number_entry number n = record { number = number; value = varint_value n }
 
-abbrev pub bytes_entry : ℕ → List ℕ → Entry
+abbrev pub bytes_entry : ℕ → List ℕ → FieldData
 bytes_entry number bytes = record { number = number; value = some_bytes bytes }
 
 -- a message that begins with a number
-pub message_number : (number n : ℕ) (rest : List ℕ) (fs : List Entry) → IsFieldNumber number → n < 2 ^ 64 → IsMessage rest fs
+pub message_number : (number n : ℕ) (rest : List ℕ) (fs : List FieldData) → IsFieldNumber number → n < 2 ^ 64 → IsMessage rest fs
     → IsMessage (number_field number n ++ rest) (number_entry number n ∷ fs)
 message_number number n rest fs fits below others = (
   number_field number n,
@@ -35,7 +35,7 @@ message_number number n rest fs fits below others = (
 )
 
 -- a message that begins with bytes
-pub message_bytes : (number : ℕ) (bytes rest : List ℕ) (fs : List Entry) → IsFieldNumber number → length bytes < 2 ^ 64 → IsMessage rest fs
+pub message_bytes : (number : ℕ) (bytes rest : List ℕ) (fs : List FieldData) → IsFieldNumber number → length bytes < 2 ^ 64 → IsMessage rest fs
     → IsMessage (bytes_field number bytes ++ rest) (bytes_entry number bytes ∷ fs)
 message_bytes number bytes rest fs fits below others = (
   bytes_field number bytes,
@@ -73,7 +73,7 @@ module _ {X : Type 0} (number : ℕ) (bytes_of : X → List ℕ) where
   abbrev pub fields_written : List X → List ℕ
   fields_written xs = flat_map (λ x. bytes_field number (bytes_of x)) xs
 
-  abbrev pub entries : List X → List Entry
+  abbrev pub entries : List X → List FieldData
   entries xs = map (λ x. bytes_entry number (bytes_of x)) xs
 
   lengths_in : (x : X) (xs : List X)
@@ -83,7 +83,7 @@ module _ {X : Type 0} (number : ℕ) (bytes_of : X → List ℕ) where
       let f = length_in_field number (bytes_of x) in
       (omega (arith, e, f), omega (arith, e))
 
-  pub message_each : (xs : List X) (rest : List ℕ) (fs : List Entry) → IsFieldNumber number → length (fields_written xs) < 2 ^ 64 → IsMessage rest fs
+  pub message_each : (xs : List X) (rest : List ℕ) (fs : List FieldData) → IsFieldNumber number → length (fields_written xs) < 2 ^ 64 → IsMessage rest fs
       → IsMessage (fields_written xs ++ rest) (entries xs ++ fs)
   message_each [] rest fs fits below others = others
   message_each (x ∷ xs) rest fs fits below others =
@@ -95,11 +95,11 @@ module _ {X : Type 0} (number : ℕ) (bytes_of : X → List ℕ) where
       (message_bytes number (bytes_of x) (fields_written xs ++ rest) (entries xs ++ fs) fits (omega (arith, len.0)) next)
 
   -- the fields of this number are the parts, and no other number has one
-  pub values_same : (xs : List X) (fs : List Entry) → values_of number (entries xs ++ fs) ≡ map (λ p. some_bytes p) (map bytes_of xs) ++ values_of number fs
+  pub values_same : (xs : List X) (fs : List FieldData) → values_of number (entries xs ++ fs) ≡ map (λ p. some_bytes p) (map bytes_of xs) ++ values_of number fs
   values_same [] fs = refl
   values_same (x ∷ xs) fs = rw (eq-eqb number number refl) (ap (λ (vs : List Value). some_bytes (bytes_of x) ∷ vs) (values_same xs fs))
 
-  pub values_other : (other : ℕ) (xs : List X) (fs : List Entry) → eqb number other ≡ false → values_of other (entries xs ++ fs) ≡ values_of other fs
+  pub values_other : (other : ℕ) (xs : List X) (fs : List FieldData) → eqb number other ≡ false → values_of other (entries xs ++ fs) ≡ values_of other fs
   values_other other [] fs differs = refl
   values_other other (x ∷ xs) fs differs = rw differs (values_other other xs fs differs)
 

@@ -26,7 +26,7 @@ fn text_code(text: &str) -> u64 {
 }
 
 /// A key or a value of tags, as a layer holds it.
-pub(crate) trait Entry: Ord + Copy {
+pub(crate) trait FieldData: Ord + Copy {
     ghost spelled: { Self → List ℕ };
 
     /// A number that mostly differs where entries differ. Only the speed of a pool rests on it.
@@ -40,7 +40,7 @@ pub(crate) trait Entry: Ord + Copy {
     ghost same: { (a b : Self) → is_eq (Self.cmp a b) ≡ bytes_eq (spelled a) (spelled b) };
 }
 
-impl<'a> Entry for &'a str {
+impl<'a> FieldData for &'a str {
     ghost use Rattle.std.proofs.lemmas.Map.Text.{is_eq-slice_cmp};
 
     ghost spelled = { λ text. text.now };
@@ -56,7 +56,7 @@ impl<'a> Entry for &'a str {
     }
 }
 
-impl<'a> Entry for PoolValue<'a> {
+impl<'a> FieldData for PoolValue<'a> {
     ghost use Rattle.mvt_write.specs.Distinct.{same_value};
 
     ghost spelled = { λ value. value_written (value_view value) };

@@ -7,7 +7,7 @@ ghost use Rattle.std.specs.List.{flat_map};
 ghost use Rattle.mvt_write.specs.Written.{bytes_field};
 ghost use Rattle.mvt_write.specs.Pools.{index_of, index_in, has_entry, with_entry};
 
-use crate::entry::Entry;
+use crate::entry::FieldData;
 use std::alloc::{AllocError, Global};
 use std::cmp::Ordering;
 use std::collections::BTreeMap;
@@ -37,7 +37,7 @@ fn number_of<K: Ord + Copy>(
 
 /// Entries in the order of their first use, each once.
 #[derive(Drop)]
-pub(crate) struct Pool<T: Entry> {
+pub(crate) struct Pool<T: FieldData> {
     pub entries: Vec<T>,
     indices: BTreeMap<T, usize>,
     /// For each place the index of the entry that was used there last, or any number.
@@ -47,7 +47,7 @@ pub(crate) struct Pool<T: Entry> {
         → index_of (map T.spelled entries.items) (slice_index_or (map T.spelled entries.items) index []) ≡ index },
 }
 
-impl<T: Entry> Pool<T> {
+impl<T: FieldData> Pool<T> {
     #[tactic(auto, unfolding(crate::specs::Pools::has_entry))]
     pub fn new(alloc: Global) -> Self
         ensures { result.entries.items ≡ [] }

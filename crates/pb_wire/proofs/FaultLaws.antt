@@ -10,7 +10,7 @@ use Rattle.pb_wire.specs.declared.fault.FaultKind.{FaultKind}
 use Rattle.pb_wire.specs.declared.fault.WireFault.{WireFault}
 use Rattle.pb_wire.specs.declared.fault.FaultKind.TheVariants.{Cut, Varint, Number, WireType}
 use Rattle.pb_wire.specs.Varint.{IsVarint, IsCut, IsOverlong, behind, read_in, varint_at}
-use Rattle.pb_wire.specs.Message.{Value, varint_value, eight_bytes, some_bytes, four_bytes, Entry, IsField, IsMessage, front_at, value_at, field_at}
+use Rattle.pb_wire.specs.Message.{Value, varint_value, eight_bytes, some_bytes, four_bytes, FieldData, IsField, IsMessage, front_at, value_at, field_at}
 use Rattle.pb_wire.specs.Items.{Item, item_then, items_in, items_of}
 use Rattle.pb_wire.specs.Faulty.{IsFieldNumber, ValueHas, FieldHas, IsFaulty, no_type, number_cut, number_overlong, eight_cut, bytes_cut, four_cut, key_cut}
 use Rattle.pb_wire.specs.Faulty.{key_overlong, no_number, at_value}
@@ -152,7 +152,7 @@ field_faults bytes d e =
       | inl h ↦ number_faults bytes d h key_cut key_overlong
       | inr h ↦ let p = number_parts bytes h.0 h.1 in
           elim (chosen ((eqb (h.0.0 / 8) 0) || ltb 536870911 (h.0.0 / 8)) _ _ _ h.2) [
-            | inl k ↦ no_number (sym (same_kind {A = Entry × ℕ} Number d k.1)) (take h.0.1 bytes) (drop h.0.1 bytes) h.0.0 p.0 p.1
+            | inl k ↦ no_number (sym (same_kind {A = FieldData × ℕ} Number d k.1)) (take h.0.1 bytes) (drop h.0.1 bytes) h.0.0 p.0 p.1
                 (not_numbered (h.0.0 / 8) k.0)
             | inr k ↦ elim (then_err (value_at (h.0.0 % 8) (drop h.0.1 bytes)) (made_field h.0) d k.1) [
               | inl v ↦ at_value (take h.0.1 bytes) (drop h.0.1 bytes) h.0.0 p.0 p.1 (is_numbered (h.0.0 / 8) k.0)
@@ -185,11 +185,11 @@ field_refused bytes d (at_value key rest k parts spelled number has) =
 abbrev ending : WireFault → List Item
 ending fault = Err fault ∷ []
 
-abbrev faulty : List Entry → WireFault → List Item
+abbrev faulty : List FieldData → WireFault → List Item
 faulty fields fault = whole fields ++ ending fault
 
 -- the bytes from this offset on have the fault behind these fields
-record FaultyFrom (start : ℕ) (bytes : List ℕ) (fields : List Entry) (fault : WireFault) : Type 0 where
+record FaultyFrom (start : ℕ) (bytes : List ℕ) (fields : List FieldData) (fault : WireFault) : Type 0 where
   front : List ℕ
   rest : List ℕ
   parts : bytes ≡ front ++ rest
@@ -203,7 +203,7 @@ same_fault fault at e =
     let F : ℕ → List Item = λ n. ending (record { at = n; kind = fault.kind }) in
     ap F e
 
-faulty_items : (fields : List Entry) (start : ℕ) (bytes : List ℕ) (fault : WireFault) (front rest : List ℕ) → bytes ≡ front ++ rest → IsMessage front fields
+faulty_items : (fields : List FieldData) (start : ℕ) (bytes : List ℕ) (fault : WireFault) (front rest : List ℕ) → bytes ≡ front ++ rest → IsMessage front fields
     → 0 < length rest → fault.at ≡ start + length front → FieldHas rest fault.kind → items_in (length bytes) start bytes ≡ faulty fields fault
 unfolding items_in
 faulty_items [] start bytes fault front rest parts message some offset has =
@@ -225,24 +225,24 @@ faulty_items (f ∷ fs) start bytes fault front rest parts h some offset has =
 -- the items from this offset on end with the fault behind these fields
 abbrev GoesOn : ℕ → Type 0
 GoesOn more =
-    (start : ℕ) (bytes : List ℕ) (fields : List Entry) (fault : WireFault) → length bytes ≤ more → items_in more start bytes ≡ faulty fields fault
+    (start : ℕ) (bytes : List ℕ) (fields : List FieldData) (fault : WireFault) → length bytes ≤ more → items_in more start bytes ≡ faulty fields fault
     → FaultyFrom start bytes fields fault
 
-none_left : (fields : List Entry) (fault : WireFault) → [] ≡ faulty fields fault → ⊥
+none_left : (fields : List FieldData) (fault : WireFault) → [] ≡ faulty fields fault → ⊥
 none_left [] fault e = cc
 none_left (f ∷ fs) fault e = cc
 
-no_fault : (x : Entry) (others : List Item) (fault : WireFault) → item x ∷ others ≡ ending fault → ⊥
+no_fault : (x : FieldData) (others : List Item) (fault : WireFault) → item x ∷ others ≡ ending fault → ⊥
 no_fault x others fault e = cc
 
-no_field : (w : WireFault) (f : Entry) (others : List Item) → ending w ≡ item f ∷ others → ⊥
+no_field : (w : WireFault) (f : FieldData) (others : List Item) → ending w ≡ item f ∷ others → ⊥
 no_field w f others e = cc
 
 fault_there : (w fault : WireFault) → ending w ≡ ending fault → w ≡ fault
 fault_there w fault e = cc
 
-go_faulty : (more start : ℕ) (bytes : List ℕ) (fields : List Entry) (fault : WireFault) → 0 < length bytes → length bytes ≤ suc more → GoesOn more
-    → (r : Result (Entry × ℕ) FaultKind) → field_at bytes ≡ r → item_then start (λ len. items_in more (start + len) (drop len bytes)) r ≡ faulty fields fault
+go_faulty : (more start : ℕ) (bytes : List ℕ) (fields : List FieldData) (fault : WireFault) → 0 < length bytes → length bytes ≤ suc more → GoesOn more
+    → (r : Result (FieldData × ℕ) FaultKind) → field_at bytes ≡ r → item_then start (λ len. items_in more (start + len) (drop len bytes)) r ≡ faulty fields fault
     → FaultyFrom start bytes fields fault
 unfolding item_then
 go_faulty more start bytes [] fault some short next (Ok x) read e = absurd (no_fault x.0 (items_in more (start + x.1) (drop x.1 bytes)) fault e)
@@ -277,7 +277,7 @@ go_faulty more start bytes [] fault some short next (Err kind) read e =
     }
 go_faulty more start bytes (f ∷ fs) fault some short next (Err kind) read e = absurd (no_field (record { at = start; kind = kind }) f (faulty fs fault) e)
 
-items_faulty : (more start : ℕ) (bytes : List ℕ) (fields : List Entry) (fault : WireFault) → length bytes ≤ more
+items_faulty : (more start : ℕ) (bytes : List ℕ) (fields : List FieldData) (fault : WireFault) → length bytes ≤ more
     → items_in more start bytes ≡ faulty fields fault → FaultyFrom start bytes fields fault
 unfolding items_in item_then
 items_faulty zero start [] fields fault short e = absurd (none_left fields fault e)
@@ -288,21 +288,21 @@ items_faulty (suc more) start (b ∷ bs) fields fault short e =
 
 -- ---- the law's two clauses
 
-pub is_faulty : (bytes : List ℕ) (fields : List Entry) (fault : WireFault) → items_of bytes ≡ map (λ f. Ok f) fields ++ Err fault ∷ []
+pub is_faulty : (bytes : List ℕ) (fields : List FieldData) (fault : WireFault) → items_of bytes ≡ map (λ f. Ok f) fields ++ Err fault ∷ []
     → IsFaulty bytes fields fault
 is_faulty bytes fields fault e =
     let h = items_faulty (length bytes) 0 bytes fields fault (omega arith) e in
     record { front = h.front; rest = h.rest; parts = h.parts; message = h.message; some = h.some; offset = omega (arith, h.offset); has = h.has }
 
-pub faulty_is : (bytes : List ℕ) (fields : List Entry) (fault : WireFault) → IsFaulty bytes fields fault
+pub faulty_is : (bytes : List ℕ) (fields : List FieldData) (fault : WireFault) → IsFaulty bytes fields fault
     → items_of bytes ≡ map (λ f. Ok f) fields ++ Err fault ∷ []
 faulty_is bytes fields fault h = faulty_items fields 0 bytes fault h.front h.rest h.parts h.message h.some (omega (arith, h.offset)) h.has
 
 -- the items are fields, and then perhaps a fault
 abbrev Ends : List Item → Type 0
-Ends items = ((fields : List Entry) × (items ≡ whole fields)) ⊎ ((fields : List Entry) × (fault : WireFault) × (items ≡ faulty fields fault))
+Ends items = ((fields : List FieldData) × (items ≡ whole fields)) ⊎ ((fields : List FieldData) × (fault : WireFault) × (items ≡ faulty fields fault))
 
-one_more : (f : Entry) (items : List Item) → Ends items → Ends (item f ∷ items)
+one_more : (f : FieldData) (items : List Item) → Ends items → Ends (item f ∷ items)
 one_more f items (inl h) = inl (f ∷ h.0, ap (λ (r : List Item). item f ∷ r) h.1)
 one_more f items (inr h) = inr (f ∷ h.0, h.1, ap (λ (r : List Item). item f ∷ r) h.2)
 
@@ -312,13 +312,13 @@ items_end zero start bytes = inl ([], refl)
 items_end (suc more) start [] = inl ([], refl)
 items_end (suc more) start (b ∷ bs) = go (λ x. items_end more (start + x.1) (drop x.1 (b ∷ bs))) (field_at (b ∷ bs))
   where
-    go : ((x : Entry × ℕ) → Ends (items_in more (start + x.1) (drop x.1 (b ∷ bs)))) → (r : Result (Entry × ℕ) FaultKind)
+    go : ((x : FieldData × ℕ) → Ends (items_in more (start + x.1) (drop x.1 (b ∷ bs)))) → (r : Result (FieldData × ℕ) FaultKind)
         → Ends (item_then start (λ len. items_in more (start + len) (drop len (b ∷ bs))) r)
     go next (Ok x) = one_more x.0 (items_in more (start + x.1) (drop x.1 (b ∷ bs))) (next x)
     go next (Err kind) = inr ([], record { at = start; kind = kind }, refl)
 
-pub one_or_other : (bytes : List ℕ) → ((fields : List Entry) × IsMessage bytes fields)
-    ⊎ ((fields : List Entry) × (fault : WireFault) × IsFaulty bytes fields fault)
+pub one_or_other : (bytes : List ℕ) → ((fields : List FieldData) × IsMessage bytes fields)
+    ⊎ ((fields : List FieldData) × (fault : WireFault) × IsFaulty bytes fields fault)
 one_or_other bytes =
     elim (items_end (length bytes) 0 bytes) [
       | inl h ↦ inl (h.0, items_message (length bytes) 0 bytes h.0 (omega arith) h.1)

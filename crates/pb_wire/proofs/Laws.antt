@@ -2,7 +2,7 @@
 use Rattle.std.proofs.Common.{◌≡◌, ℕ, ◌<◌, ◌≤◌, ◌^◌, ◌↔◌, ◌⊎◌, List, [], ◌∷◌, ◌++◌, length, map, Ok, Err, arith}
 use Rattle.pb_wire.specs.declared.fault.WireFault.{WireFault}
 use Rattle.pb_wire.specs.Varint.{varint, IsVarint}
-use Rattle.pb_wire.specs.Message.{Entry, IsMessage}
+use Rattle.pb_wire.specs.Message.{FieldData, IsMessage}
 use Rattle.pb_wire.specs.Faulty.{IsFaulty}
 use Rattle.pb_wire.specs.Items.{items_of}
 use Rattle.pb_wire.proofs.Varints.{varint_spells, varint_shortest}
@@ -18,15 +18,15 @@ pub written_shortest : (bytes : List ℕ) (n : ℕ) → IsVarint bytes n → len
 written_shortest = varint_shortest
 
 -- going over bytes gives fields and no fault exactly where the bytes are a message of these fields
-pub message_fields : (bytes : List ℕ) (fields : List Entry) → IsMessage bytes fields ↔ (items_of bytes ≡ map (λ f. Ok f) fields)
+pub message_fields : (bytes : List ℕ) (fields : List FieldData) → IsMessage bytes fields ↔ (items_of bytes ≡ map (λ f. Ok f) fields)
 message_fields bytes fields = (message_items fields 0 bytes, items_message (length bytes) 0 bytes fields (omega arith))
 
 -- going over bytes gives fields and then a fault exactly where a message of these fields stands in front, and the field behind it has the fault
-pub faulty_fields : (bytes : List ℕ) (fields : List Entry) (fault : WireFault)
+pub faulty_fields : (bytes : List ℕ) (fields : List FieldData) (fault : WireFault)
     → IsFaulty bytes fields fault ↔ (items_of bytes ≡ map (λ f. Ok f) fields ++ Err fault ∷ [])
 faulty_fields bytes fields fault = (faulty_is bytes fields fault, is_faulty bytes fields fault)
 
 -- bytes are a message or have a fault
 pub message_or_fault : (bytes : List ℕ)
-    → ((fields : List Entry) × IsMessage bytes fields) ⊎ ((fields : List Entry) × (fault : WireFault) × IsFaulty bytes fields fault)
+    → ((fields : List FieldData) × IsMessage bytes fields) ⊎ ((fields : List FieldData) × (fault : WireFault) × IsFaulty bytes fields fault)
 message_or_fault = one_or_other

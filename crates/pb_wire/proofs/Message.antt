@@ -9,7 +9,7 @@ use Rattle.reader.proofs.Steps.{then_ok, guard_ok, same_value}
 use Rattle.pb_wire.specs.declared.fault.FaultKind.{FaultKind}
 use Rattle.pb_wire.specs.declared.fault.FaultKind.TheVariants.{Number}
 use Rattle.pb_wire.specs.Varint.{IsGroups, varint_at}
-use Rattle.pb_wire.specs.Message.{Value, Entry, value_at, field_at}
+use Rattle.pb_wire.specs.Message.{Value, FieldData, value_at, field_at}
 use Rattle.pb_wire.specs.Faulty.{IsFieldNumber}
 use Rattle.pb_wire.specs.Items.{Item, item_then, items_in}
 use Rattle.pb_wire.proofs.VarintLaws.{found_is}
@@ -30,14 +30,14 @@ is_numbered n e =
     let not0 = eqb-false n 0 h.0 in
     (omega (arith, not0), ltb-false 536870911 n h.1)
 
-abbrev pub made_field : ℕ × ℕ → Value × ℕ → Result (Entry × ℕ) FaultKind
+abbrev pub made_field : ℕ × ℕ → Value × ℕ → Result (FieldData × ℕ) FaultKind
 made_field key value = Ok (record { number = key.0 / 8; value = value.0 }, key.1 + value.1)
 
-abbrev pub behind_key : List ℕ → ℕ × ℕ → Result (Entry × ℕ) FaultKind
+abbrev pub behind_key : List ℕ → ℕ × ℕ → Result (FieldData × ℕ) FaultKind
 behind_key bytes key = cond ((eqb (key.0 / 8) 0) || ltb 536870911 (key.0 / 8)) (Err Number) (value_at (key.0 % 8) (drop key.1 bytes) >>= made_field key)
 
 -- the key and the value of which a field was made
-pub record FieldParts (bytes : List ℕ) (x : Entry × ℕ) : Type 0 where
+pub record FieldParts (bytes : List ℕ) (x : FieldData × ℕ) : Type 0 where
   pub key : ℕ × ℕ
   pub value : Value × ℕ
   pub key_read : varint_at bytes ≡ Ok key
@@ -45,7 +45,7 @@ pub record FieldParts (bytes : List ℕ) (x : Entry × ℕ) : Type 0 where
   pub value_read : value_at (key.0 % 8) (drop key.1 bytes) ≡ Ok value
   pub made : (record { number = key.0 / 8; value = value.0 }, key.1 + value.1) ≡ x
 
-pub field_parts : (bytes : List ℕ) (x : Entry × ℕ) → field_at bytes ≡ Ok x → FieldParts bytes x
+pub field_parts : (bytes : List ℕ) (x : FieldData × ℕ) → field_at bytes ≡ Ok x → FieldParts bytes x
 unfolding field_at
 field_parts bytes x e =
     let key = then_ok (varint_at bytes) (behind_key bytes) x e in
@@ -61,12 +61,12 @@ field_parts bytes x e =
       made = same_value {Fault = FaultKind} (record { number = key.0.0 / 8; value = value.0.0 }, key.0.1 + value.0.1) x value.2;
     }
 
-pub field_len : (bytes : List ℕ) (x : Entry × ℕ) → field_at bytes ≡ Ok x → 0 < x.1
-field_len bytes x e = let f = field_parts bytes x e in omega (arith, varint_len bytes f.key f.key_read, ap (λ (y : Entry × ℕ). y.1) f.made)
+pub field_len : (bytes : List ℕ) (x : FieldData × ℕ) → field_at bytes ≡ Ok x → 0 < x.1
+field_len bytes x e = let f = field_parts bytes x e in omega (arith, varint_len bytes f.key f.key_read, ap (λ (y : FieldData × ℕ). y.1) f.made)
 
 -- ---- items
 
-item_then_same : (at : ℕ) (a b : ℕ → List Item) (r : Result (Entry × ℕ) FaultKind) → ((x : Entry × ℕ) → r ≡ Ok x → a x.1 ≡ b x.1)
+item_then_same : (at : ℕ) (a b : ℕ → List Item) (r : Result (FieldData × ℕ) FaultKind) → ((x : FieldData × ℕ) → r ≡ Ok x → a x.1 ≡ b x.1)
     → item_then at a r ≡ item_then at b r
 unfolding item_then
 item_then_same at a b (Ok x) same = ap (λ (others : List Item). Ok x.0 ∷ others) (same x refl)
@@ -87,7 +87,7 @@ items_same (suc m) (suc n) at (b ∷ bs) hm hn =
     let short : length (drop x.1 (b ∷ bs)) ≤ length bs = omega (arith, length-drop x.1 (b ∷ bs)) in
     items_same m n (at + x.1) (drop x.1 (b ∷ bs)) (omega arith) (omega arith))
 
-pub items_first : (bytes : List ℕ) (at : ℕ) (f : Entry) (len : ℕ) (rest : List ℕ) → 0 < length bytes → field_at bytes ≡ Ok (f, len) → rest ≡ drop len bytes
+pub items_first : (bytes : List ℕ) (at : ℕ) (f : FieldData) (len : ℕ) (rest : List ℕ) → 0 < length bytes → field_at bytes ≡ Ok (f, len) → rest ≡ drop len bytes
     → items_in (length bytes) at bytes ≡ Ok f ∷ items_in (length rest) (at + len) rest
 unfolding items_in item_then
 items_first [] at f len rest some e is = absurd (omega arith)

@@ -10,7 +10,7 @@ use Rattle.pb_wire.specs.declared.fault.FaultKind.{FaultKind}
 use Rattle.pb_wire.specs.declared.fault.WireFault.{WireFault}
 use Rattle.pb_wire.specs.declared.fault.FaultKind.TheVariants.{Cut, WireType}
 use Rattle.pb_wire.specs.Varint.{IsVarint, varint_at}
-use Rattle.pb_wire.specs.Message.{Value, varint_value, eight_bytes, some_bytes, four_bytes, Entry, wire_type, SpellsValue, IsField, IsMessage, front_at}
+use Rattle.pb_wire.specs.Message.{Value, varint_value, eight_bytes, some_bytes, four_bytes, FieldData, wire_type, SpellsValue, IsField, IsMessage, front_at}
 use Rattle.pb_wire.specs.Message.{value_at, field_at}
 use Rattle.pb_wire.specs.Items.{Item, item_then, items_in}
 use Rattle.pb_wire.proofs.VarintLaws.{chosen, found_is, spelling_is_found}
@@ -90,7 +90,7 @@ value_takes wire bytes x e =
       ]
     ]
 
-pub field_takes : (bytes : List ℕ) (x : Entry × ℕ) → field_at bytes ≡ Ok x → (x.1 ≤ length bytes) × IsField (take x.1 bytes) x.0
+pub field_takes : (bytes : List ℕ) (x : FieldData × ℕ) → field_at bytes ≡ Ok x → (x.1 ≤ length bytes) × IsField (take x.1 bytes) x.0
 field_takes bytes x e =
     let f = field_parts bytes x e in
     let len = f.key.1 in
@@ -98,7 +98,7 @@ field_takes bytes x e =
     let k = found_is bytes f.key.0 len f.key_read in
     let v = value_takes (f.key.0 % 8) (drop len bytes) f.value f.value_read in
     let whole : f.key.0 ≡ 8 * number + wire_type f.value.0 = rw v.type_is (omega arith) in
-    subst (λ (y : Entry × ℕ). (y.1 ≤ length bytes) × IsField (take y.1 bytes) y.0) f.made (
+    subst (λ (y : FieldData × ℕ). (y.1 ≤ length bytes) × IsField (take y.1 bytes) y.0) f.made (
       omega (arith, k.0, v.within, length-drop len bytes),
       record {
         key = take len bytes;
@@ -137,7 +137,7 @@ small_type (eight_bytes part) = omega arith
 small_type (some_bytes part) = omega arith
 small_type (four_bytes part) = omega arith
 
-pub field_again : (bytes rest : List ℕ) (f : Entry) → IsField bytes f → field_at (bytes ++ rest) ≡ Ok (f, length bytes)
+pub field_again : (bytes rest : List ℕ) (f : FieldData) → IsField bytes f → field_at (bytes ++ rest) ≡ Ok (f, length bytes)
 unfolding field_at
 field_again bytes rest f h =
     let regrouped : bytes ++ rest ≡ h.key ++ (h.value ++ rest) = ap (λ (b : List ℕ). b ++ rest) h.parts ∙ append_assoc h.key h.value rest in
@@ -153,30 +153,30 @@ field_again bytes rest f h =
 
 -- ---- whole messages
 
-abbrev pub whole : List Entry → List Item
+abbrev pub whole : List FieldData → List Item
 whole fields = map (λ f. Ok f) fields
 
-abbrev pub item : Entry → Item
+abbrev pub item : FieldData → Item
 item f = Ok f
 
-pub same_first : (a b : Entry) (xs ys : List Item) → item a ∷ xs ≡ item b ∷ ys → (a ≡ b) × (xs ≡ ys)
+pub same_first : (a b : FieldData) (xs ys : List Item) → item a ∷ xs ≡ item b ∷ ys → (a ≡ b) × (xs ≡ ys)
 same_first a b xs ys e = (cc, cc)
 
 -- a message goes on behind its first field
 abbrev GoesOn : ℕ → Type 0
-GoesOn more = (at : ℕ) (bytes : List ℕ) (fields : List Entry) → length bytes ≤ more → items_in more at bytes ≡ whole fields → IsMessage bytes fields
+GoesOn more = (at : ℕ) (bytes : List ℕ) (fields : List FieldData) → length bytes ≤ more → items_in more at bytes ≡ whole fields → IsMessage bytes fields
 
-some_left : (x : Entry) (others : List Item) → item x ∷ others ≡ [] → ⊥
+some_left : (x : FieldData) (others : List Item) → item x ∷ others ≡ [] → ⊥
 some_left x others e = cc
 
-nothing_left : (f : Entry) (fs : List Entry) → [] ≡ item f ∷ whole fs → ⊥
+nothing_left : (f : FieldData) (fs : List FieldData) → [] ≡ item f ∷ whole fs → ⊥
 nothing_left f fs e = cc
 
-fault_left : (w : WireFault) (fields : List Entry) → Err w ∷ [] ≡ whole fields → ⊥
+fault_left : (w : WireFault) (fields : List FieldData) → Err w ∷ [] ≡ whole fields → ⊥
 fault_left w [] e = cc
 fault_left w (f ∷ fs) e = cc
 
-go_message : (more at : ℕ) (bytes : List ℕ) (fields : List Entry) → length bytes ≤ suc more → GoesOn more → (r : Result (Entry × ℕ) FaultKind)
+go_message : (more at : ℕ) (bytes : List ℕ) (fields : List FieldData) → length bytes ≤ suc more → GoesOn more → (r : Result (FieldData × ℕ) FaultKind)
     → field_at bytes ≡ r → item_then at (λ len. items_in more (at + len) (drop len bytes)) r ≡ whole fields → IsMessage bytes fields
 unfolding item_then
 go_message more at bytes [] short next (Ok x) read e = absurd (some_left x.0 (items_in more (at + x.1) (drop x.1 bytes)) e)
@@ -188,7 +188,7 @@ go_message more at bytes (f ∷ fs) short next (Ok x) read e =
     (take x.1 bytes, drop x.1 bytes, sym (take-append-drop x.1 bytes), subst (IsField (take x.1 bytes)) h.0 t.1, next (at + x.1) (drop x.1 bytes) fs left h.1)
 go_message more at bytes fields short next (Err kind) read e = absurd (fault_left (record { at = at; kind = kind }) fields e)
 
-pub items_message : (more at : ℕ) (bytes : List ℕ) (fields : List Entry) → length bytes ≤ more → items_in more at bytes ≡ whole fields → IsMessage bytes fields
+pub items_message : (more at : ℕ) (bytes : List ℕ) (fields : List FieldData) → length bytes ≤ more → items_in more at bytes ≡ whole fields → IsMessage bytes fields
 unfolding items_in item_then
 items_message zero at [] [] short e = refl
 items_message zero at [] (f ∷ fs) short e = absurd (nothing_left f fs e)
@@ -197,7 +197,7 @@ items_message (suc more) at [] [] short e = refl
 items_message (suc more) at [] (f ∷ fs) short e = absurd (nothing_left f fs e)
 items_message (suc more) at (b ∷ bs) fields short e = go_message more at (b ∷ bs) fields short (items_message more) (field_at (b ∷ bs)) refl e
 
-pub message_items : (fields : List Entry) (at : ℕ) (bytes : List ℕ) → IsMessage bytes fields → items_in (length bytes) at bytes ≡ whole fields
+pub message_items : (fields : List FieldData) (at : ℕ) (bytes : List ℕ) → IsMessage bytes fields → items_in (length bytes) at bytes ≡ whole fields
 unfolding items_in
 message_items [] at bytes h = rw h refl
 message_items (f ∷ fs) at bytes h =

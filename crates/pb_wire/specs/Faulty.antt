@@ -4,7 +4,7 @@ use Rattle.pb_wire.specs.declared.fault.FaultKind.{FaultKind}
 use Rattle.pb_wire.specs.declared.fault.FaultKind.TheVariants as faults
 use Rattle.pb_wire.specs.declared.fault.WireFault.{WireFault}
 use Rattle.pb_wire.specs.Varint.{IsVarint, IsCut, IsOverlong}
-use Rattle.pb_wire.specs.Message.{Entry, IsMessage}
+use Rattle.pb_wire.specs.Message.{FieldData, IsMessage}
 
 -- the numbers that a field may have
 abbrev pub IsFieldNumber : ℕ → Type 0
@@ -30,7 +30,7 @@ pub data FieldHas (bytes : List ℕ) (d : FaultKind) : Type 0 where
       → FieldHas bytes d
 
 -- these fields stand in front, and where the next one's key begins, it has the fault
-pub record IsFaulty (bytes : List ℕ) (fields : List Entry) (fault : WireFault) : Type 0 where
+pub record IsFaulty (bytes : List ℕ) (fields : List FieldData) (fault : WireFault) : Type 0 where
   pub front : List ℕ
   pub rest : List ℕ
   pub parts : bytes ≡ front ++ rest

@@ -16,7 +16,7 @@ pub data Value : Type 0 where
   four_bytes : List ℕ → Value
 
 -- a field without where it lies in memory
-pub record Entry : Type 0 where
+pub record FieldData : Type 0 where
   pub number : ℕ
   pub value : Value
 
@@ -26,7 +26,7 @@ value_view (values.Eight part) = eight_bytes part.now
 value_view (values.Bytes part) = some_bytes part.now
 value_view (values.Four part) = four_bytes part.now
 
-abbrev pub field_view : Field → Entry
+abbrev pub field_view : Field → FieldData
 field_view f = record { number = f.number; value = value_view f.value }
 
 -- ---- what a message is
@@ -45,7 +45,7 @@ SpellsValue bytes (some_bytes part) = (len : List ℕ) × IsVarint len (length p
 SpellsValue bytes (four_bytes part) = (bytes ≡ part) × (length part ≡ 4)
 
 -- the bytes spell the field, by a key and a value
-pub record IsField (bytes : List ℕ) (f : Entry) : Type 0 where
+pub record IsField (bytes : List ℕ) (f : FieldData) : Type 0 where
   pub key : List ℕ
   pub value : List ℕ
   pub parts : bytes ≡ key ++ value
@@ -54,7 +54,7 @@ pub record IsField (bytes : List ℕ) (f : Entry) : Type 0 where
   pub number : (0 < f.number) × (f.number ≤ 536870911)
 
 -- the bytes are a spelling of each field, one after the other
-abbrev pub IsMessage : List ℕ → List Entry → Type 0
+abbrev pub IsMessage : List ℕ → List FieldData → Type 0
 IsMessage bytes [] = bytes ≡ []
 IsMessage bytes (f ∷ fs) = (front : List ℕ) × (rest : List ℕ) × (bytes ≡ front ++ rest) × IsField front f × IsMessage rest fs
 
@@ -74,7 +74,7 @@ value_at wire bytes =
     else Err WireType)))
 
 -- a field, and its length
-unfoldable pub field_at : List ℕ → Read FaultKind (Entry × ℕ)
+unfoldable pub field_at : List ℕ → Read FaultKind (FieldData × ℕ)
 field_at bytes = varint_at bytes >>= λ key.
     if (key.0 / 8 == 0) || nat_lt 536870911 (key.0 / 8) then Err Number
     else (value_at (key.0 % 8) (drop key.1 bytes) >>= λ value. Ok (record { number = key.0 / 8; value = value.0 }, key.1 + value.1))

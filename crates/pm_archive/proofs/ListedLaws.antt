@@ -4,7 +4,7 @@ use Rattle.std.proofs.Common.{true, refl, ◌∙◌}
 use Rattle.std.proofs.Common.{append_assoc, arith}
 use Rattle.std.proofs.lemmas.Bool.{lt-ltb}
 use Rattle.std.proofs.lemmas.List.{take_all, length-drop, drop_more}
-use Rattle.pm_directory.specs.declared.entry.Entry.{Entry}
+use Rattle.pm_directory.specs.declared.entry.DirectoryEntry.{DirectoryEntry}
 use Rattle.pm_header.specs.declared.header.Header.{Header}
 use Rattle.pm_archive.specs.Entries.{LiesInside, bound_of}
 use Rattle.reader.specs.Reading.{Read, ◌>>=◌}
@@ -17,14 +17,14 @@ use Rattle.pm_archive.specs.declared.fault.ArchiveFault.{ArchiveFault}
 -- ---- behind what there was
 
 -- what was listed stands in front of what is listed on
-pub behind_on : (before after : List Entry) (front rest : Read ArchiveFault (List Entry)) → behind before front ≡ Ok after
+pub behind_on : (before after : List DirectoryEntry) (front rest : Read ArchiveFault (List DirectoryEntry)) → behind before front ≡ Ok after
     → behind before (front >>= λ xs. rest >>= λ ys. Ok (xs ++ ys)) ≡ behind after rest
 behind_on before after (Ok xs) (Ok ys) listed = let e : before ++ xs ≡ after = (cc) in rw (← e) (rw append_assoc refl)
 behind_on before after (Ok xs) (Err d) listed = refl
 behind_on before after (Err d) rest listed = cc
 
 -- the first fault ends it
-pub behind_fault : (before : List Entry) (d : ArchiveFault) (front rest : Read ArchiveFault (List Entry)) → behind before front ≡ Err d
+pub behind_fault : (before : List DirectoryEntry) (d : ArchiveFault) (front rest : Read ArchiveFault (List DirectoryEntry)) → behind before front ≡ Err d
     → behind before (front >>= λ xs. rest >>= λ ys. Ok (xs ++ ys)) ≡ Err d
 behind_fault before d (Ok xs) rest listed = cc
 behind_fault before d (Err e) rest listed = listed
@@ -32,14 +32,14 @@ behind_fault before d (Err e) rest listed = listed
 -- ---- the entries in order
 
 -- the bound of the entry at an index
-bound_at : (bound : ℕ) (entries : List Entry) (i : ℕ) (b : ℕ) → b ≡ bound_of bound (take (length entries - i) (drop i entries))
+bound_at : (bound : ℕ) (entries : List DirectoryEntry) (i : ℕ) (b : ℕ) → b ≡ bound_of bound (take (length entries - i) (drop i entries))
     → b ≡ bound_of bound (drop i entries)
 bound_at bound entries i b is = let whole : take (length entries - i) (drop i entries) ≡ drop i entries =
     take_all (length entries - i) (drop i entries) (omega (arith, length-drop i entries)) in rw (← whole) is
 
-module _ (lists : Entry → ℕ → Read ArchiveFault (List Entry)) (bound : ℕ) (entries : List Entry) (i : ℕ) (d : Entry) (before : List Entry) (b : ℕ) where
+module _ (lists : DirectoryEntry → ℕ → Read ArchiveFault (List DirectoryEntry)) (bound : ℕ) (entries : List DirectoryEntry) (i : ℕ) (d : DirectoryEntry) (before : List DirectoryEntry) (b : ℕ) where
   -- the entry at an index is listed
-  pub each_on : (after : List Entry) → i < length entries → b ≡ bound_of bound (take (length entries - (i + 1)) (drop (i + 1) entries))
+  pub each_on : (after : List DirectoryEntry) → i < length entries → b ≡ bound_of bound (take (length entries - (i + 1)) (drop (i + 1) entries))
       → behind before (lists (get_or entries i d) b) ≡ Ok after
       → behind before (each_at lists bound (drop i entries)) ≡ behind after (each_at lists bound (drop (i + 1) entries))
   each_on after lt is listed =
@@ -58,14 +58,14 @@ module _ (lists : Entry → ℕ → Read ArchiveFault (List Entry)) (bound : ℕ
       (rw (← e) listed))
 
   -- the entry at an index has the first fault
-  pub each_fault : (whole : Read ArchiveFault (List Entry)) (fault : ArchiveFault) → i < length entries
+  pub each_fault : (whole : Read ArchiveFault (List DirectoryEntry)) (fault : ArchiveFault) → i < length entries
       → b ≡ bound_of bound (take (length entries - (i + 1)) (drop (i + 1) entries)) → whole ≡ behind before (each_at lists bound (drop i entries))
       → UnlessOutside (λ e. behind before (lists (get_or entries i d) b) ≡ Err e) fault → UnlessOutside (λ e. whole ≡ Err e) fault
   each_fault whole fault lt is so_far listed = unless_on IsOutside fault (behind before (lists (get_or entries i d) b)) whole
       (λ e h. so_far ∙ fault_at lt is e h) listed
 
 -- the first entry lies inside its section, by those that were listed
-pub first_lies : (h : Header) (es : List Entry) (j : ℕ) (e : Entry) → j < length es → (0 < j → LiesInside h (slice_get es 0))
+pub first_lies : (h : Header) (es : List DirectoryEntry) (j : ℕ) (e : DirectoryEntry) → j < length es → (0 < j → LiesInside h (slice_get es 0))
     → LiesInside h (Some (get_or es j e)) → LiesInside h (slice_get es 0)
 first_lies h [] j e lt before here = absurd (omega arith)
 first_lies h (x ∷ es) zero e lt before here = here
@@ -74,12 +74,12 @@ first_lies h (x ∷ es) (suc j) e lt before here = before (omega arith)
 -- ---- one entry
 
 -- a tile entry
-pub lists_tile : (bytes : List ℕ) (h : Header) (more : ℕ) (e : Entry) (bound : ℕ) → 0 < e.run → lists_at bytes h more e bound ≡ tile_at h e
+pub lists_tile : (bytes : List ℕ) (h : Header) (more : ℕ) (e : DirectoryEntry) (bound : ℕ) → 0 < e.run → lists_at bytes h more e bound ≡ tile_at h e
 lists_tile bytes h zero e bound tile = let t : nat_lt 0 e.run ≡ true = lt-ltb 0 e.run tile in rw t refl
 lists_tile bytes h (suc more) e bound tile = let t : nat_lt 0 e.run ≡ true = lt-ltb 0 e.run tile in rw t refl
 
 -- a leaf
-pub lists_leaf : (bytes : List ℕ) (h : Header) (more : ℕ) (e : Entry) (bound : ℕ) → more ≢ 0 → e.run ≤ 0
+pub lists_leaf : (bytes : List ℕ) (h : Header) (more : ℕ) (e : DirectoryEntry) (bound : ℕ) → more ≢ 0 → e.run ≤ 0
     → lists_at bytes h more e bound ≡ (leaf_at bytes h e bound >>= each_at (lists_at bytes h (more - 1)) bound)
 lists_leaf bytes h zero e bound some leaf = absurd (some refl)
 lists_leaf bytes h (suc more) e bound some leaf =
@@ -88,7 +88,7 @@ lists_leaf bytes h (suc more) e bound some leaf =
     rw (run, less) refl
 
 -- the first fault of a leaf directory
-pub leaf_fault : (bytes : List ℕ) (h : Header) (more : ℕ) (e : Entry) (bound : ℕ) (before : List Entry) (fault : ArchiveFault) → more ≢ 0 → e.run ≤ 0
+pub leaf_fault : (bytes : List ℕ) (h : Header) (more : ℕ) (e : DirectoryEntry) (bound : ℕ) (before : List DirectoryEntry) (fault : ArchiveFault) → more ≢ 0 → e.run ≤ 0
     → UnlessOutside (λ d. leaf_at bytes h e bound ≡ Err d) fault → UnlessOutside (λ d. behind before (lists_at bytes h more e bound) ≡ Err d) fault
 leaf_fault bytes h more e bound before fault some leaf failed =
     let same = lists_leaf bytes h more e bound some leaf in

@@ -2,9 +2,9 @@
 use Rattle.std.proofs.Common.{◌≡◌, ℕ, zero, suc, ◌≤◌, false, ltb, List, Some, Result, Ok, Err, Option, refl, sym, ap, subst, ◌∙◌}
 use Rattle.std.proofs.lemmas.Bool.{le-ltb}
 use Rattle.pm_header.specs.declared.header.Header.{Header}
-use Rattle.pm_directory.specs.declared.entry.Entry.{Entry}
+use Rattle.pm_directory.specs.declared.entry.DirectoryEntry.{DirectoryEntry}
 use Rattle.pm_archive.specs.declared.fault.ArchiveFault.{ArchiveFault}
-use Rattle.pm_archive.specs.declared.limits.TheConstants.{MOST_LEAVES}
+use Rattle.pm_archive.specs.declared.limits.TheConstants.{MAX_LEAVES}
 use Rattle.reader.specs.Reading.{Read, ◌>>=◌, GivesUnless}
 use Rattle.reader.proofs.Steps.{unless_on, then_on, then_stop}
 use Rattle.pm_archive.specs.Answers.{IsOutside, UnlessOutside}
@@ -13,7 +13,7 @@ use Rattle.pm_archive.specs.Looked.{leading_of, leading_at, reached_at, content_
 -- ---- a leaf directory
 
 -- a fault of a leaf directory is one of the way through it
-pub reached_fault : (bytes : List ℕ) (h : Header) (id more : ℕ) (leaf : Entry) (d : ArchiveFault) → leaf.run ≤ 0 → (more ≡ 0 → ⊥)
+pub reached_fault : (bytes : List ℕ) (h : Header) (id more : ℕ) (leaf : DirectoryEntry) (d : ArchiveFault) → leaf.run ≤ 0 → (more ≡ 0 → ⊥)
     → UnlessOutside (λ f. leading_at bytes h id leaf ≡ Err f) d → UnlessOutside (λ f. reached_at bytes h id more (Some leaf) ≡ Err f) d
 unfolding reached_at
 reached_fault bytes h id zero leaf d names some = absurd (some refl)
@@ -23,23 +23,23 @@ reached_fault bytes h id (suc more) leaf d names some =
 
 -- ---- a content
 
-module _ (bytes : List ℕ) (h : Header) (id : ℕ) (root : List Entry) (start : Option Entry) (leads : start ≡ leading_of id root) where
-  looked_from : looked_at bytes h root id ≡ (reached_at bytes h id MOST_LEAVES start >>= content_at bytes h)
+module _ (bytes : List ℕ) (h : Header) (id : ℕ) (root : List DirectoryEntry) (start : Option DirectoryEntry) (leads : start ≡ leading_of id root) where
+  looked_from : looked_at bytes h root id ≡ (reached_at bytes h id MAX_LEAVES start >>= content_at bytes h)
   unfolding looked_at
-  looked_from = ap (λ (o : Option Entry). reached_at bytes h id MOST_LEAVES o >>= content_at bytes h) (sym leads)
+  looked_from = ap (λ (o : Option DirectoryEntry). reached_at bytes h id MAX_LEAVES o >>= content_at bytes h) (sym leads)
 
   -- what is answered for the tile entry to which the way leads
-  pub looked_on : {X : Type 0} (view : X → Option (List ℕ)) (r : Result X ArchiveFault) (found : Option Entry)
-      → reached_at bytes h id MOST_LEAVES start ≡ Ok found → GivesUnless IsOutside view r (content_at bytes h found)
+  pub looked_on : {X : Type 0} (view : X → Option (List ℕ)) (r : Result X ArchiveFault) (found : Option DirectoryEntry)
+      → reached_at bytes h id MAX_LEAVES start ≡ Ok found → GivesUnless IsOutside view r (content_at bytes h found)
       → GivesUnless IsOutside view r (looked_at bytes h root id)
   looked_on {X} view r found is a =
       let same : looked_at bytes h root id ≡ content_at bytes h found =
-      looked_from ∙ then_on (reached_at bytes h id MOST_LEAVES start) (content_at bytes h) found is in
+      looked_from ∙ then_on (reached_at bytes h id MAX_LEAVES start) (content_at bytes h) found is in
       subst (λ (reading : Read ArchiveFault (Option (List ℕ))). GivesUnless IsOutside view r reading) (sym same) a
 
   -- a fault on the way
-  pub looked_fault : (d : ArchiveFault) → UnlessOutside (λ f. reached_at bytes h id MOST_LEAVES start ≡ Err f) d
+  pub looked_fault : (d : ArchiveFault) → UnlessOutside (λ f. reached_at bytes h id MAX_LEAVES start ≡ Err f) d
       → UnlessOutside (λ f. looked_at bytes h root id ≡ Err f) d
   looked_fault d =
-      unless_on IsOutside d (reached_at bytes h id MOST_LEAVES start) (looked_at bytes h root id)
-      (λ f e. looked_from ∙ then_stop (reached_at bytes h id MOST_LEAVES start) (content_at bytes h) f e)
+      unless_on IsOutside d (reached_at bytes h id MAX_LEAVES start) (looked_at bytes h root id)
+      (λ f e. looked_from ∙ then_stop (reached_at bytes h id MAX_LEAVES start) (content_at bytes h) f e)

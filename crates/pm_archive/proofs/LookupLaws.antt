@@ -3,9 +3,9 @@ use Rattle.std.proofs.Common.{◌≡◌, ◌∙◌, ℕ, List, Ok, Option, sym, 
 use Rattle.reader.proofs.Steps.{then_is}
 use Rattle.hilbert_id.specs.declared.number.TheConstants.{TILE_IDS}
 use Rattle.pm_header.specs.declared.header.Header.{Header}
-use Rattle.pm_directory.specs.declared.entry.Entry.{Entry}
+use Rattle.pm_directory.specs.declared.entry.DirectoryEntry.{DirectoryEntry}
 use Rattle.pm_directory.specs.Directory.{IsDirectory}
-use Rattle.pm_archive.specs.declared.limits.TheConstants.{MOST_LEAVES}
+use Rattle.pm_archive.specs.declared.limits.TheConstants.{MAX_LEAVES}
 use Rattle.pm_archive.specs.Sections.{HasSections, section_bytes}
 use Rattle.pm_archive.specs.Entries.{HasEntries, entry_of}
 use Rattle.pm_archive.specs.Archive.{IsArchiveOf, content_of}
@@ -14,15 +14,15 @@ use Rattle.pm_archive.proofs.ListedClauses.{has_each}
 use Rattle.pm_archive.proofs.LookedLaws.{reaches, content_found}
 use Rattle.pm_archive.proofs.OpenedLaws.{one_header}
 
-pub looked_below : (bytes : List ℕ) (h : Header) (root tiles : List Entry) (id : ℕ) → IsDirectory (section_bytes h.root bytes) root → HasEntries bytes h tiles
+pub looked_below : (bytes : List ℕ) (h : Header) (root tiles : List DirectoryEntry) (id : ℕ) → IsDirectory (section_bytes h.root bytes) root → HasEntries bytes h tiles
     → looked_at bytes h root id ≡ Ok (content_of bytes h tiles id)
 unfolding looked_at
 looked_below bytes h root tiles id dir has =
     let lists = has_each bytes h root tiles dir has in
-    then_is (reached_at bytes h id MOST_LEAVES (leading_of id root)) (content_at bytes h) (entry_of tiles id) (Ok (content_of bytes h tiles id))
-    (reaches bytes h id MOST_LEAVES 0 TILE_IDS root tiles dir.ascending lists) (content_found bytes h id MOST_LEAVES TILE_IDS root tiles lists)
+    then_is (reached_at bytes h id MAX_LEAVES (leading_of id root)) (content_at bytes h) (entry_of tiles id) (Ok (content_of bytes h tiles id))
+    (reaches bytes h id MAX_LEAVES 0 TILE_IDS root tiles dir.ascending lists) (content_found bytes h id MAX_LEAVES TILE_IDS root tiles lists)
 
-pub looked_content : (bytes : List ℕ) (h : Header) (root : List Entry) (content : ℕ → Option (List ℕ)) (id : ℕ) → HasSections bytes h
+pub looked_content : (bytes : List ℕ) (h : Header) (root : List DirectoryEntry) (content : ℕ → Option (List ℕ)) (id : ℕ) → HasSections bytes h
     → IsDirectory (section_bytes h.root bytes) root → IsArchiveOf bytes content → looked_at bytes h root id ≡ Ok (content id)
 looked_content bytes h root content id has dir archive =
     let same = one_header bytes archive.0 h archive.2.sections.header has.header in

@@ -8,7 +8,7 @@ use Rattle.pm_header.specs.declared.header.TheConstants.{HEADER_BYTES}
 use Rattle.pm_header.specs.declared.header.Header.{Header}
 use Rattle.pm_header.specs.Layout.{IsHeader, magic, header_at, part_at, number_at, position_at}
 use Rattle.pm_header.proofs.Fields.{same_header}
-use Rattle.pm_directory.specs.declared.entry.Entry.{Entry}
+use Rattle.pm_directory.specs.declared.entry.DirectoryEntry.{DirectoryEntry}
 use Rattle.pm_directory.specs.Directory.{IsDirectory}
 use Rattle.pm_directory.specs.declared.fault.DirectoryFault.{DirectoryFault}
 use Rattle.pm_directory.specs.Reading.{directory_at}
@@ -139,19 +139,19 @@ module _ (bytes : List ℕ) (h : Header) (count : ℕ) (all : count ≡ length b
 
 -- ---- the root directory
 
-pub root_read : (bytes : List ℕ) (h : Header) (root : List Entry) → directory_or_fault h.root.offset (directory_at (section_bytes h.root bytes)) ≡ Ok root
+pub root_read : (bytes : List ℕ) (h : Header) (root : List DirectoryEntry) → directory_or_fault h.root.offset (directory_at (section_bytes h.root bytes)) ≡ Ok root
     → IsDirectory (section_bytes h.root bytes) root
 root_read bytes h root e = directory_ok (section_bytes h.root bytes) root (read_ok h.root.offset (directory_at (section_bytes h.root bytes)) root e)
 
-refused : (offset : ℕ) (r : Read DirectoryFault (List Entry)) (d : ArchiveFault) → directory_or_fault offset r ≡ Err d → d ≡ faults.Directory offset
+refused : (offset : ℕ) (r : Read DirectoryFault (List DirectoryEntry)) (d : ArchiveFault) → directory_or_fault offset r ≡ Err d → d ≡ faults.Directory offset
 refused offset (Ok es) d e = absurd (not_both es d e)
-refused offset (Err f) d e = sym (same_fault {A = List Entry} (faults.Directory offset) d e)
+refused offset (Err f) d e = sym (same_fault {A = List DirectoryEntry} (faults.Directory offset) d e)
 
 root_fault : (bytes : List ℕ) (h : Header) (d : ArchiveFault) → HasSections bytes h
     → directory_or_fault h.root.offset (directory_at (section_bytes h.root bytes)) ≡ Err d → OpeningHas bytes d
 root_fault bytes h d has e =
     OpeningHas.no_directory h (refused h.root.offset (directory_at (section_bytes h.root bytes)) d e) has
-    (λ (es : List Entry) (is : IsDirectory (section_bytes h.root bytes) es). not_both es d
+    (λ (es : List DirectoryEntry) (is : IsDirectory (section_bytes h.root bytes) es). not_both es d
     (sym (ap (directory_or_fault h.root.offset) (directory_only (section_bytes h.root bytes) es is)) ∙ e))
 
 pub root_refused : (bytes : List ℕ) (h : Header) (d : ArchiveFault) → HasSections bytes h
@@ -160,7 +160,7 @@ pub root_refused : (bytes : List ℕ) (h : Header) (d : ArchiveFault) → HasSec
 root_refused bytes h d has e inside = root_fault bytes h d has (e inside)
 
 -- bytes with sections and a root directory are opened
-opens : (bytes : List ℕ) (h : Header) (root : List Entry) (d : ArchiveFault) → HasSections bytes h → IsDirectory (section_bytes h.root bytes) root
+opens : (bytes : List ℕ) (h : Header) (root : List DirectoryEntry) (d : ArchiveFault) → HasSections bytes h → IsDirectory (section_bytes h.root bytes) root
     → OpeningHas bytes d → ⊥
 opens bytes h root d has dir (OpeningHas.is_short e short) = absurd (omega (arith, has.header.whole))
 opens bytes h root d has dir (OpeningHas.other_magic e long other) = other has.header.magic_is
@@ -172,12 +172,12 @@ opens bytes h root d has dir (OpeningHas.compressed g e is placed much) =
 opens bytes h root d has dir (OpeningHas.no_directory g e others none) =
     none root (subst (λ (x : Header). IsDirectory (section_bytes x.root bytes) root) (one_header bytes h g has.header others.header) dir)
 
-pub opened_once : (bytes : List ℕ) (g h : Header) (some others : List Entry) → HasSections bytes g → IsDirectory (section_bytes g.root bytes) some
+pub opened_once : (bytes : List ℕ) (g h : Header) (some others : List DirectoryEntry) → HasSections bytes g → IsDirectory (section_bytes g.root bytes) some
     → HasSections bytes h → IsDirectory (section_bytes h.root bytes) others → (g ≡ h) × (some ≡ others)
 opened_once bytes g h some others a dir b other =
     let same = one_header bytes g h a.header b.header in
     (same, one_directory (section_bytes h.root bytes) some others (subst (λ (x : Header). IsDirectory (section_bytes x.root bytes) some) same dir) other)
 
-pub opened_unless : (bytes : List ℕ) (h : Header) (root : List Entry) (d : ArchiveFault) → UnlessOutside (OpeningHas bytes) d → HasSections bytes h
+pub opened_unless : (bytes : List ℕ) (h : Header) (root : List DirectoryEntry) (d : ArchiveFault) → UnlessOutside (OpeningHas bytes) d → HasSections bytes h
     → IsDirectory (section_bytes h.root bytes) root → IsOutside d
 opened_unless bytes h root d fault has dir = is_outside (OpeningHas bytes) d fault (opens bytes h root d has dir)

@@ -15,7 +15,7 @@ use Rattle.mvt_layer.specs.declared.fault.TileFault.TheVariants as tile_faults
 use Rattle.mvt_layer.specs.Reads.{ReadsAs}
 use Rattle.mvt_layer.specs.Tile.{LayerView}
 use Rattle.pm_header.specs.declared.header.Header.{Header}
-use Rattle.pm_directory.specs.declared.entry.Entry.{Entry}
+use Rattle.pm_directory.specs.declared.entry.DirectoryEntry.{DirectoryEntry}
 use Rattle.pm_archive.specs.declared.fault.ArchiveFault.{ArchiveFault}
 use Rattle.pm_archive.specs.Verified.{IsTile, HasTile}
 use Rattle.pm_archive.specs.VerifiedPieces.{IsFirstTileFault, span_cmp, AreRead}
@@ -69,21 +69,21 @@ more_read bytes h p s n more before here q m = by (is_at (span_cmp p) q) refl (s
 
 -- ---- each of some entries
 
-pub at_index : (P : Entry → Type 0) (es : List Entry) (i : ℕ) (d : Entry) → i < length es → AllByRecursion P es → P (get_or es i d)
+pub at_index : (P : DirectoryEntry → Type 0) (es : List DirectoryEntry) (i : ℕ) (d : DirectoryEntry) → i < length es → AllByRecursion P es → P (get_or es i d)
 at_index P [] i d below all = absurd (omega arith)
 at_index P (e ∷ es) zero d below all = all.0
 at_index P (e ∷ es) (suc i) d below all = at_index P es i d (omega arith) all.1
 
 -- the entries from an index on
-from_index : (es : List Entry) (i : ℕ) (d : Entry) → i < length es → drop i es ≡ get_or es i d ∷ drop (i + 1) es
+from_index : (es : List DirectoryEntry) (i : ℕ) (d : DirectoryEntry) → i < length es → drop i es ≡ get_or es i d ∷ drop (i + 1) es
 from_index es i d below = rw add-one (drop-cons es i d below)
 
-pub each_from : (P : Entry → Type 0) (es : List Entry) (i : ℕ) (d : Entry) → i < length es → P (get_or es i d) → AllByRecursion P (drop (i + 1) es)
+pub each_from : (P : DirectoryEntry → Type 0) (es : List DirectoryEntry) (i : ℕ) (d : DirectoryEntry) → i < length es → P (get_or es i d) → AllByRecursion P (drop (i + 1) es)
     → AllByRecursion P (drop i es)
 each_from P es i d below here rest = subst (AllByRecursion P) (sym (from_index es i d below)) (here, rest)
 
-pub first_from : (bytes : List ℕ) (h : Header) (es : List Entry) (i : ℕ) (d : Entry) (f : ArchiveFault) → i < length es → HasTile bytes h (get_or es i d)
+pub first_from : (bytes : List ℕ) (h : Header) (es : List DirectoryEntry) (i : ℕ) (d : DirectoryEntry) (f : ArchiveFault) → i < length es → HasTile bytes h (get_or es i d)
     → IsFirstTileFault bytes h (drop (i + 1) es) f → IsFirstTileFault bytes h (drop i es) f
 first_from bytes h es i d f below here rest =
-    let P : List Entry → Type 0 = λ xs. IsFirstTileFault bytes h xs f in
+    let P : List DirectoryEntry → Type 0 = λ xs. IsFirstTileFault bytes h xs f in
     subst P (sym (from_index es i d below)) (inr (here, rest))

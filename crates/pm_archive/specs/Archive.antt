@@ -3,7 +3,7 @@ use Rattle.std.specs.Prelude.{◌≡◌, ℕ, ◌⊎◌, List, length, Option, S
 use Rattle.serde_json.specs.Data.{Members, object}
 use Rattle.serde_json.specs.Read.{read}
 use Rattle.pm_header.specs.declared.header.Header.{Header}
-use Rattle.pm_directory.specs.declared.entry.Entry.{Entry}
+use Rattle.pm_directory.specs.declared.entry.DirectoryEntry.{DirectoryEntry}
 use Rattle.pm_directory.specs.Counts.{addressed_by, contents_of}
 use Rattle.pm_archive.specs.Sections.{section_bytes, HasSections}
 use Rattle.pm_archive.specs.Entries.{HasEntries, entry_of, entry_bytes}
@@ -18,7 +18,7 @@ IsMetadata bytes = IsUtf8 bytes × ((members : Members) × (read bytes ≡ Some 
 abbrev pub Says : ℕ → ℕ → Type 0
 Says said n = (said ≡ 0) ⊎ (said ≡ n)
 
-pub record HasCounts (h : Header) (tiles : List Entry) : Type 0 where
+pub record HasCounts (h : Header) (tiles : List DirectoryEntry) : Type 0 where
   pub addressed : Says h.addressed (addressed_by tiles)
   pub entries : Says h.entries (length tiles)
   pub contents : Says h.contents (contents_of tiles)
@@ -26,21 +26,21 @@ pub record HasCounts (h : Header) (tiles : List Entry) : Type 0 where
 -- ---- archives
 
 -- the bytes are an archive with this header and these tile entries, in ascending order
-pub record IsArchive (bytes : List ℕ) (h : Header) (tiles : List Entry) : Type 0 where
+pub record IsArchive (bytes : List ℕ) (h : Header) (tiles : List DirectoryEntry) : Type 0 where
   pub sections : HasSections bytes h
   pub entries : HasEntries bytes h tiles
   pub counts : HasCounts h tiles
   pub metadata : IsMetadata (section_bytes h.metadata bytes)
 
 -- the content of an entry, if there is one
-abbrev pub content_of_entry : List ℕ → Header → Option Entry → Option (List ℕ)
+abbrev pub content_of_entry : List ℕ → Header → Option DirectoryEntry → Option (List ℕ)
 content_of_entry bytes h None = None
 content_of_entry bytes h (Some e) = Some (entry_bytes h.tiles e bytes)
 
 -- the content of a tile id in an archive with these entries
-abbrev pub content_of : List ℕ → Header → List Entry → ℕ → Option (List ℕ)
+abbrev pub content_of : List ℕ → Header → List DirectoryEntry → ℕ → Option (List ℕ)
 content_of bytes h tiles id = content_of_entry bytes h (entry_of tiles id)
 
 -- the bytes are an archive of exactly these contents of tile ids
 abbrev pub IsArchiveOf : List ℕ → (ℕ → Option (List ℕ)) → Type 0
-IsArchiveOf bytes content = (h : Header) × (tiles : List Entry) × IsArchive bytes h tiles × ((id : ℕ) → content id ≡ content_of bytes h tiles id)
+IsArchiveOf bytes content = (h : Header) × (tiles : List DirectoryEntry) × IsArchive bytes h tiles × ((id : ℕ) → content id ≡ content_of bytes h tiles id)

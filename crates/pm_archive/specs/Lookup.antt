@@ -1,7 +1,7 @@
 -- What is kept of an archive between look-ups.
 use Rattle.std.specs.Prelude.{◌≡◌, ℕ, ◌≤◌, List, Ok, Option, IfSome}
 use Rattle.pm_header.specs.declared.header.Header.{Header}
-use Rattle.pm_directory.specs.declared.entry.Entry.{Entry}
+use Rattle.pm_directory.specs.declared.entry.DirectoryEntry.{DirectoryEntry}
 use Rattle.pm_directory.specs.Directory.{IsDirectory}
 use Rattle.pm_archive.specs.declared.limits.TheConstants.{KEPT_LEAF_BYTES}
 use Rattle.pm_archive.specs.Sections.{HasSections, section_bytes}
@@ -9,14 +9,14 @@ use Rattle.pm_archive.specs.Reading.{directory_of_entry}
 
 -- a leaf directory: the entry that names it, and its entries
 pub record LeafView : Type 0 where
-  pub entry : Entry
-  pub entries : List Entry
+  pub entry : DirectoryEntry
+  pub entries : List DirectoryEntry
 
 -- what is kept of an archive in so many bytes: its header, the entries of its root directory, and a leaf directory, if one is
 pub record LookupView : Type 0 where
   pub count : ℕ
   pub header : Header
-  pub root : List Entry
+  pub root : List DirectoryEntry
   pub leaf : Option LeafView
 
 -- the leaf directory that is kept, if one is, is the one that its entry names

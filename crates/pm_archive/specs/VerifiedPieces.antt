@@ -4,7 +4,7 @@ use Rattle.std.specs.Ordering.{ordering_then, nat_cmp}
 use Rattle.std.specs.declared.cmp.Ordering.{Ordering}
 use Rattle.std.specs.BTreeSet.{BTreeSet, contains}
 use Rattle.pm_header.specs.declared.header.Header.{Header}
-use Rattle.pm_directory.specs.declared.entry.Entry.{Entry}
+use Rattle.pm_directory.specs.declared.entry.DirectoryEntry.{DirectoryEntry}
 use Rattle.pm_archive.specs.declared.fault.ArchiveFault.{ArchiveFault}
 use Rattle.pm_archive.specs.declared.fault.ArchiveFault.TheVariants as faults
 use Rattle.pm_archive.specs.declared.fault.Count.{Count}
@@ -17,15 +17,15 @@ abbrev pub IsMetadataFault : List ℕ → Header → ArchiveFault → Type 0
 IsMetadataFault bytes h d = (d ≡ faults.Metadata) × ¬ IsMetadata (section_bytes h.metadata bytes)
 
 -- the fault of a header with another count than these entries
-abbrev pub IsCountFault : Header → List Entry → ArchiveFault → Type 0
+abbrev pub IsCountFault : Header → List DirectoryEntry → ArchiveFault → Type 0
 IsCountFault h tiles d = (c : Count) × (d ≡ faults.Count c) × HasOtherCount h tiles c
 
 -- the fault of an entry whose tile can't be read
-abbrev pub IsTileFault : List ℕ → Header → Entry → ArchiveFault → Type 0
+abbrev pub IsTileFault : List ℕ → Header → DirectoryEntry → ArchiveFault → Type 0
 IsTileFault bytes h e d = (d ≡ faults.Tile e.id) × ¬ HasTile bytes h e
 
 -- that of the first such entry
-abbrev pub IsFirstTileFault : List ℕ → Header → List Entry → ArchiveFault → Type 0
+abbrev pub IsFirstTileFault : List ℕ → Header → List DirectoryEntry → ArchiveFault → Type 0
 IsFirstTileFault bytes h [] d = ⊥
 IsFirstTileFault bytes h (e ∷ es) d = IsTileFault bytes h e d ⊎ (HasTile bytes h e × IsFirstTileFault bytes h es d)
 

@@ -4,7 +4,7 @@ ghost use Rattle.std.specs.Prelude.{◌≡◌, ℕ, List, Option, None, slice_ge
 ghost use Rattle.reader.specs.Reading.{GivesUnless};
 ghost use Rattle.std.specs.List.{AllByRecursion};
 ghost use Rattle.pm_header.specs.declared.header.Header.{Header};
-ghost use Rattle.pm_directory.specs.declared.entry.Entry.{Entry};
+ghost use Rattle.pm_directory.specs.declared.entry.DirectoryEntry.{DirectoryEntry};
 ghost use Rattle.pm_directory.specs.Directory.{IsAscending, IsDirectory, IsEntry};
 ghost use Rattle.pm_archive.specs.declared.report.Report.{Report};
 ghost use Rattle.byte_source.specs.Source.{Keeps};
@@ -24,7 +24,7 @@ use crate::opening::header_and_root;
 use crate::report::Report;
 use crate::verifying::verdict_below;
 use byte_source::Bytes;
-use pm_directory::Entry;
+use pm_directory::DirectoryEntry;
 use pm_header::Header;
 use std::alloc::Global;
 use std::marker::Model;
@@ -34,7 +34,7 @@ use std::marker::Model;
 pub struct Archive<B: Bytes + Drop> {
     source: B,
     header: Header,
-    root: Vec<Entry>,
+    root: Vec<DirectoryEntry>,
 }
 
 impl<B: Bytes + Drop> Model for Archive<B> {
@@ -58,7 +58,7 @@ impl<B: Bytes + Drop> Archive<B> {
         ensures back { IfErr result (λ e. Keeps B.count B.holds B.fails B.unchanged source e.0) }
         ensures found { IfOk result (λ a. (bytes : List ℕ) → B.holds a.source bytes
             → HasSections bytes a.header × IsDirectory (section_bytes a.header.root bytes) a.root) }
-        ensures only { (bytes : List ℕ) (h : Header) (root : List Entry) → HasSections bytes h → IsDirectory (section_bytes h.root bytes) root
+        ensures only { (bytes : List ℕ) (h : Header) (root : List DirectoryEntry) → HasSections bytes h → IsDirectory (section_bytes h.root bytes) root
             → MatchResult result (λ a. B.holds a.source bytes → (a.header ≡ h) × (a.root ≡ root)) (λ e. B.holds e.0 bytes → IsOutside e.1) }
         ensures fault { IfErr result (λ e. (bytes : List ℕ) → B.holds e.0 bytes → UnlessOutside (OpeningHas bytes) e.1) }
         ensures read { IfErr result (λ e. e.1 ≡ ArchiveFault.Read → B.fails source) }
@@ -95,12 +95,12 @@ impl<B: Bytes + Drop> Archive<B> {
     ///
     /// `Directory`, `Order`, `Depth`, `Place`, the first that is met going through the directories in order, each leaf
     /// directory where it is named. `Memory` only where there is a first entry, and its bytes lie inside their section.
-    pub fn list(&mut self, alloc: Global) -> Result<Vec<Entry>, ArchiveFault>
+    pub fn list(&mut self, alloc: Global) -> Result<Vec<DirectoryEntry>, ArchiveFault>
         ensures header { self.new.header ≡ self.old.header }
         ensures root { self.new.root ≡ self.old.root }
         ensures source { Keeps B.count B.holds B.fails B.unchanged self.old.source self.new.source }
         ensures found { (bytes : List ℕ) → B.holds self.new.source bytes → IfOk result (λ tiles. HasEntries bytes self.old.header tiles.items) }
-        ensures only { (bytes : List ℕ) (tiles : List Entry) → B.holds self.new.source bytes → HasEntries bytes self.old.header tiles
+        ensures only { (bytes : List ℕ) (tiles : List DirectoryEntry) → B.holds self.new.source bytes → HasEntries bytes self.old.header tiles
             → MatchResult result (λ listed. listed.items ≡ tiles) IsOutside }
         ensures first { (bytes : List ℕ) → B.holds self.new.source bytes
             → GivesUnless IsOutside (λ tiles. tiles.items) result (list_at bytes self.old.header self.old.root) }
@@ -121,7 +121,7 @@ impl<B: Bytes + Drop> Archive<B> {
         ensures header { self.new.header ≡ self.old.header }
         ensures root { self.new.root ≡ self.old.root }
         ensures source { Keeps B.count B.holds B.fails B.unchanged self.old.source self.new.source }
-        ensures content { (bytes : List ℕ) (tiles : List Entry) → B.holds self.new.source bytes → HasEntries bytes self.old.header tiles
+        ensures content { (bytes : List ℕ) (tiles : List DirectoryEntry) → B.holds self.new.source bytes → HasEntries bytes self.old.header tiles
             → MatchResult result (λ content. option_map (λ v. v.items) content ≡ content_of bytes self.old.header tiles id) IsOutside }
         ensures first { (bytes : List ℕ) → B.holds self.new.source bytes
             → GivesUnless IsOutside (option_map (λ v. v.items)) result (looked_at bytes self.old.header self.old.root id) }

@@ -13,7 +13,7 @@ use crate::fault::ArchiveFault;
 use crate::reading::content_of;
 use byte_source::Bytes;
 use mvt_layer::{TileFault, read_tile};
-use pm_directory::Entry;
+use pm_directory::DirectoryEntry;
 use pm_header::Header;
 use std::alloc::{AllocError, Global};
 use std::collections::BTreeSet;
@@ -56,7 +56,7 @@ fn check_tile<B: Bytes>(
     alloc: Global,
     source: &mut B,
     header: &Header,
-    entry: Entry,
+    entry: DirectoryEntry,
 ) -> Result<(), ArchiveFault>
     requires { end_of header.now.tiles ≤ B.count source.old }
     ensures source { Keeps B.count B.holds B.fails B.unchanged source.old source.new }
@@ -78,7 +78,7 @@ fn check_once<B: Bytes>(
     source: &mut B,
     header: &Header,
     spans: &mut BTreeSet<(u64, u32)>,
-    entry: Entry,
+    entry: DirectoryEntry,
 ) -> Result<(), ArchiveFault>
     requires { end_of header.now.tiles ≤ B.count source.old }
     ensures source { Keeps B.count B.holds B.fails B.unchanged source.old source.new }
@@ -106,7 +106,7 @@ pub(crate) fn check_tiles<B: Bytes>(
     alloc: Global,
     source: &mut B,
     header: &Header,
-    tiles: &[Entry],
+    tiles: &[DirectoryEntry],
 ) -> Result<(), ArchiveFault>
     requires { end_of header.now.tiles ≤ B.count source.old }
     ensures source { Keeps B.count B.holds B.fails B.unchanged source.old source.new }

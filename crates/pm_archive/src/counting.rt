@@ -2,7 +2,7 @@
 
 ghost use Rattle.std.specs.Prelude.{◌≡◌, ◌-◌, ◌^◌, ◌<◌, ◌↔◌, List, map, min, IfOk, IfErr, OnOk, IsTrue};
 ghost use Rattle.std.specs.BTreeSet.{IsFromIterResult};
-ghost use Rattle.pm_directory.specs.declared.entry.Entry.{Entry};
+ghost use Rattle.pm_directory.specs.declared.entry.DirectoryEntry.{DirectoryEntry};
 ghost use Rattle.pm_directory.specs.Counts.{addressed_by, contents_of, span_of};
 ghost use Rattle.pm_archive.specs.declared.fault.Count.{Count};
 ghost use Rattle.pm_archive.specs.Archive.{Says, HasCounts};
@@ -11,13 +11,13 @@ ghost use Rattle.pm_archive.specs.VerifiedPieces.{IsCountFault, span_cmp};
 
 use crate::fault::{ArchiveFault, Count};
 use crate::report::Report;
-use pm_directory::Entry;
+use pm_directory::DirectoryEntry;
 use pm_header::Header;
 use std::alloc::{AllocError, Global};
 use std::collections::BTreeSet;
 
 // How many ids the entries have a content for, or the greatest number where that has more than 64 bits.
-fn addressed(tiles: &[Entry]) -> u64
+fn addressed(tiles: &[DirectoryEntry]) -> u64
     ensures { result ≡ min (addressed_by tiles.now) (2 ^ 64 - 1) }
 {
     let mut sum: u64 = 0;
@@ -28,7 +28,7 @@ fn addressed(tiles: &[Entry]) -> u64
 }
 
 // Where the contents of the entries lie.
-fn spans(alloc: Global, tiles: &[Entry]) -> Result<BTreeSet<(u64, u32)>, AllocError>
+fn spans(alloc: Global, tiles: &[DirectoryEntry]) -> Result<BTreeSet<(u64, u32)>, AllocError>
     ensures { IfOk result (λ spans. IsFromIterResult span_cmp (map span_of tiles.now) spans) }
 {
     tiles
@@ -38,7 +38,7 @@ fn spans(alloc: Global, tiles: &[Entry]) -> Result<BTreeSet<(u64, u32)>, AllocEr
 }
 
 // How many different contents the entries have, by where these lie.
-fn contents(alloc: Global, tiles: &[Entry]) -> Result<u64, AllocError>
+fn contents(alloc: Global, tiles: &[DirectoryEntry]) -> Result<u64, AllocError>
     ensures { IfOk result (λ n. n ≡ contents_of tiles.now) }
 {
     let spans = spans(alloc, tiles)?;
@@ -46,7 +46,7 @@ fn contents(alloc: Global, tiles: &[Entry]) -> Result<u64, AllocError>
 }
 
 // What is told of the entries.
-pub(crate) fn told(alloc: Global, tiles: &[Entry]) -> Result<Report, AllocError>
+pub(crate) fn report_of(alloc: Global, tiles: &[DirectoryEntry]) -> Result<Report, AllocError>
     ensures { addressed_by tiles.now < 2 ^ 64 → IfOk result (λ report. report ≡ report_of tiles.now) }
 {
     let contents = contents(alloc, tiles)?;
@@ -66,8 +66,8 @@ fn says(said: u64, number: u64) -> bool
 
 // The counts of a header are those of what is told of the entries. The first that is another one is the fault.
 pub(crate) fn check_counts(header: &Header, report: Report) -> Result<(), ArchiveFault>
-    ensures agree { (tiles : List Entry) → report ≡ report_of tiles → OnOk result (HasCounts header.now tiles) }
-    ensures other { (tiles : List Entry) → report ≡ report_of tiles → IfErr result (IsCountFault header.now tiles) }
+    ensures agree { (tiles : List DirectoryEntry) → report ≡ report_of tiles → OnOk result (HasCounts header.now tiles) }
+    ensures other { (tiles : List DirectoryEntry) → report ≡ report_of tiles → IfErr result (IsCountFault header.now tiles) }
     ensures counts { IfErr result (λ fault. (count : Count) × (fault ≡ ArchiveFault.Count count)) }
 {
     if !says(header.addressed, report.tiles) {

@@ -9,7 +9,7 @@ mod archive;
 mod checking;
 mod counting;
 mod fault;
-mod kept;
+mod leaf;
 mod limits;
 mod listing;
 mod looking;

@@ -2,7 +2,7 @@
 pub(crate) const OPENING_END: u64 = 16_384;
 
 /// So many leaf directories may stand one below the other.
-pub(crate) const MOST_LEAVES: u8 = 3;
+pub(crate) const MAX_LEAVES: u8 = 3;
 
 /// A leaf directory of more bytes isn't kept between look-ups. This bounds the room that is taken for it.
 pub(crate) const KEPT_LEAF_BYTES: u32 = 65_536;

@@ -10,16 +10,16 @@ ghost use Rattle.pm_archive.specs.Answers.{IsOutside};
 ghost use Rattle.pm_archive.specs.Listing.{behind, stray_of};
 
 use crate::fault::ArchiveFault;
-use crate::limits::MOST_LEAVES;
+use crate::limits::MAX_LEAVES;
 use crate::reading::{directory_of, lies_in};
 use byte_source::Bytes;
 use hilbert_id::TILE_IDS;
-use pm_directory::Entry;
+use pm_directory::DirectoryEntry;
 use pm_header::Header;
 use std::alloc::Global;
 
 // An id below which are those to which an entry leads, by the entries behind it.
-fn bound_behind(entries: &[Entry], bound: u64) -> u64
+fn bound_behind(entries: &[DirectoryEntry], bound: u64) -> u64
     ensures { result ≡ bound_of bound entries.now }
 {
     match entries.first() {
@@ -29,7 +29,7 @@ fn bound_behind(entries: &[Entry], bound: u64) -> u64
 }
 
 // An id of an entry that isn't between these.
-fn stray(entry: Entry, from: u64, bound: u64) -> Option<u64>
+fn stray(entry: DirectoryEntry, from: u64, bound: u64) -> Option<u64>
     ensures { result ≡ stray_of from bound entry }
 {
     if entry.id < from {
@@ -42,7 +42,7 @@ fn stray(entry: Entry, from: u64, bound: u64) -> Option<u64>
 }
 
 // The least id of the entries that isn't between these.
-fn least_stray(entries: &[Entry], from: u64, bound: u64) -> Option<u64>
+fn least_stray(entries: &[DirectoryEntry], from: u64, bound: u64) -> Option<u64>
     ensures { result ≡ stray_id from bound entries.now }
 {
     for entry in entries {
@@ -54,7 +54,7 @@ fn least_stray(entries: &[Entry], from: u64, bound: u64) -> Option<u64>
 }
 
 // The ids of the entries are between these.
-fn check_between(entries: &[Entry], from: u64, bound: u64) -> Result<(), ArchiveFault>
+fn check_between(entries: &[DirectoryEntry], from: u64, bound: u64) -> Result<(), ArchiveFault>
     ensures { result ≡ stray_fault (stray_id from bound entries.now) }
 {
     match least_stray(entries, from, bound) {
@@ -69,9 +69,9 @@ fn leaf_of<B: Bytes>(
     alloc: Global,
     source: &mut B,
     header: &Header,
-    entry: Entry,
+    entry: DirectoryEntry,
     bound: u64,
-) -> Result<Vec<Entry>, ArchiveFault>
+) -> Result<Vec<DirectoryEntry>, ArchiveFault>
     requires { ArePlaced (B.count source.old) header.now }
     ensures source { Keeps B.count B.holds B.fails B.unchanged source.old source.new }
     ensures leaf { (bytes : List ℕ) → B.holds source.new bytes → GivesUnless IsOutside (λ v. v.items) result (leaf_at bytes header.now entry bound) }
@@ -87,7 +87,11 @@ fn leaf_of<B: Bytes>(
 
 // Adds a tile entry.
 #[tactic(auto, unfolding(crate::specs::Reading::tile_at))]
-fn push_tile(header: &Header, entry: Entry, tiles: &mut Vec<Entry>) -> Result<(), ArchiveFault>
+fn push_tile(
+    header: &Header,
+    entry: DirectoryEntry,
+    tiles: &mut Vec<DirectoryEntry>,
+) -> Result<(), ArchiveFault>
     ensures tile { GivesUnless IsOutside (λ done. tiles.new.items) result (behind tiles.old.items (tile_at header.now entry)) }
     ensures read { result ≢ Err ArchiveFault.Read }
     ensures memory { result ≡ Err ArchiveFault.Memory → LiesIn header.now.tiles entry }
@@ -108,10 +112,10 @@ fn push_listed<B: Bytes>(
     alloc: Global,
     source: &mut B,
     header: &Header,
-    entry: Entry,
+    entry: DirectoryEntry,
     bound: u64,
     more: u8,
-    tiles: &mut Vec<Entry>,
+    tiles: &mut Vec<DirectoryEntry>,
 ) -> Result<(), ArchiveFault>
     requires { ArePlaced (B.count source.old) header.now }
     ensures source { Keeps B.count B.holds B.fails B.unchanged source.old source.new }
@@ -138,10 +142,10 @@ fn push_each<B: Bytes>(
     alloc: Global,
     source: &mut B,
     header: &Header,
-    entries: &[Entry],
+    entries: &[DirectoryEntry],
     bound: u64,
     more: u8,
-    tiles: &mut Vec<Entry>,
+    tiles: &mut Vec<DirectoryEntry>,
 ) -> Result<(), ArchiveFault>
     requires { ArePlaced (B.count source.old) header.now }
     ensures source { Keeps B.count B.holds B.fails B.unchanged source.old source.new }
@@ -162,8 +166,8 @@ pub(crate) fn entries_below<B: Bytes>(
     alloc: Global,
     source: &mut B,
     header: &Header,
-    root: &[Entry],
-) -> Result<Vec<Entry>, ArchiveFault>
+    root: &[DirectoryEntry],
+) -> Result<Vec<DirectoryEntry>, ArchiveFault>
     requires { ArePlaced (B.count source.old) header.now }
     ensures source { Keeps B.count B.holds B.fails B.unchanged source.old source.new }
     ensures first { (bytes : List ℕ) → B.holds source.new bytes → GivesUnless IsOutside (λ v. v.items) result (list_at bytes header.now root.now) }
@@ -172,13 +176,7 @@ pub(crate) fn entries_below<B: Bytes>(
 {
     let mut tiles = Vec::new(alloc);
     push_each(
-        alloc,
-        source,
-        header,
-        root,
-        TILE_IDS,
-        MOST_LEAVES,
-        &mut tiles,
+        alloc, source, header, root, TILE_IDS, MAX_LEAVES, &mut tiles,
     )?;
     Ok(tiles)
 }

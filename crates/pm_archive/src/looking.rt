@@ -2,7 +2,7 @@
 
 ghost use Rattle.std.specs.Prelude.{◌≡◌, ℕ, ◌<◌, ◌≤◌, List, Ok, Err, OnOk, Option, Some, None, option_map};
 ghost use Rattle.reader.specs.Reading.{GivesUnless};
-ghost use Rattle.pm_directory.specs.declared.entry.Entry.{Entry};
+ghost use Rattle.pm_directory.specs.declared.entry.DirectoryEntry.{DirectoryEntry};
 ghost use Rattle.pm_directory.specs.Directory.{IsAscending};
 ghost use Rattle.byte_source.specs.Source.{Keeps};
 ghost use Rattle.pm_archive.specs.Sections.{end_of};
@@ -13,11 +13,11 @@ ghost use Rattle.pm_archive.specs.Looked.{leading_of, reached_at, content_at, lo
 ghost use Rattle.pm_archive.specs.Lookup.{IsKeptOf, IsSmall};
 
 use crate::fault::ArchiveFault;
-use crate::kept::{Leaf, leading, leading_below};
-use crate::limits::MOST_LEAVES;
+use crate::leaf::{Leaf, leading, leading_below};
+use crate::limits::MAX_LEAVES;
 use crate::reading::content_of;
 use byte_source::Bytes;
-use pm_directory::Entry;
+use pm_directory::DirectoryEntry;
 use pm_header::Header;
 use std::alloc::Global;
 
@@ -27,11 +27,11 @@ fn tile_entry<B: Bytes>(
     alloc: Global,
     source: &mut B,
     header: &Header,
-    entry: Option<Entry>,
+    entry: Option<DirectoryEntry>,
     kept: &mut Option<Leaf>,
     id: u64,
     more: u8,
-) -> Result<Option<Entry>, ArchiveFault>
+) -> Result<Option<DirectoryEntry>, ArchiveFault>
     requires { end_of header.now.leaves ≤ B.count source.old }
     ensures source { Keeps B.count B.holds B.fails B.unchanged source.old source.new }
     ensures still { (bytes : List ℕ) → B.holds source.new bytes → IsKeptOf bytes header.now kept.old → IsKeptOf bytes header.now kept.new }
@@ -40,10 +40,10 @@ fn tile_entry<B: Bytes>(
         → GivesUnless IsOutside (λ e. e) result (reached_at bytes header.now id more entry) }
     ensures read { result ≡ Err ArchiveFault.Read → B.fails source.old }
     ensures none { entry ≡ None → result ≡ Ok None }
-    ensures tile { (tile : Entry) → entry ≡ Some tile → 0 < tile.run → result ≡ Ok (Some tile) }
-    ensures inside { kept.old ≡ None → (leaf : Entry) → entry ≡ Some leaf → leaf.run ≡ 0 → OnOk result (LiesIn header.now.leaves leaf) }
+    ensures tile { (tile : DirectoryEntry) → entry ≡ Some tile → 0 < tile.run → result ≡ Ok (Some tile) }
+    ensures inside { kept.old ≡ None → (leaf : DirectoryEntry) → entry ≡ Some leaf → leaf.run ≡ 0 → OnOk result (LiesIn header.now.leaves leaf) }
     ensures memory { kept.old ≡ None → result ≡ Err ArchiveFault.Memory
-        → (leaf : Entry) × (entry ≡ Some leaf) × (leaf.run ≡ 0) × (0 < more) × LiesIn header.now.leaves leaf }
+        → (leaf : DirectoryEntry) × (entry ≡ Some leaf) × (leaf.run ≡ 0) × (0 < more) × LiesIn header.now.leaves leaf }
 {
     let leaf = match entry {
         Some(leaf) => leaf,
@@ -65,13 +65,13 @@ fn content_in<B: Bytes>(
     alloc: Global,
     source: &mut B,
     header: &Header,
-    entry: Option<Entry>,
+    entry: Option<DirectoryEntry>,
 ) -> Result<Option<Vec<u8>>, ArchiveFault>
     requires { end_of header.now.tiles ≤ B.count source.old }
     ensures source { Keeps B.count B.holds B.fails B.unchanged source.old source.new }
     ensures first { (bytes : List ℕ) → B.holds source.new bytes → GivesUnless IsOutside (option_map (λ v. v.items)) result (content_at bytes header.now entry) }
     ensures read { result ≡ Err ArchiveFault.Read → B.fails source.old }
-    ensures memory { result ≡ Err ArchiveFault.Memory → (tile : Entry) × (entry ≡ Some tile) × LiesIn header.now.tiles tile }
+    ensures memory { result ≡ Err ArchiveFault.Memory → (tile : DirectoryEntry) × (entry ≡ Some tile) × LiesIn header.now.tiles tile }
 {
     let entry = match entry {
         Some(entry) => entry,
@@ -86,7 +86,7 @@ pub(crate) fn content_below<B: Bytes>(
     alloc: Global,
     source: &mut B,
     header: &Header,
-    root: &[Entry],
+    root: &[DirectoryEntry],
     kept: &mut Option<Leaf>,
     id: u64,
 ) -> Result<Option<Vec<u8>>, ArchiveFault>
@@ -107,7 +107,7 @@ pub(crate) fn content_below<B: Bytes>(
         leading(root, id),
         kept,
         id,
-        MOST_LEAVES,
+        MAX_LEAVES,
     )?;
     content_in(alloc, source, header, entry)
 }

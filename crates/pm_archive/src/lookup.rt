@@ -3,7 +3,7 @@
 ghost use Rattle.std.specs.Prelude.{◌≡◌, ℕ, List, Option, None, Err, IfOk, IfErr, MatchResult, option_map};
 ghost use Rattle.reader.specs.Reading.{GivesUnless};
 ghost use Rattle.pm_header.specs.declared.header.Header.{Header};
-ghost use Rattle.pm_directory.specs.declared.entry.Entry.{Entry};
+ghost use Rattle.pm_directory.specs.declared.entry.DirectoryEntry.{DirectoryEntry};
 ghost use Rattle.pm_directory.specs.Directory.{IsAscending, IsDirectory};
 ghost use Rattle.byte_source.specs.Source.{Keeps};
 ghost use Rattle.pm_archive.specs.Sections.{HasSections, section_bytes};
@@ -14,11 +14,11 @@ ghost use Rattle.pm_archive.specs.Lookup.{LookupView, IsLookupOf, IsSmall};
 ghost use Rattle.pm_archive.specs.Answers.{IsOutside, UnlessOutside};
 
 use crate::fault::ArchiveFault;
-use crate::kept::Leaf;
+use crate::leaf::Leaf;
 use crate::looking::content_below;
 use crate::opening::header_and_root;
 use byte_source::Bytes;
-use pm_directory::Entry;
+use pm_directory::DirectoryEntry;
 use pm_header::Header;
 use std::alloc::Global;
 use std::marker::Model;
@@ -29,7 +29,7 @@ use std::marker::Model;
 pub struct Lookup {
     count: u64,
     header: Header,
-    root: Vec<Entry>,
+    root: Vec<DirectoryEntry>,
     leaf: Option<Leaf>,
 }
 
@@ -53,7 +53,7 @@ impl Lookup {
         ensures count { IfOk result (λ l. l.count ≡ B.count source.old) }
         ensures leaf { IfOk result (λ l. l.leaf ≡ None) }
         ensures found { (bytes : List ℕ) → B.holds source.new bytes → IfOk result (IsLookupOf bytes) }
-        ensures only { (bytes : List ℕ) (h : Header) (root : List Entry) → HasSections bytes h → IsDirectory (section_bytes h.root bytes) root
+        ensures only { (bytes : List ℕ) (h : Header) (root : List DirectoryEntry) → HasSections bytes h → IsDirectory (section_bytes h.root bytes) root
             → B.holds source.new bytes → MatchResult result (λ l. (l.header ≡ h) × (l.root ≡ root)) IsOutside }
         ensures fault { (bytes : List ℕ) → B.holds source.new bytes → IfErr result (UnlessOutside (OpeningHas bytes)) }
         ensures read { result ≡ Err ArchiveFault.Read → B.fails source.old }

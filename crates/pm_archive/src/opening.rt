@@ -3,7 +3,7 @@
 ghost use Rattle.std.specs.Prelude.{◌≡◌, ◌≢◌, ◌↔◌, ℕ, ◌<◌, ◌≤◌, List, length, Err, IfOk, IfErr, IfSome, IfNone, IsTrue};
 ghost use Rattle.pm_header.specs.declared.header.Header.{Header};
 ghost use Rattle.pm_header.specs.Layout.{IsHeader};
-ghost use Rattle.pm_directory.specs.declared.entry.Entry.{Entry};
+ghost use Rattle.pm_directory.specs.declared.entry.DirectoryEntry.{DirectoryEntry};
 ghost use Rattle.std.specs.List.{AllByRecursion};
 ghost use Rattle.pm_directory.specs.Directory.{IsAscending, IsDirectory, IsEntry};
 ghost use Rattle.byte_source.specs.Source.{Keeps};
@@ -15,8 +15,8 @@ use crate::fault::{ArchiveFault, Section};
 use crate::limits::OPENING_END;
 use crate::reading::directory_from;
 use byte_source::Bytes;
-use pm_directory::Entry;
-use pm_header::{HEADER_BYTES, Header, HeaderFault, Part};
+use pm_directory::DirectoryEntry;
+use pm_header::{HEADER_BYTES, Header, HeaderFault, Section};
 use std::alloc::Global;
 
 // The header with which the bytes begin.
@@ -43,7 +43,7 @@ fn header_in<B: Bytes>(source: &mut B) -> Result<Header, ArchiveFault>
 }
 
 // The section ends inside so many bytes.
-fn ends_by(section: Part, count: u64) -> bool
+fn ends_by(section: Section, count: u64) -> bool
     ensures { IsTrue result ↔ (end_of section ≤ count) }
 {
     section.offset <= count && section.length <= count - section.offset
@@ -78,7 +78,7 @@ fn is_plain(header: &Header) -> bool
 pub(crate) fn header_and_root<B: Bytes>(
     alloc: Global,
     source: &mut B,
-) -> Result<(Header, Vec<Entry>), ArchiveFault>
+) -> Result<(Header, Vec<DirectoryEntry>), ArchiveFault>
     ensures source { Keeps B.count B.holds B.fails B.unchanged source.old source.new }
     ensures placed { IfOk result (λ x. ArePlaced (B.count source.old) x.0) }
     ensures ascending { IfOk result (λ x. IsAscending x.1.items) }

@@ -13,8 +13,8 @@ ghost use Rattle.pm_archive.specs.Answers.{IsOutside};
 
 use crate::fault::ArchiveFault;
 use byte_source::Bytes;
-use pm_directory::{DirectoryFault, Entry, read_directory};
-use pm_header::{Header, Part};
+use pm_directory::{DirectoryEntry, DirectoryFault, read_directory};
+use pm_header::{Header, Section};
 use std::alloc::Global;
 
 // Reads the bytes from an offset on, as many as `into` has room for.
@@ -67,7 +67,7 @@ pub(crate) fn directory_from<B: Bytes>(
     source: &mut B,
     offset: u64,
     length: u64,
-) -> Result<Vec<Entry>, ArchiveFault>
+) -> Result<Vec<DirectoryEntry>, ArchiveFault>
     requires { offset + length ≤ B.count source.old }
     ensures source { Keeps B.count B.holds B.fails B.unchanged source.old source.new }
     ensures directory { (bytes : List ℕ) → B.holds source.new bytes
@@ -84,14 +84,18 @@ pub(crate) fn directory_from<B: Bytes>(
 }
 
 // The bytes of an entry lie inside its section.
-pub(crate) fn lies_in(section: Part, entry: Entry) -> bool
+pub(crate) fn lies_in(section: Section, entry: DirectoryEntry) -> bool
     ensures { IsTrue result ↔ LiesIn section entry }
 {
     entry.offset <= section.length && u64::from(entry.length) <= section.length - entry.offset
 }
 
 // Where the bytes of an entry of a section begin in the source.
-fn offset_of<B: Bytes>(source: &B, section: Part, entry: Entry) -> Result<u64, ArchiveFault>
+fn offset_of<B: Bytes>(
+    source: &B,
+    section: Section,
+    entry: DirectoryEntry,
+) -> Result<u64, ArchiveFault>
     requires { end_of section ≤ B.count source.now }
     ensures inside { IfOk result (λ offset. (offset ≡ section.offset + entry.offset) × LiesIn section entry) }
     ensures outside { IfErr result (λ fault. (fault ≡ ArchiveFault.Place entry.id) × ¬ LiesIn section entry) }
@@ -110,8 +114,8 @@ pub(crate) fn directory_of<B: Bytes>(
     alloc: Global,
     source: &mut B,
     header: &Header,
-    entry: Entry,
-) -> Result<Vec<Entry>, ArchiveFault>
+    entry: DirectoryEntry,
+) -> Result<Vec<DirectoryEntry>, ArchiveFault>
     requires { end_of header.now.leaves ≤ B.count source.old }
     ensures source { Keeps B.count B.holds B.fails B.unchanged source.old source.new }
     ensures directory { (bytes : List ℕ) → B.holds source.new bytes → GivesUnless IsOutside (λ v. v.items) result (directory_of_entry bytes header.now entry) }
@@ -131,7 +135,7 @@ pub(crate) fn content_of<B: Bytes>(
     alloc: Global,
     source: &mut B,
     header: &Header,
-    entry: Entry,
+    entry: DirectoryEntry,
 ) -> Result<Vec<u8>, ArchiveFault>
     requires { end_of header.now.tiles ≤ B.count source.old }
     ensures source { Keeps B.count B.holds B.fails B.unchanged source.old source.new }

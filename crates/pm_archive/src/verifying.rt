@@ -14,14 +14,14 @@ ghost use Rattle.pm_archive.specs.VerifiedPieces.{IsFirstTileFault, IsMetadataFa
 ghost use Rattle.pm_archive.specs.Answers.{UnlessOutside};
 
 use crate::checking::check_tiles;
-use crate::counting::{check_counts, told};
+use crate::counting::{check_counts, report_of};
 use crate::fault::ArchiveFault;
 use crate::listing::entries_below;
 use crate::metadata::is_metadata;
 use crate::reading::bytes_at;
 use crate::report::Report;
 use byte_source::Bytes;
-use pm_directory::Entry;
+use pm_directory::DirectoryEntry;
 use pm_header::{Header, NOT_COMPRESSED, VECTOR_TILES};
 use std::alloc::Global;
 
@@ -62,13 +62,17 @@ fn check_metadata<B: Bytes>(
 }
 
 // What is told of the entries, where the counts of the header agree.
-fn report_on(alloc: Global, header: &Header, tiles: &[Entry]) -> Result<Report, ArchiveFault>
+fn report_on(
+    alloc: Global,
+    header: &Header,
+    tiles: &[DirectoryEntry],
+) -> Result<Report, ArchiveFault>
     ensures counts { addressed_by tiles.now < 2 ^ 64 → IfOk result (λ _. HasCounts header.now tiles.now) }
     ensures told { addressed_by tiles.now < 2 ^ 64 → IfOk result (λ report. report ≡ report_of tiles.now) }
     ensures fault { addressed_by tiles.now < 2 ^ 64 → IfErr result (UnlessOutside (IsCountFault header.now tiles.now)) }
     ensures read { result ≢ Err ArchiveFault.Read }
 {
-    let report = match told(alloc, tiles) {
+    let report = match report_of(alloc, tiles) {
         Ok(report) => report,
         Err(_) => return Err(ArchiveFault::Memory),
     };
@@ -81,7 +85,7 @@ fn check_vector_tiles<B: Bytes>(
     alloc: Global,
     source: &mut B,
     header: &Header,
-    tiles: &[Entry],
+    tiles: &[DirectoryEntry],
 ) -> Result<(), ArchiveFault>
     requires { end_of header.now.tiles ≤ B.count source.old }
     ensures source { Keeps B.count B.holds B.fails B.unchanged source.old source.new }
@@ -102,7 +106,7 @@ pub(crate) fn verdict_below<B: Bytes>(
     alloc: Global,
     source: &mut B,
     header: &Header,
-    root: &[Entry],
+    root: &[DirectoryEntry],
 ) -> Result<Report, ArchiveFault>
     requires placed { ArePlaced (B.count source.old) header.now }
     requires ascending { IsAscending root.now }

@@ -4,10 +4,10 @@ use Rattle.std.specs.List.{concat}
 use Rattle.std.specs.Result.{IfOk}
 use Rattle.std.proofs.lemmas.List.{length-append, append-nil}
 use Rattle.std.proofs.lemmas.Result.{IfOk-weaker}
-use Rattle.pm_header.specs.declared.part.Part.{Part}
+use Rattle.pm_header.specs.declared.section.Section.{Section}
 use Rattle.pm_header.specs.declared.header.Header.{Header}
 use Rattle.pm_header.specs.Layout.{IsHeader}
-use Rattle.pm_directory.specs.declared.entry.Entry.{Entry}
+use Rattle.pm_directory.specs.declared.entry.DirectoryEntry.{DirectoryEntry}
 use Rattle.pm_archive.specs.Sections.{section_bytes, HasSections}
 use Rattle.pm_archive.specs.Archive.{IsMetadata, HasCounts, IsArchive, IsArchiveOf}
 use Rattle.pm_build.specs.Tiles.{Tile}
@@ -55,7 +55,7 @@ laid root metadata leaves contents n low high = record {
   contents_is = refl;
 }
 
-section_at : (p : Part) (before part behind : List ℕ) → p.offset ≡ length before → p.length ≡ length part → section_bytes p (before ++ (part ++ behind)) ≡ part
+section_at : (p : Section) (before part behind : List ℕ) → p.offset ≡ length before → p.length ≡ length part → section_bytes p (before ++ (part ++ behind)) ≡ part
 section_at p before part behind at size = part_middle before part behind p.offset (p.offset + p.length) (sym at) (ap (λ (n : ℕ). p.offset + n) (sym size))
 
 -- each section is where the header says
@@ -117,10 +117,10 @@ sections_there bytes root metadata leaves contents h n is has low =
     }
 
 -- what is counted
-abbrev pub counts_of : List Tile → List Entry → List (List ℕ) → Counts
+abbrev pub counts_of : List Tile → List DirectoryEntry → List (List ℕ) → Counts
 counts_of tiles es cs = record { addressed = length tiles; entries = length es; contents = length cs }
 
-counts_there : (h : Header) (tiles : List Tile) (es : List Entry) (cs : List (List ℕ)) (root metadata leaves : List ℕ)
+counts_there : (h : Header) (tiles : List Tile) (es : List DirectoryEntry) (cs : List (List ℕ)) (root metadata leaves : List ℕ)
     → IsLaid h root metadata leaves (concat cs) (counts_of tiles es cs) → ArePlaced tiles es cs → HasCounts h es
 counts_there h tiles es cs root metadata leaves is placed =
     let all = addressed_all (concat cs) placed.runs es placed.named in
@@ -131,7 +131,7 @@ counts_there h tiles es cs root metadata leaves is placed =
       contents = inr (is.contents_is ∙ sym placed.counted);
     }
 
-is_laid_archive : (bytes root metadata leaves : List ℕ) (tiles : List Tile) (es : List Entry) (cs : List (List ℕ)) (h : Header)
+is_laid_archive : (bytes root metadata leaves : List ℕ) (tiles : List Tile) (es : List DirectoryEntry) (cs : List (List ℕ)) (h : Header)
     → IsLaid h root metadata leaves (concat cs) (counts_of tiles es cs) → AreJoined bytes h root metadata leaves (concat cs)
     → ArePlaced tiles es cs → AreDirectories root leaves es → length root ≤ 14850 → IsMetadata metadata → IsArchiveOf bytes (tile_content tiles)
 is_laid_archive bytes root metadata leaves tiles es cs h is joined placed directories low meta =
@@ -151,7 +151,7 @@ is_laid_archive bytes root metadata leaves tiles es cs h is joined placed direct
           ∙ content_named bytes (concat cs) h placed.runs es id has.tiles_there is.tiles_is placed.named,
     )
 
-is_archive : (bytes root metadata leaves : List ℕ) (tiles : List Tile) (es : List Entry) (cs : List (List ℕ)) (h : Header) (low high : ℕ)
+is_archive : (bytes root metadata leaves : List ℕ) (tiles : List Tile) (es : List DirectoryEntry) (cs : List (List ℕ)) (h : Header) (low high : ℕ)
     → h ≡ header_for (lengths_of root metadata leaves (concat cs)) (counts_of tiles es cs) low high → AreJoined bytes h root metadata leaves (concat cs)
     → ArePlaced tiles es cs → AreDirectories root leaves es → length root ≤ 14850 → IsMetadata metadata → IsArchiveOf bytes (tile_content tiles)
 is_archive bytes root metadata leaves tiles es cs h low high e joined placed directories early meta =
@@ -160,7 +160,7 @@ is_archive bytes root metadata leaves tiles es cs h low high e joined placed dir
     (laid root metadata leaves (concat cs) (counts_of tiles es cs) low high) in
     is_laid_archive bytes root metadata leaves tiles es cs h is joined placed directories early meta
 
-pub archive_joined : {E : Type 0} (r : Result (Vec ℕ Global) E) (root metadata leaves : List ℕ) (tiles : List Tile) (es : List Entry) (cs : List (List ℕ))
+pub archive_joined : {E : Type 0} (r : Result (Vec ℕ Global) E) (root metadata leaves : List ℕ) (tiles : List Tile) (es : List DirectoryEntry) (cs : List (List ℕ))
     (h : Header) (low high : ℕ) → h ≡ header_for (lengths_of root metadata leaves (concat cs)) (counts_of tiles es cs) low high
     → ArePlaced tiles es cs → AreDirectories root leaves es → length root ≤ 14850 → IsMetadata metadata
     → IfOk r (λ v. AreJoined v.items h root metadata leaves (concat cs)) → IfOk r (λ v. IsArchiveOf v.items (tile_content tiles))

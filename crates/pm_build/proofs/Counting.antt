@@ -12,7 +12,7 @@ use Rattle.std.proofs.lemmas.List.Elements.{All-contains, All-from_recursion}
 use Rattle.std.proofs.lemmas.Map.Made.{length-from_keys, is_member-Decides}
 use Rattle.std.proofs.lemmas.Slice.Eq.{bytes_eq-Decides}
 use Rattle.pm_directory.specs.Counts.{span_of, same_span, contents_of}
-use Rattle.pm_directory.specs.declared.entry.Entry.{Entry}
+use Rattle.pm_directory.specs.declared.entry.DirectoryEntry.{DirectoryEntry}
 use Rattle.pm_build.specs.Runs.{TileRun}
 use Rattle.pm_build.specs.Offsets.{offset_from, spans_from, EachPlaced, ArePlacedRuns}
 
@@ -87,7 +87,7 @@ length_spans from (c ∷ cs) = ap suc (length_spans (from + length c) cs)
 
 -- ---- the spans of the entries are those of the contents
 
-listed_spans : (cs : List (List ℕ)) (rs : List TileRun) (es : List Entry) → EachPlaced cs rs es
+listed_spans : (cs : List (List ℕ)) (rs : List TileRun) (es : List DirectoryEntry) → EachPlaced cs rs es
     → AllByRecursion (Contains (spans_from 0 cs)) (map span_of es)
 listed_spans cs [] [] h = tt
 listed_spans cs [] (e ∷ es) h = absurd h
@@ -107,7 +107,7 @@ same_members xs ys in_ys in_xs q =
       λ h. other.1 (All-contains (Contains ys) xs q (All-from_recursion (Contains ys) xs in_ys) h),
     )
 
-pub as_many_spans : (rs : List TileRun) (es : List Entry) (cs : List (List ℕ)) → ArePlacedRuns rs es cs → AllByRecursion (λ c. 0 < length c) cs
+pub as_many_spans : (rs : List TileRun) (es : List DirectoryEntry) (cs : List (List ℕ)) → ArePlacedRuns rs es cs → AllByRecursion (λ c. 0 < length c) cs
     → contents_of es ≡ length cs
 as_many_spans rs es cs h some =
     sym (length-from_keys span_laws (spans_from 0 cs) (map span_of es) (distinct_spans 0 cs some)

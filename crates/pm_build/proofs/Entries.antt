@@ -6,7 +6,7 @@ use Rattle.std.proofs.lemmas.List.{length-append, take_at, drop_at}
 use Rattle.std.proofs.lemmas.List.Elements.{All-contains, All-from_recursion}
 use Rattle.hilbert_id.specs.declared.number.TheConstants.{TILE_IDS}
 use Rattle.pm_directory.specs.Directory.{AscendFrom, IsEntry}
-use Rattle.pm_directory.specs.declared.entry.Entry.{Entry}
+use Rattle.pm_directory.specs.declared.entry.DirectoryEntry.{DirectoryEntry}
 use Rattle.pm_build.specs.declared.run.Run.{Run}
 use Rattle.pm_build.specs.Tiles.{Tile, IdsAscend, IsTile, AreTiles}
 use Rattle.pm_build.specs.Runs.{TileRun, repeated, tiles_in, AreLongestRuns}
@@ -25,7 +25,7 @@ at_place bytes front q rest k is begins =
     ap (λ (x : List ℕ). take (k + length q - k) (drop k x)) is ∙ ap (λ (x : List ℕ). take (k + length q - k) x) (drop_at front (q ++ rest) k begins)
     ∙ take_at q rest (k + length q - k) n
 
-names : (cs : List (List ℕ)) (r : TileRun) (e : Entry) → IsPlaced cs r e → Names (concat cs) r e
+names : (cs : List (List ℕ)) (r : TileRun) (e : DirectoryEntry) → IsPlaced cs r e → Names (concat cs) r e
 names cs r e p =
     let s = stands 0 cs r.content e.offset p.offset_is in
     let begins : length s.front ≡ e.offset = (let b = s.begins in omega arith) in
@@ -39,7 +39,7 @@ names cs r e p =
           ap (λ (n : ℕ). slice_range (concat cs) e.offset (e.offset + n)) p.length_is ∙ at_place (concat cs) s.front r.content s.rest e.offset s.bytes begins;
     }
 
-each_names : (cs : List (List ℕ)) (rs : List TileRun) (es : List Entry) → EachPlaced cs rs es → EachNames (concat cs) rs es
+each_names : (cs : List (List ℕ)) (rs : List TileRun) (es : List DirectoryEntry) → EachPlaced cs rs es → EachNames (concat cs) rs es
 each_names cs [] [] h = tt
 each_names cs [] (e ∷ es) h = h
 each_names cs (r ∷ rs) [] h = h
@@ -63,7 +63,7 @@ past from r ts some h = by r.count refl some h
     by zero e some g = absurd (omega arith)
     by (suc n) e some g = let p = past_run from r.first n r.content ts g in (p.0, subst (λ (k : ℕ). IdsAscend (r.first + k) ts) (sym e) p.1)
 
-ascend : (from : ℕ) (cs : List (List ℕ)) (rs : List TileRun) (es : List Entry) → AllByRecursion HasCount rs → EachPlaced cs rs es → IdsAscend from (tiles_in rs)
+ascend : (from : ℕ) (cs : List (List ℕ)) (rs : List TileRun) (es : List DirectoryEntry) → AllByRecursion HasCount rs → EachPlaced cs rs es → IdsAscend from (tiles_in rs)
     → AscendFrom from es
 ascend from cs [] [] counts h t = tt
 ascend from cs [] (e ∷ es) counts h t = absurd h
@@ -100,7 +100,7 @@ are_runs : (rs : List TileRun) → AllByRecursion HasCount rs → AllByRecursion
 are_runs [] counts h = tt
 are_runs (r ∷ rs) counts h = let p = inside r (tiles_in rs) counts.0.0 h in (p.0, are_runs rs counts.1 p.1)
 
-are_entries : (cs : List (List ℕ)) (rs : List TileRun) (es : List Entry) → AllByRecursion HasCount rs → AllByRecursion IsRun rs → EachPlaced cs rs es
+are_entries : (cs : List (List ℕ)) (rs : List TileRun) (es : List DirectoryEntry) → AllByRecursion HasCount rs → AllByRecursion IsRun rs → EachPlaced cs rs es
     → AllByRecursion IsEntry es
 are_entries cs [] [] counts runs h = tt
 are_entries cs [] (e ∷ es) counts runs h = absurd h
@@ -128,7 +128,7 @@ some_of : (rs : List TileRun) → AllByRecursion IsRun rs → AllByRecursion (λ
 some_of [] h = tt
 some_of (r ∷ rs) h = (h.0.some, some_of rs h.1)
 
-pub are_placed : (tiles : List Tile) (rs : List TileRun) (es : List Entry) (cs : List (List ℕ)) → AreTiles tiles → AreLongestRuns tiles rs
+pub are_placed : (tiles : List Tile) (rs : List TileRun) (es : List DirectoryEntry) (cs : List (List ℕ)) → AreTiles tiles → AreLongestRuns tiles rs
     → ArePlacedRuns rs es cs → ArePlaced tiles es cs
 are_placed tiles rs es cs t l h =
     let runs = runs_in tiles rs t l in

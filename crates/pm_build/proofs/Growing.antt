@@ -7,7 +7,7 @@ use Rattle.std.proofs.lemmas.Bool.{true≢false}
 use Rattle.std.proofs.lemmas.List.{length-append, map_push, take_more, take_all}
 use Rattle.std.proofs.lemmas.List.Elements.{Contains-append_left, Contains-push}
 use Rattle.pm_directory.specs.Counts.{span_of}
-use Rattle.pm_directory.specs.declared.entry.Entry.{Entry}
+use Rattle.pm_directory.specs.declared.entry.DirectoryEntry.{DirectoryEntry}
 use Rattle.pm_build.specs.declared.run.Run.{Run}
 use Rattle.pm_build.specs.Runs.{TileRun}
 use Rattle.pm_build.specs.Joined.{run_view, run_views}
@@ -29,7 +29,7 @@ each_push P (x ∷ xs) y h p = (h.0, each_push P xs y h.1 p)
 
 -- ---- what one run more changes
 
-placed_grown : (cs : List (List ℕ)) (d : List ℕ) (rs : List TileRun) (es : List Entry) → EachPlaced cs rs es → EachPlaced (cs ++ d ∷ []) rs es
+placed_grown : (cs : List (List ℕ)) (d : List ℕ) (rs : List TileRun) (es : List DirectoryEntry) → EachPlaced cs rs es → EachPlaced (cs ++ d ∷ []) rs es
 placed_grown cs d [] [] h = tt
 placed_grown cs d [] (e ∷ es) h = h
 placed_grown cs d (r ∷ rs) [] h = h
@@ -38,7 +38,7 @@ placed_grown cs d (r ∷ rs) (e ∷ es) h =
     let there = push_kept 0 cs d r.content e.offset p.offset_is in
     (record { id_is = p.id_is; run_is = p.run_is; length_is = p.length_is; offset_is = there; offset_fits = p.offset_fits }, placed_grown cs d rs es h.1)
 
-placed_push : (cs : List (List ℕ)) (rs : List TileRun) (es : List Entry) (r : TileRun) (e : Entry) → EachPlaced cs rs es → IsPlaced cs r e
+placed_push : (cs : List (List ℕ)) (rs : List TileRun) (es : List DirectoryEntry) (r : TileRun) (e : DirectoryEntry) → EachPlaced cs rs es → IsPlaced cs r e
     → EachPlaced cs (rs ++ r ∷ []) (es ++ e ∷ [])
 placed_push cs [] [] r e h p = (p, tt)
 placed_push cs [] (x ∷ es) r e h p = absurd h
@@ -71,29 +71,29 @@ used_here : (rs : List TileRun) (r : TileRun) → Contains (map (λ x. x.content
 used_here rs r =
     subst (λ (x : List (List ℕ)). Contains x r.content) (sym (map_push (λ (x : TileRun). x.content) rs r)) (Contains-push (map (λ x. x.content) rs) r.content)
 
-reached_more : (es : List Entry) (e : Entry) (ps : List (ℕ × ℕ)) → AllByRecursion (λ p. Contains (map span_of es) p) ps
+reached_more : (es : List DirectoryEntry) (e : DirectoryEntry) (ps : List (ℕ × ℕ)) → AllByRecursion (λ p. Contains (map span_of es) p) ps
     → AllByRecursion (λ p. Contains (map span_of (es ++ e ∷ [])) p) ps
 reached_more es e ps h =
     each_weaker (λ p. Contains (map span_of es) p) (λ p. Contains (map span_of (es ++ e ∷ [])) p)
     (λ p k. subst (λ (x : List (ℕ × ℕ)). Contains x p) (sym (map_push span_of es e)) (Contains-append_left (map span_of es) (span_of e ∷ []) p k)) ps h
 
-reached_here : (es : List Entry) (e : Entry) (p : ℕ × ℕ) → span_of e ≡ p → Contains (map span_of (es ++ e ∷ [])) p
+reached_here : (es : List DirectoryEntry) (e : DirectoryEntry) (p : ℕ × ℕ) → span_of e ≡ p → Contains (map span_of (es ++ e ∷ [])) p
 reached_here es e p is =
     subst (λ (q : ℕ × ℕ). Contains (map span_of (es ++ e ∷ [])) q) is
     (subst (λ (x : List (ℕ × ℕ)). Contains x (span_of e)) (sym (map_push span_of es e)) (Contains-push (map span_of es) (span_of e)))
 
 -- ---- the order of the contents
 
-end_push : (end : ℕ) (es : List Entry) (e : Entry) → end_of end (es ++ e ∷ []) ≡ max (end_of end es) (e.offset + e.length)
+end_push : (end : ℕ) (es : List DirectoryEntry) (e : DirectoryEntry) → end_of end (es ++ e ∷ []) ≡ max (end_of end es) (e.offset + e.length)
 end_push end [] e = refl
 end_push end (x ∷ es) e = end_push (max end (x.offset + x.length)) es e
 
-clustered_push : (end : ℕ) (es : List Entry) (e : Entry) → IsClustered end es → (e.offset ≡ end_of end es) ⊎ (e.offset + e.length ≤ end_of end es)
+clustered_push : (end : ℕ) (es : List DirectoryEntry) (e : DirectoryEntry) → IsClustered end es → (e.offset ≡ end_of end es) ⊎ (e.offset + e.length ≤ end_of end es)
     → IsClustered end (es ++ e ∷ [])
 clustered_push end [] e h p = (p, tt)
 clustered_push end (x ∷ es) e h p = (h.0, clustered_push (max end (x.offset + x.length)) es e h.1 p)
 
-within : (cs : List (List ℕ)) (r : TileRun) (e : Entry) → IsPlaced cs r e → e.offset + e.length ≤ length (concat cs)
+within : (cs : List (List ℕ)) (r : TileRun) (e : DirectoryEntry) → IsPlaced cs r e → e.offset + e.length ≤ length (concat cs)
 within cs r e p =
     let s = stands 0 cs r.content e.offset p.offset_is in
     let begins : 0 + length s.front ≡ e.offset = s.begins in
@@ -103,7 +103,7 @@ within cs r e p =
 
 -- ---- one run more
 
-more_there : (rs : List TileRun) (r : TileRun) (es : List Entry) (e : Entry) (cs : List (List ℕ)) → ArePlacedRuns rs es cs → IsPlaced cs r e
+more_there : (rs : List TileRun) (r : TileRun) (es : List DirectoryEntry) (e : DirectoryEntry) (cs : List (List ℕ)) → ArePlacedRuns rs es cs → IsPlaced cs r e
     → ArePlacedRuns (rs ++ r ∷ []) (es ++ e ∷ []) cs
 more_there rs r es e cs h p =
     let inside = within cs r e p in
@@ -117,7 +117,7 @@ more_there rs r es e cs h p =
       reached = reached_more es e (spans_from 0 cs) h.reached;
     }
 
-more_new : (rs : List TileRun) (r : TileRun) (es : List Entry) (e : Entry) (cs : List (List ℕ)) → ArePlacedRuns rs es cs → offset_from 0 cs r.content ≡ None
+more_new : (rs : List TileRun) (r : TileRun) (es : List DirectoryEntry) (e : DirectoryEntry) (cs : List (List ℕ)) → ArePlacedRuns rs es cs → offset_from 0 cs r.content ≡ None
     → IsPlaced (cs ++ r.content ∷ []) r e → ArePlacedRuns (rs ++ r ∷ []) (es ++ e ∷ []) (cs ++ r.content ∷ [])
 more_new rs r es e cs h none p =
     let offset : Some e.offset ≡ Some (0 + length (concat cs)) = sym p.offset_is ∙ push_same 0 cs r.content none in
@@ -136,7 +136,7 @@ more_new rs r es e cs h none p =
           (reached_more es e (spans_from 0 cs) h.reached) (reached_here es e _ span));
     }
 
-more_placed : (rs : List TileRun) (r : TileRun) (es : List Entry) (e : Entry) (old new : List (List ℕ)) → ArePlacedRuns rs es old
+more_placed : (rs : List TileRun) (r : TileRun) (es : List DirectoryEntry) (e : DirectoryEntry) (old new : List (List ℕ)) → ArePlacedRuns rs es old
     → new ≡ with_content old r.content → IsPlaced new r e → ArePlacedRuns (rs ++ r ∷ []) (es ++ e ∷ []) new
 more_placed rs r es e old new h grown p = by (offset_from 0 old r.content) refl
   where
@@ -152,12 +152,12 @@ more_placed rs r es e old new h grown p = by (offset_from 0 old r.content) refl
 
 -- ---- the loop over the runs
 
-pub placed_none : (runs : List Run) (contents : List (List ℕ)) (es : List Entry) → contents ≡ [] → es ≡ [] → ArePlacedRuns (run_views (take 0 runs)) es contents
+pub placed_none : (runs : List Run) (contents : List (List ℕ)) (es : List DirectoryEntry) → contents ≡ [] → es ≡ [] → ArePlacedRuns (run_views (take 0 runs)) es contents
 placed_none runs contents es no_contents no_entries =
     let empty : ArePlacedRuns [] [] [] = record { each = tt; different = tt; used = tt; clustered = tt; ends = refl; reached = tt } in
-    subst (λ (x : List Entry). ArePlacedRuns [] x contents) (sym no_entries) (subst (λ (x : List (List ℕ)). ArePlacedRuns [] [] x) (sym no_contents) empty)
+    subst (λ (x : List DirectoryEntry). ArePlacedRuns [] x contents) (sym no_entries) (subst (λ (x : List (List ℕ)). ArePlacedRuns [] [] x) (sym no_contents) empty)
 
-pub placed_more : (runs : List Run) (i : ℕ) (d : Run) (es more : List Entry) (e : Entry) (old new : List (List ℕ)) → i < length runs → more ≡ es ++ e ∷ []
+pub placed_more : (runs : List Run) (i : ℕ) (d : Run) (es more : List DirectoryEntry) (e : DirectoryEntry) (old new : List (List ℕ)) → i < length runs → more ≡ es ++ e ∷ []
     → ArePlacedRuns (run_views (take i runs)) es old
     → new ≡ with_content old (get_or runs i d).content.items → IsPlaced new (run_view (get_or runs i d)) e
     → ArePlacedRuns (run_views (take (i + 1) runs)) more new
@@ -165,11 +165,11 @@ placed_more runs i d es more e old new lt pushed h grown p =
     let views : run_views (take (i + 1) runs) ≡ run_views (take i runs) ++ run_view (get_or runs i d) ∷ [] =
     ap run_views (take_more runs i d lt) ∙ map_push run_view (take i runs) (get_or runs i d) in
     subst (λ (x : List TileRun). ArePlacedRuns x more new) (sym views)
-    (subst (λ (x : List Entry). ArePlacedRuns (run_views (take i runs) ++ run_view (get_or runs i d) ∷ []) x new) (sym pushed)
+    (subst (λ (x : List DirectoryEntry). ArePlacedRuns (run_views (take i runs) ++ run_view (get_or runs i d) ∷ []) x new) (sym pushed)
     (more_placed (run_views (take i runs)) (run_view (get_or runs i d)) es e old new h grown p))
 
 -- the same of a run and the bytes of its content, as the loop has them
-pub placed_item : (runs : List Run) (i : ℕ) (run : Run) (es more : List Entry) (e : Entry) (old new : List (List ℕ)) (bytes : List ℕ) → i < length runs
+pub placed_item : (runs : List Run) (i : ℕ) (run : Run) (es more : List DirectoryEntry) (e : DirectoryEntry) (old new : List (List ℕ)) (bytes : List ℕ) → i < length runs
     → run ≡ get_or runs i run → more ≡ es ++ e ∷ [] → ArePlacedRuns (run_views (take i runs)) es old → bytes ≡ run.content.items
     → new ≡ with_content old bytes → e.id ≡ run.first → e.run ≡ run.count → e.length ≡ length run.content.items → offset_from 0 new bytes ≡ Some e.offset
     → e.offset < 2 ^ 64 → ArePlacedRuns (run_views (take (i + 1) runs)) more new
@@ -185,6 +185,6 @@ placed_item runs i run es more e old new bytes lt at pushed h content grown id c
     (grown ∙ ap (λ (bs : List ℕ). with_content old bs) content ∙ ap (λ (r : Run). with_content old r.content.items) at)
     (subst (λ (r : Run). IsPlaced new (run_view r) e) at placed)
 
-pub placed_all : (runs : List Run) (i : ℕ) (es : List Entry) (contents : List (List ℕ)) → length runs ≤ i → ArePlacedRuns (run_views (take i runs)) es contents
+pub placed_all : (runs : List Run) (i : ℕ) (es : List DirectoryEntry) (contents : List (List ℕ)) → length runs ≤ i → ArePlacedRuns (run_views (take i runs)) es contents
     → ArePlacedRuns (run_views runs) es contents
 placed_all runs i es contents le h = subst (λ (x : List Run). ArePlacedRuns (run_views x) es contents) (take_all i runs le) h

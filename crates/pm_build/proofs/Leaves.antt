@@ -4,50 +4,50 @@ use Rattle.std.proofs.Common.{◌∙◌, append_assoc, arith}
 use Rattle.std.specs.List.{AllByRecursion}
 use Rattle.std.proofs.lemmas.List.{length-append, append-nil}
 use Rattle.hilbert_id.specs.declared.number.TheConstants.{TILE_IDS}
-use Rattle.pm_directory.specs.declared.entry.Entry.{Entry}
+use Rattle.pm_directory.specs.declared.entry.DirectoryEntry.{DirectoryEntry}
 use Rattle.pm_directory.specs.Directory.{ids_behind, AscendFrom, IsEntry, HasEnd, IsDirectory}
 use Rattle.pm_build.specs.Leaves.{StartWith, NamesLeaf, NameLeaves, AreLeaves}
 use Rattle.pm_build.proofs.Pieces.{part_front, part_middle, all_push}
 
 -- ---- entries that ascend
 
-pub ascend_lower : (low from : ℕ) (es : List Entry) → low ≤ from → AscendFrom from es → AscendFrom low es
+pub ascend_lower : (low from : ℕ) (es : List DirectoryEntry) → low ≤ from → AscendFrom from es → AscendFrom low es
 ascend_lower low from [] le h = tt
 ascend_lower low from (e ∷ es) le h = let at = h.0 in (omega arith, h.1)
 
-pub ascend_front : (from : ℕ) (es fs : List Entry) → AscendFrom from (es ++ fs) → AscendFrom from es
+pub ascend_front : (from : ℕ) (es fs : List DirectoryEntry) → AscendFrom from (es ++ fs) → AscendFrom from es
 ascend_front from [] fs h = tt
 ascend_front from (e ∷ es) fs h = (h.0, ascend_front (ids_behind e) es fs h.1)
 
-pub ascend_back : (from : ℕ) (es fs : List Entry) → AscendFrom from (es ++ fs) → AscendFrom from fs
+pub ascend_back : (from : ℕ) (es fs : List DirectoryEntry) → AscendFrom from (es ++ fs) → AscendFrom from fs
 ascend_back from [] fs h = h
 ascend_back from (e ∷ es) fs h =
     let at = h.0 in
     ascend_lower from (ids_behind e) fs (omega arith) (ascend_back (ids_behind e) es fs h.1)
 
-pub ascend_take : (n from : ℕ) (es : List Entry) → AscendFrom from es → AscendFrom from (take n es)
+pub ascend_take : (n from : ℕ) (es : List DirectoryEntry) → AscendFrom from es → AscendFrom from (take n es)
 ascend_take zero from es h = tt
 ascend_take (suc n) from [] h = tt
 ascend_take (suc n) from (e ∷ es) h = (h.0, ascend_take n (ids_behind e) es h.1)
 
-pub ascend_drop : (n from : ℕ) (es : List Entry) → AscendFrom from es → AscendFrom from (drop n es)
+pub ascend_drop : (n from : ℕ) (es : List DirectoryEntry) → AscendFrom from es → AscendFrom from (drop n es)
 ascend_drop zero from es h = h
 ascend_drop (suc n) from [] h = tt
 ascend_drop (suc n) from (e ∷ es) h =
     let at = h.0 in
     ascend_lower from (ids_behind e) (drop n es) (omega arith) (ascend_drop n (ids_behind e) es h.1)
 
-pub starts : (es : List Entry) (d : Entry) → 0 < length es → StartWith (get_or es 0 d).id es
+pub starts : (es : List DirectoryEntry) (d : DirectoryEntry) → 0 < length es → StartWith (get_or es 0 d).id es
 starts [] d some = absurd (omega arith)
 starts (e ∷ es) d some = refl
 
 -- names ascend as what they name
-pub names_ascend : (from : ℕ) (bytes : List ℕ) (names es : List Entry) → NameLeaves bytes names es → AscendFrom from es → AscendFrom from names
+pub names_ascend : (from : ℕ) (bytes : List ℕ) (names es : List DirectoryEntry) → NameLeaves bytes names es → AscendFrom from es → AscendFrom from names
 names_ascend from bytes [] es named h = tt
 names_ascend from bytes (n ∷ ns) es (front, rest, parts, leaf, named) h =
-    split front leaf.first (subst (λ (xs : List Entry). AscendFrom from xs) parts h) (names_ascend (ids_behind n) bytes ns rest named)
+    split front leaf.first (subst (λ (xs : List DirectoryEntry). AscendFrom from xs) parts h) (names_ascend (ids_behind n) bytes ns rest named)
   where
-    split : (front : List Entry) → StartWith n.id front → AscendFrom from (front ++ rest) → (AscendFrom (ids_behind n) rest → AscendFrom (ids_behind n) ns)
+    split : (front : List DirectoryEntry) → StartWith n.id front → AscendFrom from (front ++ rest) → (AscendFrom (ids_behind n) rest → AscendFrom (ids_behind n) ns)
         → AscendFrom from (n ∷ ns)
     split [] first h next = absurd first
     split (f ∷ fs) first h next =
@@ -59,7 +59,7 @@ names_ascend from bytes (n ∷ ns) es (front, rest, parts, leaf, named) h =
 
 -- ---- one more leaf directory
 
-leaf_longer : (bytes more : List ℕ) (n : Entry) (es : List Entry) → NamesLeaf bytes n es → NamesLeaf (bytes ++ more) n es
+leaf_longer : (bytes more : List ℕ) (n : DirectoryEntry) (es : List DirectoryEntry) → NamesLeaf bytes n es → NamesLeaf (bytes ++ more) n es
 leaf_longer bytes more n es h =
     let inside = h.inside in
     record {
@@ -69,29 +69,29 @@ leaf_longer bytes more n es h =
       directory = subst (λ (xs : List ℕ). IsDirectory xs es) (sym (part_front bytes more n.offset (n.offset + n.length) inside)) h.directory;
     }
 
-named_more : (bytes more : List ℕ) (names es : List Entry) (name : Entry) (leaf : List Entry) → NameLeaves bytes names es → NamesLeaf (bytes ++ more) name leaf
+named_more : (bytes more : List ℕ) (names es : List DirectoryEntry) (name : DirectoryEntry) (leaf : List DirectoryEntry) → NameLeaves bytes names es → NamesLeaf (bytes ++ more) name leaf
     → NameLeaves (bytes ++ more) (names ++ name ∷ []) (es ++ leaf)
-named_more bytes more [] es name leaf none h = (leaf, [], ap (λ (xs : List Entry). xs ++ leaf) none ∙ sym (append-nil leaf), h, refl)
+named_more bytes more [] es name leaf none h = (leaf, [], ap (λ (xs : List DirectoryEntry). xs ++ leaf) none ∙ sym (append-nil leaf), h, refl)
 named_more bytes more (n ∷ ns) es name leaf (front, rest, parts, first, named) h = (
   front,
   rest ++ leaf,
-  ap (λ (xs : List Entry). xs ++ leaf) parts ∙ append_assoc front rest leaf,
+  ap (λ (xs : List DirectoryEntry). xs ++ leaf) parts ∙ append_assoc front rest leaf,
   leaf_longer bytes more n front first,
   named_more bytes more ns rest name leaf named h,
 )
 
 -- a name of a leaf directory that stands behind these bytes
-pub record IsNameOf (bytes piece : List ℕ) (leaf : List Entry) (name : Entry) : Type 0 where
+pub record IsNameOf (bytes piece : List ℕ) (leaf : List DirectoryEntry) (name : DirectoryEntry) : Type 0 where
   pub first : StartWith name.id leaf
   pub run_is : name.run ≡ 0
   pub length_is : name.length ≡ length piece
   pub offset_is : name.offset ≡ length bytes
 
-first_id : (id : ℕ) (leaf : List Entry) → StartWith id leaf → AllByRecursion IsEntry leaf → id ≤ TILE_IDS
+first_id : (id : ℕ) (leaf : List DirectoryEntry) → StartWith id leaf → AllByRecursion IsEntry leaf → id ≤ TILE_IDS
 first_id id [] first each = absurd first
 first_id id (e ∷ es) first each = let fits = each.0.ids_fit in omega (arith, first)
 
-pub leaf_pushed : (bytes piece : List ℕ) (names es leaf : List Entry) (name : Entry) → AreLeaves bytes names es → IsNameOf bytes piece leaf name
+pub leaf_pushed : (bytes piece : List ℕ) (names es leaf : List DirectoryEntry) (name : DirectoryEntry) → AreLeaves bytes names es → IsNameOf bytes piece leaf name
     → IsDirectory piece leaf → AllByRecursion IsEntry leaf
     → 0 < length piece → length piece ≤ 2 + 29 * length leaf → length leaf ≤ 512 → length (bytes ++ piece) < 2 ^ 64
     → AreLeaves (bytes ++ piece) (names ++ name ∷ []) (es ++ leaf)

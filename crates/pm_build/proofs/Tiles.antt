@@ -7,7 +7,7 @@ use Rattle.std.proofs.lemmas.List.{length-append, length-map}
 use Rattle.std.proofs.lemmas.List.Elements.{All-contains, All-from_recursion}
 use Rattle.std.proofs.lemmas.Map.Made.{distinct_count-le}
 use Rattle.pm_header.specs.declared.header.Header.{Header}
-use Rattle.pm_directory.specs.declared.entry.Entry.{Entry}
+use Rattle.pm_directory.specs.declared.entry.DirectoryEntry.{DirectoryEntry}
 use Rattle.pm_directory.specs.Directory.{IsEntry, HasEnd}
 use Rattle.pm_directory.specs.Counts.{addressed_by, span_of, same_span}
 use Rattle.pm_archive.specs.Sections.{section_bytes}
@@ -27,13 +27,13 @@ IsShort c = length c < 2 ^ 32
 
 -- ---- what each entry has
 
-pub as_many : (bytes : List ℕ) (rs : List TileRun) (es : List Entry) → EachNames bytes rs es → length es ≡ length rs
+pub as_many : (bytes : List ℕ) (rs : List TileRun) (es : List DirectoryEntry) → EachNames bytes rs es → length es ≡ length rs
 as_many bytes [] [] named = refl
 as_many bytes [] (e ∷ es) named = absurd named
 as_many bytes (r ∷ rs) [] named = absurd named
 as_many bytes (r ∷ rs) (e ∷ es) named = ap (λ (n : ℕ). suc n) (as_many bytes rs es named.1)
 
-pub have_tiles : (bytes : List ℕ) (rs : List TileRun) (es : List Entry) → EachNames bytes rs es → AllByRecursion HasTiles rs
+pub have_tiles : (bytes : List ℕ) (rs : List TileRun) (es : List DirectoryEntry) → EachNames bytes rs es → AllByRecursion HasTiles rs
     → AllByRecursion (λ e. 0 < e.run) es
 have_tiles bytes [] [] named some = tt
 have_tiles bytes [] (e ∷ es) named some = absurd named
@@ -43,7 +43,7 @@ have_tiles bytes (r ∷ rs) (e ∷ es) named some =
     let count = some.0.0 in
     (omega arith, have_tiles bytes rs es named.1 some.1)
 
-pub lie_in : (bytes : List ℕ) (h : Header) (rs : List TileRun) (es : List Entry) → h.tiles.length ≡ length bytes → EachNames bytes rs es
+pub lie_in : (bytes : List ℕ) (h : Header) (rs : List TileRun) (es : List DirectoryEntry) → h.tiles.length ≡ length bytes → EachNames bytes rs es
     → AllByRecursion (LiesIn h.tiles) es
 lie_in bytes h [] [] size named = tt
 lie_in bytes h [] (e ∷ es) size named = absurd named
@@ -52,7 +52,7 @@ lie_in bytes h (r ∷ rs) (e ∷ es) size named =
     let inside = named.0.inside in
     (omega arith, lie_in bytes h rs es size named.1)
 
-pub have_ends : (bytes : List ℕ) (rs : List TileRun) (es : List Entry) → length bytes < 2 ^ 64 → EachNames bytes rs es → AllByRecursion IsEntry es
+pub have_ends : (bytes : List ℕ) (rs : List TileRun) (es : List DirectoryEntry) → length bytes < 2 ^ 64 → EachNames bytes rs es → AllByRecursion IsEntry es
     → AllByRecursion HasEnd es
 have_ends bytes [] [] fits named each = tt
 have_ends bytes [] (e ∷ es) fits named each = absurd named
@@ -63,7 +63,7 @@ have_ends bytes (r ∷ rs) (e ∷ es) fits named each =
 
 -- ---- how many bytes the contents have
 
-short_contents : (bytes : List ℕ) (rs : List TileRun) (es : List Entry) → EachNames bytes rs es → AllByRecursion IsEntry es
+short_contents : (bytes : List ℕ) (rs : List TileRun) (es : List DirectoryEntry) → EachNames bytes rs es → AllByRecursion IsEntry es
     → AllByRecursion IsShort (map (λ r. r.content) rs)
 short_contents bytes [] [] named each = tt
 short_contents bytes [] (e ∷ es) named each = absurd named
@@ -80,7 +80,7 @@ short_used all (c ∷ cs) short used =
     let others = short_used all cs short used.1 in
     omega (arith, length-append c (concat cs))
 
-pub contents_fit : (tiles : List Tile) (es : List Entry) (cs : List (List ℕ)) → ArePlaced tiles es cs → length es ≤ 131072 → length (concat cs) ≤ 2 ^ 49
+pub contents_fit : (tiles : List Tile) (es : List DirectoryEntry) (cs : List (List ℕ)) → ArePlaced tiles es cs → length es ≤ 131072 → length (concat cs) ≤ 2 ^ 49
 contents_fit tiles es cs placed few =
     let different = distinct_count-le same_span (map span_of es) in
     let counted = placed.counted in
@@ -93,7 +93,7 @@ pub length-repeated : (id count : ℕ) (content : List ℕ) → length (repeated
 length-repeated id zero content = refl
 length-repeated id (suc more) content = ap (λ (n : ℕ). suc n) (length-repeated (suc id) more content)
 
-pub addressed_all : (bytes : List ℕ) (rs : List TileRun) (es : List Entry) → EachNames bytes rs es → length (tiles_in rs) ≡ addressed_by es
+pub addressed_all : (bytes : List ℕ) (rs : List TileRun) (es : List DirectoryEntry) → EachNames bytes rs es → length (tiles_in rs) ≡ addressed_by es
 addressed_all bytes [] [] named = refl
 addressed_all bytes [] (e ∷ es) named = absurd named
 addressed_all bytes (r ∷ rs) [] named = absurd named
@@ -106,7 +106,7 @@ addressed_all bytes (r ∷ rs) (e ∷ es) named =
       addressed_all bytes rs es named.1,
     )
 
-pub some_entries : (bytes : List ℕ) (rs : List TileRun) (es : List Entry) (tiles : List Tile) → EachNames bytes rs es → tiles_in rs ≡ tiles → tiles ≢ []
+pub some_entries : (bytes : List ℕ) (rs : List TileRun) (es : List DirectoryEntry) (tiles : List Tile) → EachNames bytes rs es → tiles_in rs ≡ tiles → tiles ≢ []
     → 0 < length es
 some_entries bytes [] [] tiles named together some = absurd (some (sym together))
 some_entries bytes [] (e ∷ es) tiles named together some = absurd named
@@ -134,7 +134,7 @@ outside_run id first (suc more) content behind (inl low) =
 outside_run id first (suc more) content behind (inr high) =
     rw (ne_eqb first id (λ same. omega arith)) (outside_run id (suc first) more content behind (inr (omega arith)))
 
-pub content_named : (bytes contents : List ℕ) (h : Header) (rs : List TileRun) (es : List Entry) (id : ℕ) → section_bytes h.tiles bytes ≡ contents
+pub content_named : (bytes contents : List ℕ) (h : Header) (rs : List TileRun) (es : List DirectoryEntry) (id : ℕ) → section_bytes h.tiles bytes ≡ contents
     → h.tiles.length ≡ length contents → EachNames contents rs es → tile_content (tiles_in rs) id ≡ content_of bytes h es id
 content_named bytes contents h [] [] id at size named = refl
 content_named bytes contents h [] (e ∷ es) id at size named = absurd named

@@ -6,7 +6,7 @@ use Rattle.std.specs.Str.{bytes_eq}
 use Rattle.std.specs.Cmp.Lexicographic.{slice_cmp}
 use Rattle.std.specs.BTreeMap.{get_by}
 use Rattle.pm_directory.specs.Counts.{span_of}
-use Rattle.pm_directory.specs.declared.entry.Entry.{Entry}
+use Rattle.pm_directory.specs.declared.entry.DirectoryEntry.{DirectoryEntry}
 use Rattle.pm_build.specs.declared.contents.Contents.{Contents}
 use Rattle.pm_build.specs.Runs.{TileRun}
 use Rattle.pm_build.specs.Placed.{AreDifferent}
@@ -36,21 +36,21 @@ pub record IsKept (s : Contents) : Type 0 where
   pub ends : s.end ≡ length (concat (contents_view s))
 
 -- the entry of a run
-pub record IsPlaced (contents : List (List ℕ)) (r : TileRun) (e : Entry) : Type 0 where
+pub record IsPlaced (contents : List (List ℕ)) (r : TileRun) (e : DirectoryEntry) : Type 0 where
   pub id_is : e.id ≡ r.first
   pub run_is : e.run ≡ r.count
   pub length_is : e.length ≡ length r.content
   pub offset_is : offset_from 0 contents r.content ≡ Some e.offset
   pub offset_fits : e.offset < 2 ^ 64
 
-abbrev pub EachPlaced : List (List ℕ) → List TileRun → List Entry → Type 0
+abbrev pub EachPlaced : List (List ℕ) → List TileRun → List DirectoryEntry → Type 0
 EachPlaced contents [] [] = ⊤
 EachPlaced contents [] (e ∷ es) = ⊥
 EachPlaced contents (r ∷ rs) [] = ⊥
 EachPlaced contents (r ∷ rs) (e ∷ es) = IsPlaced contents r e × EachPlaced contents rs es
 
 -- the entries are those of the runs, whose contents these are, each once
-pub record ArePlacedRuns (runs : List TileRun) (entries : List Entry) (contents : List (List ℕ)) : Type 0 where
+pub record ArePlacedRuns (runs : List TileRun) (entries : List DirectoryEntry) (contents : List (List ℕ)) : Type 0 where
   pub each : EachPlaced contents runs entries
   pub different : AreDifferent contents
   pub used : AllByRecursion (λ c. Contains (map (λ r. r.content) runs) c) contents

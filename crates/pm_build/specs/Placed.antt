@@ -3,20 +3,20 @@ use Rattle.std.specs.Prelude.{◌≡◌, ◌≢◌, ℕ, ◌+◌, ◌≤◌, Lis
 use Rattle.std.specs.List.{concat}
 use Rattle.pm_directory.specs.Counts.{contents_of}
 use Rattle.std.specs.List.{AllByRecursion}
-use Rattle.pm_directory.specs.declared.entry.Entry.{Entry}
+use Rattle.pm_directory.specs.declared.entry.DirectoryEntry.{DirectoryEntry}
 use Rattle.pm_directory.specs.Directory.{IsAscending, IsEntry}
 use Rattle.pm_build.specs.Tiles.{Tile}
 use Rattle.pm_build.specs.Runs.{TileRun, AreLongestRuns}
 
 -- the entry names this run, whose content lies where it says
-pub record Names (bytes : List ℕ) (r : TileRun) (e : Entry) : Type 0 where
+pub record Names (bytes : List ℕ) (r : TileRun) (e : DirectoryEntry) : Type 0 where
   pub id_is : e.id ≡ r.first
   pub run_is : e.run ≡ r.count
   pub length_is : e.length ≡ length r.content
   pub inside : e.offset + e.length ≤ length bytes
   pub content_is : slice_range bytes e.offset (e.offset + e.length) ≡ r.content
 
-abbrev pub EachNames : List ℕ → List TileRun → List Entry → Type 0
+abbrev pub EachNames : List ℕ → List TileRun → List DirectoryEntry → Type 0
 EachNames bytes [] [] = ⊤
 EachNames bytes [] (e ∷ es) = ⊥
 EachNames bytes (r ∷ rs) [] = ⊥
@@ -28,7 +28,7 @@ AreDifferent [] = ⊤
 AreDifferent (c ∷ cs) = AllByRecursion (λ d. d ≢ c) cs × AreDifferent cs
 
 -- The entries name the longest runs of the tiles, whose contents stand one behind the other, each once.
-pub record ArePlaced (tiles : List Tile) (entries : List Entry) (contents : List (List ℕ)) : Type 0 where
+pub record ArePlaced (tiles : List Tile) (entries : List DirectoryEntry) (contents : List (List ℕ)) : Type 0 where
   pub runs : List TileRun
   pub longest : AreLongestRuns tiles runs
   pub named : EachNames (concat contents) runs entries

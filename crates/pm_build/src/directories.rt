@@ -2,12 +2,12 @@
 
 ghost use Rattle.std.specs.Prelude.{◌≡◌, ◌+◌, ◌*◌, ◌<◌, ◌≤◌, ◌++◌, List, length, OnOk, IfOk};
 ghost use Rattle.std.specs.List.{AllByRecursion};
-ghost use Rattle.pm_directory.specs.declared.entry.Entry.{Entry};
+ghost use Rattle.pm_directory.specs.declared.entry.DirectoryEntry.{DirectoryEntry};
 ghost use Rattle.pm_directory.specs.Directory.{IsAscending, IsEntry, HasEnd};
 ghost use Rattle.pm_build.specs.Leaves.{AreLeaves, AreDirectories};
 
 use crate::limit::MAX_ENTRIES;
-use pm_directory::{Entry, write_directory};
+use pm_directory::{DirectoryEntry, write_directory};
 use std::alloc::{AllocError, Global};
 
 // How many entries a root directory of tile entries has at most, and a leaf directory.
@@ -25,23 +25,27 @@ pub(crate) struct Directories {
 /// Leaf directories, and the entries that name them.
 #[derive(Debug, Drop)]
 struct Leaves {
-    names: Vec<Entry>,
+    names: Vec<DirectoryEntry>,
     bytes: Vec<u8>,
 }
 
 // Puts a leaf directory of these entries behind the others.
-fn push_leaf(alloc: Global, leaves: &mut Leaves, entries: &[Entry]) -> Result<(), AllocError>
+fn push_leaf(
+    alloc: Global,
+    leaves: &mut Leaves,
+    entries: &[DirectoryEntry],
+) -> Result<(), AllocError>
     requires some { 0 < length entries.now }
     requires few { length entries.now ≤ DIRECTORY_ENTRIES }
     requires ascending { IsAscending entries.now }
     requires each { AllByRecursion IsEntry entries.now }
     requires ends { AllByRecursion HasEnd entries.now }
     ensures count { OnOk result (length leaves.new.names.items ≡ length leaves.old.names.items + 1) }
-    ensures leaves { OnOk result ((before : List Entry) → AreLeaves leaves.old.bytes.items leaves.old.names.items before
+    ensures leaves { OnOk result ((before : List DirectoryEntry) → AreLeaves leaves.old.bytes.items leaves.old.names.items before
         → AreLeaves leaves.new.bytes.items leaves.new.names.items (before ++ entries.now)) }
 {
     let bytes = write_directory(alloc, entries)?;
-    let name = Entry {
+    let name = DirectoryEntry {
         id: entries[0].id,
         run: 0,
         length: bytes.len() as u32,
@@ -53,7 +57,7 @@ fn push_leaf(alloc: Global, leaves: &mut Leaves, entries: &[Entry]) -> Result<()
 }
 
 // Leaf directories of these entries, of 512 each, the last of the rest.
-fn write_leaves(alloc: Global, entries: &[Entry]) -> Result<Leaves, AllocError>
+fn write_leaves(alloc: Global, entries: &[DirectoryEntry]) -> Result<Leaves, AllocError>
     requires ascending { IsAscending entries.now }
     requires each { AllByRecursion IsEntry entries.now }
     requires ends { AllByRecursion HasEnd entries.now }
@@ -74,7 +78,10 @@ fn write_leaves(alloc: Global, entries: &[Entry]) -> Result<Leaves, AllocError>
 }
 
 /// The directories of these tile entries: up to 512 in the root, more in leaf directories of 512 each.
-pub(crate) fn write_directories(alloc: Global, entries: &[Entry]) -> Result<Directories, AllocError>
+pub(crate) fn write_directories(
+    alloc: Global,
+    entries: &[DirectoryEntry],
+) -> Result<Directories, AllocError>
     requires some { 0 < length entries.now }
     requires few { length entries.now ≤ MAX_ENTRIES }
     requires ascending { IsAscending entries.now }

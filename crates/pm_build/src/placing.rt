@@ -6,7 +6,7 @@ use crate::contents::Contents;
 use crate::limit::MAX_ENTRIES;
 use crate::placed::Placed;
 use crate::run::Run;
-use pm_directory::Entry;
+use pm_directory::DirectoryEntry;
 use std::alloc::{AllocError, Global};
 
 /// The entries of runs, and their contents, each once, in the order of their first use. Equal contents of different runs are
@@ -21,7 +21,7 @@ pub(crate) fn place_runs<'a>(alloc: Global, runs: &'a [Run]) -> Result<Placed<'a
     let mut entries = Vec::with_capacity(alloc, runs.len())?;
     for run in runs {
         let offset = contents.place(&run.content)?;
-        entries.push(Entry {
+        entries.push(DirectoryEntry {
             id: run.first,
             run: run.count,
             length: run.content.len() as u32,

@@ -4,16 +4,16 @@ use Rattle.std.proofs.Common.{sym, ap, ◌∙◌, arith}
 use Rattle.std.specs.List.{slice_get}
 use Rattle.std.specs.List.Sorted.{IsNonDecreasingBy, IsPartitionPoint}
 use Rattle.std.proofs.lemmas.Bool.{leb-true}
-use Rattle.pm_directory.specs.declared.entry.Entry.{Entry}
+use Rattle.pm_directory.specs.declared.entry.DirectoryEntry.{DirectoryEntry}
 use Rattle.pm_directory.specs.Directory.{ids_behind, AscendFrom}
 use Rattle.pm_directory.specs.Lookup.{up_to}
 
-ids_past : (from : ℕ) (es : List Entry) (j : ℕ) (d : Entry) → AscendFrom from es → j < length es → from ≤ (get_or es j d).id
+ids_past : (from : ℕ) (es : List DirectoryEntry) (j : ℕ) (d : DirectoryEntry) → AscendFrom from es → j < length es → from ≤ (get_or es j d).id
 ids_past from [] j d h lt = absurd (omega arith)
 ids_past from (e ∷ es) zero d h lt = h.0
 ids_past from (e ∷ es) (suc j) d h lt = omega (arith, h.0, ids_past (ids_behind e) es j d h.1 (omega arith))
 
-pub ids_rise : (from : ℕ) (es : List Entry) → AscendFrom from es → IsNonDecreasingBy (λ e. e.id) es
+pub ids_rise : (from : ℕ) (es : List DirectoryEntry) → AscendFrom from es → IsNonDecreasingBy (λ e. e.id) es
 ids_rise from [] h i j d le lt = absurd (omega arith)
 ids_rise from (e ∷ es) h zero zero d le lt = omega arith
 ids_rise from (e ∷ es) h zero (suc j) d le lt = omega (arith, ids_past (ids_behind e) es j d h.1 (omega arith))
@@ -44,5 +44,5 @@ passes p [] k x e = absurd cc
 passes p (y ∷ ys) k x e =
     elim (first_get (p y) y (filter p ys) k x e) [ inl h ↦ ap p (sym h.1) ∙ h.0 | inr h ↦ passes p ys h.0 x h.1 ]
 
-pub up_to_id : (id : ℕ) (es : List Entry) (k : ℕ) (e : Entry) → slice_get (up_to id es) k ≡ Some e → e.id ≤ id
+pub up_to_id : (id : ℕ) (es : List DirectoryEntry) (k : ℕ) (e : DirectoryEntry) → slice_get (up_to id es) k ≡ Some e → e.id ≤ id
 up_to_id id es k e h = leb-true e.id id (passes (λ e. leb e.id id) es k e h)

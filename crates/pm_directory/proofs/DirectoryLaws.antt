@@ -6,7 +6,7 @@ use Rattle.std.proofs.lemmas.Bool.{ltb-true, le-ltb, eqb-true, eqb-false}
 use Rattle.std.proofs.lemmas.List.{take-append-drop, take_at, drop_at, length-take-le, length-drop, length-append, length-map}
 use Rattle.std.specs.Prelude.{IfOk, IfErr, MatchResult}
 use Rattle.pb_wire.specs.Varint.{IsVarint}
-use Rattle.pm_directory.specs.declared.entry.Entry.{Entry}
+use Rattle.pm_directory.specs.declared.entry.DirectoryEntry.{DirectoryEntry}
 use Rattle.pm_directory.specs.declared.fault.DirectoryFault.{DirectoryFault}
 use Rattle.pm_directory.specs.declared.fault.DirectoryFault.TheVariants as faults
 use Rattle.pm_directory.specs.Directory.{AreVarints, id_deltas, AreOffsets, runs_of, lengths_of, IsDirectory}
@@ -141,11 +141,11 @@ entries_of_columns n xs ds rs ls os h =
 
 -- ---- directories
 
-length-deltas : (from : ℕ) (es : List Entry) → length (id_deltas from es) ≡ length es
+length-deltas : (from : ℕ) (es : List DirectoryEntry) → length (id_deltas from es) ≡ length es
 length-deltas from [] = refl
 length-deltas from (e ∷ es) = ap (λ (n : ℕ). suc n) (length-deltas e.id es)
 
-length-offsets : (end : Option ℕ) (os : List ℕ) (es : List Entry) → AreOffsets end os es → length os ≡ length es
+length-offsets : (end : Option ℕ) (os : List ℕ) (es : List DirectoryEntry) → AreOffsets end os es → length os ≡ length es
 length-offsets end [] [] h = refl
 length-offsets end [] (e ∷ es) h = absurd h
 length-offsets end (o ∷ os) [] h = absurd h
@@ -158,7 +158,7 @@ offsets_fit : (bytes : List ℕ) (n : ℕ) (xs ds rs ls os : List ℕ) → AreVa
 offsets_fit bytes n xs ds rs ls os v k =
     fit_behind ls os (fit_behind rs (ls ++ os) (fit_behind ds (rs ++ (ls ++ os)) (subst (AllByRecursion Fits) k.whole (all_fit bytes (n ∷ xs) v).1)))
 
-made_directory : (bytes : List ℕ) (n : ℕ) (xs ds rs ls os : List ℕ) (es : List Entry) → AreVarints bytes (n ∷ xs) → AreColumns n xs ds rs ls os
+made_directory : (bytes : List ℕ) (n : ℕ) (xs ds rs ls os : List ℕ) (es : List DirectoryEntry) → AreVarints bytes (n ∷ xs) → AreColumns n xs ds rs ls os
     → AreSaid None ds rs ls os es → IsDirectory bytes es
 made_directory bytes n xs ds rs ls os es v k said =
     let count : n ≡ length es = sym k.deltas ∙ ap length said.deltas ∙ length-deltas 0 es in
@@ -172,7 +172,7 @@ made_directory bytes n xs ds rs ls os es v k said =
       each = said.each;
     }
 
-read_directory : (bytes : List ℕ) (n : ℕ) (xs ds rs ls os : List ℕ) (es : List Entry) → AreVarints bytes (n ∷ xs) → AreColumns n xs ds rs ls os
+read_directory : (bytes : List ℕ) (n : ℕ) (xs ds rs ls os : List ℕ) (es : List DirectoryEntry) → AreVarints bytes (n ∷ xs) → AreColumns n xs ds rs ls os
     → entries_at None [] ds rs ls os ≡ Ok es → IsDirectory bytes es
 read_directory bytes n xs ds rs ls os es v k e =
     let x = entries_ok None [] ds rs ls os es (omega (arith, k.runs, k.deltas)) (omega (arith, k.lengths, k.deltas)) (omega (arith, k.offsets, k.deltas))
@@ -188,14 +188,14 @@ refused_directory bytes n xs ds rs ls os d v k e =
     let columns : n ∷ xs ≡ length ds ∷ (ds ++ (rs ++ (ls ++ os))) = λ i. sym k.deltas i ∷ k.whole i in
     at_entry ds rs ls os er el eo (subst (AreVarints bytes) columns v) (entries_err None [] ds rs ls os d er el eo (offsets_fit bytes n xs ds rs ls os v k) e)
 
-pub directory_ok : (bytes : List ℕ) (es : List Entry) → directory_at bytes ≡ Ok es → IsDirectory bytes es
+pub directory_ok : (bytes : List ℕ) (es : List DirectoryEntry) → directory_at bytes ≡ Ok es → IsDirectory bytes es
 unfolding directory_at
 directory_ok bytes es e =
     let c = then_ok (columns_at bytes) (λ c. entries_of c.0 c.1) es e in
     let h = columns_ok bytes c.0.0 c.0.1 c.1 in
     read_directory bytes c.0.0 c.0.1 _ _ _ _ es h.0 (split_columns c.0.0 c.0.1 h.1) c.2
 
-pub directory_only : (bytes : List ℕ) (es : List Entry) → IsDirectory bytes es → directory_at bytes ≡ Ok es
+pub directory_only : (bytes : List ℕ) (es : List DirectoryEntry) → IsDirectory bytes es → directory_at bytes ≡ Ok es
 unfolding directory_at
 directory_only bytes es h =
     let os = h.offsets in
@@ -235,12 +235,12 @@ is_memory : (d : DirectoryFault) → (d ≡ faults.Memory) ⊎ (d ≢ faults.Mem
 is_memory faults.Memory = inl refl
 is_memory _ = inr (λ e. cc)
 
-module _ {X : Type 0} (view : X → List Entry) (bytes : List ℕ) where
+module _ {X : Type 0} (view : X → List DirectoryEntry) (bytes : List ℕ) where
   pub found_clause : (r : Result X DirectoryFault) → Gives faults.Memory view r (directory_at bytes) → IfOk r (λ x. IsDirectory bytes (view x))
   found_clause (Ok x) h = directory_ok bytes (view x) h
   found_clause (Err d) h = tt
 
-  pub only_clause : (r : Result X DirectoryFault) → Gives faults.Memory view r (directory_at bytes) → (es : List Entry) → IsDirectory bytes es
+  pub only_clause : (r : Result X DirectoryFault) → Gives faults.Memory view r (directory_at bytes) → (es : List DirectoryEntry) → IsDirectory bytes es
       → MatchResult r (λ x. view x ≡ es) (λ d. d ≡ faults.Memory)
   only_clause r h es is = gives_found (λ d. d ≡ faults.Memory) is_memory view r (directory_at bytes) es (directory_only bytes es is) h
 

@@ -4,7 +4,7 @@ use Rattle.std.proofs.Common.{inl, inr, refl, sym, ap, subst, ◌∙◌, append_
 use Rattle.std.specs.List.{AllByRecursion}
 use Rattle.std.proofs.lemmas.Bool.{ltb-true, ltb-false, lt-ltb, le-ltb, eqb-true, eqb-false, ne_eqb, leb-true, leb-false, le-leb}
 use Rattle.hilbert_id.specs.declared.number.TheConstants.{TILE_IDS}
-use Rattle.pm_directory.specs.declared.entry.Entry.{Entry}
+use Rattle.pm_directory.specs.declared.entry.DirectoryEntry.{DirectoryEntry}
 use Rattle.pm_directory.specs.declared.fault.DirectoryFault.{DirectoryFault}
 use Rattle.pm_directory.specs.declared.fault.DirectoryFault.TheVariants as faults
 use Rattle.pm_directory.specs.Directory.{AscendFrom, IsEntry, id_deltas, offset_at, AreOffsets, runs_of, lengths_of}
@@ -16,7 +16,7 @@ use Rattle.reader.proofs.Steps.{done, same_value, same_fault, not_both, then_ok,
 
 -- ---- an id
 
-id_ok : (before : Option Entry) (delta id : ℕ) → id_at before delta ≡ Ok id → (id ≡ id_from before + delta) × (ids_from before ≤ id)
+id_ok : (before : Option DirectoryEntry) (delta id : ℕ) → id_at before delta ≡ Ok id → (id ≡ id_from before + delta) × (ids_from before ≤ id)
 id_ok None delta id e = let k = same_value delta id e in (omega arith, omega arith)
 id_ok (Some b) delta id e =
     let g = guard_ok (ltb delta (max 1 b.run)) faults.Order (cond (ltb (b.id + delta) (2 ^ 64)) (Ok (b.id + delta)) (Err faults.Range)) id e in
@@ -24,12 +24,12 @@ id_ok (Some b) delta id e =
     let k = same_value (b.id + delta) id p.1 in
     (omega arith, omega (arith, ltb-false delta (max 1 b.run) g.0))
 
-id_only : (before : Option Entry) (delta id : ℕ) → id ≡ id_from before + delta → ids_from before ≤ id → id < 2 ^ 64 → id_at before delta ≡ Ok id
+id_only : (before : Option DirectoryEntry) (delta id : ℕ) → id ≡ id_from before + delta → ids_from before ≤ id → id < 2 ^ 64 → id_at before delta ≡ Ok id
 id_only None delta id is le fits = let k : delta ≡ id = omega arith in ap (λ (n : ℕ). done n) k
 id_only (Some b) delta id is le fits =
     rw (le-ltb delta (max 1 b.run) (omega arith), lt-ltb (b.id + delta) (2 ^ 64) (omega arith)) (ap (λ (n : ℕ). done n) (sym is))
 
-id_err : (before : Option Entry) (delta run len offset : ℕ) (d : DirectoryFault) → id_at before delta ≡ Err d → EntryHas before delta run len offset d
+id_err : (before : Option DirectoryEntry) (delta run len offset : ℕ) (d : DirectoryFault) → id_at before delta ≡ Err d → EntryHas before delta run len offset d
 id_err None delta run len offset d e = absurd (not_both delta d e)
 id_err (Some b) delta run len offset d e =
     elim (guard_err (ltb delta (max 1 b.run)) faults.Order d (cond (ltb (b.id + delta) (2 ^ 64)) (Ok (b.id + delta)) (Err faults.Range)) e) [
@@ -52,7 +52,7 @@ run_ok id run r e =
 run_only : (id run : ℕ) → run < 2 ^ 32 → id + run ≤ TILE_IDS → run_at id run ≡ Ok run
 run_only id run small le = rw (lt-ltb run (2 ^ 32) small, le-leb (id + run) TILE_IDS le) refl
 
-run_err : (before : Option Entry) (delta id run len offset : ℕ) (d : DirectoryFault) → id ≡ id_from before + delta → run_at id run ≡ Err d
+run_err : (before : Option DirectoryEntry) (delta id run len offset : ℕ) (d : DirectoryFault) → id ≡ id_from before + delta → run_at id run ≡ Err d
     → EntryHas before delta run len offset d
 run_err before delta id run len offset d is e =
     elim (pass_err (ltb run (2 ^ 32)) faults.Range d (cond (leb (id + run) TILE_IDS) (Ok run) (Err faults.Range)) e) [
@@ -75,7 +75,7 @@ length_ok len l e =
 length_only : (len : ℕ) → 0 < len → len < 2 ^ 32 → length_at len ≡ Ok len
 length_only len some small = rw (ne_eqb len 0 (λ e. absurd (omega arith)), lt-ltb len (2 ^ 32) small) refl
 
-length_err : (before : Option Entry) (delta run len offset : ℕ) (d : DirectoryFault) → length_at len ≡ Err d → EntryHas before delta run len offset d
+length_err : (before : Option DirectoryEntry) (delta run len offset : ℕ) (d : DirectoryFault) → length_at len ≡ Err d → EntryHas before delta run len offset d
 length_err before delta run len offset d e =
     elim (guard_err (eqb len 0) faults.Length d (cond (ltb len (2 ^ 32)) (Ok len) (Err faults.Range)) e) [
       | inl g ↦ no_length g.1 (eqb-true len 0 g.0)
@@ -100,10 +100,10 @@ not_none n e = cc
 less_one : (n : ℕ) → suc n - 1 ≡ n
 less_one n = omega arith
 
-number_less : (before : Option Entry) (n : ℕ) → offset_of before (suc n) ≡ Ok n
+number_less : (before : Option DirectoryEntry) (n : ℕ) → offset_of before (suc n) ≡ Ok n
 number_less before n = rw (lt-ltb 0 (suc n) (omega arith), less_one n) refl
 
-offset_ok : (before : Option Entry) (n o : ℕ) → n < 2 ^ 64 → offset_of before n ≡ Ok o → (offset_at (end_from before) n ≡ Some o) × (o < 2 ^ 64)
+offset_ok : (before : Option DirectoryEntry) (n o : ℕ) → n < 2 ^ 64 → offset_of before n ≡ Ok o → (offset_at (end_from before) n ≡ Some o) × (o < 2 ^ 64)
 offset_ok None zero o small e = absurd (not_both o faults.Offset (sym e))
 offset_ok (Some b) zero o small e =
     let p = pass_ok (ltb (b.offset + b.length) (2 ^ 64)) faults.Range (Ok (b.offset + b.length)) o e in
@@ -112,7 +112,7 @@ offset_ok (Some b) zero o small e =
 offset_ok None (suc n) o small e = let k = same_value n o (sym (number_less None n) ∙ e) in (ap some_is k, omega arith)
 offset_ok (Some b) (suc n) o small e = let k = same_value n o (sym (number_less (Some b) n) ∙ e) in (ap some_is k, omega arith)
 
-offset_only : (before : Option Entry) (n o : ℕ) → offset_at (end_from before) n ≡ Some o → o < 2 ^ 64 → offset_of before n ≡ Ok o
+offset_only : (before : Option DirectoryEntry) (n o : ℕ) → offset_at (end_from before) n ≡ Some o → o < 2 ^ 64 → offset_of before n ≡ Ok o
 offset_only None zero o is fits = absurd (not_none o is)
 offset_only (Some b) zero o is fits =
     let k = same_some (b.offset + b.length) o is in
@@ -120,7 +120,7 @@ offset_only (Some b) zero o is fits =
 offset_only None (suc n) o is fits = number_less None n ∙ ap (λ (n : ℕ). done n) (same_some n o is)
 offset_only (Some b) (suc n) o is fits = number_less (Some b) n ∙ ap (λ (n : ℕ). done n) (same_some n o is)
 
-offset_err : (before : Option Entry) (delta run len n : ℕ) (d : DirectoryFault) → offset_of before n ≡ Err d → EntryHas before delta run len n d
+offset_err : (before : Option DirectoryEntry) (delta run len n : ℕ) (d : DirectoryFault) → offset_of before n ≡ Err d → EntryHas before delta run len n d
 offset_err None delta run len zero d e = no_offset (sym (same_fault {A = ℕ} faults.Offset d e)) refl refl
 offset_err (Some b) delta run len zero d e =
     elim (pass_err (ltb (b.offset + b.length) (2 ^ 64)) faults.Range d (Ok (b.offset + b.length)) e) [
@@ -132,19 +132,19 @@ offset_err (Some b) delta run len (suc n) d e = absurd (not_both n d (sym (numbe
 
 -- ---- an entry
 
-abbrev made : ℕ → ℕ → ℕ → ℕ → Entry
+abbrev made : ℕ → ℕ → ℕ → ℕ → DirectoryEntry
 made id run len offset = record { id = id; run = run; length = len; offset = offset }
 
-abbrev with_offset : Option Entry → ℕ → ℕ → ℕ → ℕ → Read DirectoryFault Entry
+abbrev with_offset : Option DirectoryEntry → ℕ → ℕ → ℕ → ℕ → Read DirectoryFault DirectoryEntry
 with_offset before offset id run len = offset_of before offset >>= λ o. Ok (made id run len o)
 
-abbrev with_length : Option Entry → ℕ → ℕ → ℕ → ℕ → Read DirectoryFault Entry
+abbrev with_length : Option DirectoryEntry → ℕ → ℕ → ℕ → ℕ → Read DirectoryFault DirectoryEntry
 with_length before len offset id run = length_at len >>= λ l. with_offset before offset id run l
 
-abbrev with_run : Option Entry → ℕ → ℕ → ℕ → ℕ → Read DirectoryFault Entry
+abbrev with_run : Option DirectoryEntry → ℕ → ℕ → ℕ → ℕ → Read DirectoryFault DirectoryEntry
 with_run before run len offset id = run_at id run >>= λ r. with_length before len offset id r
 
-pub entry_ok : (before : Option Entry) (delta run len offset : ℕ) (e : Entry) → offset < 2 ^ 64 → entry_at before delta run len offset ≡ Ok e
+pub entry_ok : (before : Option DirectoryEntry) (delta run len offset : ℕ) (e : DirectoryEntry) → offset < 2 ^ 64 → entry_at before delta run len offset ≡ Ok e
     → IsNext before delta run len offset e
 unfolding entry_at
 entry_ok before delta run len offset e small eq =
@@ -171,7 +171,7 @@ entry_ok before delta run len offset e small eq =
       };
     }
 
-pub entry_only : (before : Option Entry) (delta run len offset : ℕ) (e : Entry) → IsNext before delta run len offset e
+pub entry_only : (before : Option DirectoryEntry) (delta run len offset : ℕ) (e : DirectoryEntry) → IsNext before delta run len offset e
     → entry_at before delta run len offset ≡ Ok e
 unfolding entry_at
 entry_only before delta run len offset e h =
@@ -187,7 +187,7 @@ entry_only before delta run len offset e h =
     ∙ ap (λ (n : ℕ). done (made e.id n len e.offset)) (sym h.run_is)
     ∙ ap (λ (n : ℕ). done (made e.id e.run n e.offset)) (sym h.length_is)
 
-pub entry_err : (before : Option Entry) (delta run len offset : ℕ) (d : DirectoryFault) → entry_at before delta run len offset ≡ Err d
+pub entry_err : (before : Option DirectoryEntry) (delta run len offset : ℕ) (d : DirectoryFault) → entry_at before delta run len offset ≡ Err d
     → EntryHas before delta run len offset d
 unfolding entry_at
 entry_err before delta run len offset d eq =
@@ -210,7 +210,7 @@ entry_err before delta run len offset d eq =
 
 -- ---- all entries
 
-pub record AreSaid (before : Option Entry) (ds rs ls os : List ℕ) (es : List Entry) : Type 0 where
+pub record AreSaid (before : Option DirectoryEntry) (ds rs ls os : List ℕ) (es : List DirectoryEntry) : Type 0 where
   pub deltas : ds ≡ id_deltas (id_from before) es
   pub runs : rs ≡ runs_of es
   pub lengths : ls ≡ lengths_of es
@@ -218,13 +218,13 @@ pub record AreSaid (before : Option Entry) (ds rs ls os : List ℕ) (es : List E
   pub ascend : AscendFrom (ids_from before) es
   pub each : AllByRecursion IsEntry es
 
-said_none : (before : Option Entry) (rs ls os : List ℕ) → length rs ≡ 0 → length ls ≡ 0 → length os ≡ 0 → AreSaid before [] rs ls os []
+said_none : (before : Option DirectoryEntry) (rs ls os : List ℕ) → length rs ≡ 0 → length ls ≡ 0 → length os ≡ 0 → AreSaid before [] rs ls os []
 said_none before [] [] [] er el eo = record { deltas = refl; runs = refl; lengths = refl; offsets = tt; ascend = tt; each = tt }
 said_none before (r ∷ rs) ls os er el eo = absurd (omega arith)
 said_none before [] (l ∷ ls) os er el eo = absurd (omega arith)
 said_none before [] [] (o ∷ os) er el eo = absurd (omega arith)
 
-said_more : (before : Option Entry) (d r l o : ℕ) (ds rs ls os : List ℕ) (e : Entry) (es : List Entry) → IsNext before d r l o e
+said_more : (before : Option DirectoryEntry) (d r l o : ℕ) (ds rs ls os : List ℕ) (e : DirectoryEntry) (es : List DirectoryEntry) → IsNext before d r l o e
     → AreSaid (Some e) ds rs ls os es → AreSaid before (d ∷ ds) (r ∷ rs) (l ∷ ls) (o ∷ os) (e ∷ es)
 said_more before d r l o ds rs ls os e es n h = record {
   deltas = let k : d ≡ e.id - id_from before = omega (arith, n.id_is) in rw (k, h.deltas) refl;
@@ -235,9 +235,9 @@ said_more before d r l o ds rs ls os e es n h = record {
   each = (n.proper, h.each);
 }
 
-pub entries_ok : (before : Option Entry) (front : List Entry) (ds rs ls os : List ℕ) (all : List Entry) → length rs ≡ length ds → length ls ≡ length ds
+pub entries_ok : (before : Option DirectoryEntry) (front : List DirectoryEntry) (ds rs ls os : List ℕ) (all : List DirectoryEntry) → length rs ≡ length ds → length ls ≡ length ds
     → length os ≡ length ds → AllByRecursion (λ n. n < 2 ^ 64) os
-    → entries_at before front ds rs ls os ≡ Ok all → (es : List Entry) × (all ≡ front ++ es) × AreSaid before ds rs ls os es
+    → entries_at before front ds rs ls os ≡ Ok all → (es : List DirectoryEntry) × (all ≡ front ++ es) × AreSaid before ds rs ls os es
 unfolding entries_at
 entries_ok before front [] rs ls os all er el eo fit e =
     ([], sym (same_value front all e) ∙ sym (append-nil front), said_none before rs ls os er el eo)
@@ -250,15 +250,15 @@ entries_ok before front (d ∷ ds) (r ∷ rs) (l ∷ ls) (o ∷ os) all er el eo
     let h = entries_ok (Some x.0) (front ++ x.0 ∷ []) ds rs ls os all (omega arith) (omega arith) (omega arith) fit.1 x.2 in
     (x.0 ∷ h.0, h.1 ∙ append_assoc front (x.0 ∷ []) h.0, said_more before d r l o ds rs ls os x.0 h.0 n h.2)
 
-id_below : (before : Option Entry) → id_from before ≤ ids_from before
+id_below : (before : Option DirectoryEntry) → id_from before ≤ ids_from before
 id_below None = omega arith
 id_below (Some b) = omega arith
 
-pub entries_only : (before : Option Entry) (front es : List Entry) (os : List ℕ) → AreOffsets (end_from before) os es → AscendFrom (ids_from before) es
+pub entries_only : (before : Option DirectoryEntry) (front es : List DirectoryEntry) (os : List ℕ) → AreOffsets (end_from before) os es → AscendFrom (ids_from before) es
     → AllByRecursion IsEntry es
     → entries_at before front (id_deltas (id_from before) es) (runs_of es) (lengths_of es) os ≡ Ok (front ++ es)
 unfolding entries_at
-entries_only before front [] [] offsets ascend each = ap (λ (all : List Entry). done all) (sym (append-nil front))
+entries_only before front [] [] offsets ascend each = ap (λ (all : List DirectoryEntry). done all) (sym (append-nil front))
 entries_only before front [] (o ∷ os) offsets ascend each = absurd offsets
 entries_only before front (e ∷ es) [] offsets ascend each = absurd offsets
 entries_only before front (e ∷ es) (o ∷ os) offsets ascend each =
@@ -270,12 +270,12 @@ entries_only before front (e ∷ es) (o ∷ os) offsets ascend each =
       behind = ascend.0;
       proper = each.0;
     } in
-    ap (λ (x : Read DirectoryFault Entry). x >>= λ y. entries_at (Some y) (front ++ y ∷ []) (id_deltas e.id es) (runs_of es) (lengths_of es) os)
+    ap (λ (x : Read DirectoryFault DirectoryEntry). x >>= λ y. entries_at (Some y) (front ++ y ∷ []) (id_deltas e.id es) (runs_of es) (lengths_of es) os)
     (entry_only before (e.id - id_from before) e.run e.length o e next)
     ∙ entries_only (Some e) (front ++ e ∷ []) es os offsets.1 ascend.1 each.1
-    ∙ ap (λ (all : List Entry). done all) (append_assoc front (e ∷ []) es)
+    ∙ ap (λ (all : List DirectoryEntry). done all) (append_assoc front (e ∷ []) es)
 
-pub entries_err : (before : Option Entry) (front : List Entry) (ds rs ls os : List ℕ) (d : DirectoryFault) → length rs ≡ length ds → length ls ≡ length ds
+pub entries_err : (before : Option DirectoryEntry) (front : List DirectoryEntry) (ds rs ls os : List ℕ) (d : DirectoryFault) → length rs ≡ length ds → length ls ≡ length ds
     → length os ≡ length ds → AllByRecursion (λ n. n < 2 ^ 64) os
     → entries_at before front ds rs ls os ≡ Err d → EntriesHave before ds rs ls os d
 unfolding entries_at

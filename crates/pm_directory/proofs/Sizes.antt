@@ -7,7 +7,7 @@ use Rattle.std.proofs.lemmas.List.{length-append, length-map}
 use Rattle.std.proofs.lemmas.Nat.{div_below}
 use Rattle.std.proofs.Math.Nat.{pow-succ'}
 use Rattle.pb_wire.specs.Varint.{shortest_in, varint}
-use Rattle.pm_directory.specs.declared.entry.Entry.{Entry}
+use Rattle.pm_directory.specs.declared.entry.DirectoryEntry.{DirectoryEntry}
 use Rattle.pm_directory.specs.Directory.{IsEntry, id_deltas, runs_of, lengths_of, offset_number, offset_numbers, varints, directory_bytes}
 
 short : (k more n : ℕ) → n < 128 ^ suc k → length (shortest_in more n) ≤ suc k
@@ -49,15 +49,15 @@ varints_short k (n ∷ ns) h =
 
 -- ---- columns
 
-deltas_low : (from : ℕ) (es : List Entry) → AllByRecursion IsEntry es → AllByRecursion (Below (128 ^ 9)) (id_deltas from es)
+deltas_low : (from : ℕ) (es : List DirectoryEntry) → AllByRecursion IsEntry es → AllByRecursion (Below (128 ^ 9)) (id_deltas from es)
 deltas_low from [] h = tt
 deltas_low from (e ∷ es) h = let ids = h.0.ids_fit in (omega arith, deltas_low e.id es h.1)
 
-runs_low : (es : List Entry) → AllByRecursion IsEntry es → AllByRecursion (Below (128 ^ 5)) (runs_of es)
+runs_low : (es : List DirectoryEntry) → AllByRecursion IsEntry es → AllByRecursion (Below (128 ^ 5)) (runs_of es)
 runs_low [] h = tt
 runs_low (e ∷ es) h = let run = h.0.run_fits in (omega arith, runs_low es h.1)
 
-lengths_low : (es : List Entry) → AllByRecursion IsEntry es → AllByRecursion (Below (128 ^ 5)) (lengths_of es)
+lengths_low : (es : List DirectoryEntry) → AllByRecursion IsEntry es → AllByRecursion (Below (128 ^ 5)) (lengths_of es)
 lengths_low [] h = tt
 lengths_low (e ∷ es) h = let len = h.0.length_fits in (omega arith, lengths_low es h.1)
 
@@ -69,21 +69,21 @@ number_low (Some end) offset h = chosen (eqb end offset)
     chosen true = omega arith
     chosen false = omega arith
 
-offsets_low : (end : Option ℕ) (es : List Entry) → AllByRecursion IsEntry es → AllByRecursion (Below (128 ^ 10)) (offset_numbers end es)
+offsets_low : (end : Option ℕ) (es : List DirectoryEntry) → AllByRecursion IsEntry es → AllByRecursion (Below (128 ^ 10)) (offset_numbers end es)
 offsets_low end [] h = tt
 offsets_low end (e ∷ es) h = (number_low end e.offset h.0.offset_fits, offsets_low (Some (e.offset + e.length)) es h.1)
 
-length-deltas : (from : ℕ) (es : List Entry) → length (id_deltas from es) ≡ length es
+length-deltas : (from : ℕ) (es : List DirectoryEntry) → length (id_deltas from es) ≡ length es
 length-deltas from [] = refl
 length-deltas from (e ∷ es) = ap (λ (n : ℕ). suc n) (length-deltas e.id es)
 
-length-offsets : (end : Option ℕ) (es : List Entry) → length (offset_numbers end es) ≡ length es
+length-offsets : (end : Option ℕ) (es : List DirectoryEntry) → length (offset_numbers end es) ≡ length es
 length-offsets end [] = refl
 length-offsets end (e ∷ es) = ap (λ (n : ℕ). suc n) (length-offsets (Some (e.offset + e.length)) es)
 
 -- ---- directories
 
-pub directory_some : (es : List Entry) → 0 < length (directory_bytes es)
+pub directory_some : (es : List DirectoryEntry) → 0 < length (directory_bytes es)
 unfolding directory_bytes
 directory_some es = omega (
   arith,
@@ -91,7 +91,7 @@ directory_some es = omega (
   some_byte (length es),
 )
 
-pub directory_short : (es : List Entry) → length es < 2 ^ 14 → AllByRecursion IsEntry es → length (directory_bytes es) ≤ 2 + 29 * length es
+pub directory_short : (es : List DirectoryEntry) → length es < 2 ^ 14 → AllByRecursion IsEntry es → length (directory_bytes es) ≤ 2 + 29 * length es
 unfolding directory_bytes
 directory_short es few h =
     let ds = id_deltas 0 es in

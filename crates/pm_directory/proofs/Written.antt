@@ -5,7 +5,7 @@ use Rattle.std.specs.List.{AllByRecursion}
 use Rattle.std.proofs.lemmas.Bool.{eqb-true}
 use Rattle.pb_wire.specs.Varint.{varint}
 use Rattle.pb_wire.proofs.Varints.{varint_spells}
-use Rattle.pm_directory.specs.declared.entry.Entry.{Entry}
+use Rattle.pm_directory.specs.declared.entry.DirectoryEntry.{DirectoryEntry}
 use Rattle.pm_directory.specs.Directory.{AreVarints, IsAscending, IsEntry, HasEnd, id_deltas, offset_at, AreOffsets, runs_of, lengths_of, IsDirectory, varints}
 use Rattle.pm_directory.specs.Directory.{offset_number, offset_numbers, directory_bytes}
 
@@ -17,7 +17,7 @@ varints-append [] ys = refl
 varints-append (x ∷ xs) ys = ap (λ (r : List ℕ). varint x ++ r) (varints-append xs ys) ∙ sym (append_assoc (varint x) (varints xs) (varints ys))
 
 -- the parts one behind the other
-pub parts_are : (es : List Entry) → varint (length es) ++ varints (id_deltas 0 es) ++ varints (runs_of es) ++ varints (lengths_of es)
+pub parts_are : (es : List DirectoryEntry) → varint (length es) ++ varints (id_deltas 0 es) ++ varints (runs_of es) ++ varints (lengths_of es)
     ++ varints (offset_numbers None es) ≡ directory_bytes es
 unfolding directory_bytes
 parts_are es =
@@ -35,15 +35,15 @@ fit_append : (xs ys : List ℕ) → AllByRecursion Fits xs → AllByRecursion Fi
 fit_append [] ys h g = g
 fit_append (x ∷ xs) ys h g = (h.0, fit_append xs ys h.1 g)
 
-deltas_fit : (from : ℕ) (es : List Entry) → AllByRecursion IsEntry es → AllByRecursion Fits (id_deltas from es)
+deltas_fit : (from : ℕ) (es : List DirectoryEntry) → AllByRecursion IsEntry es → AllByRecursion Fits (id_deltas from es)
 deltas_fit from [] h = tt
 deltas_fit from (e ∷ es) h = let ids = h.0.ids_fit in (omega arith, deltas_fit e.id es h.1)
 
-runs_fit : (es : List Entry) → AllByRecursion IsEntry es → AllByRecursion Fits (runs_of es)
+runs_fit : (es : List DirectoryEntry) → AllByRecursion IsEntry es → AllByRecursion Fits (runs_of es)
 runs_fit [] h = tt
 runs_fit (e ∷ es) h = let run = h.0.run_fits in (omega arith, runs_fit es h.1)
 
-lengths_fit : (es : List Entry) → AllByRecursion IsEntry es → AllByRecursion Fits (lengths_of es)
+lengths_fit : (es : List DirectoryEntry) → AllByRecursion IsEntry es → AllByRecursion Fits (lengths_of es)
 lengths_fit [] h = tt
 lengths_fit (e ∷ es) h = let len = h.0.length_fits in (omega arith, lengths_fit es h.1)
 
@@ -55,7 +55,7 @@ number_fits (Some end) offset h = chosen (eqb end offset)
     chosen true = omega arith
     chosen false = h
 
-offsets_fit : (end : Option ℕ) (es : List Entry) → AllByRecursion HasEnd es → AllByRecursion Fits (offset_numbers end es)
+offsets_fit : (end : Option ℕ) (es : List DirectoryEntry) → AllByRecursion HasEnd es → AllByRecursion Fits (offset_numbers end es)
 offsets_fit end [] h = tt
 offsets_fit end (e ∷ es) h = let some = h.0.0 in let last = h.0.1 in (number_fits end e.offset (omega arith), offsets_fit (Some (e.offset + e.length)) es h.1)
 
@@ -73,11 +73,11 @@ offset_is (Some end) offset = chosen (eqb end offset) refl
     chosen true is = ap (λ (n : ℕ). Some n) (eqb-true end offset is)
     chosen false is = refl
 
-offsets_are : (end : Option ℕ) (es : List Entry) → AreOffsets end (offset_numbers end es) es
+offsets_are : (end : Option ℕ) (es : List DirectoryEntry) → AreOffsets end (offset_numbers end es) es
 offsets_are end [] = tt
 offsets_are end (e ∷ es) = (offset_is end e.offset, offsets_are (Some (e.offset + e.length)) es)
 
-pub is_directory : (es : List Entry) → length es < 2 ^ 64 → IsAscending es → AllByRecursion IsEntry es → AllByRecursion HasEnd es
+pub is_directory : (es : List DirectoryEntry) → length es < 2 ^ 64 → IsAscending es → AllByRecursion IsEntry es → AllByRecursion HasEnd es
     → IsDirectory (directory_bytes es) es
 unfolding directory_bytes
 is_directory es count ascending each ends =

@@ -2,7 +2,7 @@
 use Rattle.std.specs.Prelude.{◌≡◌, ℕ, ◌+◌, ◌*◌, ◌^◌, ◌<◌, ◌≤◌, ◌⊎◌, List, ◌∷◌, ◌++◌, length, Option, Some, None}
 use Rattle.pb_wire.specs.Varint.{IsVarint, IsCut, IsOverlong}
 use Rattle.hilbert_id.specs.declared.number.TheConstants.{TILE_IDS}
-use Rattle.pm_directory.specs.declared.entry.Entry.{Entry}
+use Rattle.pm_directory.specs.declared.entry.DirectoryEntry.{DirectoryEntry}
 use Rattle.pm_directory.specs.declared.fault.DirectoryFault.{DirectoryFault}
 use Rattle.pm_directory.specs.declared.fault.DirectoryFault.TheVariants as faults
 use Rattle.pm_directory.specs.Directory.{AreVarints, ids_behind, offset_at, IsEntry}
@@ -23,20 +23,20 @@ pub record NumbersHave (count : ℕ) (bytes : List ℕ) (d : DirectoryFault) : T
   pub fault : NumberHas rest d
 
 -- of the entry before, if there is one: its id, the first id behind its ids, and where its bytes end
-abbrev pub id_from : Option Entry → ℕ
+abbrev pub id_from : Option DirectoryEntry → ℕ
 id_from None = 0
 id_from (Some b) = b.id
 
-abbrev pub ids_from : Option Entry → ℕ
+abbrev pub ids_from : Option DirectoryEntry → ℕ
 ids_from None = 0
 ids_from (Some b) = ids_behind b
 
-abbrev pub end_from : Option Entry → Option ℕ
+abbrev pub end_from : Option DirectoryEntry → Option ℕ
 end_from None = None
 end_from (Some b) = Some (b.offset + b.length)
 
 -- a number of each column is this entry, behind the one before
-pub record IsNext (before : Option Entry) (delta run len offset : ℕ) (e : Entry) : Type 0 where
+pub record IsNext (before : Option DirectoryEntry) (delta run len offset : ℕ) (e : DirectoryEntry) : Type 0 where
   pub id_is : e.id ≡ id_from before + delta
   pub run_is : e.run ≡ run
   pub length_is : e.length ≡ len
@@ -45,7 +45,7 @@ pub record IsNext (before : Option Entry) (delta run len offset : ℕ) (e : Entr
   pub proper : IsEntry e
 
 -- a number of each column is no entry behind the one before
-pub data EntryHas (before : Option Entry) (delta run len offset : ℕ) (d : DirectoryFault) : Type 0 where
+pub data EntryHas (before : Option DirectoryEntry) (delta run len offset : ℕ) (d : DirectoryFault) : Type 0 where
   not_behind : d ≡ faults.Order → id_from before + delta < ids_from before → EntryHas before delta run len offset d
   id_large : d ≡ faults.Range → 2 ^ 64 ≤ id_from before + delta → EntryHas before delta run len offset d
   run_large : d ≡ faults.Range → 2 ^ 32 ≤ run → EntryHas before delta run len offset d
@@ -56,9 +56,9 @@ pub data EntryHas (before : Option Entry) (delta run len offset : ℕ) (d : Dire
   offset_large : d ≡ faults.Range → (end : ℕ) → end_from before ≡ Some end → offset ≡ 0 → 2 ^ 64 ≤ end → EntryHas before delta run len offset d
 
 -- behind entries that the columns say, one has a fault
-abbrev pub EntriesHave : Option Entry → List ℕ → List ℕ → List ℕ → List ℕ → DirectoryFault → Type 0
+abbrev pub EntriesHave : Option DirectoryEntry → List ℕ → List ℕ → List ℕ → List ℕ → DirectoryFault → Type 0
 EntriesHave before (delta ∷ ds) (run ∷ rs) (len ∷ ls) (offset ∷ os) d = EntryHas before delta run len offset d
-    ⊎ ((e : Entry) × IsNext before delta run len offset e × EntriesHave (Some e) ds rs ls os d)
+    ⊎ ((e : DirectoryEntry) × IsNext before delta run len offset e × EntriesHave (Some e) ds rs ls os d)
 EntriesHave before _ _ _ _ d = ⊥
 
 -- a fault of bytes that are to be a directory

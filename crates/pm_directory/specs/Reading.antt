@@ -6,7 +6,7 @@ use Rattle.pb_wire.specs.declared.fault.FaultKind.TheVariants as kinds
 use Rattle.pb_wire.specs.Varint.{varint_at}
 use Rattle.reader.specs.Reading.{Read, ◌>>=◌, repeated}
 use Rattle.hilbert_id.specs.declared.number.TheConstants.{TILE_IDS}
-use Rattle.pm_directory.specs.declared.entry.Entry.{Entry}
+use Rattle.pm_directory.specs.declared.entry.DirectoryEntry.{DirectoryEntry}
 use Rattle.pm_directory.specs.declared.fault.DirectoryFault.{DirectoryFault}
 use Rattle.pm_directory.specs.declared.fault.DirectoryFault.TheVariants.{Cut, Varint, Rest, Order, Length, Offset, Range}
 
@@ -33,7 +33,7 @@ numbers_at count bytes = repeated one_more count ([], bytes)
 
 -- ---- one entry, behind the one before it
 
-abbrev pub id_at : Option Entry → ℕ → Read DirectoryFault ℕ
+abbrev pub id_at : Option DirectoryEntry → ℕ → Read DirectoryFault ℕ
 id_at None delta = Ok delta
 id_at (Some b) delta = if nat_lt delta (max 1 b.run) then Err Order else (if nat_lt (b.id + delta) (2 ^ 64) then Ok (b.id + delta) else Err Range)
 
@@ -44,15 +44,15 @@ abbrev pub length_at : ℕ → Read DirectoryFault ℕ
 length_at len = if len == 0 then Err Length else (if nat_lt len (2 ^ 32) then Ok len else Err Range)
 
 -- where the entry before ends
-abbrev pub end_before : Option Entry → Read DirectoryFault ℕ
+abbrev pub end_before : Option DirectoryEntry → Read DirectoryFault ℕ
 end_before None = Err Offset
 end_before (Some b) = if nat_lt (b.offset + b.length) (2 ^ 64) then Ok (b.offset + b.length) else Err Range
 
 -- the offset that a number says
-abbrev pub offset_of : Option Entry → ℕ → Read DirectoryFault ℕ
+abbrev pub offset_of : Option DirectoryEntry → ℕ → Read DirectoryFault ℕ
 offset_of before n = if nat_lt 0 n then Ok (n - 1) else end_before before
 
-unfoldable pub entry_at : Option Entry → ℕ → ℕ → ℕ → ℕ → Read DirectoryFault Entry
+unfoldable pub entry_at : Option DirectoryEntry → ℕ → ℕ → ℕ → ℕ → Read DirectoryFault DirectoryEntry
 entry_at before delta run len offset =
     id_at before delta >>= λ id. run_at id run >>= λ r. length_at len >>= λ l. offset_of before offset
     >>= λ o. Ok record { id = id; run = r; length = l; offset = o }
@@ -60,7 +60,7 @@ entry_at before delta run len offset =
 -- ---- all entries
 
 -- the entries of the columns behind those that were read
-unfoldable pub entries_at : Option Entry → List Entry → List ℕ → List ℕ → List ℕ → List ℕ → Read DirectoryFault (List Entry)
+unfoldable pub entries_at : Option DirectoryEntry → List DirectoryEntry → List ℕ → List ℕ → List ℕ → List ℕ → Read DirectoryFault (List DirectoryEntry)
 entries_at before done (d ∷ ds) (r ∷ rs) (l ∷ ls) (o ∷ os) = entry_at before d r l o >>= λ e. entries_at (Some e) (done ++ e ∷ []) ds rs ls os
 entries_at before done _ _ _ _ = Ok done
 
@@ -71,8 +71,8 @@ columns_at bytes =
     else (numbers_at (4 * n.0) n.1 >>= λ x. if length x.1 == 0 then Ok (n.0, x.0) else Err Rest)
 
 -- the entries of so many numbers in each column
-abbrev pub entries_of : ℕ → List ℕ → Read DirectoryFault (List Entry)
+abbrev pub entries_of : ℕ → List ℕ → Read DirectoryFault (List DirectoryEntry)
 entries_of n xs = entries_at None [] (take n xs) (take n (drop n xs)) (take n (drop n (drop n xs))) (drop n (drop n (drop n xs)))
 
-unfoldable pub directory_at : List ℕ → Read DirectoryFault (List Entry)
+unfoldable pub directory_at : List ℕ → Read DirectoryFault (List DirectoryEntry)
 directory_at bytes = columns_at bytes >>= λ c. entries_of c.0 c.1

@@ -1,6 +1,6 @@
 /// An entry of a directory (PMTiles 3, 4.1).
 #[derive(Clone, Copy, Debug, PartialEq, Eq)]
-pub struct Entry {
+pub struct DirectoryEntry {
     /// The id of its first tile.
     pub id: u64,
     /// How many tiles, of ascending ids without gaps, have its content. 0 where it names a leaf

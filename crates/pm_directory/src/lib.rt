@@ -8,7 +8,7 @@ mod numbers;
 mod reading;
 mod writing;
 
-pub use entry::Entry;
+pub use entry::DirectoryEntry;
 pub use fault::DirectoryFault;
 pub use lookup::find;
 pub use reading::read_directory;

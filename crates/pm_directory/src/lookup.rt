@@ -3,12 +3,12 @@
 ghost use Rattle.std.specs.Prelude.{◌≡◌, ◌≤◌, ◌↔◌, length, take, IsTrue, IfSome, IfNone};
 ghost use Rattle.pm_directory.specs.Directory.{IsAscending};
 ghost use Rattle.pm_directory.specs.Lookup.{up_to, IsLastUpTo, LeadsTo};
-ghost use Rattle.pm_directory.specs.declared.entry.Entry.{Entry};
+ghost use Rattle.pm_directory.specs.declared.entry.DirectoryEntry.{DirectoryEntry};
 
-use crate::entry::Entry;
+use crate::entry::DirectoryEntry;
 
 // How many entries have an id that is at most this one.
-fn count_up_to(entries: &[Entry], id: u64) -> usize
+fn count_up_to(entries: &[DirectoryEntry], id: u64) -> usize
     requires { IsAscending entries.now }
     ensures within { result ≤ length entries.now }
     ensures front { up_to id entries.now ≡ take result entries.now }
@@ -16,7 +16,7 @@ fn count_up_to(entries: &[Entry], id: u64) -> usize
     entries.partition_point(|entry| entry.id <= id)
 }
 
-fn leads_to(entry: Entry, id: u64) -> bool
+fn leads_to(entry: DirectoryEntry, id: u64) -> bool
     requires { entry.id ≤ id }
     ensures { IsTrue result ↔ LeadsTo id entry }
 {
@@ -25,10 +25,10 @@ fn leads_to(entry: Entry, id: u64) -> bool
 
 /// The entry that leads to a tile (PMTiles 3, 4.1): the last one whose id is at most the tile's, where it names a leaf
 /// directory or its run has the tile. It takes no memory, and time by the logarithm of the number of entries.
-pub fn find(entries: &[Entry], id: u64) -> Option<Entry>
+pub fn find(entries: &[DirectoryEntry], id: u64) -> Option<DirectoryEntry>
     requires { IsAscending entries.now }
     ensures found { IfSome result (λ entry. IsLastUpTo id entries.now entry × LeadsTo id entry) }
-    ensures none { IfNone result ((entry : Entry) → IsLastUpTo id entries.now entry → ¬ LeadsTo id entry) }
+    ensures none { IfNone result ((entry : DirectoryEntry) → IsLastUpTo id entries.now entry → ¬ LeadsTo id entry) }
 {
     let front = &entries[..count_up_to(entries, id)];
     let entry = *front.last()?;

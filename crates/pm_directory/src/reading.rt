@@ -5,16 +5,16 @@ ghost use Rattle.pm_directory.specs.Directory.{IsDirectory};
 ghost use Rattle.pm_directory.specs.Faulty.{DirectoryHas, HasRoom};
 ghost use Rattle.reader.specs.Reading.{Gives};
 ghost use Rattle.pm_directory.specs.Reading.{id_at, run_at, length_at, offset_of, entry_at, entries_at, number_at, columns_at, directory_at};
-ghost use Rattle.pm_directory.specs.declared.entry.Entry.{Entry};
+ghost use Rattle.pm_directory.specs.declared.entry.DirectoryEntry.{DirectoryEntry};
 
-use crate::entry::Entry;
+use crate::entry::DirectoryEntry;
 use crate::fault::DirectoryFault;
 use crate::numbers::{number, numbers};
 use hilbert_id::TILE_IDS;
 use std::alloc::Global;
 
 // The id so far behind that of the entry before.
-fn id_behind(before: Option<Entry>, delta: u64) -> Result<u64, DirectoryFault>
+fn id_behind(before: Option<DirectoryEntry>, delta: u64) -> Result<u64, DirectoryFault>
     ensures { result ≡ id_at before delta }
 {
     match before {
@@ -44,7 +44,7 @@ fn length_of(length: u64) -> Result<u32, DirectoryFault>
 }
 
 // The offset that a number says: 0 where the entry before ends, else the number less 1.
-fn offset_behind(before: Option<Entry>, number: u64) -> Result<u64, DirectoryFault>
+fn offset_behind(before: Option<DirectoryEntry>, number: u64) -> Result<u64, DirectoryFault>
     ensures { result ≡ offset_of before number }
 {
     if number > 0 {
@@ -62,19 +62,19 @@ fn offset_behind(before: Option<Entry>, number: u64) -> Result<u64, DirectoryFau
 // The entry of a number of each column.
 #[tactic(auto, unfolding(crate::specs::Reading::entry_at))]
 fn entry_behind(
-    before: Option<Entry>,
+    before: Option<DirectoryEntry>,
     delta: u64,
     run: u64,
     length: u64,
     offset: u64,
-) -> Result<Entry, DirectoryFault>
+) -> Result<DirectoryEntry, DirectoryFault>
     ensures { result ≡ entry_at before delta run length offset }
 {
     let id = id_behind(before, delta)?;
     let run = run_of(id, run)?;
     let length = length_of(length)?;
     let offset = offset_behind(before, offset)?;
-    Ok(Entry {
+    Ok(DirectoryEntry {
         id,
         run,
         length,
@@ -89,7 +89,7 @@ fn entries_of(
     runs: &[u64],
     lengths: &[u64],
     offsets: &[u64],
-) -> Result<Vec<Entry>, DirectoryFault>
+) -> Result<Vec<DirectoryEntry>, DirectoryFault>
     requires runs { length runs.now ≡ length deltas.now }
     requires lengths { length lengths.now ≡ length deltas.now }
     requires offsets { length offsets.now ≡ length deltas.now }
@@ -146,7 +146,7 @@ fn columns(alloc: Global, bytes: &[u8]) -> Result<(usize, Vec<u64>), DirectoryFa
 }
 
 #[tactic(auto, unfolding(crate::specs::Reading::directory_at))]
-fn entries_in(alloc: Global, bytes: &[u8]) -> Result<Vec<Entry>, DirectoryFault>
+fn entries_in(alloc: Global, bytes: &[u8]) -> Result<Vec<DirectoryEntry>, DirectoryFault>
     ensures exact { Gives DirectoryFault.Memory (λ entries. entries.items) result (directory_at bytes.now) }
     ensures memory { IfErr result (λ fault. fault ≡ DirectoryFault.Memory → HasRoom bytes.now) }
 {
@@ -161,11 +161,11 @@ fn entries_in(alloc: Global, bytes: &[u8]) -> Result<Vec<Entry>, DirectoryFault>
 ///
 /// Whatever count the bytes begin with, memory is taken only for numbers that stand there: a count of more entries than
 /// there are bytes for is `Cut`, and never `Memory`.
-pub fn read_directory(alloc: Global, bytes: &[u8]) -> Result<Vec<Entry>, DirectoryFault>
+pub fn read_directory(alloc: Global, bytes: &[u8]) -> Result<Vec<DirectoryEntry>, DirectoryFault>
     ensures found { IfOk result (λ entries. IsDirectory bytes.now entries.items) }
 
     // A directory is refused where memory runs out, and nowhere else.
-    ensures only { (entries : List Entry) → IsDirectory bytes.now entries
+    ensures only { (entries : List DirectoryEntry) → IsDirectory bytes.now entries
         → MatchResult result (λ read. read.items ≡ entries) (λ fault. fault ≡ DirectoryFault.Memory) }
 
     // Another fault is one that the bytes have, and of several the first that is met.

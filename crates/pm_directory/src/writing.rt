@@ -5,11 +5,11 @@ ghost use Rattle.std.specs.List.{AllByRecursion};
 ghost use Rattle.pm_directory.specs.Directory.{IsAscending, IsEntry, HasEnd, IsDirectory, id_deltas, runs_of, lengths_of, offset_number, offset_numbers};
 ghost use Rattle.pm_directory.specs.Directory.{varints, directory_bytes};
 
-use crate::entry::Entry;
+use crate::entry::DirectoryEntry;
 use pb_wire::put_varint;
 use std::alloc::{AllocError, Global};
 
-fn put_deltas(out: &mut Vec<u8>, entries: &[Entry]) -> Result<(), AllocError>
+fn put_deltas(out: &mut Vec<u8>, entries: &[DirectoryEntry]) -> Result<(), AllocError>
     requires { IsAscending entries.now }
     ensures { OnOk result (out.new.items ≡ out.old.items ++ varints (id_deltas 0 entries.now)) }
 {
@@ -21,7 +21,7 @@ fn put_deltas(out: &mut Vec<u8>, entries: &[Entry]) -> Result<(), AllocError>
     Ok(())
 }
 
-fn put_runs(out: &mut Vec<u8>, entries: &[Entry]) -> Result<(), AllocError>
+fn put_runs(out: &mut Vec<u8>, entries: &[DirectoryEntry]) -> Result<(), AllocError>
     ensures { OnOk result (out.new.items ≡ out.old.items ++ varints (runs_of entries.now)) }
 {
     for entry in entries {
@@ -30,7 +30,7 @@ fn put_runs(out: &mut Vec<u8>, entries: &[Entry]) -> Result<(), AllocError>
     Ok(())
 }
 
-fn put_lengths(out: &mut Vec<u8>, entries: &[Entry]) -> Result<(), AllocError>
+fn put_lengths(out: &mut Vec<u8>, entries: &[DirectoryEntry]) -> Result<(), AllocError>
     ensures { OnOk result (out.new.items ≡ out.old.items ++ varints (lengths_of entries.now)) }
 {
     for entry in entries {
@@ -50,7 +50,7 @@ fn number_of_offset(end: Option<u64>, offset: u64) -> u64
     }
 }
 
-fn put_offsets(out: &mut Vec<u8>, entries: &[Entry]) -> Result<(), AllocError>
+fn put_offsets(out: &mut Vec<u8>, entries: &[DirectoryEntry]) -> Result<(), AllocError>
     requires { AllByRecursion HasEnd entries.now }
     ensures { OnOk result (out.new.items ≡ out.old.items ++ varints (offset_numbers None entries.now)) }
 {
@@ -64,7 +64,7 @@ fn put_offsets(out: &mut Vec<u8>, entries: &[Entry]) -> Result<(), AllocError>
 
 /// The directory of these entries (PMTiles 3, 4.2), each number spelled as short as can be, and an offset as 0
 /// wherever its content follows that of the entry before.
-pub fn write_directory(alloc: Global, entries: &[Entry]) -> Result<Vec<u8>, AllocError>
+pub fn write_directory(alloc: Global, entries: &[DirectoryEntry]) -> Result<Vec<u8>, AllocError>
     requires ascending { IsAscending entries.now }
     requires each { AllByRecursion IsEntry entries.now }
     requires ends { AllByRecursion HasEnd entries.now }

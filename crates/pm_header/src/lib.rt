@@ -3,10 +3,10 @@
 
 mod fault;
 mod header;
-mod part;
 mod reading;
+mod section;
 mod writing;
 
 pub use fault::HeaderFault;
 pub use header::{HEADER_BYTES, Header, NOT_COMPRESSED, VECTOR_TILES};
-pub use part::Part;
+pub use section::Section;

@@ -9,7 +9,7 @@ pub(crate) struct Line<'a> {
 }
 
 /// The most repetitions that a line may ask for.
-const MOST_TIMES: usize = 1_000_000;
+const MAX_TIMES: usize = 1_000_000;
 
 /// The text up to the first blank, and what stands behind it.
 pub(crate) fn parted(text: &str) -> (&str, &str) {
@@ -47,7 +47,7 @@ fn push_repeated(out: &mut String, part: &str) -> Result<(), AllocError> {
     let Some((piece, behind)) = others.split_once('>') else {
         return out.push_str(part);
     };
-    for _ in 0..place(number_in(count)).min(MOST_TIMES) {
+    for _ in 0..place(number_in(count)).min(MAX_TIMES) {
         out.push_str(piece)?;
     }
     out.push_str(behind)

@@ -1,6 +1,6 @@
 //! What a line of a script asks for.
 use crate::streams::{Narrowness, WIDE};
-use http_serve::MOST_READS;
+use http_serve::MAX_READS;
 use sector_disk::FailingCalls;
 
 /// Which calls of a disk fail, counted from its opening.
@@ -107,7 +107,7 @@ fn number_in(text: &str) -> Option<u64> {
 /// How many reads a text says that a connection makes.
 fn turns_in(text: &str) -> Option<u64> {
     if text.is_empty() {
-        return Some(MOST_READS);
+        return Some(MAX_READS);
     }
     number_in(text)
 }

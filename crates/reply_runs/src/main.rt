@@ -29,7 +29,7 @@ mod streams;
 mod talks;
 mod texts;
 
-use http_serve::MOST_READS;
+use http_serve::MAX_READS;
 use lines::{Line, line_in};
 use sector_disk::MemoryDisk;
 use stands::{Stand, begin, begin_first, open_again, overwrite, upgrade, zeros};
@@ -97,7 +97,7 @@ fn answer(
 fn answer_lines(rt: &HostRuntime, stand: &mut Stand) -> io::Result<()> {
     let mut bounds = Bounds {
         narrowness: WIDE,
-        turns: MOST_READS,
+        turns: MAX_READS,
     };
     for line in rt.lines(rt.alloc()) {
         let text = answer(rt.alloc(), stand, &mut bounds, line?.as_str())?;

@@ -2,7 +2,7 @@
 use std::alloc::{AllocError, Global};
 
 /// A reply with more bytes than these is told by its front, its length and a hash.
-const MOST_TOLD: usize = 2_000;
+const MAX_TOLD: usize = 2_000;
 
 /// So many bytes of a longer reply are told.
 const FRONT: usize = 300;
@@ -118,8 +118,8 @@ fn hash(bytes: &[u8]) -> u64 {
 /// The text of bytes. Of many bytes it has the first ones, and then how many there are and their hash.
 pub(crate) fn text_of(alloc: Global, bytes: &[u8]) -> Result<String, AllocError> {
     let mut text = String::new(alloc);
-    let many = bytes.len() > MOST_TOLD;
-    let told = if many { FRONT } else { MOST_TOLD };
+    let many = bytes.len() > MAX_TOLD;
+    let told = if many { FRONT } else { MAX_TOLD };
     for byte in bytes.iter().take(told) {
         push_byte(&mut text, *byte)?;
     }

@@ -2,15 +2,15 @@
 use Rattle.std.specs.Prelude.{ℕ, List}
 use Rattle.sector_disk.specs.Calls.{Call, replayed, IsUsable, IsHonest}
 use Rattle.sector_disk.specs.Disk.{History}
-use Rattle.sector_disk.specs.Kept.{history_of}
+use Rattle.sector_disk.specs.DiskMemory.{history_of}
 use Rattle.sector_disk.specs.Notes.{recorded_calls}
 use Rattle.sector_disk.specs.Runs.{wrote_first}
 use Rattle.sector_disk.specs.declared.file.FileDisk.{FileDisk}
-use Rattle.sector_disk.specs.declared.kept.Kept.{Kept}
+use Rattle.sector_disk.specs.declared.disk_memory.DiskMemory.{DiskMemory}
 use Rattle.sector_disk.specs.declared.memory.MemoryDisk.{MemoryDisk}
 
 -- the history that goes with what is kept
-abbrev pub kept_history : Kept → History
+abbrev pub kept_history : DiskMemory → History
 kept_history kept = history_of kept.past
 
 -- the history, the sectors and the faults of a disk in memory

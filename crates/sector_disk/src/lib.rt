@@ -4,10 +4,10 @@
 mod ahead;
 mod behind;
 mod disk;
+mod disk_memory;
 mod faults;
 mod faulty;
 mod file;
-mod kept;
 mod memory;
 mod record;
 mod recorded;

@@ -5,8 +5,8 @@ ghost use Rattle.sector_disk.specs.Disk.{all_zeros, seen, Writes, Syncs, CountsF
 ghost use Rattle.sector_disk.specs.Disk.History.{begun};
 ghost use Rattle.sector_disk.specs.Views.{memory_history, memory_sectors, memory_faults};
 
+use crate::disk_memory::DiskMemory;
 use crate::faults::Faults;
-use crate::kept::Kept;
 use crate::{DiskFault, SECTOR_BYTES, Sectors};
 use std::alloc::{AllocError, Global};
 use std::collections::HashMap;
@@ -19,7 +19,7 @@ pub struct MemoryDisk {
     alloc: Global,
     count: u64,
     faults: Faults,
-    kept: Kept,
+    kept: DiskMemory,
 }
 
 impl MemoryDisk {
@@ -35,7 +35,7 @@ impl MemoryDisk {
             alloc,
             count,
             faults: Faults::none(),
-            kept: Kept::new(alloc, HashMap::new(alloc)),
+            kept: DiskMemory::new(alloc, HashMap::new(alloc)),
         })
     }
 
@@ -54,7 +54,7 @@ impl MemoryDisk {
             alloc: self.alloc,
             count: self.count,
             faults: Faults::none(),
-            kept: Kept::new(self.alloc, contents),
+            kept: DiskMemory::new(self.alloc, contents),
         })
     }
 }

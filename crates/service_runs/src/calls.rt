@@ -11,7 +11,7 @@ use std::fmt::Debug;
 use tile_service::{Event, ServiceFault};
 
 /// The most bytes of an archive that are read.
-const MOST_READ: u64 = 1_048_576;
+const MAX_READ: u64 = 1_048_576;
 
 /// The text of an outcome.
 fn outcome_text(alloc: Global, outcome: impl Debug + Drop) -> Result<Option<String>, AllocError> {
@@ -61,7 +61,7 @@ fn bytes_of(
     at: u64,
     count: u64,
 ) -> Result<Option<Result<Vec<u8>, ServiceFault>>, AllocError> {
-    let mut bytes = vec![in alloc; 0; count.min(MOST_READ) as usize]?;
+    let mut bytes = vec![in alloc; 0; count.min(MAX_READ) as usize]?;
     match read(service, at, &mut bytes) {
         Some(Ok(())) => Ok(Some(Ok(bytes))),
         Some(Err(fault)) => Ok(Some(Err(fault))),
@@ -118,7 +118,7 @@ fn export_into(
     service: &mut Served,
     room: u64,
 ) -> Result<Option<String>, AllocError> {
-    let mut bytes = vec![in alloc; 0; room.min(MOST_READ) as usize]?;
+    let mut bytes = vec![in alloc; 0; room.min(MAX_READ) as usize]?;
     let outcome = copy_archive(service, &mut bytes.as_mut_slice());
     let copied = spelled_briefly(alloc, &bytes)?;
     Ok(Some(format!(in alloc; "{outcome:?} {copied}")?))

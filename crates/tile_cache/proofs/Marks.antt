@@ -2,7 +2,7 @@
 use Rattle.std.proofs.Common.{◌≡◌, ℕ, zero, suc, replicate, slice_index, ◌+◌, ◌-◌, ◌*◌, ◌^◌, ◌≤◌, ◌⊎◌, List, [], ◌∷◌}
 use Rattle.std.proofs.Common.{map, max, refl, sym, subst, inl, inr, arith}
 use Rattle.std.specs.Prelude.{All, Bool, true, false, nat_le, if◌then◌else◌}
-use Rattle.feature_model.specs.declared.limits.TheConstants.{GREATEST_ZOOM}
+use Rattle.feature_model.specs.declared.limits.TheConstants.{MAX_ZOOM}
 use Rattle.std.proofs.Math.ListN.{get_or}
 use Rattle.std.proofs.Math.Nat.{one-le-pow, mul-le-mul_right}
 use Rattle.std.proofs.lemmas.List.Elements.{All-nil, All-cons, All-head, All-tail, All-weaker, Contains-append_right}
@@ -66,7 +66,7 @@ whole_world zoom column row = record { left = omega arith; right = omega arith; 
 
 -- so has the box that it shows
 shown_whole : (zoom column row : ℕ) → HasWhole (shown_box zoom column row) (tile_box zoom column row)
-shown_whole zoom column row = go (nat_le zoom GREATEST_ZOOM)
+shown_whole zoom column row = go (nat_le zoom MAX_ZOOM)
   where
     go : (b : Bool) → HasWhole (if b then tile_box zoom column row else world) (tile_box zoom column row)
     go true = record { left = omega arith; right = omega arith; top = omega arith; bottom = omega arith }

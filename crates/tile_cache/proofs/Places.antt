@@ -10,10 +10,10 @@ use Rattle.std.specs.Prelude.{option_map, slice_get, sum_by}
 use Rattle.std.proofs.lemmas.Bool.{eqb-true, eq-eqb, le-leb, lt-leb}
 use Rattle.lru.specs.LruCache.{LruCache, lru_cache, last_entry, promoted, put_entries, displaced}
 use Rattle.lru.proofs.CallerLemmas.{Contains-lookup_entry}
-use Rattle.tile_cache.specs.declared.kept_tiles.Place.{Place}
-use Rattle.tile_cache.specs.declared.kept_tiles.KeptTile.{KeptTile}
+use Rattle.tile_cache.specs.declared.cached_tiles.TileKey.{TileKey}
+use Rattle.tile_cache.specs.declared.cached_tiles.CachedTile.{CachedTile}
 use Rattle.tile_cache.specs.Entries.{bytes_of, IsFirstSmall, IsFront}
-use Rattle.tile_cache.specs.declared.kept_tiles.TheConstants.{MOST_BYTES_KEPT}
+use Rattle.tile_cache.specs.declared.cached_tiles.TheConstants.{MAX_CACHED_BYTES}
 use Rattle.tile_cache.specs.Kept.{TileView, CacheView, tile_view, is_place, kept_at, counts, fresh, bytes_in, IsSmall, KeepsSame, KeepsOthers, KeepsFewer}
 
 module _ {K V : Type 0} (test other : K → Bool) where
@@ -133,16 +133,16 @@ both : (a b : Bool) → (a && b) ≡ true → (a ≡ true) × (b ≡ true)
 both true b h = (refl, h)
 both false b h = cc
 
-place_here : (p : Place) → is_place p p ≡ true
+place_here : (p : TileKey) → is_place p p ≡ true
 place_here p = rw (eq-eqb p.z p.z refl, eq-eqb p.x p.x refl, eq-eqb p.y p.y refl) refl
 
-pub place_is : (p q : Place) → is_place p q ≡ true → p ≡ q
+pub place_is : (p q : TileKey) → is_place p q ≡ true → p ≡ q
 place_is p q same =
     let z = both _ _ same in let rest = both _ _ z.1 in
     λ i. record { z = eqb-true p.z q.z z.0 i; x = eqb-true p.x q.x rest.0 i; y = eqb-true p.y q.y rest.1 i }
 
 -- what passes the test of one place doesn't pass that of another
-apart : (p q : Place) → is_place p q ≡ false → (k : Place) → is_place p k ≡ true → is_place q k ≡ false
+apart : (p q : TileKey) → is_place p q ≡ false → (k : TileKey) → is_place p k ≡ true → is_place q k ≡ false
 apart p q differs k is = go (is_place q k) refl
   where
     go : (b : Bool) → is_place q k ≡ b → b ≡ false
@@ -152,7 +152,7 @@ apart p q differs k is = go (is_place q k) refl
         let is' : is_place p q ≡ true = subst (λ r. is_place p r ≡ true) k_is is in
         cc
 
-lookup_promoted : (p q : Place) (es : List (Place × KeptTile)) → lookup (is_place q) (promoted (is_place p) es) ≡ lookup (is_place q) es
+lookup_promoted : (p q : TileKey) (es : List (TileKey × CachedTile)) → lookup (is_place q) (promoted (is_place p) es) ≡ lookup (is_place q) es
 lookup_promoted p q es = go (is_place p q) refl
   where
     go : (b : Bool) → is_place p q ≡ b → lookup (is_place q) (promoted (is_place p) es) ≡ lookup (is_place q) es
@@ -163,7 +163,7 @@ lookup_promoted p q es = go (is_place p q) refl
 -- ---- bytes
 
 abbrev pub Entry : Type 0
-Entry = Place × KeptTile
+Entry = TileKey × CachedTile
 
 abbrev size : Entry → ℕ
 size e = length e.1.bytes.items
@@ -193,7 +193,7 @@ take_less (suc m) (suc n) [] le = refl
 take_less (suc m) (suc n) (e ∷ es) le = ap (λ r. e ∷ r) (take_less m n es (omega (arith, le)))
 
 -- where the first is small and all together have too many bytes, another is the last
-front_without_last : (es : List Entry) (more : ℕ) → IsFirstSmall es → MOST_BYTES_KEPT < bytes_of (take (suc more) es)
+front_without_last : (es : List Entry) (more : ℕ) → IsFirstSmall es → MAX_CACHED_BYTES < bytes_of (take (suc more) es)
     → (n : ℕ) × (take (length (take (suc more) es) - 1) (take (suc more) es) ≡ take (suc n) es)
 front_without_last [] more small many = absurd small
 front_without_last (e ∷ es) more small many =
@@ -203,27 +203,27 @@ front_without_last (e ∷ es) more small many =
     let last : length (e ∷ others) - 1 ≡ suc n = omega (arith, some) in
     (n, rw last (ap (λ r. e ∷ r) (take_less n more es (omega (arith, length-take more es)))))
 
-pub front_goes_on : (old now new : LruCache Place KeptTile) → IsFirstSmall old.entries → IsFront old now → MOST_BYTES_KEPT < bytes_of now.entries
+pub front_goes_on : (old now new : LruCache TileKey CachedTile) → IsFirstSmall old.entries → IsFront old now → MAX_CACHED_BYTES < bytes_of now.entries
     → new ≡ lru_cache (take (length now.entries - 1) now.entries) now.cap → IsFront old new
 front_goes_on old now new small front many is =
-    let less = front_without_last old.entries front.more small (subst (λ es. MOST_BYTES_KEPT < bytes_of es) front.entries many) in record {
+    let less = front_without_last old.entries front.more small (subst (λ es. MAX_CACHED_BYTES < bytes_of es) front.entries many) in record {
       more = less.0;
       entries = ap (λ c. c.entries) is ∙ ap (λ es. take (length es - 1) es) front.entries ∙ less.1;
       cap = ap (λ c. c.cap) is ∙ front.cap;
     }
 
-pub front_of_all : (old : LruCache Place KeptTile) → IsFront old old
+pub front_of_all : (old : LruCache TileKey CachedTile) → IsFront old old
 front_of_all old = record { more = length old.entries; entries = sym (take_all (suc (length old.entries)) old.entries (omega arith)); cap = refl }
 
 -- ---- a tile that is put first
 
-module _ (c : LruCache Place KeptTile) (at : Place) (v : KeptTile) where
+module _ (c : LruCache TileKey CachedTile) (at : TileKey) (v : CachedTile) where
   abbrev after : Option Entry → List Entry
   after o = option_map_or (λ e. (e.0, v) ∷ remove_entry (is_place at) c.entries) o ((at, v) ∷ take (c.cap - 1) c.entries)
 
-  bytes_after : (o : Option Entry) → lookup_entry (is_place at) c.entries ≡ o → (w : Option KeptTile) → lookup (is_place at) c.entries ≡ w
+  bytes_after : (o : Option Entry) → lookup_entry (is_place at) c.entries ≡ o → (w : Option CachedTile) → lookup (is_place at) c.entries ≡ w
       → length c.entries ≤ c.cap → bytes_of (after o)
-      + option_map_or size (option_map_or (λ (old : KeptTile). Some (at, old)) w (slice_get c.entries (c.cap - 1))) 0
+      + option_map_or size (option_map_or (λ (old : CachedTile). Some (at, old)) w (slice_get c.entries (c.cap - 1))) 0
       ≡ bytes_of c.entries + length v.bytes.items
   bytes_after None is None was few =
       omega (arith, sum_by-cons size (at, v) (take (c.cap - 1) c.entries), bytes_taken (c.cap - 1) c.entries (omega (arith, few)))
@@ -261,7 +261,7 @@ pub kept_in : (es : List Entry) (z x y : ℕ) → kept_at (seen es) z x y ≡ op
 kept_in es z x y = lookup-map_values tile_view (is_place (record { z = z; x = x; y = y })) es
 
 -- what is found in the list is kept
-pub found_in : (es : List Entry) (p : Place) (o : Option KeptTile) → o ≡ lookup (is_place p) es → kept_at (seen es) p.z p.x p.y ≡ option_map tile_view o
+pub found_in : (es : List Entry) (p : TileKey) (o : Option CachedTile) → o ≡ lookup (is_place p) es → kept_at (seen es) p.z p.x p.y ≡ option_map tile_view o
 found_in es p o is = kept_in es p.z p.x p.y ∙ ap (option_map tile_view) (sym is)
 
 pub count_seen : (es : List Entry) → length (seen es).kept ≡ length es
@@ -270,17 +270,17 @@ count_seen es = length-map es (λ (e : Entry). (e.0, tile_view e.1))
 pub bytes_seen : (es : List Entry) → bytes_in (seen es) ≡ bytes_of es
 bytes_seen [] = refl
 bytes_seen (e ∷ es) =
-    sum_by-cons (λ (f : Place × TileView). length f.1.bytes) (e.0, tile_view e.1) (seen es).kept ∙ ap (λ n. size e + n) (bytes_seen es)
+    sum_by-cons (λ (f : TileKey × TileView). length f.1.bytes) (e.0, tile_view e.1) (seen es).kept ∙ ap (λ n. size e + n) (bytes_seen es)
     ∙ sym (sum_by-cons size e es)
 
-bytes_promoted : (at : Place) (es : List Entry) (o : Option Entry) → lookup_entry (is_place at) es ≡ o
+bytes_promoted : (at : TileKey) (es : List Entry) (o : Option Entry) → lookup_entry (is_place at) es ≡ o
     → bytes_of (option_map_or (λ e. e ∷ remove_entry (is_place at) es) o es) ≡ bytes_of es
 bytes_promoted at es None is = refl
 bytes_promoted at es (Some e) is =
     let rest : List Entry = remove_entry (is_place at) es in
     omega (arith, sum_by-cons size e rest, sum_without (is_place at) size es e is)
 
-pub promoted_same : (at : Place) (es : List Entry) → KeepsSame (seen es) (seen (promoted (is_place at) es))
+pub promoted_same : (at : TileKey) (es : List Entry) → KeepsSame (seen es) (seen (promoted (is_place at) es))
 promoted_same at es = record {
   tiles = λ z x y. kept_in (promoted (is_place at) es) z x y ∙ ap (option_map tile_view) (lookup_promoted at (record { z = z; x = x; y = y }) es)
       ∙ sym (kept_in es z x y);
@@ -289,13 +289,13 @@ promoted_same at es = record {
 }
 
 -- what is at the front of the list to which a tile was put
-pub front_is : (c : LruCache Place KeptTile) (at : Place) (v : KeptTile) (put new : LruCache Place KeptTile)
+pub front_is : (c : LruCache TileKey CachedTile) (at : TileKey) (v : CachedTile) (put new : LruCache TileKey CachedTile)
     → put ≡ lru_cache (put_entries is_place c at v) c.cap → (front : IsFront put new)
     → new.entries ≡ take (suc front.more) (put_entries is_place c at v)
 front_is c at v put new put_is front = front.entries ∙ ap (λ t. take (suc front.more) t.entries) put_is
 
 -- where a tile was put first and those at the front stayed
-module _ (c : LruCache Place KeptTile) (at : Place) (v : KeptTile) (more : ℕ) (es : List Entry) (is : es ≡ take (suc more) (put_entries is_place c at v)) where
+module _ (c : LruCache TileKey CachedTile) (at : TileKey) (v : CachedTile) (more : ℕ) (es : List Entry) (is : es ≡ take (suc more) (put_entries is_place c at v)) where
   pub tile_kept : kept_at (seen es) at.z at.x at.y ≡ Some (tile_view v)
   tile_kept = kept_in es at.z at.x at.y ∙ ap (option_map tile_view) (ap (lookup (is_place at)) is
       ∙ put_here (is_place at) c.entries (c.cap - 1) more at v (lookup_entry (is_place at) c.entries) (place_here at) refl)
@@ -306,7 +306,7 @@ module _ (c : LruCache Place KeptTile) (at : Place) (v : KeptTile) (more : ℕ) 
     | inr none ↦ inr (kept_in es z x y ∙ ap (option_map tile_view) none)
   ]
     where
-      q : Place
+      q : TileKey
       q = record { z = z; x = x; y = y }
 
       found : (lookup (is_place q) es ≡ lookup (is_place q) c.entries) ⊎ (lookup (is_place q) es ≡ None)
@@ -319,23 +319,23 @@ module _ (c : LruCache Place KeptTile) (at : Place) (v : KeptTile) (more : ℕ) 
       rw is (omega (arith, length-take (suc more) (put_entries is_place c at v), put, some))
 
 -- where there is room
-pub others_with_room : (c : LruCache Place KeptTile) (at : Place) (v : KeptTile) → length c.entries < c.cap
+pub others_with_room : (c : LruCache TileKey CachedTile) (at : TileKey) (v : CachedTile) → length c.entries < c.cap
     → KeepsOthers at.z at.x at.y (seen c.entries) (seen (put_entries is_place c at v))
 others_with_room c at v room z x y other =
-    let q : Place = record { z = z; x = x; y = y } in
+    let q : TileKey = record { z = z; x = x; y = y } in
     kept_in (put_entries is_place c at v) z x y ∙ ap (option_map tile_view)
     (put_with_room (is_place at) (is_place q) c.entries (c.cap - 1) at v (lookup_entry (is_place at) c.entries) (apart at q other) (place_here at)
     (omega (arith, room)) refl) ∙ sym (kept_in c.entries z x y)
 
 -- ---- what is fresh
 
-pub stale : (newest : ℕ) (reads : Bool) (k : KeptTile) → k.number < newest → None ≡ fresh newest reads (Some (tile_view k))
+pub stale : (newest : ℕ) (reads : Bool) (k : CachedTile) → k.number < newest → None ≡ fresh newest reads (Some (tile_view k))
 stale newest reads k lt = rw (lt-leb newest k.number lt) refl
 
-pub not_counted : (newest : ℕ) (reads : Bool) (k : KeptTile) → counts reads k.origin ≡ false → newest ≤ k.number
+pub not_counted : (newest : ℕ) (reads : Bool) (k : CachedTile) → counts reads k.origin ≡ false → newest ≤ k.number
     → None ≡ fresh newest reads (Some (tile_view k))
 not_counted newest reads k is le = rw (le-leb newest k.number le, is) refl
 
-pub current : (newest : ℕ) (reads : Bool) (k : KeptTile) → counts reads k.origin ≡ true → newest ≤ k.number
+pub current : (newest : ℕ) (reads : Bool) (k : CachedTile) → counts reads k.origin ≡ true → newest ≤ k.number
     → Some k.bytes.items ≡ fresh newest reads (Some (tile_view k))
 current newest reads k is le = rw (le-leb newest k.number le, is) refl

@@ -1,21 +1,21 @@
 -- The list that keeps tiles: their places and the tiles, that which was asked for last first.
 use Rattle.std.specs.Prelude.{◌≡◌, ℕ, suc, List, [], ◌∷◌, length, take, sum_by}
 use Rattle.lru.specs.LruCache.{LruCache}
-use Rattle.tile_cache.specs.declared.kept_tiles.KeptTile.{KeptTile}
-use Rattle.tile_cache.specs.declared.kept_tiles.Place.{Place}
+use Rattle.tile_cache.specs.declared.cached_tiles.CachedTile.{CachedTile}
+use Rattle.tile_cache.specs.declared.cached_tiles.TileKey.{TileKey}
 use Rattle.tile_cache.specs.Kept.{IsSmall}
 
 -- how many bytes the tiles of these entries have together
-abbrev pub bytes_of : List (Place × KeptTile) → ℕ
+abbrev pub bytes_of : List (TileKey × CachedTile) → ℕ
 bytes_of es = sum_by (λ e. length e.1.bytes.items) es
 
 -- there is a first tile, and it is small
-abbrev pub IsFirstSmall : List (Place × KeptTile) → Type 0
+abbrev pub IsFirstSmall : List (TileKey × CachedTile) → Type 0
 IsFirstSmall [] = ⊥
 IsFirstSmall (e ∷ es) = IsSmall e.1.bytes.items
 
 -- the entries at the front stay, at least the first
-pub record IsFront (old new : LruCache Place KeptTile) : Type 0 where
+pub record IsFront (old new : LruCache TileKey CachedTile) : Type 0 where
   pub more : ℕ
   pub entries : new.entries ≡ take (suc more) old.entries
   pub cap : new.cap ≡ old.cap

@@ -1,11 +1,11 @@
 -- What a cache of tiles keeps.
 use Rattle.std.specs.Prelude.{◌≡◌, ℕ, Bool, true, false, cond, ◌&&◌, ◌⊎◌, ◌≤◌, List, length, sum_by, Option, Some, None, nat_le, nat_eq}
 use Rattle.std.specs.Map.{lookup}
-use Rattle.tile_cache.specs.declared.kept_tiles.TheConstants.{MOST_BYTES_OF_ONE}
-use Rattle.tile_cache.specs.declared.kept_tiles.KeptTile.{KeptTile}
-use Rattle.tile_cache.specs.declared.kept_tiles.Origin.{Origin}
-use Rattle.tile_cache.specs.declared.kept_tiles.Origin.TheVariants.{Cut, Read}
-use Rattle.tile_cache.specs.declared.kept_tiles.Place.{Place}
+use Rattle.tile_cache.specs.declared.cached_tiles.TheConstants.{MAX_TILE_BYTES}
+use Rattle.tile_cache.specs.declared.cached_tiles.CachedTile.{CachedTile}
+use Rattle.tile_cache.specs.declared.cached_tiles.Origin.{Origin}
+use Rattle.tile_cache.specs.declared.cached_tiles.Origin.TheVariants.{Cut, Read}
+use Rattle.tile_cache.specs.declared.cached_tiles.TileKey.{TileKey}
 
 -- what is kept of a tile: where its bytes are from, the number of the edit as of which they are right, and the bytes
 pub record TileView : Type 0 where
@@ -13,15 +13,15 @@ pub record TileView : Type 0 where
   pub number : ℕ
   pub bytes : List ℕ
 
-abbrev pub tile_view : KeptTile → TileView
+abbrev pub tile_view : CachedTile → TileView
 tile_view k = record { origin = k.origin; number = k.number; bytes = k.bytes.items }
 
 -- what contracts see of a cache: what it keeps for each place, that which was asked for last first
 pub record CacheView : Type 0 where
-  pub kept : List (Place × TileView)
+  pub kept : List (TileKey × TileView)
 
 -- whether a place is this one
-abbrev pub is_place : Place → Place → Bool
+abbrev pub is_place : TileKey → TileKey → Bool
 is_place p q = nat_eq p.z q.z && (nat_eq p.x q.x && nat_eq p.y q.y)
 
 -- what is kept for a place
@@ -44,7 +44,7 @@ bytes_in c = sum_by (λ e. length e.1.bytes) c.kept
 
 -- so few bytes that they are kept
 abbrev pub IsSmall : List ℕ → Type 0
-IsSmall bytes = length bytes ≤ MOST_BYTES_OF_ONE
+IsSmall bytes = length bytes ≤ MAX_TILE_BYTES
 
 -- the same is kept at each place
 pub record KeepsSame (old new : CacheView) : Type 0 where

@@ -3,7 +3,7 @@ use Rattle.std.specs.Prelude.{◌≡◌, ℕ, ◌^◌, ◌-◌, ◌≤◌, ◌�
 use Rattle.box_index.specs.declared.span.WorldBox.{WorldBox}
 use Rattle.tile_cutter.specs.declared.reach.Corners.{Corners}
 use Rattle.tile_cutter.specs.WorldBox.{tile_box, Meets}
-use Rattle.feature_model.specs.declared.limits.TheConstants.{GREATEST_ZOOM}
+use Rattle.feature_model.specs.declared.limits.TheConstants.{MAX_ZOOM}
 use Rattle.tile_cache.specs.Cells.{cell_at, cells_of, HasCell, IsGreatestIn}
 
 -- an edit that was noted: the box that it touched, and its number
@@ -49,7 +49,7 @@ world = record { least = record { x = 0; y = 0 }; greatest = record { x = 2 ^ 32
 
 -- the box that a tile shows: the world above the greatest zoom, where no tile shows anything
 abbrev pub shown_box : (zoom column row : ℕ) → Corners
-shown_box zoom column row = if nat_le zoom GREATEST_ZOOM then tile_box zoom column row else world
+shown_box zoom column row = if nat_le zoom MAX_ZOOM then tile_box zoom column row else world
 
 -- the newest edit of the cells that a tile's box touches
 abbrev pub IsNewestOf : List ℕ → (zoom column row : ℕ) → ℕ → Type 0

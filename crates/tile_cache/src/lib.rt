@@ -2,10 +2,10 @@
 //! the world, and tiles made or read before with the number of the edit as of which they are right. Nothing here knows a map or a disk.
 #![tactic(auto)]
 
-mod kept_tiles;
+mod cached_tiles;
 mod touch_grid;
 
-pub use kept_tiles::{
-    KeptTile, MOST_BYTES_KEPT, MOST_BYTES_OF_ONE, MOST_TILES_KEPT, Origin, Place, TileCache,
+pub use cached_tiles::{
+    CachedTile, MAX_CACHED_BYTES, MAX_CACHED_TILES, MAX_TILE_BYTES, Origin, TileCache, TileKey,
 };
 pub use touch_grid::TouchGrid;

@@ -3,7 +3,7 @@ ghost use Rattle.tile_cache.specs.Cells.{cell_at, cells_of, IsWithin, HasCell, R
 ghost use Rattle.tile_cache.specs.Touched.{Mark, Remembers, IsNewest, IsNewestOf, shown_box};
 
 use box_index::WorldBox;
-use feature_model::{GREATEST_ZOOM, World};
+use feature_model::{MAX_ZOOM, World};
 use hilbert_id::TileAt;
 use std::marker::Model;
 use tile_cutter::{Corners, tile_box};
@@ -122,7 +122,7 @@ fn greatest_of(cells: &[u64], range: Cells) -> u64
 fn shown_by(at: TileAt) -> Corners
     ensures { result ≡ shown_box at.z at.x at.y }
 {
-    if at.z > GREATEST_ZOOM {
+    if at.z > MAX_ZOOM {
         return Corners {
             least: World { x: 0, y: 0 },
             greatest: World {

@@ -8,7 +8,7 @@ use Rattle.feature_model.specs.declared.feature.World.{World}
 use Rattle.geometry_commands.specs.declared.point.Pt.{Pt}
 use Rattle.tile_cutter.specs.Cut.{Segment, segments, is_kept, way_along, is_some_segment, tile_points, line_cut, points_cut, in_box}
 use Rattle.feature_model.specs.Types.{IsOfWorld}
-use Rattle.feature_model.specs.declared.limits.TheConstants.{GREATEST_ZOOM}
+use Rattle.feature_model.specs.declared.limits.TheConstants.{MAX_ZOOM}
 use Rattle.tile_cutter.specs.Range.{IsOfTile, IsDrawable}
 use Rattle.tile_cutter.proofs.Kept.{points_all, points_keep, length_points, stands_in_tile}
 use Rattle.tile_cutter.proofs.Chains.{is_left_out}
@@ -85,7 +85,7 @@ line_drawable zoom column row ps few stand =
     All-map (IsDrawable false column row) way_along (filter is_some_segment parts)
     (λ k d lt. way_drawable column row n _ small (parts_all k d lt) (passes k d lt))
 
-pub points_of_tile : (zoom column row : ℕ) (ps : List World) → zoom ≤ GREATEST_ZOOM → All IsOfWorld ps
+pub points_of_tile : (zoom column row : ℕ) (ps : List World) → zoom ≤ MAX_ZOOM → All IsOfWorld ps
     → All (IsOfTile column row) (points_cut zoom column row ps)
 unfolding points_cut
 points_of_tile zoom column row ps allowed inside =

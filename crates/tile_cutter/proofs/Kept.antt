@@ -12,7 +12,7 @@ use Rattle.geometry_commands.specs.declared.point.Pt.{Pt}
 use Rattle.tile_cutter.specs.Cut.{quantised_points, is_closed, tile_points, tile_ring}
 use Rattle.tile_cutter.specs.Passes.{repeats}
 use Rattle.feature_model.specs.Types.{IsOfWorld}
-use Rattle.feature_model.specs.declared.limits.TheConstants.{GREATEST_ZOOM}
+use Rattle.feature_model.specs.declared.limits.TheConstants.{MAX_ZOOM}
 use Rattle.tile_cutter.specs.declared.coordinates.TheConstants.{EXTENT, WORLD_ZOOM}
 use Rattle.tile_cutter.specs.Range.{IsSmall, IsOfSide, IsOfTile}
 use Rattle.tile_cutter.proofs.Passes.{left_after, stands_at, tile_points_are}
@@ -89,18 +89,18 @@ length_ring zoom column row ps =
 -- ---- where a point of the world stands
 
 -- a coordinate of the world, quantised
-pub quantised_below : (zoom w : ℕ) → zoom ≤ GREATEST_ZOOM → w < 2 ^ 32 → w / 2 ^ (WORLD_ZOOM - zoom) < 2 ^ 31
+pub quantised_below : (zoom w : ℕ) → zoom ≤ MAX_ZOOM → w < 2 ^ 32 → w / 2 ^ (WORLD_ZOOM - zoom) < 2 ^ 31
 quantised_below zoom w allowed fits =
     let two : 2 ^ 1 ≤ 2 ^ (WORLD_ZOOM - zoom) = pow_mono {i = 1} {j = WORLD_ZOOM - zoom} (omega (arith, zoom_low zoom allowed)) in
     let less = mul-le-mul_left (w / 2 ^ (WORLD_ZOOM - zoom)) two in
     omega (arith, less, div-mul-le_self w (2 ^ (WORLD_ZOOM - zoom)))
 
-side_position : (zoom at w : ℕ) → zoom ≤ GREATEST_ZOOM → w < 2 ^ 32 → IsOfSide at (pos (w / 2 ^ (WORLD_ZOOM - zoom)) -ℤ pos (EXTENT * at))
+side_position : (zoom at w : ℕ) → zoom ≤ MAX_ZOOM → w < 2 ^ 32 → IsOfSide at (pos (w / 2 ^ (WORLD_ZOOM - zoom)) -ℤ pos (EXTENT * at))
 side_position zoom at w allowed fits =
     let below = quantised_below zoom w allowed fits in
     record { low = omega (arith, ints); high = omega (arith, ints) }
 
-pub stands_in_tile : (zoom column row : ℕ) → zoom ≤ GREATEST_ZOOM → (p : World) → IsOfWorld p → IsOfTile column row (stands_at zoom column row p)
+pub stands_in_tile : (zoom column row : ℕ) → zoom ≤ MAX_ZOOM → (p : World) → IsOfWorld p → IsOfTile column row (stands_at zoom column row p)
 stands_in_tile zoom column row allowed p inside =
     record { across = side_position zoom column p.x allowed inside.0; down = side_position zoom row p.y allowed inside.1 }
 

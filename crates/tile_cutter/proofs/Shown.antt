@@ -11,7 +11,7 @@ use Rattle.feature_model.specs.declared.feature.World.{World}
 use Rattle.feature_model.specs.Data.{FeatureData, GeometryData, world_points, world_lines, world_polygons, TagData}
 use Rattle.feature_model.specs.Limits.{CountFits, RingsFit, GeometryFits}
 use Rattle.feature_model.specs.Types.{IsOfWorld, LiesInWorld}
-use Rattle.feature_model.specs.declared.limits.TheConstants.{GREATEST_ZOOM}
+use Rattle.feature_model.specs.declared.limits.TheConstants.{MAX_ZOOM}
 use Rattle.geometry_commands.specs.declared.point.Pt.{Pt}
 use Rattle.geometry_commands.specs.Encodable.{CanSpell, FitsShape}
 use Rattle.geometry_commands.specs.Shapes.{ShapeView, points, lines, rings}
@@ -50,7 +50,7 @@ module _ (column row : ℕ) (across : column < 2 ^ 19) (down : row < 2 ^ 19) whe
 
 -- ---- each list of points that is shown
 
-module _ (zoom column row : ℕ) (allowed : zoom ≤ GREATEST_ZOOM) where
+module _ (zoom column row : ℕ) (allowed : zoom ≤ MAX_ZOOM) where
   lines_drawable : (ls : List (List World)) → All (CountFits 2) ls → All (All IsOfWorld) ls → All (IsDrawable false column row) (lines_cut zoom column row ls)
   unfolding lines_cut
   lines_drawable ls limits inside =
@@ -119,7 +119,7 @@ pub unless_some : {X : Type 0} (shape : List X → ShapeView) (xs : List X) (s :
 unless_some shape [] s h = cc
 unless_some shape (x ∷ xs) s h = (cc, omega arith)
 
-module _ (zoom column row : ℕ) (allowed : zoom ≤ GREATEST_ZOOM) (across : column < 2 ^ zoom) (down : row < 2 ^ zoom) where
+module _ (zoom column row : ℕ) (allowed : zoom ≤ MAX_ZOOM) (across : column < 2 ^ zoom) (down : row < 2 ^ zoom) where
   points_shown : (ps : List World) → CountFits 1 ps → All IsOfWorld ps → 0 < length (points_cut zoom column row ps)
       → IsShown (points (points_cut zoom column row ps))
   points_shown ps limits inside some =
@@ -165,7 +165,7 @@ pub shape_left : (f : FeatureData) (zoom column row : ℕ) (v : FeatureView) →
 unfolding feature_cut
 shape_left f zoom column row v h = shape_of f.tags (cut.has_zoom f zoom) (geometry_cut zoom column row f.geometry) v h
 
-pub feature_shown : (f : FeatureData) (zoom column row : ℕ) (v : FeatureView) → zoom ≤ GREATEST_ZOOM → column < 2 ^ zoom → row < 2 ^ zoom
+pub feature_shown : (f : FeatureData) (zoom column row : ℕ) (v : FeatureView) → zoom ≤ MAX_ZOOM → column < 2 ^ zoom → row < 2 ^ zoom
     → GeometryFits f.geometry → LiesInWorld f.geometry → feature_cut f zoom column row ≡ Some v → CanSpell v.shape × FitsShape v.shape
 feature_shown f zoom column row v allowed across down limits inside h =
     shape_shown zoom column row allowed across down f.geometry v.shape limits inside (shape_left f zoom column row v h)

@@ -11,7 +11,7 @@ use Rattle.geometry_commands.specs.Commands.{IsShort, IsNear, AreNear, origin}
 use Rattle.geometry_commands.specs.Shapes.{ShapeView, last_of}
 use Rattle.geometry_commands.specs.Encodable.{CanSpellLines, CanSpellPoints}
 use Rattle.feature_model.specs.declared.feature.World.{World}
-use Rattle.feature_model.specs.declared.limits.TheConstants.{GREATEST_ZOOM}
+use Rattle.feature_model.specs.declared.limits.TheConstants.{MAX_ZOOM}
 use Rattle.tile_cutter.specs.Cut.{tile_points, in_box, points_cut, unless_empty}
 use Rattle.tile_cutter.proofs.Kept.{length_points}
 use Rattle.tile_cutter.proofs.Zooms.{side_low}
@@ -45,7 +45,7 @@ lines_spell closed column row from (l ∷ ls) from_is all =
     )
 
 -- the origin stands in the world of each tile
-origin_of_tile : (zoom column row : ℕ) → zoom ≤ GREATEST_ZOOM → column < 2 ^ zoom → row < 2 ^ zoom → IsOfTile column row origin
+origin_of_tile : (zoom column row : ℕ) → zoom ≤ MAX_ZOOM → column < 2 ^ zoom → row < 2 ^ zoom → IsOfTile column row origin
 origin_of_tile zoom column row allowed across down =
     let columns = side_low zoom column allowed across in
     let rows = side_low zoom row allowed down in
@@ -54,12 +54,12 @@ origin_of_tile zoom column row allowed across down =
       down = record { low = omega (arith, ints); high = omega (arith, ints) };
     }
 
-pub spelled_lines : (closed : Bool) (zoom column row : ℕ) (ls : List (List Pt)) → zoom ≤ GREATEST_ZOOM → column < 2 ^ zoom → row < 2 ^ zoom
+pub spelled_lines : (closed : Bool) (zoom column row : ℕ) (ls : List (List Pt)) → zoom ≤ MAX_ZOOM → column < 2 ^ zoom → row < 2 ^ zoom
     → All (IsDrawable closed column row) ls → CanSpellLines closed origin ls
 spelled_lines closed zoom column row ls allowed across down all =
     lines_spell closed column row origin ls (origin_of_tile zoom column row allowed across down) all
 
-pub spelled_points : (zoom column row : ℕ) (ps : List Pt) → zoom ≤ GREATEST_ZOOM → column < 2 ^ zoom → row < 2 ^ zoom → 0 < length ps → length ps < 2 ^ 29
+pub spelled_points : (zoom column row : ℕ) (ps : List Pt) → zoom ≤ MAX_ZOOM → column < 2 ^ zoom → row < 2 ^ zoom → 0 < length ps → length ps < 2 ^ 29
     → All (IsOfTile column row) ps → CanSpellPoints ps
 spelled_points zoom column row ps allowed across down some few all = record {
   some = some;

@@ -5,7 +5,7 @@ ghost use Rattle.tile_cutter.specs.Cut.{in_box, least_corner, greatest_corner, r
 
 use crate::coordinates::{EXTENT, MARGIN};
 use crate::reach::{TileRange, range_of, widened_by_list};
-use feature_model::{GREATEST_ZOOM, World};
+use feature_model::{MAX_ZOOM, World};
 use geometry_commands::Pt;
 use hilbert_id::TileAt;
 
@@ -65,7 +65,7 @@ fn has_tile(range: TileRange, at: TileAt) -> bool
 
 /// Whether the bounding box of points of the world meets the box of a tile.
 pub(crate) fn points_meet_box(points: &[World], at: TileAt) -> bool
-    requires { at.z ≤ GREATEST_ZOOM }
+    requires { at.z ≤ MAX_ZOOM }
     // The tile shows nothing of a line whose box doesn't.
     ensures line { result ≡ false → line_cut at.z at.x at.y points.now ≡ [] }
     // A ring that has points in the tile meets the box as its points of the world do.

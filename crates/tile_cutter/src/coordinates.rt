@@ -3,7 +3,7 @@ ghost use Rattle.tile_cutter.specs.Cut.{quantised_axis, quantised, position_in};
 ghost use Rattle.tile_cutter.specs.Passes.{repeats};
 ghost use Rattle.tile_cutter.specs.Range.{IsOfTile};
 
-use feature_model::{GREATEST_ZOOM, World};
+use feature_model::{MAX_ZOOM, World};
 use geometry_commands::Pt;
 use hilbert_id::TileAt;
 use mvt_layer::DEFAULT_EXTENT;
@@ -22,7 +22,7 @@ pub(crate) const FEW_POINTS: usize = 16;
 
 /// A coordinate of the world as a zoom sees it, rounded down.
 pub(crate) fn quantise(coordinate: u32, zoom: u8) -> u32
-    requires { zoom ≤ GREATEST_ZOOM }
+    requires { zoom ≤ MAX_ZOOM }
     ensures quantised { result ≡ quantised_axis zoom coordinate }
     ensures bound { result < 2 ^ 31 }
 {
@@ -31,7 +31,7 @@ pub(crate) fn quantise(coordinate: u32, zoom: u8) -> u32
 
 /// Where a point of the world stands in a tile, as the tile's zoom sees it.
 pub(crate) fn position(point: World, at: TileAt) -> Pt
-    requires { at.z ≤ GREATEST_ZOOM }
+    requires { at.z ≤ MAX_ZOOM }
     ensures position { result ≡ position_in at.x at.y (quantised at.z point) }
     ensures of_tile { IsOfTile at.x at.y result }
 {

@@ -9,7 +9,7 @@ ghost use Rattle.tile_cutter.specs.Cut.{shown_value, shown_tag, geometry_cut, ha
 use crate::lines::lines_shape;
 use crate::points::points_shape;
 use crate::rings::rings_shape;
-use feature_model::{EditValue, Feature, GREATEST_ZOOM, Geometry, Tag};
+use feature_model::{EditValue, Feature, Geometry, MAX_ZOOM, Tag};
 use geometry_commands::Shape;
 use hilbert_id::TileAt;
 use mvt_layer::{TagValue, TileFeature};
@@ -51,7 +51,7 @@ fn has_zoom(feature: &Feature, zoom: u8) -> bool
 /// What of a geometry a tile shows.
 #[tactic(auto, unfolding(crate::specs::Cut::geometry_cut))]
 fn cut_geometry(alloc: Global, geometry: &Geometry, at: TileAt) -> Result<Option<Shape>, AllocError>
-    requires zoom { at.z ≤ GREATEST_ZOOM }
+    requires zoom { at.z ≤ MAX_ZOOM }
     requires limits { GeometryFits (geometry_data geometry.now) }
     ensures shape { IfOk result (λ o. option_map shape_view o ≡ geometry_cut at.z at.x at.y (geometry_data geometry.now)) }
     ensures writable { IfOk result (λ o. IfSome o (λ s. CanSpell (shape_view s))) }
@@ -75,7 +75,7 @@ pub fn cut<'a>(
     feature: &'a Feature,
     at: TileAt,
 ) -> Result<Option<TileFeature<'a>>, AllocError>
-    requires zoom { at.z ≤ GREATEST_ZOOM }
+    requires zoom { at.z ≤ MAX_ZOOM }
     requires limits { GeometryFits (geometry_data feature.now.geometry) }
     ensures cut { IfOk result (λ o. option_map feature_view o ≡ feature_cut (feature_data feature.now) at.z at.x at.y) }
     // What is shown can be written.

@@ -9,7 +9,7 @@ ghost use Rattle.tile_cutter.specs.Range.{IsDrawable};
 
 use crate::bounds::{points_meet_box, segment_meets_box};
 use crate::coordinates::{FEW_POINTS, position, repeats};
-use feature_model::{GREATEST_ZOOM, World};
+use feature_model::{MAX_ZOOM, World};
 use geometry_commands::{Pt, Shape};
 use hilbert_id::TileAt;
 use std::alloc::{AllocError, Global};
@@ -62,7 +62,7 @@ fn cut_line(
     line: &[World],
     at: TileAt,
 ) -> Result<(), AllocError>
-    requires zoom { at.z ≤ GREATEST_ZOOM }
+    requires zoom { at.z ≤ MAX_ZOOM }
     requires limits { CountFits 2 line.now }
     ensures chains { OnOk result (lists_of chains.new.items ≡ lists_of chains.old.items ++ line_cut at.z at.x at.y line.now) }
     ensures drawable { OnOk result (All (IsDrawable false at.x at.y) (lists_of chains.old.items)
@@ -86,7 +86,7 @@ fn cut_line(
 
 /// What a tile shows of lines.
 fn cut_lines(alloc: Global, lines: &[Vec<World>], at: TileAt) -> Result<Vec<Vec<Pt>>, AllocError>
-    requires zoom { at.z ≤ GREATEST_ZOOM }
+    requires zoom { at.z ≤ MAX_ZOOM }
     requires limits { All (CountFits 2) (lists_of lines.now) }
     ensures chains { IfOk result (λ v. lists_of v.items ≡ lines_cut at.z at.x at.y (lists_of lines.now)) }
     ensures drawable { IfOk result (λ v. All (IsDrawable false at.x at.y) (lists_of v.items)) }
@@ -104,7 +104,7 @@ pub(crate) fn lines_shape(
     lines: &[Vec<World>],
     at: TileAt,
 ) -> Result<Option<Shape>, AllocError>
-    requires zoom { at.z ≤ GREATEST_ZOOM }
+    requires zoom { at.z ≤ MAX_ZOOM }
     requires limits { All (CountFits 2) (lists_of lines.now) }
     ensures shape { IfOk result (λ o. option_map shape_view o ≡ unless_empty shapes.lines (lines_cut at.z at.x at.y (lists_of lines.now))) }
     ensures writable { IfOk result (λ o. IfSome o (λ s. CanSpell (shape_view s))) }

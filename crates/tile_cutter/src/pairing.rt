@@ -6,7 +6,7 @@ ghost use Rattle.tile_cutter.specs.Cut.{feature_cut};
 ghost use Rattle.tile_cutter.specs.Pairs.{IsCoveredTile, IsInColumns, IsInRows, AppendsPairs};
 
 use crate::reach::{TileRange, corners_of, cover_count, range_of};
-use feature_model::{Feature, GREATEST_ZOOM};
+use feature_model::{Feature, MAX_ZOOM};
 use hilbert_id::{TileAt, id_of};
 use std::alloc::AllocError;
 
@@ -22,7 +22,7 @@ fn push_pair(at: TileAt, number: u64, list: &mut Vec<(u64, u64)>)
 
 /// Appends the pairs of a row of a range, for which the list has room.
 fn push_row(zoom: u8, row: u32, range: TileRange, number: u64, list: &mut Vec<(u64, u64)>)
-    requires zoom { zoom ≤ GREATEST_ZOOM }
+    requires zoom { zoom ≤ MAX_ZOOM }
     requires row { row < 2 ^ zoom }
     requires last { range.x1 < 2 ^ zoom }
     requires room { vec_len list.old + (range.x1 + 1 - range.x0) ≤ vec_capacity list.old }
@@ -42,7 +42,7 @@ fn push_row(zoom: u8, row: u32, range: TileRange, number: u64, list: &mut Vec<(u
 
 /// Appends the pairs of a range, for which the list has room.
 fn push_range(zoom: u8, range: TileRange, number: u64, list: &mut Vec<(u64, u64)>)
-    requires zoom { zoom ≤ GREATEST_ZOOM }
+    requires zoom { zoom ≤ MAX_ZOOM }
     requires last_column { range.x1 < 2 ^ zoom }
     requires last_row { range.y1 < 2 ^ zoom }
     requires room { vec_len list.old + tiles_of range ≤ vec_capacity list.old }
@@ -58,7 +58,7 @@ fn push_range(zoom: u8, range: TileRange, number: u64, list: &mut Vec<(u64, u64)
 /// Appends a pair of tile id and number for each tile that the feature covers at its zooms. The list is as it was where
 /// memory is refused, which is the only error.
 pub fn pairs(feature: &Feature, number: u64, list: &mut Vec<(u64, u64)>) -> Result<(), AllocError>
-    requires { feature.now.maxzoom ≤ GREATEST_ZOOM }
+    requires { feature.now.maxzoom ≤ MAX_ZOOM }
     ensures appended { OnOk result (AppendsPairs (IsCoveredTile (feature_data feature.now)) number list.old.items list.new.items) }
     ensures unchanged { OnErr result (list.new.items ≡ list.old.items) }
     // A tile that gets no pair shows nothing of the feature.

@@ -9,7 +9,7 @@ ghost use Rattle.tile_cutter.specs.Range.{IsOfTile};
 
 use crate::bounds::is_in_box;
 use crate::coordinates::{position, repeats};
-use feature_model::{GREATEST_ZOOM, World};
+use feature_model::{MAX_ZOOM, World};
 use geometry_commands::{Pt, Shape};
 use hilbert_id::TileAt;
 use std::alloc::{AllocError, Global};
@@ -23,7 +23,7 @@ fn is_shown(before: Option<Pt>, here: Pt) -> bool
 
 /// The points that a tile shows.
 fn cut_points(alloc: Global, points: &[World], at: TileAt) -> Result<Vec<Pt>, AllocError>
-    requires { at.z ≤ GREATEST_ZOOM }
+    requires { at.z ≤ MAX_ZOOM }
     ensures points { IfOk result (λ v. v.items ≡ points_cut at.z at.x at.y points.now) }
     ensures of_tile { IfOk result (λ v. All (IsOfTile at.x at.y) v.items) }
 {
@@ -45,7 +45,7 @@ pub(crate) fn points_shape(
     points: &[World],
     at: TileAt,
 ) -> Result<Option<Shape>, AllocError>
-    requires zoom { at.z ≤ GREATEST_ZOOM }
+    requires zoom { at.z ≤ MAX_ZOOM }
     requires limits { CountFits 1 points.now }
     ensures shape { IfOk result (λ o. option_map shape_view o ≡ unless_empty shapes.points (points_cut at.z at.x at.y points.now)) }
     ensures writable { IfOk result (λ o. IfSome o (λ s. CanSpell (shape_view s))) }

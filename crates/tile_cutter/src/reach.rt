@@ -6,10 +6,10 @@ ghost use Rattle.tile_cutter.specs.Corners.{widened, corners_after, range_of};
 ghost use Rattle.tile_cutter.specs.Passes.{lists_of};
 
 use crate::coordinates::{EXTENT, MARGIN, quantise};
-use feature_model::{EditFault, Feature, GREATEST_ZOOM, Geometry, World};
+use feature_model::{EditFault, Feature, Geometry, MAX_ZOOM, World};
 
 /// The most tiles that a feature may cover at all its zooms together.
-pub const MOST_TILES: u64 = 262_144;
+pub const MAX_TILES: u64 = 262_144;
 
 /// Tiles of one zoom, ends included.
 #[derive(Clone, Copy, Debug, PartialEq, Eq)]
@@ -101,7 +101,7 @@ pub(crate) fn corners_of(geometry: &Geometry) -> Option<Corners>
 
 /// The first column, or row, of a zoom whose box reaches a coordinate of the world.
 fn first_met(least: u32, zoom: u8) -> u32
-    requires { zoom ≤ GREATEST_ZOOM }
+    requires { zoom ≤ MAX_ZOOM }
     ensures { result ≡ first_met (quantised_axis zoom least) }
 {
     quantise(least, zoom)
@@ -111,7 +111,7 @@ fn first_met(least: u32, zoom: u8) -> u32
 
 /// The last column, or row, of a zoom whose box reaches a coordinate of the world.
 fn last_met(greatest: u32, zoom: u8) -> u32
-    requires { zoom ≤ GREATEST_ZOOM }
+    requires { zoom ≤ MAX_ZOOM }
     ensures { result ≡ last_met zoom (quantised_axis zoom greatest) }
 {
     let last = (1 << zoom) - 1;
@@ -120,7 +120,7 @@ fn last_met(greatest: u32, zoom: u8) -> u32
 
 /// The tiles of a zoom whose boxes a bounding box meets; without points, those of the world's upper left corner.
 pub(crate) fn range_of(corners: Option<Corners>, zoom: u8) -> TileRange
-    requires { zoom ≤ GREATEST_ZOOM }
+    requires { zoom ≤ MAX_ZOOM }
     ensures { result ≡ range_of corners zoom }
 {
     let origin = World { x: 0, y: 0 };
@@ -138,10 +138,10 @@ pub(crate) fn range_of(corners: Option<Corners>, zoom: u8) -> TileRange
 
 /// How many tiles a range has.
 fn tiles_of(range: TileRange) -> u64
-    requires columns { range.x1 < 2 ^ GREATEST_ZOOM }
-    requires rows { range.y1 < 2 ^ GREATEST_ZOOM }
+    requires columns { range.x1 < 2 ^ MAX_ZOOM }
+    requires rows { range.y1 < 2 ^ MAX_ZOOM }
     ensures tiles { result ≡ tiles_of range }
-    ensures bound { result ≤ 4 ^ GREATEST_ZOOM }
+    ensures bound { result ≤ 4 ^ MAX_ZOOM }
 {
     let columns = (u64::from(range.x1) + 1).saturating_sub(u64::from(range.x0));
     let rows = (u64::from(range.y1) + 1).saturating_sub(u64::from(range.y0));
@@ -150,7 +150,7 @@ fn tiles_of(range: TileRange) -> u64
 
 /// The tiles of a zoom whose boxes the bounding box of a feature meets: no other tile of the zoom shows anything of it.
 pub fn covers(feature: &Feature, zoom: u8) -> TileRange
-    requires { zoom ≤ GREATEST_ZOOM }
+    requires { zoom ≤ MAX_ZOOM }
     ensures range { result ≡ covered (geometry_data feature.now.geometry) zoom }
     ensures nothing_outside { (column row : ℕ) → column < 2 ^ zoom → row < 2 ^ zoom → ¬ IsInRange result column row
         → feature_cut (feature_data feature.now) zoom column row ≡ None }
@@ -160,7 +160,7 @@ pub fn covers(feature: &Feature, zoom: u8) -> TileRange
 
 /// The reach of a feature: how many tiles it covers at all its zooms together.
 pub fn cover_count(feature: &Feature) -> u64
-    requires { feature.now.maxzoom ≤ GREATEST_ZOOM }
+    requires { feature.now.maxzoom ≤ MAX_ZOOM }
     ensures { result ≡ reach_of (feature_data feature.now) }
 {
     let corners = corners_of(&feature.geometry);
@@ -171,13 +171,13 @@ pub fn cover_count(feature: &Feature) -> u64
     count
 }
 
-/// Whether the reach of a feature is at most `MOST_TILES`; the fault is `Reach`.
+/// Whether the reach of a feature is at most `MAX_TILES`; the fault is `Reach`.
 pub fn check_reach(feature: &Feature) -> Result<(), EditFault>
-    requires { feature.now.maxzoom ≤ GREATEST_ZOOM }
-    ensures passes { IsOk result ↔ (reach_of (feature_data feature.now) ≤ MOST_TILES) }
+    requires { feature.now.maxzoom ≤ MAX_ZOOM }
+    ensures passes { IsOk result ↔ (reach_of (feature_data feature.now) ≤ MAX_TILES) }
     ensures fault { IfErr result (λ e. e ≡ EditFault.Reach) }
 {
-    if cover_count(feature) > MOST_TILES {
+    if cover_count(feature) > MAX_TILES {
         return Err(EditFault::Reach);
     }
     Ok(())

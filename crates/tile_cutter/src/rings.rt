@@ -9,7 +9,7 @@ ghost use Rattle.tile_cutter.specs.Range.{IsWithin, IsSmall, IsOfTile, IsDrawabl
 
 use crate::bounds::points_meet_box;
 use crate::coordinates::{FEW_POINTS, position, repeats};
-use feature_model::{GREATEST_ZOOM, World};
+use feature_model::{MAX_ZOOM, World};
 use geometry_commands::{Pt, Shape};
 use hilbert_id::TileAt;
 use std::alloc::{AllocError, Global};
@@ -35,7 +35,7 @@ fn returns_to_start(ring: &[Pt]) -> bool
 
 /// The points of a ring in a tile, each that equals the one before it left out, and a last one that equals the first.
 fn tile_ring(alloc: Global, points: &[World], at: TileAt) -> Result<Vec<Pt>, AllocError>
-    requires { at.z ≤ GREATEST_ZOOM }
+    requires { at.z ≤ MAX_ZOOM }
     ensures ring { IfOk result (λ v. v.items ≡ tile_ring at.z at.x at.y points.now) }
     ensures of_tile { IfOk result (λ v. All (IsOfTile at.x at.y) v.items) }
 {
@@ -76,7 +76,7 @@ fn cross(from: Pt, to: Pt) -> i128
 
 /// Twice the area of a ring in a tile by the surveyor's formula.
 fn twice_area(points: &[World], at: TileAt) -> i128
-    requires zoom { at.z ≤ GREATEST_ZOOM }
+    requires zoom { at.z ≤ MAX_ZOOM }
     requires few { length points.now < 2 ^ 29 }
     ensures { result ≡ twice_area (tile_ring at.z at.x at.y points.now) }
 {
@@ -126,7 +126,7 @@ fn shown_ring(
     at: TileAt,
     role: Role,
 ) -> Result<Option<Vec<Pt>>, AllocError>
-    requires zoom { at.z ≤ GREATEST_ZOOM }
+    requires zoom { at.z ≤ MAX_ZOOM }
     requires few { length points.now < 2 ^ 29 }
     ensures ring { IfOk result (λ o. option_map (λ v. v.items) o ≡ shown_ring role (tile_ring at.z at.x at.y points.now)) }
     ensures drawable { IfOk result (λ o. IfSome o (λ v. IsDrawable true at.x at.y v.items)) }
@@ -160,7 +160,7 @@ fn cut_inner_rings(
     inners: &[Vec<World>],
     at: TileAt,
 ) -> Result<(), AllocError>
-    requires zoom { at.z ≤ GREATEST_ZOOM }
+    requires zoom { at.z ≤ MAX_ZOOM }
     requires limits { All (CountFits 3) (lists_of inners.now) }
     ensures rings { OnOk result (lists_of shown.new.items ≡ lists_of shown.old.items ++ inner_rings at.z at.x at.y (lists_of inners.now)) }
     ensures drawable { OnOk result (All (IsDrawable true at.x at.y) (lists_of shown.old.items)
@@ -180,7 +180,7 @@ fn cut_polygon(
     polygon: &[Vec<World>],
     at: TileAt,
 ) -> Result<(), AllocError>
-    requires zoom { at.z ≤ GREATEST_ZOOM }
+    requires zoom { at.z ≤ MAX_ZOOM }
     requires limits { RingsFit (lists_of polygon.now) }
     ensures rings { OnOk result (lists_of shown.new.items ≡ lists_of shown.old.items ++ polygon_cut at.z at.x at.y (lists_of polygon.now)) }
     ensures drawable { OnOk result (All (IsDrawable true at.x at.y) (lists_of shown.old.items)
@@ -202,7 +202,7 @@ fn cut_polygons(
     polygons: &[Vec<Vec<World>>],
     at: TileAt,
 ) -> Result<Vec<Vec<Pt>>, AllocError>
-    requires zoom { at.z ≤ GREATEST_ZOOM }
+    requires zoom { at.z ≤ MAX_ZOOM }
     requires limits { All RingsFit (map (λ p. lists_of p.items) polygons.now) }
     ensures rings { IfOk result (λ v. lists_of v.items ≡ polygons_cut at.z at.x at.y (map (λ p. lists_of p.items) polygons.now)) }
     ensures drawable { IfOk result (λ v. All (IsDrawable true at.x at.y) (lists_of v.items)) }
@@ -220,7 +220,7 @@ pub(crate) fn rings_shape(
     polygons: &[Vec<Vec<World>>],
     at: TileAt,
 ) -> Result<Option<Shape>, AllocError>
-    requires zoom { at.z ≤ GREATEST_ZOOM }
+    requires zoom { at.z ≤ MAX_ZOOM }
     requires limits { All RingsFit (map (λ p. lists_of p.items) polygons.now) }
     ensures shape { IfOk result
         (λ o. option_map shape_view o ≡ unless_empty shapes.rings (polygons_cut at.z at.x at.y (map (λ p. lists_of p.items) polygons.now))) }

@@ -7,12 +7,12 @@ ghost use Rattle.tile_cutter.specs.WorldBox.{bounding_box, first_shown, last_sho
 
 use crate::coordinates::{EXTENT, MARGIN, WORLD_ZOOM};
 use crate::reach::{Corners, corners_of};
-use feature_model::{Feature, GREATEST_ZOOM, World};
+use feature_model::{Feature, MAX_ZOOM, World};
 use hilbert_id::TileAt;
 
 /// How many coordinates of the world make one of a zoom.
 fn unit(zoom: u8) -> u64
-    requires { zoom ≤ GREATEST_ZOOM }
+    requires { zoom ≤ MAX_ZOOM }
     ensures { result ≡ 2 ^ (WORLD_ZOOM - zoom) }
 {
     1 << (WORLD_ZOOM - zoom)
@@ -20,7 +20,7 @@ fn unit(zoom: u8) -> u64
 
 /// So many coordinates of a zoom in those of the world, at most 2^64 - 1.
 fn scaled(count: u64, zoom: u8) -> u64
-    requires { zoom ≤ GREATEST_ZOOM }
+    requires { zoom ≤ MAX_ZOOM }
     ensures { result ≡ min (count * 2 ^ (WORLD_ZOOM - zoom)) (2 ^ 64 - 1) }
 {
     count.saturating_mul(unit(zoom))
@@ -35,7 +35,7 @@ fn in_world(coordinate: u64) -> u32
 
 /// The first coordinate of the world in the box of a column, or a row.
 fn first_shown(at: u32, zoom: u8) -> u32
-    requires { zoom ≤ GREATEST_ZOOM }
+    requires { zoom ≤ MAX_ZOOM }
     ensures { result ≡ first_shown zoom at }
 {
     let start = (EXTENT as u64 * at as u64).saturating_sub(MARGIN as u64);
@@ -45,7 +45,7 @@ fn first_shown(at: u32, zoom: u8) -> u32
 
 /// The last coordinate of the world in the box of a column, or a row.
 fn last_shown(at: u32, zoom: u8) -> u32
-    requires { zoom ≤ GREATEST_ZOOM }
+    requires { zoom ≤ MAX_ZOOM }
     ensures { result ≡ last_shown zoom at }
 {
     let end = EXTENT as u64 * at as u64 + (EXTENT + MARGIN + 1) as u64;
@@ -78,7 +78,7 @@ pub fn bounding_box(feature: &Feature) -> Corners
 
 /// The box of the world that a tile shows: what of the world stands in the tile's box, which reaches `MARGIN` beyond each edge.
 pub fn tile_box(at: TileAt) -> Corners
-    requires { at.z ≤ GREATEST_ZOOM }
+    requires { at.z ≤ MAX_ZOOM }
     ensures tile_box { result ≡ tile_box at.z at.x at.y }
     // A tile shows nothing of a feature whose bounding box doesn't meet it.
     ensures nothing_apart { (f : FeatureData) → LiesInWorld f.geometry → ¬ Meets (bounding_box f.geometry) result

@@ -11,7 +11,7 @@ use Rattle.matchit.specs.Router.{RouteOf, route_from}
 use Rattle.matchit.specs.Params.{walk, named}
 use Rattle.matchit.specs.Seek.{first}
 use Rattle.matchit.specs.declared.error.InsertError.{InsertError}
-use Rattle.feature_model.specs.declared.limits.TheConstants.{GREATEST_ZOOM}
+use Rattle.feature_model.specs.declared.limits.TheConstants.{MAX_ZOOM}
 use Rattle.tile_routes.specs.declared.routes.Route.{Route}
 use Rattle.tile_routes.specs.declared.routes.Route.TheVariants as routes
 use Rattle.tile_routes.specs.declared.target.Action.{Action}
@@ -79,7 +79,7 @@ feature_asked (Some id) = asked_feature id
 
 -- a zoom up to the greatest, with a column and a row below 2 ^ zoom
 abbrev pub is_served : ℕ → ℕ → ℕ → Bool
-is_served z x y = nat_le z GREATEST_ZOOM && (nat_lt x (2 ^ z) && nat_lt y (2 ^ z))
+is_served z x y = nat_le z MAX_ZOOM && (nat_lt x (2 ^ z) && nat_lt y (2 ^ z))
 
 abbrev pub tile_asked : Option ℕ → Option ℕ → Option ℕ → TileFormat → Asked
 tile_asked (Some z) (Some x) (Some y) format =

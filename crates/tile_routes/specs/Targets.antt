@@ -3,7 +3,7 @@ use Rattle.std.specs.Prelude.{ℕ, ◌<◌, ◌≤◌, List}
 use Rattle.std.specs.Borrow.{Bor}
 use Rattle.matchit.specs.Params.{walk}
 use Rattle.matchit.specs.declared.params.Params.{Params}
-use Rattle.feature_model.specs.declared.limits.TheConstants.{GREATEST_ZOOM, NUMBER_END}
+use Rattle.feature_model.specs.declared.limits.TheConstants.{MAX_ZOOM, NUMBER_END}
 use Rattle.tile_routes.specs.declared.routes.Route.{Route}
 use Rattle.tile_routes.specs.declared.target.Target.{Target}
 use Rattle.tile_routes.specs.declared.target.Target.TheVariants.{Tile, Feature, View, Action, Nothing}
@@ -20,7 +20,7 @@ asked_of Nothing = asked_nothing
 
 -- a number of a feature, and a tile up to the greatest zoom
 abbrev pub IsInRange : Target → Type 0
-IsInRange (Tile at format) = at.z ≤ GREATEST_ZOOM
+IsInRange (Tile at format) = at.z ≤ MAX_ZOOM
 IsInRange (Feature id) = id < NUMBER_END
 IsInRange other = Unit {0}
 

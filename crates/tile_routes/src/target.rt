@@ -5,7 +5,7 @@ ghost use Rattle.tile_routes.specs.Paths.{asked_tile, is_served, feature_asked, 
 ghost use Rattle.tile_routes.specs.Targets.{asked_of, IsInRange, row_view};
 
 use crate::number::path_number;
-use feature_model::GREATEST_ZOOM;
+use feature_model::MAX_ZOOM;
 use hilbert_id::TileAt;
 
 /// How a tile is written in its reply.
@@ -44,7 +44,7 @@ pub enum Action {
 /// What a path asks for.
 #[derive(Clone, Copy, Debug, PartialEq, Eq)]
 pub enum Target {
-    /// `/map/{z}/{x}/{y}.mvt` and `.hex`: a tile of a zoom up to `feature_model::GREATEST_ZOOM`.
+    /// `/map/{z}/{x}/{y}.mvt` and `.hex`: a tile of a zoom up to `feature_model::MAX_ZOOM`.
     Tile(TileAt, TileFormat),
     /// `/features/{id}`: the feature of this number, which is below `feature_model::NUMBER_END`.
     Feature(u64),
@@ -84,7 +84,7 @@ fn format_of(name: &[u8]) -> Option<(&[u8], TileFormat)>
 fn is_served(z: u64, x: u64, y: u64) -> bool
     ensures { result ≡ is_served z x y }
 {
-    z <= u64::from(GREATEST_ZOOM) && x < 1 << z && y < 1 << z
+    z <= u64::from(MAX_ZOOM) && x < 1 << z && y < 1 << z
 }
 
 /// The tile of a zoom, a column and a row.

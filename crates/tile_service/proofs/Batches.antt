@@ -10,7 +10,7 @@ use Rattle.feature_model.specs.Data.{ChangeData, EditData, put, delete, change_d
 use Rattle.feature_model.specs.declared.feature.Change.{Change}
 use Rattle.feature_store.specs.Store.{FeatureMap, feature_at}
 use Rattle.tile_cutter.specs.Covered.{reach_of}
-use Rattle.tile_cutter.specs.declared.reach.TheConstants.{MOST_TILES}
+use Rattle.tile_cutter.specs.declared.reach.TheConstants.{MAX_TILES}
 use Rattle.tile_service.specs.Limits.{IsNear, HasFar}
 use Rattle.tile_service.specs.Machine.{HasTarget}
 
@@ -50,12 +50,12 @@ near_or_far (delete id ∷ cs) = ⊎_elim
     (λ (far : HasFar cs). inr (far_later (delete id) cs far))
     (near_or_far cs)
 near_or_far (put id f ∷ cs) = ⊎_elim
-    (λ (far : MOST_TILES < reach_of f). inr (id, f, first_contained (put id f) cs, far))
-    (λ (near : reach_of f ≤ MOST_TILES). ⊎_elim
+    (λ (far : MAX_TILES < reach_of f). inr (id, f, first_contained (put id f) cs, far))
+    (λ (near : reach_of f ≤ MAX_TILES). ⊎_elim
     (λ (all : All IsNear cs). inl (All-cons IsNear (put id f) cs near all))
     (λ (far : HasFar cs). inr (far_later (put id f) cs far))
     (near_or_far cs))
-    (cases_lt MOST_TILES (reach_of f))
+    (cases_lt MAX_TILES (reach_of f))
 
 -- where not all are near, one sets a feature that covers too many tiles
 pub far_from : (cs : EditData) → (All IsNear cs → ⊥) → HasFar cs

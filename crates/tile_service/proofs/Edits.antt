@@ -7,7 +7,7 @@ use Rattle.sector_disk.specs.Moments.{LeavesOnly}
 use Rattle.sector_disk.proofs.History.{started}
 use Rattle.sector_disk.proofs.Moments.{since_now, is_later}
 use Rattle.edit_journal.specs.Records.{RecordData}
-use Rattle.edit_journal.specs.Ring.{Ring, Start, HoldsOnly, places_of}
+use Rattle.edit_journal.specs.Ring.{Ring, RecordStart, HoldsOnly, places_of}
 use Rattle.edit_journal.specs.Appends.{ring_of, start_of, IsAt, AsBefore, ReadsAsBefore, HoldsOneMore}
 use Rattle.edit_journal.specs.declared.fault.JournalFault.{JournalFault}
 use Rattle.edit_journal.specs.declared.fault.JournalFault.TheVariants as journals
@@ -93,13 +93,13 @@ module _ {D : Type 0} (sectors : D → ℕ) (history : D → History) (stored : 
       → HoldsOnly (ring_of service.journal) (start_of service.journal.place service.journal.edits) records image
       → HoldsOnly (journal_ring service.size) (journal_start stored) records image
   there records image is = subst (λ (r : Ring). HoldsOnly r (journal_start stored) records image) ring
-      (subst (λ (s : Start). HoldsOnly (ring_of service.journal) s records image) start is)
+      (subst (λ (s : RecordStart). HoldsOnly (ring_of service.journal) s records image) start is)
 
   -- The journal has the records of the edits since the snapshot.
   pub up_is_at : IsAt (stored_records stored) service.journal (history service.disk)
   up_is_at = record {
     keeps = λ image may. subst (λ (r : Ring). HoldsOnly r (start_of service.journal.place service.journal.edits) (stored_records stored) image)
-        (sym ring) (subst (λ (s : Start). HoldsOnly (journal_ring service.size) s (stored_records stored) image)
+        (sym ring) (subst (λ (s : RecordStart). HoldsOnly (journal_ring service.size) s (stored_records stored) image)
         (sym start) (up.keeps image may).journal);
     uses = up.used_is;
     counts = omega (arith, up.last_is, up.edits_are, length-map stored.since record_for);
@@ -158,7 +158,7 @@ module _ {D : Type 0} (sectors : D → ℕ) (history : D → History) (stored : 
         (since_now (history new) (moment (history service.disk)) image (is_later (history service.disk) (history new) alone.follows) may)))
         (with_record image
         (subst (λ (x : Ring). HoldsOnly x (start_of service.journal.place service.journal.edits) (stored_records stored ++ r ∷ []) image) same
-        (subst (λ (s : Start). HoldsOnly (ring_of journal) s (stored_records stored ++ r ∷ []) image) begins (is.keeps image may))))
+        (subst (λ (s : RecordStart). HoldsOnly (ring_of journal) s (stored_records stored ++ r ∷ []) image) begins (is.keeps image may))))
 
     -- After an append the service continues from the same with the edit.
     pub up_with_edit : (after : ServiceView D) → after.disk ≡ new → sectors new ≡ sectors service.disk → after.size ≡ service.size
@@ -185,7 +185,7 @@ module _ {D : Type 0} (sectors : D → ℕ) (history : D → History) (stored : 
           snapshot_len_is = snapshot_len ∙ up.snapshot_len_is;
           archive_len_is = archive_len ∙ up.archive_len_is;
           map_is = map_is;
-          place_is = ap (λ (s : Start). s.place) same.1 ∙ up.place_is;
+          place_is = ap (λ (s : RecordStart). s.place) same.1 ∙ up.place_is;
           edits_are = edits;
           used_is = now.uses;
           last_is = omega (arith, now.counts, edits, length-map (stored.since ++ e ∷ []) record_for);
@@ -211,4 +211,4 @@ module _ {D : Type 0} (sectors : D → ℕ) (history : D → History) (stored : 
             (ap (λ (x : RecordData). stored_records stored ++ x ∷ []) is_record ∙ sym (records_with stored e)) is
 
         edits : after.journal.edits ≡ stored.edits
-        edits = omega (arith, ap (λ (s : Start). s.number) same.1, up.edits_are)
+        edits = omega (arith, ap (λ (s : RecordStart). s.number) same.1, up.edits_are)

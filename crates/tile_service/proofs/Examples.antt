@@ -16,7 +16,7 @@ use Rattle.generations.specs.declared.root.Root.{Root}
 use Rattle.generations.proofs.Laws.{fresh_image, fresh_live, format_has_version, one_live, one_root}
 use Rattle.edit_journal.specs.Appends.{start_of}
 use Rattle.edit_journal.specs.Records.{RecordData, IsRecordVersion, parts_of, record_sector, IsHeadOf}
-use Rattle.edit_journal.specs.Ring.{Start, sector_at, IsInRing, HoldsOnly}
+use Rattle.edit_journal.specs.Ring.{RecordStart, sector_at, IsInRing, HoldsOnly}
 use Rattle.edit_journal.proofs.Laws.{written_is_part, first_is_head, first_stands, one_number, zeros_no_head}
 use Rattle.edit_text.specs.Recorded.{RecordedEdit}
 use Rattle.tile_service.specs.Stored.{Stored, Holds, HoldsAt, HasBytes, HasEarlierRoot, CanRecord}
@@ -87,7 +87,7 @@ module _ (disk count n : ℕ) (known : IsVersion disk) (size : IsSize n) (within
   begins m stored holds =
       let same = one_live count image n m first_root (root_of stored) live (lives count image m stored holds) in
       let start : start_of 0 0 ≡ journal_start stored = ap (λ (r : Root). start_of r.journal_at r.edits) same.1 in
-      subst (λ (s : Start). HoldsOnly (journal_ring n) s (stored_records stored) image) (sym start)
+      subst (λ (s : RecordStart). HoldsOnly (journal_ring n) s (stored_records stored) image) (sym start)
       (subst (λ (k : ℕ). HoldsOnly (journal_ring k) (journal_start stored) (stored_records stored) image) (sym same.0) holds.journal)
 
   -- and the version is that of the format

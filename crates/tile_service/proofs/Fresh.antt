@@ -17,7 +17,7 @@ use Rattle.generations.specs.declared.fault.StoreFault.{StoreFault}
 use Rattle.generations.specs.declared.fault.StoreFault.TheVariants.{TooSmall, Damaged}
 use Rattle.generations.specs.declared.fault.What.TheVariants.{Size}
 use Rattle.generations.specs.declared.root.Root.{Root}
-use Rattle.generations.specs.declared.sizes.TheConstants.{LEAST_SECTORS, MOST_SECTORS, LAST_VERSION}
+use Rattle.generations.specs.declared.sizes.TheConstants.{MIN_SECTORS, MAX_SECTORS, LAST_VERSION}
 use Rattle.generations.specs.Sectors.{IsFormat, IsRootOf, IsVersion, version_from}
 use Rattle.generations.proofs.Laws.{fresh_live, format_has_version}
 use Rattle.edit_journal.specs.Records.{IsHeadOf}
@@ -122,14 +122,14 @@ fresh_or n old size image (inr (inl none)) = inr (inl none)
 fresh_or n old size image (inr (inr fresh)) = inr (inr (fresh_holds n n image size (omega arith) fresh))
 
 -- a count of sectors is too small, too large, or a size
-size_or : (n : ℕ) → (n < LEAST_SECTORS) ⊎ (MOST_SECTORS < n) ⊎ IsSize n
+size_or : (n : ℕ) → (n < MIN_SECTORS) ⊎ (MAX_SECTORS < n) ⊎ IsSize n
 size_or n = ⊎_elim
-    (λ (small : n < LEAST_SECTORS). inl small)
-    (λ (least : LEAST_SECTORS ≤ n). ⊎_elim
-    (λ (large : MOST_SECTORS < n). inr (inl large))
-    (λ (most : n ≤ MOST_SECTORS). inr (inr (least, most)))
-    (cases_lt MOST_SECTORS n))
-    (cases_lt n LEAST_SECTORS)
+    (λ (small : n < MIN_SECTORS). inl small)
+    (λ (least : MIN_SECTORS ≤ n). ⊎_elim
+    (λ (large : MAX_SECTORS < n). inr (inl large))
+    (λ (most : n ≤ MAX_SECTORS). inr (inr (least, most)))
+    (cases_lt MAX_SECTORS n))
+    (cases_lt n MIN_SECTORS)
 
 -- what formatting leaves at each moment, in terms of what a disk holds
 pub formatting_leaves : (n : ℕ) (old new : History) → ((IsSize n → ⊥) → new ≡ old)
@@ -141,19 +141,19 @@ formatting_leaves n old new untouched leaves = by (size_or n)
     same none = subst (λ (h : History). LeavesOnly old h (λ image. MayLeave old image ⊎ HasNoMark image ⊎ Holds n n first_state image))
         (sym (untouched none)) (started old _ (λ image may. inl may))
 
-    by : (n < LEAST_SECTORS) ⊎ (MOST_SECTORS < n) ⊎ IsSize n
+    by : (n < MIN_SECTORS) ⊎ (MAX_SECTORS < n) ⊎ IsSize n
         → LeavesOnly old new (λ image. MayLeave old image ⊎ HasNoMark image ⊎ Holds n n first_state image)
     by (inl small) = same (λ size. omega (arith, small, size.0))
     by (inr (inl large)) = same (λ size. omega (arith, large, size.1))
     by (inr (inr size)) = weaken old new _ _ leaves (fresh_or n old size)
 
 -- and what it leaves where it is done
-pub formatted_keeps : (n : ℕ) (new : History) (result : Result (Unit {0}) StoreFault) → (result ≡ Err TooSmall) ↔ (n < LEAST_SECTORS)
-    → (result ≡ Err (Damaged Size)) ↔ (MOST_SECTORS < n) → OnOk result ((image : Image) → MayLeave new image → IsFresh LAST_VERSION n image)
+pub formatted_keeps : (n : ℕ) (new : History) (result : Result (Unit {0}) StoreFault) → (result ≡ Err TooSmall) ↔ (n < MIN_SECTORS)
+    → (result ≡ Err (Damaged Size)) ↔ (MAX_SECTORS < n) → OnOk result ((image : Image) → MayLeave new image → IsFresh LAST_VERSION n image)
     → OnOk result (Keeps n n first_state new)
 formatted_keeps n new result small large fresh = by (size_or n)
   where
-    by : (n < LEAST_SECTORS) ⊎ (MOST_SECTORS < n) ⊎ IsSize n → OnOk result (Keeps n n first_state new)
+    by : (n < MIN_SECTORS) ⊎ (MAX_SECTORS < n) ⊎ IsSize n → OnOk result (Keeps n n first_state new)
     by (inl is) = subst (λ r. OnOk r (Keeps n n first_state new)) (sym (small.1 is)) tt
     by (inr (inl is)) = subst (λ r. OnOk r (Keeps n n first_state new)) (sym (large.1 is)) tt
     by (inr (inr size)) = on_ok_weaker result (λ all image may. fresh_holds n n image size (omega arith) (all image may)) fresh

@@ -9,7 +9,7 @@ use Rattle.generations.specs.declared.root.Root.{Root}
 use Rattle.generations.specs.declared.sizes.TheConstants.{LAST_VERSION}
 use Rattle.generations.proofs.Laws.{one_live}
 use Rattle.edit_journal.specs.Records.{RecordData, record_of}
-use Rattle.edit_journal.specs.Ring.{Ring, Start, HoldsOnly}
+use Rattle.edit_journal.specs.Ring.{Ring, RecordStart, HoldsOnly}
 use Rattle.edit_journal.proofs.Laws.{one_list}
 use Rattle.edit_text.specs.Recorded.{RecordedEdit, IsRecorded}
 use Rattle.edit_text.proofs.Recorded.{one_recorded}
@@ -80,7 +80,7 @@ one_state count image n m a b is too =
     let start : journal_start a ≡ journal_start b = (λ i. record { place = place i; number = suc (edits i) }) in
     let there : HoldsOnly (journal_ring n) (journal_start a) (stored_records b) image =
     subst (λ (r : Ring). HoldsOnly r (journal_start a) (stored_records b) image) (sym ring)
-    (subst (λ (s : Start). HoldsOnly (journal_ring m) s (stored_records b) image) (sym start) too.journal) in
+    (subst (λ (s : RecordStart). HoldsOnly (journal_ring m) s (stored_records b) image) (sym start) too.journal) in
     let since : a.since ≡ b.since =
     one_run a.since b.since (all_recorded a.version a.since is.are_edits) (all_recorded b.version b.since too.are_edits)
     (one_list (journal_ring n) image (journal_start a) (stored_records a) (stored_records b) is.journal there) in (

@@ -14,7 +14,7 @@ use Rattle.sector_bytes.specs.Bytes.{sector_piece}
 use Rattle.generations.specs.Areas.{journal_sectors, area_sectors, area_start, sectors_of}
 use Rattle.generations.specs.Sectors.{CanStand}
 use Rattle.edit_journal.specs.Records.{RecordData, IsHeadOf}
-use Rattle.edit_journal.specs.Ring.{Ring, Start, start_behind, IsInRing, StandsAt, HoldsOnly}
+use Rattle.edit_journal.specs.Ring.{Ring, RecordStart, start_behind, IsInRing, StandsAt, HoldsOnly}
 use Rattle.feature_store.specs.Store.{snapshot}
 use Rattle.tile_service.specs.Publishing.{IsInArea, IsBeside}
 use Rattle.tile_service.specs.Stored.{Stored, Holds, HoldsAt, HasBytes, Keeps, root_of, journal_ring}
@@ -70,7 +70,7 @@ bytes_elsewhere first bytes at sector apart index is = ⊎_elim
     (cases_lt index (sectors_of (length bytes)))
 
 -- so is a sector outside the ring of records in it
-records_elsewhere : (ring : Ring) (start : Start) (records : List RecordData) (at : ℕ) (sector : List ℕ) → 0 < ring.places
+records_elsewhere : (ring : Ring) (start : RecordStart) (records : List RecordData) (at : ℕ) (sector : List ℕ) → 0 < ring.places
     → (IsInRing ring at → ⊥) → StandsAt ring start records at sector
 records_elsewhere ring start [] at sector pos outside = tt
 records_elsewhere ring start (r ∷ records) at sector pos outside = (
@@ -88,7 +88,7 @@ in_ring_or_not ring at = ⊎_elim
     (cases_lt at ring.first)
 
 -- An image that is another one in the ring holds the records that this one holds.
-pub same_ring : (ring : Ring) (start : Start) (records : List RecordData) (before image : Image) → 0 < ring.places
+pub same_ring : (ring : Ring) (start : RecordStart) (records : List RecordData) (before image : Image) → 0 < ring.places
     → ((at : ℕ) → IsInRing ring at → image at ≡ before at) → HoldsOnly ring start records before → HoldsOnly ring start records image
 same_ring ring start records before image pos same holds = record {
   records = record {

@@ -14,13 +14,13 @@ use Rattle.std.proofs.lemmas.List.Elements.{All-head, All-tail, All-nil, All-con
 use Rattle.sector_disk.specs.declared.disk.TheConstants.{SECTOR_BYTES}
 use Rattle.generations.specs.Areas.{journal_sectors, area_sectors}
 use Rattle.generations.specs.Sectors.{IsVersion}
-use Rattle.generations.specs.declared.sizes.TheConstants.{MOST_SECTORS, FIRST_VERSION}
+use Rattle.generations.specs.declared.sizes.TheConstants.{MAX_SECTORS, FIRST_VERSION}
 use Rattle.edit_journal.specs.Records.{IsRecordLength, parts_of}
 use Rattle.edit_journal.specs.declared.sizes.TheConstants.{PART_BYTES}
 use Rattle.edit_text.specs.Recorded.{text_in, FitsVersion, IsRecorded}
 use Rattle.edit_text.proofs.Recorded.{edit_of_one}
 use Rattle.feature_model.specs.Data.{FeatureData, ChangeData, EditData, put, delete, number_of}
-use Rattle.feature_model.specs.declared.limits.TheConstants.{MOST_EDIT_BYTES}
+use Rattle.feature_model.specs.declared.limits.TheConstants.{MAX_EDIT_BYTES}
 use Rattle.feature_model.specs.Limits.{NumberFits, IsAllowed, IsAllowedChange, IsAllowedEdit}
 use Rattle.feature_model.specs.Spelled.{spelled_change, spelled_changes, spelled, eight_bytes}
 use Rattle.feature_model.specs.Types.{IsChange}
@@ -77,7 +77,7 @@ some_byte (put id f) = omega arith
 some_byte (delete id) = omega arith
 
 -- an allowed change is an allowed edit by itself
-one_allowed : (c : ChangeData) → IsAllowedChange c → length (spelled_change c) ≤ MOST_EDIT_BYTES → IsAllowedEdit (c ∷ [])
+one_allowed : (c : ChangeData) → IsAllowedChange c → length (spelled_change c) ≤ MAX_EDIT_BYTES → IsAllowedEdit (c ∷ [])
 one_allowed c is short = record {
   count = (lit≤ tt, lit≤ tt);
   distinct = distinct_push [] c distinct_none (All-nil (λ d. number_of d ≡ number_of c → ⊥));
@@ -175,7 +175,7 @@ short_after_edit version m cs area used is short =
     omega (arith, short, after_changes m cs, text_has version cs is, parts_hold (length (text_in version cs)))
 
 -- They are short together, on a disk of any size.
-pub short_enough : (m : FeatureMap) (cs : EditData) (size used : ℕ) → size ≤ MOST_SECTORS → used ≤ journal_sectors size
+pub short_enough : (m : FeatureMap) (cs : EditData) (size used : ℕ) → size ≤ MAX_SECTORS → used ≤ journal_sectors size
     → length (snapshot m) ≤ SECTOR_BYTES * area_sectors size + PART_BYTES * used → IsAllowedEdit cs
     → length (snapshot m) + length (spelled_changes cs) < TEXTS_END
 short_enough m cs size used small room short allowed = omega (arith, small, room, short, allowed.text)

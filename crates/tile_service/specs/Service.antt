@@ -15,7 +15,7 @@ use Rattle.edit_journal.specs.Ring.{places_of}
 use Rattle.edit_journal.specs.declared.fault.JournalFault.{JournalFault}
 use Rattle.edit_journal.specs.declared.fault.JournalFault.TheVariants as journals
 use Rattle.edit_journal.specs.declared.journal.Journal.{Journal}
-use Rattle.edit_journal.specs.declared.journal.Start.{Start}
+use Rattle.edit_journal.specs.declared.journal.JournalPosition.{JournalPosition}
 use Rattle.edit_journal.specs.declared.sizes.TheConstants.{PART_BYTES}
 use Rattle.cached_map.specs.Cached.{CachedView, AreReadRight}
 use Rattle.area_content.specs.Content.{ContentView, sectors_taken}
@@ -36,7 +36,7 @@ pub record PublicationView : Type 0 where
   -- the snapshot and the archive of the map when it began
   pub content : ContentView
   -- where the journal continued when it began, and how many of its places were in use then
-  pub start : Start
+  pub start : JournalPosition
   pub places : ℕ
   -- how many sectors of the content are written
   pub written : ℕ

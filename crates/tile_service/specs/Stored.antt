@@ -8,7 +8,7 @@ use Rattle.generations.specs.Sectors.{IsFormat, IsRootOf, IsNoRoot, version_from
 use Rattle.generations.specs.declared.root.Root.{Root}
 use Rattle.generations.specs.declared.sizes.TheConstants.{LAST_VERSION}
 use Rattle.edit_journal.specs.Records.{RecordData, record_of}
-use Rattle.edit_journal.specs.Ring.{Ring, Start, HoldsOnly}
+use Rattle.edit_journal.specs.Ring.{Ring, RecordStart, HoldsOnly}
 use Rattle.edit_text.specs.Recorded.{RecordedEdit, IsRecorded, recorded_text}
 use Rattle.feature_store.specs.Store.{FeatureMap, IsMap, snapshot}
 use Rattle.tile_service.specs.After.{after}
@@ -86,7 +86,7 @@ pub record CanRecord (version : ℕ) (e : RecordedEdit) : Type 0 where
   pub version_is : e.version ≤ version
 
 -- where its journal begins
-abbrev pub journal_start : Stored → Start
+abbrev pub journal_start : Stored → RecordStart
 journal_start stored = record { place = stored.journal_at; number = suc stored.edits }
 
 -- The image of a disk of count sectors, formatted with n, holds this.

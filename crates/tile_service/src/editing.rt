@@ -130,7 +130,7 @@ fn deletion_text(version: u32, text: &[u8; 10]) -> &[u8]
 }
 
 /// Converts an append's fault. An append never returns `Damaged`, and doesn't allocate.
-fn told(fault: JournalFault) -> ServiceFault
+fn to_service_fault(fault: JournalFault) -> ServiceFault
     ensures { result ≡ told_as fault }
 {
     match fault {
@@ -153,7 +153,7 @@ impl<D: Sectors + Drop> Service<D> {
             self.broken = true;
             self.publication = None;
         }
-        told(fault)
+        to_service_fault(fault)
     }
 
     /// Makes an edit that is within the limits: writes its record, and applies it to the map. Nothing else allocates, so it fails only for want

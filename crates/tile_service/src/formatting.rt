@@ -9,7 +9,7 @@ ghost use Rattle.generations.specs.Faults.{CountsDevice};
 ghost use Rattle.generations.specs.Sectors.{version_from};
 ghost use Rattle.generations.specs.declared.fault.StoreFault.TheVariants.{NotFormatted, TooSmall, Device, Damaged};
 ghost use Rattle.generations.specs.declared.fault.What.TheVariants.{Size};
-ghost use Rattle.generations.specs.declared.sizes.TheConstants.{LEAST_SECTORS, MOST_SECTORS, LAST_VERSION};
+ghost use Rattle.generations.specs.declared.sizes.TheConstants.{MIN_SECTORS, MAX_SECTORS, LAST_VERSION};
 ghost use Rattle.tile_service.specs.Stored.{Stored, Holds, Keeps, first_state, upgraded};
 
 use crate::service::Service;
@@ -17,11 +17,11 @@ use generations::{StoreFault, format, upgrade};
 use sector_disk::Sectors;
 
 impl<D: Sectors + Drop> Service<D> {
-    /// Formats a disk of `LEAST_SECTORS` to `MOST_SECTORS` sectors with the empty map; any other is left untouched. Its content is lost:
+    /// Formats a disk of `MIN_SECTORS` to `MAX_SECTORS` sectors with the empty map; any other is left untouched. Its content is lost:
     /// after a fault of the disk or a crash it holds its earlier content, or has no format, or holds the empty map.
     pub fn format(disk: &mut D) -> Result<(), StoreFault>
-        ensures small { (result ≡ Err TooSmall) ↔ (D.sectors disk.old < LEAST_SECTORS) }
-        ensures large { (result ≡ Err (Damaged Size)) ↔ (MOST_SECTORS < D.sectors disk.old) }
+        ensures small { (result ≡ Err TooSmall) ↔ (D.sectors disk.old < MIN_SECTORS) }
+        ensures large { (result ≡ Err (Damaged Size)) ↔ (MAX_SECTORS < D.sectors disk.old) }
         ensures only { IfErr result (λ fault. (fault ≡ TooSmall) ⊎ (fault ≡ Damaged Size) ⊎ (fault ≡ Device)) }
         ensures untouched { (IsSize (D.sectors disk.old) → ⊥) → disk.new ≡ disk.old }
         ensures count { D.sectors disk.new ≡ D.sectors disk.old }

@@ -23,7 +23,7 @@ use crate::replaying::replay;
 use crate::service::Service;
 use crate::snapshot_reading::read_snapshot;
 use cached_map::CachedMap;
-use edit_journal::{Journal, JournalFault, Start};
+use edit_journal::{Journal, JournalFault, JournalPosition};
 use feature_store::Store;
 use generations::{Layout, Root, StoreFault, What, read_root};
 use published_tiles::PublishedTiles;
@@ -31,7 +31,7 @@ use sector_disk::{DiskFault, Sectors};
 use std::alloc::{AllocError, Global};
 
 /// Converts a recovery's fault, which is never `NumbersSpent` or `Full`.
-fn told(fault: JournalFault) -> StoreFault
+fn to_store_fault(fault: JournalFault) -> StoreFault
     ensures { result ≡ recovery_told_as fault }
 {
     match fault {
@@ -82,7 +82,7 @@ fn read_edits<D: Sectors>(
     ensures fault { D.honest disk.new → HasSnapshot layout.sectors root store.features (seen (D.history disk.old))
         → IfErr result (λ fault. (fault ≡ Device) ⊎ (fault ≡ Memory) ⊎ IsContentFault layout.sectors version root (seen (D.history disk.old)) fault) }
 {
-    let start = Start {
+    let start = JournalPosition {
         place: root.journal_at,
         edits: root.edits,
     };
@@ -95,7 +95,7 @@ fn read_edits<D: Sectors>(
         version,
     ) {
         Ok(found) => found,
-        Err(fault) => return Err(told(fault)),
+        Err(fault) => return Err(to_store_fault(fault)),
     };
     let mut map = match CachedMap::new(alloc, store, root.edits) {
         Ok(map) => map,

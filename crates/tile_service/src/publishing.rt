@@ -16,7 +16,7 @@ ghost use Rattle.tile_service.specs.declared.fault.ServiceFault.TheVariants.{Dev
 use crate::fault::ServiceFault;
 use crate::service::Service;
 use area_content::{AreaContent, ContentFault, content_of};
-use edit_journal::Start;
+use edit_journal::JournalPosition;
 use feature_store::Store;
 use generations::{Layout, Root, install, write_area};
 use map_metadata::metadata_text;
@@ -33,7 +33,7 @@ pub(crate) struct Publication {
     /// The snapshot and the archive of the map when it began.
     pub(crate) content: AreaContent,
     /// Where the journal continued when it began.
-    pub(crate) start: Start,
+    pub(crate) start: JournalPosition,
     /// How many of its places were in use then.
     pub(crate) places: u64,
     /// How many sectors of the content are written.
@@ -51,7 +51,7 @@ impl Model for Publication {
 }
 
 /// Converts the fault of `content_of`.
-fn told(fault: ContentFault) -> ServiceFault
+fn to_service_fault(fault: ContentFault) -> ServiceFault
     ensures { result ≡ told_content fault }
 {
     match fault {
@@ -78,7 +78,7 @@ fn content_for(alloc: Global, store: &Store, area: u64) -> Result<AreaContent, S
     };
     match content_of(alloc, store, metadata.as_bytes(), area) {
         Ok(content) => Ok(content),
-        Err(fault) => Err(told(fault)),
+        Err(fault) => Err(to_service_fault(fault)),
     }
 }
 

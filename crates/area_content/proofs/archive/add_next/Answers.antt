@@ -49,7 +49,7 @@ returns-in-Err-add-clause-fault c metadata =
     let tile : Tile = (c.in-Ok-Some.tile.0, c.in-Ok-Some.tile.1.items) in
     let next = rw c.in-Ok-Some.field-0-is at c.in-Ok-Some.ensures.tile in
     let short : length c.in-Ok-Some.tile.1.items < 2 ^ 32 = omega (arith, c.if-len.false, c.len.ensures, c.in-Ok-Some.tile.1.ok) in
-    subst (IsContentFault old.features metadata c.args.area) (sym c.told.ensures)
+    subst (IsContentFault old.features metadata c.args.area) (sym c.to_content_fault.ensures)
     (fault_told old.features metadata c.args.area c.in-Err-add.fault
     (λ many. many_tiles old.features metadata c.args.area old.from c.args.builder.now tile c.requires.added next.0 short
     (c.in-Err-add.ensures.many.0 (ap (λ f. Err f) many))))

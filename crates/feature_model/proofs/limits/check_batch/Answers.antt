@@ -7,7 +7,7 @@ use Rattle.feature_model.proofs.limits.check_batch.Goals as goal
 
 pub returns-clause-ok : goal.returns-clause-ok
 returns-clause-ok c =
-    let short : TextsFit (map change_data c.args.changes.now) = omega (arith, c.changes_len.ensures, c.if-changes_len-gt-MOST_EDIT_BYTES.false) in (
+    let short : TextsFit (map change_data c.args.changes.now) = omega (arith, c.changes_len.ensures, c.if-changes_len-gt-MAX_EDIT_BYTES.false) in (
       λ _. record {
         count = subst AreEnough (sym (length-map c.args.changes.now change_data)) (c.change_count_fits.ensures.0 c.if-not-change_count_fits.false);
         distinct = c.are_distinct.ensures.0 c.if-not-are_distinct.false;

@@ -5,8 +5,8 @@ use Rattle.sector_disk.proofs.History.{started, seen_may}
 use Rattle.generations.specs.Disks.{HasNoMark, IsFresh}
 use Rattle.generations.proofs.formatting.format_version.Goals as goal
 
-pub returns-then-sectors-lt-LEAST_SECTORS-clause-any_moment : goal.returns-then-sectors-lt-LEAST_SECTORS-clause-any_moment
-returns-then-sectors-lt-LEAST_SECTORS-clause-any_moment g c honest = started _ _ (λ image may. inl may)
+pub returns-then-sectors-lt-MIN_SECTORS-clause-any_moment : goal.returns-then-sectors-lt-MIN_SECTORS-clause-any_moment
+returns-then-sectors-lt-MIN_SECTORS-clause-any_moment g c honest = started _ _ (λ image may. inl may)
 
 pub returns-in_default-clause-any_moment : goal.returns-in_default-clause-any_moment
 returns-in_default-clause-any_moment g c honest = started _ _ (λ image may. inl may)

@@ -12,7 +12,7 @@ returns-then-doubtful-clause-known c =
 pub returns-clause-missing : goal.returns-clause-missing
 returns-clause-missing c =
     scanned_missing c.args.bytes.now c.args.scanned c.args.lines c.after_bytes-lines.result c.requires.lines c.after_bytes-lines.ensures
-    (λ e. let yes = c.has_empty.ensures.1 e in let other = c.if-has_empty.false in absurd (cc)) c.if-scanned-ge-MOST_HEAD.false
+    (λ e. let yes = c.has_empty.ensures.1 e in let other = c.if-has_empty.false in absurd (cc)) c.if-scanned-ge-MAX_HEAD.false
 
 pub returns-clause-known : goal.returns-clause-known
 returns-clause-known c =

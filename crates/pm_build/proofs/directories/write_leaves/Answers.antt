@@ -1,6 +1,6 @@
 use Rattle.std.proofs.Common.{◌≡◌, ◌++◌, List, ◌∙◌, ap, append_assoc, arith}
 use Rattle.std.proofs.lemmas.List.{take-append-drop, length-append}
-use Rattle.pm_directory.specs.declared.entry.Entry.{Entry}
+use Rattle.pm_directory.specs.declared.entry.DirectoryEntry.{DirectoryEntry}
 use Rattle.pm_directory.specs.Directory.{IsEntry, HasEnd}
 use Rattle.pm_build.proofs.Leaves.{ascend_take, ascend_drop}
 use Rattle.pm_build.proofs.Pieces.{all_drop}
@@ -23,7 +23,7 @@ loop-rest-preserved c =
       each = rw back (all_drop IsEntry c.min.result rest i.each);
       ends = rw back (all_drop HasEnd c.min.result rest i.ends);
       before = i.before ++ leaf;
-      parts = append_assoc i.before leaf behind ∙ ap (λ (es : List Entry). i.before ++ es) joined ∙ i.parts;
+      parts = append_assoc i.before leaf behind ∙ ap (λ (es : List DirectoryEntry). i.before ++ es) joined ∙ i.parts;
       leaves = c.in_ok-push_leaf.ensures.leaves i.before i.leaves;
       few = omega (arith, c.in_ok-push_leaf.ensures.count, i.full c.loop-rest-test.true);
       full = λ some. omega (arith, c.in_ok-push_leaf.ensures.count, i.full c.loop-rest-test.true);

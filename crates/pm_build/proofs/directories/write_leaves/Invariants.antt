@@ -1,6 +1,6 @@
 use Rattle.std.proofs.Common.{◌≡◌, ◌+◌, ◌*◌, ◌<◌, ◌≤◌, ◌++◌, List, length}
 use Rattle.std.specs.List.{AllByRecursion}
-use Rattle.pm_directory.specs.declared.entry.Entry.{Entry}
+use Rattle.pm_directory.specs.declared.entry.DirectoryEntry.{DirectoryEntry}
 use Rattle.pm_directory.specs.Directory.{IsAscending, IsEntry, HasEnd}
 use Rattle.pm_build.specs.Leaves.{AreLeaves}
 use Rattle.pm_build.proofs.directories.write_leaves.Given as goal
@@ -11,7 +11,7 @@ invariant-loop-rest l = record {
   ascending : IsAscending l.rest;
   each : AllByRecursion IsEntry l.rest;
   ends : AllByRecursion HasEnd l.rest;
-  before : List Entry;
+  before : List DirectoryEntry;
   parts : before ++ l.rest ≡ l.entries;
   leaves : AreLeaves l.leaves.bytes.items l.leaves.names.items before;
   few : 512 * length l.leaves.names.items ≤ length before + 511;

@@ -2,7 +2,7 @@ use Rattle.std.proofs.Common.{◌≡◌, ◌+◌, ◌-◌, ◌^◌, ◌<◌, ◌
 use Rattle.std.specs.Prelude.{sum_by}
 use Rattle.std.specs.List.{range_with_len}
 use Rattle.feature_model.specs.Data.{feature_data}
-use Rattle.feature_model.specs.declared.limits.TheConstants.{GREATEST_ZOOM}
+use Rattle.feature_model.specs.declared.limits.TheConstants.{MAX_ZOOM}
 use Rattle.tile_cutter.specs.Covered.{tiles_of}
 use Rattle.tile_cutter.specs.Corners.{range_of}
 use Rattle.tile_cutter.proofs.Boxes.{sum_next, reach_is}
@@ -11,13 +11,13 @@ use Rattle.tile_cutter.proofs.reach.cover_count.Goals as goal
 
 pub tiles_of-count-requires-clause-columns : goal.tiles_of-count-requires-clause-columns
 tiles_of-count-requires-clause-columns c =
-    let allowed : c.loop-zoom.zoom ≤ GREATEST_ZOOM = omega (arith, c.loop-zoom-test.true, c.requires) in
-    subst (λ r. r.x1 < 2 ^ GREATEST_ZOOM) (sym c.range_of.ensures) (last_met_low c.loop-zoom.zoom _ allowed)
+    let allowed : c.loop-zoom.zoom ≤ MAX_ZOOM = omega (arith, c.loop-zoom-test.true, c.requires) in
+    subst (λ r. r.x1 < 2 ^ MAX_ZOOM) (sym c.range_of.ensures) (last_met_low c.loop-zoom.zoom _ allowed)
 
 pub tiles_of-count-requires-clause-rows : goal.tiles_of-count-requires-clause-rows
 tiles_of-count-requires-clause-rows c =
-    let allowed : c.loop-zoom.zoom ≤ GREATEST_ZOOM = omega (arith, c.loop-zoom-test.true, c.requires) in
-    subst (λ r. r.y1 < 2 ^ GREATEST_ZOOM) (sym c.range_of.ensures) (last_met_low c.loop-zoom.zoom _ allowed)
+    let allowed : c.loop-zoom.zoom ≤ MAX_ZOOM = omega (arith, c.loop-zoom-test.true, c.requires) in
+    subst (λ r. r.y1 < 2 ^ MAX_ZOOM) (sym c.range_of.ensures) (last_met_low c.loop-zoom.zoom _ allowed)
 
 pub overflow_add-count : goal.overflow_add-count
 overflow_add-count c = record { fits = omega (arith, c.loop-zoom.invariant.bound, c.tiles_of-count.ensures.bound, c.requires, c.loop-zoom-test.true) }

@@ -1,6 +1,6 @@
 use Rattle.std.proofs.Common.{◌≡◌, ℕ, List, ap, ◌∙◌, ◌+◌, ◌*◌, ◌<◌, subst, sym, length, arith}
 use Rattle.std.proofs.lemmas.List.{length-map}
-use Rattle.edit_journal.specs.Ring.{Ring, Start}
+use Rattle.edit_journal.specs.Ring.{Ring, RecordStart}
 use Rattle.edit_journal.specs.Appends.{start_of}
 use Rattle.edit_journal.specs.Recovers.{IsJournal}
 use Rattle.edit_journal.specs.Records.{record_data, records_of}
@@ -18,11 +18,11 @@ use Rattle.tile_service.proofs.Opens.{recovery_counts, recovery_fault, text_faul
 use Rattle.tile_service.proofs.opening.read_edits.Goals as goal
 
 pub returns-in-Err-clause-failed : goal.returns-in-Err-clause-failed
-returns-in-Err-clause-failed g c = rw c.told.ensures (recovery_counts c.in-Err.fault _ _ c.in-Err.ensures.fault)
+returns-in-Err-clause-failed g c = rw c.to_store_fault.ensures (recovery_counts c.in-Err.fault _ _ c.in-Err.ensures.fault)
 
 pub returns-in-Err-clause-fault : goal.returns-in-Err-clause-fault
 returns-in-Err-clause-fault g c honest has =
-    rw c.told.ensures
+    rw c.to_store_fault.ensures
     (recovery_fault c.args.layout.sectors c.args.version c.args.root (seen (g.D.Sectors.history c.args.disk.now)) c.args.store.features has c.in-Err.fault _ _
     c.in-Err.ensures.fault
     (λ records is journal. c.in-Err.ensures.damaged records honest is
@@ -54,8 +54,8 @@ returns-in-Ok-replay-clause-found g c honest has = record {
   are_records = subst (λ (places : ℕ). IsJournal c.args.version (record { first = 3; places = places }) (start_of c.args.root.journal_at c.args.root.edits)
       (records_of c.in-Ok.found.1.items) (seen (g.D.Sectors.history c.args.disk.now))) c.args.layout.journal_is (c.in-Ok.ensures.found honest);
   are_edits = c.in-Ok-replay.ensures.made.are_records;
-  place_is = ap (λ (s : Start). s.place) c.in-Ok.ensures.same.1;
-  edits_are = omega (arith, ap (λ (s : Start). s.number) c.in-Ok.ensures.same.1);
+  place_is = ap (λ (s : RecordStart). s.place) c.in-Ok.ensures.same.1;
+  edits_are = omega (arith, ap (λ (s : RecordStart). s.number) c.in-Ok.ensures.same.1);
   used_is = c.in-Ok.ensures.used;
   last_is = omega (arith, c.in-Ok.ensures.last, length-map c.in-Ok.found.1.items record_data);
   map_is = c.in-Ok-replay.ensures.made.map_is ∙ ap (λ (m : FeatureMap). after m c.in-Ok-replay.ensures.made.edits) c.in-Ok-new.ensures.features;

@@ -1,5 +1,5 @@
 use Rattle.std.proofs.Common.{Some, sym, ap, ◌∙◌, subst}
-use Rattle.tile_cache.specs.declared.kept_tiles.Origin.TheVariants.{Cut, Read}
+use Rattle.tile_cache.specs.declared.cached_tiles.Origin.TheVariants.{Cut, Read}
 use Rattle.feature_store.specs.Content.{IsTileContent}
 use Rattle.feature_store.specs.Layers.{layers}
 use Rattle.cached_map.proofs.Kept.{found_is, same_kept, fresh_same}

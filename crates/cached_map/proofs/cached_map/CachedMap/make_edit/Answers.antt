@@ -1,6 +1,6 @@
 use Rattle.std.proofs.Common.{map}
 use Rattle.feature_model.specs.Data.{change_data}
-use Rattle.tile_cache.specs.declared.kept_tiles.Origin.TheVariants.{Cut, Read}
+use Rattle.tile_cache.specs.declared.cached_tiles.Origin.TheVariants.{Cut, Read}
 use Rattle.cached_map.specs.Cached.{CachedView, marks_after}
 use Rattle.cached_map.proofs.Edits.{IsEdited, edited_by, still_kept, still_was}
 use Rattle.cached_map.proofs.cached_map.CachedMap.make_edit.Goals as goal

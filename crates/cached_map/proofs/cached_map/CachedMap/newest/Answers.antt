@@ -1,4 +1,4 @@
-use Rattle.tile_cache.specs.declared.kept_tiles.Origin.TheVariants.{Cut}
+use Rattle.tile_cache.specs.declared.cached_tiles.Origin.TheVariants.{Cut}
 use Rattle.cached_map.proofs.Kept.{newest_most}
 use Rattle.cached_map.proofs.cached_map.CachedMap.newest.Goals as goal
 

@@ -1,6 +1,6 @@
 use Rattle.std.proofs.Common.{subst}
 use Rattle.tile_cache.specs.Touched.{Remembers}
-use Rattle.tile_cache.specs.declared.kept_tiles.Origin.TheVariants.{Cut, Read}
+use Rattle.tile_cache.specs.declared.cached_tiles.Origin.TheVariants.{Cut, Read}
 use Rattle.cached_map.specs.Cached.{CachedView, with_mark}
 use Rattle.cached_map.proofs.Edits.{IsEdited, removal, removed, still_kept, still_was}
 use Rattle.cached_map.proofs.cached_map.CachedMap.remove.Goals as goal

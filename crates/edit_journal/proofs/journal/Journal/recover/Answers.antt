@@ -7,7 +7,7 @@ use Rattle.edit_journal.specs.declared.records.Record.{Record}
 use Rattle.edit_journal.specs.declared.fault.JournalFault.{JournalFault}
 use Rattle.edit_journal.specs.declared.fault.JournalFault.TheVariants.{Damaged}
 use Rattle.edit_journal.specs.Records.{RecordData, record_data, records_of, IsRecordLength, AreUpTo, parts_of}
-use Rattle.edit_journal.specs.Ring.{Ring, Start, AreRecords, places_of, HoldsRecords}
+use Rattle.edit_journal.specs.Ring.{Ring, RecordStart, AreRecords, places_of, HoldsRecords}
 use Rattle.edit_journal.specs.Appends.{ring_of, start_of}
 use Rattle.edit_journal.specs.Recovers.{EndsAt, IsJournal, PartsStand, IsDamaged, IsRecoverFault}
 use Rattle.edit_journal.proofs.Heads.{places_push, records_push}
@@ -22,7 +22,7 @@ loop-records-init g c =
     let none : places_of (records_of c.new-records.result.items) ≡ 0 = ap places_of empty in
     let count : length c.new-records.result.items ≡ 0 = ap length c.new-records.ensures.items in
     let ring : Ring = record { first = c.args.first; places = c.args.places } in
-    let start : Start = start_of c.args.start.place c.args.start.edits in
+    let start : RecordStart = start_of c.args.start.place c.args.start.edits in
     record {
       count = refl;
       honest = λ honest. honest;
@@ -49,7 +49,7 @@ loop-records-preserved g c =
     let rs : List RecordData = records_of c.loop-records.records.items in
     let image : Image = seen (g.D.Sectors.history c.args.disk.now) in
     let ring : Ring = record { first = c.args.first; places = c.args.places } in
-    let start : Start = start_of c.args.start.place c.args.start.edits in
+    let start : RecordStart = start_of c.args.start.place c.args.start.edits in
     let fits : IsRecordLength next.version (length next.text.items) × (next.version ≤ c.args.version)
     × (old.used + parts_of (length next.text.items) ≤ old.places) × (old.last + 1 < 2 ^ 64) =
     MatchOption-at_some _ (λ (r : Record). IsRecordLength r.version (length r.text.items) × (r.version ≤ c.args.version)
@@ -80,7 +80,7 @@ loop-records-preserved g c =
           (seen (g.D.Sectors.history c.loop-records.disk))) next c.in-Some.is (ok.next honest)) in
           subst (λ (rs : List RecordData). HoldsRecords ring start rs image) (sym pushed)
           (with_next ring (ring_of old) start old.place old.edits old.used old.last rs image inv.ring inv.start inv.used
-          (omega (arith, inv.last, ap (λ (s : Start). s.number) inv.start, records_count c.loop-records.records.items))
+          (omega (arith, inv.last, ap (λ (s : RecordStart). s.number) inv.start, records_count c.loop-records.records.items))
           (inv.held (ok.honest honest)) (record_data next) fits.0 fits.2 fits.3 stands);
     }
 
@@ -121,12 +121,12 @@ returns-in_err-next-clause-damaged g c rs honest =
     let old = c.loop-records.journal in
     let image : Image = seen (g.D.Sectors.history c.args.disk.now) in
     let ring : Ring = record { first = c.args.first; places = c.args.places } in
-    let start : Start = start_of c.args.start.place c.args.start.edits in
+    let start : RecordStart = start_of c.args.start.place c.args.start.edits in
     let same : c.from_residual.result ≡ Err c.in_err-next.field-0.0 = search rules in
     at_err (λ (fault : JournalFault). fault ≡ Damaged → IsJournal c.args.version ring start rs image → ⊥) c.from_residual.result
     c.in_err-next.field-0.0 same (λ is.
     no_journal ring (ring_of old) start old.place old.edits old.used old.last (records_of c.loop-records.records.items) image inv.ring inv.start inv.used
-    (omega (arith, inv.last, ap (λ (s : Start). s.number) inv.start, records_count c.loop-records.records.items)) (inv.held (told.honest honest)) c.args.version inv.versions
+    (omega (arith, inv.last, ap (λ (s : RecordStart). s.number) inv.start, records_count c.loop-records.records.items)) (inv.held (told.honest honest)) c.args.version inv.versions
     (subst (λ (h : History). IsDamaged c.args.version (ring_of old) old.place old.used (old.last + 1) (seen h)) (inv.history (told.honest honest))
     (told.damaged honest is)) rs)
 
@@ -162,7 +162,7 @@ pub returns-clause-counted : goal.returns-clause-counted
 returns-clause-counted g c =
     let inv = c.loop-records.invariant in
     counted (records_of c.loop-records.records.items) c.loop-records.journal.edits c.loop-records.journal.used c.loop-records.journal.last inv.lengths inv.used
-    (omega (arith, inv.last, ap (λ (s : Start). s.number) inv.start, records_count c.loop-records.records.items))
+    (omega (arith, inv.last, ap (λ (s : RecordStart). s.number) inv.start, records_count c.loop-records.records.items))
 
 pub returns-clause-versions : goal.returns-clause-versions
 returns-clause-versions g c = c.loop-records.invariant.versions
@@ -174,9 +174,9 @@ returns-clause-found g c honest =
     let old = c.loop-records.journal in
     let image : Image = seen (g.D.Sectors.history c.args.disk.now) in
     let ring : Ring = record { first = c.args.first; places = c.args.places } in
-    let start : Start = start_of c.args.start.place c.args.start.edits in
+    let start : RecordStart = start_of c.args.start.place c.args.start.edits in
     whole_journal ring (ring_of old) start old.place old.edits old.used old.last (records_of c.loop-records.records.items) image inv.ring inv.start inv.used
-    (omega (arith, inv.last, ap (λ (s : Start). s.number) inv.start, records_count c.loop-records.records.items)) (inv.held (ok.honest honest)) c.args.version inv.versions
+    (omega (arith, inv.last, ap (λ (s : RecordStart). s.number) inv.start, records_count c.loop-records.records.items)) (inv.held (ok.honest honest)) c.args.version inv.versions
     (subst (λ (h : History). EndsAt c.args.version (ring_of old) old.place old.used (old.last + 1) (seen h)) (inv.history (ok.honest honest))
     (MatchOption-at_none (EndsAt c.args.version (ring_of old) old.place old.used (old.last + 1) (seen (g.D.Sectors.history c.loop-records.disk)))
     (λ (r : Record). PartsStand (ring_of old) old.place old.used (old.last + 1) (record_data r)

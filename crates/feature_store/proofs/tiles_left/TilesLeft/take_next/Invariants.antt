@@ -1,15 +1,15 @@
 use Rattle.std.proofs.Common.{◌≡◌, ◌≤◌, ◌+◌, ◌-◌}
-use Rattle.feature_model.specs.declared.limits.TheConstants.{GREATEST_ZOOM}
+use Rattle.feature_model.specs.declared.limits.TheConstants.{MAX_ZOOM}
 use Rattle.feature_store.specs.Inside.{entries_data}
 use Rattle.feature_store.specs.Left.{AllStay, left_of}
 use Rattle.feature_store.proofs.tiles_left.TilesLeft.take_next.Given as goal
 
 abbrev pub invariant-loop-self : goal.invariant-loop-self
 invariant-loop-self l = record {
-  zoom : l.self.zoom ≤ GREATEST_ZOOM + 1;
+  zoom : l.self.zoom ≤ MAX_ZOOM + 1;
   next : l.self.next ≡ l.initial.self.next;
   stay : AllStay (entries_data l.features.entries) l.initial.self.zoom (left_of l.initial.self.walk) l.self.zoom (left_of l.self.walk);
 }
 
 abbrev pub decreases-loop-self : goal.decreases-loop-self
-decreases-loop-self l = GREATEST_ZOOM + 1 - l.self.zoom
+decreases-loop-self l = MAX_ZOOM + 1 - l.self.zoom

@@ -1,6 +1,6 @@
 use Rattle.std.proofs.Common.{◌∙◌, ℕ, [], inl, inr, refl, ap, subst, arith}
 use Rattle.std.specs.Prelude.{option_map}
-use Rattle.map_replies.specs.declared.parts.Part.TheVariants.{Whole, Between, Beyond}
+use Rattle.map_replies.specs.declared.parts.ArchiveRange.TheVariants.{Whole, Between, Beyond}
 use Rattle.map_replies.specs.Parts.{IsPart, part_reply}
 use Rattle.map_replies.specs.State.{asked_service}
 use Rattle.map_replies.proofs.SendingLemmas.{archive_answered, whole_is}

@@ -1,6 +1,6 @@
 use Rattle.std.proofs.Common.{◌∙◌, ℕ, ap, arith}
 use Rattle.http_serve.specs.Reply.{content_bytes}
-use Rattle.map_replies.specs.declared.parts.Part.TheVariants.{Between}
+use Rattle.map_replies.specs.declared.parts.ArchiveRange.TheVariants.{Between}
 use Rattle.map_replies.specs.Parts.{part_reply}
 use Rattle.map_replies.specs.State.{asked_service}
 use Rattle.map_replies.proofs.SendingLemmas.{part_sent, part_failed}

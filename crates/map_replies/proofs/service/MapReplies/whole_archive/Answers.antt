@@ -1,5 +1,5 @@
 use Rattle.std.proofs.Common.{◌∙◌, ℕ, ap, subst}
-use Rattle.map_replies.specs.declared.parts.Part.TheVariants.{Whole}
+use Rattle.map_replies.specs.declared.parts.ArchiveRange.TheVariants.{Whole}
 use Rattle.map_replies.specs.Sending.{Begins}
 use Rattle.map_replies.specs.State.{asked_service}
 use Rattle.map_replies.proofs.SendingLemmas.{part_sent, part_failed}

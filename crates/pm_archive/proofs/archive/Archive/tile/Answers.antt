@@ -1,6 +1,6 @@
 use Rattle.std.proofs.Common.{◌≡◌, ℕ, List, Ok, MatchResult, option_map, sym, subst}
 use Rattle.reader.proofs.Steps.{gives_found}
-use Rattle.pm_directory.specs.declared.entry.Entry.{Entry}
+use Rattle.pm_directory.specs.declared.entry.DirectoryEntry.{DirectoryEntry}
 use Rattle.pm_archive.specs.Source.{ArchiveView}
 use Rattle.pm_archive.specs.Entries.{HasEntries}
 use Rattle.pm_archive.specs.Archive.{content_of}
@@ -12,7 +12,7 @@ use Rattle.pm_archive.proofs.archive.Archive.tile.Goals as goal
 
 pub returns-clause-content : goal.returns-clause-content
 returns-clause-content g c =
-    subst (λ (a : ArchiveView g.row.B.Denot). (bytes : List ℕ) (tiles : List Entry) → g.B.Bytes.holds c.content_below.new.source bytes
+    subst (λ (a : ArchiveView g.row.B.Denot). (bytes : List ℕ) (tiles : List DirectoryEntry) → g.B.Bytes.holds c.content_below.new.source bytes
     → HasEntries bytes a.header tiles
     → MatchResult c.content_below.result (λ content. option_map (λ v. v.items) content ≡ content_of bytes a.header tiles c.args.id) IsOutside) c.self.view_is
     (λ bytes tiles holds has.
@@ -20,6 +20,6 @@ returns-clause-content g c =
     let dir = (c.self.invariant.2 bytes (c.content_below.ensures.source.no_others bytes holds)).1 in
     gives_found IsOutside inside_or_outside (option_map (λ v. v.items)) c.content_below.result
     (looked_at bytes h c.deref.result.now c.args.id) (content_of bytes h tiles c.args.id)
-    (subst (λ (es : List Entry). looked_at bytes h es c.args.id ≡ Ok (content_of bytes h tiles c.args.id)) (sym c.deref.ensures.value)
+    (subst (λ (es : List DirectoryEntry). looked_at bytes h es c.args.id ≡ Ok (content_of bytes h tiles c.args.id)) (sym c.deref.ensures.value)
     (looked_below bytes h c.self.inside.root.items tiles c.args.id dir has))
     (c.content_below.ensures.first bytes holds tt))

@@ -1,5 +1,5 @@
 use Rattle.std.proofs.Common.{◌≡◌, ℕ, List, IfOk, IfErr, MatchResult, subst}
-use Rattle.pm_directory.specs.declared.entry.Entry.{Entry}
+use Rattle.pm_directory.specs.declared.entry.DirectoryEntry.{DirectoryEntry}
 use Rattle.pm_archive.specs.declared.report.Report.{Report}
 use Rattle.pm_archive.specs.Source.{ArchiveView}
 use Rattle.pm_archive.specs.Answers.{IsOutside, UnlessOutside}
@@ -28,5 +28,5 @@ pub returns-clause-fault : goal.returns-clause-fault
 returns-clause-fault g c =
     subst (λ (a : ArchiveView g.row.B.Denot). (bytes : List ℕ) → g.B.Bytes.holds c.verdict_below.new.source bytes
     → IfErr c.verdict_below.result (UnlessOutside (VerifyingHas bytes a.header a.root))) c.self.view_is
-    (subst (λ (root : List Entry). (bytes : List ℕ) → g.B.Bytes.holds c.verdict_below.new.source bytes
+    (subst (λ (root : List DirectoryEntry). (bytes : List ℕ) → g.B.Bytes.holds c.verdict_below.new.source bytes
     → IfErr c.verdict_below.result (UnlessOutside (VerifyingHas bytes c.self.inside.header root))) c.deref.ensures.value c.verdict_below.ensures.fault)

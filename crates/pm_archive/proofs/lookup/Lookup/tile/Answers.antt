@@ -1,6 +1,6 @@
 use Rattle.std.proofs.Common.{◌≡◌, ℕ, List, Ok, Option, MatchResult, option_map, sym, subst}
 use Rattle.reader.proofs.Steps.{gives_found}
-use Rattle.pm_directory.specs.declared.entry.Entry.{Entry}
+use Rattle.pm_directory.specs.declared.entry.DirectoryEntry.{DirectoryEntry}
 use Rattle.pm_archive.specs.Archive.{IsArchiveOf}
 use Rattle.pm_archive.specs.Answers.{IsOutside}
 use Rattle.pm_archive.specs.Looked.{looked_at}
@@ -17,6 +17,6 @@ returns-clause-content g c =
     let root = c.deref.ensures.value in
     gives_found IsOutside inside_or_outside (option_map (λ v. v.items)) c.content_below.result
     (looked_at bytes c.self.inside.header c.deref.result.now c.args.id) (content c.args.id)
-    (subst (λ (es : List Entry). looked_at bytes c.self.inside.header es c.args.id ≡ Ok (content c.args.id)) (sym root)
+    (subst (λ (es : List DirectoryEntry). looked_at bytes c.self.inside.header es c.args.id ≡ Ok (content c.args.id)) (sym root)
     (looked_content bytes c.self.inside.header c.self.inside.root.items content c.args.id of.sections of.root archive))
     (c.content_below.ensures.first bytes holds of.leaf))

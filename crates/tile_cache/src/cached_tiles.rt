@@ -11,17 +11,17 @@ use std::marker::Model;
 use std::num::NonZeroUsize;
 
 /// The most tiles that are kept.
-pub const MOST_TILES_KEPT: usize = 256;
+pub const MAX_CACHED_TILES: usize = 256;
 
 /// The most bytes that all kept tiles have together: 64 MiB.
-pub const MOST_BYTES_KEPT: usize = 67_108_864;
+pub const MAX_CACHED_BYTES: usize = 67_108_864;
 
 /// The most bytes of a tile that is kept: a quarter of all.
-pub const MOST_BYTES_OF_ONE: usize = MOST_BYTES_KEPT / 4;
+pub const MAX_TILE_BYTES: usize = MAX_CACHED_BYTES / 4;
 
 /// A zoom, a column and a row.
 #[derive(Clone, Copy, Debug, PartialEq, Eq, Hash)]
-pub struct Place {
+pub struct TileKey {
     pub z: u8,
     pub x: u32,
     pub y: u32,
@@ -38,16 +38,16 @@ pub enum Origin {
 
 /// The bytes of a tile, and the number of the edit as of which they are right.
 #[derive(Debug, Drop)]
-pub struct KeptTile {
+pub struct CachedTile {
     pub origin: Origin,
     pub number: u64,
     pub bytes: Vec<u8>,
 }
 
-/// Tiles made or read before, by their place: at most `MOST_TILES_KEPT`, and at most `MOST_BYTES_KEPT` bytes.
+/// Tiles made or read before, by their place: at most `MAX_CACHED_TILES`, and at most `MAX_CACHED_BYTES` bytes.
 #[derive(Drop)]
 pub struct TileCache {
-    tiles: LruCache<Place, KeptTile>,
+    tiles: LruCache<TileKey, CachedTile>,
     /// How many bytes they have together.
     bytes: usize,
 }
@@ -65,10 +65,10 @@ impl Model for TileCache {
 }
 
 /// The place of a tile.
-fn place_of(at: TileAt) -> Place
+fn place_of(at: TileAt) -> TileKey
     ensures { result ≡ record { z = at.z; x = at.x; y = at.y } }
 {
-    Place {
+    TileKey {
         z: at.z,
         x: at.x,
         y: at.y,
@@ -86,7 +86,7 @@ fn counts(origin: Origin, reads: bool) -> bool
 }
 
 /// How many bytes the tile that gave way had, if one did.
-fn bytes_freed(displaced: Option<(Place, KeptTile)>) -> usize
+fn bytes_freed(displaced: Option<(TileKey, CachedTile)>) -> usize
     ensures { result ≡ option_map_or (λ e. length e.1.bytes.items) displaced 0 }
 {
     match displaced {
@@ -97,14 +97,14 @@ fn bytes_freed(displaced: Option<(Place, KeptTile)>) -> usize
 
 /// Puts a tile first, and returns how many bytes all have together then.
 fn put_first(
-    tiles: &mut LruCache<Place, KeptTile>,
+    tiles: &mut LruCache<TileKey, CachedTile>,
     bytes: usize,
-    place: Place,
-    tile: KeptTile,
+    place: TileKey,
+    tile: CachedTile,
 ) -> Result<usize, AllocError>
     requires count { bytes ≡ bytes_of tiles.old.entries }
     requires cap { length tiles.old.entries ≤ tiles.old.cap }
-    requires most { bytes ≤ MOST_BYTES_KEPT }
+    requires most { bytes ≤ MAX_CACHED_BYTES }
     requires small { IsSmall tile.bytes.items }
     ensures entries { OnOk result (tiles.new ≡ lru_cache (put_entries is_place tiles.old place tile) tiles.old.cap) }
     ensures count { IfOk result (λ n. n ≡ bytes_of tiles.new.entries) }
@@ -119,15 +119,15 @@ fn put_first(
 }
 
 /// Lets tiles go, the one asked for longest ago first, until the others have few enough bytes together. Returns how many they have.
-fn drop_oldest(tiles: &mut LruCache<Place, KeptTile>, mut bytes: usize) -> usize
+fn drop_oldest(tiles: &mut LruCache<TileKey, CachedTile>, mut bytes: usize) -> usize
     requires count { bytes ≡ bytes_of tiles.old.entries }
     requires first { IsFirstSmall tiles.old.entries }
     ensures front { IsFront tiles.old tiles.new }
     ensures count { result ≡ bytes_of tiles.new.entries }
-    ensures most { result ≤ MOST_BYTES_KEPT }
-    ensures same { bytes ≤ MOST_BYTES_KEPT → tiles.new ≡ tiles.old }
+    ensures most { result ≤ MAX_CACHED_BYTES }
+    ensures same { bytes ≤ MAX_CACHED_BYTES → tiles.new ≡ tiles.old }
 {
-    while bytes > MOST_BYTES_KEPT {
+    while bytes > MAX_CACHED_BYTES {
         bytes -= bytes_freed(tiles.pop_lru());
     }
     bytes
@@ -140,7 +140,7 @@ impl TileCache {
     pub fn new(alloc: Global) -> Result<TileCache, AllocError>
         ensures { IfOk result (λ c. c.kept ≡ []) }
     {
-        let most = NonZeroUsize::new(MOST_TILES_KEPT).unwrap();
+        let most = NonZeroUsize::new(MAX_CACHED_TILES).unwrap();
         Ok(TileCache {
             tiles: LruCache::new(alloc, most)?,
             bytes: 0,
@@ -174,22 +174,22 @@ impl TileCache {
         }
     }
 
-    /// Keeps a tile, if it has at most `MOST_BYTES_OF_ONE` bytes; those asked for longest ago give way, as many as must.
+    /// Keeps a tile, if it has at most `MAX_TILE_BYTES` bytes; those asked for longest ago give way, as many as must.
     ///
     /// The error: an allocation failed, and all is kept as it was.
-    pub fn keep(&mut self, at: TileAt, tile: KeptTile) -> Result<(), AllocError>
+    pub fn keep(&mut self, at: TileAt, tile: CachedTile) -> Result<(), AllocError>
         ensures kept { OnOk result (IsSmall tile.bytes.items → kept_at self.new at.z at.x at.y ≡ Some (tile_view tile)) }
         ensures large { ¬ IsSmall tile.bytes.items → self.new ≡ self.old }
         ensures others { OnOk result (KeepsFewer at.z at.x at.y self.old self.new) }
         // Nothing gives way while there is room.
-        ensures room { length self.old.kept < MOST_TILES_KEPT → bytes_in self.old + length tile.bytes.items ≤ MOST_BYTES_KEPT
+        ensures room { length self.old.kept < MAX_CACHED_TILES → bytes_in self.old + length tile.bytes.items ≤ MAX_CACHED_BYTES
             → OnOk result (KeepsOthers at.z at.x at.y self.old self.new) }
-        ensures most_tiles { length self.new.kept ≤ MOST_TILES_KEPT }
-        ensures most_bytes { bytes_in self.new ≤ MOST_BYTES_KEPT }
+        ensures most_tiles { length self.new.kept ≤ MAX_CACHED_TILES }
+        ensures most_bytes { bytes_in self.new ≤ MAX_CACHED_BYTES }
         ensures refused { OnErr result (self.new ≡ self.old) }
     {
         let before = self.bytes;
-        if tile.bytes.len() > MOST_BYTES_OF_ONE {
+        if tile.bytes.len() > MAX_TILE_BYTES {
             return Ok(());
         }
         match put_first(&mut self.tiles, before, place_of(at), tile) {

@@ -2,7 +2,7 @@ use Rattle.std.proofs.Common.{refl, subst, sym, ◌∙◌, arith}
 use Rattle.std.specs.Map.{lookup_entry}
 use Rattle.tile_cache.specs.Kept.{is_place, KeepsSame}
 use Rattle.tile_cache.proofs.Places.{promoted_same, length_promoted, seen}
-use Rattle.tile_cache.proofs.kept_tiles.TileCache.promote.Goals as goal
+use Rattle.tile_cache.proofs.cached_tiles.TileCache.promote.Goals as goal
 
 pub invariant_of-self : goal.invariant_of-self
 invariant_of-self c =

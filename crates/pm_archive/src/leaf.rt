@@ -2,7 +2,7 @@
 
 ghost use Rattle.std.specs.Prelude.{◌≡◌, ◌↔◌, ℕ, ◌≤◌, List, Err, IfOk, OnOk, IsTrue, Option, None};
 ghost use Rattle.reader.specs.Reading.{GivesUnless};
-ghost use Rattle.pm_directory.specs.declared.entry.Entry.{Entry};
+ghost use Rattle.pm_directory.specs.declared.entry.DirectoryEntry.{DirectoryEntry};
 ghost use Rattle.pm_directory.specs.Directory.{IsAscending};
 ghost use Rattle.byte_source.specs.Source.{Keeps};
 ghost use Rattle.pm_archive.specs.Sections.{end_of};
@@ -16,14 +16,14 @@ use crate::fault::ArchiveFault;
 use crate::limits::KEPT_LEAF_BYTES;
 use crate::reading::directory_of;
 use byte_source::Bytes;
-use pm_directory::{Entry, find};
+use pm_directory::{DirectoryEntry, find};
 use pm_header::Header;
 use std::alloc::Global;
 use std::marker::Model;
 
 // The entry of a directory that leads to an id.
 #[tactic(auto, unfolding(crate::specs::Looked::leading_of))]
-pub(crate) fn leading(entries: &[Entry], id: u64) -> Option<Entry>
+pub(crate) fn leading(entries: &[DirectoryEntry], id: u64) -> Option<DirectoryEntry>
     requires { IsAscending entries.now }
     ensures { result ≡ leading_of id entries.now }
 {
@@ -33,8 +33,8 @@ pub(crate) fn leading(entries: &[Entry], id: u64) -> Option<Entry>
 // A leaf directory that was read.
 #[derive(Drop)]
 pub(crate) struct Leaf {
-    entry: Entry,
-    entries: Vec<Entry>,
+    entry: DirectoryEntry,
+    entries: Vec<DirectoryEntry>,
 }
 
 impl Model for Leaf {
@@ -51,7 +51,7 @@ impl Leaf {
         alloc: Global,
         source: &mut B,
         header: &Header,
-        entry: Entry,
+        entry: DirectoryEntry,
     ) -> Result<Leaf, ArchiveFault>
         requires { end_of header.now.leaves ≤ B.count source.old }
         ensures source { Keeps B.count B.holds B.fails B.unchanged source.old source.new }
@@ -69,14 +69,14 @@ impl Leaf {
     }
 
     // It is the one that this entry names.
-    fn is_of(&self, entry: Entry) -> bool
+    fn is_of(&self, entry: DirectoryEntry) -> bool
         ensures { IsTrue result ↔ (self.now.entry ≡ entry) }
     {
         self.entry == entry
     }
 
     // Its entry that leads to an id.
-    fn leading(&self, id: u64) -> Option<Entry>
+    fn leading(&self, id: u64) -> Option<DirectoryEntry>
         ensures { result ≡ leading_of id self.now.entries }
     {
         leading(&self.entries, id)
@@ -89,10 +89,10 @@ pub(crate) fn leading_below<B: Bytes>(
     alloc: Global,
     source: &mut B,
     header: &Header,
-    entry: Entry,
+    entry: DirectoryEntry,
     kept: &mut Option<Leaf>,
     id: u64,
-) -> Result<Option<Entry>, ArchiveFault>
+) -> Result<Option<DirectoryEntry>, ArchiveFault>
     requires { end_of header.now.leaves ≤ B.count source.old }
     ensures source { Keeps B.count B.holds B.fails B.unchanged source.old source.new }
     ensures still { (bytes : List ℕ) → B.holds source.new bytes → IsKeptOf bytes header.now kept.old → IsKeptOf bytes header.now kept.new }

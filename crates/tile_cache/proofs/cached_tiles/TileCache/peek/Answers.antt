@@ -1,7 +1,7 @@
 use Rattle.std.proofs.Common.{◌≡◌, Some, None, refl, sym, ◌∙◌, subst}
 use Rattle.tile_cache.specs.Kept.{CacheView, kept_at, tile_view}
 use Rattle.tile_cache.proofs.Places.{found_in, stale, not_counted, current}
-use Rattle.tile_cache.proofs.kept_tiles.TileCache.peek.Goals as goal
+use Rattle.tile_cache.proofs.cached_tiles.TileCache.peek.Goals as goal
 
 pub returns-then-kept-newest : goal.returns-then-kept-newest
 returns-then-kept-newest c =

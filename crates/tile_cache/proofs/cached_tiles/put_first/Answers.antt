@@ -1,6 +1,6 @@
 use Rattle.std.proofs.Common.{arith}
 use Rattle.tile_cache.proofs.Places.{bytes_put}
-use Rattle.tile_cache.proofs.kept_tiles.put_first.Goals as goal
+use Rattle.tile_cache.proofs.cached_tiles.put_first.Goals as goal
 
 pub overflow_sub-result : goal.overflow_sub-result
 overflow_sub-result c =

@@ -1,7 +1,7 @@
 use Rattle.std.proofs.Common.{refl, ap, arith, length, ◌-◌, length-take}
 use Rattle.tile_cache.specs.Entries.{bytes_of}
 use Rattle.tile_cache.proofs.Places.{front_goes_on, front_of_all, bytes_without_last, some_bytes}
-use Rattle.tile_cache.proofs.kept_tiles.drop_oldest.Goals as goal
+use Rattle.tile_cache.proofs.cached_tiles.drop_oldest.Goals as goal
 
 pub loop-bytes-init : goal.loop-bytes-init
 loop-bytes-init c = record { front = front_of_all c.args.tiles.now; count = c.requires.count; same = λ _. refl }

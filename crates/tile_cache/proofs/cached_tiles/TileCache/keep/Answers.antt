@@ -1,12 +1,12 @@
 use Rattle.std.proofs.Common.{◌∙◌, sym, ap, subst, arith}
 use Rattle.tile_cache.specs.Kept.{KeepsOthers, KeepsFewer}
 use Rattle.tile_cache.proofs.Places.{seen, small_put, count_seen, bytes_seen, front_is, tile_kept, others_kept, others_with_room, few_kept}
-use Rattle.tile_cache.proofs.kept_tiles.TileCache.keep.Goals as goal
+use Rattle.tile_cache.proofs.cached_tiles.TileCache.keep.Goals as goal
 
 pub drop_oldest-self-inside-requires-clause-first : goal.drop_oldest-self-inside-requires-clause-first
 drop_oldest-self-inside-requires-clause-first c =
     rw c.in-Ok.ensures.entries
-    (small_put c.self.inside.tiles c.place_of.result c.args.tile (omega (arith, c.if-len-gt-MOST_BYTES_OF_ONE.false, c.len.ensures)))
+    (small_put c.self.inside.tiles c.place_of.result c.args.tile (omega (arith, c.if-len-gt-MAX_TILE_BYTES.false, c.len.ensures)))
 
 pub invariant_of-self : goal.invariant_of-self
 invariant_of-self c =
