@@ -3,7 +3,7 @@
 set -euo pipefail
 here="$(cd "$(dirname "$0")" && pwd)"
 work="$(mktemp -d)"
-python3 "$here/../scratch.py" "$work" index_bench box_index anyhow
+python3 "$here/../scratch.py" "$work" index_bench box_index feature_model anyhow
 cp "$here/main.rt.txt" "$work/crates/index_bench/src/main.rt"
 cd "$work/crates/index_bench"
 rt run

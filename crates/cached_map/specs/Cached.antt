@@ -1,6 +1,6 @@
 -- A map with tiles that were made of it, and which of them are still its tiles.
 use Rattle.std.specs.Prelude.{◌≡◌, ◌⊎◌, ℕ, ◌≤◌, List, [], ◌∷◌, All, Option, Some, None}
-use Rattle.box_index.specs.declared.span.WorldBox.{WorldBox}
+use Rattle.feature_model.specs.declared.feature.WorldBox.{WorldBox}
 use Rattle.feature_model.specs.Data.{FeatureData, ChangeData, put, delete}
 use Rattle.feature_store.specs.Content.{IsTileContent}
 use Rattle.feature_store.specs.Indexed.{world_box}

@@ -12,8 +12,7 @@ ghost use Rattle.tile_cache.specs.Touched.{Mark, Remembers, IsNewest, IsNewestOf
 ghost use Rattle.tile_cache.specs.declared.cached_tiles.Origin.TheVariants.{Cut, Read};
 ghost use Rattle.cached_map.specs.Cached.{box_of, with_mark, marks_of, marks_after, WasMap, AreReadRight, KeepsOrNot, MayKeep};
 
-use box_index::WorldBox;
-use feature_model::{Change, Feature};
+use feature_model::{Change, Feature, WorldBox};
 use feature_store::Store;
 use hilbert_id::TileAt;
 use mvt_write::write_tile;

@@ -5,6 +5,17 @@ pub struct World {
     pub y: u32,
 }
 
+/// A box of the world: `x0` to `x1` across and `y0` to `y1` down, ends included.
+///
+/// Nothing asks for `x0 <= x1`: a box with `x1 < x0` meets those that reach over both, and likewise down.
+#[derive(Clone, Copy, Debug, PartialEq, Eq)]
+pub struct WorldBox {
+    pub x0: u32,
+    pub x1: u32,
+    pub y0: u32,
+    pub y1: u32,
+}
+
 /// What a feature is made of.
 #[derive(Debug, PartialEq, Eq, Drop)]
 pub enum Geometry {

@@ -9,7 +9,7 @@ mod limits;
 
 pub use copies::copy;
 pub use fault::EditFault;
-pub use feature::{Change, Edit, EditValue, Feature, Geometry, Tag, World};
+pub use feature::{Change, Edit, EditValue, Feature, Geometry, Tag, World, WorldBox};
 pub use lengths::{change_text_len, put_text_len};
 pub use limits::{
     MAX_CHANGES, MAX_EDIT_BYTES, MAX_ELEMENTS, MAX_NAME_BYTES, MAX_TAGS, MAX_TEXT_BYTES, MAX_ZOOM,

@@ -3,7 +3,7 @@ use Rattle.std.specs.Prelude.{ℕ, List, map, All, Contains, IsSome}
 use Rattle.std.specs.Ordering.{nat_cmp}
 use Rattle.std.specs.List.Sorted.{IsPermutation, IsStrictlySortedBy}
 use Rattle.box_index.specs.declared.entry.IndexEntry.{IndexEntry}
-use Rattle.box_index.specs.declared.span.WorldBox.{WorldBox}
+use Rattle.feature_model.specs.declared.feature.WorldBox.{WorldBox}
 use Rattle.feature_model.specs.Data.{FeatureData}
 use Rattle.tile_cutter.specs.declared.reach.Corners.{Corners}
 use Rattle.tile_cutter.specs.Cut.{feature_cut}

@@ -4,8 +4,8 @@ ghost use Rattle.feature_model.specs.Data.{feature_data};
 ghost use Rattle.feature_store.specs.Indexed.{index_entry, world_box, IsIndexed, ShowsAll};
 ghost use Rattle.feature_store.specs.Store.{FeatureMap, IsMap, feature_at, without_feature};
 
-use box_index::{BoxIndex, IndexEntry, Span, WorldBox};
-use feature_model::{Feature, MAX_ZOOM};
+use box_index::{BoxIndex, IndexEntry, Span};
+use feature_model::{Feature, MAX_ZOOM, WorldBox};
 use hilbert_id::TileAt;
 use std::alloc::{AllocError, Global};
 use tile_cutter::{Corners, bounding_box, tile_box};

@@ -1,6 +1,7 @@
 //! Lines over an index of boxes.
 use crate::lines::{Line, byte, short};
-use box_index::{BoxIndex, IndexEntry, Span, WorldBox};
+use box_index::{BoxIndex, IndexEntry, Span};
+use feature_model::WorldBox;
 use std::alloc::{AllocError, Global};
 use std::mem;
 

@@ -1,6 +1,6 @@
 //! Lines over the newest edits of the world's cells, and over tiles that are kept.
 use crate::lines::{Line, byte, short};
-use box_index::WorldBox;
+use feature_model::WorldBox;
 use hilbert_id::TileAt;
 use std::alloc::{AllocError, Global};
 use tile_cache::{CachedTile, Origin, TileCache, TouchGrid};

@@ -6,7 +6,7 @@ use Rattle.feature_model.specs.declared.limits.TheConstants.{MAX_ZOOM}
 use Rattle.std.proofs.Math.ListN.{get_or}
 use Rattle.std.proofs.Math.Nat.{one-le-pow, mul-le-mul_right}
 use Rattle.std.proofs.lemmas.List.Elements.{All-nil, All-cons, All-head, All-tail, All-weaker, Contains-append_right}
-use Rattle.box_index.specs.declared.span.WorldBox.{WorldBox}
+use Rattle.feature_model.specs.declared.feature.WorldBox.{WorldBox}
 use Rattle.tile_cutter.specs.declared.reach.Corners.{Corners}
 use Rattle.tile_cutter.specs.declared.coordinates.TheConstants.{EXTENT, MARGIN, WORLD_ZOOM}
 use Rattle.tile_cutter.specs.WorldBox.{tile_box, first_shown, last_shown}

@@ -1,6 +1,6 @@
 -- Which edits a grid remembers, and which of them reach a tile.
 use Rattle.std.specs.Prelude.{◌≡◌, ℕ, ◌^◌, ◌-◌, ◌≤◌, ◌⊎◌, List, map, All, Contains, slice_index, nat_le, if◌then◌else◌}
-use Rattle.box_index.specs.declared.span.WorldBox.{WorldBox}
+use Rattle.feature_model.specs.declared.feature.WorldBox.{WorldBox}
 use Rattle.tile_cutter.specs.declared.reach.Corners.{Corners}
 use Rattle.tile_cutter.specs.WorldBox.{tile_box, Meets}
 use Rattle.feature_model.specs.declared.limits.TheConstants.{MAX_ZOOM}

@@ -2,8 +2,7 @@ ghost use Rattle.std.specs.Prelude.{◌≡◌, ℕ, ◌/◌, ◌<◌, ◌≤◌,
 ghost use Rattle.tile_cache.specs.Cells.{cell_at, cells_of, IsWithin, HasCell, RisesTo, IsZeroOrOneOf, IsGreatestIn};
 ghost use Rattle.tile_cache.specs.Touched.{Mark, Remembers, IsNewest, IsNewestOf, shown_box};
 
-use box_index::WorldBox;
-use feature_model::{MAX_ZOOM, World};
+use feature_model::{MAX_ZOOM, World, WorldBox};
 use hilbert_id::TileAt;
 use std::marker::Model;
 use tile_cutter::{Corners, tile_box};
