@@ -25,7 +25,7 @@ def fields_of(crate, record):
 
 
 def functions_of(crate):
-    """The names of a crate's functions, each with the clauses of all functions of that name. A lone clause that is a record counts as its fields."""
+    """The names of a crate's functions, each with the clauses of all functions of that name. A clause that is a record counts as its fields too."""
     found = {}
     for source in (CRATES / crate / "src").rglob("*.rt"):
         clauses = None
@@ -36,7 +36,7 @@ def functions_of(crate):
             clause = re.match(r"\s*ensures (\w+) \{", line)
             if clause and clauses is not None:
                 clauses.append(clause.group(1))
-            record = re.match(r"\s*ensures \{ (\w+)", line)
+            record = re.match(r"\s*ensures (?:\w+ )?\{ (?:\([^()]*\) → )*(\w+)", line)
             if record and clauses is not None:
                 clauses += fields_of(crate, record.group(1))
     return found
