@@ -1,6 +1,7 @@
 //! Reads of the map.
 ghost use Rattle.std.specs.Prelude.{◌≡◌, [], false, Some, IfOk, IfErr};
 ghost use Rattle.feature_model.specs.Data.{feature_data};
+ghost use Rattle.feature_model.specs.Limits.{FeatureFits};
 ghost use Rattle.http_serve.specs.Reply.{reply_view, IsWhole};
 ghost use Rattle.serde_json.specs.View.{view};
 ghost use Rattle.serde_json.specs.Written.{has_float, compact_text};
@@ -14,7 +15,7 @@ use crate::fault::RequestFault;
 use crate::replies;
 use crate::service::MapReplies;
 use edit_json::feature_to_json;
-use feature_model::{Feature, check};
+use feature_model::Feature;
 use hilbert_id::TileAt;
 use http_serve::Reply;
 use sector_disk::Sectors;
@@ -35,15 +36,13 @@ fn json_value(alloc: Global, value: &Value) -> Result<Reply, RequestFault>
     }
 }
 
-/// The reply with the feature of an id. Features of a map are within the limits.
-fn feature_value(alloc: Global, id: u64, feature: &Feature) -> Result<Reply, RequestFault>
+/// The reply with a feature.
+fn feature_value(alloc: Global, feature: &Feature) -> Result<Reply, RequestFault>
+    requires { FeatureFits (feature_data feature.now) }
     ensures reply { IfOk result (λ reply. reply_view [] reply ≡ found_reply (Some (feature_data feature.now))) }
     ensures writable { IfOk result IsWhole }
     ensures fault { IfErr result (λ fault. fault ≡ RequestFault.Memory) }
 {
-    let Ok(()) = check(id, feature) else {
-        return Err(RequestFault::Memory);
-    };
     match feature_to_json(alloc, feature) {
         Ok(value) => json_value(alloc, &value),
         Err(AllocError) => Err(RequestFault::Memory),
@@ -73,7 +72,7 @@ impl<D: Sectors + Drop> MapReplies<D> {
         ensures writable { IfOk result IsWhole }
     {
         match self.service.feature(id) {
-            Some(feature) => feature_value(self.alloc, id, feature),
+            Some(feature) => feature_value(self.alloc, feature),
             None => Err(RequestFault::NotFound),
         }
     }
