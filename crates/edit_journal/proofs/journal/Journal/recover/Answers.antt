@@ -1,7 +1,6 @@
 use Rattle.std.proofs.Common.{◌≡◌, ℕ, List, [], ◌∷◌, ◌++◌, ◌<◌, ◌≤◌, ◌+◌, ◌^◌, ◌∙◌, refl, sym, ap, subst, arith, rules, length}
 use Rattle.std.proofs.Common.{length-append, Err}
 use Rattle.std.proofs.lemmas.List.Elements.{All-nil, All-push}
-use Rattle.std.proofs.lemmas.Option.{MatchOption-at_some, MatchOption-at_none}
 use Rattle.sector_disk.specs.Disk.{History, Image, seen}
 use Rattle.sector_disk.proofs.AskedLaws.{reads_on, reads_none}
 use Rattle.edit_journal.specs.declared.records.Record.{Record}
@@ -49,10 +48,7 @@ loop-records-preserved g c =
     let image : Image = seen (g.D.Sectors.history c.args.disk.now) in
     let ring : Ring = record { first = c.args.first; places = c.args.places } in
     let start : RecordStart = start_of c.args.start.place c.args.start.edits in
-    let fits : IsRecordLength next.version (length next.text.items) × (next.version ≤ c.args.version)
-    × (old.used + parts_of (length next.text.items) ≤ old.places) × (old.last + 1 < 2 ^ 64) =
-    MatchOption-at_some _ (λ (r : Record). IsRecordLength r.version (length r.text.items) × (r.version ≤ c.args.version)
-    × (old.used + parts_of (length r.text.items) ≤ old.places) × (old.last + 1 < 2 ^ 64)) next c.in-Some.is ok.fits in
+    let fits = rw c.in-Some.is at ok.fits in
     let pushed : records_of c.push.new.self.items ≡ rs ++ record_data next ∷ [] =
     ap records_of c.in-Ok.ensures.items ∙ records_more c.loop-records.records.items next in
     let counts : length c.push.new.self.items ≡ length c.loop-records.records.items + 1 =
@@ -69,16 +65,14 @@ loop-records-preserved g c =
       versions = subst (AreUpTo c.args.version) (sym pushed)
           (All-push (λ (r : RecordData). r.version ≤ c.args.version) rs (record_data next) inv.versions fits.1);
       held = λ honest.
+          let before = ok.disk.was_honest honest in
           let stands : PartsStand (ring_of old) old.place old.used (old.last + 1) (record_data next) image =
           subst (λ (h : History). PartsStand (ring_of old) old.place old.used (old.last + 1) (record_data next) (seen h))
-          (inv.disk.same_history (ok.disk.was_honest honest))
-          (MatchOption-at_some (EndsAt c.args.version (ring_of old) old.place old.used (old.last + 1) (seen (g.D.Sectors.history c.loop-records.disk)))
-          (λ (r : Record). PartsStand (ring_of old) old.place old.used (old.last + 1) (record_data r)
-          (seen (g.D.Sectors.history c.loop-records.disk))) next c.in-Some.is (ok.next honest)) in
+          (inv.disk.same_history before) (rw c.in-Some.is at ok.next honest) in
           subst (λ (rs : List RecordData). HoldsRecords ring start rs image) (sym pushed)
           (with_next ring (ring_of old) start old.place old.edits old.used old.last rs image inv.ring inv.start inv.used
           (omega (arith, inv.last, ap (λ (s : RecordStart). s.number) inv.start, records_count c.loop-records.records.items))
-          (inv.held (ok.disk.was_honest honest)) (record_data next) fits.0 fits.2 fits.3 stands);
+          (inv.held before) (record_data next) fits.0 fits.2 fits.3 stands);
     }
 
 pub loop-records-smaller : goal.loop-records-smaller
@@ -87,10 +81,7 @@ loop-records-smaller g c =
     let old = c.loop-records.journal in
     let next = c.in-Some.next in
     let added = c.with_record-journal.ensures in
-    let fits : IsRecordLength next.version (length next.text.items) × (next.version ≤ c.args.version)
-    × (old.used + parts_of (length next.text.items) ≤ old.places) × (old.last + 1 < 2 ^ 64) =
-    MatchOption-at_some _ (λ (r : Record). IsRecordLength r.version (length r.text.items) × (r.version ≤ c.args.version)
-    × (old.used + parts_of (length r.text.items) ≤ old.places) × (old.last + 1 < 2 ^ 64)) next c.in-Some.is ok.fits in
+    let fits = rw c.in-Some.is at ok.fits in
     omega (arith, added.used, c.len.ensures, fits.0.1, fits.2, ap (λ (r : Ring). r.places) added.same.0)
 
 pub returns-in_err-next-clause-failed : goal.returns-in_err-next-clause-failed
@@ -114,17 +105,11 @@ returns-in_err-next-clause-damaged g c rs honest =
     (subst (λ (h : History). IsDamaged c.args.version (ring_of old) old.place old.used (old.last + 1) (seen h)) (inv.disk.same_history before)
     (told.damaged honest is)) rs)
 
-pub returns-clause-same : goal.returns-clause-same
-returns-clause-same g c = (c.loop-records.invariant.ring, c.loop-records.invariant.start)
-
 pub returns-clause-counted : goal.returns-clause-counted
 returns-clause-counted g c =
     let inv = c.loop-records.invariant in
     counted (records_of c.loop-records.records.items) c.loop-records.journal.edits c.loop-records.journal.used c.loop-records.journal.last inv.lengths inv.used
     (omega (arith, inv.last, ap (λ (s : RecordStart). s.number) inv.start, records_count c.loop-records.records.items))
-
-pub returns-clause-versions : goal.returns-clause-versions
-returns-clause-versions g c = c.loop-records.invariant.versions
 
 pub returns-clause-found : goal.returns-clause-found
 returns-clause-found g c honest =
@@ -139,6 +124,4 @@ returns-clause-found g c honest =
     (omega (arith, inv.last, ap (λ (s : RecordStart). s.number) inv.start, records_count c.loop-records.records.items)) (inv.held before)
     c.args.version inv.versions
     (subst (λ (h : History). EndsAt c.args.version (ring_of old) old.place old.used (old.last + 1) (seen h)) (inv.disk.same_history before)
-    (MatchOption-at_none (EndsAt c.args.version (ring_of old) old.place old.used (old.last + 1) (seen (g.D.Sectors.history c.loop-records.disk)))
-    (λ (r : Record). PartsStand (ring_of old) old.place old.used (old.last + 1) (record_data r)
-    (seen (g.D.Sectors.history c.loop-records.disk))) c.in_default.is (ok.next honest)))
+    (rw c.in_default.is at ok.next honest))
