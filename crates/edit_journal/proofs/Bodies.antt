@@ -1,5 +1,5 @@
 -- The bodies of a record are written one after the other, and synced.
-use Rattle.std.proofs.Common.{◌≡◌, ◌⊎◌, inl, inr, ⊎_elim, ℕ, ◌<◌, ◌≤◌, ◌+◌, List, length, sym, ◌∙◌, ap, arith, Result}
+use Rattle.std.proofs.Common.{◌≡◌, inl, inr, ⊎_elim, ℕ, ◌<◌, ◌≤◌, ◌+◌, List, length, sym, ◌∙◌, ap, arith, Result}
 use Rattle.std.proofs.lemmas.Bool.{cases_eq}
 use Rattle.sector_disk.specs.Disk.{History, Image, seen, FailedWrite, Writes, Syncs}
 use Rattle.sector_disk.specs.Disk.History.{wrote}

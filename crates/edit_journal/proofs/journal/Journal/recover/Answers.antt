@@ -1,15 +1,12 @@
-use Rattle.std.proofs.Common.{◌≡◌, ℕ, List, [], ◌∷◌, ◌++◌, ◌<◌, ◌≤◌, ◌+◌, ◌^◌, ◌∙◌, refl, sym, ap, subst, arith, rules, length}
+use Rattle.std.proofs.Common.{◌≡◌, List, [], ◌∷◌, ◌++◌, ◌≤◌, ◌+◌, ◌∙◌, refl, sym, ap, subst, arith, rules, length}
 use Rattle.std.proofs.Common.{length-append, Err}
 use Rattle.std.proofs.lemmas.List.Elements.{All-nil, All-push}
 use Rattle.sector_disk.specs.Disk.{History, Image, seen}
 use Rattle.sector_disk.proofs.AskedLaws.{reads_on, reads_none}
-use Rattle.edit_journal.specs.declared.records.Record.{Record}
-use Rattle.edit_journal.specs.declared.fault.JournalFault.{JournalFault}
-use Rattle.edit_journal.specs.declared.fault.JournalFault.TheVariants.{Damaged}
-use Rattle.edit_journal.specs.Records.{RecordData, record_data, records_of, IsRecordLength, AreUpTo, parts_of}
+use Rattle.edit_journal.specs.Records.{RecordData, record_data, records_of, AreUpTo}
 use Rattle.edit_journal.specs.Ring.{Ring, RecordStart, AreRecords, places_of, HoldsRecords}
 use Rattle.edit_journal.specs.Appends.{ring_of, start_of}
-use Rattle.edit_journal.specs.Recovers.{EndsAt, IsJournal, PartsStand, IsDamaged, IsRecoverFault}
+use Rattle.edit_journal.specs.Recovers.{EndsAt, PartsStand, IsDamaged}
 use Rattle.edit_journal.proofs.Heads.{places_push, records_push}
 use Rattle.edit_journal.proofs.Recovers.{no_records}
 use Rattle.edit_journal.proofs.Reading.{records_more, records_count, counted, whole_journal, no_journal, with_next}
