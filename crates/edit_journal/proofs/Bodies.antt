@@ -1,8 +1,8 @@
 -- The bodies of a record are written one after the other, and synced.
-use Rattle.std.proofs.Common.{◌≡◌, ◌⊎◌, inl, inr, ⊎_elim, ℕ, ◌<◌, ◌≤◌, ◌+◌, List, length, sym, ◌∙◌, ap, arith, Result}
+use Rattle.std.proofs.Common.{◌≡◌, inl, inr, ⊎_elim, ℕ, ◌<◌, ◌≤◌, ◌+◌, List, length, sym, ◌∙◌, ap, arith, Result}
 use Rattle.std.proofs.lemmas.Bool.{cases_eq}
 use Rattle.sector_disk.specs.Disk.{History, Image, seen, FailedWrite, Writes, Syncs}
-use Rattle.sector_disk.specs.Disk.History.{wrote, synced}
+use Rattle.sector_disk.specs.Disk.History.{wrote}
 use Rattle.sector_disk.specs.Moments.{Within, LeavesOnly}
 use Rattle.sector_disk.specs.declared.disk.DiskFault.{DiskFault}
 use Rattle.sector_disk.proofs.History.{started, seen_same, seen_other, any_write, write_within, write_leaves, any_sync, sync_within, sync_leaves, fits_image}
@@ -12,14 +12,10 @@ use Rattle.edit_journal.specs.Appends.{OldOrBody, ReadsAsBefore}
 use Rattle.edit_journal.proofs.Places.{places_apart}
 
 -- a write changes no other sector that is read
-pub write_reads : (at : ℕ) (bytes : List ℕ) (old new : History) (other : ℕ) → FailedWrite at bytes old new → (other ≡ at → ⊥) → seen new other ≡ seen old other
+write_reads : (at : ℕ) (bytes : List ℕ) (old new : History) (other : ℕ) → FailedWrite at bytes old new → (other ≡ at → ⊥) → seen new other ≡ seen old other
 write_reads at bytes old new other (inl same) apart = ap (λ (h : History). seen h other) same
 write_reads at bytes old new other (inr (inl is)) apart = ap (λ (h : History). seen h other) is ∙ seen_other at bytes old other apart
 write_reads at bytes old new other (inr (inr is)) apart = ap (λ (h : History). seen h other) is
-
-pub sync_reads : (old new : History) (at : ℕ) → (new ≡ old) ⊎ (new ≡ synced old) → seen new at ≡ seen old at
-sync_reads old new at (inl same) = ap (λ (h : History). seen h at) same
-sync_reads old new at (inr is) = ap (λ (h : History). seen h at) is
 
 module _ (start : History) (ring : Ring) (place used number : ℕ) (r : RecordData) (begins : place < ring.places)
     (room : used + parts_of (length r.text) ≤ ring.places) where

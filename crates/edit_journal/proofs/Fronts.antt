@@ -4,7 +4,7 @@ use Rattle.std.proofs.Common.{List, ◌++◌, length, take, drop, replicate, min
 use Rattle.std.specs.Prelude.{slice_index, IsTrue}
 use Rattle.std.proofs.lemmas.Bool.{iff_false}
 use Rattle.std.proofs.lemmas.Nat.{from_le_bytes-to_le_bytes_8, from_le_bytes-to_le_bytes_4}
-use Rattle.std.proofs.lemmas.List.{take-append-drop, take_at, drop-replicate, take_rest}
+use Rattle.std.proofs.lemmas.List.{take-append-drop, take_at, drop-replicate}
 use Rattle.std.proofs.Math.Seq.{drop-append-add}
 use Rattle.edit_journal.specs.declared.sizes.TheConstants.{PART_BYTES}
 use Rattle.edit_journal.proofs.Pieces.{cut_length}
@@ -67,10 +67,6 @@ no_length version number sector read is none bytes fits front =
     none (subst (IsRecordLength version) (sym (is ∙ length_there version number bytes 0 sector front (omega (arith, fits)))) fits)
 
 -- ---- the bytes of the text
-
--- the rest of a text, as a slice of it, has its first bytes
-pub rest_piece : (text : List ℕ) (part : ℕ) → take PART_BYTES (take (length text - PART_BYTES * part) (drop (PART_BYTES * part) text)) ≡ piece text part
-rest_piece text part = ap (take PART_BYTES) (take_rest text (PART_BYTES * part))
 
 pub piece_length : (text : List ℕ) (part : ℕ) → length (piece text part) ≡ min PART_BYTES (length text - PART_BYTES * part)
 piece_length text part = cut_length PART_BYTES text part

@@ -50,11 +50,6 @@ body_no_head version number text part sector other_version other pos is head =
 pub one_number : (version other_version n m : ℕ) (sector : List ℕ) → IsHeadOf version n sector → IsHeadOf other_version m sector → n ≡ m
 one_number version other_version n m sector is too = sym is.number_is ∙ too.number_is
 
--- and of one version
-pub one_version : (version other_version n m : ℕ) (sector : List ℕ) → IsHeadOf version n sector → IsHeadOf other_version m sector
-    → version ≡ other_version
-one_version version other_version n m sector is too = sym is.version_is ∙ too.version_is
-
 -- a sector of zeros is no head
 pub zeros_no_head : (version number : ℕ) → IsHeadOf version number (replicate 512 0) → ⊥
 zeros_no_head version number head = omega (arith, head.kind_is)
@@ -62,7 +57,7 @@ zeros_no_head version number head = omega (arith, head.kind_is)
 -- ---- at most one list of records
 
 -- records of one version and text are one
-pub same_record : (r other : RecordData) → r.version ≡ other.version → r.text ≡ other.text → r ≡ other
+same_record : (r other : RecordData) → r.version ≡ other.version → r.text ≡ other.text → r ≡ other
 same_record r other version text = ap (λ (v : ℕ). record_of v r.text) version ∙ ap (λ (t : List ℕ). record_of other.version t) text
 
 -- texts of one length are one where their pieces are
@@ -71,7 +66,7 @@ pub same_text : (text other : List ℕ) → length text ≡ length other
 same_text text other len same = same_bytes PART_BYTES (parts_of (length text)) text other len (omega arith) same
 
 -- two texts of one length have the same piece in a sector
-pub one_piece : (version other_version number : ℕ) (text other : List ℕ) (part : ℕ) (sector : List ℕ) → length text ≡ length other
+one_piece : (version other_version number : ℕ) (text other : List ℕ) (part : ℕ) (sector : List ℕ) → length text ≡ length other
     → IsPart version number text part sector → IsPart other_version number other part sector → piece text part ≡ piece other part
 one_piece version other_version number text other part sector len is too = one_cut PART_BYTES text other part (drop 16 sector) len is.bytes too.bytes
 

@@ -1,9 +1,7 @@
 -- What is known of a ring while its records are read.
 use Rattle.std.proofs.Common.{◌≡◌, ℕ, ◌≤◌, ◌<◌, ◌+◌, ◌-◌, ◌^◌, List, [], ◌∷◌, ◌++◌, length, sym, ◌∙◌, ap, subst, arith}
 use Rattle.std.proofs.lemmas.List.{map-append, length-map}
-use Rattle.std.proofs.Common.{Result, Err, IfErr}
 use Rattle.sector_disk.specs.Disk.{Image}
-use Rattle.edit_journal.specs.declared.fault.JournalFault.{JournalFault}
 use Rattle.edit_journal.specs.declared.records.Record.{Record}
 use Rattle.edit_journal.specs.declared.sizes.TheConstants.{FIRST_RECORD_VERSION}
 use Rattle.edit_journal.specs.Records.{RecordData, record_data, records_of, IsRecordLength, AreUpTo, parts_of, HasFront, IsPart, IsHeadOf, IsExpectedHead}
@@ -14,11 +12,6 @@ use Rattle.edit_journal.specs.Releases.{MayTake}
 use Rattle.edit_journal.proofs.Fronts.{version_there, length_there}
 use Rattle.edit_journal.proofs.Recovers.{one_more, damaged_is_none}
 use Rattle.edit_journal.proofs.Releases.{records_take}
-
--- ---- a fault
-
-pub at_err : {T : Type 0} (P : JournalFault → Type 0) (result : Result T JournalFault) (fault : JournalFault) → result ≡ Err fault → P fault → IfErr result P
-at_err {T} P result fault is holds = subst (λ (r : Result T JournalFault). IfErr r P) (sym is) holds
 
 -- ---- one record
 

@@ -1,15 +1,15 @@
 -- A journal without its first records, and laws of starts for the crates above.
-use Rattle.std.proofs.Common.{◌≡◌, ⊎_elim, ℕ, zero, suc, ◌≤◌, ◌<◌, ◌+◌, ◌-◌, ◌%◌, ◌^◌, List, [], ◌∷◌, length, take, drop}
+use Rattle.std.proofs.Common.{◌≡◌, ⊎_elim, ℕ, zero, suc, ◌≤◌, ◌<◌, ◌+◌, ◌-◌, ◌%◌, List, [], ◌∷◌, length, take, drop}
 use Rattle.std.proofs.Common.{refl, sym, ◌∙◌, ap, subst, arith, length-drop}
 use Rattle.std.proofs.lemmas.List.{length-take}
 use Rattle.std.proofs.Math.Nat.{mod-add-mod}
-use Rattle.sector_disk.specs.Disk.{History, Image, MayLeave, seen}
+use Rattle.sector_disk.specs.Disk.{History, Image, seen}
 use Rattle.sector_disk.proofs.History.{seen_may}
 use Rattle.edit_journal.specs.declared.journal.Journal.{Journal}
 use Rattle.edit_journal.specs.declared.journal.JournalPosition.{JournalPosition}
 use Rattle.edit_journal.specs.Records.{RecordData, IsRecordLength, parts_of}
-use Rattle.edit_journal.specs.Ring.{Ring, sector_at, AreRecords, places_of, StandsAt, NoLaterHead, HoldsOnly}
-use Rattle.edit_journal.specs.Appends.{ring_of, start_of, Keeps, IsAt}
+use Rattle.edit_journal.specs.Ring.{Ring, sector_at, AreRecords, places_of, StandsAt, HoldsOnly}
+use Rattle.edit_journal.specs.Appends.{ring_of, start_of, Keeps}
 use Rattle.edit_journal.specs.Releases.{MayTake, IsCounted, IsBehind}
 use Rattle.edit_journal.proofs.Laws.{holds_behind}
 use Rattle.edit_journal.proofs.Places.{wrap}
@@ -119,20 +119,9 @@ module _ (ring : Ring) (place edits used last : ℕ) (rs : List RecordData) (his
 
 -- ---- starts that `next` gave
 
--- the start that `next` gives lies behind all records in use
-pub next_is_behind : (journal : Journal) (start : JournalPosition) → IsCounted journal
-    → start.place ≡ (journal.place + journal.used) % journal.places → start.edits ≡ journal.last → IsBehind journal start journal.used
-next_is_behind journal start counted place edits = record {
-  place = place;
-  in_use = omega arith;
-  numbers = (omega (arith, edits, journal.counts), omega (arith, edits));
-  before = (omega (arith, edits, counted), omega (arith, edits, counted));
-  after = (omega (arith, edits), omega (arith, edits));
-}
-
 module _ (old new : Journal) (ring : ring_of new ≡ ring_of old) (from : start_of new.place new.edits ≡ start_of old.place old.edits) where
   -- a start goes on to lie there while records are added
-  pub later_is_behind : (start : JournalPosition) (behind : ℕ) → IsBehind old start behind → old.used ≤ new.used → old.last ≤ new.last
+  later_is_behind : (start : JournalPosition) (behind : ℕ) → IsBehind old start behind → old.used ≤ new.used → old.last ≤ new.last
       → MayTake (new.last - old.last) (new.used - old.used) → IsBehind new start behind
   later_is_behind start behind was used last added =
       let places : new.places ≡ old.places = ap (λ (r : Ring). r.places) ring in
@@ -156,23 +145,3 @@ module _ (old new : Journal) (ring : ring_of new ≡ ring_of old) (from : start_
     append_counted counted =
         let number : suc new.edits ≡ suc old.edits = ap (λ s. s.number) from in
         (omega (arith, fits, used, last, number, counted, old.counts), omega (arith, fits, used, last, number, counted, old.counts))
-
--- a journal that has records is counted
-pub at_counted : (journal : Journal) (rs : List RecordData) (history : History) → IsAt rs journal history → IsCounted journal
-at_counted journal rs history is =
-    let takes = records_take rs (is.keeps (seen history) (λ at. seen_may history at)).records.lengths in
-    (omega (arith, takes, is.uses, is.counts), omega (arith, takes, is.uses, is.counts))
-
--- ---- a ring without records
-
--- where nothing that a crash may leave has a head of a later number, the journal has no record
-pub empty_ring : (journal : Journal) (history : History) → journal.used ≡ 0 → journal.last ≡ journal.edits → journal.edits < 2 ^ 64
-    → ((image : Image) → MayLeave history image → NoLaterHead (ring_of journal) (journal.edits + 1) image) → IsAt [] journal history
-empty_ring journal history unused last small none = record {
-  keeps = λ image may. record {
-    records = record { lengths = tt; room = omega arith; numbers = omega (arith, small); stand = λ at. tt };
-    last = λ at version later inside is le head. none image may at version later inside is (omega (arith, le)) head;
-  };
-  uses = unused;
-  counts = omega (arith, last);
-}

@@ -1,5 +1,6 @@
 -- Records of a journal, and their sectors. Numbers are stored lowest byte first.
-use Rattle.std.specs.Prelude.{◌≡◌, ◌≤◌, ◌+◌, ◌-◌, ◌*◌, ◌/◌, ◌==◌, if◌then◌else◌, ℕ, List, map, ◌∷◌, ◌++◌, length, replicate, take, drop, slice_index, slice_range, All}
+use Rattle.std.specs.Prelude.{◌≡◌, ◌≤◌, ◌+◌, ◌-◌, ◌*◌, ◌/◌, ◌==◌, if◌then◌else◌, ℕ}
+use Rattle.std.specs.Prelude.{List, map, ◌∷◌, ◌++◌, length, replicate, take, drop, slice_index, slice_range, All}
 use Rattle.std.specs.Int.{w16, w32, w64, to_le_bytes, from_le_bytes}
 use Rattle.edit_journal.specs.declared.sizes.TheConstants.{FIRST_RECORD_VERSION, LAST_RECORD_VERSION, MAX_RECORD_BYTES, PART_BYTES}
 use Rattle.edit_journal.specs.declared.records.Record.{Record}

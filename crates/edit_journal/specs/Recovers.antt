@@ -1,5 +1,5 @@
 -- What a ring of sectors says of a journal.
-use Rattle.std.specs.Prelude.{◌≡◌, ◌⊎◌, ◌<◌, ◌≤◌, ◌+◌, ◌^◌, ℕ, List, length}
+use Rattle.std.specs.Prelude.{◌≡◌, ◌⊎◌, ◌<◌, ◌≤◌, ◌+◌, ◌^◌, ℕ, List, Result, MatchResult, length}
 use Rattle.sector_disk.specs.Disk.{Image, HasFailed}
 use Rattle.edit_journal.specs.Records.{RecordData, IsRecordLength, AreUpTo, parts_of, HasFront, IsPart, IsExpectedHead}
 use Rattle.edit_journal.specs.Ring.{Ring, RecordStart, sector_at, places_of, HoldsRecords}
@@ -48,3 +48,7 @@ IsRecoverFault old new (Full need free) = ⊥
 IsRecoverFault old new Device = HasFailed old new
 IsRecoverFault old new Damaged = new ≡ old
 IsRecoverFault old new Memory = new ≡ old
+
+-- an error says why, and success that no call of the disk failed
+abbrev pub TellsRecoverFault : {T : Type 0} → Result T JournalFault → (old new : ℕ) → Type 0
+TellsRecoverFault result old new = MatchResult result (λ _. new ≡ old) (IsRecoverFault old new)

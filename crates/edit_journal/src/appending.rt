@@ -1,6 +1,7 @@
 //! A record on the disk: its bodies, a sync, its head, a sync.
 ghost use Rattle.std.specs.Prelude.{◌≡◌, ◌⊎◌, ◌≤◌, ◌<◌, ◌+◌, ◌-◌, ◌^◌, ◌++◌, ◌∷◌, [], ℕ, List, length, IfOk, IfErr, OnOk, OnErr};
-ghost use Rattle.sector_disk.specs.Disk.{seen, HasFailed};
+ghost use Rattle.sector_disk.specs.Asked.{MayWrite, TellsFailure};
+ghost use Rattle.sector_disk.specs.Disk.{seen};
 ghost use Rattle.sector_disk.specs.Moments.{Within, LeavesOnly};
 ghost use Rattle.edit_journal.specs.Records.{RecordData, record_of, IsRecordLength, parts_of};
 ghost use Rattle.edit_journal.specs.Ring.{sector_at};
@@ -40,16 +41,14 @@ fn stage<D: Sectors>(
     requires text { IsRecordLength version (length text.now) }
     requires room { journal.now.used + parts_of (length text.now) ≤ journal.now.places }
     requires ring { journal.now.first + journal.now.places ≤ D.sectors disk.old }
-    ensures count { D.sectors disk.new ≡ D.sectors disk.old }
-    ensures honest { D.honest disk.new → D.honest disk.old }
-    ensures faults { OnOk result (D.faults disk.new ≡ D.faults disk.old) }
-    ensures failed { OnErr result (HasFailed (D.faults disk.old) (D.faults disk.new)) }
+    ensures disk { MayWrite D.sectors D.honest disk.old disk.new }
+    ensures failed { TellsFailure result (D.faults disk.old) (D.faults disk.new) }
     ensures reads { D.honest disk.new
         → ReadsAsBefore (ring_of journal.now) journal.now.place journal.now.used (seen (D.history disk.old)) (seen (D.history disk.new)) }
     ensures leaves { D.honest disk.new → LeavesOnly (D.history disk.old) (D.history disk.new) (λ image. (at : ℕ)
         → OldOrBody (D.history disk.old) (ring_of journal.now) journal.now.place journal.now.used number (record_of version text.now) at (image at)) }
-    ensures within { D.honest disk.new
-        → Within (D.history disk.new) (OldOrBody (D.history disk.old) (ring_of journal.now) journal.now.place journal.now.used number (record_of version text.now)) }
+    ensures within { D.honest disk.new → Within (D.history disk.new)
+        (OldOrBody (D.history disk.old) (ring_of journal.now) journal.now.place journal.now.used number (record_of version text.now)) }
     ensures bodies { D.honest disk.new
         → OnOk result (BodiesStand (D.history disk.new) (ring_of journal.now) journal.now.place journal.now.used number (record_of version text.now)) }
 
@@ -82,10 +81,8 @@ fn write_record<D: Sectors>(
     requires room { journal.now.used + parts_of (length text.now) ≤ journal.now.places }
     requires ring { journal.now.first + journal.now.places ≤ D.sectors disk.old }
     requires next { journal.now.last < 2 ^ 64 - 1 }
-    ensures count { D.sectors disk.new ≡ D.sectors disk.old }
-    ensures honest { D.honest disk.new → D.honest disk.old }
-    ensures faults { OnOk result (D.faults disk.new ≡ D.faults disk.old) }
-    ensures failed { OnErr result (HasFailed (D.faults disk.old) (D.faults disk.new)) }
+    ensures disk { MayWrite D.sectors D.honest disk.old disk.new }
+    ensures failed { TellsFailure result (D.faults disk.old) (D.faults disk.new) }
     ensures reads { D.honest disk.new
         → ReadsAsBefore (ring_of journal.now) journal.now.place journal.now.used (seen (D.history disk.old)) (seen (D.history disk.new)) }
     ensures frame { D.honest disk.new
@@ -118,8 +115,7 @@ impl Journal {
     ) -> Result<u64, JournalFault>
         requires text { IsRecordLength version (length text.now) }
         requires ring { self.old.first + self.old.places ≤ D.sectors disk.old }
-        ensures count { D.sectors disk.new ≡ D.sectors disk.old }
-        ensures honest { D.honest disk.new → D.honest disk.old }
+        ensures disk { MayWrite D.sectors D.honest disk.old disk.new }
         ensures faults { OnOk result (D.faults disk.new ≡ D.faults disk.old) }
         ensures fault { IfErr result (IsAppendFault self.old (parts_of (length text.now)) (D.faults disk.old) (D.faults disk.new)) }
         ensures refused { IfErr result (λ fault. (fault ≡ Device) ⊎ (disk.new ≡ disk.old)) }
@@ -137,7 +133,8 @@ impl Journal {
 
         // A crash at any moment of the call leaves the records from before it, with the new one or without.
         ensures any_moment { (records : List RecordData) → D.honest disk.new → IsAt records self.old (D.history disk.old)
-            → LeavesOnly (D.history disk.old) (D.history disk.new) (HoldsOneMore (ring_of self.old) (start_of self.old.place self.old.edits) records (record_of version text.now)) }
+            → LeavesOnly (D.history disk.old) (D.history disk.new)
+            (HoldsOneMore (ring_of self.old) (start_of self.old.place self.old.edits) records (record_of version text.now)) }
         ensures acknowledged { (records : List RecordData) → D.honest disk.new → IsAt records self.old (D.history disk.old)
             → OnOk result (IsAt (records ++ record_of version text.now ∷ []) self.new (D.history disk.new)) }
 

@@ -1,10 +1,11 @@
 //! The journal that a ring of sectors has.
-ghost use Rattle.std.specs.Prelude.{◌≡◌, ◌≤◌, ◌<◌, ◌+◌, ◌-◌, ◌*◌, ◌^◌, ◌++◌, min, ℕ, List, length, take, drop, IfOk, IfErr, OnOk, IfSome, MatchOption};
-ghost use Rattle.sector_disk.specs.Disk.{seen, HasFailed};
+ghost use Rattle.std.specs.Prelude.{◌≡◌, ◌≤◌, ◌<◌, ◌+◌, ◌-◌, ◌*◌, ◌^◌, ◌++◌, min, List, length, take, drop, IfOk, IfErr, OnOk, IfSome, MatchOption};
+ghost use Rattle.sector_disk.specs.Asked.{OnlyReads, TellsFailure};
+ghost use Rattle.sector_disk.specs.Disk.{seen};
 ghost use Rattle.edit_journal.specs.Records.{RecordData, record_of, record_data, records_of, IsRecordLength, AreUpTo, most_bytes, parts_of, HasFront};
-ghost use Rattle.edit_journal.specs.Ring.{Ring, sector_at, places_of};
+ghost use Rattle.edit_journal.specs.Ring.{sector_at, places_of};
 ghost use Rattle.edit_journal.specs.Appends.{ring_of, start_of};
-ghost use Rattle.edit_journal.specs.Recovers.{EndsAt, IsJournal, PartsStand, FrontsStand, IsDamaged, IsRecoverFault};
+ghost use Rattle.edit_journal.specs.Recovers.{EndsAt, IsJournal, PartsStand, FrontsStand, IsDamaged, TellsRecoverFault};
 ghost use Rattle.edit_journal.specs.Releases.{IsCounted};
 ghost use Rattle.edit_journal.specs.declared.sizes.TheConstants.{LAST_RECORD_VERSION};
 ghost use Rattle.edit_journal.specs.declared.fault.JournalFault.TheVariants.{Damaged, Device, Memory};
@@ -46,11 +47,9 @@ fn read_place<D: Sectors>(
 ) -> Result<[u8; SECTOR_BYTES], JournalFault>
     requires offset { offset < journal.now.places }
     requires ring { journal.now.first + journal.now.places ≤ D.sectors disk.old }
-    ensures count { D.sectors disk.new ≡ D.sectors disk.old }
-    ensures honest { D.honest disk.new → D.honest disk.old }
-    ensures history { D.honest disk.new → D.history disk.new ≡ D.history disk.old }
-    ensures faults { OnOk result (D.faults disk.new ≡ D.faults disk.old) }
-    ensures fault { IfErr result (λ fault. (fault ≡ Device) × HasFailed (D.faults disk.old) (D.faults disk.new)) }
+    ensures disk { OnlyReads D.sectors D.honest D.history disk.old disk.new }
+    ensures failed { TellsFailure result (D.faults disk.old) (D.faults disk.new) }
+    ensures fault { IfErr result (λ fault. fault ≡ Device) }
     ensures gives { D.honest disk.new
         → IfOk result (λ sector. sector ≡ seen (D.history disk.old) (sector_at (ring_of journal.now) (journal.now.place + offset))) }
 {
@@ -74,11 +73,8 @@ fn read_text<D: Sectors>(
     requires room { journal.now.used + parts_of head.length ≤ journal.now.places }
     requires front { HasFront head.version head.number head.length 0 first.now }
     requires first { D.honest disk.old → first.now ≡ seen (D.history disk.old) (sector_at (ring_of journal.now) (journal.now.place + journal.now.used)) }
-    ensures count { D.sectors disk.new ≡ D.sectors disk.old }
-    ensures honest { D.honest disk.new → D.honest disk.old }
-    ensures history { D.honest disk.new → D.history disk.new ≡ D.history disk.old }
-    ensures faults { OnOk result (D.faults disk.new ≡ D.faults disk.old) }
-    ensures fault { IfErr result (IsRecoverFault (D.faults disk.old) (D.faults disk.new)) }
+    ensures disk { OnlyReads D.sectors D.honest D.history disk.old disk.new }
+    ensures failed { TellsRecoverFault result (D.faults disk.old) (D.faults disk.new) }
     ensures whole { IfOk result (λ text. length text.items ≡ head.length) }
     ensures stands { D.honest disk.new → IfOk result (λ text. PartsStand (ring_of journal.now) journal.now.place journal.now.used
         head.number (record_of head.version text.items) (seen (D.history disk.old))) }
@@ -108,11 +104,8 @@ fn read_record<D: Sectors>(
     most: u32,
 ) -> Result<Option<Record>, JournalFault>
     requires ring { journal.now.first + journal.now.places ≤ D.sectors disk.old }
-    ensures count { D.sectors disk.new ≡ D.sectors disk.old }
-    ensures honest { D.honest disk.new → D.honest disk.old }
-    ensures history { D.honest disk.new → D.history disk.new ≡ D.history disk.old }
-    ensures faults { OnOk result (D.faults disk.new ≡ D.faults disk.old) }
-    ensures fault { IfErr result (IsRecoverFault (D.faults disk.old) (D.faults disk.new)) }
+    ensures disk { OnlyReads D.sectors D.honest D.history disk.old disk.new }
+    ensures failed { TellsRecoverFault result (D.faults disk.old) (D.faults disk.new) }
     ensures fits { IfOk result (λ next. IfSome next (λ r. IsRecordLength r.version (length r.text.items)
         × (r.version ≤ most) × (journal.now.used + parts_of (length r.text.items) ≤ journal.now.places) × (journal.now.last + 1 < 2 ^ 64))) }
     ensures next { D.honest disk.new → IfOk result (λ next. MatchOption next
@@ -198,11 +191,8 @@ impl Journal {
         requires ring { first + places ≤ D.sectors disk.old }
         requires small { first + places < 2 ^ 64 }
         requires start { start.place < places }
-        ensures count { D.sectors disk.new ≡ D.sectors disk.old }
-        ensures honest { D.honest disk.new → D.honest disk.old }
-        ensures history { D.honest disk.new → D.history disk.new ≡ D.history disk.old }
-        ensures faults { OnOk result (D.faults disk.new ≡ D.faults disk.old) }
-        ensures fault { IfErr result (IsRecoverFault (D.faults disk.old) (D.faults disk.new)) }
+        ensures disk { OnlyReads D.sectors D.honest D.history disk.old disk.new }
+        ensures failed { TellsRecoverFault result (D.faults disk.old) (D.faults disk.new) }
         ensures same { IfOk result (λ found. (ring_of found.0 ≡ record { first = first; places = places })
             × (start_of found.0.place found.0.edits ≡ start_of start.place start.edits)) }
         ensures used { IfOk result (λ found. found.0.used ≡ places_of (records_of found.1.items)) }

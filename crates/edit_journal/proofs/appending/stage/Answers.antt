@@ -6,12 +6,11 @@ use Rattle.edit_journal.proofs.appending.stage.Goals as goal
 
 pub loop-part-init : goal.loop-part-init
 loop-part-init g c = record {
-  count = refl;
-  honest = λ honest. honest;
+  disk = record { same_count = refl; was_honest = λ honest. honest };
   faults = refl;
   reads = λ honest at apart. refl;
-  leaves = λ honest. staged_start _ (ring_of c.args.journal.now) c.args.journal.now.place c.args.journal.now.used c.args.number (record_of c.args.version c.args.text.now)
-      (omega arith) c.requires.room;
+  leaves = λ honest. staged_start _ (ring_of c.args.journal.now) c.args.journal.now.place c.args.journal.now.used c.args.number
+      (record_of c.args.version c.args.text.now) (omega arith) c.requires.room;
   within = λ honest at left may. inl may;
   bodies = λ honest part pos lt. absurd (omega (arith, pos, lt));
   writes = λ honest. refl;
@@ -20,25 +19,26 @@ loop-part-init g c = record {
 
 pub loop-part-preserved : goal.loop-part-preserved
 loop-part-preserved g c =
+    let journal = c.args.journal.now in
+    let r = record_of c.args.version c.args.text.now in
     let inv = c.loop-part.invariant in
     let ok = c.in_ok-write.ensures in
-    let begins : c.args.journal.now.place < c.args.journal.now.places = omega arith in
+    let begins : journal.place < journal.places = omega arith in
     record {
-      count = ok.count ∙ inv.count;
-      honest = λ honest. inv.honest (ok.honest honest);
+      disk = record { same_count = ok.count ∙ inv.disk.same_count; was_honest = λ honest. inv.disk.was_honest (ok.honest honest) };
       faults = ok.faults ∙ inv.faults;
-      reads = λ honest. body_reads (g.D.Sectors.history c.args.disk.now) (ring_of c.args.journal.now) c.args.journal.now.place c.args.journal.now.used
-          c.args.number (record_of c.args.version c.args.text.now)
-          begins c.requires.room c.loop-part.part (omega arith) (omega arith) _ c.sector_of-at.ensures.is _ c.part_sector-sector.ensures _ _ _
+      reads = λ honest. body_reads (g.D.Sectors.history c.args.disk.now) (ring_of journal) journal.place journal.used c.args.number r
+          begins c.requires.room
+          c.loop-part.part (omega arith) (omega arith) _ c.sector_of-at.ensures.is _ c.part_sector-sector.ensures _ _ _
           (c.write.ensures.writes honest) (inv.reads (ok.honest honest));
-      leaves = λ honest. body_leaves _ (ring_of c.args.journal.now) c.args.journal.now.place c.args.journal.now.used c.args.number (record_of c.args.version c.args.text.now)
-          begins c.requires.room c.loop-part.part (omega arith) (omega arith) _ c.sector_of-at.ensures.is _ c.part_sector-sector.ensures _ _ _
+      leaves = λ honest. body_leaves _ (ring_of journal) journal.place journal.used c.args.number r begins c.requires.room
+          c.loop-part.part (omega arith) (omega arith) _ c.sector_of-at.ensures.is _ c.part_sector-sector.ensures _ _ _
           (c.write.ensures.writes honest) (inv.within (ok.honest honest)) (inv.leaves (ok.honest honest));
-      within = λ honest. body_within _ (ring_of c.args.journal.now) c.args.journal.now.place c.args.journal.now.used c.args.number (record_of c.args.version c.args.text.now)
-          begins c.requires.room c.loop-part.part (omega arith) (omega arith) _ c.sector_of-at.ensures.is _ c.part_sector-sector.ensures _ _ _
+      within = λ honest. body_within _ (ring_of journal) journal.place journal.used c.args.number r begins c.requires.room
+          c.loop-part.part (omega arith) (omega arith) _ c.sector_of-at.ensures.is _ c.part_sector-sector.ensures _ _ _
           (c.write.ensures.writes honest) (inv.within (ok.honest honest));
-      bodies = λ honest. body_seen (g.D.Sectors.history c.args.disk.now) (ring_of c.args.journal.now) c.args.journal.now.place c.args.journal.now.used
-          c.args.number (record_of c.args.version c.args.text.now) begins c.requires.room c.loop-part.part _ _ _ _ (omega arith) c.sector_of-at.ensures.is c.part_sector-sector.ensures
+      bodies = λ honest. body_seen (g.D.Sectors.history c.args.disk.now) (ring_of journal) journal.place journal.used c.args.number r begins
+          c.requires.room c.loop-part.part _ _ _ _ (omega arith) c.sector_of-at.ensures.is c.part_sector-sector.ensures
           (ok.writes honest) (inv.bodies (ok.honest honest));
       writes = λ honest. omega (arith, ap writes_in (ok.writes honest), inv.writes (ok.honest honest));
       syncs = λ honest. ap syncs_in (ok.writes honest) ∙ inv.syncs (ok.honest honest);
@@ -46,22 +46,26 @@ loop-part-preserved g c =
 
 pub returns-in_err-sync-clause-within : goal.returns-in_err-sync-clause-within
 returns-in_err-sync-clause-within g c honest =
-    synced_within _ (ring_of c.args.journal.now) c.args.journal.now.place c.args.journal.now.used c.args.number (record_of c.args.version c.args.text.now) (omega arith)
+    let journal = c.args.journal.now in
+    synced_within _ (ring_of journal) journal.place journal.used c.args.number (record_of c.args.version c.args.text.now) (omega arith)
     c.requires.room _ _ _ (c.sync.ensures.syncs honest) (c.loop-part.invariant.within (c.sync.ensures.honest honest))
 
 pub returns-in_err-sync-clause-leaves : goal.returns-in_err-sync-clause-leaves
 returns-in_err-sync-clause-leaves g c honest =
+    let journal = c.args.journal.now in
     let staged = c.sync.ensures.honest honest in
-    synced_leaves _ (ring_of c.args.journal.now) c.args.journal.now.place c.args.journal.now.used c.args.number (record_of c.args.version c.args.text.now) (omega arith)
+    synced_leaves _ (ring_of journal) journal.place journal.used c.args.number (record_of c.args.version c.args.text.now) (omega arith)
     c.requires.room _ _ _ (c.sync.ensures.syncs honest) (c.loop-part.invariant.within staged) (c.loop-part.invariant.leaves staged)
 
 pub returns-in_ok-sync-clause-within : goal.returns-in_ok-sync-clause-within
 returns-in_ok-sync-clause-within g c honest =
-    synced_within _ (ring_of c.args.journal.now) c.args.journal.now.place c.args.journal.now.used c.args.number (record_of c.args.version c.args.text.now) (omega arith)
+    let journal = c.args.journal.now in
+    synced_within _ (ring_of journal) journal.place journal.used c.args.number (record_of c.args.version c.args.text.now) (omega arith)
     c.requires.room _ _ _ (c.sync.ensures.syncs honest) (c.loop-part.invariant.within (c.sync.ensures.honest honest))
 
 pub returns-in_ok-sync-clause-leaves : goal.returns-in_ok-sync-clause-leaves
 returns-in_ok-sync-clause-leaves g c honest =
+    let journal = c.args.journal.now in
     let staged = c.sync.ensures.honest honest in
-    synced_leaves _ (ring_of c.args.journal.now) c.args.journal.now.place c.args.journal.now.used c.args.number (record_of c.args.version c.args.text.now) (omega arith)
+    synced_leaves _ (ring_of journal) journal.place journal.used c.args.number (record_of c.args.version c.args.text.now) (omega arith)
     c.requires.room _ _ _ (c.sync.ensures.syncs honest) (c.loop-part.invariant.within staged) (c.loop-part.invariant.leaves staged)

@@ -1,4 +1,5 @@
 use Rattle.std.proofs.Common.{◌≡◌, ◌<◌, ◌+◌, ℕ}
+use Rattle.sector_disk.specs.Asked.{MayWrite}
 use Rattle.sector_disk.specs.Disk.{seen}
 use Rattle.sector_disk.specs.Moments.{Within, LeavesOnly}
 use Rattle.edit_journal.specs.Records.{record_of, record_sector}
@@ -8,8 +9,7 @@ use Rattle.edit_journal.proofs.appending.stage.Given as goal
 
 abbrev pub invariant-loop-part : goal.invariant-loop-part
 invariant-loop-part g l = record {
-  count : g.D.Sectors.sectors l.disk ≡ g.D.Sectors.sectors l.initial.disk;
-  honest : g.D.Sectors.honest l.disk → g.D.Sectors.honest l.initial.disk;
+  disk : MayWrite g.D.Sectors.sectors g.D.Sectors.honest l.initial.disk l.disk;
   faults : g.D.Sectors.faults l.disk ≡ g.D.Sectors.faults l.initial.disk;
   reads : g.D.Sectors.honest l.disk → ReadsAsBefore (ring_of l.journal) l.journal.place l.journal.used
       (seen (g.D.Sectors.history l.initial.disk)) (seen (g.D.Sectors.history l.disk));

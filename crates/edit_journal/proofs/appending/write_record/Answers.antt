@@ -7,45 +7,47 @@ use Rattle.edit_journal.proofs.appending.write_record.Goals as goal
 
 pub returns-in_err-stage-clause-any_moment : goal.returns-in_err-stage-clause-any_moment
 returns-in_err-stage-clause-any_moment g c rs honest before =
-    stage_leaves _ (ring_of c.args.journal.now) c.args.journal.now.place c.args.journal.now.edits c.args.journal.now.used c.args.journal.now.last rs
-    (record_of c.args.version c.args.text.now) (omega arith) c.requires.room (omega (arith, c.requires.next)) c.requires.text before
-    _ (c.stage.ensures.leaves honest)
+    let journal = c.args.journal.now in
+    stage_leaves _ (ring_of journal) journal.place journal.edits journal.used journal.last rs (record_of c.args.version c.args.text.now)
+    (omega arith) c.requires.room (omega (arith, c.requires.next)) c.requires.text before _ (c.stage.ensures.leaves honest)
 
 pub returns-in_err-write-clause-any_moment : goal.returns-in_err-write-clause-any_moment
 returns-in_err-write-clause-any_moment g c rs honest before =
+    let journal = c.args.journal.now in
     let staged = c.write.ensures.honest honest in
-    head_leaves _ (ring_of c.args.journal.now) c.args.journal.now.place c.args.journal.now.edits c.args.journal.now.used c.args.journal.now.last rs
-    (record_of c.args.version c.args.text.now) (omega arith) c.requires.room (omega (arith, c.requires.next)) c.requires.text before
-    _ (c.stage.ensures.within staged) (c.in_ok-stage.ensures.bodies staged)
-    _ c.sector_of-at.ensures.is _ c.part_sector-head.ensures _ _ (c.write.ensures.writes honest) (c.stage.ensures.leaves staged)
+    head_leaves _ (ring_of journal) journal.place journal.edits journal.used journal.last rs (record_of c.args.version c.args.text.now)
+    (omega arith) c.requires.room (omega (arith, c.requires.next)) c.requires.text before _ (c.stage.ensures.within staged)
+    (c.in_ok-stage.ensures.bodies staged) _ c.sector_of-at.ensures.is _ c.part_sector-head.ensures _ _ (c.write.ensures.writes honest)
+    (c.stage.ensures.leaves staged)
 
 pub returns-clause-frame : goal.returns-clause-frame
 returns-clause-frame g c honest =
+    let journal = c.args.journal.now in
     let written = c.sync.ensures.honest honest in
     let staged = c.write.ensures.honest written in
-    frame_end _ (ring_of c.args.journal.now) c.args.journal.now.place c.args.journal.now.used (c.args.journal.now.last + 1) (record_of c.args.version c.args.text.now)
-    (omega (arith, c.requires.text.1)) c.requires.room _ (c.stage.ensures.within staged) (c.stage.ensures.leaves staged)
-    _ c.sector_of-at.ensures.is _ _ _ (c.write.ensures.writes written) _ _ (c.sync.ensures.syncs honest)
+    frame_end _ (ring_of journal) journal.place journal.used (journal.last + 1) (record_of c.args.version c.args.text.now)
+    (omega (arith, c.requires.text.1)) c.requires.room _ (c.stage.ensures.within staged) (c.stage.ensures.leaves staged) _ c.sector_of-at.ensures.is
+    _ _ _ (c.write.ensures.writes written) _ _ (c.sync.ensures.syncs honest)
 
 pub returns-clause-any_moment : goal.returns-clause-any_moment
 returns-clause-any_moment g c rs honest before =
+    let journal = c.args.journal.now in
     let written = c.sync.ensures.honest honest in
     let staged = c.write.ensures.honest written in
-    end_leaves _ (ring_of c.args.journal.now) c.args.journal.now.place c.args.journal.now.edits c.args.journal.now.used c.args.journal.now.last rs
-    (record_of c.args.version c.args.text.now) (omega arith) c.requires.room (omega (arith, c.requires.next)) c.requires.text before
-    _ (c.stage.ensures.within staged) (c.in_ok-stage.ensures.bodies staged)
-    _ c.sector_of-at.ensures.is _ c.part_sector-head.ensures _ _ (c.write.ensures.writes written) (c.stage.ensures.leaves staged)
-    _ _ (c.sync.ensures.syncs honest)
+    end_leaves _ (ring_of journal) journal.place journal.edits journal.used journal.last rs (record_of c.args.version c.args.text.now)
+    (omega arith) c.requires.room (omega (arith, c.requires.next)) c.requires.text before _ (c.stage.ensures.within staged)
+    (c.in_ok-stage.ensures.bodies staged) _ c.sector_of-at.ensures.is _ c.part_sector-head.ensures _ _ (c.write.ensures.writes written)
+    (c.stage.ensures.leaves staged) _ _ (c.sync.ensures.syncs honest)
 
 pub returns-clause-acknowledged : goal.returns-clause-acknowledged
 returns-clause-acknowledged g c rs honest before =
+    let journal = c.args.journal.now in
     let written = c.sync.ensures.honest honest in
     let staged = c.write.ensures.honest written in
-    end_keeps _ (ring_of c.args.journal.now) c.args.journal.now.place c.args.journal.now.edits c.args.journal.now.used c.args.journal.now.last rs
-    (record_of c.args.version c.args.text.now) (omega arith) c.requires.room (omega (arith, c.requires.next)) c.requires.text before
-    _ (c.stage.ensures.within staged) (c.in_ok-stage.ensures.bodies staged)
-    _ c.sector_of-at.ensures.is _ c.part_sector-head.ensures _ _ (c.write.ensures.writes written) (c.stage.ensures.leaves staged)
-    _ _ (c.sync.ensures.syncs honest) (c.in_ok-write.ensures.writes written)
+    end_keeps _ (ring_of journal) journal.place journal.edits journal.used journal.last rs (record_of c.args.version c.args.text.now)
+    (omega arith) c.requires.room (omega (arith, c.requires.next)) c.requires.text before _ (c.stage.ensures.within staged)
+    (c.in_ok-stage.ensures.bodies staged) _ c.sector_of-at.ensures.is _ c.part_sector-head.ensures _ _ (c.write.ensures.writes written)
+    (c.stage.ensures.leaves staged) _ _ (c.sync.ensures.syncs honest) (c.in_ok-write.ensures.writes written)
 
 pub returns-clause-steps : goal.returns-clause-steps
 returns-clause-steps g c honest =

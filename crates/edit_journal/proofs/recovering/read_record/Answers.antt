@@ -16,7 +16,7 @@ returns-in-Err-clause-damaged g c honest is =
     let number : ℕ = c.args.journal.now.last + 1 in
     let image : Image = seen (g.D.Sectors.history c.args.disk.now) in
     let first : List ℕ = c.in_ok-first.first in
-    let read = c.read_text.ensures.honest honest in
+    let read = c.read_text.ensures.disk.was_honest honest in
     let version : ℕ = c.in-Some.version in
     let head = c.in-Some-head_in.head in
     let says = c.in-Some-head_in.ensures in
@@ -27,7 +27,7 @@ returns-in-Err-clause-damaged g c honest is =
     (λ fronts. c.in-Err.ensures.damaged honest is
     (subst (λ (v : ℕ). FrontsStand v ring place used head.number head.length (seen (g.D.Sectors.history c.read_place.new.disk))) (sym says.0)
     (subst (λ (n : ℕ). FrontsStand version ring place used n head.length (seen (g.D.Sectors.history c.read_place.new.disk))) (sym says.1)
-    (subst (λ (h : History). FrontsStand version ring place used number head.length (seen h)) (sym (c.in_ok-first.ensures.history read)) fronts)))))
+    (subst (λ (h : History). FrontsStand version ring place used number head.length (seen h)) (sym (c.in_ok-first.ensures.disk.same_history read)) fronts)))))
 
 pub returns-in_default-clause-damaged : goal.returns-in_default-clause-damaged
 returns-in_default-clause-damaged g c honest is =

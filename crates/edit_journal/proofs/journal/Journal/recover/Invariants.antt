@@ -1,4 +1,5 @@
 use Rattle.std.proofs.Common.{◌≡◌, ◌≤◌, ◌+◌, ◌-◌, length}
+use Rattle.sector_disk.specs.Asked.{OnlyReads}
 use Rattle.sector_disk.specs.Disk.{seen}
 use Rattle.edit_journal.specs.Records.{records_of, AreUpTo}
 use Rattle.edit_journal.specs.Ring.{AreRecords, places_of, HoldsRecords}
@@ -7,10 +8,8 @@ use Rattle.edit_journal.proofs.journal.Journal.recover.Given as goal
 
 abbrev pub invariant-loop-records : goal.invariant-loop-records
 invariant-loop-records g l = record {
-  count : g.D.Sectors.sectors l.disk ≡ g.D.Sectors.sectors l.initial.disk;
-  honest : g.D.Sectors.honest l.disk → g.D.Sectors.honest l.initial.disk;
+  disk : OnlyReads g.D.Sectors.sectors g.D.Sectors.honest g.D.Sectors.history l.initial.disk l.disk;
   faults : g.D.Sectors.faults l.disk ≡ g.D.Sectors.faults l.initial.disk;
-  history : g.D.Sectors.honest l.disk → g.D.Sectors.history l.disk ≡ g.D.Sectors.history l.initial.disk;
   inside : l.journal.first + l.journal.places ≤ g.D.Sectors.sectors l.disk;
   ring : ring_of l.journal ≡ record { first = l.fn.first; places = l.fn.places };
   start : start_of l.journal.place l.journal.edits ≡ start_of l.fn.start.place l.fn.start.edits;
