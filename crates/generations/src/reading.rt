@@ -4,7 +4,7 @@ ghost use Rattle.sector_disk.specs.Asked.{OnlyReads};
 ghost use Rattle.sector_disk.specs.Disk.{seen};
 ghost use Rattle.generations.specs.Disks.{LiveRoot, IsFaultOf};
 ghost use Rattle.generations.specs.Faults.{TellsDevice};
-ghost use Rattle.generations.specs.Sectors.{IsFormat, IsVersion, version_from, HasMark, IsSlot, IsBad, CanStand};
+ghost use Rattle.generations.specs.Sectors.{IsFormat, IsVersion, version_from, IsSlot, IsBad, CanStand};
 ghost use Rattle.generations.specs.declared.fault.StoreFault.TheVariants.{Device, Damaged, NotFormatted};
 ghost use Rattle.generations.specs.declared.fault.What.TheVariants.{RootSector, Size};
 
