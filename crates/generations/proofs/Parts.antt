@@ -1,8 +1,9 @@
 -- A disk is formatted in four parts, each of which outlives a crash before the next begins.
 use Rattle.std.proofs.Common.{◌≡◌, ◌⊎◌, inl, inr, ⊎_elim, ℕ, ◌≤◌, ◌<◌, ◌+◌, List, slice_index, take, refl, sym, ◌∙◌, ap, subst, arith}
-use Rattle.std.proofs.Common.{rules, Result, Ok, Err, OnErr}
+use Rattle.std.proofs.Common.{rules, Result, Ok, Err}
 use Rattle.std.proofs.lemmas.Bool.{cases_eq}
-use Rattle.sector_disk.specs.Disk.{History, Image, seen, MayHold, MayLeave, Writes, Syncs, CountsFault, HasFailed}
+use Rattle.sector_disk.specs.Asked.{TellsFailure}
+use Rattle.sector_disk.specs.Disk.{History, Image, seen, MayHold, MayLeave, Writes, Syncs, CountsFault}
 use Rattle.sector_disk.specs.Disk.History.{wrote, synced}
 use Rattle.sector_disk.specs.Moments.{Within, LeavesOnly}
 use Rattle.sector_disk.specs.declared.disk.DiskFault.{DiskFault}
@@ -41,10 +42,10 @@ pub read_leaves : (start read : History) (at : ℕ) (bytes : List ℕ) → read 
 read_leaves start read at bytes same = subst (λ (h : History). LeavesOnly start h (λ image. (index : ℕ) → IsOldOr start at bytes index (image index)))
     (sym same) (started start _ (λ image may index. inl (may index)))
 
--- a call that is reported as failed has been counted
+-- a call counts a failure, after one that didn't fail
 pub failed_call : (result : Result (Unit {0}) DiskFault) (start old new : ℕ) → old ≡ start → CountsFault result old new
-    → OnErr result (HasFailed start new)
-failed_call (Ok done) start old new same counts = tt
+    → TellsFailure result start new
+failed_call (Ok done) start old new same counts = counts ∙ same
 failed_call (Err fault) start old new same counts = search (rules, same, counts)
 
 -- ---- zeros in each sector

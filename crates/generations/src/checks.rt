@@ -1,6 +1,6 @@
 //! What a sector has, by its bytes.
-ghost use Rattle.std.specs.Prelude.{◌≡◌, ◌≤◌, ◌<◌, ◌%◌, ◌↔◌, ℕ, IsTrue, IfOk, IfErr, IfSome, MatchOption};
-ghost use Rattle.generations.specs.Sectors.{zeros, HasMark, IsFormat, CanStand, IsBad, IsSlot, IsNewest};
+ghost use Rattle.std.specs.Prelude.{◌≡◌, ◌<◌, ◌%◌, ◌↔◌, ℕ, IsTrue, IfOk, IfErr, MatchOption};
+ghost use Rattle.generations.specs.Sectors.{HasMark, IsFormat, CanStand, IsBad, IsSlot, IsNewest};
 ghost use Rattle.generations.specs.Areas.{sectors_of};
 ghost use Rattle.generations.specs.declared.fault.StoreFault.TheVariants.{Damaged};
 ghost use Rattle.generations.specs.declared.fault.What.TheVariants.{RootSector};

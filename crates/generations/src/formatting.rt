@@ -1,11 +1,12 @@
 //! The format of a disk.
-ghost use Rattle.std.specs.Prelude.{◌≡◌, ◌⊎◌, ◌≤◌, ◌<◌, ◌+◌, ◌↔◌, ℕ, List, Err, IfErr, OnOk, OnErr};
-ghost use Rattle.sector_disk.specs.Disk.{Image, seen, MayHold, MayLeave, HasFailed, moment};
+ghost use Rattle.std.specs.Prelude.{◌≡◌, ◌⊎◌, ◌≤◌, ◌<◌, ◌+◌, ◌↔◌, ℕ, List, Err, IfErr, OnOk};
+ghost use Rattle.sector_disk.specs.Asked.{MayWrite, TellsFailure};
+ghost use Rattle.sector_disk.specs.Disk.{Image, seen, MayHold, MayLeave, moment};
 ghost use Rattle.sector_disk.specs.Disk.History.{wrote, synced};
 ghost use Rattle.sector_disk.specs.Moments.{Within, LeavesOnly};
 ghost use Rattle.generations.specs.Areas.{IsSize};
 ghost use Rattle.generations.specs.Disks.{HasNoMark, IsFresh};
-ghost use Rattle.generations.specs.Faults.{CountsDevice};
+ghost use Rattle.generations.specs.Faults.{TellsDevice};
 ghost use Rattle.generations.specs.Written.{IsOldOr, IsOldOrEmpty};
 ghost use Rattle.generations.specs.Sectors.{zeros, IsVersion};
 ghost use Rattle.generations.specs.declared.fault.StoreFault.TheVariants.{TooSmall, Device, Damaged};
@@ -36,10 +37,8 @@ pub(crate) fn write_and_sync<D: Sectors>(
     sector: &[u8; 512],
 ) -> Result<(), DiskFault>
     requires { at < D.sectors disk.old }
-    ensures count { D.sectors disk.new ≡ D.sectors disk.old }
-    ensures honest { D.honest disk.new → D.honest disk.old }
-    ensures faults { OnOk result (D.faults disk.new ≡ D.faults disk.old) }
-    ensures failed { OnErr result (HasFailed (D.faults disk.old) (D.faults disk.new)) }
+    ensures disk { MayWrite D.sectors D.honest disk.old disk.new }
+    ensures failed { TellsFailure result (D.faults disk.old) (D.faults disk.new) }
     ensures leaves { D.honest disk.new → LeavesOnly (D.history disk.old) (D.history disk.new)
         (λ image. (index : ℕ) → IsOldOr (D.history disk.old) at sector.now index (image index)) }
     ensures stands { D.honest disk.new → OnOk result (D.history disk.new ≡ synced (wrote at sector.now (D.history disk.old))) }
@@ -55,10 +54,8 @@ pub(crate) fn write_and_sync<D: Sectors>(
 // Zeros in a sector, written only where a read gives something else.
 fn empty_sector<D: Sectors>(disk: &mut D, at: u64) -> Result<(), DiskFault>
     requires { at < D.sectors disk.old }
-    ensures count { D.sectors disk.new ≡ D.sectors disk.old }
-    ensures honest { D.honest disk.new → D.honest disk.old }
-    ensures faults { OnOk result (D.faults disk.new ≡ D.faults disk.old) }
-    ensures failed { OnErr result (HasFailed (D.faults disk.old) (D.faults disk.new)) }
+    ensures disk { MayWrite D.sectors D.honest disk.old disk.new }
+    ensures failed { TellsFailure result (D.faults disk.old) (D.faults disk.new) }
     ensures leaves { D.honest disk.new → LeavesOnly (D.history disk.old) (D.history disk.new)
         (λ image. (index : ℕ) → IsOldOr (D.history disk.old) at zeros index (image index)) }
     ensures within { D.honest disk.new → Within (D.history disk.new) (IsOldOr (D.history disk.old) at zeros) }
@@ -78,10 +75,8 @@ fn empty_sector<D: Sectors>(disk: &mut D, at: u64) -> Result<(), DiskFault>
 // Zeros in each sector from the second one to the one before the end.
 fn write_zeros<D: Sectors>(disk: &mut D, end: u64) -> Result<(), DiskFault>
     requires { end ≤ D.sectors disk.old }
-    ensures count { D.sectors disk.new ≡ D.sectors disk.old }
-    ensures honest { D.honest disk.new → D.honest disk.old }
-    ensures faults { OnOk result (D.faults disk.new ≡ D.faults disk.old) }
-    ensures failed { OnErr result (HasFailed (D.faults disk.old) (D.faults disk.new)) }
+    ensures disk { MayWrite D.sectors D.honest disk.old disk.new }
+    ensures failed { TellsFailure result (D.faults disk.old) (D.faults disk.new) }
     ensures leaves { D.honest disk.new → LeavesOnly (D.history disk.old) (D.history disk.new)
         (λ image. (index : ℕ) → IsOldOrEmpty (D.history disk.old) index (image index)) }
     ensures within { D.honest disk.new → Within (D.history disk.new) (IsOldOrEmpty (D.history disk.old)) }
@@ -95,10 +90,8 @@ fn write_zeros<D: Sectors>(disk: &mut D, end: u64) -> Result<(), DiskFault>
 
 fn write_parts<D: Sectors>(disk: &mut D, layout: Layout, version: u32) -> Result<(), DiskFault>
     requires { layout.sectors ≡ D.sectors disk.old }
-    ensures count { D.sectors disk.new ≡ D.sectors disk.old }
-    ensures honest { D.honest disk.new → D.honest disk.old }
-    ensures faults { OnOk result (D.faults disk.new ≡ D.faults disk.old) }
-    ensures failed { OnErr result (HasFailed (D.faults disk.old) (D.faults disk.new)) }
+    ensures disk { MayWrite D.sectors D.honest disk.old disk.new }
+    ensures failed { TellsFailure result (D.faults disk.old) (D.faults disk.new) }
     ensures any_moment { D.honest disk.new → LeavesOnly (D.history disk.old) (D.history disk.new)
         (λ image. MayLeave (D.history disk.old) image ⊎ HasNoMark image ⊎ IsFresh version layout.sectors image) }
     ensures fresh { D.honest disk.new → OnOk result ((image : Image) → MayLeave (D.history disk.new) image → IsFresh version layout.sectors image) }
@@ -115,10 +108,8 @@ fn write_parts<D: Sectors>(disk: &mut D, layout: Layout, version: u32) -> Result
 // Zeros in each sector from the second one to the one before the end, which outlive a crash.
 fn clear<D: Sectors>(disk: &mut D, end: u64) -> Result<(), DiskFault>
     requires { end ≤ D.sectors disk.old }
-    ensures count { D.sectors disk.new ≡ D.sectors disk.old }
-    ensures honest { D.honest disk.new → D.honest disk.old }
-    ensures faults { OnOk result (D.faults disk.new ≡ D.faults disk.old) }
-    ensures failed { OnErr result (HasFailed (D.faults disk.old) (D.faults disk.new)) }
+    ensures disk { MayWrite D.sectors D.honest disk.old disk.new }
+    ensures failed { TellsFailure result (D.faults disk.old) (D.faults disk.new) }
     ensures leaves { D.honest disk.new → LeavesOnly (D.history disk.old) (D.history disk.new)
         (λ image. (index : ℕ) → IsOldOrEmpty (D.history disk.old) index (image index)) }
     ensures within { D.honest disk.new → Within (D.history disk.new) (IsOldOrEmpty (D.history disk.old)) }
@@ -138,10 +129,8 @@ pub fn format_version<D: Sectors>(disk: &mut D, version: u32) -> Result<(), Stor
     ensures large { (result ≡ Err (Damaged Size)) ↔ (MAX_SECTORS < D.sectors disk.old) }
     ensures only { IfErr result (λ fault. (fault ≡ TooSmall) ⊎ (fault ≡ Damaged Size) ⊎ (fault ≡ Device)) }
     ensures untouched { (IsSize (D.sectors disk.old) → ⊥) → disk.new ≡ disk.old }
-    ensures count { D.sectors disk.new ≡ D.sectors disk.old }
-    ensures faults { OnOk result (D.faults disk.new ≡ D.faults disk.old) }
-    ensures failed { IfErr result (λ fault. CountsDevice fault (D.faults disk.old) (D.faults disk.new)) }
-    ensures honest { D.honest disk.new → D.honest disk.old }
+    ensures disk { MayWrite D.sectors D.honest disk.old disk.new }
+    ensures failed { TellsDevice result (D.faults disk.old) (D.faults disk.new) }
 
     // A crash at any moment leaves an image from before, or one without the mark, or a fresh one.
     ensures any_moment { D.honest disk.new → LeavesOnly (D.history disk.old) (D.history disk.new)
@@ -170,10 +159,8 @@ pub fn format<D: Sectors>(disk: &mut D) -> Result<(), StoreFault>
     ensures large { (result ≡ Err (Damaged Size)) ↔ (MAX_SECTORS < D.sectors disk.old) }
     ensures only { IfErr result (λ fault. (fault ≡ TooSmall) ⊎ (fault ≡ Damaged Size) ⊎ (fault ≡ Device)) }
     ensures untouched { (IsSize (D.sectors disk.old) → ⊥) → disk.new ≡ disk.old }
-    ensures count { D.sectors disk.new ≡ D.sectors disk.old }
-    ensures faults { OnOk result (D.faults disk.new ≡ D.faults disk.old) }
-    ensures failed { IfErr result (λ fault. CountsDevice fault (D.faults disk.old) (D.faults disk.new)) }
-    ensures honest { D.honest disk.new → D.honest disk.old }
+    ensures disk { MayWrite D.sectors D.honest disk.old disk.new }
+    ensures failed { TellsDevice result (D.faults disk.old) (D.faults disk.new) }
 
     // A crash at any moment leaves an image from before, or one without the mark, or a fresh one.
     ensures any_moment { D.honest disk.new → LeavesOnly (D.history disk.old) (D.history disk.new)

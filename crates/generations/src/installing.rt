@@ -1,6 +1,7 @@
 //! The next generation: first its area, and then its root.
-ghost use Rattle.std.specs.Prelude.{◌≡◌, ◌≤◌, ◌<◌, ◌+◌, ℕ, OnOk, OnErr};
-ghost use Rattle.sector_disk.specs.Disk.{moment, seen, Writes, HasFailed};
+ghost use Rattle.std.specs.Prelude.{◌≡◌, ◌≤◌, ◌<◌, ◌+◌, ℕ, OnOk};
+ghost use Rattle.sector_disk.specs.Asked.{MayWrite, TellsFailure};
+ghost use Rattle.sector_disk.specs.Disk.{moment, seen, Writes};
 ghost use Rattle.sector_disk.specs.Disk.History.{wrote, synced};
 ghost use Rattle.sector_disk.specs.Moments.{LeavesOnly};
 ghost use Rattle.generations.specs.Areas.{area_start};
@@ -23,10 +24,8 @@ pub fn write_area<D: Sectors>(
 ) -> Result<(), DiskFault>
     requires within { index < layout.area }
     requires on_disk { layout.sectors ≤ D.sectors disk.old }
-    ensures count { D.sectors disk.new ≡ D.sectors disk.old }
-    ensures honest { D.honest disk.new → D.honest disk.old }
-    ensures faults { OnOk result (D.faults disk.new ≡ D.faults disk.old) }
-    ensures failed { OnErr result (HasFailed (D.faults disk.old) (D.faults disk.new)) }
+    ensures disk { MayWrite D.sectors D.honest disk.old disk.new }
+    ensures failed { TellsFailure result (D.faults disk.old) (D.faults disk.new) }
     ensures writes { D.honest disk.new
         → Writes result (area_start layout.sectors generation + index) sector.now (D.history disk.old) (D.history disk.new) }
 {
@@ -38,10 +37,8 @@ pub fn write_area<D: Sectors>(
 /// fault the root stands on the disk or not.
 pub fn install<D: Sectors>(disk: &mut D, root: Root) -> Result<(), DiskFault>
     requires on_disk { 3 ≤ D.sectors disk.old }
-    ensures count { D.sectors disk.new ≡ D.sectors disk.old }
-    ensures honest { D.honest disk.new → D.honest disk.old }
-    ensures faults { OnOk result (D.faults disk.new ≡ D.faults disk.old) }
-    ensures failed { OnErr result (HasFailed (D.faults disk.old) (D.faults disk.new)) }
+    ensures disk { MayWrite D.sectors D.honest disk.old disk.new }
+    ensures failed { TellsFailure result (D.faults disk.old) (D.faults disk.new) }
     ensures steps { D.honest disk.new → moment (D.history disk.new) ≤ moment (D.history disk.old) + 3 }
 
     // A crash at any moment leaves what it might have left before, or what a read gave and the root.

@@ -1,5 +1,5 @@
 //! How the sectors of a disk are divided.
-ghost use Rattle.std.specs.Prelude.{◌≡◌, ◌≤◌, ◌+◌, ◌*◌, ◌↔◌, MatchOption};
+ghost use Rattle.std.specs.Prelude.{◌≡◌, ◌≤◌, ◌+◌, ◌*◌, MatchOption};
 ghost use Rattle.generations.specs.Areas.{IsSize, journal_sectors, area_sectors};
 
 use crate::sizes::{MAX_SECTORS, MIN_SECTORS};

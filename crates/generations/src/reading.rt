@@ -1,9 +1,10 @@
 //! The root that counts on a disk.
-ghost use Rattle.std.specs.Prelude.{◌≡◌, ◌⊎◌, ◌≤◌, ◌<◌, ◌+◌, IfOk, IfErr, IfSome, OnOk};
+ghost use Rattle.std.specs.Prelude.{◌≡◌, ◌⊎◌, ◌≤◌, ◌<◌, ◌+◌, IfOk, IfErr, IfSome};
+ghost use Rattle.sector_disk.specs.Asked.{OnlyReads};
 ghost use Rattle.sector_disk.specs.Disk.{seen};
 ghost use Rattle.generations.specs.Disks.{LiveRoot, IsFaultOf};
-ghost use Rattle.generations.specs.Faults.{CountsDevice};
-ghost use Rattle.generations.specs.Sectors.{IsFormat, IsVersion, version_from, HasMark, IsSlot, IsBad, CanStand};
+ghost use Rattle.generations.specs.Faults.{TellsDevice};
+ghost use Rattle.generations.specs.Sectors.{IsFormat, IsVersion, version_from, IsSlot, IsBad, CanStand};
 ghost use Rattle.generations.specs.declared.fault.StoreFault.TheVariants.{Device, Damaged, NotFormatted};
 ghost use Rattle.generations.specs.declared.fault.What.TheVariants.{RootSector, Size};
 
@@ -16,11 +17,8 @@ use sector_disk::{DiskFault, Sectors};
 
 fn read_sector<D: Sectors>(disk: &mut D, at: u64) -> Result<[u8; 512], StoreFault>
     requires { at < D.sectors disk.old }
-    ensures count { D.sectors disk.new ≡ D.sectors disk.old }
-    ensures faults { OnOk result (D.faults disk.new ≡ D.faults disk.old) }
-    ensures failed { IfErr result (λ fault. CountsDevice fault (D.faults disk.old) (D.faults disk.new)) }
-    ensures honest { D.honest disk.new → D.honest disk.old }
-    ensures history { D.honest disk.new → D.history disk.new ≡ D.history disk.old }
+    ensures disk { OnlyReads D.sectors D.honest D.history disk.old disk.new }
+    ensures failed { TellsDevice result (D.faults disk.old) (D.faults disk.new) }
     ensures gives { D.honest disk.new → IfOk result (λ sector. sector ≡ seen (D.history disk.old) at) }
     ensures device { IfErr result (λ fault. fault ≡ Device) }
 {
@@ -44,11 +42,8 @@ pub struct Found {
 
 // The layout that the format's sector gives, and the version of the format.
 pub(crate) fn read_layout<D: Sectors>(disk: &mut D) -> Result<(Layout, u32), StoreFault>
-    ensures count { D.sectors disk.new ≡ D.sectors disk.old }
-    ensures faults { OnOk result (D.faults disk.new ≡ D.faults disk.old) }
-    ensures failed { IfErr result (λ fault. CountsDevice fault (D.faults disk.old) (D.faults disk.new)) }
-    ensures honest { D.honest disk.new → D.honest disk.old }
-    ensures history { D.honest disk.new → D.history disk.new ≡ D.history disk.old }
+    ensures disk { OnlyReads D.sectors D.honest D.history disk.old disk.new }
+    ensures failed { TellsDevice result (D.faults disk.old) (D.faults disk.new) }
     ensures within { IfOk result (λ found. found.0.sectors ≤ D.sectors disk.old) }
     ensures known { IfOk result (λ found. IsVersion found.1) }
     ensures only { IfErr result (λ fault. (fault ≡ NotFormatted) ⊎ (fault ≡ Damaged Size) ⊎ (fault ≡ Device)) }
@@ -78,11 +73,8 @@ fn read_slot<D: Sectors>(
 ) -> Result<Option<Root>, StoreFault>
     requires parity { parity < 2 }
     requires within { layout.sectors ≤ D.sectors disk.old }
-    ensures count { D.sectors disk.new ≡ D.sectors disk.old }
-    ensures faults { OnOk result (D.faults disk.new ≡ D.faults disk.old) }
-    ensures failed { IfErr result (λ fault. CountsDevice fault (D.faults disk.old) (D.faults disk.new)) }
-    ensures honest { D.honest disk.new → D.honest disk.old }
-    ensures history { D.honest disk.new → D.history disk.new ≡ D.history disk.old }
+    ensures disk { OnlyReads D.sectors D.honest D.history disk.old disk.new }
+    ensures failed { TellsDevice result (D.faults disk.old) (D.faults disk.new) }
     ensures can { IfOk result (λ slot. IfSome slot (λ root. CanStand layout.sectors root)) }
     ensures slot { D.honest disk.new → IfOk result (IsSlot layout.sectors parity (seen (D.history disk.old) (1 + parity))) }
     ensures fault { IfErr result (λ fault. (fault ≡ Device) ⊎ (fault ≡ Damaged RootSector)) }
@@ -97,11 +89,8 @@ fn read_slot<D: Sectors>(
 /// greater generation. Only reads. At a fault other than `Device` it is the first that the disk has: of sector 0, and then of
 /// the sectors of roots.
 pub fn read_root<D: Sectors>(disk: &mut D) -> Result<Found, StoreFault>
-    ensures count { D.sectors disk.new ≡ D.sectors disk.old }
-    ensures faults { OnOk result (D.faults disk.new ≡ D.faults disk.old) }
-    ensures failed { IfErr result (λ fault. CountsDevice fault (D.faults disk.old) (D.faults disk.new)) }
-    ensures honest { D.honest disk.new → D.honest disk.old }
-    ensures history { D.honest disk.new → D.history disk.new ≡ D.history disk.old }
+    ensures disk { OnlyReads D.sectors D.honest D.history disk.old disk.new }
+    ensures failed { TellsDevice result (D.faults disk.old) (D.faults disk.new) }
     ensures within { IfOk result (λ found. found.layout.sectors ≤ D.sectors disk.new) }
     ensures can { IfOk result (λ found. CanStand found.layout.sectors found.root) }
     ensures known { IfOk result (λ found. IsVersion found.version) }

@@ -1,10 +1,11 @@
 //! The upgrade of a disk to the last version of the format.
-ghost use Rattle.std.specs.Prelude.{◌≡◌, ◌⊎◌, ◌≤◌, ◌+◌, ℕ, IfErr, OnOk, OnErr};
-ghost use Rattle.sector_disk.specs.Disk.{Image, MayLeave, moment, seen, HasFailed};
+ghost use Rattle.std.specs.Prelude.{◌≡◌, ◌⊎◌, ◌≤◌, ◌+◌, ℕ, IfErr, OnOk};
+ghost use Rattle.sector_disk.specs.Asked.{MayWrite};
+ghost use Rattle.sector_disk.specs.Disk.{Image, MayLeave, moment, seen};
 ghost use Rattle.sector_disk.specs.Disk.History.{synced};
 ghost use Rattle.sector_disk.specs.Moments.{LeavesOnly};
 ghost use Rattle.generations.specs.Disks.{IsFaultOf};
-ghost use Rattle.generations.specs.Faults.{CountsDevice};
+ghost use Rattle.generations.specs.Faults.{TellsDevice};
 ghost use Rattle.generations.specs.Sectors.{version_from};
 ghost use Rattle.generations.specs.Upgrades.{IsUpgraded, Upgrades};
 ghost use Rattle.generations.specs.declared.fault.StoreFault.TheVariants.{NotFormatted, Damaged, Device};
@@ -25,10 +26,8 @@ use sector_disk::{DiskFault, Sectors};
 /// # Errors
 /// `NotFormatted` and `Damaged(Size)` as `read_root`, where nothing was written; `Device`.
 pub fn upgrade<D: Sectors>(disk: &mut D) -> Result<(), StoreFault>
-    ensures count { D.sectors disk.new ≡ D.sectors disk.old }
-    ensures faults { OnOk result (D.faults disk.new ≡ D.faults disk.old) }
-    ensures failed { IfErr result (λ fault. CountsDevice fault (D.faults disk.old) (D.faults disk.new)) }
-    ensures honest { D.honest disk.new → D.honest disk.old }
+    ensures disk { MayWrite D.sectors D.honest disk.old disk.new }
+    ensures failed { TellsDevice result (D.faults disk.old) (D.faults disk.new) }
     ensures steps { D.honest disk.new → moment (D.history disk.new) ≤ moment (D.history disk.old) + 3 }
     ensures only { IfErr result (λ fault. (fault ≡ NotFormatted) ⊎ (fault ≡ Damaged Size) ⊎ (fault ≡ Device)) }
     ensures fault { D.honest disk.new

@@ -1,15 +1,7 @@
 -- The count of faults over several calls.
-use Rattle.std.proofs.Common.{◌≡◌, inl, inr, ⊎_elim, ℕ, ◌≤◌, ◌<◌, ◌+◌, ◌-◌, ◌^◌, min, arith}
-use Rattle.std.proofs.lemmas.Bool.{cases_lt}
+use Rattle.std.proofs.Common.{◌≡◌, inl, inr, ℕ, ◌+◌, arith}
 use Rattle.sector_disk.specs.Disk.{HasFailed}
 use Rattle.sector_bytes.specs.Counts.{HasReached, HasRisen, NeverFalls}
-
--- a call that fails counts one fault more
-pub fault_rises : (old new : ℕ) → new ≡ min (old + 1) (2 ^ 64 - 1) → HasRisen old new
-fault_rises old new is = ⊎_elim
-    (λ (lt : old + 1 < 2 ^ 64 - 1). inl (omega (arith, lt, is)))
-    (λ (last : 2 ^ 64 - 1 ≤ old + 1). inr (omega (arith, last, is)))
-    (cases_lt (old + 1) (2 ^ 64 - 1))
 
 -- a count that is unchanged doesn't fall
 pub same_count : (old new : ℕ) → new ≡ old → NeverFalls old new

@@ -1,5 +1,6 @@
 -- The bytes of sectors as a source.
 use Rattle.std.specs.Prelude.{◌≡◌, ℕ, List, Option, length}
+use Rattle.std.proofs.Common.{refl, ◌∙◌}
 use Rattle.std.specs.Borrow.{MutBor}
 use Rattle.sector_disk.specs.Disk.{History, Image}
 use Rattle.sector_bytes.specs.Bytes.{StandsIn}
@@ -27,3 +28,27 @@ pub record IsUntouched {D : Type 0} (sectors : D → ℕ) (honest : D → Type 0
   pub was_honest : honest new.disk.now → honest old.disk.now
   pub same_history : honest new.disk.now → history new.disk.now ≡ history old.disk.now
   pub never_falls : NeverFalls (faults old.disk.now) (faults new.disk.now)
+
+module _ {D : Type 0} {sectors : D → ℕ} {honest : D → Type 0} {history : D → History} {faults : D → ℕ} where
+  -- no call
+  pub untouched_none : (source : SourceView D) → IsUntouched sectors honest history faults source source
+  untouched_none source = record {
+    same_reference = refl;
+    same_first = refl;
+    same_count = refl;
+    was_honest = λ is. is;
+    same_history = λ is. refl;
+    never_falls = λ n is. is;
+  }
+
+  -- calls after others
+  pub untouched_on : {old middle new : SourceView D} → IsUntouched sectors honest history faults old middle
+      → IsUntouched sectors honest history faults middle new → IsUntouched sectors honest history faults old new
+  untouched_on first then = record {
+    same_reference = then.same_reference ∙ first.same_reference;
+    same_first = then.same_first ∙ first.same_first;
+    same_count = then.same_count ∙ first.same_count;
+    was_honest = λ is. first.was_honest (then.was_honest is);
+    same_history = λ is. then.same_history is ∙ first.same_history (then.was_honest is);
+    never_falls = λ n is. then.never_falls n (first.never_falls n is);
+  }

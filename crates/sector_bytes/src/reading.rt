@@ -1,8 +1,9 @@
 //! Bytes read from consecutive sectors.
-ghost use Rattle.std.specs.Prelude.{◌≡◌, ◌≤◌, ◌<◌, ◌+◌, length, OnOk, OnErr, slice_range};
+ghost use Rattle.std.specs.Prelude.{◌≡◌, ◌≤◌, ◌<◌, ◌+◌, length, OnOk, slice_range};
 ghost use Rattle.generations.specs.Areas.{sectors_of};
 ghost use Rattle.sector_bytes.specs.Bytes.{bytes_from, AreWhole};
-ghost use Rattle.sector_disk.specs.Disk.{seen, HasFailed};
+ghost use Rattle.sector_disk.specs.Asked.{OnlyReads, TellsFailure};
+ghost use Rattle.sector_disk.specs.Disk.{seen};
 ghost use Rattle.sector_disk.specs.declared.disk.TheConstants.{SECTOR_BYTES};
 
 use sector_disk::{DiskFault, SECTOR_BYTES, Sectors};
@@ -16,11 +17,8 @@ fn read_part<D: Sectors>(
 ) -> Result<(), DiskFault>
     requires on_disk { sector < D.sectors disk.old }
     requires fits { offset + length into.old ≤ SECTOR_BYTES }
-    ensures count { D.sectors disk.new ≡ D.sectors disk.old }
-    ensures honest { D.honest disk.new → D.honest disk.old }
-    ensures history { D.honest disk.new → D.history disk.new ≡ D.history disk.old }
-    ensures faults { OnOk result (D.faults disk.new ≡ D.faults disk.old) }
-    ensures failed { OnErr result (HasFailed (D.faults disk.old) (D.faults disk.new)) }
+    ensures disk { OnlyReads D.sectors D.honest D.history disk.old disk.new }
+    ensures failed { TellsFailure result (D.faults disk.old) (D.faults disk.new) }
     ensures length { length into.new ≡ length into.old }
     ensures whole { D.honest disk.new → OnOk result (length (seen (D.history disk.old) sector) ≡ SECTOR_BYTES) }
     ensures read { D.honest disk.new
@@ -41,11 +39,8 @@ pub fn read_bytes<D: Sectors>(
     into: &mut [u8],
 ) -> Result<(), DiskFault>
     requires on_disk { first + sectors_of (at + length into.old) ≤ D.sectors disk.old }
-    ensures count { D.sectors disk.new ≡ D.sectors disk.old }
-    ensures honest { D.honest disk.new → D.honest disk.old }
-    ensures history { D.honest disk.new → D.history disk.new ≡ D.history disk.old }
-    ensures faults { OnOk result (D.faults disk.new ≡ D.faults disk.old) }
-    ensures failed { OnErr result (HasFailed (D.faults disk.old) (D.faults disk.new)) }
+    ensures disk { OnlyReads D.sectors D.honest D.history disk.old disk.new }
+    ensures failed { TellsFailure result (D.faults disk.old) (D.faults disk.new) }
     ensures length { length into.new ≡ length into.old }
     ensures whole { D.honest disk.new → OnOk result (AreWhole first at (length into.old) (seen (D.history disk.old))) }
     ensures read { D.honest disk.new → OnOk result (into.new ≡

@@ -1,10 +1,8 @@
 //! The bytes of sectors as a source of bytes.
-ghost use Rattle.std.proofs.Common.{refl, ◌∙◌};
 ghost use Rattle.std.specs.Prelude.{◌≡◌, ◌≤◌, ◌<◌, ◌+◌, ◌^◌, length, OnOk, IfSome, Some, slice_range};
 ghost use Rattle.generations.specs.Areas.{sectors_of};
 ghost use Rattle.sector_bytes.specs.Bytes.{bytes_from};
-ghost use Rattle.sector_bytes.specs.Counts.{NeverFalls};
-ghost use Rattle.sector_bytes.specs.Source.{SourceView, AreItsBytes, IsUntouched};
+ghost use Rattle.sector_bytes.specs.Source.{SourceView, AreItsBytes, IsUntouched, untouched_none, untouched_on};
 ghost use Rattle.sector_disk.specs.Disk.{seen};
 ghost use Rattle.sector_disk.specs.declared.disk.TheConstants.{SECTOR_BYTES};
 
@@ -64,13 +62,8 @@ impl<'a, D: Sectors> SectorBytes<'a, D> {
     fn read_part(&mut self, index: u64, offset: usize, into: &mut [u8]) -> Result<(), ReadFault>
         requires inside { index < sectors_of self.old.len }
         requires fits { offset + length into.old ≤ SECTOR_BYTES }
-        ensures same_reference { self.new.disk.ghost_name ≡ self.old.disk.ghost_name }
-        ensures first { self.new.first ≡ self.old.first }
+        ensures untouched { IsUntouched D.sectors D.honest D.history D.faults self.old self.new }
         ensures len { self.new.len ≡ self.old.len }
-        ensures count { D.sectors self.new.disk.now ≡ D.sectors self.old.disk.now }
-        ensures honest { D.honest self.new.disk.now → D.honest self.old.disk.now }
-        ensures history { D.honest self.new.disk.now → D.history self.new.disk.now ≡ D.history self.old.disk.now }
-        ensures never_falls { NeverFalls (D.faults self.old.disk.now) (D.faults self.new.disk.now) }
         ensures length { length into.new ≡ length into.old }
         ensures whole { D.honest self.new.disk.now
             → OnOk result (length (seen (D.history self.old.disk.now) (self.old.first + index)) ≡ SECTOR_BYTES) }
@@ -87,13 +80,8 @@ impl<'a, D: Sectors> SectorBytes<'a, D> {
     /// Reads and caches a sector.
     fn read_sector(&mut self, index: u64) -> Result<(), ReadFault>
         requires inside { index < sectors_of self.old.len }
-        ensures same_reference { self.new.disk.ghost_name ≡ self.old.disk.ghost_name }
-        ensures first { self.new.first ≡ self.old.first }
+        ensures untouched { IsUntouched D.sectors D.honest D.history D.faults self.old self.new }
         ensures len { self.new.len ≡ self.old.len }
-        ensures count { D.sectors self.new.disk.now ≡ D.sectors self.old.disk.now }
-        ensures honest { D.honest self.new.disk.now → D.honest self.old.disk.now }
-        ensures history { D.honest self.new.disk.now → D.history self.new.disk.now ≡ D.history self.old.disk.now }
-        ensures never_falls { NeverFalls (D.faults self.old.disk.now) (D.faults self.new.disk.now) }
         ensures last { OnOk result (self.new.last ≡ Some index) }
     {
         self.last = None;
@@ -108,13 +96,8 @@ impl<'a, D: Sectors> SectorBytes<'a, D> {
     /// Reads bytes from an offset on, as many as fit in `into`, sector by sector.
     fn read_parts(&mut self, at: u64, into: &mut [u8]) -> Result<(), ReadFault>
         requires inside { at + length into.old ≤ self.old.len }
-        ensures same_reference { self.new.disk.ghost_name ≡ self.old.disk.ghost_name }
-        ensures first { self.new.first ≡ self.old.first }
+        ensures untouched { IsUntouched D.sectors D.honest D.history D.faults self.old self.new }
         ensures len { self.new.len ≡ self.old.len }
-        ensures count { D.sectors self.new.disk.now ≡ D.sectors self.old.disk.now }
-        ensures honest { D.honest self.new.disk.now → D.honest self.old.disk.now }
-        ensures history { D.honest self.new.disk.now → D.history self.new.disk.now ≡ D.history self.old.disk.now }
-        ensures never_falls { NeverFalls (D.faults self.old.disk.now) (D.faults self.new.disk.now) }
         ensures length { length into.new ≡ length into.old }
         ensures read { D.honest self.new.disk.now → OnOk result (into.new ≡ slice_range
             (bytes_from (seen (D.history self.old.disk.now)) self.old.first (sectors_of (at + length into.old))) at (at + length into.old)) }
@@ -152,21 +135,7 @@ impl<'a, D: Sectors> Bytes for SectorBytes<'a, D> {
 
     ghost sized = { λ s bytes held. held.1.length_is };
 
-    ghost unchanged_itself = { λ s. record {
-      same_reference = refl;
-      same_first = refl;
-      same_count = refl;
-      was_honest = λ honest. honest;
-      same_history = λ honest. refl;
-      never_falls = λ n is. is;
-    } };
+    ghost unchanged_itself = { λ s. untouched_none s };
 
-    ghost unchanged_on = { λ a b c first then. record {
-      same_reference = then.same_reference ∙ first.same_reference;
-      same_first = then.same_first ∙ first.same_first;
-      same_count = then.same_count ∙ first.same_count;
-      was_honest = λ honest. first.was_honest (then.was_honest honest);
-      same_history = λ honest. then.same_history honest ∙ first.same_history (then.was_honest honest);
-      never_falls = λ n is. then.never_falls n (first.never_falls n is);
-    } };
+    ghost unchanged_on = { λ a b c first then. untouched_on first then };
 }

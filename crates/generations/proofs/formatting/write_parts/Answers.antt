@@ -13,13 +13,13 @@ returns-in_err-write_and_sync-clause-any_moment g c honest = first_leaves _ _ _ 
 
 pub returns-in_err-clear-clause-any_moment : goal.returns-in_err-clear-clause-any_moment
 returns-in_err-clear-clause-any_moment g c honest =
-    let one = c.clear.ensures.honest honest in
+    let one = c.clear.ensures.disk.was_honest honest in
     second_leaves _ _ _ _ (c.write_and_sync.ensures.leaves one) (c.in_ok-write_and_sync.ensures.stands one) _ (c.clear.ensures.leaves honest)
 
 pub returns-in_err-write_and_sync-2-clause-any_moment : goal.returns-in_err-write_and_sync-2-clause-any_moment
 returns-in_err-write_and_sync-2-clause-any_moment g c honest =
-    let two = c.write_and_sync-2.ensures.honest honest in
-    let one = c.clear.ensures.honest two in
+    let two = c.write_and_sync-2.ensures.disk.was_honest honest in
+    let one = c.clear.ensures.disk.was_honest two in
     third_leaves _ _ _ _ (c.write_and_sync.ensures.leaves one) (c.in_ok-write_and_sync.ensures.stands one) _ (c.clear.ensures.leaves two)
     (c.clear.ensures.within two) (λ at pos lt. c.in_ok-clear.ensures.empty two at pos (omega (arith, lt, c.args.layout.journal_is)))
     _ c.root_bytes-first.ensures _ (c.write_and_sync-2.ensures.leaves honest)
@@ -31,9 +31,9 @@ written : (g : given.Over) (c : After-write_and_sync-3 g) → g.D.Sectors.honest
     × (g.D.Sectors.history c.write_and_sync-3.new.disk ≡ synced (wrote 0 c.format_bytes-format.result (g.D.Sectors.history c.write_and_sync-2.new.disk))
     → (image : Image) → MayLeave (g.D.Sectors.history c.write_and_sync-3.new.disk) image → IsFresh c.args.version c.args.layout.sectors image)
 written g c honest =
-    let three = c.write_and_sync-3.ensures.honest honest in
-    let two = c.write_and_sync-2.ensures.honest three in
-    let one = c.clear.ensures.honest two in
+    let three = c.write_and_sync-3.ensures.disk.was_honest honest in
+    let two = c.write_and_sync-2.ensures.disk.was_honest three in
+    let one = c.clear.ensures.disk.was_honest two in
     fourth _ _ _ _ (c.write_and_sync.ensures.leaves one) (c.in_ok-write_and_sync.ensures.stands one) _ (c.clear.ensures.leaves two)
     (c.clear.ensures.within two) (λ at pos lt. c.in_ok-clear.ensures.empty two at pos (omega (arith, lt, c.args.layout.journal_is)))
     _ c.root_bytes-first.ensures _ (c.write_and_sync-2.ensures.leaves three) (c.in_ok-write_and_sync-2.ensures.stands three)

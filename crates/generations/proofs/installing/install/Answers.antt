@@ -6,6 +6,6 @@ returns-in_err-sync-clause-any_moment g c honest = begun_leaves c.args.root _ _ 
 
 pub returns-clause-any_moment : goal.returns-clause-any_moment
 returns-clause-any_moment g c honest =
-    let between = c.write_and_sync.ensures.honest honest in
+    let between = c.write_and_sync.ensures.disk.was_honest honest in
     written_leaves c.args.root _ _ (c.in_ok-sync.ensures.syncs between) _ (c.sync.ensures.syncs between) _ c.root_bytes-sector.ensures _
     (c.write_and_sync.ensures.leaves honest)

@@ -12,7 +12,7 @@ returns-in-Err-clause-any_moment g c = λ honest. sync_upgrades _ _ _ (any_sync 
 
 pub returns-in-Err-read_layout-clause-fault : goal.returns-in-Err-read_layout-clause-fault
 returns-in-Err-read_layout-clause-fault g c = λ honest.
-    let mid = c.in-Ok.ensures.syncs (c.read_layout.ensures.honest honest) in
+    let mid = c.in-Ok.ensures.syncs (c.read_layout.ensures.disk.was_honest honest) in
     let fault = c.in-Err-read_layout.fault in
     ⊎_elim (λ e. inl e)
     (λ (is : IsFaultOf (g.D.Sectors.sectors c.sync.new.self) (seen (g.D.Sectors.history c.sync.new.self)) fault).
@@ -22,11 +22,11 @@ returns-in-Err-read_layout-clause-fault g c = λ honest.
 
 pub returns-in-Err-read_layout-clause-any_moment : goal.returns-in-Err-read_layout-clause-any_moment
 returns-in-Err-read_layout-clause-any_moment g c = λ honest.
-    sync_upgrades _ _ _ (inr (c.read_layout.ensures.history honest ∙ c.in-Ok.ensures.syncs (c.read_layout.ensures.honest honest)))
+    sync_upgrades _ _ _ (inr (c.read_layout.ensures.disk.same_history honest ∙ c.in-Ok.ensures.syncs (c.read_layout.ensures.disk.was_honest honest)))
 
 pub returns-then-version-eq-LAST_VERSION-clause-any_moment : goal.returns-then-version-eq-LAST_VERSION-clause-any_moment
 returns-then-version-eq-LAST_VERSION-clause-any_moment g c = λ honest.
-    sync_upgrades _ _ _ (inr (c.read_layout.ensures.history honest ∙ c.in-Ok.ensures.syncs (c.read_layout.ensures.honest honest)))
+    sync_upgrades _ _ _ (inr (c.read_layout.ensures.disk.same_history honest ∙ c.in-Ok.ensures.syncs (c.read_layout.ensures.disk.was_honest honest)))
 
 -- what was read of the disk of before
 format_read : (old mid : History) (count there n : ℕ) → there ≡ count → mid ≡ synced old → IsFormat there (seen mid 0) n → IsFormat count (seen old 0) n
@@ -38,32 +38,32 @@ version_read old mid version is read = sym (subst (λ (h : History). version ≡
 
 pub returns-then-version-eq-LAST_VERSION-clause-upgraded : goal.returns-then-version-eq-LAST_VERSION-clause-upgraded
 returns-then-version-eq-LAST_VERSION-clause-upgraded g c = λ honest.
-    let before = c.in-Ok.ensures.syncs (c.read_layout.ensures.honest honest) in
+    let before = c.in-Ok.ensures.syncs (c.read_layout.ensures.disk.was_honest honest) in
     let format = format_read _ _ _ _ c.in-Ok-read_layout.found.0.sectors c.sync.ensures.count before (c.in-Ok-read_layout.ensures.format honest) in
     let version = version_read _ _ c.in-Ok-read_layout.found.1 before (c.in-Ok-read_layout.ensures.version honest) in
-    upgraded_already _ _ _ (c.read_layout.ensures.history honest ∙ before) c.in-Ok-read_layout.found.0.sectors format
+    upgraded_already _ _ _ (c.read_layout.ensures.disk.same_history honest ∙ before) c.in-Ok-read_layout.found.0.sectors format
     (version ∙ c.if-version-eq-LAST_VERSION.true)
 
 pub returns-in-Ok-write_and_sync-clause-any_moment : goal.returns-in-Ok-write_and_sync-clause-any_moment
 returns-in-Ok-write_and_sync-clause-any_moment g c = λ honest.
-    let there = c.write_and_sync.ensures.honest honest in
-    let before = c.in-Ok.ensures.syncs (c.read_layout.ensures.honest there) in
+    let there = c.write_and_sync.ensures.disk.was_honest honest in
+    let before = c.in-Ok.ensures.syncs (c.read_layout.ensures.disk.was_honest there) in
     let format = format_read _ _ _ _ c.in-Ok-read_layout.found.0.sectors c.sync.ensures.count before (c.in-Ok-read_layout.ensures.format there) in
-    write_upgrades _ _ _ (c.read_layout.ensures.history there ∙ before) c.in-Ok-read_layout.found.0.sectors format
+    write_upgrades _ _ _ (c.read_layout.ensures.disk.same_history there ∙ before) c.in-Ok-read_layout.found.0.sectors format
     c.format_bytes-format.result c.format_bytes-format.ensures _ (c.write_and_sync.ensures.leaves honest)
 
 pub returns-in-Ok-write_and_sync-clause-upgraded : goal.returns-in-Ok-write_and_sync-clause-upgraded
 returns-in-Ok-write_and_sync-clause-upgraded g c = λ honest.
-    let there = c.write_and_sync.ensures.honest honest in
-    let before = c.in-Ok.ensures.syncs (c.read_layout.ensures.honest there) in
+    let there = c.write_and_sync.ensures.disk.was_honest honest in
+    let before = c.in-Ok.ensures.syncs (c.read_layout.ensures.disk.was_honest there) in
     let format = format_read _ _ _ _ c.in-Ok-read_layout.found.0.sectors c.sync.ensures.count before (c.in-Ok-read_layout.ensures.format there) in
-    upgraded_now _ _ _ (c.read_layout.ensures.history there ∙ before) c.in-Ok-read_layout.found.0.sectors format
+    upgraded_now _ _ _ (c.read_layout.ensures.disk.same_history there ∙ before) c.in-Ok-read_layout.found.0.sectors format
     c.format_bytes-format.result c.format_bytes-format.ensures _ (c.in-Ok-write_and_sync.ensures.stands honest)
 
 pub returns-in-Err-write_and_sync-clause-any_moment : goal.returns-in-Err-write_and_sync-clause-any_moment
 returns-in-Err-write_and_sync-clause-any_moment g c = λ honest.
-    let there = c.write_and_sync.ensures.honest honest in
-    let before = c.in-Ok.ensures.syncs (c.read_layout.ensures.honest there) in
+    let there = c.write_and_sync.ensures.disk.was_honest honest in
+    let before = c.in-Ok.ensures.syncs (c.read_layout.ensures.disk.was_honest there) in
     let format = format_read _ _ _ _ c.in-Ok-read_layout.found.0.sectors c.sync.ensures.count before (c.in-Ok-read_layout.ensures.format there) in
-    write_upgrades _ _ _ (c.read_layout.ensures.history there ∙ before) c.in-Ok-read_layout.found.0.sectors format
+    write_upgrades _ _ _ (c.read_layout.ensures.disk.same_history there ∙ before) c.in-Ok-read_layout.found.0.sectors format
     c.format_bytes-format.result c.format_bytes-format.ensures _ (c.write_and_sync.ensures.leaves honest)

@@ -2,6 +2,7 @@ use Rattle.std.proofs.Common.{◌≡◌, ◌<◌, ◌≤◌, ◌+◌, ◌-◌, �
 use Rattle.generations.specs.Areas.{sectors_of}
 use Rattle.sector_disk.specs.Disk.{History, seen}
 use Rattle.sector_disk.specs.declared.disk.TheConstants.{SECTOR_BYTES}
+use Rattle.sector_disk.proofs.AskedLaws.{reads_on}
 use Rattle.sector_bytes.proofs.Pieces.{put_length, next_whole, next_put}
 use Rattle.sector_bytes.proofs.reading.read_bytes.Goals as goal
 
@@ -26,20 +27,18 @@ loop-done-preserved g c =
     omega (arith, length-take (done + part - done) (drop done c.loop-done.into), length-drop done c.loop-done.into, within_now) in
     let long : length c.read_part.new.into ≡ part = ok.length ∙ size_is in
     record {
-      count = ok.count ∙ inv.count;
-      honest = λ honest. inv.honest (ok.honest honest);
-      history = λ honest. ok.history honest ∙ inv.history (ok.honest honest);
-      faults = ok.faults ∙ inv.faults;
+      disk = reads_on inv.disk ok.disk;
+      faults = ok.failed ∙ inv.faults;
       length_is = put_length done part _ c.loop-done.into c.read_part.new.into within_now (omega arith) long ∙ inv.length_is;
       done = within;
       skipped = refl;
       whole = λ honest. next_whole image c.args.first at done part index offset there fits
-          (ap (λ (h : History). length (seen h (c.args.first + index))) (sym (inv.history (ok.honest honest))) ∙ ok.whole honest)
-          (inv.whole (ok.honest honest));
+          (ap (λ (h : History). length (seen h (c.args.first + index))) (sym (inv.disk.same_history (ok.disk.was_honest honest))) ∙ ok.whole honest)
+          (inv.whole (ok.disk.was_honest honest));
       read = λ honest. next_put image c.args.first at done part index offset there fits
-          (ap (λ (h : History). length (seen h (c.args.first + index))) (sym (inv.history (ok.honest honest))) ∙ ok.whole honest)
+          (ap (λ (h : History). length (seen h (c.args.first + index))) (sym (inv.disk.same_history (ok.disk.was_honest honest))) ∙ ok.whole honest)
           (sectors_of (at + length c.args.into.now)) size _ c.loop-done.into c.read_part.new.into lt size_is (omega (arith, within_now)) long
           (ok.read honest ∙ ap (λ (h : History). slice_range (seen h (c.args.first + index)) (offset)
-          (offset + size)) (inv.history (ok.honest honest)))
-          (inv.read (ok.honest honest));
+          (offset + size)) (inv.disk.same_history (ok.disk.was_honest honest)))
+          (inv.read (ok.disk.was_honest honest));
     }

@@ -1,15 +1,14 @@
 use Rattle.std.proofs.Common.{◌≡◌, ◌≤◌, ◌+◌, ◌-◌, ◌%◌, length, take, slice_range}
 use Rattle.generations.specs.Areas.{sectors_of}
 use Rattle.sector_bytes.specs.Bytes.{bytes_from, AreWhole}
+use Rattle.sector_disk.specs.Asked.{OnlyReads}
 use Rattle.sector_disk.specs.Disk.{seen}
 use Rattle.sector_disk.specs.declared.disk.TheConstants.{SECTOR_BYTES}
 use Rattle.sector_bytes.proofs.reading.read_bytes.Given as goal
 
 abbrev pub invariant-loop-done : goal.invariant-loop-done
 invariant-loop-done g l = record {
-  count : g.D.Sectors.sectors l.disk ≡ g.D.Sectors.sectors l.initial.disk;
-  honest : g.D.Sectors.honest l.disk → g.D.Sectors.honest l.initial.disk;
-  history : g.D.Sectors.honest l.disk → g.D.Sectors.history l.disk ≡ g.D.Sectors.history l.initial.disk;
+  disk : OnlyReads g.D.Sectors.sectors g.D.Sectors.honest g.D.Sectors.history l.initial.disk l.disk;
   faults : g.D.Sectors.faults l.disk ≡ g.D.Sectors.faults l.initial.disk;
   length_is : length l.into ≡ length l.initial.into;
   done : l.done ≤ length l.initial.into;

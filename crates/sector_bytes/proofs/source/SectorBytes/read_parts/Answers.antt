@@ -3,6 +3,7 @@ use Rattle.generations.specs.Areas.{sectors_of}
 use Rattle.sector_disk.specs.Disk.{History, seen}
 use Rattle.sector_disk.specs.declared.disk.TheConstants.{SECTOR_BYTES}
 use Rattle.sector_bytes.proofs.Pieces.{put_length, next_put}
+use Rattle.sector_bytes.specs.Source.{untouched_on}
 use Rattle.sector_bytes.proofs.source.SectorBytes.read_parts.Goals as goal
 
 pub loop-done-preserved : goal.loop-done-preserved
@@ -27,26 +28,21 @@ loop-done-preserved g c =
     omega (arith, length-take (done + part - done) (drop done c.loop-done.into), length-drop done c.loop-done.into, within_now) in
     let long : length c.read_part.new.into ≡ part = ok.length ∙ size_is in
     record {
-      same_reference = ok.same_reference ∙ inv.same_reference;
-      first = ok.first ∙ inv.first;
+      untouched = untouched_on inv.untouched ok.untouched;
       len = ok.len ∙ inv.len;
-      count = ok.count ∙ inv.count;
-      honest = λ honest. inv.honest (ok.honest honest);
-      history = λ honest. ok.history honest ∙ inv.history (ok.honest honest);
-      never_falls = λ n is. ok.never_falls n (inv.never_falls n is);
       length_is = put_length done part _ c.loop-done.into c.read_part.new.into within_now (omega arith) long ∙ inv.length_is;
       done = within;
       read = λ honest.
-          let was = inv.history (ok.honest honest) in
+          let was = inv.untouched.same_history (ok.untouched.was_honest honest) in
           next_put image first at done part index offset there fits
           (ap (λ (h : History). length (seen h (first + index))) (sym was)
-          ∙ ap (λ (n : ℕ). length (seen (g.D.Sectors.history c.loop-done.self.disk.now) (n + index))) (sym inv.first) ∙ ok.whole honest)
+          ∙ ap (λ (n : ℕ). length (seen (g.D.Sectors.history c.loop-done.self.disk.now) (n + index))) (sym inv.untouched.same_first) ∙ ok.whole honest)
           (sectors_of (at + length c.args.into.now)) size _ c.loop-done.into c.read_part.new.into lt size_is (omega (arith, within_now)) long
           (ok.read honest
-          ∙ ap (λ (n : ℕ). slice_range (seen (g.D.Sectors.history c.loop-done.self.disk.now) (n + index)) offset (offset + size)) inv.first
+          ∙ ap (λ (n : ℕ). slice_range (seen (g.D.Sectors.history c.loop-done.self.disk.now) (n + index)) offset (offset + size)) inv.untouched.same_first
           ∙ ap (λ (h : History). slice_range (seen h (first + index)) offset (offset + size)) was)
-          (inv.read (ok.honest honest));
+          (inv.read (ok.untouched.was_honest honest));
     }
 
-pub returns-in_err-read_part-clause-never_falls : goal.returns-in_err-read_part-clause-never_falls
-returns-in_err-read_part-clause-never_falls g c n is = c.in_err-read_part.ensures.never_falls n (c.loop-done.invariant.never_falls n is)
+pub returns-in_err-read_part-clause-untouched : goal.returns-in_err-read_part-clause-untouched
+returns-in_err-read_part-clause-untouched g c = untouched_on c.loop-done.invariant.untouched c.in_err-read_part.ensures.untouched

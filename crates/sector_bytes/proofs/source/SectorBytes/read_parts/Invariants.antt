@@ -1,19 +1,14 @@
 use Rattle.std.proofs.Common.{◌≡◌, ◌≤◌, ◌+◌, ◌-◌, length, take, slice_range}
 use Rattle.generations.specs.Areas.{sectors_of}
 use Rattle.sector_bytes.specs.Bytes.{bytes_from}
-use Rattle.sector_bytes.specs.Counts.{NeverFalls}
+use Rattle.sector_bytes.specs.Source.{IsUntouched}
 use Rattle.sector_disk.specs.Disk.{seen}
 use Rattle.sector_bytes.proofs.source.SectorBytes.read_parts.Given as goal
 
 abbrev pub invariant-loop-done : goal.invariant-loop-done
 invariant-loop-done g l = record {
-  same_reference : l.self.disk.ghost_name ≡ l.initial.self.disk.ghost_name;
-  first : l.self.first ≡ l.initial.self.first;
+  untouched : IsUntouched g.D.Sectors.sectors g.D.Sectors.honest g.D.Sectors.history g.D.Sectors.faults l.initial.self l.self;
   len : l.self.len ≡ l.initial.self.len;
-  count : g.D.Sectors.sectors l.self.disk.now ≡ g.D.Sectors.sectors l.initial.self.disk.now;
-  honest : g.D.Sectors.honest l.self.disk.now → g.D.Sectors.honest l.initial.self.disk.now;
-  history : g.D.Sectors.honest l.self.disk.now → g.D.Sectors.history l.self.disk.now ≡ g.D.Sectors.history l.initial.self.disk.now;
-  never_falls : NeverFalls (g.D.Sectors.faults l.initial.self.disk.now) (g.D.Sectors.faults l.self.disk.now);
   length_is : length l.into ≡ length l.initial.into;
   done : l.done ≤ length l.initial.into;
   read : g.D.Sectors.honest l.self.disk.now → take l.done l.into ≡ slice_range

@@ -11,7 +11,7 @@ returns-clause-gives g c bytes held =
     let n = length c.args.into.now in
     let image = seen (g.D.Sectors.history c.args.self.now.disk.now) in
     let stands : StandsIn c.args.self.now.first bytes image =
-    subst (λ (h : History). StandsIn c.args.self.now.first bytes (seen h)) (told.history held.0)
-    (subst (λ (first : ℕ). StandsIn first bytes (seen (g.D.Sectors.history c.read_parts.new.self.disk.now))) told.first held.1.stands) in
+    subst (λ (h : History). StandsIn c.args.self.now.first bytes (seen h)) (told.untouched.same_history held.0)
+    (subst (λ (first : ℕ). StandsIn first bytes (seen (g.D.Sectors.history c.read_parts.new.self.disk.now))) told.untouched.same_first held.1.stands) in
     let within : c.args.at + n ≤ length bytes = omega (arith, c.requires, held.1.length_is, told.len) in
     on_ok_weaker c.read_parts.result (λ is. is ∙ stands_read image c.args.self.now.first c.args.at n bytes stands within) (told.read held.0)
