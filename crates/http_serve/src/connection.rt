@@ -235,8 +235,7 @@ fn serve_session<R: Read, W: Write, H: Handler>(
     ensures turns { IfOk result (λ served. MeetsTurns R.remaining turns reader.old reader.new served.end) }
     ensures reads { KeepsTurns turns result (R.remaining reader.old) (R.remaining reader.new) }
 {
-    session.input.clear();
-    session.search = START;
+    session.begin();
     let mut requests = 0;
     let mut reason = NO_HEAD;
     for _turn in 0..turns {

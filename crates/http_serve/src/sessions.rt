@@ -1,6 +1,7 @@
 //! The memory of a connection.
-ghost use Rattle.std.specs.Prelude.{◌≤◌, vec_capacity};
+ghost use Rattle.std.specs.Prelude.{◌≡◌, ◌≤◌, [], vec_capacity};
 ghost use Rattle.http_serve.specs.declared.handlers.TheConstants.{PART_SIZE};
+ghost use Rattle.http_serve.specs.Search.{IsKnown};
 
 use crate::handlers::PART_SIZE;
 use crate::inputs::Input;
@@ -32,6 +33,15 @@ impl Session {
             out,
             part,
         })
+    }
+
+    /// Begins a connection: nothing of an earlier one is left.
+    pub(crate) fn begin(&mut self)
+        ensures input { self.new.input.waiting ≡ [] }
+        ensures known { IsKnown self.new.input.waiting self.new.search }
+    {
+        self.input.clear();
+        self.search = START;
     }
 }
 

@@ -1,4 +1,4 @@
-use Rattle.std.proofs.Common.{◌≤◌, vec_capacity, length}
+use Rattle.std.proofs.Common.{length}
 use Rattle.http_serve.specs.Search.{IsKnown}
 use Rattle.http_serve.specs.Served.{Carries}
 use Rattle.http_serve.proofs.connection.answer_whole.Given as goal

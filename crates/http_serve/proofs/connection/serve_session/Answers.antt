@@ -1,4 +1,4 @@
-use Rattle.std.proofs.Common.{◌≡◌, Err, rules, arith, refl, sym, subst, List, ℕ, ◌+◌, ◌*◌}
+use Rattle.std.proofs.Common.{◌≡◌, Err, rules, arith, sym, subst, List, ℕ, ◌+◌, ◌*◌}
 use Rattle.http_serve.specs.Input.{buffer_size}
 use Rattle.http_serve.specs.Search.{IsKnown}
 use Rattle.http_serve.proofs.LineLemmas.{IsKnown-append}
@@ -9,11 +9,11 @@ use Rattle.http_serve.proofs.connection.serve_session.Goals as goal
 
 pub loop-turn-init : goal.loop-turn-init
 loop-turn-init g c = record {
-  known = (omega arith, refl);
+  known = c.begin.ensures.known;
   within = omega arith;
   reads = adds_none g.R.Read.remaining c.args.reader.now;
   most = most_start (g.R.Read.remaining c.args.reader.now) _;
-  so_far = SoFar_start g.H.Handler.replies _ _ _ _ c.clear.ensures;
+  so_far = SoFar_start g.H.Handler.replies _ _ _ _ c.begin.ensures.input;
 }
 
 pub returns-in-Ended-clause-served : goal.returns-in-Ended-clause-served

@@ -1,4 +1,4 @@
-use Rattle.std.proofs.Common.{◌≤◌, ◌*◌, vec_capacity}
+use Rattle.std.proofs.Common.{◌≤◌, ◌*◌}
 use Rattle.http_serve.specs.Input.{buffer_size}
 use Rattle.http_serve.specs.Search.{IsKnown}
 use Rattle.http_serve.specs.Told.{LosesAtMost}
