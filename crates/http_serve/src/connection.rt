@@ -124,7 +124,15 @@ fn answer_one<H: Handler, W: Write>(
         close: frame.close,
     };
     let reply = handler.answer(&request);
-    send_reply(handler, writer, out, part, &reply, frame.close, is_head(method))
+    send_reply(
+        handler,
+        writer,
+        out,
+        part,
+        &reply,
+        frame.close,
+        is_head(method),
+    )
 }
 
 /// Writes the reply for a rejection.
@@ -177,7 +185,14 @@ fn answer_whole<H: Handler, W: Write>(
             },
         };
         let waiting = session.input.waiting();
-        match answer_one(handler, writer, &mut session.out, &mut session.part, waiting, &frame) {
+        match answer_one(
+            handler,
+            writer,
+            &mut session.out,
+            &mut session.part,
+            waiting,
+            &frame,
+        ) {
             Ok(()) => requests = requests.saturating_add(1),
             Err(fault) => return Err(fault.after(requests)),
         }
