@@ -1,8 +1,19 @@
 -- The bytes of an archive, as they were copied to a writer.
-use Rattle.std.specs.Prelude.{◌≡◌, ℕ, List, length, take, drop, Option}
+use Rattle.std.specs.Prelude.{◌≡◌, ℕ, List, length, take, drop, Option, Result, MatchResult}
 use Rattle.std.specs.Io.KnownBytes.{Appends}
-use Rattle.sector_disk.specs.Disk.{History}
+use Rattle.sector_disk.specs.Disk.{History, HasFailed}
 use Rattle.tile_service.specs.Service.{ServiceView, ShowsArchive}
+use Rattle.archive_export.specs.declared.copying.CopyFault.{CopyFault}
+use Rattle.archive_export.specs.declared.copying.CopyFault.TheVariants.{Device, Write}
+
+-- With the fault Device a call of the disk has failed, and with Write none has.
+abbrev pub CountsDevice : CopyFault → (old new : ℕ) → Type 0
+CountsDevice Device old new = HasFailed old new
+CountsDevice Write old new = new ≡ old
+
+-- The fault of a result says whether a call of the disk has failed, and success says that none has.
+abbrev pub TellsDevice : {T : Type 0} → Result T CopyFault → (old new : ℕ) → Type 0
+TellsDevice result old new = MatchResult result (λ _. new ≡ old) (λ fault. CountsDevice fault old new)
 
 module _ {D : Type 0} (honest : D → Type 0) (history : D → History) where
   -- So many bytes were written, and on an honest disk they are those of the archive that the service shows, from one on. A broken

@@ -1,8 +1,7 @@
 //! The archive, piece by piece.
-ghost use Rattle.std.specs.Prelude.{◌≡◌, ◌≤◌, ◌+◌, length, Ok, Err, OnOk};
-ghost use Rattle.archive_export.specs.Copies.{CopiesBytes, CopiesArchive};
-ghost use Rattle.archive_export.specs.declared.copying.CopyFault.TheVariants as faults;
-ghost use Rattle.sector_disk.specs.Disk.{HasFailed};
+ghost use Rattle.std.specs.Prelude.{◌≡◌, ◌≤◌, ◌+◌, length, Ok, OnOk};
+ghost use Rattle.archive_export.specs.Copies.{CopiesBytes, CopiesArchive, TellsDevice};
+ghost use Rattle.sector_disk.specs.Asked.{OnlyReads};
 ghost use Rattle.tile_service.specs.Service.{IsUp};
 ghost use Rattle.tile_service.specs.Stored.{Stored};
 
@@ -34,11 +33,8 @@ fn copy_piece<D: Sectors + Drop, W: Write>(
 ) -> Result<(), CopyFault>
     requires within { at + length piece.old ≤ service.old.archive_len }
     ensures same { service.new ≡ record service.old { disk = service.new.disk } }
-    ensures count { D.sectors service.new.disk ≡ D.sectors service.old.disk }
-    ensures honest { D.honest service.new.disk → D.honest service.old.disk }
-    ensures history { D.honest service.new.disk → D.history service.new.disk ≡ D.history service.old.disk }
-    ensures faults { OnOk result (D.faults service.new.disk ≡ D.faults service.old.disk) }
-    ensures failed { result ≡ Err faults.Device → HasFailed (D.faults service.old.disk) (D.faults service.new.disk) }
+    ensures disk { OnlyReads D.sectors D.honest D.history service.old.disk service.new.disk }
+    ensures failed { TellsDevice result (D.faults service.old.disk) (D.faults service.new.disk) }
     ensures length { length piece.new ≡ length piece.old }
     ensures copied { OnOk result (CopiesBytes D.honest D.history service.old at (length piece.old) service.new
         (W.contents into.old) (W.contents into.new)) }
@@ -68,11 +64,8 @@ pub fn copy_archive<D: Sectors + Drop, W: Write>(
     ensures size { OnOk result (result ≡ Ok service.old.archive_len) }
     ensures copied { OnOk result (CopiesArchive D.honest D.history service.old service.new (W.contents into.old) (W.contents into.new)) }
     ensures same { service.new ≡ record service.old { disk = service.new.disk } }
-    ensures count { D.sectors service.new.disk ≡ D.sectors service.old.disk }
-    ensures honest { D.honest service.new.disk → D.honest service.old.disk }
-    ensures history { D.honest service.new.disk → D.history service.new.disk ≡ D.history service.old.disk }
-    ensures faults { OnOk result (D.faults service.new.disk ≡ D.faults service.old.disk) }
-    ensures failed { result ≡ Err faults.Device → HasFailed (D.faults service.old.disk) (D.faults service.new.disk) }
+    ensures disk { OnlyReads D.sectors D.honest D.history service.old.disk service.new.disk }
+    ensures failed { TellsDevice result (D.faults service.old.disk) (D.faults service.new.disk) }
     ensures up { (stored : Stored) → IsUp (D.sectors service.old.disk) (D.history service.old.disk) stored service.old → D.honest service.new.disk
         → IsUp (D.sectors service.new.disk) (D.history service.new.disk) stored service.new }
 {

@@ -1,5 +1,6 @@
 //! Disks in new files: for every file system.
 ghost use Rattle.std.specs.Prelude.{◌≡◌, ◌<◌, ◌⊎◌, Err, IfErr, IfOk, IsOk};
+ghost use Rattle.sector_disk.specs.Asked.{MayWrite};
 ghost use Rattle.sector_disk.specs.Disk.{all_zeros};
 ghost use Rattle.sector_disk.specs.Disk.History.{begun};
 ghost use Rattle.generations.specs.Areas.{IsSize};
@@ -47,8 +48,7 @@ pub fn sync_folder<R: Files>(files: &R, path: &str) -> io::Result<()> {
 
 /// Has a disk hold the empty map, in a file whose name outlives a crash.
 fn settle<D: Sectors + Drop, R: Files>(files: &R, path: &str, disk: &mut D) -> Result<(), FileFault>
-    ensures count { D.sectors disk.new ≡ D.sectors disk.old }
-    ensures honest { D.honest disk.new → D.honest disk.old }
+    ensures disk { MayWrite D.sectors D.honest disk.old disk.new }
     ensures only { IsSize (D.sectors disk.old) → IfErr result (λ fault. (fault ≡ File) ⊎ (fault ≡ Store Device)) }
     ensures holds { D.honest disk.new → IfOk result (λ _. Keeps (D.sectors disk.old) (D.sectors disk.old) first_state (D.history disk.new)) }
 {

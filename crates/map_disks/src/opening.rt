@@ -1,5 +1,6 @@
 //! A map opened on a disk: for every disk, and for all that it may have had.
 ghost use Rattle.std.specs.Prelude.{◌≡◌, ◌⊎◌, ℕ, IfErr, IfOk, IfSome};
+ghost use Rattle.sector_disk.specs.Asked.{MayWrite};
 ghost use Rattle.sector_disk.specs.Disk.{seen};
 ghost use Rattle.sector_disk.specs.Disk.History.{synced};
 ghost use Rattle.generations.specs.declared.fault.StoreFault.TheVariants.{Device, Memory};
@@ -20,8 +21,7 @@ pub fn opened_service<D: Sectors + Drop>(
     alloc: Global,
     disk: D,
 ) -> Result<MapReplies<D>, (Option<D>, StoreFault)>
-    ensures count { IfOk result (λ replies. D.sectors (asked_service replies).disk ≡ D.sectors disk) }
-    ensures honest { IfOk result (λ replies. D.honest (asked_service replies).disk → D.honest disk) }
+    ensures disk { IfOk result (λ replies. MayWrite D.sectors D.honest disk (asked_service replies).disk) }
     ensures history { IfOk result (λ replies. D.honest (asked_service replies).disk → D.history (asked_service replies).disk ≡ synced (D.history disk)) }
     ensures fault { IfErr result (λ e. IfSome e.0 D.honest
         → (e.1 ≡ Device) ⊎ (e.1 ≡ Memory) ⊎ IsOpenFault (D.sectors disk) (seen (D.history disk)) e.1) }

@@ -6,7 +6,7 @@ use Rattle.http_serve.specs.declared.replies.Reply.{Reply}
 use Rattle.sector_disk.specs.Disk.{History, HasFailed}
 use Rattle.tile_service.specs.Machine.{OrMemory, got, no_memory, Happening}
 use Rattle.tile_service.specs.Runs.{begin_and_steps, Takes, TakesPublication}
-use Rattle.tile_service.specs.Service.{ServiceView, CountsDevice}
+use Rattle.tile_service.specs.Service.{ServiceView, TellsDevice}
 use Rattle.tile_service.specs.declared.fault.ServiceFault.TheVariants.{Device}
 use Rattle.tile_service.specs.declared.publishing_whole.Published.{Published}
 use Rattle.tile_service.specs.declared.fault.ServiceFault.{ServiceFault}
@@ -17,7 +17,7 @@ use Rattle.map_replies.specs.declared.fault.RequestFault.{RequestFault}
 use Rattle.map_replies.specs.declared.fault.RequestFault.TheVariants.{Memory}
 
 -- with the fault Device a call of the disk has failed
-device_failed : {A : Type 0} (r : Result A ServiceFault) (before after : ℕ) → IfErr r (λ fault. CountsDevice fault before after)
+device_failed : {A : Type 0} (r : Result A ServiceFault) (before after : ℕ) → TellsDevice r before after
     → IfErr r (λ fault. fault ≡ Device → HasFailed before after)
 device_failed (Ok a) before after is = tt
 device_failed (Err fault) before after (inl is) = λ device. is.1
@@ -39,7 +39,7 @@ module _ {D : Type 0} (sectors : D → ℕ) (honest : D → Type 0) (history : D
   -- one call was made that may be refused
   pub changed : {A : Type 0} (before after : ℕ) (call : Result A ServiceFault → Happening) (reply_of : Result A ServiceFault → ReplyView)
       (old new : ServiceView D) (outcome : Result A ServiceFault) (reply : ReplyView)
-      → reply ≡ reply_of outcome → IfErr outcome (λ fault. CountsDevice fault before after) → Takes sectors honest history old (call outcome) new
+      → reply ≡ reply_of outcome → TellsDevice outcome before after → Takes sectors honest history old (call outcome) new
       → Answers sectors honest history (MeansChange (HasFailed before after) call reply_of) old new reply
   changed before after call reply_of old new outcome reply is counts takes =
       (call outcome ∷ [], (outcome, is, device_failed outcome before after counts, refl), (new, takes, refl))
@@ -47,7 +47,7 @@ module _ {D : Type 0} (sectors : D → ℕ) (honest : D → Type 0) (history : D
   -- there was memory for it
   pub changed_first : {A : Type 0} (before after : ℕ) (call : Result A ServiceFault → Happening) (reply_of : Result A ServiceFault → ReplyView)
       (old new : ServiceView D) (outcome : Result A ServiceFault) (reply : ReplyView)
-      → reply ≡ reply_of outcome → IfErr outcome (λ fault. CountsDevice fault before after) → Takes sectors honest history old (call outcome) new
+      → reply ≡ reply_of outcome → TellsDevice outcome before after → Takes sectors honest history old (call outcome) new
       → Answers sectors honest history (OrNoMemory (MeansChange (HasFailed before after) call reply_of)) old new reply
   changed_first before after call reply_of old new outcome reply is counts takes =
       (call outcome ∷ [], inl (outcome, is, device_failed outcome before after counts, refl), (new, takes, refl))
@@ -64,7 +64,7 @@ module _ {D : Type 0} (sectors : D → ℕ) (honest : D → Type 0) (history : D
   -- the body says what to edit, and a call was made for that
   pub edited : {A : Type 0} (before after : ℕ) (Says : A → Type 0) (Has : RequestFault → Type 0) (call : A → Result ℕ ServiceFault → Happening)
       (old new : ServiceView D) (a : A) (outcome : Result ℕ ServiceFault) (reply : ReplyView) → Says a → reply ≡ outcome_reply outcome
-      → IfErr outcome (λ fault. CountsDevice fault before after) → Takes sectors honest history old (call a outcome) new
+      → TellsDevice outcome before after → Takes sectors honest history old (call a outcome) new
       → Answers sectors honest history (MeansEdit (HasFailed before after) Says Has call) old new reply
   edited before after Says Has call old new a outcome reply says is counts takes =
       let made = changed before after (call a) outcome_reply old new outcome reply is counts takes in
@@ -83,7 +83,7 @@ module _ {D : Type 0} (sectors : D → ℕ) (honest : D → Type 0) (history : D
 
   -- a whole publication was made
   pub published : (before after : ℕ) (old new : ServiceView D) (outcome : Result Published ServiceFault) (reply : ReplyView)
-      → reply ≡ published_reply outcome → IfErr outcome (λ fault. CountsDevice fault before after) → TakesPublication sectors honest history old outcome new
+      → reply ≡ published_reply outcome → TellsDevice outcome before after → TakesPublication sectors honest history old outcome new
       → Answers sectors honest history (OrNoMemory (MeansPublish (HasFailed before after) (numbers_of old) (numbers_of new))) old new reply
   published before after old new (Ok p) reply is counts takes = (
     begin_and_steps (takes.before ++ takes.last ∷ []),

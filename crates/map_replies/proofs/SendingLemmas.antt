@@ -11,7 +11,9 @@ use Rattle.http_serve.specs.declared.replies.Reply.{Reply}
 use Rattle.http_serve.specs.Reply.{ReplyView, IsWhole, HasShortWords, head_view, InParts, FitsParts, content_bytes, reply_view, with_part}
 use Rattle.http_serve.proofs.HandlerLemmas.{shown_reply, whole_reply, none_in_parts}
 use Rattle.http_serve.proofs.PartLemmas.{in_parts}
+use Rattle.sector_disk.specs.Asked.{OnlyReads}
 use Rattle.sector_disk.specs.Disk.{History, seen, HasFailed}
+use Rattle.sector_disk.proofs.AskedLaws as disks
 use Rattle.tile_service.specs.Machine.{read}
 use Rattle.tile_service.specs.Runs.{Takes}
 use Rattle.tile_service.specs.Service.{ServiceView, IsUp, ShowsArchive, ReadsFrom, shown_archive}
@@ -125,13 +127,23 @@ content_of Whole total a inside = refl
 content_of (Between first last) total a inside = refl
 content_of Beyond total a inside = absurd inside
 
-with_content : (part : ArchiveRange) (total : ℕ) (a b : List ℕ) → IsInside part total → record (part_reply part total a) { content = b } ≡ part_reply part total b
+with_content : (part : ArchiveRange) (total : ℕ) (a b : List ℕ) → IsInside part total
+    → record (part_reply part total a) { content = b } ≡ part_reply part total b
 with_content Whole total a b inside = refl
 with_content (Between first last) total a b inside = refl
 with_content Beyond total a b inside = absurd inside
 
 module _ {D : Type 0} (sectors : D → ℕ) (honest : D → Type 0) (history : D → History) where
   -- ---- reads
+
+  -- a read only reads the disk
+  disk_read : (old new : ServiceView D) (at : ℕ) (outcome : Option (List ℕ)) → Takes sectors honest history old (read at outcome) new
+      → OnlyReads sectors honest history old.disk new.disk
+  disk_read old new at outcome takes = record {
+    same_count = takes.asked.same_count;
+    was_honest = takes.asked.was_honest;
+    same_history = takes.changes.unwritten;
+  }
 
   -- two reads count as one read, with any outcome that agrees with the archive
   reads_on : (old new next : ServiceView D) (a b at : ℕ) (x y outcome : Option (List ℕ)) → Takes sectors honest history old (read a x) new
@@ -140,22 +152,19 @@ module _ {D : Type 0} (sectors : D → ℕ) (honest : D → Type 0) (history : D
       → Takes sectors honest history old (read at outcome) next
   reads_on old new next a b at x y outcome first second from = read_step sectors honest history old next
       (second.changes.same ∙ ap (λ (s : ServiceView D). record s { disk = next.disk; published = next.published; kept = next.kept }) first.changes.same)
-      (second.count ∙ first.count)
-      (λ is_honest. first.stays_honest (second.stays_honest is_honest))
-      (λ is_honest. second.changes.unwritten is_honest ∙ first.changes.unwritten (second.stays_honest is_honest))
-      (λ stored up is_honest. second.after stored is_honest (first.after stored (second.stays_honest is_honest) up (λ is. is)) (λ is. is))
+      (disks.reads_on (disk_read old new a x first) (disk_read new next b y second))
+      (λ stored up is_honest. second.after stored is_honest (first.after stored (second.asked.was_honest is_honest) up (λ is. is)) (λ is. is))
       at outcome from
 
   -- a call that reads the archive: it gives bytes, or fails
-  module _ (old new : ServiceView D) (same : new ≡ record old { disk = new.disk }) (count : sectors new.disk ≡ sectors old.disk)
-      (stays : honest new.disk → honest old.disk) (unwritten : honest new.disk → history new.disk ≡ history old.disk)
+  module _ (old new : ServiceView D) (same : new ≡ record old { disk = new.disk }) (reads : OnlyReads sectors honest history old.disk new.disk)
       (up : (stored : Stored) → IsUp (sectors old.disk) (history old.disk) stored old → honest new.disk
       → IsUp (sectors new.disk) (history new.disk) stored new) where
     read_as : (at : ℕ) (outcome : Option (List ℕ))
         → ((archive : List ℕ) → ShowsArchive (history old.disk) old archive → honest new.disk → ReadsFrom archive (read at outcome))
         → Takes sectors honest history old (read at outcome) new
     read_as at outcome from = read_step sectors honest history old new
-        (same ∙ (λ i. record old { disk = new.disk; published = published i; kept = kept i })) count stays unwritten up at outcome from
+        (same ∙ (λ i. record old { disk = new.disk; published = published i; kept = kept i })) reads up at outcome from
       where
         published : old.published ≡ new.published
         published = sym (ap (λ (s : ServiceView D). s.published) same)
@@ -174,7 +183,7 @@ module _ {D : Type 0} (sectors : D → ℕ) (honest : D → Type 0) (history : D
 
   -- no bytes are read
   pub reads_nothing : (old : ServiceView D) (at : ℕ) (part : List ℕ) → length part ≡ 0 → Takes sectors honest history old (read at (Some part)) old
-  reads_nothing old at part none = read_step sectors honest history old old refl refl (λ is_honest. is_honest) (λ is_honest. refl)
+  reads_nothing old at part none = read_step sectors honest history old old refl (disks.reads_none old.disk)
       (λ stored up is_honest. up) at (Some part) (λ archive shows is_honest. no_slice archive part at none)
 
   -- the same archive is shown after a read
@@ -199,7 +208,7 @@ module _ {D : Type 0} (sectors : D → ℕ) (honest : D → Type 0) (history : D
         bytes,
         long,
         take_at begun (drop count base) count refl,
-        read_step sectors honest history old new takes.changes.same takes.count takes.stays_honest takes.changes.unwritten
+        read_step sectors honest history old new takes.changes.same (disk_read old new first (Some begun) takes)
             (λ stored up is_honest. takes.after stored is_honest up (λ is. is)) first (Some bytes) (λ archive shows is_honest.
             let is : all ≡ archive =
             ap (filled old.archive_len) (shown_seen (history old.disk) old archive shows) ∙ filled_same old.archive_len archive shows.length_is in
@@ -310,7 +319,7 @@ module _ {D : Type 0} (sectors : D → ℕ) (honest : D → Type 0) (history : D
     still_answers next at outcome takes = asked_part range old sending next is.part reply is.some is.asked
         (answers_read is.part old next reply is.sends.content is.sends.sent.0 is.sends.long is.sends.shows
         (reads_on sectors honest history old new next (start_of is.part) at (start_of is.part) (Some is.sends.content) outcome (Some is.sends.content)
-        is.sends.reads takes (λ archive shows is_honest. is.sends.reads.archive archive shows (takes.stays_honest is_honest))))
+        is.sends.reads takes (λ archive shows is_honest. is.sends.reads.archive archive shows (takes.asked.was_honest is_honest))))
 
     -- more of it is read
     pub sent_more : (next : ServiceView D) (offset : ℕ) (piece : List ℕ) → Takes sectors honest history new (read (sending.first + offset) (Some piece)) next
@@ -347,7 +356,7 @@ module _ {D : Type 0} (sectors : D → ℕ) (honest : D → Type 0) (history : D
             reads = reads_on sectors honest history old new next start (sending.first + offset) start (Some content) (Some piece) (Some more)
                 is.sends.reads takes
                 (λ archive shows is_honest.
-                let was = takes.stays_honest is_honest in
+                let was = takes.asked.was_honest is_honest in
                 let whole = is.sends.reads.archive archive shows was in
                 let got = takes.archive archive (shows_on sectors honest history old new start (Some content) archive is.sends.reads was shows) is_honest in
                 let there = slice_inner archive piece start (length content) offset fits

@@ -5,8 +5,10 @@ use Rattle.std.proofs.lemmas.List.{append-nil}
 use Rattle.std.proofs.lemmas.List.Elements.{Contains-append_left, Contains-append_right}
 use Rattle.std.specs.Prelude.{Contains, IfSome, IfErr, OnOk}
 use Rattle.std.proofs.lemmas.Bool.{false≢true}
+use Rattle.sector_disk.specs.Asked.{MayWrite, OnlyReads}
 use Rattle.sector_disk.specs.Disk.{History, seen}
 use Rattle.sector_disk.specs.Moments.{LeavesOnly}
+use Rattle.sector_disk.proofs.AskedLaws.{writes_on, reads_may}
 use Rattle.edit_text.specs.Recorded.{RecordedEdit}
 use Rattle.feature_model.specs.Data.{FeatureData}
 use Rattle.feature_store.specs.Store.{feature_at}
@@ -59,8 +61,7 @@ module _ {D : Type 0} (sectors : D → ℕ) (honest : D → Type 0) (history : D
     pub unbroken : now.broken ≡ false → old.broken ≡ false
     pub size : now.size ≡ old.size
     pub version : now.version ≡ old.version
-    pub count : sectors now.disk ≡ sectors old.disk
-    pub stays_honest : honest now.disk → honest old.disk
+    pub asked : MayWrite sectors honest old.disk now.disk
     pub doubt : (index : ℕ) → index < length events → IsDoubtful (happening_at events index) → now.broken ≡ true
     pub keeps_archive : ¬ Contains events (step (Ok 0)) → KeepsArchive honest history old now
     pub up : (stored : Stored) → honest now.disk → IsUp (sectors old.disk) (history old.disk) stored old → now.broken ≡ false
@@ -89,8 +90,7 @@ module _ {D : Type 0} (sectors : D → ℕ) (honest : D → Type 0) (history : D
     unbroken = λ is. is;
     size = refl;
     version = refl;
-    count = refl;
-    stays_honest = λ is_honest. is_honest;
+    asked = record { same_count = refl; was_honest = λ is_honest. is_honest };
     doubt = λ index lt. absurd (omega (arith, lt));
     keeps_archive = λ none. record { generation = refl; snapshot_len = refl; archive_len = refl; shows = λ archive shown is_honest. shown };
     up = λ stored is_honest up unbroken. record { reached = stored; is_up = up; reaches = has_start stored; way_is = refl };
@@ -126,11 +126,10 @@ module _ {D : Type 0} (sectors : D → ℕ) (honest : D → Type 0) (history : D
 
   -- what leaves all but what is read of the disk
   module _ (old new : ServiceView D) (same : new ≡ record old { disk = new.disk; published = new.published; kept = new.kept })
-      (count : sectors new.disk ≡ sectors old.disk) (stays : honest new.disk → honest old.disk)
-      (unwritten : honest new.disk → history new.disk ≡ history old.disk) where
+      (reads : OnlyReads sectors honest history old.disk new.disk) where
     shows_same : KeepsArchive honest history old new
     shows_same = same_archive old new (same
-        ∙ (λ i. record old { disk = new.disk; publication = publication i; published = new.published; kept = new.kept })) unwritten
+        ∙ (λ i. record old { disk = new.disk; publication = publication i; published = new.published; kept = new.kept })) reads.same_history
       where
         publication : old.publication ≡ new.publication
         publication = sym (ap (λ (s : ServiceView D). s.publication) same)
@@ -149,12 +148,11 @@ module _ {D : Type 0} (sectors : D → ℕ) (honest : D → Type 0) (history : D
       doubt = λ is. absurd is;
       size = ap (λ (s : ServiceView D). s.size) same;
       version = ap (λ (s : ServiceView D). s.version) same;
-      count = count;
-      stays_honest = stays;
-      changes = record { same = same; unwritten = unwritten };
+      asked = reads_may reads;
+      changes = record { same = same; unwritten = reads.same_history };
       untouched = λ broken is. untouched broken;
       any_moment = λ stored is_honest up. writes_nothing (sectors old.disk) old.size stored old.publication (tile z x y outcome)
-          (history old.disk) (history new.disk) (unwritten is_honest) up.keeps;
+          (history old.disk) (history new.disk) (reads.same_history is_honest) up.keeps;
       after = λ stored is_honest up not. still_up stored up is_honest;
     }
 
@@ -171,12 +169,11 @@ module _ {D : Type 0} (sectors : D → ℕ) (honest : D → Type 0) (history : D
       doubt = λ is. absurd is;
       size = ap (λ (s : ServiceView D). s.size) same;
       version = ap (λ (s : ServiceView D). s.version) same;
-      count = count;
-      stays_honest = stays;
-      changes = record { same = same; unwritten = unwritten };
+      asked = reads_may reads;
+      changes = record { same = same; unwritten = reads.same_history };
       untouched = λ broken not. absurd (not tt);
       any_moment = λ stored is_honest up. writes_nothing (sectors old.disk) old.size stored old.publication (read at outcome)
-          (history old.disk) (history new.disk) (unwritten is_honest) up.keeps;
+          (history old.disk) (history new.disk) (reads.same_history is_honest) up.keeps;
       after = λ stored is_honest up not. still_up stored up is_honest;
     }
 
@@ -190,8 +187,7 @@ module _ {D : Type 0} (sectors : D → ℕ) (honest : D → Type 0) (history : D
     doubt = λ is. absurd is;
     size = refl;
     version = refl;
-    count = refl;
-    stays_honest = λ is_honest. is_honest;
+    asked = record { same_count = refl; was_honest = λ is_honest. is_honest };
     changes = refl;
     untouched = λ broken is. refl;
     any_moment = λ stored is_honest up.
@@ -209,8 +205,7 @@ module _ {D : Type 0} (sectors : D → ℕ) (honest : D → Type 0) (history : D
     doubt = λ is. absurd is;
     size = refl;
     version = refl;
-    count = refl;
-    stays_honest = λ is_honest. is_honest;
+    asked = record { same_count = refl; was_honest = λ is_honest. is_honest };
     changes = refl;
     untouched = λ broken is. refl;
     any_moment = λ stored is_honest up.
@@ -229,8 +224,7 @@ module _ {D : Type 0} (sectors : D → ℕ) (honest : D → Type 0) (history : D
     doubt = doubt_breaks_it (Unit {0}) (state_of no_known old) (state_of no_known new) (edit call e outcome) (machine no_known);
     size = takes.size;
     version = edit_version (state_of no_known old) (state_of no_known new) call e outcome (machine no_known);
-    count = takes.count;
-    stays_honest = takes.stays_honest;
+    asked = takes.asked;
     changes = tt;
     untouched = λ broken is. broken_refuses (state_of no_known old) (state_of no_known new) call e outcome (machine no_known) takes.unwritten broken;
     any_moment = takes.any_moment;
@@ -252,8 +246,10 @@ module _ {D : Type 0} (sectors : D → ℕ) (honest : D → Type 0) (history : D
     doubt = λ is. absurd (sure is);
     size = ap (λ (s : ServiceView D). s.size) same;
     version = ap (λ (s : ServiceView D). s.version) same;
-    count = ap (λ (s : ServiceView D). sectors s.disk) same;
-    stays_honest = λ is_honest. subst (λ (d : D). honest d) (ap (λ (s : ServiceView D). s.disk) same) is_honest;
+    asked = record {
+      same_count = ap (λ (s : ServiceView D). sectors s.disk) same;
+      was_honest = λ is_honest. subst (λ (d : D). honest d) (ap (λ (s : ServiceView D). s.disk) same) is_honest;
+    };
     changes = changes;
     untouched = λ broken is. ap (λ (s : ServiceView D). s.disk) same;
     any_moment = λ stored is_honest up. writes_nothing (sectors old.disk) old.size stored old.publication happening
@@ -283,7 +279,7 @@ module _ {D : Type 0} (sectors : D → ℕ) (honest : D → Type 0) (history : D
   -- what a step of it does
   pub step_step : (old new : ServiceView D) (outcome : Result ℕ ServiceFault)
       → ((known : Known) → AnswersStep (state_of known old) outcome (state_of (known_after known old (step outcome)) new))
-      → new.size ≡ old.size → sectors new.disk ≡ sectors old.disk → (honest new.disk → honest old.disk)
+      → new.size ≡ old.size → MayWrite sectors honest old.disk new.disk
       → IfErr outcome (λ fault. fault ≢ Device → new ≡ old)
       → ((stored : Stored) → honest new.disk → IsUp (sectors old.disk) (history old.disk) stored old
       → LeavesOnly (history old.disk) (history new.disk) (EventLeaves (sectors old.disk) old.size stored old.publication (step outcome)))
@@ -291,15 +287,14 @@ module _ {D : Type 0} (sectors : D → ℕ) (honest : D → Type 0) (history : D
       → OnOk outcome (IsUp (sectors new.disk) (history new.disk) (stored_after old.size stored old.publication (step outcome)) new))
       → ((outcome ≡ Ok 0 → ⊥) → KeepsArchive honest history old new)
       → Takes sectors honest history old (step outcome) new
-  step_step old new outcome machine size count stays same leaves up_after shows = record {
+  step_step old new outcome machine size asked same leaves up_after shows = record {
     machine = machine;
     archive = λ archive shown honest. tt;
     keeps_archive = λ other. shows (λ (is : outcome ≡ Ok 0). other (ap step is));
     doubt = doubt_breaks_it (Unit {0}) (state_of no_known old) (state_of (known_after no_known old (step outcome)) new) (step outcome) (machine no_known);
     size = size;
     version = step_version (state_of no_known old) (state_of (known_after no_known old (step outcome)) new) outcome (machine no_known);
-    count = count;
-    stays_honest = stays;
+    asked = asked;
     changes = tt;
     untouched = λ broken is. broken_halts (state_of no_known old) (state_of (known_after no_known old (step outcome)) new) outcome (machine no_known)
         (kept_for (λ (s : ServiceView D). s.disk ≡ old.disk) old new outcome same refl) broken;
@@ -343,7 +338,7 @@ module _ {D : Type 0} (sectors : D → ℕ) (honest : D → Type 0) (history : D
     here : (stored : Stored) → honest new.disk → IsUp (sectors old.disk) (history old.disk) stored old → now.broken ≡ false
         → IsHere (sectors old.disk) old.size stored (way stored) events event (history now.disk) (history new.disk)
     here stored is_honest up unbroken =
-        let so_far = so.up stored (goes.stays_honest is_honest) up unbroken in
+        let so_far = so.up stored (goes.asked.was_honest is_honest) up unbroken in
         record {
           s = so_far.reached;
           publication = now.publication;
@@ -352,11 +347,11 @@ module _ {D : Type 0} (sectors : D → ℕ) (honest : D → Type 0) (history : D
           since = up_since so_far.reached now so_far.is_up;
           call = sized_as
               (λ count n. LeavesOnly (history now.disk) (history new.disk) (EventLeaves count n so_far.reached now.publication event))
-              so.count so.size (goes.any_moment so_far.reached is_honest so_far.is_up);
+              so.asked.same_count so.size (goes.any_moment so_far.reached is_honest so_far.is_up);
           after = λ fine. subst
               (λ (n : ℕ). Keeps (sectors old.disk) old.size (stored_after n so_far.reached now.publication event) (history new.disk)) so.size
               (sized_as (λ count n. Keeps count n (stored_after now.size so_far.reached now.publication event) (history new.disk))
-              (goes.count ∙ so.count) (goes.size ∙ so.size) (goes.after so_far.reached is_honest so_far.is_up fine).keeps);
+              (goes.asked.same_count ∙ so.asked.same_count) (goes.size ∙ so.size) (goes.after so_far.reached is_honest so_far.is_up fine).keeps);
         }
 
     none : now.broken ≡ false → NoneInDoubt events
@@ -366,8 +361,8 @@ module _ {D : Type 0} (sectors : D → ℕ) (honest : D → Type 0) (history : D
         → IsUpAfter old (events ++ event ∷ []) new stored
     unfolding here
     up_on stored is_honest up unbroken =
-        let so_far = so.up stored (goes.stays_honest is_honest) up (was unbroken).0 in
-        let leaves = so.leaves stored (goes.stays_honest is_honest) up in
+        let so_far = so.up stored (goes.asked.was_honest is_honest) up (was unbroken).0 in
+        let leaves = so.leaves stored (goes.asked.was_honest is_honest) up in
         let is_here = here stored is_honest up (was unbroken).0 in
         let p : Progress = progress_of (starts stored (way stored)) events in
         let last : last_of so_far.reached ≡ stored.edits + length (all_edits stored events) =
@@ -396,7 +391,7 @@ module _ {D : Type 0} (sectors : D → ℕ) (honest : D → Type 0) (history : D
         → RunLeaves (sectors old.disk) old.size stored (way stored) (events ++ event ∷ []) (history old.disk) (history new.disk)
     leaves_on stored is_honest up =
         run_goes_on (sectors old.disk) old.size stored (way stored) events event (history old.disk) (history now.disk) (history new.disk)
-        (so.leaves stored (goes.stays_honest is_honest) up) now.broken
+        (so.leaves stored (goes.asked.was_honest is_honest) up) now.broken
         (λ broken. (
           (broken_on now new event goes broken).1,
           broken_unwritten now new event goes broken is_honest,
@@ -405,12 +400,12 @@ module _ {D : Type 0} (sectors : D → ℕ) (honest : D → Type 0) (history : D
 
     -- what is trusted to the end was before
     trusted_before : IsTrusted sectors honest history old new → IsTrusted sectors honest history old now
-    trusted_before trusted unbroken = let is = trusted unbroken in (goes.stays_honest is.0, is.1)
+    trusted_before trusted unbroken = let is = trusted unbroken in (goes.asked.was_honest is.0, is.1)
 
     trusted_now : IsTrusted sectors honest history old new → IsTrusted sectors honest history now new
     trusted_now trusted unbroken =
         let is = trusted (so.unbroken unbroken) in
-        let up = so.up is.1.0 (goes.stays_honest is.0) is.1.1 unbroken in
+        let up = so.up is.1.0 (goes.asked.was_honest is.0) is.1.1 unbroken in
         (is.0, (up.reached, up.is_up))
 
     -- one happening more
@@ -429,11 +424,10 @@ module _ {D : Type 0} (sectors : D → ℕ) (honest : D → Type 0) (history : D
       unbroken = λ is. so.unbroken (was is).0;
       size = goes.size ∙ so.size;
       version = goes.version ∙ so.version;
-      count = goes.count ∙ so.count;
-      stays_honest = λ is_honest. so.stays_honest (goes.stays_honest is_honest);
+      asked = writes_on so.asked goes.asked;
       doubt = doubt_breaks events event now.broken new.broken goes.doubt (λ broken. (broken_on now new event goes broken).0) so.doubt;
       keeps_archive = λ none. keeps_on honest history old now new
-          (so.keeps_archive (λ has. none (Contains-append_left events (event ∷ []) (step (Ok 0)) has))) goes.stays_honest
+          (so.keeps_archive (λ has. none (Contains-append_left events (event ∷ []) (step (Ok 0)) has))) goes.asked.was_honest
           (goes.keeps_archive (λ is. none (Contains-append_right events (event ∷ []) (step (Ok 0)) (0, omega arith, is))));
       up = up_on;
       leaves = leaves_on;

@@ -1,12 +1,11 @@
 -- Where an answer is Device, a call of the disk has failed.
 use Rattle.std.proofs.Common.{◌≡◌, inl, inr, ℕ, Bool, true, false, Result, Ok, Err, refl, sym, ◌∙◌, ap, subst}
-use Rattle.std.specs.Prelude.{IfErr, OnOk}
 use Rattle.std.proofs.lemmas.Bool.{false≢true}
 use Rattle.sector_bytes.specs.Counts.{HasRisen, NeverFalls}
 use Rattle.sector_bytes.proofs.Counts.{same_count, risen_count, failed_risen}
 use Rattle.tile_service.specs.Events.{Tells, edit_answer, left_answer}
 use Rattle.tile_service.specs.Machine.{ServiceState, Happening, AnswersBegin, AnswersCancel}
-use Rattle.tile_service.specs.Service.{CountsDevice}
+use Rattle.tile_service.specs.Service.{CountsDevice, TellsDevice}
 use Rattle.tile_service.specs.declared.event.Answer.{Answer}
 use Rattle.tile_service.specs.declared.event.Answer.TheVariants as answers
 use Rattle.tile_service.specs.declared.event.Event.TheVariants as events
@@ -38,24 +37,23 @@ memory_told fault memory is = false≢true (ap is_device (sym memory ∙ device_
 -- ---- what is counted
 
 -- The count doesn't fall,
-pub outcome_counts : (outcome : Result ℕ ServiceFault) (before after : ℕ) → OnOk outcome (after ≡ before)
-    → IfErr outcome (λ fault. CountsDevice fault before after) → NeverFalls before after
-outcome_counts (Ok number) before after done counts = same_count before after done
-outcome_counts (Err fault) before after done (inl w) = risen_count before after (failed_risen before after w.1)
-outcome_counts (Err fault) before after done (inr w) = same_count before after w.1
+pub outcome_counts : (outcome : Result ℕ ServiceFault) (before after : ℕ) → TellsDevice outcome before after → NeverFalls before after
+outcome_counts (Ok number) before after counts = same_count before after counts
+outcome_counts (Err fault) before after (inl w) = risen_count before after (failed_risen before after w.1)
+outcome_counts (Err fault) before after (inr w) = same_count before after w.1
 
 fault_risen : (fault : ServiceFault) (before after : ℕ) → CountsDevice fault before after → fault ≡ Device → HasRisen before after
 fault_risen fault before after (inl w) device = failed_risen before after w.1
 fault_risen fault before after (inr w) device = absurd (w.0 device)
 
 -- and it has risen where an edit is answered so,
-pub edit_risen : (outcome : Result ℕ ServiceFault) (before after : ℕ) → IfErr outcome (λ fault. CountsDevice fault before after)
+pub edit_risen : (outcome : Result ℕ ServiceFault) (before after : ℕ) → TellsDevice outcome before after
     → edit_answer outcome ≡ answers.Refused Device → HasRisen before after
 edit_risen (Ok number) before after counts is = absurd (other_answer (answers.Edited number) refl is)
 edit_risen (Err fault) before after counts is = fault_risen fault before after counts (device_told fault is)
 
 -- or a step
-pub left_risen : (outcome : Result ℕ ServiceFault) (before after : ℕ) → IfErr outcome (λ fault. CountsDevice fault before after)
+pub left_risen : (outcome : Result ℕ ServiceFault) (before after : ℕ) → TellsDevice outcome before after
     → left_answer outcome ≡ answers.Refused Device → HasRisen before after
 left_risen (Ok left) before after counts is = absurd (other_answer (answers.Left left) refl is)
 left_risen (Err fault) before after counts is = fault_risen fault before after counts (device_told fault is)

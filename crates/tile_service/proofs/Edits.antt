@@ -57,9 +57,7 @@ refuses_edit sectors honest history failures old new call e fault same other =
     subst (TakesEdit sectors honest history failures old call e (Err fault)) (sym same) (record {
       size = refl;
       publication = tt;
-      count = refl;
-      stays_honest = λ is_honest. is_honest;
-      succeeded = tt;
+      asked = record { same_count = refl; was_honest = λ is_honest. is_honest };
       failed = inr (other, refl);
       unwritten = λ not. refl;
       unchanged = λ not. refl;

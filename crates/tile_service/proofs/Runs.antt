@@ -10,7 +10,7 @@ use Rattle.edit_text.specs.Recorded.{RecordedEdit}
 use Rattle.tile_service.specs.Machine.{ServiceState, got, no_memory, Happening, Call, edit, begin, step, cancel, tile, look, metadata, read}
 use Rattle.tile_service.specs.Machine.{Refuses, AnswersEdit, AnswersStep, Happens, Runs}
 use Rattle.tile_service.specs.Runs.{Progress, edits_by, IsDoubtful, progress_after}
-use Rattle.tile_service.specs.Service.{PublicationView, Known, CountsDevice, EventLeaves, stored_after}
+use Rattle.tile_service.specs.Service.{PublicationView, Known, CountsDevice, TellsDevice, EventLeaves, stored_after}
 use Rattle.tile_service.specs.Stored.{Stored, Holds, Keeps, with_edit}
 use Rattle.tile_service.specs.declared.fault.ServiceFault.{ServiceFault}
 use Rattle.tile_service.specs.declared.fault.ServiceFault.TheVariants.{Broken, Device}
@@ -152,25 +152,23 @@ step_version old new (Err fault) goes = refused_version _ old new fault goes
 -- ---- calls of the disk that failed
 
 pub edit_faults : (old new : ServiceState) (call : Call) (e : RecordedEdit) (outcome : Result ℕ ServiceFault) (before after : ℕ)
-    → AnswersEdit old call e outcome new → OnOk outcome (after ≡ before) → IfErr outcome (λ fault. CountsDevice fault before after)
-    → new.broken ≡ false → after ≡ before
-edit_faults old new call e (Ok number) before after goes done counts unbroken = done
-edit_faults old new call e (Err fault) before after goes done counts unbroken = fault_counted _ old new fault before after goes counts unbroken
+    → AnswersEdit old call e outcome new → TellsDevice outcome before after → new.broken ≡ false → after ≡ before
+edit_faults old new call e (Ok number) before after goes counts unbroken = counts
+edit_faults old new call e (Err fault) before after goes counts unbroken = fault_counted _ old new fault before after goes counts unbroken
 
 pub edit_fails : (old new : ServiceState) (call : Call) (e : RecordedEdit) (outcome : Result ℕ ServiceFault) (before after : ℕ)
-    → AnswersEdit old call e outcome new → IfErr outcome (λ fault. CountsDevice fault before after)
-    → old.broken ≡ false → new.broken ≡ true → HasFailed before after
+    → AnswersEdit old call e outcome new → TellsDevice outcome before after → old.broken ≡ false → new.broken ≡ true → HasFailed before after
 edit_fails old new call e (Ok number) before after goes counts unbroken broken =
     absurd (clash new.broken (ap (λ (s : ServiceState). s.broken) goes.made ∙ unbroken) broken)
 edit_fails old new call e (Err fault) before after goes counts unbroken broken = fault_fails _ old new fault before after goes counts unbroken broken
 
 pub step_faults : (old new : ServiceState) (outcome : Result ℕ ServiceFault) (before after : ℕ) → AnswersStep old outcome new
-    → OnOk outcome (after ≡ before) → IfErr outcome (λ fault. CountsDevice fault before after) → new.broken ≡ false → after ≡ before
-step_faults old new (Ok left) before after goes done counts unbroken = done
-step_faults old new (Err fault) before after goes done counts unbroken = fault_counted _ old new fault before after goes counts unbroken
+    → TellsDevice outcome before after → new.broken ≡ false → after ≡ before
+step_faults old new (Ok left) before after goes counts unbroken = counts
+step_faults old new (Err fault) before after goes counts unbroken = fault_counted _ old new fault before after goes counts unbroken
 
 pub step_fails : (old new : ServiceState) (outcome : Result ℕ ServiceFault) (before after : ℕ) → AnswersStep old outcome new
-    → IfErr outcome (λ fault. CountsDevice fault before after) → old.broken ≡ false → new.broken ≡ true → HasFailed before after
+    → TellsDevice outcome before after → old.broken ≡ false → new.broken ≡ true → HasFailed before after
 step_fails old new (Ok left) before after (way, inl w) counts unbroken broken =
     absurd (clash new.broken (ap (λ (s : ServiceState). s.broken) w.2 ∙ unbroken) broken)
 step_fails old new (Ok left) before after (way, inr w) counts unbroken broken =

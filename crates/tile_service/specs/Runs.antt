@@ -1,6 +1,7 @@
 -- What a disk may hold during a run of calls.
 use Rattle.std.specs.Prelude.{◌≡◌, ◌⊎◌, ◌<◌, ◌≤◌, ◌+◌, ◌-◌, ℕ, zero, suc, true, false, List, [], ◌∷◌, ◌++◌, length, take, drop, get_or}
 use Rattle.std.specs.Prelude.{◌≢◌, map, Contains, Option, Some, None, option_map, Result, Ok, Err, OnOk, IfErr}
+use Rattle.sector_disk.specs.Asked.{MayWrite}
 use Rattle.sector_disk.specs.Disk.{History, Image, MayLeave, moment, LeftSince}
 use Rattle.sector_disk.specs.Moments.{Follows, LeavesOnly}
 use Rattle.edit_journal.specs.Appends.{TakesSteps}
@@ -12,7 +13,7 @@ use Rattle.tile_service.specs.declared.publishing.TheConstants.{STEP_SECTORS}
 use Rattle.tile_service.specs.declared.publishing_whole.Published.{Published}
 use Rattle.tile_service.specs.Machine.{no_memory, Happening, Call, edit, begin, step, cancel, tile, look, metadata, read, places_for, Happens, Runs}
 use Rattle.tile_service.specs.Service.{PublicationView, ServiceView, Known, IsUp, state_of, known_after, left_of}
-use Rattle.tile_service.specs.Service.{ShowsArchive, KeepsArchive, ReadsFrom, EventLeaves, CountsDevice, stored_after}
+use Rattle.tile_service.specs.Service.{ShowsArchive, KeepsArchive, ReadsFrom, EventLeaves, TellsDevice, stored_after}
 use Rattle.tile_service.specs.Stored.{Stored, Holds, with_edit}
 
 -- ---- the edits of a run
@@ -221,8 +222,7 @@ module _ {D : Type 0} (sectors : D → ℕ) (honest : D → Type 0) (history : D
     pub doubt : IsDoubtful happening → new.broken ≡ true
     pub size : new.size ≡ old.size
     pub version : new.version ≡ old.version
-    pub count : sectors new.disk ≡ sectors old.disk
-    pub stays_honest : honest new.disk → honest old.disk
+    pub asked : MayWrite sectors honest old.disk new.disk
     pub changes : ChangesOnly happening old new
     -- a broken service doesn't write, and reads only the archive
     pub untouched : old.broken ≡ true → ¬ IsRead happening → new.disk ≡ old.disk
@@ -237,11 +237,9 @@ module _ {D : Type 0} (sectors : D → ℕ) (honest : D → Type 0) (history : D
     pub size : new.size ≡ old.size
     -- a publication under way continues after an edit
     pub publication : OnOk outcome (new.publication ≡ old.publication)
-    pub count : sectors new.disk ≡ sectors old.disk
-    pub stays_honest : honest new.disk → honest old.disk
+    pub asked : MayWrite sectors honest old.disk new.disk
     -- no call of the disk has failed, unless the fault is Device
-    pub succeeded : OnOk outcome (failures new.disk ≡ failures old.disk)
-    pub failed : IfErr outcome (λ fault. CountsDevice fault (failures old.disk) (failures new.disk))
+    pub failed : TellsDevice outcome (failures old.disk) (failures new.disk)
     -- any other fault writes nothing and changes nothing
     pub unwritten : IfErr outcome (λ fault. fault ≢ Device → new.disk ≡ old.disk)
     pub unchanged : IfErr outcome (λ fault. fault ≢ Device → new ≡ old)

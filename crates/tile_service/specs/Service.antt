@@ -1,6 +1,6 @@
 -- A service, apart from its place in memory, and its disk.
 use Rattle.std.specs.Prelude.{◌≡◌, ◌≢◌, ◌⊎◌, ◌<◌, ◌≤◌, ◌+◌, ◌-◌, ◌*◌, ◌^◌, ℕ, zero, List, Bool, false, length, take, slice_range}
-use Rattle.std.specs.Prelude.{Option, Some, None, IfSome, option_map, Result, Ok, Err, Vec}
+use Rattle.std.specs.Prelude.{Option, Some, None, IfSome, option_map, Result, Ok, Err, MatchResult, Vec}
 use Rattle.std.proofs.Common.{Global}
 use Rattle.sector_disk.specs.Disk.{History, Image, seen, HasFailed}
 use Rattle.sector_disk.specs.declared.disk.TheConstants.{SECTOR_BYTES}
@@ -258,3 +258,7 @@ told_as journals.Damaged = Device
 -- If the fault is Device, a call of the disk has failed, else none has.
 abbrev pub CountsDevice : ServiceFault → (old new : ℕ) → Type 0
 CountsDevice fault old new = ((fault ≡ Device) × HasFailed old new) ⊎ ((fault ≢ Device) × (new ≡ old))
+
+-- The fault of a result says whether a call of the disk has failed, and success says that none has.
+abbrev pub TellsDevice : {T : Type 0} → Result T ServiceFault → (old new : ℕ) → Type 0
+TellsDevice result old new = MatchResult result (λ _. new ≡ old) (λ fault. CountsDevice fault old new)

@@ -1,11 +1,12 @@
 //! Formats and upgrades a disk for a service.
 ghost use Rattle.std.specs.Prelude.{◌≡◌, ◌⊎◌, ◌<◌, ◌↔◌, ℕ, Err, IfErr, OnOk};
+ghost use Rattle.sector_disk.specs.Asked.{MayWrite};
 ghost use Rattle.sector_disk.specs.Disk.{MayLeave, seen};
 ghost use Rattle.sector_disk.specs.Disk.History.{synced};
 ghost use Rattle.sector_disk.specs.Moments.{LeavesOnly};
 ghost use Rattle.generations.specs.Areas.{IsSize};
 ghost use Rattle.generations.specs.Disks.{HasNoMark, IsFaultOf};
-ghost use Rattle.generations.specs.Faults.{CountsDevice};
+ghost use Rattle.generations.specs.Faults.{TellsDevice};
 ghost use Rattle.generations.specs.Sectors.{version_from};
 ghost use Rattle.generations.specs.declared.fault.StoreFault.TheVariants.{NotFormatted, TooSmall, Device, Damaged};
 ghost use Rattle.generations.specs.declared.fault.What.TheVariants.{Size};
@@ -24,10 +25,8 @@ impl<D: Sectors + Drop> Service<D> {
         ensures large { (result ≡ Err (Damaged Size)) ↔ (MAX_SECTORS < D.sectors disk.old) }
         ensures only { IfErr result (λ fault. (fault ≡ TooSmall) ⊎ (fault ≡ Damaged Size) ⊎ (fault ≡ Device)) }
         ensures untouched { (IsSize (D.sectors disk.old) → ⊥) → disk.new ≡ disk.old }
-        ensures count { D.sectors disk.new ≡ D.sectors disk.old }
-        ensures faults { OnOk result (D.faults disk.new ≡ D.faults disk.old) }
-        ensures failed { IfErr result (λ fault. CountsDevice fault (D.faults disk.old) (D.faults disk.new)) }
-        ensures honest { D.honest disk.new → D.honest disk.old }
+        ensures disk { MayWrite D.sectors D.honest disk.old disk.new }
+        ensures failed { TellsDevice result (D.faults disk.old) (D.faults disk.new) }
 
         // A crash during the call leaves an image from before, or one without a format mark, or one with the empty map.
         ensures any_moment { D.honest disk.new → LeavesOnly (D.history disk.old) (D.history disk.new)
@@ -46,10 +45,8 @@ impl<D: Sectors + Drop> Service<D> {
     /// `NotFormatted`, or `Damaged(Size)` if the disk has no format of a known version: nothing is written. `Device` if a call of the
     /// disk fails: the disk has either version.
     pub fn upgrade(disk: &mut D) -> Result<(), StoreFault>
-        ensures count { D.sectors disk.new ≡ D.sectors disk.old }
-        ensures faults { OnOk result (D.faults disk.new ≡ D.faults disk.old) }
-        ensures failed { IfErr result (λ fault. CountsDevice fault (D.faults disk.old) (D.faults disk.new)) }
-        ensures honest { D.honest disk.new → D.honest disk.old }
+        ensures disk { MayWrite D.sectors D.honest disk.old disk.new }
+        ensures failed { TellsDevice result (D.faults disk.old) (D.faults disk.new) }
         ensures only { IfErr result (λ fault. (fault ≡ NotFormatted) ⊎ (fault ≡ Damaged Size) ⊎ (fault ≡ Device)) }
         ensures fault { D.honest disk.new
             → IfErr result (λ fault. (fault ≡ Device) ⊎ IsFaultOf (D.sectors disk.old) (seen (D.history disk.old)) fault) }

@@ -1,10 +1,11 @@
 //! A service made from what a disk holds.
 ghost use Rattle.std.specs.Prelude.{◌≡◌, ◌⊎◌, ◌≤◌, ◌+◌, ◌*◌, false, ℕ, List, length, None, IfErr, IfOk, OnOk, MatchResult};
+ghost use Rattle.sector_disk.specs.Asked.{MayWrite, OnlyReads};
 ghost use Rattle.sector_disk.specs.Disk.{seen};
 ghost use Rattle.sector_disk.specs.Disk.History.{synced};
 ghost use Rattle.sector_disk.specs.declared.disk.TheConstants.{SECTOR_BYTES};
 ghost use Rattle.generations.specs.Areas.{area_sectors};
-ghost use Rattle.generations.specs.Faults.{CountsDevice};
+ghost use Rattle.generations.specs.Faults.{CountsDevice, TellsDevice};
 ghost use Rattle.generations.specs.Sectors.{CanStand, IsVersion};
 ghost use Rattle.generations.specs.declared.fault.StoreFault.TheVariants.{Device, Memory};
 ghost use Rattle.edit_journal.specs.Appends.{ring_of};
@@ -66,11 +67,8 @@ fn read_edits<D: Sectors>(
     requires version { IsVersion version }
     requires can { CanStand layout.sectors root }
     requires texts { length (snapshot store.features) ≤ SECTOR_BYTES * area_sectors layout.sectors }
-    ensures count { D.sectors disk.new ≡ D.sectors disk.old }
-    ensures honest { D.honest disk.new → D.honest disk.old }
-    ensures history { D.honest disk.new → D.history disk.new ≡ D.history disk.old }
-    ensures faults { OnOk result (D.faults disk.new ≡ D.faults disk.old) }
-    ensures failed { IfErr result (λ fault. CountsDevice fault (D.faults disk.old) (D.faults disk.new)) }
+    ensures disk { OnlyReads D.sectors D.honest D.history disk.old disk.new }
+    ensures failed { TellsDevice result (D.faults disk.old) (D.faults disk.new) }
     ensures ring { IfOk result (λ found. ring_of found.0 ≡ journal_ring layout.sectors) }
     ensures texts { IfOk result (λ found.
         length (snapshot found.1.features) ≤ SECTOR_BYTES * area_sectors layout.sectors + PART_BYTES * found.0.used) }
@@ -118,11 +116,8 @@ fn read_map<D: Sectors>(
     requires within { layout.sectors ≤ D.sectors disk.old }
     requires version { IsVersion version }
     requires can { CanStand layout.sectors root }
-    ensures count { D.sectors disk.new ≡ D.sectors disk.old }
-    ensures honest { D.honest disk.new → D.honest disk.old }
-    ensures history { D.honest disk.new → D.history disk.new ≡ D.history disk.old }
-    ensures faults { OnOk result (D.faults disk.new ≡ D.faults disk.old) }
-    ensures failed { IfErr result (λ fault. CountsDevice fault (D.faults disk.old) (D.faults disk.new)) }
+    ensures disk { OnlyReads D.sectors D.honest D.history disk.old disk.new }
+    ensures failed { TellsDevice result (D.faults disk.old) (D.faults disk.new) }
     ensures ring { IfOk result (λ found. ring_of found.0 ≡ journal_ring layout.sectors) }
     ensures texts { IfOk result (λ found.
         length (snapshot found.1.features) ≤ SECTOR_BYTES * area_sectors layout.sectors + PART_BYTES * found.0.used) }
@@ -146,12 +141,10 @@ fn read_map<D: Sectors>(
 
 /// Reads what a disk holds, after a sync.
 fn load<D: Sectors>(alloc: Global, disk: &mut D) -> Result<Found, StoreFault>
-    ensures count { D.sectors disk.new ≡ D.sectors disk.old }
-    ensures honest { D.honest disk.new → D.honest disk.old }
+    ensures disk { MayWrite D.sectors D.honest disk.old disk.new }
     ensures synced { D.honest disk.new → OnOk result (D.history disk.new ≡ synced (D.history disk.old)) }
     ensures written { D.honest disk.new → (D.history disk.new ≡ D.history disk.old) ⊎ (D.history disk.new ≡ synced (D.history disk.old)) }
-    ensures faults { OnOk result (D.faults disk.new ≡ D.faults disk.old) }
-    ensures failed { IfErr result (λ fault. CountsDevice fault (D.faults disk.old) (D.faults disk.new)) }
+    ensures failed { TellsDevice result (D.faults disk.old) (D.faults disk.new) }
     ensures within { IfOk result (λ found. found.layout.sectors ≤ D.sectors disk.new) }
     ensures version { IfOk result (λ found. IsVersion found.version) }
     ensures can { IfOk result (λ found. CanStand found.layout.sectors found.root) }
@@ -204,12 +197,10 @@ impl<D: Sectors + Drop> Service<D> {
     /// `NotFormatted`, `Damaged` of `Size`, `RootSector`, `Snapshot`, `Journal` or `Text`, the first that is found in the order of
     /// reading; `Device`; and `Memory`, only after the first three, since nothing is allocated before the root is read.
     pub fn open(alloc: Global, disk: D) -> Result<Service<D>, (D, StoreFault)>
-        ensures count { MatchResult result (λ service. D.sectors service.disk ≡ D.sectors disk) (λ e. D.sectors e.0 ≡ D.sectors disk) }
-        ensures honest { MatchResult result (λ service. D.honest service.disk → D.honest disk) (λ e. D.honest e.0 → D.honest disk) }
+        ensures disk { MatchResult result (λ service. MayWrite D.sectors D.honest disk service.disk) (λ e. MayWrite D.sectors D.honest disk e.0) }
         ensures history { IfOk result (λ service. D.honest service.disk → D.history service.disk ≡ synced (D.history disk)) }
         ensures written { IfErr result (λ e. D.honest e.0 → (D.history e.0 ≡ D.history disk) ⊎ (D.history e.0 ≡ synced (D.history disk))) }
-        ensures faults { IfOk result (λ service. D.faults service.disk ≡ D.faults disk) }
-        ensures failed { IfErr result (λ e. CountsDevice e.1 (D.faults disk) (D.faults e.0)) }
+        ensures failed { MatchResult result (λ service. D.faults service.disk ≡ D.faults disk) (λ e. CountsDevice e.1 (D.faults disk) (D.faults e.0)) }
         ensures unbroken { IfOk result (λ service. service.broken ≡ false) }
         ensures idle { IfOk result (λ service. service.publication ≡ None) }
 

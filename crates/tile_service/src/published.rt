@@ -1,7 +1,8 @@
 //! The last published archive.
 ghost use Rattle.std.specs.Prelude.{◌≡◌, ◌≤◌, ◌+◌, ℕ, List, length, slice_range, IfErr, OnOk};
+ghost use Rattle.sector_disk.specs.Asked.{OnlyReads};
 ghost use Rattle.generations.specs.Areas.{sectors_of};
-ghost use Rattle.tile_service.specs.Service.{IsUp, ShowsArchive, CountsDevice, archive_of};
+ghost use Rattle.tile_service.specs.Service.{IsUp, ShowsArchive, TellsDevice, archive_of};
 ghost use Rattle.tile_service.specs.Stored.{Stored};
 ghost use Rattle.tile_service.specs.declared.fault.ServiceFault.TheVariants.{Device};
 
@@ -47,11 +48,8 @@ impl<D: Sectors + Drop> Service<D> {
     pub fn archive_read(&mut self, at: u64, into: &mut [u8]) -> Result<(), ServiceFault>
         requires within { at + length into.old ≤ self.old.archive_len }
         ensures same { self.new ≡ record self.old { disk = self.new.disk } }
-        ensures count { D.sectors self.new.disk ≡ D.sectors self.old.disk }
-        ensures honest { D.honest self.new.disk → D.honest self.old.disk }
-        ensures history { D.honest self.new.disk → D.history self.new.disk ≡ D.history self.old.disk }
-        ensures faults { OnOk result (D.faults self.new.disk ≡ D.faults self.old.disk) }
-        ensures failed { IfErr result (λ fault. CountsDevice fault (D.faults self.old.disk) (D.faults self.new.disk)) }
+        ensures disk { OnlyReads D.sectors D.honest D.history self.old.disk self.new.disk }
+        ensures failed { TellsDevice result (D.faults self.old.disk) (D.faults self.new.disk) }
         ensures fault { IfErr result (λ fault. fault ≡ Device) }
         ensures length { length into.new ≡ length into.old }
         // For a broken service too: what the disk has in the archive's place.

@@ -1,7 +1,8 @@
 //! Publications: the snapshot of the map and the archive of its tiles, written by steps into the area of the next generation.
 ghost use Rattle.std.specs.Prelude.{◌≡◌, ◌≢◌, ◌⊎◌, ◌<◌, ◌≤◌, ◌+◌, ◌^◌, false, true, None, Some, Ok, IfOk, IfErr, OnOk, OnErr};
 ghost use Rattle.std.proofs.Common.{suc};
-ghost use Rattle.sector_disk.specs.Disk.{moment, seen, HasFailed};
+ghost use Rattle.sector_disk.specs.Asked.{MayWrite, TellsFailure};
+ghost use Rattle.sector_disk.specs.Disk.{moment, seen};
 ghost use Rattle.sector_disk.specs.Moments.{LeavesOnly};
 ghost use Rattle.feature_store.specs.Store.{IsMap, snapshot};
 ghost use Rattle.area_content.specs.Content.{sectors_taken};
@@ -9,7 +10,7 @@ ghost use Rattle.area_content.specs.Tiles.{IsArchiveOfMap};
 ghost use Rattle.tile_service.specs.Publishing.{HasFirst, HasNoContent, IsBeside, told_content};
 ghost use Rattle.tile_service.specs.Machine.{begin, step, AnswersBegin, AnswersStep, AnswersCancel, after_install};
 ghost use Rattle.tile_service.specs.Service.{IsGoing, with_publication, going_of, known_installed, installed, KeepsArchive};
-ghost use Rattle.tile_service.specs.Service.{Known, IsUp, state_of, known_after, EventLeaves, stored_after, CountsDevice};
+ghost use Rattle.tile_service.specs.Service.{Known, IsUp, state_of, known_after, EventLeaves, stored_after, TellsDevice};
 ghost use Rattle.tile_service.specs.Stored.{Stored, Holds, Keeps};
 ghost use Rattle.tile_service.specs.declared.fault.ServiceFault.TheVariants.{Device};
 
@@ -96,10 +97,8 @@ fn write_sectors<D: Sectors>(
     requires within { to ≤ sectors_taken content.now }
     requires area { sectors_taken content.now ≤ layout.area }
     requires on_disk { layout.sectors ≤ D.sectors disk.old }
-    ensures count { D.sectors disk.new ≡ D.sectors disk.old }
-    ensures honest { D.honest disk.new → D.honest disk.old }
-    ensures faults { OnOk result (D.faults disk.new ≡ D.faults disk.old) }
-    ensures failed { OnErr result (HasFailed (D.faults disk.old) (D.faults disk.new)) }
+    ensures disk { MayWrite D.sectors D.honest disk.old disk.new }
+    ensures failed { TellsFailure result (D.faults disk.old) (D.faults disk.new) }
     ensures steps { D.honest disk.new → moment (D.history disk.new) + from ≤ moment (D.history disk.old) + to + 1 }
     ensures last { to ≡ sectors_taken content.now → D.honest disk.new
         → moment (D.history disk.new) + from ≤ moment (D.history disk.old) + to }
@@ -143,10 +142,8 @@ impl<D: Sectors + Drop> Service<D> {
         ensures size { self.new.size ≡ self.old.size }
         ensures state { (known : Known) → OnOk result (state_of (known_installed known (Some publication)) self.new
             ≡ after_install (state_of known (with_publication self.old publication)) (going_of known.publishing publication)) }
-        ensures count { D.sectors self.new.disk ≡ D.sectors self.old.disk }
-        ensures honest { D.honest self.new.disk → D.honest self.old.disk }
-        ensures faults { OnOk result (D.faults self.new.disk ≡ D.faults self.old.disk) }
-        ensures failed { OnErr result (HasFailed (D.faults self.old.disk) (D.faults self.new.disk)) }
+        ensures disk { MayWrite D.sectors D.honest self.old.disk self.new.disk }
+        ensures failed { TellsFailure result (D.faults self.old.disk) (D.faults self.new.disk) }
         ensures archive { OnErr result (KeepsArchive D.honest D.history self.old self.new) }
         ensures steps { D.honest self.new.disk → moment (D.history self.new.disk) ≤ moment (D.history self.old.disk) + 3 }
         ensures any_moment { (stored : Stored) → D.honest self.new.disk
@@ -188,10 +185,8 @@ impl<D: Sectors + Drop> Service<D> {
             (state_of (known_after known (with_publication self.old publication) (step result)) self.new) }
         ensures fault { IfErr result (λ fault. fault ≡ Device) }
         ensures size { self.new.size ≡ self.old.size }
-        ensures count { D.sectors self.new.disk ≡ D.sectors self.old.disk }
-        ensures honest { D.honest self.new.disk → D.honest self.old.disk }
-        ensures faults { OnOk result (D.faults self.new.disk ≡ D.faults self.old.disk) }
-        ensures failed { OnErr result (HasFailed (D.faults self.old.disk) (D.faults self.new.disk)) }
+        ensures disk { MayWrite D.sectors D.honest self.old.disk self.new.disk }
+        ensures failed { TellsFailure result (D.faults self.old.disk) (D.faults self.new.disk) }
         ensures archive { (result ≡ Ok 0 → ⊥) → KeepsArchive D.honest D.history self.old self.new }
         ensures steps { D.honest self.new.disk → moment (D.history self.new.disk) ≤ moment (D.history self.old.disk) + 67 }
         ensures any_moment { (stored : Stored) → D.honest self.new.disk
@@ -286,10 +281,8 @@ impl<D: Sectors + Drop> Service<D> {
         ensures machine { (known : Known) → AnswersStep (state_of known self.old) result
             (state_of (known_after known self.old (step result)) self.new) }
         ensures size { self.new.size ≡ self.old.size }
-        ensures count { D.sectors self.new.disk ≡ D.sectors self.old.disk }
-        ensures honest { D.honest self.new.disk → D.honest self.old.disk }
-        ensures faults { OnOk result (D.faults self.new.disk ≡ D.faults self.old.disk) }
-        ensures failed { IfErr result (λ fault. CountsDevice fault (D.faults self.old.disk) (D.faults self.new.disk)) }
+        ensures disk { MayWrite D.sectors D.honest self.old.disk self.new.disk }
+        ensures failed { TellsDevice result (D.faults self.old.disk) (D.faults self.new.disk) }
         ensures refused { IfErr result (λ fault. fault ≢ Device → self.new ≡ self.old) }
 
         // Unless it returns 0, the archive that it serves is unchanged, after `Device` too.

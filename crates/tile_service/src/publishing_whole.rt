@@ -1,7 +1,8 @@
 //! A publication as one call.
 ghost use Rattle.std.specs.Prelude.{◌≡◌, ◌≢◌, ◌⊎◌, IfErr, OnOk, OnErr, None};
+ghost use Rattle.sector_disk.specs.Asked.{MayWrite};
 ghost use Rattle.tile_service.specs.Runs.{TakesPublication};
-ghost use Rattle.tile_service.specs.Service.{KeepsArchive, CountsDevice};
+ghost use Rattle.tile_service.specs.Service.{KeepsArchive, TellsDevice};
 ghost use Rattle.tile_service.specs.declared.fault.ServiceFault.TheVariants.{Broken, Busy, Device};
 
 use crate::fault::ServiceFault;
@@ -28,10 +29,8 @@ impl<D: Sectors + Drop> Service<D> {
     pub fn publish(&mut self) -> Result<Published, ServiceFault>
         ensures run { TakesPublication D.sectors D.honest D.history self.old result self.new }
         ensures size { self.new.size ≡ self.old.size }
-        ensures count { D.sectors self.new.disk ≡ D.sectors self.old.disk }
-        ensures honest { D.honest self.new.disk → D.honest self.old.disk }
-        ensures faults { OnOk result (D.faults self.new.disk ≡ D.faults self.old.disk) }
-        ensures failed { IfErr result (λ fault. CountsDevice fault (D.faults self.old.disk) (D.faults self.new.disk)) }
+        ensures disk { MayWrite D.sectors D.honest self.old.disk self.new.disk }
+        ensures failed { TellsDevice result (D.faults self.old.disk) (D.faults self.new.disk) }
         ensures idle { OnOk result (self.new.publication ≡ None) }
         ensures refused { IfErr result (λ fault. fault ≢ Device → self.new ≡ self.old) }
         // On failure the archive that it serves is unchanged, after `Device` too.

@@ -2,6 +2,7 @@
 ghost use Rattle.std.specs.Prelude.{◌≡◌, true, false, List, IfErr, IfOk};
 ghost use Rattle.std.specs.List.{Contains};
 ghost use Rattle.sector_bytes.specs.Counts.{HasRisen, NeverFalls};
+ghost use Rattle.sector_disk.specs.Asked.{MayWrite};
 ghost use Rattle.sector_disk.specs.Disk.{HasFailed};
 ghost use Rattle.feature_store.specs.Store.{feature_at};
 ghost use Rattle.tile_service.specs.Events.{Tells, AreTold, IsTile, AsksTile, edit_answer, left_answer};
@@ -88,8 +89,7 @@ impl<D: Sectors + Drop> Service<D> {
         ensures memory { IfErr result (λ fault. (fault ≡ Memory) × (self.new ≡ self.old)) }
         ensures size { self.new.size ≡ self.old.size }
         ensures version { self.new.version ≡ self.old.version }
-        ensures count { D.sectors self.new.disk ≡ D.sectors self.old.disk }
-        ensures honest { D.honest self.new.disk → D.honest self.old.disk }
+        ensures disk { MayWrite D.sectors D.honest self.old.disk self.new.disk }
         ensures untouched { self.old.broken ≡ true → self.new.disk ≡ self.old.disk }
 
         // `Device` is answered, and the service breaks, only where a call of the disk failed.

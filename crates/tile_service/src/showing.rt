@@ -8,6 +8,7 @@ ghost use Rattle.feature_store.specs.Store.{feature_at};
 ghost use Rattle.map_metadata.specs.Metadata.{IsMetadata};
 ghost use Rattle.pm_archive.specs.Answers.{IsOutside};
 ghost use Rattle.sector_bytes.specs.Counts.{NeverFalls};
+ghost use Rattle.sector_disk.specs.Asked.{OnlyReads};
 ghost use Rattle.serde_json.specs.View.{view};
 ghost use Rattle.tile_cache.specs.Kept.{kept_at, fresh};
 ghost use Rattle.tile_cache.specs.Touched.{IsNewestOf};
@@ -46,9 +47,7 @@ impl<D: Sectors + Drop> Service<D> {
     /// A read has failed, or an allocation.
     fn archived_tile(&mut self, at: TileAt) -> Result<Option<Vec<u8>>, ArchiveFault>
         ensures same { self.new ≡ record self.old { disk = self.new.disk; published = self.new.published } }
-        ensures count { D.sectors self.new.disk ≡ D.sectors self.old.disk }
-        ensures honest { D.honest self.new.disk → D.honest self.old.disk }
-        ensures history { D.honest self.new.disk → D.history self.new.disk ≡ D.history self.old.disk }
+        ensures disk { OnlyReads D.sectors D.honest D.history self.old.disk self.new.disk }
         ensures never_falls { NeverFalls (D.faults self.old.disk) (D.faults self.new.disk) }
         ensures tile { (stored : Stored) → IsUp (D.sectors self.old.disk) (D.history self.old.disk) stored self.old → D.honest self.new.disk
             → MatchResult result (λ content. IsTileContent (layers stored.snapshot_map at.z at.x at.y) (option_map (λ b. b.items) content)) IsOutside }
@@ -63,9 +62,7 @@ impl<D: Sectors + Drop> Service<D> {
     /// or if the service is broken. They are cached.
     fn published_tile(&mut self, at: TileAt) -> Option<Option<Vec<u8>>>
         ensures same { self.new ≡ record self.old { disk = self.new.disk; published = self.new.published; kept = self.new.kept } }
-        ensures count { D.sectors self.new.disk ≡ D.sectors self.old.disk }
-        ensures honest { D.honest self.new.disk → D.honest self.old.disk }
-        ensures history { D.honest self.new.disk → D.history self.new.disk ≡ D.history self.old.disk }
+        ensures disk { OnlyReads D.sectors D.honest D.history self.old.disk self.new.disk }
         ensures never_falls { NeverFalls (D.faults self.old.disk) (D.faults self.new.disk) }
         ensures untouched { self.old.broken ≡ true → self.new.disk ≡ self.old.disk }
         ensures unbroken { IfSome result (λ content. self.old.broken ≡ false) }
@@ -100,9 +97,7 @@ impl<D: Sectors + Drop> Service<D> {
             (state_of known self.old) (tile at.z at.x at.y (tile_outcome result)) (state_of known self.new) }
         ensures fault { IfErr result (λ fault. fault ≡ Memory) }
         ensures same { self.new ≡ record self.old { disk = self.new.disk; published = self.new.published; kept = self.new.kept } }
-        ensures count { D.sectors self.new.disk ≡ D.sectors self.old.disk }
-        ensures honest { D.honest self.new.disk → D.honest self.old.disk }
-        ensures history { D.honest self.new.disk → D.history self.new.disk ≡ D.history self.old.disk }
+        ensures disk { OnlyReads D.sectors D.honest D.history self.old.disk self.new.disk }
         ensures never_falls { NeverFalls (D.faults self.old.disk) (D.faults self.new.disk) }
         ensures untouched { self.old.broken ≡ true → self.new.disk ≡ self.old.disk }
         // What is cached and fresh is copied, and the disk isn't read.

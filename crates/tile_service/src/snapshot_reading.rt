@@ -1,9 +1,10 @@
 //! The map of a disk's snapshot.
-ghost use Rattle.std.specs.Prelude.{◌≡◌, ◌⊎◌, ◌≤◌, ◌<◌, ◌+◌, ℕ, length, IfErr, IfOk, OnOk};
+ghost use Rattle.std.specs.Prelude.{◌≡◌, ◌⊎◌, ◌≤◌, ◌<◌, ◌+◌, ℕ, length, IfErr, IfOk};
+ghost use Rattle.sector_disk.specs.Asked.{OnlyReads};
 ghost use Rattle.sector_disk.specs.Disk.{seen};
 ghost use Rattle.sector_bytes.specs.Bytes.{StandsIn};
 ghost use Rattle.generations.specs.Areas.{area_start, sectors_of};
-ghost use Rattle.generations.specs.Faults.{CountsDevice};
+ghost use Rattle.generations.specs.Faults.{TellsDevice};
 ghost use Rattle.generations.specs.Sectors.{CanStand};
 ghost use Rattle.generations.specs.declared.fault.StoreFault.TheVariants.{Damaged, Device, Memory};
 ghost use Rattle.generations.specs.declared.fault.What.TheVariants.{Snapshot};
@@ -51,11 +52,8 @@ fn read_text<D: Sectors>(
     len: u64,
 ) -> Result<Vec<u8>, StoreFault>
     requires on_disk { first + sectors_of len ≤ D.sectors disk.old }
-    ensures count { D.sectors disk.new ≡ D.sectors disk.old }
-    ensures honest { D.honest disk.new → D.honest disk.old }
-    ensures history { D.honest disk.new → D.history disk.new ≡ D.history disk.old }
-    ensures faults { OnOk result (D.faults disk.new ≡ D.faults disk.old) }
-    ensures failed { IfErr result (λ fault. CountsDevice fault (D.faults disk.old) (D.faults disk.new)) }
+    ensures disk { OnlyReads D.sectors D.honest D.history disk.old disk.new }
+    ensures failed { TellsDevice result (D.faults disk.old) (D.faults disk.new) }
     ensures fault { IfErr result (λ fault. (fault ≡ Device) ⊎ (fault ≡ Memory)) }
     ensures len { IfOk result (λ text. length text.items ≡ len) }
     ensures stands { D.honest disk.new → IfOk result (λ text. StandsIn first text.items (seen (D.history disk.old))) }
@@ -79,11 +77,8 @@ pub(crate) fn read_snapshot<D: Sectors>(
 ) -> Result<Store, StoreFault>
     requires within { layout.sectors ≤ D.sectors disk.old }
     requires can { CanStand layout.sectors root }
-    ensures count { D.sectors disk.new ≡ D.sectors disk.old }
-    ensures honest { D.honest disk.new → D.honest disk.old }
-    ensures history { D.honest disk.new → D.history disk.new ≡ D.history disk.old }
-    ensures faults { OnOk result (D.faults disk.new ≡ D.faults disk.old) }
-    ensures failed { IfErr result (λ fault. CountsDevice fault (D.faults disk.old) (D.faults disk.new)) }
+    ensures disk { OnlyReads D.sectors D.honest D.history disk.old disk.new }
+    ensures failed { TellsDevice result (D.faults disk.old) (D.faults disk.new) }
     ensures texts { IfOk result (λ store. length (snapshot store.features) ≡ root.snapshot_len) }
     ensures found { D.honest disk.new → IfOk result (λ store. HasSnapshot layout.sectors root store.features (seen (D.history disk.old))) }
     ensures fault { (version : ℕ) → D.honest disk.new

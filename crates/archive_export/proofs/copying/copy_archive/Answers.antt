@@ -1,5 +1,6 @@
 use Rattle.std.proofs.Common.{◌≤◌, length, drop, arith, rules, ◌∙◌, length-append, length-drop}
 use Rattle.std.proofs.lemmas.List.{length-take-le}
+use Rattle.sector_disk.proofs.AskedLaws.{reads_on}
 use Rattle.archive_export.proofs.Joined.{copies_more, copies_all}
 use Rattle.archive_export.proofs.copying.copy_archive.Goals as goal
 
@@ -16,13 +17,11 @@ loop-at-preserved g c =
       within = omega (arith, inv.within);
       length = omega (arith, length-append c.copy_piece.new.piece (drop count c.loop-at.piece), length-drop count c.loop-at.piece, long, ok.length, inv.length);
       same = search rules;
-      count = ok.count ∙ inv.count;
-      honest = λ honest. inv.honest (ok.honest honest);
-      history = λ honest. ok.history honest ∙ inv.history (ok.honest honest);
-      faults = ok.faults ∙ inv.faults;
+      disk = reads_on inv.disk ok.disk;
+      faults = ok.failed ∙ inv.faults;
       copied = copies_more g.D.Sectors.honest g.D.Sectors.history c.args.service.now c.loop-at.service c.copy_piece.new.service
-          _ _ _ c.loop-at.at count _ long ok.honest inv.same inv.history inv.copied ok.copied;
-      up = λ stored was honest. ok.up stored (inv.up stored was (ok.honest honest)) honest;
+          _ _ _ c.loop-at.at count _ long ok.disk.was_honest inv.same inv.disk.same_history inv.copied ok.copied;
+      up = λ stored was honest. ok.up stored (inv.up stored was (ok.disk.was_honest honest)) honest;
     }
 
 pub returns-clause-copied : goal.returns-clause-copied

@@ -10,6 +10,6 @@ returns-clause-opened g c n stored holds honest =
     (λ kept. (
       (opened kept).0,
       subst (λ count. IsUp count (g.D.Sectors.history c.in-Ok.service.disk) stored c.in-Ok.service)
-          c.in-Ok.ensures.count (opened kept).1,
+          c.in-Ok.ensures.disk.same_count (opened kept).1,
     ))
     honest

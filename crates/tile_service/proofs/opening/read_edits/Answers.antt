@@ -18,13 +18,13 @@ use Rattle.tile_service.proofs.Opens.{recovery_counts, recovery_fault, text_faul
 use Rattle.tile_service.proofs.opening.read_edits.Goals as goal
 
 pub returns-in-Err-clause-failed : goal.returns-in-Err-clause-failed
-returns-in-Err-clause-failed g c = rw c.to_store_fault.ensures (recovery_counts c.in-Err.fault _ _ c.in-Err.ensures.fault)
+returns-in-Err-clause-failed g c = rw c.to_store_fault.ensures (recovery_counts c.in-Err.fault _ _ c.in-Err.ensures.failed)
 
 pub returns-in-Err-clause-fault : goal.returns-in-Err-clause-fault
 returns-in-Err-clause-fault g c honest has =
     rw c.to_store_fault.ensures
     (recovery_fault c.args.layout.sectors c.args.version c.args.root (seen (g.D.Sectors.history c.args.disk.now)) c.args.store.features has c.in-Err.fault _ _
-    c.in-Err.ensures.fault
+    c.in-Err.ensures.failed
     (λ records is journal. c.in-Err.ensures.damaged records honest is
     (subst (λ (places : ℕ). IsJournal c.args.version (record { first = 3; places = places }) (start_of c.args.root.journal_at c.args.root.edits) records
     (seen (g.D.Sectors.history c.args.disk.now))) (sym c.args.layout.journal_is) journal)))

@@ -1,4 +1,5 @@
 use Rattle.std.proofs.Common.{◌∙◌, ℕ, List, Ok, refl, sym, subst, arith}
+use Rattle.sector_disk.proofs.AskedLaws.{writes_on}
 use Rattle.sector_disk.proofs.History.{started, any_write, any_sync}
 use Rattle.tile_service.specs.Publishing.{IsContentSector}
 use Rattle.tile_service.specs.Stored.{Holds}
@@ -9,8 +10,7 @@ use Rattle.tile_service.proofs.publishing.write_sectors.Goals as goal
 
 pub loop-index-init : goal.loop-index-init
 loop-index-init g c = record {
-  count = refl;
-  honest = λ honest. honest;
+  disk = record { same_count = refl; was_honest = λ is. is };
   faults = refl;
   steps = λ honest. omega arith;
   leaves = λ stored honest next keeps. started (g.D.Sectors.history c.args.disk.now)
@@ -22,7 +22,7 @@ loop-index-init g c = record {
 
 pub returns-in_err-write_area-clause-leaves : goal.returns-in_err-write_area-clause-leaves
 returns-in_err-write_area-clause-leaves g c stored honest next keeps =
-    let before = c.write_area.ensures.honest honest in
+    let before = c.write_area.ensures.disk.was_honest honest in
     let inv = c.loop-index.invariant in
     next_area_leaves _ c.args.layout.sectors stored c.args.generation c.loop-index.index _ _ _ _ (c.write_area.ensures.writes honest) next
     (omega arith) (inv.keeps stored before next keeps) _ (inv.leaves stored before next keeps)
@@ -30,32 +30,31 @@ returns-in_err-write_area-clause-leaves g c stored honest next keeps =
 pub returns-in_err-write_area-clause-keeps : goal.returns-in_err-write_area-clause-keeps
 returns-in_err-write_area-clause-keeps g c stored honest next keeps =
     next_area_keeps _ c.args.layout.sectors stored c.args.generation c.loop-index.index _ _ _ _ (c.write_area.ensures.writes honest) next
-    (omega arith) (c.loop-index.invariant.keeps stored (c.write_area.ensures.honest honest) next keeps)
+    (omega arith) (c.loop-index.invariant.keeps stored (c.write_area.ensures.disk.was_honest honest) next keeps)
 
 pub loop-index-preserved : goal.loop-index-preserved
 loop-index-preserved g c =
     let inv = c.loop-index.invariant in
     let ok = c.in_ok-write_area.ensures in
     record {
-      count = ok.count ∙ inv.count;
-      honest = λ honest. inv.honest (ok.honest honest);
-      faults = ok.faults ∙ inv.faults;
+      disk = writes_on inv.disk ok.disk;
+      faults = ok.failed ∙ inv.faults;
       steps = λ honest. omega (
         arith,
-        inv.steps (ok.honest honest),
+        inv.steps (ok.disk.was_honest honest),
         write_moment _ _ _ _ (any_write c.write_area.result _ _ _ _ (c.write_area.ensures.writes honest)),
       );
       leaves = λ stored honest next keeps.
           next_area_leaves _ c.args.layout.sectors stored c.args.generation c.loop-index.index _ _ _ _ (c.write_area.ensures.writes honest) next
-          (omega arith) (inv.keeps stored (ok.honest honest) next keeps) _ (inv.leaves stored (ok.honest honest) next keeps);
+          (omega arith) (inv.keeps stored (ok.disk.was_honest honest) next keeps) _ (inv.leaves stored (ok.disk.was_honest honest) next keeps);
       keeps = λ stored honest next keeps.
           next_area_keeps _ c.args.layout.sectors stored c.args.generation c.loop-index.index _ _ _ _ (c.write_area.ensures.writes honest) next
-          (omega arith) (inv.keeps stored (ok.honest honest) next keeps);
+          (omega arith) (inv.keeps stored (ok.disk.was_honest honest) next keeps);
       beside = λ honest. write_beside c.args.layout.sectors c.args.generation (g.D.Sectors.history c.args.disk.now) (g.D.Sectors.history c.loop-index.disk)
-          (g.D.Sectors.history c.write_area.new.disk) (inv.beside (ok.honest honest)) c.loop-index.index _ (omega arith)
+          (g.D.Sectors.history c.write_area.new.disk) (inv.beside (ok.disk.was_honest honest)) c.loop-index.index _ (omega arith)
           (any_write c.write_area.result _ _ _ _ (c.write_area.ensures.writes honest));
       first = λ honest first. write_stands c.args.content.now.snapshot c.args.content.now.archive c.args.layout.sectors c.args.generation
-          (Ok tt) c.loop-index.index _ _ _ (inv.first (ok.honest honest) first)
+          (Ok tt) c.loop-index.index _ _ _ (inv.first (ok.disk.was_honest honest) first)
           (subst (λ (s : List ℕ). IsContentSector c.args.content.now.snapshot c.args.content.now.archive c.loop-index.index s) (sym c.sector.ensures)
           (is_content_sector c.args.content.now c.loop-index.index))
           (ok.writes honest);
@@ -86,7 +85,7 @@ returns-in_ok-sync-clause-keeps g c stored honest next keeps =
 pub returns-in_err-write_area-clause-beside : goal.returns-in_err-write_area-clause-beside
 returns-in_err-write_area-clause-beside g c honest =
     write_beside c.args.layout.sectors c.args.generation (g.D.Sectors.history c.args.disk.now) (g.D.Sectors.history c.loop-index.disk)
-    (g.D.Sectors.history c.write_area.new.disk) (c.loop-index.invariant.beside (c.write_area.ensures.honest honest)) c.loop-index.index _
+    (g.D.Sectors.history c.write_area.new.disk) (c.loop-index.invariant.beside (c.write_area.ensures.disk.was_honest honest)) c.loop-index.index _
     (omega arith) (any_write c.write_area.result _ _ _ _ (c.write_area.ensures.writes honest))
 
 pub returns-in_err-sync-clause-beside : goal.returns-in_err-sync-clause-beside

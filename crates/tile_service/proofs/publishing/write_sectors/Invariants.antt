@@ -1,4 +1,5 @@
 use Rattle.std.proofs.Common.{◌≡◌, ◌≤◌, ◌+◌, suc}
+use Rattle.sector_disk.specs.Asked.{MayWrite}
 use Rattle.sector_disk.specs.Disk.{moment, seen}
 use Rattle.sector_disk.specs.Moments.{LeavesOnly}
 use Rattle.tile_service.specs.Publishing.{IsBeside, HasFirst}
@@ -7,8 +8,7 @@ use Rattle.tile_service.proofs.publishing.write_sectors.Given as goal
 
 abbrev pub invariant-loop-index : goal.invariant-loop-index
 invariant-loop-index g l = record {
-  count : g.D.Sectors.sectors l.disk ≡ g.D.Sectors.sectors l.initial.disk;
-  honest : g.D.Sectors.honest l.disk → g.D.Sectors.honest l.initial.disk;
+  disk : MayWrite g.D.Sectors.sectors g.D.Sectors.honest l.initial.disk l.disk;
   faults : g.D.Sectors.faults l.disk ≡ g.D.Sectors.faults l.initial.disk;
   steps : g.D.Sectors.honest l.disk → moment (g.D.Sectors.history l.disk) + l.from ≤ moment (g.D.Sectors.history l.initial.disk) + l.index;
   leaves : (stored : Stored) → g.D.Sectors.honest l.disk → l.generation ≡ suc stored.generation

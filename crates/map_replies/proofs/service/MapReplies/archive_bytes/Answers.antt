@@ -16,7 +16,7 @@ returns-in-Ok-archive_read-clause-read g c =
     let whole : length into ≡ c.in-Ok.bytes.len = omega (arith, call.length, ap length c.deref_mut.ensures.value, c.in-Ok.bytes.ok.0) in
     subst (λ (bytes : List ℕ). Takes d.sectors d.honest d.history old (read c.args.at (Some bytes)) new)
     (sym (take_at into _ c.in-Ok.bytes.len whole))
-    (gives_bytes d.sectors d.honest d.history old new call.same call.count call.honest call.history call.up c.args.at _ into
+    (gives_bytes d.sectors d.honest d.history old new call.same call.disk call.up c.args.at _ into
     call.length c.in-Ok-archive_read.ensures.shown)
 
 pub returns-in-Err-clause-read : goal.returns-in-Err-clause-read
@@ -24,4 +24,4 @@ returns-in-Err-clause-read g c =
     let d = g.D.Sectors in
     let call = c.archive_read.ensures in
     gives_none d.sectors d.honest d.history (asked_service c.args.self.now) c.archive_read.new.self
-    call.same call.count call.honest call.history call.up c.args.at
+    call.same call.disk call.up c.args.at

@@ -10,5 +10,5 @@ returns-clause-answered g c =
     let call = c.publish_step-outcome.ensures in
     changed_first d.sectors d.honest d.history _ _ step left_reply _ _ c.publish_step-outcome.result _ c.left.ensures.reply
     call.failed
-    (step_step d.sectors d.honest d.history _ _ c.publish_step-outcome.result call.machine call.size call.count call.honest
+    (step_step d.sectors d.honest d.history _ _ c.publish_step-outcome.result call.machine call.size call.disk
     call.refused call.any_moment call.after call.archive)

@@ -14,12 +14,12 @@ pub returns-in-Ok-clause-read : goal.returns-in-Ok-clause-read
 returns-in-Ok-clause-read g c =
     let d = g.D.Sectors in
     let call = c.archive_read.ensures in
-    gives_bytes d.sectors d.honest d.history (asked_service c.args.self.now) c.archive_read.new.self call.same call.count call.honest call.history call.up
+    gives_bytes d.sectors d.honest d.history (asked_service c.args.self.now) c.archive_read.new.self call.same call.disk call.up
     (c.args.self.now.sending.first + c.args.offset) _ c.archive_read.new.into call.length c.in-Ok.ensures.shown
 
 pub returns-in-Err-clause-read : goal.returns-in-Err-clause-read
 returns-in-Err-clause-read g c =
     let d = g.D.Sectors in
     let call = c.archive_read.ensures in
-    gives_none d.sectors d.honest d.history (asked_service c.args.self.now) c.archive_read.new.self call.same call.count call.honest call.history call.up
+    gives_none d.sectors d.honest d.history (asked_service c.args.self.now) c.archive_read.new.self call.same call.disk call.up
     (c.args.self.now.sending.first + c.args.offset)

@@ -13,7 +13,7 @@ returns-in-Ok-tile-clause-answered g c =
     let call = c.tile.ensures in
     let outcome = got (option_map (λ bytes. bytes.items) c.in-Ok.content) in
     called d.sectors d.honest d.history (tile at.z at.x at.y) (shown_reply (content_reply c.args.format)) _ _ outcome _ c.in-Ok-tile.ensures.reply
-    (tile_step d.sectors d.honest d.history _ _ call.same call.count call.honest call.history call.untouched call.up at.z at.x at.y outcome
+    (tile_step d.sectors d.honest d.history _ _ call.same call.disk call.untouched call.up at.z at.x at.y outcome
     c.in-Ok.ensures.machine)
 
 -- it was shown, and there is no memory for the reply
@@ -23,7 +23,7 @@ returns-in-Err-clause-answered g c =
     let at = c.args.at in
     let call = c.tile.ensures in
     called d.sectors d.honest d.history (tile at.z at.x at.y) (shown_reply (content_reply c.args.format)) _ _ no_memory _ refl
-    (tile_step d.sectors d.honest d.history _ _ call.same call.count call.honest call.history call.untouched call.up at.z at.x at.y no_memory
+    (tile_step d.sectors d.honest d.history _ _ call.same call.disk call.untouched call.up at.z at.x at.y no_memory
     (λ known. (tt, ap (λ s. state_of known s) call.same)))
 
 pub returns-in_default-clause-answered : goal.returns-in_default-clause-answered
@@ -32,5 +32,5 @@ returns-in_default-clause-answered g c =
     let at = c.args.at in
     let call = c.tile.ensures in
     called d.sectors d.honest d.history (tile at.z at.x at.y) (shown_reply (content_reply c.args.format)) _ _ no_memory _ refl
-    (tile_step d.sectors d.honest d.history _ _ call.same call.count call.honest call.history call.untouched call.up at.z at.x at.y no_memory
+    (tile_step d.sectors d.honest d.history _ _ call.same call.disk call.untouched call.up at.z at.x at.y no_memory
     (λ known. (tt, ap (λ s. state_of known s) call.same)))

@@ -27,13 +27,13 @@ pub returns-then-left-le-STEP_SECTORS-clause-any_moment : goal.returns-then-left
 returns-then-left-le-STEP_SECTORS-clause-any_moment g c = rw (← c.self.view_is, ← c.publication.view_is) (λ stored honest up.
     let service : ServiceView g.row.D.Denot = service_view c.self.inside in
     let p : PublicationView = publication_view c.publication.inside in
-    let written = c.install_now.ensures.honest honest in
+    let written = c.install_now.ensures.disk.was_honest honest in
     let between : IsUp (g.D.Sectors.sectors c.write_sectors.new.disk) (g.D.Sectors.history c.write_sectors.new.disk) stored
     (with_publication (record service { disk = c.write_sectors.new.disk }) (record p { written = c.publication.inside.written + c.min-more.result })) =
     up_further _ _ _ _ stored service p (c.self.inside.root.generation + 1) (c.publication.inside.written + c.min-more.result) c.write_sectors.new.disk up
-    c.write_sectors.ensures.count refl (c.write_sectors.ensures.keeps stored written (omega (arith, up.generation_is)) up.keeps)
+    c.write_sectors.ensures.disk.same_count refl (c.write_sectors.ensures.keeps stored written (omega (arith, up.generation_is)) up.keeps)
     (c.in-Ok.ensures.first written) in
-    last_step_leaves _ _ stored p _ _ _ _ c.install_now.result c.write_sectors.ensures.count c.install_now.ensures.told
+    last_step_leaves _ _ stored p _ _ _ _ c.install_now.result c.write_sectors.ensures.disk.same_count c.install_now.ensures.told
     c.install_now.ensures.fault (omega (arith, c.sectors.ensures))
     (c.write_sectors.ensures.leaves stored written (omega (arith, up.generation_is)) up.keeps)
     (c.install_now.ensures.any_moment stored honest between))
@@ -42,11 +42,11 @@ pub returns-then-left-le-STEP_SECTORS-clause-after : goal.returns-then-left-le-S
 returns-then-left-le-STEP_SECTORS-clause-after g c = rw (← c.self.view_is, ← c.publication.view_is) (λ stored honest up.
     let service : ServiceView g.row.D.Denot = service_view c.self.inside in
     let p : PublicationView = publication_view c.publication.inside in
-    let written = c.install_now.ensures.honest honest in
+    let written = c.install_now.ensures.disk.was_honest honest in
     let between : IsUp (g.D.Sectors.sectors c.write_sectors.new.disk) (g.D.Sectors.history c.write_sectors.new.disk) stored
     (with_publication (record service { disk = c.write_sectors.new.disk }) (record p { written = c.publication.inside.written + c.min-more.result })) =
     up_further _ _ _ _ stored service p (c.self.inside.root.generation + 1) (c.publication.inside.written + c.min-more.result) c.write_sectors.new.disk up
-    c.write_sectors.ensures.count refl (c.write_sectors.ensures.keeps stored written (omega (arith, up.generation_is)) up.keeps)
+    c.write_sectors.ensures.disk.same_count refl (c.write_sectors.ensures.keeps stored written (omega (arith, up.generation_is)) up.keeps)
     (c.in-Ok.ensures.first written) in
     up_after_last _ stored p _ _ c.install_now.new.self c.install_now.result c.install_now.ensures.told
     (c.install_now.ensures.after stored honest between))
@@ -74,7 +74,7 @@ returns-clause-after g c = rw (← c.self.view_is, ← c.publication.view_is) (�
     let between : IsUp (g.D.Sectors.sectors c.write_sectors.new.disk) (g.D.Sectors.history c.write_sectors.new.disk) stored
     (with_publication (record service { disk = c.write_sectors.new.disk }) (record p { written = c.publication.inside.written + c.min-more.result })) =
     up_further _ _ _ _ stored service p (c.self.inside.root.generation + 1) (c.publication.inside.written + c.min-more.result) c.write_sectors.new.disk up
-    c.write_sectors.ensures.count refl (c.write_sectors.ensures.keeps stored written (omega (arith, up.generation_is)) up.keeps)
+    c.write_sectors.ensures.disk.same_count refl (c.write_sectors.ensures.keeps stored written (omega (arith, up.generation_is)) up.keeps)
     (c.in-Ok.ensures.first written) in
     up_after_step _ stored p _ _ _ (c.sectors.result - c.publication.inside.written - c.min-more.result + 1) (omega arith) between)
 
@@ -88,7 +88,7 @@ returns-then-left-le-STEP_SECTORS-clause-archive g c = install_keeps g.D.Sectors
     c.install_now.result
     (beside_keeps g.D.Sectors.honest g.D.Sectors.history _ _ (sym c.self.view_is) c.write_sectors.new.disk c.self.inside.publication c.self.inside.broken
     (c.self.inside.root.generation + 1) c.self.invariant.area (omega arith) c.write_sectors.ensures.beside)
-    c.install_now.ensures.honest c.install_now.ensures.told c.install_now.ensures.archive
+    c.install_now.ensures.disk.was_honest c.install_now.ensures.told c.install_now.ensures.archive
 
 pub returns-clause-archive : goal.returns-clause-archive
 returns-clause-archive g c other =

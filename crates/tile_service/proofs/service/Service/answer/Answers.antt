@@ -22,7 +22,7 @@ returns-in-Put-clause-takes g c = (
 
 pub returns-in-Put-clause-faults : goal.returns-in-Put-clause-faults
 returns-in-Put-clause-faults g c none =
-    edit_faults _ _ _ _ c.put.result _ _ (c.put.ensures.machine no_known) c.put.ensures.takes.succeeded c.put.ensures.takes.failed
+    edit_faults _ _ _ _ c.put.result _ _ (c.put.ensures.machine no_known) c.put.ensures.takes.failed
 
 pub returns-in-Put-clause-failed : goal.returns-in-Put-clause-failed
 returns-in-Put-clause-failed g c =
@@ -39,7 +39,7 @@ returns-in-Delete-clause-takes g c = (
 
 pub returns-in-Delete-clause-faults : goal.returns-in-Delete-clause-faults
 returns-in-Delete-clause-faults g c none =
-    edit_faults _ _ _ _ c.delete.result _ _ (c.delete.ensures.machine no_known) c.delete.ensures.takes.succeeded c.delete.ensures.takes.failed
+    edit_faults _ _ _ _ c.delete.result _ _ (c.delete.ensures.machine no_known) c.delete.ensures.takes.failed
 
 pub returns-in-Delete-clause-failed : goal.returns-in-Delete-clause-failed
 returns-in-Delete-clause-failed g c =
@@ -56,7 +56,7 @@ returns-in-Batch-clause-takes g c = (
 
 pub returns-in-Batch-clause-faults : goal.returns-in-Batch-clause-faults
 returns-in-Batch-clause-faults g c none =
-    edit_faults _ _ _ _ c.batch.result _ _ (c.batch.ensures.machine no_known) c.batch.ensures.takes.succeeded c.batch.ensures.takes.failed
+    edit_faults _ _ _ _ c.batch.result _ _ (c.batch.ensures.machine no_known) c.batch.ensures.takes.failed
 
 pub returns-in-Batch-clause-failed : goal.returns-in-Batch-clause-failed
 returns-in-Batch-clause-failed g c =
@@ -66,8 +66,8 @@ pub returns-in-Ok-clause-takes : goal.returns-in-Ok-clause-takes
 returns-in-Ok-clause-takes g c = (
   tile c.in-Tile.at.z c.in-Tile.at.x c.in-Tile.at.y (got (option_map (λ bytes. bytes.items) c.in-Ok.content)),
   told_step c.args.self.now.version _ c.in-Tile.is refl refl,
-  tile_step g.D.Sectors.sectors g.D.Sectors.honest g.D.Sectors.history _ _ c.tile.ensures.same c.tile.ensures.count c.tile.ensures.honest
-      c.tile.ensures.history c.tile.ensures.untouched c.tile.ensures.up c.in-Tile.at.z c.in-Tile.at.x c.in-Tile.at.y _ c.in-Ok.ensures.machine,
+  tile_step g.D.Sectors.sectors g.D.Sectors.honest g.D.Sectors.history _ _ c.tile.ensures.same c.tile.ensures.disk
+      c.tile.ensures.untouched c.tile.ensures.up c.in-Tile.at.z c.in-Tile.at.x c.in-Tile.at.y _ c.in-Ok.ensures.machine,
 )
 
 pub returns-in-Ok-clause-faults : goal.returns-in-Ok-clause-faults
@@ -82,8 +82,8 @@ pub returns-in-Err-clause-takes : goal.returns-in-Err-clause-takes
 returns-in-Err-clause-takes g c = (
   tile c.in-Tile.at.z c.in-Tile.at.x c.in-Tile.at.y no_memory,
   told_step c.args.self.now.version _ c.in-Tile.is refl (c.in-Err.ensures.fault, refl),
-  tile_step g.D.Sectors.sectors g.D.Sectors.honest g.D.Sectors.history _ _ c.tile.ensures.same c.tile.ensures.count c.tile.ensures.honest
-      c.tile.ensures.history c.tile.ensures.untouched c.tile.ensures.up c.in-Tile.at.z c.in-Tile.at.x c.in-Tile.at.y _ c.in-Err.ensures.machine,
+  tile_step g.D.Sectors.sectors g.D.Sectors.honest g.D.Sectors.history _ _ c.tile.ensures.same c.tile.ensures.disk
+      c.tile.ensures.untouched c.tile.ensures.up c.in-Tile.at.z c.in-Tile.at.x c.in-Tile.at.y _ c.in-Err.ensures.machine,
 )
 
 pub returns-in-Err-clause-faults : goal.returns-in-Err-clause-faults
@@ -158,13 +158,13 @@ returns-in-Step-clause-takes g c = (
   step c.publish_step.result,
   told_step c.args.self.now.version _ c.in-Step.is c.left-in-Step.ensures (step_told c.args.self.now.version c.publish_step.result),
   (step_step g.D.Sectors.sectors g.D.Sectors.honest g.D.Sectors.history _ _ c.publish_step.result
-      c.publish_step.ensures.machine c.publish_step.ensures.size c.publish_step.ensures.count c.publish_step.ensures.honest
+      c.publish_step.ensures.machine c.publish_step.ensures.size c.publish_step.ensures.disk
       c.publish_step.ensures.refused c.publish_step.ensures.any_moment c.publish_step.ensures.after c.publish_step.ensures.archive),
 )
 
 pub returns-in-Step-clause-faults : goal.returns-in-Step-clause-faults
 returns-in-Step-clause-faults g c none =
-    step_faults _ _ c.publish_step.result _ _ (c.publish_step.ensures.machine no_known) c.publish_step.ensures.faults c.publish_step.ensures.failed
+    step_faults _ _ c.publish_step.result _ _ (c.publish_step.ensures.machine no_known) c.publish_step.ensures.failed
 
 pub returns-in-Step-clause-failed : goal.returns-in-Step-clause-failed
 returns-in-Step-clause-failed g c =
@@ -173,19 +173,19 @@ returns-in-Step-clause-failed g c =
 -- ---- how the count of faults changes
 
 pub returns-in-Put-clause-never_falls : goal.returns-in-Put-clause-never_falls
-returns-in-Put-clause-never_falls g c = outcome_counts c.put.result _ _ c.put.ensures.takes.succeeded c.put.ensures.takes.failed
+returns-in-Put-clause-never_falls g c = outcome_counts c.put.result _ _ c.put.ensures.takes.failed
 
 pub returns-in-Put-clause-device : goal.returns-in-Put-clause-device
 returns-in-Put-clause-device g c is = edit_risen c.put.result _ _ c.put.ensures.takes.failed (sym c.edited.ensures ∙ is)
 
 pub returns-in-Delete-clause-never_falls : goal.returns-in-Delete-clause-never_falls
-returns-in-Delete-clause-never_falls g c = outcome_counts c.delete.result _ _ c.delete.ensures.takes.succeeded c.delete.ensures.takes.failed
+returns-in-Delete-clause-never_falls g c = outcome_counts c.delete.result _ _ c.delete.ensures.takes.failed
 
 pub returns-in-Delete-clause-device : goal.returns-in-Delete-clause-device
 returns-in-Delete-clause-device g c is = edit_risen c.delete.result _ _ c.delete.ensures.takes.failed (sym c.edited-in-Delete.ensures ∙ is)
 
 pub returns-in-Batch-clause-never_falls : goal.returns-in-Batch-clause-never_falls
-returns-in-Batch-clause-never_falls g c = outcome_counts c.batch.result _ _ c.batch.ensures.takes.succeeded c.batch.ensures.takes.failed
+returns-in-Batch-clause-never_falls g c = outcome_counts c.batch.result _ _ c.batch.ensures.takes.failed
 
 pub returns-in-Batch-clause-device : goal.returns-in-Batch-clause-device
 returns-in-Batch-clause-device g c is = edit_risen c.batch.result _ _ c.batch.ensures.takes.failed (sym c.edited-in-Batch.ensures ∙ is)
@@ -223,7 +223,7 @@ returns-in-Err-publish_cancel-clause-device g c is =
     absurd (cancel_no_device _ _ c.in-Err-publish_cancel.fault (c.in-Err-publish_cancel.ensures.machine no_known) is)
 
 pub returns-in-Step-clause-never_falls : goal.returns-in-Step-clause-never_falls
-returns-in-Step-clause-never_falls g c = outcome_counts c.publish_step.result _ _ c.publish_step.ensures.faults c.publish_step.ensures.failed
+returns-in-Step-clause-never_falls g c = outcome_counts c.publish_step.result _ _ c.publish_step.ensures.failed
 
 pub returns-in-Step-clause-device : goal.returns-in-Step-clause-device
 returns-in-Step-clause-device g c is = left_risen c.publish_step.result _ _ c.publish_step.ensures.failed (sym c.left-in-Step.ensures ∙ is)

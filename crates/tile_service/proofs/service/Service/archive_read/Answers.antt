@@ -34,4 +34,4 @@ returns-clause-read g c = rw (← c.self.view_is) (λ stored up honest.
 pub returns-clause-up : goal.returns-clause-up
 returns-clause-up g c = rw (← c.self.view_is) (λ stored up honest.
     up_unwritten (g.D.Sectors.sectors c.self.inside.disk) (g.D.Sectors.history c.self.inside.disk) stored _ up
-    c.read_bytes.new.disk _ _ c.read_bytes.ensures.count (c.read_bytes.ensures.history honest))
+    c.read_bytes.new.disk _ _ c.read_bytes.ensures.disk.same_count (c.read_bytes.ensures.disk.same_history honest))

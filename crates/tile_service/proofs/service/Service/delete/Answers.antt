@@ -49,16 +49,14 @@ invariant_of-self g c =
       ap (λ (t : List ℕ). parts_of (length t)) text,
       short_after_edit version c.self.inside.map.features (delete c.args.id ∷ []) area places c.self.invariant.version_is was,
     ))
-    _ _ _ c.append.ensures.count c.self.invariant
+    _ _ _ c.append.ensures.disk.same_count c.self.invariant
 
 pub returns-in-Ok-clause-takes : goal.returns-in-Ok-clause-takes
 returns-in-Ok-clause-takes g c = rw (← c.self.view_is) (record {
   size = refl;
   publication = refl;
-  count = c.append.ensures.count;
-  stays_honest = c.append.ensures.honest;
-  succeeded = c.in-Ok.ensures.faults;
-  failed = tt;
+  asked = c.append.ensures.disk;
+  failed = c.in-Ok.ensures.faults;
   unwritten = tt;
   unchanged = tt;
   keeps_archive = append_keeps g.D.Sectors.honest g.D.Sectors.history _ _ refl refl refl refl c.self.invariant.area
@@ -80,7 +78,7 @@ returns-in-Ok-clause-takes g c = rw (← c.self.view_is) (record {
       up_with_edit g.D.Sectors.sectors g.D.Sectors.history stored _ c.self.invariant.ring up (recorded_change version (delete c.args.id))
       (delete_recorded version c.args.id c.self.invariant.version_is fits) refl
       _ (ap (record_of version) (c.deletion_text-text.ensures c.args.id c.delete_edit_text-text.ensures)) c.append.new.disk (c.append.ensures.frame honest)
-      _ refl c.append.ensures.count refl c.append.ensures.same (c.in-Ok.ensures.acknowledged (stored_records stored) honest at) c.remove.ensures.map
+      _ refl c.append.ensures.disk.same_count refl c.append.ensures.same (c.in-Ok.ensures.acknowledged (stored_records stored) honest at) c.remove.ensures.map
       (since_on c.self.inside.map c.self.inside.map c.remove.new.self c.self.inside.journal.last c.append.new.self.last c.self.invariant.last_is refl last
       c.remove.ensures.since)
       (now_on c.remove.new.self c.append.new.self.last last c.remove.ensures.now)
@@ -94,9 +92,7 @@ pub returns-in-Err-clause-takes : goal.returns-in-Err-clause-takes
 returns-in-Err-clause-takes g c = rw (← c.self.view_is) (record {
   size = ap (λ s. s.size) c.fail.ensures.same;
   publication = tt;
-  count = search rules;
-  stays_honest = search rules;
-  succeeded = tt;
+  asked = search rules;
   failed = search rules;
   unwritten = search rules;
   unchanged = search rules;

@@ -22,7 +22,7 @@ returns-in-Ok-clause-opened g c n stored holds honest =
       published = c.in-Ok.found.published;
       broken = false;
     })
-    c.in-Ok.found.root refl c.load.ensures.count (c.in-Ok.ensures.synced honest) refl refl refl refl refl (c.in-Ok.ensures.found honest)
+    c.in-Ok.found.root refl c.load.ensures.disk.same_count (c.in-Ok.ensures.synced honest) refl refl refl refl refl (c.in-Ok.ensures.found honest)
     c.in-Ok.ensures.published c.in-Ok.ensures.reads
 
 pub returns-in-Err-clause-refused : goal.returns-in-Err-clause-refused

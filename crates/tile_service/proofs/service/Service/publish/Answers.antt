@@ -1,4 +1,5 @@
 use Rattle.std.proofs.Common.{◌≡◌, inr, ℕ, [], ◌∷◌, ◌++◌, Result, Ok, Err, refl, ◌∙◌, ap, subst, arith}
+use Rattle.sector_disk.proofs.AskedLaws.{writes_on}
 use Rattle.tile_service.specs.Machine.{begin, step}
 use Rattle.tile_service.specs.Runs.{begin_and_steps, Takes}
 use Rattle.tile_service.specs.declared.fault.ServiceFault.{ServiceFault}
@@ -39,7 +40,7 @@ loop-rest-preserved g c =
     let outcome : Result ℕ ServiceFault = Ok c.in-Ok-publish_step.told in
     let goes : Takes g.D.Sectors.sectors g.D.Sectors.honest g.D.Sectors.history old (step outcome) new =
     step_step g.D.Sectors.sectors g.D.Sectors.honest g.D.Sectors.history old new outcome
-    call.machine call.size call.count call.honest call.refused call.any_moment call.after call.archive in
+    call.machine call.size call.disk call.refused call.any_moment call.after call.archive in
     let more = one_step_more g.D.Sectors.sectors g.D.Sectors.honest g.D.Sectors.history c.args.self.now old new inv.run.0 (Ok rest) outcome
     inv.run.1 inv.run.2 goes in
     let known = inv.stands.0 in
@@ -51,9 +52,9 @@ loop-rest-preserved g c =
             c.in-Ok-publish_step.told moved.1,
       );
       edits = inv.edits;
-      faults = call.faults ∙ inv.faults;
+      faults = call.failed ∙ inv.faults;
       archive = λ some. keeps_on g.D.Sectors.honest g.D.Sectors.history c.args.self.now old new
-          (inv.archive (λ none. omega (arith, c.loop-rest-test.true, none))) call.honest
+          (inv.archive (λ none. omega (arith, c.loop-rest-test.true, none))) call.disk.was_honest
           (call.archive (left_not_done c.in-Ok-publish_step.told some));
       run = (inv.run.0 ++ Ok rest ∷ [], more.0, more.1);
     }
@@ -86,13 +87,11 @@ pub returns-in-Err-clause-size : goal.returns-in-Err-clause-size
 returns-in-Err-clause-size g c =
     ap (λ s. s.size) c.in-Err.ensures.same
 
-pub returns-in-Err-clause-count : goal.returns-in-Err-clause-count
-returns-in-Err-clause-count g c =
-    ap (λ s. g.D.Sectors.sectors s.disk) c.in-Err.ensures.same
-
-pub returns-in-Err-clause-honest : goal.returns-in-Err-clause-honest
-returns-in-Err-clause-honest g c honest =
-    subst (λ d. g.D.Sectors.honest d) (ap (λ s. s.disk) c.in-Err.ensures.same) honest
+pub returns-in-Err-clause-disk : goal.returns-in-Err-clause-disk
+returns-in-Err-clause-disk g c = record {
+  same_count = ap (λ s. g.D.Sectors.sectors s.disk) c.in-Err.ensures.same;
+  was_honest = subst (λ d. g.D.Sectors.honest d) (ap (λ s. s.disk) c.in-Err.ensures.same);
+}
 
 pub returns-in-Err-clause-failed : goal.returns-in-Err-clause-failed
 returns-in-Err-clause-failed g c =
@@ -123,7 +122,7 @@ returns-in-Err-publish_step-clause-run g c =
     let outcome : Result ℕ ServiceFault = Err c.in-Err-publish_step.fault in
     let goes : Takes g.D.Sectors.sectors g.D.Sectors.honest g.D.Sectors.history old (step outcome) new =
     step_step g.D.Sectors.sectors g.D.Sectors.honest g.D.Sectors.history old new outcome
-    call.machine call.size call.count call.honest call.refused call.any_moment call.after call.archive in
+    call.machine call.size call.disk call.refused call.any_moment call.after call.archive in
     let more = one_step_more g.D.Sectors.sectors g.D.Sectors.honest g.D.Sectors.history c.args.self.now old new inv.run.0 (Ok rest) outcome
     inv.run.1 inv.run.2 goes in
     record {
@@ -139,13 +138,9 @@ pub returns-in-Err-publish_step-clause-size : goal.returns-in-Err-publish_step-c
 returns-in-Err-publish_step-clause-size g c =
     c.in-Err-publish_step.ensures.size ∙ c.loop-rest.invariant.run.1.size
 
-pub returns-in-Err-publish_step-clause-count : goal.returns-in-Err-publish_step-clause-count
-returns-in-Err-publish_step-clause-count g c =
-    c.in-Err-publish_step.ensures.count ∙ c.loop-rest.invariant.run.1.count
-
-pub returns-in-Err-publish_step-clause-honest : goal.returns-in-Err-publish_step-clause-honest
-returns-in-Err-publish_step-clause-honest g c honest =
-    c.loop-rest.invariant.run.1.stays_honest (c.in-Err-publish_step.ensures.honest honest)
+pub returns-in-Err-publish_step-clause-disk : goal.returns-in-Err-publish_step-clause-disk
+returns-in-Err-publish_step-clause-disk g c =
+    writes_on c.loop-rest.invariant.run.1.asked c.in-Err-publish_step.ensures.disk
 
 pub returns-in-Err-publish_step-clause-failed : goal.returns-in-Err-publish_step-clause-failed
 returns-in-Err-publish_step-clause-failed g c =
@@ -174,7 +169,7 @@ returns-in-Err-publish_step-clause-given_up g c =
 pub returns-in-Err-publish_step-clause-archive : goal.returns-in-Err-publish_step-clause-archive
 returns-in-Err-publish_step-clause-archive g c =
     keeps_on g.D.Sectors.honest g.D.Sectors.history c.args.self.now c.loop-rest.self c.publish_step.new.self
-    (c.loop-rest.invariant.archive (λ none. omega (arith, c.loop-rest-test.true, none))) c.in-Err-publish_step.ensures.honest
+    (c.loop-rest.invariant.archive (λ none. omega (arith, c.loop-rest-test.true, none))) c.in-Err-publish_step.ensures.disk.was_honest
     (c.in-Err-publish_step.ensures.archive (refused_not_done c.in-Err-publish_step.fault))
 
 pub returns-clause-run : goal.returns-clause-run
@@ -199,16 +194,12 @@ pub returns-clause-size : goal.returns-clause-size
 returns-clause-size g c =
     c.loop-rest.invariant.run.1.size
 
-pub returns-clause-count : goal.returns-clause-count
-returns-clause-count g c =
-    c.loop-rest.invariant.run.1.count
+pub returns-clause-disk : goal.returns-clause-disk
+returns-clause-disk g c =
+    c.loop-rest.invariant.run.1.asked
 
-pub returns-clause-honest : goal.returns-clause-honest
-returns-clause-honest g c =
-    c.loop-rest.invariant.run.1.stays_honest
-
-pub returns-clause-faults : goal.returns-clause-faults
-returns-clause-faults g c =
+pub returns-clause-failed : goal.returns-clause-failed
+returns-clause-failed g c =
     c.loop-rest.invariant.faults
 
 pub returns-clause-idle : goal.returns-clause-idle

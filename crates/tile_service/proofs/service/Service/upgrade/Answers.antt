@@ -7,7 +7,7 @@ returns-clause-any_moment g c n stored honest holds = upgrade_leaves (g.D.Sector
 
 pub returns-clause-upgraded : goal.returns-clause-upgraded
 returns-clause-upgraded g c n stored honest holds = upgrade_keeps (g.D.Sectors.sectors c.args.disk.now) n stored (g.D.Sectors.history c.args.disk.now)
-    (g.D.Sectors.history c.upgrade.new.disk) holds (g.D.Sectors.sectors c.upgrade.new.disk) c.upgrade.result c.upgrade.ensures.count
+    (g.D.Sectors.history c.upgrade.new.disk) holds (g.D.Sectors.sectors c.upgrade.new.disk) c.upgrade.result c.upgrade.ensures.disk.same_count
     (c.upgrade.ensures.upgraded honest)
 
 pub returns-clause-refused : goal.returns-clause-refused

@@ -52,16 +52,14 @@ invariant_of-self-in-Ok-append g c =
       ap (λ (t : List ℕ). parts_of (length t)) text,
       short_after_edit version c.self.inside.map.features (edit_data c.args.requested) area places c.self.invariant.version_is was,
     ))
-    _ _ _ c.append.ensures.count c.self.invariant
+    _ _ _ c.append.ensures.disk.same_count c.self.invariant
 
 pub returns-in-Ok-append-clause-takes : goal.returns-in-Ok-append-clause-takes
 returns-in-Ok-append-clause-takes g c = rw (← c.self.view_is) (λ call. record {
   size = refl;
   publication = refl;
-  count = c.append.ensures.count;
-  stays_honest = c.append.ensures.honest;
-  succeeded = c.in-Ok-append.ensures.faults;
-  failed = tt;
+  asked = c.append.ensures.disk;
+  failed = c.in-Ok-append.ensures.faults;
   unwritten = tt;
   unchanged = tt;
   keeps_archive = append_keeps g.D.Sectors.honest g.D.Sectors.history _ _ refl refl refl refl c.self.invariant.area
@@ -85,7 +83,7 @@ returns-in-Ok-append-clause-takes g c = rw (← c.self.view_is) (λ call. record
       omega (arith, c.make_edit.ensures.last, c.in-Ok-append.ensures.number, c.in-Ok-append.ensures.last) in
       up_with_edit g.D.Sectors.sectors g.D.Sectors.history stored _ c.self.invariant.ring up (recorded_in version (edit_data c.args.requested)) recorded refl
       _ (ap (record_of version) (c.deref-2.ensures.value ∙ c.in-Ok.ensures.text)) c.append.new.disk (c.append.ensures.frame honest)
-      _ refl c.append.ensures.count refl c.append.ensures.same (c.in-Ok-append.ensures.acknowledged (stored_records stored) honest at)
+      _ refl c.append.ensures.disk.same_count refl c.append.ensures.same (c.in-Ok-append.ensures.acknowledged (stored_records stored) honest at)
       (c.make_edit.ensures.map ∙ ap (λ m. edited m.features (edit_data c.args.requested)) c.room_all.ensures.same)
       (since_on c.self.inside.map c.room_all.new.self c.make_edit.new.self c.self.inside.journal.last c.append.new.self.last c.self.invariant.last_is
       c.room_all.ensures.same last c.make_edit.ensures.since)
@@ -100,9 +98,7 @@ pub returns-in-Err-append-clause-takes : goal.returns-in-Err-append-clause-takes
 returns-in-Err-append-clause-takes g c = rw (← c.self.view_is) (λ call. record {
   size = ap (λ s. s.size) c.fail.ensures.same;
   publication = tt;
-  count = search rules;
-  stays_honest = search rules;
-  succeeded = tt;
+  asked = search rules;
   failed = search rules;
   unwritten = search rules;
   unchanged = search rules;
