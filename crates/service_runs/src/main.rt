@@ -10,7 +10,8 @@
 //! | `disk N` | makes a disk of N sectors of zeros |
 //! | `write AT = BYTES` | writes a sector: these bytes, padded with zeros |
 //! | `sector AT`, `sectors` | prints a sector up to its last nonzero byte; the numbers of the sectors that are not all zeros |
-//! | `fail_from N`, `fail_not_made N`, `fail_made N` | after the next `format`, `upgrade` or `open`, calls of the disk fail: all from number N on, or call N alone, before or after its work |
+//! | `fail_from N` | after the next `format`, `upgrade` or `open`, all calls of the disk from number N on fail |
+//! | `fail_not_made N`, `fail_made N` | the same of call N alone, before or after its work is done |
 //! | `format`, `format_version V` | formats the disk for the empty map, in the last version of the format or in version V |
 //! | `upgrade` | upgrades the disk to the last version of the format |
 //! | `open` | opens the disk as a service |
