@@ -234,7 +234,7 @@ fn finish<W: Write>(
     }
 }
 
-/// Serves a connection with at most `turns` reads, with the memory of an earlier one.
+/// Serves a connection with at most `turns` reads. An earlier one may have used the memory.
 fn serve_session<R: Read, W: Write, H: Handler>(
     session: &mut Session,
     reader: &mut R,

@@ -89,7 +89,10 @@ returns-in-Ended-clause-turns g c =
 pub answer_whole-requires : goal.answer_whole-requires
 answer_whole-requires g c =
     let came = c.in-Ok.ensures.ok in
-    record { known = subst (λ (t : List ℕ). IsKnown t c.loop-turn.session.search) (sym came.2) (IsKnown-append _ came.0 c.loop-turn.session.search c.loop-turn.invariant.known) }
+    record {
+      known = subst (λ (t : List ℕ). IsKnown t c.loop-turn.session.search)
+          (sym came.2) (IsKnown-append _ came.0 c.loop-turn.session.search c.loop-turn.invariant.known);
+    }
 
 pub returns-then-count-eq0-clause-reads : goal.returns-then-count-eq0-clause-reads
 returns-then-count-eq0-clause-reads g c =
