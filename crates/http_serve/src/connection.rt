@@ -106,9 +106,9 @@ fn answer_one<H: Handler, W: Write>(
     requires target { IsWithin (length bytes.now) frame.now.target }
     requires body { IsWithin (length bytes.now) frame.now.body }
     requires range { IfSome frame.now.range (IsWithin (length bytes.now)) }
-    requires room { 16384 ≤ vec_capacity out.old }
+    requires room { 65536 ≤ vec_capacity out.old }
     requires space { PART_SIZE ≤ vec_capacity part.old }
-    ensures room { 16384 ≤ vec_capacity out.new }
+    ensures room { 65536 ≤ vec_capacity out.new }
     ensures space { PART_SIZE ≤ vec_capacity part.new }
     ensures reply { (reply : ReplyView) × GivesOrFails result (H.replies handler.old (request_view_at bytes.now frame.now) reply handler.new)
         (H.fails handler.old (request_view_at bytes.now frame.now) reply handler.new)
@@ -141,8 +141,8 @@ fn refuse<W: Write>(
     out: &mut Vec<u8>,
     rejection: Rejection,
 ) -> Result<(), WriteFault>
-    requires room { 16384 ≤ vec_capacity out.old }
-    ensures room { 16384 ≤ vec_capacity out.new }
+    requires room { 65536 ≤ vec_capacity out.old }
+    ensures room { 65536 ≤ vec_capacity out.new }
     ensures sent { (head : Option RequestHead) → rejection.bare ≡ has_head_method head
         → Sends result (W.contents writer.old) (W.contents writer.new) (refusal_bytes head rejection.refusal) }
 {

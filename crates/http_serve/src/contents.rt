@@ -166,9 +166,9 @@ pub(crate) fn send_reply<H: Handler, W: Write>(
 ) -> Result<(), SendFault>
     requires words { HasShortWords (head_view reply.now) }
     requires readable { IsReadable (H.size handler.old) reply.now.content }
-    requires room { 16384 ≤ vec_capacity out.old }
+    requires room { 65536 ≤ vec_capacity out.old }
     requires space { PART_SIZE ≤ vec_capacity part.old }
-    ensures room { 16384 ≤ vec_capacity out.new }
+    ensures room { 65536 ≤ vec_capacity out.new }
     ensures space { PART_SIZE ≤ vec_capacity part.new }
     ensures sent { (old : H) (request : RequestView) (view : ReplyView) → IsReply reply.now view → H.replies old request view handler.old
         → InParts reply.now.content (H.sends old request view handler.old)

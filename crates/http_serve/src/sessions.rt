@@ -17,7 +17,7 @@ pub(crate) struct Session {
     pub(crate) out: Vec<u8>,
     /// As long as the longest part so far.
     pub(crate) part: Vec<u8>,
-    ghost room: { 16384 ≤ vec_capacity out },
+    ghost room: { 65536 ≤ vec_capacity out },
     ghost space: { PART_SIZE ≤ vec_capacity part },
 }
 
