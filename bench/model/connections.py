@@ -289,10 +289,10 @@ def tile_reply(service, at, ending):
 
 
 def parts_read(service, first, count):
-    """The bytes of the archive from one on, in the parts in which they are sent: those of the first sector, then 65,536 at most each. They
-    end where a read fails."""
+    """The bytes of the archive from one on, in the parts in which they are sent: those of the first 32 sectors, then 65,536 at most each.
+    They end where a read fails."""
     at, end = first, first + count
-    size = SECTOR - first % SECTOR
+    size = 32 * SECTOR - first % SECTOR
     parts = []
     while at < end:
         try:

@@ -140,7 +140,7 @@ def ranges(script):
 
 
 def large_map(script, sectors=1024):
-    """A map whose archive has more than 66,048 bytes: those of the first sector, a part of 65,536, and a rest."""
+    """A map whose archive has more than 81,920 bytes: those of the first 32 sectors, a part of 65,536, and a rest."""
     script.disk(sectors)
     for number in range(1, 4):
         script.ask(*large_put(number))
@@ -152,14 +152,14 @@ def downloads(script):
     large_map(script)
     script.ask(GET_ARCHIVE, GET_ARCHIVE, sizes="4096,7")
     sectors = -(-script.stand.service.root.archive_len // SECTOR)
-    for number in (1, 2, 3, 129, 130, 131, sectors, sectors + 1, sectors + 2, 2 * sectors, 2 * sectors + 1):
+    for number in (1, 2, 32, 33, 34, 160, 161, 162, sectors, sectors + 1, sectors + 2, 2 * sectors, 2 * sectors + 1):
         script.again("lost", number)
         script.ask(GET_ARCHIVE, GET_ARCHIVE)
     script.note("A HEAD reads nothing, nor does a range that is none of the archive's.")
     script.again("from", 1)
     behind = request("GET", "/map.pmtiles", b"", "range: bytes=999999-999999")
     script.ask(request("HEAD", "/map.pmtiles"), behind, GET_ARCHIVE, request("HEAD", "/map.pmtiles"))
-    for first, last, number in [(500, 600, 1), (500, 600, 2), (500, 600, 3), (700, 70000, 2), (700, 70000, 130)]:
+    for first, last, number in [(500, 600, 1), (500, 600, 2), (500, 600, 3), (700, 70000, 2), (700, 70000, 32), (700, 70000, 33)]:
         script.again("lost", number)
         script.ask(request("GET", "/map.pmtiles", b"", f"range: bytes={first}-{last}"), request("HEAD", "/map.pmtiles"))
 
@@ -231,7 +231,7 @@ def writers(script):
     script.note("A download that can't be written whole, in its first part, in its second, and in its last.")
     large_map(script)
     front = len(connections.outcome(script.stand.service, request("HEAD", "/map.pmtiles"), 4096).written)
-    for room in (front, front + 1, front + 512, front + 1000, front + 66048, front + 66049):
+    for room in (front, front + 1, front + 512, front + 16384, front + 17000, front + 81920, front + 81921):
         script.writer(10**9, room)
         script.ask(GET_ARCHIVE, A)
     script.writer()

@@ -8,7 +8,7 @@ ghost use Rattle.archive_commands.specs.Shown.{HeaderHas, HasText, IfWrite, IsMe
 ghost use Rattle.archive_commands.specs.Put.{AppendsPart, Puts};
 
 use crate::putting::{Piece, put_pieces};
-use pm_header::{Header, HeaderFault, Section};
+use pm_header::{Header, HeaderFault, SectionSpan};
 use std::io::Write;
 use std::{fmt, io, str};
 
@@ -35,7 +35,7 @@ impl fmt::Display for ShowFault {
 impl std::error::Error for ShowFault {}
 
 /// The bytes of a section, if it lies inside the file.
-fn section(archive: &[u8], part: Section) -> Option<&[u8]>
+fn section(archive: &[u8], part: SectionSpan) -> Option<&[u8]>
     ensures { MatchOption result (length archive.now < end_of part)
         (λ bytes. (end_of part ≤ length archive.now) × (bytes.now ≡ section_bytes part archive.now)) }
 {

@@ -3,7 +3,6 @@ use Rattle.std.specs.Prelude.{◌≡◌, ◌⊎◌, ℕ, ◌≤◌, List, [], �
 use Rattle.feature_model.specs.declared.feature.WorldBox.{WorldBox}
 use Rattle.feature_model.specs.Data.{FeatureData, ChangeData, put, delete}
 use Rattle.feature_store.specs.Content.{IsTileContent}
-use Rattle.feature_store.specs.Indexed.{world_box}
 use Rattle.feature_store.specs.Layers.{layers}
 use Rattle.feature_store.specs.Store.{FeatureMap, feature_at, changed}
 use Rattle.tile_cache.specs.Kept.{TileView, CacheView, kept_at, IsSmall, KeepsFewer}
@@ -25,7 +24,7 @@ pub record CachedView : Type 0 where
 
 -- the bounding box of a feature
 abbrev pub box_of : FeatureData → WorldBox
-box_of f = world_box (bounding_box f.geometry)
+box_of f = bounding_box f.geometry
 
 -- these marks, and that of an edit with this number that touches a feature, if there is one
 abbrev pub with_mark : Option FeatureData → ℕ → List Mark → List Mark

@@ -10,9 +10,9 @@ ghost use Rattle.feature_store.specs.declared.limit.TheConstants.{TEXTS_END};
 ghost use Rattle.tile_cache.specs.Kept.{kept_at, fresh, KeepsSame};
 ghost use Rattle.tile_cache.specs.Touched.{Mark, Remembers, IsNewest, IsNewestOf};
 ghost use Rattle.tile_cache.specs.declared.cached_tiles.Origin.TheVariants.{Cut, Read};
-ghost use Rattle.cached_map.specs.Cached.{box_of, with_mark, marks_of, marks_after, WasMap, AreReadRight, KeepsOrNot, MayKeep};
+ghost use Rattle.cached_map.specs.Cached.{with_mark, marks_of, marks_after, WasMap, AreReadRight, KeepsOrNot, MayKeep};
 
-use feature_model::{Change, Feature, WorldBox};
+use feature_model::{Change, Feature};
 use feature_store::Store;
 use hilbert_id::TileAt;
 use mvt_write::write_tile;
@@ -44,27 +44,13 @@ impl Model for CachedMap {
     ghost invariant = { λ m. AreKept Cut m.store.features m.touched m.last m.kept };
 }
 
-/// Notes that an edit of this number touches a feature.
-fn mark(touched: &mut TouchGrid, feature: &Feature, number: u64)
-    ensures { (marks : List Mark) → Remembers touched.old marks → Remembers touched.new ((box_of (feature_data feature.now), number) ∷ marks) }
-{
-    let corners = bounding_box(feature);
-    let bounds = WorldBox {
-        x0: corners.least.x,
-        x1: corners.greatest.x,
-        y0: corners.least.y,
-        y1: corners.greatest.y,
-    };
-    touched.mark(&bounds, number);
-}
-
-/// The same, where there is a feature.
+/// Notes that an edit of this number touches a feature, where there is one.
 fn mark_some(touched: &mut TouchGrid, feature: Option<&Feature>, number: u64)
     ensures { (marks : List Mark) → Remembers touched.old marks
         → Remembers touched.new (with_mark (option_map (λ f. feature_data f.now) feature.entry) number marks) }
 {
     if let Some(feature) = feature {
-        mark(touched, feature, number);
+        touched.mark(&bounding_box(feature), number);
     }
 }
 
@@ -81,8 +67,8 @@ fn make_one(store: &mut Store, touched: &mut TouchGrid, change: Change, number: 
     match change {
         Change::Put { id, feature } => {
             mark_some(touched, store.get(id), number);
-            mark(touched, &feature, number);
-            store.place(id, feature);
+            let bounds = store.place(id, feature);
+            touched.mark(&bounds, number);
         }
         Change::Delete { id } => {
             mark_some(touched, store.get(id), number);

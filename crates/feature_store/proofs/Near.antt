@@ -16,10 +16,10 @@ use Rattle.box_index.specs.declared.entry.IndexEntry.{IndexEntry}
 use Rattle.box_index.specs.Shown.{shows, ids_shown}
 use Rattle.feature_model.specs.Data.{FeatureData, put}
 use Rattle.feature_model.specs.Types.{IsChange, LiesInWorld}
-use Rattle.tile_cutter.specs.declared.reach.Corners.{Corners}
+use Rattle.feature_model.specs.declared.feature.WorldBox.{WorldBox}
 use Rattle.tile_cutter.specs.Cut.{has_zoom, geometry_cut, shown_with, feature_cut}
 use Rattle.tile_cutter.specs.WorldBox.{bounding_box, Meets}
-use Rattle.feature_store.specs.Indexed.{index_entry, world_box, IsIndexed, ShowsAll}
+use Rattle.feature_store.specs.Indexed.{index_entry, IsIndexed, ShowsAll}
 use Rattle.feature_store.specs.Store.{FeatureMap, IsMap}
 use Rattle.feature_store.proofs.Listed.{contains_here, contains_on}
 
@@ -41,13 +41,13 @@ pub no_zoom : (f : FeatureData) (z x y : ℕ) → has_zoom f z ≡ false → fea
 unfolding feature_cut
 no_zoom f z x y none = ap (λ b. cond b (option_map (shown_with f.tags) (geometry_cut z x y f.geometry)) None) none
 
-module _ (corners : Corners) (z x y : ℕ) where
+module _ (bounds : WorldBox) (z x y : ℕ) where
   -- the numbers of the entries that show
   abbrev near : FeatureMap → List ℕ
-  near m = ids_shown (world_box corners) z (map index_entry m)
+  near m = ids_shown bounds z (map index_entry m)
 
   abbrev is_near : ℕ × FeatureData → Bool
-  is_near e = shows (world_box corners) z (index_entry e).span
+  is_near e = shows bounds z (index_entry e).span
 
   near_on : (e : ℕ × FeatureData) (m : FeatureMap) (b : Bool) → is_near e ≡ b → near (e ∷ m) ≡ cond b (e.0 ∷ near m) (near m)
   near_on e m true is = rw is refl
@@ -70,9 +70,9 @@ module _ (corners : Corners) (z x y : ℕ) where
       by true is rest = subst (IsStrictlySortedBy nat_cmp) (sym (near_on e m true is)) (over_near e.0 m (ascends_head e m up), rest)
       by false is rest = subst (IsStrictlySortedBy nat_cmp) (sym (near_on e m false is)) rest
 
-  module _ (apart : (f : FeatureData) → LiesInWorld f.geometry → ¬ Meets (bounding_box f.geometry) corners → feature_cut f z x y ≡ None) where
+  module _ (apart : (f : FeatureData) → LiesInWorld f.geometry → ¬ Meets (bounding_box f.geometry) bounds → feature_cut f z x y ≡ None) where
     -- an entry that doesn't show has its box elsewhere, where it has the zoom
-    elsewhere : (e : ℕ × FeatureData) → is_near e ≡ false → has_zoom e.1 z ≡ true → ¬ Meets (bounding_box e.1.geometry) corners
+    elsewhere : (e : ℕ × FeatureData) → is_near e ≡ false → has_zoom e.1 z ≡ true → ¬ Meets (bounding_box e.1.geometry) bounds
     elsewhere e far zoom meets =
         let left = meets.left in
         let right = meets.right in
@@ -112,7 +112,7 @@ module _ (corners : Corners) (z x y : ℕ) where
 
     -- what is found in the index
     pub found_near : {V E : Type 0} (items : V → List ℕ) (index : List IndexEntry) (r : Result V E)
-        → IfOk r (λ v. (es : List IndexEntry) → IsPermutation es index → IsNonDecreasingBy (λ e. e.id) es → items v ≡ ids_shown (world_box corners) z es)
+        → IfOk r (λ v. (es : List IndexEntry) → IsPermutation es index → IsNonDecreasingBy (λ e. e.id) es → items v ≡ ids_shown bounds z es)
         → IfOk r (λ v. (m : FeatureMap) → IsMap m → IsIndexed m index → ShowsAll m z x y (items v))
     found_near items index (Ok v) found =
         λ m is_map indexed. near_shows m (items v) is_map (found (map index_entry m) indexed (ids_rise m is_map.ascending))

@@ -85,7 +85,8 @@ snapshot_short (e ∷ m) edits =
 
 -- ---- with an edit more
 
-set_takes : (m : FeatureMap) (id : ℕ) (f : FeatureData) → length (snapshot (insert_entry nat_cmp m id f)) ≤ length (snapshot m) + length (spelled_change (put id f))
+set_takes : (m : FeatureMap) (id : ℕ) (f : FeatureData)
+    → length (snapshot (insert_entry nat_cmp m id f)) ≤ length (snapshot m) + length (spelled_change (put id f))
 set_takes [] id f = omega (arith, snapshot_on (id, f) [])
 set_takes (e ∷ m) id f =
     let Q : FeatureMap → Type 0 = λ n. length (snapshot n) ≤ length (snapshot (e ∷ m)) + length (spelled_change (put id f)) in
@@ -104,7 +105,8 @@ removed_takes (e ∷ m) id =
     subst Q (sym (removed_on id e m h)) (omega (arith, snapshot_on e (remove_entry (is_at (nat_cmp id)) m), snapshot_on e m, removed_takes m id)) in
     by_order id e.0 (λ h. on (λ t. omega arith)) (λ h. subst Q (sym (removed_here id e m h)) (omega (arith, snapshot_on e m))) (λ h. on (λ t. omega arith))
 
-pub with_takes : (m : FeatureMap) (id : ℕ) (f : FeatureData) → length (snapshot (with_feature m id f)) ≤ length (snapshot m) + length (spelled_change (put id f))
+pub with_takes : (m : FeatureMap) (id : ℕ) (f : FeatureData)
+    → length (snapshot (with_feature m id f)) ≤ length (snapshot m) + length (spelled_change (put id f))
 unfolding with_feature
 with_takes m id f = set_takes m id f
 

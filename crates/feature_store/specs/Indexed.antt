@@ -3,20 +3,14 @@ use Rattle.std.specs.Prelude.{ℕ, List, map, All, Contains, IsSome}
 use Rattle.std.specs.Ordering.{nat_cmp}
 use Rattle.std.specs.List.Sorted.{IsPermutation, IsStrictlySortedBy}
 use Rattle.box_index.specs.declared.entry.IndexEntry.{IndexEntry}
-use Rattle.feature_model.specs.declared.feature.WorldBox.{WorldBox}
 use Rattle.feature_model.specs.Data.{FeatureData}
-use Rattle.tile_cutter.specs.declared.reach.Corners.{Corners}
 use Rattle.tile_cutter.specs.Cut.{feature_cut}
 use Rattle.tile_cutter.specs.WorldBox.{bounding_box}
 use Rattle.feature_store.specs.Store.{FeatureMap}
 
--- a box of the index
-abbrev pub world_box : Corners → WorldBox
-world_box c = record { x0 = c.least.x; x1 = c.greatest.x; y0 = c.least.y; y1 = c.greatest.y }
-
 -- a number, and the bounding box and the zooms of its feature
 abbrev pub index_entry : ℕ × FeatureData → IndexEntry
-index_entry e = record { id = e.0; span = record { bounds = world_box (bounding_box e.1.geometry); minzoom = e.1.minzoom; maxzoom = e.1.maxzoom } }
+index_entry e = record { id = e.0; span = record { bounds = bounding_box e.1.geometry; minzoom = e.1.minzoom; maxzoom = e.1.maxzoom } }
 
 -- the index has these of all features of the map, and nothing else
 abbrev pub IsIndexed : FeatureMap → List IndexEntry → Type 0

@@ -1,25 +1,14 @@
 //! What the index by boxes has of a feature.
 ghost use Rattle.std.specs.Prelude.{◌≡◌, ◌≤◌, IfOk, option_map};
 ghost use Rattle.feature_model.specs.Data.{feature_data};
-ghost use Rattle.feature_store.specs.Indexed.{index_entry, world_box, IsIndexed, ShowsAll};
+ghost use Rattle.feature_store.specs.Indexed.{index_entry, IsIndexed, ShowsAll};
 ghost use Rattle.feature_store.specs.Store.{FeatureMap, IsMap, feature_at, without_feature};
 
 use box_index::{BoxIndex, IndexEntry, Span};
-use feature_model::{Feature, MAX_ZOOM, WorldBox};
+use feature_model::{Feature, MAX_ZOOM};
 use hilbert_id::TileAt;
 use std::alloc::{AllocError, Global};
-use tile_cutter::{Corners, bounding_box, tile_box};
-
-fn world_box(corners: Corners) -> WorldBox
-    ensures { result ≡ world_box corners }
-{
-    WorldBox {
-        x0: corners.least.x,
-        x1: corners.greatest.x,
-        y0: corners.least.y,
-        y1: corners.greatest.y,
-    }
-}
+use tile_cutter::{bounding_box, tile_box};
 
 /// The number of a feature, its bounding box and its zooms.
 pub(crate) fn index_entry(id: u64, feature: &Feature) -> IndexEntry
@@ -28,7 +17,7 @@ pub(crate) fn index_entry(id: u64, feature: &Feature) -> IndexEntry
     IndexEntry {
         id,
         span: Span {
-            bounds: world_box(bounding_box(feature)),
+            bounds: bounding_box(feature),
             minzoom: feature.minzoom,
             maxzoom: feature.maxzoom,
         },
@@ -55,5 +44,5 @@ pub(crate) fn numbers_near(
     requires { at.z ≤ MAX_ZOOM }
     ensures { IfOk result (λ numbers. (m : FeatureMap) → IsMap m → IsIndexed m index.now.entries → ShowsAll m at.z at.x at.y numbers.items) }
 {
-    index.query(alloc, &world_box(tile_box(at)), at.z)
+    index.query(alloc, &tile_box(at), at.z)
 }

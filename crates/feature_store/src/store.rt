@@ -1,9 +1,11 @@
-ghost use Rattle.std.specs.Prelude.{◌≡◌, ◌⊎◌, ℕ, [], ◌∷◌, ◌+◌, ◌*◌, ◌<◌, ◌≤◌, ◌≢◌, ◌↔◌, length, map, Some, IsSome, None, IfOk, IfErr, OnOk, OnErr, IsTrue, option_map};
-ghost use Rattle.feature_model.specs.Data.{feature_data, put, change_data};
+ghost use Rattle.std.specs.Prelude.{◌≡◌, ◌⊎◌, ℕ, [], ◌∷◌, ◌+◌, ◌*◌, ◌<◌, ◌≤◌, ◌≢◌, ◌↔◌, length, map, Some, IsSome, None, IfOk, IfErr};
+ghost use Rattle.std.specs.Prelude.{OnOk, OnErr, IsTrue, option_map};
+ghost use Rattle.feature_model.specs.Data.{feature_data, geometry_data, put, change_data};
 ghost use Rattle.feature_model.specs.Types.{IsChange};
 ghost use Rattle.mvt_layer.specs.Tile.{layer_views};
 ghost use Rattle.mvt_write.specs.CanWrite.{CanWriteAll};
 ghost use Rattle.number_map.specs.Blocks.{joined};
+ghost use Rattle.tile_cutter.specs.WorldBox.{bounding_box};
 ghost use Rattle.feature_store.specs.Inside.{entries_data};
 ghost use Rattle.feature_store.specs.Layers.{layers};
 ghost use Rattle.feature_store.specs.Pairs.{ArePairsOfMap};
@@ -19,7 +21,7 @@ use crate::indexed::{index_entry, numbers_near, take_entry};
 use crate::limit::TEXTS_END;
 use crate::snapshot_texts::{append_block_texts, read_map};
 use box_index::BoxIndex;
-use feature_model::{Change, Feature, MAX_ZOOM};
+use feature_model::{Change, Feature, MAX_ZOOM, WorldBox};
 use hilbert_id::TileAt;
 use mvt_layer::Layer;
 use number_map::{Block, NumberMap};
@@ -145,20 +147,23 @@ impl Store {
         self.room_for(count_puts(changes))
     }
 
-    /// Gives the number this feature, whatever feature it had. It allocates nothing.
-    pub fn place(&mut self, id: u64, feature: Feature)
+    /// Gives the number this feature, whatever feature it had, and tells the feature's bounding box. It allocates nothing.
+    pub fn place(&mut self, id: u64, feature: Feature) -> WorldBox
         requires edit { IsChange (put id (feature_data feature)) }
         requires room { HasRoom self.old }
         requires texts { length (snapshot (with_feature self.old.features id (feature_data feature))) < TEXTS_END }
+        ensures bounds { result ≡ bounding_box (geometry_data feature.geometry) }
         ensures map { self.new.features ≡ with_feature self.old.features id (feature_data feature) }
         ensures spare { self.old.spare ≤ self.new.spare + 1 }
         ensures here { feature_at self.new.features id ≡ Some (feature_data feature) }
         ensures others { (n : ℕ) → n ≢ id → feature_at self.new.features n ≡ feature_at self.old.features n }
     {
         let entry = index_entry(id, &feature);
+        let bounds = entry.span.bounds;
         let before = self.features.insert(id, feature);
         take_entry(&mut self.index, id, before);
         self.index.insert(entry);
+        bounds
     }
 
     /// Takes the number's feature away, and says whether it had one. It allocates nothing, and room stays.

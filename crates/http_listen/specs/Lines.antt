@@ -1,5 +1,5 @@
 -- The lines of the log.
-use Rattle.std.specs.Prelude.{ℕ, List, ◌++◌, ◌∷◌, [], codes, decimal, Result, Ok, Err}
+use Rattle.std.specs.Prelude.{ℕ, List, ◌++◌, codes, decimal, Result, Ok, Err}
 use Rattle.http_serve.specs.declared.connection.End.{End}
 use Rattle.http_serve.specs.declared.connection.End.TheVariants.{Closed, Asked, Refused, Turns}
 use Rattle.http_serve.specs.declared.connection.ServeFault.{ServeFault}

@@ -7,7 +7,7 @@ use crate::ends::end_connection;
 use crate::lines::write_line;
 use crate::paced::{Paced, PacedWriter, ROUND_MILLISECONDS};
 use crate::turns::Turns;
-use http_serve::{Handler, ServeFault, Served, serve};
+use http_serve::{Buffers, Handler, ServeFault, Served, serve_with};
 use std::alloc::Global;
 use std::io::{Read, Write};
 use std::net::{OpenListener, OpenStream, Shutdown};
@@ -47,7 +47,7 @@ fn linger<S: OpenStream + Drop>(kept: &mut Vec<S>, stream: S) {
 /// Serves the connection of a stream, and ends it.
 fn serve_stream<L, H, C>(
     clock: &C,
-    alloc: Global,
+    buffers: &mut Buffers,
     door: &Door<'_, L>,
     stream: L::Stream,
     kept: &mut Vec<L::Stream>,
@@ -64,7 +64,7 @@ where
     prepare(&stream);
     let stream = Paced::new(clock, stream);
     let mut reader = Turns::new(&stream, door, last);
-    let outcome = serve(alloc, &mut reader, &mut PacedWriter(&stream), handler);
+    let outcome = serve_with(buffers, &mut reader, &mut PacedWriter(&stream), handler);
     let yielded = reader.has_yielded();
     let mut stream = stream.into_stream();
     if yielded {
@@ -77,7 +77,7 @@ where
 
 /// Serves this many connections of a listener one after the other, and writes a line to the log after each:
 /// `connection I: R requests, END`. I counts the connections from 1, R the requests that got a whole reply, and END is `closed`,
-/// `asked`, `refused` or `turns`, or at a fault `memory`, `read`, `write` or `device`: what `http_serve::serve` answered.
+/// `asked`, `refused` or `turns`, or at a fault `memory`, `read`, `write` or `device`: what `http_serve::serve_with` answered.
 ///
 /// A connection on which nothing comes for 100 ms between two requests, or for a second before the first, yields to one that
 /// waits to be accepted: it is closed, and logged as `closed`. The last connection never yields.
@@ -111,12 +111,13 @@ where
 {
     let door = Door::new(listener);
     let mut kept = Vec::new(alloc);
+    let mut buffers = Buffers::new(alloc);
     for before in 0..connections {
         let Ok(stream) = door.next() else {
             return Err(ListenFault::Accept);
         };
         let last = before + 1 >= connections;
-        let outcome = serve_stream(clock, alloc, &door, stream, &mut kept, last, handler);
+        let outcome = serve_stream(clock, &mut buffers, &door, stream, &mut kept, last, handler);
         let _ = write_line(log, before + 1, outcome);
     }
     Ok(())

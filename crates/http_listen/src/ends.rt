@@ -19,10 +19,14 @@ const MAX_DROPPING_READS: u64 = 16_384;
 const PIECE: usize = 4_096;
 
 /// Makes one read. Whether more may come, and how much time is left then.
-fn drop_piece<S: Read, C: Clock>(clock: &C, stream: &mut S, pace: Pace) -> Option<(usize, Pace)> {
+fn drop_piece<S: Read, C: Clock>(
+    clock: &C,
+    stream: &mut S,
+    piece: &mut [u8],
+    pace: Pace,
+) -> Option<(usize, Pace)> {
     let start = clock.monotonic().ok()?;
-    let mut piece = [0; PIECE];
-    let count = stream.read(&mut piece).ok()?;
+    let count = stream.read(piece).ok()?;
     let pace = pace.waited(nanoseconds_since(clock, start).ok()?);
     if count == 0 || pace.is_over() {
         return None;
@@ -34,11 +38,12 @@ fn drop_piece<S: Read, C: Clock>(clock: &C, stream: &mut S, pace: Pace) -> Optio
 fn drop_rest<S: Read, C: Clock>(clock: &C, stream: &mut S) {
     let mut left = MAX_DROPPED;
     let mut pace = Pace::new();
+    let mut piece = [0; PIECE];
     for _ in 0..MAX_DROPPING_READS {
         if left == 0 {
             return;
         }
-        match drop_piece(clock, stream, pace) {
+        match drop_piece(clock, stream, &mut piece, pace) {
             Some((count, after)) => {
                 left = left.saturating_sub(count);
                 pace = after;

@@ -14,7 +14,7 @@ use Rattle.http_serve.specs.Served.{RisesBy, reply_count, Answers, AnswersEnd, A
 use Rattle.http_serve.proofs.HeadLemmas.{IsHead-append}
 use Rattle.http_serve.proofs.KnownLemmas.{Appends-then, Appends_none}
 
-pub IsRequest-append : (bytes more : List ℕ) (request : Request) (rest : List ℕ) → IsRequest bytes request rest
+IsRequest-append : (bytes more : List ℕ) (request : Request) (rest : List ℕ) → IsRequest bytes request rest
     → IsRequest (bytes ++ more) request (rest ++ more)
 IsRequest-append bytes more request rest is = record {
   head =
@@ -45,7 +45,7 @@ capped_twice most a m n = omega arith
 pub rises_then : (a m b n c : ℕ) → RisesBy a m b → RisesBy b n c → RisesBy a (m + n) c
 rises_then a m b n c x y = y ∙ ap (λ (k : ℕ). min (k + n) (2 ^ 64 - 1)) x ∙ capped_twice (2 ^ 64 - 1) a m n
 
-pub reply_count_split : (requests : List Request) (ending : Ending) → reply_count requests ending ≡ length requests + reply_count [] ending
+reply_count_split : (requests : List Request) (ending : Ending) → reply_count requests ending ≡ length requests + reply_count [] ending
 reply_count_split requests going = omega arith
 reply_count_split requests closed = omega arith
 reply_count_split requests (asked request) = refl
@@ -113,7 +113,7 @@ module _ {S : Type 0} (replies : S → RequestView → ReplyView → S → Type 
   }
 
   -- one more request is answered
-  pub Carries_push : (old : S) (bytes : List ℕ) (held : Option (List ℕ)) (before : ℕ) (middle : S) (input : List ℕ) (holds : Option (List ℕ)) (so_far : ℕ)
+  Carries_push : (old : S) (bytes : List ℕ) (held : Option (List ℕ)) (before : ℕ) (middle : S) (input : List ℕ) (holds : Option (List ℕ)) (so_far : ℕ)
       (request : Request) (reply : ReplyView) (new : S) (rest : List ℕ) (now : Option (List ℕ)) (after : ℕ)
       → Carries replies old bytes held before middle input holds so_far → IsRequest input request rest → asks_to_close request.head ≡ false
       → replies middle (request_view request) reply new → Appends holds now (reply_to request reply) → RisesBy so_far 1 after

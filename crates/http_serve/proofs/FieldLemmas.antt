@@ -59,12 +59,12 @@ two_values word bytes fields i v w so =
     omega arith
 
 -- more than one value states no length, and is no range
-pub often_refused : (values : List (List ℕ)) → 1 < length values → stated_length values ≡ Err Length
+often_refused : (values : List (List ℕ)) → 1 < length values → stated_length values ≡ Err Length
 often_refused [] h = absurd (omega arith)
 often_refused (v ∷ []) h = absurd (omega arith)
 often_refused (v ∷ w ∷ more) h = refl
 
-pub often_none : (values : List (List ℕ)) → 1 < length values → only_value values ≡ None
+often_none : (values : List (List ℕ)) → 1 < length values → only_value values ≡ None
 often_none [] h = absurd (omega arith)
 often_none (v ∷ []) h = absurd (omega arith)
 often_none (v ∷ w ∷ more) h = refl
@@ -104,7 +104,7 @@ framing_bound minor fields n e =
 -- ---- the options of a connection
 
 -- whether the value without the options up to a comma lists close
-pub lists_close_more : (value : List ℕ) (n : ℕ) → n ≡ position_or_len (λ byte. byte == comma) value → n < length value
+lists_close_more : (value : List ℕ) (n : ℕ) → n ≡ position_or_len (λ byte. byte == comma) value → n < length value
     → lists_close value ≡ is_word (codes "close") (trim_ows (take n value)) || lists_close (drop (n + 1) value)
 lists_close_more value n at more =
     let Test : Type 0 = List (List ℕ) in
@@ -114,7 +114,7 @@ lists_close_more value n at more =
     ∙ ap (λ (k : ℕ). closes (take k value) || lists_close (drop (k + 1) value)) (sym at)
 
 -- one option is left
-pub lists_close_last : (value : List ℕ) (n : ℕ) → n ≡ position_or_len (λ byte. byte == comma) value → n ≡ length value
+lists_close_last : (value : List ℕ) (n : ℕ) → n ≡ position_or_len (λ byte. byte == comma) value → n ≡ length value
     → lists_close value ≡ is_word (codes "close") (trim_ows (take n value)) || false
 lists_close_last value n at last =
     let closes : List ℕ → Bool = λ option. is_word (codes "close") (trim_ows option) in

@@ -25,7 +25,7 @@ shown_reply reply parts fits = (
 )
 
 -- they are all of its content
-pub shown_size : (content : Content) (parts : List ℕ) → InParts content (length parts ≡ length (content_bytes parts content))
+shown_size : (content : Content) (parts : List ℕ) → InParts content (length parts ≡ length (content_bytes parts content))
 shown_size Empty parts = tt
 shown_size (Fixed text) parts = tt
 shown_size (Whole bytes) parts = tt

@@ -31,12 +31,12 @@ IsHead-append bytes more head rest is = record {
 }
 
 -- what follows doesn't change the head
-pub IsHead_unique : (bytes more : List ℕ) (h k : RequestHead) (r q : List ℕ) → IsHead bytes h r → IsHead (bytes ++ more) k q
+IsHead_unique : (bytes more : List ℕ) (h k : RequestHead) (r q : List ℕ) → IsHead bytes h r → IsHead (bytes ++ more) k q
     → (h ≡ k) × (r ++ more ≡ q)
 IsHead_unique bytes more h k r q x y = request_prefix_free bytes more h k r q x.reads y.reads
 
 -- an error, or too many fields
-pub overflows_no_head : (bytes : List ℕ) → RequestOverflows 32 bytes → (more : List ℕ) → HasNoHead (bytes ++ more)
+overflows_no_head : (bytes : List ℕ) → RequestOverflows 32 bytes → (more : List ℕ) → HasNoHead (bytes ++ more)
 overflows_no_head bytes over more head rest is = let many = over more head rest is.reads in let few = is.fields in absurd (omega arith)
 
 -- a head that ends after the limit
@@ -65,7 +65,7 @@ full_no_head bytes none full more head rest is =
         let ih = front a b more rest (omega arith) tails in
         cc
 
-pub none_no_head : (bytes : List ℕ) → HasNoRequest bytes → HasNoHead bytes
+none_no_head : (bytes : List ℕ) → HasNoRequest bytes → HasNoHead bytes
 none_no_head bytes none head rest is = none head rest is.reads
 
 print_request_some : (h : RequestHead) → IsRequestHead h → 0 < length (print_request h)
@@ -90,7 +90,7 @@ no_bytes n b is so = grind (arith, nat_tests)
 
 module _ (bytes : List ℕ) (fields : List HeaderSpan) (spans : RequestSpans) (h : RequestHead)
     (at : IsRequestAt bytes fields spans h) where
-  pub spans_head : spans.len ≤ 8192 → length fields ≤ 32 → IsHead bytes h (drop spans.len bytes)
+  spans_head : spans.len ≤ 8192 → length fields ≤ 32 → IsHead bytes h (drop spans.len bytes)
   spans_head size room = record {
     reads = at.reads;
     size = let e = at.len in omega arith;
@@ -102,7 +102,7 @@ module _ (bytes : List ℕ) (fields : List HeaderSpan) (spans : RequestSpans) (h
         omega arith;
   }
 
-  pub spans_stated : framing spans.version (map (header_bytes bytes) (take spans.headers fields)) ≡ framing h.minor (fields_of h)
+  spans_stated : framing spans.version (map (header_bytes bytes) (take spans.headers fields)) ≡ framing h.minor (fields_of h)
   spans_stated =
       ap (λ (minor : ℕ). framing minor (map (header_bytes bytes) (take spans.headers fields))) at.version ∙ ap (framing h.minor) at.fields
 
@@ -130,7 +130,7 @@ module _ (bytes : List ℕ) (fields : List HeaderSpan) (spans : RequestSpans) (h
         subst (λ (s : Result ℕ Refusal). IsFault (length (drop spans.len bytes ++ more)) s Short) (sym e ∙ spans_stated) (few, refl);
   }
 
-  pub spans_message : spans.len ≤ 8192 → length fields ≤ 32 → (n : ℕ)
+  spans_message : spans.len ≤ 8192 → length fields ≤ 32 → (n : ℕ)
       → framing spans.version (map (header_bytes bytes) (take spans.headers fields)) ≡ Ok n
       → spans.len + n ≤ length bytes
       → IsRequest bytes (record { head = h; body = take n (drop spans.len bytes) }) (drop (spans.len + n) bytes)
@@ -209,7 +209,7 @@ headless_missing bytes none few = record {
     same (x ∷ more) e = absurd (omega arith)
 
 -- the same by the parser's result
-pub partial_missing : (bytes : List ℕ) → HasNoRequest bytes → length bytes < 8192 → IsMissing bytes NO_HEAD (length bytes + 1)
+partial_missing : (bytes : List ℕ) → HasNoRequest bytes → length bytes < 8192 → IsMissing bytes NO_HEAD (length bytes + 1)
 partial_missing bytes none few = headless_missing bytes (λ head rest is. none head rest is.reads) few
 
 -- bytes that are refused begin with no request

@@ -16,7 +16,7 @@ range_from xs i j n h =
     range_is xs (i + n) j h ∙ sym (drop-drop n i (take j xs)) ∙ ap (λ (t : List ℕ). drop n t) (sym (range_is xs i j (omega arith)))
 
 -- with more bytes after the second offset
-pub range_more : (xs ys more : List ℕ) (i j n : ℕ) → i ≤ j → j ≤ length xs → take (j + n) ys ≡ take j xs ++ more
+range_more : (xs ys more : List ℕ) (i j n : ℕ) → i ≤ j → j ≤ length xs → take (j + n) ys ≡ take j xs ++ more
     → slice_range ys i (j + n) ≡ slice_range xs i j ++ more
 range_more xs ys more i j n h within joined =
     range_is ys i (j + n) (omega arith) ∙ ap (λ (t : List ℕ). drop i t) joined

@@ -19,7 +19,7 @@ use Rattle.http_serve.specs.Search.{IsKnown}
 use Rattle.http_serve.specs.Requests.{HasNoHead, IsRefused}
 use Rattle.http_serve.proofs.HeadLemmas.{headless_missing}
 
-pub after_bytes-append : (s : Lines) (a b : List ℕ) → after_bytes s (a ++ b) ≡ after_bytes (after_bytes s a) b
+after_bytes-append : (s : Lines) (a b : List ℕ) → after_bytes s (a ++ b) ≡ after_bytes (after_bytes s a) b
 after_bytes-append s [] b = refl
 after_bytes-append s (x ∷ a) b = after_bytes-append (after_byte s x) a b
 
@@ -150,7 +150,7 @@ head_empty h is =
     ∙ section_end (after_bytes Blank (line ++ print_end h.line_end)) h.fields h.last ended
 
 -- without an empty line after a line there is no head
-pub lines_no_head : (bytes : List ℕ) → after_bytes Blank bytes ≢ Empty → HasNoHead bytes
+lines_no_head : (bytes : List ℕ) → after_bytes Blank bytes ≢ Empty → HasNoHead bytes
 lines_no_head bytes other head rest is =
     other (
     ap (λ (t : List ℕ). after_bytes Blank t) is.reads.1

@@ -35,7 +35,7 @@ part_sent xs offset at count u v w behind so_far more =
     (Appends-then u v w (take (at - offset) (drop offset xs)) (take count (drop at xs)) so_far more)
 
 -- of one more part the first bytes are written
-pub part_cut : (xs : List ℕ) (offset at count : ℕ) (u v w : Option (List ℕ)) (n : ℕ) → offset ≤ at → at + count ≤ length xs
+part_cut : (xs : List ℕ) (offset at count : ℕ) (u v w : Option (List ℕ)) (n : ℕ) → offset ≤ at → at + count ≤ length xs
     → Appends u v (take (at - offset) (drop offset xs)) → n < length (take count (drop at xs)) → Appends v w (take n (take count (drop at xs)))
     → (k : ℕ) × (k < length (drop offset xs)) × Appends u w (take k (drop offset xs))
 part_cut xs offset at count u v w n behind within so_far some more =
@@ -49,7 +49,7 @@ part_cut xs offset at count u v w n behind within so_far some more =
 -- ---- a reply whose content is being read
 
 -- the reply with a part that was read is a later reply
-pub part_later : (reply : ReplyView) (offset : ℕ) (part : List ℕ) → offset + length part ≤ length reply.content
+part_later : (reply : ReplyView) (offset : ℕ) (part : List ℕ) → offset + length part ≤ length reply.content
     → IsLater offset reply (with_part offset part reply)
 part_later reply offset part within =
     let kept : List ℕ = take offset reply.content in
@@ -78,7 +78,7 @@ part_there reply offset part within =
     ∙ ap (take (length part)) (drop_at kept (part ++ behind) offset kept_size) ∙ take_at part behind (length part) refl
 
 -- what is later than a later reply is later
-pub later_then : (offset at : ℕ) (reply next later : ReplyView) → offset ≤ at → IsLater offset reply next → IsLater at next later → IsLater offset reply later
+later_then : (offset at : ℕ) (reply next later : ReplyView) → offset ≤ at → IsLater offset reply next → IsLater at next later → IsLater offset reply later
 later_then offset at reply next later before x y = record {
   same = y.same ∙ ap (λ (r : ReplyView). record r { content = later.content }) x.same;
   size = y.size ∙ x.size;
@@ -86,11 +86,11 @@ later_then offset at reply next later before x y = record {
       sym (take-take offset at later.content before) ∙ ap (take offset) y.front ∙ take-take offset at next.content before ∙ x.front;
 }
 
-pub later_same : (offset : ℕ) (reply : ReplyView) → IsLater offset reply reply
+later_same : (offset : ℕ) (reply : ReplyView) → IsLater offset reply reply
 later_same offset reply = record { same = refl; size = refl; front = refl }
 
 -- what was written of it is the same of the later one
-pub written_later : (offset at : ℕ) (next later : ReplyView) → offset ≤ at → IsLater at next later
+written_later : (offset at : ℕ) (next later : ReplyView) → offset ≤ at → IsLater at next later
     → take (at - offset) (drop offset next.content) ≡ take (at - offset) (drop offset later.content)
 written_later offset at next later before is =
     let whole : offset + (at - offset) ≡ at = omega (arith, before) in
@@ -105,7 +105,7 @@ module _ {S : Type 0} (replies sends : S → RequestView → ReplyView → S →
       → replies first request reply old → length reply.content ≡ size → (later : ReplyView) × IsLater offset reply later × sends first request later new
       × replies first request later new × Appends held holds (take (at - offset) (drop offset later.content))
 
-  pub sent_none : (offset size : ℕ) (old : S) (held : Option (List ℕ)) → IsSentTo offset offset size old old held held
+  sent_none : (offset size : ℕ) (old : S) (held : Option (List ℕ)) → IsSentTo offset offset size old old held held
   sent_none offset size old held first request reply sent replied is =
       let none : 0 ≡ offset - offset = omega arith in
       (reply, later_same offset reply, sent, replied, subst (λ (n : ℕ). Appends held held (take n (drop offset reply.content))) none (Appends_none held))
@@ -145,7 +145,7 @@ module _ {S : Type 0} (replies sends : S → RequestView → ReplyView → S →
         (last.0, later_then offset at reply next.0 last.0 before next.1 last.1, last.2, cut)
 
   -- all of it is written
-  pub sent_whole : (offset at size : ℕ) (old new : S) (held holds : Option (List ℕ)) → size ≤ at → IsSentTo offset at size old new held holds
+  sent_whole : (offset at size : ℕ) (old new : S) (held holds : Option (List ℕ)) → size ≤ at → IsSentTo offset at size old new held holds
       → (first : S) (request : RequestView) (reply : ReplyView) → sends first request reply old → replies first request reply old
       → length reply.content ≡ size → (later : ReplyView) × IsLater offset reply later × replies first request later new
       × Appends held holds (drop offset later.content)
@@ -194,7 +194,7 @@ front_rest close bare parts reply fits =
     ∙ ap (λ (head : HeadView). reply_head close head ++ cond none [] (content_bytes parts reply.content)) (same_head parts reply fits)
 
 -- a reply whose content is read in parts says what it says with what was read of it
-pub later_reply : (reply : Reply) (view later : ReplyView) (first : Vec ℕ Global) (size : ℕ) → reply.content ≡ Parts first size
+later_reply : (reply : Reply) (view later : ReplyView) (first : Vec ℕ Global) (size : ℕ) → reply.content ≡ Parts first size
     → IsReply reply view → IsLater (length first.items) view later → IsReply reply later
 later_reply reply view later first size parts is next =
     let fits = subst (λ (c : Content). FitsParts view.content c) parts is.1 in (

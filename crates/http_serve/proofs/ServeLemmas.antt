@@ -33,7 +33,7 @@ use Rattle.http_serve.proofs.KnownLemmas.{Appends-then, Consumes-then, Consumes_
 use Rattle.http_serve.proofs.CarryLemmas.{Begins-append, Begins-then, Answers-then, Carries_start, Ends_push, Frame_next, Breaks_at, Breaks_refused}
 use Rattle.http_serve.proofs.CarryLemmas.{rises_then, reply_count-append}
 
-pub finished_other : (end : End) (ending : Ending) (last : List ℕ) → end ≡ end_of ending → HasPlainEnd ending last → end ≢ Turns
+finished_other : (end : End) (ending : Ending) (last : List ℕ) → end ≡ end_of ending → HasPlainEnd ending last → end ≢ Turns
 finished_other end going last told plain e = absurd plain
 finished_other end closed last told plain e = cc
 finished_other end (asked request) last told plain e = cc
@@ -231,7 +231,7 @@ module _ {S : Type 0} (replies : S → RequestView → ReplyView → S → Type 
         refused = none;
       }
 
-      pub SoFar_ends : (served : Served) (ending : Ending) → Ends replies middle full Anything holds requests ending new now served.requests
+      SoFar_ends : (served : Served) (ending : Ending) → Ends replies middle full Anything holds requests ending new now served.requests
           → served.end ≡ end_of ending → IsServedTo replies old left held served new last now
       SoFar_ends served ending y told = record {
         bytes = so.bytes ++ more;

@@ -9,16 +9,17 @@ ghost use Rattle.http_serve.specs.Search.{IsKnown};
 ghost use Rattle.http_serve.specs.Sent.{Sends};
 ghost use Rattle.http_serve.specs.Steps.{IsPaused, IsBroken, IsFinished, IsUnfinished};
 ghost use Rattle.http_serve.specs.declared.connection.TheConstants.{MAX_READS};
+ghost use Rattle.http_serve.specs.declared.handlers.TheConstants.{PART_SIZE};
 ghost use Rattle.http_serve.specs.Told.{IsServed, IsServedUpTo, HasContent, MeetsTurns, KeepsTurns, AnswersInput};
 ghost use Rattle.http_serve.specs.Parts.{GivesOrFails, IsCutIn};
 
 use crate::contents::{SendFault, send_reply};
 use crate::fields::position_or_len;
 use crate::frames::{Frame, Next, is_head};
-use crate::inputs::Input;
 use crate::refusals::{NO_HEAD, Rejection};
-use crate::replies::{REPLY_SPACE, send_front};
-use crate::searches::{START, Search, find_next};
+use crate::replies::send_front;
+use crate::searches::{START, find_next};
+use crate::sessions::{Buffers, Session};
 use crate::writes::WriteFault;
 use crate::{Handler, Request};
 use httparse::spans::Span;
@@ -97,6 +98,7 @@ fn answer_one<H: Handler, W: Write>(
     handler: &mut H,
     writer: &mut W,
     out: &mut Vec<u8>,
+    part: &mut Vec<u8>,
     bytes: &[u8],
     frame: &Frame,
 ) -> Result<(), SendFault>
@@ -104,8 +106,10 @@ fn answer_one<H: Handler, W: Write>(
     requires target { IsWithin (length bytes.now) frame.now.target }
     requires body { IsWithin (length bytes.now) frame.now.body }
     requires range { IfSome frame.now.range (IsWithin (length bytes.now)) }
-    requires room { 16384 ≤ vec_capacity out.old }
-    ensures room { 16384 ≤ vec_capacity out.new }
+    requires room { 65536 ≤ vec_capacity out.old }
+    requires space { PART_SIZE ≤ vec_capacity part.old }
+    ensures room { 65536 ≤ vec_capacity out.new }
+    ensures space { PART_SIZE ≤ vec_capacity part.new }
     ensures reply { (reply : ReplyView) × GivesOrFails result (H.replies handler.old (request_view_at bytes.now frame.now) reply handler.new)
         (H.fails handler.old (request_view_at bytes.now frame.now) reply handler.new)
         × Sends result (W.contents writer.old) (W.contents writer.new) (reply_at bytes.now frame.now reply) }
@@ -120,7 +124,15 @@ fn answer_one<H: Handler, W: Write>(
         close: frame.close,
     };
     let reply = handler.answer(&request);
-    send_reply(handler, writer, out, &reply, frame.close, is_head(method))
+    send_reply(
+        handler,
+        writer,
+        out,
+        part,
+        &reply,
+        frame.close,
+        is_head(method),
+    )
 }
 
 /// Writes the reply for a rejection.
@@ -129,21 +141,13 @@ fn refuse<W: Write>(
     out: &mut Vec<u8>,
     rejection: Rejection,
 ) -> Result<(), WriteFault>
-    requires room { 16384 ≤ vec_capacity out.old }
-    ensures room { 16384 ≤ vec_capacity out.new }
+    requires room { 65536 ≤ vec_capacity out.old }
+    ensures room { 65536 ≤ vec_capacity out.new }
     ensures sent { (head : Option RequestHead) → rejection.bare ≡ has_head_method head
         → Sends result (W.contents writer.old) (W.contents writer.new) (refusal_bytes head rejection.refusal) }
 {
     let reply = rejection.refusal.reply();
     send_front(writer, out, &reply, true, rejection.bare)
-}
-
-/// The waiting bytes, what is known about them, and a reply buffer.
-#[derive(Drop)]
-struct Session {
-    input: Input,
-    search: Search,
-    out: Vec<u8>,
 }
 
 /// Answers each whole request and drops it from the input. `requests` replies came before.
@@ -153,9 +157,7 @@ fn answer_whole<H: Handler, W: Write>(
     session: &mut Session,
     mut requests: u64,
 ) -> Result<Pause, ServeFault>
-    requires room { 16384 ≤ vec_capacity session.old.out }
     requires known { IsKnown session.old.input.waiting session.old.search }
-    ensures room { 16384 ≤ vec_capacity session.new.out }
     ensures known { OnOk result (IsKnown session.new.input.waiting session.new.search) }
     ensures ok { IfOk result (λ pause. IsPaused H.replies handler.old session.old.input.waiting (W.contents writer.old) requests pause
         handler.new session.new.input.waiting (W.contents writer.new)) }
@@ -183,7 +185,14 @@ fn answer_whole<H: Handler, W: Write>(
             },
         };
         let waiting = session.input.waiting();
-        match answer_one(handler, writer, &mut session.out, waiting, &frame) {
+        match answer_one(
+            handler,
+            writer,
+            &mut session.out,
+            &mut session.part,
+            waiting,
+            &frame,
+        ) {
             Ok(()) => requests = requests.saturating_add(1),
             Err(fault) => return Err(fault.after(requests)),
         }
@@ -203,7 +212,6 @@ fn finish<W: Write>(
     requests: u64,
     reason: Rejection,
 ) -> Result<Served, ServeFault>
-    requires room { 16384 ≤ vec_capacity session.old.out }
     ensures ends { (head : Option RequestHead) → reason.bare ≡ has_head_method head
         → IfOk result (λ served. IsFinished session.old.input.waiting head reason.refusal (W.contents writer.old) requests
         served (W.contents writer.new)) }
@@ -226,6 +234,47 @@ fn finish<W: Write>(
     }
 }
 
+/// Serves a connection with at most `turns` reads. An earlier one may have used the memory.
+fn serve_session<R: Read, W: Write, H: Handler>(
+    session: &mut Session,
+    reader: &mut R,
+    writer: &mut W,
+    handler: &mut H,
+    turns: u64,
+) -> Result<Served, ServeFault>
+    ensures served { IfOk result (λ served. IsServed H.replies handler.old (R.remaining reader.old) (W.contents writer.old) served
+        handler.new (R.remaining reader.new) (W.contents writer.new)) }
+    ensures fault { IfErr result (λ fault. IsServedUpTo H.replies H.fails handler.old (R.remaining reader.old) (W.contents writer.old) fault
+        handler.new (R.remaining reader.new) (W.contents writer.new)) }
+    ensures content { IfErr result (HasContent (H.size handler.new)) }
+    ensures turns { IfOk result (λ served. MeetsTurns R.remaining turns reader.old reader.new served.end) }
+    ensures reads { KeepsTurns turns result (R.remaining reader.old) (R.remaining reader.new) }
+{
+    session.begin();
+    let mut requests = 0;
+    let mut reason = NO_HEAD;
+    for _turn in 0..turns {
+        let Ok(count) = session.input.read_from(reader) else {
+            return Err(ServeFault::Read { requests });
+        };
+        if count == 0 {
+            return finish(writer, session, requests, reason);
+        }
+        match answer_whole(handler, writer, session, requests)? {
+            Pause::Ended(served) => return Ok(served),
+            Pause::More {
+                requests: answered,
+                rejection,
+            } => {
+                requests = answered;
+                reason = rejection;
+            }
+        }
+    }
+    let end = End::Turns;
+    Ok(Served { requests, end })
+}
+
 /// Serves a connection with at most `turns` reads. After them, the whole requests in the bytes read are answered.
 pub fn serve_turns<R: Read, W: Write, H: Handler>(
     alloc: Global,
@@ -242,39 +291,10 @@ pub fn serve_turns<R: Read, W: Write, H: Handler>(
     ensures turns { IfOk result (λ served. MeetsTurns R.remaining turns reader.old reader.new served.end) }
     ensures reads { KeepsTurns turns result (R.remaining reader.old) (R.remaining reader.new) }
 {
-    let Ok(input) = Input::new(alloc) else {
-        return Err(ServeFault::Memory);
-    };
-    let Ok(out) = Vec::with_capacity(alloc, REPLY_SPACE) else {
-        return Err(ServeFault::Memory);
-    };
-    let mut session = Session {
-        input,
-        search: START,
-        out,
-    };
-    let mut requests = 0;
-    let mut reason = NO_HEAD;
-    for _turn in 0..turns {
-        let Ok(count) = session.input.read_from(reader) else {
-            return Err(ServeFault::Read { requests });
-        };
-        if count == 0 {
-            return finish(writer, &mut session, requests, reason);
-        }
-        match answer_whole(handler, writer, &mut session, requests)? {
-            Pause::Ended(served) => return Ok(served),
-            Pause::More {
-                requests: answered,
-                rejection,
-            } => {
-                requests = answered;
-                reason = rejection;
-            }
-        }
+    match Session::new(alloc) {
+        Ok(mut session) => serve_session(&mut session, reader, writer, handler, turns),
+        Err(_) => Err(ServeFault::Memory),
     }
-    let end = End::Turns;
-    Ok(Served { requests, end })
 }
 
 /// The maximum number of reads per connection.
@@ -298,4 +318,29 @@ pub fn serve<R: Read, W: Write, H: Handler>(
     ensures reads { KeepsTurns MAX_READS result (R.remaining reader.old) (R.remaining reader.new) }
 {
     serve_turns(alloc, reader, writer, handler, MAX_READS)
+}
+
+/// The same, with memory that is kept for the next connection.
+pub fn serve_with<R: Read, W: Write, H: Handler>(
+    buffers: &mut Buffers,
+    reader: &mut R,
+    writer: &mut W,
+    handler: &mut H,
+) -> Result<Served, ServeFault>
+    ensures input { IfOk result (λ served. AnswersInput H.replies handler.old (R.remaining reader.old) (W.contents writer.old) served
+        handler.new (W.contents writer.new)) }
+    ensures served { IfOk result (λ served. IsServed H.replies handler.old (R.remaining reader.old) (W.contents writer.old) served
+        handler.new (R.remaining reader.new) (W.contents writer.new)) }
+    ensures fault { IfErr result (λ fault. IsServedUpTo H.replies H.fails handler.old (R.remaining reader.old) (W.contents writer.old) fault
+        handler.new (R.remaining reader.new) (W.contents writer.new)) }
+    ensures content { IfErr result (HasContent (H.size handler.new)) }
+    ensures turns { IfOk result (λ served. MeetsTurns R.remaining MAX_READS reader.old reader.new served.end) }
+    ensures reads { KeepsTurns MAX_READS result (R.remaining reader.old) (R.remaining reader.new) }
+{
+    let Ok(mut session) = buffers.take() else {
+        return Err(ServeFault::Memory);
+    };
+    let outcome = serve_session(&mut session, reader, writer, handler, MAX_READS);
+    buffers.keep(session);
+    outcome
 }

@@ -1,5 +1,5 @@
 //! Replies whose content is read from the handler in parts.
-ghost use Rattle.std.specs.Prelude.{◌≡◌, ◌≤◌, ◌<◌, ◌+◌, length, take, drop, vec_capacity, IfErr, OnOk};
+ghost use Rattle.std.specs.Prelude.{◌≡◌, ◌≤◌, ◌<◌, ◌+◌, length, take, drop, vec_len, vec_capacity, IfErr, OnOk};
 ghost use Rattle.http_serve.specs.Parts.{GivesOrFails, IsCutIn, IsLater, IsReadable, cut_after, rest_bytes};
 ghost use Rattle.http_serve.specs.declared.handlers.TheConstants.{PART_SIZE};
 ghost use Rattle.http_serve.specs.Requests.{RequestView};
@@ -62,15 +62,18 @@ fn send_part<H: Handler, W: Write>(
     }
 }
 
-/// Reads a content of `size` bytes from an offset to its end, part by part, and writes each part.
-fn send_parts<H: Handler, W: Write>(
+/// Reads a content of `size` bytes from an offset to its end, as many bytes at once as a buffer has, and writes each part.
+fn send_each_part<H: Handler, W: Write>(
     handler: &mut H,
     writer: &mut W,
+    buffer: &mut [u8],
     offset: u64,
     size: u64,
 ) -> Result<(), SendFault>
     requires size { H.size handler.old ≡ size }
     requires within { offset ≤ size }
+    requires some { offset < size → 0 < length buffer.old }
+    requires few { length buffer.old ≤ PART_SIZE }
     ensures sent { (old : H) (request : RequestView) (reply : ReplyView) → H.sends old request reply handler.old
         → H.replies old request reply handler.old → length reply.content ≡ size
         → (later : ReplyView) × IsLater offset reply later
@@ -78,24 +81,61 @@ fn send_parts<H: Handler, W: Write>(
         × Sends result (W.contents writer.old) (W.contents writer.new) (drop offset later.content) }
     ensures cut { IfErr result (IsCutIn (H.size handler.new)) }
 {
-    let mut buffer = [0; PART_SIZE];
     let mut at = offset;
     while at < size {
-        let count = (size - at).min(PART_SIZE as u64);
+        let count = (size - at).min(buffer.len() as u64);
         send_part(handler, writer, at, &mut buffer[..count as usize])?;
         at += count;
     }
     Ok(())
 }
 
+/// Makes a buffer at least `len` bytes long. Only the bytes that it didn't have are zeroed.
+fn lengthen(buffer: &mut Vec<u8>, len: usize)
+    requires { len ≤ vec_capacity buffer.old }
+    ensures len { len ≤ vec_len buffer.new }
+    ensures capacity { vec_capacity buffer.old ≤ vec_capacity buffer.new }
+{
+    if buffer.len() < len {
+        buffer.resize(len, 0).unwrap();
+    }
+}
+
+/// Reads a content of `size` bytes from an offset to its end into a buffer, part by part, and writes each part.
+fn send_parts<H: Handler, W: Write>(
+    handler: &mut H,
+    writer: &mut W,
+    part: &mut Vec<u8>,
+    offset: u64,
+    size: u64,
+) -> Result<(), SendFault>
+    requires size { H.size handler.old ≡ size }
+    requires within { offset ≤ size }
+    requires space { PART_SIZE ≤ vec_capacity part.old }
+    ensures space { PART_SIZE ≤ vec_capacity part.new }
+    ensures sent { (old : H) (request : RequestView) (reply : ReplyView) → H.sends old request reply handler.old
+        → H.replies old request reply handler.old → length reply.content ≡ size
+        → (later : ReplyView) × IsLater offset reply later
+        × GivesOrFails result (H.replies old request later handler.new) (H.fails old request later handler.new)
+        × Sends result (W.contents writer.old) (W.contents writer.new) (drop offset later.content) }
+    ensures cut { IfErr result (IsCutIn (H.size handler.new)) }
+{
+    let most = (size - offset).min(PART_SIZE as u64) as usize;
+    lengthen(part, most);
+    send_each_part(handler, writer, &mut part[..most], offset, size)
+}
+
 /// Writes the rest of the content of a reply, if it is read in parts and sent.
 fn send_rest<H: Handler, W: Write>(
     handler: &mut H,
     writer: &mut W,
+    part: &mut Vec<u8>,
     reply: &Reply,
     bare: bool,
 ) -> Result<(), SendFault>
     requires readable { IsReadable (H.size handler.old) reply.now.content }
+    requires space { PART_SIZE ≤ vec_capacity part.old }
+    ensures space { PART_SIZE ≤ vec_capacity part.new }
     ensures sent { (old : H) (request : RequestView) (view : ReplyView) → IsReply reply.now view → H.replies old request view handler.old
         → InParts reply.now.content (H.sends old request view handler.old)
         → (later : ReplyView) × IsReply reply.now later
@@ -108,7 +148,7 @@ fn send_rest<H: Handler, W: Write>(
     }
     match &reply.content {
         Content::Parts { first, length } => {
-            send_parts(handler, writer, first.len() as u64, *length)
+            send_parts(handler, writer, part, first.len() as u64, *length)
         }
         _ => Ok(()),
     }
@@ -119,14 +159,17 @@ pub(crate) fn send_reply<H: Handler, W: Write>(
     handler: &mut H,
     writer: &mut W,
     out: &mut Vec<u8>,
+    part: &mut Vec<u8>,
     reply: &Reply,
     close: bool,
     bare: bool,
 ) -> Result<(), SendFault>
     requires words { HasShortWords (head_view reply.now) }
     requires readable { IsReadable (H.size handler.old) reply.now.content }
-    requires room { 16384 ≤ vec_capacity out.old }
-    ensures room { 16384 ≤ vec_capacity out.new }
+    requires room { 65536 ≤ vec_capacity out.old }
+    requires space { PART_SIZE ≤ vec_capacity part.old }
+    ensures room { 65536 ≤ vec_capacity out.new }
+    ensures space { PART_SIZE ≤ vec_capacity part.new }
     ensures sent { (old : H) (request : RequestView) (view : ReplyView) → IsReply reply.now view → H.replies old request view handler.old
         → InParts reply.now.content (H.sends old request view handler.old)
         → (later : ReplyView) × GivesOrFails result (H.replies old request later handler.new) (H.fails old request later handler.new)
@@ -134,7 +177,7 @@ pub(crate) fn send_reply<H: Handler, W: Write>(
     ensures cut { IfErr result (IsCutIn (H.size handler.new)) }
 {
     match send_front(writer, out, reply, close, bare) {
-        Ok(()) => send_rest(handler, writer, reply, bare),
+        Ok(()) => send_rest(handler, writer, part, reply, bare),
         Err(_) => Err(SendFault::Write),
     }
 }

@@ -55,12 +55,21 @@ impl Input {
     pub(crate) fn new(alloc: Global) -> Result<Self, AllocError>
         ensures { IfOk result (λ input. input.waiting ≡ []) }
     {
-        let buffer = vec![in alloc; 0; READ_SPACE]?;
+        let mut buffer = Vec::with_capacity(alloc, READ_SPACE)?;
+        buffer.resize(READ_SPACE, 0)?;
         Ok(Input {
             buffer,
             start: 0,
             end: 0,
         })
+    }
+
+    /// Drops all waiting bytes.
+    pub(crate) fn clear(&mut self)
+        ensures { self.new.waiting ≡ [] }
+    {
+        self.start = 0;
+        self.end = 0;
     }
 
     /// The waiting bytes.

@@ -227,8 +227,8 @@ fn put_reply_head(out: &mut Vec<u8>, reply: &Reply, close: bool)
     push_text(out, b"\r\n");
 }
 
-/// The number of reply bytes gathered for one write.
-pub(crate) const REPLY_SPACE: usize = 16_384;
+/// How many bytes of a reply are gathered for one write: a call of the system and a packet more cost more than a copy of these.
+pub(crate) const REPLY_SPACE: usize = 65_536;
 
 /// Writes the front of a reply: its head, which says whether it is the last one, and the content that the reply holds,
 /// unless only the head is sent. In one write, if all bytes fit into the buffer.
@@ -240,8 +240,8 @@ pub(crate) fn send_front<W: Write>(
     bare: bool,
 ) -> Result<(), WriteFault>
     requires words { HasShortWords (head_view reply.now) }
-    requires room { 16384 ≤ vec_capacity out.old }
-    ensures room { 16384 ≤ vec_capacity out.new }
+    requires room { 65536 ≤ vec_capacity out.old }
+    ensures room { 65536 ≤ vec_capacity out.new }
     ensures sent { Sends result (W.contents writer.old) (W.contents writer.new) (front_bytes close bare reply.now) }
 {
     put_reply_head(out, reply, close);

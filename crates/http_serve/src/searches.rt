@@ -65,7 +65,7 @@ fn scan_head(
 
 /// What is missing, if that is known without a parse. A head is parsed once an empty line follows a line, once a byte
 /// may be its fault, or once it has the maximum length; a body once it is complete.
-pub(crate) fn known_missing(bytes: &[u8], search: &mut Search) -> Option<Missing>
+fn known_missing(bytes: &[u8], search: &mut Search) -> Option<Missing>
     requires { IsKnown bytes.now search.old }
     ensures missing { IfSome result (λ missing. IsMissing bytes.now missing.rejection missing.until) }
     ensures known { IsKnown bytes.now search.new }
@@ -82,7 +82,7 @@ pub(crate) fn known_missing(bytes: &[u8], search: &mut Search) -> Option<Missing
 }
 
 /// Parses what bytes begin with.
-pub(crate) fn parse_now(bytes: &[u8], search: &mut Search) -> Next
+fn parse_now(bytes: &[u8], search: &mut Search) -> Next
     requires { IsKnown bytes.now search.old }
     ensures next { IsNext bytes.now result }
     ensures known { IsKnown bytes.now search.new }

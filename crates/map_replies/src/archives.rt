@@ -37,7 +37,7 @@ impl<D: Sectors + Drop> MapReplies<D> {
         }
     }
 
-    /// `length` bytes of the archive from offset `first` on, as content sent in parts. Those in the first sector are read at once,
+    /// `length` bytes of the archive from offset `first` on, as content sent in parts. Those in the first sectors are read at once,
     /// unless only the head is sent. `None` if a read fails.
     fn send(&mut self, first: u64, length: u64, bare: bool) -> Result<Option<Content>, RequestFault>
         requires { first + length ≤ (asked_service self.old).archive_len }

@@ -63,7 +63,10 @@ pub(crate) struct Sending {
     pub(crate) length: u64,
 }
 
-/// How many of `length` bytes from `first` on are read before a reply is made: those in the first sector, or 0 if `bare`.
+/// How many sectors of the archive are read before a reply is made, and sent with its head: 16 KiB.
+const FIRST_SECTORS: u64 = 32;
+
+/// How many of `length` bytes from `first` on are read before a reply is made: those in the first sectors, or 0 if `bare`.
 pub(crate) fn begin_size(first: u64, length: u64, bare: bool) -> u64
     ensures { result ≤ length }
 {
@@ -71,7 +74,7 @@ pub(crate) fn begin_size(first: u64, length: u64, bare: bool) -> u64
         return 0;
     }
     let sector = SECTOR_BYTES as u64;
-    (sector - first % sector).min(length)
+    (FIRST_SECTORS * sector - first % sector).min(length)
 }
 
 /// The reply with the whole archive.

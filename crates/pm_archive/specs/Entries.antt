@@ -3,7 +3,7 @@ use Rattle.std.specs.Prelude.{◌≡◌, ℕ, zero, suc, ◌+◌, ◌<◌, ◌�
 use Rattle.std.specs.Prelude.{◌==◌}
 use Rattle.std.specs.List.{AllByRecursion}
 use Rattle.hilbert_id.specs.declared.number.TheConstants.{TILE_IDS}
-use Rattle.pm_header.specs.declared.section.Section.{Section}
+use Rattle.pm_header.specs.declared.section_span.SectionSpan.{SectionSpan}
 use Rattle.pm_header.specs.declared.header.Header.{Header}
 use Rattle.pm_directory.specs.declared.entry.DirectoryEntry.{DirectoryEntry}
 use Rattle.pm_directory.specs.Directory.{IsDirectory, ids_behind}
@@ -11,11 +11,11 @@ use Rattle.pm_archive.specs.declared.limits.TheConstants.{MAX_LEAVES}
 use Rattle.pm_archive.specs.Sections.{section_bytes}
 
 -- the bytes of an entry, whose offset is counted from the start of its section
-abbrev pub entry_bytes : Section → DirectoryEntry → List ℕ → List ℕ
+abbrev pub entry_bytes : SectionSpan → DirectoryEntry → List ℕ → List ℕ
 entry_bytes s e bytes = slice_range bytes (s.offset + e.offset) (s.offset + e.offset + e.length)
 
 -- the entry lies inside the section
-abbrev pub LiesIn : Section → DirectoryEntry → Type 0
+abbrev pub LiesIn : SectionSpan → DirectoryEntry → Type 0
 LiesIn s e = e.offset + e.length ≤ s.length
 
 -- there is an entry, and its bytes, a leaf directory or a content, lie inside their section

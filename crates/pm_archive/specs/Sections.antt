@@ -1,16 +1,16 @@
 -- The sections of an archive.
 use Rattle.std.specs.Prelude.{ℕ, ◌+◌, ◌<◌, ◌≤◌, List, length, slice_range}
-use Rattle.pm_header.specs.declared.section.Section.{Section}
+use Rattle.pm_header.specs.declared.section_span.SectionSpan.{SectionSpan}
 use Rattle.pm_header.specs.declared.header.Header.{Header}
 use Rattle.pm_header.specs.Layout.{IsHeader}
 use Rattle.pm_archive.specs.declared.limits.TheConstants.{OPENING_END}
 
 -- behind the last byte of a section
-abbrev pub end_of : Section → ℕ
+abbrev pub end_of : SectionSpan → ℕ
 end_of p = p.offset + p.length
 
 -- the bytes of a section
-abbrev pub section_bytes : Section → List ℕ → List ℕ
+abbrev pub section_bytes : SectionSpan → List ℕ → List ℕ
 section_bytes p bytes = slice_range bytes p.offset (end_of p)
 
 -- The bytes begin with a header, and each section that it names lies inside them, the root directory also inside the

@@ -16,7 +16,7 @@ use crate::limits::OPENING_END;
 use crate::reading::directory_from;
 use byte_source::Bytes;
 use pm_directory::DirectoryEntry;
-use pm_header::{HEADER_BYTES, Header, HeaderFault, Section};
+use pm_header::{HEADER_BYTES, Header, HeaderFault, SectionSpan};
 use std::alloc::Global;
 
 // The header with which the bytes begin.
@@ -43,7 +43,7 @@ fn header_in<B: Bytes>(source: &mut B) -> Result<Header, ArchiveFault>
 }
 
 // The section ends inside so many bytes.
-fn ends_by(section: Section, count: u64) -> bool
+fn ends_by(section: SectionSpan, count: u64) -> bool
     ensures { IsTrue result ↔ (end_of section ≤ count) }
 {
     section.offset <= count && section.length <= count - section.offset

@@ -14,7 +14,7 @@ ghost use Rattle.pm_archive.specs.Answers.{IsOutside};
 use crate::fault::ArchiveFault;
 use byte_source::Bytes;
 use pm_directory::{DirectoryEntry, DirectoryFault, read_directory};
-use pm_header::{Header, Section};
+use pm_header::{Header, SectionSpan};
 use std::alloc::Global;
 
 // Reads the bytes from an offset on, as many as `into` has room for.
@@ -84,7 +84,7 @@ pub(crate) fn directory_from<B: Bytes>(
 }
 
 // The bytes of an entry lie inside its section.
-pub(crate) fn lies_in(section: Section, entry: DirectoryEntry) -> bool
+pub(crate) fn lies_in(section: SectionSpan, entry: DirectoryEntry) -> bool
     ensures { IsTrue result ↔ LiesIn section entry }
 {
     entry.offset <= section.length && u64::from(entry.length) <= section.length - entry.offset
@@ -93,7 +93,7 @@ pub(crate) fn lies_in(section: Section, entry: DirectoryEntry) -> bool
 // Where the bytes of an entry of a section begin in the source.
 fn offset_of<B: Bytes>(
     source: &B,
-    section: Section,
+    section: SectionSpan,
     entry: DirectoryEntry,
 ) -> Result<u64, ArchiveFault>
     requires { end_of section ≤ B.count source.now }

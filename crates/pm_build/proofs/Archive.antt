@@ -4,7 +4,7 @@ use Rattle.std.specs.List.{concat}
 use Rattle.std.specs.Result.{IfOk}
 use Rattle.std.proofs.lemmas.List.{length-append, append-nil}
 use Rattle.std.proofs.lemmas.Result.{IfOk-weaker}
-use Rattle.pm_header.specs.declared.section.Section.{Section}
+use Rattle.pm_header.specs.declared.section_span.SectionSpan.{SectionSpan}
 use Rattle.pm_header.specs.declared.header.Header.{Header}
 use Rattle.pm_header.specs.Layout.{IsHeader}
 use Rattle.pm_directory.specs.declared.entry.DirectoryEntry.{DirectoryEntry}
@@ -55,7 +55,7 @@ laid root metadata leaves contents n low high = record {
   contents_is = refl;
 }
 
-section_at : (p : Section) (before part behind : List ℕ) → p.offset ≡ length before → p.length ≡ length part → section_bytes p (before ++ (part ++ behind)) ≡ part
+section_at : (p : SectionSpan) (before part behind : List ℕ) → p.offset ≡ length before → p.length ≡ length part → section_bytes p (before ++ (part ++ behind)) ≡ part
 section_at p before part behind at size = part_middle before part behind p.offset (p.offset + p.length) (sym at) (ap (λ (n : ℕ). p.offset + n) (sym size))
 
 -- each section is where the header says

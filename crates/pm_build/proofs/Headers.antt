@@ -2,13 +2,13 @@
 use Rattle.std.proofs.Common.{◌≡◌, ℕ, ◌+◌, ◌<◌, ◌≤◌, List, ◌++◌, length, get_or, sym, ap, ◌∙◌, arith, lit≤, lit<}
 use Rattle.std.specs.Int.{w32, w64, from_le_bytes, cast_signed}
 use Rattle.std.proofs.lemmas.List.{length-append, take-append-le, get_or_append_left}
-use Rattle.pm_header.specs.declared.section.Section.{Section}
+use Rattle.pm_header.specs.declared.section_span.SectionSpan.{SectionSpan}
 use Rattle.pm_header.specs.declared.header.Header.{Header}
 use Rattle.pm_header.specs.Layout.{IsHeader, number_at, position_at, part_at, header_at}
 use Rattle.pm_header.proofs.Fields.{same_header}
 use Rattle.pm_build.proofs.Pieces.{part_front}
 
-same_part : (p q : Section) → p.offset ≡ q.offset → p.length ≡ q.length → p ≡ q
+same_part : (p q : SectionSpan) → p.offset ≡ q.offset → p.length ≡ q.length → p ≡ q
 same_part p q e_offset e_length = λ i. record { offset = e_offset i; length = e_length i }
 
 module _ (front rest : List ℕ) (whole : length front ≡ 127) where

@@ -4,7 +4,7 @@ ghost use Rattle.std.specs.Prelude.{◌≡◌, ◌+◌, ◌<◌, ◌^◌};
 ghost use Rattle.pm_build.specs.Laid.{IsZoomOf, header_for};
 
 use hilbert_id::{TILE_IDS, tile_of};
-use pm_header::{HEADER_BYTES, Header, NOT_COMPRESSED, Section, VECTOR_TILES};
+use pm_header::{HEADER_BYTES, Header, NOT_COMPRESSED, SectionSpan, VECTOR_TILES};
 
 /// How many bytes the sections have.
 #[derive(Clone, Copy, Debug, PartialEq, Eq)]
@@ -49,19 +49,19 @@ pub(crate) fn header_of(lengths: Lengths, counts: Counts, min_zoom: u8, max_zoom
     let leaves = metadata + lengths.metadata;
     let tiles = leaves + lengths.leaves;
     Header {
-        root: Section {
+        root: SectionSpan {
             offset: HEADER_BYTES as u64,
             length: lengths.root,
         },
-        metadata: Section {
+        metadata: SectionSpan {
             offset: metadata,
             length: lengths.metadata,
         },
-        leaves: Section {
+        leaves: SectionSpan {
             offset: leaves,
             length: lengths.leaves,
         },
-        tiles: Section {
+        tiles: SectionSpan {
             offset: tiles,
             length: lengths.tiles,
         },

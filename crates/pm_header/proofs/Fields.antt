@@ -4,7 +4,7 @@ use Rattle.std.specs.Int.{w32, w64, from_le_bytes, to_le_bytes, cast_signed, cas
 use Rattle.std.proofs.lemmas.Nat.{from_le_bytes-to_le_bytes_8, from_le_bytes-to_le_bytes_4}
 use Rattle.std.specs.Int.RustNames.{FitsSigned}
 use Rattle.std.proofs.Math.Facts.{to_z-of_z, Fits-of_z, Fits-lt-pow}
-use Rattle.pm_header.specs.declared.section.Section.{Section}
+use Rattle.pm_header.specs.declared.section_span.SectionSpan.{SectionSpan}
 use Rattle.pm_header.specs.declared.header.Header.{Header}
 use Rattle.pm_header.specs.Layout.{IsHeader, magic, part_at, header_at, little_8}
 
@@ -37,7 +37,7 @@ same_header h g e_root e_metadata e_leaves e_tiles e_addressed e_entries e_conte
       centre_lat = e_centre_lat i;
     }
 
-same_part : (p q : Section) → p.offset ≡ q.offset → p.length ≡ q.length → p ≡ q
+same_part : (p q : SectionSpan) → p.offset ≡ q.offset → p.length ≡ q.length → p ≡ q
 same_part p q e_offset e_length = λ i. record { offset = e_offset i; length = e_length i }
 
 abbrev pub little_4 : ℤ → List ℕ
@@ -50,7 +50,7 @@ back_4 : (z : ℤ) → FitsSigned w32 z → z ≡ cast_signed w32 (from_le_bytes
 back_4 z fits =
     sym (to_z-of_z fits) ∙ ap (cast_signed w32) (sym (from_le_bytes-to_le_bytes_4 (cast_unsigned w32 z) (Fits-lt-pow (Fits-of_z fits))))
 
-abbrev PartFits : Section → Type 0
+abbrev PartFits : SectionSpan → Type 0
 PartFits p = (p.offset < 2 ^ 64) × (p.length < 2 ^ 64)
 
 -- each number of a header fits its bytes

@@ -1,7 +1,7 @@
 -- Where each field of a header stands. Numbers stand lowest byte first.
 use Rattle.std.specs.Prelude.{◌≡◌, ℕ, ℤ, ◌+◌, ◌≤◌, List, length, take, codes, slice_index, slice_range}
 use Rattle.std.specs.Int.{w32, w64, from_le_bytes, to_le_bytes, cast_signed}
-use Rattle.pm_header.specs.declared.section.Section.{Section}
+use Rattle.pm_header.specs.declared.section_span.SectionSpan.{SectionSpan}
 use Rattle.pm_header.specs.declared.header.Header.{Header}
 use Rattle.pm_header.specs.declared.header.TheConstants.{HEADER_BYTES}
 
@@ -18,7 +18,7 @@ abbrev pub position_at : ℕ → List ℕ → ℤ
 position_at offset bytes = cast_signed w32 (from_le_bytes w32 (slice_range bytes offset (offset + 4)))
 
 -- an offset, and the length behind it
-abbrev pub part_at : ℕ → List ℕ → Section
+abbrev pub part_at : ℕ → List ℕ → SectionSpan
 part_at start bytes = record { offset = number_at start bytes; length = number_at (start + 8) bytes }
 
 -- each field at its offset

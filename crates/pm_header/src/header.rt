@@ -1,6 +1,6 @@
 use crate::fault::HeaderFault;
 use crate::reading::fields;
-use crate::section::Section;
+use crate::section_span::SectionSpan;
 use crate::writing::{MAGIC, VERSION, header_bytes};
 
 /// How many bytes a header has.
@@ -16,13 +16,13 @@ pub const VECTOR_TILES: u8 = 1;
 #[derive(Clone, Copy, Debug, PartialEq, Eq)]
 pub struct Header {
     /// The root directory.
-    pub root: Section,
+    pub root: SectionSpan,
     /// The metadata, a JSON object.
-    pub metadata: Section,
+    pub metadata: SectionSpan,
     /// The leaf directories.
-    pub leaves: Section,
+    pub leaves: SectionSpan,
     /// The contents of the tiles.
-    pub tiles: Section,
+    pub tiles: SectionSpan,
     /// How many tile ids have a content. 0 where that isn't known, as for the two counts below.
     pub addressed: u64,
     /// How many entries of directories are tile entries.

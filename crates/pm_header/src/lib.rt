@@ -4,9 +4,9 @@
 mod fault;
 mod header;
 mod reading;
-mod section;
+mod section_span;
 mod writing;
 
 pub use fault::HeaderFault;
 pub use header::{HEADER_BYTES, Header, NOT_COMPRESSED, VECTOR_TILES};
-pub use section::Section;
+pub use section_span::SectionSpan;

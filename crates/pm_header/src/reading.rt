@@ -4,7 +4,7 @@ ghost use Rattle.std.specs.Prelude.{◌≡◌, ◌+◌, ◌≤◌, length, slice
 ghost use Rattle.pm_header.specs.Layout.{number_at, position_at, part_at, header_at};
 
 use crate::header::{HEADER_BYTES, Header};
-use crate::section::Section;
+use crate::section_span::SectionSpan;
 
 // The bytes from an offset on.
 fn array<const N: usize>(bytes: &[u8], at: usize) -> [u8; N]
@@ -32,11 +32,11 @@ fn position(bytes: &[u8], at: usize) -> i32
     i32::from_le_bytes(array(bytes, at))
 }
 
-fn part(bytes: &[u8], at: usize) -> Section
+fn part(bytes: &[u8], at: usize) -> SectionSpan
     requires { at + 16 ≤ length bytes.now }
     ensures { result ≡ part_at at bytes.now }
 {
-    Section {
+    SectionSpan {
         offset: number(bytes, at),
         length: number(bytes, at + 8),
     }

@@ -4,7 +4,7 @@ ghost use Rattle.std.specs.Prelude.{◌≡◌, ◌+◌, ◌≤◌, ◌++◌, len
 ghost use Rattle.pm_header.specs.Layout.{little_8, IsHeader};
 
 use crate::header::{HEADER_BYTES, Header};
-use crate::section::Section;
+use crate::section_span::SectionSpan;
 
 /// The first bytes of each archive.
 pub(crate) const MAGIC: [u8; 7] = *b"PMTiles";
@@ -18,7 +18,7 @@ fn put<const N: usize>(bytes: &mut [u8], at: usize, field: [u8; N])
     bytes[at..at + N].copy_from_slice(&field);
 }
 
-fn put_part(bytes: &mut [u8], at: usize, part: Section)
+fn put_part(bytes: &mut [u8], at: usize, part: SectionSpan)
     requires { at + 16 ≤ length bytes.old }
     ensures { take (at + 16) bytes.new ≡ take at bytes.old ++ little_8 part.offset ++ little_8 part.length }
 {

@@ -7,6 +7,7 @@ ghost use Rattle.pm_archive.specs.Lookup.{IsLookupOf};
 ghost use Rattle.byte_source.specs.Source.{Keeps};
 ghost use Rattle.sector_bytes.specs.Counts.{NeverFalls};
 ghost use Rattle.sector_bytes.specs.Source.{AreItsBytes};
+ghost use Rattle.sector_disk.specs.Asked.{OnlyReads};
 ghost use Rattle.sector_disk.specs.Disk.{seen};
 ghost use Rattle.published_tiles.specs.Opened.{OpenedView, IsOpenedOf, IsOpenedUpTo};
 
@@ -112,9 +113,7 @@ pub(crate) fn read_tile<D: Sectors>(
     id: u64,
 ) -> Result<Option<Vec<u8>>, ArchiveFault>
     requires on_disk { archive.first + sectors_of archive.len ≤ D.sectors disk.old }
-    ensures count { D.sectors disk.new ≡ D.sectors disk.old }
-    ensures honest { D.honest disk.new → D.honest disk.old }
-    ensures history { D.honest disk.new → D.history disk.new ≡ D.history disk.old }
+    ensures disk { OnlyReads D.sectors D.honest D.history disk.old disk.new }
     ensures never_falls { NeverFalls (D.faults disk.old) (D.faults disk.new) }
     ensures still { (bytes : List ℕ) → D.honest disk.new → AreItsBytes archive.first archive.len bytes (seen (D.history disk.old))
         → IsOpenedOf archive bytes opened.old → IsOpenedOf archive bytes opened.new }

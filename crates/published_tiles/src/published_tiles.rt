@@ -7,6 +7,7 @@ ghost use Rattle.generations.specs.Areas.{sectors_of};
 ghost use Rattle.pm_archive.specs.Answers.{IsOutside};
 ghost use Rattle.sector_bytes.specs.Counts.{NeverFalls};
 ghost use Rattle.sector_bytes.specs.Source.{AreItsBytes};
+ghost use Rattle.sector_disk.specs.Asked.{OnlyReads};
 ghost use Rattle.sector_disk.specs.Disk.{seen};
 ghost use Rattle.published_tiles.specs.declared.place.ArchivePlace.{ArchivePlace};
 
@@ -58,9 +59,7 @@ impl PublishedTiles {
         at: TileAt,
     ) -> Result<Option<Vec<u8>>, ArchiveFault>
         requires on_disk { archive.first + sectors_of archive.len ≤ D.sectors disk.old }
-        ensures count { D.sectors disk.new ≡ D.sectors disk.old }
-        ensures honest { D.honest disk.new → D.honest disk.old }
-        ensures history { D.honest disk.new → D.history disk.new ≡ D.history disk.old }
+        ensures disk { OnlyReads D.sectors D.honest D.history disk.old disk.new }
         ensures never_falls { NeverFalls (D.faults disk.old) (D.faults disk.new) }
         ensures tile { (m : FeatureMap) (bytes : List ℕ) → D.honest disk.new
             → AreItsBytes archive.first archive.len bytes (seen (D.history disk.old)) → IsArchiveOfMap m bytes → ArePublished self.old archive bytes

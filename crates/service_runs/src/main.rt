@@ -10,14 +10,15 @@
 //! | `disk N` | makes a disk of N sectors of zeros |
 //! | `write AT = BYTES` | writes a sector: these bytes, padded with zeros |
 //! | `sector AT`, `sectors` | prints a sector up to its last nonzero byte; the numbers of the sectors that are not all zeros |
-//! | `fail_from N`, `fail_not_made N`, `fail_made N` | makes calls of the disk fail after the next `format`, `upgrade` or `open`: all from number N on, or only call N, before or after its work is done |
+//! | `fail_from N` | after the next `format`, `upgrade` or `open`, all calls of the disk from number N on fail |
+//! | `fail_not_made N`, `fail_made N` | the same of call N alone, before or after its work is done |
 //! | `format`, `format_version V` | formats the disk for the empty map, in the last version of the format or in version V |
 //! | `upgrade` | upgrades the disk to the last version of the format |
 //! | `open` | opens the disk as a service |
 //! | `stop` | takes the disk away with its unsynced writes, and prints the number of calls since it was opened |
 //! | `resume` | brings the stopped disk back |
 //! | `crash C C ..` | makes the disk that a crash leaves of the stopped one: for the i-th unsynced sector its C-th write, or 0 for none |
-//! | `put ID FEATURE`, `delete ID`, `tile Z X Y`, `look ID`, `begin`, `step`, `cancel` | runs an event, or several with `; ` between them; `features` has the form of a feature |
+//! | `put ID FEATURE`, `delete ID`, `tile Z X Y`, `look ID`, `begin`, `step`, `cancel` | runs an event, or several with `; ` between them; see `features` |
 //! | `batch CHANGE & CHANGE ..` | an event too: changes, each as `put ID FEATURE` or `delete ID`; `batch` alone has none |
 //! | `nothing` | runs no event |
 //! | `publish` | publishes the map by one call |

@@ -7,7 +7,6 @@ use Rattle.std.proofs.Math.ListN.{get_or}
 use Rattle.std.proofs.Math.Nat.{one-le-pow, mul-le-mul_right}
 use Rattle.std.proofs.lemmas.List.Elements.{All-nil, All-cons, All-head, All-tail, All-weaker, Contains-append_right}
 use Rattle.feature_model.specs.declared.feature.WorldBox.{WorldBox}
-use Rattle.tile_cutter.specs.declared.reach.Corners.{Corners}
 use Rattle.tile_cutter.specs.declared.coordinates.TheConstants.{EXTENT, MARGIN, WORLD_ZOOM}
 use Rattle.tile_cutter.specs.WorldBox.{tile_box, first_shown, last_shown}
 use Rattle.tile_cache.specs.Cells.{cell_at, cell_of, cells_of, HasCell, RisesTo, HasWhole, IsZeroOrCell}
@@ -78,7 +77,7 @@ common a b c d ab cd ad cb =
     let ab' = cell_rises a b ab in let cd' = cell_rises c d cd in let ad' = cell_rises a d ad in let cb' = cell_rises c b cb in
     (max (cell_of a) (cell_of c), omega arith, omega (arith, ab', cb'), omega arith, omega (arith, cd', ad'))
 
-common_cell : (b : WorldBox) (zoom column row : ℕ) (whole : Corners) → HasWhole whole (tile_box zoom column row) → Reaches b zoom column row
+common_cell : (b : WorldBox) (zoom column row : ℕ) (whole : WorldBox) → HasWhole whole (tile_box zoom column row) → Reaches b zoom column row
     → (across : ℕ) × (down : ℕ) × Touches b across down × HasCell (cells_of whole) across down
 unfolding tile_box
 common_cell b zoom column row whole has reaches =
@@ -90,10 +89,10 @@ common_cell b zoom column row whole has reaches =
       y.0,
       record { ordered = reaches.ordered; cell = record { left = x.1; right = x.2; top = y.1; bottom = y.2 } },
       record {
-        left = omega (arith, x.3, cell_rises whole.least.x (first_shown zoom column) has.left);
-        right = omega (arith, x.4, cell_rises (last_shown zoom column) whole.greatest.x has.right);
-        top = omega (arith, y.3, cell_rises whole.least.y (first_shown zoom row) has.top);
-        bottom = omega (arith, y.4, cell_rises (last_shown zoom row) whole.greatest.y has.bottom);
+        left = omega (arith, x.3, cell_rises whole.x0 (first_shown zoom column) has.left);
+        right = omega (arith, x.4, cell_rises (last_shown zoom column) whole.x1 has.right);
+        top = omega (arith, y.3, cell_rises whole.y0 (first_shown zoom row) has.top);
+        bottom = omega (arith, y.4, cell_rises (last_shown zoom row) whole.y1 has.bottom);
       },
     )
 
@@ -105,7 +104,7 @@ pub reached_at_most : (cells : List ℕ) (marks : List Mark) (zoom column row n 
     → All (λ (m : Mark). Reaches m.0 zoom column row → m.1 ≤ n) marks
 reached_at_most cells marks zoom column row n most remembers = each marks (λ across down. remembers.reached across down)
   where
-    whole : Corners
+    whole : WorldBox
     whole = shown_box zoom column row
 
     each : (ms : List Mark) → ((across down : ℕ) → All (λ (m : Mark). Touches m.0 across down → m.1 ≤ cell_at cells across down) ms)

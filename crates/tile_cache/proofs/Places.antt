@@ -295,7 +295,8 @@ pub front_is : (c : LruCache TileKey CachedTile) (at : TileKey) (v : CachedTile)
 front_is c at v put new put_is front = front.entries ∙ ap (λ t. take (suc front.more) t.entries) put_is
 
 -- where a tile was put first and those at the front stayed
-module _ (c : LruCache TileKey CachedTile) (at : TileKey) (v : CachedTile) (more : ℕ) (es : List Entry) (is : es ≡ take (suc more) (put_entries is_place c at v)) where
+module _ (c : LruCache TileKey CachedTile) (at : TileKey) (v : CachedTile) (more : ℕ) (es : List Entry)
+    (is : es ≡ take (suc more) (put_entries is_place c at v)) where
   pub tile_kept : kept_at (seen es) at.z at.x at.y ≡ Some (tile_view v)
   tile_kept = kept_in es at.z at.x at.y ∙ ap (option_map tile_view) (ap (lookup (is_place at)) is
       ∙ put_here (is_place at) c.entries (c.cap - 1) more at v (lookup_entry (is_place at) c.entries) (place_here at) refl)

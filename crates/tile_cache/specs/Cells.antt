@@ -1,6 +1,6 @@
 -- The cells of the world: 32 in a row, and 32 rows of them.
 use Rattle.std.specs.Prelude.{◌≡◌, ℕ, ◌+◌, ◌*◌, ◌/◌, ◌^◌, ◌<◌, ◌≤◌, ◌⊎◌, List, length, slice_index}
-use Rattle.tile_cutter.specs.declared.reach.Corners.{Corners}
+use Rattle.feature_model.specs.declared.feature.WorldBox.{WorldBox}
 use Rattle.tile_cache.specs.declared.touch_grid.TheConstants.{SIDE}
 use Rattle.tile_cache.specs.declared.touch_grid.Cells.{Cells}
 
@@ -13,8 +13,8 @@ abbrev pub cell_of : ℕ → ℕ
 cell_of coordinate = coordinate / 2 ^ 27
 
 -- the cells that a box of the world touches
-abbrev pub cells_of : Corners → Cells
-cells_of c = record { left = cell_of c.least.x; right = cell_of c.greatest.x; top = cell_of c.least.y; bottom = cell_of c.greatest.y }
+abbrev pub cells_of : WorldBox → Cells
+cells_of b = record { left = cell_of b.x0; right = cell_of b.x1; top = cell_of b.y0; bottom = cell_of b.y1 }
 
 -- one of these cells stands in this column and row
 pub record HasCell (range : Cells) (column row : ℕ) : Type 0 where
@@ -50,8 +50,8 @@ pub record IsGreatestIn (cells : List ℕ) (range : Cells) (n : ℕ) : Type 0 wh
   pub found : IsZeroOrCell cells range n
 
 -- a box has the whole of another
-pub record HasWhole (outer inner : Corners) : Type 0 where
-  pub left : outer.least.x ≤ inner.least.x
-  pub right : inner.greatest.x ≤ outer.greatest.x
-  pub top : outer.least.y ≤ inner.least.y
-  pub bottom : inner.greatest.y ≤ outer.greatest.y
+pub record HasWhole (outer inner : WorldBox) : Type 0 where
+  pub left : outer.x0 ≤ inner.x0
+  pub right : inner.x1 ≤ outer.x1
+  pub top : outer.y0 ≤ inner.y0
+  pub bottom : inner.y1 ≤ outer.y1

@@ -1,7 +1,6 @@
 -- Which edits a grid remembers, and which of them reach a tile.
 use Rattle.std.specs.Prelude.{◌≡◌, ℕ, ◌^◌, ◌-◌, ◌≤◌, ◌⊎◌, List, map, All, Contains, slice_index, nat_le, if◌then◌else◌}
 use Rattle.feature_model.specs.declared.feature.WorldBox.{WorldBox}
-use Rattle.tile_cutter.specs.declared.reach.Corners.{Corners}
 use Rattle.tile_cutter.specs.WorldBox.{tile_box, Meets}
 use Rattle.feature_model.specs.declared.limits.TheConstants.{MAX_ZOOM}
 use Rattle.tile_cache.specs.Cells.{cell_at, cells_of, HasCell, IsGreatestIn}
@@ -10,11 +9,7 @@ use Rattle.tile_cache.specs.Cells.{cell_at, cells_of, HasCell, IsGreatestIn}
 abbrev pub Mark : Type 0
 Mark = WorldBox × ℕ
 
--- a box by its corners
-abbrev pub corners : WorldBox → Corners
-corners b = record { least = record { x = b.x0; y = b.y0 }; greatest = record { x = b.x1; y = b.y1 } }
-
--- the corners of a box aren't the wrong way round
+-- the sides of a box aren't the wrong way round
 pub record IsOrdered (b : WorldBox) : Type 0 where
   pub across : b.x0 ≤ b.x1
   pub down : b.y0 ≤ b.y1
@@ -22,12 +17,12 @@ pub record IsOrdered (b : WorldBox) : Type 0 where
 -- a box can reach a tile: it meets the box that the tile shows
 pub record Reaches (b : WorldBox) (zoom column row : ℕ) : Type 0 where
   pub ordered : IsOrdered b
-  pub meets : Meets (corners b) (tile_box zoom column row)
+  pub meets : Meets b (tile_box zoom column row)
 
 -- a box touches the cell of this column and row
 pub record Touches (b : WorldBox) (column row : ℕ) : Type 0 where
   pub ordered : IsOrdered b
-  pub cell : HasCell (cells_of (corners b)) column row
+  pub cell : HasCell (cells_of b) column row
 
 -- 0, or the number of a mark
 abbrev pub IsZeroOrMarked : List Mark → ℕ → Type 0
@@ -44,11 +39,11 @@ pub record IsNewest (marks : List Mark) (zoom column row n : ℕ) : Type 0 where
   pub only : IsZeroOrMarked marks n
 
 -- the world
-abbrev pub world : Corners
-world = record { least = record { x = 0; y = 0 }; greatest = record { x = 2 ^ 32 - 1; y = 2 ^ 32 - 1 } }
+abbrev pub world : WorldBox
+world = record { x0 = 0; x1 = 2 ^ 32 - 1; y0 = 0; y1 = 2 ^ 32 - 1 }
 
 -- the box that a tile shows: the world above the greatest zoom, where no tile shows anything
-abbrev pub shown_box : (zoom column row : ℕ) → Corners
+abbrev pub shown_box : (zoom column row : ℕ) → WorldBox
 shown_box zoom column row = if nat_le zoom MAX_ZOOM then tile_box zoom column row else world
 
 -- the newest edit of the cells that a tile's box touches

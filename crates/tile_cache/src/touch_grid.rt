@@ -2,10 +2,10 @@ ghost use Rattle.std.specs.Prelude.{◌≡◌, ℕ, ◌/◌, ◌<◌, ◌≤◌,
 ghost use Rattle.tile_cache.specs.Cells.{cell_at, cells_of, IsWithin, HasCell, RisesTo, IsZeroOrOneOf, IsGreatestIn};
 ghost use Rattle.tile_cache.specs.Touched.{Mark, Remembers, IsNewest, IsNewestOf, shown_box};
 
-use feature_model::{MAX_ZOOM, World, WorldBox};
+use feature_model::{MAX_ZOOM, WorldBox};
 use hilbert_id::TileAt;
 use std::marker::Model;
-use tile_cutter::{Corners, tile_box};
+use tile_cutter::tile_box;
 
 /// How many cells the world has in a row, and how many rows of them.
 const SIDE: usize = 32;
@@ -50,15 +50,15 @@ fn cell_of(coordinate: u32) -> usize
 }
 
 /// The cells that a box of the world touches.
-fn cells_of(corners: Corners) -> Cells
-    ensures cells { result ≡ cells_of corners }
+fn cells_of(bounds: WorldBox) -> Cells
+    ensures cells { result ≡ cells_of bounds }
     ensures within { IsWithin result }
 {
     Cells {
-        left: cell_of(corners.least.x),
-        right: cell_of(corners.greatest.x),
-        top: cell_of(corners.least.y),
-        bottom: cell_of(corners.greatest.y),
+        left: cell_of(bounds.x0),
+        right: cell_of(bounds.x1),
+        top: cell_of(bounds.y0),
+        bottom: cell_of(bounds.y1),
     }
 }
 
@@ -118,16 +118,15 @@ fn greatest_of(cells: &[u64], range: Cells) -> u64
 }
 
 /// The box that a tile shows: the world, where no tile of the zoom shows anything.
-fn shown_by(at: TileAt) -> Corners
+fn shown_by(at: TileAt) -> WorldBox
     ensures { result ≡ shown_box at.z at.x at.y }
 {
     if at.z > MAX_ZOOM {
-        return Corners {
-            least: World { x: 0, y: 0 },
-            greatest: World {
-                x: u32::MAX,
-                y: u32::MAX,
-            },
+        return WorldBox {
+            x0: 0,
+            x1: u32::MAX,
+            y0: 0,
+            y1: u32::MAX,
         };
     }
     tile_box(at)
@@ -148,17 +147,7 @@ impl TouchGrid {
         if bounds.x1 < bounds.x0 || bounds.y1 < bounds.y0 {
             return;
         }
-        let corners = Corners {
-            least: World {
-                x: bounds.x0,
-                y: bounds.y0,
-            },
-            greatest: World {
-                x: bounds.x1,
-                y: bounds.y1,
-            },
-        };
-        raise_cells(&mut self.cells, cells_of(corners), number);
+        raise_cells(&mut self.cells, cells_of(*bounds), number);
     }
 
     /// At least the number of every marked edit whose box can reach the tile, its margin included; 0 where none was marked.

@@ -12,8 +12,8 @@ use Rattle.feature_model.specs.Data.{FeatureData}
 use Rattle.hilbert_id.specs.Curve.{IsTileId}
 use Rattle.hilbert_id.proofs.Ids.{one_tile_of}
 use Rattle.tile_cutter.specs.declared.reach.TileRange.{TileRange}
-use Rattle.tile_cutter.specs.declared.reach.Corners.{Corners}
-use Rattle.tile_cutter.specs.Corners.{corners_after, range_of}
+use Rattle.feature_model.specs.declared.feature.WorldBox.{WorldBox}
+use Rattle.tile_cutter.specs.Widened.{bounds_after, range_of}
 use Rattle.tile_cutter.specs.Covered.{all_points, covered, IsInRange}
 use Rattle.tile_cutter.specs.Cut.{feature_cut, has_zoom}
 use Rattle.tile_cutter.specs.Pairs.{IsCoveredTile, ArePairs, AppendsPairs, HoldsWithin, IsInColumns, IsInRows}
@@ -192,25 +192,25 @@ covered_tiles f id = (to, from)
         let rows : IsOfRange (covered f.geometry t.zoom) t.zoom id = record { at = t.row; low = t.in_range.top; high = omega arith; holds = columns } in
         record { at = t.zoom; low = t.from_zoom; high = omega arith; holds = rows }
 
-pub appends_covered : (f : FeatureData) (corners : Option Corners) (number : ℕ) (old new : List (ℕ × ℕ)) → corners ≡ corners_after None (all_points f.geometry)
-    → AppendsPairs (IsInZooms (range_of corners) f.minzoom (f.maxzoom + 1)) number old new
+pub appends_covered : (f : FeatureData) (bounds : Option WorldBox) (number : ℕ) (old new : List (ℕ × ℕ)) → bounds ≡ bounds_after None (all_points f.geometry)
+    → AppendsPairs (IsInZooms (range_of bounds) f.minzoom (f.maxzoom + 1)) number old new
     → AppendsPairs (IsCoveredTile f) number old new
-appends_covered f corners number old new is all = (
+appends_covered f bounds number old new is all = (
   all.0,
   all.1,
-  pairs_same (IsInZooms (range_of corners) f.minzoom (f.maxzoom + 1)) (IsCoveredTile f) number all.0
+  pairs_same (IsInZooms (range_of bounds) f.minzoom (f.maxzoom + 1)) (IsCoveredTile f) number all.0
       (λ id. (λ w. (covered_tiles f id).0 (to id w), λ t. from id ((covered_tiles f id).1 t))) all.2,
 )
   where
-    same : (zoom : ℕ) → range_of corners zoom ≡ covered f.geometry zoom
+    same : (zoom : ℕ) → range_of bounds zoom ≡ covered f.geometry zoom
     same zoom = ap (λ c. range_of c zoom) is ∙ covered_is f.geometry zoom
 
-    to : (id : ℕ) → IsInZooms (range_of corners) f.minzoom (f.maxzoom + 1) id
+    to : (id : ℕ) → IsInZooms (range_of bounds) f.minzoom (f.maxzoom + 1) id
         → IsInZooms (covered f.geometry) f.minzoom (f.maxzoom + 1) id
     to id w = record { at = w.at; low = w.low; high = w.high; holds = subst (λ r. IsOfRange r w.at id) (same w.at) w.holds }
 
     from : (id : ℕ) → IsInZooms (covered f.geometry) f.minzoom (f.maxzoom + 1) id
-        → IsInZooms (range_of corners) f.minzoom (f.maxzoom + 1) id
+        → IsInZooms (range_of bounds) f.minzoom (f.maxzoom + 1) id
     from id w = record { at = w.at; low = w.low; high = w.high; holds = subst (λ r. IsOfRange r w.at id) (sym (same w.at)) w.holds }
 
 hidden_nothing : (f : FeatureData) (zoom column row : ℕ) → has_zoom f zoom ≡ false → feature_cut f zoom column row ≡ None

@@ -19,7 +19,7 @@ use Rattle.tile_cutter.specs.Cut.{quantised_axis, tile_points, tile_ring, box_st
 use Rattle.tile_cutter.specs.Cut.{Segment, segments, is_kept, way_along, is_some_segment, line_cut, lines_cut, is_ring, polygon_cut, polygons_cut, geometry_cut}
 use Rattle.tile_cutter.specs.Cut.{has_zoom, feature_cut, unless_empty}
 use Rattle.tile_cutter.specs.Covered.{all_of, all_points, least_of, greatest_of, first_met, last_met, covered, IsInRange}
-use Rattle.tile_cutter.specs.Corners.{corners_after, range_of}
+use Rattle.tile_cutter.specs.Widened.{bounds_after, range_of}
 use Rattle.tile_cutter.proofs.Boxes.{covered_is}
 use Rattle.tile_cutter.proofs.Passes.{stands_at}
 use Rattle.tile_cutter.proofs.Kept.{points_all, ring_all}
@@ -263,11 +263,11 @@ nothing_left shape [] none = refl
 nothing_left shape (x ∷ xs) none = cc
 
 -- a line is the geometry of a feature
-pub line_outside : (zoom column row : ℕ) (line : List World) (range : TileRange) → range ≡ range_of (corners_after None line) zoom → column < 2 ^ zoom
+pub line_outside : (zoom column row : ℕ) (line : List World) (range : TileRange) → range ≡ range_of (bounds_after None line) zoom → column < 2 ^ zoom
     → row < 2 ^ zoom → ¬ IsInRange range column row → line_cut zoom column row line ≡ []
 unfolding geometry_cut lines_cut
 line_outside zoom column row line range is across down out =
     let g = world_lines (line ∷ []) in
-    let range_is = is ∙ ap (λ ps. range_of (corners_after None ps) zoom) (sym (append-nil line)) ∙ covered_is g zoom in
+    let range_is = is ∙ ap (λ ps. range_of (bounds_after None ps) zoom) (sym (append-nil line)) ∙ covered_is g zoom in
     sym (append-nil (line_cut zoom column row line))
     ∙ nothing_left lines (line_cut zoom column row line ++ []) (geometry_outside g zoom column row range range_is across down out)

@@ -11,12 +11,12 @@ use Rattle.feature_model.specs.declared.feature.World.{World}
 use Rattle.geometry_commands.specs.declared.point.Pt.{Pt}
 use Rattle.geometry_commands.specs.Shapes.{last_of}
 use Rattle.tile_cutter.specs.declared.coordinates.TheConstants.{EXTENT, MARGIN}
-use Rattle.tile_cutter.specs.declared.reach.Corners.{Corners}
+use Rattle.feature_model.specs.declared.feature.WorldBox.{WorldBox}
 use Rattle.tile_cutter.specs.declared.reach.TileRange.{TileRange}
 use Rattle.tile_cutter.specs.Cut.{quantised_axis, tile_points, tile_ring, box_start, box_end, least_corner, greatest_corner}
 use Rattle.tile_cutter.specs.Cut.{reaches_box, meets_box}
 use Rattle.tile_cutter.specs.Covered.{first_met, last_met, IsInRange}
-use Rattle.tile_cutter.specs.Corners.{widened, corners_after, least_corner_of, greatest_corner_of, range_of}
+use Rattle.tile_cutter.specs.Widened.{widened, bounds_after, box_or_origin, range_of}
 use Rattle.tile_cutter.specs.Passes.{is_same_position, returns_to_start}
 use Rattle.tile_cutter.proofs.Boxes.{quantised_both}
 use Rattle.tile_cutter.proofs.Passes.{left_after, same_place, stands_at, tile_points_are}
@@ -105,6 +105,12 @@ meets_opened (p ∷ ps) true e =
 
 -- ---- the corners of points of the world
 
+abbrev upper_left : WorldBox → World
+upper_left b = record { x = b.x0; y = b.y0 }
+
+abbrev lower_right : WorldBox → World
+lower_right b = record { x = b.x1; y = b.y1 }
+
 module _ (zoom column row : ℕ) where
   least_stands : (p q : World)
       → least_corner (stands_at zoom column row p) (stands_at zoom column row q) ≡ stands_at zoom column row (record { x = min p.x q.x; y = min p.y q.y })
@@ -128,24 +134,25 @@ module _ (zoom column row : ℕ) where
       ≡ pos (quantised_axis zoom (max p.y q.y)) -ℤ pos (EXTENT * row) = omega (arith, ints, clamps, y_both) in
       λ i. record { x = x i; y = y i }
 
-  fold_least : (c : Corners) (ps : List World)
-      → fold least_corner (stands_at zoom column row c.least) (map (stands_at zoom column row) ps)
-      ≡ stands_at zoom column row (least_corner_of (corners_after (Some c) ps))
+  fold_least : (c : WorldBox) (ps : List World)
+      → fold least_corner (stands_at zoom column row (upper_left c)) (map (stands_at zoom column row) ps)
+      ≡ stands_at zoom column row (upper_left (box_or_origin (bounds_after (Some c) ps)))
   fold_least c [] = refl
-  fold_least c (p ∷ ps) = ap (λ a. fold least_corner a (map (stands_at zoom column row) ps)) (least_stands c.least p) ∙ fold_least (widened (Some c) p) ps
+  fold_least c (p ∷ ps) =
+      ap (λ a. fold least_corner a (map (stands_at zoom column row) ps)) (least_stands (upper_left c) p) ∙ fold_least (widened (Some c) p) ps
 
-  fold_greatest : (c : Corners) (ps : List World)
-      → fold greatest_corner (stands_at zoom column row c.greatest) (map (stands_at zoom column row) ps)
-      ≡ stands_at zoom column row (greatest_corner_of (corners_after (Some c) ps))
+  fold_greatest : (c : WorldBox) (ps : List World)
+      → fold greatest_corner (stands_at zoom column row (lower_right c)) (map (stands_at zoom column row) ps)
+      ≡ stands_at zoom column row (lower_right (box_or_origin (bounds_after (Some c) ps)))
   fold_greatest c [] = refl
   fold_greatest c (p ∷ ps) =
-      ap (λ a. fold greatest_corner a (map (stands_at zoom column row) ps)) (greatest_stands c.greatest p) ∙ fold_greatest (widened (Some c) p) ps
+      ap (λ a. fold greatest_corner a (map (stands_at zoom column row) ps)) (greatest_stands (lower_right c) p) ∙ fold_greatest (widened (Some c) p) ps
 
-  -- whether the box of these corners does
-  abbrev pub reach_box : Option Corners → Bool
-  reach_box c = reaches_box (stands_at zoom column row (least_corner_of c)) (stands_at zoom column row (greatest_corner_of c))
+  -- whether a box of the world reaches that of the tile
+  abbrev pub reach_box : Option WorldBox → Bool
+  reach_box c = reaches_box (stands_at zoom column row (upper_left (box_or_origin c))) (stands_at zoom column row (lower_right (box_or_origin c)))
 
-  points_reach : (p : World) (ps : List World) → meets_box (tile_points zoom column row (p ∷ ps)) ≡ reach_box (corners_after None (p ∷ ps))
+  points_reach : (p : World) (ps : List World) → meets_box (tile_points zoom column row (p ∷ ps)) ≡ reach_box (bounds_after None (p ∷ ps))
   unfolding left_after
   points_reach p ps =
       let here = stands_at zoom column row p in
@@ -154,17 +161,17 @@ module _ (zoom column row : ℕ) where
       let greatest = fold_left greatest_corner greatest_corners here here others (greatest_corners.itself here) ∙ fold_greatest (widened None p) ps in
       sym (ap meets_box (tile_points_are zoom column row (p ∷ ps)))
       ∙ ap (λ (q : Pt). reaches_box q (fold greatest_corner here (left_after (Some here) others))) least
-      ∙ ap (λ (q : Pt). reaches_box (stands_at zoom column row (least_corner_of (corners_after None (p ∷ ps)))) q) greatest
+      ∙ ap (λ (q : Pt). reaches_box (stands_at zoom column row (upper_left (box_or_origin (bounds_after None (p ∷ ps))))) q) greatest
 
   -- the ring has no points in the tile, or its box is that of its points
-  pub ring_reach : (ps : List World) → (tile_ring zoom column row ps ≡ []) ⊎ (meets_box (tile_ring zoom column row ps) ≡ reach_box (corners_after None ps))
+  pub ring_reach : (ps : List World) → (tile_ring zoom column row ps ≡ []) ⊎ (meets_box (tile_ring zoom column row ps) ≡ reach_box (bounds_after None ps))
   ring_reach [] = inl refl
   ring_reach (p ∷ ps) =
       let tile = tile_points zoom column row (p ∷ ps) in
       let b = returns_to_start tile in
       let opened = cond b (take (length tile - 1) tile) tile in
       let is = ring_opened zoom column row (p ∷ ps) tile opened (length tile) b refl refl refl refl in
-      subst (λ (r : List Pt). (r ≡ []) ⊎ (meets_box r ≡ reach_box (corners_after None (p ∷ ps)))) is
+      subst (λ (r : List Pt). (r ≡ []) ⊎ (meets_box r ≡ reach_box (bounds_after None (p ∷ ps)))) is
       (⊎_elim (λ none. inl none) (λ same. inr (same ∙ points_reach p ps)) (meets_opened tile b refl))
 
 -- ---- a column, or a row, of a range
@@ -177,24 +184,24 @@ begins_before q at =
 ends_behind : (zoom q at : ℕ) → at < 2 ^ zoom → Decides (int_le box_start (pos q -ℤ pos (EXTENT * at))) (at ≤ last_met zoom q)
 ends_behind zoom q at within = (λ e. grind (arith, ints), λ le. grind (arith, ints))
 
--- a tile is in the range of corners where their box reaches its own
-pub reach_range : (zoom column row : ℕ) (c : Option Corners) (b : Bool) → column < 2 ^ zoom → row < 2 ^ zoom
+-- a tile is in the range of a box where the box reaches its own
+pub reach_range : (zoom column row : ℕ) (c : Option WorldBox) (b : Bool) → column < 2 ^ zoom → row < 2 ^ zoom
     → Decides b (IsInRange (range_of c zoom) column row) → b ≡ reach_box zoom column row c
 reach_range zoom column row c b across down decides =
-    let left = begins_before (quantised_axis zoom (least_corner_of c).x) column in
-    let right = ends_behind zoom (quantised_axis zoom (greatest_corner_of c).x) column across in
-    let top = begins_before (quantised_axis zoom (least_corner_of c).y) row in
-    let bottom = ends_behind zoom (quantised_axis zoom (greatest_corner_of c).y) row down in
+    let left = begins_before (quantised_axis zoom (box_or_origin c).x0) column in
+    let right = ends_behind zoom (quantised_axis zoom (box_or_origin c).x1) column across in
+    let top = begins_before (quantised_axis zoom (box_or_origin c).y0) row in
+    let bottom = ends_behind zoom (quantised_axis zoom (box_or_origin c).y1) row down in
     let all = Decides-and _ _ (Decides-and _ _ (Decides-and _ _ left right) top) bottom in
     same_from_decides b (reach_box zoom column row c) decides
     (Decides-like (reach_box zoom column row c)
     (λ h. record { left = h.0.0.0; right = h.0.0.1; top = h.0.1; bottom = h.1 })
     (λ (is : IsInRange (range_of c zoom) column row). (((is.left, is.right), is.top), is.bottom)) all)
 
-pub ring_says : (zoom column row : ℕ) (ps : List World) (c : Option Corners) (range : TileRange) (b : Bool) → column < 2 ^ zoom → row < 2 ^ zoom
-    → c ≡ corners_after None ps → range ≡ range_of c zoom → Decides b (IsInRange range column row)
+pub ring_says : (zoom column row : ℕ) (ps : List World) (c : Option WorldBox) (range : TileRange) (b : Bool) → column < 2 ^ zoom → row < 2 ^ zoom
+    → c ≡ bounds_after None ps → range ≡ range_of c zoom → Decides b (IsInRange range column row)
     → (tile_ring zoom column row ps ≡ []) ⊎ (b ≡ meets_box (tile_ring zoom column row ps))
 ring_says zoom column row ps c range b across down c_is range_is decides =
-    let by_corners = subst (λ r. Decides b (IsInRange r column row)) range_is decides in
-    let says = reach_range zoom column row c b across down by_corners ∙ ap (reach_box zoom column row) c_is in
+    let by_bounds = subst (λ r. Decides b (IsInRange r column row)) range_is decides in
+    let says = reach_range zoom column row c b across down by_bounds ∙ ap (reach_box zoom column row) c_is in
     ⊎_elim (λ none. inl none) (λ same. inr (says ∙ sym same)) (ring_reach zoom column row ps)

@@ -1,48 +1,48 @@
 -- What a tile shows of a feature stands in its box of the world.
 use Rattle.std.proofs.Common.{◌≡◌, ℕ, ◌+◌, ◌-◌, ◌*◌, ◌^◌, ◌<◌, ◌≤◌, List, [], ◌∷◌, None, map, min, refl, sym, ap, subst, ◌∙◌, arith}
-use Rattle.std.specs.Prelude.{All, flat_map}
+use Rattle.std.specs.Prelude.{All}
 use Rattle.std.proofs.Math.Nat.{one-le-pow, div-one, div-mul-le_self, lt-div-mul-add, mul-le-mul_right}
 use Rattle.std.proofs.lemmas.Grind.{div_ceil_times}
-use Rattle.std.proofs.lemmas.List.Elements.{All-nil, All-append, All-head, All-tail, All-weaker}
+use Rattle.std.proofs.lemmas.List.Elements.{All-head, All-weaker}
 use Rattle.feature_model.specs.declared.feature.World.{World}
 use Rattle.feature_model.specs.Data.{FeatureData, GeometryData, world_points, world_lines, world_polygons}
 use Rattle.feature_model.specs.Types.{IsOfWorld, LiesInWorld}
-use Rattle.tile_cutter.specs.declared.reach.Corners.{Corners}
+use Rattle.feature_model.specs.declared.feature.WorldBox.{WorldBox}
 use Rattle.tile_cutter.specs.declared.coordinates.TheConstants.{EXTENT, MARGIN, WORLD_ZOOM}
 use Rattle.tile_cutter.specs.Cut.{quantised_axis, feature_cut}
 use Rattle.tile_cutter.specs.Covered.{all_of, all_points, least_of, greatest_of, first_met, last_met, covered, IsInRange}
-use Rattle.tile_cutter.specs.Corners.{corners_after, least_corner_of, greatest_corner_of, corners_or_origin}
+use Rattle.tile_cutter.specs.Widened.{bounds_after, box_or_origin}
 use Rattle.tile_cutter.specs.WorldBox.{bounding_box, first_shown, last_shown, tile_box, Meets}
 use Rattle.tile_cutter.proofs.Boxes.{least_x_is, least_y_is, greatest_x_is, greatest_y_is}
 use Rattle.tile_cutter.proofs.Each.{each_all}
 use Rattle.tile_cutter.proofs.Outside.{outside}
 
--- ---- the least and the greatest coordinates are the corners
+-- ---- the least and the greatest coordinates are the sides of the box
 
 -- at the zoom of the world nothing is rounded
 unrounded : (w : ℕ) → w ≡ quantised_axis WORLD_ZOOM w
 unrounded w = sym (div-one w)
 
 module _ (ps : List World) where
-  pub least_x_corner : least_of (map (λ p. p.x) ps) ≡ (least_corner_of (corners_after None ps)).x
-  least_x_corner = (λ i. least_of (map (λ p. unrounded p.x i) ps)) ∙ least_x_is WORLD_ZOOM ps ∙ sym (unrounded (least_corner_of (corners_after None ps)).x)
+  pub left_side : least_of (map (λ p. p.x) ps) ≡ (box_or_origin (bounds_after None ps)).x0
+  left_side = (λ i. least_of (map (λ p. unrounded p.x i) ps)) ∙ least_x_is WORLD_ZOOM ps ∙ sym (unrounded (box_or_origin (bounds_after None ps)).x0)
 
-  pub least_y_corner : least_of (map (λ p. p.y) ps) ≡ (least_corner_of (corners_after None ps)).y
-  least_y_corner = (λ i. least_of (map (λ p. unrounded p.y i) ps)) ∙ least_y_is WORLD_ZOOM ps ∙ sym (unrounded (least_corner_of (corners_after None ps)).y)
+  pub top_side : least_of (map (λ p. p.y) ps) ≡ (box_or_origin (bounds_after None ps)).y0
+  top_side = (λ i. least_of (map (λ p. unrounded p.y i) ps)) ∙ least_y_is WORLD_ZOOM ps ∙ sym (unrounded (box_or_origin (bounds_after None ps)).y0)
 
-  pub greatest_x_corner : greatest_of (map (λ p. p.x) ps) ≡ (greatest_corner_of (corners_after None ps)).x
-  greatest_x_corner =
-      (λ i. greatest_of (map (λ p. unrounded p.x i) ps)) ∙ greatest_x_is WORLD_ZOOM ps ∙ sym (unrounded (greatest_corner_of (corners_after None ps)).x)
+  pub right_side : greatest_of (map (λ p. p.x) ps) ≡ (box_or_origin (bounds_after None ps)).x1
+  right_side =
+      (λ i. greatest_of (map (λ p. unrounded p.x i) ps)) ∙ greatest_x_is WORLD_ZOOM ps ∙ sym (unrounded (box_or_origin (bounds_after None ps)).x1)
 
-  pub greatest_y_corner : greatest_of (map (λ p. p.y) ps) ≡ (greatest_corner_of (corners_after None ps)).y
-  greatest_y_corner =
-      (λ i. greatest_of (map (λ p. unrounded p.y i) ps)) ∙ greatest_y_is WORLD_ZOOM ps ∙ sym (unrounded (greatest_corner_of (corners_after None ps)).y)
+  pub bottom_side : greatest_of (map (λ p. p.y) ps) ≡ (box_or_origin (bounds_after None ps)).y1
+  bottom_side =
+      (λ i. greatest_of (map (λ p. unrounded p.y i) ps)) ∙ greatest_y_is WORLD_ZOOM ps ∙ sym (unrounded (box_or_origin (bounds_after None ps)).y1)
 
-pub bounding_box_is : (g : GeometryData) → corners_or_origin (corners_after None (all_points g)) ≡ bounding_box g
+pub bounding_box_is : (g : GeometryData) → box_or_origin (bounds_after None (all_points g)) ≡ bounding_box g
 unfolding bounding_box
 bounding_box_is g =
     let ps = all_points g in
-    rw (least_x_corner ps, greatest_x_corner ps, least_y_corner ps, greatest_y_corner ps) refl
+    rw (left_side ps, right_side ps, top_side ps, bottom_side ps) refl
 
 -- ---- points of the world
 
@@ -52,7 +52,7 @@ points_in_world (world_lines ls) all = each_all IsOfWorld (λ l. l) ls all
 points_in_world (world_polygons ps) all =
     each_all IsOfWorld all_of ps (All-weaker (All (All IsOfWorld)) (λ p. All IsOfWorld (all_of p)) (λ p h. each_all IsOfWorld (λ l. l) p h) ps all)
 
--- the corners of points of the world are of the world
+-- the bounding box of points of the world is of the world
 below_first : (m : ℕ) (ns : List ℕ) → least_of (m ∷ ns) ≤ m
 below_first m [] = omega arith
 below_first m (n ∷ ns) = omega (arith, below_first (min m n) ns)
@@ -94,13 +94,13 @@ meets_covered g zoom column row lies is =
     let all = points_in_world g lies in
     let round = quantised_axis zoom in
     let left_is : least_of (map (λ p. round p.x) ps) ≡ round (least_of (map (λ p. p.x) ps)) =
-    least_x_is zoom ps ∙ ap round (sym (least_x_corner ps)) in
+    least_x_is zoom ps ∙ ap round (sym (left_side ps)) in
     let right_is : greatest_of (map (λ p. round p.x) ps) ≡ round (greatest_of (map (λ p. p.x) ps)) =
-    greatest_x_is zoom ps ∙ ap round (sym (greatest_x_corner ps)) in
+    greatest_x_is zoom ps ∙ ap round (sym (right_side ps)) in
     let top_is : least_of (map (λ p. round p.y) ps) ≡ round (least_of (map (λ p. p.y) ps)) =
-    least_y_is zoom ps ∙ ap round (sym (least_y_corner ps)) in
+    least_y_is zoom ps ∙ ap round (sym (top_side ps)) in
     let bottom_is : greatest_of (map (λ p. round p.y) ps) ≡ round (greatest_of (map (λ p. p.y) ps)) =
-    greatest_y_is zoom ps ∙ ap round (sym (greatest_y_corner ps)) in
+    greatest_y_is zoom ps ∙ ap round (sym (bottom_side ps)) in
     record {
       left = before_last zoom column _ (subst (λ n. first_met n ≤ column) left_is is.left)
           (least_in_world (λ p. p.x) ps (All-weaker IsOfWorld (λ p. p.x < 2 ^ 32) (λ p h. h.0) ps all));
@@ -111,7 +111,7 @@ meets_covered g zoom column row lies is =
     }
 
 -- a tile shows nothing of a feature whose box doesn't meet its own
-pub apart : (f : FeatureData) (zoom column row : ℕ) (box : Corners) → box ≡ tile_box zoom column row → column < 2 ^ zoom → row < 2 ^ zoom
+pub apart : (f : FeatureData) (zoom column row : ℕ) (box : WorldBox) → box ≡ tile_box zoom column row → column < 2 ^ zoom → row < 2 ^ zoom
     → LiesInWorld f.geometry → ¬ Meets (bounding_box f.geometry) box → feature_cut f zoom column row ≡ None
 apart f zoom column row box is across down lies none =
     outside f zoom column row (covered f.geometry zoom) refl across down
@@ -129,7 +129,7 @@ capped_before n scaled last result scaled_is last_is is = omega arith
 
 pub tile_box_is : (zoom column row left top right bottom : ℕ) → left ≡ first_shown zoom column → top ≡ first_shown zoom row
     → right ≡ last_shown zoom column → bottom ≡ last_shown zoom row
-    → record { least = record { x = left; y = top }; greatest = record { x = right; y = bottom } } ≡ tile_box zoom column row
+    → record { x0 = left; x1 = right; y0 = top; y1 = bottom } ≡ tile_box zoom column row
 unfolding tile_box
 tile_box_is zoom column row left top right bottom left_is top_is right_is bottom_is =
-    λ i. record { least = record { x = left_is i; y = top_is i }; greatest = record { x = right_is i; y = bottom_is i } }
+    λ i. record { x0 = left_is i; x1 = right_is i; y0 = top_is i; y1 = bottom_is i }

@@ -1,7 +1,7 @@
-pub mod Corners
 pub mod Covered
 pub mod Cut
 pub mod Pairs
 pub mod Passes
 pub mod Range
+pub mod Widened
 pub mod WorldBox

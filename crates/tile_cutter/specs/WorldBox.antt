@@ -2,15 +2,15 @@
 use Rattle.std.specs.Prelude.{ℕ, ◌+◌, ◌-◌, ◌*◌, ◌^◌, ◌≤◌, min, map}
 use Rattle.feature_model.specs.Data.{GeometryData}
 use Rattle.tile_cutter.specs.declared.coordinates.TheConstants.{EXTENT, MARGIN, WORLD_ZOOM}
-use Rattle.tile_cutter.specs.declared.reach.Corners.{Corners}
+use Rattle.feature_model.specs.declared.feature.WorldBox.{WorldBox}
 use Rattle.tile_cutter.specs.Covered.{all_points, least_of, greatest_of}
 
 -- the bounding box of a geometry
-unfoldable pub bounding_box : GeometryData → Corners
+unfoldable pub bounding_box : GeometryData → WorldBox
 bounding_box g =
     let xs = map (λ p. p.x) (all_points g) in
     let ys = map (λ p. p.y) (all_points g) in
-    record { least = record { x = least_of xs; y = least_of ys }; greatest = record { x = greatest_of xs; y = greatest_of ys } }
+    record { x0 = least_of xs; x1 = greatest_of xs; y0 = least_of ys; y1 = greatest_of ys }
 
 -- the first and the last coordinate of the world in the box of a column, or a row
 abbrev pub first_shown : ℕ → ℕ → ℕ
@@ -20,15 +20,17 @@ abbrev pub last_shown : ℕ → ℕ → ℕ
 last_shown zoom at = min (2 ^ 32 - 1) ((EXTENT * at + (EXTENT + MARGIN + 1)) * 2 ^ (WORLD_ZOOM - zoom) - 1)
 
 -- the box of the world that a tile shows
-unfoldable pub tile_box : ℕ → ℕ → ℕ → Corners
+unfoldable pub tile_box : ℕ → ℕ → ℕ → WorldBox
 tile_box zoom column row = record {
-  least = record { x = first_shown zoom column; y = first_shown zoom row };
-  greatest = record { x = last_shown zoom column; y = last_shown zoom row };
+  x0 = first_shown zoom column;
+  x1 = last_shown zoom column;
+  y0 = first_shown zoom row;
+  y1 = last_shown zoom row;
 }
 
 -- two boxes have a point in common
-pub record Meets (a b : Corners) : Type 0 where
-  pub left : a.least.x ≤ b.greatest.x
-  pub right : b.least.x ≤ a.greatest.x
-  pub top : a.least.y ≤ b.greatest.y
-  pub bottom : b.least.y ≤ a.greatest.y
+pub record Meets (a b : WorldBox) : Type 0 where
+  pub left : a.x0 ≤ b.x1
+  pub right : b.x0 ≤ a.x1
+  pub top : a.y0 ≤ b.y1
+  pub bottom : b.y0 ≤ a.y1

@@ -14,5 +14,5 @@ mod world_box;
 pub use coordinates::{EXTENT, MARGIN, WORLD_ZOOM};
 pub use cutting::cut;
 pub use pairing::pairs;
-pub use reach::{Corners, MAX_TILES, TileRange, check_reach, cover_count, covers};
+pub use reach::{MAX_TILES, TileRange, check_reach, cover_count, covers};
 pub use world_box::{bounding_box, tile_box};

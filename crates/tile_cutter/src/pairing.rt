@@ -5,7 +5,7 @@ ghost use Rattle.tile_cutter.specs.Covered.{tiles_of};
 ghost use Rattle.tile_cutter.specs.Cut.{feature_cut};
 ghost use Rattle.tile_cutter.specs.Pairs.{IsCoveredTile, IsInColumns, IsInRows, AppendsPairs};
 
-use crate::reach::{TileRange, corners_of, cover_count, range_of};
+use crate::reach::{TileRange, bounds_of, cover_count, range_of};
 use feature_model::{Feature, MAX_ZOOM};
 use hilbert_id::{TileAt, id_of};
 use std::alloc::AllocError;
@@ -66,9 +66,9 @@ pub fn pairs(feature: &Feature, number: u64, list: &mut Vec<(u64, u64)>) -> Resu
         → ¬ IsCoveredTile (feature_data feature.now) id → feature_cut (feature_data feature.now) zoom column row ≡ None }
 {
     list.reserve(cover_count(feature) as usize)?;
-    let corners = corners_of(&feature.geometry);
+    let bounds = bounds_of(&feature.geometry);
     for zoom in feature.minzoom..feature.maxzoom + 1 {
-        push_range(zoom, range_of(corners, zoom), number, list);
+        push_range(zoom, range_of(bounds, zoom), number, list);
     }
     Ok(())
 }

@@ -2,11 +2,11 @@ ghost use Rattle.std.specs.Prelude.{ℕ, ◌≡◌, ◌+◌, ◌-◌, ◌*◌, �
 ghost use Rattle.feature_model.specs.Data.{feature_data, geometry_data};
 ghost use Rattle.tile_cutter.specs.Cut.{quantised_axis, feature_cut};
 ghost use Rattle.tile_cutter.specs.Covered.{all_of, all_points, first_met, last_met, covered, tiles_of, reach_of, IsInRange};
-ghost use Rattle.tile_cutter.specs.Corners.{widened, corners_after, range_of};
+ghost use Rattle.tile_cutter.specs.Widened.{widened, bounds_after, box_or_origin, range_of};
 ghost use Rattle.tile_cutter.specs.Passes.{lists_of};
 
 use crate::coordinates::{EXTENT, MARGIN, quantise};
-use feature_model::{EditFault, Feature, Geometry, MAX_ZOOM, World};
+use feature_model::{EditFault, Feature, Geometry, MAX_ZOOM, World, WorldBox};
 
 /// The most tiles that a feature may cover at all its zooms together.
 pub const MAX_TILES: u64 = 262_144;
@@ -24,78 +24,82 @@ pub struct TileRange {
     pub y1: u32,
 }
 
-/// The corners of a box of the world, ends included.
-#[derive(Clone, Copy, Debug, PartialEq, Eq)]
-pub struct Corners {
-    /// The upper left one.
-    pub least: World,
-    /// The lower right one.
-    pub greatest: World,
-}
-
-/// The corners with one point more.
-fn widened(corners: Option<Corners>, point: World) -> Corners
-    ensures { result ≡ widened corners point }
+/// The box with one point more.
+fn widened(bounds: Option<WorldBox>, point: World) -> WorldBox
+    ensures { result ≡ widened bounds point }
 {
-    match corners {
-        None => Corners {
-            least: point,
-            greatest: point,
+    match bounds {
+        None => WorldBox {
+            x0: point.x,
+            x1: point.x,
+            y0: point.y,
+            y1: point.y,
         },
-        Some(Corners { least, greatest }) => Corners {
-            least: World {
-                x: least.x.min(point.x),
-                y: least.y.min(point.y),
-            },
-            greatest: World {
-                x: greatest.x.max(point.x),
-                y: greatest.y.max(point.y),
-            },
+        Some(bounds) => WorldBox {
+            x0: bounds.x0.min(point.x),
+            x1: bounds.x1.max(point.x),
+            y0: bounds.y0.min(point.y),
+            y1: bounds.y1.max(point.y),
         },
     }
 }
 
-/// The corners with the points of a list.
-pub(crate) fn widened_by_list(corners: Option<Corners>, points: &[World]) -> Option<Corners>
-    ensures { result ≡ corners_after corners points.now }
+/// The box with the points of a list.
+pub(crate) fn widened_by_list(bounds: Option<WorldBox>, points: &[World]) -> Option<WorldBox>
+    ensures { result ≡ bounds_after bounds points.now }
 {
-    let mut corners = corners;
+    let mut bounds = bounds;
     for point in points {
-        corners = Some(widened(corners, *point));
+        bounds = Some(widened(bounds, *point));
     }
-    corners
+    bounds
 }
 
-/// The corners with the points of lists.
-fn widened_by_lists(corners: Option<Corners>, lists: &[Vec<World>]) -> Option<Corners>
-    ensures { result ≡ corners_after corners (all_of (lists_of lists.now)) }
+/// The box with the points of lists.
+fn widened_by_lists(bounds: Option<WorldBox>, lists: &[Vec<World>]) -> Option<WorldBox>
+    ensures { result ≡ bounds_after bounds (all_of (lists_of lists.now)) }
 {
-    let mut corners = corners;
+    let mut bounds = bounds;
     for list in lists {
-        corners = widened_by_list(corners, list);
+        bounds = widened_by_list(bounds, list);
     }
-    corners
+    bounds
 }
 
-/// The corners of the bounding box of polygons.
-fn corners_of_polygons(polygons: &[Vec<Vec<World>>]) -> Option<Corners>
-    ensures { result ≡ corners_after None (flat_map all_of (map (λ p. lists_of p.items) polygons.now)) }
+/// The bounding box of polygons.
+fn bounds_of_polygons(polygons: &[Vec<Vec<World>>]) -> Option<WorldBox>
+    ensures { result ≡ bounds_after None (flat_map all_of (map (λ p. lists_of p.items) polygons.now)) }
 {
-    let mut corners = None;
+    let mut bounds = None;
     for rings in polygons {
-        corners = widened_by_lists(corners, rings);
+        bounds = widened_by_lists(bounds, rings);
     }
-    corners
+    bounds
 }
 
-/// The corners of the bounding box of a geometry.
-pub(crate) fn corners_of(geometry: &Geometry) -> Option<Corners>
-    ensures { result ≡ corners_after None (all_points (geometry_data geometry.now)) }
+/// The bounding box of a geometry.
+pub(crate) fn bounds_of(geometry: &Geometry) -> Option<WorldBox>
+    ensures { result ≡ bounds_after None (all_points (geometry_data geometry.now)) }
 {
     match geometry {
         Geometry::Points(points) => widened_by_list(None, points),
         Geometry::Lines(lines) => widened_by_lists(None, lines),
-        Geometry::Polygons(polygons) => corners_of_polygons(polygons),
+        Geometry::Polygons(polygons) => bounds_of_polygons(polygons),
+    }
+}
+
+/// The box, or that of the world's upper left corner alone.
+pub(crate) fn or_origin(bounds: Option<WorldBox>) -> WorldBox
+    ensures { result ≡ box_or_origin bounds }
+{
+    match bounds {
+        Some(bounds) => bounds,
+        None => WorldBox {
+            x0: 0,
+            x1: 0,
+            y0: 0,
+            y1: 0,
+        },
     }
 }
 
@@ -119,20 +123,16 @@ fn last_met(greatest: u32, zoom: u8) -> u32
 }
 
 /// The tiles of a zoom whose boxes a bounding box meets; without points, those of the world's upper left corner.
-pub(crate) fn range_of(corners: Option<Corners>, zoom: u8) -> TileRange
+pub(crate) fn range_of(bounds: Option<WorldBox>, zoom: u8) -> TileRange
     requires { zoom ≤ MAX_ZOOM }
-    ensures { result ≡ range_of corners zoom }
+    ensures { result ≡ range_of bounds zoom }
 {
-    let origin = World { x: 0, y: 0 };
-    let Corners { least, greatest } = corners.unwrap_or(Corners {
-        least: origin,
-        greatest: origin,
-    });
+    let bounds = or_origin(bounds);
     TileRange {
-        x0: first_met(least.x, zoom),
-        x1: last_met(greatest.x, zoom),
-        y0: first_met(least.y, zoom),
-        y1: last_met(greatest.y, zoom),
+        x0: first_met(bounds.x0, zoom),
+        x1: last_met(bounds.x1, zoom),
+        y0: first_met(bounds.y0, zoom),
+        y1: last_met(bounds.y1, zoom),
     }
 }
 
@@ -155,7 +155,7 @@ pub fn covers(feature: &Feature, zoom: u8) -> TileRange
     ensures nothing_outside { (column row : ℕ) → column < 2 ^ zoom → row < 2 ^ zoom → ¬ IsInRange result column row
         → feature_cut (feature_data feature.now) zoom column row ≡ None }
 {
-    range_of(corners_of(&feature.geometry), zoom)
+    range_of(bounds_of(&feature.geometry), zoom)
 }
 
 /// The reach of a feature: how many tiles it covers at all its zooms together.
@@ -163,10 +163,10 @@ pub fn cover_count(feature: &Feature) -> u64
     requires { feature.now.maxzoom ≤ MAX_ZOOM }
     ensures { result ≡ reach_of (feature_data feature.now) }
 {
-    let corners = corners_of(&feature.geometry);
+    let bounds = bounds_of(&feature.geometry);
     let mut count = 0;
     for zoom in feature.minzoom..feature.maxzoom + 1 {
-        count += tiles_of(range_of(corners, zoom));
+        count += tiles_of(range_of(bounds, zoom));
     }
     count
 }

@@ -1,13 +1,12 @@
-ghost use Rattle.std.specs.Prelude.{◌≡◌, ◌-◌, ◌*◌, ◌≤◌, ◌^◌, None, min};
+ghost use Rattle.std.specs.Prelude.{◌≡◌, ◌-◌, ◌*◌, ◌≤◌, ◌^◌, min};
 ghost use Rattle.feature_model.specs.Data.{FeatureData, geometry_data};
 ghost use Rattle.feature_model.specs.Types.{LiesInWorld};
-ghost use Rattle.tile_cutter.specs.Corners.{corners_or_origin};
 ghost use Rattle.tile_cutter.specs.Cut.{feature_cut};
 ghost use Rattle.tile_cutter.specs.WorldBox.{bounding_box, first_shown, last_shown, tile_box, Meets};
 
 use crate::coordinates::{EXTENT, MARGIN, WORLD_ZOOM};
-use crate::reach::{Corners, corners_of};
-use feature_model::{Feature, MAX_ZOOM, World};
+use crate::reach::{bounds_of, or_origin};
+use feature_model::{Feature, MAX_ZOOM, WorldBox};
 use hilbert_id::TileAt;
 
 /// How many coordinates of the world make one of a zoom.
@@ -54,30 +53,16 @@ fn last_shown(at: u32, zoom: u8) -> u32
     in_world(last)
 }
 
-/// The corners, or the world's upper left corner twice.
-fn or_origin(corners: Option<Corners>) -> Corners
-    ensures { result ≡ corners_or_origin corners }
-{
-    let origin = World { x: 0, y: 0 };
-    match corners {
-        Some(corners) => corners,
-        None => Corners {
-            least: origin,
-            greatest: origin,
-        },
-    }
-}
-
 /// The bounding box of a feature; without points, the world's upper left corner.
-pub fn bounding_box(feature: &Feature) -> Corners
+pub fn bounding_box(feature: &Feature) -> WorldBox
     ensures { result ≡ bounding_box (geometry_data feature.now.geometry) }
 {
-    let corners = corners_of(&feature.geometry);
-    or_origin(corners)
+    let bounds = bounds_of(&feature.geometry);
+    or_origin(bounds)
 }
 
 /// The box of the world that a tile shows: what of the world stands in the tile's box, which reaches `MARGIN` beyond each edge.
-pub fn tile_box(at: TileAt) -> Corners
+pub fn tile_box(at: TileAt) -> WorldBox
     requires { at.z ≤ MAX_ZOOM }
     ensures tile_box { result ≡ tile_box at.z at.x at.y }
     // A tile shows nothing of a feature whose bounding box doesn't meet it.
@@ -88,11 +73,10 @@ pub fn tile_box(at: TileAt) -> Corners
     let top = first_shown(at.y, at.z);
     let right = last_shown(at.x, at.z);
     let bottom = last_shown(at.y, at.z);
-    Corners {
-        least: World { x: left, y: top },
-        greatest: World {
-            x: right,
-            y: bottom,
-        },
+    WorldBox {
+        x0: left,
+        x1: right,
+        y0: top,
+        y1: bottom,
     }
 }

@@ -5,4 +5,4 @@ pub returns : goal.returns
 returns c =
     let at = c.args.at in
     found_near c.tile_box.result at.z at.x at.y c.tile_box.ensures.nothing_apart (λ v. v.items) c.args.index.now.entries c.query.result
-    (rw c.world_box.ensures at c.query.ensures.in_order)
+    c.query.ensures.in_order

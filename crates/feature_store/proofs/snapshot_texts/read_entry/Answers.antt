@@ -10,4 +10,5 @@ returns-in-Delete-clause-fault c =
 
 pub returns-in-Err-clause-fault : goal.returns-in-Err-clause-fault
 returns-in-Err-clause-fault c =
-    not_decoded c.in-Err.fault _ c.to_snapshot_fault.result c.args.text.now c.to_snapshot_fault.ensures.either c.to_snapshot_fault.ensures.memory.1 c.in-Err.ensures.only
+    not_decoded c.in-Err.fault _ c.to_snapshot_fault.result c.args.text.now
+    c.to_snapshot_fault.ensures.either c.to_snapshot_fault.ensures.memory.1 c.in-Err.ensures.only

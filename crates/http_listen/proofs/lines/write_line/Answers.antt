@@ -1,4 +1,3 @@
-use Rattle.std.proofs.Common.{sym}
 use Rattle.http_listen.specs.Lines.{line_of}
 use Rattle.http_listen.proofs.lines.write_line.Goals as goal
 

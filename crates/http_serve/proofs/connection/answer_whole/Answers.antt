@@ -98,7 +98,6 @@ requests-preserved g c =
     × Appends (g.W.Write.contents c.requests.writer) (g.W.Write.contents c.answer_one.new.writer) (reply_at t frame reply))
     c.waiting-waiting.ensures c.in-Ok-answer_one.ensures.reply in
     record {
-      room = c.in-Ok-answer_one.ensures.room;
       known = (omega arith, refl);
       carries =
           subst (λ (t : List ℕ). Carries g.H.Handler.replies c.args.handler.now c.args.session.now.input.waiting (g.W.Write.contents c.args.writer.now)

@@ -4,12 +4,14 @@ use Rattle.map_listen.proofs.connections.serve_map_on.Goals as goal
 
 pub returns-clause-all : goal.returns-clause-all
 returns-clause-all g c = told_ok c.serve_on.result _ _
-    (λ is. let told = connections_run g.D.Sectors.sectors g.D.Sectors.honest g.D.Sectors.history g.D.Sectors.faults c.args.service.now is.0 c.serve_on.new.handler is.1 in
+    (λ is. let d = g.D.Sectors in
+    let told = connections_run d.sectors d.honest d.history d.faults c.args.service.now is.0 c.serve_on.new.handler is.1 in
     (is.0, is.2, told.0, told.1, told.2))
     c.serve_on.ensures.all
 
 pub returns-clause-fewer : goal.returns-clause-fewer
 returns-clause-fewer g c = told_err c.serve_on.result _ _
-    (λ is. let told = connections_run g.D.Sectors.sectors g.D.Sectors.honest g.D.Sectors.history g.D.Sectors.faults c.args.service.now is.0 c.serve_on.new.handler is.1 in
+    (λ is. let d = g.D.Sectors in
+    let told = connections_run d.sectors d.honest d.history d.faults c.args.service.now is.0 c.serve_on.new.handler is.1 in
     (is.0, is.2, told.0, told.1, told.2))
     c.serve_on.ensures.fewer

@@ -1,5 +1,5 @@
 use Rattle.std.proofs.Common.{sym, ◌∙◌, ap, true≢false}
-use Rattle.tile_cutter.specs.Corners.{range_of}
+use Rattle.tile_cutter.specs.Widened.{range_of}
 use Rattle.tile_cutter.proofs.Outside.{line_outside}
 use Rattle.tile_cutter.proofs.RingBoxes.{ring_says}
 use Rattle.tile_cutter.proofs.bounds.points_meet_box.Goals as goal
@@ -8,7 +8,7 @@ pub returns-clause-line : goal.returns-clause-line
 returns-clause-line c = λ none.
     let at = c.args.at in
     line_outside at.z at.x at.y c.args.points.now c.range_of.result
-    (c.range_of.ensures ∙ ap (λ corners. range_of corners at.z) c.widened_by_list.ensures) at.column at.row
+    (c.range_of.ensures ∙ ap (λ bounds. range_of bounds at.z) c.widened_by_list.ensures) at.column at.row
     (λ inside. true≢false (sym (c.has_tile.ensures.1 inside) ∙ none))
 
 pub returns-clause-ring : goal.returns-clause-ring

@@ -4,7 +4,7 @@ use Rattle.std.specs.List.{range_with_len}
 use Rattle.feature_model.specs.Data.{feature_data}
 use Rattle.feature_model.specs.declared.limits.TheConstants.{MAX_ZOOM}
 use Rattle.tile_cutter.specs.Covered.{tiles_of}
-use Rattle.tile_cutter.specs.Corners.{range_of}
+use Rattle.tile_cutter.specs.Widened.{range_of}
 use Rattle.tile_cutter.proofs.Boxes.{sum_next, reach_is}
 use Rattle.tile_cutter.proofs.Zooms.{last_met_low}
 use Rattle.tile_cutter.proofs.reach.cover_count.Goals as goal
@@ -26,7 +26,7 @@ pub loop-zoom-preserved : goal.loop-zoom-preserved
 loop-zoom-preserved c =
     let zoom = c.loop-zoom.zoom in
     let here = c.tiles_of-count.ensures.tiles ∙ ap tiles_of c.range_of.ensures in
-    let next = sum_next (λ z. tiles_of (range_of c.corners_of-corners.result z)) zoom (c.args.feature.now.maxzoom + 1) c.loop-zoom-test.true in
+    let next = sum_next (λ z. tiles_of (range_of c.bounds_of-bounds.result z)) zoom (c.args.feature.now.maxzoom + 1) c.loop-zoom-test.true in
     record {
       count = omega (arith, here, next, c.loop-zoom.invariant.count);
       bound = omega (arith, c.loop-zoom.invariant.bound, c.tiles_of-count.ensures.bound);
@@ -37,5 +37,5 @@ returns c =
     let f = feature_data c.args.feature.now in
     let done : f.maxzoom + 1 - c.loop-zoom.zoom ≡ 0 = omega (arith, c.loop-zoom-test.false) in
     let whole = c.loop-zoom.invariant.count in
-    let nothing_left = ap (λ n. sum_by (λ z. tiles_of (range_of c.corners_of-corners.result z)) (range_with_len c.loop-zoom.zoom n)) done in
-    omega (arith, whole, nothing_left, reach_is f c.corners_of-corners.result c.corners_of-corners.ensures)
+    let nothing_left = ap (λ n. sum_by (λ z. tiles_of (range_of c.bounds_of-bounds.result z)) (range_with_len c.loop-zoom.zoom n)) done in
+    omega (arith, whole, nothing_left, reach_is f c.bounds_of-bounds.result c.bounds_of-bounds.ensures)

@@ -23,7 +23,7 @@ returns-clause-up g c = rw (← c.self.view_is) (λ stored up honest.
     let place = c.archive-archive.ensures ∙ ap (λ s. archive_of s) (sym c.self.view_is) in
     let there = archive_there (g.D.Sectors.sectors c.self.inside.disk) (g.D.Sectors.history c.self.inside.disk) stored _ up in
     up_read (g.D.Sectors.sectors c.self.inside.disk) (g.D.Sectors.history c.self.inside.disk) stored _ up c.tile.new.disk c.tile.new.self
-    c.self.inside.map.kept _ _ c.tile.ensures.count (c.tile.ensures.history honest)
+    c.self.inside.map.kept _ _ c.tile.ensures.disk.same_count (c.tile.ensures.disk.same_history honest)
     (subst (λ (p : ArchivePlace). ArePublished c.tile.new.self p stored.archive) place
     (c.tile.ensures.still stored.archive honest
     (subst (λ (p : ArchivePlace). AreItsBytes p.first p.len stored.archive (seen (g.D.Sectors.history c.self.inside.disk))) (sym place)

@@ -3,7 +3,7 @@ use Rattle.std.proofs.lemmas.List.{length-take-le}
 use Rattle.std.specs.Io.KnownBytes.{Appends}
 use Rattle.http_serve.specs.Parts.{GivesOrFails}
 use Rattle.http_serve.proofs.PartLemmas.{sent_on, sent_cut}
-use Rattle.http_serve.proofs.contents.send_parts.Goals as goal
+use Rattle.http_serve.proofs.contents.send_each_part.Goals as goal
 
 pub loop-at-preserved : goal.loop-at-preserved
 loop-at-preserved g c =

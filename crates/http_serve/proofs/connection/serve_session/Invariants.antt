@@ -1,13 +1,12 @@
-use Rattle.std.proofs.Common.{◌≤◌, ◌*◌, vec_capacity}
+use Rattle.std.proofs.Common.{◌≤◌, ◌*◌}
 use Rattle.http_serve.specs.Input.{buffer_size}
 use Rattle.http_serve.specs.Search.{IsKnown}
 use Rattle.http_serve.specs.Told.{LosesAtMost}
 use Rattle.http_serve.proofs.ServeLemmas.{Adds, IsSoFar}
-use Rattle.http_serve.proofs.connection.serve_turns.Given as goal
+use Rattle.http_serve.proofs.connection.serve_session.Given as goal
 
 abbrev pub invariant-loop-turn : goal.invariant-loop-turn
 invariant-loop-turn g l = record {
-  room : 16384 ≤ vec_capacity l.session.out;
   known : IsKnown l.session.input.waiting l.session.search;
   within : l._turn ≤ l.fn.turns;
   reads : Adds g.R.Read.remaining l._turn l.fn.reader l.reader;

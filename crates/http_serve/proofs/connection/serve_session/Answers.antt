@@ -1,60 +1,58 @@
-use Rattle.std.proofs.Common.{◌≡◌, Err, rules, arith, refl, sym, subst, List, ℕ, ◌+◌, ◌*◌}
+use Rattle.std.proofs.Common.{◌≡◌, Err, rules, arith, sym, subst, List, ℕ, ◌+◌, ◌*◌}
 use Rattle.http_serve.specs.Input.{buffer_size}
 use Rattle.http_serve.specs.Search.{IsKnown}
 use Rattle.http_serve.proofs.LineLemmas.{IsKnown-append}
 use Rattle.http_serve.proofs.ServeLemmas.{SoFar_start, SoFar_stops, SoFar_failed_read, SoFar_goes, SoFar_told, SoFar_broken, SoFar_done, SoFar_failed, if_ok}
 use Rattle.http_serve.proofs.ServeLemmas.{if_err, adds_none, adds_one, adds_all, most_start, most_more, other_turns}
 use Rattle.http_serve.proofs.ServeLemmas.{finished_turns, finished_reads, unfinished_content}
-use Rattle.http_serve.proofs.connection.serve_turns.Goals as goal
+use Rattle.http_serve.proofs.connection.serve_session.Goals as goal
 
 pub loop-turn-init : goal.loop-turn-init
 loop-turn-init g c = record {
-  room = omega (arith, c.in-Ok-with_capacity.ensures.exact);
-  known = (omega arith, refl);
+  known = c.begin.ensures.known;
   within = omega arith;
   reads = adds_none g.R.Read.remaining c.args.reader.now;
   most = most_start (g.R.Read.remaining c.args.reader.now) _;
-  so_far = SoFar_start g.H.Handler.replies _ _ _ c.in-Ok.input.waiting c.in-Ok.ensures;
+  so_far = SoFar_start g.H.Handler.replies _ _ _ _ c.begin.ensures.input;
 }
 
 pub returns-in-Ended-clause-served : goal.returns-in-Ended-clause-served
 returns-in-Ended-clause-served g c =
-    let came = c.in-Ok-read_from.ensures.ok in
+    let came = c.in-Ok.ensures.ok in
     let pause = rw c.in-Ended.is at c.in_ok-served.ensures.ok in
     SoFar_told g.H.Handler.replies _ _ _ _ _ _ c.loop-turn.requests _ _ c.loop-turn.invariant.so_far came.0 _ came.1 _ _ _ came.2
     c.in-Ended.served pause.0 pause.1 pause.2 pause.3
 
 pub returns-in_err-served-clause-fault : goal.returns-in_err-served-clause-fault
 returns-in_err-served-clause-fault g c =
-    let came = c.in-Ok-read_from.ensures.ok in
+    let came = c.in-Ok.ensures.ok in
     let fault = c.in_err-served.field-0.0 in
     let same : c.from_residual.result ≡ Err fault = search rules in
     rw same (SoFar_broken g.H.Handler.replies _ _ _ _ _ _ c.loop-turn.requests _ _ c.loop-turn.invariant.so_far came.0 _ came.1 _ _ _ came.2
     g.H.Handler.fails fault c.in_err-served.ensures.err)
 
-pub returns-in_default-read_from-clause-fault : goal.returns-in_default-read_from-clause-fault
-returns-in_default-read_from-clause-fault g c =
-    SoFar_failed_read g.H.Handler.replies _ _ _ _ _ _ c.loop-turn.requests _ _ c.loop-turn.invariant.so_far _ c.in_default-read_from.ensures.err.0
+pub returns-in_default-clause-fault : goal.returns-in_default-clause-fault
+returns-in_default-clause-fault g c =
+    SoFar_failed_read g.H.Handler.replies _ _ _ _ _ _ c.loop-turn.requests _ _ c.loop-turn.invariant.so_far _ c.in_default.ensures.err.0
 
 pub returns-clause-served : goal.returns-clause-served
 returns-clause-served g c = SoFar_stops g.H.Handler.replies _ _ _ _ _ _ c.loop-turn.requests _ _ c.loop-turn.invariant.so_far
 
 pub loop-turn-preserved : goal.loop-turn-preserved
 loop-turn-preserved g c =
-    let came = c.in-Ok-read_from.ensures.ok in
+    let came = c.in-Ok.ensures.ok in
     let pause = rw c.in-More.is at c.in_ok-served.ensures.ok in
     record {
-      room = c.in_ok-served.ensures.room;
       known = c.in_ok-served.ensures.known;
       within = let below = c.loop-turn-test.true in omega arith;
       reads =
-          let few = c.in-Ok-read_from.ensures.few in
-          adds_one g.R.Read.remaining c.loop-turn._turn c.args.reader.now _ _ c.in-Ok-read_from.count came.0 c.loop-turn.invariant.reads
+          let few = c.in-Ok.ensures.few in
+          adds_one g.R.Read.remaining c.loop-turn._turn c.args.reader.now _ _ c.in-Ok.count came.0 c.loop-turn.invariant.reads
           came.1 came.3 c.if-count-eq0.false few;
       most =
-          let few = c.in-Ok-read_from.ensures.few in
+          let few = c.in-Ok.ensures.few in
           most_more (g.R.Read.remaining c.args.reader.now) _ _ (c.loop-turn._turn * buffer_size) ((c.loop-turn._turn + 1) * buffer_size)
-          c.in-Ok-read_from.count came.0 c.loop-turn.invariant.most came.1 came.3 (omega arith);
+          c.in-Ok.count came.0 c.loop-turn.invariant.most came.1 came.3 (omega arith);
       so_far =
           SoFar_goes g.H.Handler.replies _ _ _ _ _ _ c.loop-turn.requests _ _ c.loop-turn.invariant.so_far came.0 _ came.1 _ _ _ came.2
           _ c.in-More.answered pause.2 c.in-More.rejection pause.0 pause.1 pause.3 pause.4;
@@ -62,14 +60,14 @@ loop-turn-preserved g c =
 
 pub returns-then-count-eq0-clause-served : goal.returns-then-count-eq0-clause-served
 returns-then-count-eq0-clause-served g c =
-    let came = c.in-Ok-read_from.ensures.ok in
+    let came = c.in-Ok.ensures.ok in
     if_ok c.finish.result _ _
     (SoFar_done g.H.Handler.replies _ _ _ _ _ _ c.loop-turn.requests _ _ c.loop-turn.invariant.so_far _ came.0 _ _ _ came.1 came.2 came.3
     c.if-count-eq0.true came.4) (c.finish.ensures.ends c.loop-turn.invariant.so_far.head c.loop-turn.invariant.so_far.bare)
 
 pub returns-then-count-eq0-clause-fault : goal.returns-then-count-eq0-clause-fault
 returns-then-count-eq0-clause-fault g c =
-    let came = c.in-Ok-read_from.ensures.ok in
+    let came = c.in-Ok.ensures.ok in
     if_err c.finish.result _ _
     (SoFar_failed g.H.Handler.replies _ _ _ _ _ _ c.loop-turn.requests _ _ c.loop-turn.invariant.so_far _ came.0 _ _ _ came.1 came.2 came.3
     c.if-count-eq0.true g.H.Handler.fails came.4) (c.finish.ensures.fault c.loop-turn.invariant.so_far.head c.loop-turn.invariant.so_far.bare)
@@ -88,19 +86,22 @@ returns-in-Ended-clause-turns g c =
     let pause = rw c.in-Ended.is at c.in_ok-served.ensures.ok in
     other_turns g.R.Read.remaining c.args.turns _ _ c.in-Ended.served.end pause.3
 
-pub answer_whole-requires-clause-known : goal.answer_whole-requires-clause-known
-answer_whole-requires-clause-known g c =
-    let came = c.in-Ok-read_from.ensures.ok in
-    subst (λ (t : List ℕ). IsKnown t c.loop-turn.session.search) (sym came.2) (IsKnown-append _ came.0 c.loop-turn.session.search c.loop-turn.invariant.known)
+pub answer_whole-requires : goal.answer_whole-requires
+answer_whole-requires g c =
+    let came = c.in-Ok.ensures.ok in
+    record {
+      known = subst (λ (t : List ℕ). IsKnown t c.loop-turn.session.search)
+          (sym came.2) (IsKnown-append _ came.0 c.loop-turn.session.search c.loop-turn.invariant.known);
+    }
 
 pub returns-then-count-eq0-clause-reads : goal.returns-then-count-eq0-clause-reads
 returns-then-count-eq0-clause-reads g c =
-    let came = c.in-Ok-read_from.ensures.ok in
-    let few = c.in-Ok-read_from.ensures.few in
+    let came = c.in-Ok.ensures.ok in
+    let few = c.in-Ok.ensures.few in
     let below = c.loop-turn-test.true in
     finished_reads c.args.turns _ _ _ _ _ _ _ c.finish.result _
     (most_more (g.R.Read.remaining c.args.reader.now) _ _ (c.loop-turn._turn * buffer_size) (c.args.turns * buffer_size)
-    c.in-Ok-read_from.count came.0 c.loop-turn.invariant.most came.1 came.3 (omega arith))
+    c.in-Ok.count came.0 c.loop-turn.invariant.most came.1 came.3 (omega arith))
     (c.finish.ensures.fault c.loop-turn.invariant.so_far.head c.loop-turn.invariant.so_far.bare)
 
 pub returns-then-count-eq0-clause-content : goal.returns-then-count-eq0-clause-content

@@ -1,0 +1,76 @@
+//! The memory of a connection.
+ghost use Rattle.std.specs.Prelude.{◌≡◌, ◌≤◌, [], vec_capacity};
+ghost use Rattle.http_serve.specs.declared.handlers.TheConstants.{PART_SIZE};
+ghost use Rattle.http_serve.specs.Search.{IsKnown};
+
+use crate::handlers::PART_SIZE;
+use crate::inputs::Input;
+use crate::replies::REPLY_SPACE;
+use crate::searches::{START, Search};
+use std::alloc::{AllocError, Global};
+
+/// The waiting bytes, what is known about them, and the buffers of a reply and of a part of its content.
+#[derive(Drop)]
+pub(crate) struct Session {
+    pub(crate) input: Input,
+    pub(crate) search: Search,
+    pub(crate) out: Vec<u8>,
+    /// As long as the longest part so far.
+    pub(crate) part: Vec<u8>,
+    ghost room: { 65536 ≤ vec_capacity out },
+    ghost space: { PART_SIZE ≤ vec_capacity part },
+}
+
+impl Session {
+    /// The memory of a connection on which nothing was read.
+    pub(crate) fn new(alloc: Global) -> Result<Self, AllocError> {
+        let input = Input::new(alloc)?;
+        let out = Vec::with_capacity(alloc, REPLY_SPACE)?;
+        let part = Vec::with_capacity(alloc, PART_SIZE)?;
+        Ok(Session {
+            input,
+            search: START,
+            out,
+            part,
+        })
+    }
+
+    /// Begins a connection: nothing of an earlier one is left.
+    pub(crate) fn begin(&mut self)
+        ensures input { self.new.input.waiting ≡ [] }
+        ensures known { IsKnown self.new.input.waiting self.new.search }
+    {
+        self.input.clear();
+        self.search = START;
+    }
+}
+
+/// The memory of connections that are served one after the other. The first one allocates it, and it is kept for the next.
+#[derive(Drop)]
+pub struct Buffers {
+    alloc: Global,
+    session: Option<Session>,
+}
+
+impl Buffers {
+    /// No memory so far.
+    pub fn new(alloc: Global) -> Self {
+        Buffers {
+            alloc,
+            session: None,
+        }
+    }
+
+    /// The memory of a connection: what was kept, or new memory.
+    pub(crate) fn take(&mut self) -> Result<Session, AllocError> {
+        match self.session.take() {
+            Some(session) => Ok(session),
+            None => Session::new(self.alloc),
+        }
+    }
+
+    /// Keeps the memory of a connection.
+    pub(crate) fn keep(&mut self, session: Session) {
+        self.session = Some(session);
+    }
+}
