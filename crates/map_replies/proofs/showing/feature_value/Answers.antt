@@ -5,4 +5,4 @@ use Rattle.map_replies.proofs.Texts.{feature_whole}
 use Rattle.map_replies.proofs.showing.feature_value.Goals as goal
 
 pub json_value-requires : goal.json_value-requires
-json_value-requires c = record { whole = ap has_float c.in-Ok-feature_to_json.ensures ∙ feature_whole (feature_data c.args.feature.now) }
+json_value-requires c = record { whole = ap has_float c.in-Ok.ensures ∙ feature_whole (feature_data c.args.feature.now) }
