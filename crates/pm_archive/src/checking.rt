@@ -44,11 +44,7 @@ pub(crate) fn check_holds(is: bool, otherwise: ArchiveFault) -> Result<(), Archi
     ensures holds { OnOk result (IsTrue is) }
     ensures fault { IfErr result (λ fault. (fault ≡ otherwise) × ¬ IsTrue is) }
 {
-    if is {
-        Ok(())
-    } else {
-        Err(otherwise)
-    }
+    if is { Ok(()) } else { Err(otherwise) }
 }
 
 // Reads the tile of an entry.
