@@ -96,12 +96,36 @@ fn parse_now(bytes: &[u8], search: &mut Search) -> Next
     next
 }
 
+/// Parses what bytes begin with, of which nothing is known: most heads arrive whole. What has to wait for more is scanned, so that the
+/// next piece continues there.
+fn parse_first(bytes: &[u8], search: &mut Search) -> Next
+    requires { IsKnown bytes.now search.old }
+    ensures next { IsNext bytes.now result }
+    ensures known { IsKnown bytes.now search.new }
+{
+    let next = parse_now(bytes, search);
+    if let Next::More(_) = next {
+        if is_fresh(search) {
+            scan_head(bytes, 0, Lines::Blank, Position::Front, search);
+        }
+    }
+    next
+}
+
+/// Whether nothing was scanned.
+fn is_fresh(search: &Search) -> bool {
+    matches!(search, Search::Head { scanned: 0, .. })
+}
+
 /// What bytes begin with. Each byte of a head is visited a fixed number of times, whatever the pieces.
 pub(crate) fn find_next(bytes: &[u8], search: &mut Search) -> Next
     requires { IsKnown bytes.now search.old }
     ensures next { IsNext bytes.now result }
     ensures known { IsKnown bytes.now search.new }
 {
+    if is_fresh(search) {
+        return parse_first(bytes, search);
+    }
     match known_missing(bytes, search) {
         Some(missing) => Next::More(missing),
         None => parse_now(bytes, search),
