@@ -70,14 +70,6 @@ returns-in-Ok-clause-takes g c = (
       c.tile.ensures.untouched c.tile.ensures.up c.in-Tile.at.z c.in-Tile.at.x c.in-Tile.at.y _ c.in-Ok.ensures.machine,
 )
 
-pub returns-in-Ok-clause-faults : goal.returns-in-Ok-clause-faults
-returns-in-Ok-clause-faults g c none unbroken =
-    absurd (none (subst IsTile (sym c.in-Tile.is) tt))
-
-pub returns-in-Ok-clause-failed : goal.returns-in-Ok-clause-failed
-returns-in-Ok-clause-failed g c unbroken broken =
-    absurd (false≢true (sym unbroken ∙ sym (ap (λ s. s.broken) c.tile.ensures.same) ∙ broken))
-
 pub returns-in-Err-clause-takes : goal.returns-in-Err-clause-takes
 returns-in-Err-clause-takes g c = (
   tile c.in-Tile.at.z c.in-Tile.at.x c.in-Tile.at.y no_memory,
@@ -85,10 +77,6 @@ returns-in-Err-clause-takes g c = (
   tile_step g.D.Sectors.sectors g.D.Sectors.honest g.D.Sectors.history _ _ c.tile.ensures.same c.tile.ensures.disk
       c.tile.ensures.untouched c.tile.ensures.up c.in-Tile.at.z c.in-Tile.at.x c.in-Tile.at.y _ c.in-Err.ensures.machine,
 )
-
-pub returns-in-Err-clause-faults : goal.returns-in-Err-clause-faults
-returns-in-Err-clause-faults g c none unbroken =
-    absurd (none (subst IsTile (sym c.in-Tile.is) tt))
 
 pub returns-in-Err-clause-failed : goal.returns-in-Err-clause-failed
 returns-in-Err-clause-failed g c unbroken broken =
@@ -101,10 +89,6 @@ returns-in-Look-clause-takes g c = (
   (look_step g.D.Sectors.sectors g.D.Sectors.honest g.D.Sectors.history _ c.in-Look.id c.look.ensures.0 c.look.ensures.2),
 )
 
-pub returns-in-Look-clause-failed : goal.returns-in-Look-clause-failed
-returns-in-Look-clause-failed g c unbroken broken =
-    absurd (false≢true (sym unbroken ∙ broken))
-
 pub returns-in-Begin-clause-takes : goal.returns-in-Begin-clause-takes
 returns-in-Begin-clause-takes g c = (
   begin c.publish_begin.result,
@@ -113,14 +97,6 @@ returns-in-Begin-clause-takes g c = (
       c.publish_begin.ensures.same c.publish_begin.ensures.up,
 )
 
-pub returns-in-Begin-clause-faults : goal.returns-in-Begin-clause-faults
-returns-in-Begin-clause-faults g c none unbroken =
-    ap (λ s. g.D.Sectors.faults s.disk) c.publish_begin.ensures.same
-
-pub returns-in-Begin-clause-failed : goal.returns-in-Begin-clause-failed
-returns-in-Begin-clause-failed g c unbroken broken =
-    absurd (false≢true (sym unbroken ∙ sym (ap (λ s. s.broken) c.publish_begin.ensures.same) ∙ broken))
-
 pub returns-in-Ok-publish_cancel-clause-takes : goal.returns-in-Ok-publish_cancel-clause-takes
 returns-in-Ok-publish_cancel-clause-takes g c = (
   cancel (Ok tt),
@@ -128,10 +104,6 @@ returns-in-Ok-publish_cancel-clause-takes g c = (
   cancel_step g.D.Sectors.sectors g.D.Sectors.honest g.D.Sectors.history _ _ _ c.in-Ok-publish_cancel.ensures.machine
       c.publish_cancel.ensures.same c.publish_cancel.ensures.up,
 )
-
-pub returns-in-Ok-publish_cancel-clause-faults : goal.returns-in-Ok-publish_cancel-clause-faults
-returns-in-Ok-publish_cancel-clause-faults g c none unbroken =
-    ap (λ s. g.D.Sectors.faults s.disk) c.publish_cancel.ensures.same
 
 pub returns-in-Ok-publish_cancel-clause-failed : goal.returns-in-Ok-publish_cancel-clause-failed
 returns-in-Ok-publish_cancel-clause-failed g c unbroken broken =
@@ -144,10 +116,6 @@ returns-in-Err-publish_cancel-clause-takes g c = (
   cancel_step g.D.Sectors.sectors g.D.Sectors.honest g.D.Sectors.history _ _ _ c.in-Err-publish_cancel.ensures.machine
       c.publish_cancel.ensures.same c.publish_cancel.ensures.up,
 )
-
-pub returns-in-Err-publish_cancel-clause-faults : goal.returns-in-Err-publish_cancel-clause-faults
-returns-in-Err-publish_cancel-clause-faults g c none unbroken =
-    ap (λ s. g.D.Sectors.faults s.disk) c.publish_cancel.ensures.same
 
 pub returns-in-Err-publish_cancel-clause-failed : goal.returns-in-Err-publish_cancel-clause-failed
 returns-in-Err-publish_cancel-clause-failed g c unbroken broken =
@@ -195,9 +163,6 @@ returns-in-Ok-clause-device g c is = absurd (other_answer _ refl is)
 
 pub returns-in-Err-clause-device : goal.returns-in-Err-clause-device
 returns-in-Err-clause-device g c is = absurd (memory_told c.in-Err.fault c.in-Err.ensures.fault is)
-
-pub returns-in-Look-clause-never_falls : goal.returns-in-Look-clause-never_falls
-returns-in-Look-clause-never_falls g c = same_count _ _ refl
 
 pub returns-in-Look-clause-device : goal.returns-in-Look-clause-device
 returns-in-Look-clause-device g c is = absurd (look_no_device c.args.self.now.version c.in-Look.id _ _ c.look.ensures.1 is)
