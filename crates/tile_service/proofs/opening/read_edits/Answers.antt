@@ -17,9 +17,6 @@ use Rattle.tile_service.specs.Tiles.{WereMaps}
 use Rattle.tile_service.proofs.Opens.{recovery_counts, recovery_fault, text_fault, texts_short, replayed_short}
 use Rattle.tile_service.proofs.opening.read_edits.Goals as goal
 
-pub returns-in-Err-clause-failed : goal.returns-in-Err-clause-failed
-returns-in-Err-clause-failed g c = rw c.to_store_fault.ensures (recovery_counts c.in-Err.fault _ _ c.in-Err.ensures.failed)
-
 pub returns-in-Err-clause-fault : goal.returns-in-Err-clause-fault
 returns-in-Err-clause-fault g c honest has =
     rw c.to_store_fault.ensures

@@ -78,10 +78,6 @@ returns-in-Err-clause-takes g c = (
       c.tile.ensures.untouched c.tile.ensures.up c.in-Tile.at.z c.in-Tile.at.x c.in-Tile.at.y _ c.in-Err.ensures.machine,
 )
 
-pub returns-in-Err-clause-failed : goal.returns-in-Err-clause-failed
-returns-in-Err-clause-failed g c unbroken broken =
-    absurd (false≢true (sym unbroken ∙ sym (ap (λ s. s.broken) c.tile.ensures.same) ∙ broken))
-
 pub returns-in-Look-clause-takes : goal.returns-in-Look-clause-takes
 returns-in-Look-clause-takes g c = (
   look c.in-Look.id c.look.ensures.0,
@@ -105,10 +101,6 @@ returns-in-Ok-publish_cancel-clause-takes g c = (
       c.publish_cancel.ensures.same c.publish_cancel.ensures.up,
 )
 
-pub returns-in-Ok-publish_cancel-clause-failed : goal.returns-in-Ok-publish_cancel-clause-failed
-returns-in-Ok-publish_cancel-clause-failed g c unbroken broken =
-    absurd (false≢true (sym unbroken ∙ sym (ap (λ s. s.broken) c.publish_cancel.ensures.same) ∙ broken))
-
 pub returns-in-Err-publish_cancel-clause-takes : goal.returns-in-Err-publish_cancel-clause-takes
 returns-in-Err-publish_cancel-clause-takes g c = (
   cancel (Err c.in-Err-publish_cancel.fault),
@@ -116,10 +108,6 @@ returns-in-Err-publish_cancel-clause-takes g c = (
   cancel_step g.D.Sectors.sectors g.D.Sectors.honest g.D.Sectors.history _ _ _ c.in-Err-publish_cancel.ensures.machine
       c.publish_cancel.ensures.same c.publish_cancel.ensures.up,
 )
-
-pub returns-in-Err-publish_cancel-clause-failed : goal.returns-in-Err-publish_cancel-clause-failed
-returns-in-Err-publish_cancel-clause-failed g c unbroken broken =
-    absurd (false≢true (sym unbroken ∙ sym (ap (λ s. s.broken) c.publish_cancel.ensures.same) ∙ broken))
 
 pub returns-in-Step-clause-takes : goal.returns-in-Step-clause-takes
 returns-in-Step-clause-takes g c = (
@@ -167,21 +155,12 @@ returns-in-Err-clause-device g c is = absurd (memory_told c.in-Err.fault c.in-Er
 pub returns-in-Look-clause-device : goal.returns-in-Look-clause-device
 returns-in-Look-clause-device g c is = absurd (look_no_device c.args.self.now.version c.in-Look.id _ _ c.look.ensures.1 is)
 
-pub returns-in-Begin-clause-never_falls : goal.returns-in-Begin-clause-never_falls
-returns-in-Begin-clause-never_falls g c = same_count _ _ (ap (λ s. g.D.Sectors.faults s.disk) c.publish_begin.ensures.same)
-
 pub returns-in-Begin-clause-device : goal.returns-in-Begin-clause-device
 returns-in-Begin-clause-device g c is =
     absurd (begin_no_device _ _ c.publish_begin.result (c.publish_begin.ensures.machine no_known) (sym c.left.ensures ∙ is))
 
-pub returns-in-Ok-publish_cancel-clause-never_falls : goal.returns-in-Ok-publish_cancel-clause-never_falls
-returns-in-Ok-publish_cancel-clause-never_falls g c = same_count _ _ (ap (λ s. g.D.Sectors.faults s.disk) c.publish_cancel.ensures.same)
-
 pub returns-in-Ok-publish_cancel-clause-device : goal.returns-in-Ok-publish_cancel-clause-device
 returns-in-Ok-publish_cancel-clause-device g c is = absurd (other_answer _ refl is)
-
-pub returns-in-Err-publish_cancel-clause-never_falls : goal.returns-in-Err-publish_cancel-clause-never_falls
-returns-in-Err-publish_cancel-clause-never_falls g c = same_count _ _ (ap (λ s. g.D.Sectors.faults s.disk) c.publish_cancel.ensures.same)
 
 pub returns-in-Err-publish_cancel-clause-device : goal.returns-in-Err-publish_cancel-clause-device
 returns-in-Err-publish_cancel-clause-device g c is =
