@@ -16,6 +16,7 @@ same_tests : (p q : ℕ × ℕ) → eq_by_cmp span_cmp p q ≡ same_span p q
 same_tests p q = sym (tied_then (nat_cmp p.0 q.0) (nat_cmp p.1 q.1)) ∙ (λ i. unsigned_tied p.0 q.0 i && unsigned_tied p.1 q.1 i)
 
 -- how many spans a set of those of the entries has
-pub contents_counted : (es : List DirectoryEntry) (spans : BTreeSet (ℕ × ℕ)) → IsFromIterResult span_cmp (map span_of es) spans → btree_set_len spans ≡ contents_of es
+pub contents_counted : (es : List DirectoryEntry) (spans : BTreeSet (ℕ × ℕ)) → IsFromIterResult span_cmp (map span_of es) spans
+    → btree_set_len spans ≡ contents_of es
 contents_counted es spans made =
     btree_set_len-from_list span_cmp_total (map span_of es) spans made ∙ ap (λ eq. distinct_count eq (map span_of es)) (λ i p q. same_tests p q i)

@@ -64,11 +64,13 @@ each_counted Leads one from bound (e ∷ es) tiles low ascend fit l =
     each_counted Leads one (bound_of bound es) bound es l.1 (next_below bound es fit.1) (next_start bound (ids_behind e) es ascend.1) fit.1 l.4 in
     subst (AreFew from bound) (sym l.2) (rw addressed-append (omega (arith, ascend.0)))
 
-tile_counted : (h : Header) (e : DirectoryEntry) (bound : ℕ) (tiles : List DirectoryEntry) → e.id + e.run ≤ bound → ListsTile h e tiles → AreFew e.id bound tiles
+tile_counted : (h : Header) (e : DirectoryEntry) (bound : ℕ) (tiles : List DirectoryEntry) → e.id + e.run ≤ bound → ListsTile h e tiles
+    → AreFew e.id bound tiles
 tile_counted h e bound tiles fits t = subst (AreFew e.id bound) (sym t.itself) (omega arith)
 
 module _ (bytes : List ℕ) (h : Header) where
-  lists_counted : (more : ℕ) (e : DirectoryEntry) (bound : ℕ) (tiles : List DirectoryEntry) → e.id + e.run ≤ bound → Lists bytes h more e bound tiles → AreFew e.id bound tiles
+  lists_counted : (more : ℕ) (e : DirectoryEntry) (bound : ℕ) (tiles : List DirectoryEntry) → e.id + e.run ≤ bound → Lists bytes h more e bound tiles
+      → AreFew e.id bound tiles
   lists_counted zero e bound tiles fits l = tile_counted h e bound tiles fits l
   lists_counted (suc more) e bound tiles fits l =
       elim l [
@@ -84,7 +86,8 @@ module _ (bytes : List ℕ) (h : Header) where
   fitting (e ∷ es) all = (all.0.ids_fit, fitting es all.1)
 
   -- what they address has 64 bits
-  pub listed_fit : (root tiles : List DirectoryEntry) → IsAscending root → AllByRecursion IsEntry root → list_at bytes h root ≡ Ok tiles → addressed_by tiles < 2 ^ 64
+  pub listed_fit : (root tiles : List DirectoryEntry) → IsAscending root → AllByRecursion IsEntry root → list_at bytes h root ≡ Ok tiles
+      → addressed_by tiles < 2 ^ 64
   listed_fit root tiles ascending each r =
       let all : AreFew 0 TILE_IDS tiles =
       each_counted (Lists bytes h MAX_LEAVES) (lists_counted MAX_LEAVES) 0 TILE_IDS root tiles (omega arith) ascending (fitting root each)

@@ -34,7 +34,8 @@ listed bytes h root tiles dir has =
 pub has_each : (bytes : List ℕ) (h : Header) (root tiles : List DirectoryEntry) → IsDirectory (section_bytes h.root bytes) root → HasEntries bytes h tiles
     → EachLists (Lists bytes h MAX_LEAVES) TILE_IDS root tiles
 has_each bytes h root tiles dir has =
-    subst (λ (es : List DirectoryEntry). EachLists (Lists bytes h MAX_LEAVES) TILE_IDS es tiles) (one_directory (section_bytes h.root bytes) has.0 root has.1 dir) has.2
+    subst (λ (es : List DirectoryEntry). EachLists (Lists bytes h MAX_LEAVES) TILE_IDS es tiles)
+    (one_directory (section_bytes h.root bytes) has.0 root has.1 dir) has.2
 
 module _ {X : Type 0} (view : X → List DirectoryEntry) (bytes : List ℕ) (h : Header) (items root : List DirectoryEntry) (same : items ≡ root) where
   pub listed_found : (r : Result X ArchiveFault) → IsDirectory (section_bytes h.root bytes) root → GivesUnless IsOutside view r (list_at bytes h items)
@@ -59,8 +60,8 @@ sound bytes h root report has dir v = record {
   told = v.told;
 }
 
-pub verified : (bytes : List ℕ) (h : Header) (root : List DirectoryEntry) (report : Report) → HasSections bytes h → IsDirectory (section_bytes h.root bytes) root
-    → IsSound bytes report → IsVerified bytes h root report
+pub verified : (bytes : List ℕ) (h : Header) (root : List DirectoryEntry) (report : Report) → HasSections bytes h
+    → IsDirectory (section_bytes h.root bytes) root → IsSound bytes report → IsVerified bytes h root report
 verified bytes h root report has dir s =
     let same = one_header bytes h s.header has.header s.archive.sections.header in
     let there = subst (λ (g : Header). IsDirectory (section_bytes g.root bytes) root) same dir in
@@ -74,7 +75,8 @@ verified bytes h root report has dir s =
     } in
     subst (λ (g : Header). IsVerified bytes g root report) (sym same) v
 
-same_tiles : (bytes : List ℕ) (h : Header) (root some others : List DirectoryEntry) → list_at bytes h root ≡ Ok some → list_at bytes h root ≡ Ok others → some ≡ others
+same_tiles : (bytes : List ℕ) (h : Header) (root some others : List DirectoryEntry) → list_at bytes h root ≡ Ok some → list_at bytes h root ≡ Ok others
+    → some ≡ others
 same_tiles bytes h root some others a b = same_value some others (sym a ∙ b)
 
 one_report : (bytes : List ℕ) (h : Header) (root : List DirectoryEntry) (r s : Report) → IsVerified bytes h root r → IsVerified bytes h root s → r ≡ s
@@ -85,12 +87,13 @@ counts_agree h tiles c has (HasOtherCount.other_addressed e other) = other has.a
 counts_agree h tiles c has (HasOtherCount.other_entries e a other) = other has.entries
 counts_agree h tiles c has (HasOtherCount.other_contents e a s other) = other has.contents
 
-at_middle : (P : DirectoryEntry → Type 0) (front : List DirectoryEntry) (x : DirectoryEntry) (rest : List DirectoryEntry) → AllByRecursion P (front ++ x ∷ rest) → P x
+at_middle : (P : DirectoryEntry → Type 0) (front : List DirectoryEntry) (x : DirectoryEntry) (rest : List DirectoryEntry) → AllByRecursion P (front ++ x ∷ rest)
+    → P x
 at_middle P [] x rest all = all.0
 at_middle P (y ∷ front) x rest all = at_middle P front x rest all.1
 
-passes : (bytes : List ℕ) (h : Header) (root : List DirectoryEntry) (report : Report) (d : ArchiveFault) → IsVerified bytes h root report → VerifyingHas bytes h root d
-    → ⊥
+passes : (bytes : List ℕ) (h : Header) (root : List DirectoryEntry) (report : Report) (d : ArchiveFault) → IsVerified bytes h root report
+    → VerifyingHas bytes h root d → ⊥
 passes bytes h root report d v (VerifyingHas.bad_metadata e other) = other v.metadata
 passes bytes h root report d v (VerifyingHas.bad_entries m e) = not_both v.tiles d (sym v.listed ∙ e)
 passes bytes h root report d v (VerifyingHas.bad_count c tiles e m l other) =
@@ -109,7 +112,8 @@ module _ (bytes : List ℕ) (h : Header) (items root : List DirectoryEntry) (sam
       → IfOk r (IsVerified bytes h items) → IfErr r (UnlessOutside (VerifyingHas bytes h items))
       → (report : Report) → IsSound bytes report → MatchResult r (λ told. told ≡ report) IsOutside
   verified_only (Ok told) has dir v fault report s =
-      one_report bytes h items told report v (subst (λ (es : List DirectoryEntry). IsVerified bytes h es report) (sym same) (verified bytes h root report has dir s))
+      one_report bytes h items told report v
+      (subst (λ (es : List DirectoryEntry). IsVerified bytes h es report) (sym same) (verified bytes h root report has dir s))
   verified_only (Err d) has dir v fault report s =
       is_outside (VerifyingHas bytes h items) d fault (passes bytes h items report d
       (subst (λ (es : List DirectoryEntry). IsVerified bytes h es report) (sym same) (verified bytes h root report has dir s)))

@@ -40,7 +40,8 @@ kept_ok es fs (Some id) e = absurd (not_both fs (faults.Order id) (sym e))
 
 -- ---- leaf directories
 
-pub leaf_ok : (bytes : List ℕ) (h : Header) (x : DirectoryEntry) (bound : ℕ) (es : List DirectoryEntry) → x.run ≡ 0 → leaf_at bytes h x bound ≡ Ok es → IsLeaf bytes h x bound es
+pub leaf_ok : (bytes : List ℕ) (h : Header) (x : DirectoryEntry) (bound : ℕ) (es : List DirectoryEntry) → x.run ≡ 0 → leaf_at bytes h x bound ≡ Ok es
+    → IsLeaf bytes h x bound es
 unfolding leaf_at directory_of_entry
 leaf_ok bytes h x bound es leaf e =
     let offset = h.leaves.offset + x.offset in
@@ -56,14 +57,16 @@ leaf_ok bytes h x bound es leaf e =
     } in
     rw (← k.1) is
 
-pub leaf_only : (bytes : List ℕ) (h : Header) (x : DirectoryEntry) (bound : ℕ) (es : List DirectoryEntry) → IsLeaf bytes h x bound es → leaf_at bytes h x bound ≡ Ok es
+pub leaf_only : (bytes : List ℕ) (h : Header) (x : DirectoryEntry) (bound : ℕ) (es : List DirectoryEntry) → IsLeaf bytes h x bound es
+    → leaf_at bytes h x bound ≡ Ok es
 unfolding leaf_at directory_of_entry
 leaf_only bytes h x bound es is =
     let offset = h.leaves.offset + x.offset in
     let kept = λ (fs : List DirectoryEntry). unless_stray fs (stray_id x.id bound fs) in
     ap (λ (b : Bool). cond b (directory_or_fault offset (directory_at (entry_bytes h.leaves x bytes))) (Err (faults.Place x.id)) >>= kept)
     (le-leb (x.offset + x.length) h.leaves.length is.inside)
-    ∙ ap (λ (r : Read DirectoryFault (List DirectoryEntry)). directory_or_fault offset r >>= kept) (directory_only (entry_bytes h.leaves x bytes) es is.directory)
+    ∙ ap (λ (r : Read DirectoryFault (List DirectoryEntry)). directory_or_fault offset r >>= kept)
+    (directory_only (entry_bytes h.leaves x bytes) es is.directory)
     ∙ ap (unless_stray es) (all_between x.id bound es is.between)
 
 -- ---- tile entries
@@ -82,19 +85,20 @@ tile_only h x ts is =
 -- ---- entries one after the other
 
 module _ (lists : DirectoryEntry → ℕ → Read ArchiveFault (List DirectoryEntry)) (Leads : DirectoryEntry → ℕ → List DirectoryEntry → Type 0) where
-  pub each_ok : ((x : DirectoryEntry) (bound : ℕ) (ts : List DirectoryEntry) → lists x bound ≡ Ok ts → Leads x bound ts) → (bound : ℕ) (es ts : List DirectoryEntry)
-      → each_at lists bound es ≡ Ok ts → EachLists Leads bound es ts
+  pub each_ok : ((x : DirectoryEntry) (bound : ℕ) (ts : List DirectoryEntry) → lists x bound ≡ Ok ts → Leads x bound ts)
+      → (bound : ℕ) (es ts : List DirectoryEntry) → each_at lists bound es ≡ Ok ts → EachLists Leads bound es ts
   each_ok one bound [] ts e = sym (same_value [] ts e)
   each_ok one bound (x ∷ es) ts e =
       let f = then_ok (lists x (bound_of bound es)) (λ (front : List DirectoryEntry). each_at lists bound es >>= λ rest. Ok (front ++ rest)) ts e in
       let r = then_ok (each_at lists bound es) (λ (rest : List DirectoryEntry). done (f.0 ++ rest)) ts f.2 in
       (f.0, r.0, sym (same_value (f.0 ++ r.0) ts r.2), one x (bound_of bound es) f.0 f.1, each_ok one bound es r.0 r.1)
 
-  pub each_only : ((x : DirectoryEntry) (bound : ℕ) (ts : List DirectoryEntry) → Leads x bound ts → lists x bound ≡ Ok ts) → (bound : ℕ) (es ts : List DirectoryEntry)
-      → EachLists Leads bound es ts → each_at lists bound es ≡ Ok ts
+  pub each_only : ((x : DirectoryEntry) (bound : ℕ) (ts : List DirectoryEntry) → Leads x bound ts → lists x bound ≡ Ok ts)
+      → (bound : ℕ) (es ts : List DirectoryEntry) → EachLists Leads bound es ts → each_at lists bound es ≡ Ok ts
   each_only one bound [] ts h = ap done (sym h)
   each_only one bound (x ∷ es) ts h =
-      ap (λ (r : Read ArchiveFault (List DirectoryEntry)). r >>= λ front. each_at lists bound es >>= λ rest. done (front ++ rest)) (one x (bound_of bound es) h.0 h.3)
+      ap (λ (r : Read ArchiveFault (List DirectoryEntry)). r >>= λ front. each_at lists bound es >>= λ rest. done (front ++ rest))
+      (one x (bound_of bound es) h.0 h.3)
       ∙ ap (λ (r : Read ArchiveFault (List DirectoryEntry)). r >>= λ rest. done (h.0 ++ rest)) (each_only one bound es h.1 h.4)
       ∙ ap done (sym h.2)
 
@@ -128,8 +132,10 @@ lists_only bytes h (suc more) x bound ts is =
     ]
 
 -- the tile entries that are read below a root directory are those below it
-pub list_ok : (bytes : List ℕ) (h : Header) (root ts : List DirectoryEntry) → list_at bytes h root ≡ Ok ts → EachLists (Lists bytes h MAX_LEAVES) TILE_IDS root ts
+pub list_ok : (bytes : List ℕ) (h : Header) (root ts : List DirectoryEntry) → list_at bytes h root ≡ Ok ts
+    → EachLists (Lists bytes h MAX_LEAVES) TILE_IDS root ts
 list_ok bytes h root ts e = each_ok (lists_at bytes h MAX_LEAVES) (Lists bytes h MAX_LEAVES) (lists_ok bytes h MAX_LEAVES) TILE_IDS root ts e
 
-pub list_only : (bytes : List ℕ) (h : Header) (root ts : List DirectoryEntry) → EachLists (Lists bytes h MAX_LEAVES) TILE_IDS root ts → list_at bytes h root ≡ Ok ts
+pub list_only : (bytes : List ℕ) (h : Header) (root ts : List DirectoryEntry) → EachLists (Lists bytes h MAX_LEAVES) TILE_IDS root ts
+    → list_at bytes h root ≡ Ok ts
 list_only bytes h root ts each = each_only (lists_at bytes h MAX_LEAVES) (Lists bytes h MAX_LEAVES) (lists_only bytes h MAX_LEAVES) TILE_IDS root ts each

@@ -37,7 +37,8 @@ bound_at : (bound : ℕ) (entries : List DirectoryEntry) (i : ℕ) (b : ℕ) →
 bound_at bound entries i b is = let whole : take (length entries - i) (drop i entries) ≡ drop i entries =
     take_all (length entries - i) (drop i entries) (omega (arith, length-drop i entries)) in rw (← whole) is
 
-module _ (lists : DirectoryEntry → ℕ → Read ArchiveFault (List DirectoryEntry)) (bound : ℕ) (entries : List DirectoryEntry) (i : ℕ) (d : DirectoryEntry) (before : List DirectoryEntry) (b : ℕ) where
+module _ (lists : DirectoryEntry → ℕ → Read ArchiveFault (List DirectoryEntry)) (bound : ℕ) (entries : List DirectoryEntry) (i : ℕ)
+    (d : DirectoryEntry) (before : List DirectoryEntry) (b : ℕ) where
   -- the entry at an index is listed
   pub each_on : (after : List DirectoryEntry) → i < length entries → b ≡ bound_of bound (take (length entries - (i + 1)) (drop (i + 1) entries))
       → behind before (lists (get_or entries i d) b) ≡ Ok after
@@ -88,8 +89,8 @@ lists_leaf bytes h (suc more) e bound some leaf =
     rw (run, less) refl
 
 -- the first fault of a leaf directory
-pub leaf_fault : (bytes : List ℕ) (h : Header) (more : ℕ) (e : DirectoryEntry) (bound : ℕ) (before : List DirectoryEntry) (fault : ArchiveFault) → more ≢ 0 → e.run ≤ 0
-    → UnlessOutside (λ d. leaf_at bytes h e bound ≡ Err d) fault → UnlessOutside (λ d. behind before (lists_at bytes h more e bound) ≡ Err d) fault
+pub leaf_fault : (bytes : List ℕ) (h : Header) (more : ℕ) (e : DirectoryEntry) (bound : ℕ) (before : List DirectoryEntry) (fault : ArchiveFault) → more ≢ 0
+    → e.run ≤ 0 → UnlessOutside (λ d. leaf_at bytes h e bound ≡ Err d) fault → UnlessOutside (λ d. behind before (lists_at bytes h more e bound) ≡ Err d) fault
 leaf_fault bytes h more e bound before fault some leaf failed =
     let same = lists_leaf bytes h more e bound some leaf in
     unless_on IsOutside fault (leaf_at bytes h e bound) (behind before (lists_at bytes h more e bound)) (λ d at. rw (same, at) refl) failed

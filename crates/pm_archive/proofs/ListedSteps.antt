@@ -1,14 +1,13 @@
--- Faults from outside of the bytes, and the steps of a leaf directory.
-use Rattle.std.proofs.Common.{◌≡◌, ◌≢◌, ℕ, List, Bool, true, false, cond, Ok, Err, Option, Some, None, ◌⊎◌, inl, inr, refl, sym, ap}
+-- Faults from outside of the bytes, and what is read of a directory.
+use Rattle.std.proofs.Common.{◌≡◌, ℕ, List, Bool, true, false, cond, Ok, Err, Option, Some, None, ◌⊎◌, inl, inr, refl, sym, ap}
 use Rattle.reader.specs.Reading.{Read}
-use Rattle.reader.proofs.Steps.{done, failed, same_value, same_fault, not_both}
+use Rattle.reader.proofs.Steps.{same_value, not_both}
 use Rattle.pm_archive.specs.declared.fault.ArchiveFault.{ArchiveFault}
 use Rattle.pm_archive.specs.declared.fault.ArchiveFault.TheVariants as faults
 use Rattle.pm_directory.specs.declared.entry.DirectoryEntry.{DirectoryEntry}
 use Rattle.pm_directory.specs.declared.fault.DirectoryFault.{DirectoryFault}
-use Rattle.pm_directory.specs.declared.fault.DirectoryFault.TheVariants as directory_faults
 use Rattle.pm_archive.specs.Answers.{IsOutside, UnlessOutside}
-use Rattle.pm_archive.specs.Reading.{directory_or_fault, fault_at, stray_fault, unless_stray}
+use Rattle.pm_archive.specs.Reading.{directory_or_fault}
 
 -- ---- faults from outside of the bytes
 
@@ -33,24 +32,9 @@ pub pass_none : (b : Bool) (x : ℕ) (r : Option ℕ) → cond b (Some x) r ≡ 
 pass_none true x r e = absurd (cc)
 pass_none false x r e = (refl, e)
 
--- ---- the fault of a leaf directory
+-- ---- a directory
 
--- what is read of a directory, by a reading of its own
+-- what is read of it, by a reading of its own
 pub read_ok : (offset : ℕ) (r : Read DirectoryFault (List DirectoryEntry)) (es : List DirectoryEntry) → directory_or_fault offset r ≡ Ok es → r ≡ Ok es
 read_ok offset (Ok fs) es e = ap (λ (x : List DirectoryEntry). Ok x) (same_value fs es e)
 read_ok offset (Err d) es e = absurd (not_both es (faults.Directory offset) (sym e))
-
--- that of a directory, as one of the archive
-pub read_fault : (offset : ℕ) (d : DirectoryFault) (r : Read DirectoryFault (List DirectoryEntry)) → (d ≢ directory_faults.Memory → r ≡ Err d)
-    → UnlessOutside (λ f. directory_or_fault offset r ≡ Err f) (fault_at offset d)
-read_fault offset directory_faults.Memory r h inside = absurd (inside (inr refl))
-read_fault offset _ r h inside = rw (h (λ e. cc)) refl
-
--- that of an id that isn't between others
-pub stray_done : (es : List DirectoryEntry) (o : Option ℕ) → done tt ≡ stray_fault o → unless_stray es o ≡ Ok es
-stray_done es None e = refl
-stray_done es (Some id) e = absurd (not_both tt (faults.Order id) e)
-
-pub stray_failed : (es : List DirectoryEntry) (d : ArchiveFault) (o : Option ℕ) → failed d ≡ stray_fault o → unless_stray es o ≡ Err d
-stray_failed es d None e = absurd (not_both tt d (sym e))
-stray_failed es d (Some id) e = ap failed (sym (same_fault d (faults.Order id) e))

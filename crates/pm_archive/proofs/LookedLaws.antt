@@ -144,8 +144,8 @@ abbrev Below : Leading → ℕ → List DirectoryEntry → Option DirectoryEntry
 Below Leads id tiles None = entry_of tiles id ≡ None
 Below Leads id tiles (Some e) = (bound : ℕ) × (front : List DirectoryEntry) × (e.id ≤ id) × Leads e bound front × (entry_of tiles id ≡ entry_of front id)
 
-below_same : (Leads : Leading) (id : ℕ) (tiles others : List DirectoryEntry) (o : Option DirectoryEntry) → entry_of tiles id ≡ entry_of others id → Below Leads id others o
-    → Below Leads id tiles o
+below_same : (Leads : Leading) (id : ℕ) (tiles others : List DirectoryEntry) (o : Option DirectoryEntry) → entry_of tiles id ≡ entry_of others id
+    → Below Leads id others o → Below Leads id tiles o
 below_same Leads id tiles others None same b = same ∙ b
 below_same Leads id tiles others (Some e) same b = (b.0, b.1, b.2, b.3, same ∙ b.4)
 
@@ -159,11 +159,12 @@ last_next id e n es le next =
     ∙ ap last_entry (sym (one_up_to id n es next))
 
 -- no entry behind the first is up to the id
-below_first : (Leads : Leading) → GoesFrom Leads → (id bound : ℕ) (e : DirectoryEntry) (es tiles : List DirectoryEntry) → e.id ≤ id → AllByRecursion (λ x. suc id ≤ x.id) es
-    → EachLists Leads bound (e ∷ es) tiles → Below Leads id tiles (last_up_to id (e ∷ es))
+below_first : (Leads : Leading) → GoesFrom Leads → (id bound : ℕ) (e : DirectoryEntry) (es tiles : List DirectoryEntry) → e.id ≤ id
+    → AllByRecursion (λ x. suc id ≤ x.id) es → EachLists Leads bound (e ∷ es) tiles → Below Leads id tiles (last_up_to id (e ∷ es))
 below_first Leads goes id bound e es tiles le past h =
     let rest : AreFrom (suc id) h.1 = each_from Leads goes (suc id) bound es h.1 past h.4 in
-    let same : entry_of tiles id ≡ entry_of h.0 id = ap (λ (r : List DirectoryEntry). entry_of r id) h.2 ∙ entry_before id (suc id) h.0 h.1 (omega arith) rest in
+    let same : entry_of tiles id ≡ entry_of h.0 id = ap (λ (r : List DirectoryEntry). entry_of r id) h.2
+    ∙ entry_before id (suc id) h.0 h.1 (omega arith) rest in
     subst (Below Leads id tiles) (sym (last_here id e es le past)) (bound_of bound es, h.0, le, h.3, same)
 
 -- no entry at all
@@ -225,7 +226,8 @@ reached_itself bytes h id more e front t le =
     let has : entry_of front id ≡ cond (ltb id (e.id + e.run)) (Some e) None = ap (λ (r : List DirectoryEntry). entry_of r id) t.itself ∙ rw low refl in
     rw (leads, has) (reached_either bytes h id more e (ltb id (e.id + e.run)) some)
 
-leaf_read : (bytes : List ℕ) (h : Header) (e : DirectoryEntry) (bound : ℕ) (es : List DirectoryEntry) → IsLeaf bytes h e bound es → directory_of_entry bytes h e ≡ Ok es
+leaf_read : (bytes : List ℕ) (h : Header) (e : DirectoryEntry) (bound : ℕ) (es : List DirectoryEntry) → IsLeaf bytes h e bound es
+    → directory_of_entry bytes h e ≡ Ok es
 unfolding directory_of_entry
 leaf_read bytes h e bound es leaf =
     let lies : leb (e.offset + e.length) h.leaves.length ≡ true = le-leb (e.offset + e.length) h.leaves.length leaf.inside in
@@ -271,7 +273,8 @@ reaches bytes h id (suc more) from bound es tiles rise l =
 
 -- ---- its content
 
-pub each_lie : (h : Header) (Leads : Leading) → ((e : DirectoryEntry) (bound : ℕ) (tiles : List DirectoryEntry) → Leads e bound tiles → AllByRecursion (LiesIn h.tiles) tiles)
+pub each_lie : (h : Header) (Leads : Leading)
+    → ((e : DirectoryEntry) (bound : ℕ) (tiles : List DirectoryEntry) → Leads e bound tiles → AllByRecursion (LiesIn h.tiles) tiles)
     → (bound : ℕ) (es tiles : List DirectoryEntry) → EachLists Leads bound es tiles → AllByRecursion (LiesIn h.tiles) tiles
 each_lie h Leads lie bound [] tiles l = rw l tt
 each_lie h Leads lie bound (e ∷ es) tiles l =

@@ -14,8 +14,8 @@ use Rattle.pm_archive.proofs.ListedClauses.{has_each}
 use Rattle.pm_archive.proofs.LookedLaws.{reaches, content_found}
 use Rattle.pm_archive.proofs.OpenedLaws.{one_header}
 
-pub looked_below : (bytes : List ℕ) (h : Header) (root tiles : List DirectoryEntry) (id : ℕ) → IsDirectory (section_bytes h.root bytes) root → HasEntries bytes h tiles
-    → looked_at bytes h root id ≡ Ok (content_of bytes h tiles id)
+pub looked_below : (bytes : List ℕ) (h : Header) (root tiles : List DirectoryEntry) (id : ℕ) → IsDirectory (section_bytes h.root bytes) root
+    → HasEntries bytes h tiles → looked_at bytes h root id ≡ Ok (content_of bytes h tiles id)
 unfolding looked_at
 looked_below bytes h root tiles id dir has =
     let lists = has_each bytes h root tiles dir has in

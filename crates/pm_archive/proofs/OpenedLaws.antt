@@ -139,8 +139,8 @@ module _ (bytes : List ℕ) (h : Header) (count : ℕ) (all : count ≡ length b
 
 -- ---- the root directory
 
-pub root_read : (bytes : List ℕ) (h : Header) (root : List DirectoryEntry) → directory_or_fault h.root.offset (directory_at (section_bytes h.root bytes)) ≡ Ok root
-    → IsDirectory (section_bytes h.root bytes) root
+pub root_read : (bytes : List ℕ) (h : Header) (root : List DirectoryEntry)
+    → directory_or_fault h.root.offset (directory_at (section_bytes h.root bytes)) ≡ Ok root → IsDirectory (section_bytes h.root bytes) root
 root_read bytes h root e = directory_ok (section_bytes h.root bytes) root (read_ok h.root.offset (directory_at (section_bytes h.root bytes)) root e)
 
 refused : (offset : ℕ) (r : Read DirectoryFault (List DirectoryEntry)) (d : ArchiveFault) → directory_or_fault offset r ≡ Err d → d ≡ faults.Directory offset

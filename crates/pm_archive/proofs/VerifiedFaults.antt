@@ -23,8 +23,8 @@ module _ (bytes : List ℕ) (h : Header) (root : List DirectoryEntry) (tiles : L
   other_count = unless_weaker (IsCountFault h tiles) (VerifyingHas bytes h root) (λ d f. bad_count f.0 tiles f.1 metadata listed f.2)
 
   -- behind the tiles that can be read, the first that can't be
-  first_unread : HasCounts h tiles → AreVector h → (d : ArchiveFault) (front es : List DirectoryEntry) → tiles ≡ front ++ es → AllByRecursion (HasTile bytes h) front
-      → IsFirstTileFault bytes h es d → VerifyingHas bytes h root d
+  first_unread : HasCounts h tiles → AreVector h → (d : ArchiveFault) (front es : List DirectoryEntry) → tiles ≡ front ++ es
+      → AllByRecursion (HasTile bytes h) front → IsFirstTileFault bytes h es d → VerifyingHas bytes h root d
   first_unread counts vector d front [] parts read f = absurd f
   first_unread counts vector d front (e ∷ es) parts read (inl f) =
       bad_tile front e es f.0 metadata (subst (λ (ts : List DirectoryEntry). list_at bytes h root ≡ Ok ts) parts listed)

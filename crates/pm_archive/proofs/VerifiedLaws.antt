@@ -78,12 +78,12 @@ at_index P (e ∷ es) (suc i) d below all = at_index P es i d (omega arith) all.
 from_index : (es : List DirectoryEntry) (i : ℕ) (d : DirectoryEntry) → i < length es → drop i es ≡ get_or es i d ∷ drop (i + 1) es
 from_index es i d below = rw add-one (drop-cons es i d below)
 
-pub each_from : (P : DirectoryEntry → Type 0) (es : List DirectoryEntry) (i : ℕ) (d : DirectoryEntry) → i < length es → P (get_or es i d) → AllByRecursion P (drop (i + 1) es)
-    → AllByRecursion P (drop i es)
+pub each_from : (P : DirectoryEntry → Type 0) (es : List DirectoryEntry) (i : ℕ) (d : DirectoryEntry) → i < length es → P (get_or es i d)
+    → AllByRecursion P (drop (i + 1) es) → AllByRecursion P (drop i es)
 each_from P es i d below here rest = subst (AllByRecursion P) (sym (from_index es i d below)) (here, rest)
 
-pub first_from : (bytes : List ℕ) (h : Header) (es : List DirectoryEntry) (i : ℕ) (d : DirectoryEntry) (f : ArchiveFault) → i < length es → HasTile bytes h (get_or es i d)
-    → IsFirstTileFault bytes h (drop (i + 1) es) f → IsFirstTileFault bytes h (drop i es) f
+pub first_from : (bytes : List ℕ) (h : Header) (es : List DirectoryEntry) (i : ℕ) (d : DirectoryEntry) (f : ArchiveFault) → i < length es
+    → HasTile bytes h (get_or es i d) → IsFirstTileFault bytes h (drop (i + 1) es) f → IsFirstTileFault bytes h (drop i es) f
 first_from bytes h es i d f below here rest =
     let P : List DirectoryEntry → Type 0 = λ xs. IsFirstTileFault bytes h xs f in
     subst P (sym (from_index es i d below)) (inr (here, rest))

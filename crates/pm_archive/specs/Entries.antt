@@ -35,8 +35,8 @@ AreBetween from bound entries = AllByRecursion (λ e. (from ≤ e.id) × (ids_be
 -- the entries lead to these tile entries, one after the other
 abbrev pub EachLists : (DirectoryEntry → ℕ → List DirectoryEntry → Type 0) → ℕ → List DirectoryEntry → List DirectoryEntry → Type 0
 EachLists Leads bound [] tiles = tiles ≡ []
-EachLists Leads bound (e ∷ es) tiles = (front : List DirectoryEntry) × (rest : List DirectoryEntry) × (tiles ≡ front ++ rest) × Leads e (bound_of bound es) front
-    × EachLists Leads bound es rest
+EachLists Leads bound (e ∷ es) tiles = (front : List DirectoryEntry) × (rest : List DirectoryEntry) × (tiles ≡ front ++ rest)
+    × Leads e (bound_of bound es) front × EachLists Leads bound es rest
 
 -- a tile entry lists itself
 pub record ListsTile (h : Header) (e : DirectoryEntry) (tiles : List DirectoryEntry) : Type 0 where
@@ -59,7 +59,8 @@ Lists bytes h (suc more) e bound tiles = ListsTile h e tiles
 
 -- these are the tile entries below the root directory, in ascending order
 abbrev pub HasEntries : List ℕ → Header → List DirectoryEntry → Type 0
-HasEntries bytes h tiles = (root : List DirectoryEntry) × IsDirectory (section_bytes h.root bytes) root × EachLists (Lists bytes h MAX_LEAVES) TILE_IDS root tiles
+HasEntries bytes h tiles = (root : List DirectoryEntry) × IsDirectory (section_bytes h.root bytes) root
+    × EachLists (Lists bytes h MAX_LEAVES) TILE_IDS root tiles
 
 -- the entry whose run has the id
 abbrev pub entry_of : List DirectoryEntry → ℕ → Option DirectoryEntry

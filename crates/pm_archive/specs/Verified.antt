@@ -61,6 +61,6 @@ pub data VerifyingHas (bytes : List ℕ) (h : Header) (root : List DirectoryEntr
   bad_entries : IsMetadata (section_bytes h.metadata bytes) → list_at bytes h root ≡ Err d → VerifyingHas bytes h root d
   bad_count : (c : Count) → (tiles : List DirectoryEntry) → d ≡ faults.Count c → IsMetadata (section_bytes h.metadata bytes) → list_at bytes h root ≡ Ok tiles
       → HasOtherCount h tiles c → VerifyingHas bytes h root d
-  bad_tile : (front : List DirectoryEntry) → (e : DirectoryEntry) → (rest : List DirectoryEntry) → d ≡ faults.Tile e.id → IsMetadata (section_bytes h.metadata bytes)
-      → list_at bytes h root ≡ Ok (front ++ e ∷ rest) → HasCounts h (front ++ e ∷ rest)
+  bad_tile : (front : List DirectoryEntry) → (e : DirectoryEntry) → (rest : List DirectoryEntry) → d ≡ faults.Tile e.id
+      → IsMetadata (section_bytes h.metadata bytes) → list_at bytes h root ≡ Ok (front ++ e ∷ rest) → HasCounts h (front ++ e ∷ rest)
       → AreVector h → AllByRecursion (HasTile bytes h) front → ¬ HasTile bytes h e → VerifyingHas bytes h root d

@@ -39,19 +39,16 @@ pub(crate) fn is_tile(alloc: Global, content: &[u8]) -> Result<bool, AllocError>
     }
 }
 
-// The content of an id is a tile.
-fn check_is_tile(is: bool, id: u64) -> Result<(), ArchiveFault>
-    ensures tile { OnOk result (IsTrue is) }
-    ensures fault { IfErr result (λ fault. (fault ≡ ArchiveFault.Tile id) × ¬ IsTrue is) }
+// What was asked of an archive holds, or this is its fault.
+pub(crate) fn check_holds(is: bool, otherwise: ArchiveFault) -> Result<(), ArchiveFault>
+    ensures holds { OnOk result (IsTrue is) }
+    ensures fault { IfErr result (λ fault. (fault ≡ otherwise) × ¬ IsTrue is) }
 {
-    if is {
-        Ok(())
-    } else {
-        Err(ArchiveFault::Tile(id))
-    }
+    if is { Ok(()) } else { Err(otherwise) }
 }
 
 // Reads the tile of an entry.
+#[tactic(auto, unfolding(crate::specs::Reading::content_of_tile))]
 fn check_tile<B: Bytes>(
     alloc: Global,
     source: &mut B,
@@ -67,7 +64,7 @@ fn check_tile<B: Bytes>(
 {
     let content = content_of(alloc, source, header, entry)?;
     match is_tile(alloc, &content) {
-        Ok(is) => check_is_tile(is, entry.id),
+        Ok(is) => check_holds(is, ArchiveFault::Tile(entry.id)),
         Err(_) => Err(ArchiveFault::Memory),
     }
 }

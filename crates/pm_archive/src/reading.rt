@@ -1,13 +1,13 @@
 //! Pieces of a source: its bytes and its directories.
 
-ghost use Rattle.std.specs.Prelude.{◌≡◌, ◌↔◌, ℕ, ◌+◌, ◌≤◌, List, Err, length, IfOk, IfErr, OnOk, IsTrue, MatchResult, slice_range};
+ghost use Rattle.std.specs.Prelude.{◌≡◌, ◌↔◌, ℕ, ◌+◌, ◌≤◌, List, Err, length, IfOk, IfErr, OnOk, IsTrue, slice_range};
 ghost use Rattle.reader.specs.Reading.{GivesUnless};
 ghost use Rattle.std.specs.List.{AllByRecursion};
 ghost use Rattle.pm_directory.specs.Directory.{IsAscending, IsEntry};
 ghost use Rattle.pm_directory.specs.Reading.{directory_at};
 ghost use Rattle.byte_source.specs.Source.{Keeps};
 ghost use Rattle.pm_archive.specs.Sections.{end_of};
-ghost use Rattle.pm_archive.specs.Entries.{LiesIn, entry_bytes};
+ghost use Rattle.pm_archive.specs.Entries.{LiesIn};
 ghost use Rattle.pm_archive.specs.Reading.{content_of_tile, directory_of_entry, directory_or_fault, fault_at};
 ghost use Rattle.pm_archive.specs.Answers.{IsOutside};
 
@@ -140,8 +140,6 @@ pub(crate) fn content_of<B: Bytes>(
     requires { end_of header.now.tiles ≤ B.count source.old }
     ensures source { Keeps B.count B.holds B.fails B.unchanged source.old source.new }
     ensures content { (bytes : List ℕ) → B.holds source.new bytes → GivesUnless IsOutside (λ v. v.items) result (content_of_tile bytes header.now entry) }
-    ensures inside { (bytes : List ℕ) → B.holds source.new bytes → LiesIn header.now.tiles entry
-        → MatchResult result (λ v. v.items ≡ entry_bytes header.now.tiles entry bytes) IsOutside }
     ensures read { result ≡ Err ArchiveFault.Read → B.fails source.old }
     ensures memory { result ≡ Err ArchiveFault.Memory → LiesIn header.now.tiles entry }
 {

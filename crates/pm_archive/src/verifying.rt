@@ -1,6 +1,6 @@
 //! Whether an archive that was opened is sound.
 
-ghost use Rattle.std.specs.Prelude.{◌≡◌, ◌≢◌, ℕ, ◌^◌, ◌<◌, ◌≤◌, List, Ok, Err, IfOk, IfErr, OnOk, IsTrue};
+ghost use Rattle.std.specs.Prelude.{◌≡◌, ◌≢◌, ℕ, ◌^◌, ◌<◌, ◌≤◌, List, Ok, Err, IfOk, IfErr, OnOk};
 ghost use Rattle.std.specs.List.{AllByRecursion};
 ghost use Rattle.pm_directory.specs.Counts.{addressed_by};
 ghost use Rattle.pm_directory.specs.Directory.{IsAscending, IsEntry};
@@ -13,7 +13,7 @@ ghost use Rattle.pm_archive.specs.Verified.{IsVerified, VerifyingHas, AreVector,
 ghost use Rattle.pm_archive.specs.VerifiedPieces.{IsFirstTileFault, IsMetadataFault, IsCountFault};
 ghost use Rattle.pm_archive.specs.Answers.{UnlessOutside};
 
-use crate::checking::check_tiles;
+use crate::checking::{check_holds, check_tiles};
 use crate::counting::{check_counts, report_of};
 use crate::fault::ArchiveFault;
 use crate::listing::entries_below;
@@ -24,18 +24,6 @@ use byte_source::Bytes;
 use pm_directory::DirectoryEntry;
 use pm_header::{Header, NOT_COMPRESSED, VECTOR_TILES};
 use std::alloc::Global;
-
-// The metadata are an object.
-fn check_is_metadata(is: bool) -> Result<(), ArchiveFault>
-    ensures metadata { OnOk result (IsTrue is) }
-    ensures fault { IfErr result (λ fault. (fault ≡ ArchiveFault.Metadata) × ¬ IsTrue is) }
-{
-    if is {
-        Ok(())
-    } else {
-        Err(ArchiveFault::Metadata)
-    }
-}
 
 // Reads the metadata.
 fn check_metadata<B: Bytes>(
@@ -56,7 +44,7 @@ fn check_metadata<B: Bytes>(
         header.metadata.length,
     )?;
     match is_metadata(alloc, &metadata) {
-        Ok(is) => check_is_metadata(is),
+        Ok(is) => check_holds(is, ArchiveFault::Metadata),
         Err(_) => Err(ArchiveFault::Memory),
     }
 }

@@ -55,7 +55,8 @@ laid root metadata leaves contents n low high = record {
   contents_is = refl;
 }
 
-section_at : (p : SectionSpan) (before part behind : List ℕ) → p.offset ≡ length before → p.length ≡ length part → section_bytes p (before ++ (part ++ behind)) ≡ part
+section_at : (p : SectionSpan) (before part behind : List ℕ) → p.offset ≡ length before → p.length ≡ length part
+    → section_bytes p (before ++ (part ++ behind)) ≡ part
 section_at p before part behind at size = part_middle before part behind p.offset (p.offset + p.length) (sym at) (ap (λ (n : ℕ). p.offset + n) (sym size))
 
 -- each section is where the header says
@@ -160,8 +161,8 @@ is_archive bytes root metadata leaves tiles es cs h low high e joined placed dir
     (laid root metadata leaves (concat cs) (counts_of tiles es cs) low high) in
     is_laid_archive bytes root metadata leaves tiles es cs h is joined placed directories early meta
 
-pub archive_joined : {E : Type 0} (r : Result (Vec ℕ Global) E) (root metadata leaves : List ℕ) (tiles : List Tile) (es : List DirectoryEntry) (cs : List (List ℕ))
-    (h : Header) (low high : ℕ) → h ≡ header_for (lengths_of root metadata leaves (concat cs)) (counts_of tiles es cs) low high
+pub archive_joined : {E : Type 0} (r : Result (Vec ℕ Global) E) (root metadata leaves : List ℕ) (tiles : List Tile) (es : List DirectoryEntry)
+    (cs : List (List ℕ)) (h : Header) (low high : ℕ) → h ≡ header_for (lengths_of root metadata leaves (concat cs)) (counts_of tiles es cs) low high
     → ArePlaced tiles es cs → AreDirectories root leaves es → length root ≤ 14850 → IsMetadata metadata
     → IfOk r (λ v. AreJoined v.items h root metadata leaves (concat cs)) → IfOk r (λ v. IsArchiveOf v.items (tile_content tiles))
 archive_joined r root metadata leaves tiles es cs h low high e placed directories early meta =

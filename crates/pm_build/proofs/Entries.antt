@@ -63,8 +63,8 @@ past from r ts some h = by r.count refl some h
     by zero e some g = absurd (omega arith)
     by (suc n) e some g = let p = past_run from r.first n r.content ts g in (p.0, subst (λ (k : ℕ). IdsAscend (r.first + k) ts) (sym e) p.1)
 
-ascend : (from : ℕ) (cs : List (List ℕ)) (rs : List TileRun) (es : List DirectoryEntry) → AllByRecursion HasCount rs → EachPlaced cs rs es → IdsAscend from (tiles_in rs)
-    → AscendFrom from es
+ascend : (from : ℕ) (cs : List (List ℕ)) (rs : List TileRun) (es : List DirectoryEntry) → AllByRecursion HasCount rs → EachPlaced cs rs es
+    → IdsAscend from (tiles_in rs) → AscendFrom from es
 ascend from cs [] [] counts h t = tt
 ascend from cs [] (e ∷ es) counts h t = absurd h
 ascend from cs (r ∷ rs) [] counts h t = tt
@@ -151,7 +151,8 @@ lengths_of [] h = tt
 lengths_of (r ∷ runs) h = (h.0.length_fits, lengths_of runs h.1)
 
 -- a run's content has a length that an entry can say
-pub lengths_fit : (tiles : List Tile) (runs : List Run) → AreTiles tiles → AreLongestRuns tiles (run_views runs) → All (λ r. length r.content.items < 2 ^ 32) runs
+pub lengths_fit : (tiles : List Tile) (runs : List Run) → AreTiles tiles → AreLongestRuns tiles (run_views runs)
+    → All (λ r. length r.content.items < 2 ^ 32) runs
 lengths_fit tiles runs t l =
     All-from_recursion (λ (r : Run). length r.content.items < 2 ^ 32) runs (lengths_of runs (runs_in tiles (run_views runs) t l))
 

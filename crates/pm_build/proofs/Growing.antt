@@ -1,10 +1,10 @@
 -- Runs as entries: one run more.
-use Rattle.std.proofs.Common.{◌≡◌, ◌≢◌, ℕ, ◌+◌, ◌^◌, ◌<◌, ◌≤◌, List, [], ◌∷◌, ◌++◌, length, map, take, get_or, max, ◌⊎◌, inl, inr, Option, Some, None, refl, sym, ap}
-use Rattle.std.proofs.Common.{subst, ◌∙◌, arith}
+use Rattle.std.proofs.Common.{◌≡◌, ◌≢◌, ℕ, ◌+◌, ◌^◌, ◌<◌, ◌≤◌, List, [], ◌∷◌, ◌++◌, length, map, take, get_or, max, ◌⊎◌, inl, inr}
+use Rattle.std.proofs.Common.{Option, Some, None, refl, sym, ap, subst, ◌∙◌, arith}
 use Rattle.std.specs.List.{AllByRecursion, Contains, concat}
 use Rattle.std.specs.Str.{bytes_eq}
 use Rattle.std.proofs.lemmas.Bool.{true≢false}
-use Rattle.std.proofs.lemmas.List.{length-append, map_push, take_more, take_all}
+use Rattle.std.proofs.lemmas.List.{length-append, map_push, take_more}
 use Rattle.std.proofs.lemmas.List.Elements.{Contains-append_left, Contains-push}
 use Rattle.pm_directory.specs.Counts.{span_of}
 use Rattle.pm_directory.specs.declared.entry.DirectoryEntry.{DirectoryEntry}
@@ -88,8 +88,8 @@ end_push : (end : ℕ) (es : List DirectoryEntry) (e : DirectoryEntry) → end_o
 end_push end [] e = refl
 end_push end (x ∷ es) e = end_push (max end (x.offset + x.length)) es e
 
-clustered_push : (end : ℕ) (es : List DirectoryEntry) (e : DirectoryEntry) → IsClustered end es → (e.offset ≡ end_of end es) ⊎ (e.offset + e.length ≤ end_of end es)
-    → IsClustered end (es ++ e ∷ [])
+clustered_push : (end : ℕ) (es : List DirectoryEntry) (e : DirectoryEntry) → IsClustered end es
+    → (e.offset ≡ end_of end es) ⊎ (e.offset + e.length ≤ end_of end es) → IsClustered end (es ++ e ∷ [])
 clustered_push end [] e h p = (p, tt)
 clustered_push end (x ∷ es) e h p = (h.0, clustered_push (max end (x.offset + x.length)) es e h.1 p)
 
@@ -117,8 +117,8 @@ more_there rs r es e cs h p =
       reached = reached_more es e (spans_from 0 cs) h.reached;
     }
 
-more_new : (rs : List TileRun) (r : TileRun) (es : List DirectoryEntry) (e : DirectoryEntry) (cs : List (List ℕ)) → ArePlacedRuns rs es cs → offset_from 0 cs r.content ≡ None
-    → IsPlaced (cs ++ r.content ∷ []) r e → ArePlacedRuns (rs ++ r ∷ []) (es ++ e ∷ []) (cs ++ r.content ∷ [])
+more_new : (rs : List TileRun) (r : TileRun) (es : List DirectoryEntry) (e : DirectoryEntry) (cs : List (List ℕ)) → ArePlacedRuns rs es cs
+    → offset_from 0 cs r.content ≡ None → IsPlaced (cs ++ r.content ∷ []) r e → ArePlacedRuns (rs ++ r ∷ []) (es ++ e ∷ []) (cs ++ r.content ∷ [])
 more_new rs r es e cs h none p =
     let offset : Some e.offset ≡ Some (0 + length (concat cs)) = sym p.offset_is ∙ push_same 0 cs r.content none in
     let offset_is : e.offset ≡ 0 + length (concat cs) = cc in
@@ -152,13 +152,8 @@ more_placed rs r es e old new h grown p = by (offset_from 0 old r.content) refl
 
 -- ---- the loop over the runs
 
-pub placed_none : (runs : List Run) (contents : List (List ℕ)) (es : List DirectoryEntry) → contents ≡ [] → es ≡ [] → ArePlacedRuns (run_views (take 0 runs)) es contents
-placed_none runs contents es no_contents no_entries =
-    let empty : ArePlacedRuns [] [] [] = record { each = tt; different = tt; used = tt; clustered = tt; ends = refl; reached = tt } in
-    subst (λ (x : List DirectoryEntry). ArePlacedRuns [] x contents) (sym no_entries) (subst (λ (x : List (List ℕ)). ArePlacedRuns [] [] x) (sym no_contents) empty)
-
-pub placed_more : (runs : List Run) (i : ℕ) (d : Run) (es more : List DirectoryEntry) (e : DirectoryEntry) (old new : List (List ℕ)) → i < length runs → more ≡ es ++ e ∷ []
-    → ArePlacedRuns (run_views (take i runs)) es old
+pub placed_more : (runs : List Run) (i : ℕ) (d : Run) (es more : List DirectoryEntry) (e : DirectoryEntry) (old new : List (List ℕ)) → i < length runs
+    → more ≡ es ++ e ∷ [] → ArePlacedRuns (run_views (take i runs)) es old
     → new ≡ with_content old (get_or runs i d).content.items → IsPlaced new (run_view (get_or runs i d)) e
     → ArePlacedRuns (run_views (take (i + 1) runs)) more new
 placed_more runs i d es more e old new lt pushed h grown p =
@@ -169,8 +164,8 @@ placed_more runs i d es more e old new lt pushed h grown p =
     (more_placed (run_views (take i runs)) (run_view (get_or runs i d)) es e old new h grown p))
 
 -- the same of a run and the bytes of its content, as the loop has them
-pub placed_item : (runs : List Run) (i : ℕ) (run : Run) (es more : List DirectoryEntry) (e : DirectoryEntry) (old new : List (List ℕ)) (bytes : List ℕ) → i < length runs
-    → run ≡ get_or runs i run → more ≡ es ++ e ∷ [] → ArePlacedRuns (run_views (take i runs)) es old → bytes ≡ run.content.items
+pub placed_item : (runs : List Run) (i : ℕ) (run : Run) (es more : List DirectoryEntry) (e : DirectoryEntry) (old new : List (List ℕ)) (bytes : List ℕ)
+    → i < length runs → run ≡ get_or runs i run → more ≡ es ++ e ∷ [] → ArePlacedRuns (run_views (take i runs)) es old → bytes ≡ run.content.items
     → new ≡ with_content old bytes → e.id ≡ run.first → e.run ≡ run.count → e.length ≡ length run.content.items → offset_from 0 new bytes ≡ Some e.offset
     → e.offset < 2 ^ 64 → ArePlacedRuns (run_views (take (i + 1) runs)) more new
 placed_item runs i run es more e old new bytes lt at pushed h content grown id count size offset fits =
@@ -184,7 +179,3 @@ placed_item runs i run es more e old new bytes lt at pushed h content grown id c
     placed_more runs i run es more e old new lt pushed h
     (grown ∙ ap (λ (bs : List ℕ). with_content old bs) content ∙ ap (λ (r : Run). with_content old r.content.items) at)
     (subst (λ (r : Run). IsPlaced new (run_view r) e) at placed)
-
-pub placed_all : (runs : List Run) (i : ℕ) (es : List DirectoryEntry) (contents : List (List ℕ)) → length runs ≤ i → ArePlacedRuns (run_views (take i runs)) es contents
-    → ArePlacedRuns (run_views runs) es contents
-placed_all runs i es contents le h = subst (λ (x : List Run). ArePlacedRuns (run_views x) es contents) (take_all i runs le) h

@@ -47,8 +47,8 @@ names_ascend from bytes [] es named h = tt
 names_ascend from bytes (n ∷ ns) es (front, rest, parts, leaf, named) h =
     split front leaf.first (subst (λ (xs : List DirectoryEntry). AscendFrom from xs) parts h) (names_ascend (ids_behind n) bytes ns rest named)
   where
-    split : (front : List DirectoryEntry) → StartWith n.id front → AscendFrom from (front ++ rest) → (AscendFrom (ids_behind n) rest → AscendFrom (ids_behind n) ns)
-        → AscendFrom from (n ∷ ns)
+    split : (front : List DirectoryEntry) → StartWith n.id front → AscendFrom from (front ++ rest)
+        → (AscendFrom (ids_behind n) rest → AscendFrom (ids_behind n) ns) → AscendFrom from (n ∷ ns)
     split [] first h next = absurd first
     split (f ∷ fs) first h next =
         let at = h.0 in
@@ -69,8 +69,8 @@ leaf_longer bytes more n es h =
       directory = subst (λ (xs : List ℕ). IsDirectory xs es) (sym (part_front bytes more n.offset (n.offset + n.length) inside)) h.directory;
     }
 
-named_more : (bytes more : List ℕ) (names es : List DirectoryEntry) (name : DirectoryEntry) (leaf : List DirectoryEntry) → NameLeaves bytes names es → NamesLeaf (bytes ++ more) name leaf
-    → NameLeaves (bytes ++ more) (names ++ name ∷ []) (es ++ leaf)
+named_more : (bytes more : List ℕ) (names es : List DirectoryEntry) (name : DirectoryEntry) (leaf : List DirectoryEntry) → NameLeaves bytes names es
+    → NamesLeaf (bytes ++ more) name leaf → NameLeaves (bytes ++ more) (names ++ name ∷ []) (es ++ leaf)
 named_more bytes more [] es name leaf none h = (leaf, [], ap (λ (xs : List DirectoryEntry). xs ++ leaf) none ∙ sym (append-nil leaf), h, refl)
 named_more bytes more (n ∷ ns) es name leaf (front, rest, parts, first, named) h = (
   front,
@@ -91,8 +91,8 @@ first_id : (id : ℕ) (leaf : List DirectoryEntry) → StartWith id leaf → All
 first_id id [] first each = absurd first
 first_id id (e ∷ es) first each = let fits = each.0.ids_fit in omega (arith, first)
 
-pub leaf_pushed : (bytes piece : List ℕ) (names es leaf : List DirectoryEntry) (name : DirectoryEntry) → AreLeaves bytes names es → IsNameOf bytes piece leaf name
-    → IsDirectory piece leaf → AllByRecursion IsEntry leaf
+pub leaf_pushed : (bytes piece : List ℕ) (names es leaf : List DirectoryEntry) (name : DirectoryEntry) → AreLeaves bytes names es
+    → IsNameOf bytes piece leaf name → IsDirectory piece leaf → AllByRecursion IsEntry leaf
     → 0 < length piece → length piece ≤ 2 + 29 * length leaf → length leaf ≤ 512 → length (bytes ++ piece) < 2 ^ 64
     → AreLeaves (bytes ++ piece) (names ++ name ∷ []) (es ++ leaf)
 leaf_pushed bytes piece names es leaf name h is directory each some short few fits =

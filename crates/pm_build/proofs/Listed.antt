@@ -96,9 +96,9 @@ leaves_listed bytes leaves h from (n ∷ ns) es at size (front, rest, parts, lea
     )
 
 -- directories of tile entries list these
-pub has_entries : (bytes root leaves : List ℕ) (h : Header) (es : List DirectoryEntry) → section_bytes h.root bytes ≡ root → section_bytes h.leaves bytes ≡ leaves
-    → h.leaves.length ≡ length leaves → AreDirectories root leaves es → AscendFrom 0 es → AllByRecursion IsEntry es → AllByRecursion (λ e. 0 < e.run) es
-    → AllByRecursion (LiesIn h.tiles) es → HasEntries bytes h es
+pub has_entries : (bytes root leaves : List ℕ) (h : Header) (es : List DirectoryEntry) → section_bytes h.root bytes ≡ root
+    → section_bytes h.leaves bytes ≡ leaves → h.leaves.length ≡ length leaves → AreDirectories root leaves es → AscendFrom 0 es → AllByRecursion IsEntry es
+    → AllByRecursion (λ e. 0 < e.run) es → AllByRecursion (LiesIn h.tiles) es → HasEntries bytes h es
 has_entries bytes root leaves h es at_root at_leaves size (inl d) ascend each tiles inside =
     (es, subst (λ (xs : List ℕ). IsDirectory xs es) (sym at_root) d.0, tiles_listed bytes h 2 TILE_IDS es tiles inside)
 has_entries bytes root leaves h es at_root at_leaves size (inr d) ascend each tiles inside =

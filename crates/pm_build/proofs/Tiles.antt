@@ -27,12 +27,6 @@ IsShort c = length c < 2 ^ 32
 
 -- ---- what each entry has
 
-pub as_many : (bytes : List ℕ) (rs : List TileRun) (es : List DirectoryEntry) → EachNames bytes rs es → length es ≡ length rs
-as_many bytes [] [] named = refl
-as_many bytes [] (e ∷ es) named = absurd named
-as_many bytes (r ∷ rs) [] named = absurd named
-as_many bytes (r ∷ rs) (e ∷ es) named = ap (λ (n : ℕ). suc n) (as_many bytes rs es named.1)
-
 pub have_tiles : (bytes : List ℕ) (rs : List TileRun) (es : List DirectoryEntry) → EachNames bytes rs es → AllByRecursion HasTiles rs
     → AllByRecursion (λ e. 0 < e.run) es
 have_tiles bytes [] [] named some = tt
@@ -80,7 +74,8 @@ short_used all (c ∷ cs) short used =
     let others = short_used all cs short used.1 in
     omega (arith, length-append c (concat cs))
 
-pub contents_fit : (tiles : List Tile) (es : List DirectoryEntry) (cs : List (List ℕ)) → ArePlaced tiles es cs → length es ≤ 131072 → length (concat cs) ≤ 2 ^ 49
+pub contents_fit : (tiles : List Tile) (es : List DirectoryEntry) (cs : List (List ℕ)) → ArePlaced tiles es cs → length es ≤ 131072
+    → length (concat cs) ≤ 2 ^ 49
 contents_fit tiles es cs placed few =
     let different = distinct_count-le same_span (map span_of es) in
     let counted = placed.counted in
@@ -106,8 +101,8 @@ addressed_all bytes (r ∷ rs) (e ∷ es) named =
       addressed_all bytes rs es named.1,
     )
 
-pub some_entries : (bytes : List ℕ) (rs : List TileRun) (es : List DirectoryEntry) (tiles : List Tile) → EachNames bytes rs es → tiles_in rs ≡ tiles → tiles ≢ []
-    → 0 < length es
+pub some_entries : (bytes : List ℕ) (rs : List TileRun) (es : List DirectoryEntry) (tiles : List Tile) → EachNames bytes rs es → tiles_in rs ≡ tiles
+    → tiles ≢ [] → 0 < length es
 some_entries bytes [] [] tiles named together some = absurd (some (sym together))
 some_entries bytes [] (e ∷ es) tiles named together some = absurd named
 some_entries bytes (r ∷ rs) [] tiles named together some = absurd named

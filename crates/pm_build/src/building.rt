@@ -1,8 +1,8 @@
 ghost use Rattle.std.specs.Prelude.{◌≡◌, ℕ, ◌+◌, ◌*◌, ◌^◌, ◌<◌, ◌≤◌, List, length, IfOk, map, Contains};
 ghost use Rattle.std.specs.List.{AllByRecursion, concat};
 ghost use Rattle.pm_build.specs.Tiles.{AreTiles};
-ghost use Rattle.pm_build.specs.Runs.{TileRun, AreLongestRuns, tiles_in};
-ghost use Rattle.pm_build.specs.Joined.{run_views, runs_of};
+ghost use Rattle.pm_build.specs.Runs.{AreLongestRuns, tiles_in};
+ghost use Rattle.pm_build.specs.Joined.{run_views};
 ghost use Rattle.pm_build.specs.Placed.{AreDifferent, ArePlaced};
 ghost use Rattle.pm_archive.specs.Archive.{IsArchiveOf, IsMetadata};
 ghost use Rattle.pm_build.specs.Built.{tile_content};

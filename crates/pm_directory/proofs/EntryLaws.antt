@@ -235,8 +235,8 @@ said_more before d r l o ds rs ls os e es n h = record {
   each = (n.proper, h.each);
 }
 
-pub entries_ok : (before : Option DirectoryEntry) (front : List DirectoryEntry) (ds rs ls os : List ℕ) (all : List DirectoryEntry) → length rs ≡ length ds → length ls ≡ length ds
-    → length os ≡ length ds → AllByRecursion (λ n. n < 2 ^ 64) os
+pub entries_ok : (before : Option DirectoryEntry) (front : List DirectoryEntry) (ds rs ls os : List ℕ) (all : List DirectoryEntry) → length rs ≡ length ds
+    → length ls ≡ length ds → length os ≡ length ds → AllByRecursion (λ n. n < 2 ^ 64) os
     → entries_at before front ds rs ls os ≡ Ok all → (es : List DirectoryEntry) × (all ≡ front ++ es) × AreSaid before ds rs ls os es
 unfolding entries_at
 entries_ok before front [] rs ls os all er el eo fit e =
@@ -254,8 +254,8 @@ id_below : (before : Option DirectoryEntry) → id_from before ≤ ids_from befo
 id_below None = omega arith
 id_below (Some b) = omega arith
 
-pub entries_only : (before : Option DirectoryEntry) (front es : List DirectoryEntry) (os : List ℕ) → AreOffsets (end_from before) os es → AscendFrom (ids_from before) es
-    → AllByRecursion IsEntry es
+pub entries_only : (before : Option DirectoryEntry) (front es : List DirectoryEntry) (os : List ℕ) → AreOffsets (end_from before) os es
+    → AscendFrom (ids_from before) es → AllByRecursion IsEntry es
     → entries_at before front (id_deltas (id_from before) es) (runs_of es) (lengths_of es) os ≡ Ok (front ++ es)
 unfolding entries_at
 entries_only before front [] [] offsets ascend each = ap (λ (all : List DirectoryEntry). done all) (sym (append-nil front))
@@ -275,8 +275,8 @@ entries_only before front (e ∷ es) (o ∷ os) offsets ascend each =
     ∙ entries_only (Some e) (front ++ e ∷ []) es os offsets.1 ascend.1 each.1
     ∙ ap (λ (all : List DirectoryEntry). done all) (append_assoc front (e ∷ []) es)
 
-pub entries_err : (before : Option DirectoryEntry) (front : List DirectoryEntry) (ds rs ls os : List ℕ) (d : DirectoryFault) → length rs ≡ length ds → length ls ≡ length ds
-    → length os ≡ length ds → AllByRecursion (λ n. n < 2 ^ 64) os
+pub entries_err : (before : Option DirectoryEntry) (front : List DirectoryEntry) (ds rs ls os : List ℕ) (d : DirectoryFault) → length rs ≡ length ds
+    → length ls ≡ length ds → length os ≡ length ds → AllByRecursion (λ n. n < 2 ^ 64) os
     → entries_at before front ds rs ls os ≡ Err d → EntriesHave before ds rs ls os d
 unfolding entries_at
 entries_err before front [] rs ls os d er el eo fit e = absurd (not_both front d e)

@@ -34,8 +34,8 @@ module _ (ds rs ls os : List ℕ) where
   abbrev behind : List DirectoryEntry → ℕ → DirectoryEntry → Read DirectoryFault (List DirectoryEntry)
   behind front i e = entries_from (Some e) (front ++ e ∷ []) (i + 1)
 
-  entries_step : (before : Option DirectoryEntry) (front : List DirectoryEntry) (i : ℕ) → i < length ds → length rs ≡ length ds → length ls ≡ length ds → length os ≡ length ds
-      → entries_from before front i ≡ (entry_from before i >>= behind front i)
+  entries_step : (before : Option DirectoryEntry) (front : List DirectoryEntry) (i : ℕ) → i < length ds → length rs ≡ length ds → length ls ≡ length ds
+      → length os ≡ length ds → entries_from before front i ≡ (entry_from before i >>= behind front i)
   unfolding entries_at
   entries_step before front i lt er el eo =
       let d = front_at ds i lt in
@@ -44,14 +44,14 @@ module _ (ds rs ls os : List ℕ) where
       let o = front_at os i (omega arith) in
       rw (d, r, l, o) refl
 
-  pub entries_on : (before : Option DirectoryEntry) (front : List DirectoryEntry) (i : ℕ) (e : DirectoryEntry) (whole : Read DirectoryFault (List DirectoryEntry))
-      → i < length ds → length rs ≡ length ds → length ls ≡ length ds → length os ≡ length ds
+  pub entries_on : (before : Option DirectoryEntry) (front : List DirectoryEntry) (i : ℕ) (e : DirectoryEntry)
+      (whole : Read DirectoryFault (List DirectoryEntry)) → i < length ds → length rs ≡ length ds → length ls ≡ length ds → length os ≡ length ds
       → entry_from before i ≡ Ok e → entries_from before front i ≡ whole → entries_from (Some e) (front ++ e ∷ []) (i + 1) ≡ whole
   entries_on before front i e whole lt er el eo is so_far =
       sym (entries_step before front i lt er el eo ∙ then_on (entry_from before i) (behind front i) e is) ∙ so_far
 
-  pub entries_stop : (before : Option DirectoryEntry) (front : List DirectoryEntry) (i : ℕ) (d : DirectoryFault) (whole : Read DirectoryFault (List DirectoryEntry))
-      → i < length ds → length rs ≡ length ds → length ls ≡ length ds → length os ≡ length ds
+  pub entries_stop : (before : Option DirectoryEntry) (front : List DirectoryEntry) (i : ℕ) (d : DirectoryFault)
+      (whole : Read DirectoryFault (List DirectoryEntry)) → i < length ds → length rs ≡ length ds → length ls ≡ length ds → length os ≡ length ds
       → entry_from before i ≡ Err d → entries_from before front i ≡ whole → whole ≡ Err d
   entries_stop before front i d whole lt er el eo is so_far =
       sym so_far ∙ entries_step before front i lt er el eo ∙ then_stop (entry_from before i) (behind front i) d is

@@ -1,5 +1,5 @@
 -- Calls of a disk, one after the other, for dependent crates.
-use Rattle.std.proofs.Common.{◌≡◌, ◌∙◌, refl, ℕ}
+use Rattle.std.proofs.Common.{◌∙◌, refl, ℕ}
 use Rattle.sector_disk.specs.Disk.{History}
 use Rattle.sector_disk.specs.Asked.{MayWrite, OnlyReads}
 

@@ -1,5 +1,6 @@
 -- Runs of sectors in a history.
-use Rattle.std.proofs.Common.{◌≡◌, ◌⊎◌, ◌∙◌, ◌+◌, ◌*◌, ◌/◌, ◌<◌, ◌≤◌, ◌∷◌, ◌++◌, [], ℕ, List, suc, zero, inl, inr, ap, sym, refl, subst, arith, length, get_or, take, set}
+use Rattle.std.proofs.Common.{◌≡◌, ◌⊎◌, ◌∙◌, ◌+◌, ◌*◌, ◌/◌, ◌<◌, ◌≤◌, ◌∷◌, ◌++◌, [], ℕ, List, suc, zero, inl, inr, ap, sym, refl, subst, arith}
+use Rattle.std.proofs.Common.{length, get_or, take, set}
 use Rattle.std.proofs.lemmas.List.{take_more_set, get_or-take, length-take-le}
 use Rattle.sector_disk.specs.declared.disk.TheConstants.{SECTOR_BYTES}
 use Rattle.sector_disk.specs.Calls.{Call, replayed, IsHonest, GaveRun}
@@ -83,7 +84,8 @@ after_refused old new offset sectors is found honest = (
 -- what a file gave is known
 pub after_gave : (old new : List Call) (at : ℕ) (sectors : List (List ℕ)) → new ≡ gave_run (at * SECTOR_BYTES) sectors ∷ old → (found : History)
     → IsHonest found new → Shows (seen (replayed found new)) at (length sectors) sectors
-after_gave old new at sectors is found honest = subst (λ (calls : List Call). IsHonest found calls → Shows (seen (replayed found calls)) at (length sectors) sectors)
+after_gave old new at sectors is found honest =
+    subst (λ (calls : List Call). IsHonest found calls → Shows (seen (replayed found calls)) at (length sectors) sectors)
     (sym is) (λ gives. subst (λ (n : ℕ). Shows (seen (replayed found old)) n (length sectors) sectors) (by_offset at) gives.1) honest
 
 -- which changes no history

@@ -1,5 +1,6 @@
 //! A disk of which some calls fail.
 ghost use Rattle.std.specs.Prelude.{◌≡◌, ◌<◌, ◌+◌, ◌↔◌, OnOk, IsErr};
+ghost use Rattle.sector_disk.specs.Asked.{MayWrite, OnlyReads};
 ghost use Rattle.sector_disk.specs.Disk.{seen, Writes, Syncs, CountsFault};
 ghost use Rattle.sector_disk.specs.Faulty.{IsMade, Fails, NextFails, BecomesOf, CountsCall, Reports, SomeOutcome};
 
@@ -148,10 +149,8 @@ impl<D: Sectors> Sectors for FaultyDisk<D> {
 
     fn read(&mut self, at: u64, into: &mut [u8; SECTOR_BYTES]) -> Result<(), DiskFault>
         requires { at < D.sectors self.old.disk }
-        ensures count { D.sectors self.new.disk ≡ D.sectors self.old.disk }
+        ensures disk { OnlyReads D.sectors D.honest D.history self.old.disk self.new.disk }
         ensures faults { CountsFault result self.old.faults self.new.faults }
-        ensures honest { D.honest self.new.disk → D.honest self.old.disk }
-        ensures history { D.honest self.new.disk → D.history self.new.disk ≡ D.history self.old.disk }
         ensures gives { D.honest self.new.disk → OnOk result (into.new ≡ seen (D.history self.old.disk) at) }
         ensures calls { CountsCall self.old.calls self.new.calls }
         ensures failing_calls { self.new.failing_calls ≡ self.old.failing_calls }
@@ -172,9 +171,8 @@ impl<D: Sectors> Sectors for FaultyDisk<D> {
 
     fn write(&mut self, at: u64, from: &[u8; SECTOR_BYTES]) -> Result<(), DiskFault>
         requires { at < D.sectors self.old.disk }
-        ensures count { D.sectors self.new.disk ≡ D.sectors self.old.disk }
+        ensures disk { MayWrite D.sectors D.honest self.old.disk self.new.disk }
         ensures faults { CountsFault result self.old.faults self.new.faults }
-        ensures honest { D.honest self.new.disk → D.honest self.old.disk }
         ensures writes { D.honest self.new.disk → Writes result at from.now (D.history self.old.disk) (D.history self.new.disk) }
         ensures calls { CountsCall self.old.calls self.new.calls }
         ensures failing_calls { self.new.failing_calls ≡ self.old.failing_calls }
@@ -194,9 +192,8 @@ impl<D: Sectors> Sectors for FaultyDisk<D> {
     }
 
     fn sync(&mut self) -> Result<(), DiskFault>
-        ensures count { D.sectors self.new.disk ≡ D.sectors self.old.disk }
+        ensures disk { MayWrite D.sectors D.honest self.old.disk self.new.disk }
         ensures faults { CountsFault result self.old.faults self.new.faults }
-        ensures honest { D.honest self.new.disk → D.honest self.old.disk }
         ensures syncs { D.honest self.new.disk → Syncs result (D.history self.old.disk) (D.history self.new.disk) }
         ensures calls { CountsCall self.old.calls self.new.calls }
         ensures failing_calls { self.new.failing_calls ≡ self.old.failing_calls }

@@ -1,6 +1,7 @@
 //! A disk in a file.
 ghost use Rattle.std.specs.Prelude.{[], ◌≡◌, ◌<◌, ◌≤◌, ◌+◌, ◌*◌, ◌/◌, ◌^◌, ◌⊎◌, ◌∷◌, take, IfOk, IfErr, IsErrAnd, IsTrue, IsOk, OnOk, OnErr, false};
 ghost use Rattle.std.proofs.Props.{props};
+ghost use Rattle.sector_disk.specs.Asked.{MayWrite, OnlyReads};
 ghost use Rattle.sector_disk.specs.Calls.{replayed, IsHonest, UpToDate, NewestFits, GaveRun, WritesBack, AsksToRead, AsksToWrite, AsksToSync};
 ghost use Rattle.sector_disk.specs.Calls.Call.{gave_none};
 ghost use Rattle.sector_disk.specs.Disk.{History, all_zeros, seen, Writes, Syncs, CountsFault};
@@ -301,10 +302,8 @@ impl<F: SectorFile + Drop, S: Start> Sectors for FileDisk<F, S> {
 
     fn read(&mut self, at: u64, into: &mut [u8; SECTOR_BYTES]) -> Result<(), DiskFault>
         requires { at < file_sectors self.old }
-        ensures count { file_sectors self.new ≡ file_sectors self.old }
+        ensures disk { OnlyReads file_sectors (FileIsHonest S.found) (file_history S.found) self.old self.new }
         ensures faults { CountsFault result (file_faults self.old) (file_faults self.new) }
-        ensures honest { FileIsHonest S.found self.new → FileIsHonest S.found self.old }
-        ensures history { FileIsHonest S.found self.new → file_history S.found self.new ≡ file_history S.found self.old }
         ensures gives { FileIsHonest S.found self.new → OnOk result (into.new ≡ seen (file_history S.found self.old) at) }
         ensures stays { FileIsHonest S.found self.old → NewestFits (replayed S.found (file_calls self.old)) (file_calls self.new)
             → FileIsHonest S.found self.new }
@@ -326,9 +325,8 @@ impl<F: SectorFile + Drop, S: Start> Sectors for FileDisk<F, S> {
 
     fn write(&mut self, at: u64, from: &[u8; SECTOR_BYTES]) -> Result<(), DiskFault>
         requires { at < file_sectors self.old }
-        ensures count { file_sectors self.new ≡ file_sectors self.old }
+        ensures disk { MayWrite file_sectors (FileIsHonest S.found) self.old self.new }
         ensures faults { CountsFault result (file_faults self.old) (file_faults self.new) }
-        ensures honest { FileIsHonest S.found self.new → FileIsHonest S.found self.old }
         ensures writes { FileIsHonest S.found self.new → Writes result at from.now (file_history S.found self.old) (file_history S.found self.new) }
         ensures stays { FileIsHonest S.found self.old → FileIsUsable self.old → FileIsHonest S.found self.new }
         ensures buffers { self.old.behind.len < RUN_SECTORS → at ≡ self.old.behind.first + self.old.behind.len
@@ -351,9 +349,8 @@ impl<F: SectorFile + Drop, S: Start> Sectors for FileDisk<F, S> {
     }
 
     fn sync(&mut self) -> Result<(), DiskFault>
-        ensures count { file_sectors self.new ≡ file_sectors self.old }
+        ensures disk { MayWrite file_sectors (FileIsHonest S.found) self.old self.new }
         ensures faults { CountsFault result (file_faults self.old) (file_faults self.new) }
-        ensures honest { FileIsHonest S.found self.new → FileIsHonest S.found self.old }
         ensures syncs { FileIsHonest S.found self.new
             → Syncs result (file_history S.found self.old) (file_history S.found self.new) }
         ensures stays { FileIsHonest S.found self.old → FileIsUsable self.old → FileIsHonest S.found self.new }

@@ -1,5 +1,6 @@
 //! A disk in memory, which can be asked what a crash leaves of it.
 ghost use Rattle.std.specs.Prelude.{◌≡◌, ◌<◌, IfOk, IsOk, OnOk};
+ghost use Rattle.sector_disk.specs.Asked.{MayWrite, OnlyReads};
 ghost use Rattle.sector_disk.specs.Crash.{chosen};
 ghost use Rattle.sector_disk.specs.Disk.{all_zeros, seen, Writes, Syncs, CountsFault};
 ghost use Rattle.sector_disk.specs.Disk.History.{begun};
@@ -74,11 +75,9 @@ impl Sectors for MemoryDisk {
 
     fn read(&mut self, at: u64, into: &mut [u8; SECTOR_BYTES]) -> Result<(), DiskFault>
         requires { at < memory_sectors self.old }
-        ensures count { memory_sectors self.new ≡ memory_sectors self.old }
+        ensures disk { OnlyReads memory_sectors ⟦<MemoryDisk as Sectors>⟧.honest memory_history self.old self.new }
         ensures faults { CountsFault result (memory_faults self.old) (memory_faults self.new) }
-        ensures honest { ⟦<MemoryDisk as Sectors>⟧.honest self.new → ⟦<MemoryDisk as Sectors>⟧.honest self.old }
         ensures stays_honest { ⟦<MemoryDisk as Sectors>⟧.honest self.new }
-        ensures history { ⟦<MemoryDisk as Sectors>⟧.honest self.new → memory_history self.new ≡ memory_history self.old }
         ensures gives { ⟦<MemoryDisk as Sectors>⟧.honest self.new → OnOk result (into.new ≡ seen (memory_history self.old) at) }
         ensures never_fails { IsOk result }
     {
@@ -88,9 +87,8 @@ impl Sectors for MemoryDisk {
 
     fn write(&mut self, at: u64, from: &[u8; SECTOR_BYTES]) -> Result<(), DiskFault>
         requires { at < memory_sectors self.old }
-        ensures count { memory_sectors self.new ≡ memory_sectors self.old }
+        ensures disk { MayWrite memory_sectors ⟦<MemoryDisk as Sectors>⟧.honest self.old self.new }
         ensures faults { CountsFault result (memory_faults self.old) (memory_faults self.new) }
-        ensures honest { ⟦<MemoryDisk as Sectors>⟧.honest self.new → ⟦<MemoryDisk as Sectors>⟧.honest self.old }
         ensures stays_honest { ⟦<MemoryDisk as Sectors>⟧.honest self.new }
         ensures writes { ⟦<MemoryDisk as Sectors>⟧.honest self.new → Writes result at from.now (memory_history self.old) (memory_history self.new) }
     {
@@ -99,9 +97,8 @@ impl Sectors for MemoryDisk {
     }
 
     fn sync(&mut self) -> Result<(), DiskFault>
-        ensures count { memory_sectors self.new ≡ memory_sectors self.old }
+        ensures disk { MayWrite memory_sectors ⟦<MemoryDisk as Sectors>⟧.honest self.old self.new }
         ensures faults { CountsFault result (memory_faults self.old) (memory_faults self.new) }
-        ensures honest { ⟦<MemoryDisk as Sectors>⟧.honest self.new → ⟦<MemoryDisk as Sectors>⟧.honest self.old }
         ensures stays_honest { ⟦<MemoryDisk as Sectors>⟧.honest self.new }
         ensures syncs { ⟦<MemoryDisk as Sectors>⟧.honest self.new → Syncs result (memory_history self.old) (memory_history self.new) }
         ensures never_fails { IsOk result }

@@ -14,7 +14,7 @@ returns-in_err-stage-clause-any_moment g c rs honest before =
 pub returns-in_err-write-clause-any_moment : goal.returns-in_err-write-clause-any_moment
 returns-in_err-write-clause-any_moment g c rs honest before =
     let journal = c.args.journal.now in
-    let staged = c.write.ensures.honest honest in
+    let staged = c.write.ensures.disk.was_honest honest in
     head_leaves _ (ring_of journal) journal.place journal.edits journal.used journal.last rs (record_of c.args.version c.args.text.now)
     (omega arith) c.requires.room (omega (arith, c.requires.next)) c.requires.text before _ (c.stage.ensures.within staged)
     (c.in_ok-stage.ensures.bodies staged) _ c.sector_of-at.ensures.is _ c.part_sector-head.ensures _ _ (c.write.ensures.writes honest)
@@ -23,8 +23,8 @@ returns-in_err-write-clause-any_moment g c rs honest before =
 pub returns-clause-frame : goal.returns-clause-frame
 returns-clause-frame g c honest =
     let journal = c.args.journal.now in
-    let written = c.sync.ensures.honest honest in
-    let staged = c.write.ensures.honest written in
+    let written = c.sync.ensures.disk.was_honest honest in
+    let staged = c.write.ensures.disk.was_honest written in
     frame_end _ (ring_of journal) journal.place journal.used (journal.last + 1) (record_of c.args.version c.args.text.now)
     (omega (arith, c.requires.text.1)) c.requires.room _ (c.stage.ensures.within staged) (c.stage.ensures.leaves staged) _ c.sector_of-at.ensures.is
     _ _ _ (c.write.ensures.writes written) _ _ (c.sync.ensures.syncs honest)
@@ -32,8 +32,8 @@ returns-clause-frame g c honest =
 pub returns-clause-any_moment : goal.returns-clause-any_moment
 returns-clause-any_moment g c rs honest before =
     let journal = c.args.journal.now in
-    let written = c.sync.ensures.honest honest in
-    let staged = c.write.ensures.honest written in
+    let written = c.sync.ensures.disk.was_honest honest in
+    let staged = c.write.ensures.disk.was_honest written in
     end_leaves _ (ring_of journal) journal.place journal.edits journal.used journal.last rs (record_of c.args.version c.args.text.now)
     (omega arith) c.requires.room (omega (arith, c.requires.next)) c.requires.text before _ (c.stage.ensures.within staged)
     (c.in_ok-stage.ensures.bodies staged) _ c.sector_of-at.ensures.is _ c.part_sector-head.ensures _ _ (c.write.ensures.writes written)
@@ -42,8 +42,8 @@ returns-clause-any_moment g c rs honest before =
 pub returns-clause-acknowledged : goal.returns-clause-acknowledged
 returns-clause-acknowledged g c rs honest before =
     let journal = c.args.journal.now in
-    let written = c.sync.ensures.honest honest in
-    let staged = c.write.ensures.honest written in
+    let written = c.sync.ensures.disk.was_honest honest in
+    let staged = c.write.ensures.disk.was_honest written in
     end_keeps _ (ring_of journal) journal.place journal.edits journal.used journal.last rs (record_of c.args.version c.args.text.now)
     (omega arith) c.requires.room (omega (arith, c.requires.next)) c.requires.text before _ (c.stage.ensures.within staged)
     (c.in_ok-stage.ensures.bodies staged) _ c.sector_of-at.ensures.is _ c.part_sector-head.ensures _ _ (c.write.ensures.writes written)
@@ -51,8 +51,8 @@ returns-clause-acknowledged g c rs honest before =
 
 pub returns-clause-steps : goal.returns-clause-steps
 returns-clause-steps g c honest =
-    let written = c.sync.ensures.honest honest in
-    let staged = c.write.ensures.honest written in
+    let written = c.sync.ensures.disk.was_honest honest in
+    let staged = c.write.ensures.disk.was_honest written in
     on_ok c.sync.result _ _ (c.sync.ensures.syncs honest)
     (λ synced_is. record {
       writes = omega (arith, ap writes_in synced_is, ap writes_in (c.in_ok-write.ensures.writes written), c.in_ok-stage.ensures.writes staged);

@@ -16,7 +16,7 @@ returns-in-Err-read_layout-clause-fault g c = λ honest.
     let fault = c.in-Err-read_layout.fault in
     ⊎_elim (λ e. inl e)
     (λ (is : IsFaultOf (g.D.Sectors.sectors c.sync.new.self) (seen (g.D.Sectors.history c.sync.new.self)) fault).
-    inr (subst (λ n. IsFaultOf n (seen (g.D.Sectors.history c.args.disk.now)) fault) c.sync.ensures.count
+    inr (subst (λ n. IsFaultOf n (seen (g.D.Sectors.history c.args.disk.now)) fault) c.sync.ensures.disk.same_count
     (subst (λ (h : History). IsFaultOf (g.D.Sectors.sectors c.sync.new.self) (seen h) fault) mid is)))
     (c.in-Err-read_layout.ensures.fault honest)
 
@@ -39,7 +39,7 @@ version_read old mid version is read = sym (subst (λ (h : History). version ≡
 pub returns-then-version-eq-LAST_VERSION-clause-upgraded : goal.returns-then-version-eq-LAST_VERSION-clause-upgraded
 returns-then-version-eq-LAST_VERSION-clause-upgraded g c = λ honest.
     let before = c.in-Ok.ensures.syncs (c.read_layout.ensures.disk.was_honest honest) in
-    let format = format_read _ _ _ _ c.in-Ok-read_layout.found.0.sectors c.sync.ensures.count before (c.in-Ok-read_layout.ensures.format honest) in
+    let format = format_read _ _ _ _ c.in-Ok-read_layout.found.0.sectors c.sync.ensures.disk.same_count before (c.in-Ok-read_layout.ensures.format honest) in
     let version = version_read _ _ c.in-Ok-read_layout.found.1 before (c.in-Ok-read_layout.ensures.version honest) in
     upgraded_already _ _ _ (c.read_layout.ensures.disk.same_history honest ∙ before) c.in-Ok-read_layout.found.0.sectors format
     (version ∙ c.if-version-eq-LAST_VERSION.true)
@@ -48,7 +48,7 @@ pub returns-in-Ok-write_and_sync-clause-any_moment : goal.returns-in-Ok-write_an
 returns-in-Ok-write_and_sync-clause-any_moment g c = λ honest.
     let there = c.write_and_sync.ensures.disk.was_honest honest in
     let before = c.in-Ok.ensures.syncs (c.read_layout.ensures.disk.was_honest there) in
-    let format = format_read _ _ _ _ c.in-Ok-read_layout.found.0.sectors c.sync.ensures.count before (c.in-Ok-read_layout.ensures.format there) in
+    let format = format_read _ _ _ _ c.in-Ok-read_layout.found.0.sectors c.sync.ensures.disk.same_count before (c.in-Ok-read_layout.ensures.format there) in
     write_upgrades _ _ _ (c.read_layout.ensures.disk.same_history there ∙ before) c.in-Ok-read_layout.found.0.sectors format
     c.format_bytes-format.result c.format_bytes-format.ensures _ (c.write_and_sync.ensures.leaves honest)
 
@@ -56,7 +56,7 @@ pub returns-in-Ok-write_and_sync-clause-upgraded : goal.returns-in-Ok-write_and_
 returns-in-Ok-write_and_sync-clause-upgraded g c = λ honest.
     let there = c.write_and_sync.ensures.disk.was_honest honest in
     let before = c.in-Ok.ensures.syncs (c.read_layout.ensures.disk.was_honest there) in
-    let format = format_read _ _ _ _ c.in-Ok-read_layout.found.0.sectors c.sync.ensures.count before (c.in-Ok-read_layout.ensures.format there) in
+    let format = format_read _ _ _ _ c.in-Ok-read_layout.found.0.sectors c.sync.ensures.disk.same_count before (c.in-Ok-read_layout.ensures.format there) in
     upgraded_now _ _ _ (c.read_layout.ensures.disk.same_history there ∙ before) c.in-Ok-read_layout.found.0.sectors format
     c.format_bytes-format.result c.format_bytes-format.ensures _ (c.in-Ok-write_and_sync.ensures.stands honest)
 
@@ -64,6 +64,6 @@ pub returns-in-Err-write_and_sync-clause-any_moment : goal.returns-in-Err-write_
 returns-in-Err-write_and_sync-clause-any_moment g c = λ honest.
     let there = c.write_and_sync.ensures.disk.was_honest honest in
     let before = c.in-Ok.ensures.syncs (c.read_layout.ensures.disk.was_honest there) in
-    let format = format_read _ _ _ _ c.in-Ok-read_layout.found.0.sectors c.sync.ensures.count before (c.in-Ok-read_layout.ensures.format there) in
+    let format = format_read _ _ _ _ c.in-Ok-read_layout.found.0.sectors c.sync.ensures.disk.same_count before (c.in-Ok-read_layout.ensures.format there) in
     write_upgrades _ _ _ (c.read_layout.ensures.disk.same_history there ∙ before) c.in-Ok-read_layout.found.0.sectors format
     c.format_bytes-format.result c.format_bytes-format.ensures _ (c.write_and_sync.ensures.leaves honest)

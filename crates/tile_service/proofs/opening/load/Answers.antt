@@ -8,7 +8,7 @@ returns-in-Ok-read_map-clause-found g c honest =
     let root_honest = c.read_map.ensures.disk.was_honest honest in
     let sync_is = c.in-Ok.ensures.syncs (c.read_root.ensures.disk.was_honest root_honest) in
     let before = live_before (g.D.Sectors.sectors c.args.disk.now) (g.D.Sectors.sectors c.sync.new.self) c.in-Ok-read_root.found.layout.sectors
-    (g.D.Sectors.history c.args.disk.now) (g.D.Sectors.history c.sync.new.self) c.in-Ok-read_root.found.root c.in-Ok.ensures.count
+    (g.D.Sectors.history c.args.disk.now) (g.D.Sectors.history c.sync.new.self) c.in-Ok-read_root.found.root c.in-Ok.ensures.disk.same_count
     sync_is (c.in-Ok-read_root.ensures.root root_honest) in
     let version_is = version_before c.in-Ok-read_root.found.version (g.D.Sectors.history c.args.disk.now) (g.D.Sectors.history c.sync.new.self)
     sync_is (c.in-Ok-read_root.ensures.version root_honest) in
@@ -20,7 +20,7 @@ returns-in-Err-read_map-clause-fault g c honest =
     let root_honest = c.read_map.ensures.disk.was_honest honest in
     let sync_is = c.in-Ok.ensures.syncs (c.read_root.ensures.disk.was_honest root_honest) in
     let before = live_before (g.D.Sectors.sectors c.args.disk.now) (g.D.Sectors.sectors c.sync.new.self) c.in-Ok-read_root.found.layout.sectors
-    (g.D.Sectors.history c.args.disk.now) (g.D.Sectors.history c.sync.new.self) c.in-Ok-read_root.found.root c.in-Ok.ensures.count
+    (g.D.Sectors.history c.args.disk.now) (g.D.Sectors.history c.sync.new.self) c.in-Ok-read_root.found.root c.in-Ok.ensures.disk.same_count
     sync_is (c.in-Ok-read_root.ensures.root root_honest) in
     let version_is = version_before c.in-Ok-read_root.found.version (g.D.Sectors.history c.args.disk.now) (g.D.Sectors.history c.sync.new.self)
     sync_is (c.in-Ok-read_root.ensures.version root_honest) in
@@ -29,7 +29,7 @@ returns-in-Err-read_map-clause-fault g c honest =
 
 pub returns-in-Err-read_root-clause-fault : goal.returns-in-Err-read_root-clause-fault
 returns-in-Err-read_root-clause-fault g c honest = root_fault_after (g.D.Sectors.sectors c.args.disk.now) (g.D.Sectors.sectors c.sync.new.self)
-    (g.D.Sectors.history c.args.disk.now) (g.D.Sectors.history c.sync.new.self) c.in-Err-read_root.fault c.in-Ok.ensures.count
+    (g.D.Sectors.history c.args.disk.now) (g.D.Sectors.history c.sync.new.self) c.in-Err-read_root.fault c.in-Ok.ensures.disk.same_count
     (c.in-Ok.ensures.syncs (c.read_root.ensures.disk.was_honest honest)) (c.in-Err-read_root.ensures.fault honest)
 
 pub returns-in-Err-clause-memory : goal.returns-in-Err-clause-memory
@@ -47,6 +47,6 @@ returns-in-Err-read_map-clause-memory g c honest is =
       c.in-Ok-read_root.found.layout.sectors,
       c.in-Ok-read_root.found.root,
       live_before (g.D.Sectors.sectors c.args.disk.now) (g.D.Sectors.sectors c.sync.new.self) c.in-Ok-read_root.found.layout.sectors
-          (g.D.Sectors.history c.args.disk.now) (g.D.Sectors.history c.sync.new.self) c.in-Ok-read_root.found.root c.in-Ok.ensures.count
+          (g.D.Sectors.history c.args.disk.now) (g.D.Sectors.history c.sync.new.self) c.in-Ok-read_root.found.root c.in-Ok.ensures.disk.same_count
           sync_is (c.in-Ok-read_root.ensures.root root_honest),
     )

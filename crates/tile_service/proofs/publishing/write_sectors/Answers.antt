@@ -62,25 +62,25 @@ loop-index-preserved g c =
 
 pub returns-in_err-sync-clause-leaves : goal.returns-in_err-sync-clause-leaves
 returns-in_err-sync-clause-leaves g c stored honest next keeps =
-    let before = c.sync.ensures.honest honest in
+    let before = c.sync.ensures.disk.was_honest honest in
     sync_holds _ _ (any_sync c.sync.result _ _ (c.sync.ensures.syncs honest)) _ _ stored _
     (c.loop-index.invariant.leaves stored before next keeps) (c.loop-index.invariant.keeps stored before next keeps)
 
 pub returns-in_err-sync-clause-keeps : goal.returns-in_err-sync-clause-keeps
 returns-in_err-sync-clause-keeps g c stored honest next keeps =
     sync_keeps _ _ (any_sync c.sync.result _ _ (c.sync.ensures.syncs honest)) _ _ stored
-    (c.loop-index.invariant.keeps stored (c.sync.ensures.honest honest) next keeps)
+    (c.loop-index.invariant.keeps stored (c.sync.ensures.disk.was_honest honest) next keeps)
 
 pub returns-in_ok-sync-clause-leaves : goal.returns-in_ok-sync-clause-leaves
 returns-in_ok-sync-clause-leaves g c stored honest next keeps =
-    let before = c.sync.ensures.honest honest in
+    let before = c.sync.ensures.disk.was_honest honest in
     sync_holds _ _ (any_sync c.sync.result _ _ (c.sync.ensures.syncs honest)) _ _ stored _
     (c.loop-index.invariant.leaves stored before next keeps) (c.loop-index.invariant.keeps stored before next keeps)
 
 pub returns-in_ok-sync-clause-keeps : goal.returns-in_ok-sync-clause-keeps
 returns-in_ok-sync-clause-keeps g c stored honest next keeps =
     sync_keeps _ _ (any_sync c.sync.result _ _ (c.sync.ensures.syncs honest)) _ _ stored
-    (c.loop-index.invariant.keeps stored (c.sync.ensures.honest honest) next keeps)
+    (c.loop-index.invariant.keeps stored (c.sync.ensures.disk.was_honest honest) next keeps)
 
 pub returns-in_err-write_area-clause-beside : goal.returns-in_err-write_area-clause-beside
 returns-in_err-write_area-clause-beside g c honest =
@@ -91,11 +91,11 @@ returns-in_err-write_area-clause-beside g c honest =
 pub returns-in_err-sync-clause-beside : goal.returns-in_err-sync-clause-beside
 returns-in_err-sync-clause-beside g c honest =
     sync_beside c.args.layout.sectors c.args.generation (g.D.Sectors.history c.args.disk.now) (g.D.Sectors.history c.loop-index.disk)
-    (g.D.Sectors.history c.sync.new.self) (c.loop-index.invariant.beside (c.sync.ensures.honest honest))
+    (g.D.Sectors.history c.sync.new.self) (c.loop-index.invariant.beside (c.sync.ensures.disk.was_honest honest))
     (any_sync c.sync.result _ _ (c.sync.ensures.syncs honest))
 
 pub returns-in_ok-sync-clause-beside : goal.returns-in_ok-sync-clause-beside
 returns-in_ok-sync-clause-beside g c honest =
     sync_beside c.args.layout.sectors c.args.generation (g.D.Sectors.history c.args.disk.now) (g.D.Sectors.history c.loop-index.disk)
-    (g.D.Sectors.history c.sync.new.self) (c.loop-index.invariant.beside (c.sync.ensures.honest honest))
+    (g.D.Sectors.history c.sync.new.self) (c.loop-index.invariant.beside (c.sync.ensures.disk.was_honest honest))
     (any_sync c.sync.result _ _ (c.sync.ensures.syncs honest))

@@ -8,4 +8,5 @@ returns-in-Some-clause-given c true h = first_among c.args.self.now.first c.args
     c.in-Some.ensures.found.0 c.in-Some.ensures.found.1
 
 pub returns-in-None-clause-other : goal.returns-in-None-clause-other
-returns-in-None-clause-other c other h = first_beside c.args.self.now.first c.args.self.now.len c.args.self.now.sectors h c.args.at (search rules) (c.in-None.ensures.none refl)
+returns-in-None-clause-other c other h =
+    first_beside c.args.self.now.first c.args.self.now.len c.args.self.now.sectors h c.args.at (search rules) (c.in-None.ensures.none refl)
