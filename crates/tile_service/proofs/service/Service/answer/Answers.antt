@@ -1,8 +1,5 @@
-use Rattle.std.proofs.Common.{◌∙◌, Ok, Err, map, option_map, refl, sym, ap, subst}
-use Rattle.std.proofs.lemmas.Bool.{false≢true}
+use Rattle.std.proofs.Common.{◌∙◌, Ok, Err, map, option_map, refl, sym}
 use Rattle.feature_model.specs.Data.{put, delete, feature_data, change_data}
-use Rattle.sector_bytes.proofs.Counts.{same_count}
-use Rattle.tile_service.specs.Events.{IsTile}
 use Rattle.tile_service.specs.Machine.{got, no_memory, single, batched, recorded_in, recorded_change, edit, begin, step, cancel, tile, look}
 use Rattle.tile_service.proofs.Callers.{edit_step, tile_step, look_step, begin_step, step_step, cancel_step}
 use Rattle.tile_service.proofs.Counted.{other_answer, memory_told, outcome_counts, edit_risen, left_risen}

@@ -1,9 +1,8 @@
 use Rattle.std.proofs.Common.{◌≡◌, inr, ℕ, [], ◌∷◌, ◌++◌, Result, Ok, Err, refl, ◌∙◌, ap, subst, arith}
-use Rattle.sector_disk.proofs.AskedLaws.{writes_on}
 use Rattle.tile_service.specs.Machine.{begin, step}
 use Rattle.tile_service.specs.Runs.{begin_and_steps, Takes}
 use Rattle.tile_service.specs.declared.fault.ServiceFault.{ServiceFault}
-use Rattle.tile_service.specs.Service.{state_of, known_after, CountsDevice}
+use Rattle.tile_service.specs.Service.{state_of, known_after}
 use Rattle.tile_service.proofs.Callers.{begin_step, step_step, run_begins, run_on, one_step_more, takes_run}
 use Rattle.tile_service.proofs.Runs.{no_known}
 use Rattle.tile_service.proofs.Shown.{keeps_on}
