@@ -12,7 +12,6 @@ use Rattle.sector_disk.specs.declared.disk.TheConstants.{SECTOR_BYTES}
 use Rattle.sector_bytes.specs.Bytes.{StandsIn}
 use Rattle.generations.specs.Areas.{IsSize, journal_sectors, area_sectors, area_start}
 use Rattle.generations.specs.Disks.{LiveRoot, IsFaultOf}
-use Rattle.generations.specs.Faults.{CountsDevice}
 use Rattle.generations.specs.Sectors.{version_from}
 use Rattle.generations.specs.declared.fault.StoreFault.{StoreFault}
 use Rattle.generations.specs.declared.fault.StoreFault.TheVariants.{NotFormatted, TooSmall, Damaged, Device, Memory}
@@ -101,13 +100,6 @@ snapshot_fault n version root image text (Err fault) stands len (inr bad) =
     inr (inr (subst (IsContentFault n version root image) (sym bad.0) (no_snapshot n root image text stands len bad.1)))
 
 -- ---- the store faults for the faults of a recovery
-
-pub recovery_counts : (fault : JournalFault) (old new : ℕ) → IsRecoverFault old new fault → CountsDevice (recovery_told_as fault) old new
-recovery_counts faults.NumbersSpent old new is = absurd is
-recovery_counts (faults.Full need free) old new is = absurd is
-recovery_counts faults.Device old new is = is
-recovery_counts faults.Damaged old new is = is
-recovery_counts faults.Memory old new is = is
 
 module _ (n version : ℕ) (root : Root) (image : Image) (m : FeatureMap) (has : HasSnapshot n root m image) where
   pub recovery_fault : (fault : JournalFault) (old new : ℕ) → IsRecoverFault old new fault

@@ -14,11 +14,8 @@ use Rattle.tile_service.specs.After.{after}
 use Rattle.feature_store.specs.declared.limit.TheConstants.{TEXTS_END}
 use Rattle.tile_service.specs.Replayed.{bytes_of}
 use Rattle.tile_service.specs.Tiles.{WereMaps}
-use Rattle.tile_service.proofs.Opens.{recovery_counts, recovery_fault, text_fault, texts_short, replayed_short}
+use Rattle.tile_service.proofs.Opens.{recovery_fault, text_fault, texts_short, replayed_short}
 use Rattle.tile_service.proofs.opening.read_edits.Goals as goal
-
-pub returns-in-Err-clause-failed : goal.returns-in-Err-clause-failed
-returns-in-Err-clause-failed g c = rw c.to_store_fault.ensures (recovery_counts c.in-Err.fault _ _ c.in-Err.ensures.failed)
 
 pub returns-in-Err-clause-fault : goal.returns-in-Err-clause-fault
 returns-in-Err-clause-fault g c honest has =

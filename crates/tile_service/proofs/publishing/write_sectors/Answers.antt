@@ -99,6 +99,3 @@ returns-in_ok-sync-clause-beside g c honest =
     sync_beside c.args.layout.sectors c.args.generation (g.D.Sectors.history c.args.disk.now) (g.D.Sectors.history c.loop-index.disk)
     (g.D.Sectors.history c.sync.new.self) (c.loop-index.invariant.beside (c.sync.ensures.disk.was_honest honest))
     (any_sync c.sync.result _ _ (c.sync.ensures.syncs honest))
-
-pub returns-else-to-sectors-clause-beside : goal.returns-else-to-sectors-clause-beside
-returns-else-to-sectors-clause-beside g c honest = c.loop-index.invariant.beside honest

@@ -1,8 +1,5 @@
-use Rattle.std.proofs.Common.{◌∙◌, Ok, Err, map, option_map, refl, sym, ap, subst}
-use Rattle.std.proofs.lemmas.Bool.{false≢true}
+use Rattle.std.proofs.Common.{◌∙◌, Ok, Err, map, option_map, refl, sym}
 use Rattle.feature_model.specs.Data.{put, delete, feature_data, change_data}
-use Rattle.sector_bytes.proofs.Counts.{same_count}
-use Rattle.tile_service.specs.Events.{IsTile}
 use Rattle.tile_service.specs.Machine.{got, no_memory, single, batched, recorded_in, recorded_change, edit, begin, step, cancel, tile, look}
 use Rattle.tile_service.proofs.Callers.{edit_step, tile_step, look_step, begin_step, step_step, cancel_step}
 use Rattle.tile_service.proofs.Counted.{other_answer, memory_told, outcome_counts, edit_risen, left_risen}
@@ -70,14 +67,6 @@ returns-in-Ok-clause-takes g c = (
       c.tile.ensures.untouched c.tile.ensures.up c.in-Tile.at.z c.in-Tile.at.x c.in-Tile.at.y _ c.in-Ok.ensures.machine,
 )
 
-pub returns-in-Ok-clause-faults : goal.returns-in-Ok-clause-faults
-returns-in-Ok-clause-faults g c none unbroken =
-    absurd (none (subst IsTile (sym c.in-Tile.is) tt))
-
-pub returns-in-Ok-clause-failed : goal.returns-in-Ok-clause-failed
-returns-in-Ok-clause-failed g c unbroken broken =
-    absurd (false≢true (sym unbroken ∙ sym (ap (λ s. s.broken) c.tile.ensures.same) ∙ broken))
-
 pub returns-in-Err-clause-takes : goal.returns-in-Err-clause-takes
 returns-in-Err-clause-takes g c = (
   tile c.in-Tile.at.z c.in-Tile.at.x c.in-Tile.at.y no_memory,
@@ -86,24 +75,12 @@ returns-in-Err-clause-takes g c = (
       c.tile.ensures.untouched c.tile.ensures.up c.in-Tile.at.z c.in-Tile.at.x c.in-Tile.at.y _ c.in-Err.ensures.machine,
 )
 
-pub returns-in-Err-clause-faults : goal.returns-in-Err-clause-faults
-returns-in-Err-clause-faults g c none unbroken =
-    absurd (none (subst IsTile (sym c.in-Tile.is) tt))
-
-pub returns-in-Err-clause-failed : goal.returns-in-Err-clause-failed
-returns-in-Err-clause-failed g c unbroken broken =
-    absurd (false≢true (sym unbroken ∙ sym (ap (λ s. s.broken) c.tile.ensures.same) ∙ broken))
-
 pub returns-in-Look-clause-takes : goal.returns-in-Look-clause-takes
 returns-in-Look-clause-takes g c = (
   look c.in-Look.id c.look.ensures.0,
   told_step c.args.self.now.version _ c.in-Look.is refl c.look.ensures.1,
   (look_step g.D.Sectors.sectors g.D.Sectors.honest g.D.Sectors.history _ c.in-Look.id c.look.ensures.0 c.look.ensures.2),
 )
-
-pub returns-in-Look-clause-failed : goal.returns-in-Look-clause-failed
-returns-in-Look-clause-failed g c unbroken broken =
-    absurd (false≢true (sym unbroken ∙ broken))
 
 pub returns-in-Begin-clause-takes : goal.returns-in-Begin-clause-takes
 returns-in-Begin-clause-takes g c = (
@@ -113,14 +90,6 @@ returns-in-Begin-clause-takes g c = (
       c.publish_begin.ensures.same c.publish_begin.ensures.up,
 )
 
-pub returns-in-Begin-clause-faults : goal.returns-in-Begin-clause-faults
-returns-in-Begin-clause-faults g c none unbroken =
-    ap (λ s. g.D.Sectors.faults s.disk) c.publish_begin.ensures.same
-
-pub returns-in-Begin-clause-failed : goal.returns-in-Begin-clause-failed
-returns-in-Begin-clause-failed g c unbroken broken =
-    absurd (false≢true (sym unbroken ∙ sym (ap (λ s. s.broken) c.publish_begin.ensures.same) ∙ broken))
-
 pub returns-in-Ok-publish_cancel-clause-takes : goal.returns-in-Ok-publish_cancel-clause-takes
 returns-in-Ok-publish_cancel-clause-takes g c = (
   cancel (Ok tt),
@@ -129,14 +98,6 @@ returns-in-Ok-publish_cancel-clause-takes g c = (
       c.publish_cancel.ensures.same c.publish_cancel.ensures.up,
 )
 
-pub returns-in-Ok-publish_cancel-clause-faults : goal.returns-in-Ok-publish_cancel-clause-faults
-returns-in-Ok-publish_cancel-clause-faults g c none unbroken =
-    ap (λ s. g.D.Sectors.faults s.disk) c.publish_cancel.ensures.same
-
-pub returns-in-Ok-publish_cancel-clause-failed : goal.returns-in-Ok-publish_cancel-clause-failed
-returns-in-Ok-publish_cancel-clause-failed g c unbroken broken =
-    absurd (false≢true (sym unbroken ∙ sym (ap (λ s. s.broken) c.publish_cancel.ensures.same) ∙ broken))
-
 pub returns-in-Err-publish_cancel-clause-takes : goal.returns-in-Err-publish_cancel-clause-takes
 returns-in-Err-publish_cancel-clause-takes g c = (
   cancel (Err c.in-Err-publish_cancel.fault),
@@ -144,14 +105,6 @@ returns-in-Err-publish_cancel-clause-takes g c = (
   cancel_step g.D.Sectors.sectors g.D.Sectors.honest g.D.Sectors.history _ _ _ c.in-Err-publish_cancel.ensures.machine
       c.publish_cancel.ensures.same c.publish_cancel.ensures.up,
 )
-
-pub returns-in-Err-publish_cancel-clause-faults : goal.returns-in-Err-publish_cancel-clause-faults
-returns-in-Err-publish_cancel-clause-faults g c none unbroken =
-    ap (λ s. g.D.Sectors.faults s.disk) c.publish_cancel.ensures.same
-
-pub returns-in-Err-publish_cancel-clause-failed : goal.returns-in-Err-publish_cancel-clause-failed
-returns-in-Err-publish_cancel-clause-failed g c unbroken broken =
-    absurd (false≢true (sym unbroken ∙ sym (ap (λ s. s.broken) c.publish_cancel.ensures.same) ∙ broken))
 
 pub returns-in-Step-clause-takes : goal.returns-in-Step-clause-takes
 returns-in-Step-clause-takes g c = (
@@ -196,27 +149,15 @@ returns-in-Ok-clause-device g c is = absurd (other_answer _ refl is)
 pub returns-in-Err-clause-device : goal.returns-in-Err-clause-device
 returns-in-Err-clause-device g c is = absurd (memory_told c.in-Err.fault c.in-Err.ensures.fault is)
 
-pub returns-in-Look-clause-never_falls : goal.returns-in-Look-clause-never_falls
-returns-in-Look-clause-never_falls g c = same_count _ _ refl
-
 pub returns-in-Look-clause-device : goal.returns-in-Look-clause-device
 returns-in-Look-clause-device g c is = absurd (look_no_device c.args.self.now.version c.in-Look.id _ _ c.look.ensures.1 is)
-
-pub returns-in-Begin-clause-never_falls : goal.returns-in-Begin-clause-never_falls
-returns-in-Begin-clause-never_falls g c = same_count _ _ (ap (λ s. g.D.Sectors.faults s.disk) c.publish_begin.ensures.same)
 
 pub returns-in-Begin-clause-device : goal.returns-in-Begin-clause-device
 returns-in-Begin-clause-device g c is =
     absurd (begin_no_device _ _ c.publish_begin.result (c.publish_begin.ensures.machine no_known) (sym c.left.ensures ∙ is))
 
-pub returns-in-Ok-publish_cancel-clause-never_falls : goal.returns-in-Ok-publish_cancel-clause-never_falls
-returns-in-Ok-publish_cancel-clause-never_falls g c = same_count _ _ (ap (λ s. g.D.Sectors.faults s.disk) c.publish_cancel.ensures.same)
-
 pub returns-in-Ok-publish_cancel-clause-device : goal.returns-in-Ok-publish_cancel-clause-device
 returns-in-Ok-publish_cancel-clause-device g c is = absurd (other_answer _ refl is)
-
-pub returns-in-Err-publish_cancel-clause-never_falls : goal.returns-in-Err-publish_cancel-clause-never_falls
-returns-in-Err-publish_cancel-clause-never_falls g c = same_count _ _ (ap (λ s. g.D.Sectors.faults s.disk) c.publish_cancel.ensures.same)
 
 pub returns-in-Err-publish_cancel-clause-device : goal.returns-in-Err-publish_cancel-clause-device
 returns-in-Err-publish_cancel-clause-device g c is =

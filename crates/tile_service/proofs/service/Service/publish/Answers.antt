@@ -1,9 +1,8 @@
 use Rattle.std.proofs.Common.{◌≡◌, inr, ℕ, [], ◌∷◌, ◌++◌, Result, Ok, Err, refl, ◌∙◌, ap, subst, arith}
-use Rattle.sector_disk.proofs.AskedLaws.{writes_on}
 use Rattle.tile_service.specs.Machine.{begin, step}
 use Rattle.tile_service.specs.Runs.{begin_and_steps, Takes}
 use Rattle.tile_service.specs.declared.fault.ServiceFault.{ServiceFault}
-use Rattle.tile_service.specs.Service.{state_of, known_after, CountsDevice}
+use Rattle.tile_service.specs.Service.{state_of, known_after}
 use Rattle.tile_service.proofs.Callers.{begin_step, step_step, run_begins, run_on, one_step_more, takes_run}
 use Rattle.tile_service.proofs.Runs.{no_known}
 use Rattle.tile_service.proofs.Shown.{keeps_on}
@@ -83,23 +82,9 @@ returns-in-Err-clause-run g c =
       ends = refl;
     }
 
-pub returns-in-Err-clause-size : goal.returns-in-Err-clause-size
-returns-in-Err-clause-size g c =
-    ap (λ s. s.size) c.in-Err.ensures.same
-
-pub returns-in-Err-clause-disk : goal.returns-in-Err-clause-disk
-returns-in-Err-clause-disk g c = record {
-  same_count = ap (λ s. g.D.Sectors.sectors s.disk) c.in-Err.ensures.same;
-  was_honest = subst (λ d. g.D.Sectors.honest d) (ap (λ s. s.disk) c.in-Err.ensures.same);
-}
-
 pub returns-in-Err-clause-failed : goal.returns-in-Err-clause-failed
 returns-in-Err-clause-failed g c =
     begin_counts _ _ c.in-Err.fault _ _ (c.in-Err.ensures.machine no_known) (ap (λ s. g.D.Sectors.faults s.disk) c.in-Err.ensures.same)
-
-pub returns-in-Err-clause-refused : goal.returns-in-Err-clause-refused
-returns-in-Err-clause-refused g c not =
-    c.in-Err.ensures.refused
 
 pub returns-in-Err-clause-given_up : goal.returns-in-Err-clause-given_up
 returns-in-Err-clause-given_up g c =
@@ -133,19 +118,6 @@ returns-in-Err-publish_step-clause-run g c =
           (begin_and_steps ((inv.run.0 ++ Ok rest ∷ []) ++ outcome ∷ [])) new more.0;
       ends = refl;
     }
-
-pub returns-in-Err-publish_step-clause-size : goal.returns-in-Err-publish_step-clause-size
-returns-in-Err-publish_step-clause-size g c =
-    c.in-Err-publish_step.ensures.size ∙ c.loop-rest.invariant.run.1.size
-
-pub returns-in-Err-publish_step-clause-disk : goal.returns-in-Err-publish_step-clause-disk
-returns-in-Err-publish_step-clause-disk g c =
-    writes_on c.loop-rest.invariant.run.1.asked c.in-Err-publish_step.ensures.disk
-
-pub returns-in-Err-publish_step-clause-failed : goal.returns-in-Err-publish_step-clause-failed
-returns-in-Err-publish_step-clause-failed g c =
-    subst (λ before. CountsDevice c.in-Err-publish_step.fault before (g.D.Sectors.faults c.publish_step.new.self.disk))
-    c.loop-rest.invariant.faults c.in-Err-publish_step.ensures.failed
 
 pub returns-in-Err-publish_step-clause-refused : goal.returns-in-Err-publish_step-clause-refused
 returns-in-Err-publish_step-clause-refused g c not =
@@ -189,18 +161,6 @@ returns-clause-run g c =
         ap (λ s. s.archive_len) c.self-2.view_is,
       );
     }
-
-pub returns-clause-size : goal.returns-clause-size
-returns-clause-size g c =
-    c.loop-rest.invariant.run.1.size
-
-pub returns-clause-disk : goal.returns-clause-disk
-returns-clause-disk g c =
-    c.loop-rest.invariant.run.1.asked
-
-pub returns-clause-failed : goal.returns-clause-failed
-returns-clause-failed g c =
-    c.loop-rest.invariant.faults
 
 pub returns-clause-idle : goal.returns-clause-idle
 returns-clause-idle g c =
