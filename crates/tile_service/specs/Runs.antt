@@ -198,14 +198,14 @@ module _ {D : Type 0} (sectors : D → ℕ) (honest : D → Type 0) (history : D
   IsTrusted old new = old.broken ≡ false → honest new.disk × ((stored : Stored) × IsUp (sectors old.disk) (history old.disk) stored old)
 
   -- The disk is only read, and the service is unchanged but for what it caches.
-  pub record OnlyReads (old new : ServiceView D) : Type 0 where
+  pub record CachesOnly (old new : ServiceView D) : Type 0 where
     pub same : new ≡ record old { disk = new.disk; published = new.published; kept = new.kept }
     pub unwritten : honest new.disk → history new.disk ≡ history old.disk
 
   -- what a call that only reads may change
   abbrev pub ChangesOnly : Happening → ServiceView D → ServiceView D → Type 0
-  ChangesOnly (tile z x y outcome) old new = OnlyReads old new
-  ChangesOnly (read at outcome) old new = OnlyReads old new
+  ChangesOnly (tile z x y outcome) old new = CachesOnly old new
+  ChangesOnly (read at outcome) old new = CachesOnly old new
   ChangesOnly (look id outcome) old new = new ≡ old
   ChangesOnly (metadata outcome) old new = new ≡ old
   ChangesOnly happening old new = Unit {0}
