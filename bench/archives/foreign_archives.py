@@ -20,7 +20,7 @@ import tempfile
 from pathlib import Path
 
 sys.path.append(str(Path(__file__).resolve().parents[1] / "model"))
-from archives import FIELDS, HEADER, IMAGE, SECTIONS, A, B, BAD, C, D, Entry, Maker, changed, directory, header_lines, header_of, judged
+from archives import FIELDS, HEADER, IMAGE, SECTIONS, A, B, BAD, C, D, DirectoryEntry, Maker, changed, directory, header_lines, header_of, judged
 from ids import ALL_IDS
 from wire import varint
 
@@ -47,7 +47,7 @@ def good_archives():
     shared = m.tile(0, 1, A)
     root = [shared, shared._replace(id=2, run=4), m.tile(6, 2, B), shared._replace(id=9)]
     yield "one content for many", m.archive(root, addressed=8, entries=4, contents=2), "ok: 8 tiles, 4 entries, 2 contents"
-    root = [Entry(0, 1, len(A), 0), Entry(1, 1, len(A + B), 0), Entry(2, 1, len(B), len(A))]
+    root = [DirectoryEntry(0, 1, len(A), 0), DirectoryEntry(1, 1, len(A + B), 0), DirectoryEntry(2, 1, len(B), len(A))]
     yield "contents inside a content", m.archive(root, contents=3, kind=2), "ok: 3 tiles, 3 entries, 3 contents"
 
     # Three leaf directories, one below the other; each leaf's ids reach to its bounds, and tiles stand between leaves.
@@ -126,14 +126,14 @@ def bad_archives():
         ("a byte too few", directory(root)[:-1]),
         ("a number that doesn't end", b"\x80"),
         ("a number of eleven bytes", directory(root, longer=11)),
-        ("a number past 64 bits", directory([Entry(2**64, 1, 1, 0)])),
+        ("a number past 64 bits", directory([DirectoryEntry(2**64, 1, 1, 0)])),
         ("more entries than bytes", varint(2**63) + b"\0" * 8),
         ("an id that comes again", directory([root[0], root[0]])),
         ("an id in the run before it", directory([root[1], root[0]._replace(id=6)])),
-        ("a content of no bytes", directory([Entry(0, 1, 0, 0)])),
+        ("a content of no bytes", directory([DirectoryEntry(0, 1, 0, 0)])),
         ("an offset that follows no entry", varint(1) + varint(0) + varint(1) + varint(1) + varint(0)),
-        ("an id past zoom 31", directory([Entry(ALL_IDS, 1, 1, 0)])),
-        ("a run past zoom 31", directory([Entry(ALL_IDS - 1, 2, 1, 0)])),
+        ("an id past zoom 31", directory([DirectoryEntry(ALL_IDS, 1, 1, 0)])),
+        ("a run past zoom 31", directory([DirectoryEntry(ALL_IDS - 1, 2, 1, 0)])),
     ]:
         yield f"a root directory with {name}", m.archive(data), "bad directory at: 127"
         n = Maker()
@@ -173,27 +173,27 @@ def bad_archives():
     for _ in range(3):
         leaf = m.leaf(0, [leaf])
     yield "leaves four deep", m.archive([leaf]), "leaf depth"
-    itself = Entry(0, 0, 5, 0)
+    itself = DirectoryEntry(0, 0, 5, 0)
     m = Maker()
     m.leaf(0, [itself])
     yield "a leaf that names itself", m.archive([itself]), "leaf depth"
     m = Maker()
     root = [m.tile(4, 1, A), m.tile(5, 2, B)]
-    yield "a tile behind its section", m.archive(root + [Entry(9, 1, 1, len(A + B))]), "place: 9"
-    yield "a tile far away", m.archive([Entry(2, 1, 2**32 - 1, 2**64 - 2)] + root), "place: 2"
+    yield "a tile behind its section", m.archive(root + [DirectoryEntry(9, 1, 1, len(A + B))]), "place: 9"
+    yield "a tile far away", m.archive([DirectoryEntry(2, 1, 2**32 - 1, 2**64 - 2)] + root), "place: 2"
     yield "a content cut", changed(m.archive(root), tiles=len(A + B) - 1), "place: 5"
     leaf = m.leaf(9, [m.tile(9, 1, A)])
     yield "a leaf behind its section", m.archive(root + [leaf._replace(length=leaf.length + 1)]), "place: 9"
 
     # The directories are gone through in order, each leaf where it is named.
     bad = m.leaf(20, b"\x80")
-    outside = Entry(30, 1, 1, 2**40)
+    outside = DirectoryEntry(30, 1, 1, 2**40)
     where = 127 + len(directory([bad, outside])) + len(b"{}") + bad.offset
     yield "a bad leaf in front of a bad place", m.archive([bad, outside]), f"bad directory at: {where}"
     yield "a bad place in front of a bad leaf", m.archive([outside._replace(id=10), bad]), "place: 10"
-    stray = m.leaf(20, [Entry(20, 1, 1, 2**40), Entry(31, 1, 1, 0)])
+    stray = m.leaf(20, [DirectoryEntry(20, 1, 1, 2**40), DirectoryEntry(31, 1, 1, 0)])
     yield "an id out of order in front of a bad place", m.archive([stray, outside]), "order: 31"
-    inner = m.leaf(20, [m.leaf(20, b"\x80"), Entry(24, 1, 1, 2**40)])
+    inner = m.leaf(20, [m.leaf(20, b"\x80"), DirectoryEntry(24, 1, 1, 2**40)])
     bad_inner = 127 + len(directory([inner, outside])) + len(b"{}") + len(m.leaves) - inner.length - 1
     yield "the first fault in a leaf", m.archive([inner, outside]), f"bad directory at: {bad_inner}"
 

@@ -19,7 +19,7 @@ import run as fuzz
 import map_hostile
 import map_stand
 import read_stand
-from archives import Entry, directory
+from archives import DirectoryEntry, directory
 from disk import Change, edit_text, text_of
 from map_script import LINE, POLYGONS
 from map_stand import POINT
@@ -34,7 +34,8 @@ FEWER_TIMES = (0, 0, 0, 1, 1, 2)
 CHANGES = [text_of(made) for made in (Change(7, POINT), Change(258, LINE), Change(9, POLYGONS), Change(9, None))]
 EDITS = [edit_text(made) for made in ([Change(7, POINT), Change(9, None)], [Change(7, LINE)], [Change(1, POLYGONS), Change(2, POINT)])]
 SNAPSHOTS = [CHANGES[0], CHANGES[0] + CHANGES[2] + CHANGES[1]]
-DIRECTORIES = [directory([Entry(3, 2, 300, 0), Entry(5, 1, 9, 300), Entry(7, 0, 5, 2)]), directory([Entry(2 * k, 1, 5, 5 * k) for k in range(20)]), b"\0"]
+DIRECTORIES = [directory([DirectoryEntry(3, 2, 300, 0), DirectoryEntry(5, 1, 9, 300), DirectoryEntry(7, 0, 5, 2)]),
+               directory([DirectoryEntry(2 * k, 1, 5, 5 * k) for k in range(20)]), b"\0"]
 EDIT_TEXTS = [body for body in of_other_forms() if isinstance(body, bytes) and len(body) < LONGEST]
 EDIT_TEXTS += [compact({"changes": changes}).encode() for changes in ([sets(7), sets(8)], [sets(7), deletes(9)], [deletes(number) for number in range(64)])]
 TEXTS = [body for body in fuzz.BODIES if len(body) < LONGEST] + [map_hostile.feature().encode()]

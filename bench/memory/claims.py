@@ -9,7 +9,7 @@ from pathlib import Path
 
 sys.path.append(str(Path(__file__).resolve().parents[1] / "model"))
 import disk
-from archives import Entry, Maker, changed, directory, judged
+from archives import DirectoryEntry, Maker, changed, directory, judged
 from wire import part, varint
 
 MOST = 262144
@@ -38,7 +38,7 @@ def archives():
     sound = maker.archive([entry], addressed=1, entries=1, contents=1)
     for section in ("root", "metadata", "leaves", "tiles"):
         yield f"the section {section}", changed(sound, **{section: FAR})
-    yield "a content", maker.archive(directory([Entry(0, 1, 2**32 - 1, 0)]), addressed=1, entries=1, contents=1)
+    yield "a content", maker.archive(directory([DirectoryEntry(0, 1, 2**32 - 1, 0)]), addressed=1, entries=1, contents=1)
 
 
 def texts():

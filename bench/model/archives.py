@@ -19,7 +19,7 @@ FIELDS = ("magic version root_at root metadata_at metadata leaves_at leaves tile
 SECTIONS = ["root", "metadata", "leaves", "tiles"]
 
 # A run of 0 makes the entry one of a leaf directory.
-Entry = namedtuple("Entry", "id run length offset")
+DirectoryEntry = namedtuple("DirectoryEntry", "id run length offset")
 
 
 def directory(entries, longer=0, each_offset=False):
@@ -48,12 +48,12 @@ class Maker:
     def tile(self, first, run, content):
         """An entry with a content of its own."""
         self.tiles += content
-        return Entry(first, run, len(content), len(self.tiles) - len(content))
+        return DirectoryEntry(first, run, len(content), len(self.tiles) - len(content))
 
     def leaf(self, first, entries, longer=0):
         data = entries if isinstance(entries, bytes) else directory(entries, longer)
         self.leaves += data
-        return Entry(first, 0, len(data), len(self.leaves) - len(data))
+        return DirectoryEntry(first, 0, len(data), len(self.leaves) - len(data))
 
     def archive(self, root, order=SECTIONS, gaps={}, metadata=b"{}", **fields):
         """The archive with its sections in this order, and in front of each as many bytes of no section as `gaps` says."""
@@ -126,7 +126,7 @@ def behind(before, delta, run, length, place):
     offset = place - 1 if place else before.offset + before.length
     if offset >= 2**64:
         raise DirectoryFault("Range")
-    return Entry(first, run, length, offset)
+    return DirectoryEntry(first, run, length, offset)
 
 
 def read_directory(data):
@@ -353,7 +353,7 @@ def built(tiles, metadata):
         if content not in places:
             places[content] = len(contents)
             contents += content
-        entries.append(Entry(first, run, len(content), places[content]))
+        entries.append(DirectoryEntry(first, run, len(content), places[content]))
     if len(entries) > 131072:
         return None
     root, leaves = entries, b""
@@ -361,7 +361,7 @@ def built(tiles, metadata):
         root = []
         for k in range(0, len(entries), 512):
             data = directory(entries[k : k + 512])
-            root.append(Entry(entries[k].id, 0, len(data), len(leaves)))
+            root.append(DirectoryEntry(entries[k].id, 0, len(data), len(leaves)))
             leaves += data
     ends = [zoom_of(tiles[0][0]), zoom_of(tiles[-1][0])]
     m = Maker()

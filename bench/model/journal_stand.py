@@ -7,7 +7,7 @@ from disk import VERSIONS, LAST_NUMBER, LONGEST_OF, SECTOR, Fault, Layout, Root
 from disk import front, head_version, layout_of, parts_of, records_of, root_of, version_of
 from words import Fields, Variant, briefly, debug, err, ok, read, some, spelled
 
-Start = namedtuple("Start", "place edits")
+JournalPosition = namedtuple("JournalPosition", "place edits")
 Head = namedtuple("Head", "version number length parts")
 
 
@@ -40,8 +40,8 @@ class Trial:
     def __init__(self):
         self.disk = Faulty(Memory(0))
         self.stopped = Memory(0)
-        self.ring, self.start, self.used, self.last = Ring(0, 1), Start(0, 0), 0, 0
-        self.mark = Start(0, 0)
+        self.ring, self.start, self.used, self.last = Ring(0, 1), JournalPosition(0, 0), 0, 0
+        self.mark = JournalPosition(0, 0)
 
     def counted(self, call, device):
         """The outcome of a call, with the number of calls of the disk. `device` is the fault that a failed call of the disk is reported as."""
@@ -147,7 +147,7 @@ class Trial:
     def do_ring(self, first, places, place, edits, most=2):
         if first + places > self.disk.count or place >= places:
             return "no ring"
-        ring, start, before = Ring(first, places), Start(place, edits), self.disk.calls
+        ring, start, before = Ring(first, places), JournalPosition(place, edits), self.disk.calls
         try:
             records, used = records_of(Seen(self.disk), ring, Root(0, edits, place, 0, 0), most)
         except Failed:
@@ -177,7 +177,7 @@ class Trial:
         return self.last
 
     def next(self):
-        return Start((self.start.place + self.used) % self.ring.places, self.last)
+        return JournalPosition((self.start.place + self.used) % self.ring.places, self.last)
 
     def do_next(self):
         return f"free {self.ring.places - self.used} {debug(self.next())}"

@@ -2,7 +2,7 @@
 worst of them has beside it what the formats say.
 """
 import archives
-from archives import ALL_IDS, Entry, Maker, changed, directory
+from archives import ALL_IDS, DirectoryEntry, Maker, changed, directory
 from disk import Change, edit_text, text_of
 from limits import MAX_ZOOM
 from map_stand import POINT
@@ -57,8 +57,8 @@ def example_lines():
     yield f"keep hostile {edit.hex()}"
     yield from damaged(["edit @hostile"], edit)
     yield "# The same of directories: of tiles, of leaves, of one entry with longer numbers."
-    entries = [Entry(3, 2, 300, 0), Entry(5, 1, 9, 300), Entry(7, 0, 5, 2)]
-    for data in [directory(entries), directory([Entry(300, 1, 200, 5)], 3)]:
+    entries = [DirectoryEntry(3, 2, 300, 0), DirectoryEntry(5, 1, 9, 300), DirectoryEntry(7, 0, 5, 2)]
+    for data in [directory(entries), directory([DirectoryEntry(300, 1, 200, 5)], 3)]:
         yield f"keep hostile {data.hex()}"
         yield from each_byte(["directory @hostile"], data)
     yield "# The archive of three tiles, judged, and one with leaf directories, judged and read."
@@ -77,7 +77,7 @@ def example_lines():
 def mutual():
     """Two leaf directories that name each other, of five bytes each."""
     m = Maker()
-    one, two = Entry(0, 0, 5, 0), Entry(0, 0, 5, 5)
+    one, two = DirectoryEntry(0, 0, 5, 0), DirectoryEntry(0, 0, 5, 5)
     m.leaf(0, [two])
     m.leaf(0, [one])
     return m.archive([one])
@@ -86,7 +86,7 @@ def mutual():
 def ring():
     """Three leaf directories, each of which names the next."""
     m = Maker()
-    leaves = [Entry(0, 0, 5, 5 * k) for k in range(3)]
+    leaves = [DirectoryEntry(0, 0, 5, 5 * k) for k in range(3)]
     for k in range(3):
         m.leaf(0, [leaves[(k + 1) % 3]])
     return m.archive([leaves[0]])
@@ -106,7 +106,7 @@ def overlapping_contents(size):
     content = number(1, 0) * (half // 2)
     m.tile(0, 1, content)
     count = half // 8
-    entries = [Entry(k, 1, len(content) - 2 * k, 2 * k) for k in range(count)]
+    entries = [DirectoryEntry(k, 1, len(content) - 2 * k, 2 * k) for k in range(count)]
     return m.archive([m.leaf(0, directory(entries))])
 
 
@@ -123,14 +123,14 @@ def shared_bytes(size):
     data += b"\1" * (4 * count - 3)
     m.tile(0, 1, b"a")
     m.leaves = data
-    return m.archive([Entry(first, 0, len(data) - at, at) for first, at in reversed(entries)], kind=0)
+    return m.archive([DirectoryEntry(first, 0, len(data) - at, at) for first, at in reversed(entries)], kind=0)
 
 
 def overlapping():
     """Archives of one tile whose sections have bytes in common: all of them the file's first bytes, or each one another's."""
     m = Maker()
     one = m.archive([m.tile(0, 1, TILE)])
-    root = directory([Entry(0, 1, 21, 0)])
+    root = directory([DirectoryEntry(0, 1, 21, 0)])
     yield "the tiles begin with the header", changed(one, tiles_at=0, tiles=len(one))
     yield "metadata, leaves and tiles are one section", changed(one, metadata_at=132, metadata=2, leaves_at=132, leaves=2, tiles_at=132, tiles=23)
     yield "the root directory is the leaf section too", changed(one, leaves_at=127, leaves=len(root))
@@ -138,7 +138,7 @@ def overlapping():
     yield "each section is the whole file", changed(one, root_at=0, root=len(one), metadata_at=0, metadata=len(one), leaves_at=0, leaves=len(one),
                                                   tiles_at=0, tiles=len(one))
     # The root names a leaf, whose bytes are the root's own.
-    itself = directory([Entry(0, 0, 5, 0)])
+    itself = directory([DirectoryEntry(0, 0, 5, 0)])
     yield "a root directory that names itself", changed(m.archive(itself), leaves_at=127, leaves=5)
 
 
@@ -154,9 +154,9 @@ def last_runs():
     """Directories whose runs end at the last id, or past it."""
     for first, run in [(ALL_IDS - 1, 1), (ALL_IDS - 2, 2), (ALL_IDS - 2, 3), (ALL_IDS - 1, 2), (ALL_IDS, 0), (ALL_IDS, 1), (ALL_IDS + 1, 0),
                        (ALL_IDS - 2**32 + 1, 2**32 - 1), (ALL_IDS - 2**32 + 2, 2**32 - 1), (LAST, 0), (LAST, 1), (LAST, 2**32 - 1), (FAR, 1)]:
-        yield [Entry(first, run, len(TILE), 0)]
-    yield [Entry(5, 2**32 - 1, len(TILE), 0), Entry(2**32 + 4, 1, len(TILE), 0)]
-    yield [Entry(5, 2**32 - 1, len(TILE), 0), Entry(2**32 + 3, 1, len(TILE), 0)]
+        yield [DirectoryEntry(first, run, len(TILE), 0)]
+    yield [DirectoryEntry(5, 2**32 - 1, len(TILE), 0), DirectoryEntry(2**32 + 4, 1, len(TILE), 0)]
+    yield [DirectoryEntry(5, 2**32 - 1, len(TILE), 0), DirectoryEntry(2**32 + 3, 1, len(TILE), 0)]
 
 
 def archive_lines():
@@ -194,8 +194,8 @@ def archive_lines():
     for run in (0, 1):
         for length, offset in [(5, 0), (6, 0), (1, 4), (1, 5), (2**32 - 1, 0), (1, LAST - 1), (2**32 - 1, LAST - 1), (1, FAR)]:
             m = Maker()
-            m.leaves = m.tiles = directory([Entry(0, 1, 1, 0)])
-            yield from [f"keep hostile {m.archive([Entry(0, run, length, offset)], kind=2).hex()}", "verify @hostile", "contents 0 @hostile"]
+            m.leaves = m.tiles = directory([DirectoryEntry(0, 1, 1, 0)])
+            yield from [f"keep hostile {m.archive([DirectoryEntry(0, run, length, offset)], kind=2).hex()}", "verify @hostile", "contents 0 @hostile"]
     yield "# Counts of a directory that its bytes can't hold, at each length of the count."
     for count in [1, 2, 2**7, 2**14, 2**28, 2**31, 2**32, 2**56, 2**60, 2**62, FAR, LAST]:
         yield f"directory {varint(count).hex()} +000105", "Cut"

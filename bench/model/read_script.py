@@ -9,7 +9,7 @@ from pathlib import Path
 import archives
 import foreign_tiles
 import read_hostile
-from archives import ALL_IDS, Entry, Maker, directory
+from archives import ALL_IDS, DirectoryEntry, Maker, directory
 from disk import Change, edit_text, text_of
 from map_stand import POINT
 from map_script import LINE, POLYGONS
@@ -261,8 +261,8 @@ HEADER = bytes.fromhex(
     "ca00000000000000" "1500000000000000" "0300000000000000" "0200000000000000" "0100000000000000" "01010101" "0002"
     "002eb694" "493a4ecd" "00d2496b" "b7c5b132" "00" "00000000" "00000000")
 HEADER_TOLD = (
-    "Header { root: Part { offset: 127, length: 9 }, metadata: Part { offset: 136, length: 66 }, leaves: Part { offset: 202, length: 0 }, "
-    "tiles: Part { offset: 202, length: 21 }, addressed: 3, entries: 2, contents: 1, clustered: 1, internal: 1, compression: 1, kind: 1, "
+    "Header { root: SectionSpan { offset: 127, length: 9 }, metadata: SectionSpan { offset: 136, length: 66 }, leaves: SectionSpan { offset: 202, length: 0 }, "
+    "tiles: SectionSpan { offset: 202, length: 21 }, addressed: 3, entries: 2, contents: 1, clustered: 1, internal: 1, compression: 1, kind: 1, "
     "min_zoom: 0, max_zoom: 2, min_lon: -1800000000, min_lat: -850511287, max_lon: 1800000000, max_lat: 850511287, centre_zoom: 0, "
     "centre_lon: 0, centre_lat: 0 }, written the same")
 DIRECTORIES = {"tiles": "020005020115150101", "root": "0200800800008210070100", "leaf": "01800801158154", "none": "00"}
@@ -272,9 +272,9 @@ DIRECTORY_FAULTS = [
     ("01000180808080" "1001", "Range")]
 # What they list, and which of these leads to an id, if one does.
 LISTED = {
-    "tiles": ["Entry { id: 0, run: 2, length: 21, offset: 0 }", "Entry { id: 5, run: 1, length: 21, offset: 0 }"],
-    "root": ["Entry { id: 0, run: 0, length: 2050, offset: 0 }", "Entry { id: 1024, run: 0, length: 7, offset: 2050 }"],
-    "leaf": ["Entry { id: 1024, run: 1, length: 21, offset: 10752 }"], "none": []}
+    "tiles": ["DirectoryEntry { id: 0, run: 2, length: 21, offset: 0 }", "DirectoryEntry { id: 5, run: 1, length: 21, offset: 0 }"],
+    "root": ["DirectoryEntry { id: 0, run: 0, length: 2050, offset: 0 }", "DirectoryEntry { id: 1024, run: 0, length: 7, offset: 2050 }"],
+    "leaf": ["DirectoryEntry { id: 1024, run: 1, length: 21, offset: 10752 }"], "none": []}
 FOUND = [("tiles", [(0, 0), (1, 0), (2, None), (4, None), (5, 1), (6, None), (LAST, None)]), ("root", [(0, 0), (1023, 0), (1024, 1), (5000, 1)]),
          ("leaf", [(1023, None), (1024, 0), (1025, None)]), ("none", [(0, None)])]
 
@@ -296,12 +296,12 @@ def directory_lines():
     yield "# Bytes that are no directory. The second has a count of 2^60, and three bytes behind it."
     yield from ((f"directory {data}", name) for data, name in DIRECTORY_FAULTS)
     yield "# Ids and runs up to the last id, numbers of ten bytes, and what passes 32 or 64 bits."
-    for entries in [[Entry(ALL_IDS - 1, 1, 1, 0)], [Entry(ALL_IDS - 2, 2, 1, 0)], [Entry(5, 2**32 - 1, 2**32 - 1, LAST - 1)],
-                    [Entry(ALL_IDS - 1, 2, 1, 0)], [Entry(ALL_IDS, 1, 1, 0)], [Entry(ALL_IDS, 0, 1, 0)], [Entry(0, 2**32, 1, 0)],
-                    [Entry(3, 1, 2, 9), Entry(4, 1, 2, 11)]]:
+    for entries in [[DirectoryEntry(ALL_IDS - 1, 1, 1, 0)], [DirectoryEntry(ALL_IDS - 2, 2, 1, 0)], [DirectoryEntry(5, 2**32 - 1, 2**32 - 1, LAST - 1)],
+                    [DirectoryEntry(ALL_IDS - 1, 2, 1, 0)], [DirectoryEntry(ALL_IDS, 1, 1, 0)], [DirectoryEntry(ALL_IDS, 0, 1, 0)], [DirectoryEntry(0, 2**32, 1, 0)],
+                    [DirectoryEntry(3, 1, 2, 9), DirectoryEntry(4, 1, 2, 11)]]:
         yield f"directory {directory(entries).hex()}"
         yield f"directory {directory(entries, 10).hex()}"
-    yield f"directory {directory([Entry(0, 1, 1, 0)], 11).hex()}", "Varint"
+    yield f"directory {directory([DirectoryEntry(0, 1, 1, 0)], 11).hex()}", "Varint"
     yield f"directory {b''.join(map(varint, [2, 7, LAST, 1, 1, 1, 1, 1, 1])).hex()}", "Range"
     yield f"directory {b''.join(map(varint, [2, 0, 1, 1, 1, 2, 1, LAST, 0])).hex()}", "Range"
     yield "# The entry that leads to an id."
@@ -328,7 +328,7 @@ def leaves_archive():
 def circle_archive():
     """A leaf directory that names itself."""
     m = Maker()
-    itself = Entry(0, 0, 5, 0)
+    itself = DirectoryEntry(0, 0, 5, 0)
     m.leaf(0, [itself])
     return m.archive([itself], ["root", "metadata", "leaves", "tiles"])
 
@@ -350,7 +350,7 @@ def sound_lines():
                 ("verify @sound 133=16", "1 place: 5"), ("verify @sound 8=ff", "1 section: root"), ("verify @sound 31=ff", "1 section: metadata"),
                 ("verify @sound 40=e0", "1 section: leaves"), ("verify @sound 127=03", "1 bad directory at: 127")]
     yield "# What it lists, and the contents of ids, by the archive and by a look-up that is kept."
-    yield "list @sound", "[Entry { id: 0, run: 2, length: 21, offset: 0 }, Entry { id: 5, run: 1, length: 21, offset: 0 }]"
+    yield "list @sound", "[DirectoryEntry { id: 0, run: 2, length: 21, offset: 0 }, DirectoryEntry { id: 5, run: 1, length: 21, offset: 0 }]"
     yield from [("list @sound 97=02", "compressed directories: 2"), ("list @sound ..222", "section: tiles"), ("list @sound ..126", "short header")]
     for word in ("contents", "looks"):
         yield f"{word} 1,5,2,0 @sound", f'["{TILE}", "{TILE}", "none", "{TILE}"]'
@@ -383,7 +383,7 @@ def leaf_lines():
 
 def judged_lines():
     m = Maker()
-    runs = [Entry(0, 2, 21, 0), Entry(5, 1, 21, 0), Entry(7, 3, 9, 21)]
+    runs = [DirectoryEntry(0, 2, 21, 0), DirectoryEntry(5, 1, 21, 0), DirectoryEntry(7, 3, 9, 21)]
     m.tiles = bytes(30)
     yield "# What is counted of two runs of one content, and another content behind it; each count of the header that is another one."
     yield f"keep counted {m.archive(runs, kind=2).hex()}"
@@ -398,7 +398,7 @@ def judged_lines():
                         ([(5, 5, 7)], "1 place: 5")]:
         m = Maker()
         m.tiles = good + bad
-        yield f"verify {m.archive([Entry(number_, 1, length, offset) for number_, length, offset in tiles]).hex()}", line
+        yield f"verify {m.archive([DirectoryEntry(number_, 1, length, offset) for number_, length, offset in tiles]).hex()}", line
 
 
 def metadata_lines():

@@ -251,7 +251,7 @@ def header(data):
         said = archives.header_of(data)
     except archives.Fault as fault:
         return str(header_fault(fault))
-    parts = {name: Record("Part", offset=said[name + "_at"], length=said[name]) for name in archives.SECTIONS}
+    parts = {name: Record("SectionSpan", offset=said[name + "_at"], length=said[name]) for name in archives.SECTIONS}
     names = ["addressed", "entries", "contents", "clustered", "internal", "compression", "kind", "min_zoom", "max_zoom"]
     places = {"min_lon": "west", "min_lat": "south", "max_lon": "east", "max_lat": "north", "centre_zoom": "centre_zoom",
               "centre_lon": "centre_lon", "centre_lat": "centre_lat"}
@@ -260,7 +260,7 @@ def header(data):
 
 
 def entry_text(e):
-    return Record("Entry", id=e.id, run=e.run, length=e.length, offset=e.offset)
+    return Record("DirectoryEntry", id=e.id, run=e.run, length=e.length, offset=e.offset)
 
 
 def directory(data):
