@@ -23,7 +23,9 @@ MEMORY = (1, b"", b"vtserve: Memory\n")
 # What a connection of `serve` is without memory for its buffers.
 NO_BUFFERS = (0, b"", b"connection 1: 0 requests, memory\n")
 REFUSED = b"Memory\n"
-TILE = re.compile(r"(GET|HEAD) /map/\d+/\d+/\d+\.")
+# What may answer as with memory: a tile, which is cut where the archive can't be read or the cache can't keep it; and a publication, since a list that
+# is collected asks for more room than it needs, and for less where that is refused.
+PASSES = re.compile(r"(GET|HEAD) /map/\d+/\d+/\d+\.|POST /publish(/begin)?$")
 
 
 def request(method, path, content=None, fields=""):
@@ -205,7 +207,7 @@ class Stream:
             at = self.under_way(number)
             if at is None:
                 return "start, the same"
-            return f"passed over by {self.line(at)}" if TILE.match(self.line(at)) else None
+            return f"passed over by {self.line(at)}" if PASSES.match(self.line(at)) else None
         refused = [at for at, reply in enumerate(replies) if reply.startswith(b"HTTP/1.1 503 ") and (reply.endswith(REFUSED) or self.is_head(at))]
         if len(refused) != 1:
             return None
