@@ -178,7 +178,6 @@ def fails(cases, folder):
     rows = [
         ("fsync", path, 1, b"File", "the sync of its length"),
         ("fsync", folder, 1, b"File", "the sync of its folder"),
-        ("pread64", path, 1, b"Device", "a read"),
         ("pwrite64", path, 1, b"Device", "a write"),
         ("fdatasync", path, 1, b"Device", "its first sync"),
         ("fdatasync", path, 4, b"Device", "its last sync"),
@@ -186,7 +185,7 @@ def fails(cases, folder):
     for call, at, number, fault, name in rows:
         cases.show(f"format where {name} fails", failing(call, at, number, make), refusal(fault))
         cases.show("the file is taken away", os.path.exists(path), False)
-    cases.show("the same command again", vtserve(make), (0, b"formatted 64 sectors\n", b""))
+    cases.show("the same command again, where each read would fail", failing("pread64", path, "1+", make), (0, b"formatted 64 sectors\n", b""))
     cases.show("pipe where its first sync fails", failing("fdatasync", path, 1, ["pipe", path], GET), refusal(b"Device"))
     cases.show("pipe where its second sync fails", failing("fdatasync", path, 2, ["pipe", path], GET), refusal(b"Device"))
     # Where a read of 64 sectors fails, the sector is read alone. So all reads from the second one on fail.
@@ -622,15 +621,16 @@ def after_a_failed_sync(cases, folder):
         except (OSError, subprocess.CalledProcessError):
             print("        no loop device can be mounted: no medium is made to fail")
             return
+        publish = b"POST /publish HTTP/1.1\r\nhost: a\r\ncontent-length: 0\r\n\r\n"
         vtserve(["format", disk, "--sectors", "4096"])
         cases.show("four edits", vtserve(["pipe", disk], b"".join(put(number) for number in range(1, 5)))[1], b"".join(edit(number) for number in range(1, 5)))
         os.sync()
         with contextlib.suppress(OSError), open(filler, "wb", buffering=0) as file:
             while True:
                 file.write(bytes(4096))
-        out = vtserve(["pipe", disk], b"".join(put(number) for number in range(5, 65)))[1]
-        made = out.count(b'{"edit":')
-        cases.show("on a full medium an edit is Device, and those after it Broken", out.split(edit(4 + made))[-1][:len(error(b"Device"))], error(b"Device"))
+        out = vtserve(["pipe", disk], b"".join(put(number) for number in range(5, 65)) + publish + put(65))[1]
+        told = b"".join(edit(number) for number in range(5, 65)) + error(b"Device") + error(b"Broken")
+        cases.show("on a full medium edits are made, a publication is Device, and an edit after it Broken", out, told)
         os.remove(filler)
         numbers = [*range(1, 65), 100, 101]
         told = vtserve(["pipe", disk], put(100) + put(101))[1]
