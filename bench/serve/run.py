@@ -62,6 +62,7 @@ http {
     scgi_temp_path scgi;
     uwsgi_temp_path uwsgi;
     server { listen 127.0.0.1:PORT; root FOLDER/files; }
+    server { listen 127.0.0.1:PLAIN; root FOLDER/files; tcp_nopush off; }
 }
 """
 
@@ -168,10 +169,10 @@ class Nginx:
     def __init__(self, folder):
         self.files = os.path.join(folder, "files")
         os.mkdir(self.files)
-        self.port = free_port()
+        self.port, self.plain = free_port(), free_port()
         configuration = os.path.join(folder, "nginx.conf")
         with open(configuration, "w", encoding="utf-8") as file:
-            file.write(CONFIGURATION.replace("PORT", str(self.port)).replace("FOLDER", folder))
+            file.write(CONFIGURATION.replace("PORT", str(self.port)).replace("PLAIN", str(self.plain)).replace("FOLDER", folder))
         words = ["taskset", "-c", SERVERS, "nginx", "-p", folder, "-c", configuration, "-g", "daemon off;"]
         self.child = subprocess.Popen(words, stderr=subprocess.DEVNULL)
         await_port(self.port)
@@ -242,6 +243,7 @@ def tiles(folder, client, nginx):
         nginx.keep(name, content)
         kind, both = f"a hot tile of {len(content)} bytes", [server.port, path, nginx.port, "/" + name]
         show(kind, client, ["get", ROUNDS, 300, *both], "nginx")
+        show(kind, client, ["get", ROUNDS, 300, server.port, path, nginx.plain, "/" + name], "nginx without tcp_nopush")
         show(kind, client, ["get", ROUNDS, 300, server.port, path, bare.port, "/" + name], "a bare server in C++")
         if at == 0:
             head = len(f"GET {path} HTTP/1.1\r\n\r\n") + os.path.getsize(fields)
@@ -457,8 +459,10 @@ def archive(folder, client, nginx):
     content = server.bytes_of("/map.pmtiles")
     nginx.keep("map.pmtiles", content)
     show(f"the archive of {len(content)} bytes, whole", client, ["get", ROUNDS, 5, server.port, "/map.pmtiles", nginx.port, "/map.pmtiles"], "nginx")
-    for size in (4096, 65536):
-        show(f"the same in ranges of {size:,} bytes", client, ["range", ROUNDS, size, server.port, "/map.pmtiles", nginx.port, "/map.pmtiles"], "nginx")
+    # With tcp_nopush nginx waits for the client's acknowledgement if a reply is somewhat shorter or longer than a segment of 64 KiB.
+    for port, peer in [(nginx.port, "nginx"), (nginx.plain, "nginx without tcp_nopush")]:
+        for size in (4096, 65536):
+            show(f"the same in ranges of {size:,} bytes", client, ["range", ROUNDS, size, server.port, "/map.pmtiles", port, "/map.pmtiles"], peer)
     server.end()
 
 
